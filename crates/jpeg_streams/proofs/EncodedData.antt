@@ -1,7 +1,7 @@
 -- Coefficients have data in each legal scan, by any tables that suffice.
-use Rattle.std.proofs.Common.{[], ap, append_assoc, ap₂, arith, Bool, drop, false, filter, flat_map, get_or, inl, inr}
-use Rattle.std.proofs.Common.{length, length-append, List, map, neg_ℤ, negsuc, None, not, Option, pos, refl, rules}
-use Rattle.std.proofs.Common.{set, Some, subst, suc, sym, take, true, unsigned_abs, zero, ℕ, ℤ, ◌%◌, ◌*◌, ◌++◌, ◌+◌}
+use Rattle.std.proofs.Common.{[], ap, append_assoc, arith, Bool, drop, false, flat_map, get_or, inl, inr}
+use Rattle.std.proofs.Common.{length, length-append, List, map, neg_ℤ, negsuc, None, Option, pos, refl, rules}
+use Rattle.std.proofs.Common.{set, Some, subst, suc, sym, true, unsigned_abs, zero, ℕ, ℤ, ◌%◌, ◌*◌, ◌++◌, ◌+◌}
 use Rattle.std.proofs.Common.{◌-◌, ◌/◌, ◌<◌, ◌^◌, ◌∙◌, ◌∷◌, ◌≡◌, ◌≢◌, ◌≤◌, ◌⊎◌}
 use Rattle.std.proofs.Math.Nat.{div-le_self}
 use Rattle.std.proofs.lemmas.Bool.{cases_lt}
@@ -21,17 +21,17 @@ use Rattle.jpeg_segments.specs.ScanHeaders.{scan_written, ScanHeader}
 use Rattle.jpeg_streams.specs.Found.{Said}
 use Rattle.jpeg_streams.specs.FrameSamples.{AreBytes}
 use Rattle.jpeg_streams.specs.Levels.{Is8Bit, Levels, numbers_at, toward_zero}
-use Rattle.jpeg_streams.specs.Order.{all_spots, grid_of, mcu_size, mcu_spots, own_spots, part_spot, part_spots, Spot}
+use Rattle.jpeg_streams.specs.Order.{all_spots, mcu_size, mcu_spots, own_spots, part_spots, Spot}
 use Rattle.jpeg_streams.specs.Order.{spots_of}
 use Rattle.jpeg_streams.specs.ScanSegments.{Coding, components_of, pass_of, vias_from}
 use Rattle.jpeg_streams.specs.Scans.{turns_of, via_at}
 use Rattle.jpeg_streams.specs.Scripts.{greatest_category, HasAcCodes, HasDcCodes, Suffices}
 use Rattle.jpeg_streams.specs.WrittenData.{corrections, count_unknown, no_numbers, NoneNew, WritesAc, WritesBand}
 use Rattle.jpeg_streams.specs.WrittenData.{WritesBlocks, WritesDc, WritesDifference, WritesRefinement}
-use Rattle.jpeg_streams.specs.WrittenData.WritesAc.{again, first, no_band}
+use Rattle.jpeg_streams.specs.WrittenData.WritesAc.{again, no_band, first}
 use Rattle.jpeg_streams.specs.WrittenData.WritesBand.{ended, full, sixteen, value}
 use Rattle.jpeg_streams.specs.WrittenData.WritesBlocks.{block, done}
-use Rattle.jpeg_streams.specs.WrittenData.WritesDc.{one_bit, other_band, whole}
+use Rattle.jpeg_streams.specs.WrittenData.WritesDc.{one_bit, whole, other_band}
 use Rattle.jpeg_streams.specs.WrittenData.WritesRefinement.{found, none_left, passed, refined}
 use Rattle.jpeg_streams.specs.WrittenImages.{WritesImageScan}
 use Rattle.jpeg_streams.specs.WrittenScans.{Coefficients, IsLegalScan, levels_after, WritesScan}
@@ -84,8 +84,7 @@ zeros-step table z u more codes ne small w (inr far) next = sixteen-first table 
 -- zeros and a value
 zeros-written : (table : Table) (n z : ℕ) (u : ℤ) (more : List ℤ) → HasAcCodes 10 table → z ≤ n → u ≢ pos 0
     → Small u → Written table more → Written table (no_numbers z ++ u ∷ more)
-zeros-written table zero z u more codes le ne small w =
-    zeros-step table z u more codes ne small w (cases_lt z 16) (λ far. absurd (omega arith))
+zeros-written table zero z u more codes le ne small w = search (rules, zeros-step, cases_lt)
 zeros-written table (suc n) z u more codes le ne small w = zeros-step table z u more codes ne small w
     (cases_lt z 16) (λ far. zeros-written table n (z - 16) u more codes (omega arith) ne small w)
 
@@ -128,12 +127,7 @@ front-none = record { none = tt; counted = refl }
 
 front-more : (front : List ℤ) (n k : ℕ) (u : ℤ) → IsFront front n → IsFront (u ∷ []) k → IsFront (front ++ u ∷ []) (n + k)
 unfolding NoneNew count_unknown
-front-more front n k u is one = record {
-  none = all-append (λ x. unsigned_abs x ≢ 1) front (u ∷ []) is.none one.none;
-  counted = ap length (filter-append (λ x. not (nat_le 2 (unsigned_abs x))) front (u ∷ []))
-      ∙ (length-append (filter (λ x. not (nat_le 2 (unsigned_abs x))) front)
-      (filter (λ x. not (nat_le 2 (unsigned_abs x))) (u ∷ [])) ∙ ap₂ (λ (a b : ℕ). a + b) is.counted one.counted);
-}
+front-more front n k u is one = search (rules, all-append, unsigned_abs, filter-append, length-append)
 
 front-zero : IsFront (pos 0 ∷ []) 1
 unfolding NoneNew count_unknown
@@ -176,9 +170,7 @@ zero-next : (table : Table) (front us : List ℤ) (n : ℕ) → HasAcCodes 1 tab
     → (n < 15) ⊎ (15 ≤ n) → (n < 15 → Refined table ((front ++ pos 0 ∷ []) ++ us)) → Refined table us
     → Refined table (front ++ pos 0 ∷ us)
 zero-next table front us n codes is le (inl less) onward anew = move table front us (pos 0) (onward less)
-zero-next table front us n codes is le (inr far) onward anew =
-    let e : n ≡ 15 = omega arith in
-    passed-first table front us codes (subst (IsFront front) e is) anew
+zero-next table front us n codes is le (inr far) onward anew = search (rules, passed-first)
 
 refinement-written : (table : Table) (us front : List ℤ) (n : ℕ) → HasAcCodes 1 table → IsFront front n → n ≤ 15
     → Refined table (front ++ us)
@@ -274,9 +266,7 @@ ac-at p table (u ∷ us) false is codes small =
 -- a pass that has a band codes AC
 band-some : (p : Pass) (us : List ℤ) → band_of p us ≢ [] → (0 < p.se) ⊎ (p.se ≤ 0) → 0 < p.se
 band-some p us ne (inl h) = h
-band-some p us ne (inr h) =
-    let e : band_size p ≡ 0 = omega arith in
-    absurd (ne (ap (λ (n : ℕ). take n (drop (before_band p) us)) e))
+band-some p us ne (inr h) = search rules
 
 each-sent : (p : Pass) (t : Via × Block) (prediction : ℤ) → CanSend p t → InDcRange prediction → BlockBits p t prediction
 each-sent p t prediction good ranged =
@@ -328,10 +318,7 @@ own-slots g = search (rules, each-flat, each-map)
 part-slots : (row column slot n : ℕ) (c : Component) → slot < n
     → AllByRecursion (λ s. s.slot < n) (part_spots row column slot c)
 unfolding part_spots
-part-slots row column slot n c h =
-    each-flat (λ s. s.slot < n) (λ v. map (part_spot row column slot c v) (range_with_len 0 c.factors.horizontal))
-    (range_with_len 0 c.factors.vertical)
-    (λ v. each-map (λ s. s.slot < n) (part_spot row column slot c v) (range_with_len 0 c.factors.horizontal) (λ k. h))
+part-slots row column slot n c h = search (rules, each-flat, each-map)
 
 mcu-slots : (row column slot n : ℕ) (cs : List Component) → slot + length cs ≤ n
     → AllByRecursion (λ s. s.slot < n) (mcu_spots row column slot cs)
@@ -353,10 +340,8 @@ all-slots wide high n cs h =
 scan-slots : (frame : Frame) (cs : List Component) → AllByRecursion (λ s. s.slot < length cs) (spots_of frame cs)
 unfolding spots_of
 scan-slots frame [] = tt
-scan-slots frame (c ∷ []) = all-weaker (λ s. s.slot ≡ 0) (λ s. s.slot < 1) (own_spots (grid_of c))
-    (λ s e. omega arith) (own-slots (grid_of c))
-scan-slots frame (c ∷ d ∷ more) =
-    all-slots frame.mcus_wide frame.mcus_high (length (c ∷ d ∷ more)) (c ∷ d ∷ more) (omega arith)
+scan-slots frame (c ∷ []) = search (rules, all-weaker, own-slots)
+scan-slots frame (c ∷ d ∷ more) = search (rules, all-slots)
 
 -- the tables of a slot suffice
 record ViaSuffices (p : Pass) (v : Via) : Type 0 where
@@ -382,8 +367,7 @@ block_for None array s = array 0 0 0
 
 for-range : (o : Option Coding) (array : Coefficients) (s : Spot)
     → ((index row column : ℕ) → Is8Bit (array index row column)) → Is8Bit (block_for o array s)
-for-range (Some k) array s range =
-    range k.index (s.index / k.component.blocks_wide) (s.index % k.component.blocks_wide)
+for-range (Some k) array s range = search rules
 for-range None array s range = range 0 0 0
 
 toward-small : (a : ℕ) (x : ℤ) → unsigned_abs x ≤ 1023 → Small (toward_zero a x)
@@ -391,12 +375,7 @@ toward-small a (pos n) h = let le = div-le_self n (2 ^ a) in omega arith
 toward-small a (negsuc n) h = search (rules, neg_ℤ, div-le_self, unsigned_abs)
 
 can-send : (p : Pass) (v : Via) (b : Block) → ViaSuffices p v → Is8Bit b → CanSend p (v, numbers_at p.al b)
-can-send p v b is range = record {
-  dc = is.dc;
-  ac = is.ac;
-  dc_range = floor-range p.al b.dc range.dc_low range.dc_high;
-  acs = all-map (λ x. unsigned_abs x ≤ 1023) Small (toward_zero p.al) b.acs (toward-small p.al) range.acs;
-}
+can-send p v b is range = search (rules, floor-range, all-map, toward-small)
 
 pub scan-data : (frame : Frame) (restart : ℕ) (p : Pass) (codings : List Coding) (array : Coefficients)
     → ((index row column : ℕ) → Is8Bit (array index row column)) → AllByRecursion (Suffices p) codings

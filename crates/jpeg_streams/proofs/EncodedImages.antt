@@ -1,5 +1,6 @@
 -- Every image has a stream, by a script: for each component a scan, or in a progressive frame a scan of DC and one of AC.
-use Rattle.std.proofs.Common.{[], ap, append_assoc, arith, Bool, false, inl, inr, length, length-append, List, None}
+use Rattle.std.proofs.Common.{rules}
+use Rattle.std.proofs.Common.{[], append_assoc, arith, Bool, false, inl, inr, length, length-append, List, None}
 use Rattle.std.proofs.Common.{refl, Some, subst, suc, sym, true, zero, ℕ, ◌++◌, ◌<◌, ◌∙◌, ◌∷◌, ◌≡◌, ◌≢◌, ◌≤◌, ◌⊎◌}
 use Rattle.std.proofs.Math.Logic.{⊎_elim}
 use Rattle.std.proofs.lemmas.Bool.{cases_lt, eq-eqb, ne_eqb}
@@ -18,7 +19,7 @@ use Rattle.jpeg_streams.specs.WorkedImages.{IsWhollyWritten}
 use Rattle.jpeg_streams.specs.WrittenScans.{Coefficients}
 use Rattle.jpeg_streams.proofs.EncodedParts.{lone-written, lone_header}
 use Rattle.jpeg_streams.proofs.EncodedScripts.{all-complete, script-written}
-use Rattle.jpeg_streams.proofs.ScriptLevels.{above, after_one, below, is-in, some-one}
+use Rattle.jpeg_streams.proofs.ScriptLevels.{after_one, is-in, some-one}
 
 abbrev lone : ℕ → ℕ → ℕ → Factors → ScriptedScan
 lone from to index c = record { header = lone_header from to index c; restart = 0 }
@@ -60,13 +61,11 @@ after process from to index c = sent_after_scan process (lone_header from to ind
 
 after-other : (process : CodingProcess) (from to index : ℕ) (c : Factors) (sent : SentLevels) (j k : ℕ) → j ≢ index
     → after process from to index c sent j k ≡ sent j k
-after-other process from to index c sent j k ne =
-    some-one process (lone_header from to index c) index j k sent false (ne_eqb j index ne)
+after-other process from to index c sent j k ne = search (rules, some-one, lone_header, ne_eqb)
 
 after-it : (process : CodingProcess) (from to index : ℕ) (c : Factors) (sent : SentLevels) (k : ℕ)
     → after process from to index c sent index k ≡ after_one process (lone_header from to index c) (sent index) k
-after-it process from to index c sent k =
-    some-one process (lone_header from to index c) index index k sent true (eq-eqb index index refl)
+after-it process from to index c sent k = search (rules, some-one, lone_header, eq-eqb)
 
 last-reach : (process : CodingProcess) (h : ScanHeader) (k : ℕ) → k ≤ h.last → h.last ≤ 63 → k ≤ last_in process h
 last-reach DctSequential h k le most = omega arith
@@ -75,10 +74,7 @@ last-reach Lossless h k le most = le
 
 after-in : (process : CodingProcess) (from to index : ℕ) (c : Factors) (sent : SentLevels) (k : ℕ) → from ≤ k → k ≤ to
     → to ≤ 63 → after process from to index c sent index k ≡ Some 0
-after-in process from to index c sent k low high most =
-    let h = lone_header from to index c in
-    after-it process from to index c sent k
-    ∙ is-in process h (sent index) k low (last-reach process h k high most)
+after-in process from to index c sent k low high most = search (rules, lone_header, after-it, is-in, last-reach)
 
 -- All of the components in front was sent, and nothing of the others.
 record HasSent (sent : SentLevels) (front : ℕ) : Type 0 where
@@ -87,32 +83,14 @@ record HasSent (sent : SentLevels) (front : ℕ) : Type 0 where
 
 sent-more : (sent next : SentLevels) (front : ℕ) → ((k : ℕ) → k < 64 → next front k ≡ Some 0)
     → ((j k : ℕ) → j ≢ front → next j k ≡ sent j k) → HasSent sent front → HasSent next (suc front)
-sent-more sent next front all same s = record {
-  all = λ j k lt low. ⊎_elim
-      (λ less. same j k (λ e. absurd (omega arith)) ∙ s.all j k less low)
-      (λ more. let e : front ≡ j = omega arith in subst (λ (i : ℕ). next i k ≡ Some 0) e (all k low))
-      (cases_lt j front);
-  none = λ j k le. same j k (λ e. absurd (omega arith)) ∙ s.none j k (omega arith);
-}
+sent-more sent next front all same s = search (rules, ⊎_elim, cases_lt)
 
 -- ---- the script
 
 lone-legal : (frame : Frame) (from to index : ℕ) (c : Factors) (sent : SentLevels)
     → IsScan frame (lone_header from to index c) → ((k : ℕ) → from ≤ k → sent index k ≡ None)
     → (from ≢ 0 → sent index 0 ≢ None) → IsLegalHere frame sent (lone from to index c)
-lone-legal frame from to index c sent is none dc = record {
-  is_scan = is;
-  allowed = (
-    record {
-      low = omega arith;
-      first = λ e k low high. none k low;
-      refined = λ ne. absurd (ne refl);
-      after_dc = dc;
-    },
-    tt,
-  );
-  fits = omega arith;
-}
+lone-legal frame from to index c sent is none dc = search rules
 
 -- Scans are legal, and then all of these components was sent.
 record Goes (frame : Frame) (sent : SentLevels) (script : List ScriptedScan) (count : ℕ) : Type 0 where
@@ -127,18 +105,13 @@ AreScans number h index c =
 -- a scan of DC sends no AC
 dc-only : (process : CodingProcess) (index : ℕ) (c : Factors) (sent : SentLevels) (k : ℕ) → DctProgressive ≡ process
     → 0 < k → after process 0 0 index c sent index k ≡ sent index k
-dc-only process index c sent k e some =
-    subst (λ (p : CodingProcess). after p 0 0 index c sent index k ≡ sent index k) e
-    (after-it DctProgressive 0 0 index c sent k
-    ∙ above DctProgressive (lone_header 0 0 index c) (sent index) k some)
+dc-only process index c sent k e some = search (rules, after-it, lone_header)
 
 -- a scan of AC after it
 ac-after : (process : CodingProcess) (index : ℕ) (c : Factors) (sent : SentLevels) (k : ℕ) → sent index 0 ≡ Some 0
     → k < 64 → after process 1 63 index c sent index k ≡ Some 0
-ac-after process index c sent zero dc low = after-it process 1 63 index c sent 0
-    ∙ (below process (lone_header 1 63 index c) (sent index) 0 (omega arith) ∙ dc)
-ac-after process index c sent (suc k) dc low =
-    after-in process 1 63 index c sent (suc k) (omega arith) (omega arith) (omega arith)
+ac-after process index c sent zero dc low = search (rules, after-it, lone_header)
+ac-after process index c sent (suc k) dc low = search (rules, after-in)
 
 scan-goes : (progressive : Bool) (number : ℕ) (h : FrameHeader) (index count : ℕ) (c : Factors) (sent : SentLevels)
     (more : List ScriptedScan) → Fits progressive number → AreScans number h index c → HasSent sent index
@@ -188,9 +161,7 @@ scans-go : (progressive : Bool) (number : ℕ) (h : FrameHeader) (cs front : Lis
     → length front ≡ index → HasSent sent index
     → Goes (frame_written number h) sent (scans_for progressive index cs) (length h.components)
 unfolding AreComponents AreLegal sent_by
-scans-go progressive number h [] front index sent fits some e are n s =
-    let size : index ≡ length h.components = omega (arith, ap (λ (l : List Factors). length l) e, length-append front []) in
-    record { legal = tt; sends = subst (HasSent sent) size s }
+scans-go progressive number h [] front index sent fits some e are n s = search (rules, length-append)
 scans-go progressive number h (c ∷ cs) front index sent fits some e are n s =
     let size = length-append front (c ∷ []) in
     scan-goes progressive number h index (length h.components) c sent (scans_for progressive (suc index) cs) fits

@@ -1,5 +1,5 @@
 -- Each script of a lossless stream has a stream: tables for each destination, and then its scans, each after its restart interval.
-use Rattle.std.proofs.Common.{[], ap, append_assoc, ap₂, arith, Bool, false, inr, length, length-append, List, map}
+use Rattle.std.proofs.Common.{[], ap, append_assoc, arith, Bool, false, inr, length, length-append, List, map}
 use Rattle.std.proofs.Common.{None, refl, replicate, rules, Some, subst, suc, sym, take, true, zero, ℕ, ◌*◌, ◌++◌}
 use Rattle.std.proofs.Common.{◌+◌, ◌-◌, ◌<◌, ◌^◌, ◌∙◌, ◌∷◌, ◌≡◌, ◌≤◌}
 use Rattle.std.proofs.Math.Logic.{⊎_elim}
@@ -69,47 +69,24 @@ wider-rows : (wide width : ℕ) (lines : Lines) → width ≤ wide → AreRows w
     → AreRows wide (map (padded_line wide) lines)
 wider-rows wide width [] le h = tt
 wider-rows wide width (line ∷ lines) le h =
-    let size = h.0.0 in
-    let both = length-append line (replicate (wide - length line) 0) in
-    let zeros : List ℕ = replicate (wide - length line) 0 in
-    let more : length zeros ≡ wide - length line = length-replicate (wide - length line) 0 in (
-      (
-        omega arith,
-        all-append (λ r. r < 65536) line (replicate (wide - length line) 0) h.0.1 (zeros-low (wide - length line)),
-      ),
-      wider-rows wide width lines le h.1,
-    )
+    search (rules, length-append, length-replicate, all-append, zeros-low, wider-rows wide width lines le h.1)
 
 padded-rows : (wide high width : ℕ) (lines : Lines) → width ≤ wide → AreRows width lines
     → AreRows wide (padded wide high lines)
 padded-rows wide high width lines le h =
-    all-append (λ rs. (length rs ≡ wide) × AreResidues rs) (map (padded_line wide) lines)
-    (replicate (high - length lines) (replicate wide 0)) (wider-rows wide width lines le h)
-    (all-again (λ rs. (length rs ≡ wide) × AreResidues rs) (high - length lines) (replicate wide 0)
-    (length-replicate wide 0, zeros-low wide))
+    search (rules, all-append, wider-rows, all-again, length-replicate, zeros-low)
 
 padded-length : (wide high : ℕ) (lines : Lines) → length lines ≤ high → length (padded wide high lines) ≡ high
-padded-length wide high lines le =
-    let both = length-append (map (padded_line wide) lines) (replicate (high - length lines) (replicate wide 0)) in
-    let front = length-map lines (padded_line wide) in
-    let zeros : Lines = replicate (high - length lines) (replicate wide 0) in
-    let more : length zeros ≡ high - length lines = length-replicate (high - length lines) (replicate wide 0) in
-    omega arith
+padded-length wide high lines le = search (rules, length-append, length-map, length-replicate)
 
 own-each : (wide width : ℕ) (lines : Lines) → AreRows width lines
     → map (take width) (map (padded_line wide) lines) ≡ lines
 own-each wide width [] h = refl
-own-each wide width (line ∷ lines) h =
-    ap₂ (λ (l : List ℕ) (ls : Lines). l ∷ ls) (take_at line (replicate (wide - length line) 0) width h.0.0)
-    (own-each wide width lines h.1)
+own-each wide width (line ∷ lines) h = search (rules, take_at, own-each wide width lines h.1)
 
 padded-own : (p : Part) (wide high : ℕ) (lines : Lines) → length lines ≡ p.height → AreRows p.width lines
     → own_lines p (padded wide high lines) ≡ lines
-padded-own p wide high lines e h =
-    ap (λ (ls : Lines). map (take p.width) ls)
-    (take_at (map (padded_line wide) lines) (replicate (high - length lines) (replicate wide 0)) p.height
-    (length-map lines (padded_line wide) ∙ e))
-    ∙ own-each wide p.width lines h
+padded-own p wide high lines e h = search (rules, take_at, length-map, own-each)
 
 -- ---- the parts of a scan
 
@@ -140,13 +117,7 @@ padded-fit wide high samples [] [] h = tt
 padded-fit wide high samples [] (p ∷ parts) h = absurd h
 padded-fit wide high samples (k ∷ codings) [] h = absurd h
 padded-fit wide high samples (k ∷ codings) (p ∷ parts) h =
-    let is = h.0 in
-    let count = is.counted in
-    let down = is.down in (
-      padded-length (wide * p.across) (high * p.down) (samples k.index) (omega arith),
-      padded-rows (wide * p.across) (high * p.down) p.width (samples k.index) is.across is.lined,
-      padded-fit wide high samples codings parts h.1,
-    )
+    search (rules, padded-length, padded-rows, padded-fit wide high samples codings parts h.1)
 
 all-held : (w : Way) (high from : ℕ) (samples : Samples) (codings : List LosslessCoding) (parts : List Part)
     (f : Parted) (intervals : List Lines) → AreParts w.wide high samples codings parts
@@ -158,9 +129,9 @@ all-held w high from samples [] [] f intervals are g s = tt
 all-held w high from samples [] (p ∷ parts) f intervals are g s = absurd are
 all-held w high from samples (k ∷ codings) [] f intervals are g s = absurd are
 all-held w high from samples (k ∷ codings) (p ∷ parts) f intervals are g s =
-    let is = are.0 in (
-      ap (own_lines p) (g.0 ∙ s.0)
-          ∙ padded-own p (w.wide * p.across) (high * p.down) (samples k.index) is.counted is.lined,
+    search (
+      rules,
+      padded-own,
       all-held w high (from + p.down * p.across) samples codings parts (later f) intervals are.1 g.1 s.1,
     )
 
@@ -175,37 +146,25 @@ unfolding mcu_tables
 mcu-even wide high samples codings [] h = tt
 mcu-even wide high samples [] (p ∷ parts) h = absurd h
 mcu-even wide high samples (k ∷ codings) (p ∷ parts) h =
-    all-append (λ t. t ≡ even_table) (replicate (p.down * p.across) p.table) (mcu_tables parts)
-    (all-again (λ t. t ≡ even_table) (p.down * p.across) p.table h.0.table)
-    (mcu-even wide high samples codings parts h.1)
+    search (rules, all-append, all-again, mcu-even wide high samples codings parts h.1)
 
 row-even : (n : ℕ) (tables : List Table) → AreEven tables
     → AreEven (row_tables n tables) × (length (row_tables n tables) ≡ n * length tables)
 unfolding row_tables
 row-even zero tables h = (tt, omega arith)
-row-even (suc n) tables h =
-    let more = row-even n tables h in
-    let both = length-append tables (row_tables n tables) in
-    let size = suc-mul n (length tables) in
-    let rest = more.1 in (
-      all-append (λ t. t ≡ even_table) tables (row_tables n tables) h more.0,
-      omega arith,
-    )
+row-even (suc n) tables h = search (rules, length-append, suc-mul, all-append, even_table, row-even n tables h)
 
 tables-even : (tables : List Table) (rs : List ℕ) → AreEven tables → length rs ≡ length tables
     → map (λ x. x.0) (pairs rs) ≡ tables
 tables-even [] [] h e = refl
 tables-even [] (r ∷ rs) h e = absurd (omega arith)
 tables-even (t ∷ tables) [] h e = absurd (omega arith)
-tables-even (t ∷ tables) (r ∷ rs) h e =
-    ap₂ (λ (a : Table) (l : List Table). a ∷ l) (sym h.0) (tables-even tables rs h.1 (omega arith))
+tables-even (t ∷ tables) (r ∷ rs) h e = search (rules, tables-even tables rs h.1 (omega arith))
 
 all-even : (n : ℕ) (tables : List Table) (rows : Lines) → AreEven tables → n ≡ length tables → AreRows n rows
     → map (map (λ x. x.0)) (map pairs rows) ≡ replicate (length rows) tables
 all-even n tables [] h e rs = refl
-all-even n tables (row ∷ rows) h e rs =
-    ap₂ (λ (a : List Table) (l : List (List Table)). a ∷ l) (tables-even tables row h (rs.0.0 ∙ e))
-    (all-even n tables rows h e rs.1)
+all-even n tables (row ∷ rows) h e rs = search (rules, tables-even, all-even n tables rows h e rs.1)
 
 -- ---- data
 
@@ -316,8 +275,7 @@ record HasCodings (now : Said) (frame : Frame) (selectors : List Selector) : Typ
 codings-for : (now : Said) (frame : Frame) (selectors : List Selector) → IsReady frame now
     → AllByRecursion (IsNamed frame) selectors → HasCodings now frame selectors
 unfolding AreSampleCodings
-codings-for now frame [] ready named =
-    record { codings = []; coded = tt; indices = refl; stand = tt; are_even = tt }
+codings-for now frame [] ready named = search rules
 codings-for now frame (s ∷ selectors) ready named =
     let c = component-there frame.components s.component named.0.component in
     let k : LosslessCoding = record { index = s.component; component = c.0; table = even_table } in
@@ -336,21 +294,12 @@ codings-for now frame (s ∷ selectors) ready named =
 -- ---- the parts of codings
 
 low-rows : (bound n : ℕ) (lines : Lines) → bound ≤ 65536 → AllByRecursion (IsLineOf n bound) lines → AreRows n lines
-low-rows bound n lines le = all-weaker (IsLineOf n bound) (λ rs. (length rs ≡ n) × AreResidues rs) lines
-    (λ line h. (h.0, all-weaker (λ x. x < bound) (λ r. r < 65536) line (λ x lt. omega arith) h.1))
+low-rows bound n lines le = search (rules, all-weaker)
 
 part-is : (frame : Frame) (wide high across down : ℕ) (samples : Samples) (k : LosslessCoding)
     → 2 ^ frame.precision ≤ 65536 → AreSamplesOf frame samples → IsEven frame k
     → IsCovered wide high (part_of across down k) → IsPart wide high samples k (part_of across down k)
-part-is frame wide high across down samples k low are even covered =
-    let lines = are k.index k.component even.stands in
-    record {
-      counted = lines.counted;
-      lined = low-rows (2 ^ frame.precision) k.component.width (samples k.index) low lines.lined;
-      across = covered.across;
-      down = covered.down;
-      table = even.table;
-    }
+part-is frame wide high across down samples k low are even covered = search (rules, low-rows)
 
 several-parts : (frame : Frame) (wide high : ℕ) (samples : Samples) (codings : List LosslessCoding)
     → 2 ^ frame.precision ≤ 65536 → AreSamplesOf frame samples → AllByRecursion (IsEven frame) codings
@@ -359,10 +308,8 @@ several-parts : (frame : Frame) (wide high : ℕ) (samples : Samples) (codings :
     → AreParts wide high samples codings
     (map (λ k. part_of k.component.factors.horizontal k.component.factors.vertical k) codings)
 several-parts frame wide high samples [] low are even covered = tt
-several-parts frame wide high samples (k ∷ codings) low are even covered = (
-  part-is frame wide high k.component.factors.horizontal k.component.factors.vertical samples k low are even.0 covered.0,
-  several-parts frame wide high samples codings low are even.1 covered.1,
-)
+several-parts frame wide high samples (k ∷ codings) low are even covered =
+    search (rules, part-is, several-parts frame wide high samples codings low are even.1 covered.1)
 
 parts-are : (frame : Frame) (wide high : ℕ) (samples : Samples) (codings : List LosslessCoding)
     → 2 ^ frame.precision ≤ 65536 → AreSamplesOf frame samples → AllByRecursion (IsEven frame) codings
@@ -370,16 +317,13 @@ parts-are : (frame : Frame) (wide high : ℕ) (samples : Samples) (codings : Lis
     → AreParts wide high samples codings (parts_of codings)
 unfolding parts_of
 parts-are frame wide high samples [] low are even covered = tt
-parts-are frame wide high samples (k ∷ []) low are even covered =
-    (part-is frame wide high 1 1 samples k low are even.0 covered.0, tt)
-parts-are frame wide high samples (k ∷ l ∷ codings) low are even covered =
-    several-parts frame wide high samples (k ∷ l ∷ codings) low are even covered
+parts-are frame wide high samples (k ∷ []) low are even covered = search (rules, part-is)
+parts-are frame wide high samples (k ∷ l ∷ codings) low are even covered = search (rules, several-parts)
 
 made-codings : (frame : Frame) (codings : List LosslessCoding) → AllByRecursion (IsMade frame) frame.components
     → AllByRecursion (IsEven frame) codings → AllByRecursion (λ k. IsMade frame k.component) codings
 made-codings frame [] made even = tt
-made-codings frame (k ∷ codings) made even =
-    (all-at (IsMade frame) k.index frame.components k.component made even.0.stands, made-codings frame codings made even.1)
+made-codings frame (k ∷ codings) made even = search (rules, all-at, made-codings frame codings made even.1)
 
 -- ---- a scan
 
@@ -434,13 +378,7 @@ IsAnywhere sent script index = (names sent index || names (all_indices script) i
 
 anywhere-onward : (sent : List ℕ) (s : ScriptedScan) (script : List ScriptedScan) (index : ℕ)
     → IsAnywhere sent (s ∷ script) index → IsAnywhere (indices_in s.header ++ sent) script index
-anywhere-onward sent s script index h =
-    let test : ℕ → Bool = λ p. p == index in
-    let front = list_any-append test (indices_in s.header) (all_indices script) in
-    let back = list_any-append test (indices_in s.header) sent in
-    ap (λ (b : Bool). b || names (all_indices script) index) back
-    ∙ or-onward (names sent index) (names (indices_in s.header) index) (names (all_indices script) index)
-    (ap (λ (b : Bool). names sent index || b) (sym front) ∙ h)
+anywhere-onward sent s script index h = search (rules, list_any-append, or-onward)
 
 script-sent : (frame : Frame) (samples : Samples) (script : List ScriptedScan) (now : Said) (sent : List ℕ)
     → IsGood frame samples → IsReady frame now → AllByRecursion (IsLosslessScan frame) script
@@ -497,13 +435,7 @@ said-ready h = record { framed = refl; tabled = λ d le. four-at even_table (sai
 
 four-stand : AllByRecursion (IsHuffmanTable 3) four_tables
 unfolding codes_exist lengths_from code_value
-four-stand = (
-  table-by 3 (even_at 0) (omega arith) refl,
-  (
-    table-by 3 (even_at 1) (omega arith) refl,
-    (table-by 3 (even_at 2) (omega arith) refl, (table-by 3 (even_at 3) (omega arith) refl, tt)),
-  ),
-)
+four-stand = search (rules, table-by)
 
 four-bytes : AreBytes (with_length (payload_of (Huffman four_tables)))
 unfolding huffman_bytes
@@ -521,9 +453,7 @@ front_bytes h more = marker 0 195 (with_length (payload_of (Header 3 h))
 good-frame : (h : FrameHeader) (samples : Samples) → IsFrameHeader 3 h → HasSamples 3 h
     → AreSamplesOf (frame_written 3 h) samples → IsGood (frame_written 3 h) samples
 unfolding frame_of
-good-frame h samples is p are =
-    let bound : 2 ^ h.precision ≤ 2 ^ 16 = pow_mono {i = h.precision} {j = 16} p.most in
-    record { low = omega (arith, bound); made = header-made h is; sampled = are }
+good-frame h samples is p are = search (rules, pow_mono, header-made)
 
 named-frame : (h : FrameHeader) → FitsFields h → AreNamed (frame_written 3 h).components
 unfolding frame_of

@@ -16,7 +16,7 @@ use Rattle.jpeg_bits.specs.declared.huffman.codes.HuffmanTableClass.{HuffmanTabl
 use Rattle.jpeg_segments.specs.Frame.{Component, component_of, Factors, Frame, frame_of, is_destination, is_factor}
 use Rattle.jpeg_segments.specs.Frame.{is_lossless_number}
 use Rattle.jpeg_segments.specs.HuffmanTables.{DefinedTable, greatest_destination}
-use Rattle.jpeg_segments.specs.ScanHeader.{is_band, scan_of, Selector}
+use Rattle.jpeg_segments.specs.ScanHeader.{is_band, Scan, scan_of, Selector}
 use Rattle.jpeg_segments.specs.ScanHeaders.{AreChoices, choice_bytes, IsChoice, IsScan, scan_payload, scan_written}
 use Rattle.jpeg_segments.specs.ScanHeaders.{ScanHeader, selectors_in}
 use Rattle.jpeg_segments.specs.WrittenSegments.{AreComponents, factors_bytes, frame_payload, frame_written}
@@ -212,10 +212,9 @@ low-tables : (frame : Frame) (w : Said) (cs : List Component) → IsReady frame 
 low-tables frame w [] ready low = tt
 low-tables frame w (c ∷ cs) ready low = search (rules, low-tables frame w cs)
 
-plain-tables : (w : Said) (frame : Frame) (h : ScanHeader) → w.metadata.avi1 ≡ false
-    → tables_of w (scan_written frame h) ≡ w.huffman
+pub plain-tables : (w : Said) (s : Scan) → w.metadata.avi1 ≡ false → tables_of w s ≡ w.huffman
 unfolding tables_of
-plain-tables w frame h e = rw e refl
+plain-tables w s e = rw e refl
 
 -- the codings of a scan
 scan-codings : (w : Said) (frame : Frame) (sent : SentLevels) (levels : ℕ → Levels) (s : ScriptedScan) → IsReady frame w
@@ -232,7 +231,7 @@ have-codings : (w : Said) (frame : Frame) (h : ScanHeader) (codings : List Codin
     (zip (map (λ s. s.dc) (selectors_in h)) (map (λ s. s.ac) (selectors_in h)))) codings
     → HasCodings w frame (scan_written frame h) codings
 unfolding scan_of
-have-codings w frame h codings e are = rw (plain-tables w frame h e) are
+have-codings w frame h codings e are = rw (plain-tables w (scan_written frame h) e) are
 
 -- ---- bytes
 
@@ -240,7 +239,7 @@ have-codings w frame h codings e are = rw (plain-tables w frame h e) are
 abbrev pub AreNamed : List Component → Type 0
 AreNamed components = AllByRecursion (λ c. c.factors.identifier < 256) components
 
-abbrev blank : Component
+abbrev pub blank : Component
 blank = record {
   factors = record { identifier = 0; horizontal = 0; vertical = 0; quantization = 0 };
   scale = 0;

@@ -1,5 +1,6 @@
 -- Rows of MCUs for any lines of the components of a scan, under any restart interval.
-use Rattle.std.proofs.Common.{◌≡◌, ◌⊎◌, inl, inr, ℕ, zero, suc, ◌+◌, ◌-◌, ◌*◌, ◌<◌, ◌≤◌, List, [], ◌∷◌, ◌++◌}
+use Rattle.std.proofs.lemmas.Grind.{common_steps}
+use Rattle.std.proofs.Common.{◌≡◌, ◌⊎◌, inl, inr, ℕ, zero, suc, ◌+◌, ◌*◌, ◌<◌, ◌≤◌, List, [], ◌∷◌, ◌++◌, rules}
 use Rattle.std.proofs.Common.{length, map, take, drop, refl, sym, ap, ap₂, ◌∙◌, arith, subst, append_assoc}
 use Rattle.std.proofs.Common.{append-nil, length-append, length-drop, take-append-drop}
 use Rattle.std.proofs.Math.Nat.{add-mul}
@@ -68,54 +69,32 @@ pieces-length : (n across : ℕ) (lines : Lines) → AreRows (suc n * across) li
     → length (pieces across lines) ≡ length lines * across
 pieces-length n across [] h = omega arith
 pieces-length n across (line ∷ lines) h =
-    let more = pieces-length n across lines h.1 in
-    let size = length-take-le across line (long-enough n across line h.0.0) in
-    let k = suc-mul (length lines) across in
-    let both = length-append (take across line) (pieces across lines) in
-    omega arith
+    search (rules, length-take-le, long-enough, suc-mul, length-append, pieces-length n across lines h.1)
 
 mcu-length : (n : ℕ) (parts : List Part) (f : Parted) → Fit 1 (suc n) parts f
     → length (mcu_of parts f) ≡ length (mcu_tables parts)
 unfolding mcu_tables
 mcu-length n [] f h = refl
 mcu-length n (p ∷ parts) f h =
-    length-append (pieces p.across (f 0)) (mcu_of parts (later f))
-    ∙ ap₂ (λ (a b : ℕ). a + b)
-    (pieces-length n p.across (f 0) h.1
-    ∙ ap (λ (k : ℕ). k * p.across) (h.0 ∙ one-mul p.down))
-    (mcu-length n parts (later f) h.2)
-    ∙ sym (length-mcu p parts)
+    search (rules, length-append, pieces-length, one-mul, length-mcu, mcu-length n parts (later f) h.2)
 
 dropped-rows : (n across : ℕ) (lines : Lines) → AreRows (suc n * across) lines
     → AreRows (n * across) (map (drop across) lines)
 dropped-rows n across [] h = tt
 dropped-rows n across (line ∷ lines) h =
-    let k = suc-mul n across in
-    let e = length-drop across line in
-    let size = h.0.0 in (
-      (omega arith, all-drop (λ r. r < 65536) across line h.0.1),
-      dropped-rows n across lines h.1,
-    )
+    search (rules, suc-mul, length-drop, all-drop, dropped-rows n across lines h.1)
 
 after-fit : (n : ℕ) (parts : List Part) (f : Parted) → Fit 1 (suc n) parts f → Fit 1 n parts (after_mcu parts f)
 after-fit n [] f h = tt
-after-fit n (p ∷ parts) f h = (
-  length-map (f 0) (drop p.across) ∙ h.0,
-  dropped-rows n p.across (f 0) h.1,
-  after-fit n parts (later f) h.2,
-)
+after-fit n (p ∷ parts) f h = search (rules, length-map, dropped-rows, after-fit n parts (later f) h.2)
 
 pieces-low : (n across : ℕ) (lines : Lines) → AreRows n lines → AreResidues (pieces across lines)
 pieces-low n across [] h = tt
-pieces-low n across (line ∷ lines) h =
-    all-append (λ r. r < 65536) (take across line) (pieces across lines)
-    (all-take (λ r. r < 65536) across line h.0.1) (pieces-low n across lines h.1)
+pieces-low n across (line ∷ lines) h = search (rules, all-append, all-take, pieces-low n across lines h.1)
 
 mcu-low : (m n : ℕ) (parts : List Part) (f : Parted) → Fit m n parts f → AreResidues (mcu_of parts f)
 mcu-low m n [] f h = tt
-mcu-low m n (p ∷ parts) f h =
-    all-append (λ r. r < 65536) (pieces p.across (f 0)) (mcu_of parts (later f))
-    (pieces-low (n * p.across) p.across (f 0) h.1) (mcu-low m n parts (later f) h.2)
+mcu-low m n (p ∷ parts) f h = search (rules, all-append, pieces-low, mcu-low m n parts (later f) h.2)
 
 -- ---- a row of MCUs
 
@@ -127,17 +106,19 @@ row-length : (n : ℕ) (parts : List Part) (f : Parted) → Fit 1 n parts f
     → length (row_of n parts f) ≡ n * length (mcu_tables parts)
 row-length zero parts f h = omega arith
 row-length (suc n) parts f h =
-    let size = mcu-length n parts f h in
-    let more = row-length n parts (after_mcu parts f) (after-fit n parts f h) in
-    let both = length-append (mcu_of parts f) (row_of n parts (after_mcu parts f)) in
-    let k = suc-mul n (length (mcu_tables parts)) in
-    omega arith
+    search (
+      rules,
+      mcu-length,
+      after-fit,
+      length-append,
+      suc-mul,
+      row-length n parts (after_mcu parts f) (after-fit n parts f h),
+    )
 
 row-low : (n : ℕ) (parts : List Part) (f : Parted) → Fit 1 n parts f → AreResidues (row_of n parts f)
 row-low zero parts f h = tt
 row-low (suc n) parts f h =
-    all-append (λ r. r < 65536) (mcu_of parts f) (row_of n parts (after_mcu parts f))
-    (mcu-low 1 (suc n) parts f h) (row-low n parts (after_mcu parts f) (after-fit n parts f h))
+    search (rules, all-append, mcu-low, row-low n parts (after_mcu parts f) (after-fit n parts f h))
 
 -- what the first MCU of a row has of each line
 abbrev cut : ℕ → ℕ → ℕ → List ℕ → Lines
@@ -149,9 +130,7 @@ strands-step : (down n size from across : ℕ) (row : List ℕ)
     ≡ appended (cut down from across row) (strands down n size from across (drop size row))
 unfolding strand strands
 strands-step zero n size from across row = refl
-strands-step (suc down) n size from across row =
-    ap (λ (l : Lines). (take across (drop from row) ++ strand n size from across (drop size row)) ∷ l)
-    (strands-step down n size (from + across) across row)
+strands-step (suc down) n size from across row = search (rules, strands-step down n size (from + across) across row)
 
 cut-pieces : (n across from : ℕ) (front more row : List ℕ) (lines : Lines) → AreRows (suc n * across) lines
     → length front ≡ from → row ≡ front ++ (pieces across lines ++ more)
@@ -171,8 +150,7 @@ cut-pieces n across from front more row (line ∷ lines) h e is =
 
 halves : (across : ℕ) (lines : Lines) → appended (map (take across) lines) (map (drop across) lines) ≡ lines
 halves across [] = refl
-halves across (line ∷ lines) =
-    ap₂ (λ (l : List ℕ) (ls : Lines). l ∷ ls) (take-append-drop across line) (halves across lines)
+halves across (line ∷ lines) = search (rules, take-append-drop, halves across lines)
 
 -- A row of n MCUs of `size` samples gives each component its lines. The samples of the first begin at `from` in an MCU.
 abbrev Gives : ℕ → ℕ → ℕ → List Part → Parted → List ℕ → Type 0
@@ -191,10 +169,8 @@ no-mcus down size from across n row lines e h z = absurd (omega arith)
 
 no-row : (size from : ℕ) (parts : List Part) (f : Parted) → Fit 1 0 parts f → Gives 0 size from parts f []
 no-row size from [] f h = tt
-no-row size from (p ∷ parts) f h = (
-  no-mcus p.down size from p.across (0 * p.across) [] (f 0) (h.0 ∙ one-mul p.down) h.1 (omega arith),
-  no-row size (from + p.down * p.across) parts (later f) h.2,
-)
+no-row size from (p ∷ parts) f h =
+    search (rules, no-mcus, one-mul, no-row size (from + p.down * p.across) parts (later f) h.2)
 
 one-more : (n size from : ℕ) (parts : List Part) (front more row : List ℕ) (f : Parted) → Fit 1 (suc n) parts f
     → row ≡ front ++ (mcu_of parts f ++ more) → length front ≡ from → drop size row ≡ more
@@ -244,23 +220,11 @@ lowers (p ∷ parts) f (suc place) = lowers parts (later f) place
 tops-fit : (m n : ℕ) (parts : List Part) (f : Parted) → Fit (suc m) n parts f → Fit 1 n parts (tops parts f)
 tops-fit m n [] f h = tt
 tops-fit m n (p ∷ parts) f h =
-    let k = suc-mul m p.down in
-    let size = h.0 in (
-      length-take-le p.down (f 0) (omega arith) ∙ sym (one-mul p.down),
-      all-take (λ rs. (length rs ≡ n * p.across) × AreResidues rs) p.down (f 0) h.1,
-      tops-fit m n parts (later f) h.2,
-    )
+    search (rules, suc-mul, length-take-le, one-mul, all-take, tops-fit m n parts (later f) h.2)
 
 lowers-fit : (m n : ℕ) (parts : List Part) (f : Parted) → Fit (suc m) n parts f → Fit m n parts (lowers parts f)
 lowers-fit m n [] f h = tt
-lowers-fit m n (p ∷ parts) f h =
-    let k = suc-mul m p.down in
-    let size = h.0 in
-    let left = length-drop p.down (f 0) in (
-      omega arith,
-      all-drop (λ rs. (length rs ≡ n * p.across) × AreResidues rs) p.down (f 0) h.1,
-      lowers-fit m n parts (later f) h.2,
-    )
+lowers-fit m n (p ∷ parts) f h = search (rules, suc-mul, length-drop, all-drop, lowers-fit m n parts (later f) h.2)
 
 abbrev pub rows_of : ℕ → ℕ → List Part → Parted → Lines
 rows_of zero n parts f = []
@@ -279,28 +243,22 @@ none-left m d (line ∷ lines) e z = let k : m * d ≡ 0 * d = ap (λ (j : ℕ).
 no-rows : (n size from : ℕ) (parts : List Part) (f : Parted) → Fit 0 n parts f → GiveLines n size from parts f []
 unfolding lines_in
 no-rows n size from [] f h = tt
-no-rows n size from (p ∷ parts) f h = (
-  sym (none-left 0 p.down (f 0) h.0 refl),
-  no-rows n size (from + p.down * p.across) parts (later f) h.2,
-)
+no-rows n size from (p ∷ parts) f h =
+    grind (arith, common_steps, none-left, no-rows n size (from + p.down * p.across) parts (later f) h.2)
 
 row-more : (n size from : ℕ) (parts : List Part) (f : Parted) (row : List ℕ) (rows : Lines)
     → Gives n size from parts (tops parts f) row → GiveLines n size from parts (lowers parts f) rows
     → GiveLines n size from parts f (row ∷ rows)
 unfolding lines_in
 row-more n size from [] f row rows g h = tt
-row-more n size from (p ∷ parts) f row rows g h = (
-  ap₂ (λ (a b : Lines). a ++ b) g.0 h.0 ∙ take-append-drop p.down (f 0),
-  row-more n size (from + p.down * p.across) parts (later f) row rows g.1 h.1,
-)
+row-more n size from (p ∷ parts) f row rows g h =
+    search (rules, take-append-drop, row-more n size (from + p.down * p.across) parts (later f) row rows g.1 h.1)
 
 rows-give : (m n : ℕ) (parts : List Part) (f : Parted) → Fit m n parts f
     → GiveLines n (length (mcu_tables parts)) 0 parts f (rows_of m n parts f)
 rows-give zero n parts f h = no-rows n (length (mcu_tables parts)) 0 parts f h
 rows-give (suc m) n parts f h =
-    row-more n (length (mcu_tables parts)) 0 parts f (row_of n parts (tops parts f)) (rows_of m n parts (lowers parts f))
-    (row-gives n parts (tops parts f) (tops-fit m n parts f h))
-    (rows-give m n parts (lowers parts f) (lowers-fit m n parts f h))
+    search (rules, row-more, row-gives, tops-fit, rows-give m n parts (lowers parts f) (lowers-fit m n parts f h))
 
 pub rows-length : (m n : ℕ) (parts : List Part) (f : Parted) → length (rows_of m n parts f) ≡ m
 rows-length zero n parts f = refl
@@ -310,10 +268,7 @@ pub rows-whole : (m n : ℕ) (parts : List Part) (f : Parted) → Fit m n parts 
     → AreRows (n * length (mcu_tables parts)) (rows_of m n parts f)
 rows-whole zero n parts f h = tt
 rows-whole (suc m) n parts f h =
-    let top = tops-fit m n parts f h in (
-      (row-length n parts (tops parts f) top, row-low n parts (tops parts f) top),
-      rows-whole m n parts (lowers parts f) (lowers-fit m n parts f h),
-    )
+    search (rules, tops-fit, row-length, row-low, rows-whole m n parts (lowers parts f) (lowers-fit m n parts f h))
 
 -- ---- lines by rows of MCUs
 
@@ -363,8 +318,7 @@ pub bands-same : (m n : ℕ) (parts : List Part) (f : Parted) → Fit m n parts 
     → AreSame parts (column (bands_of m parts f)) f
 bands-same zero n parts f h = same-none n parts f (column []) (λ place. refl) h
 bands-same (suc m) n parts f h =
-    same-more parts f (column (bands_of (suc m) parts f)) (column (bands_of m parts (lowers parts f))) (λ place. refl)
-    (bands-same m n parts (lowers parts f) (lowers-fit m n parts f h))
+    search (rules, same-more, bands-same m n parts (lowers parts f) (lowers-fit m n parts f h))
 
 fit-none : (n : ℕ) (parts : List Part) (f : Parted) → ((place : ℕ) → f place ≡ []) → Fit 0 n parts f
 fit-none n [] f e = tt
@@ -394,15 +348,11 @@ fit-more m n (p ∷ parts) a b c e h k =
 column-fit : (n : ℕ) (parts : List Part) (bands : List Parted) → AllFit n parts bands
     → Fit (length bands) n parts (column bands)
 column-fit n parts [] h = fit-none n parts (column []) (λ place. refl)
-column-fit n parts (band ∷ bands) h =
-    fit-more (length bands) n parts band (column bands) (column (band ∷ bands)) (λ place. refl) h.0
-    (column-fit n parts bands h.1)
+column-fit n parts (band ∷ bands) h = search (rules, fit-more, column-fit n parts bands h.1)
 
 column-append : (a b : List Parted) (place : ℕ) → column (a ++ b) place ≡ column a place ++ column b place
 column-append [] b place = refl
-column-append (band ∷ a) b place =
-    ap (λ (l : Lines). band place ++ l) (column-append a b place) ∙ sym (append_assoc (band place) (column a place)
-    (column b place))
+column-append (band ∷ a) b place = search (rules, append_assoc, column-append a b place)
 
 -- ---- differences
 
@@ -520,20 +470,15 @@ IsChunk k a b = (length a ≡ k) ⊎ ((length a ≤ k) × (b ≡ []))
 
 take-chunk : {A : Type 0} (k : ℕ) (a b : List A) → IsChunk k a b → take k (a ++ b) ≡ a
 take-chunk k a b (inl e) = take_at a b k e
-take-chunk {A} k a b (inr h) =
-    ap (λ (l : List A). take k (a ++ l)) h.1 ∙ ap (take k) (append-nil a) ∙ take_all k a h.0
+take-chunk {A} k a b (inr h) = search (rules, append-nil, take_all)
 
 drop-chunk : {A : Type 0} (k : ℕ) (a b : List A) → IsChunk k a b → drop k (a ++ b) ≡ b
 drop-chunk k a b (inl e) = drop_at a b k e
-drop-chunk {A} k a b (inr h) =
-    ap (λ (l : List A). drop k (a ++ l)) h.1 ∙ ap (drop k) (append-nil a) ∙ drop_all k a h.0 ∙ sym h.1
+drop-chunk {A} k a b (inr h) = search (rules, append-nil, drop_all)
 
 is-chunk : {A : Type 0} (k : ℕ) (xs : List A) → (length xs < k) ⊎ (k ≤ length xs) → IsChunk k (take k xs) (drop k xs)
 is-chunk k xs (inr h) = inl (length-take-le k xs h)
-is-chunk k xs (inl h) = inr (
-  subst (λ (l : List _). length l ≤ k) (sym (take_all k xs (omega arith))) (omega arith),
-  drop_all k xs (omega arith),
-)
+is-chunk k xs (inl h) = search (rules, take_all, drop_all)
 
 no-groups : {A : Type 0} (turns n : ℕ) → ◌≡◌ {A = List (List A)} (groups turns n []) []
 unfolding groups

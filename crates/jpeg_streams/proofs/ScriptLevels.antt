@@ -1,12 +1,11 @@
 -- What a script has sent of each coefficient is what its levels say: a scan that is legal by coefficients is legal
 -- by levels, and the levels after it are those of the coefficients.
-use Rattle.std.proofs.Common.{rules, ◌≡◌, ◌≢◌, ◌⊎◌, inl, inr, ℕ, zero, suc, ◌+◌, ◌-◌, ◌*◌, ◌/◌, ◌%◌, ◌<◌, ◌≤◌, ◌==◌}
+use Rattle.std.proofs.Common.{rules, ◌≡◌, ◌≢◌, ◌⊎◌, inl, inr, ℕ, zero, suc, ◌+◌, ◌-◌, ◌<◌, ◌≤◌, ◌==◌}
 use Rattle.std.proofs.Common.{Bool, true, false, List, [], ◌∷◌, ◌++◌, map, take, drop, replicate, length, Option, Some, None}
-use Rattle.std.proofs.Common.{refl, sym, ap, ap₂, subst, ◌∙◌, arith, not, ◌&&◌, ◌||◌}
+use Rattle.std.proofs.Common.{refl, sym, ap, ap₂, subst, ◌∙◌, arith, ◌&&◌, ◌||◌}
 use Rattle.std.specs.Prelude.{if◌then◌else◌, nat_le}
-use Rattle.std.proofs.lemmas.Bool.{cases_lt, eq-eqb, eqb-true, le-leb, ne_eqb}
+use Rattle.std.proofs.lemmas.Bool.{eq-eqb, eqb-true, le-leb, ne_eqb}
 use Rattle.std.proofs.lemmas.Bool.Decides.{leb_tells, nat_tests}
-use Rattle.std.proofs.lemmas.Grind.{common_steps}
 use Rattle.std.specs.List.{AllByRecursion, list_any, range_with_len}
 use Rattle.jpeg_bits.specs.Passes.{band_of, band_size, before_band, Pass}
 use Rattle.jpeg_segments.specs.Frame.{Frame}
@@ -103,7 +102,7 @@ one-lower process count first last high low e ne = grind (arith, nat_tests)
 is-false : (a b : ℕ) → a ≢ b → (a == b) ≡ false
 is-false a b ne = ne_eqb a b ne
 
-eqb-not : (a b : ℕ) → (a == b) ≡ false → a ≢ b
+pub eqb-not : (a b : ℕ) → (a == b) ≡ false → a ≢ b
 eqb-not a b e f = absurd (let g : true ≡ false = sym (eq-eqb a b f) ∙ e in cc)
 
 pub legal-by : (process : CodingProcess) (count : ℕ) (h : ScanHeader) (sent : ℕ → Option ℕ) (l : Levels)
@@ -141,12 +140,11 @@ pub is-in : (process : CodingProcess) (h : ScanHeader) (sent : ℕ → Option �
     → after_one process h sent k ≡ Some h.low
 is-in process h sent k a b = rw (le-leb h.first k a, le-leb k (last_in process h) b) refl
 
-pub below : (process : CodingProcess) (h : ScanHeader) (sent : ℕ → Option ℕ) (k : ℕ) → k < h.first
+below : (process : CodingProcess) (h : ScanHeader) (sent : ℕ → Option ℕ) (k : ℕ) → k < h.first
     → after_one process h sent k ≡ sent k
-below process h sent k a =
-    let e : nat_le h.first k ≡ false = search (rules, leb_tells) in rw e refl
+below process h sent k a = search (rules, leb_tells)
 
-pub above : (process : CodingProcess) (h : ScanHeader) (sent : ℕ → Option ℕ) (k : ℕ) → last_in process h < k
+above : (process : CodingProcess) (h : ScanHeader) (sent : ℕ → Option ℕ) (k : ℕ) → last_in process h < k
     → after_one process h sent k ≡ sent k
 above process h sent k a = go (nat_le h.first k) refl
   where
@@ -187,8 +185,7 @@ map-on f g [] h = refl
 map-on f g (k ∷ ks) h = ap₂ (λ (y : Option ℕ) (ys : List (Option ℕ)). y ∷ ys) (h k) (map-on f g ks h)
 
 levels-same : (f g : ℕ → Option ℕ) (l : Levels) → ((k : ℕ) → f k ≡ g k) → AreLevelsOf f l → AreLevelsOf g l
-levels-same f g l same are =
-    record { dc = are.dc ∙ same 0; acs = are.acs ∙ map-on f g (range_with_len 1 63) same }
+levels-same f g l same are = search (rules, map-on)
 
 either-in : {A : Type 0} (a b c : Bool) (x y : A)
     → (if b && c then x else (if a && c then x else y)) ≡ (if (a || b) && c then x else y)
@@ -254,11 +251,8 @@ pub all-legal : (frame : Frame) (h : ScanHeader) (sent : SentLevels) (levels : �
     → AllByRecursion (λ index. Allows frame.process h (sent index)) indices
     → AllByRecursion (λ index. IsLegal (pass_of (scan_written frame h)) (levels index)) indices
 all-legal frame h sent levels [] is are all = tt
-all-legal frame h sent levels (index ∷ indices) is are all = (
-  rw (pass-by frame h is.narrow)
-      (legal-by frame.process (length h.choices) h (sent index) (levels index) is.band all.0 (are index)),
-  all-legal frame h sent levels indices is are all.1,
-)
+all-legal frame h sent levels (index ∷ indices) is are all =
+    search (rules, pass-by, legal-by, all-legal frame h sent levels indices is are all.1)
 
 -- ---- the start, and the end
 
@@ -277,8 +271,4 @@ all-zero sent s (suc m) h =
 
 pub complete-by : (sent : ℕ → Option ℕ) (l : Levels) → AreLevelsOf sent l → ((k : ℕ) → k < 64 → sent k ≡ Some 0)
     → IsComplete l
-complete-by sent l are all = record {
-  dc = are.dc ∙ all 0 (omega arith);
-  acs = subst (λ (ls : List (Option ℕ)). AllByRecursion (λ x. x ≡ Some 0) ls) (sym are.acs)
-      (all-zero sent 1 63 (λ k a b. all k (omega arith)));
-}
+complete-by sent l are all = search (rules, all-zero)
