@@ -1,8 +1,8 @@
 -- Headers of frames and scans keep the rules of T.81's tables where they keep those of the definitions.
-use Rattle.std.proofs.Common.{rules, ◌≡◌, ◌≢◌, ◌⊎◌, inl, inr, ℕ, zero, suc, ◌+◌, ◌-◌, ◌*◌, ◌<◌, ◌≤◌, ◌==◌, ◌||◌, ◌&&◌}
-use Rattle.std.proofs.Common.{Bool, true, false, List, [], ◌∷◌, ◌++◌, map, length, Option, Some, None, not, cond, get_or}
-use Rattle.std.proofs.Common.{refl, sym, ap, ap₂, subst, ◌∙◌, arith, sum_by}
-use Rattle.std.specs.Prelude.{nat_le, nat_lt, slice_get, zip}
+use Rattle.std.proofs.Common.{rules, ◌≡◌, ◌≢◌, ◌⊎◌, inl, inr, ℕ, zero, suc, ◌+◌, ◌<◌, ◌≤◌, ◌==◌, ◌||◌}
+use Rattle.std.proofs.Common.{Bool, true, false, List, [], ◌∷◌, ◌++◌, map, length, Some, get_or}
+use Rattle.std.proofs.Common.{refl, sym, ap, subst, ◌∙◌, arith, sum_by}
+use Rattle.std.specs.Prelude.{nat_le, slice_get, zip}
 use Rattle.std.specs.List.{AllByRecursion, position_or_len}
 use Rattle.std.proofs.lemmas.Bool.{cases_lt, eq-eqb, eqb-true, le-leb, leb-true, lt-ltb, ltb-true, ne_eqb, or_parts}
 use Rattle.std.proofs.lemmas.Bool.Decides.{nat_tests}
@@ -15,7 +15,7 @@ use Rattle.jpeg_segments.specs.declared.frame.CodingProcess.TheVariants.{DctProg
 use Rattle.jpeg_segments.specs.Frame.{Component, Factors, Frame, is_count, is_destination, is_factor, is_lossless_number}
 use Rattle.jpeg_segments.specs.Frame.{is_precision, is_taken}
 use Rattle.jpeg_segments.specs.HuffmanTables.{greatest_destination}
-use Rattle.jpeg_segments.specs.ScanHeader.{blocks_by, index_of, is_band, is_mcu, Scan, scan_of, Selector}
+use Rattle.jpeg_segments.specs.ScanHeader.{blocks_by, index_of, is_band, Scan, scan_of, Selector}
 use Rattle.jpeg_segments.specs.ScanHeaders.{AreChoices, IsChoice, IsScan, scan_written, ScanHeader, selectors_in}
 use Rattle.jpeg_segments.specs.WrittenSegments.{AreComponents, FrameHeader, IsComponent, IsFrameHeader}
 use Rattle.jpeg_streams.specs.Found.{Said}
@@ -60,29 +60,16 @@ IsNotTaken front c = is_taken front c.identifier ≡ false
 
 component-kept : (number : ℕ) (front : List Factors) (c : Factors) → number ≤ 3 → IsComponent number front c
     → KeepsComponentRules number c
-component-kept number front c le is = record {
-  some_across = (factor-range c.horizontal is.across).0;
-  few_across = (factor-range c.horizontal is.across).1;
-  some_down = (factor-range c.vertical is.down).0;
-  few_down = (factor-range c.vertical is.down).1;
-  table = destination-low number c.quantization le is.placed;
-  lossless = λ e. destination-zero number c.quantization e is.placed;
-}
+component-kept number front c le is = search (rules, factor-range, destination-low, destination-zero)
 
 kept-component : (number : ℕ) (front : List Factors) (c : Factors) → number ≤ 3 → IsNotTaken front c
     → KeepsComponentRules number c → IsComponent number front c
-kept-component number front c le new keeps = record {
-  is_new = new;
-  across = range-factor c.horizontal keeps.some_across keeps.few_across;
-  down = range-factor c.vertical keeps.some_down keeps.few_down;
-  placed = low-destination number c.quantization le keeps.table keeps.lossless;
-}
+kept-component number front c le new keeps = search (rules, range-factor, low-destination)
 
 -- taken by one more
 taken-more : (front : List Factors) (c d : Factors) → IsNotTaken (front ++ c ∷ []) d
     → IsNotTaken front d × (c.identifier ≢ d.identifier)
-taken-more [] c d h =
-    (refl, λ e. let f : true ≡ false = sym (eq-eqb c.identifier d.identifier e) ∙ (or_parts (c.identifier == d.identifier) false h).0 in let n : ⊥ = cc in n)
+taken-more [] c d h = search (rules, eq-eqb, or_parts)
 taken-more (x ∷ front) c d h =
     let parts = or_parts (x.identifier == d.identifier) (is_taken (front ++ c ∷ []) d.identifier) h in
     let rest = taken-more front c d parts.1 in
@@ -105,20 +92,7 @@ components-kept : (number : ℕ) (front cs : List Factors) → number ≤ 3 → 
 unfolding AreComponents AreDistinct
 components-kept number front [] le are = record { new = tt; kept = tt; distinct = tt }
 components-kept number front (c ∷ cs) le are =
-    let more = components-kept number (front ++ c ∷ []) cs le are.1 in
-    record {
-      new = (
-        are.0.is_new,
-        all-on (IsNotTaken (front ++ c ∷ [])) (IsNotTaken front) cs
-            (λ d h. (taken-more front c d h).0) more.new,
-      );
-      kept = (component-kept number front c le are.0, more.kept);
-      distinct = (
-        all-on (IsNotTaken (front ++ c ∷ [])) (λ d. c.identifier ≢ d.identifier) cs
-            (λ d h. (taken-more front c d h).1) more.new,
-        more.distinct,
-      );
-    }
+    search (rules, all-on, taken-more, component-kept, components-kept number (front ++ c ∷ []) cs le are.1)
 
 all-both : {A : Type 0} (P Q R : A → Type 0) (xs : List A) → ((x : A) → P x → Q x → R x) → AllByRecursion P xs
     → AllByRecursion Q xs → AllByRecursion R xs
@@ -151,34 +125,10 @@ record AreNumbers (number precision count : ℕ) : Type 0 where
 
 numbers-kept : (number precision count : ℕ) → number ≤ 3 → is_precision number precision ≡ true
     → is_count number count ≡ true → AreNumbers number precision count
-numbers-kept zero precision count le p n = record {
-  baseline = λ e. grind (arith, nat_tests);
-  by_dct = λ l ne. grind (arith, nat_tests);
-  lossless = λ e. absurd (omega arith);
-  some = grind (arith, nat_tests);
-  few = λ e. absurd (omega arith);
-}
-numbers-kept (suc zero) precision count le p n = record {
-  baseline = λ e. absurd (omega arith);
-  by_dct = λ l ne. grind (arith, nat_tests);
-  lossless = λ e. absurd (omega arith);
-  some = grind (arith, nat_tests);
-  few = λ e. absurd (omega arith);
-}
-numbers-kept (suc (suc zero)) precision count le p n = record {
-  baseline = λ e. absurd (omega arith);
-  by_dct = λ l ne. grind (arith, nat_tests);
-  lossless = λ e. absurd (omega arith);
-  some = grind (arith, nat_tests);
-  few = λ e. grind (arith, nat_tests);
-}
-numbers-kept (suc (suc (suc zero))) precision count le p n = record {
-  baseline = λ e. absurd (omega arith);
-  by_dct = λ l ne. absurd (omega arith);
-  lossless = λ e. leb-true precision 16 p;
-  some = grind (arith, nat_tests);
-  few = λ e. absurd (omega arith);
-}
+numbers-kept zero precision count le p n = search (rules, nat_tests)
+numbers-kept (suc zero) precision count le p n = search (rules, nat_tests)
+numbers-kept (suc (suc zero)) precision count le p n = search (rules, nat_tests)
+numbers-kept (suc (suc (suc zero))) precision count le p n = search (rules, leb-true, nat_tests)
 numbers-kept (suc (suc (suc (suc k)))) precision count le p n = absurd (omega arith)
 
 kept-precision : (number precision : ℕ) → number ≤ 3 → (number ≡ 0 → precision ≡ 8)
@@ -215,15 +165,7 @@ frame-kept number h is =
     }
 
 pub kept-frame : (number : ℕ) (h : FrameHeader) → KeepsFrameRules number h → IsFrameHeader number h
-kept-frame number h keeps = record {
-  numbered = keeps.numbered;
-  precise = kept-precision number h.precision keeps.numbered keeps.baseline keeps.by_dct keeps.lossless;
-  wide = keeps.wide;
-  high = keeps.high;
-  counted = kept-count number (length h.components) keeps.numbered keeps.some keeps.few;
-  components = kept-components number [] h.components keeps.numbered (none-taken h.components) keeps.components
-      keeps.distinct;
-}
+kept-frame number h keeps = grind (arith, common_steps, kept-precision, kept-count, kept-components, none-taken)
 
 -- ---- the components of a scan
 
@@ -236,8 +178,7 @@ record IsAt (cs : List Component) (i : ℕ) (d : Component) : Type 0 where
 at-index : (cs : List Component) (i : ℕ) (d : Component) → i < length cs → IsAt cs i d
 at-index [] i d h = absurd (omega arith)
 at-index (c ∷ cs) zero d h = record { component = c; stands = refl; same = refl }
-at-index (c ∷ cs) (suc i) d h =
-    let r = at-index cs i d (omega arith) in record { component = r.component; stands = r.stands; same = r.same }
+at-index (c ∷ cs) (suc i) d h = search (rules, at-index cs i d (omega arith))
 
 get-same : (cs : List Component) (i : ℕ) (d c : Component) → slice_get cs i ≡ Some c → (i < length cs) × (get_or cs i d ≡ c)
 get-same [] i d c e = absurd (let n : ⊥ = cc in n)
@@ -302,12 +243,7 @@ index-is cs i id k e named first =
 
 kept-choice : (frame : Frame) (least : ℕ) (c : ℕ × Selector) → least ≤ c.1.component → KeepsChoiceRules frame c
     → IsChoice frame least c
-kept-choice frame least c low keeps = record {
-  identified = index-is frame.components c.1.component c.0 keeps.component keeps.stands keeps.named keeps.is_first;
-  ordered = low;
-  dc_bounded = few-destination frame.is_baseline c.1.dc keeps.dc keeps.baseline_dc;
-  ac_bounded = few-destination frame.is_baseline c.1.ac keeps.ac keeps.baseline_ac;
-}
+kept-choice frame least c low keeps = search (rules, index-is, few-destination)
 
 record ChoicesKept (frame : Frame) (least : ℕ) (cs : List (ℕ × Selector)) : Type 0 where
   low : AllByRecursion (λ c. least ≤ c.1.component) cs
@@ -361,10 +297,7 @@ sums-same : (frame : Frame) (xs : List Selector)
     → sum_by (λ s. blocks_by frame.components s.component) xs
     ≡ sum_by (λ s. blocks_of (slice_get frame.components s.component)) xs
 sums-same frame [] = refl
-sums-same frame (x ∷ xs) =
-    sum_by-cons (λ s. blocks_by frame.components s.component) x xs
-    ∙ (ap₂ (λ (a b : ℕ). a + b) (blocks-same frame.components x.component) (sums-same frame xs)
-    ∙ sym (sum_by-cons (λ s. blocks_of (slice_get frame.components s.component)) x xs))
+sums-same frame (x ∷ xs) = search (rules, sum_by-cons, blocks-same, sums-same frame xs)
 
 few : (count blocks : ℕ) → (nat_le count 1 || nat_le blocks 10) ≡ true → 2 ≤ count → blocks ≤ 10
 few count blocks e h = grind (arith, common_steps, nat_le, leb-true)
@@ -382,21 +315,8 @@ few-back count blocks h (inr more) = go (nat_le count 1)
 
 band-kept : (process : CodingProcess) (count : ℕ) (h : ScanHeader)
     → is_band process count h.first h.last h.high h.low ≡ true → KeepsBandRules process count h
-band-kept DctSequential count h e = (
-  grind (arith, nat_tests),
-  λ ne. grind (arith, nat_tests),
-  grind (arith, nat_tests),
-  grind (arith, nat_tests),
-)
-band-kept DctProgressive count h e = (
-  grind (arith, nat_tests),
-  grind (arith, nat_tests),
-  λ z. grind (arith, nat_tests),
-  λ ne. grind (arith, nat_tests),
-  grind (arith, nat_tests),
-  grind (arith, nat_tests),
-  λ ne. grind (arith, nat_tests),
-)
+band-kept DctSequential count h e = search (rules, nat_tests)
+band-kept DctProgressive count h e = search (rules, nat_tests)
 band-kept Lossless count h e = (grind (arith, nat_tests), grind (arith, nat_tests), grind (arith, nat_tests))
 
 sequential-band : (first last high low : ℕ) → first ≡ 0 → (last ≢ 0 → last ≡ 63) → high ≡ 0 → low ≡ 0
@@ -414,29 +334,13 @@ lossless-band first last high a b c = grind (arith, nat_tests)
 kept-band : (process : CodingProcess) (count : ℕ) (h : ScanHeader) → KeepsBandRules process count h
     → is_band process count h.first h.last h.high h.low ≡ true
 kept-band DctSequential count h k = sequential-band h.first h.last h.high h.low k.0 k.1 k.2 k.3
-kept-band DctProgressive count h k =
-    progressive-band count h.first h.last h.high h.low k.0 k.1 k.2 k.3 k.4 k.5 k.6
+kept-band DctProgressive count h k = search (rules, progressive-band)
 kept-band Lossless count h k = lossless-band h.first h.last h.high k.0 k.1 k.2
 
 -- ---- scan headers
 
 pub scan-kept : (frame : Frame) (h : ScanHeader) → IsScan frame h → KeepsScanRules frame h
-scan-kept frame h is =
-    let cs = choices-kept frame 0 h.choices is.choices in
-    let count : length (selectors_in h) ≡ length h.choices = length-map h.choices (λ c. c.1) in
-    record {
-      some = is.some;
-      most = is.most;
-      choices = cs.kept;
-      ordered = cs.ordered;
-      few_blocks = λ two.
-          subst (λ (n : ℕ). n ≤ 10) (sums-same frame (selectors_in h))
-          (few (length (selectors_in h)) (sum_by (λ s. blocks_by frame.components s.component) (selectors_in h)) is.fits
-          (omega arith));
-      narrow = is.narrow;
-      precise = ltb-true h.low frame.precision is.precise;
-      band = band-kept frame.process (length h.choices) h is.band;
-    }
+scan-kept frame h is = search (rules, choices-kept, length-map, sums-same, few, sum_by, ltb-true, band-kept)
 
 pub kept-scan : (frame : Frame) (h : ScanHeader) → KeepsScanRules frame h → IsScan frame h
 kept-scan frame h keeps =
