@@ -18,10 +18,10 @@
  * - at least 64 kB of stack are left;
  * - the system has 64-bit pointers.
  *
- * A picture is returned as the stream stores it, or with its pixels rearranged (`layout`). It has
- * 1, 3 or 4 components: grey; red, green and blue; or cyan, magenta, yellow and black, of which 255
- * is full ink. A sample of at most 8 bits takes one byte; a sample of more bits takes two, the
- * lower byte first (only lossless pictures have other than 8 bits).
+ * A picture is returned as the stream stores it, or in 8-bit grey or colour (`layout`). As stored
+ * it has 1, 3 or 4 components: grey; red, green and blue; or cyan, magenta, yellow and black, of
+ * which the greatest value is full ink. A sample of at most 8 bits takes one byte; a sample of more
+ * bits takes two, the lower byte first (only lossless pictures have other than 8 bits).
  */
 #ifndef ZAXBRIAR_H
 #define ZAXBRIAR_H
@@ -53,19 +53,25 @@ typedef enum zaxbriar_result {
     ZAXBRIAR_TRUNCATED = 3,    /* the stream ends too soon */
     ZAXBRIAR_NO_MEMORY = 4,    /* out of memory */
     ZAXBRIAR_NO_ROOM = 5,      /* the buffer is too small: picture.size or *length is needed */
-    ZAXBRIAR_BAD_ARGUMENT = 6, /* a null pointer, or options that don't exist or don't fit the
-                                  picture */
+    ZAXBRIAR_BAD_ARGUMENT = 6, /* a null pointer, options that don't exist, or a stride that is
+                                  shorter than a line of the picture or above 2^32 */
     ZAXBRIAR_NO_DATA = 7,      /* the header has no such metadata */
     ZAXBRIAR_TOO_LARGE = 8     /* according to its header, the picture exceeds a limit */
 } zaxbriar_result;
 
-/* How the pixels are arranged. Layouts other than AS_STORED require a picture of one or three
- * components with 8 bits per sample; for other pictures they are a ZAXBRIAR_BAD_ARGUMENT. */
+/* How the pixels are arranged. Every picture can be decoded into every layout. In all but
+ * AS_STORED a pixel is first converted to 8-bit red, green and blue, by integer arithmetic:
+ * - a sample of a precision P other than 8 bits becomes (sample * 255 + most / 2) / most, where
+ *   most = 2^P - 1;
+ * - a grey sample is repeated;
+ * - cyan, magenta and yellow become red, green and blue by ((255 - ink) * (255 - black) + 127) /
+ *   255 each. This is the simple formula of viewers; for exact colours use AS_STORED and the ICC
+ *   profile. */
 typedef enum zaxbriar_layout {
     ZAXBRIAR_AS_STORED = 0, /* the samples of each pixel, in the order of the components */
     ZAXBRIAR_GREY = 1,      /* 1 byte: the grey sample; for a colour its luma, which is
                                (19595 * red + 38470 * green + 7471 * blue + 32768) / 65536 */
-    ZAXBRIAR_RGB = 2,       /* 3 bytes; a grey sample is repeated, here and below */
+    ZAXBRIAR_RGB = 2,       /* 3 bytes */
     ZAXBRIAR_RGBA = 3,      /* 4 bytes, the last of which is 255 */
     ZAXBRIAR_BGRA = 4,      /* 4 bytes, the last of which is 255 */
     ZAXBRIAR_BGR = 5,       /* 3 bytes */

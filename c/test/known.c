@@ -90,8 +90,12 @@ static void deep_samples(void) {
     CHECK(picture.decoding_bytes == 6);
     options.stride = 7;
     CHECK(decode(deep, sizeof deep, options, 6) == ZAXBRIAR_OK && picture.decoding_bytes == 6);
-    options.layout = ZAXBRIAR_RGBA; /* 16 bits have no other layout */
-    CHECK(zaxbriar_read_info(deep, sizeof deep, &options, &picture) == ZAXBRIAR_BAD_ARGUMENT);
+    /* on the scale of 8 bits: (32768 * 255 + 32767) / 65535, and so on */
+    options.layout = ZAXBRIAR_RGBA;
+    CHECK(decode(deep, sizeof deep, options, 4) == ZAXBRIAR_OK);
+    CHECK(!memcmp(pixels, (unsigned char[]){128, 128, 127, 255}, 4) && picture.pixel_bytes == 4);
+    options.layout = ZAXBRIAR_GREY;
+    CHECK(decode(deep, sizeof deep, options, 1) == ZAXBRIAR_OK && pixels[0] == 128);
 }
 
 static void layouts_of_grey(void) {

@@ -2,7 +2,7 @@
  * are all small ones, in memory of exactly the picture's size and of one byte more. */
 #include "common.h"
 
-enum { MOST_WIDTH = 17, MOST_HEIGHT = 5, MOST_SAMPLES = MOST_WIDTH * MOST_HEIGHT * 3 };
+enum { MOST_WIDTH = 17, MOST_HEIGHT = 5, MOST_SAMPLES = MOST_WIDTH * MOST_HEIGHT * 4 };
 
 static unsigned char samples[MOST_SAMPLES];
 static unsigned width, height, components;
@@ -66,16 +66,22 @@ static void write_stream(void) {
 
 /* ---- the layouts */
 
+/* Red, green or blue of an ink and black, of which 255 is full ink. */
+static unsigned char light(unsigned char ink, unsigned char black) {
+    return (unsigned char)(((255 - ink) * (255 - black) + 127) / 255);
+}
+
 /* The bytes of a pixel, of which `size` are written. */
 static unsigned convert(int layout, const unsigned char *stored, unsigned char pixel[4]) {
-    unsigned char red = stored[0], green = stored[components == 3], blue = green;
-    if (components == 3) blue = stored[2];
+    unsigned char red = stored[0], green = red, blue = red;
+    if (components == 3) green = stored[1], blue = stored[2];
+    if (components == 4)
+        red = light(stored[0], stored[3]), green = light(stored[1], stored[3]),
+        blue = light(stored[2], stored[3]);
     switch (layout) {
     case ZAXBRIAR_AS_STORED: return memcpy(pixel, stored, components), components;
     case ZAXBRIAR_GREY:
-        pixel[0] = components == 1
-                       ? red
-                       : (unsigned char)((19595 * red + 38470 * green + 7471 * blue + 32768) >> 16);
+        pixel[0] = (unsigned char)((19595 * red + 38470 * green + 7471 * blue + 32768) >> 16);
         return 1;
     case ZAXBRIAR_RGB: return memcpy(pixel, (unsigned char[]){red, green, blue}, 3), 3;
     case ZAXBRIAR_BGR: return memcpy(pixel, (unsigned char[]){blue, green, red}, 3), 3;
@@ -121,7 +127,7 @@ int main(void) {
     static const unsigned gaps[] = {0, 1, 64};
     uint32_t chance = 1;
     subject = "a lossless picture";
-    for (components = 1; components <= 3; components += 2)
+    for (components = 1; components <= 4; components += components == 1 ? 2 : 1)
         for (width = 1; width <= MOST_WIDTH; width++)
             for (height = 1; height <= MOST_HEIGHT; height++) {
                 for (size_t i = 0; i < (size_t)width * height * components; i++) {

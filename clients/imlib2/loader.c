@@ -2,8 +2,9 @@
 #include <sys/types.h>
 
 #include <Imlib2_Loader.h>
-
-#include "../in_colour.h"
+#include <stdlib.h>
+#include <string.h>
+#include <zaxbriar.h>
 
 static const char *const _formats[] = {"jpg", "jpeg", "jfif", "jfi"};
 
@@ -28,8 +29,8 @@ static int load_pixels(ImlibImage *image, const uint8_t *jpeg, size_t size,
     int orientation = picture->orientation;
     if (!__imlib_AllocateData(image)) return LOAD_OOM;
     if (orientation > 1 && !(turned = malloc(picture->size))) return LOAD_OOM;
-    int answer = zaxbriar_decode_in_colour(
-        jpeg, size, options, (uint8_t *)(turned ? turned : image->data), picture->size, picture);
+    int answer = zaxbriar_decode(jpeg, size, options, turned ? turned : image->data, picture->size,
+                                 picture);
     if (answer == ZAXBRIAR_OK && turned)
         turn(turned, picture->width, picture->height, orientation, image->data);
     free(turned);
@@ -40,7 +41,7 @@ static int load_pixels(ImlibImage *image, const uint8_t *jpeg, size_t size,
 static int load_copied(ImlibImage *image, const uint8_t *jpeg, size_t size, int load_data) {
     zaxbriar_options options = {.layout = ZAXBRIAR_BGRA};
     zaxbriar_picture picture;
-    int answer = zaxbriar_read_info_in_colour(jpeg, size, &options, &picture);
+    int answer = zaxbriar_read_info(jpeg, size, &options, &picture);
     if (answer != ZAXBRIAR_OK) return answer_of(answer);
     image->w = (int)(picture.orientation < 5 ? picture.width : picture.height);
     image->h = (int)(picture.orientation < 5 ? picture.height : picture.width);

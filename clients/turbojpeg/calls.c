@@ -2,9 +2,10 @@
  * without, from the top and from the bottom, and at each scale has the pixels of the library's own
  * RGB, and the bytes between the lines are unchanged. */
 #include <stdio.h>
+#include <stdlib.h>
+#include <string.h>
 #include <turbojpeg.h>
-
-#include "../in_colour.h"
+#include <zaxbriar.h>
 
 static long files, pictures, refused, faults;
 static unsigned char jpeg[1 << 22];
@@ -71,11 +72,10 @@ static void of_file(const char *name, size_t size) {
             scaled_height == TJSCALED(height, factors[i - 1]))
             continue;
         options.scale = (uint8_t)factors[i].denom;
-        if (zaxbriar_read_info_in_colour(jpeg, size, &options, &picture) != ZAXBRIAR_OK)
+        if (zaxbriar_read_info(jpeg, size, &options, &picture) != ZAXBRIAR_OK)
             fault(name, picture.text);
         unsigned char *wanted = malloc(picture.size);
-        if (zaxbriar_decode_in_colour(jpeg, size, &options, wanted, picture.size, &picture) !=
-            ZAXBRIAR_OK) {
+        if (zaxbriar_decode(jpeg, size, &options, wanted, picture.size, &picture) != ZAXBRIAR_OK) {
             if (!tjDecompress2(handle, jpeg, size, wanted, 0, 0, 0, TJPF_RGB, 0))
                 fault(name, "not refused");
             refused++;

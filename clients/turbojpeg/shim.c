@@ -1,8 +1,9 @@
 /* Decompression calls of TurboJPEG over zaxbriar, which timg and programs of its kind make. */
 #include <stdio.h>
+#include <stdlib.h>
+#include <string.h>
 #include <turbojpeg.h>
-
-#include "../in_colour.h"
+#include <zaxbriar.h>
 
 /* What a handle points to: why the last call failed. */
 struct handle {
@@ -95,7 +96,7 @@ static int options_for(const unsigned char *jpeg, size_t size, int width, int he
     if (answer != ZAXBRIAR_OK) return 0;
     for (uint32_t part = 1; part <= 8; part *= 2) {
         options->scale = (uint8_t)part;
-        if (zaxbriar_read_info_in_colour(jpeg, size, options, picture) != ZAXBRIAR_OK) return 0;
+        if (zaxbriar_read_info(jpeg, size, options, picture) != ZAXBRIAR_OK) return 0;
         if ((!width || picture->width <= (uint32_t)width) &&
             (!height || picture->height <= (uint32_t)height))
             return 1;
@@ -141,7 +142,7 @@ int tjDecompress2(tjhandle handle, const unsigned char *jpeg, unsigned long size
     options.stride = pitch ? (uint64_t)pitch : picture.row_bytes;
     if (options.stride < picture.row_bytes) return fail(handle, "a line is longer than the pitch");
     size_t room = options.stride * (picture.height - 1) + picture.row_bytes;
-    if (zaxbriar_decode_in_colour(jpeg, size, &options, pixels, room, &picture) != ZAXBRIAR_OK)
+    if (zaxbriar_decode(jpeg, size, &options, pixels, room, &picture) != ZAXBRIAR_OK)
         return fail(handle, picture.text);
     if (formats[format].is_reversed) reverse_pixels(&picture, pixels, options.stride);
     if (flags & TJFLAG_BOTTOMUP) reverse_lines(&picture, pixels, options.stride);

@@ -44,7 +44,10 @@ export interface Sampling {
 }
 
 export interface Options {
-    /** The default is `stored`. */
+    /**
+     * The default is `stored`. All others are of 8 bits per sample; samples of other precisions, and
+     * cyan, magenta, yellow and black, are converted.
+     */
     layout?: Layout;
     /** Decodes at exactly 1 / scale of each side, rounded up: 1, 2, 4 or 8. */
     scale?: 0 | 1 | 2 | 4 | 8;

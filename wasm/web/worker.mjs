@@ -7,33 +7,11 @@ const loaded = load(new URL('zaxbriar.wasm', import.meta.url), { maxMemory: MAX_
 // (each answer waits for it anew, and names its fault)
 loaded.catch(() => {});
 
-/* The red, green, blue and 255 of a canvas, of a picture as it is stored. */
-function colours({ width, height, components, precision, sampleBytes }, pixels) {
-    const rgba = new Uint8ClampedArray(4 * width * height).fill(255);
-    const most = 2 ** precision - 1;
-    const sample = (index) => {
-        const low = pixels[sampleBytes * index];
-        const value = sampleBytes === 1 ? low : low + 256 * pixels[2 * index + 1];
-        return (value * 255) / most;
-    };
-    for (let pixel = 0; pixel < width * height; pixel++) {
-        // (255 is full ink)
-        const light = components === 4 ? 255 - sample(4 * pixel + 3) : 255;
-        for (let colour = 0; colour < 3; colour++) {
-            const value = sample(components === 1 ? pixel : components * pixel + colour);
-            rgba[4 * pixel + colour] = components === 4 ? ((255 - value) * light) / 255 : value;
-        }
-    }
-    return rgba;
-}
-
 /* The picture for a canvas, and how long that took. */
-function decode(zaxbriar, jpeg, { components, precision }) {
+function decode(zaxbriar, jpeg) {
     const start = performance.now();
-    const isPlain = precision === 8 && components !== 4;
-    const { picture, pixels } = zaxbriar.decode(jpeg, { layout: isPlain ? 'rgba' : 'stored' });
-    const milliseconds = performance.now() - start;
-    return { pixels: isPlain ? pixels : colours(picture, pixels), milliseconds };
+    const { pixels } = zaxbriar.decode(jpeg, { layout: 'rgba' });
+    return { pixels, milliseconds: performance.now() - start };
 }
 
 /* What the segments before the frame say: how many bytes of each kind there are, and the text of
@@ -55,7 +33,7 @@ async function answer({ id, file }) {
         const jpeg = new Uint8Array(await file.arrayBuffer());
         reply.picture = zaxbriar.readInfo(jpeg);
         reply.metadata = metadata(zaxbriar, jpeg);
-        const { pixels, milliseconds } = decode(zaxbriar, jpeg, reply.picture);
+        const { pixels, milliseconds } = decode(zaxbriar, jpeg);
         reply.pixels = pixels.buffer;
         reply.milliseconds = milliseconds;
     } catch (error) {

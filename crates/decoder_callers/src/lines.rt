@@ -1,4 +1,4 @@
-//! Callers that ask for the lines of a picture, and that write them.
+//! Callers that get the lines of a picture, and that write them.
 ghost use Rattle.std.specs.Prelude.{◌≡◌, ◌<◌, [], IfOk, MatchResult, length, slice_index_or};
 ghost use Rattle.std.specs.List.{concat};
 ghost use Rattle.jpeg_bits.specs.Reading.{Answers};

@@ -1,19 +1,22 @@
 -- Pixels and lines that are written one after the other.
-use Rattle.std.proofs.Common.{◌≡◌, ◌∙◌, ℕ, zero, suc, ◌+◌, ◌*◌, ◌<◌, ◌≤◌, List, [], ◌∷◌, ◌++◌, length}
-use Rattle.std.proofs.Common.{take, drop, slice_index, refl, sym, ap, arith, append_assoc, length-append, length-drop}
-use Rattle.std.proofs.Common.{length-take}
+use Rattle.std.proofs.Common.{◌≡◌, ◌∙◌, ℕ, zero, suc, ◌+◌, ◌-◌, ◌*◌, ◌/◌, ◌<◌, ◌≤◌, List, [], ◌∷◌, ◌++◌, length}
+use Rattle.std.proofs.Common.{take, drop, refl, sym, ap, arith, append_assoc, length-append, length-drop}
+use Rattle.std.proofs.Common.{length-take, true}
 use Rattle.std.proofs.Math.Seq.{take-append_seam, drop-append_seam, take-append-add, drop-append-add}
-use Rattle.std.proofs.lemmas.List.{append-nil, drop-append-le, drop-drop, get_or-drop, get_or-take}
+use Rattle.std.proofs.lemmas.List.{append-nil, drop-append-le, drop-drop}
 use Rattle.std.proofs.lemmas.List.{take-append-drop}
 use Rattle.std.specs.List.{AllByRecursion, concat}
-use Rattle.std.specs.Prelude.{slice_index_or, slice_set}
+use Rattle.std.specs.Prelude.{slice_index_or}
 use borrow.Rule.Slice.PartMut.{put_mid}
-use Rattle.zaxbriar.specs.Layouts.{TakesStored, converted_bytes, laid_out, layout_line, over}
-use Rattle.zaxbriar.specs.Layouts.{pixels_of, grey_as_rgb, grey_as_rgba, grey_as_xrgb}
-use Rattle.zaxbriar.specs.Layouts.{rgb_as_grey, rgb_as_bgr, rgb_as_rgba, rgb_as_bgra, rgb_as_xrgb}
+use Rattle.zaxbriar.specs.Layouts.{TakesStored, bytes_of, colour_of, converted_bytes, is_stored, layout_bytes}
+use Rattle.zaxbriar.specs.Layouts.{laid_out, layout_line, level, over, pixel_bytes, pixel_of, pixels_of}
+use Rattle.jpeg_streams.specs.declared.images.PixelFormat.{PixelFormat}
+use Rattle.jpeg_streams.specs.declared.images.PixelFormat.TheVariants.{L8, L16, RGB24, CMYK32}
 use Rattle.zaxbriar.specs.declared.layouts.Conversion.{Conversion}
-use Rattle.zaxbriar.specs.declared.layouts.Conversion.TheVariants.{Stored, GreyToRgb, GreyToRgba, GreyToXrgb}
-use Rattle.zaxbriar.specs.declared.layouts.Conversion.TheVariants.{RgbToGrey, RgbToBgr, RgbToRgba, RgbToBgra, RgbToXrgb}
+use Rattle.zaxbriar.specs.declared.layouts.Conversion.TheVariants.{Stored, InColour}
+use Rattle.zaxbriar.specs.declared.layouts.Colour.{Colour}
+use Rattle.zaxbriar.specs.declared.layouts.Layout.{Layout}
+use Rattle.zaxbriar.specs.declared.layouts.Layout.TheVariants.{Grey, Rgb, Rgba, Bgra, Bgr, Xrgb}
 
 -- a piece that is written after others over what was there
 piece-put : (before old piece : List ℕ) (a k : ℕ) → length before ≡ a
@@ -69,25 +72,6 @@ pixel-put pixel stored bytes x k row old now piece each e is before =
     ∙ ap (λ (l : List ℕ). l ++ drop ((x + 1) * bytes) old) (sym (pixels-next pixel stored x row)
     ∙ ap (λ n. pixels_of pixel stored n row) next)
 
--- one element that is written, as a piece
-set-mid : (xs : List ℕ) (x v : ℕ) → x < length xs → slice_set xs x v ≡ take x xs ++ (v ∷ drop (suc x) xs)
-set-mid [] x v h = absurd (omega (arith, h))
-set-mid (y ∷ ys) zero v h = refl
-set-mid (y ∷ ys) (suc x) v h = ap (λ (l : List ℕ). y ∷ l) (set-mid ys x v (omega (arith, h)))
-
--- one more pixel of one byte
-pub byte-put : (pixel : List ℕ → List ℕ) (stored x v : ℕ) (row old now : List ℕ)
-    → ((p : List ℕ) → length (pixel p) ≡ 1) → x < length now
-    → v ∷ [] ≡ pixel (take stored (drop (x * stored) row))
-    → now ≡ pixels_of pixel stored x row ++ drop (x * 1) old
-    → slice_set now x v ≡ pixels_of pixel stored (x + 1) row ++ drop ((x + 1) * 1) old
-byte-put pixel stored x v row old now each inside is before =
-    let at : x ≡ x * 1 = omega arith in
-    let after : x * 1 + 1 ≡ suc x = omega arith in
-    set-mid now x v inside
-    ∙ (λ i. take (at i) now ++ (v ∷ sym (drop-drop 1 (x * 1) now ∙ ap (λ n. drop n now) after) i))
-    ∙ pixel-put pixel stored 1 x 1 row old now (v ∷ []) each refl is before
-
 -- pixels that stay as they are
 pub pixels-same : (pixel : List ℕ → List ℕ) (stored width : ℕ) (row : List ℕ)
     → ((p : List ℕ) → length p ≡ stored → pixel p ≡ p) → length row ≡ width * stored
@@ -101,35 +85,99 @@ pixels-same pixel stored (suc width) row same e =
     (λ i. same (take stored row) first i ++ pixels-same pixel stored width (drop stored row) same rest i)
     ∙ take-append-drop stored row
 
+-- the bytes of a pixel of a layout
+pub colour-bytes : (layout : Layout) (colour : Colour) → length (bytes_of layout colour) ≡ layout_bytes layout
+colour-bytes Grey c = refl
+colour-bytes Rgb c = refl
+colour-bytes Rgba c = refl
+colour-bytes Bgra c = refl
+colour-bytes Bgr c = refl
+colour-bytes Xrgb c = refl
+
+-- the first pixel of a line
+pub none-put : (pixel : List ℕ → List ℕ) (stored bytes : ℕ) (row old : List ℕ)
+    → old ≡ pixels_of pixel stored 0 row ++ drop (0 * bytes) old
+unfolding pixels_of
+none-put pixel stored bytes row old =
+    let none : 0 ≡ 0 * bytes = omega arith in
+    ap (λ n. drop n old) none
+
+-- one more pixel in colour
+pub colour-put : (format : PixelFormat) (precision : ℕ) (layout : Layout) (stored bytes x : ℕ) (row old now piece : List ℕ)
+    → stored ≡ pixel_bytes format precision → bytes ≡ layout_bytes layout
+    → piece ≡ bytes_of layout (colour_of format precision (take ((x + 1) * stored - x * stored) (drop (x * stored) row)))
+    → now ≡ layout_line (InColour format precision layout) (pixel_bytes format precision) x row
+    ++ drop (x * layout_bytes layout) old
+    → put_mid (x * bytes) ((x + 1) * bytes - x * bytes) now piece
+    ≡ layout_line (InColour format precision layout) (pixel_bytes format precision) (x + 1) row
+    ++ drop ((x + 1) * layout_bytes layout) old
+colour-put format precision layout stored bytes x row old now piece s b is before =
+    let taken : (x + 1) * stored - x * stored ≡ stored = omega arith in
+    let put : (x + 1) * bytes - x * bytes ≡ bytes = omega arith in
+    (λ i. put_mid (x * b i) ((put ∙ b) i) now piece)
+    ∙ pixel-put (pixel_of (InColour format precision layout)) (pixel_bytes format precision) (layout_bytes layout) x
+    (layout_bytes layout) row old now piece (λ p. colour-bytes layout (colour_of format precision p)) refl
+    (is ∙ (λ i. bytes_of layout (colour_of format precision (take ((taken ∙ s) i) (drop (x * s i) row))))) before
+
 -- a row of pixels as they are stored
 pub stored-line : (stored width : ℕ) (row : List ℕ) → length row ≡ width * stored
     → row ≡ layout_line Stored stored width row
 stored-line stored width row e = sym (pixels-same (λ p. p) stored width row (λ p whole. refl) e)
 
--- a sample of a pixel of a row
-pub sample-of : (row : List ℕ) (stored a k : ℕ) → k < stored
-    → slice_index row (a + k) ≡ slice_index (take stored (drop a row)) k
-sample-of row stored a k h = sym (get_or-take stored (drop a row) k 0 h ∙ get_or-drop a row k 0)
+-- a grey pixel is its luma
+grey-kept : (p : List ℕ) → length p ≡ 1 → pixel_of (InColour L8 8 Grey) p ≡ p
+unfolding level
+grey-kept (g ∷ []) e =
+    let same : (19595 * g + 38470 * g + 7471 * g + 32768) / 65536 ≡ g = omega arith in
+    ap (λ n. n ∷ []) same
+grey-kept [] e = absurd (omega (arith, e))
+grey-kept (g ∷ h ∷ more) e = absurd (omega (arith, e))
 
-pub grey-of : (row : List ℕ) (x : ℕ) → slice_index row x ≡ slice_index (take 1 (drop (x * 1) row)) 0
-grey-of row x =
-    let at : x ≡ x * 1 + 0 = omega arith in
-    let inside : 0 < 1 = omega arith in
-    ap (λ n. slice_index row n) at ∙ sample-of row 1 (x * 1) 0 inside
+rgb-kept : (p : List ℕ) → length p ≡ 3 → pixel_of (InColour RGB24 8 Rgb) p ≡ p
+unfolding level
+rgb-kept (r ∷ g ∷ b ∷ []) e = refl
+rgb-kept [] e = absurd (omega (arith, e))
+rgb-kept (r ∷ []) e = absurd (omega (arith, e))
+rgb-kept (r ∷ g ∷ []) e = absurd (omega (arith, e))
+rgb-kept (r ∷ g ∷ b ∷ h ∷ more) e = absurd (omega (arith, e))
 
-pub red-of : (row : List ℕ) (a : ℕ) → slice_index row a ≡ slice_index (take 3 (drop a row)) 0
-red-of row a =
-    let at : a ≡ a + 0 = omega arith in
-    let inside : 0 < 3 = omega arith in
-    ap (λ n. slice_index row n) at ∙ sample-of row 3 a 0 inside
-
-pub green-of : (row : List ℕ) (a : ℕ) → slice_index row (a + 1) ≡ slice_index (take 3 (drop a row)) 1
-green-of row a = let inside : 1 < 3 = omega arith in sample-of row 3 a 1 inside
-
-pub blue-of : (row : List ℕ) (a : ℕ) → slice_index row (a + 2) ≡ slice_index (take 3 (drop a row)) 2
-blue-of row a = let inside : 2 < 3 = omega arith in sample-of row 3 a 2 inside
+-- a row of pixels that stay as they are stored
+pub kept-line : (conversion : Conversion) (stored width : ℕ) (row : List ℕ) → is_stored conversion ≡ true
+    → TakesStored conversion stored → length row ≡ width * stored → row ≡ layout_line conversion stored width row
+kept-line Stored stored width row kept fits e = stored-line stored width row e
+kept-line (InColour L8 precision Grey) stored width row kept fits e =
+    let eight : precision ≡ 8 = grind arith in
+    let one : stored ≡ 1 = fits ∙ ap (λ n. pixel_bytes L8 n) eight in
+    sym (pixels-same (pixel_of (InColour L8 precision Grey)) stored width row
+    (λ p whole. ap (λ n. pixel_of (InColour L8 n Grey) p) eight ∙ grey-kept p (whole ∙ one)) e)
+kept-line (InColour RGB24 precision Rgb) stored width row kept fits e =
+    let eight : precision ≡ 8 = grind arith in
+    let three : stored ≡ 3 = fits ∙ ap (λ n. pixel_bytes RGB24 n) eight in
+    sym (pixels-same (pixel_of (InColour RGB24 precision Rgb)) stored width row
+    (λ p whole. ap (λ n. pixel_of (InColour RGB24 n Rgb) p) eight ∙ rgb-kept p (whole ∙ three)) e)
+kept-line (InColour L8 precision Rgb) stored width row kept fits e = absurd (cc)
+kept-line (InColour L8 precision Rgba) stored width row kept fits e = absurd (cc)
+kept-line (InColour L8 precision Bgra) stored width row kept fits e = absurd (cc)
+kept-line (InColour L8 precision Bgr) stored width row kept fits e = absurd (cc)
+kept-line (InColour L8 precision Xrgb) stored width row kept fits e = absurd (cc)
+kept-line (InColour RGB24 precision Grey) stored width row kept fits e = absurd (cc)
+kept-line (InColour RGB24 precision Rgba) stored width row kept fits e = absurd (cc)
+kept-line (InColour RGB24 precision Bgra) stored width row kept fits e = absurd (cc)
+kept-line (InColour RGB24 precision Bgr) stored width row kept fits e = absurd (cc)
+kept-line (InColour RGB24 precision Xrgb) stored width row kept fits e = absurd (cc)
+kept-line (InColour L16 precision layout) stored width row kept fits e = absurd (cc)
+kept-line (InColour CMYK32 precision layout) stored width row kept fits e = absurd (cc)
 
 -- ---- lines
+
+-- the bytes of a line
+pub line-length : (conversion : Conversion) (stored width : ℕ) (row : List ℕ)
+    → length row ≡ width * stored → length (layout_line conversion stored width row)
+    ≡ width * converted_bytes conversion stored
+line-length Stored stored width row e = ap (λ (l : List ℕ). length l) (sym (stored-line stored width row e)) ∙ e
+line-length (InColour format precision layout) stored width row e =
+    pixels-length (pixel_of (InColour format precision layout)) stored (layout_bytes layout) width row
+    (λ p. colour-bytes layout (colour_of format precision p))
 
 -- bytes of a stride and after it
 gap : (old : List ℕ) (bytes stride : ℕ) → bytes ≤ stride → bytes ≤ length old
@@ -196,21 +244,6 @@ line-put line row bytes stride (suc y) k samples old new each few le room e is =
     ∙ ap (λ (l : List ℕ). over (line (take row samples)) (take stride old) ++ l)
     (line-put line row bytes stride y k (drop row samples) (drop stride old) new each few' le room' e is')
     ∙ ap (λ n. laid_out line row stride n samples old) next
-
--- the bytes of a line
-pub line-length : (conversion : Conversion) (stored width : ℕ) (row : List ℕ) → TakesStored
-    conversion stored
-    → length row ≡ width * stored → length (layout_line conversion stored width row) ≡ width *
-    converted_bytes conversion stored
-line-length Stored stored width row fits e = ap (λ (l : List ℕ). length l) (sym (stored-line stored width row e)) ∙ e
-line-length GreyToRgb stored width row fits e = pixels-length grey_as_rgb stored 3 width row (λ p. refl)
-line-length GreyToRgba stored width row fits e = pixels-length grey_as_rgba stored 4 width row (λ p. refl)
-line-length GreyToXrgb stored width row fits e = pixels-length grey_as_xrgb stored 4 width row (λ p. refl)
-line-length RgbToGrey stored width row fits e = pixels-length rgb_as_grey stored 1 width row (λ p. refl)
-line-length RgbToBgr stored width row fits e = pixels-length rgb_as_bgr stored 3 width row (λ p. refl)
-line-length RgbToRgba stored width row fits e = pixels-length rgb_as_rgba stored 4 width row (λ p. refl)
-line-length RgbToBgra stored width row fits e = pixels-length rgb_as_bgra stored 4 width row (λ p. refl)
-line-length RgbToXrgb stored width row fits e = pixels-length rgb_as_xrgb stored 4 width row (λ p. refl)
 
 -- ---- lines that are put together
 

@@ -1,55 +1,77 @@
 -- How the samples of a picture become the lines of a layout.
-use Rattle.std.specs.Prelude.{◌≡◌, ℕ, zero, suc, ◌+◌, ◌-◌, ◌*◌, ◌/◌, ◌==◌, if◌then◌else◌, List}
-use Rattle.std.specs.Prelude.{[], ◌∷◌, Bool, true, false}
+use Rattle.std.specs.Prelude.{◌≡◌, ℕ, zero, suc, ◌+◌, ◌-◌, ◌*◌, ◌/◌, ◌^◌, ◌==◌, if◌then◌else◌, List}
+use Rattle.std.specs.Prelude.{[], ◌∷◌, Bool, true, false, max, min, nat_le, option_map}
 use Rattle.std.specs.Prelude.{◌++◌, drop, take, length, slice_index, Option, Some, None}
+use Rattle.jpeg_decoder.specs.Bytes.{bytes_a_sample, samples_a_pixel}
 use Rattle.jpeg_streams.specs.declared.images.PixelFormat.{PixelFormat}
-use Rattle.jpeg_streams.specs.declared.images.PixelFormat.TheVariants.{L8, L16, RGB24, CMYK32}
+use Rattle.jpeg_streams.specs.declared.images.PixelFormat.TheVariants.{L8, RGB24, CMYK32}
+use Rattle.zaxbriar.specs.declared.layouts.Colour.{Colour}
 use Rattle.zaxbriar.specs.declared.layouts.Conversion.{Conversion}
-use Rattle.zaxbriar.specs.declared.layouts.Conversion.TheVariants.{Stored, GreyToRgb, GreyToRgba}
-use Rattle.zaxbriar.specs.declared.layouts.Conversion.TheVariants.{GreyToXrgb, RgbToGrey, RgbToBgr}
-use Rattle.zaxbriar.specs.declared.layouts.Conversion.TheVariants.{RgbToRgba, RgbToBgra, RgbToXrgb}
+use Rattle.zaxbriar.specs.declared.layouts.Conversion.TheVariants.{Stored, InColour}
+use Rattle.zaxbriar.specs.declared.layouts.Layout.{Layout}
+use Rattle.zaxbriar.specs.declared.layouts.Layout.TheVariants.{Grey, Rgb, Rgba, Bgra, Bgr, Xrgb}
 
--- ---- pixels
+-- ---- a pixel as it is stored becomes a colour
 
--- the samples of a pixel as the bytes of a layout
-abbrev pub grey_as_rgb : List ℕ → List ℕ
-grey_as_rgb p = slice_index p 0 ∷ slice_index p 0 ∷ slice_index p 0 ∷ []
+-- the bytes of a pixel of a format and a precision
+abbrev pub pixel_bytes : PixelFormat → ℕ → ℕ
+pixel_bytes format precision = samples_a_pixel format * bytes_a_sample precision
 
-abbrev pub grey_as_rgba : List ℕ → List ℕ
-grey_as_rgba p = slice_index p 0 ∷ slice_index p 0 ∷ slice_index p 0 ∷ 255 ∷ []
+-- a sample of a pixel whose samples have this precision: one byte up to 8 bits, and two above, the
+-- lower first
+abbrev pub sample_at : ℕ → List ℕ → ℕ → ℕ
+sample_at precision pixel k = if nat_le precision 8 then slice_index pixel k
+    else slice_index pixel (2 * k) + 256 * slice_index pixel (2 * k + 1)
 
-abbrev pub grey_as_xrgb : List ℕ → List ℕ
-grey_as_xrgb p = 255 ∷ slice_index p 0 ∷ slice_index p 0 ∷ slice_index p 0 ∷ []
+-- the greatest sample of a precision, which is at most 16
+abbrev pub greatest : ℕ → ℕ
+greatest precision = 2 ^ max 1 (min precision 16) - 1
 
--- the luma of a colour, by the weights 0.299, 0.587 and 0.114 of ITU-R BT.601 in 16 bits, rounded
-abbrev pub luma : ℕ → ℕ → ℕ → ℕ
-luma red green blue = (19595 * red + 38470 * green + 7471 * blue + 32768) / 65536
+-- a sample from 0 to the greatest on the scale from 0 to 255, rounded
+abbrev pub scaled : ℕ → ℕ → ℕ
+scaled most sample = min 255 ((sample * 255 + most / 2) / most)
 
-abbrev pub rgb_as_grey : List ℕ → List ℕ
-rgb_as_grey p = luma (slice_index p 0) (slice_index p 1) (slice_index p 2) ∷ []
+-- a sample of a pixel on the scale from 0 to 255
+unfoldable pub level : ℕ → List ℕ → ℕ → ℕ
+level precision pixel k = if precision == 8 then sample_at precision pixel k
+    else scaled (greatest precision) (sample_at precision pixel k)
 
-abbrev pub rgb_as_bgr : List ℕ → List ℕ
-rgb_as_bgr p = slice_index p 2 ∷ slice_index p 1 ∷ slice_index p 0 ∷ []
+-- Red, green or blue of an ink and black, where 255 is full ink, without a profile.
+abbrev pub light : ℕ → ℕ → ℕ
+light ink black = ((255 - ink) * (255 - black) + 127) / 255
 
-abbrev pub rgb_as_rgba : List ℕ → List ℕ
-rgb_as_rgba p = slice_index p 0 ∷ slice_index p 1 ∷ slice_index p 2 ∷ 255 ∷ []
+abbrev pub colour : ℕ → ℕ → ℕ → Colour
+colour red green blue = record { red = red; green = green; blue = blue }
 
-abbrev pub rgb_as_bgra : List ℕ → List ℕ
-rgb_as_bgra p = slice_index p 2 ∷ slice_index p 1 ∷ slice_index p 0 ∷ 255 ∷ []
+-- The colour of a pixel of a format and a precision. Grey is red, green and blue alike.
+abbrev pub colour_of : PixelFormat → ℕ → List ℕ → Colour
+colour_of RGB24 precision p = colour (level precision p 0) (level precision p 1)
+    (level precision p 2)
+colour_of CMYK32 precision p = colour (light (level precision p 0) (level precision p 3))
+    (light (level precision p 1) (level precision p 3))
+    (light (level precision p 2) (level precision p 3))
+colour_of _ precision p = colour (level precision p 0) (level precision p 0) (level precision p 0)
 
-abbrev pub rgb_as_xrgb : List ℕ → List ℕ
-rgb_as_xrgb p = 255 ∷ slice_index p 0 ∷ slice_index p 1 ∷ slice_index p 2 ∷ []
+-- ---- a colour becomes the bytes of a layout
+
+-- the luma of a colour, by the weights 0.299, 0.587 and 0.114 of ITU-R BT.601 in 16 bits, rounded;
+-- that of grey is grey
+abbrev pub luma : Colour → ℕ
+luma c = (19595 * c.red + 38470 * c.green + 7471 * c.blue + 32768) / 65536
+
+abbrev pub bytes_of : Layout → Colour → List ℕ
+bytes_of Grey c = luma c ∷ []
+bytes_of Rgb c = c.red ∷ c.green ∷ c.blue ∷ []
+bytes_of Rgba c = c.red ∷ c.green ∷ c.blue ∷ 255 ∷ []
+bytes_of Bgra c = c.blue ∷ c.green ∷ c.red ∷ 255 ∷ []
+bytes_of Bgr c = c.blue ∷ c.green ∷ c.red ∷ []
+bytes_of Xrgb c = 255 ∷ c.red ∷ c.green ∷ c.blue ∷ []
+
+-- ---- pixels and lines
 
 abbrev pub pixel_of : Conversion → List ℕ → List ℕ
-pixel_of Stored = λ p. p
-pixel_of GreyToRgb = grey_as_rgb
-pixel_of GreyToRgba = grey_as_rgba
-pixel_of GreyToXrgb = grey_as_xrgb
-pixel_of RgbToGrey = rgb_as_grey
-pixel_of RgbToBgr = rgb_as_bgr
-pixel_of RgbToRgba = rgb_as_rgba
-pixel_of RgbToBgra = rgb_as_bgra
-pixel_of RgbToXrgb = rgb_as_xrgb
+pixel_of Stored p = p
+pixel_of (InColour format precision layout) p = bytes_of layout (colour_of format precision p)
 
 -- so many pixels of a row, each of so many samples
 unfoldable pub pixels_of : (List ℕ → List ℕ) → ℕ → ℕ → List ℕ → List ℕ
@@ -62,57 +84,29 @@ abbrev pub layout_line : Conversion → ℕ → ℕ → List ℕ → List ℕ
 layout_line conversion stored width row = pixels_of (pixel_of conversion) stored width row
 
 -- the bytes of a pixel in a layout, where it is stored in so many
+abbrev pub layout_bytes : Layout → ℕ
+layout_bytes Grey = 1
+layout_bytes Rgb = 3
+layout_bytes Bgr = 3
+layout_bytes _ = 4
+
 abbrev pub converted_bytes : Conversion → ℕ → ℕ
 converted_bytes Stored stored = stored
-converted_bytes GreyToRgb stored = 3
-converted_bytes GreyToRgba stored = 4
-converted_bytes GreyToXrgb stored = 4
-converted_bytes RgbToGrey stored = 1
-converted_bytes RgbToBgr stored = 3
-converted_bytes RgbToRgba stored = 4
-converted_bytes RgbToBgra stored = 4
-converted_bytes RgbToXrgb stored = 4
+converted_bytes (InColour format precision layout) stored = layout_bytes layout
 
--- whether pixels stay as they are stored
-abbrev pub is_stored : Conversion → Bool
-is_stored Stored = true
-is_stored _ = false
+-- the layout of a number, and the conversion to it: 0 as stored, 1 grey, 2 RGB, 3 RGBA, 4 BGRA,
+-- 5 BGR, 6 XRGB
+abbrev pub layout_numbered : ℕ → Option Layout
+layout_numbered n = if n == 1 then Some Grey
+    else (if n == 2 then Some Rgb
+    else (if n == 3 then Some Rgba
+    else (if n == 4 then Some Bgra
+    else (if n == 5 then Some Bgr
+    else (if n == 6 then Some Xrgb else None)))))
 
--- A conversion takes pixels that are stored in so many bytes.
-abbrev pub TakesStored : Conversion → ℕ → Type 0
-TakesStored Stored stored = Unit {0}
-TakesStored GreyToRgb stored = stored ≡ 1
-TakesStored GreyToRgba stored = stored ≡ 1
-TakesStored GreyToXrgb stored = stored ≡ 1
-TakesStored RgbToGrey stored = stored ≡ 3
-TakesStored RgbToBgr stored = stored ≡ 3
-TakesStored RgbToRgba stored = stored ≡ 3
-TakesStored RgbToBgra stored = stored ≡ 3
-TakesStored RgbToXrgb stored = stored ≡ 3
-
--- ---- layouts
-
--- the conversion to a layout of samples of 8 bits
-abbrev pub conversion_of_bytes : ℕ → PixelFormat → Option Conversion
-conversion_of_bytes layout L8 = if layout == 1 then Some Stored
-    else (if layout == 2 then Some GreyToRgb
-    else (if layout == 3 then Some GreyToRgba
-    else (if layout == 4 then Some GreyToRgba
-    else (if layout == 5 then Some GreyToRgb
-    else (if layout == 6 then Some GreyToXrgb else None)))))
-conversion_of_bytes layout RGB24 = if layout == 1 then Some RgbToGrey
-    else (if layout == 2 then Some Stored
-    else (if layout == 3 then Some RgbToRgba
-    else (if layout == 4 then Some RgbToBgra
-    else (if layout == 5 then Some RgbToBgr
-    else (if layout == 6 then Some RgbToXrgb else None)))))
-conversion_of_bytes layout L16 = None
-conversion_of_bytes layout CMYK32 = None
-
--- the conversion to a layout: 0 as stored, 1 grey, 2 RGB, 3 RGBA, 4 BGRA, 5 BGR, 6 XRGB
 abbrev pub conversion_to : ℕ → PixelFormat → ℕ → Option Conversion
 conversion_to layout format precision = if layout == 0 then Some Stored
-    else (if precision == 8 then conversion_of_bytes layout format else None)
+    else option_map (λ l. InColour format precision l) (layout_numbered layout)
 
 -- ---- lines
 
@@ -132,3 +126,17 @@ laid_out line row stride zero samples old = old
 laid_out line row stride (suc height) samples old =
     over (line (take row samples)) (take stride old)
     ++ laid_out line row stride height (drop row samples) (drop stride old)
+
+-- ---- what the code asks of them
+
+-- whether pixels stay as they are stored
+abbrev pub is_stored : Conversion → Bool
+is_stored Stored = true
+is_stored (InColour L8 precision Grey) = precision == 8
+is_stored (InColour RGB24 precision Rgb) = precision == 8
+is_stored _ = false
+
+-- A conversion takes pixels that are stored in so many bytes.
+abbrev pub TakesStored : Conversion → ℕ → Type 0
+TakesStored Stored stored = Unit {0}
+TakesStored (InColour format precision layout) stored = stored ≡ pixel_bytes format precision

@@ -12,7 +12,7 @@ use Rattle.jpeg_streams.specs.declared.images.ImageInfo.{ImageInfo}
 use Rattle.jpeg_streams.specs.declared.images.PixelFormat.{PixelFormat}
 use Rattle.jpeg_streams.specs.declared.images.PixelFormat.TheVariants.{L8, L16, RGB24, CMYK32}
 use Rattle.zaxbriar.specs.Layouts.{TakesStored, conversion_to, converted_bytes, laid_out}
-use Rattle.zaxbriar.specs.Layouts.{layout_line, size_of_lines}
+use Rattle.zaxbriar.specs.Layouts.{layout_line, pixel_bytes, size_of_lines}
 use Rattle.zaxbriar.specs.declared.layouts.Conversion.{Conversion}
 use Rattle.zaxbriar.specs.declared.lines.Lines.{Lines}
 use Rattle.zaxbriar.specs.declared.options.Options.{Options}
@@ -20,7 +20,7 @@ use Rattle.zaxbriar.specs.declared.picture.Picture.{Picture}
 
 -- the bytes of a pixel as it is stored
 abbrev pub stored_bytes : ImageInfo → ℕ → ℕ
-stored_bytes info precision = samples_a_pixel info.pixel_format * bytes_a_sample precision
+stored_bytes info precision = pixel_bytes info.pixel_format precision
 
 -- the bytes of a pixel, and those of a line without its gap
 abbrev pub layout_pixel_bytes : ImageInfo → ℕ → Conversion → ℕ

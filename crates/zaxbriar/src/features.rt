@@ -6,8 +6,8 @@ use crate::answers::Refusal;
 use jpeg_decoder::error::Error;
 use jpeg_decoder::{ColorTransform, UnsupportedFeature};
 
-/// A feature by its number, and what the stream asks for: a count of bits or of components, or the
-/// number of a colour transform; otherwise 0. No feature has the number 0.
+/// A feature by its number, with its argument: a count of bits or of components, the number of a
+/// colour transform, or else 0. No feature has the number 0.
 #[derive(Clone, Copy)]
 pub struct Feature {
     pub number: u8,

@@ -1,89 +1,104 @@
 //! How the samples of pixels become the bytes of a layout.
-ghost use Rattle.std.specs.Prelude.{◌≡◌, ◌*◌, length, IfSome};
+ghost use Rattle.std.specs.Prelude.{◌≡◌, ◌+◌, ◌*◌, ◌≤◌, ◌<◌, length, IfSome};
 ghost use Rattle.jpeg_decoder.specs.Bytes.{bytes_a_sample, samples_a_pixel};
-ghost use Rattle.jpeg_streams.specs.declared.images.PixelFormat.TheVariants.{L8, RGB24};
-ghost use Rattle.zaxbriar.specs.Layouts.{TakesStored, conversion_to, conversion_of_bytes};
-ghost use Rattle.zaxbriar.specs.Layouts.{converted_bytes, is_stored, layout_line, luma};
-ghost use Rattle.zaxbriar.specs.Layouts.{grey_as_rgb, grey_as_rgba, grey_as_xrgb, pixels_of};
-ghost use Rattle.zaxbriar.specs.Layouts.{rgb_as_bgr, rgb_as_bgra, rgb_as_grey, rgb_as_rgba};
-ghost use Rattle.zaxbriar.specs.Layouts.{rgb_as_xrgb};
+ghost use Rattle.zaxbriar.specs.Layouts.{TakesStored, bytes_of, colour_of, conversion_to};
+ghost use Rattle.zaxbriar.specs.Layouts.{converted_bytes, greatest, is_stored, layout_bytes};
+ghost use Rattle.zaxbriar.specs.Layouts.{layout_line, layout_numbered, level, light, luma};
+ghost use Rattle.zaxbriar.specs.Layouts.{pixel_bytes, sample_at};
+ghost use Rattle.zaxbriar.specs.declared.layouts.Conversion.TheVariants.{InColour};
 
 use jpeg_decoder::PixelFormat;
 
+/// How a colour becomes the bytes of a pixel, of 8 bits a sample.
+#[derive(Clone, Copy)]
+pub enum Layout {
+    /// Its luma.
+    Grey,
+    /// Red, green and blue.
+    Rgb,
+    /// Red, green and blue, and 255.
+    Rgba,
+    /// Blue, green and red, and 255.
+    Bgra,
+    /// Blue, green and red.
+    Bgr,
+    /// 255, and then red, green and blue.
+    Xrgb,
+}
+
 /// How the samples of a pixel become its bytes.
-#[derive(Clone, Copy, PartialEq)]
+#[derive(Clone, Copy)]
 pub enum Conversion {
     /// They are its bytes.
     Stored,
-    /// A grey sample stands for red, green and blue.
-    GreyToRgb,
-    /// The same, and 255.
-    GreyToRgba,
-    /// 255, and then the same.
-    GreyToXrgb,
-    /// The luma of red, green and blue.
-    RgbToGrey,
-    /// Blue, green and red.
-    RgbToBgr,
-    /// Red, green and blue, and 255.
-    RgbToRgba,
-    /// Blue, green and red, and 255.
-    RgbToBgra,
-    /// 255, and then red, green and blue.
-    RgbToXrgb,
+    /// A pixel of a format and a precision becomes a colour, and this the bytes of a layout.
+    InColour(PixelFormat, u8, Layout),
 }
 
-/// Returns the conversion of grey samples of 8 bits to a layout.
-fn grey_conversion(layout: u8) -> Option<Conversion>
-    ensures { result ≡ conversion_of_bytes layout L8 }
+/// A colour, each part of which is 255 at most. In grey they are alike.
+#[derive(Clone, Copy)]
+pub struct Colour {
+    red: u8,
+    green: u8,
+    blue: u8,
+}
+
+/// Returns the layout of a number, 1 to 6.
+fn layout_numbered(number: u8) -> Option<Layout>
+    ensures { result ≡ layout_numbered number }
 {
-    match layout {
-        1 => Some(Conversion::Stored),
-        2 | 5 => Some(Conversion::GreyToRgb),
-        3 | 4 => Some(Conversion::GreyToRgba),
-        6 => Some(Conversion::GreyToXrgb),
+    match number {
+        1 => Some(Layout::Grey),
+        2 => Some(Layout::Rgb),
+        3 => Some(Layout::Rgba),
+        4 => Some(Layout::Bgra),
+        5 => Some(Layout::Bgr),
+        6 => Some(Layout::Xrgb),
         _ => None,
     }
 }
 
-/// Returns the conversion of red, green and blue samples of 8 bits to a layout.
-fn rgb_conversion(layout: u8) -> Option<Conversion>
-    ensures { result ≡ conversion_of_bytes layout RGB24 }
-{
-    match layout {
-        1 => Some(Conversion::RgbToGrey),
-        2 => Some(Conversion::Stored),
-        3 => Some(Conversion::RgbToRgba),
-        4 => Some(Conversion::RgbToBgra),
-        5 => Some(Conversion::RgbToBgr),
-        6 => Some(Conversion::RgbToXrgb),
-        _ => None,
-    }
-}
-
-/// Returns the conversion of samples of 8 bits to a layout.
-fn conversion_of_bytes(layout: u8, format: PixelFormat) -> Option<Conversion>
-    ensures { result ≡ conversion_of_bytes layout format }
-{
-    match format {
-        PixelFormat::L8 => grey_conversion(layout),
-        PixelFormat::RGB24 => rgb_conversion(layout),
-        PixelFormat::L16 | PixelFormat::CMYK32 => None,
-    }
-}
-
-/// Returns the conversion to a layout, unless the layout doesn't fit the picture.
+/// Returns the conversion to a layout, if it exists.
 pub fn conversion_of(layout: u8, format: PixelFormat, precision: u8) -> Option<Conversion>
     ensures conversion { result ≡ conversion_to layout format precision }
     ensures fits { IfSome result (λ conversion. TakesStored conversion
-        (samples_a_pixel format * bytes_a_sample precision)) }
+        (pixel_bytes format precision)) }
 {
     if layout == 0 {
-        Some(Conversion::Stored)
-    } else if precision == 8 {
-        conversion_of_bytes(layout, format)
-    } else {
-        None
+        return Some(Conversion::Stored);
+    }
+    match layout_numbered(layout) {
+        Some(layout) => Some(Conversion::InColour(format, precision, layout)),
+        None => None,
+    }
+}
+
+/// Returns how many samples a pixel has.
+pub fn samples_a_pixel(format: PixelFormat) -> u8
+    ensures { result ≡ samples_a_pixel format }
+{
+    match format {
+        PixelFormat::L8 | PixelFormat::L16 => 1,
+        PixelFormat::RGB24 => 3,
+        PixelFormat::CMYK32 => 4,
+    }
+}
+
+/// Returns how many bytes a sample of this many bits takes.
+pub fn bytes_a_sample(precision: u8) -> u8
+    ensures { result ≡ bytes_a_sample precision }
+{
+    if precision <= 8 { 1 } else { 2 }
+}
+
+/// Returns the bytes of a pixel in a layout.
+fn layout_bytes(layout: Layout) -> u8
+    ensures { result ≡ layout_bytes layout }
+{
+    match layout {
+        Layout::Grey => 1,
+        Layout::Rgb | Layout::Bgr => 3,
+        Layout::Rgba | Layout::Bgra | Layout::Xrgb => 4,
     }
 }
 
@@ -93,10 +108,7 @@ pub fn converted_bytes(conversion: Conversion, stored: u8) -> u8
 {
     match conversion {
         Conversion::Stored => stored,
-        Conversion::RgbToGrey => 1,
-        Conversion::GreyToRgb | Conversion::RgbToBgr => 3,
-        Conversion::GreyToRgba | Conversion::GreyToXrgb => 4,
-        Conversion::RgbToRgba | Conversion::RgbToBgra | Conversion::RgbToXrgb => 4,
+        Conversion::InColour(_, _, layout) => layout_bytes(layout),
     }
 }
 
@@ -106,118 +118,191 @@ pub fn is_stored(conversion: Conversion) -> bool
 {
     match conversion {
         Conversion::Stored => true,
+        Conversion::InColour(PixelFormat::L8, precision, Layout::Grey) => precision == 8,
+        Conversion::InColour(PixelFormat::RGB24, precision, Layout::Rgb) => precision == 8,
         _ => false,
     }
 }
 
-/// Writes each grey sample as red, green and blue.
-fn put_grey_as_rgb(row: &[u8], line: &mut [u8])
-    requires room { length line.old ≡ length row.now * 3 }
-    ensures { line.new ≡ pixels_of grey_as_rgb 1 (length row.now) row.now }
+/// Returns a sample of a pixel.
+#[inline(always)]
+fn sample_at(precision: u8, pixel: &[u8], place: usize) -> u16
+    requires inside { (place + 1) * bytes_a_sample precision ≤ length pixel.now }
+    requires few { place < 4 }
+    ensures sample { result ≡ sample_at precision pixel.now place }
+    ensures byte { precision ≤ 8 → result < 256 }
 {
-    for x in 0..row.len() {
-        let grey = row[x];
-        let start = x * 3;
-        line[start..start + 3].copy_from_slice(&[grey, grey, grey]);
+    if precision <= 8 {
+        u16::from(pixel[place])
+    } else {
+        u16::from(pixel[2 * place]) + 256 * u16::from(pixel[2 * place + 1])
     }
 }
 
-/// Writes each grey sample as red, green and blue, and 255.
-fn put_grey_as_rgba(row: &[u8], line: &mut [u8])
-    requires room { length line.old ≡ length row.now * 4 }
-    ensures { line.new ≡ pixels_of grey_as_rgba 1 (length row.now) row.now }
+/// Returns the greatest sample of a precision.
+fn greatest(precision: u8) -> u32
+    ensures greatest { result ≡ greatest precision }
+    ensures some { 1 ≤ result }
+    ensures most { result ≤ 65535 }
 {
-    for x in 0..row.len() {
-        let grey = row[x];
-        let start = x * 4;
-        line[start..start + 4].copy_from_slice(&[grey, grey, grey, 255]);
-    }
+    (1u32 << precision.min(16).max(1)) - 1
 }
 
-/// Writes 255, and each grey sample as red, green and blue.
-fn put_grey_as_xrgb(row: &[u8], line: &mut [u8])
-    requires room { length line.old ≡ length row.now * 4 }
-    ensures { line.new ≡ pixels_of grey_as_xrgb 1 (length row.now) row.now }
+/// Returns a sample of a pixel on the scale from 0 to 255.
+#[inline(always)]
+fn level(precision: u8, pixel: &[u8], place: usize) -> u8
+    requires inside { (place + 1) * bytes_a_sample precision ≤ length pixel.now }
+    requires few { place < 4 }
+    ensures { result ≡ level precision pixel.now place }
 {
-    for x in 0..row.len() {
-        let grey = row[x];
-        let start = x * 4;
-        line[start..start + 4].copy_from_slice(&[255, grey, grey, grey]);
+    let sample = u32::from(sample_at(precision, pixel, place));
+    if precision == 8 {
+        return sample as u8;
+    }
+    let most = greatest(precision);
+    ((sample * 255 + most / 2) / most).min(255) as u8
+}
+
+/// Returns red, green or blue of an ink and black.
+#[inline(always)]
+fn light(ink: u8, black: u8) -> u8
+    ensures { result ≡ light ink black }
+{
+    let product = (255 - u32::from(ink)) * (255 - u32::from(black));
+    ((product + 127) / 255) as u8
+}
+
+/// Returns the colour of a pixel.
+#[inline(always)]
+fn colour_of(format: PixelFormat, precision: u8, pixel: &[u8]) -> Colour
+    requires whole { length pixel.now ≡ pixel_bytes format precision }
+    ensures { result ≡ colour_of format precision pixel.now }
+{
+    match format {
+        PixelFormat::L8 | PixelFormat::L16 => {
+            let grey = level(precision, pixel, 0);
+            Colour {
+                red: grey,
+                green: grey,
+                blue: grey,
+            }
+        }
+        PixelFormat::RGB24 => Colour {
+            red: level(precision, pixel, 0),
+            green: level(precision, pixel, 1),
+            blue: level(precision, pixel, 2),
+        },
+        PixelFormat::CMYK32 => {
+            let black = level(precision, pixel, 3);
+            Colour {
+                red: light(level(precision, pixel, 0), black),
+                green: light(level(precision, pixel, 1), black),
+                blue: light(level(precision, pixel, 2), black),
+            }
+        }
     }
 }
 
 /// Returns the luma of a colour, by the weights of ITU-R BT.601.
-fn luma(red: u8, green: u8, blue: u8) -> u8
-    ensures { result ≡ luma red green blue }
+#[inline(always)]
+fn luma(colour: Colour) -> u8
+    ensures { result ≡ luma colour }
 {
-    let sum = 19595 * u32::from(red) + 38470 * u32::from(green) + 7471 * u32::from(blue);
-    ((sum + 32768) / 65536) as u8
+    let red = 19595 * u32::from(colour.red);
+    let green = 38470 * u32::from(colour.green);
+    let blue = 7471 * u32::from(colour.blue);
+    ((red + green + blue + 32768) / 65536) as u8
 }
 
-/// Writes the luma of each pixel of red, green and blue.
-fn put_rgb_as_grey(row: &[u8], width: usize, line: &mut [u8])
-    requires whole { length row.now ≡ width * 3 }
-    requires room { length line.old ≡ width * 1 }
-    ensures { line.new ≡ pixels_of rgb_as_grey 3 width row.now }
+/// Writes a colour as the bytes of a layout.
+#[inline(always)]
+fn put_colour(colour: Colour, layout: Layout, pixel: &mut [u8])
+    requires room { length pixel.old ≡ layout_bytes layout }
+    ensures { pixel.new ≡ bytes_of layout colour }
 {
-    for x in 0..width {
-        let from = x * 3;
-        line[x] = luma(row[from], row[from + 1], row[from + 2]);
+    let Colour { red, green, blue } = colour;
+    match layout {
+        Layout::Grey => pixel.copy_from_slice(&[luma(colour)]),
+        Layout::Rgb => pixel.copy_from_slice(&[red, green, blue]),
+        Layout::Rgba => pixel.copy_from_slice(&[red, green, blue, 255]),
+        Layout::Bgra => pixel.copy_from_slice(&[blue, green, red, 255]),
+        Layout::Bgr => pixel.copy_from_slice(&[blue, green, red]),
+        Layout::Xrgb => pixel.copy_from_slice(&[255, red, green, blue]),
     }
 }
 
-/// Writes each pixel of red, green and blue as blue, green and red.
-fn put_rgb_as_bgr(row: &[u8], width: usize, line: &mut [u8])
-    requires whole { length row.now ≡ width * 3 }
-    requires room { length line.old ≡ width * 3 }
-    ensures { line.new ≡ pixels_of rgb_as_bgr 3 width row.now }
+/// Writes each pixel of a row as its colour in a layout.
+#[inline(always)]
+fn put_pixels(
+    row: &[u8],
+    format: PixelFormat,
+    precision: u8,
+    layout: Layout,
+    width: usize,
+    line: &mut [u8],
+)
+    requires whole { length row.now ≡ width * pixel_bytes format precision }
+    requires room { length line.old ≡ width * layout_bytes layout }
+    ensures { line.new ≡ layout_line (InColour format precision layout)
+        (pixel_bytes format precision) width row.now }
 {
+    let stored = usize::from(samples_a_pixel(format) * bytes_a_sample(precision));
+    let bytes = usize::from(layout_bytes(layout));
     for x in 0..width {
-        let start = x * 3;
-        let pixel = [row[start + 2], row[start + 1], row[start]];
-        line[start..start + 3].copy_from_slice(&pixel);
+        let pixel = &row[x * stored..(x + 1) * stored];
+        let colour = colour_of(format, precision, pixel);
+        put_colour(colour, layout, &mut line[x * bytes..(x + 1) * bytes]);
     }
 }
 
-/// Writes each pixel of red, green and blue, and 255.
-fn put_rgb_as_rgba(row: &[u8], width: usize, line: &mut [u8])
-    requires whole { length row.now ≡ width * 3 }
-    requires room { length line.old ≡ width * 4 }
-    ensures { line.new ≡ pixels_of rgb_as_rgba 3 width row.now }
+/// Writes each pixel of a row as its colour in a layout, by a loop for each layout.
+#[inline(always)]
+fn put_in_layout(
+    row: &[u8],
+    format: PixelFormat,
+    precision: u8,
+    layout: Layout,
+    width: usize,
+    line: &mut [u8],
+)
+    requires whole { length row.now ≡ width * pixel_bytes format precision }
+    requires room { length line.old ≡ width * layout_bytes layout }
+    ensures { line.new ≡ layout_line (InColour format precision layout)
+        (pixel_bytes format precision) width row.now }
 {
-    for x in 0..width {
-        let from = x * 3;
-        let start = x * 4;
-        let pixel = [row[from], row[from + 1], row[from + 2], 255];
-        line[start..start + 4].copy_from_slice(&pixel);
+    match layout {
+        Layout::Grey => put_pixels(row, format, precision, Layout::Grey, width, line),
+        Layout::Rgb => put_pixels(row, format, precision, Layout::Rgb, width, line),
+        Layout::Rgba => put_pixels(row, format, precision, Layout::Rgba, width, line),
+        Layout::Bgra => put_pixels(row, format, precision, Layout::Bgra, width, line),
+        Layout::Bgr => put_pixels(row, format, precision, Layout::Bgr, width, line),
+        Layout::Xrgb => put_pixels(row, format, precision, Layout::Xrgb, width, line),
     }
 }
 
-/// Writes each pixel of red, green and blue as blue, green and red, and 255.
-fn put_rgb_as_bgra(row: &[u8], width: usize, line: &mut [u8])
-    requires whole { length row.now ≡ width * 3 }
-    requires room { length line.old ≡ width * 4 }
-    ensures { line.new ≡ pixels_of rgb_as_bgra 3 width row.now }
+/// Writes each pixel of a row as its colour in a layout, by a loop for each format of 8 bits.
+fn put_in_colour(
+    row: &[u8],
+    format: PixelFormat,
+    precision: u8,
+    layout: Layout,
+    width: usize,
+    line: &mut [u8],
+)
+    requires whole { length row.now ≡ width * pixel_bytes format precision }
+    requires room { length line.old ≡ width * layout_bytes layout }
+    ensures { line.new ≡ layout_line (InColour format precision layout)
+        (pixel_bytes format precision) width row.now }
 {
-    for x in 0..width {
-        let from = x * 3;
-        let start = x * 4;
-        let pixel = [row[from + 2], row[from + 1], row[from], 255];
-        line[start..start + 4].copy_from_slice(&pixel);
+    if precision != 8 {
+        put_in_layout(row, format, precision, layout, width, line);
+        return;
     }
-}
-
-/// Writes 255, and each pixel of red, green and blue.
-fn put_rgb_as_xrgb(row: &[u8], width: usize, line: &mut [u8])
-    requires whole { length row.now ≡ width * 3 }
-    requires room { length line.old ≡ width * 4 }
-    ensures { line.new ≡ pixels_of rgb_as_xrgb 3 width row.now }
-{
-    for x in 0..width {
-        let from = x * 3;
-        let start = x * 4;
-        let pixel = [255, row[from], row[from + 1], row[from + 2]];
-        line[start..start + 4].copy_from_slice(&pixel);
+    match format {
+        PixelFormat::L8 => put_in_layout(row, PixelFormat::L8, 8, layout, width, line),
+        PixelFormat::L16 => put_in_layout(row, PixelFormat::L16, 8, layout, width, line),
+        PixelFormat::RGB24 => put_in_layout(row, PixelFormat::RGB24, 8, layout, width, line),
+        PixelFormat::CMYK32 => put_in_layout(row, PixelFormat::CMYK32, 8, layout, width, line),
     }
 }
 
@@ -230,13 +315,8 @@ pub fn put_row(row: &[u8], conversion: Conversion, stored: usize, width: usize, 
 {
     match conversion {
         Conversion::Stored => line.copy_from_slice(row),
-        Conversion::GreyToRgb => put_grey_as_rgb(row, line),
-        Conversion::GreyToRgba => put_grey_as_rgba(row, line),
-        Conversion::GreyToXrgb => put_grey_as_xrgb(row, line),
-        Conversion::RgbToGrey => put_rgb_as_grey(row, width, line),
-        Conversion::RgbToBgr => put_rgb_as_bgr(row, width, line),
-        Conversion::RgbToRgba => put_rgb_as_rgba(row, width, line),
-        Conversion::RgbToBgra => put_rgb_as_bgra(row, width, line),
-        Conversion::RgbToXrgb => put_rgb_as_xrgb(row, width, line),
+        Conversion::InColour(format, precision, layout) => {
+            put_in_colour(row, format, precision, layout, width, line);
+        }
     }
 }

@@ -3,7 +3,7 @@ ghost use Rattle.std.specs.Prelude.{◌≡◌, ◌+◌, ◌≤◌, ◌*◌, ◌|
 ghost use Rattle.jpeg_decoder.specs.Bytes.{samples_a_pixel};
 ghost use Rattle.zaxbriar.specs.Limits.{bytes_beside, is_over};
 
-use crate::lines::samples_a_pixel;
+use crate::layouts::samples_a_pixel;
 use crate::options::Options;
 use jpeg_decoder::{DecodingBytes, ImageInfo};
 
@@ -23,7 +23,7 @@ fn is_over(limit: u64, count: u64) -> bool
     limit != 0 && count > limit
 }
 
-/// Returns whether a picture, for which decoding takes so many bytes, is above a limit.
+/// Returns whether a picture, for which decoding takes this many bytes, is above a limit.
 pub fn exceeds_limits(options: &Options, info: ImageInfo, bytes: u64) -> bool
     ensures { result ≡ (is_over options.now.max_samples
         (info.width * info.height * samples_a_pixel info.pixel_format)

@@ -3,17 +3,18 @@ ghost use Rattle.std.specs.Prelude.{◌≡◌, ◌+◌, ◌*◌, ◌<◌, ◌≤
 ghost use Rattle.std.specs.Prelude.{slice_index_or};
 ghost use Rattle.std.specs.List.{AllByRecursion, concat};
 ghost use Rattle.jpeg_bits.specs.declared.error.Error.TheVariants.{OutOfMemory};
-ghost use Rattle.jpeg_decoder.specs.Bytes.{bytes_a_sample, samples_a_pixel};
 ghost use Rattle.zaxbriar.specs.Faults.{IsArgument};
 ghost use Rattle.zaxbriar.specs.Layouts.{TakesStored, converted_bytes, laid_out, layout_line};
 ghost use Rattle.zaxbriar.specs.Layouts.{is_stored, size_of_lines};
 ghost use Rattle.zaxbriar.specs.Lines.{FitLines, HasLines};
 
 use crate::answers::Refusal;
-use crate::layouts::{Conversion, conversion_of, converted_bytes, is_stored, put_row};
+use crate::layouts::{
+    Conversion, bytes_a_sample, conversion_of, converted_bytes, is_stored, put_row, samples_a_pixel,
+};
 use crate::options::Options;
 use jpeg_decoder::error::Result;
-use jpeg_decoder::{ImageInfo, Lines as Decoded, PixelFormat};
+use jpeg_decoder::{ImageInfo, Lines as Decoded};
 use std::alloc::Global;
 
 /// The lines of a picture in the caller's memory.
@@ -35,24 +36,6 @@ pub struct Lines {
 /// The greatest stride that is accepted.
 const MOST_STRIDE: u64 = 1 << 32;
 
-/// Returns how many samples a pixel has.
-pub fn samples_a_pixel(format: PixelFormat) -> u8
-    ensures { result ≡ samples_a_pixel format }
-{
-    match format {
-        PixelFormat::L8 | PixelFormat::L16 => 1,
-        PixelFormat::RGB24 => 3,
-        PixelFormat::CMYK32 => 4,
-    }
-}
-
-/// Returns how many bytes a sample of so many bits takes.
-pub fn bytes_a_sample(precision: u8) -> u8
-    ensures { result ≡ bytes_a_sample precision }
-{
-    if precision <= 8 { 1 } else { 2 }
-}
-
 /// Returns the lines of a picture as the options ask for them.
 pub fn lines_of(
     info: ImageInfo,
@@ -65,7 +48,7 @@ pub fn lines_of(
 {
     let stored = samples_a_pixel(info.pixel_format) * bytes_a_sample(precision);
     let Some(conversion) = conversion_of(options.layout, info.pixel_format, precision) else {
-        return Err(Refusal::Argument("the layout doesn't exist or fit the picture"));
+        return Err(Refusal::Argument("the layout doesn't exist"));
     };
     let pixel_bytes = converted_bytes(conversion, stored);
     let row_bytes = u64::from(info.width) * u64::from(pixel_bytes);

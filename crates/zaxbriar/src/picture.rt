@@ -5,8 +5,9 @@ ghost use Rattle.zaxbriar.specs.Lines.{described_picture, format_number, process
 
 use crate::answers::TEXT_BYTES;
 use crate::header::Header;
+use crate::layouts::{bytes_a_sample, samples_a_pixel};
 use crate::limits::bytes_beside;
-use crate::lines::{Lines, bytes_a_sample, samples_a_pixel, size_of_lines};
+use crate::lines::{Lines, size_of_lines};
 use jpeg_decoder::{CodingProcess, PixelFormat};
 
 /// A picture as decoding with some options gives it: `zaxbriar_picture` of the header.
@@ -40,7 +41,7 @@ pub struct Picture {
     pub orientation: u8,
     /// The number of the format.
     pub format: u8,
-    /// After a refusal for a feature, the number of it, and what the stream asks for.
+    /// After a refusal for a feature, its number and its argument.
     pub feature: u8,
     pub feature_argument: u8,
     /// The sampling factors of the components in the stream, in four bits each, and 0 for those

@@ -48,7 +48,7 @@ loop-y-preserved c =
           c.put_line.new.line) c.loop-y.invariant.lines
           ∙ line-put (layout_line lines.conversion lines.stored lines.width) bytes lines.row_bytes lines.stride y
           (y * lines.stride + lines.row_bytes - y * lines.stride) samples c.args.pixels.now c.put_line.new.line
-          (λ p whole. line-length lines.conversion lines.stored lines.width p c.requires.fits whole ∙ sym c.requires.line)
+          (λ p whole. line-length lines.conversion lines.stored lines.width p whole ∙ sym c.requires.line)
           few' c.requires.wide room k is;
       picture = c.put_line.ensures.same ∙ c.loop-y.invariant.picture;
       row = c.put_line.auto.row ∙ c.loop-y.invariant.row;
