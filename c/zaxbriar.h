@@ -55,7 +55,7 @@ typedef enum zaxbriar_result {
     ZAXBRIAR_NO_ROOM = 5,      /* the buffer is too small: picture.size or *length is needed */
     ZAXBRIAR_BAD_ARGUMENT = 6, /* a null pointer, options that don't exist, or a stride that is
                                   shorter than a line of the picture or above 2^32 */
-    ZAXBRIAR_NO_DATA = 7,      /* the header has no such metadata */
+    ZAXBRIAR_NO_DATA = 7,      /* the header, or the whole image, has no such metadata */
     ZAXBRIAR_TOO_LARGE = 8     /* according to its header, the picture exceeds a limit */
 } zaxbriar_result;
 
@@ -125,8 +125,13 @@ typedef enum zaxbriar_feature {
     ZAXBRIAR_FEATURE_TRANSFORM = 8     /* libjpeg's big gamut colours: YCC (N = 6) or RGB (N = 7) */
 } zaxbriar_feature;
 
-/* Kinds of metadata. */
-typedef enum zaxbriar_kind { ZAXBRIAR_EXIF = 1, ZAXBRIAR_XMP = 2, ZAXBRIAR_ICC = 3 } zaxbriar_kind;
+/* Kinds of metadata, and what can be added to one of them. */
+typedef enum zaxbriar_kind {
+    ZAXBRIAR_EXIF = 1,
+    ZAXBRIAR_XMP = 2,
+    ZAXBRIAR_ICC = 3,
+    ZAXBRIAR_WHOLE_IMAGE = 16 /* also from segments after the frame header */
+} zaxbriar_kind;
 
 /* How to decode. Set the whole struct to zero first; a null pointer stands for all zeros. Later
  * versions may give reserved members a meaning, but zero will always mean what it means now, and
@@ -200,7 +205,17 @@ ZAXBRIAR_CALL zaxbriar_result zaxbriar_decode(const void *jpeg, size_t jpeg_size
 
 /* Copies the metadata of a kind (zaxbriar_kind) from the segments before the frame: Exif data from
  * the TIFF header on, XMP data, or an ICC profile. Stores their number of bytes in *length, even if
- * `data_size` is too small. `data` may be null if `data_size` is 0, and `length` may be null. */
+ * `data_size` is too small. `data` may be null if `data_size` is 0, and `length` may be null.
+ *
+ * With ZAXBRIAR_WHOLE_IMAGE, as in ZAXBRIAR_EXIF | ZAXBRIAR_WHOLE_IMAGE, all segments up to the end
+ * of the image count, or up to its first fault. The call then reads the scans as well, which takes
+ * about as long as decoding at full size, and as much memory. No option limits it: before you make
+ * it for a stream that you don't trust, check `decoding_bytes` as zaxbriar_read_info returns it for
+ * options of zeros.
+ *
+ * Of several segments with Exif data the last counts, and so with XMP data; an ICC profile is
+ * joined from all of its parts. Data that precede a fault are copied all the same; if there are
+ * none, the call returns the fault. */
 ZAXBRIAR_CALL zaxbriar_result zaxbriar_metadata(const void *jpeg, size_t jpeg_size, int kind,
                                                 void *data, size_t data_size, size_t *length);
 

@@ -67,9 +67,12 @@ static void unknown_options(void) {
         CHECK(zaxbriar_read_info(jpeg.start, jpeg.size, &wide, &picture) == ZAXBRIAR_OK);
         CHECK(picture.size == wide.stride * (picture.height - 1) + picture.row_bytes);
     }
-    CHECK(zaxbriar_metadata(jpeg.start, jpeg.size, 0, NULL, 0, &length) == ZAXBRIAR_BAD_ARGUMENT);
-    CHECK(zaxbriar_metadata(jpeg.start, jpeg.size, 4, NULL, 0, &length) == ZAXBRIAR_BAD_ARGUMENT);
-    CHECK(zaxbriar_metadata(jpeg.start, jpeg.size, -1, NULL, 0, &length) == ZAXBRIAR_BAD_ARGUMENT);
+    for (int kind = -40; kind < 40; kind++) {
+        int alone = kind & ~ZAXBRIAR_WHOLE_IMAGE;
+        int is_there = alone >= ZAXBRIAR_EXIF && alone <= ZAXBRIAR_ICC;
+        CHECK((zaxbriar_metadata(jpeg.start, jpeg.size, kind, NULL, 0, &length) ==
+               ZAXBRIAR_BAD_ARGUMENT) == !is_there);
+    }
 }
 
 static void names(void) {

@@ -211,6 +211,15 @@ static void limited(const zaxbriar_picture *whole) {
     free(pixels);
 }
 
+/* Where a whole image has no such data, the answer is that of decoding it. */
+static void metadata_of_image(int decoded) {
+    size_t length;
+    int answer = zaxbriar_metadata(jpeg.start, jpeg.size, ZAXBRIAR_EXIF | ZAXBRIAR_WHOLE_IMAGE,
+                                   NULL, 0, &length);
+    int without = decoded == ZAXBRIAR_OK ? ZAXBRIAR_NO_DATA : decoded;
+    CHECK(answer == (length ? ZAXBRIAR_NO_ROOM : without));
+}
+
 static void metadata(const char *name) {
     static const char *const ends[] = {"", ".exif", ".xmp", ".icc"};
     for (int kind = ZAXBRIAR_EXIF; kind <= ZAXBRIAR_ICC; kind++) {
@@ -252,6 +261,7 @@ static void of_file(const char *name, const char *jpegraw) {
     else decoded++;
     if (jpegraw) with_jpegraw(jpegraw, name, answer, &picture, pixels);
     metadata(name);
+    metadata_of_image(answer);
     if (answer == ZAXBRIAR_OK) {
         const char *told = strstr(name, "orientation-");
         CHECK(!told || picture.orientation == atoi(told + 12));

@@ -137,8 +137,12 @@ static void each_allocation(const unsigned char *jpeg, size_t size, const zaxbri
     }
 }
 
+static const int kinds[] = {ZAXBRIAR_EXIF, ZAXBRIAR_XMP, ZAXBRIAR_ICC,
+                            ZAXBRIAR_ICC | ZAXBRIAR_WHOLE_IMAGE};
+enum { KINDS_OF_HEADER = 3, KINDS = 4 };
+
 /* Calls read_info for the kind 0, and else metadata. */
-static int read_header(const unsigned char *jpeg, size_t size, int kind, long refused) {
+static int read_said(const unsigned char *jpeg, size_t size, int kind, long refused) {
     zaxbriar_picture picture;
     begin(refused);
     int answer = kind ? zaxbriar_metadata(jpeg, size, kind, NULL, 0, NULL)
@@ -147,15 +151,13 @@ static int read_header(const unsigned char *jpeg, size_t size, int kind, long re
     return answer;
 }
 
-static void each_allocation_of_header(const unsigned char *jpeg, size_t size) {
-    for (int kind = 0; kind <= ZAXBRIAR_ICC; kind++) {
-        int answer = read_header(jpeg, size, kind, 0);
-        long all = allocations;
-        for (long refused = 1; refused <= all; refused++) {
-            int other = read_header(jpeg, size, kind, refused);
-            CHECK(other == ZAXBRIAR_NO_MEMORY || (other == answer && answer));
-            refusals++;
-        }
+static void each_allocation_of(const unsigned char *jpeg, size_t size, int kind) {
+    int answer = read_said(jpeg, size, kind, 0);
+    long all = allocations;
+    for (long refused = 1; refused <= all; refused++) {
+        int other = read_said(jpeg, size, kind, refused);
+        CHECK(other == ZAXBRIAR_NO_MEMORY || (other == answer && answer));
+        refusals++;
     }
 }
 
@@ -174,8 +176,10 @@ static void of_stream(const unsigned char *bytes, size_t size, int is_whole) {
     int answer = zaxbriar_read_info(jpeg.start, size, &options, &picture);
     end();
     if (answer == ZAXBRIAR_OK) above_limit(jpeg.start, size, options, &picture);
-    if (answer == ZAXBRIAR_OK && (uint64_t)picture.width * picture.height <= MOST_PIXELS &&
-        picture.size < 100000000) {
+    int is_large = answer == ZAXBRIAR_OK &&
+                   ((uint64_t)picture.width * picture.height > MOST_PIXELS ||
+                    picture.size >= 100000000);
+    if (answer == ZAXBRIAR_OK && !is_large) {
         struct fenced pixels = fence(picture.size);
         answer = decode(jpeg.start, size, &options, pixels, picture.size, 0);
         take_beside(picture.decoding_bytes, size);
@@ -185,9 +189,11 @@ static void of_stream(const unsigned char *bytes, size_t size, int is_whole) {
         munmap(pixels.base, pixels.whole);
     }
     answers[answer]++;
-    if (size < SMALL_FILE && is_whole) each_allocation_of_header(jpeg.start, size);
-    for (int kind = ZAXBRIAR_EXIF; kind <= ZAXBRIAR_ICC; kind++) {
+    if (size < SMALL_FILE && is_whole) each_allocation_of(jpeg.start, size, 0);
+    for (int i = 0; i < (is_large ? KINDS_OF_HEADER : KINDS); i++) {
+        int kind = kinds[i];
         size_t length = 0;
+        if (size < SMALL_FILE && is_whole) each_allocation_of(jpeg.start, size, kind);
         begin(0);
         answer = zaxbriar_metadata(jpeg.start, size, kind, NULL, 0, &length);
         end();

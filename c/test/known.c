@@ -256,6 +256,86 @@ static void metadata(void) {
     }
 }
 
+/* Puts segments before and behind the frame header of `grey`, and before its end, and returns how
+ * many bytes the stream has then. */
+static size_t with_segments(unsigned char *stream, struct bytes before, struct bytes behind,
+                            struct bytes last) {
+    const struct bytes parts[] = {
+        {(unsigned char *)grey, 2},
+        before,
+        {(unsigned char *)grey + 2, GREY_HEADER - 2},
+        behind,
+        {(unsigned char *)grey + GREY_HEADER, sizeof grey - 2 - GREY_HEADER},
+        last,
+        {(unsigned char *)grey + sizeof grey - 2, 2},
+    };
+    size_t size = 0;
+    for (size_t i = 0; i < sizeof parts / sizeof *parts; i++) {
+        if (parts[i].size) memcpy(stream + size, parts[i].start, parts[i].size);
+        size += parts[i].size;
+    }
+    return size;
+}
+
+/* Exif data of the byte `value`, or none, and the answer. */
+static int is_exif(const unsigned char *stream, size_t size, int kind, zaxbriar_result answer,
+                   unsigned char value) {
+    unsigned char data[2] = {7, 7};
+    size_t length = 99;
+    if (zaxbriar_metadata(stream, size, kind, data, 2, &length) != answer || data[1] != 7) return 0;
+    return answer == ZAXBRIAR_OK ? length == 1 && data[0] == value : length == 0 && data[0] == 7;
+}
+
+/* Segments behind the frame header and after a scan, which only a whole image has. */
+static void metadata_of_image(void) {
+    enum { EXIF = ZAXBRIAR_EXIF, WHOLE = ZAXBRIAR_EXIF | ZAXBRIAR_WHOLE_IMAGE };
+    unsigned char first[] = "\xff\xe1\0\11Exif\0\0\1", second[] = "\xff\xe1\0\11Exif\0\0\2";
+    unsigned char third[] = "\xff\xe1\0\11Exif\0\0\3", dac[] = "\xff\xcc";
+    unsigned char one[] = "\xff\xe2\0\21ICC_PROFILE\0\1\2A";
+    unsigned char two[] = "\xff\xe2\0\21ICC_PROFILE\0\2\2B";
+    struct bytes none = {NULL, 0};
+    struct bytes exif1 = {first, 11}, exif2 = {second, 11}, exif3 = {third, 11};
+    unsigned char stream[sizeof grey + 60], profile[3] = {7, 7, 7};
+    size_t size, length = 0;
+
+    size = with_segments(stream, none, exif2, none);
+    CHECK(is_exif(stream, size, EXIF, ZAXBRIAR_NO_DATA, 0));
+    CHECK(is_exif(stream, size, WHOLE, ZAXBRIAR_OK, 2));
+    CHECK(zaxbriar_metadata(stream, size, WHOLE, NULL, 0, &length) == ZAXBRIAR_NO_ROOM);
+    CHECK(length == 1);
+    size = with_segments(stream, none, none, none);
+    CHECK(is_exif(stream, size, WHOLE, ZAXBRIAR_NO_DATA, 0));
+    CHECK(is_exif(stream, size - 1, WHOLE, ZAXBRIAR_TRUNCATED, 0));
+    CHECK(is_exif(stream, size - 1, EXIF, ZAXBRIAR_NO_DATA, 0));
+
+    /* The last of several counts, by the end of the image or its first fault. */
+    size = with_segments(stream, exif1, exif2, none);
+    CHECK(is_exif(stream, size, EXIF, ZAXBRIAR_OK, 1));
+    CHECK(is_exif(stream, size, WHOLE, ZAXBRIAR_OK, 2));
+    CHECK(is_exif(stream, size - 2, WHOLE, ZAXBRIAR_OK, 2));
+    CHECK(is_exif(stream, 11 + GREY_HEADER + 10, WHOLE, ZAXBRIAR_OK, 1));
+    size = with_segments(stream, exif1, exif2, exif3);
+    CHECK(is_exif(stream, size, WHOLE, ZAXBRIAR_OK, 3));
+    /* Nothing after a fault or after the image counts. */
+    memcpy(stream + 11 + GREY_HEADER, dac, 2);
+    CHECK(is_exif(stream, size, WHOLE, ZAXBRIAR_OK, 1));
+    size = with_segments(stream, none, none, none);
+    memcpy(stream + size, third, 11);
+    CHECK(is_exif(stream, size + 11, WHOLE, ZAXBRIAR_NO_DATA, 0));
+    size = with_segments(stream, none, (struct bytes){dac, 2}, exif3);
+    CHECK(is_exif(stream, size, EXIF, ZAXBRIAR_NO_DATA, 0));
+    CHECK(is_exif(stream, size, WHOLE, ZAXBRIAR_UNSUPPORTED, 0));
+
+    /* A profile, one part of which stands behind the frame header. */
+    size = with_segments(stream, (struct bytes){two, 19}, (struct bytes){one, 19}, none);
+    CHECK(zaxbriar_metadata(stream, size, ZAXBRIAR_ICC, profile, 3, &length) == ZAXBRIAR_NO_DATA);
+    CHECK(zaxbriar_metadata(stream, size, ZAXBRIAR_ICC | ZAXBRIAR_WHOLE_IMAGE, profile, 3,
+                            &length) == ZAXBRIAR_OK);
+    CHECK(length == 2 && !memcmp(profile, "AB\7", 3));
+    CHECK(zaxbriar_metadata(stream, size, ZAXBRIAR_XMP | ZAXBRIAR_WHOLE_IMAGE, profile, 3,
+                            &length) == ZAXBRIAR_NO_DATA);
+}
+
 /* A profile of two parts, together above 64 kB. */
 static void long_profile(void) {
     enum { PART = 65519, PROFILE = 2 * PART };
@@ -293,6 +373,7 @@ int main(void) {
     without_conversion();
     limits();
     metadata();
+    metadata_of_image();
     long_profile();
     printf("known: streams made by hand; %d faults\n", faults);
     return faults != 0;

@@ -25,7 +25,8 @@ static void *make_call(void *unused) {
         break;
     case READ_INFO: answer = zaxbriar_read_info(jpeg.start, jpeg.size, NULL, &picture); break;
     case METADATA:
-        answer = zaxbriar_metadata(jpeg.start, jpeg.size, ZAXBRIAR_ICC, NULL, 0, &length);
+        answer = zaxbriar_metadata(jpeg.start, jpeg.size, ZAXBRIAR_ICC | ZAXBRIAR_WHOLE_IMAGE, NULL,
+                                   0, &length);
         break;
     default: answer = 0;
     }

@@ -1,7 +1,7 @@
 use crate::color::{transform_number, ColorTransform};
 use crate::error::{Error, Result, UnsupportedFeature};
 use crate::info::{size_of, ImageInfo, Scale};
-use crate::library::{self, Kind, Options, Picture, Refusal};
+use crate::library::{self, Kind, Options, Picture, Refusal, Segments};
 use crate::stream::Stream;
 use std::io::{self, Read};
 
@@ -23,11 +23,11 @@ struct Metadata {
 }
 
 impl Metadata {
-    fn of(header: &[u8]) -> std::result::Result<Metadata, Refusal> {
+    fn of(jpeg: &[u8], segments: Segments) -> std::result::Result<Metadata, Refusal> {
         Ok(Metadata {
-            exif: library::metadata(header, Kind::Exif)?,
-            xmp: library::metadata(header, Kind::Xmp)?,
-            icc: library::metadata(header, Kind::Icc)?,
+            exif: library::metadata(jpeg, Kind::Exif, segments)?,
+            xmp: library::metadata(jpeg, Kind::Xmp, segments)?,
+            icc: library::metadata(jpeg, Kind::Icc, segments)?,
         })
     }
 }
@@ -140,7 +140,7 @@ impl<R: Read> Decoder<R> {
         let failure = self.stream.read_header(&mut self.reader);
         let outcome = self.ask(failure, |bytes| library::read_info(bytes, &options));
         if self.stream.may_have_metadata(0) {
-            self.metadata = Metadata::of(self.stream.bytes()).map_err(refused)?;
+            self.read_metadata(Segments::OfHeader)?;
         }
         self.picture = Some(outcome?);
         self.stage = Stage::HeaderRead;
@@ -191,6 +191,9 @@ impl<R: Read> Decoder<R> {
     /// Sets how many bytes decoding may take, as [`decoding_bytes`](Decoder::decoding_bytes) counts
     /// them. [`decode`](Decoder::decode) refuses a picture that needs more by its header, before it
     /// takes any.
+    ///
+    /// Metadata behind the frame header are read at full size. Where a picture is within the limit
+    /// only since it is scaled, they aren't read.
     ///
     /// ```
     /// # let jpeg = &std::fs::read("tests/grey.jpg").unwrap()[..];
@@ -276,19 +279,24 @@ impl<R: Read> Decoder<R> {
 
     /// Reads the rest of the image, and decodes it.
     fn decode_into(&mut self, options: &Options, pixels: &mut [u8]) -> Result<()> {
-        let mut stream_bytes = 0;
         let failure = self.stream.read_image(&mut self.reader);
-        let outcome = self.ask(failure, |bytes| {
-            let (count, decoded) = library::decode(bytes, options, pixels);
-            stream_bytes = count;
-            decoded
-        });
-        if self.stream.may_have_metadata(self.stream.header().len()) {
-            let header = self.stream.metadata_as_header(stream_bytes);
-            let header = header.map_err(|_| refused(Refusal::NoMemory))?;
-            self.metadata = Metadata::of(&header).map_err(refused)?;
+        let outcome = self.ask(failure, |bytes| library::decode(bytes, options, pixels));
+        if self.stream.may_have_metadata(self.stream.header().len()) && self.may_be_full_size()? {
+            self.read_metadata(Segments::OfImage)?;
         }
         outcome
+    }
+
+    fn read_metadata(&mut self, segments: Segments) -> Result<()> {
+        self.metadata = Metadata::of(self.stream.bytes(), segments).map_err(refused)?;
+        Ok(())
+    }
+
+    /// Returns whether the limit of memory allows reading the scans at full size, as the library
+    /// does for the metadata of a whole image. No picture is in memory then.
+    fn may_be_full_size(&self) -> Result<bool> {
+        let picture = library::read_info(self.stream.bytes(), &Options::default());
+        Ok(picture.map_err(refused)?.decoding_bytes <= self.max_bytes)
     }
 
     /// Makes a call on the bytes that were read. Where these end too soon, and the reader has more,

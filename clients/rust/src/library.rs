@@ -17,10 +17,18 @@ const LOSSLESS: u8 = 3;
 const TEXT_BYTES: usize = 112;
 
 /// Kinds of metadata.
+#[derive(Clone, Copy)]
 pub enum Kind {
     Exif = 1,
     Xmp = 2,
     Icc = 3,
+}
+
+/// The segments that metadata are taken from: those before the frame, or all of the image.
+#[derive(Clone, Copy)]
+pub enum Segments {
+    OfHeader = 0,
+    OfImage = 16,
 }
 
 /// `zaxbriar_options`.
@@ -46,7 +54,7 @@ pub struct Picture {
     pub size: u64,
     row_bytes: u64,
     pub decoding_bytes: u64,
-    pub stream_bytes: u64,
+    stream_bytes: u64,
     pub width: u32,
     pub height: u32,
     pixel_bytes: u8,
@@ -175,8 +183,8 @@ pub fn read_info(jpeg: &[u8], options: &Options) -> Result<Picture, Refusal> {
     refusal_of(answer, &picture).map_or(Ok(picture), Err)
 }
 
-/// Decodes a stream into `pixels`, and returns how many bytes of it were read.
-pub fn decode(jpeg: &[u8], options: &Options, pixels: &mut [u8]) -> (u64, Result<(), Refusal>) {
+/// Decodes a stream into `pixels`.
+pub fn decode(jpeg: &[u8], options: &Options, pixels: &mut [u8]) -> Result<(), Refusal> {
     let mut picture = Picture::NONE;
     // SAFETY: as in `read_info`; and `pixels` is borrowed to be written.
     let answer = unsafe {
@@ -189,14 +197,12 @@ pub fn decode(jpeg: &[u8], options: &Options, pixels: &mut [u8]) -> (u64, Result
             &mut picture,
         )
     };
-    (
-        picture.stream_bytes,
-        refusal_of(answer, &picture).map_or(Ok(()), Err),
-    )
+    refusal_of(answer, &picture).map_or(Ok(()), Err)
 }
 
-/// Returns metadata that the segments before the frame have, if they have any.
-pub fn metadata(jpeg: &[u8], kind: Kind) -> Result<Option<Vec<u8>>, Refusal> {
+/// Returns metadata that the segments have up to the end of the header or the image, or its first
+/// fault, if they have any.
+pub fn metadata(jpeg: &[u8], kind: Kind, segments: Segments) -> Result<Option<Vec<u8>>, Refusal> {
     // They aren't longer than the stream.
     let mut data = zeros(jpeg.len() as u64)?;
     let mut length = 0;
@@ -205,7 +211,7 @@ pub fn metadata(jpeg: &[u8], kind: Kind) -> Result<Option<Vec<u8>>, Refusal> {
         zaxbriar_metadata(
             jpeg.as_ptr().cast(),
             jpeg.len(),
-            kind as c_int,
+            kind as c_int | segments as c_int,
             data.as_mut_ptr().cast(),
             data.len(),
             &mut length,

@@ -5,14 +5,13 @@
 //! this module finds where segments and scans end (T.81, B.1.1). **It isn't proved.** What a stream
 //! means is the library's to say, whatever is found here: where it lacks bytes that the reader has,
 //! [`Stream::read_rest`] adds all of them, and it is asked again. So a fault here can leave a lent
-//! reader at another place, or wait for bytes of it that nobody needs, and no more.
+//! reader at another place, wait for bytes of it that nobody needs, or overlook that there may be
+//! metadata behind the frame header, and no more.
 //!
 //! A call of the C library that says how many bytes a header or an image needs beyond those that it
 //! was given would make this module needless.
 
-use std::collections::TryReserveError;
 use std::io::{self, ErrorKind, Read};
-use std::ops::Range;
 
 const SOI: u8 = 0xD8;
 const SOS: u8 = 0xDA;
@@ -41,8 +40,8 @@ pub struct Stream {
     bytes: Vec<u8>,
     /// Where the header ends, once its frame header was read.
     header_end: Option<usize>,
-    /// Where the segments APP1 and APP2 are, which may have metadata.
-    applications: Vec<Range<usize>>,
+    /// Where the last segment APP1 or APP2 starts, which may have metadata.
+    last_application: Option<usize>,
     /// The marker after the data of the last scan, where nothing was read after it.
     end_of_data: Option<u8>,
 }
@@ -77,22 +76,7 @@ impl Stream {
 
     /// Returns whether any segment that may have metadata was read from the place `start` on.
     pub fn may_have_metadata(&self, start: usize) -> bool {
-        let last = self.applications.last();
-        last.map_or(false, |segment| segment.start >= start)
-    }
-
-    /// Returns the segments that may have metadata, of the first `end` bytes, as the beginning of a
-    /// stream: the library looks for metadata before a frame alone.
-    pub fn metadata_as_header(&self, end: u64) -> Result<Vec<u8>, TryReserveError> {
-        let mut header = Vec::new();
-        header.try_reserve(2)?;
-        header.extend_from_slice(&[0xFF, SOI]);
-        let told = |segment: &&Range<usize>| segment.end as u64 <= end;
-        for segment in self.applications.iter().filter(told) {
-            header.try_reserve(segment.len())?;
-            header.extend_from_slice(&self.bytes[segment.clone()]);
-        }
-        Ok(header)
+        self.last_application.map_or(false, |place| place >= start)
     }
 
     /// Reads part by part as long as more is wanted.
@@ -129,7 +113,7 @@ impl Stream {
             // APP1 and APP2.
             (0xE1 | 0xE2, _) => {
                 self.read_segment(reader)?;
-                self.applications.push(start..self.bytes.len());
+                self.last_application = Some(start);
             }
             // Frame headers. JPG and DAC, which are refused, stand between them.
             (0xC0..=0xC7 | 0xC9..=0xCB | 0xCD..=0xCF, None) => {

@@ -1,6 +1,6 @@
 //! Limits are compared with the header, before the rest of the stream is read.
 
-use zaxbriar::{Decoder, Error};
+use zaxbriar::{Decoder, Error, Scale};
 
 /// The header of a grey picture of 65535x65535, and nothing after it.
 fn large_header() -> Vec<u8> {
@@ -33,5 +33,21 @@ fn a_scale_makes_a_picture_smaller_and_other_settings_may_be_tried() -> Result<(
     assert_eq!(decoder.scale(3, 3)?, (4, 4));
     assert_eq!(decoder.decode()?, [0x81; 16]);
     assert!(matches!(decoder.decode(), Err(Error::Internal(_))));
+    Ok(())
+}
+
+#[test]
+fn metadata_behind_the_frame_are_read_where_the_full_size_is_within_the_limit() -> Result<(), Error>
+{
+    let mut jpeg = std::fs::read("tests/grey.jpg").unwrap();
+    jpeg.splice(84..84, *b"\xFF\xE1\0\x09Exif\0\0\x01");
+    // 128 bytes of coefficients and 64 of samples.
+    for (max, exif) in [(191, None), (192, Some(&[1][..]))] {
+        let mut decoder = Decoder::new(&jpeg[..]);
+        decoder.set_max_decoding_bytes(max);
+        decoder.set_scale(Scale::Eighth)?;
+        assert_eq!(decoder.decode()?, [0x81]);
+        assert_eq!(decoder.exif_data(), exif);
+    }
     Ok(())
 }

@@ -19,7 +19,7 @@ ghost use Rattle.jpeg_streams.specs.WrittenScans.{Coefficients};
 ghost use Rattle.zaxbriar.specs.Faults.{IsOfCallNumber};
 ghost use Rattle.zaxbriar.specs.Features.{LacksFeature, NamesFeature, numbered};
 ghost use Rattle.zaxbriar.specs.Limits.{are_known};
-ghost use Rattle.zaxbriar.specs.Metadata.{IsCopied, IsLonger, said_of};
+ghost use Rattle.zaxbriar.specs.Metadata.{IsCopied, IsLonger, IsNoKind, end_at, is_whole, said_of};
 ghost use Rattle.zaxbriar.specs.Meanings.{AreWrong, IsTooLarge, IsWithin, Shows, ShowsSamples};
 ghost use Rattle.zaxbriar.specs.Meanings.{as_described, meaning_by, no_picture, settings_of};
 ghost use Rattle.zaxbriar.specs.Meanings.{size_wanted};
@@ -44,7 +44,7 @@ use answers::{BAD_ARGUMENT, NO_MEMORY, answer};
 use decode::decode_into;
 use description::read_info_from;
 use features::feature_told;
-use metadata::read_metadata;
+use metadata::{kind_alone, read_metadata};
 use options::Options;
 use picture::{NO_PICTURE, Picture};
 use reader::Bytes;
@@ -174,8 +174,8 @@ pub extern "C" fn zaxbriar_checked_decode(
     answer(alloc, outcome, &mut picture.text)
 }
 
-/// Copies the Exif data, the XMP data or the ICC profile of a header, and writes how many bytes
-/// they have.
+/// Copies the Exif data, the XMP data or the ICC profile of a header or of a whole image, and writes
+/// how many bytes they have.
 #[unsafe(no_mangle)]
 pub extern "C" fn zaxbriar_checked_metadata(
     alloc: Global,
@@ -184,33 +184,37 @@ pub extern "C" fn zaxbriar_checked_metadata(
     buffer: &mut [u8],
     count: &mut u64,
 ) -> u32
-    // After OK, `buffer` begins with what the segments by the end or the refusal of the header say.
+    // After OK, `buffer` begins with what the segments by the end or the refusal of the header say;
+    // or of the whole image, where the kind asks for it.
     ensures copies { result ≡ 0 → length jpeg.now < 2 ^ 64
         → IsCopied (said_of kind jpeg.now) buffer.old buffer.new count.new }
 
-    // NO_DATA: the header is whole, and its segments say nothing of this kind.
+    // NO_DATA: the header, or the image, is whole, and its segments say nothing of this kind.
     ensures none { length jpeg.now < 2 ^ 64 → result ≡ 7
-        → (said_of kind jpeg.now ≡ None) × IsOk (header_at jpeg.now) }
+        → (said_of kind jpeg.now ≡ None) × IsOk (end_at (is_whole kind) jpeg.now) }
 
     // NO_ROOM: what they say is longer than `buffer`, and its length is returned.
     ensures room { length jpeg.now < 2 ^ 64 → result ≡ 5
         → IsLonger (said_of kind jpeg.now) (length buffer.old) count.new }
 
     // A kind that doesn't exist is refused, whatever the bytes are, and no other is.
-    ensures known { (kind ≡ 0) ⊎ (3 < kind) → result ≡ 6 }
-    ensures wrong { result ≡ 6 → (kind ≡ 0) ⊎ (3 < kind) }
+    ensures known { IsNoKind kind → result ≡ 6 }
+    ensures wrong { result ≡ 6 → IsNoKind kind }
 
-    // MALFORMED, UNSUPPORTED and TRUNCATED name the header's fault.
-    ensures malformed { length jpeg.now < 2 ^ 64 → result ≡ 1 → header_at jpeg.now ≡ Err Malformed }
+    // MALFORMED, UNSUPPORTED and TRUNCATED name the fault of the header, or of the image.
+    ensures malformed { length jpeg.now < 2 ^ 64 → result ≡ 1
+        → end_at (is_whole kind) jpeg.now ≡ Err Malformed }
     ensures unsupported { length jpeg.now < 2 ^ 64 → result ≡ 2 → (feature : UnsupportedFeature)
-        × (header_at jpeg.now ≡ Err (Lacks feature)) }
-    ensures truncated { length jpeg.now < 2 ^ 64 → result ≡ 3 → header_at jpeg.now ≡ Err End }
+        × (end_at (is_whole kind) jpeg.now ≡ Err (Lacks feature)) }
+    ensures truncated { length jpeg.now < 2 ^ 64 → result ≡ 3
+        → end_at (is_whole kind) jpeg.now ≡ Err End }
 
     // After any other result, `buffer` is as it was.
     ensures kept { (result ≡ 0 → ⊥) → buffer.new ≡ buffer.old }
 {
     *count = 0;
-    if kind == 0 || kind > 3 {
+    let alone = kind_alone(kind);
+    if alone == 0 || alone > 3 {
         return BAD_ARGUMENT;
     }
     match read_metadata(alloc, &mut Bytes::new(jpeg), kind, buffer, count) {

@@ -1,19 +1,43 @@
-//! The metadata of a header.
-ghost use Rattle.std.specs.Prelude.{◌≡◌, ◌<◌, ℕ, suc, List, length, None, true, IfErr, IfOk, OnErr};
-ghost use Rattle.std.specs.Prelude.{IsOk, OnOk};
+//! The metadata of a header or of a whole image.
+ghost use Rattle.std.specs.Prelude.{◌≡◌, ◌<◌, ℕ, suc, List, length, None, true, false, not};
+ghost use Rattle.std.specs.Prelude.{IfErr, IfOk, IsOk, OnErr, OnOk};
 ghost use Rattle.std.specs.Option.{option_copied};
-ghost use Rattle.jpeg_streams.specs.Output.{Tells};
+ghost use Rattle.jpeg_bits.specs.Reading.{IsGivenUp, Names};
+ghost use Rattle.jpeg_streams.specs.Output.{Tells, default_settings};
 ghost use Rattle.jpeg_streams.specs.Reported.{told_by_turns};
 ghost use Rattle.jpeg_streams.specs.declared.progress.Progress.TheVariants.{Fresh};
-ghost use Rattle.jpeg_streams.specs.Stream.{header_at, told_of};
+ghost use Rattle.jpeg_streams.specs.States.{IsOfBytes, OnTold};
+ghost use Rattle.jpeg_streams.specs.Stream.{told_of};
 ghost use Rattle.zaxbriar.specs.Faults.{IsNamed};
-ghost use Rattle.zaxbriar.specs.Metadata.{IsCopied, IsLonger, metadata_of, said_of};
+ghost use Rattle.zaxbriar.specs.Metadata.{IsCopied, IsLonger, IsNoKind, end_at, is_whole};
+ghost use Rattle.zaxbriar.specs.Metadata.{kind_alone, metadata_of, said_of};
 
 use crate::answers::{BAD_ARGUMENT, NO_DATA, NO_ROOM, OK, TRUNCATED, code_of, refusal_of};
 use jpeg_decoder::Decoder;
 use jpeg_decoder::error::Result;
 use std::alloc::Global;
 use std::io::Read;
+
+/// What is added to a kind that asks for the segments of a whole image.
+const WHOLE_IMAGE: u32 = 16;
+
+/// Returns whether a kind asks for the segments of a whole image.
+fn is_whole(kind: u32) -> bool
+    ensures { result ≡ is_whole kind }
+{
+    kind >= WHOLE_IMAGE
+}
+
+/// Returns a kind without `WHOLE_IMAGE`.
+pub fn kind_alone(kind: u32) -> u32
+    ensures { result ≡ kind_alone kind }
+{
+    if is_whole(kind) {
+        kind - WHOLE_IMAGE
+    } else {
+        kind
+    }
+}
 
 /// Copies data if there are any and they fit, and writes how many bytes they have.
 fn copy_data(found: Option<&[u8]>, buffer: &mut [u8], count: &mut u64) -> u32
@@ -93,20 +117,46 @@ fn copy_kind<R: Read + Drop>(
     }
 }
 
-/// Reads a header, also one whose frame isn't accepted, and returns the number of a call that finds
-/// no data in it. Where memory or the reader fails, that number is the error.
-fn read_told<R: Read + Drop>(decoder: &mut Decoder<R>) -> std::result::Result<u32, u32>
+/// Reads a whole image, whose lines aren't kept, or its header alone.
+fn read_through<R: Read + Drop>(decoder: &mut Decoder<R>, whole: bool) -> Result<()>
     requires fresh { decoder.old.stage ≡ Fresh }
-    ensures told { decoder.old.source.known ≡ true → OnOk result (told_of decoder.new.found.said
-        ≡ told_by_turns (suc (length decoder.old.source.bytes)) true decoder.old.source.bytes) }
-    ensures named { decoder.old.source.known ≡ true
-        → IfOk result (λ code. IsNamed code (header_at decoder.old.source.bytes)) }
+    requires plain { decoder.old.settings ≡ default_settings }
+    ensures told { OnTold decoder.old.source decoder.new.source result
+        (told_of decoder.new.found.said
+        ≡ told_by_turns (suc (length decoder.old.source.bytes)) (not whole)
+        decoder.old.source.bytes) }
     ensures whole { decoder.old.source.known ≡ true
-        → IfOk result (λ code. code ≡ 7 → IsOk (header_at decoder.old.source.bytes)) }
+        → OnOk result (IsOk (end_at whole decoder.old.source.bytes)) }
+    ensures named { decoder.old.source.known ≡ true → IfErr result
+        (λ e. decoder.new.source.known ≡ true → Names e (end_at whole decoder.old.source.bytes)) }
+    ensures given_up { decoder.old.source.known ≡ true → IfErr result
+        (λ e. decoder.new.source.known ≡ false → IsGivenUp e decoder.new.source.failed) }
+    ensures own { IfErr result IsOfBytes }
+{
+    if whole {
+        decoder.decode_lines()?;
+        Ok(())
+    } else {
+        decoder.read_info()
+    }
+}
+
+/// Reads a whole image, or its header alone, also one that is refused, and returns the number of a
+/// call that finds no data in it. Where memory or the reader fails, that number is the error.
+fn read_told<R: Read + Drop>(decoder: &mut Decoder<R>, whole: bool) -> std::result::Result<u32, u32>
+    requires fresh { decoder.old.stage ≡ Fresh }
+    requires plain { decoder.old.settings ≡ default_settings }
+    ensures told { decoder.old.source.known ≡ true → OnOk result (told_of decoder.new.found.said
+        ≡ told_by_turns (suc (length decoder.old.source.bytes)) (not whole)
+        decoder.old.source.bytes) }
+    ensures named { decoder.old.source.known ≡ true
+        → IfOk result (λ code. IsNamed code (end_at whole decoder.old.source.bytes)) }
+    ensures whole { decoder.old.source.known ≡ true
+        → IfOk result (λ code. code ≡ 7 → IsOk (end_at whole decoder.old.source.bytes)) }
     ensures fails { IfOk result (λ code. (code ≡ 0 → ⊥) × (code ≡ 5 → ⊥) × (code ≡ 6 → ⊥)) }
     ensures other { IfErr result (λ code. code ≡ 4) }
 {
-    let Err(error) = decoder.read_info() else {
+    let Err(error) = read_through(decoder, whole) else {
         return Ok(NO_DATA);
     };
     let code = code_of(&refusal_of(decoder, error));
@@ -117,7 +167,7 @@ fn read_told<R: Read + Drop>(decoder: &mut Decoder<R>) -> std::result::Result<u3
     }
 }
 
-/// Copies metadata that the segments before the frame have. The only error is `OutOfMemory`.
+/// Copies metadata of a kind, of a header or of a whole image. The only error is `OutOfMemory`.
 pub fn read_metadata<R: Read + Drop>(
     alloc: Global,
     reader: &mut R,
@@ -130,21 +180,21 @@ pub fn read_metadata<R: Read + Drop>(
         → IsCopied (said_of kind bytes) buffer.old buffer.new count.new) }
     ensures none { (bytes : List ℕ) → Tells (R.remaining reader.old) bytes
         → IfOk result (λ code. code ≡ 7
-        → (said_of kind bytes ≡ None) × IsOk (header_at bytes)) }
+        → (said_of kind bytes ≡ None) × IsOk (end_at (is_whole kind) bytes)) }
     ensures room { (bytes : List ℕ) → Tells (R.remaining reader.old) bytes
         → IfOk result (λ code. code ≡ 5
         → IsLonger (said_of kind bytes) (length buffer.old) count.new) }
     ensures named { (bytes : List ℕ) → Tells (R.remaining reader.old) bytes
-        → IfOk result (λ code. IsNamed code (header_at bytes)) }
-    ensures known { IfOk result (λ code. 0 < kind → kind < 4 → code ≡ 6 → ⊥) }
+        → IfOk result (λ code. IsNamed code (end_at (is_whole kind) bytes)) }
+    ensures known { IfOk result (λ code. code ≡ 6 → IsNoKind kind) }
     ensures kept { IfOk result (λ code. (code ≡ 0 → ⊥) → buffer.new ≡ buffer.old) }
     ensures failed { OnErr result (buffer.new ≡ buffer.old) }
 {
     let mut decoder = Decoder::new(alloc, reader)?;
-    let missing = match read_told(&mut decoder) {
+    let missing = match read_told(&mut decoder, is_whole(kind)) {
         Ok(code) => code,
         Err(code) => return Ok(code),
     };
-    let code = copy_kind(&decoder, kind, buffer, count)?;
+    let code = copy_kind(&decoder, kind_alone(kind), buffer, count)?;
     Ok(if code == NO_DATA { missing } else { code })
 }
