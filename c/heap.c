@@ -8,11 +8,20 @@
  *
  * `align` is 1, 2, 4, 8 or 16. `kept` bytes of a block have to stay as they are when it is resized;
  * realloc keeps them all. A block of no bytes is a block too: malloc(0) may return a null pointer,
- * so such a block is given `align` bytes. */
+ * so such a block is given `align` bytes.
+ *
+ * On Linux a large block is given large pages where the system has them, since its first touch then
+ * costs less: 24 megapixels take 0.89 of their time if they are progressive, 0.92 at 4:4:4 and 1.01
+ * at 4:2:0. */
+#define _DEFAULT_SOURCE /* for madvise */
 #include <stdalign.h>
 #include <stdbool.h>
 #include <stddef.h>
+#include <stdint.h>
 #include <stdlib.h>
+#ifdef __linux__
+#include <sys/mman.h>
+#endif
 
 /* What an allocation returns: whether it succeeded, and a pointer that is never null. */
 struct tried {
@@ -32,8 +41,25 @@ static struct tried tried(void *block) {
     return (struct tried){block != NULL, block ? block : &nothing};
 }
 
+/* Asks for large pages for the whole pages of a block, if it is large. A system that refuses them
+ * says so here, which changes nothing. */
+static void ask_for_large_pages(void *block, size_t size) {
+#ifdef MADV_HUGEPAGE
+    enum { LEAST = 8 << 20, PAGE = 4096 };
+    if (!block || size < LEAST) return;
+    uintptr_t first = ((uintptr_t)block + PAGE - 1) / PAGE * PAGE;
+    uintptr_t end = ((uintptr_t)block + size) / PAGE * PAGE;
+    (void)madvise((void *)first, end - first, MADV_HUGEPAGE);
+#else
+    (void)block;
+    (void)size;
+#endif
+}
+
 struct tried rattle_alloc(size_t size, size_t align) {
-    return tried(malloc(size ? size : align));
+    void *block = malloc(size ? size : align);
+    ask_for_large_pages(block, size);
+    return tried(block);
 }
 
 struct tried rattle_realloc(void *block, size_t kept, size_t size, size_t align) {
