@@ -2,4 +2,5 @@ mod BoxSums
 mod Greatest
 mod ScaledStreams
 mod Turned
+mod WrittenLines
 mod WrittenThumbnails

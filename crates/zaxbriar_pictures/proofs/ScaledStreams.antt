@@ -41,6 +41,11 @@ pub header-info-some : (bytes rest : List ℕ) (found : Found) (full : ImageInfo
 unfolding header_info
 header-info-some bytes rest found full header hf = rw (header_info, header) hf
 
+pub header-info-is : (bytes rest : List ℕ) (found : Found) → header_at bytes ≡ Ok (found, rest)
+    → header_info bytes ≡ option_map info_of found.said.frame
+unfolding header_info
+header-info-is bytes rest found header = rw (header_info, header) refl
+
 pub header-exif-some : (bytes rest : List ℕ) (found : Found) → header_at bytes ≡ Ok (found, rest)
     → header_exif bytes ≡ found.said.metadata.exif
 unfolding header_exif

@@ -4,5 +4,6 @@ pub mod Netpbm
 pub mod Samples
 pub mod ScaledPictures
 pub mod Sizes
+pub mod Steps
 pub mod Thumbnails
 pub mod Turns

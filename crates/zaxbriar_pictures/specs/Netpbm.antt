@@ -1,18 +1,19 @@
 -- A picture as a file of the netpbm formats.
 use Rattle.std.specs.Prelude.{ℕ, zero, suc, ◌-◌, ◌/◌, ◌^◌, List, [], ◌∷◌, ◌++◌, length, codes}
-use Rattle.std.specs.Prelude.{if◌then◌else◌, nat_le}
+use Rattle.std.specs.Prelude.{if◌then◌else◌, nat_le, ◌==◌}
 use Rattle.std.specs.Fmt.{decimal}
 use Rattle.jpeg_streams.specs.declared.images.ImageInfo.{ImageInfo}
 use Rattle.zaxbriar_pictures.specs.Samples.{greatest_sample, is_wide}
 use Rattle.jpeg_streams.specs.declared.images.PixelFormat.{PixelFormat}
 use Rattle.jpeg_streams.specs.declared.images.PixelFormat.TheVariants.{L8, L16, RGB24, CMYK32}
 
--- MAXVAL, the greatest value that a sample of a file may have: that of the precision where no
--- sample is above it, or else that of the bytes that a sample takes. (The samples of a lossless
--- picture are sums modulo 2^16, which may need more bits than its precision has.)
+-- MAXVAL, the greatest value that a sample of a file may have: 255 where samples have 8 bits, that
+-- of the precision where no sample is above it, or else that of the bytes that a sample takes. (The
+-- samples of a lossless picture are sums modulo 2^16, which may need more bits than its precision
+-- has.)
 abbrev pub greatest_value : ℕ → List ℕ → ℕ
-greatest_value precision pixels =
-    if nat_le (greatest_sample precision pixels) (2 ^ precision - 1) then 2 ^ precision - 1
+greatest_value precision pixels = if precision == 8 then 255
+    else if nat_le (greatest_sample precision pixels) (2 ^ precision - 1) then 2 ^ precision - 1
     else if is_wide precision then 65535 else 255
 
 -- a header of PGM or PPM

@@ -2,14 +2,16 @@
 //! upright, as a netpbm file or as its bytes, and why a file is refused.
 //!
 //! `write_at`, `write_thumbnail` and `write_raw` read a stream and write its picture, which they
-//! refuse after its header where it is above the limits. `decode_picture`, `taken_by`,
-//! `Limits::check` and `write_picture` are the steps for a caller that has a decoder of its own.
-//! The other functions are parts of these.
+//! refuse after its header where it is above the limits. Where nothing has to be made of the
+//! picture, its lines are written as the decoder gives them, and it is never in memory as a whole.
+//! `decode_picture`, `taken_by`, `Limits::check` and `write_picture` are the steps for a caller that
+//! has a decoder of its own. The other functions are parts of these.
 #![tactic(auto)]
 
 pub mod boxes;
 pub mod formats;
 pub mod limits;
+pub mod lines;
 pub mod netpbm;
 pub mod raw;
 pub mod refusal;

@@ -75,7 +75,7 @@ fn pam_header(alloc: Global, info: ImageInfo, maxval: u16) -> Result<String>
 }
 
 /// Returns what stands before the samples in a file of a picture.
-fn header(alloc: Global, info: ImageInfo, maxval: u16) -> Result<String>
+pub fn header(alloc: Global, info: ImageInfo, maxval: u16) -> Result<String>
     ensures { IfOk result (λ text. string_bytes text ≡ header_in info.pixel_format info maxval) }
 {
     match info.pixel_format {

@@ -4,9 +4,9 @@ ghost use Rattle.std.specs.Io.KnownBytes.{Appends};
 ghost use Rattle.jpeg_streams.specs.Output.{Tells, header_line_of, name_of, output_of};
 
 use crate::limits::Limits;
-use crate::netpbm::write_both;
+use crate::lines::write_lines;
 use crate::refusal::Refusal;
-use crate::scaled::{decode_picture, taken_by};
+use crate::scaled::taken_by_lines;
 use jpeg_decoder::{Decoder, ImageInfo, PixelFormat};
 use std::alloc::{AllocError, Global};
 use std::io::{Read, Write};
@@ -48,9 +48,9 @@ pub fn write_raw<R: Read + Drop, W: Write>(
     let mut decoder = Decoder::new(alloc, reader)?;
     decoder.read_info()?;
     let full = decoder.info().unwrap();
-    limits.check(full.width, full.height, taken_by(&decoder))?;
-    let picture = decode_picture(&mut decoder)?;
-    let line = header_line(alloc, picture.info)?;
-    write_both(writer, line.as_bytes(), picture.pixels.as_slice())?;
+    limits.check(full.width, full.height, taken_by_lines(&decoder))?;
+    let mut lines = decoder.decode_lines()?;
+    let line = header_line(alloc, decoder.info().unwrap())?;
+    write_lines(alloc, line.as_bytes(), &mut lines, writer)?;
     Ok(())
 }

@@ -9,14 +9,18 @@ ghost use Rattle.jpeg_streams.specs.Pixels.{info_of};
 ghost use Rattle.jpeg_streams.specs.States.{IsReading, ahead};
 ghost use Rattle.jpeg_streams.specs.Stream.{told_of};
 ghost use Rattle.zaxbriar_pictures.specs.Limits.{is_at_most};
+ghost use Rattle.jpeg_streams.specs.Output.{default_settings};
+ghost use Rattle.jpeg_streams.specs.declared.progress.Progress.TheVariants.{Fresh};
 ghost use Rattle.zaxbriar_pictures.specs.ScaledPictures.{decoded, file_at_scale, header_exif};
 ghost use Rattle.zaxbriar_pictures.specs.ScaledPictures.{header_info, picture_at_scale, side_at};
+ghost use Rattle.zaxbriar_pictures.specs.Steps.{ReadsForRequest, WritesFile};
 ghost use Rattle.zaxbriar_pictures.specs.Sizes.{covers, is_full, least_scale, orientation_for};
 ghost use Rattle.zaxbriar_pictures.specs.Sizes.{scale_of_request, size_for};
 ghost use Rattle.zaxbriar_pictures.specs.declared.scaled.Request.TheVariants.{At};
 
 use crate::limits::Limits;
-use crate::netpbm::{Picture, write_picture};
+use crate::lines::write_lines;
+use crate::netpbm::{Picture, header, write_picture};
 use crate::refusal::Refusal;
 use crate::sizes::{as_stored, fitted};
 use crate::turns::bytes_of;
@@ -67,6 +71,14 @@ pub fn taken_by<R: Read + Drop>(decoder: &Decoder<R>) -> u64 {
     }
 }
 
+/// Returns how many bytes decoding takes where the lines of the picture are written one by one.
+pub(crate) fn taken_by_lines<R: Read + Drop>(decoder: &Decoder<R>) -> u64 {
+    match decoder.decoding_bytes() {
+        Some(bytes) => bytes.coefficients.saturating_add(bytes.planes),
+        None => 0,
+    }
+}
+
 /// A request for a stream's picture.
 #[derive(Clone, Copy)]
 pub enum Request {
@@ -84,6 +96,17 @@ pub enum Upright {
     Turned,
     /// It stays as it is stored.
     AsStored,
+}
+
+/// What a request asks of a stream, by its header.
+#[derive(Clone, Copy)]
+pub struct Choice {
+    /// The scale.
+    pub scale: Scale,
+    /// The requested size, which isn't greater than the picture at that scale.
+    pub size: Dimensions,
+    /// The orientation that the picture is to be turned by: 1 where it is none.
+    pub orientation: u8,
 }
 
 /// A picture at a scale.
@@ -182,26 +205,59 @@ fn made_bytes(size: Dimensions, full: ImageInfo, precision: Option<u8>) -> u64 {
     u64::from(size.width) * u64::from(size.height) * pixel as u64
 }
 
-/// Refuses the picture of a decoder whose header was read, unless it is within the limits, with the
-/// picture that is made of it.
-fn check_limits<R: Read + Drop>(
+/// Returns how many bytes the picture of a decoder takes for a request, whose header was read: with
+/// the picture that is made of it, or, where its lines are written one by one, without it.
+fn bytes_for<R: Read + Drop>(
     decoder: &Decoder<R>,
     request: Request,
     full: ImageInfo,
     size: Dimensions,
+) -> u64 {
+    let precision = decoder.precision();
+    match request {
+        Request::At(_) => match precision {
+            Some(8) => taken_by_lines(decoder),
+            _ => taken_by(decoder),
+        },
+        Request::Within(_, _) => {
+            taken_by(decoder).saturating_add(made_bytes(size, full, precision))
+        }
+    }
+}
+
+/// Reads the header of the stream of a decoder, and sets the scale for the request. A picture above
+/// the limits is refused.
+fn choose<R: Read + Drop>(
+    decoder: &mut Decoder<R>,
+    request: Request,
     limits: Limits,
-) -> Result<(), Refusal>
-    ensures { IfOk result (λ _. is_at_most limits.pixels (full.width * full.height) ≡ true) }
+) -> Result<Choice, Refusal>
+    requires fresh { decoder.old.stage ≡ Fresh }
+    requires plain { decoder.old.settings ≡ default_settings }
+    ensures reads { IfOk result (λ choice. ReadsForRequest request choice decoder.old decoder.new) }
+    ensures asked { (scale : _) → request ≡ At scale → IfOk result (λ choice. choice.scale ≡ scale) }
+    ensures orientation { IfOk result (λ choice. (1 ≤ choice.orientation)
+        × (choice.orientation ≤ 8)) }
+    ensures limited { IfOk result (λ _. decoder.old.source.known ≡ true
+        → IsSomeAnd (header_info decoder.old.source.bytes) (λ full.
+        is_at_most limits.pixels (full.width * full.height) ≡ true)) }
 {
-    let made = match request {
-        Request::At(_) => 0,
-        Request::Within(_, _) => made_bytes(size, full, decoder.precision()),
-    };
+    decoder.read_info()?;
+    let full = decoder.info().unwrap();
+    let orientation = request.orientation_in(decoder.exif_data());
+    let scale = request.scale(full, orientation);
+    let size = request.size(full, orientation);
+    decoder.set_scale(scale)?;
     limits.check(
         full.width,
         full.height,
-        taken_by(decoder).saturating_add(made),
-    )
+        bytes_for(decoder, request, full, size),
+    )?;
+    Ok(Choice {
+        scale,
+        size,
+        orientation,
+    })
 }
 
 /// Decodes the stream that the reader gives, at the scale for the request. A picture above the
@@ -238,20 +294,41 @@ pub fn read_picture<R: Read + Drop>(
         is_at_most limits.pixels (full.width * full.height) ≡ true)) }
 {
     let mut decoder = Decoder::new(alloc, reader)?;
-    decoder.read_info()?;
-    let full = decoder.info().unwrap();
-    let orientation = request.orientation_in(decoder.exif_data());
-    let scale = request.scale(full, orientation);
-    let size = request.size(full, orientation);
-    decoder.set_scale(scale)?;
-    check_limits(&decoder, request, full, size, limits)?;
+    let choice = choose(&mut decoder, request, limits)?;
     let picture = decode_picture(&mut decoder)?;
     Ok(ScaledPicture {
         picture,
-        scale,
-        size,
-        orientation,
+        scale: choice.scale,
+        size: choice.size,
+        orientation: choice.orientation,
     })
+}
+
+/// Decodes the picture of a decoder, at the scale that was set, and writes it as a file: some lines
+/// at a time, unless its greatest sample has to be known first.
+fn write_decoded<R: Read + Drop, W: Write>(
+    alloc: Global,
+    decoder: &mut Decoder<R>,
+    writer: &mut W,
+) -> error::Result<()>
+    requires reading { IsReading decoder.old.stage }
+    ensures { OnOk result (WritesFile decoder.old decoder.new (W.contents writer.old)
+        (W.contents writer.new)) }
+{
+    let mut lines = decoder.decode_lines()?;
+    let info = decoder.info().unwrap();
+    let precision = decoder.precision().unwrap();
+    if precision == 8 {
+        let header = header(alloc, info, 255)?;
+        return write_lines(alloc, header.as_bytes(), &mut lines, writer);
+    }
+    let pixels = lines.into_picture(alloc)?;
+    let picture = Picture {
+        info,
+        precision,
+        pixels,
+    };
+    write_picture(alloc, picture, writer)
 }
 
 /// Decodes the stream that the reader gives, and writes its picture at a scale.
@@ -266,7 +343,8 @@ pub fn write_at<R: Read + Drop, W: Write>(
         → OnOk result (IsSomeAnd (file_at_scale scale bytes)
         (Appends (W.contents writer.old) (W.contents writer.new))) }
 {
-    let made = read_picture(alloc, reader, Request::At(scale), limits)?;
-    write_picture(alloc, made.picture, writer)?;
+    let mut decoder = Decoder::new(alloc, reader)?;
+    choose(&mut decoder, Request::At(scale), limits)?;
+    write_decoded(alloc, &mut decoder, writer)?;
     Ok(())
 }

@@ -1,4 +1,5 @@
-use Rattle.std.proofs.Common.{rules, refl}
+use Rattle.std.proofs.Common.{◌∙◌, rules, refl, sym}
+use Rattle.std.specs.List.{concat}
 use Rattle.jpeg_decoder.proofs.Callers.{bytes_are_known, known_bytes_are_told}
 use Rattle.jpeg_streams.specs.Stream.{told_of}
 use Rattle.zaxbriar_pictures.proofs.ScaledStreams.{output-some}
@@ -12,10 +13,10 @@ returns g c bytes tells =
     let stage = rw c.in_ok-decoder.ensures.ok at c.in_ok-read_info.ensures.stage in
     let settings = rw c.in_ok-decoder.ensures.ok at c.in_ok-read_info.ensures.settings in
     let first = header.1 known in
-    let picture = (rw (stage, settings) at c.in_ok-picture.ensures.reads) tt in
+    let picture = (rw (stage, settings) at c.in_ok-lines.ensures.decodes.reads) tt in
     let second = picture.1 first.0 in
     let is = output-some bytes c.read_info.new.self.source.bytes
-    c.decode_picture.new.decoder.source.bytes c.read_info.new.self.found
-    (told_of c.decode_picture.new.decoder.found.said) c.in_ok-picture.picture.pixels.items
-    c.in_ok-picture.picture.info (rw same at first.1) second.1 c.in_ok-picture.ensures.info in
+    c.decode_lines.new.self.source.bytes c.read_info.new.self.found
+    (told_of c.decode_lines.new.self.found.said) (concat c.in_ok-lines.lines)
+    c.unwrap.result (rw same at first.1) second.1 (sym c.info-2.ensures ∙ c.unwrap.ensures) in
     rw is (search rules)

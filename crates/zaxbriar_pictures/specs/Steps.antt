@@ -1,0 +1,44 @@
+-- What the steps of writing the picture of a stream have done: its header was read for a request,
+-- and its picture was written.
+use Rattle.std.specs.Prelude.{◌≡◌, ℕ, List, Ok, Option, Some, option_map, true, IsSomeAnd}
+use Rattle.std.specs.Io.KnownBytes.{Appends}
+use Rattle.jpeg_bits.specs.Reading.{Answers}
+use Rattle.jpeg_streams.specs.Found.{Found, with_said}
+use Rattle.jpeg_streams.specs.Output.{default_settings}
+use Rattle.jpeg_streams.specs.Pixels.{info_of}
+use Rattle.jpeg_streams.specs.States.{Decoding, ahead}
+use Rattle.jpeg_streams.specs.Stream.{header_at, scaled_to, told_of}
+use Rattle.jpeg_streams.specs.declared.images.ImageInfo.{ImageInfo}
+use Rattle.jpeg_streams.specs.declared.progress.Progress.TheVariants.{HeaderRead}
+use Rattle.zaxbriar_pictures.specs.Netpbm.{file_of}
+use Rattle.zaxbriar_pictures.specs.Sizes.{orientation_for, scale_of_request, size_for}
+use Rattle.zaxbriar_pictures.specs.declared.scaled.Choice.{Choice}
+use Rattle.zaxbriar_pictures.specs.declared.scaled.Request.{Request}
+
+-- A choice is the one for a request, by what a header says.
+pub record IsChoice (request : Request) (header : Found) (choice : Choice) : Type 0 where
+  pub sized : IsSomeAnd (option_map info_of header.said.frame) (λ full.
+      (choice.scale ≡ scale_of_request request full choice.orientation)
+      × (choice.size ≡ size_for request full choice.orientation))
+  pub turned : choice.orientation ≡ orientation_for request header.said.metadata.exif
+
+-- A decoder of known bytes has read their header, and its picture is to have the scale of a choice,
+-- which is the one for a request.
+pub record ReadsForRequest (request : Request) (choice : Choice) (old new : Decoding) : Type 0 where
+  pub stage : new.stage ≡ HeaderRead
+  pub settings : new.settings ≡ default_settings
+  pub reads : old.source.known ≡ true → (new.source.known ≡ true) × ((header : Found)
+      × (header_at old.source.bytes ≡ Ok (header, new.source.bytes))
+      × (new.found ≡ with_said (scaled_to choice.scale) header)
+      × IsChoice request header choice)
+
+-- A decoder has read its image to the end, and a writer has got the file of its picture.
+pub record WritesFile (old new : Decoding) (before after : Option (List ℕ)) : Type 0 where
+  pub samples : List ℕ
+  pub info : ImageInfo
+  pub precision : ℕ
+  pub reads : Answers {X = Unit {0}} (λ u. (told_of new.found.said, samples))
+      (ahead old.stage old.settings old.found) old.source (Ok tt) new.source
+  pub info_is : option_map info_of new.found.said.frame ≡ Some info
+  pub precision_is : option_map (λ f. f.precision) new.found.said.frame ≡ Some precision
+  pub written : Appends before after (file_of info precision samples)
