@@ -67,27 +67,45 @@ fn next_of<'a>(words: &mut SplitWhitespace<'a>) -> anyhow::Result<&'a str> {
     words.next().context("too few words")
 }
 
-/// Returns the call of a word, which takes some of the words after it.
-fn call_of(word: &str, words: &mut SplitWhitespace<'_>) -> anyhow::Result<Call> {
-    Ok(match word {
-        "transform" => Call::Transform(transform_of(next_of(words)?)?),
-        "limit" => Call::Limit(next_of(words)?.parse::<usize>()?),
+/// Returns the call of a word that takes no other words, if it is one.
+fn plain_call(word: &str) -> Option<Call> {
+    Some(match word {
         "header" => Call::Header,
-        "scale" => {
-            let width = next_of(words)?.parse::<u16>()?;
-            Call::Scale(width, next_of(words)?.parse::<u16>()?)
-        }
-        "at" => Call::At(scale_of(next_of(words)?)?),
         "decode" => Call::Decode,
         "refusal" => Call::Refusal,
-        "into" => Call::Into(next_of(words)?.parse::<usize>()?),
         "info" => Call::Info,
         "exif" => Call::Exif,
         "xmp" => Call::Xmp,
         "icc" => Call::Icc,
         "orientation" => Call::Orientation,
-        _ => bail!("unknown word {word:?}"),
+        _ => return None,
     })
+}
+
+/// Returns the number that the next word says.
+fn next_number(words: &mut SplitWhitespace<'_>) -> anyhow::Result<usize> {
+    Ok(next_of(words)?.parse::<usize>()?)
+}
+
+/// Returns the call of `scale` with the width and the height that the next words say.
+fn scale_call(words: &mut SplitWhitespace<'_>) -> anyhow::Result<Call> {
+    let width = next_of(words)?.parse::<u16>()?;
+    Ok(Call::Scale(width, next_of(words)?.parse::<u16>()?))
+}
+
+/// Returns the call of a word, which takes some of the words after it.
+fn call_of(word: &str, words: &mut SplitWhitespace<'_>) -> anyhow::Result<Call> {
+    if let Some(call) = plain_call(word) {
+        return Ok(call);
+    }
+    match word {
+        "transform" => Ok(Call::Transform(transform_of(next_of(words)?)?)),
+        "limit" => Ok(Call::Limit(next_number(words)?)),
+        "scale" => scale_call(words),
+        "at" => Ok(Call::At(scale_of(next_of(words)?)?)),
+        "into" => Ok(Call::Into(next_number(words)?)),
+        _ => bail!("unknown word {word:?}"),
+    }
 }
 
 impl Request {

@@ -34,9 +34,7 @@ fn push_word(
         return Ok(());
     }
     text.push(' ')?;
-    for byte in bytes {
-        text.push_str(format!(in alloc; "{byte:02X}")?.as_str())?;
-    }
+    text.push_str(hex::encode_upper(alloc, bytes)?.as_str())?;
     if count > 1 {
         text.push_str(format!(in alloc; "*{count}")?.as_str())?;
     }

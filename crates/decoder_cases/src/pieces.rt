@@ -4,7 +4,7 @@ use crate::answers::answer;
 use crate::calls::{Call, Request};
 use crate::decoded::size_text;
 use jpeg_decoder::run::{report, run};
-use jpeg_decoder::{Decoder, Error};
+use jpeg_decoder::{Decoder, Error, ImageInfo};
 use std::alloc::{AllocError, Global};
 use test_streams::readers::{Counted, Counts, Reader, STEPS, Trouble};
 
@@ -19,12 +19,19 @@ fn decoder_of<'a>(
     Decoder::new(alloc, Counted::new(reader, counts))
 }
 
-/// Returns the answer to `decode` alone.
-fn decoded_by(alloc: Global, stream: &[u8], step: usize) -> anyhow::Result<String> {
-    let counts = Counts::new();
-    let mut decoder = decoder_of(alloc, stream, step, &counts)?;
-    let answer = answer(alloc, &mut decoder, Call::Decode)?;
+/// Returns the answer of a decoder to `decode`.
+fn decoded(alloc: Global, decoder: &mut Decoder<Counted<'_>>) -> Result<String, Error> {
+    let answer = answer(alloc, decoder, Call::Decode)?;
     Ok(answer.unwrap_or(String::new(alloc)))
+}
+
+/// Returns the answer to `decode` alone.
+fn decoded_by(alloc: Global, stream: &[u8], step: usize) -> Result<String, Error> {
+    let counts = Counts::new();
+    match decoder_of(alloc, stream, step, &counts) {
+        Ok(mut decoder) => decoded(alloc, &mut decoder),
+        Err(error) => Err(error),
+    }
 }
 
 /// Returns the answers to `decode` of each shorter beginning, each with the length from which on
@@ -52,6 +59,41 @@ fn push_answer(text: &mut String, answer: &str) -> Result<(), AllocError> {
     Ok(())
 }
 
+/// Returns the answer of a decoder to a request, with `left` bytes of the stream unread.
+fn answer_to(
+    alloc: Global,
+    decoder: &mut Decoder<Counted<'_>>,
+    stream: &[u8],
+    step: usize,
+    left: usize,
+    request: Request,
+) -> anyhow::Result<Option<String>> {
+    match request {
+        Request::Call(call) => Ok(answer(alloc, decoder, call)?),
+        Request::Rest => Ok(Some(format!(in alloc; "{left}")?)),
+        Request::Cuts => Ok(Some(cuts_by(alloc, stream, step)?)),
+    }
+}
+
+/// Returns the answers of a decoder to requests, whose reader counts what it gives.
+fn answers_of(
+    alloc: Global,
+    decoder: &mut Decoder<Counted<'_>>,
+    counts: &Counts,
+    stream: &[u8],
+    step: usize,
+    requests: &[Request],
+) -> anyhow::Result<String> {
+    let mut text = String::new(alloc);
+    for request in requests {
+        let left = stream.len().saturating_sub(counts.given.get());
+        if let Some(answer) = answer_to(alloc, decoder, stream, step, left, *request)? {
+            push_answer(&mut text, answer.as_str())?;
+        }
+    }
+    Ok(text)
+}
+
 /// Returns the answers of one decoder, whose reader gives at most `step` bytes a call.
 fn answers_by(
     alloc: Global,
@@ -60,22 +102,10 @@ fn answers_by(
     step: usize,
 ) -> anyhow::Result<String> {
     let counts = Counts::new();
-    let mut decoder = decoder_of(alloc, stream, step, &counts)?;
-    let mut text = String::new(alloc);
-    for request in requests {
-        let answered = match *request {
-            Request::Call(call) => answer(alloc, &mut decoder, call)?,
-            Request::Rest => {
-                let left = stream.len().saturating_sub(counts.given.get());
-                Some(format!(in alloc; "{left}")?)
-            }
-            Request::Cuts => Some(cuts_by(alloc, stream, step)?),
-        };
-        if let Some(answer) = answered {
-            push_answer(&mut text, answer.as_str())?;
-        }
+    match decoder_of(alloc, stream, step, &counts) {
+        Ok(mut decoder) => answers_of(alloc, &mut decoder, &counts, stream, step, requests),
+        Err(error) => Err(anyhow::Error::from(error)),
     }
-    Ok(text)
 }
 
 /// Returns whether `run` wrote a header line and the pixels after it.
@@ -86,31 +116,50 @@ fn is_written(written: &[u8], header: &str, pixels: &[u8]) -> bool {
     }
 }
 
+/// Returns whether `run` wrote this picture.
+fn is_picture(
+    alloc: Global,
+    info: Option<ImageInfo>,
+    picture: &[u8],
+    written: &[u8],
+) -> Result<bool, AllocError> {
+    let header = size_text(alloc, info)?;
+    Ok(is_written(written, header.as_str(), picture))
+}
+
+/// Returns whether `report` wrote this refusal.
+fn is_refusal(alloc: Global, error: &Error, line: &[u8]) -> Result<bool, AllocError> {
+    let text = format!(in alloc; "jpegraw: {error}\n")?;
+    Ok(line == text.as_bytes())
+}
+
+/// Decodes a stream, and returns the answer with what is known of the picture then.
+fn picture_of(alloc: Global, stream: &[u8]) -> (Result<Vec<u8>, Error>, Option<ImageInfo>) {
+    match Decoder::new(alloc, stream) {
+        Ok(mut decoder) => (decoder.decode(), decoder.info()),
+        Err(error) => (Err(error), None),
+    }
+}
+
 /// Returns whether `run` writes what a decoder returns, and `report` the text of its refusal.
-fn runs_alike(alloc: Global, stream: &[u8]) -> anyhow::Result<bool> {
-    let mut decoder = Decoder::new(alloc, stream)?;
-    let answer = decoder.decode();
+fn runs_alike(alloc: Global, stream: &[u8]) -> Result<bool, AllocError> {
+    let (answer, info) = picture_of(alloc, stream);
     let mut written = Vec::new(alloc);
     let outcome = run(alloc, stream, &mut written);
     let mut line = Vec::new(alloc);
     let status = report(alloc, &outcome, &mut line);
-    match answer {
-        Ok(picture) => {
-            let header = size_text(alloc, decoder.info())?;
-            let is_same = is_written(&written, header.as_str(), &picture);
-            Ok(is_same && status == 0 && line.is_empty())
+    match &answer {
+        Ok(picture) if status == 0 && line.is_empty() => {
+            is_picture(alloc, info, picture, &written)
         }
-        Err(error) => {
-            let text = format!(in alloc; "jpegraw: {error}\n")?;
-            let is_same = line.as_slice() == text.as_bytes();
-            Ok(is_same && status == 1 && written.is_empty())
-        }
+        Err(error) if status == 1 && written.is_empty() => is_refusal(alloc, error, &line),
+        _ => Ok(false),
     }
 }
 
 /// Returns whether `run` does what a decoder does of which `decode` is asked first, of the stream
 /// or of each shorter beginning.
-fn runs_as_asked(alloc: Global, stream: &[u8], requests: &[Request]) -> anyhow::Result<bool> {
+fn runs_as_asked(alloc: Global, stream: &[u8], requests: &[Request]) -> Result<bool, AllocError> {
     match requests.first() {
         Some(Request::Call(Call::Decode | Call::Refusal)) => runs_alike(alloc, stream),
         Some(Request::Cuts) => {

@@ -4,7 +4,7 @@ ghost use Rattle.jpeg_bits.specs.BlockView.{pass_in, IsPass};
 ghost use Rattle.jpeg_bits.specs.declared.huffman.codes.HuffmanTableClass.TheVariants.{AC};
 
 use crate::state::{Codes, State};
-use crate::words::{answer_of, byte, bytes, first_word, numbers, refusal, text_of_block};
+use crate::words::{answer_of, byte, bytes, first_word, halves, numbers, refusal, text_of_block};
 use anyhow::{Context, bail};
 use jpeg_bits::blocks::{BlockCoding, Carried, Pass, read_block};
 use jpeg_bits::color_transform::ColorTransform;
@@ -78,12 +78,17 @@ fn class_of(name: &str) -> anyhow::Result<HuffmanTableClass> {
     }
 }
 
+/// Returns the counts of words in hex.
+fn counts_of(alloc: Global, text: &str) -> anyhow::Result<[u8; 16]> {
+    let counts = bytes(alloc, text)?;
+    Ok(<[u8; 16]>::try_from(counts.as_slice())?)
+}
+
 /// Returns the codes of words `COUNTS: SYMBOLS`.
 fn codes_of(alloc: Global, text: &str) -> anyhow::Result<Codes> {
-    let (counts, symbols) = text.split_once(':').context("expected a colon")?;
-    let counts = bytes(alloc, counts)?;
+    let (counts, symbols) = halves(text)?;
     Ok(Codes {
-        counts: <[u8; 16]>::try_from(counts.as_slice())?,
+        counts: counts_of(alloc, counts)?,
         symbols: bytes(alloc, symbols)?,
     })
 }
@@ -136,45 +141,63 @@ fn destinations(alloc: Global, text: &str) -> anyhow::Result<Vec<usize>> {
     Ok(all)
 }
 
+/// Appends the class of this name and the destination of each of its tables.
+fn push_tables(
+    alloc: Global,
+    text: &mut String,
+    class: &str,
+    tables: &[Option<HuffmanTable>],
+) -> Result<(), AllocError> {
+    for (destination, table) in tables.iter().enumerate() {
+        if table.is_some() {
+            text.push_str(format!(in alloc; " {class} {destination}")?.as_str())?;
+        }
+    }
+    Ok(())
+}
+
 /// Returns the class and destination of each table.
 pub fn text_of_tables(alloc: Global, tables: &DefinedTables) -> Result<String, AllocError> {
     let mut text = String::from_str(alloc, "tables")?;
-    for (destination, table) in tables.0.iter().enumerate() {
-        if table.is_some() {
-            text.push_str(format!(in alloc; " dc {destination}")?.as_str())?;
-        }
-    }
-    for (destination, table) in tables.1.iter().enumerate() {
-        if table.is_some() {
-            text.push_str(format!(in alloc; " ac {destination}")?.as_str())?;
-        }
-    }
+    push_tables(alloc, &mut text, "dc", &tables.0)?;
+    push_tables(alloc, &mut text, "ac", &tables.1)?;
     Ok(text)
 }
 
-/// Fills in the default tables that a scan names by words `DC: AC`.
-fn fill_defaults(state: &mut State<'_>, text: &str) -> anyhow::Result<String> {
-    let alloc = state.alloc;
-    let (dc, ac) = text.split_once(':').context("expected a colon")?;
-    let scan = ScanInfo {
+/// Returns a scan that names the tables of these destinations.
+fn scan_of(alloc: Global, dc: Vec<usize>, ac: Vec<usize>) -> ScanInfo {
+    ScanInfo {
         component_indices: Vec::new(alloc),
-        dc_table_indices: destinations(alloc, dc)?,
-        ac_table_indices: destinations(alloc, ac)?,
+        dc_table_indices: dc,
+        ac_table_indices: ac,
         spectral_selection: 0..64,
         predictor_selection: Predictor::NoPrediction,
         successive_approximation_high: 0,
         successive_approximation_low: 0,
         point_transform: 0,
-    };
+    }
+}
+
+/// Fills the look-up tables of values of each table.
+fn widen_all(alloc: Global, tables: &mut [Option<HuffmanTable>]) -> Result<(), AllocError> {
+    for table in tables.iter_mut().flatten() {
+        widen(alloc, table)?;
+    }
+    Ok(())
+}
+
+/// Fills in the default tables that a scan names by words `DC: AC`.
+fn fill_defaults(state: &mut State<'_>, text: &str) -> anyhow::Result<String> {
+    let alloc = state.alloc;
+    let (dc, ac) = halves(text)?;
+    let scan = scan_of(alloc, destinations(alloc, dc)?, destinations(alloc, ac)?);
     let (dc, ac) = (&mut state.tables.0, &mut state.tables.1);
     if dc.len() < 2 || ac.len() < 2 {
         bail!("expected two destinations");
     }
     fill_default_mjpeg_tables(alloc, &scan, dc, ac)?;
     if state.is_wide {
-        for table in ac.iter_mut().flatten() {
-            widen(alloc, table)?;
-        }
+        widen_all(alloc, ac)?;
     }
     Ok(text_of_tables(alloc, &state.tables)?)
 }
@@ -200,14 +223,22 @@ fn pass_of(alloc: Global, text: &str) -> anyhow::Result<Pass>
     })
 }
 
+/// Returns the table of codes of the class AC.
+fn last_table(alloc: Global, codes: &Codes, is_wide: bool) -> anyhow::Result<HuffmanTable>
+    ensures { IfOk result (λ table. table.class ≡ AC) }
+{
+    let mut table = table_of(alloc, codes, HuffmanTableClass::AC)??;
+    if is_wide {
+        widen(alloc, &mut table)?;
+    }
+    Ok(table)
+}
+
 /// Reads a block by the codes of the last table.
 fn block(state: &mut State<'_>, text: &str) -> anyhow::Result<String> {
     let alloc = state.alloc;
     let pass = pass_of(alloc, text)?;
-    let mut table = table_of(alloc, &state.codes, HuffmanTableClass::AC)??;
-    if state.is_wide {
-        widen(alloc, &mut table)?;
-    }
+    let table = last_table(alloc, &state.codes, state.is_wide)?;
     let coding = BlockCoding {
         pass,
         slot: 0,
@@ -217,10 +248,11 @@ fn block(state: &mut State<'_>, text: &str) -> anyhow::Result<String> {
     };
     let mut carried = Carried::at_start();
     let (decoder, source) = (&mut state.decoder, &mut state.source);
-    match read_block(decoder, source, &coding, &mut carried, &mut state.block) {
-        Ok(()) => Ok(text_of_block(alloc, &state.block)?),
-        Err(error) => Ok(refusal(alloc, &error)?),
-    }
+    let answer = match read_block(decoder, source, &coding, &mut carried, &mut state.block) {
+        Ok(()) => text_of_block(alloc, &state.block),
+        Err(error) => refusal(alloc, &error),
+    };
+    Ok(answer?)
 }
 
 /// Returns what a marker code says.
@@ -234,27 +266,30 @@ fn code(alloc: Global, text: &str) -> anyhow::Result<String> {
     })
 }
 
-/// Returns the error of a name.
-fn named_error(alloc: Global, name: &str) -> anyhow::Result<Error> {
-    Ok(match name {
+/// Returns the error of a name that has no words after it, if it is one.
+fn plain_error(name: &str) -> Option<Error> {
+    Some(match name {
         "DNL" => Error::Unsupported(UnsupportedFeature::DNL),
         "YCbCr" => Error::Unsupported(UnsupportedFeature::ColorTransform(ColorTransform::YCbCr)),
         "end" => end_of_bytes(),
         "io" => Error::from(io::Error::new(ErrorKind::Other, "a call of the test")),
         "internal" => Error::Internal("decoder has failed"),
         "memory" => Error::from(AllocError),
-        _ => {
-            let (kind, text) = first_word(name);
-            match kind {
-                "format" => format_error(alloc, text),
-                "precision" => {
-                    let bits = text.parse::<u8>()?;
-                    Error::Unsupported(UnsupportedFeature::SamplePrecision(bits))
-                }
-                _ => bail!("expected a kind of error"),
-            }
-        }
+        _ => return None,
     })
+}
+
+/// Returns the error of a name.
+fn named_error(alloc: Global, name: &str) -> anyhow::Result<Error> {
+    let (kind, text) = first_word(name);
+    match kind {
+        "format" => Ok(format_error(alloc, text)),
+        "precision" => {
+            let bits = text.parse::<u8>()?;
+            Ok(Error::Unsupported(UnsupportedFeature::SamplePrecision(bits)))
+        }
+        _ => plain_error(name).context("expected a kind of error"),
+    }
 }
 
 /// Returns the text of an error.
@@ -262,63 +297,82 @@ fn error(alloc: Global, name: &str) -> anyhow::Result<String> {
     Ok(format!(in alloc; "{}", named_error(alloc, name)?)?)
 }
 
-/// Reads bytes and markers.
-fn read(state: &mut State<'_>, verb: &str, text: &str) -> anyhow::Result<Option<String>> {
-    let alloc = state.alloc;
-    let source = &mut state.source;
-    Ok(Some(match verb {
-        "u8" => answer_of(alloc, &read_u8(alloc, source))?,
-        "u16" => answer_of(alloc, &read_u16_be(alloc, source))?,
-        "length" => answer_of(alloc, &read_length(alloc, source))?,
-        "skip" => answer_of(alloc, &skip(alloc, source, text.parse::<u16>()?))?,
-        "take" => answer_of(alloc, &read_bytes(alloc, source, text.parse::<u16>()?))?,
-        "marker" => answer_of(alloc, &read_marker(alloc, source))?,
-        "failed" => format!(in alloc; "failed: {}", source.has_failed())?,
-        _ => return Ok(None),
-    }))
+/// Passes over bytes or takes them.
+fn pass(state: &mut State<'_>, verb: &str, text: &str) -> anyhow::Result<String> {
+    let (alloc, source) = (state.alloc, &mut state.source);
+    let count = text.parse::<u16>()?;
+    let answer = match verb {
+        "skip" => answer_of(alloc, &skip(alloc, source, count)),
+        _ => answer_of(alloc, &read_bytes(alloc, source, count)),
+    };
+    Ok(answer?)
 }
 
-/// Reads bits.
-fn take(state: &mut State<'_>, verb: &str, text: &str) -> anyhow::Result<Option<String>> {
-    let alloc = state.alloc;
-    let (source, decoder) = (&mut state.source, &mut state.decoder);
-    Ok(Some(match verb {
-        "bits" => answer_of(alloc, &decoder.get_bits(source, within(text, 1, 16)?))?,
-        "signed" => answer_of(alloc, &decoder.receive_extend(source, within(text, 1, 15)?))?,
-        "symbol" => answer_of(alloc, &decoder.decode(source, table(&state.tables, text)?))?,
-        "value" => answer_of(
-            alloc,
-            &decoder.decode_fast_ac(source, table(&state.tables, text)?),
-        )?,
-        "end" => answer_of(alloc, &decoder.take_marker(source))?,
-        "reset" => {
-            decoder.reset();
-            String::new(alloc)
-        }
-        _ => return Ok(None),
-    }))
+/// Reads bits as a number, or as a signed one.
+fn take_bits(state: &mut State<'_>, verb: &str, text: &str) -> anyhow::Result<String> {
+    let (alloc, source) = (state.alloc, &mut state.source);
+    let most = if verb == "bits" { 16 } else { 15 };
+    let count = within(text, 1, most)?;
+    let answer = match verb {
+        "bits" => answer_of(alloc, &state.decoder.get_bits(source, count)),
+        _ => answer_of(alloc, &state.decoder.receive_extend(source, count)),
+    };
+    Ok(answer?)
+}
+
+/// Reads a symbol, or a value with its code.
+fn take_code(state: &mut State<'_>, verb: &str, text: &str) -> anyhow::Result<String> {
+    let (alloc, source) = (state.alloc, &mut state.source);
+    let table = table(&state.tables, text)?;
+    let answer = match verb {
+        "symbol" => answer_of(alloc, &state.decoder.decode(source, table)),
+        _ => answer_of(alloc, &state.decoder.decode_fast_ac(source, table)),
+    };
+    Ok(answer?)
+}
+
+/// Returns the answer to a call that reads and has no words after it, or none to another.
+fn read(state: &mut State<'_>, verb: &str) -> Option<Result<String, AllocError>> {
+    let (alloc, source) = (state.alloc, &mut state.source);
+    Some(match verb {
+        "u8" => answer_of(alloc, &read_u8(alloc, source)),
+        "u16" => answer_of(alloc, &read_u16_be(alloc, source)),
+        "length" => answer_of(alloc, &read_length(alloc, source)),
+        "marker" => answer_of(alloc, &read_marker(alloc, source)),
+        "failed" => format!(in alloc; "failed: {}", source.has_failed()),
+        "end" => answer_of(alloc, &state.decoder.take_marker(source)),
+        _ => return None,
+    })
+}
+
+/// Keeps this many destinations of each class.
+fn keep(state: &mut State<'_>, text: &str) -> anyhow::Result<String> {
+    let count = text.parse::<usize>()?;
+    state.tables.0.truncate(count);
+    state.tables.1.truncate(count);
+    Ok(String::new(state.alloc))
 }
 
 /// Returns the answer to a call of `jpeg_bits`, or none to another.
 pub fn answer(state: &mut State<'_>, verb: &str, text: &str) -> anyhow::Result<Option<String>> {
-    if let Some(answer) = read(state, verb, text)? {
-        return Ok(Some(answer));
+    if let Some(answer) = read(state, verb) {
+        return Ok(Some(answer?));
     }
-    if let Some(answer) = take(state, verb, text)? {
-        return Ok(Some(answer));
-    }
-    Ok(Some(match verb {
-        "table" => define(state, text)?,
-        "destinations" => {
-            let count = text.parse::<usize>()?;
-            state.tables.0.truncate(count);
-            state.tables.1.truncate(count);
-            String::new(state.alloc)
+    let answer = match verb {
+        "skip" | "take" => pass(state, verb, text),
+        "bits" | "signed" => take_bits(state, verb, text),
+        "symbol" | "value" => take_code(state, verb, text),
+        "reset" => {
+            state.decoder.reset();
+            Ok(String::new(state.alloc))
         }
-        "defaults" => fill_defaults(state, text)?,
-        "block" => block(state, text)?,
-        "code" => code(state.alloc, text)?,
-        "error" => error(state.alloc, text)?,
+        "table" => define(state, text),
+        "destinations" => keep(state, text),
+        "defaults" => fill_defaults(state, text),
+        "block" => block(state, text),
+        "code" => code(state.alloc, text),
+        "error" => error(state.alloc, text),
         _ => return Ok(None),
-    }))
+    };
+    Ok(Some(answer?))
 }

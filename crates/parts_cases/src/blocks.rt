@@ -134,24 +134,30 @@ fn size(alloc: Global, text: &str) -> anyhow::Result<String> {
     Ok(format!(in alloc; "scale {}", choose_idct_size(full, requested))?)
 }
 
+/// Sets the block, or the values of the quantization table.
+fn set(state: &mut State<'_>, verb: &str, text: &str) -> anyhow::Result<()> {
+    match verb {
+        "coefficients" => state.block = coefficients(state.alloc, text)?,
+        _ => state.values = <[u16; 64]>::try_from(numbers(state.alloc, text)?.as_slice())?,
+    }
+    Ok(())
+}
+
 /// Returns the answer to a call about blocks and planes, or none to another.
 pub fn answer(state: &mut State<'_>, verb: &str, text: &str) -> anyhow::Result<Option<String>> {
     let alloc = state.alloc;
-    Ok(Some(match verb {
-        "coefficients" => {
-            state.block = coefficients(alloc, text)?;
-            String::new(alloc)
+    let answer = match verb {
+        "coefficients" | "values" => {
+            set(state, verb, text)?;
+            Ok(String::new(alloc))
         }
-        "values" => {
-            state.values = <[u16; 64]>::try_from(numbers(alloc, text)?.as_slice())?;
-            String::new(alloc)
-        }
-        "zigzag" => format!(in alloc; "{:?}", values_in_order(&state.values))?,
-        "idct" => idct(state, text)?,
-        "row" => row(state, text)?,
-        "plane" => text_of_bytes(alloc, &state.samples)?,
-        "crop" => cropped(state, text)?,
-        "size" => size(alloc, text)?,
+        "zigzag" => return Ok(Some(format!(in alloc; "{:?}", values_in_order(&state.values))?)),
+        "plane" => return Ok(Some(text_of_bytes(alloc, &state.samples)?)),
+        "idct" => idct(state, text),
+        "row" => row(state, text),
+        "crop" => cropped(state, text),
+        "size" => size(alloc, text),
         _ => return Ok(None),
-    }))
+    };
+    Ok(Some(answer?))
 }

@@ -4,7 +4,7 @@ use crate::state::State;
 use crate::words::{bytes, first_word};
 use crate::{bits, blocks, lossless, pictures, segments, workers};
 use anyhow::{Context, bail};
-use std::alloc::Global;
+use std::alloc::{AllocError, Global};
 use std::io::Write;
 use test_streams::readers::{Reader, STEPS, Trouble};
 
@@ -58,23 +58,15 @@ fn stream_of(alloc: Global, lines: &str) -> anyhow::Result<Stream<'_>> {
     }
 }
 
+/// The calls that have no words after them.
+const ALONE: [&str; 13] = [
+    "u8", "u16", "length", "marker", "failed", "end", "reset", "sos", "dqt", "dri", "com", "plane",
+    "zigzag",
+];
+
 /// Returns whether a call has no words after it.
 fn is_alone(verb: &str) -> bool {
-    matches!(
-        verb,
-        "u8" | "u16"
-            | "length"
-            | "marker"
-            | "failed"
-            | "end"
-            | "reset"
-            | "sos"
-            | "dqt"
-            | "dri"
-            | "com"
-            | "plane"
-            | "zigzag"
-    )
+    ALONE.contains(&verb)
 }
 
 /// Returns the answer to a call.
@@ -104,6 +96,25 @@ fn answer(state: &mut State<'_>, line: &str) -> anyhow::Result<String> {
     bail!("there is no such call")
 }
 
+/// Appends an answer after those before it, unless it is empty.
+fn push_answer(said: &mut String, answer: &str) -> Result<(), AllocError> {
+    if !answer.is_empty() {
+        said.push_str(": ")?;
+        said.push_str(answer)?;
+    }
+    Ok(())
+}
+
+/// Returns the answers to the calls of some lines.
+fn answers_to(state: &mut State<'_>, calls: &str) -> anyhow::Result<String> {
+    let mut said = String::new(state.alloc);
+    for line in calls.lines() {
+        let answer = answer(state, line).context(line)?;
+        push_answer(&mut said, answer.as_str())?;
+    }
+    Ok(said)
+}
+
 /// Returns the answers to the calls of a case, in pieces of at most `step` bytes.
 fn answers_by(
     alloc: Global,
@@ -114,15 +125,7 @@ fn answers_by(
     let (call, piece) = stream.wrong.unwrap_or((usize::MAX, step));
     let reader = Reader::new(&stream.bytes, piece, call, stream.trouble);
     let mut state = State::new(alloc, reader, is_wide)?;
-    let mut said = String::new(alloc);
-    for line in stream.calls.lines() {
-        let answer = answer(&mut state, line).context(line)?;
-        if !answer.is_empty() {
-            said.push_str(": ")?;
-            said.push_str(answer.as_str())?;
-        }
-    }
-    Ok(said)
+    answers_to(&mut state, stream.calls)
 }
 
 /// Returns the answers of a case: the same in pieces of each size, with look-up tables of values

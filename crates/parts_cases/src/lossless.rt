@@ -5,8 +5,8 @@ ghost use Rattle.jpeg_lossless.specs.Codings.{IsCovered, part_in};
 
 use crate::bits::table_of;
 use crate::state::State;
-use crate::words::{numbers, refusal};
-use anyhow::{Context, bail};
+use crate::words::{halves, numbers, refusal};
+use anyhow::bail;
 use jpeg_bits::huffman::{HuffmanTable, HuffmanTableClass};
 use jpeg_bits::scan::Predictor;
 use jpeg_lossless::lossless::predict;
@@ -28,10 +28,9 @@ fn predictor_of(selection: u16) -> anyhow::Result<Predictor> {
     })
 }
 
-/// Predicts a sample, by words `LEFT ABOVE CORNER SELECTION POINT PRECISION COLUMN LINE`.
-fn predicted(alloc: Global, text: &str) -> anyhow::Result<String> {
-    let numbers = numbers(alloc, text)?;
-    let [ra, rb, rc, selection, point, precision, ix, iy] = numbers.as_slice() else {
+/// Predicts a sample, by numbers `LEFT ABOVE CORNER SELECTION POINT PRECISION COLUMN LINE`.
+fn predicted(alloc: Global, numbers: &[u16]) -> anyhow::Result<String> {
+    let [ra, rb, rc, selection, point, precision, ix, iy] = numbers else {
         bail!("expected eight numbers");
     };
     let (point, precision) = (u8::try_from(*point)?, u8::try_from(*precision)?);
@@ -51,10 +50,9 @@ fn predicted(alloc: Global, text: &str) -> anyhow::Result<String> {
     Ok(format!(in alloc; "{sample}")?)
 }
 
-/// Returns the coding of words `WIDE HIGH PRECISION SELECTION POINT INTERVAL`.
-fn coding_of(alloc: Global, text: &str) -> anyhow::Result<Coding> {
-    let numbers = numbers(alloc, text)?;
-    let [wide, high, precision, selection, point, interval] = numbers.as_slice() else {
+/// Returns the coding of numbers `WIDE HIGH PRECISION SELECTION POINT INTERVAL`.
+fn coding_of(numbers: &[u16]) -> anyhow::Result<Coding> {
+    let [wide, high, precision, selection, point, interval] = numbers else {
         bail!("expected six numbers");
     };
     Ok(Coding {
@@ -99,8 +97,8 @@ fn are_covered(wide: u16, high: u16, parts: &[Part<'_>]) -> bool
 /// Reads a scan by the codes of the last table, by words `CODING: PART: PART ..`.
 fn scan(state: &mut State<'_>, text: &str) -> anyhow::Result<String> {
     let alloc = state.alloc;
-    let (coding, rest) = text.split_once(':').context("expected a colon")?;
-    let coding = coding_of(alloc, coding)?;
+    let (coding, rest) = halves(text)?;
+    let coding = coding_of(&numbers(alloc, coding)?)?;
     let table = table_of(alloc, &state.codes, HuffmanTableClass::DC)??;
     let mut parts = Vec::new(alloc);
     for part in rest.split(':') {
@@ -124,7 +122,7 @@ fn scan(state: &mut State<'_>, text: &str) -> anyhow::Result<String> {
 /// Returns the answer to a call of `jpeg_lossless`, or none to another.
 pub fn answer(state: &mut State<'_>, verb: &str, text: &str) -> anyhow::Result<Option<String>> {
     Ok(Some(match verb {
-        "predict" => predicted(state.alloc, text)?,
+        "predict" => predicted(state.alloc, &numbers(state.alloc, text)?)?,
         "lossless" => scan(state, text)?,
         _ => return Ok(None),
     }))

@@ -1,5 +1,5 @@
 //! Calls of `jpeg_pixels`: upsampling, colours, pictures and workers.
-ghost use Rattle.std.specs.Prelude.{◌≡◌, ◌≤◌, ◌<◌, ◌+◌, ◌-◌, ◌*◌, length, map, true, IfSome};
+ghost use Rattle.std.specs.Prelude.{◌≡◌, ◌≤◌, ◌<◌, ◌+◌, ◌-◌, ◌*◌, length, map, true, IfOk, IfSome};
 ghost use Rattle.jpeg_segments.specs.Frame.{AllHaveSampling, IsFrame};
 ghost use Rattle.jpeg_segments.specs.FrameView.{component_in, frame_in};
 ghost use Rattle.jpeg_pixels.specs.Pictures.{HaveRoom};
@@ -8,7 +8,7 @@ ghost use Rattle.jpeg_pixels.specs.Upsampling.{across, down};
 
 use crate::segments::marker_of;
 use crate::state::State;
-use crate::words::{answer_of, bytes, first_word, numbers, refusal, text_of_bytes};
+use crate::words::{answer_of, bytes, first_word, halves, numbers, refusal, text_of_bytes};
 use anyhow::{Context, bail};
 use jpeg_bits::color_transform::ColorTransform;
 use jpeg_bits::error::{Error, Result};
@@ -16,7 +16,7 @@ use jpeg_pixels::arch::color_convert_line_ycbcr;
 use jpeg_pixels::upsampler::{ColorConvert, UpsampleRule, Upsampler};
 use jpeg_pixels::worker::compute_image_rows;
 use jpeg_segments::parser::{Component, FrameInfo, parse_sof};
-use std::alloc::Global;
+use std::alloc::{AllocError, Global};
 
 /// Returns the rule of this name: of `ACROSSxDOWN` the one that repeats samples.
 fn rule_of(name: &str) -> anyhow::Result<UpsampleRule> {
@@ -51,11 +51,20 @@ fn ratios(rule: UpsampleRule) -> (usize, usize)
 /// that were 7.
 fn upsample(alloc: Global, text: &str) -> anyhow::Result<String> {
     let (name, text) = first_word(text);
-    let (text, samples) = text.split_once(':').context("expected a colon")?;
+    let (text, samples) = halves(text)?;
     let rule = rule_of(name)?;
-    let samples = bytes(alloc, samples)?;
     let numbers = numbers(alloc, text)?;
-    let [width, height, stride, row, output_width, room] = numbers.as_slice() else {
+    upsampled(alloc, rule, &numbers, &bytes(alloc, samples)?)
+}
+
+/// Makes a row by numbers `WIDTH HEIGHT STRIDE ROW OUTPUT_WIDTH ROOM`.
+fn upsampled(
+    alloc: Global,
+    rule: UpsampleRule,
+    numbers: &[u16],
+    samples: &[u8],
+) -> anyhow::Result<String> {
+    let [width, height, stride, row, output_width, room] = numbers else {
         bail!("expected six numbers");
     };
     let (width, height, stride) = (
@@ -64,19 +73,20 @@ fn upsample(alloc: Global, text: &str) -> anyhow::Result<String> {
         usize::from(*stride),
     );
     let (row, output_width) = (usize::from(*row), usize::from(*output_width));
-    let mut output = vec![in alloc; 7; usize::from(*room)]?;
+    let room = usize::from(*room);
     let (across, down) = ratios(rule);
     if across < 1 || down < 1 || width < 1 || row >= down * height {
         bail!("expected a row of the picture");
     }
-    if output_width > across * width || output_width > output.len() {
+    if output_width > across * width || output_width > room {
         bail!("expected room for a part of a row");
     }
     if (height - 1) * stride + width > samples.len() {
         bail!("expected the samples of all lines");
     }
+    let mut output = vec![in alloc; 7; room]?;
     rule.upsample_row(
-        &samples,
+        samples,
         width,
         height,
         stride,
@@ -89,17 +99,22 @@ fn upsample(alloc: Global, text: &str) -> anyhow::Result<String> {
 
 /// Converts chunks of a line, by words `ROOM: Y: CB: CR`, into `ROOM` bytes that were 7.
 fn ycbcr(alloc: Global, text: &str) -> anyhow::Result<String> {
-    let (room, text) = text.split_once(':').context("expected a colon")?;
-    let (y, text) = text.split_once(':').context("expected a colon")?;
-    let (cb, cr) = text.split_once(':').context("expected a colon")?;
-    let room = usize::from(room.parse::<u16>()?);
-    let (y, cb, cr) = (bytes(alloc, y)?, bytes(alloc, cb)?, bytes(alloc, cr)?);
-    let mut output = vec![in alloc; 7; room]?;
+    let (room, text) = halves(text)?;
+    let room = room.parse::<u16>()?;
+    converted(alloc, usize::from(room), &planes_of(alloc, text)?)
+}
+
+/// Converts chunks of a line of three components.
+fn converted(alloc: Global, room: usize, samples: &[Vec<u8>]) -> anyhow::Result<String> {
+    let [y, cb, cr] = samples else {
+        bail!("expected the samples of three components");
+    };
     let count = room / 3;
     if count * 3 != room || count > y.len() || count > cb.len() || count > cr.len() {
         bail!("expected the samples of whole pixels");
     }
-    let converted = color_convert_line_ycbcr(&y, &cb, &cr, &mut output);
+    let mut output = vec![in alloc; 7; room]?;
+    let converted = color_convert_line_ycbcr(y, cb, cr, &mut output);
     let text = text_of_bytes(alloc, &output)?;
     Ok(format!(in alloc; "{converted} pixels, {text}")?)
 }
@@ -128,11 +143,17 @@ fn colours(alloc: Global, text: &str) -> anyhow::Result<String> {
     Ok(answer_of(alloc, &convert)?)
 }
 
+/// Appends the plane of some words.
+fn push_plane(alloc: Global, planes: &mut Vec<Vec<u8>>, text: &str) -> anyhow::Result<()> {
+    let plane = bytes(alloc, text)?;
+    Ok(planes.push(plane)?)
+}
+
 /// Returns the planes of words `PLANE: PLANE ..`.
 fn planes_of(alloc: Global, text: &str) -> anyhow::Result<Vec<Vec<u8>>> {
     let mut planes = Vec::new(alloc);
     for plane in text.split(':') {
-        planes.push(bytes(alloc, plane)?)?;
+        push_plane(alloc, &mut planes, plane)?;
     }
     Ok(planes)
 }
@@ -190,22 +211,49 @@ fn picture_of(
     )
 }
 
+/// Returns the words for samples that a call returned, or its refusal.
+fn text_of(alloc: Global, samples: &Result<Vec<u8>>) -> std::result::Result<String, AllocError> {
+    match samples {
+        Ok(samples) => text_of_bytes(alloc, samples),
+        Err(error) => refusal(alloc, error),
+    }
+}
+
+/// Reads a frame of the marker of this code.
+fn frame_of(state: &mut State<'_>, code: &str) -> anyhow::Result<FrameInfo>
+    ensures made { IfOk result (λ frame. IsFrame (frame_in frame)) }
+    ensures factors { IfOk result (λ frame.
+        AllHaveSampling (map component_in frame.components.items)) }
+{
+    let marker = marker_of(state.alloc, code)?;
+    Ok(parse_sof(state.alloc, &mut state.source, marker)?)
+}
+
 /// Makes the picture of a frame that is read, by words `CODE TRANSFORM: PLANE: PLANE ..`.
 fn picture(state: &mut State<'_>, text: &str) -> anyhow::Result<String> {
-    let alloc = state.alloc;
-    let (words, planes) = text.split_once(':').context("expected a colon")?;
+    let (words, planes) = halves(text)?;
     let (code, name) = first_word(words);
     let transform = transform_of(name)?;
-    let planes = planes_of(alloc, planes)?;
-    let frame = parse_sof(alloc, &mut state.source, marker_of(alloc, code)?)?;
+    let planes = planes_of(state.alloc, planes)?;
+    let frame = frame_of(state, code)?;
+    text_of_picture(state.alloc, &frame, &planes, transform)
+}
+
+/// Returns the words for the picture of a frame's planes.
+fn text_of_picture(
+    alloc: Global,
+    frame: &FrameInfo,
+    planes: &[Vec<u8>],
+    transform: ColorTransform,
+) -> anyhow::Result<String>
+    requires made { IsFrame (frame_in frame.now) }
+    requires factors { AllHaveSampling (map component_in frame.now.components.items) }
+{
     let count = frame.components.len();
-    if count < 3 || count > 4 || count != planes.len() || !have_room(&frame.components, &planes) {
+    if count < 3 || count > 4 || count != planes.len() || !have_room(&frame.components, planes) {
         bail!("expected the planes of three or four components");
     }
-    match picture_of(alloc, &frame, &planes, transform) {
-        Ok(picture) => Ok(text_of_bytes(alloc, &picture)?),
-        Err(error) => Ok(refusal(alloc, &error)?),
-    }
+    Ok(text_of(alloc, &picture_of(alloc, frame, planes, transform))?)
 }
 
 /// Returns whether a conversion is one for this many components.
@@ -250,36 +298,51 @@ fn line_of(
 
 /// Makes a line of the picture of a frame that is read, by words `CODE TRANSFORM ROW: PLANE ..`.
 fn line(state: &mut State<'_>, text: &str) -> anyhow::Result<String> {
-    let alloc = state.alloc;
-    let (words, planes) = text.split_once(':').context("expected a colon")?;
+    let (words, planes) = halves(text)?;
     let (code, words) = first_word(words);
     let (name, row) = first_word(words);
     let row = row.parse::<u16>()?;
-    let planes = planes_of(alloc, planes)?;
-    let frame = parse_sof(alloc, &mut state.source, marker_of(alloc, code)?)?;
+    let transform = transform_of(name)?;
+    let planes = planes_of(state.alloc, planes)?;
+    let frame = frame_of(state, code)?;
+    text_of_line(state.alloc, &frame, &planes, row, transform)
+}
+
+/// Returns the words for a line of the picture of a frame's planes.
+fn text_of_line(
+    alloc: Global,
+    frame: &FrameInfo,
+    planes: &[Vec<u8>],
+    row: u16,
+    transform: ColorTransform,
+) -> anyhow::Result<String>
+    requires made { IsFrame (frame_in frame.now) }
+    requires factors { AllHaveSampling (map component_in frame.now.components.items) }
+{
     let count = frame.components.len();
-    let convert = ColorConvert::choose(alloc, count, transform_of(name)?)?;
-    if count < 1 || count > 4 || count != planes.len() || !have_room(&frame.components, &planes) {
+    let convert = ColorConvert::choose(alloc, count, transform)?;
+    if count < 1 || count > 4 || count != planes.len() || !have_room(&frame.components, planes) {
         bail!("expected the planes of one to four components");
     }
     if row >= frame.image_size.height || !is_for(count, convert) {
         bail!("expected a line of the picture");
     }
-    match line_of(alloc, &frame, &planes, usize::from(row), convert) {
-        Ok(line) => Ok(text_of_bytes(alloc, &line)?),
-        Err(error) => Ok(refusal(alloc, &error)?),
-    }
+    Ok(text_of(
+        alloc,
+        &line_of(alloc, frame, planes, usize::from(row), convert),
+    )?)
 }
 
 /// Returns the answer to a call about pictures, or none to another.
 pub fn answer(state: &mut State<'_>, verb: &str, text: &str) -> anyhow::Result<Option<String>> {
     let alloc = state.alloc;
-    Ok(Some(match verb {
-        "upsample" => upsample(alloc, text)?,
-        "ycbcr" => ycbcr(alloc, text)?,
-        "colours" => colours(alloc, text)?,
-        "picture" => picture(state, text)?,
-        "line" => line(state, text)?,
+    let answer = match verb {
+        "upsample" => upsample(alloc, text),
+        "ycbcr" => ycbcr(alloc, text),
+        "colours" => colours(alloc, text),
+        "picture" => picture(state, text),
+        "line" => line(state, text),
         _ => return Ok(None),
-    }))
+    };
+    Ok(Some(answer?))
 }

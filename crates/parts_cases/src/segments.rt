@@ -96,19 +96,36 @@ fn dht(state: &mut State<'_>, text: &str) -> anyhow::Result<String> {
     }
 }
 
+/// Reads application data.
+fn app(state: &mut State<'_>, text: &str) -> anyhow::Result<String> {
+    let alloc = state.alloc;
+    let marker = marker_of(alloc, text)?;
+    Ok(answer_of(alloc, &parse_app(alloc, &mut state.source, marker))?)
+}
+
+/// Returns the answer to a call that reads a segment by itself, or none to another.
+fn parsed(state: &mut State<'_>, verb: &str) -> Option<Result<String, AllocError>> {
+    let (alloc, source) = (state.alloc, &mut state.source);
+    Some(match verb {
+        "dqt" => answer_of(alloc, &parse_dqt(alloc, source)),
+        "dri" => answer_of(alloc, &parse_dri(alloc, source)),
+        "com" => answer_of(alloc, &parse_com(alloc, source)),
+        _ => return None,
+    })
+}
+
 /// Returns the answer to a call of `jpeg_segments`, or none to another.
 pub fn answer(state: &mut State<'_>, verb: &str, text: &str) -> anyhow::Result<Option<String>> {
-    let alloc = state.alloc;
-    let source = &mut state.source;
-    Ok(Some(match verb {
-        "sof" => sof(state, text)?,
-        "scaled" => scaled(state, text)?,
-        "sos" => sos(state)?,
-        "dht" => dht(state, text)?,
-        "dqt" => answer_of(alloc, &parse_dqt(alloc, source))?,
-        "dri" => answer_of(alloc, &parse_dri(alloc, source))?,
-        "com" => answer_of(alloc, &parse_com(alloc, source))?,
-        "app" => answer_of(alloc, &parse_app(alloc, source, marker_of(alloc, text)?))?,
+    if let Some(answer) = parsed(state, verb) {
+        return Ok(Some(answer?));
+    }
+    let answer = match verb {
+        "sof" => sof(state, text),
+        "scaled" => scaled(state, text),
+        "sos" => sos(state),
+        "dht" => dht(state, text),
+        "app" => app(state, text),
         _ => return Ok(None),
-    }))
+    };
+    Ok(Some(answer?))
 }

@@ -42,19 +42,25 @@ pub struct State<'a> {
 }
 
 /// Returns four destinations without a table.
-fn no_tables(alloc: Global) -> Result<Vec<Option<HuffmanTable>>> {
+fn empty(alloc: Global) -> Result<Vec<Option<HuffmanTable>>> {
     Ok(Vec::from_array(alloc, [None, None, None, None])?)
+}
+
+/// Returns four destinations of each class without a table.
+fn no_tables(alloc: Global) -> Result<DefinedTables> {
+    Ok((empty(alloc)?, empty(alloc)?))
 }
 
 impl<'a> State<'a> {
     /// Returns what a case begins with: its bytes, and else nothing.
     pub fn new(alloc: Global, reader: Reader<'a>, is_wide: bool) -> Result<State<'a>> {
+        let tables = no_tables(alloc)?;
         Ok(State {
             alloc,
             is_wide,
             source: Source::new(reader),
             decoder: HuffmanDecoder::new(alloc),
-            tables: (no_tables(alloc)?, no_tables(alloc)?),
+            tables,
             codes: Codes {
                 counts: [0; 16],
                 symbols: Vec::new(alloc),

@@ -18,15 +18,26 @@ pub fn first_word(line: &str) -> (&str, &str) {
     line.split_once(' ').unwrap_or((line, ""))
 }
 
+/// Appends the bytes of a word in hex.
+fn append_bytes(alloc: Global, all: &mut Vec<u8>, word: &str) -> anyhow::Result<()> {
+    let (digits, count) = repeated(word)?;
+    let part = hex::decode(alloc, digits)?;
+    for _ in 0..count {
+        all.extend_from_slice(&part)?;
+    }
+    Ok(())
+}
+
+/// Returns what stands before a colon, and what stands after it.
+pub fn halves(text: &str) -> anyhow::Result<(&str, &str)> {
+    text.split_once(':').context("expected a colon")
+}
+
 /// Returns the bytes of words in hex.
 pub fn bytes(alloc: Global, text: &str) -> anyhow::Result<Vec<u8>> {
     let mut all = Vec::new(alloc);
     for word in text.split_whitespace() {
-        let (digits, count) = repeated(word)?;
-        let part = hex::decode(alloc, digits)?;
-        for _ in 0..count {
-            all.extend_from_slice(&part)?;
-        }
+        append_bytes(alloc, &mut all, word)?;
     }
     Ok(all)
 }
@@ -39,38 +50,56 @@ pub fn byte(alloc: Global, text: &str) -> anyhow::Result<u8> {
     }
 }
 
+/// Appends a value this many times.
+fn append<T: Copy>(all: &mut Vec<T>, value: T, count: u16) -> Result<(), AllocError> {
+    let length = all.len().saturating_add(usize::from(count));
+    all.resize(length, value)
+}
+
+/// Appends the numbers of a decimal word.
+fn append_numbers(all: &mut Vec<u16>, word: &str) -> anyhow::Result<()> {
+    let (digits, count) = repeated(word)?;
+    Ok(append(all, digits.parse::<u16>()?, count)?)
+}
+
 /// Returns the numbers of decimal words.
 pub fn numbers(alloc: Global, text: &str) -> anyhow::Result<Vec<u16>> {
     let mut all = Vec::new(alloc);
     for word in text.split_whitespace() {
-        let (digits, count) = repeated(word)?;
-        let number = digits.parse::<u16>()?;
-        for _ in 0..count {
-            all.push(number)?;
-        }
+        append_numbers(&mut all, word)?;
     }
     Ok(all)
+}
+
+/// Appends the coefficients of a decimal word.
+fn append_coefficients(all: &mut Vec<i16>, word: &str) -> anyhow::Result<()> {
+    let (digits, count) = repeated(word)?;
+    Ok(append(all, digits.parse::<i16>()?, count)?)
 }
 
 /// Returns the 64 coefficients of decimal words.
 pub fn coefficients(alloc: Global, text: &str) -> anyhow::Result<[i16; 64]> {
     let mut all = Vec::new(alloc);
     for word in text.split_whitespace() {
-        let (digits, count) = repeated(word)?;
-        let coefficient = digits.parse::<i16>()?;
-        for _ in 0..count {
-            all.push(coefficient)?;
-        }
+        append_coefficients(&mut all, word)?;
     }
     Ok(<[i16; 64]>::try_from(all.as_slice())?)
+}
+
+/// Returns the index and the coefficient of a word `INDEX=VALUE`.
+fn indexed(word: &str) -> anyhow::Result<(usize, i16)> {
+    let (index, value) = word.split_once('=').context("expected INDEX=VALUE")?;
+    Ok((index.parse::<usize>()?, value.parse::<i16>()?))
 }
 
 /// Puts the coefficients of words `INDEX=VALUE` into a block.
 pub fn change(block: &mut [i16; 64], text: &str) -> anyhow::Result<()> {
     for word in text.split_whitespace() {
-        let (index, value) = word.split_once('=').context("expected INDEX=VALUE")?;
-        let slot = block.get_mut(index.parse::<usize>()?);
-        *slot.context("expected an index below 64")? = value.parse::<i16>()?;
+        let (index, value) = indexed(word)?;
+        match block.get_mut(index) {
+            Some(slot) => *slot = value,
+            None => bail!("expected an index below 64"),
+        }
     }
     Ok(())
 }
@@ -78,11 +107,11 @@ pub fn change(block: &mut [i16; 64], text: &str) -> anyhow::Result<()> {
 /// Appends a byte in hex, and after a star how often it stands.
 fn push_byte(alloc: Global, text: &mut String, byte: u8, count: usize) -> Result<(), AllocError> {
     let word = match count {
-        0 => return Ok(()),
-        1 => format!(in alloc; "{byte:02X} ")?,
-        _ => format!(in alloc; "{byte:02X}*{count} ")?,
+        0 => Ok(String::new(alloc)),
+        1 => format!(in alloc; "{byte:02X} "),
+        _ => format!(in alloc; "{byte:02X}*{count} "),
     };
-    text.push_str(word.as_str())
+    text.push_str(word?.as_str())
 }
 
 /// Returns bytes as words in hex.

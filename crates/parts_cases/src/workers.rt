@@ -6,7 +6,7 @@ ghost use Rattle.jpeg_segments.specs.FrameView.{component_in};
 ghost use Rattle.jpeg_pixels.specs.JointPlanes.{HasFrameSizes, joint_row_size};
 ghost use Rattle.jpeg_pixels.specs.Workers.{work_of};
 
-use crate::words::{bytes, numbers, text_of_bytes};
+use crate::words::{bytes, halves, numbers, text_of_bytes};
 use anyhow::{Context, bail};
 use jpeg_bits::error::Error;
 use jpeg_pixels::joint_planes::{JointPlanes, JointShape, joint_shape};
@@ -95,8 +95,8 @@ fn room_of(shape: JointShape) -> Option<usize>
 
 /// Takes a plane out of a buffer, by words `SHAPE: SLOT: SAMPLES`.
 fn joint(alloc: Global, text: &str) -> anyhow::Result<String> {
-    let (words, text) = text.split_once(':').context("expected a colon")?;
-    let (slot, samples) = text.split_once(':').context("expected a colon")?;
+    let (words, text) = halves(text)?;
+    let (slot, samples) = halves(text)?;
     let slot = slot.trim().parse::<usize>()?;
     let samples = bytes(alloc, samples)?;
     let Some(shape) = shape(alloc, words)? else {
@@ -189,10 +189,11 @@ fn worker(alloc: Global, text: &str) -> anyhow::Result<String> {
 
 /// Returns the answer to a call about planes, or none to another.
 pub fn answer(alloc: Global, verb: &str, text: &str) -> anyhow::Result<Option<String>> {
-    Ok(Some(match verb {
-        "shape" => format!(in alloc; "{:?}", shape(alloc, text)?)?,
-        "joint" => joint(alloc, text)?,
-        "worker" => worker(alloc, text)?,
+    let answer = match verb {
+        "shape" => return Ok(Some(format!(in alloc; "{:?}", shape(alloc, text)?)?)),
+        "joint" => joint(alloc, text),
+        "worker" => worker(alloc, text),
         _ => return Ok(None),
-    }))
+    };
+    Ok(Some(answer?))
 }
