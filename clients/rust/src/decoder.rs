@@ -192,7 +192,7 @@ impl<R: Read> Decoder<R> {
     /// them. [`decode`](Decoder::decode) refuses a picture that needs more by its header, before it
     /// takes any.
     ///
-    /// Metadata behind the frame header are read at full size. Where a picture is within the limit
+    /// Metadata after the frame header are read at full size. Where a picture is within the limit
     /// only since it is scaled, they aren't read.
     ///
     /// ```

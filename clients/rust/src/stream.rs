@@ -6,7 +6,7 @@
 //! means is the library's to say, whatever is found here: where it lacks bytes that the reader has,
 //! [`Stream::read_rest`] adds all of them, and it is asked again. So a fault here can leave a lent
 //! reader at another place, wait for bytes of it that nobody needs, or overlook that there may be
-//! metadata behind the frame header, and no more.
+//! metadata after the frame header, and no more.
 //!
 //! A call of the C library that says how many bytes a header or an image needs beyond those that it
 //! was given would make this module needless.
