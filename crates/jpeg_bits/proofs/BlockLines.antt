@@ -1,12 +1,11 @@
 -- Steps of the loops over blocks that are coded one after the other.
-use Rattle.std.proofs.Common.{◌≡◌, ℕ, suc, ◌+◌, ◌-◌, ◌<◌, ◌≤◌, List, [], length, get_or, set, map, ℤ, pos}
+use Rattle.std.proofs.Common.{◌≡◌, ℕ, suc, ◌+◌, ◌-◌, ◌<◌, ◌≤◌, List, length, get_or, set, map, ℤ, pos}
 use Rattle.std.proofs.Common.{Ok, Err, true, false, refl, sym, ap, ap₂, ◌∙◌, arith, Bool, Option}
 use Rattle.std.proofs.lemmas.List.{get_or-map, length-set, map-set, set-get_or}
 use Rattle.std.specs.List.{range_with_len}
 use Rattle.jpeg_bits.specs.Stream.{Stream}
-use Rattle.jpeg_bits.specs.Reading.{Fault}
 use Rattle.jpeg_bits.specs.Refusals.{outcome_of, kept_refusal}
-use Rattle.jpeg_bits.specs.Entropy.{Text, Ahead, Takes, upcoming}
+use Rattle.jpeg_bits.specs.Entropy.{Text, Ahead, Takes}
 use Rattle.jpeg_bits.specs.Codes.{Table}
 use Rattle.jpeg_bits.specs.declared.error.Error.{Error}
 use Rattle.jpeg_bits.specs.Readers.{Reads, read_on}
@@ -107,17 +106,3 @@ line-end p dc ac z whole i bs run a b old new h left =
     let none : length bs - i ≡ 0 = omega (arith, h) in
     Leaves-end (λ (u : Unit {0}). (map to_block bs, z, run)) whole (left_at p dc ac z i bs run) a b old new tt
     (λ t. ap (λ (n : ℕ). blocks_at p dc ac (range_with_len i n) (map to_block bs, z, run) t) none) left
-
--- nothing is read yet
-pub line-start : (p : Pass) (dc ac : Table) (z : ℤ) (bs : List (List ℤ)) (run : ℕ) (a : Ahead) (old : Stream)
-    → Leaves (blocks_at p dc ac (range_with_len 0 (length bs)) (map to_block bs, z, run)) a old
-    (left_at p dc ac z 0 bs run) a old
-line-start p dc ac z bs run a old =
-    let all : length bs ≡ length bs - 0 = omega arith in (
-      refl,
-      λ known. (
-        known,
-        ap (λ (n : ℕ). blocks_at p dc ac (range_with_len 0 n) (map to_block bs, z, run)
-            (upcoming a old.bytes)) all,
-      ),
-    )

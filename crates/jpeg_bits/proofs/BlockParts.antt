@@ -1,15 +1,13 @@
 -- The parts of a block, of any pass.
-use Rattle.std.proofs.Common.{◌≡◌, ℕ, ◌+◌, ◌-◌, ◌^◌, ◌<◌, ◌≤◌, List, length, take, drop, get_or}
-use Rattle.std.proofs.Common.{set, ℤ, pos, ◌*ℤ◌, Result, Ok, Err, ap, ◌∙◌, arith, true, false}
-use Rattle.std.proofs.Common.{slice_index_or, ◌+ℤ◌, refl, Bool, Option}
+use Rattle.std.proofs.Common.{◌≡◌, ℕ, ◌+◌, ◌-◌, ◌^◌, ◌<◌, ◌≤◌, List, length, take, drop, get_or, set, ℤ, pos, ◌*ℤ◌}
+use Rattle.std.proofs.Common.{Result, Ok, Err, ap, ◌∙◌, arith, true, false, slice_index_or, ◌+ℤ◌, refl, Bool, Option}
 use Rattle.jpeg_bits.specs.Stream.{Stream}
 use Rattle.jpeg_bits.specs.Entropy.{Ahead, Takes, same_text, Text, bits_from}
 use Rattle.jpeg_bits.specs.Codes.{Table}
 use Rattle.jpeg_bits.specs.declared.error.Error.{Error}
 use Rattle.jpeg_bits.specs.Readers.{Reads, gives, read_on}
 use Rattle.jpeg_bits.specs.Bands.{Band, wrapped, token_from, first_ac, difference, first_dc}
-use Rattle.jpeg_bits.specs.Passes.{Pass, Block, or_bit, band_of, with_band, dc_part, band_part}
-use Rattle.jpeg_bits.specs.Passes.{block_from}
+use Rattle.jpeg_bits.specs.Passes.{Pass, Block, or_bit, band_of, with_band, dc_part, band_part, block_from}
 use Rattle.jpeg_bits.specs.Zigzag.{zigzag}
 use Rattle.jpeg_bits.specs.BlockView.{IsPass, to_block}
 use Rattle.jpeg_bits.specs.ZigzagParts.{band_start, band_end, band_in, zigzag_part, KeepsOthers}
@@ -18,8 +16,7 @@ use Rattle.jpeg_bits.specs.declared.blocks.tokens.Token.TheVariants.{Value, Sixt
 use Rattle.jpeg_bits.proofs.BandLoop.{IsAt, IsLast, IsAt-value, IsAt-sixteen, IsAt-all, IsAt-last}
 use Rattle.jpeg_bits.proofs.BandLoop.{IsAt-refused, IsAt-none, IsAt-end, after_front, Leaves}
 use Rattle.jpeg_bits.proofs.BandSteps.{Leaves-buffered, pos-of-ne}
-use Rattle.jpeg_bits.proofs.ZigzagIndices.{band-length, part-set, part-length, band-is, dc-put}
-use Rattle.jpeg_bits.proofs.ZigzagIndices.{band-put}
+use Rattle.jpeg_bits.proofs.ZigzagIndices.{band-length, part-set, part-length, band-is, dc-put, band-put}
 use Rattle.std.proofs.lemmas.Bool.{ne_eqb}
 use Rattle.jpeg_bits.specs.Reading.{Fault}
 use Rattle.jpeg_bits.specs.Refusals.{outcome_of}

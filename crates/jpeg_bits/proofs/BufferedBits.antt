@@ -1,14 +1,11 @@
 -- Taking bits that are buffered.
 use Rattle.jpeg_bits.specs.declared.huffman.ahead.DataEnd.TheVariants as ends
-use Rattle.std.proofs.Common.{◌≡◌, ℕ, ◌+◌, ◌-◌, ◌*◌, ◌^◌, ◌≤◌, Bool, true, false, cond, List, []}
-use Rattle.std.proofs.Common.{◌++◌, length, take, drop, replicate, Option, Some, Result, Ok, Err}
-use Rattle.std.proofs.Common.{sym, ap, ◌∙◌, arith, length-append, length-drop, add-one, pow-suc}
-use Rattle.std.proofs.Common.{is_ok, subst, get_or, None, refl}
+use Rattle.std.proofs.Common.{◌≡◌, ℕ, ◌+◌, ◌-◌, ◌*◌, ◌^◌, ◌≤◌, Bool, true, false, cond, List, [], ◌++◌, length, take}
+use Rattle.std.proofs.Common.{drop, replicate, Option, Some, Result, Ok, Err, sym, ap, ◌∙◌, arith, length-append}
+use Rattle.std.proofs.Common.{length-drop, add-one, pow-suc, is_ok, subst, get_or, None, refl}
 use Rattle.std.proofs.Math.Seq.{drop-nil}
-use Rattle.std.proofs.lemmas.List.{length-replicate, drop-drop, drop-replicate, drop-append-le}
-use Rattle.std.proofs.lemmas.List.{take-append-le}
-use Rattle.jpeg_bits.specs.Reading.{Fault, ◌>>=◌, Names, MayFail, Answers, Gives, Malformed}
-use Rattle.jpeg_bits.specs.Reading.{NamesFormat}
+use Rattle.std.proofs.lemmas.List.{length-replicate, drop-drop, drop-replicate, drop-append-le, take-append-le}
+use Rattle.jpeg_bits.specs.Reading.{Fault, ◌>>=◌, Names, MayFail, Answers, Gives, Malformed, NamesFormat}
 use Rattle.jpeg_bits.specs.Entropy.{Ending, Text, upcoming_by, upcoming, bits_from, has_bits}
 use Rattle.jpeg_bits.specs.Entropy.{number_of, advance, IsFilled, Ahead, Takes, same_text, IsWithin}
 use Rattle.jpeg_bits.specs.Entropy.{has_buffered, ending_of, marker_at_end, marker_from, text_at}
@@ -16,8 +13,7 @@ use Rattle.jpeg_bits.specs.Stream.{Stream}
 use Rattle.jpeg_bits.specs.declared.huffman.ahead.DataEnd.{DataEnd}
 use Rattle.std.proofs.lemmas.Bool.{false≢true}
 use Rattle.jpeg_bits.specs.declared.error.Error.{Error}
-use Rattle.jpeg_bits.proofs.Loops.{bind_err, still_known, same, none_left, second_ok, Takes-marker}
-use Rattle.jpeg_bits.proofs.Loops.{Takes-no_marker}
+use Rattle.jpeg_bits.proofs.Loops.{bind_err, still_known, same, none_left, second_ok, Takes-marker, Takes-no_marker}
 use Rattle.jpeg_bits.specs.declared.marker.Marker.{Marker}
 use Rattle.jpeg_bits.specs.Codes.{Table, code_in, code_lengths, next_16, code_from}
 

@@ -10,8 +10,7 @@ use Rattle.jpeg_bits.specs.Entropy.{Text, Ahead, Takes}
 use Rattle.jpeg_bits.specs.Codes.{Table}
 use Rattle.jpeg_bits.specs.Readers.{Reads, read_on, gives}
 use Rattle.jpeg_bits.specs.Bands.{Band}
-use Rattle.jpeg_bits.specs.Passes.{Pass, Block, band_of, band_size, with_band, dc_part, band_part}
-use Rattle.jpeg_bits.specs.Passes.{block_from}
+use Rattle.jpeg_bits.specs.Passes.{Pass, Block, band_of, band_size, with_band, dc_part, band_part, block_from}
 use Rattle.jpeg_bits.specs.Refusals.{outcome_of}
 use Rattle.jpeg_bits.specs.BlockView.{to_block, IsPass}
 use Rattle.jpeg_bits.specs.Skips.{run_of, run_part, dc_alone, kept, kept_turn}

@@ -1,10 +1,8 @@
 -- Where reading goes on after an interval, as it is defined and as it is read ahead.
-use Rattle.std.proofs.Common.{◌≡◌, ◌⊎◌, inl, inr, ℕ, zero, suc, ◌+◌, ◌-◌, ◌/◌, ◌<◌, ◌≤◌, Bool, true}
-use Rattle.std.proofs.Common.{false, cond, List, [], ◌∷◌, ◌++◌, length, drop, get_or, replicate}
-use Rattle.std.proofs.Common.{refl, sym, ap, ◌∙◌, arith, eqb, length-append, length-drop, Ok}
-use Rattle.std.proofs.Common.{Option, Some, None, Err}
-use Rattle.std.proofs.lemmas.List.{length-replicate, drop-drop, drop_more, get_or_append_left}
-use Rattle.std.proofs.lemmas.List.{get_or-replicate}
+use Rattle.std.proofs.Common.{◌≡◌, ◌⊎◌, inl, inr, ℕ, zero, suc, ◌+◌, ◌-◌, ◌/◌, ◌<◌, ◌≤◌, Bool, true, false, cond, List}
+use Rattle.std.proofs.Common.{[], ◌∷◌, ◌++◌, length, drop, get_or, replicate, refl, sym, ap, ◌∙◌, arith, eqb}
+use Rattle.std.proofs.Common.{length-append, length-drop, Ok, Option, Some, None, Err}
+use Rattle.std.proofs.lemmas.List.{length-replicate, drop-drop, drop_more, get_or_append_left, get_or-replicate}
 use Rattle.std.proofs.lemmas.Bool.{le-leb, lt-leb, cases_lt, false≢true, eqb-true, eq-eqb}
 use Rattle.jpeg_bits.specs.Reading.{Outcome, End, ◌>>=◌, Fault}
 use Rattle.jpeg_bits.specs.Entropy.{Text, Ending, Broken, bits_of, text_at, add_byte, no_bits}

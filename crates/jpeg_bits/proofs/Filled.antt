@@ -1,19 +1,21 @@
 -- A buffer that is filled from the front by reads.
 use Rattle.jpeg_bits.specs.declared.error.Error.TheVariants as errors
-use Rattle.std.proofs.Common.{◌≡◌, ℕ, ◌<◌, ◌≤◌, ◌^◌, Bool, true, false, not, ◌&&◌, List, ◌++◌}
-use Rattle.std.proofs.Common.{length, take, ◌∙◌, Option, Ok, arith, length-append, ltb, zero, suc}
-use Rattle.std.proofs.Common.{◌+◌, ◌-◌, [], ◌∷◌, Err, refl, sym, ap, append_assoc, length-take}
-use Rattle.std.proofs.Common.{length-take-le}
+use Rattle.std.proofs.Common.{◌≡◌, ℕ, ◌<◌, ◌≤◌, ◌^◌, Bool, true, false, not, ◌&&◌, List, ◌++◌, length, take, ◌∙◌}
+use Rattle.std.proofs.Common.{Option, Ok, arith, length-append, ltb, zero, suc, ◌+◌, ◌-◌, [], ◌∷◌, Err, refl, sym, ap}
+use Rattle.std.proofs.Common.{append_assoc, length-take, length-take-le}
 use Rattle.std.specs.Io.KnownBytes.{Keeps, Consumes, IsAtEnd}
 use Rattle.std.proofs.lemmas.Bool.{false≢true}
-use Rattle.jpeg_bits.specs.Stream.{Stream, stream_of, Rests}
-use Rattle.jpeg_bits.specs.Reading.{ReadsSome, Outcome, Fault, End, Answers, NamesEnd, next_byte}
-use Rattle.jpeg_bits.specs.Reading.{times, ◌>>=◌, skip_at}
+use Rattle.jpeg_bits.specs.Stream.{Stream, stream_of}
+use Rattle.jpeg_bits.specs.Reading.{ReadsSome, Outcome, Fault, End, Answers, NamesEnd, next_byte, times, ◌>>=◌, skip_at}
 use Rattle.std.proofs.lemmas.List.{append-nil, take-append-le, take_all}
 use Rattle.std.proofs.Math.Seq.{take-append-add}
 use borrow.Rule.Slice.PartMut.{put_mid}
 use Rattle.jpeg_bits.specs.declared.error.Error.{Error}
 use Rattle.jpeg_bits.proofs.Loops.{bind_at, bind_err}
+
+-- known bytes stay as they were
+abbrev pub Rests : Stream → Stream → Type 0
+Rests old new = (new.failed ≡ old.failed) × (old.known ≡ true → (new.known ≡ true) × (new.bytes ≡ old.bytes))
 
 pub rests_trans : (a b c : Stream) → Rests a b → Rests b c → Rests a c
 rests_trans a b c p q = (q.0 ∙ p.0, λ k. ((q.1 (p.1 k).0).0, (q.1 (p.1 k).0).1 ∙ (p.1 k).1))

@@ -1,9 +1,8 @@
 -- The values that 11 bits begin with, and the end of the block after them: how they are read, and how
 -- their table is filled.
-use Rattle.std.proofs.Common.{◌≡◌, ℕ, ℤ, pos, ◌+◌, ◌-◌, ◌*◌, ◌/◌, ◌%◌, ◌^◌, ◌<◌, ◌≤◌, ◌*ℤ◌, ◌==◌}
-use Rattle.std.proofs.Common.{◌&&◌, nat_le, Bool, true, false, List, ◌++◌, length, drop, replicate}
-use Rattle.std.proofs.Common.{get_or, set, Option, Some, None, Ok, refl, sym, ap, ◌∙◌, subst}
-use Rattle.std.proofs.Common.{arith, append_assoc, if◌then◌else◌, is_ok}
+use Rattle.std.proofs.Common.{◌≡◌, ℕ, ℤ, pos, ◌+◌, ◌-◌, ◌*◌, ◌/◌, ◌%◌, ◌^◌, ◌<◌, ◌≤◌, ◌*ℤ◌, ◌==◌, ◌&&◌, nat_le, Bool}
+use Rattle.std.proofs.Common.{true, false, List, ◌++◌, length, drop, replicate, get_or, set, Option, Some, None, Ok}
+use Rattle.std.proofs.Common.{refl, sym, ap, ◌∙◌, subst, arith, append_assoc, if◌then◌else◌, is_ok}
 use Rattle.std.proofs.lemmas.Bool.Decides.{nat_tests}
 use Rattle.std.proofs.lemmas.Bool.{false≢true}
 use Rattle.jpeg_bits.specs.Stream.{Stream}
@@ -24,8 +23,7 @@ use Rattle.jpeg_bits.specs.declared.huffman.pairs.Pair.{Pair}
 use Rattle.jpeg_bits.specs.declared.blocks.tokens.Token.{Token}
 use Rattle.jpeg_bits.specs.declared.blocks.tokens.Token.TheVariants.{Rest}
 use Rattle.jpeg_bits.proofs.BufferedBits.{has_bits-buffered, advance-buffered, filled-less, ok_unit}
-use Rattle.jpeg_bits.proofs.ShortLemmas.{length-next_bits, fewer-buffered, eleven_padded}
-use Rattle.jpeg_bits.proofs.ShortLemmas.{symbol_found}
+use Rattle.jpeg_bits.proofs.ShortLemmas.{length-next_bits, fewer-buffered, eleven_padded, symbol_found}
 use Rattle.jpeg_bits.proofs.BlockParts.{IsAtIndex, band_from, index-end, index-last}
 use Rattle.jpeg_bits.proofs.WideTokens.{Seen, pair-seen, pair_small, index-pair, token-seen, none_left}
 use Rattle.jpeg_bits.proofs.WideTokens.{advanced, front-text, bits_after}

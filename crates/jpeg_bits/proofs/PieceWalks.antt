@@ -1,11 +1,10 @@
 -- A piece of a refinement, as it is walked.
 use Rattle.std.proofs.lemmas.Grind.{common_steps}
 use Rattle.std.proofs.lemmas.Bool.Decides.{nat_tests}
-use Rattle.std.proofs.Common.{◌≡◌, ℕ, suc, ◌+◌, ◌-◌, ◌<◌, ◌≤◌, ◌==◌, Bool, true, false, List, []}
-use Rattle.std.proofs.Common.{◌∷◌, ◌++◌, length, take, drop, set, get_or, ℤ, pos, Result, Ok, Err}
-use Rattle.std.proofs.Common.{refl, sym, ap, ◌∙◌, arith, append_assoc, ◌+ℤ◌, ◌/◌, ◌%◌, ◌^◌, negsuc}
-use Rattle.std.proofs.Common.{w16, FitsSigned, ◌*◌, Option, Some, None, pow_mono, zero, map}
-use Rattle.std.proofs.Common.{replicate, cond, not, nat_eq, if◌then◌else◌, w8, w64, shr-shr, lit<}
+use Rattle.std.proofs.Common.{◌≡◌, ℕ, suc, ◌+◌, ◌-◌, ◌<◌, ◌≤◌, ◌==◌, Bool, true, false, List, [], ◌∷◌, ◌++◌, length}
+use Rattle.std.proofs.Common.{take, drop, set, get_or, ℤ, pos, Result, Ok, Err, refl, sym, ap, ◌∙◌, arith, append_assoc}
+use Rattle.std.proofs.Common.{◌+ℤ◌, ◌/◌, ◌%◌, ◌^◌, negsuc, w16, FitsSigned, ◌*◌, Option, Some, None, pow_mono, zero}
+use Rattle.std.proofs.Common.{map, replicate, cond, not, nat_eq, if◌then◌else◌, w8, w64, shr-shr, lit<}
 use Rattle.std.proofs.lemmas.List.{drop_all, drop_more, take_all, append-nil, take-append-drop}
 use Rattle.std.proofs.lemmas.List.{take_more_set, drop-set-lt, set-get_or, get_or-set_other}
 use Rattle.std.proofs.lemmas.List.{length-map, get_or-map as get_or-map_within}

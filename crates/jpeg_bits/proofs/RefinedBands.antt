@@ -1,11 +1,10 @@
 -- Bands of a refinement: what is left after some coefficients.
 use Rattle.jpeg_bits.specs.Refinement as defined
-use Rattle.std.proofs.Common.{rules, is_ok, ◌≡◌, ℕ, zero, suc, ◌+◌, ◌-◌, ◌<◌, ◌≤◌, List, [], ◌∷◌}
-use Rattle.std.proofs.Common.{◌++◌, length, take, drop, set, ℤ, Result, Ok, Err, refl, sym, ap, ◌∙◌}
-use Rattle.std.proofs.Common.{arith, append_assoc, length-drop, length-take, length-append}
-use Rattle.std.proofs.Common.{length-set, le_refl, ◌/◌, ◌%◌, get_or, Option, Some, None, is_some}
-use Rattle.std.proofs.Common.{Bool}
-use Rattle.std.proofs.lemmas.List.{drop_all, take_all, append-nil, take-append-le, drop-append-le}
+use Rattle.std.proofs.Common.{rules, is_ok, ◌≡◌, ℕ, zero, suc, ◌+◌, ◌-◌, ◌<◌, ◌≤◌, List, [], ◌∷◌, ◌++◌, length, take}
+use Rattle.std.proofs.Common.{drop, set, ℤ, Result, Ok, Err, refl, sym, ap, ◌∙◌, arith, append_assoc, length-drop}
+use Rattle.std.proofs.Common.{length-take, length-append, length-set, le_refl, ◌/◌, ◌%◌, get_or, Option, Some, None}
+use Rattle.std.proofs.Common.{is_some, Bool}
+use Rattle.std.proofs.lemmas.List.{drop_all, take_all, append-nil, drop_at, take_at}
 use Rattle.std.proofs.lemmas.List.{length-take-le, set-append_left, set-append_right}
 use Rattle.std.proofs.lemmas.Bool.{false≢true}
 use Rattle.jpeg_bits.specs.Reading.{Fault, ◌>>=◌}
@@ -14,13 +13,11 @@ use Rattle.jpeg_bits.specs.Codes.{Table}
 use Rattle.jpeg_bits.specs.declared.blocks.refinement.Refinement.{Refinement}
 use Rattle.jpeg_bits.specs.declared.blocks.refinement.Refinement.TheVariants.{Zeros, New, End}
 use Rattle.jpeg_bits.specs.Bands.{Band, before_more}
-use Rattle.jpeg_bits.specs.Pieces.{ReadsBand, before, corrected_from, refinement_from}
-use Rattle.jpeg_bits.specs.Pieces.{refined_piece_at, refined_ac_at, refined_band_from, piece_from}
-use Rattle.jpeg_bits.specs.Pieces.{run_from, refinement_by}
+use Rattle.jpeg_bits.specs.Pieces.{ReadsBand, before, corrected_from, refinement_from, refined_piece_at, refined_ac_at}
+use Rattle.jpeg_bits.specs.Pieces.{refined_band_from, piece_from, run_from, refinement_by}
 use Rattle.jpeg_bits.specs.Readers.{each, gives, read_on, Reads}
 use Rattle.jpeg_bits.specs.Refinement.{corrected, through_zero, with_last}
-use Rattle.jpeg_bits.proofs.BandSteps.{bind_same, before-before, Leaves-ok, Leaves-err}
-use Rattle.jpeg_bits.proofs.BandSteps.{Leaves-whole}
+use Rattle.jpeg_bits.proofs.BandSteps.{bind_same, before-before, Leaves-ok, Leaves-err, Leaves-whole}
 use Rattle.jpeg_bits.proofs.PieceWalks.{by_bool, Walk}
 use Rattle.jpeg_bits.specs.Stream.{Stream}
 use Rattle.jpeg_bits.specs.Passes.{Pass}
@@ -130,9 +127,6 @@ ok_of d (Err e) = d
 abbrev pieced : ℕ → List ℤ → List ℤ × Text → Walk
 pieced n rest front = Ok ((n, front.0 ++ drop n rest), front.1)
 
-length_short : (n : ℕ) (xs : List ℤ) → n ≤ length xs → length (take n xs) ≡ n
-length_short n xs h = length-take-le n xs h
-
 corrected_refused : (al r : ℕ) (rest : List ℤ) (t : Text) (f : Fault) → piece_from al r rest t ≡ Err f
     → corrected al (take (through_zero r rest) rest) t ≡ Err f
 unfolding piece_from
@@ -151,12 +145,6 @@ pub step_refused : (table : Table) (al : ℕ) (band rest : List ℤ) (i all : �
 unfolding refined_step refined_piece_at
 step_refused table al band rest i all k t f e le h = grind (arith, corrected_refused, take_all, through_all)
 
-take_front : (k : ℕ) (xs ys : List ℤ) → length xs ≡ k → take k (xs ++ ys) ≡ xs
-take_front k xs ys e = take-append-le k xs ys (omega arith) ∙ take_all k xs (omega arith)
-
-drop_front : (k : ℕ) (xs ys : List ℤ) → length xs ≡ k → drop k (xs ++ ys) ≡ ys
-drop_front k xs ys e = grind (arith, drop-append-le, drop_all)
-
 set_last : (a front : List ℤ) (v : ℤ) (k : ℕ) → k + 1 ≡ length a + length front → 0 < length front
     → set (a ++ front) k v ≡ a ++ with_last v front
 unfolding with_last
@@ -167,7 +155,7 @@ with_last-length : (v : ℤ) (xs : List ℤ) → length (with_last v xs) ≡ len
 unfolding with_last
 with_last-length v xs = length-set xs (length xs - 1) v
 
-ruleset fronts = (append_assoc, before-before, take_front, drop_front)
+ruleset fronts = (append_assoc, before-before, take_at, drop_at)
 
 -- what a piece that was read is
 data IsPiece (al r : ℕ) (rest : List ℤ) (t : Text) (n : ℕ) (ys : List ℤ) (u : Text) : Type 0 where
@@ -190,14 +178,14 @@ is_piece al r rest t n ys u h = by_result (corrected al (take (through_zero r re
         let same = ap (λ (w : Walk). ok_of ((n, ys), u) w) h in
         piece x.0 (e ∙ ap (λ (w : Text). Ok (x.0, w)) (ap (λ (z : (ℕ × List ℤ) × Text). z.1) same))
         (let a = length-take (through_zero r rest) rest in let b = through_zero_le r rest in
-        l ∙ length_short (through_zero r rest) rest b)
+        l ∙ length-take-le (through_zero r rest) rest b)
         (sym (ap (λ (z : (ℕ × List ℤ) × Text). z.0.0) same)) (sym (ap (λ (z : (ℕ × List ℤ) × Text). z.0.1) same))
     by_result (Err g) e l h = absurd (false≢true (ap is_ok h))
 
 module _ (table : Table) (al i n : ℕ) (band nb rest ys : List ℤ) (t u : Text) (le : i ≤ length band)
     (old : rest ≡ drop i band) (new : nb ≡ take i band ++ ys) where
   front_length : (front : List ℤ) → length (take i band ++ front) ≡ i + length front
-  front_length front = length-append (take i band) front ∙ ap (λ k. k + length front) (length_short i band le)
+  front_length front = length-append (take i band) front ∙ ap (λ k. k + length front) (length-take-le i band le)
 
   pub zeros_step : piece_from al 15 rest t ≡ Ok ((n, ys), u) → refined_step table al band i Zeros t ≡ refined_left table
       al nb (i + n) u
@@ -217,7 +205,7 @@ module _ (table : Table) (al i n : ℕ) (band nb rest ys : List ℤ) (t u : Text
       by : IsPiece al r (drop i band) t n ys u → refined_step table al band i (New r v) t ≡ refined_left table al
           (set nb (i + n - 1) v) (i + n) u
       by (piece front c l m e) =
-          let j = length_short i band le in
+          let j = length-take-le i band le in
           let k : length (take i band ++ front) ≡ i + n = front_length front ∙ omega arith in
           grind (arith, fronts, set-append_left, set_last, front_length, with_last-length)
 

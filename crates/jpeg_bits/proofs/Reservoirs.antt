@@ -162,10 +162,6 @@ module _ (word count n : ℕ) (few : count ≤ 64) (z : HasZerosAfter word count
             grind (arith, drop_all, length_low_bits)
       ]
 
-pub none_buffered : (word : ℕ) → buffered_bits word 0 ≡ []
-unfolding low_bits
-none_buffered word = refl
-
 pub word_fits : (v : ℕ) → v % 2 ^ 64 < 2 ^ 64
 word_fits v = mod-lt v (pow_pos 64)
 

@@ -2,20 +2,16 @@
 use Rattle.jpeg_bits.proofs.WrittenBits.{takes-number}
 use Rattle.jpeg_bits.proofs.BandSteps.{no_bits_taken}
 use Rattle.jpeg_bits.proofs.Fast.{no_difference, tokens-same}
-use Rattle.jpeg_bits.proofs.ShortLemmas.{Code-buffered, Code-none, run-most, run-same, run-byte}
-use Rattle.jpeg_bits.proofs.ShortLemmas.{fast-not, fast-refused, fast-taken, value_below}
-use Rattle.jpeg_bits.proofs.ShortLemmas.{value_number}
+use Rattle.jpeg_bits.proofs.ShortLemmas.{Code-buffered, Code-none, run-most, run-same, run-byte, fast-not, fast-refused}
+use Rattle.jpeg_bits.proofs.ShortLemmas.{fast-taken, value_below, value_number}
 use Rattle.std.proofs.Common.{div-le_self, pow_mono}
 use Rattle.std.proofs.lemmas.Grind.{common_steps}
 use Rattle.std.proofs.lemmas.Result.{err_from_is_err_and}
 use Rattle.std.proofs.lemmas.List.{get_or_default}
-use Rattle.jpeg_bits.proofs.PieceWalks.{at-start, at-end, clear_from, set_after, marks-later}
-use Rattle.jpeg_bits.proofs.PieceWalks.{gap-some}
-use Rattle.jpeg_bits.proofs.CodeLemmas.{first_le, index_within, row_found}
-use Rattle.jpeg_bits.proofs.CodeLemmas.{row_missed, above_more, none_found}
-use Rattle.jpeg_bits.proofs.Filled.{skip-refused as bytes-refused, skip-goes, skip-none, filled-err}
-use Rattle.jpeg_bits.proofs.Filled.{filled-room, filled-all, rests_trans, rests_keeps, reads_some}
-use Rattle.jpeg_bits.proofs.Filled.{reads_after}
+use Rattle.jpeg_bits.proofs.PieceWalks.{at-start, at-end, clear_from, set_after, marks-later, gap-some}
+use Rattle.jpeg_bits.proofs.CodeLemmas.{first_le, index_within, row_found, row_missed, above_more, none_found}
+use Rattle.jpeg_bits.proofs.Filled.{skip-refused as bytes-refused, skip-goes, skip-none, filled-err, filled-room}
+use Rattle.jpeg_bits.proofs.Filled.{filled-all, rests_trans, rests_keeps, reads_some, reads_after}
 use Rattle.jpeg_bits.proofs.Reservoirs.{front_number, front_below}
 use Rattle.jpeg_bits.proofs.WideTokens.{none_left, skip-refused, skip-overlong, skip-all}
 use Rattle.jpeg_bits.proofs.ZigzagIndices.{kept-same}
@@ -23,9 +19,8 @@ use Rattle.jpeg_bits.proofs.BufferedBits.{filled-less, filled-long}
 use Rattle.std.proofs.lemmas.Int.{wraps}
 use Rattle.jpeg_bits.proofs.Tables.{exist-tested, tested-exist, good-table, takes-symbol}
 use Rattle.jpeg_bits.proofs.EndLemmas.{ends-so, is-found, only-found, none-found, none-there}
-use Rattle.jpeg_bits.proofs.DefaultTables.{luminance-dc-codes, chrominance-dc-codes}
-use Rattle.jpeg_bits.proofs.DefaultTables.{luminance-ac-codes, chrominance-ac-codes, untouched}
-use Rattle.jpeg_bits.proofs.DefaultTables.{done}
+use Rattle.jpeg_bits.proofs.DefaultTables.{luminance-dc-codes, chrominance-dc-codes, luminance-ac-codes}
+use Rattle.jpeg_bits.proofs.DefaultTables.{chrominance-ac-codes, untouched, done}
 use Rattle.jpeg_bits.proofs.TakenBytes.{takes-first}
 
 -- when enough bits are buffered

@@ -1,12 +1,10 @@
 -- Short codes and values.
 use Rattle.std.proofs.lemmas.Grind.{common_steps}
-use Rattle.std.proofs.Common.{◌≡◌, length-set, set, below_more, get_or-set_other, get_or-set_same}
-use Rattle.std.proofs.Common.{ℕ, ℤ, zero, suc, ◌+◌, ◌-◌, ◌*◌, ◌/◌, ◌%◌, ◌^◌, ◌<◌, ◌≤◌, Bool, true}
-use Rattle.std.proofs.Common.{false, cond, eqb, leb, ltb, ◌&&◌, List, [], ◌∷◌, ◌++◌, length, take}
-use Rattle.std.proofs.Common.{drop, get_or, replicate, Option, Some, None, Ok, refl, sym, ap, ◌∙◌}
-use Rattle.std.proofs.Common.{arith, inl, inr, length-append, length-take, length-drop, IfSome}
-use Rattle.std.proofs.Common.{is_some, pow_pos, Result, Err, is_ok, subst, ◌⊎◌, nat_lt, nat_le}
-use Rattle.std.proofs.Common.{if◌then◌else◌}
+use Rattle.std.proofs.Common.{◌≡◌, length-set, set, below_more, get_or-set_other, get_or-set_same, ℕ, ℤ, zero, suc, ◌+◌}
+use Rattle.std.proofs.Common.{◌-◌, ◌*◌, ◌/◌, ◌%◌, ◌^◌, ◌<◌, ◌≤◌, Bool, true, false, cond, eqb, leb, ltb, ◌&&◌, List, []}
+use Rattle.std.proofs.Common.{◌∷◌, ◌++◌, length, take, drop, get_or, replicate, Option, Some, None, Ok, refl, sym, ap}
+use Rattle.std.proofs.Common.{◌∙◌, arith, inl, inr, length-append, length-take, length-drop, IfSome, is_some, pow_pos}
+use Rattle.std.proofs.Common.{Result, Err, is_ok, subst, ◌⊎◌, nat_lt, nat_le, if◌then◌else◌}
 use Rattle.std.specs.Option.{option_map}
 use Rattle.std.proofs.Math.Seq.{drop-nil}
 use Rattle.std.proofs.lemmas.List.{take-take, take-append-le, take_all, take-replicate}
@@ -21,9 +19,8 @@ use Rattle.jpeg_bits.specs.Written.{low_bits}
 use Rattle.jpeg_bits.specs.Codes.{Table, code_in, code_lengths, code_value, begins, next_16, is_ac}
 use Rattle.jpeg_bits.specs.Codes.{short_token, after_code, short_code_by, short_code_from}
 use Rattle.jpeg_bits.specs.Codes.{short_value, fast_from, symbol_from, code_from}
-use Rattle.jpeg_bits.specs.ShortCodes.{named, symbol_in, short_only, short_code, short_value_by}
-use Rattle.jpeg_bits.specs.ShortCodes.{short_value_of, next_bits, packed, IsRun}
-use Rattle.jpeg_bits.specs.ShortCodes.{rest_of_code, rest_of_value}
+use Rattle.jpeg_bits.specs.ShortCodes.{named, symbol_in, short_only, short_code, short_value_by, short_value_of}
+use Rattle.jpeg_bits.specs.ShortCodes.{next_bits, packed, IsRun, rest_of_code, rest_of_value}
 use Rattle.jpeg_bits.specs.declared.huffman.codes.HuffmanTableClass.{HuffmanTableClass}
 use Rattle.jpeg_bits.specs.declared.huffman.ahead.DataEnd.{DataEnd}
 use Rattle.std.proofs.Math.Nat.{mod-lt, div-mul-le_self, div-eq_of_lt-le, mul-le-mul_right}
@@ -32,10 +29,9 @@ use Rattle.jpeg_bits.proofs.WrittenBits.{length_low_bits, number_of-low_bits}
 use Rattle.jpeg_bits.proofs.Reservoirs.{low_bits-append, low_bits-zeros, low_bits-take}
 use Rattle.jpeg_bits.proofs.Reservoirs.{low_bits-drop, same_zeros, front_small}
 use Rattle.jpeg_bits.proofs.Tables.{IsRising, ordered, all-rising, symbol-code}
-use Rattle.jpeg_bits.proofs.BufferedBits.{has_bits-buffered, advance-buffered, bits_from-buffered}
-use Rattle.jpeg_bits.proofs.BufferedBits.{filled-less, if_buffered, ok_unit, MayFail-same}
-use Rattle.jpeg_bits.proofs.BufferedBits.{code_from-buffered, code_from-none, names_format}
-use Rattle.jpeg_bits.proofs.BufferedBits.{may_fail_format}
+use Rattle.jpeg_bits.proofs.BufferedBits.{has_bits-buffered, advance-buffered, bits_from-buffered, filled-less}
+use Rattle.jpeg_bits.proofs.BufferedBits.{if_buffered, ok_unit, MayFail-same, code_from-buffered, code_from-none}
+use Rattle.jpeg_bits.proofs.BufferedBits.{names_format, may_fail_format}
 use Rattle.std.proofs.lemmas.Nat.{pow-add}
 use Rattle.jpeg_bits.specs.Stream.{Stream}
 use Rattle.jpeg_bits.specs.declared.error.Error.{Error}

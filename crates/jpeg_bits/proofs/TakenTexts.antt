@@ -8,8 +8,7 @@ use Rattle.jpeg_bits.specs.Reading.{Fault, End, Malformed}
 use Rattle.jpeg_bits.specs.Reading as outcomes
 use Rattle.jpeg_bits.specs.Entropy.{advance, bits_from, has_bits, number_of, Broken, Ending, Text}
 use Rattle.jpeg_bits.specs.Readers.{Reads, each, read_on, gives, refused, signed_from, text, ◌>>=◌}
-use Rattle.jpeg_bits.specs.Codes.{Table, code_by, code_from, code_in, code_lengths, next_16}
-use Rattle.jpeg_bits.specs.Codes.{symbol_from}
+use Rattle.jpeg_bits.specs.Codes.{Table, code_by, code_from, code_in, code_lengths, next_16, symbol_from}
 use Rattle.jpeg_bits.specs.Bands.{Band, after_token, difference, first_ac, first_dc, token_at, token_from}
 use Rattle.jpeg_bits.specs.Refinement.{corrected, corrected_by, refined_ac, refined_piece}
 use Rattle.jpeg_bits.specs.Passes.{Block, Pass, Via, band_part, block_from, blocks_of, dc_part}
@@ -166,7 +165,7 @@ band-takes p ac [] run = gives-takes _
 band-takes p ac (x ∷ band) zero = search (rules, if-takes, first_ac-takes, refined_ac-takes)
 band-takes p ac (x ∷ band) (suc run) = search (rules, if-takes, gives-takes, bind-takes, corrected-takes)
 
-block-takes : (p : Pass) (dc ac : Table) (predictor : ℤ) (run : ℕ) (old : Block)
+pub block-takes : (p : Pass) (dc ac : Table) (predictor : ℤ) (run : ℕ) (old : Block)
     → TakesBits (block_from p dc ac predictor run old)
 unfolding block_from
 block-takes p dc ac predictor run old = search (rules, bind-takes, dc-takes, band-takes, gives-takes)

@@ -1,18 +1,15 @@
 -- The next token: a value within the room that the next 11 bits begin with, or by its code.
 use Rattle.std.proofs.lemmas.Grind.{common_steps}
 use Rattle.std.proofs.lemmas.Bool.Decides.{nat_tests}
-use Rattle.std.proofs.Common.{◌≡◌, ℕ, ℤ, ◌+◌, ◌-◌, ◌/◌, ◌%◌, ◌^◌, ◌<◌, ◌≤◌, Bool, true, false, List}
-use Rattle.std.proofs.Common.{[], ◌++◌, length, take, drop, replicate, get_or, Option, Some, None}
-use Rattle.std.proofs.Common.{Result, Ok, Err, refl, sym, ap, ◌∙◌, arith, is_some, ltb}
-use Rattle.std.proofs.Common.{append_assoc, append-nil, length-drop, zero, suc, ◌*◌, ◌∷◌, pos, ◌*ℤ◌}
-use Rattle.std.proofs.Common.{is_ok, subst, length-append, length-take, inl, inr, pow_pos, set}
-use Rattle.std.proofs.Common.{get_or-set_other, get_or-set_same, nat_lt, ◌==◌, ◌||◌, if◌then◌else◌}
-use Rattle.std.proofs.Common.{length-set}
+use Rattle.std.proofs.Common.{◌≡◌, ℕ, ℤ, ◌+◌, ◌-◌, ◌/◌, ◌%◌, ◌^◌, ◌<◌, ◌≤◌, Bool, true, false, List, [], ◌++◌, length}
+use Rattle.std.proofs.Common.{take, drop, replicate, get_or, Option, Some, None, Result, Ok, Err, refl, sym, ap, ◌∙◌}
+use Rattle.std.proofs.Common.{arith, is_some, ltb, append_assoc, append-nil, length-drop, zero, suc, ◌*◌, ◌∷◌, pos}
+use Rattle.std.proofs.Common.{◌*ℤ◌, is_ok, subst, length-append, length-take, inl, inr, pow_pos, set, get_or-set_other}
+use Rattle.std.proofs.Common.{get_or-set_same, nat_lt, ◌==◌, ◌||◌, if◌then◌else◌, length-set}
 use Rattle.std.proofs.lemmas.Bool.{lt-ltb, false≢true, cases_lt}
 use Rattle.std.proofs.lemmas.List.{take-take, take-append-le, drop-append-le, drop-drop}
-use Rattle.jpeg_bits.specs.Entropy.{Text, Ahead, upcoming_by, upcoming, IsFilled, has_buffered}
-use Rattle.jpeg_bits.specs.Entropy.{Takes, advance, has_bits, bits_from, number_of, extended}
-use Rattle.jpeg_bits.specs.Entropy.{same_text}
+use Rattle.jpeg_bits.specs.Entropy.{Text, Ahead, upcoming_by, upcoming, IsFilled, has_buffered, Takes, advance}
+use Rattle.jpeg_bits.specs.Entropy.{has_bits, bits_from, number_of, extended, same_text}
 use Rattle.jpeg_bits.specs.Stream.{Stream}
 use Rattle.jpeg_bits.specs.declared.huffman.codes.HuffmanTableClass.{HuffmanTableClass}
 use Rattle.jpeg_bits.specs.declared.error.Error.{Error}
@@ -20,8 +17,7 @@ use Rattle.jpeg_bits.specs.Codes.{Table, code_in, code_lengths, next_16, code_by
 use Rattle.jpeg_bits.specs.ShortCodes.{named, symbol_in, short_value_by, short_value_of, next_bits}
 use Rattle.jpeg_bits.specs.ShortCodes.{packed, HoldsWideValues}
 use Rattle.jpeg_bits.specs.Readers.{read_on, gives, signed_from, Reads}
-use Rattle.jpeg_bits.specs.Bands.{token_at, token_from, Band, IsWithinRoom, before_more, wrapped}
-use Rattle.jpeg_bits.specs.Bands.{after_token, first_ac}
+use Rattle.jpeg_bits.specs.Bands.{token_at, token_from, Band, IsWithinRoom, before_more, wrapped, after_token, first_ac}
 use Rattle.jpeg_bits.specs.declared.huffman.ahead.DataEnd.{DataEnd}
 use Rattle.jpeg_bits.specs.declared.blocks.tokens.Token.{Token}
 use Rattle.jpeg_bits.specs.declared.blocks.tokens.Token.TheVariants.{Value, Rest, Sixteen, Overlong}
@@ -29,15 +25,13 @@ use Rattle.jpeg_bits.proofs.BufferedBits.{has_bits-buffered, advance-buffered, f
 use Rattle.jpeg_bits.proofs.Fast.{no-bits, both-buffered}
 use Rattle.jpeg_bits.proofs.Reservoirs.{same_zeros, low_bits-append, low_bits-zeros, low_bits-take}
 use Rattle.jpeg_bits.proofs.Reservoirs.{low_bits-drop, low_bits-high}
-use Rattle.jpeg_bits.proofs.ShortLemmas.{IsShort, short_some, size_of, all_short, at_most}
-use Rattle.jpeg_bits.proofs.ShortLemmas.{short_agree, value-bits, length-next_bits, next-buffered}
-use Rattle.jpeg_bits.proofs.ShortLemmas.{fewer-buffered}
+use Rattle.jpeg_bits.proofs.ShortLemmas.{IsShort, short_some, size_of, all_short, at_most, short_agree, value-bits}
+use Rattle.jpeg_bits.proofs.ShortLemmas.{length-next_bits, next-buffered, fewer-buffered}
 use Rattle.jpeg_bits.proofs.Tables.{all-rising}
 use Rattle.std.proofs.Math.Nat.{div-add-mod'}
 use Rattle.jpeg_bits.specs.Reading.{Fault}
 use Rattle.jpeg_bits.specs.Written.{low_bits}
-use Rattle.jpeg_bits.specs.Skips.{run_after, run_within, run_of, no_skip, IsSkip, PassesOver}
-use Rattle.jpeg_bits.specs.Skips.{after_skip}
+use Rattle.jpeg_bits.specs.Skips.{run_after, run_within, run_of, IsSkip, PassesOver, after_skip}
 use Rattle.jpeg_bits.proofs.BandLoop.{Leaves}
 use Rattle.jpeg_bits.proofs.BandSteps.{Leaves-buffered}
 use Rattle.jpeg_bits.specs.Pairs.{ShortValue, no_pair, one_value, two_values, pair_by, value_in}
@@ -418,10 +412,6 @@ module _ (table : Table) (counted : length table.counts ≡ 16) (bits : List Boo
         (replicate (4 + used) false) symbol size found room' t b.0 (omega (arith, is)) here
         ∙ none_left room' size r s v none end)
         ∙ ap (λ (w : Text). Ok (0, w)) (advanced used size t ∙ ap (λ (k : ℕ). advance k t) same)
-
--- none at all
-pub skip-none : (table : Table) (bits : List Bool) → IsSkip table bits no_skip
-skip-none table bits = grind arith
 
 pub twelve_front : (number : ℕ) (bits : List Bool) → low_bits 16 number ≡ next_16 bits
     → low_bits 12 (number / 16) ≡ next_bits 12 bits

@@ -1,18 +1,15 @@
 -- The indices of the zigzag order.
-use Rattle.std.proofs.Common.{◌≡◌, ℕ, ◌<◌, List, ◌∷◌, length, get_or, map, set, drop, ℤ, pos, refl}
-use Rattle.std.proofs.Common.{sym, ap, ◌∙◌, arith, true, length-set, ◌+◌, ◌-◌, ◌≤◌, ◌++◌, take}
-use Rattle.std.proofs.Common.{length-drop}
-use Rattle.std.proofs.lemmas.List.{ext_get_or, get_or-map, length-map, get_or-set_same}
-use Rattle.std.proofs.lemmas.List.{get_or-set_other, length-take-le, take-set-le, drop-set-lt}
-use Rattle.std.proofs.lemmas.List.{drop-set-add, drop-take, drop-drop, take-take, take-append-drop}
-use Rattle.std.proofs.lemmas.List.{get_or-take, get_or-drop}
+use Rattle.std.proofs.Common.{◌≡◌, ℕ, ◌<◌, List, ◌∷◌, length, get_or, map, set, drop, ℤ, pos, refl, sym, ap, ◌∙◌, arith}
+use Rattle.std.proofs.Common.{true, length-set, ◌+◌, ◌-◌, ◌≤◌, ◌++◌, take, length-drop}
+use Rattle.std.proofs.lemmas.List.{ext_get_or, get_or-map, length-map, get_or-set_same, get_or-set_other}
+use Rattle.std.proofs.lemmas.List.{length-take-le, take-set-le, drop-set-lt, drop-set-add, drop-take, drop-drop}
+use Rattle.std.proofs.lemmas.List.{take-take, take-append-drop, get_or-take, get_or-drop}
 use Rattle.std.proofs.lemmas.List.Folds.{list_all_at}
 use Rattle.std.proofs.lemmas.List.FromFn.{get_or-range_with_len}
 use Rattle.std.proofs.lemmas.Bool.{cases_eq, cases_lt, ltb-true, false_from_ne_true, false≢true}
 use Rattle.std.proofs.Math.Dec.{ltb}
 use Rattle.std.specs.List.{list_all, range_with_len}
-use Rattle.jpeg_bits.specs.Zigzag.{zigzag, zigzag_indices, coefficients_in_zigzag}
-use Rattle.jpeg_bits.specs.Zigzag.{coefficients_in_block_order}
+use Rattle.jpeg_bits.specs.Zigzag.{zigzag, zigzag_indices, coefficients_in_zigzag, coefficients_in_block_order}
 use Rattle.std.proofs.lemmas.Grind.{common_steps}
 use Rattle.std.proofs.lemmas.Bool.Decides.{nat_tests}
 use Rattle.std.proofs.Math.Seq.{take-set-lt}

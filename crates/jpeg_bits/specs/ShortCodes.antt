@@ -1,8 +1,8 @@
 -- Codes and values that some bits begin with (F.2.2.3, with the look-up that it allows).
-use Rattle.std.specs.Prelude.{◌≡◌, ℕ, ℤ, pos, ◌+◌, ◌-◌, ◌*◌, ◌/◌, ◌%◌, ◌^◌, ◌<◌, ◌≤◌, List, ◌++◌, take, drop, length}
-use Rattle.std.specs.Prelude.{replicate, Bool, false, Option, Some, None, if◌then◌else◌}
-use Rattle.std.specs.Prelude.{slice_index}
-use Rattle.std.specs.Prelude.{slice_index_or, sum, fold, ◌&&◌, nat_lt, nat_le}
+use Rattle.std.specs.Prelude.{◌≡◌, ℕ, ℤ, pos, ◌+◌, ◌-◌, ◌*◌, ◌/◌, ◌%◌, ◌^◌, ◌<◌, ◌≤◌, List, ◌++◌}
+use Rattle.std.specs.Prelude.{take, drop, length, replicate, Bool, false, Option, Some, None}
+use Rattle.std.specs.Prelude.{if◌then◌else◌, slice_index, slice_index_or, sum, fold, ◌&&◌, nat_lt}
+use Rattle.std.specs.Prelude.{nat_le}
 use Rattle.std.specs.Option.{option_map}
 use Rattle.jpeg_bits.specs.Entropy.{number_of, extended}
 use Rattle.jpeg_bits.specs.Written.{low_bits}

@@ -1,7 +1,7 @@
 -- A band of a first pass of which nothing is kept but the run that follows, and the tokens that
 -- some bits begin with, which are then passed over at once.
-use Rattle.std.specs.Prelude.{◌≡◌, ℕ, zero, suc, ◌+◌, ◌-◌, ◌<◌, ◌≤◌, List, length, Bool, true, false, ℤ, pos}
-use Rattle.std.specs.Prelude.{map, Ok, slice_index_or}
+use Rattle.std.specs.Prelude.{◌≡◌, ℕ, zero, suc, ◌+◌, ◌-◌, ◌<◌, ◌≤◌, List, length, Bool, true}
+use Rattle.std.specs.Prelude.{false, ℤ, pos, map, Ok, slice_index_or}
 use Rattle.jpeg_bits.specs.Entropy.{Text, advance, has_bits}
 use Rattle.jpeg_bits.specs.Readers.{Reads, ◌>>=◌, gives, refused}
 use Rattle.jpeg_bits.specs.Codes.{Table}

@@ -1,24 +1,8 @@
 -- The bits that a writer emits for a number and for a symbol (T.81, C.2 and F.1.2), and the bytes
 -- that it makes of bits (B.1.1.5).
-use Rattle.std.specs.Prelude.{
-  ◌≡◌,
-  ℕ,
-  zero,
-  suc,
-  ◌+◌,
-  ◌-◌,
-  ◌/◌,
-  ◌%◌,
-  ◌^◌,
-  ◌<◌,
-  ◌≤◌,
-  ◌==◌,
-  Bool,
-  true,
-  false,
-}
-use Rattle.std.specs.Prelude.{List, [], ◌∷◌, ◌++◌, replicate, length, slice_index}
-use Rattle.std.specs.Prelude.{ℤ, pos, negsuc, unsigned_abs, Some}
+use Rattle.std.specs.Prelude.{◌≡◌, ℕ, zero, suc, ◌+◌, ◌-◌, ◌/◌, ◌%◌, ◌^◌, ◌<◌, ◌≤◌, ◌==◌, Bool}
+use Rattle.std.specs.Prelude.{true, false, List, [], ◌∷◌, ◌++◌, replicate, length, slice_index, ℤ}
+use Rattle.std.specs.Prelude.{pos, negsuc, unsigned_abs, Some}
 use Rattle.jpeg_bits.specs.Codes.{Table, code_lengths, code_value}
 use Rattle.jpeg_bits.specs.Entropy.{bits_of}
 use Rattle.jpeg_bits.specs.Marker.{marker_of}

@@ -7,10 +7,9 @@ ghost use Rattle.std.specs.Prelude.{◌≡◌, ◌≤◌, ◌<◌, set, is_some,
 ghost use Rattle.jpeg_bits.specs.Refusals.{outcome_of};
 ghost use Rattle.jpeg_bits.specs.Entropy.{Takes};
 ghost use Rattle.jpeg_bits.specs.declared.huffman.codes.HuffmanTableClass.TheVariants.{AC};
-ghost use Rattle.jpeg_bits.specs.Passes.{dc_part, band_part, block_from, or_bit};
+ghost use Rattle.jpeg_bits.specs.Passes.{dc_part, band_part, block_from, or_bit, band_size};
 ghost use Rattle.jpeg_bits.specs.BlockView.{to_block, dc_in, pass_in, predictor_at, IsPass};
 ghost use Rattle.jpeg_bits.specs.ZigzagParts.{band_in, KeepsOthers};
-ghost use Rattle.jpeg_bits.specs.Passes.{band_size};
 ghost use Rattle.jpeg_bits.specs.Skips.{kept, kept_from, run_part};
 
 pub mod bands;

@@ -12,7 +12,7 @@ use std::io::ErrorKind;
 /// A feature of JPEG that is refused by name. A number is what the stream requires.
 #[derive(Clone, Debug, PartialEq, Eq, Hash, Drop)]
 pub enum UnsupportedFeature {
-    /// Hierarchical coding (T.81, Annex J), also a second frame or a differential one.
+    /// Hierarchical coding (T.81, Annex J), or a second frame or a differential one.
     Hierarchical,
     /// Arithmetic coding (T.81, Annex D).
     ArithmeticEntropyCoding,
@@ -33,7 +33,7 @@ pub enum UnsupportedFeature {
 /// Why a stream can't be decoded.
 #[derive(Debug, Drop, thiserror::Error)]
 pub enum Error {
-    /// The stream breaks a rule, which the text says.
+    /// The stream breaks a rule, which the text names.
     #[error("invalid JPEG format: {0}")]
     Format(String),
     /// The stream needs a feature that is not supported.

@@ -78,7 +78,7 @@ impl HuffmanDecoder {
     }
 
     /// Reads the next `count` bits, from 1 to 16, as a number, the highest bit first. After a
-    /// marker they are zeros. The error is `Format` if FF 00 stands in place of a marker before
+    /// marker they are zeros. The error is `Format` if FF 00 occurs in place of a marker before
     /// them, and `Io` if the bytes end before them or a read fails.
     #[inline(always)]
     pub fn get_bits<R: Read + Drop>(&mut self, source: &mut Source<R>, count: u8) -> Result<u16>
@@ -151,10 +151,10 @@ impl HuffmanDecoder {
         }
     }
 
-    /// Reads the marker after the bits taken, if at most 56 bits stand before it: no bit is
-    /// buffered any more, and the source continues after the marker. Otherwise returns none, and
-    /// the source continues after the byte of the 57th bit. The error is `Format` if FF 00 stands
-    /// in place of the marker, and `Io` if the bytes end first or a read fails.
+    /// Reads the marker after the bits taken, if at most 56 bits precede it: no bits are buffered
+    /// then, and the source continues after the marker. Otherwise returns none, and the source
+    /// continues after the byte of the 57th bit. The error is `Format` if FF 00 occurs in place of
+    /// the marker, and `Io` if the bytes end first or a read fails.
     pub fn take_marker<R: Read + Drop>(&mut self, source: &mut Source<R>) -> Result<Option<Marker>>
         ensures answers { Answers (λ m. m) (λ bytes. marker_from (upcoming self.old bytes))
             source.old result source.new }

@@ -3,7 +3,7 @@
 ghost use Rattle.std.specs.Prelude.{◌≡◌, ℕ, ◌<◌, ◌≤◌, ◌^◌, List, Bool, true, drop, length};
 ghost use Rattle.std.specs.Prelude.{slice_index, Some, Ok, Err};
 ghost use Rattle.jpeg_bits.specs.Entropy.{bits_from, text_at, upcoming, fresh, advance};
-ghost use Rattle.jpeg_bits.specs.Entropy.{marker_from};
+ghost use Rattle.jpeg_bits.specs.Entropy.{marker_from, Text};
 ghost use Rattle.jpeg_bits.specs.Codes.{Table, IsTable, HasCodes, codes_exist, code_lengths};
 ghost use Rattle.jpeg_bits.specs.Codes.{code_in, begins, symbol_from};
 ghost use Rattle.jpeg_bits.specs.Written.{low_bits, code_bits};
@@ -13,18 +13,17 @@ ghost use Rattle.jpeg_bits.specs.Reading.{Fault, End};
 ghost use Rattle.jpeg_bits.specs.Marker.{next_marker};
 ghost use Rattle.jpeg_bits.specs.NextMarker.{IsNextMarker, HasNoMarker};
 ghost use Rattle.jpeg_bits.specs.declared.marker.Marker.{Marker};
-ghost use Rattle.jpeg_bits.specs.Entropy.{Text};
 ghost use Rattle.jpeg_bits.specs.declared.huffman.codes.HuffmanTableClass.TheVariants.{AC};
 ghost use Rattle.jpeg_bits.specs.Bands.{token_from};
 ghost use Rattle.jpeg_bits.specs.Lookups.{looked_up};
 
-/// A number is read of its bits, and nothing else.
+/// A number is read from its bits, and from nothing else.
 #[tactic(auto, using(crate::proofs::Rules::laws))]
 pub fn numbers_are_read()
     ensures { (n v : ℕ) → v < 2 ^ n → ReadsJust (bits_from n) (low_bits n v) v }
 {}
 
-/// Each symbol of a table that exists is read of the bits of its code, and nothing else.
+/// Each symbol of a table that exists is read from the bits of its code, and from nothing else.
 #[tactic(auto, using(crate::proofs::Rules::codes))]
 pub fn codes_are_read()
     ensures { (table : Table) (i : ℕ) → IsTable table → i < length (code_lengths table.counts) →

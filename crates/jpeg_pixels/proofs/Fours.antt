@@ -1,12 +1,11 @@
 -- The transforms to four numbers a side and fewer, and blocks of one coefficient.
-use Rattle.std.proofs.Common.{◌≡◌, ℕ, ◌<◌, List, ℤ, pos, neg_ℤ, ◌+ℤ◌, ◌-ℤ◌, ◌*ℤ◌, ap, ◌∙◌}
-use Rattle.std.proofs.Common.{arith, rules, ◌≢◌, zero, suc, ◌+◌, ◌*◌, ◌≤◌, length, set, get_or, slice_index}
+use Rattle.std.proofs.Common.{◌≡◌, ℕ, ◌<◌, List, ℤ, pos, neg_ℤ, ◌+ℤ◌, ◌-ℤ◌, ◌*ℤ◌, ap, ◌∙◌, arith, rules, ◌≢◌, zero, suc}
+use Rattle.std.proofs.Common.{◌+◌, ◌*◌, ◌≤◌, length, set, get_or, slice_index, slice_index_or, [], ◌∷◌}
 use Rattle.std.proofs.Common.{get_or-set_other, length-set, negsuc, unsigned_abs, refl, sym, FitsSigned, lit<, true}
 use Rattle.std.proofs.lemmas.Int.{int_wrap-add_left, ints, int_wrap_fits}
 use Rattle.std.specs.Int.{w32, int_wrap, int_shr}
-use Rattle.jpeg_pixels.specs.Scaled.{even_part, odd_part, column_by, scaled_sample, signed, column_of_4}
-use Rattle.jpeg_pixels.specs.Scaled.{sample_of_4, sample_of_2, sample_of_1}
-use Rattle.jpeg_pixels.specs.SmallBlocks.{four}
+use Rattle.jpeg_pixels.specs.Scaled.{even_part, odd_part, column_by, scaled_sample, signed}
+use Rattle.jpeg_pixels.specs.Scaled.{column_of_4, sample_of_4, sample_of_2, sample_of_1}
 use Rattle.jpeg_pixels.specs.HalfRows.{row_sum}
 use Rattle.std.proofs.lemmas.Bool.Decides.{nat_tests}
 use Rattle.std.proofs.lemmas.Grind.{get_or-set_at}
@@ -16,6 +15,10 @@ use Rattle.std.proofs.lemmas.Bool.{cases_lt}
 use Rattle.std.proofs.Math.Logic.{⊎_elim}
 use Rattle.jpeg_bits.proofs.Ranges.{all_pass}
 use Rattle.jpeg_pixels.proofs.Sums.{flat_value, transformed_one}
+
+-- four numbers by their indices
+abbrev four : ℤ → ℤ → ℤ → ℤ → ℕ → ℤ
+four s0 s1 s2 s3 index = slice_index_or (s0 ∷ s1 ∷ s2 ∷ s3 ∷ []) index (pos 0)
 
 -- by the first four numbers of a column
 pub column_by_same : (s : ℕ → ℤ) (s0 s1 s2 s3 : ℤ) (row : ℕ) → s0 ≡ s 0 → s1 ≡ s 1 → s2 ≡ s 2 → s3 ≡ s 3

@@ -1,6 +1,6 @@
 -- Rows that an iterator gives.
-use Rattle.std.proofs.Common.{◌≡◌, ℕ, ◌<◌, ℤ, List, [], ◌∷◌, ◌++◌, get_or, Option, Some, None, refl, sym, subst, ap}
-use Rattle.std.proofs.Common.{rules}
+use Rattle.std.proofs.Common.{◌≡◌, ℕ, ◌<◌, ℤ, List, [], ◌∷◌, ◌++◌, get_or, Option, Some, None, refl}
+use Rattle.std.proofs.Common.{sym, subst, ap, rules}
 use Rattle.std.specs.declared.vec.Vec.{Vec}
 use Rattle.std.specs.declared.alloc.Global.{Global}
 use Rattle.std.specs.Iterator.{Yields, HoldsAlong}

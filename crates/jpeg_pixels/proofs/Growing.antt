@@ -1,8 +1,7 @@
 -- A plane that is being made, with one more row.
 use Rattle.std.proofs.lemmas.Grind.{common_steps}
 use Rattle.std.proofs.Common.{◌≡◌, ℕ, zero, suc, ◌+◌, ◌-◌, ◌*◌, ◌/◌, ◌<◌, ◌≤◌, ℤ, List, length, get_or, take, drop}
-use Rattle.std.proofs.Common.{replicate, slice_index_or, ap, ◌∙◌, arith, length-take, length-drop, length-append}
-use Rattle.std.proofs.Common.{rules}
+use Rattle.std.proofs.Common.{replicate, slice_index_or, ap, ◌∙◌, arith, length-take, length-drop, length-append, rules}
 use Rattle.std.proofs.Math.Seq.{drop-append-add, drop-append_seam}
 use Rattle.std.proofs.Math.Nat.{mul-le-mul_right}
 use Rattle.std.proofs.lemmas.List.{drop-replicate, with_items_is, drop-drop}

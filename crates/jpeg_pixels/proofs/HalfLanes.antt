@@ -1,18 +1,15 @@
 -- Lanes in two halves, and the two passes of the transform to 4x4 samples.
 use Rattle.std.proofs.Common.{◌≡◌, ℕ, ◌+◌, ◌%◌, ◌<◌, List, [], ◌∷◌, ℤ, pos, neg_ℤ, ◌+ℤ◌, ◌-ℤ◌, ◌*ℤ◌}
-use Rattle.std.proofs.Common.{arith, ap, ◌∙◌, refl, get_or, ◌++◌}
-use Rattle.std.proofs.Common.{cond, replicate, to_z, map, negsuc, sym, subst, min, unsigned_abs, lit<, of_z, FitsSigned}
-use Rattle.std.proofs.lemmas.Int.{to_z-of_z}
-use Rattle.std.specs.Int.{w8}
+use Rattle.std.proofs.Common.{arith, ap, ◌∙◌, refl, get_or, ◌++◌, cond, replicate, to_z, map}
+use Rattle.std.proofs.Common.{negsuc, sym, subst, min, unsigned_abs, of_z, FitsSigned}
+use Rattle.std.proofs.lemmas.Int.{to_z-of_z, ints, int_wrap-add_left, int_wrap-add_right, int_wrap-sub_right}
+use Rattle.std.specs.Int.{w8, w32, int_wrap, int_shr}
 use mir.Val.{Fits}
 use lib.Dec.{T}
 use lib.Signed.{non_neg}
-use Rattle.jpeg_pixels.proofs.ShortLanes.{choice}
+use Rattle.jpeg_pixels.proofs.ShortLanes.{choice, clamped_small, IsSigned, signed_chosen, signed_splat}
 use Rattle.std.specs.Int.Signed.{lt_z}
 use lib.Lanes.{sel_l, top, zip2}
-use Rattle.jpeg_pixels.proofs.ShortLanes.{IsSigned, signed_chosen, signed_splat}
-use Rattle.std.proofs.lemmas.Int.{ints, int_wrap-add_left, int_wrap-add_right, int_wrap-sub_right}
-use Rattle.std.specs.Int.{w32, int_wrap, int_shr}
 use Rattle.jpeg_pixels.specs.Lanes.{lanes, lane}
 use Rattle.jpeg_pixels.specs.Blocks.{WritesBlock}
 use Rattle.jpeg_pixels.specs.Samples.{clamped}
@@ -302,10 +299,6 @@ byte_pos n =
 pub byte_is : (z : ℤ) → byte_kept z ≡ pos (clamped z)
 byte_is (pos n) = byte_pos n
 byte_is (negsuc n) = refl
-
-clamped_small : (z : ℤ) → clamped z < 256
-clamped_small (pos n) = omega arith
-clamped_small (negsuc n) = lit< tt
 
 pub byte_fits : (z : ℤ) → FitsSigned w32 (byte_kept z)
     → T (non_neg (to_z w32 (of_z w32 (byte_kept z)))) × Fits w8 (unsigned_abs (to_z w32 (of_z w32 (byte_kept z))))

@@ -3,13 +3,12 @@ use Rattle.std.proofs.lemmas.Grind.{common_steps, elements}
 use Rattle.std.proofs.Common.{◌≡◌, ℕ, ◌+◌, ◌-◌, ◌*◌, ◌/◌, ◌%◌, ◌<◌, ◌≤◌, List, [], ◌∷◌, ◌++◌, length, map, min, take}
 use Rattle.std.proofs.Common.{drop, get_or, ap, ◌∙◌, sym, refl, Ok, arith, rules, length-drop, length-take, zero, suc}
 use Rattle.std.proofs.Common.{slice_index, length-append}
-use Rattle.std.proofs.Math.Nat.{add-mul, lt_of_mul-lt-mul_left, mod-lt, mul_assoc, mul-div_cancel_left, mul-le-mul}
-use Rattle.std.proofs.Math.Nat.{mul-le-mul_left, mul-le-mul_right}
+use Rattle.std.proofs.Math.Nat.{add-mul, lt_of_mul-lt-mul_left, mod-lt, mul_assoc}
+use Rattle.std.proofs.Math.Nat.{mul-div_cancel_left, mul-le-mul, mul-le-mul_left, mul-le-mul_right}
 use Rattle.std.proofs.lemmas.Bool.{eq-eqb}
 use Rattle.std.proofs.lemmas.List.{drop-drop, get_or-drop, length-take-le, places, append-nil, get_or-take}
 use Rattle.std.proofs.lemmas.List.Folds.{concat-append}
-use Rattle.std.proofs.lemmas.List.FromFn.{get_or-map-range_with_len, length-map-range_with_len}
-use Rattle.std.proofs.lemmas.List.FromFn.{map-range_with_len_more}
+use Rattle.std.proofs.lemmas.List.FromFn.{get_or-map-range_with_len, length-map-range_with_len, map-range_with_len_more}
 use Rattle.std.proofs.lemmas.Nat.{div-add-mod', div_below, div-mul-add, mod-mul-add, mul-add-lt, row_fits}
 use Rattle.std.proofs.lemmas.Slice.{take-put_mid, drop-put_mid}
 use Rattle.std.specs.List.{AllByRecursion, concat, range_with_len}
@@ -20,8 +19,8 @@ use Rattle.jpeg_segments.specs.Frame.{AllHaveSampling, Component, Factors, great
 use Rattle.jpeg_pixels.specs.Colour.{conversion_of, line_bytes}
 use Rattle.jpeg_pixels.specs.JointPlanes.{AreAlike, IsShapeOf, converted, gathered, joint_bytes, joint_plane}
 use Rattle.jpeg_pixels.specs.JointPlanes.{joint_planes, joint_row_size, strip_lines, strip_size, strips_at, HaveWidth}
-use Rattle.jpeg_pixels.specs.Pictures.{Source, image_of, line_of, lines_of, converted_picture, picture_line}
-use Rattle.jpeg_pixels.specs.Pictures.{source_of, sources_of}
+use Rattle.jpeg_pixels.specs.Pictures.{Source, image_of, line_of, lines_of, converted_picture}
+use Rattle.jpeg_pixels.specs.Pictures.{picture_line, source_of, sources_of}
 use Rattle.jpeg_pixels.specs.Upsampling.{rule_of, upsampled}
 use Rattle.jpeg_pixels.specs.declared.upsample_rows.UpsampleRule.TheVariants.{H1V1}
 use Rattle.jpeg_pixels.specs.declared.joint_planes.JointShape.{JointShape}

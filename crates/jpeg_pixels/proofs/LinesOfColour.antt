@@ -1,7 +1,7 @@
 -- Lines of colours, by their indices, colours by products of 16 bits, and greys.
-use Rattle.std.proofs.Common.{◌≡◌, ℕ, ◌+◌, ◌-◌, ◌*◌, ◌<◌, List, [], length, get_or, map, take, sym, ap, ◌∙◌, refl}
-use Rattle.std.proofs.Common.{arith, ◌^◌, ◌/◌, ℤ, pos, negsuc, ◌+ℤ◌, ◌-ℤ◌, ◌*ℤ◌, Bool, true, ◌==◌, unsigned_abs, rules}
-use Rattle.std.proofs.Common.{◌∷◌}
+use Rattle.std.proofs.Common.{◌≡◌, ℕ, ◌+◌, ◌-◌, ◌*◌, ◌<◌, List, [], length, get_or, map, take, sym}
+use Rattle.std.proofs.Common.{ap, ◌∙◌, refl, arith, ◌^◌, ◌/◌, ℤ, pos, negsuc, ◌+ℤ◌, ◌-ℤ◌, ◌*ℤ◌}
+use Rattle.std.proofs.Common.{Bool, true, ◌==◌, unsigned_abs, rules, ◌∷◌}
 use Rattle.std.proofs.lemmas.List.{ext_get_or, length-map, get_or-map}
 use Rattle.std.proofs.Math.Seq.{take-length}
 use Rattle.std.specs.List.{concat, list_all, range_with_len}

@@ -1,6 +1,6 @@
 -- Division bit by bit.
-use Rattle.std.proofs.Common.{◌≡◌, ◌∙◌, ℕ, zero, suc, ◌+◌, ◌-◌, ◌*◌, ◌/◌, ◌%◌, ◌^◌, ◌<◌, ◌≤◌, ap, arith, pow-suc}
-use Rattle.std.proofs.Common.{mul_assoc}
+use Rattle.std.proofs.Common.{◌≡◌, ◌∙◌, ℕ, zero, suc, ◌+◌, ◌-◌, ◌*◌, ◌/◌, ◌%◌, ◌^◌, ◌<◌, ◌≤◌, ap}
+use Rattle.std.proofs.Common.{arith, pow-suc, mul_assoc}
 use Rattle.std.proofs.Math.Nat.{add-mul, div-le_self, le-mul_of_pos_right}
 use Rattle.std.proofs.lemmas.Nat.{div-add-mod', div-mul-add, pow_pos}
 

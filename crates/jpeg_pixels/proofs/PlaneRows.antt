@@ -9,8 +9,8 @@ use Rattle.std.specs.List.{range_with_len, CopiedTo, SameBelow, SameFrom}
 use Rattle.jpeg_pixels.specs.Scaled.{sample_at}
 use Rattle.jpeg_pixels.specs.Planes.{plane_of, plane_sample, strip_of, zero_coefficients, cropped}
 use Rattle.jpeg_pixels.proofs.Sums.{range-split}
-use Rattle.std.proofs.lemmas.List.{get_or_default, ext_get_or, get_or-take, get_or-drop, get_or-append-add}
-use Rattle.std.proofs.lemmas.List.{get_or_append_left, append-nil}
+use Rattle.std.proofs.lemmas.List.{get_or_default, ext_get_or, get_or-take, get_or-drop}
+use Rattle.std.proofs.lemmas.List.{get_or-append-add, get_or_append_left, append-nil}
 use Rattle.std.proofs.lemmas.Bool.{cases_lt}
 use Rattle.std.proofs.Math.Logic.{⊎_elim}
 use borrow.Rule.Slice.PartMut.{put_mid, mid_of}

@@ -1,10 +1,10 @@
 -- How many outputs a sample stands for by the rule of its component, and that samples reach the last output.
 use Rattle.std.proofs.lemmas.Bool.Decides.{nat_tests}
-use Rattle.std.proofs.Common.{◌≡◌, ◌≤◌, ◌<◌, ℕ, zero, suc, ◌+◌, ◌-◌, ◌*◌, ◌/◌, true, Some, rules, ◌⊎◌, inl, inr, ap}
-use Rattle.std.proofs.Common.{sym, subst, arith}
+use Rattle.std.proofs.Common.{◌≡◌, ◌≤◌, ◌<◌, ℕ, zero, suc, ◌+◌, ◌-◌, ◌*◌, ◌/◌, true, Some, rules}
+use Rattle.std.proofs.Common.{◌⊎◌, inl, inr, ap, sym, subst, arith}
 use Rattle.std.specs.Prelude.{◌==◌, ◌||◌}
-use Rattle.std.proofs.Math.Nat.{add-mul, div-add-mod, mul_assoc, mul_comm, le_of_mul-le-mul_left, mul-le-mul}
-use Rattle.std.proofs.Math.Nat.{mul-le-mul_right}
+use Rattle.std.proofs.Math.Nat.{add-mul, div-add-mod, mul_assoc, mul_comm, le_of_mul-le-mul_left}
+use Rattle.std.proofs.Math.Nat.{mul-le-mul, mul-le-mul_right}
 use Rattle.std.proofs.lemmas.Bool.{eqb-true}
 use Rattle.jpeg_segments.specs.Frame.{ceiling}
 use Rattle.jpeg_segments.proofs.Ceilings.{ceiling-eights, ceiling-low, ceiling-le}

@@ -14,8 +14,8 @@ use Rattle.jpeg_pixels.proofs.Fours.{few}
 use Rattle.jpeg_pixels.proofs.JoinedLines.{no-lines}
 use Rattle.jpeg_pixels.proofs.JointPictures.{all-written, strips-inside, part-fits}
 use Rattle.jpeg_pixels.proofs.LaneSums.{kept_halves, kept_words, residue_bits, wrapping}
-use Rattle.jpeg_pixels.proofs.WholePictures.{conversion-fits, image-no_conversion, image-no_sources, picture-more}
-use Rattle.jpeg_pixels.proofs.WholePictures.{picture-none, sources-count}
+use Rattle.jpeg_pixels.proofs.WholePictures.{conversion-fits, image-no_conversion, image-no_sources}
+use Rattle.jpeg_pixels.proofs.WholePictures.{picture-more, picture-none, sources-count}
 use Rattle.jpeg_segments.proofs.Gathered.{gathers-all, gathers-none}
 use borrow.Rule.Slice.PartMut.{put_mid}
 

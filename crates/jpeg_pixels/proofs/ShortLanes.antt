@@ -1,13 +1,13 @@
 -- Lanes of signed numbers, as they are computed, chosen and read, rows of them, and the passes in 16 bits.
-use Rattle.std.proofs.Common.{◌≡◌, ℕ, ◌+◌, ◌-◌, ◌*◌, ◌%◌, ◌/◌, ◌^◌, ◌<◌, ◌≤◌, List, map, length, get_or, ℤ, pos}
-use Rattle.std.proofs.Common.{negsuc, ◌+ℤ◌, ◌-ℤ◌, ◌*ℤ◌, ◌≤ℤ◌, ◌<ℤ◌, refl, ◌∙◌, replicate, FitsSigned, of_z, to_z}
-use Rattle.std.proofs.Common.{arith, Bool, true, false, not, cond, unsigned_abs, nat_eq, min, max, subst, rules, sym}
-use Rattle.std.proofs.Common.{ap, lit<, lit≤, zero, suc, eqb, [], ◌∷◌, ◌++◌}
+use Rattle.std.proofs.Common.{◌≡◌, ℕ, ◌+◌, ◌-◌, ◌*◌, ◌%◌, ◌/◌, ◌^◌, ◌<◌, ◌≤◌, List, map, length, get_or, ℤ, pos, negsuc}
+use Rattle.std.proofs.Common.{◌+ℤ◌, ◌-ℤ◌, ◌*ℤ◌, ◌≤ℤ◌, ◌<ℤ◌, refl, ◌∙◌, replicate, FitsSigned, of_z, to_z, arith, Bool}
+use Rattle.std.proofs.Common.{true, false, not, cond, unsigned_abs, nat_eq, min, max, subst, rules, sym, ap, lit<, lit≤}
+use Rattle.std.proofs.Common.{zero, suc, eqb, [], ◌∷◌, ◌++◌, w8}
 use Rattle.std.proofs.lemmas.Simd.{zip2_of_maps, splat_is_map, map-map, tops_compared, mask_l-lt}
 use Rattle.std.proofs.lemmas.List.FromFn.{fill_by_all, length-range_with_len, get_or-map-range_with_len}
 use Rattle.std.proofs.lemmas.Int.{ints, to_z-of_z, int_wrap_fits, wrapping_add_is, by_lt_z, wrapping_sub_is, of_z-to_z}
 use Rattle.std.proofs.lemmas.Int.{wrapping_mul_is, SFits-int_wrap, unsigned_abs-mul, fits_signed_from_abs}
-use Rattle.std.proofs.Math.Nat.{div-le_self, mul-le-mul_left}
+use Rattle.std.proofs.Math.Nat.{div-le_self, mul-le-mul_left, mod-eq_of_lt, pow-suc}
 use Rattle.std.specs.Int.{Width, w16, w32, int_shr, int_wrap}
 use Rattle.std.specs.Int.Signed.{lt_z, le_z}
 use Rattle.std.specs.List.{range_with_len}
@@ -16,7 +16,6 @@ use lib.Signed.{non_neg}
 use Rattle.std.proofs.lemmas.Bool.{eqb-true}
 use lib.Lanes.{zip2, sel_l, top, chunk, Each1, mask_l, pick_l}
 use mir.Val.{Val, Fits, bits, hbits}
-use Rattle.std.proofs.Common.{w8}
 use denote.Array.{each}
 use denote.Shadow.{shadow}
 use denote.Signed.{SInt}
@@ -24,12 +23,11 @@ use borrow.Rule.Slice.PartMut.{mid_of}
 use Rattle.jpeg_pixels.specs.Lanes.{lanes, lane, lane_is_zero}
 use Rattle.jpeg_pixels.specs.ShortRows.{IsLimit, HasShortProducts, line_value, paired, sixteen, halves}
 use Rattle.std.proofs.lemmas.Nat.{and_mask}
-use Rattle.std.proofs.Math.Nat.{mod-eq_of_lt, pow-suc}
 use Rattle.std.specs.Int.Bits.{bit_and, bit_xor, xor_add_and, xor_zero_r}
-use Rattle.jpeg_pixels.proofs.LaneSums.{read_residue, residue, residue_add, residue_bits, residue_mul}
+use Rattle.jpeg_pixels.proofs.LaneSums.{read_residue, residue, residue_add, residue_bits, residue_mul, AreLanes, loaded}
+use Rattle.jpeg_pixels.proofs.LaneSums.{kept_halves, kept_words, lane-lanes, own_lanes, lanes_same, shifted_fits}
+use Rattle.jpeg_pixels.proofs.LaneSums.{shifted_back}
 use Rattle.jpeg_pixels.proofs.Corners.{sel_of_maps, bits_zero}
-use Rattle.jpeg_pixels.proofs.LaneSums.{AreLanes, loaded, kept_halves, kept_words, lane-lanes, own_lanes, lanes_same}
-use Rattle.jpeg_pixels.proofs.LaneSums.{shifted_fits, shifted_back}
 use Rattle.std.proofs.lemmas.Grind.{common_steps}
 use Rattle.std.proofs.lemmas.Bool.Decides.{nat_tests}
 use Rattle.jpeg_pixels.specs.Samples.{transformed, basis, sum_below, dequantized, column_value, is_flat_column, clamped}
@@ -374,7 +372,7 @@ signed_bytes {n} {v} f s =
     ∙ (λ i. map (λ j. unsigned_abs (to_z-of_z w16 (kept (pos 0) (pos 255) (f j)) (s.fits j) i)) (range_with_len 0 n))
     ∙ (λ i. map (λ j. unsigned_abs (kept_byte (f j) i)) (range_with_len 0 n))
 
-clamped_small : (z : ℤ) → clamped z < 256
+pub clamped_small : (z : ℤ) → clamped z < 256
 clamped_small (pos n) = omega arith
 clamped_small (negsuc n) = lit< tt
 

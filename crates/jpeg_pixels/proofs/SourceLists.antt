@@ -1,6 +1,6 @@
 -- The components of a frame, one after the other.
-use Rattle.std.proofs.Common.{◌≡◌, ℕ, zero, suc, ◌*◌, ◌<◌, List, [], ◌∷◌, length, get_or, max, refl, arith, Option}
-use Rattle.std.proofs.Common.{Some, None, Ok}
+use Rattle.std.proofs.Common.{◌≡◌, ℕ, zero, suc, ◌*◌, ◌<◌, List, [], ◌∷◌, length, get_or, max, refl}
+use Rattle.std.proofs.Common.{arith, Option, Some, None, Ok}
 use Rattle.std.specs.Prelude.{ok_or}
 use Rattle.jpeg_bits.specs.Reading.{Lacks, ◌>>=◌}
 use Rattle.jpeg_bits.specs.declared.error.UnsupportedFeature.TheVariants.{NonIntegerSubsamplingRatio}

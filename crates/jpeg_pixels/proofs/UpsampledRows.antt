@@ -1,7 +1,7 @@
 -- Rows of samples made wider, index by index, and samples at the ends of a component.
-use Rattle.std.proofs.Common.{◌≡◌, ℕ, ◌+◌, ◌-◌, ◌*◌, ◌/◌, ◌%◌, ◌<◌, ◌≤◌, List, length, get_or, set, get_or-set_other}
-use Rattle.std.proofs.Common.{get_or-set_same, length-set, ◌≢◌, arith, ap, subst, cond, min, take, drop, ◌++◌}
-use Rattle.std.proofs.Common.{length-take, rules, ◌∙◌}
+use Rattle.std.proofs.Common.{◌≡◌, ℕ, ◌+◌, ◌-◌, ◌*◌, ◌/◌, ◌%◌, ◌<◌, ◌≤◌, List, length, get_or, set}
+use Rattle.std.proofs.Common.{get_or-set_other, get_or-set_same, length-set, ◌≢◌, arith, ap, subst}
+use Rattle.std.proofs.Common.{cond, min, take, drop, ◌++◌, length-take, rules, ◌∙◌}
 use Rattle.std.specs.Prelude.{◌==◌}
 use Rattle.std.specs.Int.{div_ceil}
 use Rattle.std.proofs.lemmas.Bool.{cases_eq}

@@ -1,11 +1,7 @@
 -- A picture is its lines from above.
-use Rattle.std.proofs.lemmas.Grind.{common_steps}
-use Rattle.std.proofs.Common.{◌≡◌, ℕ, ◌+◌, ◌==◌, List, [], ◌∷◌, ◌++◌, length, map, ap, ◌∙◌, refl, arith, take}
-use Rattle.std.proofs.Common.{length-drop, ◌-◌, Vec, Global, MatchResult, Result, Ok, Err, if◌then◌else◌, rules}
-use Rattle.std.proofs.lemmas.List.{append-nil, take-append-drop}
-use Rattle.std.proofs.Math.ListN.{drop_of_length-le}
-use Rattle.std.proofs.Math.Seq.{take-append_seam}
-use borrow.Rule.Slice.PartMut.{put_mid}
+use Rattle.std.proofs.Common.{◌≡◌, ℕ, ◌+◌, ◌==◌, List, [], ◌∷◌, ◌++◌, length, map, ap, ◌∙◌, refl, arith, Vec, Global}
+use Rattle.std.proofs.Common.{MatchResult, Result, Ok, Err, if◌then◌else◌, rules}
+use Rattle.std.proofs.lemmas.List.{append-nil}
 use Rattle.std.proofs.lemmas.List.Folds.{concat-append}
 use Rattle.std.proofs.lemmas.List.FromFn.{map-range_with_len_more}
 use Rattle.std.proofs.lemmas.Bool.Decides.{eqb_tells, nat_tests}
@@ -23,13 +19,6 @@ use Rattle.jpeg_segments.proofs.Gathered.{gathered-length}
 
 abbrev as_convert : ColorConvert → Result ColorConvert Fault
 as_convert k = Ok k
-
--- what was grown, and then written after its old end
-pub grown : (start size : ℕ) (old whole new tail : List ℕ) → start ≡ length old
-    → whole ≡ take (start + size) old ++ tail → length whole ≡ start + size
-    → put_mid start (length whole - start) whole new ≡ old ++ new
-grown start size old whole new tail begins is long =
-    grind (arith, common_steps, append-nil, drop_of_length-le, length-drop, take-append-drop, take-append_seam)
 
 -- one more line
 pub picture-more : (convert : ColorConvert) (sources : List Source) (planes : List (List ℕ)) (width height : ℕ)

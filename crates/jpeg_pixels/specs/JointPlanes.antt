@@ -1,6 +1,6 @@
 -- Planes of like components in one buffer: for each row of MCUs one strip per component.
-use Rattle.std.specs.Prelude.{◌≡◌, ℕ, ◌+◌, ◌*◌, ◌/◌, ◌%◌, ◌<◌, ◌≤◌, List, [], map, length, take, drop}
-use Rattle.std.specs.Prelude.{get_or, slice_index}
+use Rattle.std.specs.Prelude.{◌≡◌, ℕ, ◌+◌, ◌*◌, ◌/◌, ◌%◌, ◌<◌, ◌≤◌, List, [], map, length, take}
+use Rattle.std.specs.Prelude.{drop, get_or, slice_index}
 use Rattle.std.specs.List.{AllByRecursion, concat, range_with_len}
 use Rattle.jpeg_segments.specs.Frame.{Component}
 use Rattle.jpeg_segments.specs.declared.frame.Component as declared

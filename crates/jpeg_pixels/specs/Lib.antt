@@ -7,7 +7,6 @@ pub mod Colour
 pub mod Pictures
 -- the code's own words: the clauses of `Decoder`, `run` and `report` reach none of these
 pub mod Blocks
-pub mod SmallBlocks
 pub mod Lanes
 pub mod LaneRows
 pub mod PicturesView

@@ -6,8 +6,8 @@
 use Rattle.std.specs.Prelude.{ℕ, ◌+◌, ◌-◌, ◌*◌, ◌/◌, ◌%◌, ◌==◌, ◌&&◌, ◌||◌, min, Bool, Option, Some}
 use Rattle.std.specs.Prelude.{None, if◌then◌else◌}
 use Rattle.jpeg_pixels.specs.declared.upsample_rows.UpsampleRule.{UpsampleRule}
-use Rattle.jpeg_pixels.specs.declared.upsample_rows.UpsampleRule.TheVariants.{H1V1, H2V1, H1V2, H2V2}
-use Rattle.jpeg_pixels.specs.declared.upsample_rows.UpsampleRule.TheVariants.{Generic}
+use Rattle.jpeg_pixels.specs.declared.upsample_rows.UpsampleRule.TheVariants.{H1V1, H2V1, H1V2}
+use Rattle.jpeg_pixels.specs.declared.upsample_rows.UpsampleRule.TheVariants.{H2V2, Generic}
 
 -- the outputs across and down that a sample of the component stands for
 abbrev pub across : UpsampleRule → ℕ

@@ -12,7 +12,7 @@ use jpeg_segments::parser::Component;
 use std::alloc::Global;
 use std::marker::Model;
 
-/// A plane of which the first `written` samples have come; the others are 0.
+/// A plane whose first `written` samples have been appended; the others are 0.
 #[derive(Drop)]
 pub(crate) struct GrowingPlane {
     scale: usize,
@@ -43,7 +43,7 @@ impl GrowingPlane {
     ghost use Rattle.jpeg_pixels.specs.Scaled.{IsScale};
     ghost use Rattle.jpeg_pixels.specs.Workers.{IsRowOf, grown, plane_at, work_of};
 
-    /// Makes a plane in which no row has come. The only error is `OutOfMemory`.
+    /// Makes a plane to which no row has been appended. The only error is `OutOfMemory`.
     pub(crate) fn new(
         alloc: Global,
         component: &Component,

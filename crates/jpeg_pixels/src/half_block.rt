@@ -1,7 +1,7 @@
 //! The inverse transform of a block to 4x4 samples, in lanes.
 //!
-//! Two rows of four numbers stand in eight lanes. What the rows 0 and 1 add to what the even ones
-//! bring, the rows 3 and 2 take away from it, so two vectors hold all four.
+//! Eight lanes hold two rows of four numbers. What rows 0 and 1 add to the part of the even
+//! numbers, rows 3 and 2 subtract from it, so two vectors hold all four.
 ghost use Rattle.std.specs.Prelude.{◌≡◌, ℕ, ◌+◌, ◌*◌, ◌<◌, ◌≤◌, ◌%◌, pos, ◌+ℤ◌, ◌-ℤ◌, ◌*ℤ◌, ℤ};
 ghost use Rattle.std.specs.Prelude.{length, slice_index, List, [], ◌∷◌};
 ghost use Rattle.std.specs.Int.{w32, int_wrap, int_shr};
@@ -41,7 +41,7 @@ fn products_twice(coefficients: [i16; 64], quantization_table: &[u16; 64], row: 
     left_twice(products(coefficients, quantization_table, row * 8))
 }
 
-/// Returns two products added, and a number, in each lane.
+/// Returns the sum of two products and a number, in each lane.
 #[inline(always)]
 fn weigh(a: i32x8, p: i32x8, b: i32x8, q: i32x8, bias: i32) -> i32x8
     ensures { result ≡ lanes (λ j. int_wrap w32
@@ -50,7 +50,7 @@ fn weigh(a: i32x8, p: i32x8, b: i32x8, q: i32x8, bias: i32) -> i32x8
     a * p + b * q + i32x8::splat(bias)
 }
 
-/// Returns sum and difference in each lane.
+/// Returns the sum and the difference in each lane.
 #[inline(always)]
 fn fold(even: i32x8, odd: i32x8) -> (i32x8, i32x8)
     ensures sum { result.0 ≡ lanes (λ j. int_wrap w32 (lane even j +ℤ lane odd j)) }
@@ -82,7 +82,7 @@ fn column_values(coefficients: [i16; 64], quantization_table: &[u16; 64]) -> (i3
     fold(even, descale(odd))
 }
 
-/// Returns the lanes of two vectors in turn, of each half the first two and the last two.
+/// Returns the lanes of two vectors in turn: the first two of each half, and the last two.
 #[inline(always)]
 fn interleave_halves(a: i32x8, b: i32x8) -> (i32x8, i32x8)
     ensures first { result.0 ≡ lane a 0 ∷ lane b 0 ∷ lane a 1 ∷ lane b 1

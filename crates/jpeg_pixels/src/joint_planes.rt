@@ -107,8 +107,7 @@ pub struct JointPlanes {
 
 impl JointPlanes {
     ghost use Rattle.std.specs.Prelude.{◌≡◌, ◌*◌, ◌<◌, [], IfOk, length, map};
-    ghost use Rattle.jpeg_pixels.specs.JointPlanes.{HasFrameSizes, joint_plane, joint_planes};
-    ghost use Rattle.jpeg_pixels.specs.JointPlanes.{joint_row_size};
+    ghost use Rattle.jpeg_pixels.specs.JointPlanes.{HasFrameSizes, joint_plane, joint_row_size};
 
     /// Makes planes without samples, and reserves memory for all of them. The only error is a
     /// refused allocation.

@@ -11,13 +11,15 @@ ghost use Rattle.jpeg_pixels.specs.Samples.{is_flat_column, sample, transformed}
 ghost use Rattle.jpeg_pixels.specs.Scaled.{sample_of_1, sample_of_2, sample_of_4};
 ghost use Rattle.jpeg_pixels.specs.Planes.{plane_of, strip_of};
 ghost use Rattle.jpeg_pixels.specs.Colour.{colour_of, line_bytes};
-ghost use Rattle.jpeg_pixels.specs.declared.color_convert.ColorConvert.TheVariants.{None, Rgb, YCbCr};
-ghost use Rattle.jpeg_pixels.specs.declared.color_convert.ColorConvert.TheVariants.{Cmyk, Ycck};
+ghost use Rattle.jpeg_pixels.specs.declared.color_convert.ColorConvert.TheVariants.{None, Rgb};
+ghost use Rattle.jpeg_pixels.specs.declared.color_convert.ColorConvert.TheVariants.{YCbCr, Cmyk};
+ghost use Rattle.jpeg_pixels.specs.declared.color_convert.ColorConvert.TheVariants.{Ycck};
 ghost use Rattle.jpeg_bits.specs.Zigzag.{zigzag, zigzag_indices};
 ghost use Rattle.jpeg_pixels.specs.Upsampling.{across, down, line_sum, upsampled};
 ghost use Rattle.jpeg_pixels.specs.declared.upsample_rows.UpsampleRule.{UpsampleRule};
-ghost use Rattle.jpeg_pixels.specs.declared.upsample_rows.UpsampleRule.TheVariants.{H1V1, H2V1, H1V2};
-ghost use Rattle.jpeg_pixels.specs.declared.upsample_rows.UpsampleRule.TheVariants.{H2V2, Generic};
+ghost use Rattle.jpeg_pixels.specs.declared.upsample_rows.UpsampleRule.TheVariants.{H1V1, H2V1};
+ghost use Rattle.jpeg_pixels.specs.declared.upsample_rows.UpsampleRule.TheVariants.{H1V2, H2V2};
+ghost use Rattle.jpeg_pixels.specs.declared.upsample_rows.UpsampleRule.TheVariants.{Generic};
 
 /// A block whose only coefficient is the first has the same sample everywhere, at each scale: its
 /// eighth and 128, rounded to the nearest, or at one sample a block rounded down.
@@ -96,7 +98,7 @@ pub fn planes_are_their_rows()
         plane_of scale table wide high f ≡ plane_of scale table wide high g }
 {}
 
-/// What is asked of planes can be had in each frame: planes of all blocks have room for the
+/// What is required of planes can be met in each frame: planes of all blocks have room for the
 /// samples, and planes with that room cover the picture.
 #[tactic(auto, using(crate::proofs::FrameCovers::frame_laws))]
 pub fn frames_are_covered()

@@ -24,12 +24,12 @@ use jpeg_segments::parser::{Component, Dimensions};
 use std::alloc::Global;
 use std::marker::Model;
 
-/// What the lines of a picture are made of.
+/// What the lines of a picture are made from.
 #[derive(Drop)]
 enum LineSource {
     /// The plane of its one component.
     Cropped(CroppedLines),
-    /// Planes that stand apart.
+    /// Separate planes.
     Upsampled(UpsampledLines),
     /// Planes of like components in one buffer.
     Joint(JointLines),
@@ -95,7 +95,7 @@ impl PictureLines {
     }
 }
 
-/// Makes the lines of the picture of three or four components, of which each has a plane: each line
+/// Makes the lines of the picture of three or four components, each of which has a plane: each line
 /// is upsampled and converted as it is written.
 ///
 /// A transform that doesn't fit is `Format` or `Unsupported(ColorTransform(..))`, a component for

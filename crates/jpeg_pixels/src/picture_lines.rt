@@ -1,6 +1,5 @@
 //! The lines of a picture: those of its components, upsampled, converted and put together.
-ghost use Rattle.std.specs.Prelude.{◌≡◌, ◌+◌, ◌*◌, ◌≤◌, map, length, IfOk};
-ghost use Rattle.std.specs.Prelude.{List, ℕ};
+ghost use Rattle.std.specs.Prelude.{◌≡◌, ◌+◌, ◌*◌, ◌≤◌, map, length, IfOk, List, ℕ};
 ghost use Rattle.std.specs.List.{concat};
 ghost use Rattle.jpeg_pixels.specs.Colour.{line_bytes};
 ghost use Rattle.jpeg_pixels.specs.JointPlanes.{HaveWidth};
@@ -112,7 +111,7 @@ pub(crate) fn write_line(
     convert_line(lines, line.width, components.len(), color_convert, output);
 }
 
-/// Returns the picture: its lines from above. The error is out of memory.
+/// Returns the picture: its lines from the top. The only error is `OutOfMemory`.
 #[tactic(auto, using(crate::proofs::Rules::above, crate::proofs::Rules::pictures))]
 pub(crate) fn lines_from_above(
     alloc: Global,

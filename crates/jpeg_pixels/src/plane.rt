@@ -64,8 +64,8 @@ impl SampleTable {
 /// samples.
 ///
 /// A block gives `scale` samples per side: 1, 2, 4 or 8. The blocks and the quantization table are
-/// in block order: row `v` and column `u` at `8 * v + u`. The only error is that there is no memory
-/// to grow the plane, which then stays as it was.
+/// in block order: row `v` and column `u` at `8 * v + u`. The only error is a refused allocation;
+/// the plane then stays as it was.
 pub fn append_row(
     plane: &mut Vec<u8>,
     scale: usize,

@@ -1,8 +1,8 @@
 //! The inverse transform of a block in lanes of 16 bits.
 //!
-//! If no dequantized coefficient is above 1095, what the columns give fits 16 bits, and both passes
-//! are exact by products of pairs. This is so in the blocks of photographs, whose samples have 8
-//! bits.
+//! If no dequantized coefficient is above 1095, the results of the columns fit 16 bits, and both
+//! passes are exact with products of pairs. This holds in the blocks of photographs, whose samples
+//! have 8 bits.
 ghost use Rattle.std.specs.Prelude.{◌≡◌, ℕ, List, ◌+◌, ◌*◌, ◌<◌, ◌≤◌, ℤ, pos, negsuc, ◌+ℤ◌, ◌-ℤ◌};
 ghost use Rattle.std.specs.Prelude.{◌*ℤ◌, ◌≤ℤ◌, length, slice_index_or, slice_index, IsTrue};
 ghost use Rattle.std.specs.Prelude.{FitsSigned, unsigned_abs, ◌/◌, max};
@@ -33,8 +33,7 @@ struct Shorts {
     r7: i16x8,
 }
 
-/// Of each of eight columns, or of eight rows, the numbers `k` and `k + 4` of its eight, side by
-/// side.
+/// The numbers `k` and `k + 4` of each of eight columns, or of eight rows, side by side.
 #[derive(Clone, Copy)]
 struct Pairs {
     p04: i16x16,
@@ -176,7 +175,8 @@ fn short_products(coefficients: [i16; 64], values: [i16; 64], at: usize) -> i16x
     i16x16::from_slice(&coefficients[at..]) * i16x16::from_slice(&values[at..])
 }
 
-/// Returns two vectors' lanes by turns: those of their first halves, and those of their second.
+/// Returns the lanes of two vectors in turn: those of their first halves, and those of their
+/// second.
 #[inline(always)]
 fn by_turns(a: i16x16, b: i16x16) -> (i16x16, i16x16)
     ensures first { (f g : ℕ → ℤ) → a ≡ sixteen f → b ≡ sixteen g → result.0 ≡ paired f g }
@@ -236,12 +236,12 @@ fn narrowed_rows(rows: Rows) -> Shorts
 /// The places of lanes `k` and `k + 4` of two vectors of eight, side by side.
 const LANE_PAIRS: [usize; 16] = [0, 4, 1, 5, 2, 6, 3, 7, 8, 12, 9, 13, 10, 14, 11, 15];
 
-/// The places of the first two pairs, and of the last two, in each half of two vectors, by turns.
+/// The places of the first two pairs, and of the last two, in each half of two vectors, in turn.
 const FIRST_PAIRS: [usize; 16] = [0, 1, 16, 17, 2, 3, 18, 19, 8, 9, 24, 25, 10, 11, 26, 27];
 
 const LAST_PAIRS: [usize; 16] = [4, 5, 20, 21, 6, 7, 22, 23, 12, 13, 28, 29, 14, 15, 30, 31];
 
-/// The places of the first four lanes, and of the last four, in each half of two vectors, by turns.
+/// The places of the first four lanes, and of the last four, in each half of two vectors, in turn.
 const FIRST_FOURS: [usize; 16] = [0, 1, 2, 3, 16, 17, 18, 19, 8, 9, 10, 11, 24, 25, 26, 27];
 
 const LAST_FOURS: [usize; 16] = [4, 5, 6, 7, 20, 21, 22, 23, 12, 13, 14, 15, 28, 29, 30, 31];

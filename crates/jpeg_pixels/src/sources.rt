@@ -2,12 +2,11 @@
 //! (T.81, A.1.1).
 ghost use Rattle.std.specs.Prelude.{◌≡◌, ◌≤◌, map, Ok, MatchResult};
 ghost use Rattle.jpeg_bits.specs.Reading.{Names};
-ghost use Rattle.jpeg_segments.specs.Frame.{most_across, most_down};
+ghost use Rattle.jpeg_segments.specs.Frame.{most_across, most_down, HasSampling, AllHaveSampling};
 ghost use Rattle.jpeg_segments.specs.FrameView.{component_in};
 ghost use Rattle.jpeg_pixels.specs.Upsampling.{rule_of};
 ghost use Rattle.jpeg_pixels.specs.Pictures.{source_of, sources_of};
 ghost use Rattle.jpeg_pixels.specs.PicturesView.{source_in};
-ghost use Rattle.jpeg_segments.specs.Frame.{HasSampling, AllHaveSampling};
 
 use crate::upsample_rows::UpsampleRule;
 use jpeg_bits::error::{Error, Result, UnsupportedFeature};
@@ -24,7 +23,7 @@ pub struct ComponentSource {
     pub width: usize,
     /// How many lines there are.
     pub height: usize,
-    /// How many samples after the beginning of a line the next one begins.
+    /// How many samples lie between the beginnings of two successive lines.
     pub row_stride: usize,
 }
 

@@ -1,6 +1,5 @@
 //! Rows of a component made as wide as the picture: the rules, and a function for each.
-ghost use Rattle.std.specs.Prelude.{◌≡◌, ℕ, ◌+◌, ◌-◌, ◌*◌, ◌/◌, ◌<◌, ◌≤◌, length};
-ghost use Rattle.std.specs.Prelude.{slice_index};
+ghost use Rattle.std.specs.Prelude.{◌≡◌, ℕ, ◌+◌, ◌-◌, ◌*◌, ◌/◌, ◌<◌, ◌≤◌, length, slice_index};
 ghost use Rattle.jpeg_pixels.specs.Upsampling.{blended, far_index};
 
 /// How the samples of a component become those of the picture: by the factors across (H) and down

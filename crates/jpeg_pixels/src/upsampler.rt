@@ -1,4 +1,4 @@
-//! Samples between samples, and colours: lines of components become lines of the picture.
+//! Upsampling and colours: lines of components become lines of the picture.
 
 pub use crate::color_convert::ColorConvert;
 use crate::picture_lines::{Line, lines_from_above, write_line};
@@ -10,7 +10,7 @@ use jpeg_segments::parser::Component;
 use std::alloc::Global;
 use std::marker::Model;
 
-/// Makes lines of the picture of the planes of its components.
+/// Makes the lines of a picture from the planes of its components.
 #[derive(Drop)]
 pub struct Upsampler {
     alloc: Global,
@@ -28,8 +28,7 @@ impl Model for Upsampler {
 }
 
 impl Upsampler {
-    ghost use Rattle.std.specs.Prelude.{◌≡◌, ◌+◌, ◌*◌, ◌≤◌, map, length, OnOk, IfErr};
-    ghost use Rattle.std.specs.Prelude.{MatchResult};
+    ghost use Rattle.std.specs.Prelude.{◌≡◌, ◌+◌, ◌*◌, ◌≤◌, map, length, OnOk, IfErr, MatchResult};
     ghost use Rattle.jpeg_bits.specs.Reading.{Gives};
     ghost use Rattle.jpeg_bits.specs.declared.error.Error.TheVariants.{OutOfMemory};
     ghost use Rattle.jpeg_segments.specs.FrameView.{component_in};
@@ -62,7 +61,7 @@ impl Upsampler {
     }
 
     /// Writes line `row` of the picture, of `output_width` pixels. `component_data` has the plane
-    /// of each component. The only error is `OutOfMemory`; the output's bytes are then open.
+    /// of each component. The only error is `OutOfMemory`; the output's bytes are then unspecified.
     pub fn upsample_and_interleave_row(
         &self,
         component_data: &[Vec<u8>],
@@ -113,7 +112,7 @@ impl Upsampler {
         write_line(&self.components, line, lines, output, color_convert);
     }
 
-    /// Returns all lines of the picture, from above. The only error is `OutOfMemory`.
+    /// Returns all lines of the picture, from the top. The only error is `OutOfMemory`.
     pub(crate) fn picture(
         &self,
         component_data: &[Vec<u8>],

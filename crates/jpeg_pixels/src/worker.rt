@@ -1,8 +1,8 @@
-//! The planes of components, and the picture that is made of them.
+//! The planes of components, and the picture that is made from them.
 //!
-//! A decoder makes its planes by `plane`, a row of blocks at a time, and its pictures by `lines`.
-//! What is here is for callers that read the scans of a stream themselves: the parts of the
-//! original crate are public.
+//! A decoder makes its planes with `plane`, a row of blocks at a time, and its pictures with
+//! `lines`. What is here is for callers that read the scans of a stream themselves: the parts of
+//! the original crate are public.
 ghost use Rattle.std.specs.Prelude.{◌≡◌, ◌≤◌, List, map, length, Ok, MatchResult};
 ghost use Rattle.jpeg_bits.specs.Reading.{Names};
 ghost use Rattle.jpeg_segments.specs.FrameView.{component_in};
@@ -134,8 +134,8 @@ impl ImmediateWorker {
         }
     }
 
-    /// Takes the plane at an index: its samples are 0 where no row has come yet. It is empty where
-    /// the index has none. It allocates nothing, and returns no error.
+    /// Takes the plane at an index: its samples are 0 where no row has come yet. It is empty if the
+    /// index has none. It allocates nothing, and returns no error.
     pub fn get_result(&mut self, index: usize) -> Result<Vec<u8>>
         requires index { index < 4 }
         ensures plane { MatchResult result
@@ -149,8 +149,8 @@ impl ImmediateWorker {
     }
 }
 
-/// Returns the picture of three or four components, of which each has a plane: its lines from
-/// above, each upsampled and converted.
+/// Returns the picture of three or four components, each of which has a plane: its lines from the
+/// top, each upsampled and converted.
 ///
 /// A transform that doesn't fit is `Format` or `Unsupported(ColorTransform(..))`, a component for
 /// which there is no rule `Unsupported(NonIntegerSubsamplingRatio)`, and a refused allocation

@@ -18,6 +18,7 @@ use Rattle.jpeg_segments.specs.declared.application.AdobeColorTransform.{AdobeCo
 use Rattle.jpeg_segments.specs.declared.application.AdobeColorTransform.TheVariants as transforms
 use Rattle.jpeg_segments.proofs.Codecs.{AreBytes}
 use Rattle.jpeg_segments.proofs.OtherSegments.{Names, app, is_adobe, said_by}
+use Rattle.jpeg_bits.proofs.PieceWalks.{by_bool}
 
 -- ---- what is read of them
 
@@ -106,24 +107,20 @@ adobe-written : (bytes : List ℕ) → 11 < length bytes → begins_with bytes a
     → adobe_name ++ (take 5 (drop 6 bytes) ++ get_or bytes 11 0 ∷ drop 12 bytes) ≡ bytes
 adobe-written bytes long f = search (rules, next-byte, drop-drop, take-append-drop, named-as)
 
-either : {A : Type 0} (b : Bool) → (b ≡ true → A) → (b ≡ false → A) → A
-either true if_true if_false = if_true refl
-either false if_true if_false = if_false refl
-
 of-number : (number : ℕ) (bytes : List ℕ) → number ≤ 15 → Names number bytes → IsOf number bytes
 of-number number bytes few named =
-    either (eqb number 0 && begins_with bytes jfif_name)
+    by_bool (eqb number 0 && begins_with bytes jfif_name)
     (as-named 0 jfif_name (OfJfif (drop 5 bytes)) tt refl refl) (λ a.
-    either (eqb number 0 && begins_with bytes avi1_name)
+    by_bool (eqb number 0 && begins_with bytes avi1_name)
     (as-named 0 avi1_name (OfAvi1 (drop 5 bytes)) tt refl refl) (λ b.
-    either (eqb number 1 && begins_with bytes exif_name)
+    by_bool (eqb number 1 && begins_with bytes exif_name)
     (as-named 1 exif_name (OfExif (drop 6 bytes)) tt refl refl) (λ c.
-    either (eqb number 1 && begins_with bytes xmp_name)
+    by_bool (eqb number 1 && begins_with bytes xmp_name)
     (as-named 1 xmp_name (OfXmp (drop 29 bytes)) tt refl refl) (λ d.
-    either (eqb number 13 && begins_with bytes photoshop_name)
+    by_bool (eqb number 13 && begins_with bytes photoshop_name)
     (as-named 13 photoshop_name (OfPhotoshop (drop 14 bytes)) tt refl refl) (λ e.
-    either (eqb number 2 && (ltb 14 (length bytes) && begins_with bytes icc_name)) of-icc (λ f.
-    either (is_adobe number bytes) of-adobe (λ g. record {
+    by_bool (eqb number 2 && (ltb 14 (length bytes) && begins_with bytes icc_name)) of-icc (λ f.
+    by_bool (is_adobe number bytes) of-adobe (λ g. record {
       value = OfOther number bytes;
       valid = (few, grind (arith, common_steps, nat_tests));
       numbered = refl;

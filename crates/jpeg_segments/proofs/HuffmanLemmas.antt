@@ -1,9 +1,9 @@
 -- Steps of the parser of Huffman tables.
-use Rattle.std.proofs.Common.{◌≡◌, ℕ, ◌-◌, ◌<◌, ◌≤◌, Bool, List, Result, Ok, Err, arith, eqb}
+use Rattle.std.proofs.Common.{◌≡◌, ℕ, ◌-◌, ◌<◌, ◌≤◌, List, Result, Ok, Err, arith, eqb}
 use Rattle.std.proofs.lemmas.Bool.Decides.{nat_tests}
 use Rattle.std.specs.Prelude.{if◌then◌else◌, sum, IfOk, IfErr}
 use Rattle.jpeg_bits.specs.Stream.{Stream}
-use Rattle.jpeg_bits.specs.Reading.{Fault, Malformed, Answers, MayFail, Names, NamesFormat, ◌>>=◌, times, next_byte}
+use Rattle.jpeg_bits.specs.Reading.{Fault, Malformed, Answers, Names, NamesFormat, ◌>>=◌, times, next_byte}
 use Rattle.jpeg_bits.specs.Codes.{Table, HasCodes, RefusesCodes, codes_exist, code_lengths}
 use Rattle.jpeg_bits.specs.declared.huffman.codes.HuffmanTableClass.{HuffmanTableClass}
 use Rattle.jpeg_bits.specs.declared.error.Error.{Error}
@@ -12,9 +12,7 @@ use Rattle.jpeg_bits.proofs.Tables.{exist-tested, tested-exist}
 use Rattle.jpeg_segments.specs.HuffmanTables.{Tables, DefinedTable, size_of, with_table, tables_from, defined_codes_at}
 use Rattle.jpeg_segments.specs.Parts.{symbols_at}
 use Rattle.std.proofs.lemmas.Grind.{common_steps}
-
-MayFail-format : (e : Error) (a b : Bool) → NamesFormat e → b ≡ a → MayFail e a b
-MayFail-format e a b h1 h2 = grind (arith, nat_tests)
+use Rattle.jpeg_bits.proofs.BufferedBits.{may_fail_format}
 
 -- a refusal of codes is one of a broken rule
 pub refused-names : {Y : Type 0} (e : Error) (lengths : List ℕ) (found : Result Y Fault) → RefusesCodes e lengths
@@ -30,7 +28,7 @@ pub table-found : (class : HuffmanTableClass) (counts : List ℕ) (old mid : Str
     → Answers (λ (t : Table). t) (symbols_at class counts) old r mid
 unfolding symbols_at
 table-found class counts old mid symbols r h1 h2 h3 h4 =
-    grind (arith, nat_tests, exist-tested, refused-names, MayFail-format, still_known)
+    grind (arith, nat_tests, exist-tested, refused-names, may_fail_format, still_known)
 
 pub tables_from-more : (most greatest left : ℕ) (tables : Tables) (bytes : List ℕ) → 17 < left → left ≤ most
     → tables_from most greatest left tables bytes ≡ (defined_codes_at greatest left bytes

@@ -1,7 +1,7 @@
 -- Application data (T.81, B.2.4.6), comments (B.2.4.5) and restart intervals (B.2.4.4).
-use Rattle.std.specs.Prelude.{ℕ, ◌-◌, List, [], ◌∷◌, ◌++◌, length, drop, slice_index}
-use Rattle.std.specs.Prelude.{codes, Bool, ◌&&◌, Option, Some, None, Ok, Err, nat_lt, nat_le, nat_eq}
-use Rattle.std.specs.Prelude.{◌==◌, if◌then◌else◌, slice_get}
+use Rattle.std.specs.Prelude.{ℕ, ◌-◌, List, [], ◌∷◌, ◌++◌, length, drop, slice_index, codes, Bool}
+use Rattle.std.specs.Prelude.{◌&&◌, Option, Some, None, Ok, Err, nat_lt, nat_le, nat_eq, ◌==◌}
+use Rattle.std.specs.Prelude.{if◌then◌else◌, slice_get}
 use Rattle.std.specs.List.{starts_with}
 use Rattle.jpeg_bits.specs.Reading.{Outcome, Malformed, ◌>>=◌, next_byte, next_u16, length_at}
 use Rattle.jpeg_bits.specs.Reading.{times, skip_at}

@@ -1,7 +1,6 @@
 //! Segments of applications, comments, and restart intervals.
 ghost use Rattle.std.specs.Prelude.{◌≡◌, ◌≤◌, ℕ, None, Some, IfOk, IsErrAnd, drop, length};
-ghost use Rattle.std.specs.Prelude.{option_map};
-ghost use Rattle.std.specs.Prelude.{true, Err, nat_le, if◌then◌else◌};
+ghost use Rattle.std.specs.Prelude.{option_map, true, Err, nat_le, if◌then◌else◌};
 ghost use Rattle.jpeg_bits.specs.Reading.{Answers, Malformed, NamesFormat};
 ghost use Rattle.jpeg_bits.specs.declared.error.Error.TheVariants.{OutOfMemory};
 ghost use Rattle.jpeg_bits.specs.declared.marker.Marker.TheVariants.{APP};

@@ -1,15 +1,13 @@
 //! Frame headers.
 ghost use Rattle.std.specs.Prelude.{◌≡◌, ◌≤◌, ◌<◌, ◌+◌, ◌*◌, ◌-◌, ◌^◌, ℕ, IfOk, IsErrAnd, All, []};
-ghost use Rattle.std.specs.Prelude.{◌∷◌, map, max};
-ghost use Rattle.std.specs.Prelude.{◌==◌};
+ghost use Rattle.std.specs.Prelude.{◌∷◌, map, max, ◌==◌};
 ghost use Rattle.std.specs.List.{list_any};
 ghost use Rattle.jpeg_bits.specs.Reading.{Answers, NamesFormat};
 ghost use Rattle.jpeg_bits.specs.declared.marker.Marker.TheVariants.{SOF};
 ghost use Rattle.jpeg_segments.specs.Frame.{AllHaveSampling, IsFrame, IsInRange, components_from};
 ghost use Rattle.jpeg_segments.specs.Frame.{factors_at, frame_of, is_count, is_lossless_number};
-ghost use Rattle.jpeg_segments.specs.Frame.{is_destination, is_precision, is_taken};
-ghost use Rattle.jpeg_segments.specs.Frame.{process_of, coding_of, is_differential_number, size_at};
-ghost use Rattle.jpeg_segments.specs.Frame.{sof_at};
+ghost use Rattle.jpeg_segments.specs.Frame.{is_destination, is_precision, is_taken, process_of};
+ghost use Rattle.jpeg_segments.specs.Frame.{coding_of, size_at, sof_at};
 ghost use Rattle.jpeg_segments.specs.Scales.{IsSizedFrame};
 ghost use Rattle.jpeg_segments.specs.FrameView.{component_in, frame_in, factors_of};
 ghost use Rattle.jpeg_segments.specs.Parts.{head_at, parameters_at};

@@ -1,6 +1,5 @@
 //! Huffman tables.
 ghost use Rattle.std.specs.Prelude.{◌≡◌, ◌≤◌, ◌<◌, ◌+◌, true, None, replicate, length, sum, IfOk};
-ghost use Rattle.jpeg_bits.specs.Codes.{is_ac};
 ghost use Rattle.jpeg_bits.specs.Reading.{Answers, NamesFormat, times, next_byte};
 ghost use Rattle.jpeg_segments.specs.HuffmanTables.{all_ac, defined_codes_at, dht_at};
 ghost use Rattle.jpeg_segments.specs.HuffmanTables.{greatest_destination, with_table};

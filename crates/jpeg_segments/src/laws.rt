@@ -15,8 +15,7 @@ ghost use Rattle.jpeg_segments.specs.WrittenSegments.{quantization_tables, IsHuf
 ghost use Rattle.jpeg_segments.specs.WrittenSegments.{huffman_bytes, huffman_tables};
 ghost use Rattle.jpeg_segments.specs.WrittenSegments.{ApplicationData, IsApplicationData};
 ghost use Rattle.jpeg_segments.specs.WrittenSegments.{application_parts, FrameHeader};
-ghost use Rattle.jpeg_segments.specs.WrittenSegments.{frame_payload, IsFrameHeader};
-ghost use Rattle.jpeg_segments.specs.WrittenSegments.{frame_written};
+ghost use Rattle.jpeg_segments.specs.WrittenSegments.{frame_payload, IsFrameHeader, frame_written};
 ghost use Rattle.jpeg_segments.specs.ScanHeaders.{ScanHeader, scan_payload, IsScan, scan_written};
 
 /// A segment that is written by its parameters is accepted, with the meaning that they have,

@@ -11,8 +11,7 @@ ghost use Rattle.jpeg_bits.specs.Reading.{Gives, NamesFormat};
 ghost use Rattle.jpeg_bits.specs.Entropy.{Text, Takes, bits_from};
 ghost use Rattle.jpeg_bits.specs.Refinement.{bit_of, corrected, new_number};
 ghost use Rattle.jpeg_bits.specs.Pieces.{moved_within, run_from, corrected_from, piece_from};
-ghost use Rattle.jpeg_bits.specs.Pieces.{refinement_from, refined_band_from};
-ghost use Rattle.jpeg_bits.specs.Pieces.{distance_of};
+ghost use Rattle.jpeg_bits.specs.Pieces.{refinement_from, refined_band_from, distance_of};
 ghost use Rattle.jpeg_bits.specs.BlockView.{pass_in, IsPass};
 ghost use Rattle.jpeg_bits.specs.ZigzagParts.{band_end, band_in, rest_in, IsKeptAround};
 ghost use Rattle.jpeg_bits.specs.ZigzagParts.{KeepsOthers};
@@ -97,7 +96,7 @@ fn distance(value: i16, al: u8, bit: u16) -> u16
 }
 
 /// Returns a number that isn't 0, moved away from zero. A refusal is stored in `refusal`, and none
-/// is returned. Nothing branches by the distance or the sign, which no processor foresees.
+/// is returned. It doesn't branch on the distance or the sign, which no processor can predict.
 #[inline(always)]
 fn move_away(alloc: Global, value: i16, by: u16, refusal: &mut Option<Error>) -> Option<i16>
     requires { by ≤ 8192 }
@@ -207,7 +206,7 @@ fn zeros_from(mask: u64, index: usize, end: usize) -> usize
     ensures stop { index + result < end → bit_at mask (index + result) ≡ 1 }
 {
     let ahead = mask >> index;
-    // The processor foresees this where few are 0, and need not wait for the count.
+    // The processor predicts this if few are 0, and needn't wait for the count.
     if ahead % 2 == 1 {
         return 0;
     }

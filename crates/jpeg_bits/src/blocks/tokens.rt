@@ -26,7 +26,7 @@ pub enum Token {
     Value(u8, i16),
     /// Sixteen zeros.
     Sixteen,
-    /// Zeros to the end of the band, and so in some blocks after.
+    /// Zeros to the end of the band, and in the bands of some blocks after it.
     Rest(u16),
     /// A value beyond the end of the band.
     Overlong,

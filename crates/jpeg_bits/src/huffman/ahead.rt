@@ -1,12 +1,10 @@
 //! What is read ahead of a source: bits, and the end of the data (T.81, B.1.1.5).
 ghost use Rattle.std.specs.Prelude.{◌≡◌, ◌++◌, Ok, is_some, true, false};
-ghost use Rattle.jpeg_bits.specs.Reading.{Answers, IsShort, Gives, NamesFormat};
+ghost use Rattle.std.specs.Prelude.{ℕ, ◌<◌, Bool, List, length, is_ok};
+ghost use Rattle.jpeg_bits.specs.Reading.{Answers, IsShort, Gives, NamesFormat, Names};
 ghost use Rattle.jpeg_bits.specs.Refusals.{kept_refusal, answer_of, IsRefused};
 ghost use Rattle.jpeg_bits.specs.Entropy.{piece_at, after_ff, byte_or_end, marker_at_end};
-ghost use Rattle.jpeg_bits.specs.Entropy.{has_buffered};
-ghost use Rattle.jpeg_bits.specs.Entropy.{bits_from, upcoming_by};
-ghost use Rattle.std.specs.Prelude.{ℕ, ◌<◌, Bool, List, length, is_ok};
-ghost use Rattle.jpeg_bits.specs.Reading.{Names};
+ghost use Rattle.jpeg_bits.specs.Entropy.{has_buffered, bits_from, upcoming_by};
 
 use crate::error::{Error, Result, end_of_bytes, format_error, set_format_error};
 use crate::huffman::bits::{Bits, extend};
@@ -23,7 +21,7 @@ use std::marker::Model;
 pub enum DataEnd {
     /// A marker follows.
     Marker(Marker),
-    /// FF 00 stands after fill bytes.
+    /// FF 00 after fill bytes.
     Malformed,
     /// The bytes end.
     Ended,
@@ -57,7 +55,7 @@ fn next_piece<R: Read + Drop>(
     }
 }
 
-/// Reads what a byte FF and those after it are. A refusal is stored in `refusal`, and none is
+/// Reads what a byte FF and those after it mean. A refusal is stored in `refusal`, and none is
 /// returned.
 #[cold]
 #[inline(never)]
@@ -79,7 +77,7 @@ fn next_after_ff<R: Read + Drop>(
     }
 }
 
-/// Reads what a byte FF and those after it are.
+/// Reads what a byte FF and those after it mean.
 #[tactic(auto, unfolding(crate::specs::Entropy::filled_end))]
 fn read_after_ff<R: Read + Drop>(alloc: Global, source: &mut Source<R>) -> Result<Piece>
     ensures { Answers (λ p. p) (λ bytes. Ok (after_ff bytes)) source.old result source.new }
@@ -193,7 +191,7 @@ impl BufferedBits {
         ensures full { result ≡ true → IsFilled count self.new.bits self.new.met }
         ensures refused { result ≡ false → is_some refusal.new ≡ true }
     {
-        // After the end nothing is left to read: what is taken then are zeros, or it is refused.
+        // After the end there is nothing left to read: bits taken then are zeros, or are refused.
         if count <= self.bits.len() || self.end.is_some() {
             return true;
         }
@@ -234,7 +232,7 @@ impl BufferedBits {
         true
     }
 
-    /// Returns whether no fault stands before `count` of the buffered bits.
+    /// Returns whether `count` bits can be taken without reaching a fault.
     #[inline(always)]
     pub(crate) fn has(&self, count: usize) -> bool
         ensures { result ≡ is_ok (has_buffered count self.now.bits self.now.met) }
@@ -496,7 +494,7 @@ fn is_marker(end: Option<DataEnd>) -> bool
     }
 }
 
-/// Returns whether no fault was reached where the buffered bits end.
+/// Returns whether there is no fault at the end of the buffered bits.
 #[cold]
 #[inline(never)]
 fn is_padded(end: Option<DataEnd>) -> bool
@@ -509,7 +507,7 @@ fn is_padded(end: Option<DataEnd>) -> bool
     }
 }
 
-/// Stores the fault that stands where the buffered bits end.
+/// Stores the fault at the end of the buffered bits.
 #[cold]
 #[inline(never)]
 fn set_fault(alloc: Global, end: Option<DataEnd>, refusal: &mut Option<Error>)

@@ -127,8 +127,8 @@ pub(crate) fn power_of_two(exponent: u8) -> u16
     1 << exponent
 }
 
-/// Returns a value of `count` bits as a signed number. There is no branch by the sign, which no
-/// processor foresees in most data.
+/// Returns a value of `count` bits as a signed number. It doesn't branch on the sign, which no
+/// processor can predict in most data.
 pub(crate) fn extend(value: u16, count: u8) -> i16
     requires some { 1 ≤ count }
     requires most { count ≤ 15 }

@@ -1,13 +1,13 @@
 //! Huffman tables and their codes (T.81, B.2.4.2 and C.2).
-ghost use Rattle.std.specs.Prelude.{◌≡◌, ℕ, ◌≤◌, ◌<◌, ◌↔◌, IsTrue, IfSome, None, ◌+◌, ◌-◌, ◌/◌, ◌^◌};
-ghost use Rattle.std.specs.Prelude.{drop, length, replicate, sum, slice_index_or, take, IfOk};
+ghost use Rattle.std.specs.Prelude.{◌≡◌, ℕ, ◌≤◌, ◌<◌, ◌↔◌, IsTrue, IfSome, None, ◌+◌, ◌-◌, ◌/◌};
+ghost use Rattle.std.specs.Prelude.{◌^◌, drop, length, replicate, sum, slice_index_or, take, IfOk};
 ghost use Rattle.std.specs.Prelude.{◌++◌, true, false};
 ghost use Rattle.jpeg_bits.specs.Entropy.{number_of, extended};
 ghost use Rattle.jpeg_bits.specs.Codes.{code_lengths, code_in, HasCodes};
 ghost use Rattle.jpeg_bits.specs.Reading.{NamesFormat};
-ghost use Rattle.jpeg_bits.specs.ShortCodes.{short_value_by, HoldsCodes, HoldsRows, ArePassed, IsRun};
-ghost use Rattle.jpeg_bits.specs.ShortCodes.{named, no_row, packed, short_only, HoldsWideValues};
-ghost use Rattle.jpeg_bits.specs.ShortCodes.{rest_of_code, rest_of_value};
+ghost use Rattle.jpeg_bits.specs.ShortCodes.{short_value_by, HoldsCodes, HoldsRows, ArePassed};
+ghost use Rattle.jpeg_bits.specs.ShortCodes.{IsRun, named, no_row, packed, short_only};
+ghost use Rattle.jpeg_bits.specs.ShortCodes.{HoldsWideValues, rest_of_code, rest_of_value};
 ghost use Rattle.jpeg_bits.specs.Pairs.{AreSmall};
 ghost use Rattle.jpeg_bits.specs.Skips.{HoldsSkips, IsSkip};
 ghost use Rattle.jpeg_bits.specs.Written.{low_bits};
@@ -31,24 +31,24 @@ pub enum HuffmanTableClass {
 /// The codes of some symbols (T.81, C.2): how many codes have each length, and the symbols in the
 /// order of the codes.
 ///
-/// For each 8 bits it is looked up which code of at most 8 bits begins them; and in a table of
-/// class AC after `widen`, for each 8 and for each 11 bits, which value and which run they begin
-/// with, and after `fill_pairs`, which two.
+/// Look-up tables tell which code of at most 8 bits begins any 8 bits; in a table of class AC after
+/// `widen`, which value and which run any 8 and any 11 bits begin with; and after `fill_pairs`,
+/// which two values.
 #[derive(Drop)]
 pub struct HuffmanTable {
     class: HuffmanTableClass,
     counts: [u8; 16],
     values: Vec<u8>,
     rows: [Row; 16],
-    // The look-up tables stand on the heap, since a table is moved; one without codes has none.
+    // The look-up tables are on the heap, since a table is moved; one without codes has none.
     codes: Vec<Option<(u8, u8)>>,
     // The last number has two bytes, so that an entry has eight and is found without a product.
-    // Both tables of values are empty until `widen` fills them: a small picture has fewer tokens
-    // than they have entries.
+    // Empty until `fill_pairs` fills it.
     tokens: Vec<Option<(i16, u8, u16)>>,
     // Most values of a first pass have at most 11 bits with their codes, and a table by 12 bits
     // would leave too little of the first-level cache to the rest. For its sake an entry is packed
-    // into four bytes, half of an `Option`: where it has no bits, there is no value.
+    // into four bytes, half of an `Option`: where it has no bits, there is no value. Empty until
+    // `widen` fills it: a small picture has fewer tokens than it has entries.
     wide_tokens: Vec<(i16, u8, u8)>,
     // The tokens that 12 bits begin with, where nothing but DC is wanted of a block: how many bits
     // they take, how many coefficients they stand for, and whether the last is the end of the
@@ -106,8 +106,8 @@ impl HuffmanTable {
     ghost use Rattle.jpeg_bits.specs.Pairs.{IsPairOf, IsWithinPassed};
 
     /// Returns the table of `bits[i]` codes of length i + 1 and of their symbols, `values`, 1 to
-    /// 256 of them. The code of all ones is accepted. It is `Format` where some code does not fit
-    /// its length, and `OutOfMemory` where memory runs out.
+    /// 256 of them. The code of all ones is accepted. The error is `Format` if a code doesn't fit
+    /// its length, and `OutOfMemory` if memory runs out.
     #[tactic(auto, using(crate::proofs::CodeLemmas::lengths_length))]
     pub fn new(
         alloc: Global,
@@ -165,9 +165,9 @@ impl HuffmanTable {
         }
     }
 
-    /// Fills the look-up tables of values of a table of class AC, which takes some microseconds: it
-    /// pays for scans of many blocks. Nothing else changes, and a second call does nothing. It is
-    /// `AllocError` where memory runs out.
+    /// Fills the look-up table of values of a table of class AC, which takes some microseconds: it
+    /// pays for scans of many blocks. Nothing else changes, and a second call does nothing. The
+    /// only error is `AllocError`.
     pub fn widen(&mut self, alloc: Global) -> std::result::Result<(), AllocError>
         ensures { self.new ≡ self.old }
     {
@@ -180,17 +180,14 @@ impl HuffmanTable {
             rows: &self.rows,
             values: &self.values,
         };
-        let tokens = short_values(alloc, &self.codes)?;
-        let wide_tokens = wide_values(alloc, &codes)?;
-        self.tokens = tokens;
-        self.wide_tokens = wide_tokens;
+        self.wide_tokens = wide_values(alloc, &codes)?;
         Ok(())
     }
 
     /// Fills the look-up table of the tokens that some bits begin with, by which the AC
     /// coefficients are passed over where DC alone is wanted of a block. It takes some tens of
     /// microseconds: it pays for scans of many blocks. Nothing else changes, and a second call does
-    /// nothing. It is `AllocError` where memory runs out.
+    /// nothing. The only error is `AllocError`.
     pub fn fill_skips(&mut self, alloc: Global) -> std::result::Result<(), AllocError>
         ensures { self.new ≡ self.old }
     {
@@ -200,15 +197,29 @@ impl HuffmanTable {
         Ok(())
     }
 
+    /// Fills the look-up table of `decode_fast_ac`. The decoder never asks for it: a small picture
+    /// doesn't wait for it.
+    fn fill_tokens(&mut self, alloc: Global) -> std::result::Result<(), AllocError>
+        ensures { self.new ≡ self.old }
+    {
+        if self.class == HuffmanTableClass::DC || self.codes.len() != 256 {
+            return Ok(());
+        }
+        let tokens = short_values(alloc, &self.codes)?;
+        self.tokens = tokens;
+        Ok(())
+    }
+
     /// Fills the look-up table by which two values and the end of a block are read at once, where
-    /// `widen` has filled those of single ones. It takes some microseconds, and 16 KB: it pays for
+    /// `widen` has filled that of single ones, and the one of `decode_fast_ac`. It takes some microseconds, and 16 KB: it pays for
     /// sequential scans of very many blocks. Nothing else changes, and a second call does nothing.
-    /// It is `AllocError` where memory runs out.
+    /// The only error is `AllocError`.
     pub fn fill_pairs(&mut self, alloc: Global) -> std::result::Result<(), AllocError>
         ensures { self.new ≡ self.old }
     {
         if self.pairs.is_empty() && self.codes.len() == 256 && self.wide_tokens.len() == 2048 {
             self.pairs = pairs_of(alloc, &self.codes, &self.wide_tokens)?;
+            self.fill_tokens(alloc)?;
         }
         Ok(())
     }
@@ -225,8 +236,8 @@ impl HuffmanTable {
     }
 
     /// Returns the whole tokens that 12 bits begin with: how many bits they take, how many
-    /// coefficients they stand for, and whether the last is the end of the band. Where there are
-    /// none, the coefficients are more than any band leaves room for.
+    /// coefficients they stand for, and whether the last is the end of the band. If there are none,
+    /// the coefficients are more than any band has room for.
     fn skip_in(&self, bits: u16) -> (u8, u8, bool)
         requires { bits < 4096 }
         ensures { IsSkip self.now (low_bits 12 bits) result }
@@ -271,7 +282,7 @@ impl HuffmanTable {
         }
     }
 
-    /// Returns what `symbol_of` does, where no code of at most 8 bits begins the bits.
+    /// Returns what `symbol_of` does, if no code of at most 8 bits begins the bits.
     #[inline(never)]
     #[tactic(auto, using(crate::proofs::Rules::rows))]
     fn long_symbol_of(&self, bits: u16) -> Option<(u8, u8)>
@@ -290,8 +301,8 @@ impl HuffmanTable {
         None
     }
 
-    /// Returns the value and the run that 8 bits begin with, and how many bits they take, where
-    /// they are so few.
+    /// Returns the value and the run that 8 bits begin with, and how many bits they take, if they
+    /// take at most 8.
     #[inline(always)]
     pub(crate) fn short_value_of(&self, byte: u8) -> Option<(i16, u8, u16)>
         ensures value { result ≡ short_value_of 8 self.now (low_bits 8 byte) }
@@ -304,7 +315,7 @@ impl HuffmanTable {
         }
     }
 
-    /// Returns what `short_value_of` does, where the look-up table isn't filled.
+    /// Returns what `short_value_of` does, if the look-up table isn't filled.
     #[inline(never)]
     fn computed_value_of(&self, byte: u8) -> Option<(i16, u8, u16)>
         ensures value { result ≡ short_value_of 8 self.now (low_bits 8 byte) }
@@ -320,7 +331,7 @@ impl HuffmanTable {
     }
 
     /// Returns the value and the run that the first 11 of 16 bits begin with, and how many bits
-    /// they take, where the table for them is filled and they are so few.
+    /// they take, if the table for them is filled and they take at most 11.
     #[inline(always)]
     pub(crate) fn wide_value_of(&self, bits: u16) -> Option<(i16, u8, u8)>
         ensures value { IfSome result (λ t. short_value_of 11 self.now (low_bits 11 (bits / 32))
@@ -335,7 +346,7 @@ impl HuffmanTable {
     }
 
     /// Returns the values that the first 11 of 16 bits begin with, and the end of the block after
-    /// them, where the table for them is filled.
+    /// them, if the table for them is filled.
     #[inline(always)]
     pub(crate) fn pair_of(&self, bits: u16) -> Pair
         ensures pair { IsPairOf self.now (low_bits 11 (bits / 32)) result }
@@ -348,8 +359,8 @@ impl HuffmanTable {
         }
     }
 
-    /// Returns the tokens that the first 12 of 16 bits begin with, where the table for them is
-    /// filled, as `skip_in` does.
+    /// Returns the tokens that the first 12 of 16 bits begin with, as `skip_in` does, if the table
+    /// for them is filled.
     #[inline(always)]
     pub(crate) fn skip_of(&self, bits: u16) -> (u8, u8, bool)
         ensures { IsSkip self.now (low_bits 12 (bits / 16)) result }
@@ -506,7 +517,7 @@ fn short_only(code: Option<(u8, u8)>) -> Option<(u8, u8)>
     }
 }
 
-/// Returns how many of 8 bits are after the code that begins them. Where none does, it is 0.
+/// Returns how many of 8 bits are after the code that begins them. If none does, it is 0.
 fn rest_of_code(code: Option<(u8, u8)>) -> u8
     requires { IfSome code (λ c. c.1 ≤ 8) }
     ensures rest { result ≡ rest_of_code 8 code }
@@ -518,8 +529,8 @@ fn rest_of_code(code: Option<(u8, u8)>) -> u8
     }
 }
 
-/// Returns how many of 11 bits are after the value that they begin with, or after its code where
-/// they don't have all of it. Where no code begins them, it is 0.
+/// Returns how many of 11 bits are after the value that they begin with, or after its code if they
+/// don't have all of it. If no code begins them, it is 0.
 fn rest_of_value(code: Option<(u8, u8)>) -> u8
     requires { IfSome code (λ c. c.1 ≤ 16) }
     ensures rest { result ≡ rest_of_value 11 code }
@@ -588,7 +599,7 @@ fn value_in(count: u8, bits: u16, length: u8, size: u8) -> i16
 }
 
 /// Returns the value and the run of a code of class AC that begins `count` bits, and how many bits
-/// they take, where the value is in them too.
+/// they take, if the value is in them too.
 fn short_value(code: Option<(u8, u8)>, count: u8, bits: u16) -> Option<(i16, u8, u16)>
     requires code { IfSome code (λ c. c.1 ≤ 16) }
     requires few { count ≤ 14 }
@@ -630,7 +641,7 @@ fn short_values(
     Ok(tokens)
 }
 
-/// Returns a value in four bytes, which has no bits where there is none.
+/// Packs a value into four bytes. One that takes no bits is none.
 fn packed(value: Option<(i16, u8, u16)>) -> (i16, u8, u8)
     requires { IfSome value (λ t. t.2 ≤ 255) }
     ensures { result ≡ packed value }

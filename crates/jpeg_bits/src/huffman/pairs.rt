@@ -13,16 +13,16 @@ use std::alloc::{AllocError, Global};
 pub(crate) struct Pair {
     /// The first value.
     pub(crate) first: i16,
-    /// The second value, or the first again where there is one.
+    /// The second value, or the first again if there is only one.
     pub(crate) second: i16,
-    /// How many zeros stand before the first value.
+    /// How many zeros precede the first value.
     pub(crate) run: u8,
-    /// How many coefficients stand before the second value.
+    /// How many coefficients precede the second value.
     pub(crate) next: u8,
-    /// How many coefficients there are, the zeros among them, and 129 more where the end of the
-    /// block follows: it is coded where there is one coefficient more at least, and 128 are more
-    /// than any band has. Where there is no value it is 127 for the end, and 64 for no end: more
-    /// than any band has, modulo 128 too.
+    /// The number of coefficients, with the zeros, and 129 more if the end of the block follows: it
+    /// is only coded if at least one more coefficient is left, and 128 are more than any band has.
+    /// Without a value it is 127 for the end, and 64 for no end: more than any band has, even
+    /// modulo 128.
     pub(crate) passed: u8,
     /// How many bits they take.
     pub(crate) bits: u8,
@@ -38,8 +38,8 @@ pub(crate) const NO_PAIR: Pair = Pair {
     bits: 0,
 };
 
-/// Returns a value and the one after it, where both have at most 11 bits together. Each has its run
-/// and its bits, which are none where there is no value.
+/// Returns a value and the one after it, if they take at most 11 bits together. Each has its run
+/// and its number of bits, which is 0 if there is no value.
 #[tactic(auto, unfolding(crate::specs::Pairs::pair_by))]
 fn pair_of(value: (i16, u8, u8), after: (i16, u8, u8)) -> Pair
     requires run { value.1 ≤ 15 }
@@ -75,8 +75,8 @@ fn pair_of(value: (i16, u8, u8), after: (i16, u8, u8)) -> Pair
     }
 }
 
-/// Returns a pair with the end of the block after it, whose code has `size` bits; the end alone
-/// where the pair has no value.
+/// Returns a pair with the end of the block after it, whose code has `size` bits; the end alone if
+/// the pair has no value.
 #[tactic(auto, unfolding(crate::specs::Pairs::with_end))]
 fn with_end(pair: Pair, size: u8) -> Pair
     requires small { pair.passed ≤ 64 }
@@ -100,8 +100,8 @@ fn with_end(pair: Pair, size: u8) -> Pair
     }
 }
 
-/// Returns a pair with the end of the block after it, where the next code is that of the end, and
-/// is within 11 bits.
+/// Returns a pair, with the end of the block after it if the next code is that of the end and is
+/// within 11 bits.
 #[tactic(auto, unfolding(crate::specs::Pairs::ended))]
 fn ended(pair: Pair, next: Option<(u8, u8)>) -> Pair
     requires small { pair.passed ≤ 64 }

@@ -10,13 +10,20 @@ pub struct SliceReader<'a> {
 }
 
 impl<'a> SliceReader<'a> {
-    ghost use Rattle.std.specs.Prelude.{◌≡◌};
+    ghost use Rattle.std.specs.Prelude.{◌≡◌, length};
 
     /// Returns a reader of all of the bytes.
     pub fn new(bytes: &'a [u8]) -> SliceReader<'a>
         ensures { result.bytes.now ≡ bytes.now }
     {
         SliceReader { bytes }
+    }
+
+    /// Returns how many bytes are left.
+    pub fn left(&self) -> usize
+        ensures { result ≡ length self.now.bytes.now }
+    {
+        self.bytes.len()
     }
 }
 

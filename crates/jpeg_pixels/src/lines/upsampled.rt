@@ -1,4 +1,4 @@
-//! The picture of planes that stand apart: its lines are upsampled and converted one by one.
+//! The picture of separate planes: its lines are upsampled and converted one by one.
 
 use crate::color_convert::ColorConvert;
 use crate::picture_lines::Line;

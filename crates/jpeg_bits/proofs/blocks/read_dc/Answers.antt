@@ -1,6 +1,5 @@
 use Rattle.jpeg_bits.proofs.blocks.read_dc.Goals as goal
-use Rattle.std.proofs.Common.{◌≡◌, ◌+ℤ◌, ◌*ℤ◌, ◌^◌, ◌<◌, pos, length, set, FitsSigned, sym, ap, ◌∙◌}
-use Rattle.std.proofs.Common.{w16, rules, arith}
+use Rattle.std.proofs.Common.{◌≡◌, ◌+ℤ◌, ◌*ℤ◌, ◌^◌, ◌<◌, pos, length, set, FitsSigned, sym, ap, ◌∙◌, w16, rules, arith}
 use Rattle.std.proofs.lemmas.Int.{to_z-of_z}
 use Rattle.std.proofs.lemmas.List.{get_or-set_same}
 use Rattle.jpeg_bits.specs.Bands.{wrapped}

@@ -1,7 +1,7 @@
 use Rattle.std.proofs.Common.{◌≡◌, length, rules, lit≤}
 use Rattle.jpeg_pixels.proofs.LaneSums.{halves_fit}
-use Rattle.jpeg_pixels.proofs.Corners.{bits_or, bits_of_halves, all_zero, zero_all, first_bits, last_lanes, corner_is}
-use Rattle.jpeg_pixels.proofs.Corners.{corner_zero}
+use Rattle.jpeg_pixels.proofs.Corners.{bits_or, bits_of_halves, all_zero, zero_all, first_bits}
+use Rattle.jpeg_pixels.proofs.Corners.{last_lanes, corner_is, corner_zero}
 use Rattle.jpeg_pixels.proofs.arch.is_in_corner.Goals as goal
 
 pub returns : goal.returns

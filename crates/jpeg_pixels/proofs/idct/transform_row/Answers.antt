@@ -1,5 +1,5 @@
-use Rattle.std.proofs.Common.{◌≡◌, ◌<◌, ℕ, pos, ◌+ℤ◌, slice_index_or, arith, rules, FitsSigned, ap, ◌∙◌, sym, refl}
-use Rattle.std.proofs.Common.{◌-◌, get_or-set_other, lit<, drop}
+use Rattle.std.proofs.Common.{◌≡◌, ◌<◌, ℕ, pos, ◌+ℤ◌, slice_index_or, arith, rules, FitsSigned, ap}
+use Rattle.std.proofs.Common.{◌∙◌, sym, refl, ◌-◌, get_or-set_other, lit<, drop}
 use Rattle.std.proofs.lemmas.List.{get_or-drop, get_or-take}
 use Rattle.std.proofs.lemmas.Grind.{common_steps}
 use Rattle.jpeg_pixels.proofs.LaneSums.{wrapped_flat}

@@ -1,8 +1,7 @@
 use Rattle.std.proofs.Common.{◌+◌, ◌<◌, ◌≤◌, ◌/◌, ℕ, ℤ, pos, arith, rules, slice_index_or, slice_index}
 use Rattle.std.specs.Prelude.{unsigned_abs, max}
 use Rattle.jpeg_pixels.proofs.LaneSums.{halves_fit}
-use Rattle.jpeg_pixels.proofs.ShortLanes.{signed_given, signed_chosen, both_above, all_at_least, by_sixteen}
-use Rattle.jpeg_pixels.proofs.ShortLanes.{limit_told}
+use Rattle.jpeg_pixels.proofs.ShortLanes.{signed_given, signed_chosen, both_above, all_at_least, by_sixteen, limit_told}
 use Rattle.jpeg_pixels.proofs.short_block.is_within.Goals as goal
 
 pub returns : goal.returns

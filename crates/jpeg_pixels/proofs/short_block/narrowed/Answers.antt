@@ -3,8 +3,8 @@ use Rattle.std.proofs.lemmas.Int.{ints, to_z-of_z}
 use Rattle.std.specs.Int.{w16, w32}
 use Rattle.jpeg_pixels.specs.Lanes.{lane}
 use Rattle.jpeg_pixels.proofs.LaneSums.{lanes_fit, lanes_same, own_lanes}
-use Rattle.jpeg_pixels.proofs.ShortLanes.{signed_lanes, signed_cast, signed_given, signed_splat, each_signed}
-use Rattle.jpeg_pixels.proofs.ShortLanes.{clamped_lanes, kept_fits, kept_same}
+use Rattle.jpeg_pixels.proofs.ShortLanes.{signed_lanes, signed_cast, signed_given, signed_splat}
+use Rattle.jpeg_pixels.proofs.ShortLanes.{each_signed, clamped_lanes, kept_fits, kept_same}
 use Rattle.jpeg_pixels.proofs.short_block.narrowed.Goals as goal
 
 pub overflow_cast-result : goal.overflow_cast-result

@@ -1,8 +1,8 @@
 use Rattle.std.proofs.Common.{arith, ◌∙◌, ◌-ℤ◌, negsuc, lit<}
 use Rattle.std.proofs.lemmas.Int.{ints}
 use Rattle.jpeg_pixels.specs.Samples.{transformed, basis}
-use Rattle.jpeg_pixels.proofs.LaneSums.{lane_add, lane_sub, lane_literal, lane_splat, lane_wrapped, lanes_read}
-use Rattle.jpeg_pixels.proofs.LaneSums.{kept_halves}
+use Rattle.jpeg_pixels.proofs.LaneSums.{lane_add, lane_sub, lane_literal, lane_splat, lane_wrapped}
+use Rattle.jpeg_pixels.proofs.LaneSums.{lanes_read, kept_halves}
 use Rattle.jpeg_pixels.proofs.short_block.pair_kernel.Goals as goal
 
 pub returns : goal.returns

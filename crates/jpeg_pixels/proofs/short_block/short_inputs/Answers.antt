@@ -1,5 +1,4 @@
-use Rattle.std.proofs.Common.{◌∙◌, ◌+◌, ◌*ℤ◌, ℕ, ℤ, List, map, of_z, to_z, pos, ap, arith}
-use Rattle.std.proofs.Common.{slice_index, slice_index_or}
+use Rattle.std.proofs.Common.{◌∙◌, ◌+◌, ◌*ℤ◌, ℕ, ℤ, List, map, of_z, to_z, pos, ap, arith, slice_index, slice_index_or}
 use Rattle.std.specs.Int.{w16}
 use Rattle.jpeg_pixels.specs.Samples.{dequantized}
 use Rattle.jpeg_pixels.proofs.LaneSums.{halves_fit, kept_halves}

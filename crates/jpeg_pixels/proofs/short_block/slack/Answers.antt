@@ -1,12 +1,12 @@
-use Rattle.std.proofs.Common.{◌+◌, ◌≤ℤ◌, ◌+ℤ◌, ◌-ℤ◌, ℕ, ℤ, List, pos, ap, ◌∙◌, cond, arith, rules, subst}
-use Rattle.std.proofs.Common.{slice_index_or}
+use Rattle.std.proofs.Common.{◌+◌, ◌≤ℤ◌, ◌+ℤ◌, ◌-ℤ◌, ℕ, ℤ, List, pos, ap, ◌∙◌, cond, arith, rules}
+use Rattle.std.proofs.Common.{subst, slice_index_or}
 use Rattle.std.specs.Int.{w16, int_wrap}
 use Rattle.std.specs.Int.Signed.{lt_z}
 use Rattle.std.proofs.lemmas.List.FromFn.{get_or-map-range_with_len}
 use Rattle.jpeg_pixels.specs.Lanes.{lane}
 use Rattle.jpeg_pixels.proofs.LaneSums.{halves_fit}
-use Rattle.jpeg_pixels.proofs.ShortLanes.{signed_loaded, signed_add, signed_sub, signed_chosen, signed_read}
-use Rattle.jpeg_pixels.proofs.ShortLanes.{both_above, within_limit}
+use Rattle.jpeg_pixels.proofs.ShortLanes.{signed_loaded, signed_add, signed_sub, signed_chosen}
+use Rattle.jpeg_pixels.proofs.ShortLanes.{signed_read, both_above, within_limit}
 use Rattle.jpeg_pixels.proofs.short_block.slack.Goals as goal
 
 pub returns : goal.returns

@@ -4,7 +4,7 @@ use Rattle.std.specs.List.{range_with_len}
 use Rattle.jpeg_bits.specs.BlockLines.{Line, blocks_at}
 use Rattle.jpeg_bits.specs.BlockView.{pass_in, to_block}
 use Rattle.jpeg_bits.specs.Readers.{Reads}
-use Rattle.jpeg_bits.proofs.BlockLines.{line-end, line-next, line-refused, line-start}
+use Rattle.jpeg_bits.proofs.BlockLines.{line-end, line-next, line-refused}
 use Rattle.jpeg_bits.proofs.blocks.bands.take_first_bands.Goals as goal
 
 pub returns-then-not-read_first-clause-blocks : goal.returns-then-not-read_first-clause-blocks

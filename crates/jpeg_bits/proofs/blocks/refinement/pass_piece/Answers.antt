@@ -2,8 +2,7 @@ use Rattle.jpeg_bits.proofs.blocks.refinement.pass_piece.Goals as goal
 use Rattle.std.proofs.Common.{◌+◌, ◌∙◌, arith}
 use Rattle.jpeg_bits.specs.BlockView.{pass_in}
 use Rattle.jpeg_bits.specs.ZigzagParts.{band_end}
-use Rattle.jpeg_bits.proofs.PieceWalks.{at-end, gap-zeros, gap-values, at-skips, at-keeps, at-gap}
-use Rattle.jpeg_bits.proofs.PieceWalks.{marks-later}
+use Rattle.jpeg_bits.proofs.PieceWalks.{at-end, gap-zeros, gap-values, at-skips, at-keeps, at-gap, marks-later}
 
 pub returns-then-index-end-clause-piece : goal.returns-then-index-end-clause-piece
 returns-then-index-end-clause-piece c block t long marks zeros =

@@ -1,7 +1,6 @@
 use Rattle.jpeg_bits.proofs.blocks.refinement.read_refined_coefficients.Goals as goal
 use Rattle.jpeg_bits.specs.Bands.{Band}
-use Rattle.std.proofs.Common.{◌≡◌, ◌-◌, ◌<◌, ◌≤◌, length, length-set, ◌∙◌, refl, sym, w16, arith}
-use Rattle.std.proofs.Common.{rules}
+use Rattle.std.proofs.Common.{◌≡◌, ◌-◌, ◌<◌, ◌≤◌, length, length-set, ◌∙◌, refl, sym, w16, arith, rules}
 use Rattle.std.proofs.lemmas.Int.{to_z-of_z}
 use Rattle.std.specs.Int.{cast_signed, cast_unsigned}
 use Rattle.jpeg_bits.specs.BlockView.{pass_in}

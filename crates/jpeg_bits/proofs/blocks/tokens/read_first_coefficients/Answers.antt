@@ -1,9 +1,7 @@
 use Rattle.jpeg_bits.proofs.blocks.tokens.read_first_coefficients.Goals as goal
-use Rattle.std.proofs.Common.{◌+◌, ◌-◌, ◌%◌, ◌<◌, ◌≤◌, ◌∙◌, length-set, refl, sym, FitsSigned, w16}
-use Rattle.std.proofs.Common.{rules, arith}
+use Rattle.std.proofs.Common.{◌+◌, ◌-◌, ◌%◌, ◌<◌, ◌≤◌, ◌∙◌, length-set, refl, sym, FitsSigned, w16, rules, arith}
 use Rattle.std.proofs.lemmas.Int.{to_z-of_z}
-use Rattle.jpeg_bits.proofs.BlockParts.{index-value, index-sixteen, index-all, index-last}
-use Rattle.jpeg_bits.proofs.BlockParts.{index-refused, index-none}
+use Rattle.jpeg_bits.proofs.BlockParts.{index-value, index-sixteen, index-all, index-last, index-refused, index-none}
 use Rattle.jpeg_bits.proofs.PairEntries.{pair-found, end-found, index-entry, index-alone}
 use Rattle.jpeg_bits.specs.ShortCodes.{next_bits}
 use Rattle.jpeg_bits.proofs.ZigzagIndices.{kept-set}

@@ -1,12 +1,10 @@
 use Rattle.jpeg_bits.proofs.huffman.codes.short_codes.Goals as goal
-use Rattle.std.proofs.Common.{◌≡◌, ◌∙◌, ◌*◌, ◌%◌, ◌++◌, ℕ, List, Bool, ap, arith, replicate, false}
-use Rattle.std.proofs.Common.{None}
+use Rattle.std.proofs.Common.{◌≡◌, ◌∙◌, ◌*◌, ◌%◌, ◌++◌, ℕ, List, Bool, ap, arith, replicate, false, None}
 use Rattle.jpeg_bits.specs.Codes.{code_in, code_lengths}
 use Rattle.jpeg_bits.specs.Written.{low_bits}
 use Rattle.jpeg_bits.specs.ShortCodes.{named, short_code, short_only}
 use Rattle.jpeg_bits.proofs.CodeLemmas.{still-passed}
-use Rattle.jpeg_bits.proofs.ShortLemmas.{byte_padded, length_set, set_next, short-of-named}
-use Rattle.jpeg_bits.proofs.ShortLemmas.{run-entry}
+use Rattle.jpeg_bits.proofs.ShortLemmas.{byte_padded, length_set, set_next, short-of-named, run-entry}
 use Rattle.std.proofs.lemmas.Grind.{common_steps}
 
 pub loop-at-preserved : goal.loop-at-preserved

@@ -7,8 +7,7 @@ use Rattle.jpeg_bits.specs.ShortCodes.{ArePassed, IsRun, named, packed, rest_of_
 use Rattle.jpeg_bits.specs.ShortCodes.{short_value_of, symbol_in}
 use Rattle.jpeg_bits.specs.declared.huffman.codes.HuffmanTableClass.TheVariants.{AC}
 use Rattle.jpeg_bits.proofs.CodeLemmas.{still-passed}
-use Rattle.jpeg_bits.proofs.ShortLemmas.{set_next, length_set, eleven_padded, within_byte}
-use Rattle.jpeg_bits.proofs.ShortLemmas.{small_packed, value-run}
+use Rattle.jpeg_bits.proofs.ShortLemmas.{set_next, length_set, eleven_padded, within_byte, small_packed, value-run}
 use Rattle.jpeg_bits.proofs.WideTokens.{set-holds}
 
 pub code_of-code-requires-clause-passed : goal.code_of-code-requires-clause-passed

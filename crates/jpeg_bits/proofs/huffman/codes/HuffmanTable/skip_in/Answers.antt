@@ -1,6 +1,5 @@
 use Rattle.jpeg_bits.proofs.huffman.codes.HuffmanTable.skip_in.Goals as goal
-use Rattle.std.proofs.Common.{◌≡◌, rules, refl, ◌∙◌, ◌%◌, ◌+◌, ◌++◌, sym, ap, Some, drop, replicate}
-use Rattle.std.proofs.Common.{false}
+use Rattle.std.proofs.Common.{◌≡◌, rules, refl, ◌∙◌, ◌%◌, ◌+◌, ◌++◌, sym, ap, Some, drop, replicate, false}
 use Rattle.std.proofs.lemmas.Bool.{false≢true}
 use Rattle.jpeg_bits.specs.ShortCodes.{symbol_in}
 use Rattle.jpeg_bits.specs.Written.{low_bits}
