@@ -7,7 +7,12 @@ use Rattle.jpeg_segments.specs.Frame.{component_of, frame_of}
 use Rattle.jpeg_segments.specs.Scales.{component_at, frame_at}
 use Rattle.jpeg_streams.specs.ColourChoice.{by_identifiers, transform_of}
 use Rattle.jpeg_streams.proofs.OnLiterals.{samples_on_literals, streams_on_literals}
+use Rattle.jpeg_streams.specs.Brought.{blocks_brought, blocks_brought_by, interval_reached, intervals_reached}
+use Rattle.jpeg_streams.specs.Brought.{reached_from, scan_brought, segment_brought, turn_brought, walk_brought}
+use Rattle.jpeg_streams.specs.InTurn.{turn_from}
 use Rattle.jpeg_streams.specs.Profile.{profile_of}
+use Rattle.jpeg_streams.specs.Shown.{completed, fault_shown, picture_shown, shown, shown_of, shown_rest}
+use Rattle.jpeg_streams.specs.Shown.{with_plane_shown, with_samples_shown}
 use Rattle.jpeg_evidence.specs.Cosines.{cosine, is_entry, are_entries}
 
 unfoldable pub files_on_literals : ⊤
@@ -37,3 +42,9 @@ predictions_on_literals = tt
 unfoldable pub profiles_on_literals : ⊤
 unfolding streams_on_literals profile_of
 profiles_on_literals = tt
+
+unfoldable pub cuts_on_literals : ⊤
+unfolding streams_on_literals samples_on_literals blocks_brought blocks_brought_by interval_reached intervals_reached
+    reached_from scan_brought segment_brought turn_brought walk_brought turn_from completed fault_shown
+    picture_shown shown shown_of shown_rest with_plane_shown with_samples_shown
+cuts_on_literals = tt

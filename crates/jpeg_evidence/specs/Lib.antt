@@ -7,3 +7,4 @@ pub mod Strict
 pub mod FoundTables
 pub mod HeaderRules
 pub mod Extremes
+pub mod CutStreams

@@ -1,7 +1,7 @@
 -- A lossless frame that is accepted has samples that a writer may emit.
 use Rattle.std.proofs.Common.{rules, arith, ◌≡◌, ◌⊎◌, ℕ, ◌≤◌, map, length, Ok}
 use Rattle.std.specs.Prelude.{nat_le}
-use Rattle.std.proofs.lemmas.Bool.{and_parts, eqb-true, leb-true}
+use Rattle.std.proofs.lemmas.Bool.{and_parts, eqb-true, leb-true, or_cases}
 use Rattle.std.specs.List.{AllByRecursion}
 use lib.ListN.{length-map}
 use Rattle.jpeg_bits.proofs.ReadIntervals.{all-mapped}
@@ -10,7 +10,7 @@ use Rattle.jpeg_segments.specs.WrittenSegments.{FrameHeader, frame_written}
 use Rattle.jpeg_streams.specs.AcceptedFrames.{HasPicture, HasSamples, IsUpsampled}
 use Rattle.jpeg_streams.specs.Segments.{accepted}
 use Rattle.jpeg_segments.proofs.ScaleLemmas.{factors-back}
-use Rattle.jpeg_streams.proofs.UpsampledFactors.{Upsampled, either, sources-back}
+use Rattle.jpeg_streams.proofs.UpsampledFactors.{Upsampled, sources-back}
 use Rattle.jpeg_streams.proofs.Soundness.{accepted-facts, accepted-precision}
 
 abbrev HasCount : ℕ → Type 0
@@ -27,7 +27,7 @@ accepted-parts number h ok =
     let cs = map (component_of h.width h.height most_h most_v) h.components in
     let back = factors-back h.width h.height most_h most_v h.components in
     let size : length frame.components ≡ length h.components = length-map h.components _ in (
-      (search (rules, either, eqb-true)),
+      (search (rules, or_cases, eqb-true)),
       all-mapped (λ c. Upsampled most_h most_v h.width h.height c.factors) (component_of h.width h.height most_h most_v)
           h.components (sources-back most_h most_v h.width h.height cs facts.1.0
           (search rules)),

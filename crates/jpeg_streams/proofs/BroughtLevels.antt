@@ -1,11 +1,10 @@
 -- A written stream is read as the blocks of its array, cut at the levels that were sent.
 use Rattle.std.proofs.Common.{rules, ◌≡◌, ℕ, zero, suc, Bool, true, false, List, [], ◌∷◌, ◌++◌, map, take, drop}
-use Rattle.std.proofs.Common.{replicate, length, Option, Some, None, refl, sym, ap, ◌∙◌, arith, ◌==◌, ◌≤◌}
-use Rattle.std.proofs.Common.{length-take, length-drop, ◌≢◌, ◌⊎◌, inl, inr, ◌-◌, ◌<◌, get_or, set, slice_index_or}
-use Rattle.std.proofs.Common.{length-set, get_or-set_same, get_or-set_other, ◌*◌, Ok, subst, true≢false}
-use Rattle.std.proofs.Common.{length-append}
+use Rattle.std.proofs.Common.{replicate, length, Option, Some, None, refl, sym, ap, ◌∙◌, arith, ◌==◌, ◌≤◌, length-take}
+use Rattle.std.proofs.Common.{length-drop, ◌≢◌, ◌⊎◌, inl, inr, ◌-◌, ◌<◌, get_or, set, slice_index_or, length-set}
+use Rattle.std.proofs.Common.{get_or-set_same, get_or-set_other, ◌*◌, Ok, subst, true≢false, length-append}
 use Rattle.std.proofs.lemmas.Grind.{common_steps}
-use Rattle.std.proofs.lemmas.Bool.{eqb-true, eq-eqb, not-true}
+use Rattle.std.proofs.lemmas.Bool.{eqb-true, eq-eqb, not-true, or_cases}
 use Rattle.jpeg_bits.proofs.WrittenIntervals.{not-equal}
 use Rattle.jpeg_streams.proofs.CutLevels.{around-band}
 use lib.ListN.{length-map}
@@ -37,7 +36,6 @@ use Rattle.jpeg_segments.specs.Scales.{frame_at}
 use Rattle.jpeg_bits.specs.Written.{marker, IsMarker}
 use Rattle.jpeg_streams.proofs.CodingsInForce.{codings-found}
 use Rattle.jpeg_streams.proofs.ReadTurns.{codings-each, codings-indices}
-use Rattle.jpeg_streams.proofs.UpsampledFactors.{either as either-true}
 
 -- ---- finished indices
 
@@ -466,7 +464,7 @@ after-fresh p (q ∷ indices) levels e h k n =
 
 pub progressive-pass : (count first last high low : ℕ) → is_progressive_band count first last high low ≡ true
     → (first ≡ 0 → last ≡ 0) × ((first ≡ 0) ⊎ (count ≡ 1))
-progressive-pass count first last high low e = grind (arith, common_steps, either-true, eq-eqb, not-true, eqb-true)
+progressive-pass count first last high low e = grind (arith, common_steps, or_cases, eq-eqb, not-true, eqb-true)
 
 pub band-so : (f : Frame) (s : Scan) → PassSo f s → IsBand (pass_of s)
 unfolding pass_of

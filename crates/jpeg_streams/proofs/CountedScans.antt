@@ -1,8 +1,7 @@
 -- A scan is its blocks one after the other, with a restart where no block is left of an interval.
-use Rattle.std.proofs.Common.{rules, ◌≡◌, ◌⊎◌, inl, inr, ℕ, zero, suc, ◌+◌, ◌-◌, ◌*◌, ◌%◌, ◌≤◌, ◌<◌}
-use Rattle.std.proofs.Common.{false, List, [], ◌∷◌, ◌++◌, take, drop, length, Option, Result, Ok}
-use Rattle.std.proofs.Common.{Err, refl, sym, ap, ◌∙◌, append-nil, arith, length-drop}
-use Rattle.std.proofs.Common.{take-append-drop, length-take, get_or, subst, map, set, ℤ, pos, ap₂}
+use Rattle.std.proofs.Common.{rules, ◌≡◌, ◌⊎◌, inl, inr, ℕ, zero, suc, ◌+◌, ◌-◌, ◌*◌, ◌%◌, ◌≤◌, ◌<◌, false, List, []}
+use Rattle.std.proofs.Common.{◌∷◌, ◌++◌, take, drop, length, Option, Result, Ok, Err, refl, sym, ap, ◌∙◌, append-nil}
+use Rattle.std.proofs.Common.{arith, length-drop, take-append-drop, length-take, get_or, subst, map, set, ℤ, pos, ap₂}
 use Rattle.std.proofs.Common.{◌≢◌, get_or-set_same, get_or-set_other, length-set}
 use Rattle.std.specs.Prelude.{◌==◌, ◌&&◌, nat_lt, if◌then◌else◌}
 use Rattle.std.specs.List.{AllByRecursion, flat_map}
@@ -13,17 +12,14 @@ use Rattle.jpeg_bits.specs.Entropy.{Text, upcoming, fresh, marker_from}
 use Rattle.jpeg_bits.specs.Readers.{Reads, read_on, gives}
 use Rattle.jpeg_bits.specs.declared.marker.Marker.{Marker}
 use Rattle.jpeg_segments.specs.Frame.{Frame, Component}
-use Rattle.jpeg_bits.specs.Passes.{Pass, Via, Block, block_from, blocks_of, predictors_at_start}
-use Rattle.jpeg_bits.specs.Intervals.{groups, first_group, other_groups, interval, intervals}
-use Rattle.jpeg_bits.specs.Intervals.{is_restart}
+use Rattle.jpeg_bits.specs.Passes.{Pass, Via, Block, block_from, blocks_of, predictors_at_start, zero_block}
+use Rattle.jpeg_bits.specs.Intervals.{groups, first_group, other_groups, interval, intervals, is_restart}
 use Rattle.jpeg_streams.specs.Order.{Spot, spots_of}
-use Rattle.jpeg_streams.specs.Scans.{Arrays, arrays_at, block_at, put_block, put_blocks, via_at}
-use Rattle.jpeg_streams.specs.Scans.{turns_of}
-use Rattle.jpeg_streams.specs.InTurn.{Reached, turn_from, turns_from, at_start, interval_from}
-use Rattle.jpeg_streams.specs.InTurn.{next_interval, intervals_from, restart_from, Counted}
-use Rattle.jpeg_streams.specs.InTurn.{begun_from, next_from, blocks_from, scan_from, AreArrays}
-use Rattle.jpeg_streams.specs.InTurn.{Fits, IsIn, AreApart, IsInside}
-use Rattle.jpeg_streams.proofs.Apart.{spots-apart, spots-inside}
+use Rattle.jpeg_streams.specs.Scans.{Arrays, arrays_at, block_at, put_block, put_blocks, via_at, turns_of}
+use Rattle.jpeg_streams.specs.InTurn.{Reached, turn_from, turns_from, at_start, interval_from, next_interval}
+use Rattle.jpeg_streams.specs.InTurn.{intervals_from, restart_from, Counted, begun_from, next_from, blocks_from}
+use Rattle.jpeg_streams.specs.InTurn.{scan_from, AreArrays, Fits, IsIn, AreApart, IsInside}
+use Rattle.jpeg_streams.proofs.Apart.{spots-apart}
 use Rattle.jpeg_bits.proofs.EndLemmas.{ahead-so}
 use Rattle.jpeg_bits.proofs.ReadIntervals.{Holds}
 use Rattle.jpeg_bits.proofs.TakenTexts.{blocks-takes}
@@ -66,9 +62,26 @@ reaches f q (r ∷ spots) arrays h (inr there) =
 
 -- ---- spots
 
-pub kept-after : (q r : Spot) (b : Block) (arrays : Arrays) → IsInside arrays r → (q ≡ r → ⊥)
+-- Another index of the same array stays. The array need not be there.
+beside : (arrays : Arrays) (slot i k : ℕ) (b : Block) → k ≢ i
+    → get_or (get_or (set arrays slot (set (get_or arrays slot []) i b)) slot []) k zero_block
+    ≡ get_or (get_or arrays slot []) k zero_block
+beside [] slot i k b n = refl
+beside (x ∷ arrays) zero i k b n = get_or-set_other x i k b zero_block n
+beside (x ∷ arrays) (suc slot) i k b n = beside arrays slot i k b n
+
+pub kept-after : (q r : Spot) (b : Block) (arrays : Arrays) → (q ≡ r → ⊥)
     → block_at (put_block q b arrays) r ≡ block_at arrays r
-kept-after q r b arrays h n = search (rules, same-spot, put-other)
+kept-after q r b arrays n = go (same-spot r q)
+  where
+    go : (r ≡ q) ⊎ ((r.slot ≢ q.slot) ⊎ ((r.slot ≡ q.slot) × (r.index ≢ q.index)))
+        → block_at (put_block q b arrays) r ≡ block_at arrays r
+    go (inl e) = absurd (n (sym e))
+    go (inr (inl m)) = ap (λ (l : List Block). get_or l r.index zero_block)
+        (get_or-set_other arrays q.slot r.slot (set (get_or arrays q.slot []) q.index b) [] m)
+    go (inr (inr h)) = subst (λ (k : ℕ). get_or (get_or (set arrays q.slot (set (get_or arrays q.slot []) q.index b)) k
+        []) r.index zero_block
+        ≡ get_or (get_or arrays k []) r.index zero_block) (sym h.0) (beside arrays q.slot q.index r.index b h.1)
 
 -- spots that keep their blocks are read alike
 pub same-turns : (vias : List Via) (spots : List Spot) (arrays others : Arrays)
@@ -78,19 +91,11 @@ unfolding turns_of
 same-turns vias [] arrays others h = refl
 same-turns vias (s ∷ spots) arrays others h = search (rules, same-turns vias spots arrays others)
 
-pub inside-after : (spots : List Spot) (blocks : List Block) (arrays : Arrays) (q : Spot) → IsInside arrays q
-    → IsInside (put_blocks spots blocks arrays) q
-unfolding put_blocks
-inside-after (s ∷ spots) (b ∷ blocks) arrays q h =
-    inside-after spots blocks (put_block s b arrays) q (put-inside s q b arrays h)
-inside-after spots blocks arrays q h = h
-
-pub others-kept : (spots : List Spot) (blocks : List Block) (arrays : Arrays) (q : Spot) → IsInside arrays q
+pub others-kept : (spots : List Spot) (blocks : List Block) (arrays : Arrays) (q : Spot)
     → (IsIn q spots → ⊥) → block_at (put_blocks spots blocks arrays) q ≡ block_at arrays q
 unfolding put_blocks
-others-kept (s ∷ spots) (b ∷ blocks) arrays q h n =
-    search (rules, put-inside, kept-after, others-kept spots blocks)
-others-kept spots blocks arrays q h n = refl
+others-kept (s ∷ spots) (b ∷ blocks) arrays q n = search (rules, kept-after, others-kept spots blocks)
+others-kept spots blocks arrays q n = refl
 
 pub put-both : (spots more : List Spot) (blocks others : List Block) (arrays : Arrays) → length blocks ≡ length spots
     → put_blocks (spots ++ more) (blocks ++ others) arrays ≡ put_blocks more others (put_blocks spots blocks arrays)
@@ -133,14 +138,13 @@ put_in spots arrays (Err e) = Err e
 
 -- blocks in turn are put back as all are
 pub in-turn : (p : Pass) (vias : List Via) (spots : List Spot) (arrays : Arrays) (predictors : List ℤ) (run : ℕ)
-    (t : Text) → AreApart spots → ((q : Spot) → IsIn q spots → IsInside arrays q)
+    (t : Text) → AreApart spots
     → arrays_in (turns_from p vias spots (record { arrays = arrays; predictors = predictors; run = run }) t)
     ≡ put_in spots arrays (blocks_of p predictors run (turns_of vias spots (block_at arrays)) t)
 unfolding turns_from turn_from blocks_of turns_of put_blocks
-in-turn p vias [] arrays predictors run t apart inside = refl
-in-turn p vias (s ∷ spots) arrays predictors run t apart inside =
-    step (λ b c n u. in-turn p vias spots (put_block s b arrays) c n u apart.1
-    (λ q h. put-inside s q b arrays (inside q (inr h))))
+in-turn p vias [] arrays predictors run t apart = refl
+in-turn p vias (s ∷ spots) arrays predictors run t apart =
+    step (λ b c n u. in-turn p vias spots (put_block s b arrays) c n u apart.1)
     (block_from p (via_at vias s.slot).dc (via_at vias s.slot).ac
     (get_or predictors (via_at vias s.slot).component (pos 0)) run (block_at arrays s) t)
   where
@@ -167,13 +171,13 @@ put_after spots arrays (Ok r) = Ok ((put_blocks spots r.0.0 arrays, r.0.1), r.1)
 put_after spots arrays (Err e) = Err e
 
 pub interval-in-turn : (p : Pass) (vias : List Via) (spots : List Spot) (arrays : Arrays) (bytes : List ℕ)
-    → AreApart spots → ((q : Spot) → IsIn q spots → IsInside arrays q)
+    → AreApart spots
     → interval_from p vias spots arrays bytes ≡ put_after spots arrays (interval (blocks_of p predictors_at_start 0 (turns_of vias spots (block_at arrays))) bytes)
 unfolding interval_from
-interval-in-turn p vias spots arrays bytes apart inside =
+interval-in-turn p vias spots arrays bytes apart =
     let turns = turns_of vias spots (block_at arrays) in
     let ahead = ahead-so (blocks_of p predictors_at_start 0 turns) bytes (blocks-takes p predictors_at_start 0 turns) in
-    grind (arith, ahead, in-turn p vias spots arrays predictors_at_start 0 (upcoming fresh bytes) apart inside)
+    grind (arith, ahead, in-turn p vias spots arrays predictors_at_start 0 (upcoming fresh bytes) apart)
 
 -- as many blocks as turns
 pub blocks-long : (p : Pass) (turns : List (Via × Block)) (predictors : List ℤ) (run : ℕ) (t : Text)
@@ -222,21 +226,20 @@ followed k spots after arrays o others more h again = search (rules, again, put-
 -- intervals in turn are put back as all are
 pub intervals-in-turn : (p : Pass) (vias : List Via) (k : ℕ) (spots : List Spot) (others : List (List Spot))
     (arrays : Arrays) (bytes : List ℕ)
-    → AreApart (spots ++ all_of others) → ((q : Spot) → IsIn q (spots ++ all_of others) → IsInside arrays q)
+    → AreApart (spots ++ all_of others)
     → intervals_from p vias k spots others arrays bytes
     ≡ put_after (spots ++ all_of others) arrays
     (intervals (blocks_of p predictors_at_start 0) k (turns_of vias spots (block_at arrays)) (all_turns vias arrays others) bytes)
 unfolding intervals_from intervals
-intervals-in-turn p vias k spots [] arrays bytes apart inside =
-    search (rules, interval-in-turn, apart-front, in-front, append-nil)
-intervals-in-turn p vias k spots (next ∷ more) arrays bytes apart inside =
-    (search (rules, interval-in-turn, apart-front, in-front))
+intervals-in-turn p vias k spots [] arrays bytes apart =
+    search (rules, interval-in-turn, apart-front, append-nil)
+intervals-in-turn p vias k spots (next ∷ more) arrays bytes apart =
+    (search (rules, interval-in-turn, apart-front))
     ∙ followed k spots after arrays (interval (read (turns_of vias spots (block_at arrays))) bytes)
     (intervals read (suc k) (turns_of vias next (block_at arrays)) (all_turns vias arrays more))
     (intervals_from p vias (suc k) next more) (search (rules, turns-long, interval-long))
     (λ blocks rest. intervals-in-turn p vias (suc k) next more (put_blocks spots blocks arrays) rest
     (apart-back spots (all_of (next ∷ more)) apart)
-    (λ q t. inside-after spots blocks arrays q (inside q (in-back q spots (all_of (next ∷ more)) t)))
     ∙ ap₂ (λ (l : List (Via × Block)) (ls : List (List (Via × Block))).
     put_after after (put_blocks spots blocks arrays) (intervals read (suc k) l ls rest))
     (same-turns vias next arrays (put_blocks spots blocks arrays) (λ q t. kept blocks q (in-front q next (all_of more) t)))
@@ -250,15 +253,15 @@ intervals-in-turn p vias k spots (next ∷ more) arrays bytes apart inside =
 
     kept : (blocks : List Block) (q : Spot) → IsIn q after
         → block_at (put_blocks spots blocks arrays) q ≡ block_at arrays q
-    kept blocks q t = search (rules, others-kept, in-back, apart-between)
+    kept blocks q t = others-kept spots blocks arrays q (λ h. apart-between q spots after apart h t)
 
--- A scan over spots that are apart and inside is its blocks in turn.
+-- A scan over spots that are apart is its blocks in turn.
 pub scans-in-turn : (p : Pass) (n : ℕ) (vias : List Via) (spots : List Spot) (arrays : Arrays) (bytes : List ℕ)
-    → AreApart spots → ((q : Spot) → IsIn q spots → IsInside arrays q)
+    → AreApart spots
     → arrays_at p n vias spots arrays bytes
     ≡ intervals_from p vias 0 (first_group n spots) (other_groups n spots) arrays bytes
 unfolding arrays_at turns_of
-scans-in-turn p n vias spots arrays bytes apart inside =
+scans-in-turn p n vias spots arrays bytes apart =
     search (rules, all-groups n spots, intervals-in-turn, first-map, others-map)
 
 -- ---- readers in a row
@@ -394,4 +397,4 @@ pub frame-scans : (frame : Frame) (components : List Component) (p : Pass) (vias
     → arrays_at p n vias (spots_of frame components) arrays bytes
     ≡ scan_from p vias n (spots_of frame components) arrays bytes
 frame-scans frame components p vias n arrays bytes fits sized =
-    search (rules, scans-in-turn, scans-by-blocks, spots-apart, spots-inside)
+    search (rules, scans-in-turn, scans-by-blocks, spots-apart)

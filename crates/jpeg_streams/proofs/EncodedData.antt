@@ -21,8 +21,7 @@ use Rattle.jpeg_segments.specs.ScanHeaders.{scan_written, ScanHeader}
 use Rattle.jpeg_streams.specs.Found.{Said}
 use Rattle.jpeg_streams.specs.FrameSamples.{AreBytes}
 use Rattle.jpeg_streams.specs.Levels.{Is8Bit, Levels, numbers_at, toward_zero}
-use Rattle.jpeg_streams.specs.Order.{all_spots, mcu_size, mcu_spots, own_spots, part_spots, Spot}
-use Rattle.jpeg_streams.specs.Order.{spots_of}
+use Rattle.jpeg_streams.specs.Order.{all_spots, mcu_size, mcu_spots, own_spots, part_spots, Spot, spots_of}
 use Rattle.jpeg_streams.specs.ScanSegments.{Coding, components_of, pass_of, vias_from}
 use Rattle.jpeg_streams.specs.Scans.{turns_of, via_at}
 use Rattle.jpeg_streams.specs.Scripts.{greatest_category, HasAcCodes, HasDcCodes, Suffices}

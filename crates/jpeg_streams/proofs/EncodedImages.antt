@@ -1,6 +1,5 @@
 -- Every image has a stream, by a script: for each component a scan, or in a progressive frame a scan of DC and one of AC.
-use Rattle.std.proofs.Common.{rules}
-use Rattle.std.proofs.Common.{[], append_assoc, arith, Bool, false, inl, inr, length, length-append, List, None}
+use Rattle.std.proofs.Common.{rules, [], append_assoc, arith, Bool, false, inl, inr, length, length-append, List, None}
 use Rattle.std.proofs.Common.{refl, Some, subst, suc, sym, true, zero, ℕ, ◌++◌, ◌<◌, ◌∙◌, ◌∷◌, ◌≡◌, ◌≢◌, ◌≤◌, ◌⊎◌}
 use Rattle.std.proofs.Math.Logic.{⊎_elim}
 use Rattle.std.proofs.lemmas.Bool.{cases_lt, eq-eqb, ne_eqb}

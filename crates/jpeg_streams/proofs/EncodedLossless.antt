@@ -5,7 +5,7 @@ use Rattle.std.proofs.Common.{◌+◌, ◌-◌, ◌<◌, ◌^◌, ◌∙◌, ◌
 use Rattle.std.proofs.Math.Logic.{⊎_elim}
 use Rattle.std.proofs.Math.Nat.{zero-mod}
 use Rattle.std.proofs.Math.Pow.{pow_mono}
-use Rattle.std.proofs.lemmas.Bool.{cases_lt, eq-eqb}
+use Rattle.std.proofs.lemmas.Bool.{cases_lt, eq-eqb, or_right}
 use Rattle.std.proofs.lemmas.List.{length-map, length-replicate, take_at}
 use Rattle.std.proofs.lemmas.List.Folds.{list_any-append}
 use Rattle.std.specs.List.{AllByRecursion, flat_map}
@@ -521,15 +521,11 @@ lone-legal h (c ∷ cs) front index p e all n =
       lone-legal h cs (front ++ c ∷ []) (suc index) p (e ∙ sym (append_assoc front (c ∷ []) cs)) all.1 (omega arith),
     )
 
-or-right : (a b : Bool) → b ≡ true → (a || b) ≡ true
-or-right true b e = refl
-or-right false b e = e
-
 lone-named : (cs : List Factors) (from index : ℕ) → from ≤ index → index < from + length cs
     → names (all_indices (lone_scans from cs)) index ≡ true
 lone-named [] from index low high = absurd (omega arith)
 lone-named (c ∷ cs) from index low high = ⊎_elim
-    (λ less. or-right (from == index) (names (all_indices (lone_scans (suc from) cs)) index)
+    (λ less. or_right (from == index) (names (all_indices (lone_scans (suc from) cs)) index)
     (lone-named cs (suc from) index (omega arith) (omega arith)))
     (λ more. ap (λ (b : Bool). b || names (all_indices (lone_scans (suc from) cs)) index)
     (eq-eqb from index (omega arith)))

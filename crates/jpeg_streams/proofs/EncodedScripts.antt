@@ -19,11 +19,10 @@ use Rattle.jpeg_segments.specs.HuffmanTables.{DefinedTable, greatest_destination
 use Rattle.jpeg_segments.specs.ScanHeader.{is_band, Scan, scan_of, Selector}
 use Rattle.jpeg_segments.specs.ScanHeaders.{AreChoices, choice_bytes, IsChoice, IsScan, scan_payload, scan_written}
 use Rattle.jpeg_segments.specs.ScanHeaders.{ScanHeader, selectors_in}
-use Rattle.jpeg_segments.specs.WrittenSegments.{AreComponents, factors_bytes, frame_payload, frame_written}
-use Rattle.jpeg_segments.specs.WrittenSegments.{FrameHeader, Header, Huffman, huffman_bytes, Interval, IsFrameHeader}
-use Rattle.jpeg_segments.specs.WrittenSegments.{IsHuffmanTable, IsQuantizationTable, nibbles, payload_of}
-use Rattle.jpeg_segments.specs.WrittenSegments.{Quantization, quantization_bytes, QuantizationTable, u16_bytes}
-use Rattle.jpeg_segments.specs.WrittenSegments.{with_length}
+use Rattle.jpeg_segments.specs.WrittenSegments.{AreComponents, factors_bytes, frame_payload, frame_written, FrameHeader}
+use Rattle.jpeg_segments.specs.WrittenSegments.{Header, Huffman, huffman_bytes, Interval, IsFrameHeader, IsHuffmanTable}
+use Rattle.jpeg_segments.specs.WrittenSegments.{IsQuantizationTable, nibbles, payload_of, Quantization}
+use Rattle.jpeg_segments.specs.WrittenSegments.{quantization_bytes, QuantizationTable, u16_bytes, with_length}
 use Rattle.jpeg_segments.specs.declared.frame.CodingProcess.{CodingProcess}
 use Rattle.jpeg_segments.specs.declared.frame.CodingProcess.TheVariants.{DctProgressive, DctSequential, Lossless}
 use Rattle.jpeg_streams.specs.AcceptedFrames.{HasPicture}

@@ -4,14 +4,11 @@ use Rattle.std.proofs.Common.{rules, ◌≡◌, ◌≢◌, ℕ, zero, suc, ◌*�
 use Rattle.std.proofs.Common.{map, length, Ok, refl, sym, ap, ◌∙◌, subst, arith, inl}
 use Rattle.std.proofs.lemmas.Bool.{eqb-true}
 use Rattle.std.proofs.lemmas.Bool.Decides.{leb_tells}
-use Rattle.std.proofs.Math.Nat.{le-div_iff_mul-le, add-mul, one-mul, mul_assoc, mul_comm}
-use Rattle.std.proofs.Math.Nat.{mul-le-mul_right, mul-le-mul}
+use Rattle.std.proofs.Math.Nat.{le-div_iff_mul-le, add-mul, one-mul, mul_assoc, mul_comm, mul-le-mul_right, mul-le-mul}
 use Rattle.std.specs.List.{AllByRecursion}
 use Rattle.jpeg_segments.specs.declared.frame.CodingProcess.TheVariants.{Lossless}
-use Rattle.jpeg_segments.specs.Frame.{Frame, Factors, IsInRange, frame_of, ceiling, component_of}
-use Rattle.jpeg_segments.specs.Frame.{greatest, Component}
-use Rattle.jpeg_pixels.specs.Pictures.{Source, sources_of, source_of, AllCover, AreWhole, Covers}
-use Rattle.jpeg_pixels.specs.Pictures.{HasSources}
+use Rattle.jpeg_segments.specs.Frame.{Frame, Factors, IsInRange, frame_of, ceiling, component_of, greatest, Component}
+use Rattle.jpeg_pixels.specs.Pictures.{Source, sources_of, source_of, AllCover, AreWhole, Covers, HasSources}
 use Rattle.jpeg_segments.specs.Scales.{frame_at, component_at}
 use Rattle.jpeg_segments.proofs.ScaleLemmas.{full_size, factors-back}
 use Rattle.jpeg_streams.specs.Segments.{accepted, is_decoded_count}
@@ -25,8 +22,7 @@ use Rattle.jpeg_segments.specs.Checks.{gathered}
 use Rattle.jpeg_pixels.proofs.SourceLists.{source-rule}
 use Rattle.jpeg_pixels.proofs.RuleRatios.{reach-end, rule-ratios, some-ceiling, in-blocks, room-of}
 use Rattle.jpeg_streams.proofs.ReadTurns.{ok-same, bind-ok}
-use Rattle.jpeg_streams.proofs.UpsampledFactors.{Reaches, AllReach, Upsampled, sources-back}
-use Rattle.jpeg_streams.proofs.UpsampledFactors.{sources-some}
+use Rattle.jpeg_streams.proofs.UpsampledFactors.{Reaches, AllReach, Upsampled, sources-back, sources-some}
 use Rattle.jpeg_segments.proofs.FrameLemmas.{greatest-some}
 
 -- the own blocks of a component are among those of all MCUs

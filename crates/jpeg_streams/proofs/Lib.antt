@@ -46,3 +46,7 @@ pub mod EncodedLossless
 pub mod PaddingUnseen
 pub mod SamplesAlike
 pub mod PlainScans
+pub mod ReachedIntervals
+pub mod FittingFrames
+pub mod CompletedPictures
+pub mod Faultless

@@ -11,18 +11,15 @@ use Rattle.jpeg_segments.specs.Scales.{frame_at}
 use Rattle.jpeg_segments.proofs.ScaleLemmas.{full_frames, factors-back}
 use Rattle.jpeg_lossless.specs.Codings.{IsCovered}
 use Rattle.jpeg_lossless.specs.Pictures.{Reaches}
-use Rattle.jpeg_streams.specs.LosslessScans.{LosslessCoding, mcus_across, mcus_down, part_of}
-use Rattle.jpeg_streams.specs.LosslessScans.{parts_of}
+use Rattle.jpeg_streams.specs.LosslessScans.{LosslessCoding, mcus_across, mcus_down, part_of, parts_of}
 use Rattle.jpeg_streams.specs.Sound.{IsDecodedFrame}
 use Rattle.jpeg_streams.proofs.Apart.{at-all, get-at}
-use Rattle.jpeg_streams.proofs.FrameShapes.{below-ceiling, ceiling-covers, ceiling-least}
-use Rattle.jpeg_streams.proofs.FrameShapes.{accepted-few}
+use Rattle.jpeg_streams.proofs.FrameShapes.{below-ceiling, ceiling-covers, ceiling-least, accepted-few}
 use Rattle.jpeg_segments.proofs.FrameLemmas.{greatest-some}
 use Rattle.jpeg_streams.proofs.CountedScans.{some-product}
 use Rattle.std.proofs.lemmas.Bool.{le-leb, and_from as both-true}
 use Rattle.std.proofs.lemmas.Bool.Decides.{nat_tests}
-use Rattle.jpeg_segments.specs.WrittenSegments.{AreComponents, FrameHeader, IsFrameHeader}
-use Rattle.jpeg_segments.specs.WrittenSegments.{frame_written}
+use Rattle.jpeg_segments.specs.WrittenSegments.{AreComponents, FrameHeader, IsFrameHeader, frame_written}
 use Rattle.jpeg_streams.specs.Segments.{accepted}
 use Rattle.jpeg_streams.specs.AcceptedFrames.{HasSamples}
 use Rattle.jpeg_streams.proofs.PicturedFrames.{accepted-by}

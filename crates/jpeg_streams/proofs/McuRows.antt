@@ -1,8 +1,7 @@
 -- A scan from zeros is its rows of MCUs, each read into blocks of its own.
-use Rattle.std.proofs.Common.{rules, ◌≡◌, ℕ, zero, suc, ◌+◌, ◌-◌, ◌*◌, ◌/◌, ◌≤◌, ◌<◌, List, [], ◌∷◌}
-use Rattle.std.proofs.Common.{◌++◌, map, length, set, get_or, Result, Ok, Err, refl, sym, ap, ap₂}
-use Rattle.std.proofs.Common.{◌∙◌, append_assoc, append-nil, arith, length-set, length-append, ℤ}
-use Rattle.std.proofs.Common.{false}
+use Rattle.std.proofs.Common.{rules, ◌≡◌, ℕ, zero, suc, ◌+◌, ◌-◌, ◌*◌, ◌/◌, ◌≤◌, ◌<◌, List, [], ◌∷◌, ◌++◌, map, length}
+use Rattle.std.proofs.Common.{set, get_or, Result, Ok, Err, refl, sym, ap, ap₂, ◌∙◌, append_assoc, append-nil, arith}
+use Rattle.std.proofs.Common.{length-set, length-append, ℤ, false}
 use Rattle.std.proofs.lemmas.Grind.{common_steps, flat_map-append}
 use Rattle.std.specs.Prelude.{min, ◌&&◌, if◌then◌else◌}
 use Rattle.std.specs.List.{AllByRecursion, range_with_len, flat_map}
@@ -11,16 +10,13 @@ use Rattle.jpeg_bits.specs.Entropy.{Text, upcoming, fresh}
 use Rattle.jpeg_bits.specs.Readers.{Reads, read_on, gives}
 use Rattle.jpeg_segments.specs.Frame.{Frame, Component}
 use Rattle.jpeg_bits.specs.Passes.{Pass, Via, Block, zero_block}
-use Rattle.jpeg_streams.specs.Order.{Spot, grid_of, own_spots, part_spots, mcu_spots, all_spots}
-use Rattle.jpeg_streams.specs.Order.{spots_of, mcu_size}
+use Rattle.jpeg_streams.specs.Order.{Spot, grid_of, own_spots, part_spots, mcu_spots, all_spots, spots_of, mcu_size}
 use Rattle.jpeg_streams.specs.Scans.{Arrays, zero_arrays, put_block}
-use Rattle.jpeg_streams.specs.InTurn.{Reached, turn_from, Counted, begun_from, next_from}
-use Rattle.jpeg_streams.specs.InTurn.{blocks_from, IsIn, IsInside, Fits, counted_at_start}
-use Rattle.jpeg_streams.specs.InTurn.{scan_from, AreArrays}
+use Rattle.jpeg_streams.specs.InTurn.{Reached, turn_from, Counted, begun_from, next_from, blocks_from, IsIn, IsInside}
+use Rattle.jpeg_streams.specs.InTurn.{Fits, counted_at_start, scan_from, AreArrays}
 use Rattle.jpeg_streams.specs.McuRows.{zero_rows, row_size, own_row, mcu_row, rows_of}
 use Rattle.jpeg_streams.specs.McuRows.{each_with_more, on_arrays, mcu_rows_from, scan_by_rows}
-use Rattle.jpeg_streams.proofs.CountedScans.{put-inside, finished, on-on, blocks-append}
-use Rattle.jpeg_streams.proofs.CountedScans.{some-product, frame-scans}
+use Rattle.jpeg_streams.proofs.CountedScans.{put-inside, finished, on-on, blocks-append, some-product, frame-scans}
 use Rattle.std.proofs.Math.Nat.{add-mul, mul_assoc, div-lt_iff_lt-mul}
 use Rattle.jpeg_streams.proofs.Apart.{At, at-all, in-flat-back, mcu-tells, own-within, placed}
 use Rattle.jpeg_streams.proofs.Apart.{map-same, get-at, sized, zeros-sized}

@@ -15,8 +15,7 @@ use Rattle.jpeg_pixels.specs.Colour.{blue_of, colour_of, conversion_of, green_of
 use Rattle.jpeg_pixels.specs.Pictures.{image_of, lines_of, converted_picture, picture_line, source_of}
 use Rattle.jpeg_pixels.specs.Planes.{cropped, plane_of}
 use Rattle.jpeg_pixels.specs.Samples.{basis, column_value, dequantized, is_flat_column, sample, transformed}
-use Rattle.jpeg_pixels.specs.Scaled.{column_of_4, even_part, odd_part, sample_at, sample_of_1, sample_of_2}
-use Rattle.jpeg_pixels.specs.Scaled.{sample_of_4}
+use Rattle.jpeg_pixels.specs.Scaled.{column_of_4, even_part, odd_part, sample_at, sample_of_1, sample_of_2, sample_of_4}
 use Rattle.jpeg_pixels.specs.Upsampling.{rule_of, upsampled}
 use Rattle.jpeg_segments.specs.Application.{adobe_at, app_at, application_by, com_at, dri_at}
 use Rattle.jpeg_segments.specs.Checks.{gathered}

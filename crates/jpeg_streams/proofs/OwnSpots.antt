@@ -8,8 +8,7 @@ use Rattle.std.specs.List.{AllByRecursion, range_with_len, flat_map}
 use Rattle.jpeg_segments.specs.Frame.{Frame, Component}
 use Rattle.jpeg_bits.proofs.ReadIntervals.{all-append}
 use Rattle.jpeg_streams.specs.declared.grids.Grid.{Grid}
-use Rattle.jpeg_streams.specs.Order.{Spot, grid_of, own_spots, part_spots, mcu_spots, all_spots}
-use Rattle.jpeg_streams.specs.Order.{spots_of}
+use Rattle.jpeg_streams.specs.Order.{Spot, grid_of, own_spots, part_spots, mcu_spots, all_spots, spots_of}
 use Rattle.jpeg_streams.specs.WrittenScans.{IsOwn}
 use Rattle.jpeg_streams.specs.InTurn.{IsIn}
 pub use Rattle.jpeg_streams.specs.InTurn.{Fits}

@@ -1,5 +1,5 @@
 -- A run that prints the meaning of a stream prints images.
-use Rattle.std.proofs.Common.{rules, arith, refl, ◌≡◌, ◌∙◌, ℕ, ◌++◌, List, Option, Some, Result, Ok, IsSome}
+use Rattle.std.proofs.Common.{arith, refl, ◌≡◌, ◌∙◌, ℕ, ◌++◌, List, Option, Some, Result, Ok, IsSome}
 use Rattle.std.specs.Prelude.{IfErr, IsSomeAnd, OnOk, option_map}
 use Rattle.std.specs.Io.KnownBytes.{Appends}
 use Rattle.jpeg_bits.specs.declared.error.Error.{Error}
@@ -7,7 +7,7 @@ use Rattle.jpeg_streams.specs.ArrayPictures.{picture_of_array}
 use Rattle.jpeg_streams.specs.Levels.{Is8Bit, Levels}
 use Rattle.jpeg_streams.specs.Output.{default_settings, header_line_of, output_of, IsOutsideOrMemory, TakesBeginning}
 use Rattle.jpeg_streams.specs.Output.{Tells}
-use Rattle.jpeg_streams.specs.PrintedImages.{Prints, PrintsImages}
+use Rattle.jpeg_streams.specs.PrintedImages.{PrintsImages}
 use Rattle.jpeg_streams.specs.Pixels.{info_of}
 use Rattle.jpeg_streams.specs.Found.{Said}
 use Rattle.jpeg_streams.specs.Stream.{told_of}
@@ -26,12 +26,6 @@ pub image-output : (array : Coefficients) (image rest picture : List ℕ) (final
 image-output array image rest picture final last range w is =
     output-some (image ++ rest) rest (told_of final) picture
     (stream-means default_settings array image rest final last range w ∙ then-ok _ _ picture _ is refl)
-
-prints : {X : Type 0} (bytes text : List ℕ) (old new : Option (List ℕ)) (result : Result X Error)
-    → output_of bytes ≡ Some text → OnOk result (IsSomeAnd (output_of bytes) (Appends old new))
-    → ((text : List ℕ) → output_of bytes ≡ Some text → TakesBeginning old new text)
-    → (IsSome (output_of bytes) → IfErr result IsOutsideOrMemory) → Prints text old result new
-prints bytes text old new result e ok beginning refused = search rules
 
 pub prints-images : {X : Type 0} (remaining old new : Option (List ℕ)) (result : Result X Error)
     → ((bytes : List ℕ) → Tells remaining bytes → OnOk result (IsSomeAnd (output_of bytes) (Appends old new)))

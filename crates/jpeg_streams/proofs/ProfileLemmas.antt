@@ -1,7 +1,6 @@
 -- The parts of a profile.
-use Rattle.std.proofs.Common.{rules, ◌≡◌, ◌+◌, ◌<◌, ◌≤◌, ℕ, zero, suc, List, [], ◌∷◌, ◌++◌, Option}
-use Rattle.std.proofs.Common.{Some, None, refl, length, map, append_assoc, arith, Ok, false, true}
-use Rattle.std.proofs.Common.{ap, get_or}
+use Rattle.std.proofs.Common.{rules, ◌≡◌, ◌+◌, ◌<◌, ◌≤◌, ℕ, zero, suc, List, [], ◌∷◌, ◌++◌, Option, Some, None, refl}
+use Rattle.std.proofs.Common.{length, map, append_assoc, arith, Ok, false, ap, get_or}
 use Rattle.std.proofs.lemmas.Grind.{common_steps}
 use Rattle.std.proofs.lemmas.List.{append-nil, get_or_default}
 use Rattle.std.specs.Prelude.{◌==◌, filter_map, flat_map, option_map, is_some}
@@ -11,13 +10,9 @@ use Rattle.jpeg_segments.specs.Application.{Chunk, Application, app_at}
 use Rattle.jpeg_segments.specs.FrameView.{chunk_in, frame_in}
 use Rattle.jpeg_segments.specs.declared.frame.FrameInfo.{FrameInfo}
 use Rattle.jpeg_segments.specs.Frame.{Frame, sof_at}
-use Rattle.jpeg_streams.specs.Segments.{with_application, frame_segment, accepted, onward}
-use Rattle.jpeg_streams.specs.Segments.{application_segment, updated}
+use Rattle.jpeg_streams.specs.Segments.{with_application, frame_segment, accepted, onward, application_segment, updated}
 use Rattle.jpeg_streams.specs.Found.{Found, Metadata, with_said}
 use Rattle.std.proofs.Math.ListN.{set}
-use Rattle.jpeg_bits.specs.Codes.{Table}
-use Rattle.jpeg_segments.specs.HuffmanTables.{all_ac}
-use Rattle.std.proofs.lemmas.Bool.{and_parts}
 
 -- the bytes of the first part of this number
 abbrev pub part : ℕ → List Chunk → Option (List ℕ)
@@ -107,12 +102,6 @@ unfolding updated
 updated-keep (x ∷ xs) (y ∷ ys) (suc i) e = search (rules, updated-keep xs ys i)
 updated-keep xs ys i e = search rules
 
--- each table stays of class AC
-pub all_ac-updated : (xs ys : List (Option Table)) → all_ac xs ≡ true → all_ac ys ≡ true → all_ac (updated xs ys) ≡ true
-unfolding updated
-all_ac-updated (x ∷ xs) (y ∷ ys) p q = search (rules, and_parts, all_ac-updated xs ys)
-all_ac-updated xs ys p q = search rules
-
 -- a destination is moved
 pub moved-some : {A : Type 0} (xs ys xs' ys' : List (Option A)) (i : ℕ) (found d v : Option A) (t : A) → i < length xs
     → length xs ≡ length ys → found ≡ get_or ys i d → v ≡ None → found ≡ Some t
@@ -123,7 +112,3 @@ pub moved-none : {A : Type 0} (xs ys xs' ys' : List (Option A)) (i : ℕ) (found
     → length xs ≡ length ys → found ≡ get_or ys i d → v ≡ None → found ≡ None
     → xs' ≡ xs → ys' ≡ set ys i v → updated xs' ys' ≡ updated xs ys
 moved-none xs ys xs' ys' i found d v p l f n s a b = search (rules, updated-keep, get_or_default)
-
-pub all_ac-moved : (old moved read new : List (Option Table)) → all_ac old ≡ true → all_ac read ≡ true → moved ≡ read
-    → new ≡ updated old moved → all_ac new ≡ true
-all_ac-moved old moved read new p q m n = rw (n, m) (all_ac-updated old read p q)

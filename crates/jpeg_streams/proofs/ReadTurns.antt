@@ -28,9 +28,8 @@ use Rattle.jpeg_streams.specs.declared.before.Before.TheVariants.{Elsewhere}
 use Rattle.jpeg_bits.specs.Passes.{Pass}
 use Rattle.jpeg_streams.specs.Scans.{Arrays}
 use Rattle.jpeg_segments.specs.Checks.{gathered, needed}
-use Rattle.jpeg_streams.specs.ScanSegments.{component_coding, needed_if, Coding, tables_of, after_restarts}
-use Rattle.jpeg_streams.specs.ScanSegments.{after_scan, scan_arrays, codings_of, scan_segment, blocks_scan, pass_of}
-use Rattle.jpeg_streams.specs.ScanSegments.{scan_turn}
+use Rattle.jpeg_streams.specs.ScanSegments.{component_coding, needed_if, Coding, tables_of, after_restarts, after_scan}
+use Rattle.jpeg_streams.specs.ScanSegments.{scan_arrays, codings_of, scan_segment, blocks_scan, pass_of, scan_turn}
 use Rattle.jpeg_streams.specs.Segments.{accepted, onward, Turn, frame_segment}
 use Rattle.jpeg_streams.specs.Found.{Found, Said}
 use Rattle.jpeg_streams.specs.SaidSegments.{said_after}

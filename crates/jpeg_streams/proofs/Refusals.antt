@@ -10,8 +10,7 @@ use Rattle.jpeg_streams.specs.Stream.{told_of, start_at, walk, Told, meaning}
 use Rattle.jpeg_streams.specs.Reported.{told_by_turns, told_in_turns}
 use Rattle.jpeg_streams.specs.Found.{nothing_found, nothing_said}
 use Rattle.jpeg_streams.specs.Pixels.{info_of}
-use Rattle.jpeg_streams.specs.Output.{output_of, header_line_of, default_settings}
-use Rattle.jpeg_streams.specs.Output.{IsOutsideOrMemory, NamesOrOutside}
+use Rattle.jpeg_streams.specs.Output.{output_of, header_line_of, default_settings, IsOutsideOrMemory, NamesOrOutside}
 
 pub short-step : (counter : ℕ) (met : Option Marker) (s first : Stream) → (0 < counter → IsShort first)
     → (counter ≡ 0 → (met ≡ None) × (s ≡ first)) → (met ≡ None → IsShort s) → IsShort first

@@ -1,10 +1,11 @@
 -- What a script has sent of each coefficient is what its levels say: a scan that is legal by coefficients is legal
 -- by levels, and the levels after it are those of the coefficients.
-use Rattle.std.proofs.Common.{rules, ◌≡◌, ◌≢◌, ◌⊎◌, inl, inr, ℕ, zero, suc, ◌+◌, ◌-◌, ◌<◌, ◌≤◌, ◌==◌}
-use Rattle.std.proofs.Common.{Bool, true, false, List, [], ◌∷◌, ◌++◌, map, take, drop, replicate, length, Option, Some, None}
-use Rattle.std.proofs.Common.{refl, sym, ap, ap₂, subst, ◌∙◌, arith, ◌&&◌, ◌||◌}
+use Rattle.std.proofs.Common.{rules, ◌≡◌, ◌≢◌, ◌⊎◌, inl, inr, ℕ, zero, suc, ◌+◌, ◌-◌, ◌<◌, ◌≤◌, ◌==◌, Bool, true, false}
+use Rattle.std.proofs.Common.{List, [], ◌∷◌, ◌++◌, map, take, drop, replicate, length, Option, Some, None, refl, sym}
+use Rattle.std.proofs.Common.{ap, ap₂, subst, ◌∙◌, arith, ◌&&◌, ◌||◌}
 use Rattle.std.specs.Prelude.{if◌then◌else◌, nat_le}
-use Rattle.std.proofs.lemmas.Bool.{eq-eqb, eqb-true, le-leb, ne_eqb}
+use Rattle.std.proofs.lemmas.Bool.{eq-eqb, eqb-false, eqb-true, le-leb, ne_eqb}
+use Rattle.jpeg_streams.proofs.Apart.{map-same}
 use Rattle.std.proofs.lemmas.Bool.Decides.{leb_tells, nat_tests}
 use Rattle.std.specs.List.{AllByRecursion, list_any, range_with_len}
 use Rattle.jpeg_bits.specs.Passes.{band_of, band_size, before_band, Pass}
@@ -102,16 +103,13 @@ one-lower process count first last high low e ne = grind (arith, nat_tests)
 is-false : (a b : ℕ) → a ≢ b → (a == b) ≡ false
 is-false a b ne = ne_eqb a b ne
 
-pub eqb-not : (a b : ℕ) → (a == b) ≡ false → a ≢ b
-eqb-not a b e f = absurd (let g : true ≡ false = sym (eq-eqb a b f) ∙ e in cc)
-
 pub legal-by : (process : CodingProcess) (count : ℕ) (h : ScanHeader) (sent : ℕ → Option ℕ) (l : Levels)
     → is_band process count h.first h.last h.high h.low ≡ true → Allows process h sent → AreLevelsOf sent l
     → IsLegal (pass_by process h) l
 legal-by process count h sent l band allows are = record {
   low = allows.low;
   dc_unsent = λ s f. are.dc ∙ allows.first (eqb-true h.high 0 f) 0 (omega arith) (omega arith);
-  dc_sent = λ s f. let ne = eqb-not h.high 0 f in
+  dc_sent = λ s f. let ne = eqb-false h.high 0 f in
       are.dc ∙ (allows.refined ne 0 (omega arith) (omega arith)
       ∙ ap (λ (n : ℕ). Some n) (one-lower process count h.first h.last h.high h.low band ne));
   dc_before = λ s e. allows.after_dc s (sym are.dc ∙ e);
@@ -119,7 +117,7 @@ legal-by process count h sent l band allows are = record {
       (sym are.acs)
       (band-all sent (λ x. x ≡ None) (band_size (pass_by process h)) (before_band (pass_by process h)) 1 63
       (λ k a b. allows.first (eqb-true h.high 0 f) k (omega arith) (omega arith)));
-  acs_sent = λ f. let ne = eqb-not h.high 0 f in
+  acs_sent = λ f. let ne = eqb-false h.high 0 f in
       subst (λ (ls : List (Option ℕ)). AllByRecursion (λ x. x ≡ Some (suc h.low)) (band_of (pass_by process h) ls))
       (sym are.acs)
       (band-all sent (λ x. x ≡ Some (suc h.low)) (band_size (pass_by process h)) (before_band (pass_by process h)) 1 63
@@ -180,12 +178,8 @@ one-after process h sent l are =
 abbrev pub AreAllLevels : SentLevels → (ℕ → Levels) → Type 0
 AreAllLevels sent levels = (index : ℕ) → AreLevelsOf (sent index) (levels index)
 
-map-on : (f g : ℕ → Option ℕ) (ks : List ℕ) → ((k : ℕ) → f k ≡ g k) → map f ks ≡ map g ks
-map-on f g [] h = refl
-map-on f g (k ∷ ks) h = ap₂ (λ (y : Option ℕ) (ys : List (Option ℕ)). y ∷ ys) (h k) (map-on f g ks h)
-
 levels-same : (f g : ℕ → Option ℕ) (l : Levels) → ((k : ℕ) → f k ≡ g k) → AreLevelsOf f l → AreLevelsOf g l
-levels-same f g l same are = search (rules, map-on)
+levels-same f g l same are = search (rules, map-same)
 
 either-in : {A : Type 0} (a b c : Bool) (x y : A)
     → (if b && c then x else (if a && c then x else y)) ≡ (if (a || b) && c then x else y)

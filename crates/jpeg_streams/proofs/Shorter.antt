@@ -3,13 +3,11 @@ use Rattle.std.proofs.lemmas.Grind.{common_steps}
 use Rattle.std.proofs.Common.{rules, ◌≡◌, ◌≤◌, ◌<◌, ℕ, zero, suc, List, [], ◌∷◌, Ok, Err, Bool}
 use Rattle.std.proofs.Common.{true, false, Option, Some, None, length, arith}
 use Rattle.std.specs.Prelude.{if◌then◌else◌}
-use Rattle.jpeg_bits.specs.Reading.{Outcome, Fault, ◌>>=◌, next_byte, next_u16, length_at, skip_at}
-use Rattle.jpeg_bits.specs.Reading.{times}
+use Rattle.jpeg_bits.specs.Reading.{Outcome, Fault, ◌>>=◌, next_byte, next_u16, length_at, skip_at, times}
 use Rattle.jpeg_bits.specs.Marker.{next_marker}
 use Rattle.jpeg_segments.specs.Checks.{check, needed}
 use Rattle.jpeg_segments.specs.Frame.{Frame, Factors, size_at, factors_at, components_from, sof_at}
-use Rattle.jpeg_segments.specs.ScanHeader.{Selector, count_at, selector_at, selectors_from, band_at}
-use Rattle.jpeg_segments.specs.ScanHeader.{sos_at}
+use Rattle.jpeg_segments.specs.ScanHeader.{Selector, count_at, selector_at, selectors_from, band_at, sos_at}
 use Rattle.jpeg_segments.specs.Application.{Application, adobe_at, app_at, dri_at, passed_over}
 use Rattle.jpeg_segments.specs.Quantization.{value_at, defined_table_at, dqt_at}
 use Rattle.jpeg_segments.specs.HuffmanTables.{defined_codes_at, dht_at}

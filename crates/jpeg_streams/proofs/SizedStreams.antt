@@ -1,12 +1,10 @@
 -- A written stream, read at a scale.
 use Rattle.std.proofs.lemmas.Grind.{common_steps}
-use Rattle.std.proofs.Common.{rules, ◌≡◌, ◌≢◌, ℕ, zero, suc, ◌<◌, ◌≤◌, List, [], ◌∷◌, ◌++◌, map}
-use Rattle.std.proofs.Common.{length, option_map, Option, None, Ok, refl, sym, ap, ◌∙◌, subst}
-use Rattle.std.proofs.Common.{arith, length-append, ◌+◌, ◌*◌, ◌==◌, Bool, true, sum_by, sum}
-use Rattle.std.proofs.Common.{slice_get, slice_index_or, Some, ap₂, mul_assoc, ◌/◌, ◌%◌}
+use Rattle.std.proofs.Common.{rules, ◌≡◌, ◌≢◌, ℕ, zero, suc, ◌<◌, ◌≤◌, List, [], ◌∷◌, ◌++◌, map, length, option_map}
+use Rattle.std.proofs.Common.{Option, None, Ok, refl, sym, ap, ◌∙◌, subst, arith, length-append, ◌+◌, ◌*◌, ◌==◌, Bool}
+use Rattle.std.proofs.Common.{true, sum_by, sum, slice_get, slice_index_or, Some, ap₂, mul_assoc, ◌/◌, ◌%◌}
 use Rattle.jpeg_segments.specs.declared.frame.CodingProcess.{CodingProcess}
-use Rattle.jpeg_segments.specs.declared.frame.CodingProcess.TheVariants.{DctSequential}
-use Rattle.jpeg_segments.specs.declared.frame.CodingProcess.TheVariants.{DctProgressive, Lossless}
+use Rattle.jpeg_segments.specs.declared.frame.CodingProcess.TheVariants.{DctSequential, DctProgressive, Lossless}
 use Rattle.jpeg_segments.specs.Frame.{Frame, Component, Factors, ceiling}
 use Rattle.jpeg_segments.specs.WrittenSegments.{frame_written, Header, Segment}
 use Rattle.jpeg_streams.specs.declared.before.Before.TheVariants.{Elsewhere}
@@ -23,16 +21,14 @@ use Rattle.jpeg_streams.specs.WrittenScans.{Coefficients, IsOwn, WritesScan, Has
 use Rattle.jpeg_streams.specs.WrittenImages.{WritesImage, ClosesImage, WritesImageScan, WritesPart}
 use Rattle.jpeg_streams.specs.ArrayPictures.{meaning_of_array, picture_of_array, TakesPicture}
 use Rattle.jpeg_streams.proofs.OwnSpots.{At}
-use Rattle.jpeg_streams.proofs.ReadTurns.{bind-ok, coding-is, ok-same, same-frame, some-none}
+use Rattle.jpeg_streams.proofs.ReadTurns.{bind-ok, coding-is, ok-same, same-frame, some-none, stands-here, then-ok}
 use Rattle.jpeg_streams.proofs.CodingsInForce.{codings-found, found-codings}
-use Rattle.jpeg_streams.proofs.ReadTurns.{stands-here, then-ok}
 use Rattle.jpeg_streams.proofs.BroughtLevels.{Shaped}
 use Rattle.jpeg_streams.proofs.FrameShapes.{Plain, plain-size, below-ceiling, scaled_component}
 use Rattle.jpeg_streams.proofs.FrameShapes.{most_h, most_v, frame-components, frame-sources}
-use Rattle.jpeg_streams.proofs.WrittenPictures.{drawn-said, holds-nothing, image-read, IsDrawn}
-use Rattle.jpeg_streams.proofs.WrittenPictures.{ImageMeant, MayEndImage, bring, no_progress, plain-said}
+use Rattle.jpeg_streams.proofs.WrittenPictures.{drawn-said, holds-nothing, image-read, IsDrawn, ImageMeant, MayEndImage}
+use Rattle.jpeg_streams.proofs.WrittenPictures.{bring, no_progress, plain-said, pictured, taken}
 use Rattle.jpeg_streams.proofs.WalkedStreams.{beside, frame-kept, header-read, reads-on, rest-by}
-use Rattle.jpeg_streams.proofs.WrittenPictures.{pictured, taken}
 use Rattle.jpeg_streams.proofs.Soundness.{scale-bounds}
 use Rattle.jpeg_segments.proofs.ScaleLemmas.{scale_for_is_scale}
 use Rattle.jpeg_segments.proofs.FrameLemmas.{greatest-some}
@@ -45,8 +41,7 @@ use Rattle.jpeg_segments.specs.ScanHeader.{Selector, index_of, blocks_by, scan_o
 use Rattle.jpeg_segments.specs.ScanHeaders.{AreChoices, IsScan, ScanHeader, scan_written}
 use Rattle.jpeg_segments.proofs.ScanLemmas.{position-map}
 use Rattle.jpeg_bits.specs.Passes.{Pass, Via}
-use Rattle.jpeg_streams.specs.Order.{Spot, grid_of, part_spots, mcu_spots, all_spots, spots_of}
-use Rattle.jpeg_streams.specs.Order.{mcu_size}
+use Rattle.jpeg_streams.specs.Order.{Spot, grid_of, part_spots, mcu_spots, all_spots, spots_of, mcu_size}
 use Rattle.jpeg_segments.specs.HuffmanTables.{Tables}
 use Rattle.jpeg_streams.specs.ScanSegments.{vias_from, Coding, codings_of, component_coding}
 use Rattle.jpeg_streams.specs.ScanSegments.{components_of, pass_of, tables_of}

@@ -11,8 +11,7 @@ use Rattle.jpeg_segments.specs.Frame.{Frame, Component, Factors, IsFrame, frame_
 use Rattle.jpeg_segments.specs.Scales.{IsSizedFrame, frame_at, is_scale, scale_for, scaled_by, sized}
 use Rattle.jpeg_segments.specs.declared.scale.Scale.{Scale}
 use Rattle.jpeg_segments.specs.declared.frame.CodingProcess.{CodingProcess}
-use Rattle.jpeg_segments.specs.declared.frame.CodingProcess.TheVariants.{DctSequential}
-use Rattle.jpeg_segments.specs.declared.frame.CodingProcess.TheVariants.{DctProgressive, Lossless}
+use Rattle.jpeg_segments.specs.declared.frame.CodingProcess.TheVariants.{DctSequential, DctProgressive, Lossless}
 use Rattle.jpeg_segments.proofs.ScaleLemmas.{full_frames, scaled_again}
 use Rattle.jpeg_pixels.specs.Pictures.{Source, HasSources, sources_of}
 use Rattle.jpeg_streams.specs.InTurn.{Fits}
@@ -21,8 +20,7 @@ use Rattle.jpeg_streams.specs.Stream.{header_at, scaled_header_at, scaled_to, si
 use Rattle.jpeg_streams.specs.Segments.{accepted, is_decoded_count, is_decoded_precision}
 use Rattle.jpeg_streams.specs.Found.{nothing_found, nothing_said, Found, with_said, Said}
 use Rattle.jpeg_streams.specs.ScanSegments.{arrays_before}
-use Rattle.jpeg_streams.specs.Sound.{AreSampled, HasDecodedFrame, IsUnread, IsDecodedFrame}
-use Rattle.jpeg_streams.specs.Sound.{ArePlanes, IsSound}
+use Rattle.jpeg_streams.specs.Sound.{AreSampled, HasDecodedFrame, IsUnread, IsDecodedFrame, ArePlanes, IsSound}
 use Rattle.jpeg_streams.proofs.Apart.{zeros-sized}
 use Rattle.jpeg_streams.proofs.FrameShapes.{scaled-frames-fit, frames-have-sources}
 use borrow.Author.Tests.{not-false}

@@ -1,7 +1,7 @@
 -- Whole streams, tested as they are read. What is read of a segment was written, so a segment proves itself. The data of
 -- scans are made from what is to be written, and compared.
-use Rattle.std.specs.Prelude.{⊤}
-use Rattle.jpeg_bits.specs.Written.{bits_of_bytes, low_bits, number_for, stuffed}
+use Rattle.std.specs.Prelude.{⊤, nat_le, slice_get, slice_index, slice_index_or, ◌≤◌, ◌≤ℤ◌, get_or, ◌/◌, ◌%◌}
+use Rattle.jpeg_bits.specs.Written.{bits_of_bytes, low_bits, number_for, stuffed, marker, WritesEach}
 use Rattle.jpeg_streams.specs.WrittenData.{corrections, count_unknown, WritesBlocks}
 use Rattle.jpeg_streams.proofs.OnLiterals.{samples_on_literals, streams_on_literals}
 use Rattle.std.proofs.Common.{rules, ◌≡◌, ℕ, zero, suc, ◌+◌, ◌-◌, ◌*◌, ◌==◌, ◌&&◌, not, nat_lt, Bool, true, false}
@@ -12,11 +12,9 @@ use Rattle.std.proofs.lemmas.Bool.{and_parts, ltb-true, not-true, eq-eqb, eqb-tr
 use Rattle.std.proofs.lemmas.Bool.Decides.{nat_tests}
 use Rattle.std.proofs.lemmas.Grind.{common_steps}
 use Rattle.std.specs.List.{list_all, position_or_len, range_with_len, flat_map}
-use Rattle.std.specs.Prelude.{nat_le, slice_get, slice_index, slice_index_or, ◌≤◌, ◌≤ℤ◌, get_or, ◌/◌, ◌%◌}
 use Rattle.jpeg_bits.specs.Intervals.{first_group, other_groups, intervals}
 use Rattle.jpeg_bits.specs.Passes.{Block, predictors_at_start, band_of, Pass}
 use Rattle.jpeg_bits.specs.Reading.{Fault, Outcome}
-use Rattle.jpeg_bits.specs.Written.{marker, WritesEach}
 use Rattle.jpeg_segments.specs.Application.{Application as Says, app_at}
 use Rattle.jpeg_segments.specs.Frame.{Component, Frame}
 use Rattle.jpeg_segments.specs.HuffmanTables.{Tables}

@@ -1,8 +1,7 @@
 -- Components whose factors can be upsampled have a way to upsample them, and no others.
-use Rattle.std.proofs.Common.{rules, ◌≡◌, ◌⊎◌, ℕ, ◌%◌, ◌||◌, Bool, true, false, List, [], ◌∷◌}
-use Rattle.std.proofs.Common.{Option, Some, None, Ok, refl, sym, if◌then◌else◌, true≢false, zero}
-use Rattle.std.proofs.Common.{suc, ◌+◌, ◌*◌, ◌/◌, ◌<◌, ◌≤◌, map, length, slice_index, ap, ap₂}
-use Rattle.std.proofs.Common.{arith}
+use Rattle.std.proofs.Common.{rules, ◌≡◌, ◌⊎◌, ℕ, ◌%◌, ◌||◌, Bool, true, false, List, [], ◌∷◌, Option, Some, None, Ok}
+use Rattle.std.proofs.Common.{refl, sym, if◌then◌else◌, true≢false, zero, suc, ◌+◌, ◌*◌, ◌/◌, ◌<◌, ◌≤◌, map, length}
+use Rattle.std.proofs.Common.{slice_index, ap, ap₂, arith}
 use Rattle.std.proofs.lemmas.Bool.{eqb-true, eq-eqb, and_from as and-true, or_left}
 use Rattle.std.specs.List.{AllByRecursion, range_with_len, concat}
 use Rattle.jpeg_segments.specs.Checks.{gathered}
@@ -64,10 +63,6 @@ sources-some most_h most_v width height (c ∷ cs) u =
     )
 
 -- ---- and back
-
--- one of two tests holds
-pub either : (a b : Bool) → (a || b) ≡ true → (a ≡ true) ⊎ (b ≡ true)
-either n b e = search rules
 
 pub sources-back : (most_h most_v width height : ℕ) (cs : List Component) (sources : List Source)
     → gathered (source_of most_h most_v width height) cs ≡ Ok sources

@@ -1,7 +1,6 @@
 -- A written scan of a frame takes the blocks of its components to the next level.
-use Rattle.std.proofs.Common.{rules, ◌≡◌, ℕ, List, ◌++◌, map, Some, Ok, ap, ◌∙◌, Option, inl, inr, zero, suc, ◌+◌}
-use Rattle.std.proofs.Common.{◌*◌, ◌/◌, ◌%◌, ◌<◌, ◌≤◌, [], ◌∷◌, length, get_or, refl, sym, ap₂, subst, arith}
-use Rattle.std.proofs.Common.{length-set}
+use Rattle.std.proofs.Common.{rules, ◌≡◌, ℕ, List, ◌++◌, map, Some, Ok, ap, ◌∙◌, Option, inl, inr, zero, suc, ◌+◌, ◌*◌}
+use Rattle.std.proofs.Common.{◌/◌, ◌%◌, ◌<◌, ◌≤◌, [], ◌∷◌, length, get_or, refl, sym, ap₂, subst, arith, length-set}
 use Rattle.std.specs.List.{AllByRecursion}
 use Rattle.jpeg_bits.specs.Intervals.{first_group, intervals, other_groups}
 use Rattle.jpeg_bits.specs.Passes.{Block, Pass, Via, blocks_of, predictors_at_start, whole_pass, zero_block}

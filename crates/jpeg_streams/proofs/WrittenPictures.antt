@@ -38,6 +38,7 @@ use Rattle.jpeg_streams.specs.WholeImages.{AllComplete}
 use Rattle.jpeg_streams.specs.WrittenImages.{MayStandInImage, WritesImage, WritesImageScan}
 use Rattle.jpeg_streams.specs.WrittenScans.{Coefficients, HasTable, IsComplete}
 use Rattle.jpeg_streams.proofs.FrameShapes.{accepted-sources, all-shaped, frame-lossy, Plain, below-ceiling}
+use Rattle.jpeg_streams.proofs.FrameShapes.{reaches-made, scale-made, one-made}
 use Rattle.jpeg_streams.proofs.LosslessSizes.{all-ranged}
 use Rattle.jpeg_streams.proofs.WalkedStreams.{beside, FindsScan, IsMeant, IsRead, IsSaid, ReadTo, stream-read}
 use Rattle.jpeg_streams.specs.declared.settings.Settings.{Settings}
@@ -48,7 +49,6 @@ use Rattle.jpeg_bits.specs.declared.color_transform.ColorTransform.{ColorTransfo
 use Rattle.jpeg_pixels.specs.Colour.{conversion_of}
 use Rattle.jpeg_pixels.specs.declared.color_convert.ColorConvert.{ColorConvert}
 use Rattle.jpeg_bits.specs.Zigzag.{coefficients_in_block_order, values_in_block_order}
-use Rattle.jpeg_streams.proofs.FrameShapes.{reaches-made, scale-made, one-made}
 use Rattle.jpeg_bits.specs.Passes.{Block, zero_block, listed}
 use Rattle.jpeg_streams.specs.Order.{grid_of}
 use Rattle.jpeg_pixels.specs.Scaled.{sample_at}

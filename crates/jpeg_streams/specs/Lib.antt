@@ -14,6 +14,9 @@ pub mod States
 pub mod Pixels
 pub mod Profile
 pub mod Output
+-- what a stream with a fault shows
+pub mod Brought
+pub mod Shown
 -- what a writer emits, and its picture
 pub mod Levels
 pub mod WrittenData

@@ -1,0 +1,63 @@
+-- Streams that are cut or damaged, worked by hand, and what they show.
+use Rattle.std.specs.Prelude.{ℕ, ◌-◌, List, [], ◌∷◌, length, replicate, take, Option, Result, Ok}
+use Rattle.std.specs.Prelude.{Err}
+use Rattle.jpeg_bits.specs.Reading.{Fault, ◌>>=◌}
+use Rattle.jpeg_streams.specs.Found.{with_said}
+use Rattle.jpeg_streams.specs.Output.{default_settings}
+use Rattle.jpeg_streams.specs.Shown.{Shown, shown, shown_rest}
+use Rattle.jpeg_streams.specs.Stream.{header_at, sized_to}
+use Rattle.jpeg_streams.specs.Worked.{colour_frame, grey_frame, image_with, one_code, quantization_of}
+use Rattle.jpeg_streams.specs.Worked.{restart_interval, scan_text, stream_with, two_codes}
+
+-- the picture and the first fault, or why there is no picture
+abbrev pub picture_and_fault : Result Shown Fault → Result (List ℕ × Option Fault) Fault
+picture_and_fault (Ok s) = Ok (s.picture, s.fault)
+picture_and_fault (Err e) = Err e
+
+abbrev pub seen : List ℕ → Result (List ℕ × Option Fault) Fault
+seen bytes = picture_and_fault (shown default_settings bytes)
+
+-- the same where the picture is to be at least that wide or that high
+abbrev pub seen_sized : ℕ → ℕ → List ℕ → Result (List ℕ × Option Fault) Fault
+seen_sized width height bytes =
+    header_at bytes >>= λ header. picture_and_fault
+    (shown_rest default_settings (with_said (sized_to width height) header.0) header.1)
+
+-- without its last n bytes
+abbrev pub without_last : ℕ → List ℕ → List ℕ
+without_last n bytes = take (length bytes - n) bytes
+
+-- 16 by 8 samples: DC 8 and DC 16, in six bits each
+abbrev pub two_blocks : List ℕ
+two_blocks = stream_with 16 (65 ∷ 15 ∷ [])
+
+-- 24 by 8 samples: a band at level 1, and its refinement, of three bits a block
+abbrev pub three_refined : List ℕ
+three_refined =
+    image_with (quantization_of 16 ∷ grey_frame 2 8 24 ∷ one_code 0 0 ∷ two_codes 16 1 0
+    ∷ scan_text 1 0 0 0 (31 ∷ []) ∷ scan_text 1 1 2 1 (102 ∷ 111 ∷ [])
+    ∷ scan_text 1 1 2 16 (36 ∷ 191 ∷ []) ∷ [])
+
+-- 32 by 8 samples in four restart intervals, the second of which ends with the wrong marker
+abbrev pub wrong_restart : List ℕ
+wrong_restart =
+    image_with (quantization_of 1 ∷ grey_frame 0 8 32 ∷ one_code 0 4 ∷ one_code 16 0
+    ∷ restart_interval 1
+    ∷ scan_text 1 0 63 0 (67 ∷ 255 ∷ 208 ∷ 67 ∷ 255 ∷ 210 ∷ 67 ∷ 255 ∷ 210 ∷ 67 ∷ []) ∷ [])
+
+-- an end of band that stands for two blocks, and bytes that end after it
+abbrev pub run_at_end : List ℕ
+run_at_end =
+    image_with (quantization_of 1 ∷ grey_frame 2 8 16 ∷ one_code 0 4 ∷ one_code 16 16
+    ∷ scan_text 1 0 0 0 (65 ∷ 192 ∷ []) ∷ scan_text 1 1 63 0 (63 ∷ []) ∷ [])
+
+-- a lossless stream of two lines of four samples, each of category 1 and so of two bits
+abbrev pub two_lines : List ℕ
+two_lines =
+    image_with (grey_frame 3 2 4 ∷ one_code 0 1 ∷ scan_text 1 1 0 0 (85 ∷ 85 ∷ []) ∷ [])
+
+-- two components of a sequential frame were not sent
+abbrev pub one_of_three : List ℕ
+one_of_three =
+    image_with (quantization_of 1 ∷ colour_frame 0 8 8 17 ∷ one_code 0 4 ∷ one_code 16 0
+    ∷ scan_text 66 0 63 0 (123 ∷ []) ∷ [])

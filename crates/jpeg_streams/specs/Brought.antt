@@ -1,0 +1,167 @@
+-- What a stream has brought up to its first fault: the blocks that can be read of the bits that are
+-- there, and the fault (T.81, B.1.1.5, E.2.4, F.2 and G.2).
+--
+-- Blocks are read as in a stream without fault, with one difference: where a marker ends the data
+-- no zeros follow the bits. A block that needs one bit more isn't read, nor is any after it.
+use Rattle.std.specs.Prelude.{ℕ, zero, suc, ◌*◌, List, [], ◌∷◌, map, length, get_or, Bool, true}
+use Rattle.std.specs.Prelude.{false, Option, Some, None, Result, Ok, Err, nat_le, if◌then◌else◌, ◌&&◌}
+use Rattle.jpeg_bits.specs.Reading.{Fault, Malformed, End, Outcome, ◌>>=◌}
+use Rattle.jpeg_bits.specs.Entropy as entropy
+use Rattle.jpeg_bits.specs.Entropy.{Text, Ending, text_at, Broken}
+use Rattle.jpeg_bits.specs.Intervals.{is_restart, first_group, other_groups, met}
+use Rattle.jpeg_bits.specs.Marker.{found_or, next_marker}
+use Rattle.jpeg_bits.specs.Passes.{Pass, Via}
+use Rattle.jpeg_bits.specs.declared.marker.Marker.{Marker}
+use Rattle.jpeg_bits.specs.declared.marker.Marker.TheVariants.{SOS}
+use Rattle.jpeg_segments.specs.Checks.{needed}
+use Rattle.jpeg_segments.specs.Frame.{Frame}
+use Rattle.jpeg_segments.specs.ScanHeader.{Scan, sos_at}
+use Rattle.jpeg_segments.specs.declared.frame.CodingProcess.{CodingProcess}
+use Rattle.jpeg_segments.specs.declared.frame.CodingProcess.TheVariants.{Lossless}
+use Rattle.jpeg_streams.specs.declared.before.Before.{Before}
+use Rattle.jpeg_streams.specs.declared.before.Before.TheVariants.{Elsewhere}
+use Rattle.jpeg_streams.specs.Found.{Found}
+use Rattle.jpeg_streams.specs.InTurn.{Reached, at_start, turn_from}
+use Rattle.jpeg_streams.specs.Order.{Spot, spots_of, mcu_size}
+use Rattle.jpeg_streams.specs.Scans.{Arrays}
+use Rattle.jpeg_streams.specs.ScanSegments.{after_restarts, after_scan, lossless_scan}
+use Rattle.jpeg_streams.specs.ScanSegments.{arrays_before, codings_of, components_of, Coding}
+use Rattle.jpeg_streams.specs.ScanSegments.{pass_of, scan_turn, vias_from}
+use Rattle.jpeg_streams.specs.Segments.{Turn}
+use Rattle.jpeg_streams.specs.Stream.{segment_at}
+
+-- ---- a restart interval
+
+-- the bits of a text, and none after them
+abbrev pub sealed : Text → Text
+sealed t = record t { ending = Broken End }
+
+-- The blocks at some spots, up to the first that can't be read: what is reached, and the bits after
+-- the last block, or the fault.
+unfoldable pub reached_from : Pass → List Via → List Spot → Reached → Text
+    → Reached × Result (List Bool) Fault
+reached_from p vias [] old t = (old, Ok t.bits)
+reached_from p vias (s ∷ spots) old t = elim (turn_from p vias s old t) [
+  | Ok r ↦ reached_from p vias spots r.0 r.1
+  | Err fault ↦ (old, Err fault)
+]
+
+-- The fault of a block that needs more bits than there are: a marker stands in their place, or the
+-- data end with a fault of their own.
+abbrev pub fault_at : Ending → Fault → Fault
+fault_at (entropy.Found m rest) End = Malformed
+fault_at (entropy.Broken fault) End = fault
+fault_at _ fault = fault
+
+abbrev pub or_fault_at : {A : Type 0} → Ending → Result A Fault → Result A Fault
+or_fault_at e (Ok x) = Ok x
+or_fault_at e (Err fault) = Err (fault_at e fault)
+
+-- The interval that begins these bytes: the blocks as far as they can be read; and whether at most 56
+-- bits are left after the last, the marker that ends it and the bytes after that, or the fault.
+unfoldable pub interval_reached : Pass → List Via → List Spot → Arrays → List ℕ
+    → Arrays × Outcome (Bool × Option Marker)
+interval_reached p vias spots arrays bytes =
+    let r = reached_from p vias spots (at_start arrays) (sealed (text_at bytes)) in (
+      r.0.arrays,
+      or_fault_at (text_at bytes).ending r.1 >>= λ left.
+          met (text_at bytes).ending >>= λ m. Ok ((nat_le (length left) 56, m.0), m.1),
+    )
+
+-- ---- a scan
+
+-- After an interval that isn't the last RST k has to stand, and at most 56 bits before it, as where
+-- a scan is read without fault: the bytes after it.
+abbrev pub after_interval : ℕ → (Bool × Option Marker) × List ℕ → Result (List ℕ) Fault
+after_interval k r = if r.0.0 && is_restart k r.0.1 then Ok r.1 else Err Malformed
+
+-- After the last interval: the marker that ends it, where restart markers are passed over if at
+-- most 56 bits stand before them.
+abbrev pub after_intervals : (Bool × Option Marker) × List ℕ → Outcome (Option Marker)
+after_intervals r = if r.0.0 then after_restarts (suc (length r.1)) r.0.1 r.1 else Ok (r.0.1, r.1)
+
+-- One interval and more, between which RST stand in turn from number k on: the blocks as far as
+-- they can be read, and the marker after the scan, or the fault.
+unfoldable pub intervals_reached
+    : Pass → List Via → ℕ → List Spot → List (List Spot) → Arrays → List ℕ
+    → Arrays × Outcome (Option Marker)
+intervals_reached p vias k spots [] arrays bytes =
+    let r = interval_reached p vias spots arrays bytes in
+    (r.0, r.1 >>= after_intervals)
+intervals_reached p vias k spots (next ∷ more) arrays bytes =
+    let r = interval_reached p vias spots arrays bytes in
+    elim (r.1 >>= after_interval k) [
+      | Ok rest ↦ intervals_reached p vias (suc k) next more r.0 rest
+      | Err fault ↦ (r.0, Err fault)
+    ]
+
+-- A scan in intervals of n blocks, or in one where n is 0.
+abbrev pub scan_reached
+    : Pass → ℕ → List Via → List Spot → Arrays → List ℕ → Arrays × Outcome (Option Marker)
+scan_reached p n vias spots arrays bytes =
+    intervals_reached p vias 0 (first_group n spots) (other_groups n spots) arrays bytes
+
+-- ---- a segment
+
+-- What is found where a turn ends with a fault, and the turn or its fault.
+abbrev pub Brought : Type 0
+Brought = Found × Outcome Turn
+
+-- A scan of blocks: those that were reached count as if the scan had ended after them.
+unfoldable pub blocks_brought_by : Found → Frame → Scan → List Coding → List ℕ → Brought
+blocks_brought_by found frame scan codings bytes =
+    let r = scan_reached (pass_of scan) (found.said.restart * mcu_size (components_of codings))
+    (vias_from 0 codings) (spots_of frame (components_of codings))
+    (map (λ c. get_or (arrays_before found frame) c.index []) codings) bytes in
+    let after = after_scan found frame scan codings r.0 in
+    (after, r.1 >>= λ m. Ok (scan_turn found after m.0, m.1))
+
+unfoldable pub blocks_brought : Found → Frame → Scan → List ℕ → Brought
+blocks_brought found frame scan bytes = elim (codings_of found.said frame scan) [
+  | Ok codings ↦ blocks_brought_by found frame scan codings bytes
+  | Err fault ↦ (found, Err fault)
+]
+
+-- A lossless scan counts where all of it is read, and not at all where it has a fault.
+abbrev pub brought_by : CodingProcess → Found → Frame → Scan → List ℕ → Brought
+brought_by Lossless found frame scan bytes = (found, lossless_scan found frame scan bytes)
+brought_by _ found frame scan bytes = blocks_brought found frame scan bytes
+
+-- the frame, and the header of a scan of it
+abbrev pub frame_and_scan : Found → List ℕ → Result (Frame × (Scan × List ℕ)) Fault
+frame_and_scan found bytes =
+    needed found.said.frame >>= (λ frame. sos_at frame bytes >>= (λ scan. Ok (frame, scan)))
+
+unfoldable pub scan_brought : Found → List ℕ → Brought
+scan_brought found bytes = elim (frame_and_scan found bytes) [
+  | Ok x ↦ brought_by x.0.process found x.0 x.1.0 x.1.1
+  | Err fault ↦ (found, Err fault)
+]
+
+-- After a marker. Of a segment that has a fault nothing counts, but where it is a scan.
+unfoldable pub segment_brought : Marker → Before → Found → List ℕ → Brought
+segment_brought SOS before found bytes = scan_brought found bytes
+segment_brought m before found bytes = (found, segment_at m before found bytes)
+
+unfoldable pub turn_brought : Before → Found → Option Marker → List ℕ → Brought
+turn_brought before found met bytes = elim (found_or met bytes (next_marker bytes)) [
+  | Ok m ↦ segment_brought m.0 before found m.1
+  | Err fault ↦ (found, Err fault)
+]
+
+-- Segments in turn from a marker on, up to the end of the image or the first fault: what was found
+-- by then, and the bytes after the image, or the fault. There are at most this many turns.
+unfoldable pub walk_brought : ℕ → Before → Found → Option Marker → List ℕ
+    → Found × Result (List ℕ) Fault
+walk_brought zero before found met bytes = (found, Err End)
+walk_brought (suc turns) before found met bytes =
+    let b = turn_brought before found met bytes in
+    elim b.1 [
+      | Err fault ↦ (b.0, Err fault)
+      | Ok t ↦ if t.0.ended then (t.0.found, Ok t.1) else walk_brought turns t.0.before t.0.found
+          t.0.met t.1
+    ]
+
+-- All segments from here on. There are fewer turns than bytes.
+abbrev pub all_brought : Found → List ℕ → Found × Result (List ℕ) Fault
+all_brought found bytes = walk_brought (suc (length bytes)) Elsewhere found None bytes

@@ -1,0 +1,116 @@
+-- What a stream shows: the picture of what it has brought, and its first fault.
+use Rattle.std.specs.Prelude.{ℕ, ◌*◌, ◌-◌, ◌^◌, ◌&&◌, List, fold, get_or, replicate}
+use Rattle.std.specs.Prelude.{Option, Some, None, unwrap_or, slice_index_or, Result, Ok, Err, []}
+use Rattle.std.specs.Prelude.{slice_set}
+use Rattle.std.specs.Prelude.{if◌then◌else◌}
+use Rattle.std.specs.List.{enumerate_from}
+use Rattle.jpeg_bits.specs.Reading.{Fault, Malformed, ◌>>=◌}
+use Rattle.jpeg_bits.specs.Passes.{Block}
+use Rattle.jpeg_segments.specs.Checks.{gathered, needed}
+use Rattle.jpeg_segments.specs.Frame.{Frame, Component}
+use Rattle.jpeg_segments.specs.declared.frame.CodingProcess.{CodingProcess}
+use Rattle.jpeg_segments.specs.declared.frame.CodingProcess.TheVariants.{Lossless}
+use Rattle.jpeg_streams.specs.declared.settings.Settings.{Settings}
+use Rattle.jpeg_streams.specs.declared.progress.Progress.{Progress}
+use Rattle.jpeg_streams.specs.declared.progress.Progress.TheVariants.{Fresh}
+use Rattle.jpeg_streams.specs.Brought.{all_brought}
+use Rattle.jpeg_streams.specs.Found.{Found, nothing_found}
+use Rattle.jpeg_streams.specs.FoundPictures.{picture_of, plane_at_end}
+use Rattle.jpeg_streams.specs.Rasters.{plane_by}
+use Rattle.jpeg_streams.specs.Scans.{zero_of}
+use Rattle.jpeg_streams.specs.ScanSegments.{decided, is_progressive}
+use Rattle.jpeg_streams.specs.Stream.{Told, told_of, start_at}
+
+-- ---- the picture
+
+-- A component's blocks: those that are kept, or else zeros.
+abbrev pub blocks_held : Found → Frame → ℕ × Component → List Block
+blocks_held found frame c = if is_progressive frame.process && found.said.scanned
+    then get_or found.kept c.0 [] else zero_of c.1
+
+-- the quantization table in force for a component; without one all its blocks are zeros, of which
+-- any table makes the same samples
+abbrev pub table_held : Found → Component → List ℕ
+table_held found c =
+    unwrap_or (slice_index_or found.said.quantization c.factors.quantization None) (replicate 64 1)
+
+-- A component without a plane gets that of its blocks.
+unfoldable pub with_plane_shown : Frame → Found → ℕ × Component → Found
+with_plane_shown frame found c = record found {
+  planes = slice_set found.planes c.0 (decided (slice_index_or found.planes c.0 None)
+      (plane_by c.1 (table_held found c.1) (blocks_held found frame c)));
+}
+
+-- A lossless component without samples gets half of their range.
+unfoldable pub with_samples_shown : Frame → Found → ℕ × Component → Found
+with_samples_shown frame found c = record found {
+  samples = slice_set found.samples c.0 (decided (slice_index_or found.samples c.0 None)
+      (replicate (c.1.width * c.1.height) (2 ^ (frame.precision - 1))));
+}
+
+abbrev pub shown_by : CodingProcess → Frame → Found → ℕ × Component → Found
+shown_by Lossless frame found c = with_samples_shown frame found c
+shown_by _ frame found c = with_plane_shown frame found c
+
+-- What was found, with what its picture lacks.
+unfoldable pub completed : Found → Frame → Found
+completed found frame =
+    fold (shown_by frame.process frame) found (enumerate_from 0 frame.components)
+
+-- The picture of what was found, within the limit of the settings.
+unfoldable pub picture_shown : Settings → Found → Result (List ℕ) Fault
+picture_shown settings found =
+    needed found.said.frame >>= (λ frame. picture_of settings (completed found frame))
+
+-- ---- the fault
+
+-- whether each component has what its picture is made of
+abbrev pub planes_by : CodingProcess → Found → Frame → Result (List (List ℕ)) Fault
+planes_by Lossless found frame = gathered (λ c. needed (slice_index_or found.samples c.0 None))
+    (enumerate_from 0 frame.components)
+planes_by _ found frame = gathered (plane_at_end found frame) (enumerate_from 0 frame.components)
+
+abbrev pub fault_in : {A : Type 0} → Result A Fault → Option Fault
+fault_in (Ok x) = None
+fault_in (Err fault) = Some fault
+
+-- The first fault: that of the segments, or else, at the end of the image, that a component was not
+-- sent.
+unfoldable pub fault_shown : Found → Result (List ℕ) Fault → Option Fault
+fault_shown found (Err fault) = Some fault
+fault_shown found (Ok rest) =
+    fault_in (needed found.said.frame >>= (λ frame. planes_by frame.process found frame))
+
+-- ---- the stream
+
+-- what a caller is given of a stream, its picture, and its first fault, if it has one
+pub record Shown : Type 0 where
+  pub told : Told
+  pub picture : List ℕ
+  pub fault : Option Fault
+
+-- Without a frame nothing is shown; the fault is that of the segments.
+abbrev pub framed_or : {A : Type 0} → Option Frame → Result A Fault → Result (Unit {0}) Fault
+framed_or (Some frame) walked = Ok tt
+framed_or None (Err fault) = Err fault
+framed_or None (Ok rest) = Err Malformed
+
+unfoldable pub shown_of : Settings → Found × Result (List ℕ) Fault → Result Shown Fault
+shown_of settings w = do
+  _ ← framed_or w.0.said.frame w.1
+  picture ← picture_shown settings w.0
+  Ok (record { told = told_of w.0.said; picture = picture; fault = fault_shown w.0 w.1 })
+
+-- What the rest of a stream shows after its start or its header.
+unfoldable pub shown_rest : Settings → Found → List ℕ → Result Shown Fault
+shown_rest settings found bytes =
+    shown_of settings (all_brought found bytes)
+
+-- What a stream shows.
+unfoldable pub shown : Settings → List ℕ → Result Shown Fault
+shown settings bytes = start_at bytes >>= (λ start. shown_rest settings nothing_found start.1)
+
+-- What lies ahead of a decoder: a whole stream, or the rest of one after its header.
+abbrev pub shown_ahead : Progress → Settings → Found → List ℕ → Result Shown Fault
+shown_ahead Fresh settings found bytes = shown settings bytes
+shown_ahead _ settings found bytes = shown_rest settings found bytes
