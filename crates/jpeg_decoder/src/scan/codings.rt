@@ -50,17 +50,26 @@ pub fn pass_of(header: &ScanInfo) -> Pass
     }
 }
 
-/// The number of pixels from which it pays to fill the look-up tables of AC values: they have 2,304
-/// entries, and a small picture has fewer tokens.
-const WIDE_PIXELS: u32 = 1 << 14;
+/// The number of pixels of a sequential frame from which it pays to fill the look-up tables of AC
+/// values: they have 2,048 entries, and a small picture has fewer tokens.
+const WIDE_PIXELS: u32 = 1 << 12;
+
+/// The same for a progressive frame, whose scans read few tokens with each table.
+const WIDE_PROGRESSIVE_PIXELS: u32 = 1 << 14;
 
 /// Returns whether a frame has enough pixels for the look-up tables of AC values to pay.
 fn is_large(frame: &FrameInfo) -> bool {
-    pixels_of(frame) >= WIDE_PIXELS
+    let least = if is_progressive(frame.coding_process) {
+        WIDE_PROGRESSIVE_PIXELS
+    } else {
+        WIDE_PIXELS
+    };
+    pixels_of(frame) >= least
 }
 
-/// The number of pixels from which it pays to look up two AC values at once.
-const PAIR_PIXELS: u32 = 1 << 17;
+/// The number of pixels of a sequential frame from which it pays to look up two AC values at once,
+/// or to pass over several: these tables have 2,048 and 4,096 entries besides.
+const LARGE_PIXELS: u32 = 1 << 17;
 
 /// Which look-up tables of AC values are filled for a frame.
 #[derive(Clone, Copy, Debug, PartialEq)]
@@ -93,14 +102,12 @@ fn is_eighth(frame: &FrameInfo) -> bool {
 /// progressive one read few tokens each, and a sequential one whose blocks give one sample each
 /// needs no AC coefficient.
 fn look_ups_for(frame: &FrameInfo) -> LookUps {
-    if is_progressive(frame.coding_process) {
+    if is_progressive(frame.coding_process) || pixels_of(frame) < LARGE_PIXELS {
         LookUps::Values
     } else if is_eighth(frame) {
         LookUps::Skips
-    } else if pixels_of(frame) >= PAIR_PIXELS {
-        LookUps::Pairs
     } else {
-        LookUps::Values
+        LookUps::Pairs
     }
 }
 
