@@ -14,6 +14,7 @@
 pub mod decoding;
 pub mod headers;
 pub mod lines;
+pub mod partial;
 pub mod pictures;
 pub mod runs;
 pub mod settings;

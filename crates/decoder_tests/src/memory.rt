@@ -51,7 +51,19 @@ impl Reading<'_> {
         }
     }
 
-    /// Returns whether a decoder does so after a first call.
+    /// Returns whether a decoder shows the picture of a stream without a fault, or has failed.
+    fn shows(&self, decoder: &mut Decoder<Counted<'_>>) -> bool {
+        match decoder.decode_partial() {
+            Ok(shown) => {
+                (shown.fault.is_some() || shown.pixels.as_slice() == self.stream.picture)
+                    && self.is_reported(decoder)
+                    && is_finished(&decoder.decode())
+            }
+            Err(error) => self.is_failed(decoder, &error),
+        }
+    }
+
+    /// Returns whether a decoder returns the picture after a first call, or has failed.
     fn decodes_after(&self, decoder: &mut Decoder<Counted<'_>>, first: First) -> bool {
         match begin(decoder, first) {
             Ok(()) => self.is_reported(decoder) && self.decodes(decoder),
@@ -74,6 +86,20 @@ fn decodes(alloc: Global, stream: &Written<'_>, first: First) -> bool {
     }
 }
 
+/// Returns whether a decoder of a stream shows its picture, or runs out of memory.
+fn shows(alloc: Global, stream: &Written<'_>) -> bool {
+    let counts = Counts::new();
+    let reader = Reader::new(stream.bytes, usize::MAX, usize::MAX, Trouble::Fails);
+    let reading = Reading {
+        stream,
+        counts: &counts,
+    };
+    match Decoder::new(alloc, Counted::new(reader, &counts)) {
+        Ok(mut decoder) => reading.shows(&mut decoder),
+        Err(error) => matches!(error, Error::OutOfMemory),
+    }
+}
+
 /// Returns whether `run` writes what it is to, or runs out of memory and writes nothing.
 fn runs(alloc: Global, stream: &Written<'_>) -> bool {
     let mut output = Vec::new(alloc);
@@ -87,7 +113,7 @@ fn runs(alloc: Global, stream: &Written<'_>) -> bool {
     }
 }
 
-/// Returns whether both hold for a stream, after each first call.
+/// Returns whether all of this holds for a stream, `decodes` after each first call.
 fn fares(alloc: Global, stream: &Stream) -> bool {
     match stream.write_out(&mut [0; ROOM], &mut [0; ROOM]) {
         Ok(stream) => {
@@ -96,7 +122,7 @@ fn fares(alloc: Global, stream: &Stream) -> bool {
                     return false;
                 }
             }
-            runs(alloc, &stream)
+            shows(alloc, &stream) && runs(alloc, &stream)
         }
         Err(_) => false,
     }

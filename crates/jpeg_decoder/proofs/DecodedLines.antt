@@ -257,7 +257,7 @@ decoded-reading Finished new x h = absurd h.1
 decoded-reading Failed new x h = absurd h.1
 
 -- no memory is left for what was decoded
-lost-stage : {X : Type 0} (Y : Type 0) (old new : Progress) (x : X) → MovesToEnd old new (Ok x)
+pub lost-stage : {X : Type 0} (Y : Type 0) (old new : Progress) (x : X) → MovesToEnd old new (Ok x)
     → MovesToEnd {X = Y} old Failed (Err errors.OutOfMemory)
 lost-stage Y Fresh new x h = (refl, tt)
 lost-stage Y HeaderRead new x h = (refl, tt)

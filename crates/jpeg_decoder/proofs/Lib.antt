@@ -3,6 +3,8 @@ pub mod ReadLists
 pub mod PassedRestarts
 pub mod Turns
 pub mod TurnLoops
+pub mod BroughtTurns
+pub mod BroughtLoops
 pub mod Headers
 pub mod HeaderThenRest
 pub mod DecodedLines
@@ -27,6 +29,7 @@ pub mod DecidedPlanes
 pub mod DecidedScans
 pub mod ReadableScans
 pub mod ScanReads
+pub mod ReachedScans
 pub mod SlotCodings
 pub mod ScanCodings
 pub mod TakenBlocks
@@ -37,6 +40,7 @@ pub mod DecodedImages
 pub mod PutLoops
 pub mod ReplacedTables
 pub mod ScanData
+pub mod ReachedData
 pub mod SequentialScans
 pub mod EndedPlanes
 pub mod PicturesOfPlanes
@@ -53,7 +57,14 @@ pub mod LinesTogether
 pub mod PictureSizes
 mod OnLiterals
 mod Orientations
+pub mod GatheredData
 pub mod KeptScans
 pub mod KeptStrips
 pub mod JointStrips
 pub mod JointAdded
+pub mod ReachedBlocks
+pub mod ReachedIntervals
+pub mod GroupedScans
+pub mod ShownParts
+pub mod ShownFaults
+pub mod ShownLines

@@ -1,10 +1,9 @@
 -- Tables of a segment that are put in place of those in force are the tables in force, updated.
-use Rattle.std.proofs.Common.{◌≡◌, ◌∙◌, ℕ, zero, suc, ◌-◌, ◌<◌, [], ◌∷◌, List, Bool, true, false, Option, Some, None}
-use Rattle.std.proofs.Common.{Ok, Err, Result, ap, arith, length, length-set, refl, set, sym}
+use Rattle.std.proofs.Common.{◌≡◌, ◌∙◌, ℕ, zero, suc, ◌-◌, [], ◌∷◌, List, Bool, true, false, Option, Some, None}
+use Rattle.std.proofs.Common.{Ok, Err, ap, arith, length, length-set, refl, set, sym}
 use Rattle.std.specs.Prelude.{◌==◌, nat_lt, if◌then◌else◌, replicate}
 use Rattle.std.proofs.lemmas.Grind.{common_steps}
-use Rattle.jpeg_bits.specs.Reading.{Fault, Malformed, Outcome, ◌>>=◌, length_at}
-use Rattle.jpeg_bits.specs.Codes.{Table, is_ac}
+use Rattle.jpeg_bits.specs.Reading.{Malformed, Outcome, ◌>>=◌, length_at}
 use Rattle.jpeg_segments.specs.HuffmanTables.{DefinedTable, Tables, defined_codes_at, dht_at, greatest_destination}
 use Rattle.jpeg_segments.specs.HuffmanTables.{no_tables, size_of, tables_from, with_table}
 use Rattle.jpeg_segments.specs.Parts.{dht_onto}

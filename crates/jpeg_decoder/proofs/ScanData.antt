@@ -111,7 +111,7 @@ unfolding arrays_before
 before-sequential f frame e = rw e refl
 
 -- what was found, with other blocks
-same-found : (f : Found) (one : Decoded) (kept : Arrays)
+pub same-found : (f : Found) (one : Decoded) (kept : Arrays)
     → one.finished ≡ f.finished → one.planes ≡ f.planes → planes_in one.samples ≡ f.samples
     → ◌≡◌ {A = Found} (record (with_decoded (once_scanned f) one) { kept = kept })
     (record (once_scanned f) { kept = kept })

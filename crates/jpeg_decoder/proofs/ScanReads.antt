@@ -200,7 +200,7 @@ data-parts : (found : Found) (frame : Frame) (scan : Scan) (bytes : List ℕ) (c
 unfolding scan_arrays scan_data after_scan after_all
 data-parts found frame scan bytes codings = grind (arith, common_steps, through-made, through)
 
-process-parts : (p : CodingProcess) (found : Found) (frame : Frame) (scan : Scan) (bytes : List ℕ)
+pub process-parts : (p : CodingProcess) (found : Found) (frame : Frame) (scan : Scan) (bytes : List ℕ)
     → scan_by p found frame scan bytes ≡ (read_by p found frame scan bytes >>= scan_turn found)
 unfolding blocks_scan blocks_read lossless_scan samples_read after_all
 process-parts p found frame scan bytes = grind (arith, common_steps, through, data-parts)

@@ -41,7 +41,7 @@ On P (Ok x) = P x
 On P (Err fault) = Unit {0}
 
 -- Where the image goes on, fewer bytes are left than the limit, and no restart marker is met.
-abbrev Below : ℕ → Turn × List ℕ → Type 0
+abbrev pub Below : ℕ → Turn × List ℕ → Type 0
 Below limit x = x.0.ended ≡ false → (length x.1 < limit) × (is_restart_marker x.0.met ≡ false)
 
 -- The image goes on elsewhere.
@@ -145,7 +145,7 @@ blocks-go limit found frame scan bytes p =
     (λ met r e.
     goes-ok limit _ met.1 r e)))
 
-samples-go : (limit : ℕ) (found : Found) (frame : Frame) (scan : Scan) (bytes : List ℕ) → length bytes < limit
+pub samples-go : (limit : ℕ) (found : Found) (frame : Frame) (scan : Scan) (bytes : List ℕ) → length bytes < limit
     → On (Below limit) (lossless_scan found frame scan bytes)
 unfolding lossless_scan
 samples-go limit found frame scan bytes p =
@@ -169,7 +169,7 @@ scan-goes limit found bytes h =
     on-bind (Below limit) limit (sos_at frame bytes) _ (sos-below limit frame bytes h) (λ scan p.
     process-goes limit frame.process found frame scan.0 scan.1 p))
 
-segment-goes : (limit : ℕ) (m : Marker) (before : Before) (found : Found) (bytes : List ℕ) → length bytes ≤ limit
+pub segment-goes : (limit : ℕ) (m : Marker) (before : Before) (found : Found) (bytes : List ℕ) → length bytes ≤ limit
     → (is_restart_marker (Some m) ≡ true → length bytes < limit) → On (Below limit) (segment_at m before found bytes)
 unfolding segment_at end_segment On
 segment-goes limit m before found bytes h r =

@@ -30,6 +30,13 @@ pub wide-none : (wide row column columns below rows : ℕ) → columns ≡ 0 →
     → raster_left wide row column columns below rows ≡ []
 wide-none wide row column columns below rows e f = grind (arith, common_steps, no-rows)
 
+pub raster-more : (wide row column columns below rows : ℕ) → columns ≡ 0 → 0 < rows → 0 < wide
+    → 0 < length (raster_left wide row column columns below rows)
+raster-more wide row column columns below rows e h w = rw (
+  row-next wide row column columns below rows e h,
+  position-next wide below 0 wide (below + 1) (rows - 1) w,
+) (omega arith)
+
 pub ruleset raster_rules = (position-next, row-next, rows-none, wide-none)
 
 -- ---- the blocks of a scan
@@ -47,5 +54,13 @@ mcu-next members number mcu next mcus more e f = grind (arith, common_steps, dro
 pub mcus-none : (members : List Member) (number : ℕ) (mcu : ℕ × ℕ) (mcus : List (ℕ × ℕ))
     → number ≡ length members → mcus ≡ [] → spots_left members number mcu mcus ≡ []
 mcus-none members number mcu mcus e f = grind (arith, common_steps, drop_all)
+
+pub spots-more : (members : List Member) (number : ℕ) (mcu : ℕ × ℕ) (mcus : List (ℕ × ℕ))
+    → number ≡ length members → 0 < length members → 0 < length mcus
+    → 0 < length (spots_left members number mcu mcus)
+spots-more [] number mcu mcus e h k = absurd (omega arith)
+spots-more (m ∷ members) number mcu [] e h k = absurd (omega arith)
+spots-more (m ∷ members) number mcu (x ∷ mcus) e h k =
+    rw (mcu-next (m ∷ members) number mcu x (x ∷ mcus) mcus e refl) (omega arith)
 
 pub ruleset spots_rules = (block-next, mcu-next, mcus-none)

@@ -4,6 +4,7 @@ pub mod Seen
 pub mod Bytes
 pub mod LinesView
 pub mod Decodes
+pub mod Shows
 -- what a call has read that was refused for lack of room
 pub mod HeaderAlone
 -- what a caller sees of the blocks that are kept, and the code's own words
@@ -14,5 +15,6 @@ pub mod Strips
 pub mod GrowingView
 pub mod Steps
 pub mod LosslessParts
+pub mod Reaching
 -- what Exif data say
 pub mod Orientation

@@ -1,6 +1,6 @@
 //! The decoder and its states.
 ghost use Rattle.std.specs.Prelude.{◌≡◌, if◌then◌else◌, IfOk, IfErr, MatchResult, OnErr, OnOk};
-ghost use Rattle.std.specs.Prelude.{IsErrAnd, map};
+ghost use Rattle.std.specs.Prelude.{IsErrAnd, map, Some};
 ghost use Rattle.std.specs.Prelude.{[], replicate, IfSome, None, option_map, is_some, Err, true};
 ghost use Rattle.std.specs.Prelude.{false};
 ghost use Rattle.jpeg_bits.specs.Reading.{Answers};
@@ -14,6 +14,7 @@ ghost use Rattle.jpeg_streams.specs.States.{Decoding, MovesToHeader, MovesToEnd,
 ghost use Rattle.jpeg_streams.specs.States.{told_ahead, turns_ahead, OnTold, OnToldRefusal};
 ghost use Rattle.jpeg_streams.specs.States.{HasHeader};
 ghost use Rattle.jpeg_decoder.specs.Decodes.{Decodes};
+ghost use Rattle.jpeg_decoder.specs.Shows.{Shows};
 ghost use Rattle.jpeg_decoder.specs.Seen.{found_in, said_in};
 ghost use Rattle.std.specs.List.{concat};
 ghost use Rattle.jpeg_decoder.specs.Bytes.{AreLinesOf, HasRoom, IsCounted, IsWhole};
@@ -32,6 +33,7 @@ ghost use Rattle.jpeg_streams.specs.Profile.{profile_of};
 ghost use Rattle.std.specs.Option.{option_copied};
 
 use crate::picture::lines::Lines;
+use crate::picture::partial::{PartialLines, show};
 use crate::picture::whole::{read_header, read_rest};
 use crate::scan::decoded::Decoded;
 use crate::sizes::{DecodingBytes, decoding_bytes, picture_bytes};
@@ -169,6 +171,29 @@ fn progress_after(is_ok: bool, progress: Progress) -> Progress
     if is_ok { progress } else { Progress::Failed }
 }
 
+/// Returns whether a decoder is to read from the start of a stream. Where no image is left to
+/// decode it is `Internal`.
+fn is_fresh(progress: Progress) -> Result<bool>
+    ensures { MatchResult result (λ is_start. progress ≡ (if is_start then Fresh else HeaderRead))
+        (λ e. IsInternal e × (IsReading progress → ⊥)) }
+{
+    match progress {
+        Progress::Fresh => Ok(true),
+        Progress::HeaderRead => Ok(false),
+        Progress::Finished => Err(Error::Internal("image was already decoded")),
+        Progress::Failed => Err(Error::Internal("decoder has failed")),
+    }
+}
+
+/// The picture that a stream has brought up to its first fault, and that fault.
+#[derive(Drop)]
+pub struct PartialPicture {
+    /// The picture, as `decode` returns it. What no scan has brought is mid-grey.
+    pub pixels: Vec<u8>,
+    /// The first fault of the stream, or none if it is whole.
+    pub fault: Option<Error>,
+}
+
 /// Decodes one stream.
 #[derive(Drop)]
 pub struct Decoder<R: Read + Drop> {
@@ -248,6 +273,14 @@ impl<R: Read + Drop> Decoder<R> {
         ensures { result ≡ option_map (λ f. f.precision) self.now.found.said.frame }
     {
         self.state.said.frame.as_ref().map(|frame| frame.precision)
+    }
+
+    /// Returns the reader, which stands where the last call has read to, in every state.
+    pub fn reader(&self) -> &R
+        ensures { self.now.source.known ≡ true → R.remaining result.now
+            ≡ Some self.now.source.bytes }
+    {
+        self.source.reader()
     }
 
     /// Returns whether a read has failed, other than by being interrupted, in every state. The end
@@ -543,6 +576,89 @@ impl<R: Read + Drop> Decoder<R> {
         let lines = self.decode_lines()?;
         match lines.into_picture(self.alloc) {
             Ok(picture) => Ok(picture),
+            Err(error) => {
+                self.progress = Progress::Failed;
+                Err(error)
+            }
+        }
+    }
+
+    /// Reads as far as the stream goes, and returns the lines of the picture that it has brought up
+    /// to its first fault, and that fault: see `decode_partial`.
+    pub fn decode_partial_lines(&mut self) -> Result<PartialLines>
+        // What the source's bytes bring, and the state: see `Shows`.
+        ensures shows { Shows (λ p. concat p.lines) (λ p. p.fault) self.old result self.new }
+
+        // The settings stay.
+        ensures settings { self.new.settings ≡ self.old.settings }
+
+        // Where no image is left to decode nothing changes.
+        ensures still { (IsReading self.old.stage → ⊥) → self.new ≡ self.old }
+
+        // The frame that `read_info` read stays.
+        ensures stays { self.old.stage ≡ HeaderRead
+            → self.new.found.said.frame ≡ self.old.found.said.frame }
+
+        // After an Ok there is a frame, so that `info` answers.
+        ensures framed { IfOk result (λ _. is_some self.new.found.said.frame ≡ true) }
+
+        // There are as many lines as `info` says, each of as many bytes as the frame says.
+        ensures lines { IfOk result (λ p. AreLinesOf self.new.found.said.frame p.lines) }
+
+        // Together they are a picture as `decode` returns it.
+        ensures size { IfOk result (λ p. IsWhole self.new.found.said.frame (concat p.lines)) }
+    {
+        let from_start = is_fresh(self.progress)?;
+        let result = show(
+            self.alloc,
+            &mut self.source,
+            &mut self.state,
+            self.settings,
+            from_start,
+        );
+        self.progress = progress_after(result.is_ok(), Progress::Finished);
+        result
+    }
+
+    /// Reads as far as the stream goes, and returns the picture that it has brought up to its first
+    /// fault, and that fault, or none if the stream is whole.
+    ///
+    /// The blocks before the fault count, in a progressive picture those of all scans before it;
+    /// what no scan has brought is mid-grey. A lossless scan counts if all of it is there. A marker
+    /// in place of blocks is a fault, where `decode` takes zeros for the bits that are lacking.
+    ///
+    /// Unlike `decode`, it keeps the coefficients of a sequential picture in memory, too, and the
+    /// data of one restart interval.
+    ///
+    /// Errors: the fault, if no frame header was accepted before it; `Format` if the picture is
+    /// above the limit, or the colour transform doesn't fit it; `OutOfMemory`; and `Internal` only
+    /// if the decoder has failed or has already decoded its image.
+    pub fn decode_partial(&mut self) -> Result<PartialPicture>
+        // What the source's bytes bring, and the state: see `Shows`.
+        ensures shows { Shows (λ p. p.pixels.items) (λ p. p.fault) self.old result self.new }
+
+        // The settings stay.
+        ensures settings { self.new.settings ≡ self.old.settings }
+
+        // Where no image is left to decode nothing changes.
+        ensures still { (IsReading self.old.stage → ⊥) → self.new ≡ self.old }
+
+        // The frame that `read_info` read stays.
+        ensures stays { self.old.stage ≡ HeaderRead
+            → self.new.found.said.frame ≡ self.old.found.said.frame }
+
+        // After an Ok there is a frame, so that `info` answers.
+        ensures framed { IfOk result (λ _. is_some self.new.found.said.frame ≡ true) }
+
+        // The picture has as many bytes as the frame says.
+        ensures size { IfOk result (λ p. IsWhole self.new.found.said.frame p.pixels.items) }
+    {
+        let shown = self.decode_partial_lines()?;
+        match shown.lines.into_picture(self.alloc) {
+            Ok(pixels) => Ok(PartialPicture {
+                pixels,
+                fault: shown.fault,
+            }),
             Err(error) => {
                 self.progress = Progress::Failed;
                 Err(error)

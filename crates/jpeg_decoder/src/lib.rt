@@ -18,6 +18,8 @@
 //!
 //! `decode_into` writes the picture into the caller's memory, and `decode_lines` returns its
 //! [`Lines`], each of which can be written anywhere, with no picture in memory besides the planes.
+//! `decode_partial` shows what there is of a stream that may be truncated or damaged, and names its
+//! first fault.
 //!
 //! `read_info` reads only the header. `info` then gives the size of the picture, and
 //! `decoding_bytes` all the memory that decoding it takes, so that a service can refuse it before
@@ -45,7 +47,7 @@ mod scan;
 pub mod sizes;
 mod stream;
 
-pub use decoder::{Decoder, ImageInfo, PixelFormat};
+pub use decoder::{Decoder, ImageInfo, PartialPicture, PixelFormat};
 pub use jpeg_bits::color_transform::ColorTransform;
 pub use jpeg_bits::error::{Error, UnsupportedFeature};
 pub use jpeg_bits::source::byte_reader::ByteReader;
@@ -57,4 +59,5 @@ pub use jpeg_segments::parser;
 pub use jpeg_segments::parser::CodingProcess;
 pub use jpeg_segments::scale::Scale;
 pub use picture::lines::Lines;
+pub use picture::partial::PartialLines;
 pub use sizes::DecodingBytes;

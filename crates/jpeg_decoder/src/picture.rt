@@ -2,4 +2,5 @@
 
 pub mod color_choice;
 pub mod lines;
+pub mod partial;
 pub mod whole;

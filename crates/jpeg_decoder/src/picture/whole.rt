@@ -53,7 +53,7 @@ use std::io::Read;
 
 /// Reads the start of a stream, FF D8.
 #[tactic(auto, unfolding(jpeg_streams::specs::Stream::start_at))]
-fn read_start<R: Read + Drop>(alloc: Global, source: &mut Source<R>) -> Result<()>
+pub fn read_start<R: Read + Drop>(alloc: Global, source: &mut Source<R>) -> Result<()>
     ensures { Answers (λ u. u) start_at source.old result source.new }
 {
     let first = read_u8(alloc, source)?;
@@ -89,7 +89,7 @@ fn is_within(limit: usize, count: usize, area: usize) -> bool
 }
 
 /// Returns whether blocks of a frame are kept: it is progressive, and a scan of it was read.
-fn are_kept(state: &State, frame: &FrameInfo) -> bool
+pub fn are_kept(state: &State, frame: &FrameInfo) -> bool
     ensures { result ≡ is_kept (found_in state.now) (frame_in frame.now) }
 {
     is_progressive(frame.coding_process) && state.said.scanned
@@ -355,7 +355,12 @@ fn limit_error(alloc: Global, frame: &FrameInfo, limit: usize) -> Error
 /// Returns the lines of the picture of what was found, which is taken: within the limit, of planes
 /// that are there.
 #[tactic(auto, unfolding(crate::proofs::Rules::pictures), using(crate::proofs::Rules::refused))]
-fn picture(alloc: Global, state: &State, decoded: &mut Decoded, settings: Settings) -> Result<Lines>
+pub fn picture(
+    alloc: Global,
+    state: &State,
+    decoded: &mut Decoded,
+    settings: Settings,
+) -> Result<Lines>
     requires sound { IsSound (with_decoded (found_in state.now) decoded.old) }
     ensures meant { let expected = picture_of settings
         (with_decoded (found_in state.now) decoded.old) in

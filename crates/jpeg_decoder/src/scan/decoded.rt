@@ -12,19 +12,21 @@ ghost use Rattle.jpeg_decoder.specs.Scanning.{arrays_in, blocks_in, components_i
 ghost use Rattle.jpeg_streams.specs.Scans.{zero_arrays, zero_of};
 ghost use Rattle.jpeg_decoder.specs.PlanesView.{planes_in};
 ghost use Rattle.jpeg_streams.specs.Rasters.{plane_by};
-ghost use Rattle.jpeg_streams.specs.ScanSegments.{put_arrays, finished_by};
+ghost use Rattle.jpeg_streams.specs.ScanSegments.{put_arrays, finished_by, is_progressive};
 ghost use Rattle.jpeg_streams.specs.Found.{none_finished};
 ghost use Rattle.jpeg_decoder.specs.Steps.{blocks_at, coding_in, without_blocks, IsInOrder};
 ghost use Rattle.jpeg_bits.specs.Passes.{whole_pass};
+ghost use Rattle.jpeg_decoder.specs.Reaching.{is_out_of_memory, kept_after};
 
 use crate::scan::block_array::{BlockArray, fill_all};
 use crate::scan::coded::{Coded, Scan, is_progressive};
 use crate::scan::kept::read_blocks;
 use crate::scan::planes::Planes;
+use crate::scan::reached::reach_blocks;
 use crate::scan::rows::read_planes;
 use crate::scan::strips::{GrowingPlanes, append_rows, empty_planes, plane_size, sample_table};
 use jpeg_bits::blocks::Pass;
-use jpeg_bits::error::Result;
+use jpeg_bits::error::{Error, Result};
 use jpeg_bits::marker::Marker;
 use jpeg_bits::source::Source;
 use jpeg_pixels::joint_planes::{JointPlanes, joint_shape};
@@ -85,7 +87,10 @@ fn are_all(marks: &[bool; 64]) -> bool
 }
 
 /// Returns the blocks of a component in which nothing was read yet.
-fn zero_blocks(alloc: Global, component: &Component) -> std::result::Result<BlockArray, AllocError>
+pub fn zero_blocks(
+    alloc: Global,
+    component: &Component,
+) -> std::result::Result<BlockArray, AllocError>
     ensures { IfOk result (λ v. blocks_in v ≡ zero_of (component_in component.now)) }
 {
     let count = usize::from(component.block_size.height) * usize::from(component.block_size.width);
@@ -171,7 +176,37 @@ fn put_blocks(
     }
 }
 
+/// Keeps the blocks of a scan's components for the next scan of a progressive frame; none are kept
+/// of a sequential one.
+fn keep_blocks(
+    alloc: Global,
+    frame: &FrameInfo,
+    codings: &[Coded<'_>],
+    arrays: &mut Vec<BlockArray>,
+    kept: &mut Vec<BlockArray>,
+)
+    requires count { length arrays.old.items ≡ length codings.now }
+    requires indices { All (λ c. c.index < length kept.old.items) codings.now }
+    ensures { arrays_in kept.new.items ≡ kept_after (is_progressive (frame_in frame.now).process)
+        (map coding_in codings.now) (arrays_in arrays.old.items) (arrays_in kept.old.items) }
+{
+    if is_progressive(frame.coding_process) {
+        put_blocks(alloc, codings, arrays, kept);
+    } else {
+        *kept = Vec::new(alloc);
+    }
+}
+
+/// Returns whether a scan ended since there was no memory.
+fn is_out_of_memory(met: &Result<Option<Marker>>) -> bool
+    ensures { result ≡ is_out_of_memory met.now }
+{
+    matches!(met, Err(Error::OutOfMemory))
+}
+
 impl Decoded {
+    ghost use Rattle.jpeg_streams.specs.States.{OnTold};
+    ghost use Rattle.jpeg_decoder.specs.Reaching.{data_reached, UnlessRefused};
     ghost use Rattle.std.specs.Prelude.{◌≡◌, ◌<◌, [], All, IfOk, OnOk, None, Some};
     ghost use Rattle.std.specs.Prelude.{◌*◌, true, false, length, map, replicate, slice_index_or};
     ghost use Rattle.std.specs.Prelude.{is_some, slice_set};
@@ -412,21 +447,21 @@ impl Decoded {
         Ok(())
     }
 
-    /// Holds the blocks of a progressive frame's components: before its first scan, zeros.
+    /// Holds the blocks of a frame's components before a scan: zeros in a sequential frame, and
+    /// before the first scan of a progressive one.
     fn keep(
         &mut self,
         alloc: Global,
         scanned: bool,
         frame: &FrameInfo,
     ) -> std::result::Result<(), AllocError>
-        requires process { is_progressive (frame_in frame.now).process ≡ true }
         ensures kept { OnOk result (arrays_in self.new.kept.items
             ≡ blocks_before scanned self.old (frame_in frame.now)) }
         ensures finished { self.new.finished ≡ self.old.finished }
         ensures planes { self.new.planes ≡ self.old.planes }
         ensures samples { self.new.samples ≡ self.old.samples }
     {
-        if !scanned {
+        if !scanned || !is_progressive(frame.coding_process) {
             self.kept = zero_frame(alloc, frame)?;
         }
         Ok(())
@@ -517,6 +552,51 @@ impl Decoded {
         self.kept = Vec::new(alloc);
         self.add_planes(scan, &mut none, alloc);
         Ok(reached)
+    }
+
+    /// Reads a scan of blocks as far as it goes, and returns the marker after it and after the
+    /// restart markers at its end, if one was reached. After an error other than out of memory
+    /// the blocks count that were read before it.
+    ///
+    /// The blocks of all components of the frame are held up to its end, also in a sequential one.
+    /// If memory runs out after a fault, also one of the reader, the error is `OutOfMemory`.
+    pub fn reach<R: Read + Drop>(
+        &mut self,
+        alloc: Global,
+        source: &mut Source<R>,
+        scanned: bool,
+        frame: &FrameInfo,
+        scan: &Scan<'_>,
+    ) -> Result<Option<Marker>>
+        requires keeps { scan.now.keeps_ac ≡ true }
+        requires ready { IsReadable (frame_in frame.now) scan.now }
+        requires kept { AreArrays (frame_in frame.now).components
+            (blocks_before scanned self.old (frame_in frame.now)) }
+        ensures found { (base : Found) → IsBefore scanned scan.now base
+            → OnTold source.old source.new result (once_scanned (with_decoded base self.new)
+            ≡ (data_reached (with_decoded base self.old) (frame_in frame.now)
+            (pass_in scan.now.pass) (map coding_in scan.now.components.items)
+            source.old.bytes).0) }
+        ensures data { (base : Found) → IsBefore scanned scan.now base
+            → UnlessRefused result (Answers (λ m. m) (λ bytes. (data_reached
+            (with_decoded base self.old) (frame_in frame.now) (pass_in scan.now.pass)
+            (map coding_in scan.now.components.items) bytes).1) source.old result source.new) }
+        ensures kept { UnlessRefused result (AreArrays (frame_in frame.now).components
+            (blocks_before true self.new (frame_in frame.now))) }
+        ensures planes { ArePlanes (frame_in frame.now).components self.old.planes
+            → UnlessRefused result (ArePlanes (frame_in frame.now).components self.new.planes) }
+        ensures samples { UnlessRefused result (self.new.samples ≡ self.old.samples) }
+    {
+        self.keep(alloc, scanned, frame)?;
+        let mut arrays = take_blocks(alloc, &scan.components, &mut self.kept)?;
+        let met = reach_blocks(alloc, source, scan, &mut arrays, frame);
+        if is_out_of_memory(&met) {
+            return met;
+        }
+        fill_all(&mut arrays)?;
+        self.add_arrays(alloc, scan, &arrays)?;
+        keep_blocks(alloc, frame, &scan.components, &mut arrays, &mut self.kept);
+        met
     }
 
     /// Reads the entropy-coded data of a scan, and returns the marker after it, if it was reached.

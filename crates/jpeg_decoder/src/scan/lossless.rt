@@ -1,5 +1,5 @@
 //! Scans of lossless frames (T.81, B.2.3 and Annex H).
-ghost use Rattle.std.specs.Prelude.{◌≡◌, ◌<◌, ◌==◌, All, IfOk, OnOk, Ok, Some, length};
+ghost use Rattle.std.specs.Prelude.{◌≡◌, ◌<◌, ◌==◌, All, IfOk, OnErr, OnOk, Ok, Some, length};
 ghost use Rattle.std.specs.Prelude.{map, true};
 ghost use Rattle.jpeg_bits.specs.Reading.{Answers, Names};
 ghost use Rattle.jpeg_segments.specs.Frame.{AllHaveSampling};
@@ -163,11 +163,13 @@ pub fn read_lossless_scan<R: Read + Drop>(
         (samples_read (found_of said.now decoded.old) (frame_in frame.now)
         (scan_in header.now)) source.old result source.new }
     ensures sound { OnOk result (IsSound (once_scanned (found_of said.now decoded.new))) }
+    ensures stays { OnErr result (decoded.new ≡ decoded.old) }
 {
     let tables = tables_of(alloc, said, frame, header)?;
     let parts = parts_of(alloc, frame, &header.component_indices, &tables)?;
     let coding = coding_of(frame, header, said.restart_interval);
     let (mut planes, met) = read_scan(alloc, source, coding, &parts)?;
+    let met = pass_restarts(alloc, source, met)?;
     decoded.put_samples(alloc, &header.component_indices, &mut planes);
-    pass_restarts(alloc, source, met)
+    Ok(met)
 }

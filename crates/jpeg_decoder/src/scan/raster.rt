@@ -28,7 +28,7 @@ impl Model for Raster {
 }
 
 impl Raster {
-    ghost use Rattle.std.specs.Prelude.{◌≡◌};
+    ghost use Rattle.std.specs.Prelude.{◌≡◌, ◌<◌, [], length, true, false};
     ghost use Rattle.jpeg_decoder.specs.Walk.{raster, NextPosition};
 
     /// Makes a raster that is `wide` positions across and `high` down.
@@ -43,6 +43,14 @@ impl Raster {
             below: 0,
             rows: high,
         }
+    }
+
+    /// Returns whether no position is left.
+    pub fn is_done(&self) -> bool
+        ensures done { result ≡ true → self.now ≡ [] }
+        ensures more { result ≡ false → 0 < length self.now }
+    {
+        self.columns == 0 && (self.rows == 0 || self.wide == 0)
     }
 
     /// Takes the next position: its row and its column. Not an `Iterator`, so that the contract can

@@ -14,7 +14,7 @@ use std::alloc::Global;
 use std::io::Read;
 
 /// Returns whether a marker is the restart marker of a number, which counts modulo 8.
-fn is_numbered(marker: Option<Marker>, number: u8) -> bool
+pub fn is_numbered(marker: Option<Marker>, number: u8) -> bool
     ensures { result ≡ intervals.is_restart number marker }
 {
     match marker {

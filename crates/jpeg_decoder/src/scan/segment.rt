@@ -8,7 +8,10 @@ ghost use Rattle.jpeg_streams.specs.ScanSegments.{scan_segment};
 ghost use Rattle.jpeg_bits.specs.declared.marker.Marker.TheVariants.{DNL};
 ghost use Rattle.jpeg_streams.specs.Found.{Found};
 ghost use Rattle.jpeg_streams.specs.Stream.{segment_at};
-ghost use Rattle.std.specs.Prelude.{List, ℕ};
+ghost use Rattle.std.specs.Prelude.{List, ℕ, ◌≡◌};
+ghost use Rattle.jpeg_streams.specs.Brought.{scan_brought};
+ghost use Rattle.jpeg_streams.specs.States.{OnToldRefusal};
+ghost use Rattle.jpeg_decoder.specs.Reaching.{UnlessRefused};
 
 use crate::scan::coded::{Scan, wants_ac};
 use crate::scan::codings::{codings_of, pass_of, spare_tables, widen_tables};
@@ -35,6 +38,54 @@ pub fn refused_line_count(alloc: Global, before: Before) -> Error
         Before::FirstScan => Error::Unsupported(UnsupportedFeature::DNL),
         Before::LaterScan | Before::Elsewhere => {
             format_error(alloc, "found DNL, expected it only after the first scan")
+        }
+    }
+}
+
+/// Reads a scan as far as it goes, and returns what stands after it: the marker after it and after
+/// the restart markers at its end, if one was reached.
+///
+/// After an error other than out of memory the blocks count that were read before it; of a lossless
+/// scan nothing does.
+pub fn reach_scan<R: Read + Drop>(
+    alloc: Global,
+    source: &mut Source<R>,
+    state: &mut State,
+) -> Result<Step>
+    requires sound { IsSound (found_in state.old) }
+    ensures reads { UnlessRefused result (Answers (turn_of state.new) (λ bytes. (scan_brought
+        (found_in state.old) bytes).1) source.old result source.new) }
+    ensures found { OnToldRefusal source.old source.new result (found_in state.new
+        ≡ (scan_brought (found_in state.old) source.old.bytes).0) }
+    ensures sound { UnlessRefused result (IsSound (found_in state.new)) }
+    ensures steps { IsStep (found_in state.old) result (found_in state.new) }
+{
+    widen_tables(alloc, state)?;
+    let said = &state.said;
+    let frame = needed(alloc, said.frame.as_ref(), Missing::Frame(Marker::SOS))?;
+    let header = parse_sos(alloc, source, frame)?;
+    if frame.coding_process == CodingProcess::Lossless {
+        let met = read_lossless_scan(alloc, source, said, frame, &header, &mut state.decoded)?;
+        return Ok(state.end_scan(met));
+    }
+    let spare = spare_tables(alloc, &header, frame, said.metadata.avi1)?;
+    let components = codings_of(alloc, said, &spare, frame, &header)?;
+    let scan = Scan {
+        pass: pass_of(&header),
+        restart_interval: said.restart_interval,
+        keeps_ac: true,
+        components,
+    };
+    let reached = state
+        .decoded
+        .reach(alloc, source, said.scanned, frame, &scan);
+    // It borrows from `state`, which changes now.
+    drop(scan);
+    match reached {
+        Ok(met) => Ok(state.end_scan(met)),
+        Err(e) => {
+            state.end_scan(None);
+            Err(e)
         }
     }
 }

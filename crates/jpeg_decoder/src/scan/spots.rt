@@ -65,7 +65,7 @@ impl<'a> Model for Spots<'a> {
 }
 
 impl<'a> Spots<'a> {
-    ghost use Rattle.std.specs.Prelude.{◌≡◌, ◌<◌, length};
+    ghost use Rattle.std.specs.Prelude.{◌≡◌, ◌<◌, [], length, true, false};
     ghost use Rattle.jpeg_decoder.specs.Walk.{raster, spots_at, NextSpot};
 
     /// Makes the blocks of the MCUs of these members, `wide` MCUs across and `high` down.
@@ -81,6 +81,14 @@ impl<'a> Spots<'a> {
             column: 0,
             number,
         }
+    }
+
+    /// Returns whether no block is left.
+    pub fn is_done(&self) -> bool
+        ensures done { result ≡ true → self.now ≡ [] }
+        ensures more { result ≡ false → 0 < length self.now }
+    {
+        self.number == self.members.len() && self.mcus.is_done()
     }
 
     /// Takes the next block. Not an `Iterator`, so that the contract can say which comes next.

@@ -81,6 +81,7 @@ impl State {
     ghost use Rattle.jpeg_streams.specs.Stream.{end_segment, segment_at};
     ghost use Rattle.jpeg_decoder.specs.Seen.{found_in};
     ghost use Rattle.jpeg_decoder.specs.Steps.{IsStep, turn_of};
+    ghost use Rattle.jpeg_decoder.specs.Reaching.{OnFault, without_tables};
 
     /// Makes the state at the start of a stream.
     #[tactic(auto, unfolding(crate::proofs::Rules::nothing))]
@@ -112,6 +113,7 @@ impl State {
         ensures reads { Answers (turn_of self.new) (frame_segment number (found_in self.old))
             source.old result source.new }
         ensures steps { IsStep (found_in self.old) result (found_in self.new) }
+        ensures kept { OnFault result (found_in self.new ≡ found_in self.old) }
     {
         if self.said.frame.is_some() {
             return Err(Error::Unsupported(UnsupportedFeature::Hierarchical));
@@ -132,6 +134,7 @@ impl State {
         ensures reads { Answers (turn_of self.new) (quantization_segment (found_in self.old))
             source.old result source.new }
         ensures steps { IsStep (found_in self.old) result (found_in self.new) }
+        ensures kept { OnFault result (found_in self.new ≡ found_in self.old) }
     {
         let mut tables = parse_dqt(alloc, source)?;
         update(&mut self.said.quantization, &mut tables);
@@ -148,6 +151,8 @@ impl State {
         ensures reads { Answers (turn_of self.new) (huffman_segment (found_in self.old)) source.old
             result source.new }
         ensures steps { IsStep (found_in self.old) result (found_in self.new) }
+        ensures kept { OnFault result (without_tables (found_in self.new)
+            ≡ without_tables (found_in self.old)) }
     {
         let is_baseline = self.said.frame.as_ref().map(|frame| frame.is_baseline);
         let said = &mut self.said;
@@ -171,6 +176,7 @@ impl State {
         ensures reads { Answers (turn_of self.new) (restart_segment (found_in self.old)) source.old
             result source.new }
         ensures steps { IsStep (found_in self.old) result (found_in self.new) }
+        ensures kept { OnFault result (found_in self.new ≡ found_in self.old) }
     {
         self.said.restart_interval = parse_dri(alloc, source)?;
         Ok(ONWARD)
@@ -187,6 +193,7 @@ impl State {
         ensures reads { Answers (turn_of self.new) (application_segment number (found_in self.old))
             source.old result source.new }
         ensures steps { IsStep (found_in self.old) result (found_in self.new) }
+        ensures kept { OnFault result (found_in self.new ≡ found_in self.old) }
     {
         let said = parse_app(alloc, source, Marker::APP(number))?;
         self.said.metadata.add(said)?;

@@ -5,12 +5,15 @@ ghost use Rattle.jpeg_bits.specs.Reading.{Answers, IsShort};
 ghost use Rattle.jpeg_streams.specs.declared.before.Before.TheVariants.{Elsewhere};
 ghost use Rattle.jpeg_streams.specs.Reported.{IsOfTurns, told_in_turns};
 ghost use Rattle.jpeg_streams.specs.Sound.{IsSound, IsUnread};
-ghost use Rattle.jpeg_streams.specs.States.{OnTold};
-ghost use Rattle.jpeg_streams.specs.Stream.{segments_at, told_of, turn_at};
+ghost use Rattle.jpeg_streams.specs.States.{OnTold, OnToldRefusal};
+ghost use Rattle.jpeg_streams.specs.Stream.{segment_at, segments_at, told_of, turn_at};
+ghost use Rattle.jpeg_streams.specs.Brought.{all_brought, turn_brought};
+ghost use Rattle.jpeg_bits.specs.declared.marker.Marker.TheVariants.{SOS};
+ghost use Rattle.jpeg_decoder.specs.Reaching.{OnFault, UnlessRefused, walk_end, without_tables};
 ghost use Rattle.jpeg_decoder.specs.Seen.{found_in, said_in};
 ghost use Rattle.jpeg_decoder.specs.Steps.{IsStep, turn_of};
 
-use crate::scan::segment::{read_scan, refused_line_count};
+use crate::scan::segment::{reach_scan, read_scan, refused_line_count};
 use crate::stream::state::{State, Step};
 use jpeg_bits::error::{Error, Result, UnsupportedFeature, format_error, format_error_of};
 use jpeg_bits::marker::{Marker, read_marker};
@@ -35,6 +38,41 @@ fn marker_or_next<R: Read + Drop>(
     }
 }
 
+/// Reads what stands after a marker other than that of a scan.
+#[tactic(auto, unfolding(crate::proofs::Rules::turns))]
+fn read_segment<R: Read + Drop>(
+    alloc: Global,
+    source: &mut Source<R>,
+    state: &mut State,
+    before: Before,
+    marker: Marker,
+) -> Result<Step>
+    requires sound { IsSound (found_in state.old) }
+    requires other { marker ≡ SOS → ⊥ }
+    ensures reads { Answers (turn_of state.new) (segment_at marker before (found_in state.old))
+        source.old result source.new }
+    ensures steps { IsStep (found_in state.old) result (found_in state.new) }
+    ensures kept { OnFault result (without_tables (found_in state.new)
+        ≡ without_tables (found_in state.old)) }
+{
+    match marker {
+        Marker::SOF(number) => state.read_frame(alloc, source, number),
+        Marker::DQT => state.read_quantization(alloc, source),
+        Marker::DHT => state.read_huffman(alloc, source),
+        Marker::EOI => state.end(alloc, source),
+        Marker::DRI => state.read_restart_interval(alloc, source),
+        Marker::APP(number) => state.read_application(alloc, source, number),
+        Marker::COM => state.skip_segment(alloc, source),
+        Marker::RST(number) => state.stray_restart(alloc, source, number, before),
+        Marker::DNL => Err(refused_line_count(alloc, before)),
+        Marker::DAC => Err(Error::Unsupported(UnsupportedFeature::ArithmeticEntropyCoding)),
+        Marker::DHP | Marker::EXP => Err(Error::Unsupported(UnsupportedFeature::Hierarchical)),
+        _ => Err(format_error_of(format!(in alloc;
+            "found {marker}, expected the marker of a segment"
+        ))),
+    }
+}
+
 /// Reads one marker, which may have been reached already, and what stands after it.
 #[tactic(auto, unfolding(crate::proofs::Rules::turns))]
 fn read_turn<R: Read + Drop>(
@@ -51,23 +89,37 @@ fn read_turn<R: Read + Drop>(
     ensures short { met ≡ None → IsShort source.old }
 {
     let marker = marker_or_next(alloc, source, met)?;
-    match marker {
-        Marker::SOF(number) => state.read_frame(alloc, source, number),
-        Marker::DQT => state.read_quantization(alloc, source),
-        Marker::DHT => state.read_huffman(alloc, source),
-        Marker::SOS => read_scan(alloc, source, state),
-        Marker::EOI => state.end(alloc, source),
-        Marker::DRI => state.read_restart_interval(alloc, source),
-        Marker::APP(number) => state.read_application(alloc, source, number),
-        Marker::COM => state.skip_segment(alloc, source),
-        Marker::RST(number) => state.stray_restart(alloc, source, number, before),
-        Marker::DNL => Err(refused_line_count(alloc, before)),
-        Marker::DAC => Err(Error::Unsupported(UnsupportedFeature::ArithmeticEntropyCoding)),
-        Marker::DHP | Marker::EXP => Err(Error::Unsupported(UnsupportedFeature::Hierarchical)),
-        _ => Err(format_error_of(format!(in alloc;
-            "found {marker}, expected the marker of a segment"
-        ))),
+    if marker == Marker::SOS {
+        return read_scan(alloc, source, state);
     }
+    read_segment(alloc, source, state, before, marker)
+}
+
+/// Reads one marker, which may have been reached already, and what stands after it, a scan as far
+/// as it goes.
+#[tactic(auto, unfolding(crate::proofs::Rules::turns))]
+fn reach_turn<R: Read + Drop>(
+    alloc: Global,
+    source: &mut Source<R>,
+    state: &mut State,
+    before: Before,
+    met: Option<Marker>,
+) -> Result<Step>
+    requires sound { IsSound (found_in state.old) }
+    ensures reads { UnlessRefused result (Answers (turn_of state.new) (λ bytes. (turn_brought before
+        (found_in state.old) met bytes).1) source.old result source.new) }
+    ensures found { OnToldRefusal source.old source.new result
+        (without_tables (found_in state.new) ≡ without_tables (turn_brought before
+        (found_in state.old) met source.old.bytes).0) }
+    ensures sound { UnlessRefused result (IsSound (found_in state.new)) }
+    ensures steps { IsStep (found_in state.old) result (found_in state.new) }
+    ensures short { met ≡ None → IsShort source.old }
+{
+    let marker = marker_or_next(alloc, source, met)?;
+    if marker == Marker::SOS {
+        return reach_scan(alloc, source, state);
+    }
+    read_segment(alloc, source, state, before, marker)
 }
 
 /// Returns whether only the header is wanted, and the frame was read.
@@ -108,6 +160,36 @@ pub fn read_segments<R: Read + Drop>(
             return Ok(());
         }
         let step = read_turn(alloc, source, state, before, met)?;
+        if step.ended {
+            return Ok(());
+        }
+        before = step.before;
+        met = step.met;
+    }
+    Err(format_error(alloc, "found 2^64 markers, expected EOI"))
+}
+
+/// Reads segments and scans up to the end of the image or the first fault, of the scan that it is
+/// in what stands before it.
+pub fn reach_segments<R: Read + Drop>(
+    alloc: Global,
+    source: &mut Source<R>,
+    state: &mut State,
+) -> Result<()>
+    requires sound { IsSound (found_in state.old) }
+    ensures reads { UnlessRefused result (Answers (λ _. tt) (λ bytes. walk_end (all_brought
+        (found_in state.old) bytes)) source.old result source.new) }
+    ensures found { OnTold source.old source.new result (without_tables (found_in state.new)
+        ≡ without_tables (all_brought (found_in state.old) source.old.bytes).0) }
+    ensures sound { UnlessRefused result (IsSound (found_in state.new)) }
+    ensures framed { IfOk result (λ _. is_some (said_in state.new).frame ≡ true) }
+    ensures stays { is_some (said_in state.old).frame ≡ true → (said_in state.new).frame
+        ≡ (said_in state.old).frame }
+{
+    let mut before = Before::Elsewhere;
+    let mut met = None;
+    for _ in 0..=u64::MAX {
+        let step = reach_turn(alloc, source, state, before, met)?;
         if step.ended {
             return Ok(());
         }

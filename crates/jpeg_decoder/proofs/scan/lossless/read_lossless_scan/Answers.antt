@@ -1,13 +1,13 @@
-use Rattle.std.proofs.Common.{◌≡◌, ◌<◌, ◌==◌, ◌∙◌, ℕ, List, ap, length, map, sym, arith}
+use Rattle.std.proofs.Common.{◌≡◌, ◌<◌, ◌==◌, ◌∙◌, ℕ, List, Ok, Err, ap, length, map, refl, sym, arith}
 use Rattle.std.proofs.lemmas.List.{length-map}
 use Rattle.std.proofs.lemmas.List.Elements.{recursion_from_All}
-use Rattle.jpeg_streams.specs.ScanSegments.{once_scanned}
+use Rattle.jpeg_streams.specs.ScanSegments.{after_samples, once_scanned}
 use Rattle.jpeg_lossless.specs.Codings.{part_in}
 use Rattle.std.proofs.lemmas.Result.{err_from_is_err_and}
 use Rattle.jpeg_bits.specs.Reading.{Fault}
 use Rattle.jpeg_decoder.proofs.LosslessReads.{samples-read, AreCodings, HasMcus, codings-by-tables}
 use Rattle.jpeg_decoder.proofs.LosslessReads.{codings-count, codings-lacking, four-indices}
-use Rattle.jpeg_decoder.proofs.LosslessReads.{has-mcus, on-ok, parts-count, put-made, samples-end}
+use Rattle.jpeg_decoder.proofs.LosslessReads.{has-mcus, parts-count, put-made, samples-end}
 use Rattle.jpeg_decoder.proofs.LosslessReads.{samples-fail, samples-lacking, samples-sound}
 use Rattle.jpeg_decoder.proofs.LosslessReads.{scan-sampled}
 use Rattle.jpeg_segments.specs.FrameView.{frame_in, scan_in}
@@ -125,6 +125,19 @@ put_samples-requires-clause-indices g c =
     rw c.deref-4.ensures.value (four-indices frame c.args.header.now.component_indices.items
     (c.requires.sound.frames frame c.requires.frame) c.requires.legal.components)
 
+pub returns-in_err-met-clause-reads : goal.returns-in_err-met-clause-reads
+returns-in_err-met-clause-reads g c =
+    let p = err_from_is_err_and c.from_residual-in_err-met.result c.from_residual-in_err-met.ensures.1 in
+    let found = found_of c.args.said.now c.args.decoded.now in
+    let at = goal.at.returns-in_err-met-clause-reads g c in
+    let a = coded g at.After-deref-2 in
+    let planes = map (λ v. v.items) c.in_ok-planes.planes.items in
+    rw (p.1, p.2) (samples-end found (after_samples found a.codings planes) _ _ a.codings _
+    planes c.in_ok-planes.met c.args.source.now c.read_scan.new.source c.pass_restarts.new.source
+    (Err c.in_err-met.field-0.0)
+    (samples-read found _ _ _ a _ _ c.args.source.now.bytes c.coding_of-coding.ensures (made g at.After-deref-3))
+    refl c.in_ok-planes.ensures.reads c.in_err-met.ensures)
+
 pub returns-clause-reads : goal.returns-clause-reads
 returns-clause-reads g c =
     let found = found_of c.args.said.now c.args.decoded.now in
@@ -132,11 +145,12 @@ returns-clause-reads g c =
     let a = coded g at.After-deref-2 in
     let planes = map (λ v. v.items) c.in_ok-planes.planes.items in
     samples-end found (once_scanned (found_of c.args.said.now c.put_samples.new.self)) _ _ a.codings _
-    planes c.in_ok-planes.met c.args.source.now c.read_scan.new.source c.pass_restarts.new.source c.pass_restarts.result
+    planes c.in_ok-planes.met c.args.source.now c.read_scan.new.source c.pass_restarts.new.source
+    (Ok c.in_ok-met.met)
     (samples-read found _ _ _ a _ _ c.args.source.now.bytes c.coding_of-coding.ensures (made g at.After-deref-3))
     (placed g at.After-put_samples ∙ ap (λ (l : List ℕ). record (once_scanned found) {
       samples = with_samples l planes found.samples;
-    }) (sym a.indices_are)) c.in_ok-planes.ensures.reads c.pass_restarts.ensures
+    }) (sym a.indices_are)) c.in_ok-planes.ensures.reads c.in_ok-met.ensures
 
 pub returns-clause-sound : goal.returns-clause-sound
 returns-clause-sound g c =
@@ -146,6 +160,6 @@ returns-clause-sound g c =
     let at = goal.at.returns-clause-sound g c in
     let planes = map (λ v. v.items) c.in_ok-planes.planes.items in
     let whole = rw (made g at.After-deref-3) at c.in_ok-planes.ensures.whole in
-    on-ok c.pass_restarts.result (samples-sound found _ frame header.components planes c.requires.sound
+    samples-sound found _ frame header.components planes c.requires.sound
     c.requires.frame c.requires.process (scan-sampled (length header.components == 1) found frame header.components _
-    planes c.requires.sound c.requires.frame whole) (placed g at.After-put_samples))
+    planes c.requires.sound c.requires.frame whole) (placed g at.After-put_samples)

@@ -2,27 +2,22 @@ use Rattle.std.proofs.Common.{◌≡◌, ◌∙◌, ◌*◌, ap, List, map, leng
 use Rattle.std.specs.declared.alloc.Global.{Global}
 use Rattle.std.specs.declared.vec.Vec.{Vec}
 use Rattle.std.proofs.lemmas.Result.{err_from_is_err_and}
-use Rattle.std.proofs.lemmas.List.{length-map}
 use Rattle.jpeg_bits.specs.declared.marker.Marker.{Marker}
 use Rattle.jpeg_bits.specs.BlockView.{pass_in}
 use Rattle.jpeg_bits.specs.Reading.{Outcome}
 use Rattle.jpeg_decoder.specs.declared.scan.coded.Scan.{Scan}
-use Rattle.std.specs.List.{AllByRecursion}
 use Rattle.jpeg_segments.specs.Frame.{Frame}
 use Rattle.jpeg_segments.specs.FrameView.{frame_in}
-use Rattle.jpeg_decoder.specs.declared.scan.coded.Coded.{Coded}
 use Rattle.jpeg_streams.specs.InTurn.{AreArrays}
 use Rattle.jpeg_streams.specs.Order.{spots_of, mcu_size}
 use Rattle.jpeg_streams.specs.Scans.{Arrays, arrays_at}
-use Rattle.jpeg_decoder.specs.Scanning.{arrays_in, components_in, sizes_of, vias_in}
+use Rattle.jpeg_decoder.specs.Scanning.{arrays_in, components_in, vias_in}
 use Rattle.jpeg_decoder.specs.Steps.{blocks_at, blocks_before, coding_in, with_decoded}
-use Rattle.jpeg_decoder.specs.Steps.{without_blocks, AreRising, IsBefore, IsCodingOf}
+use Rattle.jpeg_decoder.specs.Steps.{IsBefore}
 use Rattle.jpeg_streams.specs.ScanSegments.{put_arrays, arrays_before}
 use Rattle.jpeg_streams.specs.Found.{Found, nothing_found}
-use Rattle.jpeg_decoder.proofs.PlacedCodings.{coded-components, coded-indices}
 use Rattle.jpeg_decoder.proofs.BlockArrays.{Held}
-use Rattle.jpeg_streams.proofs.McuRows.{arrays-sized, kept-sized}
-use Rattle.jpeg_decoder.proofs.TakenBlocks.{put-back}
+use Rattle.jpeg_decoder.proofs.ReachedData.{put-all, taken-sized}
 use Rattle.jpeg_decoder.proofs.ScanData.{read_at, of-frame, arrays-by-sizes, coded-within-kept}
 use Rattle.jpeg_decoder.proofs.ScanData.{read-as, rising-codings, data-kept, data-kept-refused}
 use Rattle.jpeg_decoder.proofs.ScanData.{arrays-whole, before-as}
@@ -38,15 +33,6 @@ take_blocks-requires-clause-within g c =
 
 pub take_blocks-requires-clause-apart : goal.take_blocks-requires-clause-apart
 take_blocks-requires-clause-apart g c = grind (arith, common_steps, rising-codings)
-
--- the blocks that are taken are those of the components
-taken-sized : (frame : Frame) (cs seen : List Coded) (kept taken : List Held) (before : Arrays)
-    → seen ≡ cs → arrays_in kept ≡ before → arrays_in taken ≡ blocks_at (map coding_in seen)
-    (arrays_in kept) → AllByRecursion (IsCodingOf frame) (map coding_in cs)
-    → AreArrays frame.components before → (arrays_in taken ≡ blocks_at (map coding_in cs) before)
-    × AreArrays (components_in cs) (arrays_in taken)
-taken-sized frame cs seen kept taken before d e t of h =
-    grind (arith, common_steps, taken, coded-components, arrays-sized, of-frame)
 
 taken : (g : given.Over) (c : In_ok-arrays g) → let cs = c.args.scan.now.components.items in
     (arrays_in c.in_ok-arrays.arrays.items ≡ blocks_at (map coding_in cs)
@@ -103,23 +89,6 @@ put_blocks-requires-clause-indices g c =
     let kept = ap (λ (v : Vec Held Global). length v.items) c.in_ok-add_arrays.ensures.kept in
     coded-within-kept (frame_in c.args.frame.now) c.deref-2.result.now c.keep.new.self.kept.items _
     (kept ∙ c.in_ok-arrays.ensures.length) (grind (arith, common_steps)) (grind (arith, common_steps))
-
--- the blocks that are kept afterwards
-put-all : (frame : Frame) (cs seen again : List Coded) (kept left taken arrays put : List Held) (before : Arrays)
-    → seen ≡ cs → again ≡ cs → arrays_in kept ≡ before
-    → arrays_in taken ≡ blocks_at (map coding_in seen) (arrays_in kept)
-    → arrays_in left ≡ without_blocks (map coding_in seen) (arrays_in kept) → sizes_of arrays ≡ sizes_of taken
-    → arrays_in put ≡ put_arrays (map coding_in again) (arrays_in arrays) (arrays_in left)
-    → AllByRecursion (IsCodingOf frame) (map coding_in cs) → AreRising (map coding_in cs)
-    → AreArrays frame.components before
-    → (arrays_in put ≡ put_arrays (map coding_in cs) (arrays_in arrays) before)
-    × AreArrays frame.components (arrays_in put)
-put-all frame cs seen again kept left taken arrays put before d a k t l s h of rising whole =
-    let sized = taken-sized frame cs seen kept taken before d k t of whole in
-    let long : length arrays ≡ length cs = grind (arith, common_steps, length-map) in
-    let is : arrays_in put ≡ put_arrays (map coding_in cs) (arrays_in arrays) before
-    = grind (arith, common_steps, put-back, coded-indices, rising-codings, length-map) in
-    grind (arith, common_steps, arrays-by-sizes, kept-sized, of-frame, coded-components)
 
 held : (g : given.Over) (c : After-put_blocks g) → let cs = c.args.scan.now.components.items in
     (arrays_in c.put_blocks.new.kept.items ≡ put_arrays (map coding_in cs) (arrays_in c.fill_all.new.arrays.items)

@@ -1,0 +1,27 @@
+//! Callers that ask for the picture that a stream has brought up to its first fault.
+ghost use Rattle.jpeg_decoder.specs.Shows.{ShowsJust};
+ghost use Rattle.jpeg_streams.specs.Shown.{shown_ahead};
+ghost use Rattle.jpeg_streams.specs.States.{IsReading};
+ghost use Rattle.jpeg_streams.specs.Stream.{told_of};
+
+use jpeg_decoder::error::Result;
+use jpeg_decoder::{Decoder, PartialPicture};
+use std::io::Read;
+
+/// Calls `Decoder::decode_partial`, and says what the picture and the fault are.
+pub fn partial_by_meaning<R: Read + Drop>(decoder: &mut Decoder<R>) -> Result<PartialPicture>
+    ensures { IsReading decoder.old.stage → ShowsJust (shown_ahead decoder.old.stage
+        decoder.old.settings decoder.old.found) (λ p. p.pixels.items) (λ p. p.fault)
+        decoder.old.source result decoder.new.source (told_of decoder.new.found.said) }
+{
+    decoder.decode_partial()
+}
+
+/// Decodes in part by the clause `shows`.
+pub fn shown<R: Read + Drop>(decoder: &mut Decoder<R>) -> Result<PartialPicture>
+    ensures { IsReading decoder.old.stage → ShowsJust (shown_ahead decoder.old.stage
+        decoder.old.settings decoder.old.found) (λ p. p.pixels.items) (λ p. p.fault)
+        decoder.old.source result decoder.new.source (told_of decoder.new.found.said) }
+{
+    partial_by_meaning(decoder)
+}

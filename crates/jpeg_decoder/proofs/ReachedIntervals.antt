@@ -1,0 +1,349 @@
+-- An interval is reached as far as its data go, block by block.
+use Rattle.std.proofs.Common.{◌≡◌, ◌∙◌, inl, inr, ℕ, Bool, true, false, List, length, refl, sym}
+use Rattle.std.proofs.Common.{subst, ap, arith, Result, Ok, Err, Option, Some, nat_le}
+use Rattle.jpeg_bits.specs.Stream.{Stream}
+use Rattle.jpeg_bits.specs.Reading.{Answers, Fault, End, IsGivenUp, Lacks, Malformed, MayFail, Names, Outcome, ◌>>=◌}
+use Rattle.jpeg_bits.specs.Entropy.{Broken, Ending, text_at}
+use Rattle.jpeg_bits.specs.Entropy as entropy
+use Rattle.jpeg_bits.specs.Intervals.{met}
+use Rattle.jpeg_bits.specs.Passes.{Pass, Via}
+use Rattle.jpeg_bits.specs.declared.error.UnsupportedFeature.{UnsupportedFeature}
+use Rattle.jpeg_bits.specs.declared.error.Error.{Error}
+use Rattle.jpeg_bits.specs.declared.error.Error.TheVariants as errors
+use Rattle.jpeg_bits.specs.declared.marker.Marker.{Marker}
+use Rattle.jpeg_bits.proofs.Loops.{Names-through, still_known}
+use Rattle.jpeg_streams.specs.Brought.{fault_at, interval_reached, or_fault_at, reached_from, sealed}
+use Rattle.jpeg_streams.specs.InTurn.{Reached, at_start}
+use Rattle.jpeg_streams.specs.Order.{Spot}
+use Rattle.jpeg_streams.specs.Scans.{Arrays}
+use Rattle.jpeg_streams.specs.States.{IfRefused, OnTold}
+use Rattle.jpeg_decoder.specs.Reaching.{HasBits, IsOfData, IsRefusalAt, TellsLeft, UnlessRefused, first_of}
+use Rattle.jpeg_decoder.proofs.GatheredData.{if-refused}
+use Rattle.jpeg_decoder.proofs.ReachedBlocks.{reached-alike}
+
+-- ---- what an interval is, by its blocks and how its data end
+
+abbrev pub is_near : Ending → List Bool → Outcome (Bool × Option Marker)
+is_near e left = met e >>= λ m. Ok ((nat_le (length left) 56, m.0), m.1)
+
+abbrev pub outcome_by : Result (List Bool) Fault → Ending → Outcome (Bool × Option Marker)
+outcome_by r e = or_fault_at e r >>= is_near e
+
+-- what is read of data in memory
+abbrev pub read_of : Pass → List Via → List Spot → Arrays → List ℕ → Reached × Result (List Bool) Fault
+read_of p vias spots arrays front = reached_from p vias spots (at_start arrays) (text_at front)
+
+same-blocks : (p : Pass) (vias : List Via) (spots : List Spot) (arrays : Arrays) (front bytes : List ℕ)
+    → HasBits front (text_at bytes)
+    → reached_from p vias spots (at_start arrays) (sealed (text_at bytes)) ≡ read_of p vias spots arrays front
+same-blocks p vias spots arrays front bytes h =
+    sym (reached-alike p vias spots (at_start arrays) (text_at front) (sealed (text_at bytes)) h.bits h.ending)
+
+pub interval-arrays : (p : Pass) (vias : List Via) (spots : List Spot) (arrays : Arrays) (front bytes : List ℕ)
+    → HasBits front (text_at bytes)
+    → (interval_reached p vias spots arrays bytes).0 ≡ (read_of p vias spots arrays front).0.arrays
+unfolding interval_reached
+interval-arrays p vias spots arrays front bytes h =
+    ap (λ (r : Reached × Result (List Bool) Fault). r.0.arrays) (same-blocks p vias spots arrays front bytes h)
+
+pub interval-outcome : (p : Pass) (vias : List Via) (spots : List Spot) (arrays : Arrays) (front bytes : List ℕ)
+    → HasBits front (text_at bytes)
+    → (interval_reached p vias spots arrays bytes).1
+    ≡ outcome_by (read_of p vias spots arrays front).1 (text_at bytes).ending
+unfolding interval_reached
+interval-outcome p vias spots arrays front bytes h =
+    ap (λ (r : Reached × Result (List Bool) Fault). outcome_by r.1 (text_at bytes).ending)
+    (same-blocks p vias spots arrays front bytes h)
+
+-- ---- refusals
+
+-- an error that names a fault of bytes is none of a reader
+named-may-fail : {Y : Type 0} (e : Error) (o : Result Y Fault) (old new : Bool) → new ≡ old → Names e o
+    → MayFail e old new
+named-may-fail (errors.Format t) o old new same n = same
+named-may-fail (errors.Unsupported t) o old new same n = same
+named-may-fail (errors.Io t) o old new same n = (λ h. same ∙ h, λ h. n.1)
+named-may-fail (errors.Internal t) o old new same n = absurd n
+named-may-fail errors.OutOfMemory o old new same n = same
+
+still-found : (e : Ending) (m : Marker) (rest : List ℕ) → met e ≡ Ok (Some m, rest) → e ≡ entropy.Found m rest
+still-found (entropy.Found n others) m rest h = grind arith
+still-found (Broken f) m rest h = grind arith
+
+or-fault-first : (r : Result (List Bool) Fault) (e : Ending) (f : Fault) → or_fault_at e r ≡ Err f
+    → outcome_by r e ≡ Err f
+or-fault-first r e f h = ap (λ (o : Result (List Bool) Fault). o >>= is_near e) h
+
+malformed-stays : (e : Ending) → fault_at e Malformed ≡ Malformed
+malformed-stays (entropy.Found m rest) = refl
+malformed-stays (Broken f) = refl
+
+end-as : (e : Ending) (f : Fault) → met e ≡ Err f → fault_at e End ≡ f
+end-as (entropy.Found m rest) f h = grind arith
+end-as (Broken g) f h = grind arith
+
+lacks-stays : (e : Ending) (feature : UnsupportedFeature) → fault_at e (Lacks feature) ≡ Lacks feature
+lacks-stays (entropy.Found m rest) feature = refl
+lacks-stays (Broken f) feature = refl
+
+-- the refusal of a block stays, whatever ends the data
+format-stays : (r : Result (List Bool) Fault) (e : Ending) → r ≡ Err Malformed → outcome_by r e ≡ Err Malformed
+format-stays r e h =
+    ap (λ (o : Result (List Bool) Fault). outcome_by o e) h
+    ∙ ap (λ (f : Fault). ◌>>=◌ {A = List Bool} (Err f) (is_near e)) (malformed-stays e)
+
+-- ---- the data end with a marker
+
+pub marker-ok : (r : Result (List Bool) Fault) (e : Ending) (near : Bool) (m : Marker) (rest : List ℕ)
+    → TellsLeft r (Ok near) → met e ≡ Ok (Some m, rest) → outcome_by r e ≡ Ok ((near, Some m), rest)
+marker-ok r e near m rest t h =
+    ap (λ (o : Result (List Bool) Fault). outcome_by o e) t.1
+    ∙ ap (λ (o : Outcome (Option Marker)). o >>= λ m. Ok ((nat_le (length t.0) 56, m.0), m.1)) h
+    ∙ ap (λ (b : Bool). Ok ((b, Some m), rest)) (sym t.2)
+
+-- The error of a block in data that a marker ends.
+abbrev pub IsBefore : Error → Error → Type 0
+IsBefore e result = (expected : Result (List Bool) Fault) (m : Marker) (rest : List ℕ)
+    → Names e expected → Names result (or_fault_at (entropy.Found m rest) expected)
+
+marker-names : (e result : Error) (r : Result (List Bool) Fault) (end : Ending) (m : Marker) (rest : List ℕ)
+    → IsBefore e result → Names e r → met end ≡ Ok (Some m, rest) → Names result (outcome_by r end)
+marker-names e result r end m rest before n h =
+    let is = still-found end m rest h in
+    subst (λ (x : Ending). Names result (outcome_by r x)) (sym is)
+    (Names-through result (or_fault_at (entropy.Found m rest) r) (outcome_by r (entropy.Found m rest))
+    (or-fault-first r (entropy.Found m rest)) (before r m rest n))
+
+if-memory : (e result : Error) (P : Type 0) → (e ≡ errors.OutOfMemory → result ≡ errors.OutOfMemory) → IfRefused e P
+    → IfRefused result P
+if-memory errors.OutOfMemory result P m h = subst (λ (x : Error). IfRefused x P) (sym (m refl)) tt
+if-memory (errors.Format t) result P m h = if-refused result P h
+if-memory (errors.Io t) result P m h = if-refused result P h
+if-memory (errors.Unsupported t) result P m h = if-refused result P h
+if-memory (errors.Internal t) result P m h = if-refused result P h
+
+-- ---- the data end with an error
+
+same-failed : (e : Error) (old new : Bool) → (IsGivenUp e new → ⊥) → MayFail e old new → new ≡ old
+same-failed (errors.Format t) old new n m = m
+same-failed (errors.Unsupported t) old new n m = m
+same-failed (errors.Internal t) old new n m = absurd m
+same-failed errors.OutOfMemory old new n m = m
+same-failed (errors.Io t) old true n m = absurd (n refl)
+same-failed (errors.Io t) true false n m = m.0 refl
+same-failed (errors.Io t) false false n m = refl
+
+-- an error of lacking bits, and another
+abbrev IsLack : Error → Type 0
+IsLack (errors.Io t) = Unit {0}
+IsLack _ = ⊥
+
+abbrev IsOther : Error → Type 0
+IsOther (errors.Io t) = ⊥
+IsOther _ = Unit {0}
+
+-- What holds of the error that comes first: P is known unless the data end for want of memory.
+first-by : (ended : Error) (reached : Result Bool Error) (P : Type 0) (G : Error → Type 0) → IfRefused ended P
+    → G errors.OutOfMemory → (P → (near : Bool) → reached ≡ Ok near → G ended)
+    → (P → (e : Error) → IsLack e → reached ≡ Err e → G ended)
+    → (P → (e : Error) → IsOther e → reached ≡ Err e → G e) → G (first_of ended reached)
+first-by errors.OutOfMemory reached P G h o b l c = o
+first-by (errors.Format x) (Ok near) P G h o b l c = b h near refl
+first-by (errors.Format x) (Err (errors.Format y)) P G h o b l c = c h (errors.Format y) tt refl
+first-by (errors.Format x) (Err (errors.Unsupported y)) P G h o b l c = c h (errors.Unsupported y) tt refl
+first-by (errors.Format x) (Err (errors.Io y)) P G h o b l c = l h (errors.Io y) tt refl
+first-by (errors.Format x) (Err (errors.Internal y)) P G h o b l c = c h (errors.Internal y) tt refl
+first-by (errors.Format x) (Err errors.OutOfMemory) P G h o b l c = o
+first-by (errors.Unsupported x) (Ok near) P G h o b l c = b h near refl
+first-by (errors.Unsupported x) (Err (errors.Format y)) P G h o b l c = c h (errors.Format y) tt refl
+first-by (errors.Unsupported x) (Err (errors.Unsupported y)) P G h o b l c = c h (errors.Unsupported y) tt refl
+first-by (errors.Unsupported x) (Err (errors.Io y)) P G h o b l c = l h (errors.Io y) tt refl
+first-by (errors.Unsupported x) (Err (errors.Internal y)) P G h o b l c = c h (errors.Internal y) tt refl
+first-by (errors.Unsupported x) (Err errors.OutOfMemory) P G h o b l c = o
+first-by (errors.Io x) (Ok near) P G h o b l c = b h near refl
+first-by (errors.Io x) (Err (errors.Format y)) P G h o b l c = c h (errors.Format y) tt refl
+first-by (errors.Io x) (Err (errors.Unsupported y)) P G h o b l c = c h (errors.Unsupported y) tt refl
+first-by (errors.Io x) (Err (errors.Io y)) P G h o b l c = l h (errors.Io y) tt refl
+first-by (errors.Io x) (Err (errors.Internal y)) P G h o b l c = c h (errors.Internal y) tt refl
+first-by (errors.Io x) (Err errors.OutOfMemory) P G h o b l c = o
+first-by (errors.Internal x) (Ok near) P G h o b l c = b h near refl
+first-by (errors.Internal x) (Err (errors.Format y)) P G h o b l c = c h (errors.Format y) tt refl
+first-by (errors.Internal x) (Err (errors.Unsupported y)) P G h o b l c = c h (errors.Unsupported y) tt refl
+first-by (errors.Internal x) (Err (errors.Io y)) P G h o b l c = l h (errors.Io y) tt refl
+first-by (errors.Internal x) (Err (errors.Internal y)) P G h o b l c = c h (errors.Internal y) tt refl
+first-by (errors.Internal x) (Err errors.OutOfMemory) P G h o b l c = o
+
+first-may-fail : (ended : Error) (reached : Result Bool Error) (r : Result (List Bool) Fault) (old new : Bool)
+    → (IsGivenUp ended new → ⊥) → MayFail ended old new → TellsLeft r reached
+    → MayFail (first_of ended reached) old new
+first-may-fail ended reached r old new n m t =
+    let same = same-failed ended old new n m in
+    first-by ended reached (Unit {0}) (λ (e : Error). MayFail e old new) (if-refused ended (Unit {0}) tt) same
+    (λ u near is. m) (λ u e lack is. m)
+    (λ u e other is. named-may-fail e r old new same (subst (λ (x : Result Bool Error). TellsLeft r x) is t))
+
+lack-is : (e : Error) (r : Result (List Bool) Fault) → IsLack e → Names e r → r ≡ Err End
+lack-is (errors.Io t) r l n = n.0
+lack-is (errors.Format t) r l n = absurd l
+lack-is (errors.Unsupported t) r l n = absurd l
+lack-is (errors.Internal t) r l n = absurd l
+lack-is errors.OutOfMemory r l n = absurd l
+
+other-stays : (e : Error) (r : Result (List Bool) Fault) (end : Ending) → IsOther e → Names e r
+    → Names e (outcome_by r end)
+other-stays (errors.Io t) r end o n = absurd o
+other-stays (errors.Format t) r end o n = format-stays r end n
+other-stays (errors.Unsupported t) r end o n =
+    ap (λ (o : Result (List Bool) Fault). outcome_by o end) n
+    ∙ ap (λ (f : Fault). ◌>>=◌ {A = List Bool} (Err f) (is_near end)) (lacks-stays end t)
+other-stays (errors.Internal t) r end o n = absurd n
+other-stays errors.OutOfMemory r end o n = tt
+
+end-after : (r : Result (List Bool) Fault) (end : Ending) (left : List Bool) (f : Fault) → r ≡ Ok left
+    → met end ≡ Err f → outcome_by r end ≡ Err f
+end-after r end left f h e =
+    ap (λ (o : Result (List Bool) Fault). outcome_by o end) h
+    ∙ ap (λ (o : Outcome (Option Marker)). o >>= λ m. Ok ((nat_le (length left) 56, m.0), m.1)) e
+
+end-inside : (r : Result (List Bool) Fault) (end : Ending) (f : Fault) → r ≡ Err End → met end ≡ Err f
+    → outcome_by r end ≡ Err f
+end-inside r end f h e =
+    ap (λ (o : Result (List Bool) Fault). outcome_by o end) h
+    ∙ ap (λ (f : Fault). ◌>>=◌ {A = List Bool} (Err f) (is_near end)) (end-as end f e)
+
+first-names : (ended : Error) (reached : Result Bool Error) (r : Result (List Bool) Fault) (end : Ending)
+    (P : Type 0) (o : Outcome (Bool × Option Marker)) → IfRefused ended P → (P → o ≡ outcome_by r end)
+    → Names ended (met end) → TellsLeft r reached → Names (first_of ended reached) o
+first-names ended reached r end P o h is n t =
+    let told = λ (x : Result Bool Error) (i : reached ≡ x). subst (λ (x : Result Bool Error). TellsLeft r x) i t in
+    first-by ended reached P (λ (e : Error). Names e o) h tt
+    (λ u near i. Names-through ended (met end) o
+    (λ f m. is u ∙ end-after r end (told (Ok near) i).0 f (told (Ok near) i).1 m) n)
+    (λ u e lack i. Names-through ended (met end) o
+    (λ f m. is u ∙ end-inside r end f (lack-is e r lack (told (Err e) i)) m) n)
+    (λ u e other i. Names-through e (outcome_by r end) o (λ f m. is u ∙ m) (other-stays e r end other (told (Err e) i)))
+
+if-map : (e : Error) (A B : Type 0) → (A → B) → IfRefused e A → IfRefused e B
+if-map (errors.Format t) A B f h = f h
+if-map (errors.Unsupported t) A B f h = f h
+if-map (errors.Io t) A B f h = f h
+if-map (errors.Internal t) A B f h = f h
+if-map errors.OutOfMemory A B f h = tt
+
+if-lack : (e : Error) (A : Type 0) → IsLack e → IfRefused e A → A
+if-lack (errors.Io t) A l h = h
+if-lack (errors.Format t) A l h = absurd l
+if-lack (errors.Unsupported t) A l h = absurd l
+if-lack (errors.Internal t) A l h = absurd l
+if-lack errors.OutOfMemory A l h = absurd l
+
+first-refused : (ended : Error) (reached : Result Bool Error) (P A B : Type 0) → IfRefused ended P → (P → A → B)
+    → UnlessRefused reached A → IfRefused (first_of ended reached) B
+first-refused ended reached P A B h f u =
+    let told = λ (x : Result Bool Error) (i : reached ≡ x). subst (λ (x : Result Bool Error). UnlessRefused x A) i u in
+    first-by ended reached P (λ (e : Error). IfRefused e B) h tt
+    (λ p near i. if-refused ended B (f p (told (Ok near) i)))
+    (λ p e lack i. if-refused ended B (f p (if-lack e A lack (told (Err e) i))))
+    (λ p e other i. if-map e A B (f p) (told (Err e) i))
+
+-- ---- the interval
+
+abbrev pub end_of : List ℕ → Outcome (Option Marker)
+end_of bytes = met (text_at bytes).ending
+
+abbrev pub outcome_of : Pass → List Via → List Spot → Arrays → List ℕ → Outcome (Bool × Option Marker)
+outcome_of p vias spots arrays bytes = (interval_reached p vias spots arrays bytes).1
+
+abbrev pub shown : Bool × Marker → Bool × Option Marker
+shown r = (r.0, Some r.1)
+
+not-its-own : (ended : Error) (old new : Stream) → IsOfData {X = Marker} old (Err ended) new
+    → (new.known ≡ true → new.failed ≡ false) → IsGivenUp ended new.failed → old.known ≡ true → new.known ≡ true → ⊥
+not-its-own ended old new o live given k l = o k l (subst (λ (f : Bool). IsGivenUp ended f) (live l) given)
+
+pub error-answers : (p : Pass) (vias : List Via) (spots : List Spot) (arrays : Arrays) (front : List ℕ)
+    (old new : Stream) (ended result : Error) (reached : Result Bool Error)
+    → Answers {X = Marker} (λ m. Some m) end_of old (Err ended) new → IsOfData {X = Marker} old (Err ended) new
+    → OnTold {X = Marker} old new (Err ended) (HasBits front (text_at old.bytes))
+    → (new.known ≡ true → new.failed ≡ false)
+    → TellsLeft (read_of p vias spots arrays front).1 reached → IsRefusalAt ended reached new.failed result
+    → Answers {X = Bool × Marker} shown (outcome_of p vias spots arrays) old (Err result) new
+error-answers p vias spots arrays front old new ended result reached a o b live t (inl x) =
+    subst (λ (e : Error). Answers {X = Bool × Marker} shown (outcome_of p vias spots arrays) old (Err e) new)
+    (sym x.0) (
+      a.0,
+      λ k l. absurd (not-its-own ended old new o live x.1 k l),
+      λ k l. x.1,
+    )
+error-answers p vias spots arrays front old new ended result reached a o b live t (inr x) =
+    subst (λ (e : Error). Answers {X = Bool × Marker} shown (outcome_of p vias spots arrays) old (Err e) new)
+    (sym x.1) (
+      first-may-fail ended reached (read_of p vias spots arrays front).1 old.failed new.failed x.0 a.0 t,
+      λ k l.
+          first-names ended reached (read_of p vias spots arrays front).1 (text_at old.bytes).ending
+          (HasBits front (text_at old.bytes)) (outcome_of p vias spots arrays old.bytes) (b k l)
+          (λ h. interval-outcome p vias spots arrays front old.bytes h) (a.1 k l) t,
+      λ k l. absurd (x.0 (a.2 k l)),
+    )
+
+pub error-arrays : (p : Pass) (vias : List Via) (spots : List Spot) (arrays now : Arrays) (front : List ℕ)
+    (old new : Stream) (ended result : Error) (reached : Result Bool Error)
+    → IsOfData {X = Marker} old (Err ended) new
+    → OnTold {X = Marker} old new (Err ended) (HasBits front (text_at old.bytes))
+    → (new.known ≡ true → new.failed ≡ false)
+    → UnlessRefused reached (now ≡ (read_of p vias spots arrays front).0.arrays)
+    → IsRefusalAt ended reached new.failed result
+    → OnTold {X = Bool × Marker} old new (Err result) (now ≡ (interval_reached p vias spots arrays old.bytes).0)
+error-arrays p vias spots arrays now front old new ended result reached o b live u (inl x) =
+    λ k l. absurd (not-its-own ended old new o live x.1 k l)
+error-arrays p vias spots arrays now front old new ended result reached o b live u (inr x) =
+    λ k l.
+    subst (λ (e : Error). IfRefused e (now ≡ (interval_reached p vias spots arrays old.bytes).0)) (sym x.1)
+    (first-refused ended reached (HasBits front (text_at old.bytes))
+    (now ≡ (read_of p vias spots arrays front).0.arrays) (now ≡ (interval_reached p vias spots arrays old.bytes).0)
+    (b k l) (λ h is. is ∙ sym (interval-arrays p vias spots arrays front old.bytes h)) u)
+
+pub block-answers : (p : Pass) (vias : List Via) (spots : List Spot) (arrays : Arrays) (front : List ℕ)
+    (old new : Stream) (m : Marker) (e result : Error)
+    → Answers {X = Marker} (λ m. Some m) end_of old (Ok m) new
+    → (old.known ≡ true → HasBits front (text_at old.bytes))
+    → Names e (read_of p vias spots arrays front).1 → IsBefore e result
+    → Answers {X = Bool × Marker} shown (outcome_of p vias spots arrays) old (Err result) new
+block-answers p vias spots arrays front old new m e result a b n before =
+    let r = (read_of p vias spots arrays front).1 in (
+      named-may-fail result (or_fault_at (entropy.Found m new.bytes) r) old.failed new.failed a.0
+          (before r m new.bytes n),
+      λ k l.
+          Names-through result (outcome_by r (text_at old.bytes).ending) (outcome_of p vias spots arrays old.bytes)
+          (λ f is. interval-outcome p vias spots arrays front old.bytes (b k) ∙ is)
+          (marker-names e result r (text_at old.bytes).ending m new.bytes before n (a.1 k).1),
+      λ k l. still_known result new.failed (a.1 k).0 l,
+    )
+
+pub block-arrays : (p : Pass) (vias : List Via) (spots : List Spot) (arrays now : Arrays) (front : List ℕ)
+    (old new : Stream) (e result : Error)
+    → (old.known ≡ true → HasBits front (text_at old.bytes))
+    → IfRefused e (now ≡ (read_of p vias spots arrays front).0.arrays)
+    → (e ≡ errors.OutOfMemory → result ≡ errors.OutOfMemory)
+    → OnTold {X = Bool × Marker} old new (Err result) (now ≡ (interval_reached p vias spots arrays old.bytes).0)
+block-arrays p vias spots arrays now front old new e result b u memory =
+    λ k l.
+    if-memory e result (now ≡ (interval_reached p vias spots arrays old.bytes).0) memory
+    (if-map e (now ≡ (read_of p vias spots arrays front).0.arrays)
+    (now ≡ (interval_reached p vias spots arrays old.bytes).0)
+    (λ is. is ∙ sym (interval-arrays p vias spots arrays front old.bytes (b k))) u)
+
+pub whole-answers : (p : Pass) (vias : List Via) (spots : List Spot) (arrays : Arrays) (front : List ℕ)
+    (old new : Stream) (near : Bool) (m : Marker)
+    → Answers {X = Marker} (λ m. Some m) end_of old (Ok m) new
+    → (old.known ≡ true → HasBits front (text_at old.bytes))
+    → TellsLeft (read_of p vias spots arrays front).1 (Ok near)
+    → Answers {X = Bool × Marker} shown (outcome_of p vias spots arrays) old (Ok (near, m)) new
+whole-answers p vias spots arrays front old new near m a b t = (
+  a.0,
+  λ k. (
+    (a.1 k).0,
+    interval-outcome p vias spots arrays front old.bytes (b k)
+        ∙ marker-ok (read_of p vias spots arrays front).1 (text_at old.bytes).ending near m new.bytes t (a.1 k).1,
+  ),
+)

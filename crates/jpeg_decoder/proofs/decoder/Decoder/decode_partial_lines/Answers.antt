@@ -1,0 +1,8 @@
+use Rattle.jpeg_decoder.specs.Seen.{found_in}
+use Rattle.jpeg_decoder.proofs.ShownLines.{start-sound}
+use Rattle.jpeg_decoder.proofs.decoder.Decoder.decode_partial_lines.Goals as goal
+
+pub show-result-requires-clause-sound : goal.show-result-requires-clause-sound
+show-result-requires-clause-sound g c =
+    start-sound c.in_ok-from_start.from_start c.self.inside.progress (found_in c.self.inside.state)
+    c.in_ok-from_start.ensures c.self.invariant.0 c.self.invariant.3

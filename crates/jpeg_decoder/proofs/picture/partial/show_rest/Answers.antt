@@ -1,0 +1,53 @@
+use Rattle.std.proofs.Common.{◌∙◌, ap, refl, subst, sym}
+use Rattle.std.proofs.lemmas.Result.{IfOk-weaker}
+use Rattle.std.specs.List.{concat}
+use Rattle.jpeg_streams.specs.Brought.{all_brought}
+use Rattle.jpeg_streams.specs.Sound.{IsSound}
+use Rattle.jpeg_decoder.specs.Reaching.{walk_end}
+use Rattle.jpeg_decoder.specs.Seen.{found_in}
+use Rattle.jpeg_decoder.specs.Steps.{with_decoded}
+use Rattle.jpeg_decoder.specs.declared.picture.partial.PartialLines.{PartialLines}
+use Rattle.jpeg_decoder.specs.declared.scan.decoded.Decoded.{Decoded}
+use Rattle.jpeg_decoder.proofs.LosslessReads.{on-ok}
+use Rattle.jpeg_decoder.proofs.PictureSizes.{lines-whole}
+use Rattle.jpeg_decoder.proofs.ShownFaults.{ended-bytes, rest-shown, then-holds}
+use Rattle.jpeg_decoder.proofs.picture.partial.show_rest.Goals as goal
+
+pub show_found-requires : goal.show_found-requires
+show_found-requires g c =
+    let m = sym c.is_out_of_memory.ensures ∙ c.if-is_out_of_memory.false in
+    record {
+      sound = subst IsSound
+          (sym (ap (λ (d : Decoded). with_decoded (found_in c.reach_segments-ended.new.state) d)
+          c.replace-decoded.ensures.value))
+          (then-holds c.reach_segments-ended.result (IsSound (found_in c.reach_segments-ended.new.state)) m
+          c.reach_segments-ended.ensures.sound);
+      fault = ended-bytes c.reach_segments-ended.result c.err.result (λ (u : Unit {0}). tt)
+          (λ bytes. walk_end (all_brought (found_in c.args.state.now) bytes)) c.args.source.now
+          c.reach_segments-ended.new.source m c.reach_segments-ended.ensures.reads c.err.ensures.value;
+    }
+
+pub returns-clause-shown : goal.returns-clause-shown
+returns-clause-shown g c =
+    rest-shown {X = PartialLines} (λ p. concat p.lines) (λ p. p.fault) c.args.settings (found_in c.args.state.now)
+    (found_in c.reach_segments-ended.new.state)
+    (with_decoded (found_in c.reach_segments-ended.new.state) c.replace-decoded.result) c.args.source.now
+    c.reach_segments-ended.new.source c.reach_segments-ended.result c.err.result c.show_found.result _
+    (sym c.is_out_of_memory.ensures ∙ c.if-is_out_of_memory.false) c.reach_segments-ended.ensures.reads
+    c.reach_segments-ended.ensures.found c.err.ensures.value
+    (ap (λ (d : Decoded). with_decoded (found_in c.reach_segments-ended.new.state) d) c.replace-decoded.ensures.value)
+    c.show_found.ensures.shown
+
+pub returns-clause-frames : goal.returns-clause-frames
+returns-clause-frames g c =
+    on-ok c.show_found.result
+    (then-holds c.reach_segments-ended.result (IsSound (found_in c.reach_segments-ended.new.state))
+    (sym c.is_out_of_memory.ensures ∙ c.if-is_out_of_memory.false) c.reach_segments-ended.ensures.sound).frames
+
+pub returns-clause-size : goal.returns-clause-size
+returns-clause-size g c =
+    IfOk-weaker c.show_found.result _ _
+    (λ p h. lines-whole (found_in c.reach_segments-ended.new.state) p.lines _
+    (then-holds c.reach_segments-ended.result (IsSound (found_in c.reach_segments-ended.new.state))
+    (sym c.is_out_of_memory.ensures ∙ c.if-is_out_of_memory.false) c.reach_segments-ended.ensures.sound).frames h refl)
+    c.show_found.ensures.lines

@@ -1,0 +1,13 @@
+use Rattle.std.proofs.Common.{◌≡◌, ◌<◌, ◌≤◌, length}
+use Rattle.jpeg_bits.specs.Reading.{IsShort}
+use Rattle.jpeg_decoder.proofs.GatheredData.{Closes, Gathers}
+use Rattle.jpeg_decoder.proofs.scan.data.read_data.Given as goal
+
+abbrev pub invariant-loop : goal.invariant-loop
+invariant-loop g l = record {
+  gathers : Gathers l.fn.source l.data.items l.source;
+  closes : Closes l.data.items;
+  most : l.counter ≤ length l.data.items;
+  short : 0 < l.counter → IsShort l.fn.source;
+  first : l.counter ≡ 0 → l.source ≡ l.fn.source;
+}

@@ -1,0 +1,128 @@
+use Rattle.std.proofs.Common.{◌≡◌, ◌∙◌, ap, arith, map, length, refl, sym, true}
+use Rattle.std.specs.declared.alloc.Global.{Global}
+use Rattle.std.specs.declared.vec.Vec.{Vec}
+use Rattle.std.proofs.lemmas.Grind.{common_steps}
+use Rattle.jpeg_bits.specs.BlockView.{pass_in}
+use Rattle.jpeg_segments.specs.FrameView.{frame_in}
+use Rattle.jpeg_streams.specs.Found.{Found, nothing_found}
+use Rattle.jpeg_streams.specs.InTurn.{AreArrays}
+use Rattle.jpeg_streams.specs.ScanSegments.{arrays_before, is_progressive}
+use Rattle.jpeg_decoder.specs.PlanesView.{planes_in}
+use Rattle.jpeg_decoder.specs.Reaching.{kept_after}
+use Rattle.jpeg_decoder.specs.Scanning.{arrays_in, components_in}
+use Rattle.jpeg_decoder.specs.Steps.{blocks_at, blocks_before, coding_in, with_decoded, IsBefore}
+use Rattle.jpeg_decoder.proofs.BlockArrays.{Held}
+use Rattle.jpeg_decoder.proofs.ReachedData.{kept-all, on-told, reached-answers, reached-as}
+use Rattle.jpeg_decoder.proofs.ReachedData.{reached-found, taken-sized, unless, whole-after}
+use Rattle.jpeg_decoder.proofs.ScanData.{arrays-by-sizes, arrays-whole, before-as, coded-within-kept}
+use Rattle.jpeg_decoder.proofs.ScanData.{of-frame, rising-codings}
+use Rattle.jpeg_decoder.proofs.scan.decoded.Decoded.reach.Given as given
+use Rattle.jpeg_decoder.proofs.scan.decoded.Decoded.reach.Goals.{After-keep_blocks, In_ok-arrays}
+use Rattle.jpeg_decoder.proofs.scan.decoded.Decoded.reach.Goals as goal
+
+pub take_blocks-requires-clause-within : goal.take_blocks-requires-clause-within
+take_blocks-requires-clause-within g c =
+    coded-within-kept (frame_in c.args.frame.now) c.deref.result.now c.keep.new.self.kept.items _ refl
+    (grind (arith, common_steps)) (grind (arith, common_steps))
+
+pub take_blocks-requires-clause-apart : goal.take_blocks-requires-clause-apart
+take_blocks-requires-clause-apart g c = grind (arith, common_steps, rising-codings)
+
+taken : (g : given.Over) (c : In_ok-arrays g) → let cs = c.args.scan.now.components.items in
+    (arrays_in c.in_ok-arrays.arrays.items ≡ blocks_at (map coding_in cs)
+    (blocks_before c.args.scanned c.args.self.now (frame_in c.args.frame.now)))
+    × AreArrays (components_in cs) (arrays_in c.in_ok-arrays.arrays.items)
+taken g c =
+    taken-sized (frame_in c.args.frame.now) c.args.scan.now.components.items c.deref.result.now
+    c.keep.new.self.kept.items c.in_ok-arrays.arrays.items _ c.deref.ensures.value
+    c.in_ok-keep.ensures.kept
+    c.in_ok-arrays.ensures.taken c.requires.ready.of_frame c.requires.kept
+
+taken-by : (g : given.Over) (c : In_ok-arrays g) (base : Found) → IsBefore c.args.scanned c.args.scan.now base
+    → arrays_in c.in_ok-arrays.arrays.items ≡ blocks_at (map coding_in c.args.scan.now.components.items)
+    (arrays_before (with_decoded base c.args.self.now) (frame_in c.args.frame.now))
+taken-by g c base b =
+    (taken g c).0
+    ∙ sym (ap (blocks_at (map coding_in c.args.scan.now.components.items))
+    (before-as base c.args.self.now (frame_in c.args.frame.now) _ b.scanned))
+
+pub reach_blocks-met-requires-clause-arrays : goal.reach_blocks-met-requires-clause-arrays
+reach_blocks-met-requires-clause-arrays g c =
+    (taken g (goal.at.reach_blocks-met-requires-clause-arrays g c).In_ok-arrays).1
+
+pub add_arrays-requires-clause-blocks : goal.add_arrays-requires-clause-blocks
+add_arrays-requires-clause-blocks g c =
+    arrays-by-sizes (components_in c.args.scan.now.components.items) c.in_ok-arrays.arrays.items
+    c.fill_all.new.arrays.items (taken g (goal.at.add_arrays-requires-clause-blocks g c).In_ok-arrays).1
+    (c.in_ok-fill_all.ensures.sizes ∙ c.reach_blocks-met.ensures.sizes)
+
+pub keep_blocks-requires-clause-indices : goal.keep_blocks-requires-clause-indices
+keep_blocks-requires-clause-indices g c =
+    let kept = ap (λ (v : Vec Held Global). length v.items) c.in_ok-add_arrays.ensures.kept in
+    coded-within-kept (frame_in c.args.frame.now) c.deref-2.result.now c.keep.new.self.kept.items _
+    (kept ∙ c.in_ok-arrays.ensures.length) (grind (arith, common_steps)) (grind (arith, common_steps))
+
+held : (g : given.Over) (c : After-keep_blocks g) → let cs = c.args.scan.now.components.items in
+    let is_kept = is_progressive (frame_in c.args.frame.now).process in
+    (arrays_in c.keep_blocks.new.kept.items ≡ kept_after is_kept (map coding_in cs)
+    (arrays_in c.fill_all.new.arrays.items)
+    (blocks_before c.args.scanned c.args.self.now (frame_in c.args.frame.now)))
+    × (is_kept ≡ true → AreArrays (frame_in c.args.frame.now).components (arrays_in c.keep_blocks.new.kept.items))
+held g c =
+    kept-all (is_progressive (frame_in c.args.frame.now).process) (frame_in c.args.frame.now)
+    c.args.scan.now.components.items c.deref.result.now c.deref-2.result.now c.keep.new.self.kept.items
+    c.add_arrays.new.self.kept.items c.in_ok-arrays.arrays.items c.fill_all.new.arrays.items
+    c.keep_blocks.new.kept.items _ c.deref.ensures.value c.deref-2.ensures.value c.in_ok-keep.ensures.kept
+    c.in_ok-arrays.ensures.taken
+    (ap (λ (v : Vec Held Global). arrays_in v.items) c.in_ok-add_arrays.ensures.kept ∙ c.in_ok-arrays.ensures.left)
+    (c.in_ok-fill_all.ensures.sizes ∙ c.reach_blocks-met.ensures.sizes) c.keep_blocks.ensures
+    c.requires.ready.of_frame c.requires.ready.rising c.requires.kept
+
+held-by : (g : given.Over) (c : After-keep_blocks g) (base : Found) → IsBefore c.args.scanned c.args.scan.now base
+    → arrays_in c.keep_blocks.new.kept.items ≡ kept_after (is_progressive (frame_in c.args.frame.now).process)
+    (map coding_in c.args.scan.now.components.items) (arrays_in c.fill_all.new.arrays.items)
+    (arrays_before (with_decoded base c.args.self.now) (frame_in c.args.frame.now))
+held-by g c base b =
+    (held g c).0
+    ∙ sym (ap (kept_after (is_progressive (frame_in c.args.frame.now).process)
+    (map coding_in c.args.scan.now.components.items) (arrays_in c.fill_all.new.arrays.items))
+    (before-as base c.args.self.now (frame_in c.args.frame.now) _ b.scanned))
+
+pub returns-clause-found : goal.returns-clause-found
+returns-clause-found g c base b =
+    let f = with_decoded base c.args.self.now in
+    let frame = frame_in c.args.frame.now in
+    let at = goal.at.returns-clause-found g c in
+    let same = reached-as f frame c.args.scan.now _ c.args.source.now.bytes b.restart
+    (taken-by g at.In_ok-arrays base b) in
+    on-told c.args.source.now c.reach_blocks-met.new.source c.reach_blocks-met.result
+    (λ is. reached-found f frame (pass_in c.args.scan.now.pass) (map coding_in c.args.scan.now.components.items)
+    (arrays_in c.fill_all.new.arrays.items) c.args.source.now.bytes
+    (record c.keep.new.self { kept = c.take_blocks.new.kept }) c.add_arrays.new.self
+    (arrays_in c.keep_blocks.new.kept.items) c.in_ok-add_arrays.ensures.planes c.in_ok-keep.ensures.finished
+    (ap (λ p. p) c.in_ok-keep.ensures.planes) (ap planes_in c.in_ok-keep.ensures.samples)
+    (held-by g at.After-keep_blocks base b) (c.in_ok-fill_all.ensures.arrays ∙ (is ∙ ap (λ r. r.0) same)))
+    c.reach_blocks-met.ensures.arrays
+
+pub returns-clause-data : goal.returns-clause-data
+returns-clause-data g c base b =
+    reached-answers (with_decoded base c.args.self.now) (frame_in c.args.frame.now) c.args.scan.now _
+    c.args.source.now c.reach_blocks-met.new.source c.reach_blocks-met.result b.restart
+    (taken-by g (goal.at.returns-clause-data g c).In_ok-arrays base b) c.reach_blocks-met.ensures.answers
+
+pub returns-clause-kept : goal.returns-clause-kept
+returns-clause-kept g c =
+    unless c.reach_blocks-met.result
+    (whole-after (record c.add_arrays.new.self { kept = c.keep_blocks.new.kept }) (frame_in c.args.frame.now)
+    (held g (goal.at.returns-clause-kept g c).After-keep_blocks).1)
+
+pub returns-clause-planes : goal.returns-clause-planes
+returns-clause-planes g c h =
+    let base = nothing_found in
+    let one = with_decoded base (record c.keep.new.self { kept = c.take_blocks.new.kept }) in
+    let codings = map coding_in c.args.scan.now.components.items in
+    unless c.reach_blocks-met.result
+    (rw (ap (λ (x : Found). x.planes) (c.in_ok-add_arrays.ensures.planes base))
+    (arrays-whole (frame_in c.args.frame.now) (pass_in c.args.scan.now.pass) codings
+    (arrays_in c.fill_all.new.arrays.items) one (of-frame _ codings c.requires.ready.of_frame)
+    (grind (arith, common_steps))))

@@ -1,0 +1,75 @@
+use Rattle.std.proofs.Common.{rules, ◌≡◌, ap}
+use Rattle.std.proofs.lemmas.Result.{err_from_is_err_and}
+use Rattle.jpeg_bits.specs.declared.marker.Marker.TheVariants.{SOS}
+use Rattle.jpeg_streams.specs.Brought.{scan_brought}
+use Rattle.jpeg_streams.specs.Stream.{segment_at}
+use Rattle.jpeg_decoder.specs.Reaching.{without_tables}
+use Rattle.jpeg_decoder.specs.Seen.{found_in}
+use Rattle.jpeg_decoder.specs.Steps.{turn_of}
+use Rattle.jpeg_decoder.proofs.BroughtLoops.{marked-found, marked-reads, refusal-told, sound-unless, unmarked-found}
+use Rattle.jpeg_decoder.proofs.BroughtLoops.{unless-any, unmarked-reads}
+use Rattle.jpeg_decoder.proofs.BroughtTurns.{turn-scan, turn-segment}
+use Rattle.jpeg_decoder.proofs.stream.turns.reach_turn.Goals as goal
+
+-- ---- no marker
+
+pub returns-in_err-marker-clause-reads : goal.returns-in_err-marker-clause-reads
+returns-in_err-marker-clause-reads g c =
+    let p = err_from_is_err_and c.from_residual.result c.from_residual.ensures.1 in
+    rw (p.1, p.2) (unmarked-reads (turn_of c.args.state.now) c.args.before (found_in c.args.state.now) c.args.met
+    c.args.source.now c.marker_or_next.new.source _ c.in_err-marker.ensures.answers)
+
+pub returns-in_err-marker-clause-found : goal.returns-in_err-marker-clause-found
+returns-in_err-marker-clause-found g c =
+    let p = err_from_is_err_and c.from_residual.result c.from_residual.ensures.1 in
+    rw (p.1, p.2) (unmarked-found c.args.before (found_in c.args.state.now) c.args.met c.args.source.now
+    c.marker_or_next.new.source _ c.in_err-marker.ensures.answers)
+
+-- ---- a scan
+
+pub returns-then-eq-clause-reads : goal.returns-then-eq-clause-reads
+returns-then-eq-clause-reads g c =
+    let is : c.in_ok-marker.marker ≡ SOS = search rules in
+    let found = found_in c.args.state.now in
+    marked-reads (turn_of c.reach_scan.new.state) c.args.before found c.args.met c.args.source.now
+    c.marker_or_next.new.source c.reach_scan.new.source c.in_ok-marker.marker (scan_brought found) c.reach_scan.result
+    (λ rest e. turn-scan c.args.before found c.args.met c.args.source.now.bytes rest c.in_ok-marker.marker is e)
+    c.in_ok-marker.ensures.answers c.reach_scan.ensures.reads
+
+pub returns-then-eq-clause-found : goal.returns-then-eq-clause-found
+returns-then-eq-clause-found g c =
+    let is : c.in_ok-marker.marker ≡ SOS = search rules in
+    let found = found_in c.args.state.now in
+    marked-found c.args.before found (found_in c.reach_scan.new.state) c.args.met c.args.source.now
+    c.marker_or_next.new.source c.reach_scan.new.source c.in_ok-marker.marker (scan_brought found) c.reach_scan.result _
+    (λ rest e. turn-scan c.args.before found c.args.met c.args.source.now.bytes rest c.in_ok-marker.marker is e)
+    c.in_ok-marker.ensures.answers (λ e. ap without_tables e) c.reach_scan.ensures.found
+
+-- ---- another segment
+
+pub returns-clause-reads : goal.returns-clause-reads
+returns-clause-reads g c =
+    let other : c.in_ok-marker.marker ≡ SOS → ⊥ = search rules in
+    let found = found_in c.args.state.now in
+    marked-reads (turn_of c.read_segment.new.state) c.args.before found c.args.met c.args.source.now
+    c.marker_or_next.new.source c.read_segment.new.source c.in_ok-marker.marker
+    (λ bytes. (found, segment_at c.in_ok-marker.marker c.args.before found bytes)) c.read_segment.result
+    (λ rest e. turn-segment c.args.before found c.args.met c.args.source.now.bytes rest c.in_ok-marker.marker other e)
+    c.in_ok-marker.ensures.answers (unless-any c.read_segment.result _ c.read_segment.ensures.reads)
+
+pub returns-clause-found : goal.returns-clause-found
+returns-clause-found g c =
+    let other : c.in_ok-marker.marker ≡ SOS → ⊥ = search rules in
+    let found = found_in c.args.state.now in
+    marked-found c.args.before found (found_in c.read_segment.new.state) c.args.met c.args.source.now
+    c.marker_or_next.new.source c.read_segment.new.source c.in_ok-marker.marker
+    (λ bytes. (found, segment_at c.in_ok-marker.marker c.args.before found bytes)) c.read_segment.result _
+    (λ rest e. turn-segment c.args.before found c.args.met c.args.source.now.bytes rest c.in_ok-marker.marker other e)
+    c.in_ok-marker.ensures.answers (λ e. e)
+    (refusal-told c.marker_or_next.new.source c.read_segment.new.source c.read_segment.result _
+    c.read_segment.ensures.kept)
+
+pub returns-clause-sound : goal.returns-clause-sound
+returns-clause-sound g c =
+    sound-unless c.read_segment.result (found_in c.args.state.now) (found_in c.read_segment.new.state) c.requires.sound
+    (c.read_segment.ensures.steps.sound c.requires.sound) c.read_segment.ensures.kept

@@ -1,0 +1,49 @@
+-- What a call does that shows what its decoder has left up to its first fault.
+use Rattle.std.specs.Prelude.{◌≡◌, ◌&&◌, ◌||◌, ℕ, Bool, List, [], None, Option, Ok, Err}
+use Rattle.std.specs.Prelude.{is_some, replicate, Result, slice_index_or, true}
+use Rattle.jpeg_bits.specs.Reading.{Fault, Names}
+use Rattle.jpeg_bits.specs.Stream.{Stream}
+use Rattle.jpeg_bits.specs.declared.error.Error.{Error}
+use Rattle.jpeg_segments.specs.Frame.{Component, Frame}
+use Rattle.jpeg_segments.specs.declared.frame.CodingProcess.{CodingProcess}
+use Rattle.jpeg_segments.specs.declared.frame.CodingProcess.TheVariants.{Lossless}
+use Rattle.jpeg_streams.specs.EndPlanes.{is_kept}
+use Rattle.jpeg_streams.specs.Found.{Found}
+use Rattle.jpeg_streams.specs.Shown.{Shown, shown_ahead}
+use Rattle.jpeg_streams.specs.States.{Decoding, IsReading, MovesToEnd}
+use Rattle.jpeg_streams.specs.Stream.{Told, told_of}
+use Rattle.jpeg_decoder.specs.Reaching.{NamesFault}
+
+-- Whether scans gave what the picture needs of a component: samples; or a plane, or else blocks
+-- that are kept, and a table for them. The component stands beside its index in the frame.
+abbrev pub is_there : CodingProcess → Found → Frame → ℕ × Component → Bool
+is_there Lossless found frame c = is_some (slice_index_or found.samples c.0 None)
+is_there _ found frame c = is_some (slice_index_or found.planes c.0 None)
+    || (is_kept found frame
+    && is_some (slice_index_or found.said.quantization c.1.factors.quantization None))
+
+-- A call gave what is to be shown, or named why nothing is.
+abbrev pub IsShown : {X : Type 0} → Result Shown Fault → (X → List ℕ) → (X → Option Error)
+    → Result X Error → Told → Type 0
+IsShown expected bytes_of fault_of (Ok x) told = (s : Shown) × (expected ≡ Ok s)
+    × (bytes_of x ≡ s.picture) × (told ≡ s.told) × NamesFault (fault_of x) s.fault
+IsShown expected bytes_of fault_of (Err e) told = Names e expected
+
+-- Where the bytes of a source were known to the end of a call, and memory was found, the call gave
+-- what the bytes show, or named why they show nothing.
+abbrev pub ShowsJust : {X : Type 0} → (List ℕ → Result Shown Fault) → (X → List ℕ)
+    → (X → Option Error) → Stream → Result X Error → Stream → Told → Type 0
+ShowsJust expected bytes_of fault_of old result new told = old.known ≡ true → new.known ≡ true
+    → IsShown (expected old.bytes) bytes_of fault_of result told
+
+pub record Shows {X : Type 0} (bytes_of : X → List ℕ) (fault_of : X → Option Error) (old : Decoding)
+    (result : Result X Error) (new : Decoding) : Type 0 where
+  -- The state table: an Ok finishes the decoder, a refusal fails it.
+  pub stage : MovesToEnd old.stage new.stage result
+  -- For any bytes, the answer is the picture of what they bring up to their first fault, and the
+  -- name of that fault, or why there is no picture.
+  pub shown : IsReading old.stage → ShowsJust (shown_ahead old.stage old.settings old.found)
+      bytes_of fault_of old.source result new.source (told_of new.found.said)
+  -- No blocks, planes or samples are kept.
+  pub emptied : IsReading old.stage → (new.found.kept ≡ []) × (new.found.planes ≡ replicate 4 None)
+      × (new.found.samples ≡ replicate 4 None)

@@ -1,0 +1,382 @@
+//! The picture of what a stream with a fault has brought.
+ghost use Rattle.std.specs.Prelude.{◌≡◌, ◌<◌, ◌≤◌, ◌-◌, ◌*◌, ◌^◌, ℕ, List, [], false, true};
+ghost use Rattle.std.specs.Prelude.{get_or, IfErr, IfOk, IfSome, is_some, length, None, OnOk};
+ghost use Rattle.std.specs.Prelude.{replicate, Result, Some};
+ghost use Rattle.std.specs.List.{concat};
+ghost use Rattle.jpeg_bits.specs.Reading.{Fault};
+ghost use Rattle.jpeg_pixels.specs.Scaled.{IsScale};
+ghost use Rattle.jpeg_segments.specs.FrameView.{component_in, frame_in};
+ghost use Rattle.jpeg_segments.specs.declared.frame.CodingProcess.TheVariants.{Lossless};
+ghost use Rattle.jpeg_streams.specs.EndPlanes.{AreBlocksOf, blocks_if, is_kept};
+ghost use Rattle.jpeg_streams.specs.Found.{Found, nothing_found};
+ghost use Rattle.jpeg_streams.specs.Rasters.{plane_by};
+ghost use Rattle.jpeg_streams.specs.Shown.{blocks_held, completed, fault_in, planes_by, shown};
+ghost use Rattle.jpeg_streams.specs.Shown.{shown_by, shown_of, shown_rest, table_held};
+ghost use Rattle.jpeg_streams.specs.Shown.{with_plane_shown, with_samples_shown};
+ghost use Rattle.jpeg_streams.specs.Sound.{HasDecodedFrame, IsDecodedFrame, IsSound};
+ghost use Rattle.jpeg_streams.specs.States.{IsOfBytes};
+ghost use Rattle.jpeg_streams.specs.Stream.{told_of};
+ghost use Rattle.jpeg_decoder.specs.Bytes.{AreLinesOf, IsWhole};
+ghost use Rattle.jpeg_decoder.specs.Reaching.{NamesFault, is_out_of_memory};
+ghost use Rattle.jpeg_decoder.specs.Scanning.{arrays_in, blocks_in};
+ghost use Rattle.jpeg_decoder.specs.Seen.{found_in, said_in};
+ghost use Rattle.jpeg_decoder.specs.Shows.{IsShown, ShowsJust, is_there};
+ghost use Rattle.jpeg_decoder.specs.Steps.{with_decoded};
+
+use crate::picture::lines::Lines;
+use crate::picture::whole::{are_kept, picture, read_start};
+use crate::scan::block_array::BlockArray;
+use crate::scan::decoded::{Decoded, render, zero_blocks};
+use crate::stream::state::State;
+use crate::stream::tables::table_at;
+use crate::stream::turns::reach_segments;
+use jpeg_bits::error::{Error, Result, format_error};
+use jpeg_bits::source::Source;
+use jpeg_segments::parser::{CodingProcess, Component, FrameInfo};
+use jpeg_streams::settings::Settings;
+use std::alloc::{AllocError, Global};
+use std::io::Read;
+
+/// The lines of the picture that a stream has brought up to its first fault, and that fault.
+#[derive(Drop)]
+pub struct PartialLines {
+    /// The lines of the picture. What no scan has brought is mid-grey.
+    pub lines: Lines,
+    /// The first fault of the stream, or none if it is whole.
+    pub fault: Option<Error>,
+}
+
+/// The quantization table of a component that has none: all its coefficients are zeros.
+const ONES: [u16; 64] = [1; 64];
+
+/// Returns the quantization table in force for a component, or else one of ones.
+fn table_held<'a>(state: &'a State, component: &Component) -> &'a [u16; 64]
+    ensures { result.now ≡ table_held (found_in state.now) (component_in component.now) }
+{
+    match table_at(&state.said.quantization, component.quantization_table_index) {
+        Some(table) => table,
+        None => &ONES,
+    }
+}
+
+/// Returns the plane of a component's blocks, all of which are stored for that.
+fn render_all(
+    alloc: Global,
+    component: &Component,
+    quantization: &[u16; 64],
+    array: &mut BlockArray,
+) -> std::result::Result<Vec<u8>, AllocError>
+    requires scale { IsScale component.now.dct_scale }
+    requires blocks { length (blocks_in array.old) ≡ component.now.block_size.height *
+        component.now.block_size.width }
+    ensures blocks { blocks_in array.new ≡ blocks_in array.old }
+    ensures plane { IfOk result (λ v. v.items ≡ plane_by (component_in component.now)
+        quantization.now (blocks_in array.old)) }
+{
+    array.fill()?;
+    render(alloc, component, quantization, &array.blocks)
+}
+
+/// Returns the plane of a component's blocks, which are zeros if none are kept.
+fn plane_held(
+    alloc: Global,
+    state: &State,
+    frame: &FrameInfo,
+    component: &Component,
+    kept: &mut Vec<BlockArray>,
+    index: usize,
+) -> std::result::Result<Vec<u8>, AllocError>
+    requires scale { IsScale component.now.dct_scale }
+    requires within { is_kept (found_in state.now) (frame_in frame.now) ≡ true
+        → index < length kept.old.items }
+    requires blocks { AreBlocksOf (component_in component.now)
+        (blocks_if (is_kept (found_in state.now) (frame_in frame.now)) (arrays_in kept.old.items)
+        index) }
+    ensures kept { arrays_in kept.new.items ≡ arrays_in kept.old.items }
+    ensures plane { let c = component_in component.now in
+        IfOk result (λ v. v.items ≡ plane_by c (table_held (found_in state.now) c)
+        (blocks_held (record (found_in state.now) { kept = arrays_in kept.old.items })
+        (frame_in frame.now) (index, c))) }
+{
+    let table = table_held(state, component);
+    if are_kept(state, frame) {
+        return render_all(alloc, component, table, &mut kept[index]);
+    }
+    let mut zeros = zero_blocks(alloc, component)?;
+    render_all(alloc, component, table, &mut zeros)
+}
+
+/// Gives a component without a plane that of its blocks, which are zeros if none are kept.
+fn complete_plane(
+    alloc: Global,
+    state: &State,
+    frame: &FrameInfo,
+    component: &Component,
+    decoded: &mut Decoded,
+    index: usize,
+) -> std::result::Result<(), AllocError>
+    requires sound { IsSound (with_decoded (found_in state.now) decoded.old) }
+    requires frame { (said_in state.now).frame ≡ Some (frame_in frame.now) }
+    requires index { index < length (frame_in frame.now).components }
+    requires component { component_in component.now
+        ≡ get_or (frame_in frame.now).components index (component_in component.now) }
+    ensures { OnOk result (with_decoded (found_in state.now) decoded.new
+        ≡ with_plane_shown (frame_in frame.now) (with_decoded (found_in state.now) decoded.old)
+        (index, component_in component.now)) }
+{
+    if decoded.planes.has(index) {
+        return Ok(());
+    }
+    let plane = plane_held(alloc, state, frame, component, &mut decoded.kept, index)?;
+    decoded.planes.put(index, plane);
+    Ok(())
+}
+
+/// Returns half of the range of samples.
+fn half_of(precision: u8) -> u16
+    requires some { 1 ≤ precision }
+    requires most { precision ≤ 16 }
+    ensures { result ≡ 2 ^ (precision - 1) }
+{
+    1 << (precision - 1)
+}
+
+/// Returns the samples of a lossless component of which none came: half of their range.
+fn grey_samples(
+    alloc: Global,
+    component: &Component,
+    precision: u8,
+) -> std::result::Result<Vec<u16>, AllocError>
+    requires some { 1 ≤ precision }
+    requires most { precision ≤ 16 }
+    ensures { let c = component_in component.now in
+        IfOk result (λ v. v.items ≡ replicate (c.width * c.height) (2 ^ (precision - 1))) }
+{
+    let count = usize::from(component.size.width) * usize::from(component.size.height);
+    let mut samples = Vec::with_capacity(alloc, count)?;
+    samples.resize(count, half_of(precision))?;
+    Ok(samples)
+}
+
+/// Gives a component of a lossless frame without samples half of their range.
+fn complete_samples(
+    alloc: Global,
+    frame: &FrameInfo,
+    component: &Component,
+    decoded: &mut Decoded,
+    index: usize,
+) -> std::result::Result<(), AllocError>
+    requires frame { IsDecodedFrame (frame_in frame.now) }
+    requires process { (frame_in frame.now).process ≡ Lossless }
+    requires index { index < 4 }
+    ensures { (base : Found) → OnOk result (with_decoded base decoded.new
+        ≡ with_samples_shown (frame_in frame.now) (with_decoded base decoded.old)
+        (index, component_in component.now)) }
+{
+    if decoded.samples[index].is_some() {
+        return Ok(());
+    }
+    let samples = grey_samples(alloc, component, frame.precision)?;
+    decoded.samples[index] = Some(samples);
+    Ok(())
+}
+
+/// Gives a component what the picture needs of it.
+fn complete_part(
+    alloc: Global,
+    state: &State,
+    frame: &FrameInfo,
+    component: &Component,
+    decoded: &mut Decoded,
+    index: usize,
+) -> std::result::Result<(), AllocError>
+    requires sound { IsSound (with_decoded (found_in state.now) decoded.old) }
+    requires frame { (said_in state.now).frame ≡ Some (frame_in frame.now) }
+    requires index { index < length (frame_in frame.now).components }
+    requires component { component_in component.now
+        ≡ get_or (frame_in frame.now).components index (component_in component.now) }
+    ensures { OnOk result (with_decoded (found_in state.now) decoded.new
+        ≡ shown_by (frame_in frame.now).process (frame_in frame.now)
+        (with_decoded (found_in state.now) decoded.old) (index, component_in component.now)) }
+{
+    match frame.coding_process {
+        CodingProcess::Lossless => complete_samples(alloc, frame, component, decoded, index),
+        CodingProcess::DctSequential | CodingProcess::DctProgressive => {
+            complete_plane(alloc, state, frame, component, decoded, index)
+        }
+    }
+}
+
+/// Gives each component of a frame what the picture needs of it. The only error is out of memory.
+fn complete(
+    alloc: Global,
+    state: &State,
+    frame: &FrameInfo,
+    decoded: &mut Decoded,
+) -> std::result::Result<(), AllocError>
+    requires sound { IsSound (with_decoded (found_in state.now) decoded.old) }
+    requires frame { (said_in state.now).frame ≡ Some (frame_in frame.now) }
+    ensures completed { OnOk result (with_decoded (found_in state.now) decoded.new
+        ≡ completed (with_decoded (found_in state.now) decoded.old) (frame_in frame.now)) }
+    ensures sound { OnOk result (IsSound (with_decoded (found_in state.now) decoded.new)) }
+{
+    for index in 0..frame.components.len() {
+        complete_part(
+            alloc,
+            state,
+            frame,
+            &frame.components[index],
+            decoded,
+            index,
+        )?;
+    }
+    Ok(())
+}
+
+/// Returns whether the scans gave what the picture needs of a component.
+fn is_there(
+    state: &State,
+    frame: &FrameInfo,
+    component: &Component,
+    decoded: &Decoded,
+    index: usize,
+) -> bool
+    requires { index < 4 }
+    ensures { result ≡ is_there (frame_in frame.now).process
+        (with_decoded (found_in state.now) decoded.now) (frame_in frame.now)
+        (index, component_in component.now) }
+{
+    if frame.coding_process == CodingProcess::Lossless {
+        return decoded.samples[index].is_some();
+    }
+    let table = table_at(&state.said.quantization, component.quantization_table_index);
+    decoded.planes.has(index) || (are_kept(state, frame) && table.is_some())
+}
+
+/// Returns the fault of an image in which a component was not sent, if there is one.
+fn missing_fault(
+    alloc: Global,
+    state: &State,
+    frame: &FrameInfo,
+    decoded: &Decoded,
+) -> Option<Error>
+    requires sound { IsSound (with_decoded (found_in state.now) decoded.now) }
+    requires frame { (said_in state.now).frame ≡ Some (frame_in frame.now) }
+    ensures { NamesFault result (fault_in (planes_by (frame_in frame.now).process
+        (with_decoded (found_in state.now) decoded.now) (frame_in frame.now))) }
+{
+    for index in 0..frame.components.len() {
+        if !is_there(state, frame, &frame.components[index], decoded, index) {
+            return Some(format_error(alloc, "found EOI, expected a scan of each component"));
+        }
+    }
+    None
+}
+
+/// Gives the lines of the picture of what was found, and the first fault: that of the segments, or
+/// that a component was not sent.
+fn show_found(
+    alloc: Global,
+    state: &State,
+    decoded: &mut Decoded,
+    settings: Settings,
+    fault: Option<Error>,
+) -> Result<PartialLines>
+    requires sound { IsSound (with_decoded (found_in state.now) decoded.old) }
+    requires fault { IfSome fault IsOfBytes }
+    ensures shown { (ended : Result (List ℕ) Fault) → NamesFault fault (fault_in ended)
+        → IsShown (shown_of settings (with_decoded (found_in state.now) decoded.old, ended))
+        (λ p. concat p.lines) (λ p. p.fault) result (told_of (said_in state.now)) }
+    ensures refused { IfErr result IsOfBytes }
+    ensures framed { IfOk result (λ _. is_some (said_in state.now).frame ≡ true) }
+    ensures lines { IfOk result (λ p. AreLinesOf (said_in state.now).frame p.lines) }
+{
+    let Some(frame) = state.said.frame.as_ref() else {
+        if let Some(e) = fault {
+            return Err(e);
+        }
+        return Err(format_error(alloc, "found EOI, expected a frame header"));
+    };
+    let missing = missing_fault(alloc, state, frame, decoded);
+    complete(alloc, state, frame, decoded)?;
+    let lines = picture(alloc, state, decoded, settings)?;
+    Ok(PartialLines {
+        lines,
+        fault: fault.or(missing),
+    })
+}
+
+/// Returns whether segments ended since there was no memory.
+fn is_out_of_memory(ended: &Result<()>) -> bool
+    ensures { result ≡ is_out_of_memory ended.now }
+{
+    matches!(ended, Err(Error::OutOfMemory))
+}
+
+/// Reads the rest of a stream as far as it goes, and gives the lines of the picture that it has
+/// brought, and its first fault. No blocks or planes are kept.
+fn show_rest<R: Read + Drop>(
+    alloc: Global,
+    source: &mut Source<R>,
+    state: &mut State,
+    settings: Settings,
+) -> Result<PartialLines>
+    requires sound { IsSound (found_in state.old) }
+    ensures shown { ShowsJust (shown_rest settings (found_in state.old))
+        (λ p. concat p.lines) (λ p. p.fault) source.old result source.new
+        (told_of (said_in state.new)) }
+    ensures refused { IfErr result IsOfBytes }
+    ensures framed { IfOk result (λ _. is_some (said_in state.new).frame ≡ true) }
+    ensures frames { OnOk result (HasDecodedFrame (found_in state.new)) }
+    ensures stays { is_some (said_in state.old).frame ≡ true → (said_in state.new).frame
+        ≡ (said_in state.old).frame }
+    ensures lines { IfOk result (λ p. AreLinesOf (said_in state.new).frame p.lines) }
+    ensures size { IfOk result (λ p. IsWhole (said_in state.new).frame (concat p.lines)) }
+    ensures emptied { ((found_in state.new).kept ≡ [])
+        × ((found_in state.new).planes ≡ replicate 4 None)
+        × ((found_in state.new).samples ≡ replicate 4 None) }
+{
+    let ended = reach_segments(alloc, source, state);
+    let mut decoded = std::mem::replace(&mut state.decoded, Decoded::new(alloc));
+    if is_out_of_memory(&ended) {
+        return Err(Error::OutOfMemory);
+    }
+    show_found(alloc, state, &mut decoded, settings, ended.err())
+}
+
+/// Reads a stream, or the rest of one after its header, as far as it goes, and gives the lines of
+/// the picture that it has brought, and its first fault. No blocks or planes are kept.
+///
+/// The error is the fault if the stream has no frame, `Format` if the picture is above the limit or
+/// the transform doesn't fit it, and out of memory.
+pub fn show<R: Read + Drop>(
+    alloc: Global,
+    source: &mut Source<R>,
+    state: &mut State,
+    settings: Settings,
+    from_start: bool,
+) -> Result<PartialLines>
+    requires sound { IsSound (found_in state.old) }
+    requires start { from_start ≡ true → found_in state.old ≡ nothing_found }
+    ensures whole { from_start ≡ true → ShowsJust (shown settings) (λ p. concat p.lines)
+        (λ p. p.fault) source.old result source.new (told_of (said_in state.new)) }
+    ensures rest { from_start ≡ false → ShowsJust (shown_rest settings (found_in state.old))
+        (λ p. concat p.lines) (λ p. p.fault) source.old result source.new
+        (told_of (said_in state.new)) }
+    ensures refused { IfErr result IsOfBytes }
+    ensures framed { IfOk result (λ _. is_some (said_in state.new).frame ≡ true) }
+    ensures frames { OnOk result (HasDecodedFrame (found_in state.new)) }
+    ensures stays { is_some (said_in state.old).frame ≡ true → (said_in state.new).frame
+        ≡ (said_in state.old).frame }
+    ensures lines { IfOk result (λ p. AreLinesOf (said_in state.new).frame p.lines) }
+    ensures size { IfOk result (λ p. IsWhole (said_in state.new).frame (concat p.lines)) }
+    ensures emptied { ((found_in state.new).kept ≡ [])
+        × ((found_in state.new).planes ≡ replicate 4 None)
+        × ((found_in state.new).samples ≡ replicate 4 None) }
+{
+    if !from_start {
+        return show_rest(alloc, source, state, settings);
+    }
+    read_start(alloc, source)?;
+    show_rest(alloc, source, state, settings)
+}

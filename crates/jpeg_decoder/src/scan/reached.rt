@@ -1,0 +1,286 @@
+//! The blocks of a scan as far as they can be read, where the stream may have a fault (T.81, A.2,
+//! E.2.4).
+//!
+//! The data of a restart interval are gathered up to the marker that ends them, and blocks are read
+//! of them alone: no zeros follow where the marker stands. `decode` never runs this.
+ghost use Rattle.std.specs.Prelude.{ℕ, List, Bool, Result, ◌≡◌, ◌≤◌, ◌*◌, Some, length, OnOk};
+ghost use Rattle.std.specs.Prelude.{true, false};
+ghost use Rattle.std.specs.List.{AllByRecursion};
+ghost use Rattle.jpeg_bits.specs.Entropy.{text_at, upcoming, Found};
+ghost use Rattle.jpeg_bits.specs.Intervals.{first_group};
+ghost use Rattle.jpeg_bits.specs.Reading.{Answers, Fault, IsGivenUp, Names};
+ghost use Rattle.jpeg_bits.specs.declared.error.Error.TheVariants.{OutOfMemory};
+ghost use Rattle.jpeg_bits.specs.declared.marker.Marker.{Marker};
+ghost use Rattle.jpeg_segments.specs.FrameView.{frame_in};
+ghost use Rattle.jpeg_streams.specs.Brought.{interval_reached, or_fault_at, reached_from};
+ghost use Rattle.jpeg_streams.specs.Brought.{scan_reached};
+ghost use Rattle.jpeg_streams.specs.InTurn.{AreArrays, Fits, at_start};
+ghost use Rattle.jpeg_streams.specs.Order.{mcu_size, spots_of};
+ghost use Rattle.jpeg_streams.specs.States.{IfRefused, OnTold};
+ghost use Rattle.jpeg_decoder.specs.Reaching.{after_group, IsAhead, IsRefusalAt, TellsBits};
+ghost use Rattle.jpeg_decoder.specs.Reaching.{TellsLeft, UnlessRefused};
+ghost use Rattle.jpeg_decoder.specs.Scanning.{arrays_in, sizes_of, IsSpotOf};
+ghost use Rattle.jpeg_decoder.specs.Scanning.{scan_components, scan_pass, scan_vias};
+
+use crate::scan::block_array::BlockArray;
+use crate::scan::blocks::reach;
+use crate::scan::coded::Scan;
+use crate::scan::data::read_data;
+use crate::scan::order::ScanOrder;
+use crate::scan::restarts::{is_numbered, pass_restarts};
+use crate::scan::spots::Spots;
+use jpeg_bits::blocks::{BlockCoding, Carried, take_block};
+use jpeg_bits::error::{Error, Result, format_error, take_refusal};
+use jpeg_bits::huffman::HuffmanDecoder;
+use jpeg_bits::marker::{Marker, restart_error};
+use jpeg_bits::source::Source;
+use jpeg_bits::source::slice_reader::SliceReader;
+use jpeg_segments::parser::FrameInfo;
+use std::alloc::Global;
+use std::io::Read;
+
+/// Returns whether an error is the reader's own, which bytes in memory never give.
+fn is_of_reader(error: &Error, has_failed: bool) -> bool
+    ensures own { result ≡ true → IsGivenUp error.now has_failed }
+    ensures other { result ≡ false → IsGivenUp error.now has_failed → ⊥ }
+{
+    match error {
+        // A read that was interrupted without end.
+        Error::Format(text) => text.is_empty(),
+        Error::Io(_) => has_failed,
+        Error::Unsupported(_) | Error::Internal(_) | Error::OutOfMemory => false,
+    }
+}
+
+/// Returns the refusal of a reader of bytes in memory, which can't fail.
+fn refusal_in_memory(error: Error, has_failed: bool) -> Error
+    ensures { IfRefused result ((result ≡ error) × (IsGivenUp error has_failed → ⊥)) }
+{
+    if is_of_reader(&error, has_failed) {
+        return Error::OutOfMemory;
+    }
+    error
+}
+
+/// Reads the blocks at the next `n` spots, or at all if `n` is 0, of bytes in memory. After a
+/// refusal the blocks before it are there; the one that it is about is as before.
+fn reach_group<R: Read + Drop>(
+    decoder: &mut HuffmanDecoder,
+    source: &mut Source<R>,
+    scan: &Scan<'_>,
+    arrays: &mut Vec<BlockArray>,
+    n: u64,
+    spots: &mut Spots<'_>,
+) -> Result<()>
+    requires keeps { scan.now.keeps_ac ≡ true }
+    requires spots { AllByRecursion (IsSpotOf (length scan.now.components.items)
+        (sizes_of arrays.now.items)) spots.old }
+    requires known { source.old.known ≡ true }
+    requires ahead { IsAhead (upcoming decoder.old source.old.bytes) }
+    ensures sizes { sizes_of arrays.new.items ≡ sizes_of arrays.old.items }
+    ensures left { OnOk result (spots.new ≡ after_group n spots.old) }
+    ensures arrays { UnlessRefused result (arrays_in arrays.new.items
+        ≡ (reached_from (scan_pass scan.now) (scan_vias scan.now) (first_group n spots.old)
+        (at_start (arrays_in arrays.old.items)) (upcoming decoder.old source.old.bytes)).0.arrays) }
+    ensures told { TellsBits (reached_from (scan_pass scan.now) (scan_vias scan.now)
+        (first_group n spots.old) (at_start (arrays_in arrays.old.items))
+        (upcoming decoder.old source.old.bytes)).1 result
+        (upcoming decoder.new source.new.bytes).bits }
+    ensures known { OnOk result (source.new.known ≡ true) }
+    ensures ahead { OnOk result (IsAhead (upcoming decoder.new source.new.bytes)) }
+{
+    let mut carried = Carried::at_start();
+    let mut refusal = None;
+    let mut left = n;
+    while n == 0 || left > 0 {
+        let Some(spot) = spots.next() else {
+            return Ok(());
+        };
+        reach(arrays, spot)?;
+        let coded = &scan.components[spot.slot];
+        let coding = BlockCoding {
+            pass: scan.pass,
+            slot: spot.slot,
+            dc_table: coded.dc,
+            ac_table: coded.ac,
+            keeps_ac: scan.keeps_ac,
+        };
+        let block = &mut arrays[spot.slot].blocks[spot.index];
+        let before = *block;
+        if !take_block(decoder, source, &coding, &mut carried, block, &mut refusal) {
+            *block = before;
+            return Err(refusal_in_memory(take_refusal(&mut refusal), source.has_failed()));
+        }
+        left = left.saturating_sub(1);
+    }
+    Ok(())
+}
+
+/// Reads the blocks at the next `n` spots, or at all if `n` is 0, of the data of an interval, and
+/// returns whether at most 56 bits are left after them. After a refusal the blocks before it are
+/// there; the one that it is about is as before.
+fn reach_spots(
+    alloc: Global,
+    data: &[u8],
+    scan: &Scan<'_>,
+    arrays: &mut Vec<BlockArray>,
+    n: u64,
+    spots: &mut Spots<'_>,
+) -> Result<bool>
+    requires keeps { scan.now.keeps_ac ≡ true }
+    requires spots { AllByRecursion (IsSpotOf (length scan.now.components.items)
+        (sizes_of arrays.now.items)) spots.old }
+    ensures sizes { sizes_of arrays.new.items ≡ sizes_of arrays.old.items }
+    ensures left { OnOk result (spots.new ≡ after_group n spots.old) }
+    ensures arrays { UnlessRefused result (arrays_in arrays.new.items
+        ≡ (reached_from (scan_pass scan.now) (scan_vias scan.now) (first_group n spots.old)
+        (at_start (arrays_in arrays.old.items)) (text_at data.now)).0.arrays) }
+    ensures told { TellsLeft (reached_from (scan_pass scan.now) (scan_vias scan.now)
+        (first_group n spots.old) (at_start (arrays_in arrays.old.items)) (text_at data.now)).1
+        result }
+{
+    let mut source = Source::new(SliceReader::new(data));
+    let mut decoder = HuffmanDecoder::new(alloc);
+    reach_group(&mut decoder, &mut source, scan, arrays, n, spots)?;
+    // The end is met if at most 56 bits are left. Without a marker there it is an error.
+    match decoder.take_marker(&mut source) {
+        Ok(end) => Ok(end.is_some()),
+        Err(e) => match refusal_in_memory(e, source.has_failed()) {
+            Error::OutOfMemory => Err(Error::OutOfMemory),
+            _ => Ok(true),
+        },
+    }
+}
+
+/// Returns the refusal of a block in data that a marker ends. Where bits are lacking, the marker
+/// stands in their place.
+fn refusal_before(alloc: Global, error: Error) -> Error
+    ensures names { (expected : Result (List Bool) Fault) (m : Marker) (rest : List ℕ)
+        → Names error expected → Names result (or_fault_at (Found m rest) expected) }
+    ensures memory { error ≡ OutOfMemory → result ≡ OutOfMemory }
+{
+    match error {
+        Error::Io(_) => format_error(alloc, "found a marker inside a block, expected more bits"),
+        error => error,
+    }
+}
+
+/// Returns the refusal of an interval whose data end with an error. The refusal of a block comes
+/// before it, unless bits are lacking, or the reader has given up.
+fn refusal_at(ended: Error, reached: Result<bool>, has_failed: bool) -> Error
+    ensures { IsRefusalAt ended reached has_failed result }
+{
+    if is_of_reader(&ended, has_failed) {
+        return ended;
+    }
+    match ended {
+        Error::OutOfMemory => Error::OutOfMemory,
+        ended => match reached {
+            Ok(_) | Err(Error::Io(_)) => ended,
+            Err(e) => e,
+        },
+    }
+}
+
+/// Reads the next interval, of `n` blocks or of all if `n` is 0, as far as it goes, and returns
+/// whether at most 56 bits are left after its blocks, and the marker that ends it.
+fn reach_interval<R: Read + Drop>(
+    alloc: Global,
+    source: &mut Source<R>,
+    scan: &Scan<'_>,
+    arrays: &mut Vec<BlockArray>,
+    n: u64,
+    spots: &mut Spots<'_>,
+) -> Result<(bool, Marker)>
+    requires keeps { scan.now.keeps_ac ≡ true }
+    requires spots { AllByRecursion (IsSpotOf (length scan.now.components.items)
+        (sizes_of arrays.now.items)) spots.old }
+    ensures sizes { sizes_of arrays.new.items ≡ sizes_of arrays.old.items }
+    ensures left { OnOk result (spots.new ≡ after_group n spots.old) }
+    ensures arrays { OnTold source.old source.new result (arrays_in arrays.new.items
+        ≡ (interval_reached (scan_pass scan.now) (scan_vias scan.now) (first_group n spots.old)
+        (arrays_in arrays.old.items) source.old.bytes).0) }
+    ensures answers { Answers (λ r. (r.0, Some r.1)) (λ bytes. (interval_reached
+        (scan_pass scan.now) (scan_vias scan.now) (first_group n spots.old)
+        (arrays_in arrays.old.items) bytes).1) source.old result source.new }
+{
+    let mut data = Vec::new(alloc);
+    let ended = read_data(alloc, source, &mut data);
+    let reached = reach_spots(alloc, &data, scan, arrays, n, spots);
+    match ended {
+        Ok(marker) => match reached {
+            Ok(is_near) => Ok((is_near, marker)),
+            Err(e) => Err(refusal_before(alloc, e)),
+        },
+        Err(e) => Err(refusal_at(e, reached, source.has_failed())),
+    }
+}
+
+/// Reads the blocks at some spots as far as they go, in restart intervals of `n` blocks, or in one
+/// where `n` is 0, and returns the marker after them, if it was reached, and after the restart
+/// markers at their end.
+fn reach_intervals<R: Read + Drop>(
+    alloc: Global,
+    source: &mut Source<R>,
+    scan: &Scan<'_>,
+    arrays: &mut Vec<BlockArray>,
+    n: u64,
+    spots: &mut Spots<'_>,
+) -> Result<Option<Marker>>
+    requires keeps { scan.now.keeps_ac ≡ true }
+    requires spots { AllByRecursion (IsSpotOf (length scan.now.components.items)
+        (sizes_of arrays.now.items)) spots.old }
+    ensures sizes { sizes_of arrays.new.items ≡ sizes_of arrays.old.items }
+    ensures arrays { OnTold source.old source.new result (arrays_in arrays.new.items
+        ≡ (scan_reached (scan_pass scan.now) n (scan_vias scan.now) spots.old
+        (arrays_in arrays.old.items) source.old.bytes).0) }
+    ensures answers { Answers (λ m. m) (λ bytes. (scan_reached (scan_pass scan.now) n
+        (scan_vias scan.now) spots.old (arrays_in arrays.old.items) bytes).1) source.old result
+        source.new }
+{
+    let mut number = 0u8;
+    let mut end = reach_interval(alloc, source, scan, arrays, n, spots)?;
+    while !spots.is_done() {
+        if !end.0 || !is_numbered(Some(end.1), number) {
+            return Err(restart_error(alloc, Some(end.1), number));
+        }
+        number = number.wrapping_add(1) % 8;
+        end = reach_interval(alloc, source, scan, arrays, n, spots)?;
+    }
+    if end.0 {
+        pass_restarts(alloc, source, Some(end.1))
+    } else {
+        Ok(Some(end.1))
+    }
+}
+
+/// Reads a scan of a frame as far as it goes on the blocks of its components, and returns the
+/// marker after it, if it was reached, and after the restart markers at its end.
+///
+/// After an error other than out of memory the blocks before the one that it is about are there.
+pub fn reach_blocks<R: Read + Drop>(
+    alloc: Global,
+    source: &mut Source<R>,
+    scan: &Scan<'_>,
+    arrays: &mut Vec<BlockArray>,
+    frame: &FrameInfo,
+) -> Result<Option<Marker>>
+    requires keeps { scan.now.keeps_ac ≡ true }
+    requires some { 1 ≤ length scan.now.components.items }
+    requires fits { AllByRecursion (Fits (frame_in frame.now)) (scan_components scan.now) }
+    requires arrays { AreArrays (scan_components scan.now) (arrays_in arrays.now.items) }
+    ensures sizes { sizes_of arrays.new.items ≡ sizes_of arrays.old.items }
+    ensures arrays { OnTold source.old source.new result (arrays_in arrays.new.items
+        ≡ (scan_reached (scan_pass scan.now)
+        (scan.now.restart_interval * mcu_size (scan_components scan.now)) (scan_vias scan.now)
+        (spots_of (frame_in frame.now) (scan_components scan.now)) (arrays_in arrays.old.items)
+        source.old.bytes).0) }
+    ensures answers { Answers (λ m. m) (λ bytes. (scan_reached (scan_pass scan.now)
+        (scan.now.restart_interval * mcu_size (scan_components scan.now)) (scan_vias scan.now)
+        (spots_of (frame_in frame.now) (scan_components scan.now)) (arrays_in arrays.old.items)
+        bytes).1) source.old result source.new }
+{
+    let order = ScanOrder::new(alloc, scan, frame)?;
+    let mut spots = order.spots();
+    reach_intervals(alloc, source, scan, arrays, order.interval, &mut spots)
+}
