@@ -5,9 +5,9 @@ cases.py [--large] [FILE..]    these files, or all that its `args` names
 
 What each call of a case must answer is computed by the model, from the case file alone, and
 compared with the case's line in `stdout`. Where the model leaves open which fault is named, and
-which words say it, any of these is right. The names of a file's cases must differ, and so must the
-texts of the refusals in texts.case. Six pictures of 2^20 samples, which take 80 s, are left out
-without --large.
+which words say it, any of these is right: of `partial` it leaves the words open alone. The names of
+a file's cases must differ, and so must the texts of the refusals in texts.case. Six pictures of
+2^20 samples, which take 80 s, are left out without --large.
 """
 import os
 import sys
@@ -124,6 +124,11 @@ def refusal_texts(kind, in_scan):
     return [usual.get(kind, 'refused: unsupported JPEG feature: ' + named)]
 
 
+def fault_text(kind):
+    """The words for the fault of a picture that is shown."""
+    return refusal_texts(kind, False)[0][len('refused: ') :] if kind else 'none'
+
+
 class Decoder:
     """A decoder as the model sees it: what its calls answer, each a list of right answers. None
     stands for any answer."""
@@ -174,6 +179,19 @@ class Decoder:
             return self.refuse()
         self.stage, self.said, self.place = 'finished', self.trace['state'], self.trace['end']
         return self.meaning[4]
+
+    def partial(self):
+        refusal = [OVER] if self.stage == 'finished' else self.read_header()
+        if refusal:
+            return refusal
+        self.trace = {}
+        got = model.shown(self.stream, self.settings, self.trace)
+        # (how far it reads is left open)
+        self.said, self.place = self.trace['state'], None
+        self.stage = 'failed' if got[0] == 'err' else 'finished'
+        if got[0] == 'err':
+            return refusal_texts(got[1], False)
+        return ['%s%s, fault %s' % (self.size(), self.words(got[4]), fault_text(got[5]))]
 
     def words(self, picture):
         width, height = model.info(self.frame, self.scale_of_now())[:2]

@@ -5,6 +5,12 @@ of the original crate, not from the code.
 meaning(bytes, settings) -> ('ok', width, height, format, pixels) or ('err', kind, in_scan)
 kind is 'Format', 'Io' or 'Unsupported(..)'. Where in_scan is true it is left open
 which of several faults is named, so Format and Io are both right.
+
+shown(bytes, settings) -> ('ok', width, height, format, pixels, fault) or ('err', kind)
+is what `decode_partial` must return: the picture of what a stream brings up to its first fault, and
+the kind of that fault, or None. Here it is not left open which fault that is.
+
+model.py [--partial] < JPEG     writes the picture, and the fault to standard error
 """
 import sys
 
@@ -145,10 +151,13 @@ class Bytes:
 
 
 class Text:
-    """D2 from place p: destuffed bytes with the place behind each, then an end."""
+    """D2 from place p: destuffed bytes with the place behind each, then an end.
 
-    def __init__(self, b, p):
-        self.data, self.behind = [], []
+    After a marker zero bits come without end, unless the text is sealed: then there are none.
+    """
+
+    def __init__(self, b, p, is_sealed=False):
+        self.data, self.behind, self.is_sealed = [], [], is_sealed
         n = len(b)
         while True:
             if p >= n:
@@ -179,9 +188,11 @@ class Text:
     def bit_at(self, i):
         if i < 8 * len(self.data):
             return self.data[i >> 3] >> (7 - (i & 7)) & 1
-        if self.end[0] == 'marker':
-            return 0
-        raise Refused(self.end[1], True)
+        if self.end[0] != 'marker':
+            raise Refused(self.end[1], True)
+        if self.is_sealed:
+            raise fmt(True)
+        return 0
 
     def bits(self, n):
         v = 0
@@ -191,19 +202,29 @@ class Text:
         return v
 
     def symbol(self, table):
-        """D5: symbol and length"""
+        """D5: symbol and length. Where the bits end inside a code, it is the end that is at fault,
+        unless the bits that are there begin no code."""
         v = 0
         for n in range(1, 17):
-            v = v << 1 | self.bit_at(self.k + n - 1)
+            try:
+                bit = self.bit_at(self.k + n - 1)
+            except Refused:
+                if not any(m >= n and code >> (m - n + 1) == v for m, code in table):
+                    raise fmt(True)
+                raise
+            v = v << 1 | bit
             if (n, v) in table:
                 self.k += n
                 return table[n, v], n
         raise fmt(True)
 
+    def left(self):
+        return 8 * len(self.data) - self.k
+
     def finish(self):
-        """D3: (marker or None, place where reading goes on)"""
-        left = 8 * len(self.data) - self.k
-        if left <= 56:
+        """D3: (marker or None, place where reading goes on). All bits of a sealed text are passed
+        over."""
+        if self.left() <= 56 or self.is_sealed:
             if self.end[0] == 'marker':
                 return self.end[1], self.end[2]
             raise Refused(self.end[1], True)
@@ -547,22 +568,23 @@ def intervals(total, ri):
     return out + [total]
 
 
-def run_scan(r, mcus, ri, start, unit):
+def run_scan(r, mcus, ri, start, unit, is_sealed=False):
     """cuts the MCUs into intervals; unit(text, mcu, state); returns the pending marker or None"""
     number, at = 0, 0
     parts = intervals(len(mcus), ri)
     for j, n in enumerate(parts):
-        t = Text(r.b, r.p)
+        t = Text(r.b, r.p, is_sealed)
         state = start()
         for m in mcus[at : at + n]:
             unit(t, m, state)
         at += n
         marker, r.p = t.finish()
+        is_near = t.left() <= 56
         if j + 1 < len(parts):
-            if marker != 0xD0 + number % 8:
+            if not is_near or marker != 0xD0 + number % 8:
                 raise fmt(True)
             number += 1
-    while marker is not None and 0xD0 <= marker <= 0xD7:
+    while is_near and 0xD0 <= marker <= 0xD7:
         try:
             marker = r.marker()
         except Refused as e:
@@ -570,8 +592,9 @@ def run_scan(r, mcus, ri, start, unit):
     return marker
 
 
-def dct_scan(r, f, s, dc, ac, ri, blocks):
-    """blocks: of each component of the scan the blocks held, changed in place"""
+def dct_scan(r, f, s, dc, ac, ri, blocks, is_sealed):
+    """blocks: of each component of the scan the blocks held. Each is replaced as soon as all of it
+    is read, so that after a fault those before it are there."""
     if len(s.comps) == 1:
         i = s.comps[0]
         c = f.comps[i]
@@ -597,7 +620,8 @@ def dct_scan(r, f, s, dc, ac, ri, blocks):
     def unit(t, mcu, st):
         for j, y, x in mcu:
             i = s.comps[j]
-            block = blocks[i][y * f.mcus[0] * f.comps[i].h + x]
+            at = y * f.mcus[0] * f.comps[i].h + x
+            block = list(blocks[i][at])
             if s.ah == 0:
                 if s.ss == 0:
                     st['pred'][j] = dc_first(t, dc[s.dc[j]], st['pred'][j], s.al)
@@ -609,8 +633,9 @@ def dct_scan(r, f, s, dc, ac, ri, blocks):
                     block[0] = i16(block[0] | t.bits(1) << s.al)
                 else:
                     st['run'] = ac_refine(t, ac[s.ac[j]], block, s.ss, s.se, s.al, st['run'])
+            blocks[i][at] = block
 
-    return run_scan(r, mcus, ri, start, unit)
+    return run_scan(r, mcus, ri, start, unit, is_sealed)
 
 
 def predict(ra, rb, rc, sel):
@@ -957,27 +982,121 @@ def parse_app(r, n, st):
         r.take(left)
 
 
-def meaning(data, settings=None, trace=None):
-    settings = settings or Settings()
+class Brought:
+    """What a stream has brought so far: the frame and its scale, the quantization tables, the
+    blocks that a progressive frame holds between scans, and the planes that are decided."""
+
+    def __init__(self):
+        self.frame, self.scale, self.qt = None, 8, [None] * 4
+        self.held, self.finished, self.planes = None, {}, {}
+
+    def zero_blocks(self, i):
+        c = self.frame.comps[i]
+        return [[0] * 64 for _ in range(self.frame.mcus[0] * c.h * self.frame.mcus[1] * c.v)]
+
+    def blocks_for(self, s):
+        """the blocks that a scan is read on, by component"""
+        if self.frame.process != 'prog':
+            return {i: self.zero_blocks(i) for i in s.comps}
+        if self.held is None:
+            self.held = [self.zero_blocks(i) for i in range(len(self.frame.comps))]
+        return self.held
+
+    def finish(self, s, blocks):
+        """decides the planes of the components of which a scan was the last that is needed"""
+        if s.al:
+            return
+        for i in s.comps:
+            was = len(self.finished.get(i, ())) == 64
+            self.finished[i] = self.finished.get(i, frozenset()) | set(range(s.ss, s.se + 1))
+            if len(self.finished[i]) == 64 and not was:
+                self.planes[i] = ([list(b) for b in blocks[i]], self.qt[self.frame.comps[i].tq])
+
+    def end(self):
+        """decides the planes of blocks held, and tells whether each component has one"""
+        if self.held is not None:
+            for i, c in enumerate(self.frame.comps):
+                if i not in self.planes and self.qt[c.tq] is not None:
+                    self.planes[i] = (self.held[i], self.qt[c.tq])
+        return len(self.planes) == len(self.frame.comps)
+
+    def complete(self):
+        """gives each component that lacks a plane one of zeros, which is of the middle grey"""
+        f = self.frame
+        for i, c in enumerate(f.comps):
+            if i in self.planes:
+                continue
+            if f.process == 'lossless':
+                cw, ch = ceil_div(f.w * c.h, f.hmax), ceil_div(f.h * c.v, f.vmax)
+                self.planes[i] = (cw, ch, [1 << (f.precision - 1)] * (cw * ch))
+            else:
+                self.planes[i] = (self.zero_blocks(i), [1] * 64)
+
+    def picture(self, settings, st):
+        """the picture of planes that are all there"""
+        f, s8 = self.frame, self.scale
+        w, h, name = info(f, s8)
+        if f.process == 'lossless':
+            return ('ok', w, h, name, lossless_picture(f, self.planes, settings))
+        conv = conversion(len(f.comps), choose(f, st, settings)) if len(f.comps) > 1 else None
+        planes = [plane_of(f, i, *self.planes[i], s8) for i in range(len(f.comps))]
+        return ('ok', w, h, name, picture(f, planes, s8, conv))
+
+    def check_limit(self, settings):
+        w, h, _ = info(self.frame, self.scale)
+        if len(self.frame.comps) * w * h > settings.limit:
+            raise fmt()
+
+
+def nothing_said(trace):
     st = {'jfif': False, 'avi': False, 'adobe': None, 'exif': None, 'xmp': None, 'icc': []}
     if trace is not None:
         trace['state'] = st
+    return st
+
+
+def meaning(data, settings=None, trace=None):
+    settings, st, b = settings or Settings(), nothing_said(trace), Brought()
     try:
-        return decode(Bytes(data), settings, st, trace)
+        read_segments(Bytes(data), settings, st, trace, b, False)
+        b.check_limit(settings)
+        if not b.end():
+            raise fmt()
+        return b.picture(settings, st)
     except Refused as e:
         return ('err', e.kind, e.in_scan)
 
 
-def decode(r, settings, st, trace):
+def shown(data, settings=None, trace=None):
+    """What a stream with a fault shows. The blocks of a scan count up to the first that lacks a bit
+    or has a fault, where no zero bits follow the data; of any other segment and of a lossless scan
+    nothing counts unless all of it is there."""
+    settings, st, b, fault = settings or Settings(), nothing_said(trace), Brought(), None
+    try:
+        read_segments(Bytes(data), settings, st, trace, b, True)
+    except Refused as e:
+        fault = e.kind
+    if b.frame is None:
+        return ('err', fault)
+    try:
+        b.check_limit(settings)
+        if not b.end():
+            fault = fault or 'Format'
+        b.complete()
+        return b.picture(settings, st) + (fault,)
+    except Refused as e:
+        return ('err', e.kind)
+
+
+def read_segments(r, settings, st, trace, b, is_partial):
+    """reads up to the end of the image or the first fault, and notes in b and st what there is"""
     if r.u8() != 0xFF:
         raise fmt()
     if r.u8() != 0xD8:
         raise fmt()
-    f, s8, ri = None, 8, 0
-    dc, ac, qt = [None] * 4, [None] * 4, [None] * 4
-    held, finished, planes, scans = None, {}, {}, 0
+    f, ri, scans = None, 0, 0
+    dc, ac = [None] * 4, [None] * 4
     pending, previous = None, 0xD8
-    scanned = False
     while True:
         m, pending = (pending, None) if pending is not None else (r.marker(), None)
         if 0xC0 <= m <= 0xCF and m not in (0xC4, 0xC8, 0xCC):
@@ -985,20 +1104,19 @@ def decode(r, settings, st, trace):
                 raise unsupported('Hierarchical')
             f = parse_sof(r, m - 0xC0)
             check_frame(f)
-            s8 = pick_scale(f, settings.scale)
+            b.frame, b.scale = f, pick_scale(f, settings.scale)
             if trace is not None:
-                trace['info'] = info(f, s8)
+                trace['info'] = info(f, b.scale)
                 trace['frame'], trace['header'] = f, (r.p, dict(st))
         elif m == 0xDA:
             if f is None:
                 raise fmt()
             s = parse_sos(r, f)
-            scanned = True
             if f.process == 'lossless':
                 if any(dc[t] is None for t in s.dc):
                     raise fmt(True)
                 pending, got = lossless_scan(r, f, s, dc, ri, settings)
-                planes.update(got)
+                b.planes.update(got)
             else:
                 if st['avi']:
                     ddc, dac = default_tables()
@@ -1007,33 +1125,25 @@ def decode(r, settings, st, trace):
                             dc[t] = ddc[t]
                         if t in s.ac and ac[t] is None:
                             ac[t] = dac[t]
-                if any(qt[f.comps[i].tq] is None for i in s.comps):
+                if any(b.qt[f.comps[i].tq] is None for i in s.comps):
                     raise fmt(True)
                 if s.ss == 0 and any(dc[t] is None for t in s.dc):
                     raise fmt(True)
                 if s.se > 0 and any(ac[t] is None for t in s.ac):
                     raise fmt(True)
-                counts = [f.mcus[0] * c.h * f.mcus[1] * c.v for c in f.comps]
-                if f.process == 'prog':
-                    if held is None:
-                        held = [[[0] * 64 for _ in range(n)] for n in counts]
-                    blocks = held
-                else:
-                    blocks = {i: [[0] * 64 for _ in range(counts[i])] for i in s.comps}
-                pending = dct_scan(r, f, s, dc, ac, ri, blocks)
-                if s.al == 0:
-                    for i in s.comps:
-                        was = len(finished.get(i, ())) == 64
-                        finished[i] = finished.get(i, frozenset()) | set(range(s.ss, s.se + 1))
-                        if len(finished[i]) == 64 and not was:
-                            planes[i] = ([list(b) for b in blocks[i]], qt[f.comps[i].tq])
+                blocks = b.blocks_for(s)
+                try:
+                    pending = dct_scan(r, f, s, dc, ac, ri, blocks, is_partial)
+                finally:
+                    # (of a scan that has a fault the blocks before it count)
+                    b.finish(s, blocks)
             scans += 1
         elif m == 0xDB:
             for t, q in parse_dqt(r).items():
-                qt[t] = q
+                b.qt[t] = q
         elif m == 0xC4:
-            for b, t in parse_dht(r, 1 if f is not None and f.baseline else 3):
-                (ac if b >> 4 else dc)[b & 15] = t
+            for place, t in parse_dht(r, 1 if f is not None and f.baseline else 3):
+                (ac if place >> 4 else dc)[place & 15] = t
         elif m == 0xCC:
             raise unsupported('ArithmeticEntropyCoding')
         elif m == 0xDD:
@@ -1060,38 +1170,20 @@ def decode(r, settings, st, trace):
         previous = m
     if f is None:
         raise fmt()
-    w, h, name = info(f, s8)
-    if len(f.comps) * w * h > settings.limit:
-        raise fmt()
     if trace is not None:
         trace['end'] = r.p
-    if f.process == 'lossless':
-        if any(i not in planes for i in range(len(f.comps))):
-            raise fmt()
-        return ('ok', w, h, name, lossless_picture(f, planes, settings))
-    if f.process == 'prog' and scanned:
-        for i, c in enumerate(f.comps):
-            if i not in planes and qt[c.tq] is not None:
-                planes[i] = (held[i], qt[c.tq])
-    if any(i not in planes for i in range(len(f.comps))):
-        raise fmt()
-    conv = conversion(len(f.comps), choose(f, st, settings)) if len(f.comps) > 1 else None
-    return (
-        'ok',
-        w,
-        h,
-        name,
-        picture(f, [plane_of(f, i, *planes[i], s8) for i in range(len(f.comps))], s8, conv),
-    )
 
 
 def main():
-    data = sys.stdin.buffer.read()
-    got = meaning(data)
+    data, is_partial = sys.stdin.buffer.read(), sys.argv[1:] == ['--partial']
+    got = shown(data) if is_partial else meaning(data)
     if got[0] == 'err':
-        print('model: %s%s' % (got[1], ' (in a scan)' if got[2] else ''), file=sys.stderr)
+        in_scan = not is_partial and got[2]
+        print('model: %s%s' % (got[1], ' (in a scan)' if in_scan else ''), file=sys.stderr)
         return 1
     sys.stdout.buffer.write(b'%d %d %s\n' % (got[1], got[2], got[3].encode()) + got[4])
+    if is_partial:
+        print('model: fault %s' % (got[5] or 'none'), file=sys.stderr)
     return 0
 
 

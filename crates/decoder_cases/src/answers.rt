@@ -1,7 +1,7 @@
 //! What a decoder answers to a call.
 
 use crate::calls::Call;
-use crate::decoded::{memory_text, picture_text, refusal_text, size_text};
+use crate::decoded::{memory_text, partial_text, picture_text, refusal_text, size_text};
 use crate::hex_words::words_of;
 use jpeg_decoder::orientation::orientation_of;
 use jpeg_decoder::{Decoder, DecodingBytes, Error};
@@ -13,7 +13,7 @@ use test_streams::states::{is_failed, is_finished};
 const BEFORE: u8 = 7;
 
 /// Returns whether a call of `decode` is refused as one has to be after this answer.
-fn is_over(answer: &Result<Vec<u8>, Error>, again: &Result<Vec<u8>, Error>) -> bool {
+fn is_over<T>(answer: &Result<T, Error>, again: &Result<Vec<u8>, Error>) -> bool {
     match answer {
         Ok(_) => is_finished(again),
         Err(Error::Internal(text)) => matches!(again, Err(Error::Internal(same)) if same == text),
@@ -34,6 +34,18 @@ fn decode(
     match answer {
         Ok(picture) => picture_text(alloc, decoder.info(), &picture),
         Err(error) => refusal_text(alloc, &error, is_whole),
+    }
+}
+
+/// Returns the answer to `decode_partial`.
+fn decode_partial(alloc: Global, decoder: &mut Decoder<Counted<'_>>) -> Result<String, AllocError> {
+    let answer = decoder.decode_partial();
+    if !is_over(&answer, &decoder.decode()) {
+        return String::from_str(alloc, "WRONG at one more call");
+    }
+    match answer {
+        Ok(partial) => partial_text(alloc, decoder.info(), &partial),
+        Err(error) => refusal_text(alloc, &error, false),
     }
 }
 
@@ -142,6 +154,7 @@ pub fn answer(
         Call::At(scale) => scaled_text(alloc, decoder.set_scale(scale)),
         Call::Decode => decode(alloc, decoder, false),
         Call::Refusal => decode(alloc, decoder, true),
+        Call::Partial => decode_partial(alloc, decoder),
         Call::Into(size) => decode_into(alloc, decoder, size),
         Call::Info => info(alloc, decoder),
         Call::Exif => data_text(alloc, decoder.exif_data()),

@@ -16,6 +16,8 @@ pub enum Call {
     Decode,
     /// `decode`, where a refusal is answered by its whole text.
     Refusal,
+    /// `decode_partial`.
+    Partial,
     /// `decode_into`, with memory of this many bytes.
     Into(usize),
     Info,
@@ -73,6 +75,7 @@ fn plain_call(word: &str) -> Option<Call> {
         "header" => Call::Header,
         "decode" => Call::Decode,
         "refusal" => Call::Refusal,
+        "partial" => Call::Partial,
         "info" => Call::Info,
         "exif" => Call::Exif,
         "xmp" => Call::Xmp,

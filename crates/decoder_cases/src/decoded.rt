@@ -1,7 +1,7 @@
-//! The words for what `decode` and `decode_into` return.
+//! The words for what `decode`, `decode_partial` and `decode_into` return.
 
 use crate::hex_words::words_of;
-use jpeg_decoder::{Error, ImageInfo, PixelFormat};
+use jpeg_decoder::{Error, ImageInfo, PartialPicture, PixelFormat};
 use std::alloc::{AllocError, Global};
 
 /// Returns the name of a format, as `run` writes it.
@@ -47,15 +47,35 @@ pub fn picture_text(
     format!(in alloc; "{size}{words}")
 }
 
-/// Returns the words for a refusal: the error's text, or of a broken rule that is named its kind
-/// alone unless the whole text is wanted.
-pub fn refusal_text(alloc: Global, error: &Error, is_whole: bool) -> Result<String, AllocError> {
+/// Returns the text of an error, or of a broken rule that is named its kind alone unless the whole
+/// text is wanted.
+fn error_text(alloc: Global, error: &Error, is_whole: bool) -> Result<String, AllocError> {
     match error {
         Error::Format(text) if !is_whole && !text.is_empty() => {
-            String::from_str(alloc, "refused: invalid JPEG format")
+            String::from_str(alloc, "invalid JPEG format")
         }
-        _ => format!(in alloc; "refused: {error}"),
+        _ => format!(in alloc; "{error}"),
     }
+}
+
+/// Returns the words for a refusal, see `error_text`.
+pub fn refusal_text(alloc: Global, error: &Error, is_whole: bool) -> Result<String, AllocError> {
+    let text = error_text(alloc, error, is_whole)?;
+    format!(in alloc; "refused: {text}")
+}
+
+/// Returns the words for a picture and the first fault of its stream.
+pub fn partial_text(
+    alloc: Global,
+    info: Option<ImageInfo>,
+    partial: &PartialPicture,
+) -> Result<String, AllocError> {
+    let picture = picture_text(alloc, info, &partial.pixels)?;
+    let fault = match &partial.fault {
+        Some(error) => error_text(alloc, error, false)?,
+        None => String::from_str(alloc, "none")?,
+    };
+    format!(in alloc; "{picture}, fault {fault}")
 }
 
 /// Returns the words for the memory that a picture of `size` bytes was decoded into.

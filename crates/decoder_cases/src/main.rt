@@ -17,6 +17,8 @@
 //!     at 1/8, 1/4, 1/2, 1  `set_scale`: the size of the picture
 //!     decode               `decode`: the line that `run` writes before the pixels, and the pixels
 //!     refusal              `decode`, where a refusal is answered by its whole text
+//!     partial              `decode_partial`: the line and the pixels, as of `decode`, and after
+//!                          `, fault ` the text of the fault, or `none`
 //!     into BYTES           `decode_into`, with memory of that many bytes, each 07: how many were
 //!                          written, and the memory
 //!     info                 `info`, with the coding process; `precision`; and `decoding_bytes`:
@@ -30,14 +32,16 @@
 //! A case's line is its name, a colon and the answers with `; ` between them; a setter has none.
 //! Bytes are written in hex as the words of a stream are, those of a picture by words of a pixel
 //! each. What isn't there is `none`. A refused call answers `refused: ` and the error's text, of
-//! which a broken rule has the kind alone, `invalid JPEG format`, but for `refusal`.
+//! which, and of a fault, a broken rule has the kind alone, `invalid JPEG format`, but for
+//! `refusal`.
 //!
 //! The calls of a case are made by seven readers in turn: one that gives as much as a read asks
 //! for, and one for each of [`STEPS`](test_streams::readers::STEPS), which gives at most that many
-//! bytes a call. After each `decode` and `refusal` comes one call of `decode` more, which has to be
-//! refused as one after a picture or after a refusal is. Where a case begins with one of these, or
-//! with `cuts`, `run` decodes the stream too, and has to write the same, and `report` the text of
-//! the refusal. Where anything differs the line says `WRONG` and how.
+//! bytes a call. After each `decode`, `refusal` and `partial` comes one call of `decode` more,
+//! which has to be refused as one after a picture or after a refusal is. Where a case begins with
+//! `decode`, `refusal` or `cuts`, `run` decodes the stream too, and has to write the same, and
+//! `report` the text of the refusal. Where it begins with `partial` and there is no fault, `decode`
+//! has to return the same picture. Where anything differs the line says `WRONG` and how.
 //!
 //! A line that begins with no such word, lacks what the word takes or has more, or stands out of
 //! order ends the program with an error that names the file and the line.

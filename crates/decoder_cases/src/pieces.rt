@@ -4,9 +4,10 @@ use crate::answers::answer;
 use crate::calls::{Call, Request};
 use crate::decoded::size_text;
 use jpeg_decoder::run::{report, run};
-use jpeg_decoder::{Decoder, Error, ImageInfo};
+use jpeg_decoder::{Decoder, Error, ImageInfo, PartialPicture};
 use std::alloc::{AllocError, Global};
 use test_streams::readers::{Counted, Counts, Reader, STEPS, Trouble};
+use test_streams::states;
 
 /// Returns a decoder of a stream whose reader gives at most `step` bytes a call, and counts them.
 fn decoder_of<'a>(
@@ -174,6 +175,34 @@ fn runs_as_asked(alloc: Global, stream: &[u8], requests: &[Request]) -> Result<b
     }
 }
 
+/// Returns what `decode_partial` returns of a stream.
+fn partial_of(alloc: Global, stream: &[u8]) -> Result<PartialPicture, Error> {
+    let mut decoder = Decoder::new(alloc, stream)?;
+    decoder.decode_partial()
+}
+
+/// Returns whether `decode` returns a picture, as one that is shown without a fault.
+fn is_decoded(alloc: Global, stream: &[u8], picture: &[u8]) -> bool {
+    let (answer, _) = picture_of(alloc, stream);
+    states::is_picture(&answer, picture)
+}
+
+/// Returns whether `decode` returns the same picture of a stream that shows one without a fault.
+fn decodes_alike(alloc: Global, stream: &[u8]) -> bool {
+    match partial_of(alloc, stream) {
+        Ok(partial) => partial.fault.is_some() || is_decoded(alloc, stream, &partial.pixels),
+        Err(_error) => true,
+    }
+}
+
+/// Returns whether `decode` does what a decoder does of which `decode_partial` is asked first.
+fn decodes_as_asked(alloc: Global, stream: &[u8], requests: &[Request]) -> bool {
+    match requests.first() {
+        Some(Request::Call(Call::Partial)) => decodes_alike(alloc, stream),
+        _ => true,
+    }
+}
+
 /// Returns the answers to requests of a stream, or where they are wrong.
 pub fn answers(alloc: Global, stream: &[u8], requests: &[Request]) -> anyhow::Result<String> {
     let whole = answers_by(alloc, stream, requests, usize::MAX)?;
@@ -185,6 +214,9 @@ pub fn answers(alloc: Global, stream: &[u8], requests: &[Request]) -> anyhow::Re
     }
     if !runs_as_asked(alloc, stream, requests)? {
         return Ok(String::from_str(alloc, "WRONG by run")?);
+    }
+    if !decodes_as_asked(alloc, stream, requests) {
+        return Ok(String::from_str(alloc, "WRONG by decode")?);
     }
     Ok(whole)
 }
