@@ -167,7 +167,10 @@ typedef struct zaxbriar_picture {
     uint64_t decoding_bytes; /* the most memory that a call uses for coefficients and samples at a
                                 time, besides `pixels`; tables, metadata and a few lines aren't
                                 counted */
-    uint64_t stream_bytes;   /* set by zaxbriar_decode: how many bytes of `jpeg` were read */
+    uint64_t stream_bytes;   /* how many bytes of `jpeg` the image takes, after ZAXBRIAR_OK of
+                                zaxbriar_decode; or the header, after ZAXBRIAR_OK of
+                                zaxbriar_read_info, ZAXBRIAR_NO_ROOM and ZAXBRIAR_TOO_LARGE.
+                                Otherwise how many were read: 0 if the options don't exist */
     uint32_t width;          /* in pixels, at the scale of the options */
     uint32_t height;
     uint8_t pixel_bytes;      /* bytes of a pixel in this layout */

@@ -52,6 +52,7 @@ static void memory(void) {
     unsigned char longer[sizeof grey + 1] = {0};
     CHECK(zaxbriar_read_info(grey, sizeof grey, NULL, &picture) == ZAXBRIAR_OK);
     CHECK(picture.size == 64 && picture.decoding_bytes == 192);
+    CHECK(picture.stream_bytes == GREY_HEADER);
     CHECK(picture.process == ZAXBRIAR_SEQUENTIAL && picture.format == ZAXBRIAR_FORMAT_GREY8);
     CHECK(!memcmp(picture.sampling, "\x11\0\0", 4));
     CHECK(decode(grey, sizeof grey, none, 65) == ZAXBRIAR_OK);
@@ -62,6 +63,7 @@ static void memory(void) {
     CHECK(decode(longer, sizeof longer, none, 65) == ZAXBRIAR_OK && picture.stream_bytes == 141);
     CHECK(decode(grey, sizeof grey, none, 63) == ZAXBRIAR_NO_ROOM);
     CHECK(picture.size == 64 && picture.text[0] != 0 && is_all(pixels, 65, 7));
+    CHECK(picture.stream_bytes == GREY_HEADER);
     CHECK(decode(grey, 140, none, 65) == ZAXBRIAR_TRUNCATED && is_all(pixels, 65, 7));
 }
 
@@ -218,8 +220,10 @@ static void limits(void) {
         CHECK(decode(damaged, sizeof grey, within, 64) == ZAXBRIAR_MALFORMED);
         CHECK(zaxbriar_read_info(grey, sizeof grey, &above, &picture) == ZAXBRIAR_TOO_LARGE);
         CHECK(picture.width == 8 && picture.size == 64 && picture.text[0] != 0);
+        CHECK(picture.stream_bytes == GREY_HEADER);
         CHECK(decode(grey, sizeof grey, above, 64) == ZAXBRIAR_TOO_LARGE);
         CHECK(picture.width == 8 && picture.size == 64 && is_all(pixels, 64, 7));
+        CHECK(picture.stream_bytes == GREY_HEADER);
         CHECK(decode(grey, sizeof grey, above, 0) == ZAXBRIAR_TOO_LARGE);
         CHECK(decode(grey, GREY_HEADER, above, 64) == ZAXBRIAR_TOO_LARGE);
         CHECK(decode(damaged, sizeof grey, above, 64) == ZAXBRIAR_TOO_LARGE);

@@ -253,7 +253,7 @@ impl<R: Read> Decoder<R> {
     /// Describes the picture anew, by other options.
     fn resize(&mut self, options: Options) -> Result<(u16, u16)> {
         self.read_info()?;
-        let picture = library::read_info(self.stream.header(), &options).map_err(refused)?;
+        let picture = library::read_info(self.stream.bytes(), &options).map_err(refused)?;
         self.options = options;
         self.picture = Some(picture);
         Ok(size_of(&picture))
@@ -281,7 +281,8 @@ impl<R: Read> Decoder<R> {
     fn decode_into(&mut self, options: &Options, pixels: &mut [u8]) -> Result<()> {
         let failure = self.stream.read_image(&mut self.reader);
         let outcome = self.ask(failure, |bytes| library::decode(bytes, options, pixels));
-        if self.stream.may_have_metadata(self.stream.header().len()) && self.may_be_full_size()? {
+        let header = self.picture.map_or(0, |picture| picture.stream_bytes);
+        if self.stream.may_have_metadata(header as usize) && self.may_be_full_size()? {
             self.read_metadata(Segments::OfImage)?;
         }
         outcome

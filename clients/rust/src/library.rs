@@ -54,7 +54,7 @@ pub struct Picture {
     pub size: u64,
     row_bytes: u64,
     pub decoding_bytes: u64,
-    stream_bytes: u64,
+    pub stream_bytes: u64,
     pub width: u32,
     pub height: u32,
     pixel_bytes: u8,

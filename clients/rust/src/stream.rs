@@ -8,8 +8,9 @@
 //! reader at another place, wait for bytes of it that nobody needs, or overlook that there may be
 //! metadata after the frame header, and no more.
 //!
-//! A call of the C library that says how many bytes a header or an image needs beyond those that it
-//! was given would make this module needless.
+//! Where a header ends is the library's to say, once its bytes are here (`stream_bytes`). A call that
+//! says how many bytes a header or an image needs beyond those that it was given would make this
+//! module needless: a lent reader can't be given back what was read too much.
 
 use std::io::{self, ErrorKind, Read};
 
@@ -38,8 +39,8 @@ fn end_of_bytes() -> io::Error {
 #[derive(Default)]
 pub struct Stream {
     bytes: Vec<u8>,
-    /// Where the header ends, once its frame header was read.
-    header_end: Option<usize>,
+    /// Whether the frame header was read.
+    has_header: bool,
     /// Where the last segment APP1 or APP2 starts, which may have metadata.
     last_application: Option<usize>,
     /// The marker after the data of the last scan, where nothing was read after it.
@@ -52,15 +53,10 @@ impl Stream {
         &self.bytes
     }
 
-    /// Returns the bytes up to the end of the frame header, or all where there is none.
-    pub fn header(&self) -> &[u8] {
-        &self.bytes[..self.header_end.unwrap_or(self.bytes.len())]
-    }
-
     /// Reads up to the end of the frame header. Returns why no more could be read, if that is the
     /// reader's fault.
     pub fn read_header<R: Read>(&mut self, reader: &mut R) -> Option<io::Error> {
-        self.read_while(reader, |stream| stream.header_end.is_none())
+        self.read_while(reader, |stream| !stream.has_header)
     }
 
     /// Reads up to the end of the image, and returns the same.
@@ -107,7 +103,7 @@ impl Stream {
             None => self.read_marker(reader)?,
         };
         let start = self.bytes.len() - 2;
-        match (marker, self.header_end) {
+        match (marker, self.has_header) {
             // DHT, DQT, DRI, COM, and application data but for those below.
             (0xC4 | 0xDB | 0xDD | 0xFE | 0xE0 | 0xE3..=0xEF, _) => self.read_segment(reader)?,
             // APP1 and APP2.
@@ -116,11 +112,11 @@ impl Stream {
                 self.last_application = Some(start);
             }
             // Frame headers. JPG and DAC, which are refused, stand between them.
-            (0xC0..=0xC7 | 0xC9..=0xCB | 0xCD..=0xCF, None) => {
+            (0xC0..=0xC7 | 0xC9..=0xCB | 0xCD..=0xCF, false) => {
                 self.read_segment(reader)?;
-                self.header_end = Some(self.bytes.len());
+                self.has_header = true;
             }
-            (SOS, Some(_)) => {
+            (SOS, true) => {
                 self.read_segment(reader)?;
                 self.end_of_data = Some(self.read_data(reader)?);
             }

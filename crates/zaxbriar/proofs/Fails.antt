@@ -1,6 +1,6 @@
 -- A refusal of the header, or of what follows it, is one of the stream.
-use Rattle.std.proofs.Common.{◌≡◌, ◌<◌, ◌^◌, ℕ, List, Ok, Err, Some, length, Result, Bool, true, arith, refl}
-use Rattle.std.specs.Prelude.{IfErr, IsErrAnd}
+use Rattle.std.proofs.Common.{◌≡◌, ◌⊎◌, ◌<◌, ◌^◌, ℕ, List, Ok, Err, Some, length, Result, Bool, true, ap, arith, refl}
+use Rattle.std.specs.Prelude.{IfErr, IsErrAnd, OnOk}
 use Rattle.jpeg_bits.specs.Reading.{Answers, Fault, IsGivenUp, Names, Outcome}
 use Rattle.jpeg_bits.specs.Stream.{Stream}
 use Rattle.jpeg_bits.specs.declared.error.Error.{Error}
@@ -9,16 +9,36 @@ use Rattle.jpeg_streams.specs.Found.{Found, with_said}
 use Rattle.jpeg_streams.specs.Stream.{header_at, rest_at}
 use Rattle.jpeg_streams.specs.Output.{Tells}
 use Rattle.jpeg_streams.proofs.ReadTurns.{then-ok}
-use Rattle.zaxbriar.specs.Faults.{IsArgument, IsFault, IsNamed, IsOfCall, IsOfCallNumber}
+use Rattle.zaxbriar.specs.Faults.{IsArgument, IsFault, IsNamed, IsOfCall, IsOfCallNumber, IsOfDecoder, IsOwn}
 use Rattle.zaxbriar.specs.Faults.{StandsFor, status_of, fault_code}
 use Rattle.zaxbriar.specs.Meanings.{settings_of, size_wanted, meaning_by}
 use Rattle.zaxbriar.specs.declared.answers.Refusal.{Refusal}
 use Rattle.zaxbriar.specs.declared.answers.Refusal.TheVariants as refusals
 use Rattle.zaxbriar.specs.declared.options.Options.{Options}
 
--- a reader of these bytes tells them all
-pub tells-all : (bytes : List ℕ) → length bytes < 2 ^ 64 → Tells (Some bytes) bytes
-tells-all bytes few = record { told = refl; few = few }
+-- a reader of a slice tells its bytes
+pub tells-slice : (bytes jpeg : List ℕ) → bytes ≡ jpeg → length jpeg < 2 ^ 64 → Tells (Some bytes) jpeg
+tells-slice bytes jpeg same few = record { told = ap Some same; few = few }
+
+-- ---- what follows of an outcome
+
+pub on-ok : {X E : Type 0} (r : Result X E) (P Q : Type 0) → OnOk r P → (P → Q) → OnOk r Q
+on-ok (Ok x) P Q p f = f p
+on-ok (Err e) P Q p f = tt
+
+pub if-err : {X E : Type 0} (r : Result X E) (P Q : E → Type 0) → IfErr r P → ((e : E) → P e → Q e) → IfErr r Q
+if-err (Ok x) P Q p f = tt
+if-err (Err e) P Q p f = f e p
+
+-- a refusal of a decoder is none for the size of a picture
+pub not-own : (r : Refusal) → IsOfDecoder r → IsOwn r → ⊥
+not-own r d o = grind arith
+
+-- one for the size of a picture that isn't for lack of room is for a limit
+pub own-large : (r : Refusal) (P : Type 0) → IsOwn r → (r ≡ refusals.NoRoom → ⊥) → (r ≡ refusals.TooLarge → P) → P
+own-large refusals.NoRoom P own room large = absurd (room refl)
+own-large refusals.TooLarge P own room large = large refl
+own-large _ P own room large = absurd own
 
 refused : (o : Options) (bytes : List ℕ) (f : Fault) → header_at bytes ≡ Err f → meaning_by o bytes ≡ Err f
 unfolding meaning_by
@@ -33,9 +53,6 @@ header-fails o bytes refusals.Reader h = tt
 header-fails o bytes (refusals.Argument text) h = tt
 header-fails o bytes refusals.NoRoom h = tt
 header-fails o bytes refusals.TooLarge h = tt
-
-pub argument-fails : {Y : Type 0} (outcome : Result Y Fault) (r : Refusal) → IsArgument r → IsFault outcome r
-argument-fails outcome x h = grind arith
 
 names : {X Y : Type 0} (view : X → Y) (read : List ℕ → Outcome Y) (old new : Stream) (e : Error) (b : Bool)
     → new.known ≡ b → Answers {X = X} view read old (Err e) new → old.known ≡ true → (IsGivenUp e new.failed → ⊥)
@@ -77,15 +94,12 @@ pub of-call-number : {X : Type 0} (outcome : Result X Refusal) (code : ℕ) → 
     → IsErrAnd outcome IsOfCall → IsOfCallNumber code
 of-call-number outcome code e c = grind (arith, call-number)
 
-argument-number : (r : Refusal) → IsArgument r → fault_code r ≡ 6
-argument-number r a = grind arith
-
-pub of-argument : {X : Type 0} (outcome : Result X Refusal) (code : ℕ) → code ≡ status_of outcome
-    → IsErrAnd outcome IsArgument → code ≡ 6
-of-argument outcome code e a = grind (arith, argument-number)
-
 pub is-too-large : (r : Refusal) → fault_code r ≡ 8 → r ≡ refusals.TooLarge
 is-too-large r e = grind arith
 
 pub has-no-room : (r : Refusal) → fault_code r ≡ 5 → r ≡ refusals.NoRoom
 has-no-room r e = grind arith
+
+-- a kind whose number is refused doesn't exist
+pub no-kind : (kind code : ℕ) → (0 < kind → kind < 4 → code ≡ 6 → ⊥) → code ≡ 6 → (kind ≡ 0) ⊎ (3 < kind)
+no-kind kind code known e = grind arith

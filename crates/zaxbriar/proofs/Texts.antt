@@ -1,5 +1,6 @@
 -- The text of a refusal.
-use Rattle.std.proofs.Common.{arith, ◌≡◌, ◌∙◌, ℕ, ◌+◌, ◌-◌, ◌≤◌, ◌++◌, List, ap, drop, take, length, length-take, slice_index}
+use Rattle.std.proofs.Common.{arith, ◌≡◌, ◌∙◌, ℕ, ◌+◌, ◌-◌, ◌≤◌, ◌++◌, List, ap, drop, take, length, length-take}
+use Rattle.std.proofs.Common.{slice_index}
 use Rattle.std.specs.Prelude.{get_or, min, replicate}
 use Rattle.std.proofs.lemmas.List.{get_or-append_right, get_or-drop, get_or-replicate}
 use Rattle.zaxbriar.specs.Faults.{padded}

@@ -1,14 +1,14 @@
 -- What a caller is given of a picture that was decoded.
-use Rattle.std.proofs.Common.{arith, ◌≡◌, ◌∙◌, ℕ, ◌*◌, ◌<◌, List, Result, Ok, Err, sym, ap, subst}
+use Rattle.std.proofs.Common.{arith, ◌≡◌, ◌⊎◌, ◌∙◌, ℕ, ◌*◌, ◌<◌, List, Result, Ok, Err, sym, ap, subst}
 use Rattle.std.specs.Prelude.{IfErr, IfOk, OnOk, replicate}
 use Rattle.std.proofs.Math.Nat.{mul_comm, mul_assoc}
 use Rattle.jpeg_bits.specs.Reading.{Fault}
 use Rattle.jpeg_streams.specs.declared.images.ImageInfo.{ImageInfo}
-use Rattle.zaxbriar.specs.Faults.{status_of}
+use Rattle.zaxbriar.specs.Faults.{IsOwn, status_of}
 use Rattle.zaxbriar.specs.Features.{feature_told, numbered}
 use Rattle.zaxbriar.specs.Layouts.{laid_out, layout_line}
 use Rattle.zaxbriar.specs.Lines.{Arranged, HasLines, described_picture, stored_bytes}
-use Rattle.zaxbriar.specs.Meanings.{Describes, IsTooLarge, IsWithin, Shows, ShowsSamples, as_described}
+use Rattle.zaxbriar.specs.Meanings.{Describes, IsTooLarge, IsWithin, Shows, ShowsSamples, as_described, uncounted}
 use Rattle.zaxbriar.proofs.Fails.{code-fails, has-no-room, is-too-large}
 use Rattle.zaxbriar.specs.declared.answers.Refusal.TheVariants.{NoRoom, TooLarge}
 use Rattle.zaxbriar.specs.declared.answers.Refusal.{Refusal}
@@ -23,14 +23,14 @@ pub count-of : (o : Options) (info : ImageInfo) (precision count : ℕ) (lines :
 count-of o info precision count lines h e = grind (arith, mul_comm, mul_assoc)
 
 pub arranged-of : (o : Options) (info : ImageInfo) (precision : ℕ) (samples old new : List ℕ) (picture : Picture)
-    (lines : Lines) (decoding orientation : ℕ) (sampling : List ℕ)
+    (lines : Lines) (decoding orientation stream : ℕ) (sampling : List ℕ)
     → HasLines o info precision lines
     → new ≡ laid_out (layout_line lines.conversion lines.stored lines.width) (lines.width * lines.stored)
     lines.stride lines.height
     samples old
-    → picture ≡ described_picture o.layout info precision lines decoding orientation sampling 0
+    → picture ≡ described_picture o.layout info precision lines decoding orientation sampling stream
     → Arranged o info precision samples old new picture
-arranged-of o info precision samples old new picture lines decoding orientation sampling h e p = record {
+arranged-of o info precision samples old new picture lines decoding orientation stream sampling h e p = record {
   conversion = h.conversion;
   is = h.is;
   pixels = e ∙ (λ i. laid_out (layout_line (h.lines_are i).conversion (h.lines_are i).stored (h.lines_are i).width)
@@ -43,36 +43,35 @@ arranged-of o info precision samples old new picture lines decoding orientation 
       (ap (λ (q : Picture). q.stream_bytes) (sym p) i));
 }
 
--- a picture with what a call says of itself: the bytes that were read, a feature and a text
-abbrev pub ending : Picture → ℕ → Feature → List ℕ → Picture
-ending picture stream feature text = record picture {
-  stream_bytes = stream;
+-- a picture with a feature and a text
+abbrev pub ending : Picture → Feature → List ℕ → Picture
+ending picture feature text = record picture {
   feature = feature.number;
   feature_argument = feature.argument;
   text = text;
 }
 
--- the same picture, with the bytes of its stream
+-- the same picture, where there is none
 retold : (o : Options) (info : ImageInfo) (precision : ℕ) (samples old new : List ℕ) (picture : Picture)
-    (stream : ℕ) (feature : Feature) (text : List ℕ) → feature ≡ numbered 0 0 → text ≡ replicate 112 0
+    (feature : Feature) (text : List ℕ) → feature ≡ numbered 0 0 → text ≡ replicate 112 0
     → Arranged o info precision samples old new picture
-    → Arranged o info precision samples old new (ending picture stream feature text)
-retold o info precision samples old new picture stream feature text none t a = record {
+    → Arranged o info precision samples old new (ending picture feature text)
+retold o info precision samples old new picture feature text none t a = record {
   conversion = a.conversion;
   is = a.is;
   pixels = a.pixels;
   decoding = a.decoding;
   orientation = a.orientation;
   sampling = a.sampling;
-  picture_is = λ i. ending (a.picture_is i) stream (none i) (t i);
+  picture_is = λ i. ending (a.picture_is i) (none i) (t i);
 }
 
 pub shown : {X : Type 0} (outcome : Result X Refusal) (o : Options) (bytes old new : List ℕ) (picture : Picture)
-    (stream : ℕ) (feature : Feature) (text : List ℕ) (result : ℕ)
+    (feature : Feature) (text : List ℕ) (result : ℕ)
     → result ≡ status_of outcome → feature ≡ feature_told outcome → IfOk outcome (λ _. text ≡ replicate 112 0)
     → OnOk outcome (Shows o bytes old new picture) → result ≡ 0
-    → Shows o bytes old new (ending picture stream feature text)
-shown (Ok x) o bytes old new picture stream feature text result code lacks none s z = record {
+    → Shows o bytes old new (ending picture feature text)
+shown (Ok x) o bytes old new picture feature text result code lacks none s z = record {
   told = s.told;
   samples = s.samples;
   rest = s.rest;
@@ -81,58 +80,81 @@ shown (Ok x) o bytes old new picture stream feature text result code lacks none 
   means = s.means;
   info_is = s.info_is;
   precision_is = s.precision_is;
-  arranged = retold o s.info s.precision s.samples old new picture stream feature text lacks none s.arranged;
+  arranged = retold o s.info s.precision s.samples old new picture feature text lacks none s.arranged;
 }
-shown (Err r) o bytes old new picture stream feature text result code lacks none s z = absurd (code-fails r (sym code ∙ z))
+shown (Err r) o bytes old new picture feature text result code lacks none s z = absurd (code-fails r (sym code ∙ z))
 
 pub shown-samples : {X : Type 0} (outcome : Result X Refusal) (o : Options) (image : Result (List ℕ) Fault)
-    (old new : List ℕ) (picture : Picture) (stream : ℕ) (feature : Feature) (text : List ℕ) (result : ℕ)
+    (old new : List ℕ) (picture : Picture) (taken : ℕ) (feature : Feature) (text : List ℕ) (result : ℕ)
     → result ≡ status_of outcome → feature ≡ feature_told outcome → IfOk outcome (λ _. text ≡ replicate 112 0)
-    → OnOk outcome (ShowsSamples o image old new picture) → result ≡ 0
-    → ShowsSamples o image old new (ending picture stream feature text)
-shown-samples (Ok x) o image old new picture stream feature text result code lacks none s z = record {
-  samples = s.samples;
-  info = s.info;
-  precision = s.precision;
-  are = s.are;
-  arranged = retold o s.info s.precision s.samples old new picture stream feature text lacks none s.arranged;
-}
-shown-samples (Err r) o image old new picture stream feature text result code lacks none s z = absurd (code-fails r (sym code ∙ z))
+    → OnOk outcome (ShowsSamples o image old new picture × (picture.stream_bytes ≡ taken)) → result ≡ 0
+    → ShowsSamples o image old new (ending picture feature text) × (picture.stream_bytes ≡ taken)
+shown-samples (Ok x) o image old new picture taken feature text result code lacks none s z = (
+  record {
+    samples = s.0.samples;
+    info = s.0.info;
+    precision = s.0.precision;
+    are = s.0.are;
+    arranged = retold o s.0.info s.0.precision s.0.samples old new picture feature text lacks none s.0.arranged;
+  },
+  s.1,
+)
+shown-samples (Err r) o image old new picture taken feature text result code lacks none s z =
+    absurd (code-fails r (sym code ∙ z))
 
 -- ---- what the exported calls say of a picture
 
--- what is described has read nothing, and has no text
-as-told : (o : Options) (bytes : List ℕ) (picture : Picture) → Describes o bytes picture → as_described picture ≡ picture
+-- what is described has no feature and no text
+as-told : (o : Options) (bytes : List ℕ) (picture : Picture) → Describes o bytes (uncounted picture)
+    → as_described picture ≡ uncounted picture
 as-told o bytes picture d = ap (λ (p : Picture). as_described p) d.picture_is ∙ sym d.picture_is
 
 same : (o : Options) (bytes : List ℕ) (picture : Picture) (feature : Feature) (text : List ℕ)
-    → feature ≡ numbered 0 0 → text ≡ replicate 112 0 → Describes o bytes picture
-    → record picture { feature = feature.number; feature_argument = feature.argument; text = text } ≡ picture
+    → feature ≡ numbered 0 0 → text ≡ replicate 112 0 → Describes o bytes (uncounted picture)
+    → uncounted (ending picture feature text) ≡ uncounted picture
 same o bytes picture feature text none t d =
-    (λ i. record (d.picture_is i) { feature = (none i).number; feature_argument = (none i).argument; text = t i })
-    ∙ sym d.picture_is
+    (λ i. ending (d.picture_is i) (none i) (t i)) ∙ sym d.picture_is
 
 pub described : {X : Type 0} (outcome : Result X Refusal) (o : Options) (bytes : List ℕ) (picture : Picture)
     (feature : Feature) (text : List ℕ) (result : ℕ)
     → result ≡ status_of outcome → feature ≡ feature_told outcome → IfOk outcome (λ _. text ≡ replicate 112 0)
-    → OnOk outcome (IsWithin o bytes picture) → result ≡ 0
-    → IsWithin o bytes (record picture { feature = feature.number; feature_argument = feature.argument; text = text })
+    → OnOk outcome (IsWithin o bytes (uncounted picture)) → result ≡ 0
+    → IsWithin o bytes (uncounted (ending picture feature text))
 described (Ok x) o bytes picture feature text result code lacks none d z =
     subst (λ (p : Picture). IsWithin o bytes p) (sym (same o bytes picture feature text lacks none d.0)) d
 described (Err r) o bytes picture feature text result code lacks none d z = absurd (code-fails r (sym code ∙ z))
 
 pub within : {X : Type 0} (outcome : Result X Refusal) (o : Options) (bytes : List ℕ) (picture : Picture) (result : ℕ)
-    → result ≡ status_of outcome → OnOk outcome (IsWithin o bytes picture) → result ≡ 0
+    → result ≡ status_of outcome → OnOk outcome (IsWithin o bytes (uncounted picture)) → result ≡ 0
     → IsWithin o bytes (as_described picture)
 within x o bytes picture result code d z = grind (arith, code-fails, as-told)
 
 pub without-room : {X : Type 0} (outcome : Result X Refusal) (o : Options) (bytes : List ℕ) (room : ℕ) (picture : Picture)
     (result : ℕ) → result ≡ status_of outcome
-    → IfErr outcome (λ r. r ≡ NoRoom → IsWithin o bytes picture × (room < picture.size)) → result ≡ 5
+    → IfErr outcome (λ r. r ≡ NoRoom → IsWithin o bytes (uncounted picture) × (room < picture.size)) → result ≡ 5
     → IsWithin o bytes (as_described picture) × (room < picture.size)
 without-room x o bytes room picture result code d z = grind (arith, has-no-room, as-told)
 
 pub too-large : {X : Type 0} (outcome : Result X Refusal) (o : Options) (bytes : List ℕ) (picture : Picture) (result : ℕ)
-    → result ≡ status_of outcome → IfErr outcome (λ r. r ≡ TooLarge → IsTooLarge o bytes picture) → result ≡ 8
+    → result ≡ status_of outcome → IfErr outcome (λ r. r ≡ TooLarge → IsTooLarge o bytes (uncounted picture))
+    → result ≡ 8
     → IsTooLarge o bytes (as_described picture)
 too-large x o bytes picture result code d z = grind (arith, is-too-large, as-told)
+
+-- ---- what a call says by its number
+
+-- after an OK
+pub if-ok : {X : Type 0} (P : Type 0) (outcome : Result X Refusal) (result : ℕ) → result ≡ status_of outcome
+    → OnOk outcome P → result ≡ 0 → P
+if-ok P (Ok x) result code p z = p
+if-ok P (Err r) result code p z = absurd (code-fails r (sym code ∙ z))
+
+-- where there is a picture without room, or above a limit
+pub if-own : {X : Type 0} (P : Type 0) (outcome : Result X Refusal) (result : ℕ) → result ≡ status_of outcome
+    → IfErr outcome (λ r. IsOwn r → P) → (result ≡ 5) ⊎ (result ≡ 8) → P
+if-own P outcome result code p own = grind (arith, has-no-room, is-too-large)
+
+-- where a picture is described
+pub if-described : {X : Type 0} (P : Type 0) (outcome : Result X Refusal) (result : ℕ) → result ≡ status_of outcome
+    → OnOk outcome P → IfErr outcome (λ r. r ≡ TooLarge → P) → (result ≡ 0) ⊎ (result ≡ 8) → P
+if-described P outcome result code p q described = grind (arith, if-ok, is-too-large)

@@ -1,6 +1,5 @@
 -- The limits of some options, and the memory that they are compared with.
-use Rattle.std.specs.Prelude.{◌==◌, ◌&&◌, ◌||◌, ◌+◌, ◌*◌, ℕ, Bool, not, nat_le, nat_lt}
-use Rattle.std.specs.Prelude.{slice_index}
+use Rattle.std.specs.Prelude.{◌==◌, ◌&&◌, ◌||◌, ◌+◌, ◌*◌, ℕ, Bool, not, nat_le, nat_lt, slice_index}
 use Rattle.jpeg_decoder.specs.declared.sizes.DecodingBytes.{DecodingBytes}
 use Rattle.zaxbriar.specs.declared.options.Options.{Options}
 use Rattle.zaxbriar.specs.declared.picture.Picture.{Picture}

@@ -1,7 +1,8 @@
 -- What a call with some options gives for the bytes of a stream.
-use Rattle.std.specs.Prelude.{◌≡◌, ◌==◌, ◌&&◌, ℕ, List, Option, Some, None, if◌then◌else◌}
-use Rattle.std.specs.Prelude.{option_map, replicate, true, false, Ok, Result, ◌⊎◌}
+use Rattle.std.specs.Prelude.{◌≡◌, ◌==◌, ◌+◌, ◌&&◌, ℕ, List, Option, Some, None, if◌then◌else◌}
+use Rattle.std.specs.Prelude.{length, option_map, replicate, true, false, Ok, Result, ◌⊎◌}
 use Rattle.jpeg_bits.specs.Reading.{Outcome, ◌>>=◌, Fault}
+use Rattle.jpeg_bits.specs.Stream.{Stream}
 use Rattle.jpeg_bits.specs.declared.color_transform.ColorTransform.{ColorTransform}
 use Rattle.jpeg_bits.specs.declared.color_transform.ColorTransform.TheVariants as transforms
 use Rattle.jpeg_segments.specs.declared.scale.Scale.{Scale}
@@ -77,6 +78,19 @@ pub record ReadsHeader (o : Options) (old new : Decoding) : Type 0 where
       × (header_at old.source.bytes ≡ Ok (header, new.source.bytes))
       × (new.found ≡ with_said (at_size (size_wanted o)) header))
 
+-- A source stands after what a reading has read.
+pub record StandsAfter {X : Type 0} (read : Outcome X) (source : Stream) : Type 0 where
+  pub known : source.known ≡ true
+  pub value : X
+  pub reads : read ≡ Ok (value, source.bytes)
+
+-- A number of bytes is what a reading of a stream has read: all before those that it leaves.
+pub record CountsRead {X : Type 0} (read : Outcome X) (stream : List ℕ) (count : ℕ) : Type 0 where
+  pub value : X
+  pub rest : List ℕ
+  pub reads : read ≡ Ok (value, rest)
+  pub count_is : count + length rest ≡ length stream
+
 -- the orientation that Exif data say, and 1, upright, where they say none
 abbrev pub or_upright : Option ℕ → ℕ
 or_upright None = 1
@@ -149,6 +163,10 @@ no_picture = record {
   reserved = replicate 26 0;
   text = replicate 112 0;
 }
+
+-- a picture without the number of bytes that were read
+abbrev pub uncounted : Picture → Picture
+uncounted picture = record picture { stream_bytes = 0 }
 
 -- a picture without what a call says of itself: the bytes that were read, the feature that the
 -- stream lacks here, and the text of a refusal

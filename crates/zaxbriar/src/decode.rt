@@ -1,33 +1,34 @@
 //! Pictures of streams in the caller's memory.
-ghost use Rattle.std.specs.Prelude.{◌≡◌, ◌++◌, ◌≤◌, ◌<◌, ℕ, List, Some, length, option_map, true};
-ghost use Rattle.std.specs.Prelude.{false, Err, IfErr, IsErrAnd, OnErr, OnOk};
+ghost use Rattle.std.specs.Prelude.{◌≡◌, ◌++◌, ◌≤◌, ◌<◌, ◌^◌, ℕ, List, Some, length, option_map};
+ghost use Rattle.std.specs.Prelude.{true, false, Err, IfErr, IsErrAnd, OnErr, OnOk};
 ghost use Rattle.jpeg_decoder.specs.Bytes.{decoding_bytes};
 ghost use Rattle.jpeg_streams.specs.ArrayPictures.{picture_of_array};
 ghost use Rattle.jpeg_streams.specs.DecodedImages.{at_size};
 ghost use Rattle.jpeg_streams.specs.Found.{Said};
 ghost use Rattle.jpeg_streams.specs.Levels.{Is8Bit, Levels};
-ghost use Rattle.jpeg_streams.specs.Output.{Tells};
 ghost use Rattle.jpeg_streams.specs.Pixels.{info_of};
 ghost use Rattle.jpeg_streams.specs.declared.progress.Progress.TheVariants.{HeaderRead};
 ghost use Rattle.jpeg_bits.specs.Reading.{Fault};
 ghost use Rattle.jpeg_streams.specs.Stream.{header_at, rest_at};
 ghost use Rattle.jpeg_streams.specs.WrittenImages.{WritesImage};
 ghost use Rattle.jpeg_streams.specs.WrittenScans.{Coefficients};
-ghost use Rattle.zaxbriar.specs.Faults.{IsArgument, IsFault, IsOfCall, IsOfDecoder};
+ghost use Rattle.zaxbriar.specs.Faults.{IsArgument, IsFault, IsOfCall, IsOfDecoder, IsOwn};
 ghost use Rattle.zaxbriar.specs.Layouts.{size_of_lines};
 ghost use Rattle.zaxbriar.specs.Limits.{are_known};
 ghost use Rattle.zaxbriar.specs.Lines.{Decodes, HasLines};
-ghost use Rattle.zaxbriar.specs.Meanings.{AreWrong, IsTooLarge, IsWithin, Shows, ShowsSamples};
-ghost use Rattle.zaxbriar.specs.Meanings.{meaning_by, settings_of, size_wanted};
+ghost use Rattle.zaxbriar.specs.Meanings.{AreWrong, CountsRead, IsTooLarge, IsWithin, Shows};
+ghost use Rattle.zaxbriar.specs.Meanings.{ShowsSamples, meaning_by, settings_of, size_wanted};
+ghost use Rattle.zaxbriar.specs.Meanings.{uncounted};
 ghost use Rattle.zaxbriar.specs.declared.answers.Refusal.TheVariants.{NoRoom, TooLarge};
 
 use crate::answers::{Refusal, refusal_of};
+use crate::counts::bytes_read;
 use crate::description::describe;
 use crate::header::Header;
 use crate::lines::{Lines, put_lines, stored_line};
 use crate::options::{Options, are_known};
 use crate::picture::Picture;
-use jpeg_decoder::Decoder;
+use jpeg_decoder::{Decoder, SliceReader};
 use std::alloc::Global;
 use std::io::Read;
 
@@ -65,50 +66,59 @@ fn decode_lines<R: Read + Drop>(
     }
 }
 
-/// Decodes a stream into the caller's memory.
-pub fn decode_into<R: Read + Drop>(
+/// Decodes a stream into the caller's memory, and counts the bytes that were read.
+pub fn decode_into(
     alloc: Global,
-    reader: &mut R,
+    jpeg: &[u8],
     options: &Options,
     pixels: &mut [u8],
     picture: &mut Picture,
 ) -> std::result::Result<(), Refusal>
-    ensures means { (bytes : List ℕ) → Tells (R.remaining reader.old) bytes
-        → OnOk result (Shows options.now bytes pixels.old pixels.new picture.new) }
-    ensures images { (bytes : List ℕ) → Tells (R.remaining reader.old) bytes →
+    ensures means { length jpeg.now < 2 ^ 64
+        → OnOk result (Shows options.now jpeg.now pixels.old pixels.new picture.new) }
+    ensures images { length jpeg.now < 2 ^ 64 →
         (array : Coefficients) (image rest : List ℕ) (final : Said) (last : ℕ → Levels) →
         ((index row column : ℕ) → Is8Bit (array index row column)) →
         WritesImage array image final last →
-        bytes ≡ image ++ rest →
+        jpeg.now ≡ image ++ rest →
         OnOk result (ShowsSamples options.now (picture_of_array (settings_of options.now)
-        (at_size (size_wanted options.now) final) array last) pixels.old pixels.new picture.new) }
-    ensures named { (bytes : List ℕ) → Tells (R.remaining reader.old) bytes
-        → IfErr result (IsFault (meaning_by options.now bytes)) }
+        (at_size (size_wanted options.now) final) array last) pixels.old pixels.new picture.new
+        × (picture.new.stream_bytes ≡ length image)) }
+    ensures counts { length jpeg.now < 2 ^ 64 → OnOk result
+        (CountsRead (meaning_by options.now jpeg.now) jpeg.now picture.new.stream_bytes) }
+    ensures header { length jpeg.now < 2 ^ 64 → IfErr result (λ r. IsOwn r
+        → CountsRead (header_at jpeg.now) jpeg.now picture.new.stream_bytes) }
+    ensures most { picture.old.stream_bytes ≡ 0 → picture.new.stream_bytes ≤ length jpeg.now }
+    ensures named { length jpeg.now < 2 ^ 64
+        → IfErr result (IsFault (meaning_by options.now jpeg.now)) }
     ensures kept { OnErr result (pixels.new ≡ pixels.old) }
-    ensures within { (bytes : List ℕ) → Tells (R.remaining reader.old) bytes
-        → OnOk result (IsWithin options.now bytes picture.new) }
-    ensures room { (bytes : List ℕ) → Tells (R.remaining reader.old) bytes → IfErr result
-        (λ r. r ≡ NoRoom → IsWithin options.now bytes picture.new
+    ensures within { length jpeg.now < 2 ^ 64
+        → OnOk result (IsWithin options.now jpeg.now (uncounted picture.new)) }
+    ensures room { length jpeg.now < 2 ^ 64 → IfErr result
+        (λ r. r ≡ NoRoom → IsWithin options.now jpeg.now (uncounted picture.new)
         × (length pixels.old < picture.new.size)) }
-    ensures large { (bytes : List ℕ) → Tells (R.remaining reader.old) bytes → IfErr result
-        (λ r. r ≡ TooLarge → IsTooLarge options.now bytes picture.new) }
-    ensures limited { (bytes : List ℕ) → Tells (R.remaining reader.old) bytes → (size : Picture)
-        → IsTooLarge options.now bytes size → IsErrAnd result IsOfCall }
+    ensures large { length jpeg.now < 2 ^ 64 → IfErr result
+        (λ r. r ≡ TooLarge → IsTooLarge options.now jpeg.now (uncounted picture.new)) }
+    ensures limited { length jpeg.now < 2 ^ 64 → (size : Picture)
+        → IsTooLarge options.now jpeg.now size → IsErrAnd result IsOfCall }
     ensures known { are_known options.now ≡ false → IsErrAnd result IsArgument }
-    ensures wrong { (bytes : List ℕ) → Tells (R.remaining reader.old) bytes → IfErr result
-        (λ r. IsArgument r → AreWrong options.now bytes) }
+    ensures wrong { length jpeg.now < 2 ^ 64 → IfErr result
+        (λ r. IsArgument r → AreWrong options.now jpeg.now) }
     ensures unasked { are_known options.now ≡ false → picture.new ≡ picture.old }
-    ensures undescribed { (bytes : List ℕ) (fault : Fault) → Tells (R.remaining reader.old) bytes
-        → header_at bytes ≡ Err fault → picture.new ≡ picture.old }
+    ensures undescribed { length jpeg.now < 2 ^ 64 → (fault : Fault)
+        → header_at jpeg.now ≡ Err fault → uncounted picture.new ≡ uncounted picture.old }
 {
     if !are_known(options) {
         return Err(Refusal::Argument("an option doesn't exist"));
     }
-    let mut decoder = Decoder::new(alloc, reader)?;
-    let (header, lines) = describe(&mut decoder, options, picture)?;
+    let mut decoder = Decoder::new(alloc, SliceReader::new(jpeg))?;
+    let described = describe(&mut decoder, options, picture);
+    picture.stream_bytes = bytes_read(jpeg, &decoder);
+    let (header, lines) = described?;
     if picture.size > pixels.len() as u64 {
         return Err(Refusal::NoRoom);
     }
-    decode_lines(alloc, &mut decoder, header, lines, pixels)?;
-    Ok(())
+    let decoded = decode_lines(alloc, &mut decoder, header, lines, pixels);
+    picture.stream_bytes = bytes_read(jpeg, &decoder);
+    decoded
 }

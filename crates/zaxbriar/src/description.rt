@@ -1,24 +1,26 @@
 //! Descriptions of streams, by their headers.
-ghost use Rattle.std.specs.Prelude.{◌≡◌, ◌≤◌, ◌+◌, ℕ, List, Some, true, false, option_map};
-ghost use Rattle.std.specs.Prelude.{IfErr, IfOk, IsErrAnd, OnOk};
+ghost use Rattle.std.specs.Prelude.{◌≡◌, ◌≤◌, ◌<◌, ◌+◌, ◌^◌, Some, true, false, length};
+ghost use Rattle.std.specs.Prelude.{IfErr, IfOk, IsErrAnd, OnOk, option_map};
 ghost use Rattle.jpeg_decoder.specs.Bytes.{decoding_bytes};
-ghost use Rattle.jpeg_streams.specs.Output.{Tells, default_settings};
+ghost use Rattle.jpeg_streams.specs.Output.{default_settings};
 ghost use Rattle.jpeg_streams.specs.Pixels.{info_of};
 ghost use Rattle.jpeg_streams.specs.declared.progress.Progress.TheVariants.{Fresh};
 ghost use Rattle.jpeg_streams.specs.Stream.{header_at};
 ghost use Rattle.zaxbriar.specs.Faults.{IsArgument, IsFault, IsOfCall};
 ghost use Rattle.zaxbriar.specs.Limits.{are_known, bytes_beside};
 ghost use Rattle.zaxbriar.specs.Lines.{HasLines, described_picture};
-ghost use Rattle.zaxbriar.specs.Meanings.{AreWrong, IsMisfit, IsTooLarge, IsWithin, ReadsHeader};
+ghost use Rattle.zaxbriar.specs.Meanings.{AreWrong, CountsRead, IsMisfit, IsTooLarge, IsWithin};
+ghost use Rattle.zaxbriar.specs.Meanings.{ReadsHeader, StandsAfter, uncounted};
 ghost use Rattle.zaxbriar.specs.declared.answers.Refusal.TheVariants.{NoRoom, TooLarge};
 
 use crate::answers::Refusal;
+use crate::counts::bytes_read;
 use crate::header::{Header, read_header};
 use crate::limits::exceeds_limits;
 use crate::lines::{Lines, lines_of};
 use crate::options::{Options, are_known};
 use crate::picture::{Picture, picture_of};
-use jpeg_decoder::Decoder;
+use jpeg_decoder::{Decoder, SliceReader};
 use std::alloc::Global;
 use std::io::Read;
 
@@ -45,6 +47,8 @@ pub fn describe<R: Read + Drop>(
         → OnOk result (IsWithin options.now decoder.old.source.bytes picture.new) }
     ensures large { decoder.old.source.known ≡ true → IfErr result
         (λ r. r ≡ TooLarge → IsTooLarge options.now decoder.old.source.bytes picture.new) }
+    ensures after { decoder.old.source.known ≡ true → IfErr result (λ r. r ≡ TooLarge
+        → StandsAfter (header_at decoder.old.source.bytes) decoder.new.source) }
     ensures limited { decoder.old.source.known ≡ true → (size : Picture)
         → IsTooLarge options.now decoder.old.source.bytes size → IsErrAnd result IsOfCall }
     ensures named { decoder.old.source.known ≡ true
@@ -63,30 +67,38 @@ pub fn describe<R: Read + Drop>(
     Ok((header, lines))
 }
 
-/// Describes the picture of a stream by its header.
-pub fn read_info_from<R: Read + Drop>(
+/// Describes the picture of a stream by its header, and counts the bytes that were read.
+pub fn read_info_from(
     alloc: Global,
-    reader: &mut R,
+    jpeg: &[u8],
     options: &Options,
     picture: &mut Picture,
 ) -> std::result::Result<(), Refusal>
-    ensures within { (bytes : List ℕ) → Tells (R.remaining reader.old) bytes
-        → OnOk result (IsWithin options.now bytes picture.new) }
-    ensures large { (bytes : List ℕ) → Tells (R.remaining reader.old) bytes → IfErr result
-        (λ r. r ≡ TooLarge → IsTooLarge options.now bytes picture.new) }
-    ensures limited { (bytes : List ℕ) → Tells (R.remaining reader.old) bytes → (size : Picture)
-        → IsTooLarge options.now bytes size → IsErrAnd result IsOfCall }
-    ensures named { (bytes : List ℕ) → Tells (R.remaining reader.old) bytes
-        → IfErr result (IsFault (header_at bytes)) }
+    ensures within { length jpeg.now < 2 ^ 64
+        → OnOk result (IsWithin options.now jpeg.now (uncounted picture.new)) }
+    ensures large { length jpeg.now < 2 ^ 64 → IfErr result
+        (λ r. r ≡ TooLarge → IsTooLarge options.now jpeg.now (uncounted picture.new)) }
+    ensures counts { length jpeg.now < 2 ^ 64
+        → OnOk result (CountsRead (header_at jpeg.now) jpeg.now picture.new.stream_bytes) }
+    ensures header { length jpeg.now < 2 ^ 64 → IfErr result (λ r. r ≡ TooLarge
+        → CountsRead (header_at jpeg.now) jpeg.now picture.new.stream_bytes) }
+    ensures most { picture.old.stream_bytes ≡ 0 → picture.new.stream_bytes ≤ length jpeg.now }
+    ensures limited { length jpeg.now < 2 ^ 64 → (size : Picture)
+        → IsTooLarge options.now jpeg.now size → IsErrAnd result IsOfCall }
+    ensures named { length jpeg.now < 2 ^ 64 → IfErr result (IsFault (header_at jpeg.now)) }
     ensures known { are_known options.now ≡ false → IsErrAnd result IsArgument }
-    ensures wrong { (bytes : List ℕ) → Tells (R.remaining reader.old) bytes → IfErr result
-        (λ r. IsArgument r → AreWrong options.now bytes) }
-    ensures kept { IfErr result (λ r. (r ≡ TooLarge → ⊥) → picture.new ≡ picture.old) }
+    ensures wrong { length jpeg.now < 2 ^ 64 → IfErr result
+        (λ r. IsArgument r → AreWrong options.now jpeg.now) }
+    ensures unasked { are_known options.now ≡ false → picture.new ≡ picture.old }
+    ensures kept { IfErr result
+        (λ r. (r ≡ TooLarge → ⊥) → uncounted picture.new ≡ uncounted picture.old) }
 {
     if !are_known(options) {
         return Err(Refusal::Argument("an option doesn't exist"));
     }
-    let mut decoder = Decoder::new(alloc, reader)?;
-    describe(&mut decoder, options, picture)?;
+    let mut decoder = Decoder::new(alloc, SliceReader::new(jpeg))?;
+    let described = describe(&mut decoder, options, picture);
+    picture.stream_bytes = bytes_read(jpeg, &decoder);
+    described?;
     Ok(())
 }

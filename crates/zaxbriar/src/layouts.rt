@@ -294,15 +294,11 @@ fn put_in_colour(
     ensures { line.new ≡ layout_line (InColour format precision layout)
         (pixel_bytes format precision) width row.now }
 {
-    if precision != 8 {
-        put_in_layout(row, format, precision, layout, width, line);
-        return;
-    }
-    match format {
-        PixelFormat::L8 => put_in_layout(row, PixelFormat::L8, 8, layout, width, line),
-        PixelFormat::L16 => put_in_layout(row, PixelFormat::L16, 8, layout, width, line),
-        PixelFormat::RGB24 => put_in_layout(row, PixelFormat::RGB24, 8, layout, width, line),
-        PixelFormat::CMYK32 => put_in_layout(row, PixelFormat::CMYK32, 8, layout, width, line),
+    match (format, precision) {
+        (PixelFormat::L8, 8) => put_in_layout(row, PixelFormat::L8, 8, layout, width, line),
+        (PixelFormat::RGB24, 8) => put_in_layout(row, PixelFormat::RGB24, 8, layout, width, line),
+        (PixelFormat::CMYK32, 8) => put_in_layout(row, PixelFormat::CMYK32, 8, layout, width, line),
+        _ => put_in_layout(row, format, precision, layout, width, line),
     }
 }
 

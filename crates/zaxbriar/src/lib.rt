@@ -5,8 +5,8 @@
 //! functions that a C program calls: they test the pointers and then call these.
 #![tactic(auto)]
 
-ghost use Rattle.std.specs.Prelude.{◌≡◌, ◌⊎◌, ◌++◌, ◌<◌, ◌^◌, ℕ, List, length, slice_index, false};
-ghost use Rattle.std.specs.Prelude.{Err, IsOk, None};
+ghost use Rattle.std.specs.Prelude.{◌≡◌, ◌⊎◌, ◌++◌, ◌<◌, ◌≤◌, ◌^◌, ℕ, List, length, slice_index};
+ghost use Rattle.std.specs.Prelude.{false, Err, IsOk, None};
 ghost use Rattle.jpeg_bits.specs.Reading.{Fault, Malformed, Lacks, End};
 ghost use Rattle.jpeg_bits.specs.declared.error.UnsupportedFeature.{UnsupportedFeature};
 ghost use Rattle.jpeg_streams.specs.ArrayPictures.{picture_of_array};
@@ -20,11 +20,12 @@ ghost use Rattle.zaxbriar.specs.Faults.{IsOfCallNumber};
 ghost use Rattle.zaxbriar.specs.Features.{LacksFeature, NamesFeature, numbered};
 ghost use Rattle.zaxbriar.specs.Limits.{are_known};
 ghost use Rattle.zaxbriar.specs.Metadata.{IsCopied, IsLonger, IsNoKind, end_at, is_whole, said_of};
-ghost use Rattle.zaxbriar.specs.Meanings.{AreWrong, IsTooLarge, IsWithin, Shows, ShowsSamples};
-ghost use Rattle.zaxbriar.specs.Meanings.{as_described, meaning_by, no_picture, settings_of};
-ghost use Rattle.zaxbriar.specs.Meanings.{size_wanted};
+ghost use Rattle.zaxbriar.specs.Meanings.{AreWrong, CountsRead, IsTooLarge, IsWithin, Shows};
+ghost use Rattle.zaxbriar.specs.Meanings.{ShowsSamples, as_described, meaning_by, no_picture};
+ghost use Rattle.zaxbriar.specs.Meanings.{settings_of, size_wanted, uncounted};
 
 mod answers;
+mod counts;
 mod decode;
 mod description;
 mod features;
@@ -35,19 +36,16 @@ mod lines;
 mod metadata;
 pub mod options;
 pub mod picture;
-mod reader;
 mod sampling;
-#[cfg(test)]
-mod stream_bytes;
 
 use answers::{BAD_ARGUMENT, NO_MEMORY, answer};
 use decode::decode_into;
 use description::read_info_from;
 use features::feature_told;
+use jpeg_decoder::SliceReader;
 use metadata::{kind_alone, read_metadata};
 use options::Options;
 use picture::{NO_PICTURE, Picture};
-use reader::Bytes;
 use std::alloc::Global;
 
 /// Describes the picture of a stream, by its header.
@@ -60,7 +58,14 @@ pub extern "C" fn zaxbriar_checked_read_info(
 ) -> u32
     // After OK, `picture` describes the picture of the header, which is within the limits.
     ensures describes { result ≡ 0 → length jpeg.now < 2 ^ 64
-        → IsWithin options.now jpeg.now picture.new }
+        → IsWithin options.now jpeg.now (uncounted picture.new) }
+
+    // After OK and TOO_LARGE, `stream_bytes` is how many bytes the header takes. It is 0 where
+    // options don't exist, and never more than there are.
+    ensures counts { (result ≡ 0) ⊎ (result ≡ 8) → length jpeg.now < 2 ^ 64
+        → CountsRead (header_at jpeg.now) jpeg.now picture.new.stream_bytes }
+    ensures unread { are_known options.now ≡ false → picture.new.stream_bytes ≡ 0 }
+    ensures most { picture.new.stream_bytes ≤ length jpeg.now }
 
     // TOO_LARGE: `picture` describes it, and it is above a limit. No header of such a picture has
     // another result, unless memory or the arguments are to blame.
@@ -82,7 +87,8 @@ pub extern "C" fn zaxbriar_checked_read_info(
     ensures known { are_known options.now ≡ false → result ≡ 6 }
     ensures wrong { length jpeg.now < 2 ^ 64 → result ≡ 6 → AreWrong options.now jpeg.now }
 
-    // `picture` is cleared, but for its text and the feature, unless it describes a picture.
+    // `picture` is cleared, but for its text, the feature and `stream_bytes`, unless it describes a
+    // picture.
     ensures cleared { (result ≡ 0 → ⊥) → (result ≡ 8 → ⊥) → as_described picture.new ≡ no_picture }
 
     // The text ends by a zero, and says something where the picture is too large.
@@ -90,7 +96,7 @@ pub extern "C" fn zaxbriar_checked_read_info(
     ensures said { result ≡ 8 → slice_index picture.new.text 0 ≡ 0 → ⊥ }
 {
     *picture = NO_PICTURE;
-    let outcome = read_info_from(alloc, &mut Bytes::new(jpeg), options, picture);
+    let outcome = read_info_from(alloc, jpeg, options, picture);
     let feature = feature_told(&outcome);
     picture.feature = feature.number;
     picture.feature_argument = feature.argument;
@@ -111,14 +117,25 @@ pub extern "C" fn zaxbriar_checked_decode(
     ensures means { result ≡ 0 → length jpeg.now < 2 ^ 64 →
         Shows options.now jpeg.now pixels.old pixels.new picture.new }
 
-    // Where the bytes are written for the coefficients of an image, it is their picture.
+    // Where the bytes are written for the coefficients of an image, it is their picture, and
+    // `stream_bytes` is how many bytes the image takes.
     ensures images { result ≡ 0 → length jpeg.now < 2 ^ 64 →
         (array : Coefficients) (image rest : List ℕ) (final : Said) (last : ℕ → Levels) →
         ((index row column : ℕ) → Is8Bit (array index row column)) →
         WritesImage array image final last →
         jpeg.now ≡ image ++ rest →
         ShowsSamples options.now (picture_of_array (settings_of options.now)
-        (at_size (size_wanted options.now) final) array last) pixels.old pixels.new picture.new }
+        (at_size (size_wanted options.now) final) array last) pixels.old pixels.new picture.new
+        × (picture.new.stream_bytes ≡ length image) }
+
+    // After OK, `stream_bytes` is how many bytes the image takes, and after NO_ROOM and TOO_LARGE
+    // how many the header does. It is 0 where options don't exist, and never more than there are.
+    ensures counts { result ≡ 0 → length jpeg.now < 2 ^ 64
+        → CountsRead (meaning_by options.now jpeg.now) jpeg.now picture.new.stream_bytes }
+    ensures header { (result ≡ 5) ⊎ (result ≡ 8) → length jpeg.now < 2 ^ 64
+        → CountsRead (header_at jpeg.now) jpeg.now picture.new.stream_bytes }
+    ensures unread { are_known options.now ≡ false → picture.new.stream_bytes ≡ 0 }
+    ensures most { picture.new.stream_bytes ≤ length jpeg.now }
 
     // MALFORMED, UNSUPPORTED and TRUNCATED name the stream's fault. After UNSUPPORTED `picture`
     // names the feature, and after any other result none.
@@ -165,9 +182,7 @@ pub extern "C" fn zaxbriar_checked_decode(
     ensures said { (result ≡ 5) ⊎ (result ≡ 8) → slice_index picture.new.text 0 ≡ 0 → ⊥ }
 {
     *picture = NO_PICTURE;
-    let mut reader = Bytes::new(jpeg);
-    let outcome = decode_into(alloc, &mut reader, options, pixels, picture);
-    picture.stream_bytes = jpeg.len().saturating_sub(reader.left()) as u64;
+    let outcome = decode_into(alloc, jpeg, options, pixels, picture);
     let feature = feature_told(&outcome);
     picture.feature = feature.number;
     picture.feature_argument = feature.argument;
@@ -217,7 +232,7 @@ pub extern "C" fn zaxbriar_checked_metadata(
     if alone == 0 || alone > 3 {
         return BAD_ARGUMENT;
     }
-    match read_metadata(alloc, &mut Bytes::new(jpeg), kind, buffer, count) {
+    match read_metadata(alloc, SliceReader::new(jpeg), kind, buffer, count) {
         Ok(code) => code,
         Err(_) => NO_MEMORY,
     }

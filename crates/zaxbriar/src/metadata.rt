@@ -170,21 +170,21 @@ fn read_told<R: Read + Drop>(decoder: &mut Decoder<R>, whole: bool) -> std::resu
 /// Copies metadata of a kind, of a header or of a whole image. The only error is `OutOfMemory`.
 pub fn read_metadata<R: Read + Drop>(
     alloc: Global,
-    reader: &mut R,
+    reader: R,
     kind: u32,
     buffer: &mut [u8],
     count: &mut u64,
 ) -> Result<u32>
-    ensures copied { (bytes : List ℕ) → Tells (R.remaining reader.old) bytes
+    ensures copied { (bytes : List ℕ) → Tells (R.remaining reader) bytes
         → IfOk result (λ code. code ≡ 0
         → IsCopied (said_of kind bytes) buffer.old buffer.new count.new) }
-    ensures none { (bytes : List ℕ) → Tells (R.remaining reader.old) bytes
+    ensures none { (bytes : List ℕ) → Tells (R.remaining reader) bytes
         → IfOk result (λ code. code ≡ 7
         → (said_of kind bytes ≡ None) × IsOk (end_at (is_whole kind) bytes)) }
-    ensures room { (bytes : List ℕ) → Tells (R.remaining reader.old) bytes
+    ensures room { (bytes : List ℕ) → Tells (R.remaining reader) bytes
         → IfOk result (λ code. code ≡ 5
         → IsLonger (said_of kind bytes) (length buffer.old) count.new) }
-    ensures named { (bytes : List ℕ) → Tells (R.remaining reader.old) bytes
+    ensures named { (bytes : List ℕ) → Tells (R.remaining reader) bytes
         → IfOk result (λ code. IsNamed code (end_at (is_whole kind) bytes)) }
     ensures known { IfOk result (λ code. code ≡ 6 → IsNoKind kind) }
     ensures kept { IfOk result (λ code. (code ≡ 0 → ⊥) → buffer.new ≡ buffer.old) }
