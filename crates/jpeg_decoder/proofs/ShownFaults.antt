@@ -1,14 +1,14 @@
 -- What a stream shows of what was found, and its first fault.
 use Rattle.std.proofs.Common.{◌≡◌, ◌∙◌, ℕ, List, [], ◌∷◌, Option, Some, None, Result, Ok, Err, ap, arith, refl, subst}
-use Rattle.std.proofs.Common.{sym, true, false}
-use Rattle.std.specs.Prelude.{Bool, IfSome}
+use Rattle.std.proofs.Common.{◌⊎◌, sym, true, false}
+use Rattle.std.specs.Prelude.{Bool, IfErr, IfOk, IfSome, IsSomeAnd}
 use Rattle.std.specs.Option.{option_or}
 use Rattle.std.specs.Result.{result_err}
 use Rattle.std.proofs.lemmas.Bool.{true≢false}
 use Rattle.std.specs.List.{enumerate_from, fold}
 use Rattle.std.proofs.lemmas.Grind.{common_steps}
 use Rattle.jpeg_bits.proofs.Loops.{Names-through}
-use Rattle.jpeg_bits.specs.Reading.{Answers, Fault, Malformed, MayFail, Names, NamesFormat, Outcome, ◌>>=◌}
+use Rattle.jpeg_bits.specs.Reading.{Answers, Fault, IsGivenUp, Malformed, MayFail, Names, NamesFormat, Outcome, ◌>>=◌}
 use Rattle.jpeg_bits.specs.Stream.{Stream}
 use Rattle.jpeg_bits.specs.declared.error.Error.{Error}
 use Rattle.jpeg_bits.specs.declared.error.Error.TheVariants as errors
@@ -27,7 +27,7 @@ use Rattle.jpeg_streams.specs.States.{IfRefused, IsOfBytes, OnTold}
 use Rattle.jpeg_streams.specs.Stream.{Told, start_at, told_of}
 use Rattle.jpeg_streams.specs.declared.settings.Settings.{Settings}
 use Rattle.jpeg_decoder.specs.Reaching.{NamesFault, UnlessRefused, is_out_of_memory, walk_end, without_tables}
-use Rattle.jpeg_decoder.specs.Shows.{IsShown, ShowsJust}
+use Rattle.jpeg_decoder.specs.Shows.{GivesUp, IsShown, ShowsJust}
 
 -- ---- tables are not seen
 
@@ -287,6 +287,51 @@ ended-bytes (Ok u) fault view read s n m a is = subst (λ (o : Option Error). If
 ended-bytes (Err e) fault view read s n m a is =
     subst (λ (o : Option Error). IfSome o IsOfBytes) (sym is)
     (of-bytes e s.failed n.failed (unless e _ (not-memory e m) a).0)
+
+-- ---- a reader that gives up
+
+-- the first fault is that of the segments, where they have one
+pub first-stays : (fault missing first : Option Error) → first ≡ option_or fault missing
+    → IfSome fault (λ (e : Error). first ≡ Some e)
+first-stays None missing first is = tt
+first-stays (Some e) missing first is = is
+
+failed-read : (e : Error) (failed : Bool) → IsGivenUp e failed → (IsGivenUp e false → ⊥) → failed ≡ true
+failed-read e true g other = refl
+failed-read e false g other = absurd (other g)
+
+refused-or : (e : Error) (failed : Bool) → failed ≡ true → IfRefused e ((failed ≡ true) ⊎ IsGivenUp e failed)
+refused-or e failed h = grind (arith, common_steps)
+
+refused-given : (e : Error) (failed : Bool) → IsGivenUp e failed → IfRefused e ((failed ≡ true) ⊎ IsGivenUp e failed)
+refused-given e failed h = grind (arith, common_steps)
+
+pub rest-given-up : {X : Type 0} (fault_of : X → Option Error) (view : Unit {0} → Unit {0})
+    (read : List ℕ → Outcome (Unit {0})) (s n : Stream) (ended : Result (Unit {0}) Error) (fault : Option Error)
+    (r : Result X Error) → is_out_of_memory ended ≡ false → IfErr ended (λ e. IsGivenUp e false → ⊥)
+    → UnlessRefused ended (Answers view read s ended n)
+    → fault ≡ result_err ended → IfOk r (λ (x : X). IfSome fault (λ (e : Error). fault_of x ≡ Some e))
+    → GivesUp fault_of s r n
+rest-given-up fault_of view read s n (Ok u) fault (Err e) m other a is first = λ k l.
+    absurd (true≢false (sym (a.1 k).0 ∙ l))
+rest-given-up fault_of view read s n (Err x) fault (Err e) m other a is first = λ k l.
+    refused-or e n.failed (failed-read x n.failed ((unless x _ (not-memory x m) a).2 k l) other)
+rest-given-up fault_of view read s n (Ok u) fault (Ok x) m other a is first = λ k l.
+    absurd (true≢false (sym (a.1 k).0 ∙ l))
+rest-given-up fault_of view read s n (Err e) fault (Ok x) m other a is first = λ k l.
+    let same : fault_of x ≡ Some e =
+    subst (λ (o : Option Error). IfSome o (λ (e : Error). fault_of x ≡ Some e)) is first in
+    subst (λ (o : Option Error). IsSomeAnd o (λ (e : Error). IsGivenUp e n.failed)) (sym same)
+    ((unless e _ (not-memory e m) a).2 k l)
+
+pub start-given-up : {X : Type 0} (fault_of : X → Option Error) (s m n : Stream) (r : Result X Error)
+    → Answers (λ (u : Unit {0}). u) start_at s (Ok tt) m → GivesUp fault_of m r n → GivesUp fault_of s r n
+start-given-up fault_of s m n (Ok x) a h = λ k l. h (a.1 k).0 l
+start-given-up fault_of s m n (Err e) a h = λ k l. h (a.1 k).0 l
+
+pub start-unknown : {X : Type 0} (fault_of : X → Option Error) (s n : Stream) (e : Error)
+    → Answers (λ (u : Unit {0}). u) start_at s (Err e) n → GivesUp {X = X} fault_of s (Err e) n
+start-unknown fault_of s n e a k l = refused-given e n.failed (a.2 k l)
 
 -- ---- a whole stream
 

@@ -1,7 +1,8 @@
 -- What a call does that shows what its decoder has left up to its first fault.
 use Rattle.std.specs.Prelude.{◌≡◌, ◌&&◌, ◌||◌, ℕ, Bool, List, [], None, Option, Ok, Err}
-use Rattle.std.specs.Prelude.{is_some, replicate, Result, slice_index_or, true}
-use Rattle.jpeg_bits.specs.Reading.{Fault, Names}
+use Rattle.std.specs.Prelude.{◌⊎◌, is_some, replicate, Result, slice_index_or, true, false}
+use Rattle.std.specs.Prelude.{IsSomeAnd}
+use Rattle.jpeg_bits.specs.Reading.{Fault, IsGivenUp, Names}
 use Rattle.jpeg_bits.specs.Stream.{Stream}
 use Rattle.jpeg_bits.specs.declared.error.Error.{Error}
 use Rattle.jpeg_segments.specs.Frame.{Component, Frame}
@@ -10,7 +11,7 @@ use Rattle.jpeg_segments.specs.declared.frame.CodingProcess.TheVariants.{Lossles
 use Rattle.jpeg_streams.specs.EndPlanes.{is_kept}
 use Rattle.jpeg_streams.specs.Found.{Found}
 use Rattle.jpeg_streams.specs.Shown.{Shown, shown_ahead}
-use Rattle.jpeg_streams.specs.States.{Decoding, IsReading, MovesToEnd}
+use Rattle.jpeg_streams.specs.States.{Decoding, IfRefused, IsReading, MovesToEnd}
 use Rattle.jpeg_streams.specs.Stream.{Told, told_of}
 use Rattle.jpeg_decoder.specs.Reaching.{NamesFault}
 
@@ -36,6 +37,15 @@ abbrev pub ShowsJust : {X : Type 0} → (List ℕ → Result Shown Fault) → (X
 ShowsJust expected bytes_of fault_of old result new told = old.known ≡ true → new.known ≡ true
     → IsShown (expected old.bytes) bytes_of fault_of result told
 
+-- Where the bytes of a source were known before a call and aren't after it, the reader was given up.
+-- The fault of an Ok says so. After an error a read has failed, or the error says that reads were
+-- interrupted without end, or memory ran out.
+abbrev pub GivesUp : {X : Type 0} → (X → Option Error) → Stream → Result X Error → Stream → Type 0
+GivesUp fault_of old (Ok x) new = old.known ≡ true → new.known ≡ false
+    → IsSomeAnd (fault_of x) (λ e. IsGivenUp e new.failed)
+GivesUp fault_of old (Err e) new = old.known ≡ true → new.known ≡ false
+    → IfRefused e ((new.failed ≡ true) ⊎ IsGivenUp e new.failed)
+
 pub record Shows {X : Type 0} (bytes_of : X → List ℕ) (fault_of : X → Option Error) (old : Decoding)
     (result : Result X Error) (new : Decoding) : Type 0 where
   -- The state table: an Ok finishes the decoder, a refusal fails it.
@@ -44,6 +54,8 @@ pub record Shows {X : Type 0} (bytes_of : X → List ℕ) (fault_of : X → Opti
   -- name of that fault, or why there is no picture.
   pub shown : IsReading old.stage → ShowsJust (shown_ahead old.stage old.settings old.found)
       bytes_of fault_of old.source result new.source (told_of new.found.said)
+  -- A caller can tell whether the reader was given up.
+  pub given_up : IsReading old.stage → GivesUp fault_of old.source result new.source
   -- No blocks, planes or samples are kept.
   pub emptied : IsReading old.stage → (new.found.kept ≡ []) × (new.found.planes ≡ replicate 4 None)
       × (new.found.samples ≡ replicate 4 None)

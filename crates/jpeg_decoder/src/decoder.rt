@@ -275,7 +275,7 @@ impl<R: Read + Drop> Decoder<R> {
         self.state.said.frame.as_ref().map(|frame| frame.precision)
     }
 
-    /// Returns the reader, which stands where the last call has read to, in every state.
+    /// Returns the reader, in every state. The bytes that no call has read are ahead of it.
     pub fn reader(&self) -> &R
         ensures { self.now.source.known ≡ true → R.remaining result.now
             ≡ Some self.now.source.bytes }
@@ -607,6 +607,9 @@ impl<R: Read + Drop> Decoder<R> {
 
         // Together they are a picture as `decode` returns it.
         ensures size { IfOk result (λ p. IsWhole self.new.found.said.frame (concat p.lines)) }
+
+        // There are as many samples as the format of `info` says.
+        ensures counted { IfOk result (λ _. IsCounted self.new.found.said.frame) }
     {
         let from_start = is_fresh(self.progress)?;
         let result = show(
@@ -652,6 +655,9 @@ impl<R: Read + Drop> Decoder<R> {
 
         // The picture has as many bytes as the frame says.
         ensures size { IfOk result (λ p. IsWhole self.new.found.said.frame p.pixels.items) }
+
+        // There are as many samples as the format of `info` says.
+        ensures counted { IfOk result (λ _. IsCounted self.new.found.said.frame) }
     {
         let shown = self.decode_partial_lines()?;
         match shown.lines.into_picture(self.alloc) {

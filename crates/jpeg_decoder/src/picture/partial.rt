@@ -3,7 +3,7 @@ ghost use Rattle.std.specs.Prelude.{◌≡◌, ◌<◌, ◌≤◌, ◌-◌, ◌*
 ghost use Rattle.std.specs.Prelude.{get_or, IfErr, IfOk, IfSome, is_some, length, None, OnOk};
 ghost use Rattle.std.specs.Prelude.{replicate, Result, Some};
 ghost use Rattle.std.specs.List.{concat};
-ghost use Rattle.jpeg_bits.specs.Reading.{Fault};
+ghost use Rattle.jpeg_bits.specs.Reading.{Fault, IsGivenUp};
 ghost use Rattle.jpeg_pixels.specs.Scaled.{IsScale};
 ghost use Rattle.jpeg_segments.specs.FrameView.{component_in, frame_in};
 ghost use Rattle.jpeg_segments.specs.declared.frame.CodingProcess.TheVariants.{Lossless};
@@ -20,7 +20,7 @@ ghost use Rattle.jpeg_decoder.specs.Bytes.{AreLinesOf, IsWhole};
 ghost use Rattle.jpeg_decoder.specs.Reaching.{NamesFault, is_out_of_memory};
 ghost use Rattle.jpeg_decoder.specs.Scanning.{arrays_in, blocks_in};
 ghost use Rattle.jpeg_decoder.specs.Seen.{found_in, said_in};
-ghost use Rattle.jpeg_decoder.specs.Shows.{IsShown, ShowsJust, is_there};
+ghost use Rattle.jpeg_decoder.specs.Shows.{GivesUp, IsShown, ShowsJust, is_there};
 ghost use Rattle.jpeg_decoder.specs.Steps.{with_decoded};
 
 use crate::picture::lines::Lines;
@@ -59,7 +59,7 @@ fn table_held<'a>(state: &'a State, component: &Component) -> &'a [u16; 64]
     }
 }
 
-/// Returns the plane of a component's blocks, all of which are stored for that.
+/// Renders the blocks of a component, and stores those that no scan has stored.
 fn render_all(
     alloc: Global,
     component: &Component,
@@ -141,7 +141,7 @@ fn half_of(precision: u8) -> u16
     1 << (precision - 1)
 }
 
-/// Returns the samples of a lossless component of which none came: half of their range.
+/// Returns the samples of a lossless component that no scan has brought: half of their range.
 fn grey_samples(
     alloc: Global,
     component: &Component,
@@ -287,6 +287,7 @@ fn show_found(
     ensures shown { (ended : Result (List ℕ) Fault) → NamesFault fault (fault_in ended)
         → IsShown (shown_of settings (with_decoded (found_in state.now) decoded.old, ended))
         (λ p. concat p.lines) (λ p. p.fault) result (told_of (said_in state.now)) }
+    ensures first { IfOk result (λ p. IfSome fault (λ e. p.fault ≡ Some e)) }
     ensures refused { IfErr result IsOfBytes }
     ensures framed { IfOk result (λ _. is_some (said_in state.now).frame ≡ true) }
     ensures lines { IfOk result (λ p. AreLinesOf (said_in state.now).frame p.lines) }
@@ -306,11 +307,17 @@ fn show_found(
     })
 }
 
-/// Returns whether segments ended since there was no memory.
-fn is_out_of_memory(ended: &Result<()>) -> bool
-    ensures { result ≡ is_out_of_memory ended.now }
+/// Returns whether segments ended for lack of memory, or since a read was interrupted without end,
+/// which nobody could tell once the picture is refused.
+fn is_lost(ended: &Result<()>) -> bool
+    ensures memory { result ≡ false → is_out_of_memory ended.now ≡ false }
+    ensures interrupted { result ≡ false → IfErr ended.now (λ e. IsGivenUp e false → ⊥) }
 {
-    matches!(ended, Err(Error::OutOfMemory))
+    match ended {
+        Err(Error::OutOfMemory) => true,
+        Err(Error::Format(text)) => text.is_empty(),
+        _ => false,
+    }
 }
 
 /// Reads the rest of a stream as far as it goes, and gives the lines of the picture that it has
@@ -325,6 +332,7 @@ fn show_rest<R: Read + Drop>(
     ensures shown { ShowsJust (shown_rest settings (found_in state.old))
         (λ p. concat p.lines) (λ p. p.fault) source.old result source.new
         (told_of (said_in state.new)) }
+    ensures given_up { GivesUp (λ p. p.fault) source.old result source.new }
     ensures refused { IfErr result IsOfBytes }
     ensures framed { IfOk result (λ _. is_some (said_in state.new).frame ≡ true) }
     ensures frames { OnOk result (HasDecodedFrame (found_in state.new)) }
@@ -338,7 +346,7 @@ fn show_rest<R: Read + Drop>(
 {
     let ended = reach_segments(alloc, source, state);
     let mut decoded = std::mem::replace(&mut state.decoded, Decoded::new(alloc));
-    if is_out_of_memory(&ended) {
+    if is_lost(&ended) {
         return Err(Error::OutOfMemory);
     }
     show_found(alloc, state, &mut decoded, settings, ended.err())
@@ -363,6 +371,7 @@ pub fn show<R: Read + Drop>(
     ensures rest { from_start ≡ false → ShowsJust (shown_rest settings (found_in state.old))
         (λ p. concat p.lines) (λ p. p.fault) source.old result source.new
         (told_of (said_in state.new)) }
+    ensures given_up { GivesUp (λ p. p.fault) source.old result source.new }
     ensures refused { IfErr result IsOfBytes }
     ensures framed { IfOk result (λ _. is_some (said_in state.new).frame ≡ true) }
     ensures frames { OnOk result (HasDecodedFrame (found_in state.new)) }

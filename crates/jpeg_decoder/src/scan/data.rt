@@ -45,32 +45,32 @@ fn read_end<R: Read + Drop>(alloc: Global, source: &mut Source<R>, code: u8) -> 
     Err(format_error(alloc, "found 2^64 fill bytes, expected a marker"))
 }
 
-/// Reads entropy-coded data up to the marker that ends them, which is returned, and replaces `data`
-/// by them. After an error `data` has what stands before it.
+/// Reads entropy-coded data up to the marker that ends them, which is returned, and replaces
+/// `gathered` by them. After an error it has those before it.
 pub fn read_data<R: Read + Drop>(
     alloc: Global,
     source: &mut Source<R>,
-    data: &mut Vec<u8>,
+    gathered: &mut Vec<u8>,
 ) -> Result<Marker>
     ensures end { Answers (λ m. Some m) (λ bytes. met (text_at bytes).ending) source.old result
         source.new }
     ensures own { IsOfData source.old result source.new }
     ensures data { OnTold source.old source.new result
-        (HasBits data.new.items (text_at source.old.bytes)) }
+        (HasBits gathered.new.items (text_at source.old.bytes)) }
 {
-    data.clear();
+    gathered.clear();
     for _ in 0..=u64::MAX {
         let byte = read_u8(alloc, source)?;
         if byte != 0xff {
-            data.push(byte)?;
+            gathered.push(byte)?;
             continue;
         }
         let code = read_u8(alloc, source)?;
         if code != 0 {
             return read_end(alloc, source, code);
         }
-        data.push(0xff)?;
-        data.push(0)?;
+        gathered.push(0xff)?;
+        gathered.push(0)?;
     }
     Err(format_error(alloc, "found 2^64 bytes of data, expected a marker"))
 }

@@ -116,12 +116,12 @@ fn reach_group<R: Read + Drop>(
     Ok(())
 }
 
-/// Reads the blocks at the next `n` spots, or at all if `n` is 0, of the data of an interval, and
+/// Reads the blocks at the next `n` spots, or at all if `n` is 0, in the bytes of an interval, and
 /// returns whether at most 56 bits are left after them. After a refusal the blocks before it are
 /// there; the one that it is about is as before.
 fn reach_spots(
     alloc: Global,
-    data: &[u8],
+    bytes: &[u8],
     scan: &Scan<'_>,
     arrays: &mut Vec<BlockArray>,
     n: u64,
@@ -134,12 +134,12 @@ fn reach_spots(
     ensures left { OnOk result (spots.new ≡ after_group n spots.old) }
     ensures arrays { UnlessRefused result (arrays_in arrays.new.items
         ≡ (reached_from (scan_pass scan.now) (scan_vias scan.now) (first_group n spots.old)
-        (at_start (arrays_in arrays.old.items)) (text_at data.now)).0.arrays) }
+        (at_start (arrays_in arrays.old.items)) (text_at bytes.now)).0.arrays) }
     ensures told { TellsLeft (reached_from (scan_pass scan.now) (scan_vias scan.now)
-        (first_group n spots.old) (at_start (arrays_in arrays.old.items)) (text_at data.now)).1
+        (first_group n spots.old) (at_start (arrays_in arrays.old.items)) (text_at bytes.now)).1
         result }
 {
-    let mut source = Source::new(SliceReader::new(data));
+    let mut source = Source::new(SliceReader::new(bytes));
     let mut decoder = HuffmanDecoder::new(alloc);
     reach_group(&mut decoder, &mut source, scan, arrays, n, spots)?;
     // The end is met if at most 56 bits are left. Without a marker there it is an error.

@@ -4,13 +4,19 @@ use Rattle.std.specs.List.{concat}
 use Rattle.jpeg_streams.specs.Found.{Found, nothing_found}
 use Rattle.jpeg_decoder.specs.Seen.{found_in}
 use Rattle.jpeg_decoder.specs.declared.picture.partial.PartialLines.{PartialLines}
-use Rattle.jpeg_decoder.proofs.ShownFaults.{start-lacks, start-shown}
+use Rattle.jpeg_decoder.proofs.ShownFaults.{start-given-up, start-lacks, start-shown, start-unknown}
 use Rattle.jpeg_decoder.proofs.picture.partial.show.Goals as goal
 
 pub returns-in_err-read_start-clause-whole : goal.returns-in_err-read_start-clause-whole
 returns-in_err-read_start-clause-whole g c =
     let p = err_from_is_err_and c.from_residual.result c.from_residual.ensures.1 in
     rw (p.1, p.2) (λ start k l. start-lacks c.args.settings _ _ (c.in_err-read_start.ensures.1 k l))
+
+pub returns-in_err-read_start-clause-given_up : goal.returns-in_err-read_start-clause-given_up
+returns-in_err-read_start-clause-given_up g c =
+    let p = err_from_is_err_and c.from_residual.result c.from_residual.ensures.1 in
+    rw (p.1, p.2) (start-unknown {X = PartialLines} (λ p. p.fault) c.args.source.now c.read_start.new.source _
+    c.in_err-read_start.ensures)
 
 pub returns-in_err-read_start-clause-emptied : goal.returns-in_err-read_start-clause-emptied
 unfolding nothing_found
@@ -26,3 +32,8 @@ returns-clause-whole g c start =
     start-shown {X = PartialLines} (λ p. concat p.lines) (λ p. p.fault) c.args.settings (found_in c.args.state.now)
     c.args.source.now c.read_start.new.source c.show_rest-2.new.source c.show_rest-2.result _ (c.requires.start start)
     c.in_ok-read_start.ensures c.show_rest-2.ensures.shown
+
+pub returns-clause-given_up : goal.returns-clause-given_up
+returns-clause-given_up g c =
+    start-given-up {X = PartialLines} (λ p. p.fault) c.args.source.now c.read_start.new.source
+    c.show_rest-2.new.source c.show_rest-2.result c.in_ok-read_start.ensures c.show_rest-2.ensures.given_up

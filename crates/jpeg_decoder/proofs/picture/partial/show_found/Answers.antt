@@ -5,7 +5,7 @@ use Rattle.std.specs.List.{concat}
 use Rattle.jpeg_segments.specs.FrameView.{frame_in}
 use Rattle.jpeg_decoder.specs.Seen.{found_in}
 use Rattle.jpeg_decoder.specs.Steps.{with_decoded}
-use Rattle.jpeg_decoder.proofs.ShownFaults.{framed-lacks, framed-shown, unframed-end, unframed-fault}
+use Rattle.jpeg_decoder.proofs.ShownFaults.{first-stays, framed-lacks, framed-shown, unframed-end, unframed-fault}
 use Rattle.jpeg_decoder.proofs.picture.partial.show_found.Goals as goal
 
 pub returns-in-Some-fault-clause-shown : goal.returns-in-Some-fault-clause-shown
@@ -31,3 +31,7 @@ returns-clause-shown c ended n =
     (with_decoded (found_in c.args.state.now) c.complete.new.decoded) (frame_in c.in-Some.frame.now) c.args.fault
     c.missing_fault-missing.result c.or.result (concat c.in_ok-lines.lines) ended (search rules)
     c.in_ok-complete.ensures.completed c.in_ok-lines.ensures.meant c.or.ensures c.missing_fault-missing.ensures n
+
+pub returns-clause-first : goal.returns-clause-first
+returns-clause-first c =
+    first-stays c.args.fault c.missing_fault-missing.result c.or.result c.or.ensures

@@ -10,12 +10,12 @@ use Rattle.jpeg_decoder.specs.declared.picture.partial.PartialLines.{PartialLine
 use Rattle.jpeg_decoder.specs.declared.scan.decoded.Decoded.{Decoded}
 use Rattle.jpeg_decoder.proofs.LosslessReads.{on-ok}
 use Rattle.jpeg_decoder.proofs.PictureSizes.{lines-whole}
-use Rattle.jpeg_decoder.proofs.ShownFaults.{ended-bytes, rest-shown, then-holds}
+use Rattle.jpeg_decoder.proofs.ShownFaults.{ended-bytes, rest-given-up, rest-shown, then-holds}
 use Rattle.jpeg_decoder.proofs.picture.partial.show_rest.Goals as goal
 
 pub show_found-requires : goal.show_found-requires
 show_found-requires g c =
-    let m = sym c.is_out_of_memory.ensures ∙ c.if-is_out_of_memory.false in
+    let m = c.is_lost.ensures.memory c.if-is_lost.false in
     record {
       sound = subst IsSound
           (sym (ap (λ (d : Decoded). with_decoded (found_in c.reach_segments-ended.new.state) d)
@@ -33,21 +33,29 @@ returns-clause-shown g c =
     (found_in c.reach_segments-ended.new.state)
     (with_decoded (found_in c.reach_segments-ended.new.state) c.replace-decoded.result) c.args.source.now
     c.reach_segments-ended.new.source c.reach_segments-ended.result c.err.result c.show_found.result _
-    (sym c.is_out_of_memory.ensures ∙ c.if-is_out_of_memory.false) c.reach_segments-ended.ensures.reads
+    (c.is_lost.ensures.memory c.if-is_lost.false) c.reach_segments-ended.ensures.reads
     c.reach_segments-ended.ensures.found c.err.ensures.value
     (ap (λ (d : Decoded). with_decoded (found_in c.reach_segments-ended.new.state) d) c.replace-decoded.ensures.value)
     c.show_found.ensures.shown
+
+pub returns-clause-given_up : goal.returns-clause-given_up
+returns-clause-given_up g c =
+    rest-given-up {X = PartialLines} (λ p. p.fault) (λ (u : Unit {0}). tt)
+    (λ bytes. walk_end (all_brought (found_in c.args.state.now) bytes)) c.args.source.now
+    c.reach_segments-ended.new.source c.reach_segments-ended.result c.err.result c.show_found.result
+    (c.is_lost.ensures.memory c.if-is_lost.false) (c.is_lost.ensures.interrupted c.if-is_lost.false)
+    c.reach_segments-ended.ensures.reads c.err.ensures.value c.show_found.ensures.first
 
 pub returns-clause-frames : goal.returns-clause-frames
 returns-clause-frames g c =
     on-ok c.show_found.result
     (then-holds c.reach_segments-ended.result (IsSound (found_in c.reach_segments-ended.new.state))
-    (sym c.is_out_of_memory.ensures ∙ c.if-is_out_of_memory.false) c.reach_segments-ended.ensures.sound).frames
+    (c.is_lost.ensures.memory c.if-is_lost.false) c.reach_segments-ended.ensures.sound).frames
 
 pub returns-clause-size : goal.returns-clause-size
 returns-clause-size g c =
     IfOk-weaker c.show_found.result _ _
     (λ p h. lines-whole (found_in c.reach_segments-ended.new.state) p.lines _
     (then-holds c.reach_segments-ended.result (IsSound (found_in c.reach_segments-ended.new.state))
-    (sym c.is_out_of_memory.ensures ∙ c.if-is_out_of_memory.false) c.reach_segments-ended.ensures.sound).frames h refl)
+    (c.is_lost.ensures.memory c.if-is_lost.false) c.reach_segments-ended.ensures.sound).frames h refl)
     c.show_found.ensures.lines

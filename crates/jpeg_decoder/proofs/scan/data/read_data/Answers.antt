@@ -22,7 +22,7 @@ pub returns-in_err-byte-clause-end : goal.returns-in_err-byte-clause-end
 returns-in_err-byte-clause-end g c =
     let p = err_from_is_err_and c.from_residual.result c.from_residual.ensures.1 in
     rw (p.1, p.2) (
-    first-answers {X = Marker} (λ m. Some m) c.args.source.now c.loop.source c.read_u8.new.source c.loop.data.items
+    first-answers {X = Marker} (λ m. Some m) c.args.source.now c.loop.source c.read_u8.new.source c.loop.gathered.items
     c.in_err-byte.field-0.0 c.loop.invariant.closes c.loop.invariant.gathers c.in_err-byte.ensures.answers
     )
 
@@ -30,13 +30,13 @@ pub returns-in_err-byte-clause-data : goal.returns-in_err-byte-clause-data
 returns-in_err-byte-clause-data g c =
     let p = err_from_is_err_and c.from_residual.result c.from_residual.ensures.1 in
     rw (p.1, p.2) (
-    first-data Marker c.args.source.now c.loop.source c.read_u8.new.source c.loop.data.items
+    first-data Marker c.args.source.now c.loop.source c.read_u8.new.source c.loop.gathered.items
     c.in_err-byte.field-0.0 c.loop.invariant.closes c.loop.invariant.gathers c.in_err-byte.ensures.answers
     )
 
 pub loop-preserved-then-byte : goal.loop-preserved-then-byte
 loop-preserved-then-byte g c =
-    let front = c.loop.data.items in
+    let front = c.loop.gathered.items in
     let next = c.push.new.self.items in
     let b = c.in_ok-byte.byte in
     record {
@@ -54,7 +54,7 @@ returns-in_err-code-clause-end g c =
     let p = err_from_is_err_and c.from_residual-in_err-code.result c.from_residual-in_err-code.ensures.1 in
     rw (p.1, p.2) (
     second-answers {X = Marker} (λ m. Some m) c.args.source.now c.loop.source c.read_u8.new.source
-    c.read_u8-in-loop.new.source c.loop.data.items c.in_ok-byte.byte c.in_err-code.field-0.0 c.if-byte.false
+    c.read_u8-in-loop.new.source c.loop.gathered.items c.in_ok-byte.byte c.in_err-code.field-0.0 c.if-byte.false
     c.loop.invariant.closes c.loop.invariant.gathers c.in_ok-byte.ensures.answers
     c.in_err-code.ensures.answers
     )
@@ -64,7 +64,7 @@ returns-in_err-code-clause-data g c =
     let p = err_from_is_err_and c.from_residual-in_err-code.result c.from_residual-in_err-code.ensures.1 in
     rw (p.1, p.2) (
     second-data Marker c.args.source.now c.loop.source c.read_u8.new.source
-    c.read_u8-in-loop.new.source c.loop.data.items c.in_ok-byte.byte c.in_err-code.field-0.0 c.if-byte.false
+    c.read_u8-in-loop.new.source c.loop.gathered.items c.in_ok-byte.byte c.in_err-code.field-0.0 c.if-byte.false
     c.loop.invariant.closes c.loop.invariant.gathers c.in_ok-byte.ensures.answers
     c.in_err-code.ensures.answers
     )
@@ -72,20 +72,20 @@ returns-in_err-code-clause-data g c =
 pub returns-then-code-ne0-clause-end : goal.returns-then-code-ne0-clause-end
 returns-then-code-ne0-clause-end g c =
     end-answers {X = Marker} (λ m. Some m) c.args.source.now c.loop.source c.read_u8.new.source
-    c.read_u8-in-loop.new.source c.read_end.new.source c.loop.data.items c.in_ok-byte.byte c.in_ok-code.code
+    c.read_u8-in-loop.new.source c.read_end.new.source c.loop.gathered.items c.in_ok-byte.byte c.in_ok-code.code
     c.read_end.result c.if-byte.false c.if-code-ne0.true c.loop.invariant.closes c.loop.invariant.gathers
     c.in_ok-byte.ensures.answers c.in_ok-code.ensures.answers c.read_end.ensures.answers
 
 pub returns-then-code-ne0-clause-data : goal.returns-then-code-ne0-clause-data
 returns-then-code-ne0-clause-data g c =
     end-data {X = Marker} c.args.source.now c.loop.source c.read_u8.new.source
-    c.read_u8-in-loop.new.source c.read_end.new.source c.loop.data.items c.in_ok-byte.byte c.in_ok-code.code
+    c.read_u8-in-loop.new.source c.read_end.new.source c.loop.gathered.items c.in_ok-byte.byte c.in_ok-code.code
     c.read_end.result c.if-byte.false c.if-code-ne0.true c.loop.invariant.closes c.loop.invariant.gathers
     c.in_ok-byte.ensures.answers c.in_ok-code.ensures.answers
 
 pub loop-preserved : goal.loop-preserved
 loop-preserved g c =
-    let front = c.loop.data.items in
+    let front = c.loop.gathered.items in
     let one = c.push-in-loop.new.self.items in
     let two = c.push-in-loop-2.new.self.items in
     let p : one ≡ front ++ 255 ∷ [] = c.in_ok-push-2.ensures.items in

@@ -5,9 +5,9 @@ use Rattle.jpeg_decoder.proofs.scan.data.read_data.Given as goal
 
 abbrev pub invariant-loop : goal.invariant-loop
 invariant-loop g l = record {
-  gathers : Gathers l.fn.source l.data.items l.source;
-  closes : Closes l.data.items;
-  most : l.counter ≤ length l.data.items;
+  gathers : Gathers l.fn.source l.gathered.items l.source;
+  closes : Closes l.gathered.items;
+  most : l.counter ≤ length l.gathered.items;
   short : 0 < l.counter → IsShort l.fn.source;
   first : l.counter ≡ 0 → l.source ≡ l.fn.source;
 }

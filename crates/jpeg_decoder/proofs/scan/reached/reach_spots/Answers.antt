@@ -18,7 +18,7 @@ pub returns-in_err-reach_group-clause-arrays : goal.returns-in_err-reach_group-c
 returns-in_err-reach_group-clause-arrays c =
     let same = start-alike (pass_in c.args.scan.now.pass) (vias_in 0 c.args.scan.now.components.items)
     (first_group c.args.n c.args.spots.now) (at_start (arrays_in c.args.arrays.now.items)) c.new-decoder.result
-    c.new-source.result.bytes c.args.data.now c.new-decoder.ensures
+    c.new-source.result.bytes c.args.bytes.now c.new-decoder.ensures
     (ap (λ s. s.bytes) c.new-source.ensures ∙ c.new.ensures) in
     let p = err_from_is_err_and c.from_residual.result c.from_residual.ensures.1 in
     rw (p.1, p.2) (subst (λ x. IfRefused c.in_err-reach_group.field-0.0
@@ -28,7 +28,7 @@ pub returns-in_err-reach_group-clause-told : goal.returns-in_err-reach_group-cla
 returns-in_err-reach_group-clause-told c =
     let same = start-alike (pass_in c.args.scan.now.pass) (vias_in 0 c.args.scan.now.components.items)
     (first_group c.args.n c.args.spots.now) (at_start (arrays_in c.args.arrays.now.items)) c.new-decoder.result
-    c.new-source.result.bytes c.args.data.now c.new-decoder.ensures
+    c.new-source.result.bytes c.args.bytes.now c.new-decoder.ensures
     (ap (λ s. s.bytes) c.new-source.ensures ∙ c.new.ensures) in
     let p = err_from_is_err_and c.from_residual.result c.from_residual.ensures.1 in
     rw (p.1, p.2) (subst (λ x. Names c.in_err-reach_group.field-0.0 x.1) same c.in_err-reach_group.ensures.told)
@@ -37,7 +37,7 @@ pub returns-in-Ok-clause-arrays : goal.returns-in-Ok-clause-arrays
 returns-in-Ok-clause-arrays c =
     let same = start-alike (pass_in c.args.scan.now.pass) (vias_in 0 c.args.scan.now.components.items)
     (first_group c.args.n c.args.spots.now) (at_start (arrays_in c.args.arrays.now.items)) c.new-decoder.result
-    c.new-source.result.bytes c.args.data.now c.new-decoder.ensures
+    c.new-source.result.bytes c.args.bytes.now c.new-decoder.ensures
     (ap (λ s. s.bytes) c.new-source.ensures ∙ c.new.ensures) in
     c.in_ok-reach_group.ensures.arrays ∙ ap (λ x. x.0.arrays) same
 
@@ -45,7 +45,7 @@ pub returns-in-Ok-clause-told : goal.returns-in-Ok-clause-told
 returns-in-Ok-clause-told c =
     let same = start-alike (pass_in c.args.scan.now.pass) (vias_in 0 c.args.scan.now.components.items)
     (first_group c.args.n c.args.spots.now) (at_start (arrays_in c.args.arrays.now.items)) c.new-decoder.result
-    c.new-source.result.bytes c.args.data.now c.new-decoder.ensures
+    c.new-source.result.bytes c.args.bytes.now c.new-decoder.ensures
     (ap (λ s. s.bytes) c.new-source.ensures ∙ c.new.ensures) in
     let t = upcoming c.reach_group.new.decoder c.reach_group.new.source.bytes in (
       t.bits,
@@ -58,7 +58,7 @@ pub returns : goal.returns
 returns c =
     let same = start-alike (pass_in c.args.scan.now.pass) (vias_in 0 c.args.scan.now.components.items)
     (first_group c.args.n c.args.spots.now) (at_start (arrays_in c.args.arrays.now.items)) c.new-decoder.result
-    c.new-source.result.bytes c.args.data.now c.new-decoder.ensures
+    c.new-source.result.bytes c.args.bytes.now c.new-decoder.ensures
     (ap (λ s. s.bytes) c.new-source.ensures ∙ c.new.ensures) in
     let t = upcoming c.reach_group.new.decoder c.reach_group.new.source.bytes in
     let known = c.in_ok-reach_group.ensures.known in
