@@ -16,3 +16,10 @@ pub mod ReadScans
 pub mod Rules
 pub mod HeaderRules
 pub mod OnLiterals
+pub mod FrontReaders
+pub mod LongerData
+pub mod LongerSegments
+pub mod LongerLossless
+pub mod LongerTurns
+pub mod LongerBlocks
+pub mod WrittenCuts

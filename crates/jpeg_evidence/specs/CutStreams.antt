@@ -1,5 +1,5 @@
 -- Streams that are cut or damaged, worked by hand, and what they show.
-use Rattle.std.specs.Prelude.{ℕ, ◌-◌, List, [], ◌∷◌, length, replicate, take, Option, Result, Ok}
+use Rattle.std.specs.Prelude.{ℕ, ◌-◌, List, [], ◌∷◌, length, take, Option, Result, Ok}
 use Rattle.std.specs.Prelude.{Err}
 use Rattle.jpeg_bits.specs.Reading.{Fault, ◌>>=◌}
 use Rattle.jpeg_streams.specs.Found.{with_said}
@@ -61,3 +61,9 @@ abbrev pub one_of_three : List ℕ
 one_of_three =
     image_with (quantization_of 1 ∷ colour_frame 0 8 8 17 ∷ one_code 0 4 ∷ one_code 16 0
     ∷ scan_text 66 0 63 0 (123 ∷ []) ∷ [])
+
+-- a progressive stream whose DC alone is sent, and after it another quantization table
+abbrev pub requantized : List ℕ
+requantized =
+    image_with (quantization_of 1 ∷ grey_frame 2 8 8 ∷ one_code 0 4
+    ∷ scan_text 1 0 0 0 (71 ∷ []) ∷ quantization_of 8 ∷ [])

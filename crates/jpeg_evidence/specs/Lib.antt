@@ -8,3 +8,4 @@ pub mod FoundTables
 pub mod HeaderRules
 pub mod Extremes
 pub mod CutStreams
+pub mod LongerStreams

@@ -50,6 +50,7 @@ pub mod cut_streams;
 pub mod extremes;
 pub mod found_tables;
 pub mod header_rules;
+pub mod longer_streams;
 pub mod read_back;
 pub mod worked;
 

@@ -1,0 +1,78 @@
+-- The blocks that shorter data of a scan bring are those that longer data bring.
+use Rattle.std.proofs.Common.{◌≡◌, ◌≢◌, ◌⊎◌, inl, inr, ◌<◌, ◌≤◌, ℕ, List, [], length, set, get_or}
+use Rattle.std.proofs.Common.{refl, sym, ap, ◌∙◌, subst, Ok, Option}
+use Rattle.std.proofs.lemmas.Bool.{cases_lt}
+use Rattle.std.proofs.lemmas.List.{get_or-set_other, get_or-set_same, set_past}
+use Rattle.jpeg_bits.specs.Intervals.{first_group, other_groups}
+use Rattle.jpeg_bits.specs.Passes.{Block, Pass, Via, zero_block}
+use Rattle.jpeg_bits.specs.declared.marker.Marker.{Marker}
+use Rattle.jpeg_streams.specs.InTurn.{AreApart, IsIn}
+use Rattle.jpeg_streams.specs.Order.{Spot}
+use Rattle.jpeg_streams.specs.Brought.{scan_reached}
+use Rattle.jpeg_streams.specs.Scans.{Arrays, arrays_at, block_at, put_block}
+use Rattle.jpeg_streams.proofs.CountedScans.{apart-between, in-front, same-spot, scans-in-turn}
+use Rattle.jpeg_streams.proofs.ReachedIntervals.{intervals-read}
+use Rattle.jpeg_evidence.specs.LongerStreams.{HoldsFirst, Puts, ReadsOn}
+use Rattle.jpeg_evidence.specs.LongerStreams.Puts.{finished, put}
+
+-- a block that is put at another index
+other-block : (r q : Spot) (b : Block) (arrays : Arrays) → r.slot ≡ q.slot → r.index ≢ q.index
+    → block_at (put_block r b arrays) q ≡ block_at arrays q
+other-block r q b arrays e n = go (cases_lt r.slot (length arrays))
+  where
+    blocks : List Block
+    blocks = set (get_or arrays r.slot []) r.index b
+
+    go : (r.slot < length arrays) ⊎ (length arrays ≤ r.slot) → block_at (put_block r b arrays) q ≡ block_at arrays q
+    go (inl lt) =
+        ap (λ (i : ℕ). get_or (get_or (put_block r b arrays) i []) q.index zero_block) (sym e)
+        ∙ ap (λ (l : List Block). get_or l q.index zero_block)
+        (get_or-set_same arrays r.slot (set (get_or arrays r.slot []) r.index b) [] lt)
+        ∙ get_or-set_other (get_or arrays r.slot []) r.index q.index b zero_block (λ h. n (sym h))
+        ∙ ap (λ (i : ℕ). get_or (get_or arrays i []) q.index zero_block) e
+    go (inr le) =
+        ap (λ (l : Arrays). block_at l q) (set_past arrays r.slot (set (get_or arrays r.slot []) r.index b) le)
+
+elsewhere : (r q : Spot) (b : Block) (arrays : Arrays)
+    → (r ≡ q → ⊥) → block_at (put_block r b arrays) q ≡ block_at arrays q
+elsewhere r q b arrays n = go (same-spot r q)
+  where
+    go : (r ≡ q) ⊎ ((r.slot ≢ q.slot) ⊎ ((r.slot ≡ q.slot) × (r.index ≢ q.index)))
+        → block_at (put_block r b arrays) q ≡ block_at arrays q
+    go (inl e) = absurd (n e)
+    go (inr (inl d)) =
+        ap (λ (l : List Block). get_or l q.index zero_block)
+        (get_or-set_other arrays r.slot q.slot (set (get_or arrays r.slot []) r.index b) [] (λ h. d (sym h)))
+    go (inr (inr d)) = other-block r q b arrays d.0 d.1
+
+-- what is put at these spots leaves the other blocks
+puts-elsewhere : (q : Spot) (spots : List Spot) (before after : Arrays) → Puts spots before after
+    → (IsIn q spots → ⊥) → block_at after q ≡ block_at before q
+puts-elsewhere q spots before after (finished arrays) n = refl
+puts-elsewhere q spots before after (put s rest b old new p) n =
+    puts-elsewhere q rest (put_block s b before) after p (λ t. n (inr t))
+    ∙ elsewhere s q b before (λ e. n (inl e))
+
+-- In a scan whose spots are apart, the blocks of shorter data are those of longer ones.
+pub blocks_stay : (spots : List Spot) (before shorter longer : Arrays) → AreApart spots
+    → ReadsOn spots before shorter longer → HoldsFirst spots before shorter longer
+blocks_stay spots before shorter longer apart r =
+    let f = r.further in
+    let all = subst AreApart r.parts apart in
+    record {
+      done = r.done;
+      others = r.others;
+      parts = r.parts;
+      same = λ s t. sym (puts-elsewhere s f.done shorter longer f.puts (λ u. apart-between s r.done r.others all t
+          (subst (λ (l : List Spot). IsIn s l) (sym f.parts) (in-front s f.done f.others u))));
+      kept = λ s n. puts-elsewhere s r.done before shorter r.puts n;
+    }
+
+-- A scan that is reached up to the marker after it is read as the same blocks.
+pub reached_are_read : (p : Pass) (n : ℕ) (vias : List Via) (spots : List Spot) (arrays : Arrays) (bytes : List ℕ)
+    (x : Option Marker × List ℕ) → AreApart spots → (scan_reached p n vias spots arrays bytes).1 ≡ Ok x
+    → (m : Option Marker) × (rest : List ℕ)
+    × (arrays_at p n vias spots arrays bytes ≡ Ok (((scan_reached p n vias spots arrays bytes).0, m), rest))
+reached_are_read p n vias spots arrays bytes x apart h =
+    let r = intervals-read p vias 0 (first_group n spots) (other_groups n spots) arrays bytes x.0 x.1 h in
+    (r.marker, r.others, scans-in-turn p n vias spots arrays bytes apart ∙ r.read)

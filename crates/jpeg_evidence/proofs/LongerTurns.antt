@@ -1,0 +1,396 @@
+-- A longer stream comes by what a shorter one has brought, and goes on from there.
+use Rattle.std.proofs.Common.{rules, ◌≡◌, ◌⊎◌, inl, inr, ℕ, zero, suc, ◌*◌, ◌≤◌, Bool, true, false, List, [], ◌∷◌}
+use Rattle.std.proofs.Common.{◌++◌, length, refl, sym, ap, ◌∙◌, subst, arith, Ok, Err, Result, Option}
+use Rattle.std.proofs.Common.{None, length-append, if◌then◌else◌}
+use Rattle.jpeg_bits.specs.Reading.{End, Fault, Malformed, Outcome}
+use Rattle.jpeg_bits.specs.Reading as outcomes
+use Rattle.jpeg_bits.specs.Intervals.{first_group, other_groups}
+use Rattle.jpeg_bits.specs.Marker.{found_or, next_marker}
+use Rattle.jpeg_bits.specs.Passes.{Pass, Via}
+use Rattle.jpeg_bits.specs.declared.marker.Marker.{Marker}
+use Rattle.jpeg_bits.specs.declared.marker.Marker.TheVariants.{SOF, JPG, DHT, DAC, RST, SOI, EOI, SOS, DQT, DNL, DRI}
+use Rattle.jpeg_bits.specs.declared.marker.Marker.TheVariants.{DHP, EXP, APP, JPGn, COM, TEM, RES}
+use Rattle.jpeg_segments.specs.Checks.{needed}
+use Rattle.jpeg_segments.specs.Frame.{Frame}
+use Rattle.jpeg_segments.specs.ScanHeader.{Scan, sos_at}
+use Rattle.jpeg_segments.specs.declared.frame.CodingProcess.{CodingProcess}
+use Rattle.jpeg_segments.specs.declared.frame.CodingProcess.TheVariants.{DctSequential, DctProgressive, Lossless}
+use Rattle.jpeg_segments.proofs.Codecs.{bind-ok, err-ok, ok-same}
+use Rattle.jpeg_streams.specs.declared.before.Before.{Before}
+use Rattle.jpeg_streams.specs.declared.before.Before.TheVariants.{FirstScan, LaterScan, Elsewhere}
+use Rattle.jpeg_streams.specs.Brought.{Brought, after_interval, after_intervals, all_brought, blocks_brought}
+use Rattle.jpeg_streams.specs.Brought.{blocks_brought_by, brought_by, frame_and_scan, interval_reached}
+use Rattle.jpeg_streams.specs.Brought.{intervals_reached, scan_brought, scan_reached, segment_brought, turn_brought}
+use Rattle.jpeg_streams.specs.Brought.{walk_brought}
+use Rattle.jpeg_streams.specs.Found.{Found}
+use Rattle.jpeg_streams.specs.Order.{Spot, mcu_size, spots_of}
+use Rattle.jpeg_streams.specs.Scans.{Arrays}
+use Rattle.jpeg_streams.specs.ScanSegments.{Coding, after_scan, codings_of, components_of}
+use Rattle.jpeg_streams.specs.ScanSegments.{pass_of, scan_turn, vias_from}
+use Rattle.jpeg_streams.specs.Segments.{Turn, frame_segment}
+use Rattle.jpeg_streams.specs.Stream.{end_segment, segment_at}
+use Rattle.jpeg_evidence.specs.LongerStreams.{ComesBy, ScanGoesOn, arrays_of}
+use Rattle.jpeg_evidence.specs.LongerStreams.ComesBy.{in_front, in_scan}
+use Rattle.jpeg_evidence.proofs.LongerData.{StaysRead, after-same, interval-stays, longer_data_read_on, next_reached}
+use Rattle.jpeg_evidence.proofs.LongerData.{Met}
+use Rattle.jpeg_evidence.proofs.LongerLossless.{lossless-stays}
+use Rattle.jpeg_evidence.proofs.LongerSegments.{Stays, app-stays, dht-stays, dqt-stays, dri-stays, length-stays}
+use Rattle.jpeg_evidence.proofs.LongerSegments.{marker-stays, restarts-stay, skip-stays, sof-stays, sos-stays}
+use Rattle.jpeg_evidence.proofs.LongerSegments.{stays-after, stays-bind, stays-err, stays-if, stays-ok}
+
+-- ---- segments
+
+frame-stays : (more : List ℕ) (number : ℕ) (found : Found) (bytes : List ℕ)
+    → Stays more (frame_segment number found bytes) (frame_segment number found (bytes ++ more))
+unfolding frame_segment
+frame-stays more number found bytes =
+    search (rules, stays-if, stays-err, stays-bind, sof-stays, stays-after, stays-ok) depth 12
+
+end-stays : (more : List ℕ) (found : Found) (bytes : List ℕ)
+    → Stays more (end_segment found bytes) (end_segment found (bytes ++ more))
+unfolding end_segment
+end-stays more found bytes = search (rules, stays-if, stays-ok, stays-err)
+
+-- the turn that a segment leads to, and the blocks of a scan of which some are brought
+record TurnGoes (more : List ℕ) (found : Found) (b c : Brought) : Type 0 where
+  turn : Stays more b.1 c.1
+  adds : (b.0 ≡ found) ⊎ ScanGoesOn found b.0 c.0
+
+plain-goes : (more : List ℕ) (found : Found) (o q : Outcome Turn) → Stays more o q
+    → TurnGoes more found (found, o) (found, q)
+plain-goes more found o q h = record { turn = h; adds = inl refl }
+
+-- ---- a scan of blocks
+
+-- Where a scan is reached up to its end, it is so of longer data.
+abbrev ScanStays : List ℕ → Arrays × Outcome (Option Marker) → Arrays × Outcome (Option Marker) → Type 0
+ScanStays more r s = (x : Option Marker × List ℕ) → r.1 ≡ Ok x → s ≡ (r.0, Ok (x.0, x.1 ++ more))
+
+after-stays : (more : List ℕ) (r : (Bool × Option Marker) × List ℕ)
+    → Stays more (after_intervals r) (after_intervals (r.0, r.1 ++ more))
+after-stays more r =
+    stays-if more r.0.0 _ _ _ _
+    (restarts-stay more (suc (length r.1)) (suc (length (r.1 ++ more))) r.0.1 r.1 (omega (arith, length-append r.1 more)))
+    (stays-ok more r.0.1 r.1)
+
+last-stays : (more : List ℕ) (spots : List Spot) (before : Arrays) (r s : Arrays × Met)
+    → ((x : (Bool × Option Marker) × List ℕ) → r.1 ≡ Ok x → StaysRead spots before r s x more)
+    → ScanStays more (r.0, outcomes.◌>>=◌ r.1 after_intervals) (s.0, outcomes.◌>>=◌ s.1 after_intervals)
+unfolding Stays
+last-stays more spots before r s stays x h =
+    let y = bind-ok r.1 after_intervals x h in
+    ap (λ (q : Arrays × Met). (q.0, outcomes.◌>>=◌ q.1 after_intervals)) (stays y.0 y.1).same
+    ∙ ap (λ (o : Outcome (Option Marker)). (r.0, o)) (after-stays more y.0 x y.2)
+
+next-stays : (more : List ℕ) (k : ℕ) (spots : List Spot) (before : Arrays) (r s : Arrays × Met)
+    (reached : Arrays → List ℕ → Arrays × Outcome (Option Marker))
+    → ((x : (Bool × Option Marker) × List ℕ) → r.1 ≡ Ok x → StaysRead spots before r s x more)
+    → ((b : List ℕ) → ScanStays more (reached r.0 b) (reached r.0 (b ++ more)))
+    → (q : Result (List ℕ) Fault) → outcomes.◌>>=◌ r.1 (after_interval k) ≡ q
+    → ScanStays more (next_reached reached r.0 q)
+    (next_reached reached s.0 (outcomes.◌>>=◌ s.1 (after_interval k)))
+next-stays more k spots before r s reached stays others (Err g) e x h = absurd (err-ok g x h)
+next-stays more k spots before r s reached stays others (Ok b) e x h =
+    let y = bind-ok r.1 (after_interval k) b e in
+    ap (λ (q : Arrays × Met). next_reached reached q.0 (outcomes.◌>>=◌ q.1 (after_interval k))) (stays y.0 y.1).same
+    ∙ ap (next_reached reached r.0) (after-same k y.0 b more y.2) ∙ others b x h
+
+intervals-stay : (more : List ℕ) (p : Pass) (vias : List Via) (k : ℕ) (spots : List Spot) (groups : List (List Spot))
+    (arrays : Arrays) (bytes : List ℕ)
+    → ScanStays more (intervals_reached p vias k spots groups arrays bytes)
+    (intervals_reached p vias k spots groups arrays (bytes ++ more))
+unfolding intervals_reached
+intervals-stay more p vias k spots [] arrays bytes =
+    last-stays more spots arrays (interval_reached p vias spots arrays bytes)
+    (interval_reached p vias spots arrays (bytes ++ more)) (λ x h. interval-stays p vias spots arrays bytes more x h)
+intervals-stay more p vias k spots (next ∷ groups) arrays bytes =
+    let r = interval_reached p vias spots arrays bytes in
+    next-stays more k spots arrays r (interval_reached p vias spots arrays (bytes ++ more))
+    (intervals_reached p vias (suc k) next groups) (λ x h. interval-stays p vias spots arrays bytes more x h)
+    (λ b. intervals-stay more p vias (suc k) next groups r.0 b) (outcomes.◌>>=◌ r.1 (after_interval k)) refl
+
+-- what a scan leads to, by the blocks that are reached
+abbrev scan_led : Found → Frame → Scan → List Coding → Arrays × Outcome (Option Marker) → Brought
+scan_led found frame scan codings r =
+    let after = after_scan found frame scan codings r.0 in
+    (after, outcomes.◌>>=◌ r.1 (λ m. Ok (scan_turn found after m.0, m.1)))
+
+led-stays : (more : List ℕ) (found : Found) (frame : Frame) (scan : Scan) (codings : List Coding)
+    (r s : Arrays × Outcome (Option Marker)) → ScanStays more r s
+    → Stays more (scan_led found frame scan codings r).1 (scan_led found frame scan codings s).1
+unfolding Stays
+led-stays more found frame scan codings r s stays = λ x h.
+    let after = after_scan found frame scan codings r.0 in
+    let m = bind-ok r.1 (λ (m : Option Marker × List ℕ). Ok (scan_turn found after m.0, m.1)) x h in
+    ap (λ (q : Arrays × Outcome (Option Marker)). (scan_led found frame scan codings q).1) (stays m.0 m.1)
+    ∙ ap (λ (y : Turn × List ℕ). Ok (y.0, y.1 ++ more)) (ok-same _ x m.2)
+
+coded-goes : (more : List ℕ) (found : Found) (frame : Frame) (scan : Scan) (codings : List Coding) (bytes : List ℕ)
+    → TurnGoes more found (blocks_brought_by found frame scan codings bytes)
+    (blocks_brought_by found frame scan codings (bytes ++ more))
+unfolding blocks_brought_by
+coded-goes more found frame scan codings bytes =
+    let p = pass_of scan in
+    let n = found.said.restart * mcu_size (components_of codings) in
+    let vias = vias_from 0 codings in
+    let spots = spots_of frame (components_of codings) in
+    let arrays = arrays_of found frame codings in
+    let r = scan_reached p n vias spots arrays bytes in
+    let s = scan_reached p n vias spots arrays (bytes ++ more) in
+    record {
+      turn = led-stays more found frame scan codings r s
+          (intervals-stay more p vias 0 (first_group n spots) (other_groups n spots) arrays bytes);
+      adds = inr (record {
+        frame = frame;
+        scan = scan;
+        codings = codings;
+        blocks = r.0;
+        more_blocks = s.0;
+        shorter_is = refl;
+        longer_is = refl;
+        reads_on = longer_data_read_on p n vias spots arrays bytes more;
+      });
+    }
+
+blocks-go : (more : List ℕ) (found : Found) (frame : Frame) (scan : Scan) (bytes : List ℕ)
+    → TurnGoes more found (blocks_brought found frame scan bytes) (blocks_brought found frame scan (bytes ++ more))
+unfolding blocks_brought
+blocks-go more found frame scan bytes = go (codings_of found.said frame scan)
+  where
+    go : (o : Result (List Coding) Fault) → TurnGoes more found (elim o as (λ _. Brought) [
+      | Ok codings ↦ blocks_brought_by found frame scan codings bytes
+      | Err fault ↦ (found, Err fault)
+    ]) (elim o as (λ _. Brought) [
+      | Ok codings ↦ blocks_brought_by found frame scan codings (bytes ++ more)
+      | Err fault ↦ (found, Err fault)
+    ])
+    go (Ok codings) = coded-goes more found frame scan codings bytes
+    go (Err fault) = plain-goes more found _ _ (stays-err more fault _)
+
+by-goes : (more : List ℕ) (process : CodingProcess) (found : Found) (frame : Frame) (scan : Scan) (bytes : List ℕ)
+    → TurnGoes more found (brought_by process found frame scan bytes) (brought_by process found frame scan (bytes ++ more))
+by-goes more DctSequential found frame scan bytes = blocks-go more found frame scan bytes
+by-goes more DctProgressive found frame scan bytes = blocks-go more found frame scan bytes
+by-goes more Lossless found frame scan bytes = plain-goes more found _ _ (lossless-stays more found frame scan bytes)
+
+-- ---- a turn
+
+-- the frame and the header of a scan, and the bytes after it
+abbrev Header : Type 0
+Header = Frame × (Scan × List ℕ)
+
+abbrev with_frame : Frame → Scan × List ℕ → Result Header Fault
+with_frame frame scan = Ok (frame, scan)
+
+abbrev header_by : List ℕ → Frame → Result Header Fault
+header_by bytes frame = outcomes.◌>>=◌ (sos_at frame bytes) (with_frame frame)
+
+abbrev later_header : List ℕ → Header → Header
+later_header more x = (x.0, (x.1.0, x.1.1 ++ more))
+
+framed-stays : (more : List ℕ) (found : Found) (bytes : List ℕ) (x : Header)
+    → frame_and_scan found bytes ≡ Ok x → frame_and_scan found (bytes ++ more) ≡ Ok (later_header more x)
+unfolding Stays
+framed-stays more found bytes x h = go (needed found.said.frame) h
+  where
+    at : (frame : Frame) → header_by bytes frame ≡ Ok x → header_by (bytes ++ more) frame ≡ Ok (later_header more x)
+    at frame h =
+        let s = bind-ok (sos_at frame bytes) (with_frame frame) x h in
+        ap (λ (o : Outcome Scan). outcomes.◌>>=◌ o (with_frame frame)) (sos-stays more frame bytes s.0 s.1)
+        ∙ ap (λ (y : Header). Ok (later_header more y)) (ok-same (frame, s.0) x s.2)
+
+    go : (o : Result Frame Fault) → outcomes.◌>>=◌ o (header_by bytes) ≡ Ok x
+        → outcomes.◌>>=◌ o (header_by (bytes ++ more)) ≡ Ok (later_header more x)
+    go (Ok frame) h = at frame h
+    go (Err g) h = absurd (err-ok g x h)
+
+abbrev scan_of_header : Found → Result Header Fault → Brought
+scan_of_header found o = elim o as (λ _. Brought) [
+  | Ok x ↦ brought_by x.0.process found x.0 x.1.0 x.1.1
+  | Err fault ↦ (found, Err fault)
+]
+
+scan-goes : (more : List ℕ) (found : Found) (bytes : List ℕ)
+    → TurnGoes more found (scan_brought found bytes) (scan_brought found (bytes ++ more))
+unfolding scan_brought
+scan-goes more found bytes = go (frame_and_scan found bytes) (λ x h. framed-stays more found bytes x h)
+  where
+    go : (o : Result Header Fault)
+        → ((x : Header) → o ≡ Ok x
+        → frame_and_scan found (bytes ++ more) ≡ Ok (later_header more x))
+        → TurnGoes more found (scan_of_header found o) (scan_of_header found (frame_and_scan found (bytes ++ more)))
+    go (Err g) stays = record { turn = stays-err more g _; adds = inl refl }
+    go (Ok x) stays =
+        subst (λ (o : Result Header Fault). TurnGoes more found (scan_of_header found (Ok x))
+        (scan_of_header found o)) (sym (stays x refl)) (by-goes more x.0.process found x.0 x.1.0 x.1.1)
+
+restart-goes : (more : List ℕ) (n : ℕ) (before : Before) (found : Found) (bytes : List ℕ)
+    → Stays more (segment_at (RST n) before found bytes) (segment_at (RST n) before found (bytes ++ more))
+unfolding segment_at
+restart-goes more n Elsewhere found bytes = stays-err more _ _
+restart-goes more n FirstScan found bytes = stays-ok more _ bytes
+restart-goes more n LaterScan found bytes = stays-ok more _ bytes
+
+lines-go : (more : List ℕ) (before : Before) (found : Found) (bytes : List ℕ)
+    → Stays more (segment_at DNL before found bytes) (segment_at DNL before found (bytes ++ more))
+unfolding segment_at
+lines-go more Elsewhere found bytes = stays-err more _ _
+lines-go more FirstScan found bytes = stays-err more _ _
+lines-go more LaterScan found bytes = stays-err more _ _
+
+tables-go : (more : List ℕ) (before : Before) (found : Found) (bytes : List ℕ)
+    → Stays more (segment_at DHT before found bytes) (segment_at DHT before found (bytes ++ more))
+unfolding segment_at
+tables-go more before found bytes = search (rules, stays-bind, dht-stays, stays-ok)
+
+quantization-goes : (more : List ℕ) (before : Before) (found : Found) (bytes : List ℕ)
+    → Stays more (segment_at DQT before found bytes) (segment_at DQT before found (bytes ++ more))
+unfolding segment_at
+quantization-goes more before found bytes = search (rules, stays-bind, dqt-stays, stays-ok)
+
+interval-goes : (more : List ℕ) (before : Before) (found : Found) (bytes : List ℕ)
+    → Stays more (segment_at DRI before found bytes) (segment_at DRI before found (bytes ++ more))
+unfolding segment_at
+interval-goes more before found bytes = search (rules, stays-bind, dri-stays, stays-ok)
+
+application-goes : (more : List ℕ) (n : ℕ) (before : Before) (found : Found) (bytes : List ℕ)
+    → Stays more (segment_at (APP n) before found bytes) (segment_at (APP n) before found (bytes ++ more))
+unfolding segment_at
+application-goes more n before found bytes = search (rules, stays-bind, app-stays, stays-ok)
+
+comment-goes : (more : List ℕ) (before : Before) (found : Found) (bytes : List ℕ)
+    → Stays more (segment_at COM before found bytes) (segment_at COM before found (bytes ++ more))
+unfolding segment_at
+comment-goes more before found bytes = search (rules, stays-bind, length-stays, skip-stays, stays-ok)
+
+segment-goes : (more : List ℕ) (m : Marker) (before : Before) (found : Found) (bytes : List ℕ)
+    → TurnGoes more found (segment_brought m before found bytes) (segment_brought m before found (bytes ++ more))
+unfolding segment_brought segment_at
+segment-goes more SOS before found bytes = scan-goes more found bytes
+segment-goes more (SOF n) before found bytes = plain-goes more found _ _ (frame-stays more n found bytes)
+segment-goes more DQT before found bytes = plain-goes more found _ _ (quantization-goes more before found bytes)
+segment-goes more DHT before found bytes = plain-goes more found _ _ (tables-go more before found bytes)
+segment-goes more EOI before found bytes = plain-goes more found _ _ (end-stays more found bytes)
+segment-goes more DRI before found bytes = plain-goes more found _ _ (interval-goes more before found bytes)
+segment-goes more (APP n) before found bytes = plain-goes more found _ _ (application-goes more n before found bytes)
+segment-goes more COM before found bytes = plain-goes more found _ _ (comment-goes more before found bytes)
+segment-goes more (RST n) before found bytes = plain-goes more found _ _ (restart-goes more n before found bytes)
+segment-goes more DNL before found bytes = plain-goes more found _ _ (lines-go more before found bytes)
+segment-goes more DAC before found bytes = plain-goes more found _ _ (stays-err more _ _)
+segment-goes more DHP before found bytes = plain-goes more found _ _ (stays-err more _ _)
+segment-goes more EXP before found bytes = plain-goes more found _ _ (stays-err more _ _)
+segment-goes more JPG before found bytes = plain-goes more found _ _ (stays-err more _ _)
+segment-goes more SOI before found bytes = plain-goes more found _ _ (stays-err more _ _)
+segment-goes more (JPGn n) before found bytes = plain-goes more found _ _ (stays-err more _ _)
+segment-goes more TEM before found bytes = plain-goes more found _ _ (stays-err more _ _)
+segment-goes more RES before found bytes = plain-goes more found _ _ (stays-err more _ _)
+
+abbrev segment_met : Before → Found → Outcome Marker → Brought
+segment_met before found o = elim o as (λ _. Brought) [
+  | Ok m ↦ segment_brought m.0 before found m.1
+  | Err fault ↦ (found, Err fault)
+]
+
+turn-goes : (more : List ℕ) (before : Before) (found : Found) (met : Option Marker) (bytes : List ℕ)
+    → TurnGoes more found (turn_brought before found met bytes) (turn_brought before found met (bytes ++ more))
+unfolding turn_brought Stays
+turn-goes more before found met bytes = go (found_or met bytes (next_marker bytes)) (marker-stays more met bytes)
+  where
+    go : (o : Outcome Marker) → ((m : Marker × List ℕ) → o ≡ Ok m
+        → found_or met (bytes ++ more) (next_marker (bytes ++ more)) ≡ Ok (m.0, m.1 ++ more))
+        → TurnGoes more found (segment_met before found o)
+        (segment_met before found (found_or met (bytes ++ more) (next_marker (bytes ++ more))))
+    go (Err g) stays = record { turn = stays-err more g _; adds = inl refl }
+    go (Ok m) stays =
+        subst (λ (q : Outcome Marker). TurnGoes more found (segment_met before found (Ok m)) (segment_met before found q))
+        (sym (stays m refl)) (segment-goes more m.0 before found m.1)
+
+-- ---- the walk
+
+abbrev Walked : Type 0
+Walked = Found × Result (List ℕ) Fault
+
+-- after a turn
+abbrev walk_on : ℕ → Brought → Walked
+walk_on turns b = elim b.1 [
+  | Err fault ↦ (b.0, Err fault)
+  | Ok t ↦ if t.0.ended then (t.0.found, Ok t.1) else walk_brought turns t.0.before t.0.found t.0.met t.1
+]
+
+-- what a longer stream brings, by what a shorter one has brought
+record Goes (more : List ℕ) (w v : Walked) : Type 0 where
+  ended : (rest : List ℕ) → w.1 ≡ Ok rest → v ≡ (w.0, Ok (rest ++ more))
+  stopped : (g : Fault) → w.1 ≡ Err g → ComesBy more w.0 v
+
+ended-goes : (more : List ℕ) (found : Found) (rest : List ℕ) → Goes more (found, Ok rest) (found, Ok (rest ++ more))
+ended-goes more found rest = record {
+  ended = λ left e. ap (λ (l : List ℕ). (found, Ok (l ++ more))) (ok-same rest left e);
+  stopped = λ g e. absurd (err-ok g rest (sym e));
+}
+
+stopped-goes : (more : List ℕ) (found : Found) (g : Fault) (v : Walked) → ComesBy more found v
+    → Goes more (found, Err g) v
+stopped-goes more found g v c = record { ended = λ rest e. absurd (err-ok g rest e); stopped = λ f e. c }
+
+on-goes : (more : List ℕ) (n k : ℕ) (t : Turn × List ℕ) → ((before : Before) (found : Found) (met : Option Marker)
+    (bytes : List ℕ) → Goes more (walk_brought n before found met bytes) (walk_brought k before found met (bytes ++ more)))
+    → (ended : Bool)
+    → Goes more
+    (if ended then (t.0.found, Ok t.1) else walk_brought n t.0.before t.0.found t.0.met t.1)
+    (if ended then (t.0.found, Ok (t.1 ++ more)) else walk_brought k t.0.before t.0.found t.0.met (t.1 ++ more))
+on-goes more n k t others true = ended-goes more t.0.found t.1
+on-goes more n k t others false = others t.0.before t.0.found t.0.met t.1
+
+-- where the turn has a fault
+fault-goes : (more : List ℕ) (k : ℕ) (before : Before) (found some : Found) (met : Option Marker) (bytes : List ℕ)
+    (w : Walked) → w ≡ walk_brought (suc k) before found met (bytes ++ more)
+    → (some ≡ found) ⊎ ScanGoesOn found some (turn_brought before found met (bytes ++ more)).0 → ComesBy more some w
+fault-goes more k before found some met bytes w whole (inl same) =
+    in_front (suc k) before met bytes
+    (whole ∙ ap (λ (f : Found). walk_brought (suc k) before f met (bytes ++ more)) (sym same))
+fault-goes more k before found some met bytes w whole (inr adds) = in_scan k before found met bytes whole adds
+
+after-goes : (more : List ℕ) (n k : ℕ) (before : Before) (found : Found) (met : Option Marker) (bytes : List ℕ)
+    (some : Found) (o : Outcome Turn)
+    → TurnGoes more found (some, o) (turn_brought before found met (bytes ++ more))
+    → ((before : Before) (found : Found) (met : Option Marker) (bytes : List ℕ)
+    → Goes more (walk_brought n before found met bytes) (walk_brought k before found met (bytes ++ more)))
+    → walk_on k (turn_brought before found met (bytes ++ more)) ≡ walk_brought (suc k) before found met (bytes ++ more)
+    → Goes more (walk_on n (some, o)) (walk_on k (turn_brought before found met (bytes ++ more)))
+unfolding Stays
+after-goes more n k before found met bytes some (Err g) t others whole =
+    stopped-goes more some g (walk_on k (turn_brought before found met (bytes ++ more)))
+    (fault-goes more k before found some met bytes _ whole t.adds)
+after-goes more n k before found met bytes some (Ok x) t others whole =
+    let c = turn_brought before found met (bytes ++ more) in
+    subst (λ (o : Outcome Turn). Goes more (walk_on n (some, Ok x)) (walk_on k (c.0, o))) (sym (t.turn x refl))
+    (on-goes more n k x others x.0.ended)
+
+walk-goes : (more : List ℕ) (n k : ℕ) → n ≤ k → (before : Before) (found : Found) (met : Option Marker) (bytes : List ℕ)
+    → Goes more (walk_brought n before found met bytes) (walk_brought k before found met (bytes ++ more))
+unfolding walk_brought
+walk-goes more zero k h before found met bytes = stopped-goes more found End _ (in_front k before met bytes refl)
+walk-goes more (suc n) zero h before found met bytes = absurd (omega arith)
+walk-goes more (suc n) (suc k) h before found met bytes =
+    let b = turn_brought before found met bytes in
+    after-goes more n k before found met bytes b.0 b.1 (turn-goes more before found met bytes)
+    (λ before found met bytes. walk-goes more n k (omega arith) before found met bytes) refl
+
+all-goes : (found : Found) (bytes more : List ℕ) → Goes more (all_brought found bytes) (all_brought found (bytes ++ more))
+all-goes found bytes more =
+    walk-goes more (suc (length bytes)) (suc (length (bytes ++ more))) (omega (arith, length-append bytes more))
+    Elsewhere found None bytes
+
+-- After the end of the image more bytes change nothing.
+pub ended_streams_stay : (found brought : Found) (bytes more rest : List ℕ)
+    → all_brought found bytes ≡ (brought, Ok rest) → all_brought found (bytes ++ more) ≡ (brought, Ok (rest ++ more))
+ended_streams_stay found brought bytes more rest e =
+    (all-goes found bytes more).ended rest (ap (λ (w : Walked). w.1) e)
+    ∙ ap (λ (w : Walked). (w.0, Ok (rest ++ more))) e
+
+-- A longer stream comes by what a shorter one has brought.
+pub longer_streams_go_on : (found brought : Found) (bytes more : List ℕ) (fault : Fault)
+    → all_brought found bytes ≡ (brought, Err fault) → ComesBy more brought (all_brought found (bytes ++ more))
+longer_streams_go_on found brought bytes more fault e =
+    subst (λ (w : Walked). ComesBy more w.0 (all_brought found (bytes ++ more))) e
+    ((all-goes found bytes more).stopped fault (ap (λ (w : Walked). w.1) e))

@@ -1,0 +1,381 @@
+-- The data of a scan that were written are reached without a fault.
+use Rattle.std.proofs.Common.{◌≡◌, ◌⊎◌, inl, inr, ◌+◌, ◌-◌, ◌*◌, ◌%◌, ◌<◌, ℕ, suc, Bool, true, false, List}
+use Rattle.std.proofs.Common.{[], ◌∷◌, ◌++◌, length, map}
+use Rattle.std.proofs.Common.{refl, sym, ap, ◌∙◌, subst, arith, Ok, Err, Result, Option, Some, None, append_assoc}
+use Rattle.std.specs.Prelude.{nat_le}
+use Rattle.std.specs.List.{AllByRecursion}
+use Rattle.std.proofs.lemmas.Bool.{eq-eqb}
+use Rattle.std.proofs.lemmas.Bool.Decides.{nat_tests}
+use Rattle.std.proofs.lemmas.Simd.{map-map}
+use Rattle.jpeg_bits.specs.Reading.{End, Fault, Malformed, Outcome}
+use Rattle.jpeg_bits.specs.Reading as outcomes
+use Rattle.jpeg_bits.specs.Entropy.{Broken, Ending, Found, Text, text_at}
+use Rattle.jpeg_bits.specs.Codes.{IsTable}
+use Rattle.jpeg_bits.specs.Intervals.{end_after, first_group, interval, met, other_groups}
+use Rattle.jpeg_bits.specs.Marker.{marker_of}
+use Rattle.jpeg_bits.specs.Passes.{Block, Pass, Via, blocks_of, predictors_at_start, whole_pass, zero_block}
+use Rattle.jpeg_bits.specs.Readers.{Reads, ReadsJust, read_on, text}
+use Rattle.jpeg_bits.specs.Written.{IsMarker, WritesInterval, WritesIntervals, marker}
+use Rattle.jpeg_bits.specs.Written.WritesIntervals.{last, another}
+use Rattle.jpeg_bits.specs.declared.marker.Marker.{Marker}
+use Rattle.jpeg_bits.specs.declared.marker.Marker.TheVariants.{EOI, RST}
+use Rattle.jpeg_bits.proofs.ReadIntervals.{all-map}
+use Rattle.jpeg_bits.proofs.WrittenIntervals.{all-groups, first-map, marker-append, others-map, reads-interval}
+use Rattle.jpeg_bits.proofs.Tables.{good-table}
+use Rattle.jpeg_segments.specs.Frame.{Frame}
+use Rattle.jpeg_segments.proofs.Codecs.{err-ok, ok-same}
+use Rattle.jpeg_streams.specs.Brought.{after_interval, after_intervals, interval_reached, intervals_reached}
+use Rattle.jpeg_streams.specs.Brought.{reached_from, scan_reached, sealed}
+use Rattle.jpeg_streams.specs.InTurn.{AreApart, AreArrays, Fits, IsIn, Reached, at_start, turn_from, turns_from}
+use Rattle.jpeg_streams.specs.Levels.{Is8Bit, Levels, cut, nothing_sent, numbers_at, sent_after}
+use Rattle.jpeg_streams.specs.Order.{Spot, mcu_size, spots_of}
+use Rattle.jpeg_streams.specs.Scans.{Arrays, block_at, put_blocks, turns_of, via_at}
+use Rattle.jpeg_streams.specs.ScanSegments.{Coding, after_restarts, components_of, vias_from}
+use Rattle.jpeg_streams.specs.WrittenData.{WritesBlocks}
+use Rattle.jpeg_streams.specs.WrittenScans.{Coefficients, IsComplete, WritesScan}
+use Rattle.jpeg_streams.proofs.Apart.{spots-apart, spots-inside}
+use Rattle.jpeg_streams.proofs.CutLevels.{all-same, cut-after, suits-cut}
+use Rattle.jpeg_streams.proofs.WholeImages.{cut-whole}
+use Rattle.jpeg_streams.proofs.CountedScans.{all_of, apart-back, apart-between, apart-front, arrays_in, in-back, in-front}
+use Rattle.jpeg_streams.proofs.CountedScans.{in-turn, others-kept, put_in, reaches}
+use Rattle.jpeg_streams.proofs.SentBlocks.{Suits, after_pass}
+use Rattle.jpeg_streams.proofs.WrittenBlocks.{IsReady, takes-blocks}
+use Rattle.jpeg_streams.proofs.WrittenFrameScans.{HasGood, IsReadyAt, all-in, reads-arrays, start-predicts, turn_with}
+use Rattle.jpeg_streams.proofs.WrittenFrameScans.{cut-nothing, suits-dc, via-good, whole-legal}
+use Rattle.jpeg_evidence.specs.LongerStreams.{HoldsSent, IsDcAlone, IsKeptBefore}
+use Rattle.jpeg_evidence.proofs.LongerBlocks.{blocks_stay, reached_are_read}
+use Rattle.jpeg_evidence.proofs.LongerData.{Met, interval_by, longer_data_read_on, next_reached}
+
+-- ---- an interval
+
+-- blocks of the bits alone, before the end that follows them
+abbrev restored : Ending → Result (Arrays × Text) Fault → Result (Arrays × Text) Fault
+restored e (Ok r) = Ok (r.0, record r.1 { ending = e })
+restored e (Err f) = Err f
+
+abbrev sealed_read : Pass → List Via → List Spot → Arrays → Reads Arrays
+sealed_read p vias spots arrays t =
+    restored t.ending (arrays_in (turns_from p vias spots (at_start arrays) (sealed t)))
+
+-- the arrays after written blocks
+abbrev pub after_blocks : Pass → (Spot → Block) → List Spot → Arrays → Arrays
+after_blocks p u spots arrays = put_blocks spots (map (λ s. after_pass p (block_at arrays s) (u s)) spots) arrays
+
+takes-blocks_at : (p : Pass) (vias : List Via) (spots : List Spot) (arrays : Arrays) (u : Spot → Block) (bits : List Bool)
+    → AllByRecursion (IsReadyAt p vias arrays u) spots
+    → WritesBlocks p predictors_at_start 0 (turns_of vias spots u) bits
+    → ReadsJust (blocks_of p predictors_at_start 0 (turns_of vias spots (block_at arrays))) bits
+    (map (λ s. after_pass p (block_at arrays s) (u s)) spots)
+unfolding turns_of
+takes-blocks_at p vias spots arrays u bits ready w =
+    rw (map-map, map-map) at (takes-blocks p (map (turn_with vias arrays u) spots) predictors_at_start 0 bits start-predicts
+    (all-map (IsReadyAt p vias arrays u) (IsReady p) (turn_with vias arrays u) spots (λ s is. is.at) ready)
+    (rw (map-map) w))
+
+takes-sealed : (p : Pass) (vias : List Via) (spots : List Spot) (arrays : Arrays) (u : Spot → Block) (bits : List Bool)
+    → AreApart spots → AllByRecursion (IsReadyAt p vias arrays u) spots
+    → WritesBlocks p predictors_at_start 0 (turns_of vias spots u) bits
+    → ReadsJust (sealed_read p vias spots arrays) bits (after_blocks p u spots arrays)
+takes-sealed p vias spots arrays u bits apart ready w = record {
+  read = λ rest following e. ap (restored e)
+      (in-turn p vias spots arrays predictors_at_start 0 (text (bits ++ rest) following (Broken End)) apart
+      ∙ ap (put_in spots arrays) ((takes-blocks_at p vias spots arrays u bits ready w).read rest following (Broken End)));
+}
+
+-- blocks that are all read are reached
+turns-reached : (p : Pass) (vias : List Via) (spots : List Spot) (old : Reached) (t : Text) (r : Reached × Text)
+    → turns_from p vias spots old t ≡ Ok r → reached_from p vias spots old t ≡ (r.0, Ok r.1.bits)
+unfolding turns_from reached_from
+turns-reached p vias [] old t r e = ap (λ (q : Reached × Text). (q.0, Ok q.1.bits)) (ok-same (old, t) r e)
+turns-reached p vias (s ∷ spots) old t r e = go (turn_from p vias s old t) e
+    (λ x y h. turns-reached p vias spots x y r h)
+  where
+    go : (o : Result (Reached × Text) Fault) → read_on (turns_from p vias spots) o ≡ Ok r
+        → ((x : Reached) (y : Text) → turns_from p vias spots x y ≡ Ok r
+        → reached_from p vias spots x y ≡ (r.0, Ok r.1.bits))
+        → (elim o as (λ _. Reached × Result (List Bool) Fault) [
+          | Ok q ↦ reached_from p vias spots q.0 q.1
+          | Err fault ↦ (old, Err fault)
+        ]) ≡ (r.0, Ok r.1.bits)
+    go (Ok q) h more = more q.0 q.1 h
+    go (Err g) h more = absurd (err-ok g r h)
+
+abbrev Read : Type 0
+Read = Outcome (Arrays × Option Marker)
+
+-- with the end that is met
+abbrev ended_with : Arrays → Option Marker × List ℕ → Read
+ended_with arrays n = Ok ((arrays, n.0), n.1)
+
+abbrev tested_with : Bool → Option Marker × List ℕ → Met
+tested_with b n = Ok ((b, n.0), n.1)
+
+some-marker : (e : Ending) (arrays x : Arrays) (m : Marker) (rest : List ℕ)
+    → outcomes.◌>>=◌ (met e) (ended_with arrays) ≡ Ok ((x, Some m), rest)
+    → (arrays ≡ x) × (met e ≡ Ok (Some m, rest))
+some-marker (Broken f) arrays x m rest h = absurd (err-ok f _ h)
+some-marker (Found n others) arrays x m rest h =
+    let s = ok-same ((arrays, Some n), others) ((x, Some m), rest) h in (
+      ap (λ (y : (Arrays × Option Marker) × List ℕ). y.0.0) s,
+      ap (λ (y : (Arrays × Option Marker) × List ℕ). Ok (y.0.1, y.1)) s,
+    )
+
+none-some : (m : Marker) → ◌≡◌ {A = Option Marker} None (Some m) → ⊥
+none-some m e = cc
+
+end-so : (k : ℕ) (bytes : List ℕ) (left : List Bool) (e : Ending) (arrays x : Arrays) (m : Marker) (rest : List ℕ)
+    (small : Bool) → nat_le (length left) 56 ≡ small
+    → outcomes.◌>>=◌ (end_after k bytes left e) (ended_with arrays)
+    ≡ Ok ((x, Some m), rest)
+    → (arrays ≡ x) × (nat_le (length left) 56 ≡ true) × (met e ≡ Ok (Some m, rest))
+unfolding end_after
+end-so k bytes left e arrays x m rest true s h =
+    let q = some-marker e arrays x m rest (rw (s, end_after) at h) in (q.0, s, q.1)
+end-so k bytes left e arrays x m rest false s h =
+    absurd (none-some m (ap (λ (y : (Arrays × Option Marker) × List ℕ). y.0.1)
+    (ok-same _ ((x, Some m), rest) (rw (s, end_after) at h))))
+
+-- An interval of which the bits alone are read up to a marker is reached.
+interval-sealed : (p : Pass) (vias : List Via) (spots : List Spot) (arrays x : Arrays) (bytes rest : List ℕ) (m : Marker)
+    → interval (sealed_read p vias spots arrays) bytes ≡ Ok ((x, Some m), rest)
+    → interval_reached p vias spots arrays bytes ≡ (x, Ok ((true, Some m), rest))
+unfolding interval interval_reached
+interval-sealed p vias spots arrays x bytes rest m h =
+    go (turns_from p vias spots (at_start arrays) (sealed (text_at bytes))) refl (text_at bytes).ending h
+  where
+    go : (o : Result (Reached × Text) Fault)
+        → turns_from p vias spots (at_start arrays) (sealed (text_at bytes)) ≡ o → (e : Ending)
+        → outcomes.◌>>=◌ (restored e (arrays_in o)) (λ (r : Arrays × Text).
+        outcomes.◌>>=◌ (end_after (length (text_at bytes).bits - length r.1.bits) bytes r.1.bits e)
+        (ended_with r.0)) ≡ Ok ((x, Some m), rest)
+        → ◌≡◌ {A = Arrays × Met} (
+          (reached_from p vias spots (at_start arrays) (sealed (text_at bytes))).0.arrays,
+          interval_by e (reached_from p vias spots (at_start arrays) (sealed (text_at bytes))),
+        )
+        (x, Ok ((true, Some m), rest))
+    go (Err g) a e h = absurd (err-ok g _ h)
+    go (Ok r) a e h =
+        let is = turns-reached p vias spots (at_start arrays) (sealed (text_at bytes)) r a in
+        let q = end-so (length (text_at bytes).bits - length r.1.bits) bytes r.1.bits e r.0.arrays x m rest
+        (nat_le (length r.1.bits) 56) refl h in
+        ap (λ (y : Reached × Result (List Bool) Fault). (y.0.arrays, interval_by e y)) is
+        ∙ ap (λ (o : Outcome (Option Marker)). (
+          r.0.arrays,
+          outcomes.◌>>=◌ o
+              (tested_with (nat_le (length r.1.bits) 56)),
+        )) q.2
+        ∙ ap (λ (b : Bool). (r.0.arrays, Ok ((b, Some m), rest))) q.1
+        ∙ ap (λ (y : Arrays). (y, Ok ((true, Some m), rest))) q.0
+
+interval-written : (p : Pass) (vias : List Via) (spots : List Spot) (arrays : Arrays) (u : Spot → Block) (bytes : List ℕ)
+    (fill code : ℕ) (m : Marker) (rest : List ℕ) → AreApart spots → AllByRecursion (IsReadyAt p vias arrays u) spots
+    → IsMarker code m → WritesInterval (WritesBlocks p predictors_at_start 0 (turns_of vias spots u)) bytes
+    → interval_reached p vias spots arrays (bytes ++ marker fill code rest)
+    ≡ (after_blocks p u spots arrays, Ok ((true, Some m), rest))
+interval-written p vias spots arrays u bytes fill code m rest apart ready is w =
+    interval-sealed p vias spots arrays (after_blocks p u spots arrays) (bytes ++ marker fill code rest) rest m
+    (reads-interval (sealed_read p vias spots arrays) (WritesBlocks p predictors_at_start 0 (turns_of vias spots u))
+    (after_blocks p u spots arrays) (λ bits c. takes-sealed p vias spots arrays u bits apart ready c) bytes fill code m
+    rest is w)
+
+-- ---- a scan
+
+rst : (n : ℕ) → n < 8 → marker_of (0xD0 + n) ≡ Some (RST n)
+unfolding marker_of
+rst n h = grind (arith, nat_tests)
+
+rst-marker : (k : ℕ) → IsMarker (0xD0 + k % 8) (RST (k % 8))
+rst-marker k = record { is = rst (k % 8) (omega arith) }
+
+-- where RST k is met, the next interval begins after it
+restart-met : (k : ℕ) (rest : List ℕ) → after_interval k ((true, Some (RST (k % 8))), rest) ≡ Ok rest
+restart-met k rest = rw (eq-eqb (k % 8) (k % 8) refl) refl
+
+-- the other blocks stay ready
+stays-ready : (p : Pass) (vias : List Via) (spots others : List Spot) (arrays : Arrays) (u : Spot → Block)
+    → AreApart (spots ++ others) → ((s : Spot) → IsIn s (spots ++ others) → IsReadyAt p vias arrays u s) → (s : Spot)
+    → IsIn s others → IsReadyAt p vias (after_blocks p u spots arrays) u s
+stays-ready p vias spots others arrays u apart ready s t =
+    let kept = others-kept spots (map (λ s. after_pass p (block_at arrays s) (u s)) spots) arrays s
+    (λ here. apart-between s spots others apart here t) in
+    let is = (ready s (in-back s spots others t)).at in
+    record {
+      at = record {
+        dc_good = is.dc_good;
+        ac_good = is.ac_good;
+        suits = subst (λ (b : Block). Suits p b (u s)) (sym kept) is.suits;
+      };
+    }
+
+one-more : (k : ℕ) (r : Arrays × Met) (x : Arrays) (rest : List ℕ)
+    (reached : Arrays → List ℕ → Arrays × Outcome (Option Marker)) (y : Option Marker × List ℕ)
+    → r ≡ (x, Ok ((true, Some (RST (k % 8))), rest)) → (reached x rest).1 ≡ Ok y
+    → (next_reached reached r.0 (outcomes.◌>>=◌ r.1 (after_interval k))).1 ≡ Ok y
+one-more k r x rest reached y e h =
+    ap (λ (q : Arrays × Met). (next_reached reached q.0 (outcomes.◌>>=◌ q.1 (after_interval k))).1) e
+    ∙ ap (λ (o : Result (List ℕ) Fault). (next_reached reached x o).1) (restart-met k rest) ∙ h
+
+-- Written intervals are reached up to the marker after them.
+pub intervals-written : (p : Pass) (vias : List Via) (u : Spot → Block) (fill code : ℕ) (m : Marker) (rest : List ℕ)
+    (y : Option Marker × List ℕ) → IsMarker code m → after_restarts (suc (length rest)) (Some m) rest ≡ Ok y
+    → (k : ℕ) (spots : List Spot) (groups : List (List Spot)) (arrays : Arrays) (bytes : List ℕ)
+    → AreApart (spots ++ all_of groups)
+    → ((s : Spot) → IsIn s (spots ++ all_of groups) → IsReadyAt p vias arrays u s)
+    → WritesIntervals (WritesBlocks p predictors_at_start 0) k (turns_of vias spots u)
+    (map (λ (g : List Spot). turns_of vias g u) groups) bytes
+    → (intervals_reached p vias k spots groups arrays (bytes ++ marker fill code rest)).1 ≡ Ok y
+unfolding intervals_reached
+intervals-written p vias u fill code m rest y is ends k spots [] arrays bytes apart ready (last k' one bytes' w) =
+    ap (λ (r : Arrays × Met). outcomes.◌>>=◌ r.1 after_intervals)
+    (interval-written p vias spots arrays u bytes fill code m rest (apart-front spots [] apart)
+    (all-in (IsReadyAt p vias arrays u) spots (λ s t. ready s (in-front s spots [] t))) is w)
+    ∙ ends
+intervals-written p vias u fill code m rest y is ends k spots (next ∷ groups) arrays bytes apart ready
+    (another k' fill' one next' more' first after w ws) =
+    let others = all_of (next ∷ groups) in
+    let now = after_blocks p u spots arrays in
+    let left = after ++ marker fill code rest in
+    let parts : (first ++ marker fill' (0xD0 + k % 8) after) ++ marker fill code rest
+    ≡ first ++ marker fill' (0xD0 + k % 8) left
+    = append_assoc first (marker fill' (0xD0 + k % 8) after) (marker fill code rest)
+    ∙ ap (λ (l : List ℕ). first ++ l) (marker-append fill' (0xD0 + k % 8) after (marker fill code rest)) in
+    one-more k (interval_reached p vias spots arrays (bytes ++ marker fill code rest)) now left
+    (intervals_reached p vias (suc k) next groups) y
+    (ap (interval_reached p vias spots arrays) parts
+    ∙ interval-written p vias spots arrays u first fill' (0xD0 + k % 8) (RST (k % 8)) left
+    (apart-front spots others apart)
+    (all-in (IsReadyAt p vias arrays u) spots (λ s t. ready s (in-front s spots others t))) (rst-marker k) w)
+    (intervals-written p vias u fill code m rest y is ends (suc k) next groups now after
+    (apart-back spots others apart)
+    (stays-ready p vias spots others arrays u apart ready) ws)
+
+groups-coded : (vias : List Via) (spots : List Spot) (u : Spot → Block) (p : Pass) (n : ℕ) (bytes : List ℕ)
+    → WritesIntervals (WritesBlocks p predictors_at_start 0) 0 (first_group n (turns_of vias spots u))
+    (other_groups n (turns_of vias spots u)) bytes
+    → WritesIntervals (WritesBlocks p predictors_at_start 0) 0 (turns_of vias (first_group n spots) u)
+    (map (λ (g : List Spot). turns_of vias g u) (other_groups n spots)) bytes
+unfolding turns_of
+groups-coded vias spots u p n bytes w =
+    let turn : Spot → Via × Block = λ s. (via_at vias s.slot, u s) in
+    subst (λ (l : List (Via × Block)). WritesIntervals (WritesBlocks p predictors_at_start 0) 0 l
+    (map (λ (g : List Spot). map turn g) (other_groups n spots)) bytes) (sym (first-map turn n spots))
+    (subst (λ (l : List (List (Via × Block))). WritesIntervals (WritesBlocks p predictors_at_start 0) 0
+    (first_group n (map turn spots)) l bytes) (sym (others-map turn n spots)) w)
+
+-- A written scan is reached up to the marker after it.
+pub scan-written : (p : Pass) (n : ℕ) (vias : List Via) (u : Spot → Block) (spots : List Spot) (arrays : Arrays)
+    (bytes : List ℕ) (fill code : ℕ) (m : Marker) (rest : List ℕ) (y : Option Marker × List ℕ) → IsMarker code m
+    → after_restarts (suc (length rest)) (Some m) rest ≡ Ok y → AreApart spots
+    → ((s : Spot) → IsIn s spots → IsReadyAt p vias arrays u s)
+    → WritesIntervals (WritesBlocks p predictors_at_start 0) 0 (first_group n (turns_of vias spots u))
+    (other_groups n (turns_of vias spots u)) bytes
+    → (scan_reached p n vias spots arrays (bytes ++ marker fill code rest)).1 ≡ Ok y
+scan-written p n vias u spots arrays bytes fill code m rest y is ends apart ready w =
+    let all = all-groups n spots in
+    intervals-written p vias u fill code m rest y is ends 0 (first_group n spots) (other_groups n spots) arrays bytes
+    (subst AreApart (sym all) apart)
+    (λ s t. ready s (subst (λ (l : List Spot). IsIn s l) all t))
+    (groups-coded vias spots u p n bytes w)
+
+eoi : marker_of 217 ≡ Some EOI
+unfolding marker_of
+eoi = refl
+
+ends-there : after_restarts 1 (Some EOI) [] ≡ Ok (Some EOI, [])
+unfolding after_restarts
+ends-there = refl
+
+-- the arrays after a written scan
+whole-reached : (p : Pass) (n : ℕ) (vias : List Via) (u : Spot → Block) (spots : List Spot) (arrays : Arrays)
+    (bytes : List ℕ) → AreApart spots → ((s : Spot) → IsIn s spots → IsReadyAt p vias arrays u s)
+    → WritesIntervals (WritesBlocks p predictors_at_start 0) 0 (first_group n (turns_of vias spots u))
+    (other_groups n (turns_of vias spots u)) bytes
+    → (scan_reached p n vias spots arrays (bytes ++ marker 0 217 [])).0 ≡ after_blocks p u spots arrays
+whole-reached p n vias u spots arrays bytes apart ready w =
+    let is : IsMarker 217 EOI = record { is = eoi } in
+    let r = reached_are_read p n vias spots arrays (bytes ++ marker 0 217 []) (Some EOI, []) apart
+    (scan-written p n vias u spots arrays bytes 0 217 EOI [] (Some EOI, []) is ends-there apart ready w) in
+    let q = reads-arrays p n vias spots arrays u bytes 0 217 EOI []
+    (all-in (IsReadyAt p vias arrays u) spots (λ s t. ready s t)) is w in
+    ap (λ (y : (Arrays × Option Marker) × List ℕ). y.0.0) (ok-same _ _ (sym r.2 ∙ q))
+
+-- what is kept of a block suits the pass
+suits-kept : (p : Pass) (l : Levels) (c b : Block) → Is8Bit c → IsKeptBefore p l c b ⊎ IsDcAlone p
+    → Suits p b (numbers_at p.al c)
+suits-kept p l c b range (inl k) =
+    subst (λ (x : Block). Suits p x (numbers_at p.al c)) (sym k.kept_is)
+    (suits-cut p l c range (range.count ∙ sym k.sized) k.legal)
+suits-kept p l c b range (inr d) = suits-dc p b c d.first d.end d.low range
+
+-- The beginning of the data of a written scan has the coefficients that were sent.
+pub cut_scans_have_what_was_sent : (frame : Frame) (restart : ℕ) (p : Pass) (codings : List Coding)
+    (array : Coefficients) (bytes : List ℕ) (w : WritesScan frame restart p codings array bytes)
+    (levels : Spot → Levels) (before : Arrays) (front more : List ℕ)
+    → AllByRecursion (Fits frame) (components_of codings) → AreArrays (components_of codings) before
+    → AllByRecursion (λ k. IsTable k.dc × IsTable k.ac) codings
+    → ((s : Spot) → IsIn s (spots_of frame (components_of codings))
+    → IsKeptBefore p (levels s) (w.sent s) (block_at before s) ⊎ IsDcAlone p)
+    → bytes ≡ front ++ more
+    → HoldsSent p (spots_of frame (components_of codings)) levels w.sent before
+    (scan_reached p (restart * mcu_size (components_of codings)) (vias_from 0 codings)
+    (spots_of frame (components_of codings)) before front).0
+cut_scans_have_what_was_sent frame restart p codings array bytes w levels before front more fits sized tables kept parts =
+    let n = restart * mcu_size (components_of codings) in
+    let vias = vias_from 0 codings in
+    let spots = spots_of frame (components_of codings) in
+    let u : Spot → Block = λ s. numbers_at p.al (w.sent s) in
+    let apart = spots-apart frame (components_of codings) fits in
+    let good = all-good codings tables in
+    let ready : (s : Spot) → IsIn s spots → IsReadyAt p vias before u s = λ s t.
+    let v = via-good codings s.slot good in
+    record {
+      at = record {
+        dc_good = v.dc;
+        ac_good = v.ac;
+        suits = suits-kept p (levels s) (w.sent s) (block_at before s) (w.in_range s) (kept s t);
+      };
+    } in
+    let f : Spot → Block = λ s. after_pass p (block_at before s) (u s) in
+    let all = whole-reached p n vias u spots before bytes apart ready w.coded in
+    let end = more ++ marker 0 217 [] in
+    let cut_so = blocks_stay spots before (scan_reached p n vias spots before front).0
+    (scan_reached p n vias spots before (front ++ end)).0 apart
+    (longer_data_read_on p n vias spots before front end) in
+    let same : front ++ end ≡ bytes ++ marker 0 217 []
+    = sym (append_assoc front more (marker 0 217 [])) ∙ ap (λ (l : List ℕ). l ++ marker 0 217 []) (sym parts) in
+    record {
+      done = cut_so.done;
+      others = cut_so.others;
+      parts = cut_so.parts;
+      first = λ s t k.
+          let within : IsIn s spots = subst (λ (l : List Spot). IsIn s l) (sym cut_so.parts)
+          (in-front s cut_so.done cut_so.others t) in
+          cut_so.same s t
+          ∙ ap (λ (l : List ℕ). block_at (scan_reached p n vias spots before l).0 s) same
+          ∙ ap (λ (a : Arrays). block_at a s) all
+          ∙ reaches f s spots before (spots-inside frame (components_of codings) before s fits sized within) within
+          ∙ ap (λ (b : Block). after_pass p b (u s)) k.kept_is
+          ∙ cut-after p (levels s) (w.sent s) ((w.in_range s).count ∙ sym k.sized) k.legal;
+      kept = cut_so.kept;
+    }
+  where
+    all-good : (ks : List Coding) → AllByRecursion (λ k. IsTable k.dc × IsTable k.ac) ks → AllByRecursion HasGood ks
+    all-good [] h = tt
+    all-good (k ∷ ks) h = (
+      record {
+        dc = good-table k.dc h.0.0.counted h.0.0.exists;
+        ac = good-table k.ac h.0.1.counted h.0.1.exists;
+      },
+      all-good ks h.1,
+    )
+
+-- Before a sequential scan zeros are kept, and after it the coefficients.
+complete-after : IsComplete (sent_after whole_pass nothing_sent)
+complete-after = record { dc = refl; acs = all-same (Some 0) 63 }
+
+pub sequential_levels : (c : Block) → Is8Bit c
+    → IsKeptBefore whole_pass nothing_sent c zero_block × (cut (sent_after whole_pass nothing_sent) c ≡ c)
+sequential_levels c range = (
+  record { legal = whole-legal; sized = refl; kept_is = sym (cut-nothing c range.count) },
+  cut-whole (sent_after whole_pass nothing_sent) c complete-after range.count,
+)

@@ -1,0 +1,119 @@
+-- What more bytes add to what was brought of some: what was brought stays, and more comes after it.
+use Rattle.std.specs.Prelude.{◌≡◌, ◌≤◌, ℕ, suc, List, [], ◌∷◌, ◌++◌, length, drop, map, get_or}
+use Rattle.std.specs.Prelude.{Bool, Option, Result, Ok}
+use Rattle.jpeg_bits.specs.Reading.{End, Fault}
+use Rattle.jpeg_bits.specs.Entropy.{Broken, Ending}
+use Rattle.jpeg_bits.specs.Passes.{Block, Pass, Via}
+use Rattle.jpeg_bits.specs.Readers.{text}
+use Rattle.jpeg_bits.specs.declared.marker.Marker.{Marker}
+use Rattle.jpeg_segments.specs.Frame.{Frame}
+use Rattle.jpeg_segments.specs.ScanHeader.{Scan}
+use Rattle.jpeg_streams.specs.declared.before.Before.{Before}
+use Rattle.jpeg_streams.specs.Brought.{reached_from, turn_brought, walk_brought}
+use Rattle.jpeg_streams.specs.Found.{Found}
+use Rattle.jpeg_streams.specs.InTurn.{IsIn, Reached}
+use Rattle.jpeg_streams.specs.Levels.{IsLegal, Levels, cut, sent_after}
+use Rattle.jpeg_streams.specs.Order.{Spot, spots_of}
+use Rattle.jpeg_streams.specs.Scans.{Arrays, block_at, put_block}
+use Rattle.jpeg_streams.specs.ScanSegments.{Coding, after_scan, arrays_before, components_of}
+
+-- These bits bring the blocks at `done`, and `left` are left, of which no block more can be read.
+-- Where more bits come after them, the other blocks are read from there on, before any end.
+pub record GoesOn (p : Pass) (vias : List Via) (spots : List Spot) (old : Reached)
+    (bits : List Bool) (reached : Reached) : Type 0 where
+  pub done : List Spot
+  pub others : List Spot
+  pub taken : List Bool
+  pub left : List Bool
+  pub spots_are : spots ≡ done ++ others
+  pub bits_are : bits ≡ taken ++ left
+  pub brought : (following : List (List ℕ))
+      → reached_from p vias done old (text bits following (Broken End)) ≡ (reached, Ok left)
+  pub longer : (more : List Bool) (following : List (List ℕ)) (e : Ending)
+      → reached_from p vias spots old (text (bits ++ more) following e)
+      ≡ reached_from p vias others reached (text (left ++ more) (drop (length taken) following) e)
+
+-- a block is put at each of these spots, one after the other
+pub data Puts : List Spot → Arrays → Arrays → Type 0 where
+  finished : (arrays : Arrays) → Puts [] arrays arrays
+  put : (s : Spot) (spots : List Spot) (b : Block) (before after : Arrays)
+      → Puts spots (put_block s b before) after → Puts (s ∷ spots) before after
+
+-- a block is put at each of the first of these spots
+pub record PutsFirst (spots : List Spot) (before after : Arrays) : Type 0 where
+  pub done : List Spot
+  pub others : List Spot
+  pub parts : spots ≡ done ++ others
+  pub puts : Puts done before after
+
+-- Of the scan of the blocks at these spots, shorter data bring the first blocks, and longer data
+-- the same blocks, and of the others the first.
+pub record ReadsOn (spots : List Spot) (before shorter longer : Arrays) : Type 0 where
+  pub done : List Spot
+  pub others : List Spot
+  pub parts : spots ≡ done ++ others
+  pub puts : Puts done before shorter
+  pub further : PutsFirst others shorter longer
+
+-- Of the scan of the blocks at these spots, the first are as longer data have them, and each other
+-- block is as it was before the scan.
+pub record HoldsFirst (spots : List Spot) (before shorter longer : Arrays) : Type 0 where
+  pub done : List Spot
+  pub others : List Spot
+  pub parts : spots ≡ done ++ others
+  pub same : (s : Spot) → IsIn s done → block_at shorter s ≡ block_at longer s
+  pub kept : (s : Spot) → (IsIn s done → ⊥) → block_at shorter s ≡ block_at before s
+
+-- What is kept of a block before a pass is its coefficients, cut at the bits that were sent of
+-- them; and the pass may be sent then.
+pub record IsKeptBefore (p : Pass) (levels : Levels) (coefficients kept : Block) : Type 0 where
+  pub legal : IsLegal p levels
+  pub sized : length levels.acs ≡ 63
+  pub kept_is : kept ≡ cut levels coefficients
+
+-- the pass codes DC alone, of coefficients of 8 bits
+pub record IsDcAlone (p : Pass) : Type 0 where
+  pub first : p.ss ≡ 0
+  pub end : p.se ≡ 0
+  pub low : p.al ≤ 7
+
+-- Of the scan of the blocks at these spots, the first are the coefficients that were sent, at the
+-- levels after the pass, where they were so at the levels before it; and each other block is as it
+-- was before the scan.
+pub record HoldsSent (p : Pass) (spots : List Spot) (levels : Spot → Levels) (sent : Spot → Block)
+    (before reached : Arrays) : Type 0 where
+  pub done : List Spot
+  pub others : List Spot
+  pub parts : spots ≡ done ++ others
+  pub first : (s : Spot) → IsIn s done → IsKeptBefore p (levels s) (sent s) (block_at before s)
+      → block_at reached s ≡ cut (sent_after p (levels s)) (sent s)
+  pub kept : (s : Spot) → (IsIn s done → ⊥) → block_at reached s ≡ block_at before s
+
+-- the blocks of a scan's components before it
+abbrev pub arrays_of : Found → Frame → List Coding → Arrays
+arrays_of found frame codings = map (λ c. get_or (arrays_before found frame) c.index []) codings
+
+-- What was found with some blocks of a scan, and with more of them.
+pub record ScanGoesOn (before shorter longer : Found) : Type 0 where
+  pub frame : Frame
+  pub scan : Scan
+  pub codings : List Coding
+  pub blocks : Arrays
+  pub more_blocks : Arrays
+  pub shorter_is : shorter ≡ after_scan before frame scan codings blocks
+  pub longer_is : longer ≡ after_scan before frame scan codings more_blocks
+  pub reads_on : ReadsOn (spots_of frame (components_of codings)) (arrays_of before frame codings)
+      blocks more_blocks
+
+-- How a longer stream goes on, where a shorter one has brought `brought` up to its first fault and
+-- `left` are the bytes of it that are read again. It comes by what was brought, in front of the
+-- segment that has the fault; or the fault is in the data of a scan, and the longer stream comes by
+-- what was found before this scan, and brings of it the same blocks first.
+pub data ComesBy (more : List ℕ) (brought : Found) (longer : Found × Result (List ℕ) Fault)
+    : Type 0 where
+  in_front : (turns : ℕ) (before : Before) (met : Option Marker) (left : List ℕ)
+      → longer ≡ walk_brought turns before brought met (left ++ more) → ComesBy more brought longer
+  in_scan : (turns : ℕ) (before : Before) (last : Found) (met : Option Marker) (left : List ℕ)
+      → longer ≡ walk_brought (suc turns) before last met (left ++ more)
+      → ScanGoesOn last brought (turn_brought before last met (left ++ more)).0
+      → ComesBy more brought longer

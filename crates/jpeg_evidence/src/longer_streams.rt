@@ -1,0 +1,106 @@
+//! What a stream brings up to some byte is brought by each longer one, too, which goes on from
+//! there.
+ghost use Rattle.std.specs.Prelude.{◌≡◌, ◌⊎◌, ◌*◌, ℕ, List, Bool, Option, [], ◌++◌, Ok, Err};
+ghost use Rattle.std.specs.Prelude.{Some, None, replicate};
+ghost use Rattle.std.specs.List.{AllByRecursion};
+ghost use Rattle.jpeg_bits.specs.Reading.{End, Fault};
+ghost use Rattle.jpeg_bits.specs.Codes.{IsTable};
+ghost use Rattle.jpeg_bits.specs.Entropy.{Broken};
+ghost use Rattle.jpeg_bits.specs.Passes.{Block, Pass, Via, whole_pass, zero_block};
+ghost use Rattle.jpeg_bits.specs.Readers.{text};
+ghost use Rattle.jpeg_bits.specs.declared.marker.Marker.{Marker};
+ghost use Rattle.jpeg_segments.specs.Frame.{Component, Frame};
+ghost use Rattle.jpeg_streams.specs.Brought.{all_brought, reached_from, scan_reached};
+ghost use Rattle.jpeg_streams.specs.Found.{Found};
+ghost use Rattle.jpeg_streams.specs.InTurn.{AreApart, AreArrays, Fits, IsIn, Reached};
+ghost use Rattle.jpeg_streams.specs.Levels.{Is8Bit, Levels, cut, nothing_sent, sent_after};
+ghost use Rattle.jpeg_streams.specs.Order.{Spot, mcu_size, spots_of};
+ghost use Rattle.jpeg_streams.specs.Scans.{Arrays, arrays_at, block_at};
+ghost use Rattle.jpeg_streams.specs.ScanSegments.{Coding, components_of, vias_from};
+ghost use Rattle.jpeg_streams.specs.WrittenScans.{Coefficients, WritesScan};
+ghost use Rattle.jpeg_evidence.specs.CutStreams.{requantized, seen, without_last};
+ghost use Rattle.jpeg_evidence.specs.LongerStreams.{IsDcAlone, IsKeptBefore, ReadsOn};
+ghost use Rattle.jpeg_evidence.specs.LongerStreams.{ComesBy, GoesOn, HoldsFirst, HoldsSent};
+
+/// More bits bring the blocks that the first bits bring alone, with what they carry on to the next
+/// blocks, and are read on from the first bit after them. It holds of any pass, tables and bits,
+/// also where the bits break a rule.
+#[tactic(auto, using(crate::proofs::LongerData::longer_bits_go_on))]
+pub fn longer_bits_go_on()
+    ensures { (p : Pass) (vias : List Via) (spots : List Spot) (old : Reached) (bits : List Bool)
+        → GoesOn p vias spots old bits
+        (reached_from p vias spots old (text bits [] (Broken End))).0 }
+{}
+
+/// Longer data of a scan bring the blocks that shorter ones bring, and go on with the blocks after
+/// them, in the order of the scan and across its restart intervals. It holds of any bytes, whether
+/// the data are cut, end with a marker or break a rule.
+#[tactic(auto, using(crate::proofs::LongerData::longer_data_read_on))]
+pub fn longer_data_read_on()
+    ensures { (p : Pass) (n : ℕ) (vias : List Via) (spots : List Spot) (arrays : Arrays)
+        (bytes more : List ℕ)
+        → ReadsOn spots arrays (scan_reached p n vias spots arrays bytes).0
+        (scan_reached p n vias spots arrays (bytes ++ more)).0 }
+{}
+
+/// As a scan has each block once, each block that shorter data bring is the one that longer data
+/// bring, whatever comes after them; and each other block is as it was before the scan. The scans
+/// of a frame have each block once (T.81, A.2). Where the longer data have no fault, their blocks
+/// are those of the scan's meaning: so the beginning of a scan has the blocks that `decode` reads.
+pub fn blocks_of_shorter_data_stay()
+    ensures apart { (frame : Frame) (components : List Component)
+        → AllByRecursion (Fits frame) components → AreApart (spots_of frame components) }
+    ensures stay { (p : Pass) (n : ℕ) (vias : List Via) (spots : List Spot) (arrays : Arrays)
+        (bytes more : List ℕ) → AreApart spots
+        → HoldsFirst spots arrays (scan_reached p n vias spots arrays bytes).0
+        (scan_reached p n vias spots arrays (bytes ++ more)).0 }
+    ensures meant { (p : Pass) (n : ℕ) (vias : List Via) (spots : List Spot) (arrays : Arrays)
+        (bytes : List ℕ) (x : Option Marker × List ℕ) → AreApart spots
+        → (scan_reached p n vias spots arrays bytes).1 ≡ Ok x
+        → (m : Option Marker) × (rest : List ℕ) × (arrays_at p n vias spots arrays bytes
+        ≡ Ok (((scan_reached p n vias spots arrays bytes).0, m), rest)) }
+{}
+
+/// The beginning of the data of a scan that a writer emits has the coefficients that were sent: its
+/// first blocks at the levels after the scan, and no other block is touched. Before the scan the
+/// coefficients are kept at the levels before it; in a scan of DC alone a block of padding may be
+/// another one. In a sequential scan zeros are kept, and the blocks are the coefficients.
+pub fn cut_scans_have_what_was_sent()
+    ensures sent { (frame : Frame) (restart : ℕ) (p : Pass) (codings : List Coding)
+        (array : Coefficients) (bytes : List ℕ)
+        (w : WritesScan frame restart p codings array bytes) (levels : Spot → Levels)
+        (before : Arrays) (front more : List ℕ)
+        → AllByRecursion (Fits frame) (components_of codings)
+        → AreArrays (components_of codings) before
+        → AllByRecursion (λ k. IsTable k.dc × IsTable k.ac) codings
+        → ((s : Spot) → IsIn s (spots_of frame (components_of codings))
+        → IsKeptBefore p (levels s) (w.sent s) (block_at before s) ⊎ IsDcAlone p)
+        → bytes ≡ front ++ more
+        → HoldsSent p (spots_of frame (components_of codings)) levels w.sent before
+        (scan_reached p (restart * mcu_size (components_of codings)) (vias_from 0 codings)
+        (spots_of frame (components_of codings)) before front).0 }
+    ensures sequential { (c : Block) → Is8Bit c → IsKeptBefore whole_pass nothing_sent c zero_block
+        × (cut (sent_after whole_pass nothing_sent) c ≡ c) }
+{}
+
+/// A longer stream comes by what a shorter one has brought. Where the shorter one has ended, more
+/// bytes change nothing. Where it has brought something up to a fault, the longer one goes on from
+/// there, or it brings the same blocks of the scan in which the shorter one stops, and goes on with
+/// the blocks after them. What later segments do to these isn't said. It holds of any bytes, also
+/// of lossless scans and of bytes that break a rule.
+pub fn longer_streams_go_on()
+    ensures ended { (found brought : Found) (bytes more rest : List ℕ)
+        → all_brought found bytes ≡ (brought, Ok rest)
+        → all_brought found (bytes ++ more) ≡ (brought, Ok (rest ++ more)) }
+    ensures stopped { (found brought : Found) (bytes more : List ℕ) (fault : Fault)
+        → all_brought found bytes ≡ (brought, Err fault)
+        → ComesBy more brought (all_brought found (bytes ++ more)) }
+{}
+
+/// It is blocks that stay, not samples: a quantization table after the scans counts for all blocks
+/// of a progressive component whose coefficients weren't all sent.
+#[tactic(auto, unfolding(crate::proofs::OnLiterals::cuts_on_literals))]
+pub fn later_tables_change_samples()
+    ensures shorter { seen (without_last 71 requantized) ≡ Ok (replicate 64 129, Some End) }
+    ensures longer { seen requantized ≡ Ok (replicate 64 136, None) }
+{}
