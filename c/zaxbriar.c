@@ -12,6 +12,9 @@ uint32_t zaxbriar_checked_read_info(const uint8_t *jpeg, size_t jpeg_size,
 uint32_t zaxbriar_checked_decode(const uint8_t *jpeg, size_t jpeg_size,
                                  const zaxbriar_options *options, uint8_t *pixels,
                                  size_t pixels_size, zaxbriar_picture *picture);
+uint32_t zaxbriar_checked_decode_partial(const uint8_t *jpeg, size_t jpeg_size,
+                                         const zaxbriar_options *options, uint8_t *pixels,
+                                         size_t pixels_size, zaxbriar_picture *picture);
 uint32_t zaxbriar_checked_metadata(const uint8_t *jpeg, size_t jpeg_size, uint32_t kind,
                                    uint8_t *data, size_t data_size, uint64_t *length);
 
@@ -32,6 +35,7 @@ _Static_assert(offsetof(zaxbriar_picture, format) == 47, "picture");
 _Static_assert(offsetof(zaxbriar_picture, feature) == 48, "picture");
 _Static_assert(offsetof(zaxbriar_picture, feature_argument) == 49, "picture");
 _Static_assert(offsetof(zaxbriar_picture, sampling) == 50, "picture");
+_Static_assert(offsetof(zaxbriar_picture, fault) == 54, "picture");
 _Static_assert(offsetof(zaxbriar_picture, text) == 80, "picture");
 
 static const zaxbriar_options no_options;
@@ -57,16 +61,34 @@ zaxbriar_result zaxbriar_read_info(const void *jpeg, size_t jpeg_size,
         jpeg ? jpeg : &nothing, jpeg_size, options ? options : &no_options, picture);
 }
 
-zaxbriar_result zaxbriar_decode(const void *jpeg, size_t jpeg_size,
-                                const zaxbriar_options *options, void *pixels, size_t pixels_size,
-                                zaxbriar_picture *picture) {
+/* A proved call that writes pixels. */
+typedef uint32_t decoding(const uint8_t *jpeg, size_t jpeg_size, const zaxbriar_options *options,
+                          uint8_t *pixels, size_t pixels_size, zaxbriar_picture *picture);
+
+static zaxbriar_result decode_by(decoding *call, const void *jpeg, size_t jpeg_size,
+                                 const zaxbriar_options *options, void *pixels, size_t pixels_size,
+                                 zaxbriar_picture *picture) {
     zaxbriar_picture unused;
     if (!picture) picture = &unused;
     if (!is_slice(jpeg, jpeg_size)) return bad_argument(picture, "jpeg is a null pointer");
     if (!is_slice(pixels, pixels_size)) return bad_argument(picture, "pixels is a null pointer");
-    return (zaxbriar_result)zaxbriar_checked_decode(
-        jpeg ? jpeg : &nothing, jpeg_size, options ? options : &no_options,
-        pixels ? pixels : &nothing, pixels_size, picture);
+    return (zaxbriar_result)call(jpeg ? jpeg : &nothing, jpeg_size,
+                                 options ? options : &no_options, pixels ? pixels : &nothing,
+                                 pixels_size, picture);
+}
+
+zaxbriar_result zaxbriar_decode(const void *jpeg, size_t jpeg_size,
+                                const zaxbriar_options *options, void *pixels, size_t pixels_size,
+                                zaxbriar_picture *picture) {
+    return decode_by(zaxbriar_checked_decode, jpeg, jpeg_size, options, pixels, pixels_size,
+                     picture);
+}
+
+zaxbriar_result zaxbriar_decode_partial(const void *jpeg, size_t jpeg_size,
+                                        const zaxbriar_options *options, void *pixels,
+                                        size_t pixels_size, zaxbriar_picture *picture) {
+    return decode_by(zaxbriar_checked_decode_partial, jpeg, jpeg_size, options, pixels,
+                     pixels_size, picture);
 }
 
 zaxbriar_result zaxbriar_metadata(const void *jpeg, size_t jpeg_size, int kind, void *data,
@@ -92,6 +114,7 @@ const char *zaxbriar_answer_name(int answer) {
     case ZAXBRIAR_BAD_ARGUMENT: return "bad argument";
     case ZAXBRIAR_NO_DATA: return "no such metadata";
     case ZAXBRIAR_TOO_LARGE: return "picture too large";
+    case ZAXBRIAR_PARTIAL: return "partial picture";
     default: return "unknown answer";
     }
 }

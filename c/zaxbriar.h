@@ -45,7 +45,8 @@ extern "C" {
 #define ZAXBRIAR_CALL
 #endif
 
-/* What a call returns. Unless it is ZAXBRIAR_OK, `pixels` and `data` are unchanged. */
+/* What a call returns. Unless it is ZAXBRIAR_OK or ZAXBRIAR_PARTIAL, `pixels` and `data` are
+ * unchanged. */
 typedef enum zaxbriar_result {
     ZAXBRIAR_OK = 0,
     ZAXBRIAR_MALFORMED = 1,    /* the stream breaks a rule of the standard */
@@ -56,7 +57,9 @@ typedef enum zaxbriar_result {
     ZAXBRIAR_BAD_ARGUMENT = 6, /* a null pointer, options that don't exist, or a stride that is
                                   shorter than a line of the picture or above 2^32 */
     ZAXBRIAR_NO_DATA = 7,      /* the header, or the whole image, has no such metadata */
-    ZAXBRIAR_TOO_LARGE = 8     /* according to its header, the picture exceeds a limit */
+    ZAXBRIAR_TOO_LARGE = 8,    /* according to its header, the picture exceeds a limit */
+    ZAXBRIAR_PARTIAL = 9       /* only of zaxbriar_decode_partial: the stream has a fault, and
+                                  `pixels` has what it brings up to it: picture.fault */
 } zaxbriar_result;
 
 /* How the pixels are arranged. Every picture can be decoded into every layout. In all but
@@ -114,7 +117,7 @@ typedef enum zaxbriar_transform {
 
 /* The unsupported feature that a stream needs. Where N is mentioned, it is `feature_argument`. */
 typedef enum zaxbriar_feature {
-    ZAXBRIAR_NO_FEATURE = 0,           /* the result wasn't ZAXBRIAR_UNSUPPORTED */
+    ZAXBRIAR_NO_FEATURE = 0,           /* no feature is missing */
     ZAXBRIAR_FEATURE_HIERARCHICAL = 1, /* hierarchical coding, or a second frame */
     ZAXBRIAR_FEATURE_ARITHMETIC = 2,   /* arithmetic coding */
     ZAXBRIAR_FEATURE_PRECISION = 3,    /* samples of N bits */
@@ -181,14 +184,19 @@ typedef struct zaxbriar_picture {
     uint8_t process;          /* zaxbriar_process */
     uint8_t orientation;      /* 1 to 8, from Exif data before the frame; 1 if they give none */
     uint8_t format;           /* of the stream: zaxbriar_format */
-    uint8_t feature;          /* after ZAXBRIAR_UNSUPPORTED: zaxbriar_feature; otherwise 0 */
+    uint8_t feature;          /* after ZAXBRIAR_UNSUPPORTED, and if `fault` is that:
+                                 zaxbriar_feature; otherwise 0 */
     uint8_t feature_argument; /* the number that goes with the feature, or 0 */
     uint8_t sampling[4];      /* of the stream: the sampling factors of each component, as the
                                  frame header has them, from 1 to 4: the horizontal one in the
                                  upper four bits, the vertical one in the lower; 0 for a component
                                  that it doesn't have */
-    uint8_t reserved[26];     /* zero */
-    char text[112];           /* why the call failed, in English, ending with a zero; "" after OK */
+    uint8_t fault;            /* after ZAXBRIAR_PARTIAL: the stream's first fault, which is
+                                 ZAXBRIAR_MALFORMED, ZAXBRIAR_UNSUPPORTED or ZAXBRIAR_TRUNCATED;
+                                 otherwise 0 */
+    uint8_t reserved[25];     /* zero */
+    char text[112];           /* why the call failed, or the fault of a partial picture, in English,
+                                 ending with a zero; "" after OK */
 } zaxbriar_picture;
 
 /* Describes the picture of a stream, from its header. */
@@ -205,6 +213,22 @@ ZAXBRIAR_CALL zaxbriar_result zaxbriar_read_info(const void *jpeg, size_t jpeg_s
 ZAXBRIAR_CALL zaxbriar_result zaxbriar_decode(const void *jpeg, size_t jpeg_size,
                                               const zaxbriar_options *options, void *pixels,
                                               size_t pixels_size, zaxbriar_picture *picture);
+
+/* Decodes as zaxbriar_decode does, but also a stream that is truncated or damaged: then `pixels`
+ * gets the picture of what the stream brings up to its first fault, and the call returns
+ * ZAXBRIAR_PARTIAL. What no scan has brought is mid-grey. ZAXBRIAR_OK means that the stream has no
+ * fault.
+ *
+ * MALFORMED, UNSUPPORTED and TRUNCATED are for streams without a frame header that can be decoded,
+ * and for a transform that doesn't fit the picture. All other values are as for zaxbriar_decode.
+ *
+ * The call uses more memory than `decoding_bytes`: the coefficients of all blocks also of a
+ * sequential picture, 128 bytes each, and the data of one restart interval, which is at most the
+ * rest of the stream. `max_bytes` doesn't count these. */
+ZAXBRIAR_CALL zaxbriar_result zaxbriar_decode_partial(const void *jpeg, size_t jpeg_size,
+                                                      const zaxbriar_options *options,
+                                                      void *pixels, size_t pixels_size,
+                                                      zaxbriar_picture *picture);
 
 /* Copies the metadata of a kind (zaxbriar_kind) from the segments before the frame: Exif data from
  * the TIFF header on, XMP data, or an ICC profile. Stores their number of bytes in *length, even if

@@ -18,6 +18,10 @@ static void null_pointers(void) {
     CHECK(zaxbriar_decode(jpeg.start, jpeg.size, NULL, NULL, 1, &picture) == ZAXBRIAR_BAD_ARGUMENT);
     CHECK(zaxbriar_decode(jpeg.start, jpeg.size, NULL, NULL, 0, &picture) == ZAXBRIAR_NO_ROOM);
     CHECK(picture.size > 0);
+    CHECK(zaxbriar_decode_partial(NULL, 1, NULL, &pixel, 1, &picture) == ZAXBRIAR_BAD_ARGUMENT);
+    CHECK(zaxbriar_decode_partial(NULL, 0, NULL, NULL, 0, NULL) == ZAXBRIAR_TRUNCATED);
+    CHECK(zaxbriar_decode_partial(jpeg.start, jpeg.size, NULL, NULL, 1, NULL) ==
+          ZAXBRIAR_BAD_ARGUMENT);
     CHECK(zaxbriar_metadata(NULL, 1, ZAXBRIAR_EXIF, NULL, 0, &length) == ZAXBRIAR_BAD_ARGUMENT &&
           length == 0);
     CHECK(zaxbriar_metadata(jpeg.start, jpeg.size, ZAXBRIAR_EXIF, NULL, 1, NULL) ==
@@ -51,6 +55,8 @@ static void unknown_options(void) {
         CHECK(picture.text[0] != 0);
         CHECK(zaxbriar_decode(jpeg.start, jpeg.size, &options, NULL, 0, &picture) ==
               ZAXBRIAR_BAD_ARGUMENT);
+        CHECK(zaxbriar_decode_partial(jpeg.start, jpeg.size, &options, NULL, 0, &picture) ==
+              ZAXBRIAR_BAD_ARGUMENT);
     }
     for (int scale = 0; scale <= UINT8_MAX; scale++) {
         zaxbriar_options scaled = {.scale = (uint8_t)scale};
@@ -76,9 +82,9 @@ static void unknown_options(void) {
 }
 
 static void names(void) {
-    for (int answer = ZAXBRIAR_OK; answer <= ZAXBRIAR_TOO_LARGE; answer++) {
+    for (int answer = ZAXBRIAR_OK; answer <= ZAXBRIAR_PARTIAL; answer++) {
         CHECK(zaxbriar_answer_name(answer)[0] != 0);
-        for (int other = ZAXBRIAR_OK; other <= ZAXBRIAR_TOO_LARGE + 1; other++)
+        for (int other = ZAXBRIAR_OK; other <= ZAXBRIAR_PARTIAL + 1; other++)
             CHECK(other == answer ||
                   strcmp(zaxbriar_answer_name(answer), zaxbriar_answer_name(other)) != 0);
     }

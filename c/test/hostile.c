@@ -1,10 +1,11 @@
 /* hostile LIST DAMAGED: decodes each file that LIST names, and so many damaged copies of each, from
  * memory that ends right before a page that can't be read, into memory that ends right before a
  * page that can't be written; and files of less than 3,000 bytes with each allocation refused in
- * turn. A call must free what it has allocated, change no byte of the pixels unless it succeeds,
- * and take no more memory at a time than `decoding_bytes` says, beside tables, metadata and a few
- * lines; of a picture above a limit it takes that alone. Linked with --wrap=malloc, --wrap=realloc
- * and --wrap=free. */
+ * turn; and what there is of the others, which is what decoding gives where no fault is named. A
+ * call must free what it has allocated, and change no byte of the pixels unless it succeeds or
+ * returns a part. Decoding must take no more memory at a time than `decoding_bytes` says, beside
+ * tables, metadata and a few lines; of a picture above a limit it takes that alone. Linked with
+ * --wrap=malloc, --wrap=realloc and --wrap=free. */
 #define _GNU_SOURCE
 #include <malloc.h>
 #include <sys/mman.h>
@@ -16,7 +17,7 @@ enum { PAGE = 4096, MOST_PIXELS = 4000000, SMALL_FILE = 3000, MOST_BESIDE = 1 <<
 static int is_counting;
 static size_t live_bytes, peak_bytes, most_beside;
 static long allocations, refused_one, live, most_allocations;
-static long files, refusals, answers[ZAXBRIAR_TOO_LARGE + 1];
+static long files, refusals, parts, answers[ZAXBRIAR_TOO_LARGE + 1];
 
 void *__real_malloc(size_t size);
 void *__real_realloc(void *start, size_t size);
@@ -105,6 +106,27 @@ static int decode(const unsigned char *jpeg, size_t size, const zaxbriar_options
     return answer;
 }
 
+/* What there is of a stream, whose decoding gave this answer and what `pixels` has. */
+static void in_part(const unsigned char *jpeg, size_t size, const zaxbriar_options *options,
+                    struct fenced pixels, size_t room, int answer) {
+    zaxbriar_picture picture;
+    unsigned char *whole = block(room);
+    memcpy(whole, pixels.start, room);
+    memset(pixels.start, 0x5A, room);
+    begin(0);
+    int part = zaxbriar_decode_partial(jpeg, size, options, pixels.start, room, &picture);
+    end();
+    if (part == ZAXBRIAR_OK)
+        CHECK(answer == ZAXBRIAR_OK && !memcmp(pixels.start, whole, room));
+    else if (part == ZAXBRIAR_PARTIAL)
+        CHECK(picture.fault >= ZAXBRIAR_MALFORMED && picture.fault <= ZAXBRIAR_TRUNCATED);
+    else
+        CHECK(is_all(pixels.start, room, 0x5A));
+    CHECK((picture.fault != 0) == (part == ZAXBRIAR_PARTIAL));
+    parts += part == ZAXBRIAR_PARTIAL;
+    free(whole);
+}
+
 /* What a call took beside the samples that it counts: no more than so much, and the metadata. */
 static void take_beside(size_t samples, size_t size) {
     size_t beside = peak_bytes > samples ? peak_bytes - samples : 0;
@@ -186,6 +208,8 @@ static void of_stream(const unsigned char *bytes, size_t size, int is_whole) {
         if (allocations > most_allocations) most_allocations = allocations;
         if (size < SMALL_FILE && is_whole && picture.size < 100000)
             each_allocation(jpeg.start, size, &options, pixels, picture.size, answer);
+        else
+            in_part(jpeg.start, size, &options, pixels, picture.size, answer);
         munmap(pixels.base, pixels.whole);
     }
     answers[answer]++;
@@ -261,6 +285,7 @@ int main(int argc, char **argv) {
     printf("hostile: %ld streams between guard pages:", files);
     for (int answer = 0; answer <= ZAXBRIAR_TOO_LARGE; answer++)
         if (answers[answer]) printf(" %s %ld,", zaxbriar_answer_name(answer), answers[answer]);
+    printf(" %ld of them in part,", parts);
     printf(" at most %ld allocations a call, of %zu bytes beside the samples; %ld allocations "
            "refused; %d faults\n",
            most_allocations, most_beside, refusals, faults);

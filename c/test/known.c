@@ -232,6 +232,80 @@ static void limits(void) {
     }
 }
 
+/* Decodes as far as the stream goes, into memory of 7s. */
+static zaxbriar_result decode_partial(const unsigned char *jpeg, size_t size,
+                                      zaxbriar_options options, size_t room) {
+    memset(pixels, 7, sizeof pixels);
+    return zaxbriar_decode_partial(jpeg, size, &options, pixels, room, &picture);
+}
+
+/* Whether the picture of `grey` is described beside this fault. */
+static int is_partial(zaxbriar_result fault) {
+    return picture.width == 8 && picture.fault == fault && picture.text[0] != 0 &&
+           is_all(picture.reserved, sizeof picture.reserved, 0);
+}
+
+/* A whole stream, and one that is cut: in its scan header, before and after its only block, after
+ * its header, and in it. */
+static void cut_streams(void) {
+    enum { SCAN_HEADER = 130, BLOCK = 138 };
+    zaxbriar_options none = {0};
+    CHECK(decode_partial(grey, sizeof grey, none, 65) == ZAXBRIAR_OK);
+    CHECK(is_all(pixels, 64, 0x81) && pixels[64] == 7);
+    CHECK(picture.fault == 0 && picture.text[0] == 0 && picture.stream_bytes == 141);
+    for (size_t size = GREY_HEADER; size < sizeof grey; size++) {
+        unsigned char *cut = block(size);
+        memcpy(cut, grey, size);
+        CHECK(decode_partial(cut, size, none, 65) == ZAXBRIAR_PARTIAL);
+        CHECK(is_partial(ZAXBRIAR_TRUNCATED) && picture.feature == ZAXBRIAR_NO_FEATURE);
+        CHECK(is_all(pixels, 64, size <= BLOCK ? 0x80 : 0x81) && pixels[64] == 7);
+        free(cut);
+    }
+    CHECK(decode_partial(grey, GREY_HEADER - 1, none, 65) == ZAXBRIAR_TRUNCATED);
+    CHECK(picture.fault == 0 && picture.width == 0 && is_all(pixels, 65, 7));
+    CHECK(zaxbriar_decode_partial(grey, SCAN_HEADER, NULL, pixels, 64, NULL) == ZAXBRIAR_PARTIAL);
+}
+
+/* Other faults, of which one names a feature. */
+static void damaged_streams(void) {
+    static const unsigned char lines[] = {0xff, 0xdc, 0x00, 0x04, 0x00, 0x08};
+    zaxbriar_options none = {0};
+    unsigned char stream[sizeof grey + sizeof lines];
+    memcpy(stream, grey, sizeof grey);
+    memcpy(stream + sizeof grey - 2, lines, sizeof lines);
+    CHECK(decode_partial(stream, sizeof stream, none, 64) == ZAXBRIAR_PARTIAL);
+    CHECK(is_partial(ZAXBRIAR_UNSUPPORTED) && is_all(pixels, 64, 0x81));
+    CHECK(picture.feature == ZAXBRIAR_FEATURE_DNL && picture.feature_argument == 0);
+    memcpy(stream, grey, sizeof grey);
+    memcpy(stream + GREY_HEADER, "\xff\xdb\0\1", 4); /* no length is below 2 */
+    CHECK(decode_partial(stream, sizeof grey, none, 64) == ZAXBRIAR_PARTIAL);
+    CHECK(is_partial(ZAXBRIAR_MALFORMED) && is_all(pixels, 64, 0x80));
+    CHECK(decode_partial((const unsigned char *)"GIF89a", 6, none, 64) == ZAXBRIAR_MALFORMED);
+    CHECK(picture.fault == 0 && is_all(pixels, 65, 7));
+}
+
+/* A cut stream with gaps, in another layout, in too little room, and above a limit. */
+static void cut_with_options(void) {
+    for (uint8_t layout = ZAXBRIAR_AS_STORED; layout <= ZAXBRIAR_GREY; layout++) {
+        zaxbriar_options options = {.layout = layout, .stride = 9};
+        CHECK(decode_partial(grey, GREY_HEADER, options, 80) == ZAXBRIAR_PARTIAL);
+        CHECK(is_partial(ZAXBRIAR_TRUNCATED) && picture.size == 71);
+        for (uint64_t x = 0; x < 80; x++)
+            CHECK(pixels[x] == (x < picture.size && x % 9 < 8 ? 0x80 : 7));
+    }
+    zaxbriar_options rgb = {.layout = ZAXBRIAR_RGB}, eighth = {.scale = 8};
+    zaxbriar_options above = {.max_samples = 63};
+    CHECK(decode_partial(grey, GREY_HEADER, rgb, 192) == ZAXBRIAR_PARTIAL);
+    CHECK(is_all(pixels, 192, 0x80) && pixels[192] == 7);
+    CHECK(decode_partial(grey, GREY_HEADER, eighth, 1) == ZAXBRIAR_PARTIAL && pixels[0] == 0x80);
+    CHECK(decode_partial(grey, GREY_HEADER, rgb, 191) == ZAXBRIAR_NO_ROOM);
+    CHECK(picture.size == 192 && picture.fault == 0 && is_all(pixels, 193, 7));
+    CHECK(picture.stream_bytes == GREY_HEADER);
+    CHECK(decode_partial(grey, GREY_HEADER, above, 64) == ZAXBRIAR_TOO_LARGE);
+    CHECK(picture.width == 8 && picture.fault == 0 && is_all(pixels, 64, 7));
+    CHECK(decode_partial(grey, sizeof grey, above, 64) == ZAXBRIAR_TOO_LARGE);
+}
+
 static void metadata(void) {
     for (int i = 0; i < 2; i++) {
         unsigned char stream[sizeof grey + sizeof exif[i]], buffer[23];
@@ -376,6 +450,9 @@ int main(void) {
     features();
     without_conversion();
     limits();
+    cut_streams();
+    damaged_streams();
+    cut_with_options();
     metadata();
     metadata_of_image();
     long_profile();

@@ -1,16 +1,15 @@
 -- A refusal of the header, or of what follows it, is one of the stream.
-use Rattle.std.proofs.Common.{◌≡◌, ◌⊎◌, ◌<◌, ◌^◌, ℕ, List, Ok, Err, Some, length, Result, Bool, true, ap, arith, refl}
+use Rattle.std.proofs.Common.{◌≡◌, ◌⊎◌, ◌<◌, ◌^◌, ℕ, List, Ok, Err, Some, length, Result, ap, arith, refl}
 use Rattle.std.specs.Prelude.{IfErr, IsErrAnd, OnOk}
-use Rattle.jpeg_bits.specs.Reading.{Answers, Fault, IsGivenUp, Names, Outcome}
-use Rattle.jpeg_bits.specs.Stream.{Stream}
+use Rattle.jpeg_bits.specs.Reading.{Fault, Names}
 use Rattle.jpeg_bits.specs.declared.error.Error.{Error}
 use Rattle.jpeg_streams.specs.DecodedImages.{at_size}
 use Rattle.jpeg_streams.specs.Found.{Found, with_said}
 use Rattle.jpeg_streams.specs.Stream.{header_at, rest_at}
 use Rattle.jpeg_streams.specs.Output.{Tells}
 use Rattle.jpeg_streams.proofs.ReadTurns.{then-ok}
-use Rattle.zaxbriar.specs.Faults.{IsArgument, IsFault, IsNamed, IsOfCall, IsOfCallNumber, IsOfDecoder, IsOwn}
-use Rattle.zaxbriar.specs.Faults.{StandsFor, status_of, fault_code}
+use Rattle.zaxbriar.specs.Faults.{IsFault, IsNamed, IsOfCall, IsOfCallNumber, IsOfReading, IsOwn}
+use Rattle.zaxbriar.specs.Faults.{status_of, fault_code}
 use Rattle.zaxbriar.specs.Meanings.{settings_of, size_wanted, meaning_by}
 use Rattle.zaxbriar.specs.declared.answers.Refusal.{Refusal}
 use Rattle.zaxbriar.specs.declared.answers.Refusal.TheVariants as refusals
@@ -30,8 +29,8 @@ pub if-err : {X E : Type 0} (r : Result X E) (P Q : E → Type 0) → IfErr r P 
 if-err (Ok x) P Q p f = tt
 if-err (Err e) P Q p f = f e p
 
--- a refusal of a decoder is none for the size of a picture
-pub not-own : (r : Refusal) → IsOfDecoder r → IsOwn r → ⊥
+-- a refusal of a decoder, and a part, are none for the size of a picture
+pub not-own : (r : Refusal) → IsOfReading r → IsOwn r → ⊥
 not-own r d o = grind arith
 
 -- one for the size of a picture that isn't for lack of room is for a limit
@@ -49,20 +48,11 @@ header-names o bytes x h = grind (arith, refused)
 
 pub header-fails : (o : Options) (bytes : List ℕ) (r : Refusal) → IsFault (header_at bytes) r → IsFault (meaning_by o bytes) r
 header-fails o bytes (refusals.Stream e) h = header-names o bytes e h
+header-fails o bytes (refusals.Part e) h = tt
 header-fails o bytes refusals.Reader h = tt
 header-fails o bytes (refusals.Argument text) h = tt
 header-fails o bytes refusals.NoRoom h = tt
 header-fails o bytes refusals.TooLarge h = tt
-
-names : {X Y : Type 0} (view : X → Y) (read : List ℕ → Outcome Y) (old new : Stream) (e : Error) (b : Bool)
-    → new.known ≡ b → Answers {X = X} view read old (Err e) new → old.known ≡ true → (IsGivenUp e new.failed → ⊥)
-    → Names e (read old.bytes)
-names view read old new e x k a o g = grind arith
-
--- what stands for an error of a decoder of known bytes names their fault
-pub stands : {X Y : Type 0} (view : X → Y) (read : List ℕ → Outcome Y) (old new : Stream) (e : Error) (r : Refusal)
-    → StandsFor e new.failed r → Answers {X = X} view read old (Err e) new → old.known ≡ true → IsFault (read old.bytes) r
-stands view read old new e x s a o = grind (arith, names)
 
 pub means-rest : (o : Options) (bytes rest : List ℕ) (header : Found) → header_at bytes ≡ Ok (header, rest)
     → meaning_by o bytes ≡ rest_at (settings_of o) (with_said (at_size (size_wanted o)) header) rest

@@ -7,11 +7,12 @@ use Rattle.jpeg_bits.specs.declared.error.Error.TheVariants as errors
 use Rattle.jpeg_bits.specs.declared.error.UnsupportedFeature.{UnsupportedFeature}
 use Rattle.zaxbriar.specs.declared.answers.Refusal.{Refusal}
 use Rattle.zaxbriar.specs.declared.answers.Refusal.TheVariants.{Stream, Argument, NoRoom}
-use Rattle.zaxbriar.specs.declared.answers.Refusal.TheVariants.{Reader, TooLarge}
+use Rattle.zaxbriar.specs.declared.answers.Refusal.TheVariants.{Part, Reader, TooLarge}
 
 -- A refusal of a stream names the fault of its bytes.
 abbrev pub IsFault : {Y : Type 0} → Result Y Fault → Refusal → Type 0
 IsFault outcome (Stream e) = Names e outcome
+IsFault outcome (Part e) = Unit {0}
 IsFault outcome Reader = Unit {0}
 IsFault outcome (Argument text) = Unit {0}
 IsFault outcome NoRoom = Unit {0}
@@ -28,6 +29,16 @@ IsOfDecoder (Stream e) = Unit {0}
 IsOfDecoder Reader = Unit {0}
 IsOfDecoder _ = ⊥
 
+-- A refusal of a call to a decoder, or else a part of a stream.
+abbrev pub IsOfReading : Refusal → Type 0
+IsOfReading (Part e) = Unit {0}
+IsOfReading r = IsOfDecoder r
+
+-- No refusal: a part of a stream was written.
+abbrev pub IsPart : Refusal → Type 0
+IsPart (Part e) = Unit {0}
+IsPart _ = ⊥
+
 -- A refusal of a picture for its size: it is longer than the buffer, or above a limit.
 abbrev pub IsOwn : Refusal → Type 0
 IsOwn NoRoom = Unit {0}
@@ -37,6 +48,7 @@ IsOwn _ = ⊥
 -- A refusal by the limits, by the arguments, because of the reader, or for lack of memory.
 abbrev pub IsOfCall : Refusal → Type 0
 IsOfCall (Stream e) = e ≡ errors.OutOfMemory
+IsOfCall (Part e) = ⊥
 IsOfCall Reader = Unit {0}
 IsOfCall (Argument text) = Unit {0}
 IsOfCall NoRoom = ⊥
@@ -49,15 +61,19 @@ StandsFor error failed (Stream e) = (e ≡ error) × (IsGivenUp error failed →
 StandsFor error failed Reader = IsGivenUp error failed
 StandsFor error failed _ = ⊥
 
--- The number of a refusal, and of an outcome. A reader over memory is never given up, so that no
+-- The number of an error, of a refusal, and of an outcome. A reader over memory is never given up, so that no
 -- caller is told of one: its number is that of the only other refusal that the bytes and the
 -- arguments have no part in.
+abbrev pub error_code : Error → ℕ
+error_code (errors.Format text) = 1
+error_code (errors.Unsupported feature) = 2
+error_code (errors.Io e) = 3
+error_code errors.OutOfMemory = 4
+error_code (errors.Internal text) = 6
+
 abbrev pub fault_code : Refusal → ℕ
-fault_code (Stream (errors.Format text)) = 1
-fault_code (Stream (errors.Unsupported feature)) = 2
-fault_code (Stream (errors.Io e)) = 3
-fault_code (Stream errors.OutOfMemory) = 4
-fault_code (Stream (errors.Internal text)) = 6
+fault_code (Stream e) = error_code e
+fault_code (Part e) = 9
 fault_code Reader = 4
 fault_code (Argument text) = 6
 fault_code NoRoom = 5
@@ -66,6 +82,11 @@ fault_code TooLarge = 8
 abbrev pub status_of : {X : Type 0} → Result X Refusal → ℕ
 status_of (Ok x) = 0
 status_of (Err r) = fault_code r
+
+-- the number of the fault of which an outcome tells beside a part of the stream
+abbrev pub fault_told : {X : Type 0} → Result X Refusal → ℕ
+fault_told (Err (Part e)) = error_code e
+fault_told _ = 0
 
 -- Where a number is that of a fault, it is the fault of the bytes.
 abbrev pub IsNamed : {Y : Type 0} → ℕ → Result Y Fault → Type 0

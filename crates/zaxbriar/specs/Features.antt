@@ -7,7 +7,7 @@ use Rattle.jpeg_bits.specs.declared.error.Error.TheVariants as errors
 use Rattle.jpeg_bits.specs.declared.error.UnsupportedFeature.{UnsupportedFeature}
 use Rattle.jpeg_bits.specs.declared.error.UnsupportedFeature.TheVariants as features
 use Rattle.zaxbriar.specs.declared.answers.Refusal.{Refusal}
-use Rattle.zaxbriar.specs.declared.answers.Refusal.TheVariants.{Stream}
+use Rattle.zaxbriar.specs.declared.answers.Refusal.TheVariants.{Part, Stream}
 use Rattle.zaxbriar.specs.declared.features.Feature.{Feature}
 use Rattle.zaxbriar.specs.declared.picture.Picture.{Picture}
 
@@ -39,6 +39,7 @@ feature_in (features.ColorTransform transform) = numbered 8 (transform_code tran
 -- the feature that a refusal names, and that of an outcome
 abbrev pub feature_of : Refusal → Feature
 feature_of (Stream (errors.Unsupported feature)) = feature_in feature
+feature_of (Part (errors.Unsupported feature)) = feature_in feature
 feature_of _ = numbered 0 0
 
 abbrev pub feature_told : {X : Type 0} → Result X Refusal → Feature

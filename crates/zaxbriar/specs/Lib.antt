@@ -5,4 +5,5 @@ pub mod Limits
 pub mod Lines
 pub mod Meanings
 pub mod Metadata
+pub mod Partial
 pub mod Sampling

@@ -98,7 +98,8 @@ described_picture layout info precision lines decoding orientation sampling stre
   feature = 0;
   feature_argument = 0;
   sampling = sampling;
-  reserved = replicate 26 0;
+  fault = 0;
+  reserved = replicate 25 0;
   text = replicate 112 0;
 }
 

@@ -160,7 +160,8 @@ no_picture = record {
   feature = 0;
   feature_argument = 0;
   sampling = replicate 4 0;
-  reserved = replicate 26 0;
+  fault = 0;
+  reserved = replicate 25 0;
   text = replicate 112 0;
 }
 

@@ -1,6 +1,7 @@
 //! What a call returns, and the text of a refusal.
 ghost use Rattle.std.specs.Prelude.{◌≡◌, IfOk, IfErr, replicate, slice_index};
-ghost use Rattle.zaxbriar.specs.Faults.{IsOwn, StandsFor, status_of, fault_code, padded};
+ghost use Rattle.zaxbriar.specs.Faults.{IsOwn, StandsFor, error_code, fault_code, fault_told};
+ghost use Rattle.zaxbriar.specs.Faults.{padded, status_of};
 
 use jpeg_decoder::Decoder;
 use jpeg_decoder::error::Error;
@@ -25,13 +26,17 @@ pub const NO_DATA: u32 = 7;
 
 pub const TOO_LARGE: u32 = 8;
 
+pub const PARTIAL: u32 = 9;
+
 /// The bytes of a refusal's text, with the zero that ends it.
 pub const TEXT_BYTES: usize = 112;
 
-/// A refusal of the stream, or of the call.
+/// Why a call isn't OK: a refusal of the stream, or of the call.
 #[derive(Drop)]
 pub enum Refusal {
     Stream(Error),
+    /// The fault of a stream of which a part was written: what it brings up to that fault.
+    Part(Error),
     /// A read failed, or was interrupted without end. It never happens over bytes in memory.
     Reader,
     Argument(&'static str),
@@ -67,18 +72,40 @@ pub fn refusal_of<R: Read + Drop>(decoder: &Decoder<R>, error: Error) -> Refusal
     }
 }
 
+/// Returns the number of the refusal of a stream for an error.
+fn error_code(error: &Error) -> u32
+    ensures { result ≡ error_code error.now }
+{
+    match error {
+        Error::Format(_) => MALFORMED,
+        Error::Unsupported(_) => UNSUPPORTED,
+        Error::Io(_) => TRUNCATED,
+        Error::OutOfMemory => NO_MEMORY,
+        Error::Internal(_) => BAD_ARGUMENT,
+    }
+}
+
 /// Returns the number of a refusal.
 pub fn code_of(refusal: &Refusal) -> u32
     ensures { result ≡ fault_code refusal.now }
 {
     match refusal {
-        Refusal::Stream(Error::Format(_)) => MALFORMED,
-        Refusal::Stream(Error::Unsupported(_)) => UNSUPPORTED,
-        Refusal::Stream(Error::Io(_)) => TRUNCATED,
-        Refusal::Stream(Error::OutOfMemory) | Refusal::Reader => NO_MEMORY,
-        Refusal::Stream(Error::Internal(_)) | Refusal::Argument(_) => BAD_ARGUMENT,
+        Refusal::Stream(error) => error_code(error),
+        Refusal::Part(_) => PARTIAL,
+        Refusal::Reader => NO_MEMORY,
+        Refusal::Argument(_) => BAD_ARGUMENT,
         Refusal::NoRoom => NO_ROOM,
         Refusal::TooLarge => TOO_LARGE,
+    }
+}
+
+/// Returns the number of the fault of a stream of which a part was written, or 0.
+pub fn fault_told(outcome: &std::result::Result<(), Refusal>) -> u8
+    ensures { result ≡ fault_told outcome.now }
+{
+    match outcome {
+        Err(Refusal::Part(error)) => error_code(error) as u8,
+        _ => 0,
     }
 }
 
@@ -98,7 +125,7 @@ fn put_refusal(alloc: Global, refusal: &Refusal, text: &mut [u8; TEXT_BYTES])
     ensures said { IsOwn refusal.now → slice_index text.new 0 ≡ 0 → ⊥ }
 {
     match refusal {
-        Refusal::Stream(error) => match format!(in alloc; "{error}") {
+        Refusal::Stream(error) | Refusal::Part(error) => match format!(in alloc; "{error}") {
             Ok(line) => put_text(line.as_bytes(), text),
             Err(_) => put_text(b"out of memory", text),
         },

@@ -1,21 +1,27 @@
 //! Pictures of streams in the caller's memory.
 ghost use Rattle.std.specs.Prelude.{◌≡◌, ◌++◌, ◌≤◌, ◌<◌, ◌^◌, ℕ, List, Some, length, option_map};
-ghost use Rattle.std.specs.Prelude.{true, false, Err, IfErr, IsErrAnd, OnErr, OnOk};
-ghost use Rattle.jpeg_decoder.specs.Bytes.{decoding_bytes};
+ghost use Rattle.std.specs.Prelude.{true, false, Err, IfErr, IfOk, IfSome, IsErrAnd, None, Ok, OnOk};
+ghost use Rattle.std.specs.List.{concat};
+ghost use Rattle.jpeg_bits.specs.declared.error.Error.TheVariants.{OutOfMemory};
+ghost use Rattle.jpeg_decoder.specs.Bytes.{AreLinesOf, IsCounted, decoding_bytes};
 ghost use Rattle.jpeg_streams.specs.ArrayPictures.{picture_of_array};
-ghost use Rattle.jpeg_streams.specs.DecodedImages.{at_size};
+ghost use Rattle.jpeg_streams.specs.DecodedImages.{DecodesImages, at_size};
 ghost use Rattle.jpeg_streams.specs.Found.{Said};
 ghost use Rattle.jpeg_streams.specs.Levels.{Is8Bit, Levels};
 ghost use Rattle.jpeg_streams.specs.Pixels.{info_of};
 ghost use Rattle.jpeg_streams.specs.declared.progress.Progress.TheVariants.{HeaderRead};
-ghost use Rattle.jpeg_bits.specs.Reading.{Fault};
-ghost use Rattle.jpeg_streams.specs.Stream.{header_at, rest_at};
+ghost use Rattle.jpeg_bits.specs.Reading.{Answers, Fault, IsGivenUp};
+ghost use Rattle.jpeg_streams.specs.Shown.{shown_rest};
+ghost use Rattle.jpeg_streams.specs.Stream.{header_at, rest_at, told_of};
 ghost use Rattle.jpeg_streams.specs.WrittenImages.{WritesImage};
 ghost use Rattle.jpeg_streams.specs.WrittenScans.{Coefficients};
-ghost use Rattle.zaxbriar.specs.Faults.{IsArgument, IsFault, IsOfCall, IsOfDecoder, IsOwn};
+ghost use Rattle.zaxbriar.specs.Faults.{IsArgument, IsFault, IsOfCall, IsOfDecoder};
+ghost use Rattle.zaxbriar.specs.Faults.{IsOfReading, IsOwn, IsPart};
 ghost use Rattle.zaxbriar.specs.Layouts.{size_of_lines};
 ghost use Rattle.zaxbriar.specs.Limits.{are_known};
 ghost use Rattle.zaxbriar.specs.Lines.{Decodes, HasLines};
+ghost use Rattle.zaxbriar.specs.Partial.{Brings, Reaches, ShowsFault, ShowsPart, outcome_of};
+ghost use Rattle.zaxbriar.specs.Partial.{shown_by};
 ghost use Rattle.zaxbriar.specs.Meanings.{AreWrong, CountsRead, IsTooLarge, IsWithin, Shows};
 ghost use Rattle.zaxbriar.specs.Meanings.{ShowsSamples, meaning_by, settings_of, size_wanted};
 ghost use Rattle.zaxbriar.specs.Meanings.{uncounted};
@@ -28,17 +34,121 @@ use crate::header::Header;
 use crate::lines::{Lines, put_lines, stored_line};
 use crate::options::{Options, are_known};
 use crate::picture::Picture;
-use jpeg_decoder::{Decoder, SliceReader};
+use jpeg_decoder::error::Error;
+use jpeg_decoder::{Decoder, PartialLines, SliceReader};
 use std::alloc::Global;
 use std::io::Read;
 
-/// Decodes the picture whose header was read into its lines in the caller's memory.
+/// Returns the fault of a stream, or the refusal where it isn't one of the stream: for lack of
+/// memory, or because of the reader.
+fn stream_fault<R: Read + Drop>(
+    decoder: &Decoder<R>,
+    fault: Option<Error>,
+) -> std::result::Result<Option<Error>, Refusal>
+    ensures same { IfOk result (λ f. f ≡ fault) }
+    ensures of_stream { IfOk result (λ f. IfSome f (λ e.
+        (IsGivenUp e decoder.now.source.failed → ⊥) × (e ≡ OutOfMemory → ⊥))) }
+    ensures call { IfErr result IsOfCall }
+    ensures own { IfErr result IsOfDecoder }
+{
+    let Some(error) = fault else {
+        return Ok(None);
+    };
+    match refusal_of(decoder, error) {
+        Refusal::Stream(Error::OutOfMemory) => Err(Refusal::Stream(Error::OutOfMemory)),
+        Refusal::Stream(error) => Ok(Some(error)),
+        refusal => Err(refusal),
+    }
+}
+
+/// Reads the rest of a stream as far as it goes.
+fn read_part<R: Read + Drop>(decoder: &mut Decoder<R>) -> std::result::Result<PartialLines, Refusal>
+    requires read { decoder.old.stage ≡ HeaderRead }
+    ensures stays { IfOk result
+        (λ _. decoder.new.found.said.frame ≡ decoder.old.found.said.frame) }
+    ensures counted { IfOk result (λ _. IsCounted decoder.new.found.said.frame) }
+    ensures lines { IfOk result (λ p. AreLinesOf decoder.new.found.said.frame p.lines) }
+    ensures shown { decoder.old.source.known ≡ true → IfOk result (λ p. Brings
+        (shown_rest decoder.old.settings decoder.old.found decoder.old.source.bytes)
+        (concat p.lines) p.fault (told_of decoder.new.found.said)) }
+    ensures named { decoder.old.source.known ≡ true → IfErr result (IsFault
+        (shown_rest decoder.old.settings decoder.old.found decoder.old.source.bytes)) }
+    ensures own { IfErr result IsOfDecoder }
+{
+    match decoder.decode_partial_lines() {
+        Ok(partial) => match stream_fault(decoder, partial.fault) {
+            Ok(fault) => Ok(PartialLines {
+                lines: partial.lines,
+                fault,
+            }),
+            Err(refusal) => Err(refusal),
+        },
+        Err(error) => {
+            // After a failed read the error may be that of the picture.
+            if decoder.has_read_failed() {
+                Err(Refusal::Reader)
+            } else {
+                Err(refusal_of(decoder, error))
+            }
+        }
+    }
+}
+
+/// Reads the rest of a stream: all of it, or, in part, as far as it goes.
+fn read_lines<R: Read + Drop>(
+    decoder: &mut Decoder<R>,
+    is_partial: bool,
+) -> std::result::Result<PartialLines, Refusal>
+    requires read { decoder.old.stage ≡ HeaderRead }
+    ensures stays { IfOk result
+        (λ _. decoder.new.found.said.frame ≡ decoder.old.found.said.frame) }
+    ensures counted { IfOk result (λ _. IsCounted decoder.new.found.said.frame) }
+    ensures lines { IfOk result (λ p. AreLinesOf decoder.new.found.said.frame p.lines) }
+    ensures entire { is_partial ≡ false → IfOk result (λ p. p.fault ≡ None) }
+    ensures reads { is_partial ≡ false → IfOk result (λ p. Answers {X = Unit {0}}
+        (λ u. (told_of decoder.new.found.said, concat p.lines))
+        (rest_at decoder.old.settings decoder.old.found) decoder.old.source (Ok tt)
+        decoder.new.source) }
+    ensures images { is_partial ≡ false → IfOk result (λ p. DecodesImages {X = Unit {0}}
+        (λ u. concat p.lines) decoder.old (Ok tt) decoder.new) }
+    ensures shown { is_partial ≡ true → decoder.old.source.known ≡ true → IfOk result (λ p. Brings
+        (shown_rest decoder.old.settings decoder.old.found decoder.old.source.bytes)
+        (concat p.lines) p.fault (told_of decoder.new.found.said)) }
+    ensures named { is_partial ≡ false → decoder.old.source.known ≡ true
+        → IfErr result (IsFault (rest_at decoder.old.settings decoder.old.found
+        decoder.old.source.bytes)) }
+    ensures lacking { is_partial ≡ true → decoder.old.source.known ≡ true → IfErr result (IsFault
+        (shown_rest decoder.old.settings decoder.old.found decoder.old.source.bytes)) }
+    ensures own { IfErr result IsOfDecoder }
+{
+    if is_partial {
+        return read_part(decoder);
+    }
+    match decoder.decode_lines() {
+        Ok(lines) => Ok(PartialLines { lines, fault: None }),
+        Err(error) => Err(refusal_of(decoder, error)),
+    }
+}
+
+/// Returns what a call tells that has written lines: OK, or the fault beside which they are a part.
+fn outcome_of(fault: Option<Error>) -> std::result::Result<(), Refusal>
+    ensures { result ≡ outcome_of fault }
+{
+    match fault {
+        Some(error) => Err(Refusal::Part(error)),
+        None => Ok(()),
+    }
+}
+
+/// Decodes the picture whose header was read into its lines in the caller's memory; or, in part,
+/// what the stream brings of it.
 fn decode_lines<R: Read + Drop>(
     alloc: Global,
     decoder: &mut Decoder<R>,
     header: Header,
     lines: Lines,
     pixels: &mut [u8],
+    is_partial: bool,
 ) -> std::result::Result<(), Refusal>
     requires read { decoder.old.stage ≡ HeaderRead }
     requires info { option_map info_of decoder.old.found.said.frame ≡ Some header.info }
@@ -48,35 +158,48 @@ fn decode_lines<R: Read + Drop>(
         ≡ Some header.decoding_bytes }
     requires lines { (options : Options) × HasLines options header.info header.precision lines }
     requires room { size_of_lines lines.stride lines.row_bytes lines.height ≤ length pixels.old }
-    ensures decodes { OnOk result (Decodes lines decoder.old decoder.new pixels.old pixels.new) }
-    ensures named { decoder.old.source.known ≡ true
+    ensures decodes { is_partial ≡ false
+        → OnOk result (Decodes lines decoder.old decoder.new pixels.old pixels.new) }
+    ensures entire { is_partial ≡ false → IfErr result (λ r. IsPart r → ⊥) }
+    ensures reaches { is_partial ≡ true → decoder.old.source.known ≡ true
+        → Reaches lines result decoder.old decoder.new pixels.old pixels.new }
+    ensures named { is_partial ≡ false → decoder.old.source.known ≡ true
         → IfErr result (IsFault (rest_at decoder.old.settings decoder.old.found
         decoder.old.source.bytes)) }
-    ensures kept { OnErr result (pixels.new ≡ pixels.old) }
-    ensures own { IfErr result IsOfDecoder }
+    ensures lacking { is_partial ≡ true → decoder.old.source.known ≡ true → IfErr result (IsFault
+        (shown_rest decoder.old.settings decoder.old.found decoder.old.source.bytes)) }
+    ensures kept { IfErr result (λ r. (IsPart r → ⊥) → pixels.new ≡ pixels.old) }
+    ensures own { IfErr result IsOfReading }
 {
     // After a refusal the caller's memory is as it was, so all memory is taken before.
     let mut row = stored_line(alloc, lines)?;
-    match decoder.decode_lines() {
-        Ok(mut picture) => {
-            put_lines(&mut picture, lines, &mut row, pixels);
-            Ok(())
+    match read_lines(decoder, is_partial) {
+        Ok(mut read) => {
+            put_lines(&mut read.lines, lines, &mut row, pixels);
+            outcome_of(read.fault)
         }
-        Err(error) => Err(refusal_of(decoder, error)),
+        Err(refusal) => Err(refusal),
     }
 }
 
-/// Decodes a stream into the caller's memory, and counts the bytes that were read.
+/// Decodes a stream, or, in part, what there is of it, into the caller's memory, and counts the
+/// bytes that were read.
 pub fn decode_into(
     alloc: Global,
     jpeg: &[u8],
     options: &Options,
     pixels: &mut [u8],
     picture: &mut Picture,
+    is_partial: bool,
 ) -> std::result::Result<(), Refusal>
-    ensures means { length jpeg.now < 2 ^ 64
+    ensures means { is_partial ≡ false → length jpeg.now < 2 ^ 64
         → OnOk result (Shows options.now jpeg.now pixels.old pixels.new picture.new) }
-    ensures images { length jpeg.now < 2 ^ 64 →
+    ensures shown { is_partial ≡ true → length jpeg.now < 2 ^ 64
+        → OnOk result (ShowsPart options.now jpeg.now pixels.old pixels.new None picture.new) }
+    ensures part { is_partial ≡ true → length jpeg.now < 2 ^ 64
+        → IfErr result (ShowsFault options.now jpeg.now pixels.old pixels.new picture.new) }
+    ensures entire { is_partial ≡ false → IfErr result (λ r. IsPart r → ⊥) }
+    ensures images { is_partial ≡ false → length jpeg.now < 2 ^ 64 →
         (array : Coefficients) (image rest : List ℕ) (final : Said) (last : ℕ → Levels) →
         ((index row column : ℕ) → Is8Bit (array index row column)) →
         WritesImage array image final last →
@@ -84,16 +207,20 @@ pub fn decode_into(
         OnOk result (ShowsSamples options.now (picture_of_array (settings_of options.now)
         (at_size (size_wanted options.now) final) array last) pixels.old pixels.new picture.new
         × (picture.new.stream_bytes ≡ length image)) }
-    ensures counts { length jpeg.now < 2 ^ 64 → OnOk result
+    ensures counts { is_partial ≡ false → length jpeg.now < 2 ^ 64 → OnOk result
         (CountsRead (meaning_by options.now jpeg.now) jpeg.now picture.new.stream_bytes) }
     ensures header { length jpeg.now < 2 ^ 64 → IfErr result (λ r. IsOwn r
         → CountsRead (header_at jpeg.now) jpeg.now picture.new.stream_bytes) }
     ensures most { picture.old.stream_bytes ≡ 0 → picture.new.stream_bytes ≤ length jpeg.now }
-    ensures named { length jpeg.now < 2 ^ 64
+    ensures named { is_partial ≡ false → length jpeg.now < 2 ^ 64
         → IfErr result (IsFault (meaning_by options.now jpeg.now)) }
-    ensures kept { OnErr result (pixels.new ≡ pixels.old) }
+    ensures lacking { is_partial ≡ true → length jpeg.now < 2 ^ 64
+        → IfErr result (IsFault (shown_by options.now jpeg.now)) }
+    ensures kept { IfErr result (λ r. (IsPart r → ⊥) → pixels.new ≡ pixels.old) }
     ensures within { length jpeg.now < 2 ^ 64
         → OnOk result (IsWithin options.now jpeg.now (uncounted picture.new)) }
+    ensures described { length jpeg.now < 2 ^ 64 → IfErr result
+        (λ r. IsPart r → IsWithin options.now jpeg.now (uncounted picture.new)) }
     ensures room { length jpeg.now < 2 ^ 64 → IfErr result
         (λ r. r ≡ NoRoom → IsWithin options.now jpeg.now (uncounted picture.new)
         × (length pixels.old < picture.new.size)) }
@@ -118,7 +245,7 @@ pub fn decode_into(
     if picture.size > pixels.len() as u64 {
         return Err(Refusal::NoRoom);
     }
-    let decoded = decode_lines(alloc, &mut decoder, header, lines, pixels);
+    let decoded = decode_lines(alloc, &mut decoder, header, lines, pixels, is_partial);
     picture.stream_bytes = bytes_read(jpeg, &decoder);
     decoded
 }

@@ -6,7 +6,7 @@ ghost use Rattle.jpeg_streams.specs.Output.{default_settings};
 ghost use Rattle.jpeg_streams.specs.Pixels.{info_of};
 ghost use Rattle.jpeg_streams.specs.declared.progress.Progress.TheVariants.{Fresh};
 ghost use Rattle.jpeg_streams.specs.Stream.{header_at};
-ghost use Rattle.zaxbriar.specs.Faults.{IsArgument, IsFault, IsOfCall};
+ghost use Rattle.zaxbriar.specs.Faults.{IsArgument, IsFault, IsOfCall, IsPart};
 ghost use Rattle.zaxbriar.specs.Limits.{are_known, bytes_beside};
 ghost use Rattle.zaxbriar.specs.Lines.{HasLines, described_picture};
 ghost use Rattle.zaxbriar.specs.Meanings.{AreWrong, CountsRead, IsMisfit, IsTooLarge, IsWithin};
@@ -56,6 +56,7 @@ pub fn describe<R: Read + Drop>(
     ensures misfit { decoder.old.source.known ≡ true → IfErr result
         (λ r. IsArgument r → IsMisfit options.now decoder.old.source.bytes) }
     ensures other { IfErr result (λ r. r ≡ NoRoom → ⊥) }
+    ensures whole { IfErr result (λ r. IsPart r → ⊥) }
     ensures kept { IfErr result (λ r. (r ≡ TooLarge → ⊥) → picture.new ≡ picture.old) }
 {
     let header = read_header(decoder, options)?;
@@ -86,6 +87,7 @@ pub fn read_info_from(
     ensures limited { length jpeg.now < 2 ^ 64 → (size : Picture)
         → IsTooLarge options.now jpeg.now size → IsErrAnd result IsOfCall }
     ensures named { length jpeg.now < 2 ^ 64 → IfErr result (IsFault (header_at jpeg.now)) }
+    ensures whole { IfErr result (λ r. IsPart r → ⊥) }
     ensures known { are_known options.now ≡ false → IsErrAnd result IsArgument }
     ensures wrong { length jpeg.now < 2 ^ 64 → IfErr result
         (λ r. IsArgument r → AreWrong options.now jpeg.now) }

@@ -50,12 +50,13 @@ fn feature_in(feature: &UnsupportedFeature) -> Feature
     Feature { number, argument }
 }
 
-/// Returns the feature for which an outcome is a refusal, or none.
+/// Returns the feature for which an outcome is a refusal, or for which a part was written, or none.
 pub fn feature_told(outcome: &std::result::Result<(), Refusal>) -> Feature
     ensures { result ≡ feature_told outcome.now }
 {
     match outcome {
-        Err(Refusal::Stream(Error::Unsupported(feature))) => feature_in(feature),
+        Err(Refusal::Stream(Error::Unsupported(feature)))
+        | Err(Refusal::Part(Error::Unsupported(feature))) => feature_in(feature),
         _ => Feature {
             number: 0,
             argument: 0,

@@ -6,7 +6,7 @@
 #![tactic(auto)]
 
 ghost use Rattle.std.specs.Prelude.{◌≡◌, ◌⊎◌, ◌++◌, ◌<◌, ◌≤◌, ◌^◌, ℕ, List, length, slice_index};
-ghost use Rattle.std.specs.Prelude.{false, Err, IsOk, None};
+ghost use Rattle.std.specs.Prelude.{false, Err, IsOk, None, Some};
 ghost use Rattle.jpeg_bits.specs.Reading.{Fault, Malformed, Lacks, End};
 ghost use Rattle.jpeg_bits.specs.declared.error.UnsupportedFeature.{UnsupportedFeature};
 ghost use Rattle.jpeg_streams.specs.ArrayPictures.{picture_of_array};
@@ -23,6 +23,7 @@ ghost use Rattle.zaxbriar.specs.Metadata.{IsCopied, IsLonger, IsNoKind, end_at, 
 ghost use Rattle.zaxbriar.specs.Meanings.{AreWrong, CountsRead, IsTooLarge, IsWithin, Shows};
 ghost use Rattle.zaxbriar.specs.Meanings.{ShowsSamples, as_described, meaning_by, no_picture};
 ghost use Rattle.zaxbriar.specs.Meanings.{settings_of, size_wanted, uncounted};
+ghost use Rattle.zaxbriar.specs.Partial.{ShowsPart, TellsFault, shown_by, without_fault};
 
 mod answers;
 mod counts;
@@ -38,7 +39,7 @@ pub mod options;
 pub mod picture;
 mod sampling;
 
-use answers::{BAD_ARGUMENT, NO_MEMORY, answer};
+use answers::{BAD_ARGUMENT, NO_MEMORY, answer, fault_told};
 use decode::decode_into;
 use description::read_info_from;
 use features::feature_told;
@@ -182,10 +183,93 @@ pub extern "C" fn zaxbriar_checked_decode(
     ensures said { (result ≡ 5) ⊎ (result ≡ 8) → slice_index picture.new.text 0 ≡ 0 → ⊥ }
 {
     *picture = NO_PICTURE;
-    let outcome = decode_into(alloc, jpeg, options, pixels, picture);
+    let outcome = decode_into(alloc, jpeg, options, pixels, picture, false);
     let feature = feature_told(&outcome);
     picture.feature = feature.number;
     picture.feature_argument = feature.argument;
+    answer(alloc, outcome, &mut picture.text)
+}
+
+/// Decodes what there is of a stream that may have a fault into `pixels`. What it doesn't bring is
+/// mid-grey.
+#[unsafe(no_mangle)]
+pub extern "C" fn zaxbriar_checked_decode_partial(
+    alloc: Global,
+    jpeg: &[u8],
+    options: &Options,
+    pixels: &mut [u8],
+    picture: &mut Picture,
+) -> u32
+    // After OK, the stream has no fault, `pixels` has the picture that it shows, in the layout of
+    // the options, and nothing else has changed in it; and `picture` describes it.
+    ensures whole { result ≡ 0 → length jpeg.now < 2 ^ 64 →
+        ShowsPart options.now jpeg.now pixels.old pixels.new None picture.new }
+
+    // After PARTIAL, `pixels` has the picture of what the stream brings up to its first fault, which
+    // `picture` names beside describing the picture. After any other result it names no fault.
+    ensures part { result ≡ 9 → length jpeg.now < 2 ^ 64 → (fault : Fault)
+        × ShowsPart options.now jpeg.now pixels.old pixels.new (Some fault)
+        (without_fault picture.new) × TellsFault picture.new fault }
+    ensures entire { (result ≡ 9 → ⊥) → picture.new.fault ≡ 0 }
+
+    // MALFORMED, UNSUPPORTED and TRUNCATED name the fault for which nothing is shown: that of a
+    // stream without an accepted frame header, or a transform that doesn't fit the picture. After
+    // UNSUPPORTED `picture` names the feature, and after any other result but PARTIAL none.
+    ensures malformed { length jpeg.now < 2 ^ 64 → result ≡ 1
+        → shown_by options.now jpeg.now ≡ Err Malformed }
+    ensures unsupported { length jpeg.now < 2 ^ 64 → result ≡ 2
+        → LacksFeature (shown_by options.now jpeg.now) picture.new }
+    ensures truncated { length jpeg.now < 2 ^ 64 → result ≡ 3
+        → shown_by options.now jpeg.now ≡ Err End }
+    ensures unnamed { (result ≡ 2 → ⊥) → (result ≡ 9 → ⊥)
+        → NamesFeature picture.new (numbered 0 0) }
+
+    // After any other result than OK and PARTIAL, `pixels` is as it was.
+    ensures kept { (result ≡ 0 → ⊥) → (result ≡ 9 → ⊥) → pixels.new ≡ pixels.old }
+
+    // After OK, PARTIAL and NO_ROOM `picture` is what `zaxbriar_checked_read_info` describes, within
+    // the limits; and after NO_ROOM `pixels` is too short for it.
+    ensures describes { (result ≡ 0) ⊎ (result ≡ 9) → length jpeg.now < 2 ^ 64
+        → IsWithin options.now jpeg.now (as_described (without_fault picture.new)) }
+    ensures room { result ≡ 5 → length jpeg.now < 2 ^ 64
+        → IsWithin options.now jpeg.now (as_described picture.new)
+        × (length pixels.old < picture.new.size) }
+
+    // TOO_LARGE: `picture` describes it, and it is above a limit, whatever follows the header, as
+    // for `zaxbriar_checked_decode`.
+    ensures large { result ≡ 8 → length jpeg.now < 2 ^ 64
+        → IsTooLarge options.now jpeg.now (as_described picture.new) }
+    ensures limited { length jpeg.now < 2 ^ 64 → (size : Picture)
+        → IsTooLarge options.now jpeg.now size → IsOfCallNumber result }
+
+    // `stream_bytes` is how many bytes the header takes after NO_ROOM and TOO_LARGE, 0 where options
+    // don't exist, and never more than there are.
+    ensures header { (result ≡ 5) ⊎ (result ≡ 8) → length jpeg.now < 2 ^ 64
+        → CountsRead (header_at jpeg.now) jpeg.now picture.new.stream_bytes }
+    ensures unread { are_known options.now ≡ false → picture.new.stream_bytes ≡ 0 }
+    ensures most { picture.new.stream_bytes ≤ length jpeg.now }
+
+    // Options that don't exist are BAD_ARGUMENT, whatever the bytes are. Nothing else is but lines
+    // that don't fit the picture of the header.
+    ensures known { are_known options.now ≡ false → result ≡ 6 }
+    ensures wrong { length jpeg.now < 2 ^ 64 → result ≡ 6 → AreWrong options.now jpeg.now }
+
+    // `picture` is cleared, but for its text, the feature and `stream_bytes`, where options don't
+    // exist or the header is refused.
+    ensures unasked { are_known options.now ≡ false → as_described picture.new ≡ no_picture }
+    ensures cleared { length jpeg.now < 2 ^ 64 → (fault : Fault)
+        → header_at jpeg.now ≡ Err fault → as_described picture.new ≡ no_picture }
+
+    // The text ends by a zero, and says something where there is no room for the picture.
+    ensures ended { slice_index picture.new.text 111 ≡ 0 }
+    ensures said { (result ≡ 5) ⊎ (result ≡ 8) → slice_index picture.new.text 0 ≡ 0 → ⊥ }
+{
+    *picture = NO_PICTURE;
+    let outcome = decode_into(alloc, jpeg, options, pixels, picture, true);
+    let feature = feature_told(&outcome);
+    picture.feature = feature.number;
+    picture.feature_argument = feature.argument;
+    picture.fault = fault_told(&outcome);
     answer(alloc, outcome, &mut picture.text)
 }
 

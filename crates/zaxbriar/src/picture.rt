@@ -41,14 +41,17 @@ pub struct Picture {
     pub orientation: u8,
     /// The number of the format.
     pub format: u8,
-    /// After a refusal for a feature, its number and its argument.
+    /// After a refusal for a feature, or a part of a stream that lacks it here, its number and its
+    /// argument.
     pub feature: u8,
     pub feature_argument: u8,
     /// The sampling factors of the components in the stream, in four bits each, and 0 for those
     /// that it doesn't have.
     pub sampling: [u8; 4],
+    /// After a part of a stream, the number of its fault.
+    pub fault: u8,
     /// Zero.
-    pub reserved: [u8; 26],
+    pub reserved: [u8; 25],
     /// Why a call failed, ended by a zero; all zeros after a success.
     pub text: [u8; TEXT_BYTES],
 }
@@ -72,7 +75,8 @@ pub const NO_PICTURE: Picture = Picture {
     feature: 0,
     feature_argument: 0,
     sampling: [0; 4],
-    reserved: [0; 26],
+    fault: 0,
+    reserved: [0; 25],
     text: [0; TEXT_BYTES],
 };
 
@@ -127,7 +131,8 @@ pub fn picture_of(header: Header, lines: Lines, layout: u8) -> Picture
         feature: 0,
         feature_argument: 0,
         sampling,
-        reserved: [0; 26],
+        fault: 0,
+        reserved: [0; 25],
         text: [0; TEXT_BYTES],
     }
 }

@@ -1,3 +1,4 @@
+use Rattle.std.proofs.Common.{refl}
 use Rattle.zaxbriar.proofs.Fails.{of-call-number}
 use Rattle.zaxbriar.proofs.Told.{if-ok, if-own, shown, shown-samples}
 use Rattle.zaxbriar.proofs.zaxbriar_checked_decode.Goals as goal
@@ -6,18 +7,18 @@ pub returns-clause-means : goal.returns-clause-means
 returns-clause-means c ok few =
     shown c.decode_into-outcome.result c.args.options.now c.args.jpeg.now _ _ c.decode_into-outcome.new.picture
     c.feature_told-feature.result c.answer.new.text c.answer.result c.answer.ensures.code c.feature_told-feature.ensures
-    c.answer.ensures.text (c.decode_into-outcome.ensures.means few) ok
+    c.answer.ensures.text (c.decode_into-outcome.ensures.means refl few) ok
 
 pub returns-clause-images : goal.returns-clause-images
 returns-clause-images c ok few array image rest final last range w is =
     shown-samples c.decode_into-outcome.result c.args.options.now _ _ _ c.decode_into-outcome.new.picture _
     c.feature_told-feature.result c.answer.new.text c.answer.result c.answer.ensures.code c.feature_told-feature.ensures
-    c.answer.ensures.text (c.decode_into-outcome.ensures.images few array image rest final last range w is) ok
+    c.answer.ensures.text (c.decode_into-outcome.ensures.images refl few array image rest final last range w is) ok
 
 pub returns-clause-counts : goal.returns-clause-counts
 returns-clause-counts c ok few =
     if-ok _ c.decode_into-outcome.result c.answer.result c.answer.ensures.code
-    (c.decode_into-outcome.ensures.counts few) ok
+    (c.decode_into-outcome.ensures.counts refl few) ok
 
 pub returns-clause-header : goal.returns-clause-header
 returns-clause-header c own few =

@@ -1,13 +1,9 @@
-use Rattle.std.proofs.Common.{arith}
-use Rattle.zaxbriar.proofs.Decoded.{lines-stored, named-rest}
+use Rattle.zaxbriar.proofs.Decoded.{lines-stored}
 use Rattle.zaxbriar.proofs.decode.decode_lines.Goals as goal
 
 pub put_lines-requires-clause-stored : goal.put_lines-requires-clause-stored
 put_lines-requires-clause-stored g c =
     lines-stored c.requires.lines.0 c.args.header.info c.args.header.precision c.args.lines
-    c.args.decoder.now.found.said.frame c.decode_lines.new.self.found.said.frame c.in-Ok.picture
-    c.requires.lines.1 (c.in-Ok.ensures.stays c.requires.read) c.requires.info c.requires.precision
-    c.in-Ok.ensures.counted c.in-Ok.ensures.lines
-
-pub returns-clause-named : goal.returns-clause-named
-returns-clause-named g c known = grind (arith, named-rest)
+    c.args.decoder.now.found.said.frame c.read_lines.new.decoder.found.said.frame c.in-Ok.read.lines
+    c.requires.lines.1 c.in-Ok.ensures.stays c.requires.info c.requires.precision c.in-Ok.ensures.counted
+    c.in-Ok.ensures.lines
