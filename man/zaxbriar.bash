@@ -8,8 +8,8 @@ _zaxbriar() {
         return
     fi
     case "${COMP_WORDS[1]}" in
-        pnm) options+=' --scale' ;;
-        thumbnail) options+=' --max --as-stored' ;;
+        pnm) options+=' --scale --partial' ;;
+        thumbnail) options+=' --max --as-stored --partial' ;;
         info) options+=' --json --exif --xmp --icc' ;;
         frames) options+=' --list' ;;
     esac

@@ -19,6 +19,8 @@ complete -c zaxbriar -n $later -l max-memory -x -d 'Refuse pictures that need mo
 complete -c zaxbriar -n $pnm -l scale -x -a '1/8 1/4 1/2 1' -d 'The scale of the width and height'
 complete -c zaxbriar -n $thumbnail -l max -x -d 'The size to fit within, WIDTHxHEIGHT'
 complete -c zaxbriar -n $thumbnail -l as-stored -d 'Do not turn the picture'
+complete -c zaxbriar -n $pnm -l partial -d 'Write what there is of a damaged file'
+complete -c zaxbriar -n $thumbnail -l partial -d 'Write what there is of a damaged file'
 complete -c zaxbriar -n $info -l json -d 'Write JSON'
 complete -c zaxbriar -n $info -l exif -r -d 'Write the Exif data to a file'
 complete -c zaxbriar -n $info -l xmp -r -d 'Write the XMP data to a file'

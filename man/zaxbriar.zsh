@@ -17,11 +17,17 @@ if ((CURRENT == 2)); then
     return
 fi
 case "${words[2]}" in
-    pnm) own=('--scale[the scale of the width and height]:scale:(1/8 1/4 1/2 1)') ;;
+    pnm)
+        own=(
+            '--scale[the scale of the width and height]:scale:(1/8 1/4 1/2 1)'
+            '--partial[write what there is of a damaged file]'
+        )
+        ;;
     thumbnail)
         own=(
             '--max[the size to fit within]:WIDTHxHEIGHT:(160x120 320x240 640x480 1280x960)'
             '--as-stored[do not turn the picture]'
+            '--partial[write what there is of a damaged file]'
         )
         ;;
     info)

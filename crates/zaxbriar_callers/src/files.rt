@@ -1,14 +1,16 @@
 //! Callers that write files.
-ghost use Rattle.std.specs.Prelude.{ℕ, List, IsSomeAnd, OnOk};
+ghost use Rattle.std.specs.Prelude.{ℕ, List, IfOk, IsSomeAnd, OnOk};
 ghost use Rattle.std.specs.Io.KnownBytes.{Appends};
 ghost use Rattle.jpeg_streams.specs.Output.{Tells, output_of};
+ghost use Rattle.zaxbriar_pictures.specs.Given.{WritesGiven};
 ghost use Rattle.zaxbriar_pictures.specs.Netpbm.{file_of};
-ghost use Rattle.zaxbriar_pictures.specs.ScaledPictures.{file_at_scale};
 ghost use Rattle.zaxbriar_pictures.specs.Thumbnails.{WritesThumbnail};
 
+use jpeg_decoder::error::Error;
 use jpeg_decoder::{Scale, error};
 use std::alloc::Global;
 use std::io::{Read, Write};
+use zaxbriar_pictures::extents::Extent;
 use zaxbriar_pictures::limits::Limits;
 use zaxbriar_pictures::netpbm::{Picture, write_picture};
 use zaxbriar_pictures::raw::write_raw;
@@ -29,14 +31,15 @@ pub fn picture_at<R: Read + Drop, W: Write>(
     alloc: Global,
     reader: R,
     scale: Scale,
+    extent: Extent,
     limits: Limits,
     writer: &mut W,
-) -> Result<(), Refusal>
+) -> Result<Option<Error>, Refusal>
     ensures { (bytes : List ℕ) → Tells (R.remaining reader) bytes
-        → OnOk result (IsSomeAnd (file_at_scale scale bytes)
-        (Appends (W.contents writer.old) (W.contents writer.new))) }
+        → IfOk result (WritesGiven extent scale bytes (W.contents writer.old)
+        (W.contents writer.new)) }
 {
-    write_at(alloc, reader, scale, limits, writer)
+    write_at(alloc, reader, scale, extent, limits, writer)
 }
 
 /// Calls `write_thumbnail`.
@@ -44,14 +47,15 @@ pub fn thumbnail<R: Read + Drop, W: Write>(
     alloc: Global,
     reader: R,
     request: Request,
+    extent: Extent,
     limits: Limits,
     writer: &mut W,
-) -> Result<(), Refusal>
+) -> Result<Option<Error>, Refusal>
     ensures { (bytes : List ℕ) → Tells (R.remaining reader) bytes
-        → OnOk result (WritesThumbnail request bytes (W.contents writer.old)
+        → IfOk result (WritesThumbnail extent request bytes (W.contents writer.old)
         (W.contents writer.new)) }
 {
-    write_thumbnail(alloc, reader, request, limits, writer)
+    write_thumbnail(alloc, reader, request, extent, limits, writer)
 }
 
 /// Calls `write_raw`.

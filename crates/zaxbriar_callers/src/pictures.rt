@@ -1,16 +1,35 @@
 //! Callers that read a picture.
 ghost use Rattle.std.specs.Prelude.{◌≡◌, ℕ, List, Some, IfOk};
 ghost use Rattle.jpeg_streams.specs.Output.{Tells};
+ghost use Rattle.zaxbriar_pictures.specs.Given.{IsGiven};
 ghost use Rattle.zaxbriar_pictures.specs.ScaledPictures.{decoded, picture_at_scale};
+ghost use Rattle.zaxbriar_pictures.specs.Turns.{decoded_in};
 
 use std::alloc::Global;
 use std::io::Read;
+use zaxbriar_pictures::extents::Extent;
 use zaxbriar_pictures::limits::Limits;
 use zaxbriar_pictures::refusal::Refusal;
 use zaxbriar_pictures::scaled::{Request, ScaledPicture, read_picture};
 
-/// Calls `read_picture`, and says that the picture is the one at its scale.
+/// Calls `read_picture`, and says that picture and fault are those that the stream gives at its
+/// scale.
 pub fn scaled_picture<R: Read + Drop>(
+    alloc: Global,
+    reader: R,
+    request: Request,
+    extent: Extent,
+    limits: Limits,
+) -> Result<ScaledPicture, Refusal>
+    ensures { (bytes : List ℕ) → Tells (R.remaining reader) bytes
+        → IfOk result (λ made. IsGiven extent made.scale bytes (decoded_in made.picture)
+        made.fault) }
+{
+    read_picture(alloc, reader, request, extent, limits)
+}
+
+/// Reads a whole picture, and says that it is the one that the stream means at its scale.
+pub fn whole_picture<R: Read + Drop>(
     alloc: Global,
     reader: R,
     request: Request,
@@ -20,5 +39,5 @@ pub fn scaled_picture<R: Read + Drop>(
         → IfOk result (λ made. picture_at_scale made.scale bytes
         ≡ Some (decoded made.picture.info made.picture.precision made.picture.pixels.items)) }
 {
-    read_picture(alloc, reader, request, limits)
+    scaled_picture(alloc, reader, request, Extent::Whole, limits)
 }

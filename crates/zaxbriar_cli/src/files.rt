@@ -105,3 +105,25 @@ pub fn finish(
         }
     }
 }
+
+/// Ends an output like `finish`, and reports the fault of a file of which what there is was
+/// written.
+pub fn finish_with_fault(
+    rt: &HostRuntime,
+    input: Option<&str>,
+    output: Output<'_>,
+    written: Result<Option<Error>, Refusal>,
+) -> Outcome<()> {
+    let (outcome, fault) = match written {
+        Ok(fault) => (Ok(()), fault),
+        Err(refusal) => (Err(refusal), None),
+    };
+    finish(rt, input, output, outcome)?;
+    match fault {
+        Some(fault) => {
+            report(rt, input, &fault);
+            Err(Failure::Faulty)
+        }
+        None => Ok(()),
+    }
+}

@@ -1,6 +1,7 @@
 mod BoxSums
+mod GivenLines
 mod Greatest
-mod ScaledStreams
+pub mod ScaledStreams
 mod Turned
 mod WrittenLines
 mod WrittenThumbnails

@@ -1,39 +1,114 @@
--- A header, and then the rest of its stream at a scale, are the picture of the stream.
-use Rattle.std.proofs.Common.{◌≡◌, ◌∙◌, ◌++◌, ℕ, List, Ok, Option, Some, None, option_map, refl}
+-- A header, and then the rest of its stream at a scale, are what the stream gives.
+use Rattle.std.proofs.Common.{◌≡◌, ◌∙◌, ◌++◌, ℕ, List, Ok, Err, Option, Some, None, IsSomeAnd, option_map, refl}
+use Rattle.std.proofs.Common.{ap, subst, sym, true}
+use Rattle.std.specs.Io.KnownBytes.{Appends}
+use Rattle.jpeg_bits.specs.Reading.{Fault, Outcome, ◌>>=◌}
+use Rattle.jpeg_bits.specs.declared.error.Error.{Error}
+use Rattle.jpeg_segments.specs.Frame.{Frame}
 use Rattle.jpeg_streams.specs.Output.{default_settings, header_line_of, output_of}
 use Rattle.jpeg_streams.specs.Pixels.{info_of}
+use Rattle.jpeg_streams.specs.Shown.{Shown}
+use Rattle.jpeg_streams.specs.States.{Decoding}
 use Rattle.jpeg_streams.specs.Stream.{Told, header_at, rest_at, scaled_meaning, scaled_to}
 use Rattle.jpeg_streams.specs.Found.{Found, with_said}
 use Rattle.jpeg_streams.proofs.ReadTurns.{then-ok}
 use Rattle.jpeg_streams.specs.declared.images.ImageInfo.{ImageInfo}
+use Rattle.jpeg_decoder.specs.Reaching.{NamesFault}
 use Rattle.jpeg_decoder.proofs.HeaderThenRest.{header-means}
-use Rattle.zaxbriar_pictures.specs.ScaledPictures.{decoded, header_exif, header_info, picture_at_scale}
+use Rattle.zaxbriar_pictures.specs.Given.{Given, IsGiven, WritesGiven, file_in, given, given_at_scale, given_of}
+use Rattle.zaxbriar_pictures.specs.Given.{given_rest, without_fault}
+use Rattle.zaxbriar_pictures.specs.ScaledPictures.{Decoded, decoded, header_exif, header_info, picture_at_scale}
+use Rattle.zaxbriar_pictures.specs.Steps.{GivesPicture}
+use Rattle.zaxbriar_pictures.specs.declared.extents.Extent.{Extent}
+use Rattle.zaxbriar_pictures.specs.declared.extents.Extent.TheVariants.{Whole}
 use Rattle.jpeg_segments.specs.declared.scale.Scale.{Scale}
 
-scaled-rest : (scale : Scale) (bytes rest : List ℕ) (found : Found) → header_at bytes ≡ Ok (found, rest)
-    → scaled_meaning scale default_settings bytes ≡ rest_at default_settings (with_said (scaled_to scale) found) rest
-unfolding scaled_meaning
-scaled-rest scale bytes rest found header = then-ok (header_at bytes) _ (found, rest) _ header refl
+-- ---- the picture and the fault that are given
 
 -- what is said of a frame and its precision are those of a picture
-of_frame : {F : Type 0} (frame : Option F) (said : F → ImageInfo) (bits : F → ℕ) (pixels : List ℕ) (info : ImageInfo)
-    (precision : ℕ)
-    → option_map said frame ≡ Some info → option_map bits frame ≡ Some precision
-    → option_map (λ f. decoded (said f) (bits f) pixels) frame ≡ Some (decoded info precision pixels)
-of_frame (Some f) said bits pixels info precision hi hp = cc
-of_frame None said bits pixels info precision hi hp = absurd (cc)
-
--- The header of a stream and the rest at a scale are the picture at that scale.
-pub picture-at-scale-some : (scale : Scale) (bytes rest left : List ℕ) (found : Found) (told : Told) (pixels : List ℕ)
+of_frame : {F : Type 0} (frame : Option F) (said : F → ImageInfo) (bits : F → ℕ) (pixels : List ℕ) (fault : Option Fault)
     (info : ImageInfo) (precision : ℕ)
-    → header_at bytes ≡ Ok (found, rest)
-    → rest_at default_settings (with_said (scaled_to scale) found) rest ≡ Ok ((told, pixels), left)
-    → option_map info_of told.frame ≡ Some info → option_map (λ f. f.precision) told.frame ≡ Some precision
-    → picture_at_scale scale bytes ≡ Some (decoded info precision pixels)
-unfolding picture_at_scale
-picture-at-scale-some scale bytes rest left found told pixels info precision header picture hi hp =
-    rw (picture_at_scale, scaled-rest scale bytes rest found header ∙ picture)
-    (of_frame told.frame info_of (λ f. f.precision) pixels info precision hi hp)
+    → option_map said frame ≡ Some info → option_map bits frame ≡ Some precision
+    → option_map (λ f. given (decoded (said f) (bits f) pixels) fault) frame
+    ≡ Some (given (decoded info precision pixels) fault)
+of_frame (Some f) said bits pixels fault info precision hi hp = cc
+of_frame None said bits pixels fault info precision hi hp = absurd (cc)
+
+-- The header of a stream and what the rest gives at a scale are what it gives at that scale.
+given-some : (extent : Extent) (scale : Scale) (bytes rest : List ℕ) (found : Found) (s : Shown) (info : ImageInfo)
+    (precision : ℕ)
+    → header_at bytes ≡ Ok (found, rest) → given_rest extent (with_said (scaled_to scale) found) rest ≡ Ok s
+    → option_map info_of s.told.frame ≡ Some info → option_map (λ f. f.precision) s.told.frame ≡ Some precision
+    → given_at_scale extent scale bytes ≡ Some (given (decoded info precision s.picture) s.fault)
+unfolding given_at_scale
+given-some extent scale bytes rest found s info precision header gives hi hp =
+    rw (given_at_scale, then-ok (header_at bytes) _ (found, rest) (Ok s) header gives)
+    (of_frame s.told.frame info_of (λ f. f.precision) s.picture s.fault info precision hi hp)
+
+pub is-given : (extent : Extent) (scale : Scale) (bytes : List ℕ) (found : Found) (old new : Decoding) (picture : Decoded)
+    (fault : Option Error)
+    → header_at bytes ≡ Ok (found, old.source.bytes) → old.source.known ≡ true
+    → old.found ≡ with_said (scaled_to scale) found
+    → GivesPicture extent old new picture fault → IsGiven extent scale bytes picture fault
+is-given extent scale bytes found old new picture fault header known is gives =
+    let r = gives.rest known in
+    let s : Shown = r.0 in
+    let at = given-some extent scale bytes old.source.bytes found s picture.info picture.precision header
+    (ap (λ (f : Found). given_rest extent f old.source.bytes) (sym is) ∙ r.1)
+    (ap (λ (t : Told). option_map info_of t.frame) (sym r.3) ∙ gives.info_is)
+    (ap (λ (t : Told). option_map (λ f. f.precision) t.frame) (sym r.3) ∙ gives.precision_is) in
+    subst (λ (o : Option Given). IsSomeAnd o (λ g. (picture ≡ g.picture) × NamesFault fault g.fault)) (sym at)
+    (ap (λ (pixels : List ℕ). decoded picture.info picture.precision pixels) r.2, r.4)
+
+pub file-given : (extent : Extent) (scale : Scale) (bytes : List ℕ) (before after : Option (List ℕ)) (picture : Decoded)
+    (fault : Option Error)
+    → IsGiven extent scale bytes picture fault → Appends before after (file_in picture)
+    → WritesGiven extent scale bytes before after fault
+file-given extent scale bytes before after picture fault h appended = go (given_at_scale extent scale bytes) h
+  where
+    go : (o : Option Given) → IsSomeAnd o (λ g. (picture ≡ g.picture) × NamesFault fault g.fault)
+        → IsSomeAnd o (λ g. Appends before after (file_in g.picture) × NamesFault fault g.fault)
+    go None h = absurd h
+    go (Some g) h = (subst (λ (p : Decoded). Appends before after (file_in p)) h.0 appended, h.1)
+
+-- Where the whole is wanted, the picture is the one that the stream means at the scale.
+whole-rest : (r : Outcome (Told × List ℕ)) (picture : Decoded) (fault : Option Error)
+    → IsSomeAnd (elim (r >>= (λ m. Ok (without_fault m.0))) [
+      | Ok s ↦ given_of s
+      | Err fault ↦ None
+    ]) (λ g. (picture ≡ g.picture) × NamesFault fault g.fault)
+    → elim r [
+      | Ok stream ↦ option_map (λ f. decoded (info_of f) f.precision stream.0.1) stream.0.0.frame
+      | Err fault ↦ None
+    ] ≡ Some picture
+whole-rest (Err e) picture fault h = absurd h
+whole-rest (Ok ((told, pixels), left)) picture fault h = go told.frame h
+  where
+    go : (frame : Option Frame) → IsSomeAnd (option_map (λ f. given (decoded (info_of f) f.precision pixels) None) frame)
+        (λ g. (picture ≡ g.picture) × NamesFault fault g.fault)
+        → option_map (λ f. decoded (info_of f) f.precision pixels) frame ≡ Some picture
+    go None h = absurd h
+    go (Some f) h = ap Some (sym h.0)
+
+pub whole-given : (scale : Scale) (bytes : List ℕ) (picture : Decoded) (fault : Option Error)
+    → IsGiven Whole scale bytes picture fault → picture_at_scale scale bytes ≡ Some picture
+unfolding given_at_scale picture_at_scale scaled_meaning
+whole-given scale bytes picture fault h = go (header_at bytes) h
+  where
+    go : (r : Outcome Found) → IsSomeAnd (elim (r >>= (λ header.
+        given_rest Whole (with_said (scaled_to scale) header.0) header.1)) [
+          | Ok s ↦ given_of s
+          | Err fault ↦ None
+        ]) (λ g. (picture ≡ g.picture) × NamesFault fault g.fault)
+        → elim (r >>= (λ header. rest_at default_settings (with_said (scaled_to scale) header.0) header.1)) [
+          | Ok stream ↦ option_map (λ f. decoded (info_of f) f.precision stream.0.1) stream.0.0.frame
+          | Err fault ↦ None
+        ] ≡ Some picture
+    go (Err e) h = absurd h
+    go (Ok header) h =
+        whole-rest (rest_at default_settings (with_said (scaled_to scale) header.0) header.1) picture fault h
+
+-- ---- what a header says
 
 -- what a header says of the picture, and its Exif data
 pub header-info-some : (bytes rest : List ℕ) (found : Found) (full : ImageInfo) → header_at bytes ≡ Ok (found, rest)
@@ -50,6 +125,8 @@ pub header-exif-some : (bytes rest : List ℕ) (found : Found) → header_at byt
     → header_exif bytes ≡ found.said.metadata.exif
 unfolding header_exif
 header-exif-some bytes rest found header = rw (header_exif, header) refl
+
+-- ---- the bytes of a picture
 
 -- The header of a stream and the rest at its full size are what `jpegraw` writes.
 pub output-some : (bytes rest left : List ℕ) (found : Found) (told : Told) (pixels : List ℕ) (info : ImageInfo)

@@ -1,4 +1,5 @@
 pub mod Boxes
+pub mod Given
 pub mod Limits
 pub mod Netpbm
 pub mod Samples

@@ -1,11 +1,10 @@
--- The pictures of a stream at its scales, and their files.
+-- The pictures of a stream at its scales.
 use Rattle.std.specs.Prelude.{ℕ, List, Ok, Err, Option, None, option_map}
 use Rattle.std.specs.Int.{div_ceil}
 use Rattle.jpeg_streams.specs.Output.{default_settings}
 use Rattle.jpeg_streams.specs.Pixels.{info_of}
 use Rattle.jpeg_streams.specs.Stream.{header_at, scaled_meaning}
 use Rattle.jpeg_streams.specs.declared.images.ImageInfo.{ImageInfo}
-use Rattle.zaxbriar_pictures.specs.Netpbm.{file_of}
 use Rattle.jpeg_segments.specs.declared.scale.Scale.{Scale}
 use Rattle.jpeg_segments.specs.declared.scale.Scale.TheVariants.{Eighth, Quarter, Half, Full}
 
@@ -45,8 +44,3 @@ picture_at_scale scale bytes = elim (scaled_meaning scale default_settings bytes
   | Ok stream ↦ option_map (λ f. decoded (info_of f) f.precision stream.0.1) stream.0.0.frame
   | Err fault ↦ None
 ]
-
--- the file of a stream's picture at a scale
-abbrev pub file_at_scale : Scale → List ℕ → Option (List ℕ)
-file_at_scale scale bytes =
-    option_map (λ p. file_of p.info p.precision p.pixels) (picture_at_scale scale bytes)

@@ -2,16 +2,19 @@
 -- and its picture was written.
 use Rattle.std.specs.Prelude.{◌≡◌, ℕ, List, Ok, Option, Some, option_map, true, IsSomeAnd}
 use Rattle.std.specs.Io.KnownBytes.{Appends}
-use Rattle.jpeg_bits.specs.Reading.{Answers}
+use Rattle.jpeg_bits.specs.declared.error.Error.{Error}
 use Rattle.jpeg_streams.specs.Found.{Found, with_said}
 use Rattle.jpeg_streams.specs.Output.{default_settings}
 use Rattle.jpeg_streams.specs.Pixels.{info_of}
-use Rattle.jpeg_streams.specs.States.{Decoding, ahead}
+use Rattle.jpeg_streams.specs.Shown.{Shown}
+use Rattle.jpeg_streams.specs.States.{Decoding}
 use Rattle.jpeg_streams.specs.Stream.{header_at, scaled_to, told_of}
-use Rattle.jpeg_streams.specs.declared.images.ImageInfo.{ImageInfo}
 use Rattle.jpeg_streams.specs.declared.progress.Progress.TheVariants.{HeaderRead}
-use Rattle.zaxbriar_pictures.specs.Netpbm.{file_of}
+use Rattle.jpeg_decoder.specs.Reaching.{NamesFault}
+use Rattle.zaxbriar_pictures.specs.Given.{file_in, given_rest}
+use Rattle.zaxbriar_pictures.specs.ScaledPictures.{Decoded}
 use Rattle.zaxbriar_pictures.specs.Sizes.{orientation_for, scale_of_request, size_for}
+use Rattle.zaxbriar_pictures.specs.declared.extents.Extent.{Extent}
 use Rattle.zaxbriar_pictures.specs.declared.scaled.Choice.{Choice}
 use Rattle.zaxbriar_pictures.specs.declared.scaled.Request.{Request}
 
@@ -32,13 +35,23 @@ pub record ReadsForRequest (request : Request) (choice : Choice) (old new : Deco
       × (new.found ≡ with_said (scaled_to choice.scale) header)
       × IsChoice request header choice)
 
--- A decoder has read its image to the end, and a writer has got the file of its picture.
-pub record WritesFile (old new : Decoding) (before after : Option (List ℕ)) : Type 0 where
-  pub samples : List ℕ
-  pub info : ImageInfo
-  pub precision : ℕ
-  pub reads : Answers {X = Unit {0}} (λ u. (told_of new.found.said, samples))
-      (ahead old.stage old.settings old.found) old.source (Ok tt) new.source
-  pub info_is : option_map info_of new.found.said.frame ≡ Some info
-  pub precision_is : option_map (λ f. f.precision) new.found.said.frame ≡ Some precision
-  pub written : Appends before after (file_of info precision samples)
+-- A decoder of known bytes, which had read their header, has given what the rest gives: samples, and
+-- an error for the fault.
+abbrev pub GivesRest : Extent → Decoding → Decoding → List ℕ → Option Error → Type 0
+GivesRest extent old new samples fault = old.source.known ≡ true → (s : Shown)
+    × (given_rest extent old.found old.source.bytes ≡ Ok s) × (samples ≡ s.picture)
+    × (told_of new.found.said ≡ s.told) × NamesFault fault s.fault
+
+-- Such a decoder has given a picture.
+pub record GivesPicture (extent : Extent) (old new : Decoding) (picture : Decoded)
+    (fault : Option Error) : Type 0 where
+  pub rest : GivesRest extent old new picture.pixels fault
+  pub info_is : option_map info_of new.found.said.frame ≡ Some picture.info
+  pub precision_is : option_map (λ f. f.precision) new.found.said.frame ≡ Some picture.precision
+
+-- Such a decoder has given a picture, and a writer has got its file.
+pub record WritesFile (extent : Extent) (old new : Decoding) (before after : Option (List ℕ))
+    (fault : Option Error) : Type 0 where
+  pub picture : Decoded
+  pub gives : GivesPicture extent old new picture fault
+  pub written : Appends before after (file_in picture)

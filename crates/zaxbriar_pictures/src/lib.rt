@@ -9,6 +9,7 @@
 #![tactic(auto)]
 
 pub mod boxes;
+pub mod extents;
 pub mod formats;
 pub mod limits;
 pub mod lines;

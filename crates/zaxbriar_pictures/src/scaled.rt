@@ -1,6 +1,7 @@
 //! Pictures of streams at a scale, as netpbm files.
 ghost use Rattle.std.specs.Prelude.{◌≡◌, ◌*◌, List, ℕ, IfOk, OnOk, Some, IsSomeAnd, option_map};
 ghost use Rattle.std.specs.Prelude.{◌≤◌, true};
+ghost use Rattle.std.specs.List.{concat};
 ghost use Rattle.std.specs.Option.{option_copied};
 ghost use Rattle.std.specs.Io.KnownBytes.{Appends};
 ghost use Rattle.jpeg_bits.specs.Reading.{Answers};
@@ -10,23 +11,27 @@ ghost use Rattle.jpeg_streams.specs.States.{IsReading, ahead};
 ghost use Rattle.jpeg_streams.specs.Stream.{told_of};
 ghost use Rattle.zaxbriar_pictures.specs.Limits.{is_at_most};
 ghost use Rattle.jpeg_streams.specs.Output.{default_settings};
-ghost use Rattle.jpeg_streams.specs.declared.progress.Progress.TheVariants.{Fresh};
-ghost use Rattle.zaxbriar_pictures.specs.ScaledPictures.{decoded, file_at_scale, header_exif};
-ghost use Rattle.zaxbriar_pictures.specs.ScaledPictures.{header_info, picture_at_scale, side_at};
+ghost use Rattle.jpeg_streams.specs.declared.progress.Progress.TheVariants.{Fresh, HeaderRead};
+ghost use Rattle.zaxbriar_pictures.specs.Given.{IsGiven, WritesGiven};
+ghost use Rattle.zaxbriar_pictures.specs.Netpbm.{file_of};
+ghost use Rattle.zaxbriar_pictures.specs.ScaledPictures.{header_exif, header_info, side_at};
+ghost use Rattle.zaxbriar_pictures.specs.Turns.{decoded_in};
 ghost use Rattle.zaxbriar_pictures.specs.Steps.{ReadsForRequest, WritesFile};
 ghost use Rattle.zaxbriar_pictures.specs.Sizes.{covers, is_full, least_scale, orientation_for};
 ghost use Rattle.zaxbriar_pictures.specs.Sizes.{scale_of_request, size_for};
 ghost use Rattle.zaxbriar_pictures.specs.declared.scaled.Request.TheVariants.{At};
 
+use crate::extents::{Extent, decode_wanted_lines, decode_wanted_picture};
 use crate::limits::Limits;
 use crate::lines::write_lines;
 use crate::netpbm::{Picture, header, write_picture};
 use crate::refusal::Refusal;
 use crate::sizes::{as_stored, fitted};
 use crate::turns::bytes_of;
+use jpeg_decoder::error::Error;
 use jpeg_decoder::orientation::orientation_of;
 use jpeg_decoder::parser::Dimensions;
-use jpeg_decoder::{Decoder, ImageInfo, Scale, error};
+use jpeg_decoder::{Decoder, ImageInfo, Lines, PartialLines, Scale, error};
 use std::alloc::Global;
 use std::io::{Read, Write};
 
@@ -114,6 +119,8 @@ pub struct Choice {
 pub struct ScaledPicture {
     /// The picture.
     pub picture: Picture,
+    /// The first fault of its stream, or none if it is whole.
+    pub fault: Option<Error>,
     /// Its scale.
     pub scale: Scale,
     /// The requested size, which isn't greater than the picture.
@@ -260,18 +267,19 @@ fn choose<R: Read + Drop>(
     })
 }
 
-/// Decodes the stream that the reader gives, at the scale for the request. A picture above the
-/// limits is refused by its header.
+/// Decodes as much as is wanted of the stream that the reader gives, at the scale for the request. A
+/// picture above the limits is refused by its header. A read that fails is an error.
 pub fn read_picture<R: Read + Drop>(
     alloc: Global,
     reader: R,
     request: Request,
+    extent: Extent,
     limits: Limits,
 ) -> Result<ScaledPicture, Refusal>
-    // The picture is that of the bytes at its scale.
+    // The picture is the one that the bytes give at its scale, and the fault is named.
     ensures picture { (bytes : List ℕ) → Tells (R.remaining reader) bytes
-        → IfOk result (λ made. picture_at_scale made.scale bytes
-        ≡ Some (decoded made.picture.info made.picture.precision made.picture.pixels.items)) }
+        → IfOk result (λ made. IsGiven extent made.scale bytes (decoded_in made.picture)
+        made.fault) }
 
     // A requested scale is the scale.
     ensures asked { (scale : _) → request ≡ At scale → IfOk result (λ made. made.scale ≡ scale) }
@@ -295,29 +303,28 @@ pub fn read_picture<R: Read + Drop>(
 {
     let mut decoder = Decoder::new(alloc, reader)?;
     let choice = choose(&mut decoder, request, limits)?;
-    let picture = decode_picture(&mut decoder)?;
+    let (picture, fault) = decode_wanted_picture(alloc, &mut decoder, extent)?;
     Ok(ScaledPicture {
         picture,
+        fault,
         scale: choice.scale,
         size: choice.size,
         orientation: choice.orientation,
     })
 }
 
-/// Decodes the picture of a decoder, at the scale that was set, and writes it as a file: some lines
-/// at a time, unless its greatest sample has to be known first.
-fn write_decoded<R: Read + Drop, W: Write>(
+/// Writes the lines of a picture as a file: some lines at a time, unless its greatest sample has to
+/// be known first.
+fn write_lines_of<W: Write>(
     alloc: Global,
-    decoder: &mut Decoder<R>,
+    info: ImageInfo,
+    precision: u8,
+    mut lines: Lines,
     writer: &mut W,
 ) -> error::Result<()>
-    requires reading { IsReading decoder.old.stage }
-    ensures { OnOk result (WritesFile decoder.old decoder.new (W.contents writer.old)
-        (W.contents writer.new)) }
+    ensures { OnOk result (Appends (W.contents writer.old) (W.contents writer.new)
+        (file_of info precision (concat lines))) }
 {
-    let mut lines = decoder.decode_lines()?;
-    let info = decoder.info().unwrap();
-    let precision = decoder.precision().unwrap();
     if precision == 8 {
         let header = header(alloc, info, 255)?;
         return write_lines(alloc, header.as_bytes(), &mut lines, writer);
@@ -331,20 +338,41 @@ fn write_decoded<R: Read + Drop, W: Write>(
     write_picture(alloc, picture, writer)
 }
 
-/// Decodes the stream that the reader gives, and writes its picture at a scale.
+/// Decodes as much as is wanted of the picture of a decoder, at the scale that was set, writes it as
+/// a file, and returns its first fault.
+fn write_decoded<R: Read + Drop, W: Write>(
+    alloc: Global,
+    decoder: &mut Decoder<R>,
+    extent: Extent,
+    writer: &mut W,
+) -> error::Result<Option<Error>>
+    requires header { decoder.old.stage ≡ HeaderRead }
+    requires plain { decoder.old.settings ≡ default_settings }
+    ensures { IfOk result (λ fault. WritesFile extent decoder.old decoder.new
+        (W.contents writer.old) (W.contents writer.new) fault) }
+{
+    let PartialLines { lines, fault } = decode_wanted_lines(decoder, extent)?;
+    let info = decoder.info().unwrap();
+    let precision = decoder.precision().unwrap();
+    write_lines_of(alloc, info, precision, lines, writer)?;
+    Ok(fault)
+}
+
+/// Decodes as much as is wanted of the stream that the reader gives, writes its picture at a scale,
+/// and returns its first fault: none of a whole stream. A read that fails is an error.
 pub fn write_at<R: Read + Drop, W: Write>(
     alloc: Global,
     reader: R,
     scale: Scale,
+    extent: Extent,
     limits: Limits,
     writer: &mut W,
-) -> Result<(), Refusal>
+) -> Result<Option<Error>, Refusal>
     ensures { (bytes : List ℕ) → Tells (R.remaining reader) bytes
-        → OnOk result (IsSomeAnd (file_at_scale scale bytes)
-        (Appends (W.contents writer.old) (W.contents writer.new))) }
+        → IfOk result (WritesGiven extent scale bytes (W.contents writer.old)
+        (W.contents writer.new)) }
 {
     let mut decoder = Decoder::new(alloc, reader)?;
     choose(&mut decoder, Request::At(scale), limits)?;
-    write_decoded(alloc, &mut decoder, writer)?;
-    Ok(())
+    Ok(write_decoded(alloc, &mut decoder, extent, writer)?)
 }

@@ -5,35 +5,39 @@
 //! sample is then the mean of those in its box. One that fits is decoded at all of its size. It is
 //! turned upright by the orientation in its Exif data, as it is shown, unless it is to stay as it
 //! is stored.
-ghost use Rattle.std.specs.Prelude.{List, ℕ, OnOk};
+ghost use Rattle.std.specs.Prelude.{List, ℕ, IfOk};
 ghost use Rattle.jpeg_streams.specs.Output.{Tells};
 ghost use Rattle.zaxbriar_pictures.specs.Thumbnails.{WritesThumbnail};
 
 use crate::boxes::boxed;
+use crate::extents::Extent;
 use crate::limits::Limits;
 use crate::netpbm::write_picture;
 use crate::refusal::Refusal;
 use crate::scaled::{Request, read_picture};
 use crate::turns::upright;
+use jpeg_decoder::error::Error;
 use std::alloc::Global;
 use std::io::{Read, Write};
 
-/// Decodes the stream that the reader gives, and writes the requested picture. A picture above the
-/// limits is refused by its header.
+/// Decodes as much as is wanted of the stream that the reader gives, writes the requested picture,
+/// and returns the first fault of the stream: none of a whole one. A picture above the limits is
+/// refused by its header. A read that fails is an error.
 pub fn write_thumbnail<R: Read + Drop, W: Write>(
     alloc: Global,
     reader: R,
     request: Request,
+    extent: Extent,
     limits: Limits,
     writer: &mut W,
-) -> Result<(), Refusal>
+) -> Result<Option<Error>, Refusal>
     ensures { (bytes : List ℕ) → Tells (R.remaining reader) bytes
-        → OnOk result (WritesThumbnail request bytes (W.contents writer.old)
+        → IfOk result (WritesThumbnail extent request bytes (W.contents writer.old)
         (W.contents writer.new)) }
 {
-    let made = read_picture(alloc, reader, request, limits)?;
+    let made = read_picture(alloc, reader, request, extent, limits)?;
     let smaller = boxed(alloc, made.picture, made.size)?;
     let picture = upright(alloc, smaller, made.orientation)?;
     write_picture(alloc, picture, writer)?;
-    Ok(())
+    Ok(made.fault)
 }

@@ -1,12 +1,14 @@
 //! Writes the pictures of the given files, for the words `pnm` and `thumbnail`.
 
-use crate::ending::{Failure, Outcome};
+use crate::ending::{Outcome, worse_of};
 use crate::output::Output;
 use crate::{arguments, files, names};
-use clap::{Arg, ArgMatches};
+use clap::{Arg, ArgAction, ArgMatches};
+use jpeg_decoder::error::Error;
 use std::alloc::{AllocError, Global};
 use std::collections::BTreeSet;
 use std::io::{Read, Write};
+use zaxbriar_pictures::extents::Extent;
 use zaxbriar_pictures::limits::Limits;
 use zaxbriar_pictures::refusal::Refusal;
 use zaxbriar_pictures::scaled::{Request, write_at};
@@ -15,6 +17,8 @@ use zaxbriar_pictures::thumbnails::write_thumbnail;
 const OUTPUT: &str =
     "The file to write; standard output by default, or for -; for several files DIR/%s.ppm, where \
     %s stands for each file's name without its extension";
+
+const PARTIAL: &str = "Write what there is of a truncated or damaged file; the status is then 3";
 
 /// Returns the option `-o` of a word that may write several files.
 pub fn output_option<'a>(alloc: Global) -> Arg<'a> {
@@ -56,55 +60,81 @@ pub fn check_output(
     }
 }
 
-/// Writes the requested picture of the stream that the reader gives.
-fn write_one<R: Read + Drop, W: Write>(
-    alloc: Global,
-    reader: R,
-    request: Request,
-    limits: Limits,
-    writer: &mut W,
-) -> Result<(), Refusal> {
-    match request {
-        Request::At(scale) => write_at(alloc, reader, scale, limits, writer),
-        Request::Within(_, _) => write_thumbnail(alloc, reader, request, limits, writer),
+/// Returns the option `--partial`.
+pub fn partial_option<'a>(alloc: Global) -> Arg<'a> {
+    Arg::new(alloc, "partial")
+        .long("partial")
+        .action(ArgAction::SetTrue)
+        .help(PARTIAL)
+}
+
+/// Returns how much of a picture is requested.
+fn extent_of(matches: &ArgMatches<'_>) -> Extent {
+    if matches.get_flag("partial") {
+        Extent::Partial
+    } else {
+        Extent::Whole
     }
 }
 
-/// Writes the requested picture of a file.
-fn write_of(
+/// What is requested of each file.
+#[derive(Clone, Copy)]
+struct Job {
     rt: HostRuntime,
-    input: Option<&str>,
-    output: Option<&str>,
     request: Request,
+    extent: Extent,
     limits: Limits,
-) -> Outcome<()> {
-    let mut output = Output::new(rt, output);
-    let outcome = match files::open(&rt, input) {
-        Ok(reader) => write_one(rt.alloc(), reader, request, limits, &mut output),
-        Err(refusal) => Err(refusal),
-    };
-    files::finish(&rt, input, output, outcome)
 }
 
-/// Writes the requested picture of a file to the output of its name.
-fn write_named(
-    rt: HostRuntime,
-    input: Option<&str>,
-    output: Option<&str>,
-    request: Request,
-    limits: Limits,
-) -> Outcome<()> {
-    let Some(output) = output else {
-        return write_of(rt, input, None, request, limits);
-    };
-    match names::name_for(rt.alloc(), output, input) {
-        Ok(name) => write_of(rt, input, Some(name.as_str()), request, limits),
-        Err(error) => Err(files::report(&rt, input, &Refusal::from(error))),
+impl Job {
+    /// Writes the picture of the stream that the reader gives, and returns its first fault.
+    fn write_picture<R: Read + Drop, W: Write>(
+        &self,
+        reader: R,
+        writer: &mut W,
+    ) -> Result<Option<Error>, Refusal> {
+        let alloc = self.rt.alloc();
+        match self.request {
+            Request::At(scale) => {
+                write_at(alloc, reader, scale, self.extent, self.limits, writer)
+            }
+            Request::Within(_, _) => {
+                write_thumbnail(
+                    alloc,
+                    reader,
+                    self.request,
+                    self.extent,
+                    self.limits,
+                    writer,
+                )
+            }
+        }
+    }
+
+    /// Writes the picture of a file.
+    fn write(&self, input: Option<&str>, output: Option<&str>) -> Outcome<()> {
+        let mut output = Output::new(self.rt, output);
+        let written = match files::open(&self.rt, input) {
+            Ok(reader) => self.write_picture(reader, &mut output),
+            Err(refusal) => Err(refusal),
+        };
+        files::finish_with_fault(&self.rt, input, output, written)
+    }
+
+    /// Writes the picture of a file to the output of its name.
+    fn write_named(&self, input: Option<&str>, output: Option<&str>) -> Outcome<()> {
+        let Some(output) = output else {
+            return self.write(input, None);
+        };
+        match names::name_for(self.rt.alloc(), output, input) {
+            Ok(name) => self.write(input, Some(name.as_str())),
+            Err(error) => Err(files::report(&self.rt, input, &Refusal::from(error))),
+        }
     }
 }
 
 /// Writes the requested pictures of the files that the arguments name, and continues after one that
-/// is refused.
+/// is refused or has a fault.
 pub fn write_all(rt: HostRuntime, matches: &ArgMatches<'_>, request: Request) -> Outcome<()> {
     let limits = arguments::limits_of(&rt, matches)?;
     let Some(names) = matches.get_strs(arguments::FILE) else {
@@ -112,11 +142,15 @@ pub fn write_all(rt: HostRuntime, matches: &ArgMatches<'_>, request: Request) ->
     };
     let output = arguments::file_of(matches, "output");
     check_output(&rt, names, "output", output)?;
+    let job = Job {
+        rt,
+        request,
+        extent: extent_of(matches),
+        limits,
+    };
     let mut outcome = Ok(());
     for name in names {
-        if write_named(rt, arguments::named(name), output, request, limits).is_err() {
-            outcome = Err(Failure::Refused);
-        }
+        outcome = worse_of(outcome, job.write_named(arguments::named(name), output));
     }
     outcome
 }

@@ -2,7 +2,8 @@
 //!
 //! The picture's format decides the file's: PGM of a grey picture, PPM of red, green and blue, and
 //! PAM of cyan, magenta, yellow and black. `--scale` writes it at 1/8, 1/4 or 1/2 of its size,
-//! which takes less time than the whole picture.
+//! which takes less time than the whole picture. `--partial` writes what there is of a truncated or
+//! damaged file.
 
 use crate::arguments;
 use crate::commands::pictures;
@@ -29,7 +30,8 @@ pub fn command<'a>(alloc: Global) -> Result<Command<'a>, AllocError> {
     arguments::word(alloc, NAME, ABOUT)?
         .arg(arguments::files_argument(alloc))?
         .arg(pictures::output_option(alloc))?
-        .arg(scale)
+        .arg(scale)?
+        .arg(pictures::partial_option(alloc))
 }
 
 /// Returns the requested scale.

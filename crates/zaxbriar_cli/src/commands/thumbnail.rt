@@ -27,7 +27,8 @@ pub fn command<'a>(alloc: Global) -> Result<Command<'a>, AllocError> {
         .arg(arguments::files_argument(alloc))?
         .arg(pictures::output_option(alloc))?
         .arg(arguments::value_option(alloc, "max", "WIDTHxHEIGHT", MAX).required(true))?
-        .arg(as_stored)
+        .arg(as_stored)?
+        .arg(pictures::partial_option(alloc))
 }
 
 /// Returns the size that a text `WIDTHxHEIGHT` names.

@@ -1,7 +1,6 @@
 use Rattle.jpeg_decoder.proofs.Callers.{bytes_are_known, known_bytes_are_told}
-use Rattle.jpeg_streams.specs.Stream.{told_of}
-use Rattle.zaxbriar_pictures.proofs.ScaledStreams.{header-exif-some, header-info-is}
-use Rattle.zaxbriar_pictures.proofs.ScaledStreams.{picture-at-scale-some}
+use Rattle.zaxbriar_pictures.specs.Turns.{decoded_in}
+use Rattle.zaxbriar_pictures.proofs.ScaledStreams.{header-exif-some, header-info-is, is-given}
 use Rattle.zaxbriar_pictures.proofs.scaled.read_picture.Goals as goal
 
 pub returns-clause-picture : goal.returns-clause-picture
@@ -10,13 +9,9 @@ returns-clause-picture g c bytes tells =
     let same = known_bytes_are_told (g.R.Read.remaining c.args.reader) bytes tells in
     let begun = rw c.in_ok-decoder.ensures.ok at c.in_ok-choice.ensures.reads in
     let read = begun.reads known in
-    let picture = (rw (begun.stage, begun.settings, read.1.2) at c.in_ok-picture.ensures.reads) tt in
-    let second = picture.1 read.0 in
-    picture-at-scale-some c.in_ok-choice.choice.scale bytes c.choose.new.decoder.source.bytes
-    c.decode_picture.new.decoder.source.bytes read.1.0
-    (told_of c.decode_picture.new.decoder.found.said) c.in_ok-picture.picture.pixels.items
-    c.in_ok-picture.picture.info c.in_ok-picture.picture.precision (rw same at read.1.1) second.1
-    c.in_ok-picture.ensures.info c.in_ok-picture.ensures.precision
+    is-given c.args.extent c.in_ok-choice.choice.scale bytes read.1.0 c.choose.new.decoder
+    c.decode_wanted_picture.new.decoder (decoded_in c.in_ok-picture.picture) c.in_ok-picture.fault
+    (rw same at read.1.1) read.0 read.1.2 c.in_ok-picture.ensures
 
 pub returns-clause-chosen : goal.returns-clause-chosen
 returns-clause-chosen g c bytes tells =

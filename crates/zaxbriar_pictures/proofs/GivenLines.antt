@@ -1,0 +1,63 @@
+-- What a decoder gives whose header was read: the whole of its stream, or what there is of it.
+use Rattle.std.proofs.Common.{◌≡◌, ◌∙◌, ℕ, List, Option, None, Some, Result, Ok, Err, Bool, true, false, ap, refl, subst, sym}
+use Rattle.std.specs.Prelude.{IfOk, IfSome, IsSomeAnd}
+use Rattle.jpeg_bits.specs.Reading.{IsGivenUp, Outcome, ◌>>=◌}
+use Rattle.jpeg_bits.specs.declared.error.Error.{Error}
+use Rattle.jpeg_streams.specs.Output.{default_settings}
+use Rattle.jpeg_streams.specs.Shown.{shown_ahead, shown_rest}
+use Rattle.jpeg_streams.specs.States.{Decoding, IsReading, ahead}
+use Rattle.jpeg_streams.specs.Stream.{Told, rest_at, told_of}
+use Rattle.jpeg_streams.specs.declared.progress.Progress.{Progress}
+use Rattle.jpeg_streams.specs.declared.progress.Progress.TheVariants.{HeaderRead}
+use Rattle.jpeg_streams.specs.declared.settings.Settings.{Settings}
+use Rattle.jpeg_decoder.specs.Decodes.{Decodes}
+use Rattle.jpeg_decoder.specs.Shows.{Shows}
+use Rattle.zaxbriar_pictures.specs.Given.{without_fault}
+use Rattle.zaxbriar_pictures.specs.Steps.{GivesRest}
+use Rattle.zaxbriar_pictures.specs.declared.extents.Extent.TheVariants.{Partial, Whole}
+
+-- a state in which the header was read is one in which a stream is read
+reading : (stage : Progress) → stage ≡ HeaderRead → IsReading stage
+reading stage at = subst IsReading (sym at) tt
+
+pub whole-gives : {X : Type 0} (bytes_of : X → List ℕ) (old new : Decoding) (x : X) → old.stage ≡ HeaderRead
+    → old.settings ≡ default_settings → Decodes bytes_of old (Ok x) new → GivesRest Whole old new (bytes_of x) None
+whole-gives bytes_of old new x at plain d known =
+    let means = ((d.reads (reading old.stage at)).1 known).1 in
+    let rest = ap (λ (s : Settings). rest_at s old.found old.source.bytes) (sym plain)
+    ∙ ap (λ (p : Progress). ahead p old.settings old.found old.source.bytes) (sym at) ∙ means in (
+      without_fault (told_of new.found.said, bytes_of x),
+      ap (λ (o : Outcome (Told × List ℕ)). o >>= (λ m. Ok (without_fault m.0))) rest,
+      refl,
+      refl,
+      tt,
+    )
+
+-- A reader that didn't give up is still known.
+still-known : (known : Bool) (fault : Option Error) (failed : Bool)
+    → (known ≡ false → IsSomeAnd fault (λ e. IsGivenUp e failed)) → IfSome fault (λ e. IsGivenUp e failed → ⊥)
+    → known ≡ true
+still-known true fault failed given_up none = refl
+still-known false None failed given_up none = absurd (given_up refl)
+still-known false (Some e) failed given_up none = absurd (none (given_up refl))
+
+pub partial-gives : {X : Type 0} (bytes_of : X → List ℕ) (fault_of : X → Option Error) (old new : Decoding) (shown : X)
+    (failed : Bool) (r : Result X Error) → old.stage ≡ HeaderRead → old.settings ≡ default_settings
+    → Shows bytes_of fault_of old (Ok shown) new → failed ≡ new.source.failed → IfOk r (λ x. x ≡ shown)
+    → IfOk r (λ x. IfSome (fault_of x) (λ e. IsGivenUp e failed → ⊥))
+    → IfOk r (λ x. GivesRest Partial old new (bytes_of x) (fault_of x))
+partial-gives bytes_of fault_of old new shown failed (Err e) at plain d seen same none = tt
+partial-gives {X} bytes_of fault_of old new shown failed (Ok x) at plain d seen same none =
+    subst (λ (y : X). GivesRest Partial old new (bytes_of y) (fault_of y)) (sym same) (λ known.
+    let now = reading old.stage at in
+    let still = still-known new.source.known (fault_of shown) new.source.failed (d.given_up now known)
+    (subst (λ (y : X). IfSome (fault_of y) (λ e. IsGivenUp e new.source.failed → ⊥)) same
+    (subst (λ (b : Bool). IfSome (fault_of x) (λ e. IsGivenUp e b → ⊥)) seen none)) in
+    let s = d.shown now known still in (
+      s.0,
+      ap (λ (s : Settings). shown_rest s old.found old.source.bytes) (sym plain)
+          ∙ ap (λ (p : Progress). shown_ahead p old.settings old.found old.source.bytes) (sym at) ∙ s.1,
+      s.2,
+      s.3,
+      s.4,
+    ))

@@ -1,0 +1,64 @@
+-- What is given of a stream: the whole of its picture, or what it has brought up to its first fault.
+use Rattle.std.specs.Prelude.{◌≡◌, ℕ, List, Result, Ok, Err, Option, None, option_map, IsSomeAnd}
+use Rattle.std.specs.Io.KnownBytes.{Appends}
+use Rattle.jpeg_bits.specs.Reading.{Fault, ◌>>=◌}
+use Rattle.jpeg_bits.specs.declared.error.Error.{Error}
+use Rattle.jpeg_streams.specs.Found.{Found, with_said}
+use Rattle.jpeg_streams.specs.Output.{default_settings}
+use Rattle.jpeg_streams.specs.Pixels.{info_of}
+use Rattle.jpeg_streams.specs.Shown.{Shown, shown_rest}
+use Rattle.jpeg_streams.specs.Stream.{Told, header_at, rest_at, scaled_to}
+use Rattle.jpeg_decoder.specs.Reaching.{NamesFault}
+use Rattle.zaxbriar_pictures.specs.Netpbm.{file_of}
+use Rattle.zaxbriar_pictures.specs.ScaledPictures.{Decoded, decoded}
+use Rattle.zaxbriar_pictures.specs.declared.extents.Extent.{Extent}
+use Rattle.zaxbriar_pictures.specs.declared.extents.Extent.TheVariants.{Whole, Partial}
+use Rattle.jpeg_segments.specs.declared.scale.Scale.{Scale}
+
+-- a picture, and the first fault of its stream, if it has one
+pub record Given : Type 0 where
+  pub picture : Decoded
+  pub fault : Option Fault
+
+abbrev pub given : Decoded → Option Fault → Given
+given picture fault = record { picture = picture; fault = fault }
+
+-- a picture without fault
+abbrev pub without_fault : Told × List ℕ → Shown
+without_fault m = record { told = m.0; picture = m.1; fault = None }
+
+-- What the rest of a stream gives after its header: its meaning, where the whole is wanted, or else
+-- what it shows.
+abbrev pub given_rest : Extent → Found → List ℕ → Result Shown Fault
+given_rest Whole found bytes =
+    rest_at default_settings found bytes >>= (λ m. Ok (without_fault m.0))
+given_rest Partial found bytes = shown_rest default_settings found bytes
+
+-- the picture of what is given, where there is a frame
+abbrev pub given_of : Shown → Option Given
+given_of s =
+    option_map (λ f. given (decoded (info_of f) f.precision s.picture) s.fault) s.told.frame
+
+-- What a stream gives at a scale.
+unfoldable pub given_at_scale : Extent → Scale → List ℕ → Option Given
+given_at_scale extent scale bytes = elim (header_at bytes >>= (λ header.
+    given_rest extent (with_said (scaled_to scale) header.0) header.1)) [
+      | Ok s ↦ given_of s
+      | Err fault ↦ None
+    ]
+
+-- the file of a picture
+abbrev pub file_in : Decoded → List ℕ
+file_in p = file_of p.info p.precision p.pixels
+
+-- A stream gives a picture at a scale, and the fault that an error names, or none.
+abbrev pub IsGiven : Extent → Scale → List ℕ → Decoded → Option Error → Type 0
+IsGiven extent scale bytes picture fault = IsSomeAnd (given_at_scale extent scale bytes)
+    (λ g. (picture ≡ g.picture) × NamesFault fault g.fault)
+
+-- A writer is given the file of the picture of a stream at a scale, and its caller the name of the
+-- fault.
+abbrev pub WritesGiven : Extent → Scale → List ℕ → Option (List ℕ) → Option (List ℕ)
+    → Option Error → Type 0
+WritesGiven extent scale bytes before after fault = IsSomeAnd (given_at_scale extent scale bytes)
+    (λ g. Appends before after (file_in g.picture) × NamesFault fault g.fault)
