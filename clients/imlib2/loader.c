@@ -23,14 +23,24 @@ static void turn(const uint32_t *from, uint32_t width, uint32_t height, int orie
         }
 }
 
+/* Decodes a picture, or what there is of a damaged one, as imlib2's own loader does. */
+static int decode(const uint8_t *jpeg, size_t size, const zaxbriar_options *options,
+                  uint32_t *pixels, zaxbriar_picture *picture) {
+    size_t room = picture->size;
+    zaxbriar_result answer = zaxbriar_decode(jpeg, size, options, pixels, room, picture);
+    if (answer == ZAXBRIAR_MALFORMED || answer == ZAXBRIAR_UNSUPPORTED ||
+        answer == ZAXBRIAR_TRUNCATED)
+        answer = zaxbriar_decode_partial(jpeg, size, options, pixels, room, picture);
+    return answer == ZAXBRIAR_PARTIAL ? ZAXBRIAR_OK : answer;
+}
+
 static int load_pixels(ImlibImage *image, const uint8_t *jpeg, size_t size,
                        const zaxbriar_options *options, zaxbriar_picture *picture) {
     uint32_t *turned = NULL;
     int orientation = picture->orientation;
     if (!__imlib_AllocateData(image)) return LOAD_OOM;
     if (orientation > 1 && !(turned = malloc(picture->size))) return LOAD_OOM;
-    int answer = zaxbriar_decode(jpeg, size, options, turned ? turned : image->data, picture->size,
-                                 picture);
+    int answer = decode(jpeg, size, options, turned ? turned : image->data, picture);
     if (answer == ZAXBRIAR_OK && turned)
         turn(turned, picture->width, picture->height, orientation, image->data);
     free(turned);

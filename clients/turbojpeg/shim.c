@@ -5,15 +5,26 @@
 #include <turbojpeg.h>
 #include <zaxbriar.h>
 
-/* What a handle points to: why the last call failed. */
+/* What a handle points to: why the last call failed, and whether that is a warning (TJERR_WARNING:
+ * there is a picture all the same) or not (TJERR_FATAL). */
 struct handle {
     char text[sizeof((zaxbriar_picture *)0)->text];
+    int code;
 };
 
 static char first_error[] = "no such handle";
 
 static int fail(struct handle *handle, const char *text) {
-    if (handle) snprintf(handle->text, sizeof handle->text, "%s", text);
+    if (handle) {
+        snprintf(handle->text, sizeof handle->text, "%s", text);
+        handle->code = TJERR_FATAL;
+    }
+    return -1;
+}
+
+static int warn(struct handle *handle, const char *text) {
+    fail(handle, text);
+    handle->code = TJERR_WARNING;
     return -1;
 }
 
@@ -27,7 +38,11 @@ tjscalingfactor *tjGetScalingFactors(int *count) {
     return factors;
 }
 
-tjhandle tjInitDecompress(void) { return calloc(1, sizeof(struct handle)); }
+tjhandle tjInitDecompress(void) {
+    struct handle *handle = calloc(1, sizeof(struct handle));
+    if (handle) handle->code = TJERR_FATAL;
+    return handle;
+}
 
 int tjDestroy(tjhandle handle) {
     free(handle);
@@ -39,8 +54,7 @@ char *tjGetErrorStr2(tjhandle handle) {
 }
 
 int tjGetErrorCode(tjhandle handle) {
-    (void)handle;
-    return TJERR_FATAL;
+    return handle ? ((struct handle *)handle)->code : TJERR_FATAL;
 }
 
 /* The name of the sampling: how many samples of the first component there are, across and down, for
@@ -128,6 +142,12 @@ static void reverse_lines(const zaxbriar_picture *picture, unsigned char *pixels
             swap(pixels + y * pitch + i, pixels + (picture->height - 1 - y) * pitch + i);
 }
 
+/* Whether an answer is a fault of the stream's. */
+static int is_fault(zaxbriar_result answer) {
+    return answer == ZAXBRIAR_MALFORMED || answer == ZAXBRIAR_UNSUPPORTED ||
+           answer == ZAXBRIAR_TRUNCATED;
+}
+
 int tjDecompress2(tjhandle handle, const unsigned char *jpeg, unsigned long size,
                   unsigned char *pixels, int width, int pitch, int height, int format, int flags) {
     zaxbriar_options options = {0};
@@ -142,9 +162,12 @@ int tjDecompress2(tjhandle handle, const unsigned char *jpeg, unsigned long size
     options.stride = pitch ? (uint64_t)pitch : picture.row_bytes;
     if (options.stride < picture.row_bytes) return fail(handle, "a line is longer than the pitch");
     size_t room = options.stride * (picture.height - 1) + picture.row_bytes;
-    if (zaxbriar_decode(jpeg, size, &options, pixels, room, &picture) != ZAXBRIAR_OK)
-        return fail(handle, picture.text);
+    zaxbriar_result answer = zaxbriar_decode(jpeg, size, &options, pixels, room, &picture);
+    if (is_fault(answer) && flags & TJFLAG_STOPONWARNING) return warn(handle, picture.text);
+    if (is_fault(answer))
+        answer = zaxbriar_decode_partial(jpeg, size, &options, pixels, room, &picture);
+    if (answer != ZAXBRIAR_OK && answer != ZAXBRIAR_PARTIAL) return fail(handle, picture.text);
     if (formats[format].is_reversed) reverse_pixels(&picture, pixels, options.stride);
     if (flags & TJFLAG_BOTTOMUP) reverse_lines(&picture, pixels, options.stride);
-    return 0;
+    return answer == ZAXBRIAR_PARTIAL ? warn(handle, picture.text) : 0;
 }

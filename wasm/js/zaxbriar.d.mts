@@ -66,6 +66,17 @@ export interface Options {
     maxBytes?: number;
 }
 
+/** Options that decode as far as a stream goes. */
+export interface PartialOptions extends Options {
+    /**
+     * Decodes a stream that is truncated or damaged, too. What no scan has brought is mid-grey. A
+     * marker in place of blocks is a fault, where decoding without `partial` takes zeros. This
+     * takes more memory than `decodingBytes`: the coefficients of all blocks, 128 bytes each, and
+     * the data of one restart interval; `maxBytes` doesn't count it.
+     */
+    partial: true;
+}
+
 /** A picture, as decoding with the options gives it. */
 export interface Picture {
     /** In pixels, at the scale. */
@@ -145,6 +156,17 @@ export class ZaxbriarError extends Error {
     readonly featureArgument?: number;
 }
 
+/** What decoding returns. */
+export interface DecodedPicture {
+    picture: Picture;
+    pixels: Pixels;
+}
+
+/** The picture that a stream has brought up to its first fault, and that fault. */
+export interface PartialPicture extends DecodedPicture {
+    fault: ZaxbriarError | null;
+}
+
 /** Compiles the module, for several decoders; by default the one that lies beside zaxbriar.mjs. */
 export function compile(source?: Source | Promise<Source>): Promise<WebAssembly.Module>;
 
@@ -170,8 +192,13 @@ export class Zaxbriar {
     /** Describes the stream's picture, by its header. */
     readInfo(jpeg: Bytes, options?: Options): Picture;
 
-    /** Decodes the picture. `pixels` is a copy, outside the module's memory. */
-    decode(jpeg: Bytes, options?: Options): { picture: Picture; pixels: Pixels };
+    /**
+     * Decodes the picture. `pixels` is a copy, outside the module's memory. With `partial`, `fault`
+     * is the first fault of the stream, or null if it has none; a stream whose header can't be
+     * decoded is refused all the same.
+     */
+    decode(jpeg: Bytes, options: PartialOptions): PartialPicture;
+    decode(jpeg: Bytes, options?: Options & { partial?: false }): DecodedPicture;
 
     /** Returns Exif data from the TIFF header on, XMP data or an ICC profile; null: none. */
     metadata(jpeg: Bytes, kind: 'exif' | 'xmp' | 'icc'): Data | null;

@@ -34,6 +34,7 @@ const NO_MEMORY = 4;
 const NO_ROOM = 5;
 const NO_DATA = 7;
 const TOO_LARGE = 8;
+const PARTIAL = 9;
 const CODES = [
     'OK',
     'MALFORMED',
@@ -51,6 +52,7 @@ const OPTIONS_BYTES = 48;
 const PICTURE_BYTES = 192;
 const FEATURE_AT = 48;
 const SAMPLING_AT = 50;
+const FAULT_AT = 54;
 const TEXT_AT = 80;
 const TEXT_BYTES = 112;
 
@@ -103,6 +105,12 @@ function optionsOf(options) {
     view.setUint8(22, number('scale', 255));
     view.setBigUint64(24, BigInt(number('maxBytes', Number.MAX_SAFE_INTEGER)), true);
     return bytes;
+}
+
+/* Whether what there is of a stream with a fault is wanted, too. */
+function wantsPart({ partial = false }) {
+    if (typeof partial !== 'boolean') throw new TypeError(`partial: a boolean, not ${partial}`);
+    return partial;
 }
 
 /* The sampling factors that a byte of a frame header has. */
@@ -227,10 +235,13 @@ export class Zaxbriar {
         };
     }
 
-    #check(answer, picture) {
-        if (answer === OK) return;
+    #error(answer, picture) {
         const text = this.#text(picture + TEXT_AT, TEXT_BYTES);
-        throw new ZaxbriarError(answer, text, this.#bytes(picture + FEATURE_AT, 2));
+        return new ZaxbriarError(answer, text, this.#bytes(picture + FEATURE_AT, 2));
+    }
+
+    #check(answer, picture) {
+        if (answer !== OK) throw this.#error(answer, picture);
     }
 
     /* Reads the header of a stream that lies in the module's memory. */
@@ -267,6 +278,8 @@ export class Zaxbriar {
     }
 
     decode(jpeg, options = {}) {
+        const isPartial = wantsPart(options);
+        const name = isPartial ? 'zaxbriar_decode_partial' : 'zaxbriar_decode';
         return this.#with((allocate) => {
             const stream = this.#stream(allocate, jpeg, options);
             const at = allocate(PICTURE_BYTES);
@@ -275,9 +288,13 @@ export class Zaxbriar {
             // The bytes between lines stay as they are, and blocks are used again.
             if (options.stride) this.#bytes(pixels, size).fill(0);
             const words = [pixels, size, at].map(BigInt);
-            this.#check(this.#call('zaxbriar_decode', ...stream, ...words), at);
+            const answer = this.#call(name, ...stream, ...words);
+            if (answer !== PARTIAL) this.#check(answer, at);
             const buffer = this.#bytes(pixels, size).slice().buffer;
-            return { picture: this.#picture(at), pixels: new Uint8ClampedArray(buffer) };
+            const decoded = { picture: this.#picture(at), pixels: new Uint8ClampedArray(buffer) };
+            const [fault] = this.#bytes(at + FAULT_AT, 1);
+            if (isPartial) decoded.fault = fault ? this.#error(fault, at) : null;
+            return decoded;
         });
     }
 

@@ -187,11 +187,34 @@ for (const options of [{ maxPixels: count - 1 }, { maxBytes: picture.decodingByt
     assert.throws(() => zaxbriar.readInfo(jpeg, options), code('TOO_LARGE'));
 }
 
+// What there is of a stream: of one that is cut after its header, in its scan, and before its end.
+const scan = jpeg.indexOf(Buffer.from([0xff, 0xda]));
+const partly = (stream, options) => zaxbriar.decode(stream, { ...options, partial: true });
+const whole = partly(jpeg);
+assert.equal(whole.fault, null);
+assert.deepEqual([whole.picture, whole.pixels], [picture, pixels]);
+assert.ok(!('fault' in zaxbriar.decode(jpeg, { partial: false })));
+for (let length = scan; length < jpeg.length; length++) {
+    const part = partly(jpeg.subarray(0, length));
+    assert.ok(code('TRUNCATED')(part.fault) && part.fault.message && !('feature' in part.fault));
+    assert.deepEqual({ ...part.picture, streamBytes: jpeg.length }, picture);
+    if (length < scan + 12) assert.ok(part.pixels.every((sample) => sample === 128));
+    if (length >= jpeg.length - 2) assert.deepEqual(part.pixels, pixels);
+}
+assert.ok(unsupported('dnl')(partly(withLines).fault));
+assert.deepEqual(partly(withLines, { layout: 'bgr' }).pixels, laidOut([2, 1, 0]));
+assert.throws(() => partly(jpeg.subarray(0, frame)), code('TRUNCATED'));
+assert.throws(() => partly(arithmetic), unsupported('arithmetic'));
+assert.throws(() => partly(jpeg.subarray(0, scan), { maxPixels: 1 }), code('TOO_LARGE'));
+assert.throws(() => zaxbriar.decode(jpeg, { partial: 1 }), TypeError);
+
 // Memory: what is refused is given back, and a limit holds.
+partly(jpeg);
 const before = zaxbriar.memoryBytes;
 for (let round = 0; round < 1000; round++) {
     zaxbriar.decode(jpeg);
     assert.throws(() => zaxbriar.decode(jpeg.subarray(0, round % jpeg.length)), ZaxbriarError);
+    partly(jpeg.subarray(0, scan + (round % (jpeg.length - scan))));
 }
 assert.equal(zaxbriar.memoryBytes, before);
 const small = new Zaxbriar(module, { maxMemory: before });

@@ -11,6 +11,7 @@ import { allCases } from './cases.mjs';
 const [native, folder, ...files] = process.argv.slice(2);
 const zaxbriar = await load();
 const MOST_SIZE = 2 ** 28;
+const MOST_PART = 2 ** 26;
 const MOST_BYTES = 400000000;
 const LAYOUTS = ['stored', 'grey', 'rgb', 'rgba', 'bgra', 'bgr', 'xrgb'];
 const TRANSFORMS = ['stream', 'none', 'rgb', 'ycbcr', 'cmyk', 'ycck'];
@@ -21,6 +22,7 @@ FEATURES.push('subsampling', 'factors', 'transform');
 const NUMBERED = [3, 4, 8];
 const CODES = ['', 'MALFORMED', 'UNSUPPORTED', 'TRUNCATED', 'NO_MEMORY', 'NO_ROOM', 'BAD_ARGUMENT'];
 CODES.push('NO_DATA', 'TOO_LARGE');
+const PARTIAL = 9;
 
 const ALL_OPTIONS = [
     {},
@@ -74,32 +76,37 @@ class Written {
         return Number(this.take(8).readBigUInt64LE());
     }
 
-    /* A description, or a refusal. */
+    /* A description, or a refusal; for PARTIAL a description, and the fault after it. */
     description(answer) {
         const struct = this.take(192);
-        if (answer) return refusalOf(answer, struct);
-        const long = (place) => Number(struct.readBigUInt64LE(place));
-        return JSON.stringify({
-            width: struct.readUInt32LE(32),
-            height: struct.readUInt32LE(36),
-            size: long(0),
-            rowBytes: long(8),
-            decodingBytes: long(16),
-            streamBytes: long(24),
-            pixelBytes: struct[40],
-            layout: LAYOUTS[struct[41]],
-            components: struct[42],
-            precision: struct[43],
-            sampleBytes: struct[44],
-            process: PROCESSES[struct[45]],
-            orientation: struct[46],
-            format: FORMATS[struct[47]],
-            sampling: [...struct.subarray(50, 50 + struct[42])].map((byte) => ({
-                horizontal: byte >> 4,
-                vertical: byte % 16,
-            })),
-        });
+        if (answer === PARTIAL) return pictureOf(struct) + refusalOf(struct[54], struct);
+        return answer ? refusalOf(answer, struct) : pictureOf(struct);
     }
+}
+
+/* A picture, as the module describes it. */
+function pictureOf(struct) {
+    const long = (place) => Number(struct.readBigUInt64LE(place));
+    return JSON.stringify({
+        width: struct.readUInt32LE(32),
+        height: struct.readUInt32LE(36),
+        size: long(0),
+        rowBytes: long(8),
+        decodingBytes: long(16),
+        streamBytes: long(24),
+        pixelBytes: struct[40],
+        layout: LAYOUTS[struct[41]],
+        components: struct[42],
+        precision: struct[43],
+        sampleBytes: struct[44],
+        process: PROCESSES[struct[45]],
+        orientation: struct[46],
+        format: FORMATS[struct[47]],
+        sampling: [...struct.subarray(50, 50 + struct[42])].map((byte) => ({
+            horizontal: byte >> 4,
+            vertical: byte % 16,
+        })),
+    });
 }
 
 /* A refusal as a text: its code, the feature and its number where there are, and its text. */
@@ -118,17 +125,21 @@ function refusalOf(answer, struct) {
     );
 }
 
+const refusedBy = (error) =>
+    words(error.code, error.feature, error.featureArgument, error.message);
+
 /* What a call gives, or its refusal. */
 function outcome(call) {
     try {
         return call();
     } catch (error) {
         if (!(error instanceof ZaxbriarError)) throw error;
-        return words(error.code, error.feature, error.featureArgument, error.message);
+        return refusedBy(error);
     }
 }
 
-const counts = { streams: 0, pictures: 0, refusals: 0, metadata: 0, bytes: 0, different: 0 };
+const counts = { streams: 0, pictures: 0, partial: 0, refusals: 0, metadata: 0, bytes: 0 };
+counts.different = 0;
 
 function differs(name, what, mine, theirs) {
     counts.different++;
@@ -142,7 +153,8 @@ function compareDecoding(name, what, jpeg, options, written) {
     const described = written.description(answer);
     const pixels = written.take(written.long());
     const mine = outcome(() => zaxbriar.decode(jpeg, options));
-    const told = typeof mine === 'string' ? mine : JSON.stringify(mine.picture);
+    const fault = mine.fault ? refusedBy(mine.fault) : '';
+    const told = typeof mine === 'string' ? mine : JSON.stringify(mine.picture) + fault;
     if (told !== described) {
         differs(name, what, told, described);
     } else if (typeof mine === 'string') {
@@ -150,7 +162,8 @@ function compareDecoding(name, what, jpeg, options, written) {
     } else if (!pixels.equals(Buffer.from(mine.pixels.buffer))) {
         differs(name, what, 'pixels', 'other pixels');
     } else {
-        counts.pictures++;
+        if (fault) counts.partial++;
+        else counts.pictures++;
         counts.bytes += pixels.length;
     }
 }
@@ -175,6 +188,9 @@ function compare(name, jpeg) {
     if (ran.status !== 0) throw new Error(`${name}: ${native}: ${ran.status} ${ran.error}`);
     const written = new Written(ran.stdout);
     counts.streams++;
+    const whole = outcome(() => zaxbriar.readInfo(jpeg));
+    // (a part takes the coefficients of the full size, for which the module's memory has no room)
+    const hasPart = whole.size <= MOST_PART;
     for (const options of ALL_OPTIONS) {
         const what = JSON.stringify(options);
         const described = written.description(written.int());
@@ -184,10 +200,15 @@ function compare(name, jpeg) {
         if (!described.startsWith('{')) counts.refusals++;
         else if (JSON.parse(described).size <= MOST_SIZE) {
             compareDecoding(name, what, jpeg, options, written);
+            if (hasPart) {
+                const partly = { ...options, partial: true };
+                compareDecoding(name, `${what}, in part`, jpeg, partly, written);
+            }
         }
     }
-    const read = outcome(() => zaxbriar.readInfo(jpeg));
-    for (const kind of ['exif', 'xmp', 'icc']) compareMetadata(name, kind, { jpeg, read }, written);
+    for (const kind of ['exif', 'xmp', 'icc']) {
+        compareMetadata(name, kind, { jpeg, read: whole }, written);
+    }
     if (written.at !== ran.stdout.length) throw new Error(`${name}: more was written`);
 }
 
@@ -222,9 +243,10 @@ for (const file of files) {
     compare(file, jpeg);
     for (let index = 0; index < 20; index++) compare(`${file}, damaged`, damaged(jpeg));
 }
-const { streams, pictures, refusals, metadata, bytes, different } = counts;
+const { streams, pictures, partial, refusals, metadata, bytes, different } = counts;
 console.log(
     `compared: ${streams} streams by ${ALL_OPTIONS.length} lists of options: ${pictures} pictures` +
-        ` of ${bytes} bytes, ${refusals} refusals, ${metadata} metadata; ${different} different`,
+        ` and ${partial} in part, of ${bytes} bytes, ${refusals} refusals,` +
+        ` ${metadata} metadata; ${different} different`,
 );
 process.exitCode = different ? 1 : 0;

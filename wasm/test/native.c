@@ -2,13 +2,15 @@
  *
  * Each line of standard input is the numbers of some options: layout, scale, transform, min_width,
  * min_height, stride, max_bytes. For each the answer and the description by the header are written,
- * then the answer and the description by decoding, and the pixels after their count. At the end
- * come the answer, the length and the bytes of each kind of metadata. */
+ * then the answer and the description by decoding, and the pixels after their count, and the same
+ * by decoding as far as the stream goes. At the end come the answer, the length and the bytes of
+ * each kind of metadata. */
 #include <stdio.h>
 #include <stdlib.h>
 #include <zaxbriar.h>
 
 #define MOST_SIZE ((uint64_t)1 << 28) /* above it a picture isn't decoded, here and there */
+#define MOST_PART ((uint64_t)1 << 26) /* a stream's full size, above which no part of it is */
 
 static void put(const void *bytes, size_t size) {
     if (fwrite(bytes, 1, size, stdout) != size) exit(1);
@@ -25,18 +27,30 @@ static void *allocate(size_t size) {
     return block;
 }
 
-static void put_picture(const void *jpeg, size_t jpeg_size, const zaxbriar_options *options) {
+/* A call that decodes. */
+typedef zaxbriar_result decoding(const void *jpeg, size_t jpeg_size,
+                                 const zaxbriar_options *options, void *pixels,
+                                 size_t pixels_size, zaxbriar_picture *picture);
+
+static void put_decoded(decoding *decode, const void *jpeg, size_t jpeg_size,
+                        const zaxbriar_options *options, uint64_t size) {
     zaxbriar_picture picture;
-    int answer = zaxbriar_read_info(jpeg, jpeg_size, options, &picture);
-    put_answer(answer, &picture);
-    if (answer || picture.size > MOST_SIZE) return;
-    uint64_t size = picture.size;
     unsigned char *pixels = allocate(size);
-    answer = zaxbriar_decode(jpeg, jpeg_size, options, pixels, size, &picture);
+    int answer = decode(jpeg, jpeg_size, options, pixels, size, &picture);
     put_answer(answer, &picture);
     put(&size, sizeof size);
     put(pixels, size);
     free(pixels);
+}
+
+static void put_picture(const void *jpeg, size_t jpeg_size, const zaxbriar_options *options,
+                        int has_part) {
+    zaxbriar_picture picture;
+    int answer = zaxbriar_read_info(jpeg, jpeg_size, options, &picture);
+    put_answer(answer, &picture);
+    if (answer || picture.size > MOST_SIZE) return;
+    put_decoded(zaxbriar_decode, jpeg, jpeg_size, options, picture.size);
+    if (has_part) put_decoded(zaxbriar_decode_partial, jpeg, jpeg_size, options, picture.size);
 }
 
 static void put_metadata(const void *jpeg, size_t jpeg_size, int kind) {
@@ -56,6 +70,9 @@ int main(int count, char **words) {
     FILE *file = count == 2 ? fopen(words[1], "rb") : NULL;
     if (!file) return 2;
     size_t size = fread(jpeg, 1, sizeof jpeg, file);
+    zaxbriar_picture whole;
+    int has_part =
+        zaxbriar_read_info(jpeg, size, NULL, &whole) == ZAXBRIAR_OK && whole.size <= MOST_PART;
     unsigned long long n[7];
     while (scanf("%llu %llu %llu %llu %llu %llu %llu", n, n + 1, n + 2, n + 3, n + 4, n + 5, n + 6)
            == 7) {
@@ -68,7 +85,7 @@ int main(int count, char **words) {
             .stride = n[5],
             .max_bytes = n[6],
         };
-        put_picture(jpeg, size, &options);
+        put_picture(jpeg, size, &options, has_part);
     }
     for (int kind = ZAXBRIAR_EXIF; kind <= ZAXBRIAR_ICC; kind++) put_metadata(jpeg, size, kind);
     return 0;

@@ -1,7 +1,7 @@
 /* node page.mjs BROWSER FOLDER: the page of dist/web in headless chromium or firefox: files that
- * are chosen, dropped and pasted, their pixels and sampling factors, faults by name, zoom and the
- * list by keys, names for a screen reader, the page without a network, and the worker after a trap.
- * FOLDER takes files and BROWSER.png. */
+ * are chosen, dropped and pasted, their pixels and sampling factors, what there is of files with a
+ * fault, faults by name, zoom and the list by keys, names for a screen reader, the page without a
+ * network, and the worker after a trap. FOLDER takes files and BROWSER.png. */
 import assert from 'node:assert/strict';
 import { readFileSync, writeFileSync } from 'node:fs';
 import { resolve } from 'node:path';
@@ -49,8 +49,26 @@ const SAMPLINGS = {
 };
 const PICTURES = Object.keys(SAMPLINGS);
 const arithmetic = cases.find(({ answers }) => answers.includes('JPEG feature: Arithmetic'));
+
+/* A file that ends before its frame header. */
+function headless() {
+    const path = `${folder}/headless.jpg`;
+    writeFileSync(path, readFileSync(ours('cut.jpg')).subarray(0, 20));
+    return path;
+}
+
+/* A whole picture, which a number of lines follows in place of the end. */
+function withLines() {
+    const stream = readFileSync(ours('turned.jpg')).subarray(0, -2);
+    const path = `${folder}/lines.jpg`;
+    writeFileSync(path, Buffer.concat([stream, Buffer.from([0xff, 0xdc, 0, 4, 0, 1])]));
+    return path;
+}
+
+/* Files of which there is a part. */
+const PARTIAL = { [ours('cut.jpg')]: 'TRUNCATED', [withLines()]: 'UNSUPPORTED' };
 const REFUSED = {
-    [ours('cut.jpg')]: 'TRUNCATED',
+    [headless()]: 'TRUNCATED',
     [ours('large.jpg')]: 'NO_MEMORY',
     [ours('picture.png')]: 'MALFORMED',
     [fileOf(arithmetic.file.replace('.case', ''), arithmetic.name)]: 'UNSUPPORTED',
@@ -63,7 +81,7 @@ const button = (path) =>
 /* Chooses a file of the list, and waits for what it shows. */
 async function show(page, path) {
     await page.run(`document.body.dataset.state = 'waiting'; ${button(path)}.click()`);
-    await page.until(`['shown', 'refused'].includes(document.body.dataset.state)`);
+    await page.until(`['shown', 'partial', 'refused'].includes(document.body.dataset.state)`);
     return page.run('document.body.dataset.state');
 }
 
@@ -82,12 +100,13 @@ const canvasOf = (page) =>
         return { width, height, data: [...context.getImageData(0, 0, width, height).data] };
     })()`);
 
-/* Pictures upright, by the pixels of the module in Node. */
+/* Pictures upright, and what there is of files with a fault, by the module's pixels in Node. */
 async function checkPixels(page) {
     const zaxbriar = await load();
-    for (const path of PICTURES.slice(0, 2)) {
-        assert.equal(await show(page, path), 'shown');
-        const { picture, pixels } = zaxbriar.decode(readFileSync(path), { layout: 'rgba' });
+    for (const path of [...PICTURES.slice(0, 2), ...Object.keys(PARTIAL)]) {
+        assert.equal(await show(page, path), PARTIAL[path] ? 'partial' : 'shown');
+        const options = { layout: 'rgba', partial: true };
+        const { picture, pixels } = zaxbriar.decode(readFileSync(path), options);
         const { width, height, data } = await canvasOf(page);
         const isTurned = picture.orientation === 6;
         assert.ok(isTurned || picture.orientation === 1);
@@ -102,6 +121,23 @@ async function checkPixels(page) {
                 assert.deepEqual(data.slice(to, to + 4), [...pixels.subarray(from, from + 4)]);
             }
         }
+    }
+}
+
+/* A fault is named beside what there is: in its alert, the status and the list; and the picture's
+ * name says that it is a part. */
+async function checkPartial(page) {
+    for (const [path, fault] of Object.entries(PARTIAL)) {
+        assert.equal(await show(page, path), 'partial', path);
+        const textOf = (id) => page.run(`document.getElementById('${id}').textContent`);
+        assert.ok((await textOf('error')).startsWith(`${fault}: `));
+        const told = `${nameOf(path)}: shown in part: ${fault}, `;
+        assert.ok((await textOf('status')).startsWith(told));
+        const note = await page.run(`${button(path)}.lastChild.textContent`);
+        assert.match(note, new RegExp(`^\\d+ × \\d+, ${fault}$`));
+        const label = `document.getElementById('canvas').getAttribute('aria-label')`;
+        assert.ok((await page.run(label)).startsWith(`${nameOf(path)}, in part, `));
+        assert.ok(!(await page.run(`document.getElementById('shown').hidden`)));
     }
 }
 
@@ -221,7 +257,7 @@ async function checkTrap() {
 const { url, close } = await serve(web);
 const page = await Page.browse(url);
 await page.until(`document.body.dataset.state === 'ready'`);
-const files = [...PICTURES, ...Object.keys(REFUSED)];
+const files = [...PICTURES, ...Object.keys(PARTIAL), ...Object.keys(REFUSED)];
 await page.choose('#file', files);
 await page.until(`[...document.querySelectorAll('#files small')].length === ${files.length} &&
     ![...document.querySelectorAll('#files small')].some((it) => it.textContent === 'waiting')`);
@@ -230,6 +266,7 @@ for (const [path, sampling] of Object.entries(SAMPLINGS)) {
     assert.equal((await factsOf(page)).Sampling, sampling, path);
 }
 await checkPixels(page);
+await checkPartial(page);
 await checkRefusals(page);
 for (const event of ['drop', 'paste']) await give(page, event, PICTURES[0]);
 await checkKeys(page);
@@ -242,8 +279,8 @@ close();
 await checkOffline(page, url);
 await page.close();
 await checkTrap();
-const refusals = Object.keys(REFUSED).length;
+const [parts, refusals] = [PARTIAL, REFUSED].map((files) => Object.keys(files).length);
 console.log(`page in ${browser}: ${PICTURES.length} pictures with their sampling,`);
-console.log(`      ${refusals} refusals by name, drop, paste, zoom, ${stops} stops of the tabulator,`);
-console.log(`      ${buttons} buttons with names, an empty console, no network, the worker after`);
-console.log('      a trap');
+console.log(`      ${parts} in part, ${refusals} refusals by name, drop, paste, zoom,`);
+console.log(`      ${stops} stops of the tabulator, ${buttons} buttons with names,`);
+console.log('      an empty console, no network, the worker after a trap');

@@ -1,8 +1,9 @@
 /* node stack.mjs FILE..: what becomes of a call whose stack is too small, and of those after it.
  *
  * The module is given stacks of 1 to 64 kB, by another first value of its stack pointer, and
- * decodes each file with each. Each call has to give its picture or refusal, or to trap at the
- * entry of a function, by `unreachable`; an access outside the memory is another trap, and fails.
+ * decodes each file with each, as a whole and as far as it goes. Each call has to give its picture
+ * or refusal, or to trap at the entry of a function, by `unreachable`; an access outside the memory
+ * is another trap, and fails.
  * The call after a trap begins with a new instance, which has to give its answer too. */
 import { readFileSync } from 'node:fs';
 import { Zaxbriar, ZaxbriarError } from '../dist/zaxbriar.mjs';
@@ -23,9 +24,9 @@ function withStack(size) {
     return new WebAssembly.Module(module);
 }
 
-function outcome(zaxbriar, file) {
+function outcome(zaxbriar, file, partial) {
     try {
-        return Buffer.from(zaxbriar.decode(file, { layout: 'rgba' }).pixels.buffer);
+        return Buffer.from(zaxbriar.decode(file, { layout: 'rgba', partial }).pixels.buffer);
     } catch (error) {
         if (error instanceof ZaxbriarError) return Buffer.from(`${error.code} ${error.message}`);
         if (!(error instanceof WebAssembly.RuntimeError)) throw error;
@@ -34,9 +35,12 @@ function outcome(zaxbriar, file) {
     }
 }
 
-const files = process.argv.slice(2).map((path) => readFileSync(path));
+const calls = process.argv.slice(2).flatMap((path) => {
+    const file = readFileSync(path);
+    return [false, true].map((partial) => [file, partial]);
+});
 const whole = new Zaxbriar(new WebAssembly.Module(bytes));
-const wanted = files.map((file) => outcome(whole, file));
+const wanted = calls.map((call) => outcome(whole, ...call));
 if (wanted.includes(null)) throw new Error('a trap with the whole stack');
 let traps = 0;
 let answers = 0;
@@ -44,8 +48,8 @@ let least = 0;
 for (let size = 1024; size <= 65536; size += 1024) {
     const zaxbriar = new Zaxbriar(withStack(size));
     let isEnough = true;
-    files.forEach((file, index) => {
-        const found = outcome(zaxbriar, file);
+    calls.forEach((call, index) => {
+        const found = outcome(zaxbriar, ...call);
         if (!found) {
             traps++;
             isEnough = false;

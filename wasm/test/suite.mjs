@@ -1,6 +1,6 @@
 /* node suite.mjs: the streams of crates/decoder_cases by the module, whose answers have to be those
- * of the suite: pictures, refusals with their texts and features, sizes at scales, metadata, bytes
- * left unread.
+ * of the suite: pictures, refusals with their texts and features, what there is of streams with a
+ * fault, sizes at scales, metadata, bytes left unread.
  *
  * Not asked is what the calls of JavaScript don't have: the original crate's limit, decoding into a
  * caller's memory, the transforms that c/zaxbriar.h has no number for, and all that stands after
@@ -69,6 +69,15 @@ function isPicture({ picture, pixels }, answer) {
     );
 }
 
+/* Whether what there is of a stream is that of an answer, and its fault too. */
+function isPartial({ picture, pixels, fault }, answer) {
+    const [, whole, name] = answer.match(/^(.*), fault (.*)$/s);
+    const isFault = fault
+        ? isRefusal({ refused: fault.message, error: fault }, `refused: ${name}`, false)
+        : name === 'none';
+    return isFault && isPicture({ picture, pixels }, whole);
+}
+
 function isMetadata(found, answer) {
     if (found === null) return answer === 'none';
     const [count, , ...words] = answer.split(' ');
@@ -104,6 +113,16 @@ function* answered({ stream, calls, answers: line }) {
             const isRight = decoded.value
                 ? isPicture(decoded.value, answer)
                 : isRefusal(decoded, answer, call === 'refusal');
+            yield [call, answer, isRight];
+        } else if (call === 'partial') {
+            if (decoded) {
+                yield [call, answer, null];
+                return;
+            }
+            decoded = outcome(() => zaxbriar.decode(stream, { ...options, partial: true }));
+            const isRight = decoded.value
+                ? isPartial(decoded.value, answer)
+                : isRefusal(decoded, answer, false);
             yield [call, answer, isRight];
         } else if (call === 'rest') {
             const left = decoded?.value && stream.length - decoded.value.picture.streamBytes;

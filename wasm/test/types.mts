@@ -1,7 +1,7 @@
 // What compiles by zaxbriar.d.mts, and what doesn't.
 import { Zaxbriar, ZaxbriarError, compile, load } from '../dist/zaxbriar.mjs';
 import type { Bytes, Feature, Format, Layout, Options } from '../dist/zaxbriar.mjs';
-import type { Picture, Sampling, Source } from '../dist/zaxbriar.mjs';
+import type { PartialPicture, Picture, Sampling, Source } from '../dist/zaxbriar.mjs';
 
 // Sources, and the bytes of streams.
 const sources: Source[] = ['zaxbriar.wasm', new URL('file:///zaxbriar.wasm'), new Uint8Array(8)];
@@ -46,6 +46,17 @@ if (picture.format === 'rgb24') throw new Error();
 // @ts-expect-error
 if (picture.sampling === '4:2:0') throw new Error();
 
+// What there is of a stream, and its fault.
+const part: PartialPicture = zaxbriar.decode(streams[0], { partial: true, layout: 'grey' });
+const fault: string = part.fault?.code ?? 'none';
+const strict = zaxbriar.decode(streams[0], { partial: false });
+// @ts-expect-error
+strict.fault;
+// @ts-expect-error
+part.fault.code;
+// @ts-expect-error
+zaxbriar.readInfo(streams[0], { partial: true });
+
 // Metadata, which may not be there.
 const profile = other.metadata(streams[0], 'icc');
 const file = new Blob(profile ? [profile] : []);
@@ -76,4 +87,4 @@ try {
 zaxbriar.memoryBytes = 0;
 const version: string = zaxbriar.version;
 export { bits, columns, data, described, feature, fetched, file, format, ink, layout, length };
-export { planes, profile, samples, version };
+export { fault, planes, profile, samples, strict, version };

@@ -155,11 +155,27 @@ function showFacts(facts) {
     at('facts').replaceChildren(...lines);
 }
 
+/* The fault in words, after its name. */
+const faultText = ({ text, isPartial }) =>
+    isPartial ? `${text}. What the file brings before that is shown; the rest is grey.` : text;
+
 function showFault(reply) {
     at('error').hidden = !reply.fault;
     const name = document.createElement('strong');
     name.textContent = reply.fault ?? '';
-    at('error').replaceChildren(name, reply.fault ? `: ${reply.text}` : '');
+    at('error').replaceChildren(name, reply.fault ? `: ${faultText(reply)}` : '');
+}
+
+/* What is told of a file: shown, shown in part, or refused. */
+function statusOf({ fault, text, isPartial }) {
+    if (!fault) return 'shown';
+    return isPartial ? `shown in part: ${fault}, ${text}` : `${fault}, ${text}`;
+}
+
+/* The state of the page. */
+function stateOf({ fault, isPartial }) {
+    if (!fault) return 'shown';
+    return isPartial ? 'partial' : 'refused';
 }
 
 const entries = [];
@@ -173,27 +189,31 @@ function show(entry, reply) {
         } catch (error) {
             reply.fault = 'NOT SHOWN';
             reply.text = `the browser has no canvas of that size (${error.message})`;
+            reply.isPartial = false;
         }
     }
     showFault(reply);
     showFacts(factsOf(entry.file, reply));
     at('xmp').hidden = !reply.metadata?.text;
     at('xmp').querySelector('pre').textContent = reply.metadata?.text ?? '';
-    at('shown').hidden = !reply.pixels || Boolean(reply.fault);
+    const state = stateOf(reply);
+    at('shown').hidden = state === 'refused';
     if (!at('shown').hidden) {
         const { width, height } = at('canvas');
-        at('canvas').setAttribute('aria-label', `${entry.file.name}, ${width} by ${height} pixels`);
+        const part = reply.isPartial ? ', in part' : '';
+        const label = `${entry.file.name}${part}, ${width} by ${height} pixels`;
+        at('canvas').setAttribute('aria-label', label);
         ZOOMS.fit();
     }
-    tell(`${entry.file.name}: ${reply.fault ? `${reply.fault}, ${reply.text}` : 'shown'}`);
-    document.body.dataset.state = reply.fault ? 'refused' : 'shown';
+    tell(`${entry.file.name}: ${statusOf(reply)}`);
+    document.body.dataset.state = state;
 }
 
 async function decodeEntry(entry) {
     if (entry === chosen) document.body.dataset.state = 'working';
     const reply = await decoder.decode(entry.file);
     const size = reply.picture && `${reply.picture.width} × ${reply.picture.height}`;
-    entry.note.textContent = reply.fault ?? size;
+    entry.note.textContent = reply.isPartial ? `${size}, ${reply.fault}` : reply.fault ?? size;
     entry.button.classList.toggle('refused', Boolean(reply.fault));
     entry.isDone = true;
     if (entry === chosen) show(entry, reply);

@@ -1,5 +1,6 @@
 /* Decodes away from the page. A request is { id, file }, and its answer { id, .. }, of which
- * `fault` names what went wrong; after a fault with `isBroken` the page takes another worker. */
+ * `fault` names what went wrong. With `isPartial` there is a picture beside it; after a fault with
+ * `isBroken` the page takes another worker. */
 import { ZaxbriarError, load } from './zaxbriar.mjs';
 
 const MAX_MEMORY = 2 ** 30;
@@ -7,11 +8,24 @@ const loaded = load(new URL('zaxbriar.wasm', import.meta.url), { maxMemory: MAX_
 // (each answer waits for it anew, and names its fault)
 loaded.catch(() => {});
 
-/* The picture for a canvas, and how long that took. */
+/* What names a fault of the stream's, of which there may be a part. */
+const FAULTS = ['MALFORMED', 'UNSUPPORTED', 'TRUNCATED'];
+
+/* The picture, or what there is of a stream with a fault, and that fault. */
+function pictureOf(zaxbriar, jpeg) {
+    try {
+        return zaxbriar.decode(jpeg, { layout: 'rgba' });
+    } catch (error) {
+        if (!FAULTS.includes(error.code)) throw error;
+        return zaxbriar.decode(jpeg, { layout: 'rgba', partial: true });
+    }
+}
+
+/* The picture for a canvas, its fault if it has one, and how long that took. */
 function decode(zaxbriar, jpeg) {
     const start = performance.now();
-    const { pixels } = zaxbriar.decode(jpeg, { layout: 'rgba' });
-    return { pixels, milliseconds: performance.now() - start };
+    const { pixels, fault } = pictureOf(zaxbriar, jpeg);
+    return { pixels, fault, milliseconds: performance.now() - start };
 }
 
 /* What the segments before the frame say: how many bytes of each kind there are, and the text of
@@ -33,9 +47,12 @@ async function answer({ id, file }) {
         const jpeg = new Uint8Array(await file.arrayBuffer());
         reply.picture = zaxbriar.readInfo(jpeg);
         reply.metadata = metadata(zaxbriar, jpeg);
-        const { pixels, milliseconds } = decode(zaxbriar, jpeg);
+        const { pixels, fault, milliseconds } = decode(zaxbriar, jpeg);
         reply.pixels = pixels.buffer;
         reply.milliseconds = milliseconds;
+        reply.isPartial = Boolean(fault);
+        reply.fault = fault?.code;
+        reply.text = fault?.message;
     } catch (error) {
         reply.isBroken = !(error instanceof ZaxbriarError);
         reply.fault = reply.isBroken ? 'FAILED' : error.code;

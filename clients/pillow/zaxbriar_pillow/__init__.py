@@ -10,9 +10,11 @@ from PIL import Image, ImageFile
 
 from . import library
 
-# How many pictures were decoded so, and how many of them right into the image's memory.
+# How many pictures were decoded so, how many of them right into the image's memory, and of how many
+# there was only a part, since their files are truncated or damaged.
 decoded = 0
 decoded_in_place = 0
+decoded_partially = 0
 
 # For each mode of Pillow's: the formats that the library decodes to it, its layout in the memory of
 # an image with the bytes of a pixel, and its layout without padding.
@@ -75,32 +77,47 @@ class ZaxbriarDecoder(ImageFile.PyDecoder):
             image = image.reduce(max(1, round(picture.width / self.state.xsize)))
         self.set_as_raw(image.convert(mode).tobytes(), mode)
 
-    def decode(self, buffer):
+    def _load(self, stream, is_partial):
+        """Decodes into the image. Where `is_partial`, a stream with a fault gives what there is."""
         global decoded
         mode = self.args[0].partition(";")[0]
         scale = self.args[2] if len(self.args) > 2 else 1
+        options = {"scale": scale, "is_partial": is_partial}
+        picture = library.read_info(stream, scale=scale)
+        is_scaled = (picture.width, picture.height) == (self.state.xsize, self.state.ysize)
+        formats, layout, pixel_bytes, packed = _MODES.get(mode, ((), None, None, None))
+        is_plain = (
+            is_scaled
+            and picture.precision == 8
+            and picture.format in formats
+            and self.im.mode == mode
+        )
+        if not is_plain:
+            self._converted(stream, mode, options)
+        elif not self._in_place(stream, layout, pixel_bytes, options):
+            _, pixels = library.decode(stream, layout=packed, **options)
+            self.set_as_raw(bytes(pixels), mode)
+        decoded += 1
+
+    def _load_partially(self, stream):
+        """Loads what there is of a stream with a fault; where its header has the fault the image
+        stays blank."""
+        global decoded_partially
+        try:
+            self._load(stream, is_partial=True)
+        except library.Error:
+            return -1, -2
+        decoded_partially += 1
+        return -1, 0
+
+    def decode(self, buffer):
         stream = self.fd.read()
         try:
-            options = {"scale": scale}
-            picture = library.read_info(stream, **options)
-            is_scaled = (picture.width, picture.height) == (self.state.xsize, self.state.ysize)
-            formats, layout, pixel_bytes, packed = _MODES.get(mode, ((), None, None, None))
-            is_plain = (
-                is_scaled
-                and picture.precision == 8
-                and picture.format in formats
-                and self.im.mode == mode
-            )
-            if not is_plain:
-                self._converted(stream, mode, options)
-            elif not self._in_place(stream, layout, pixel_bytes, options):
-                _, pixels = library.decode(stream, layout=packed, **options)
-                self.set_as_raw(bytes(pixels), mode)
+            self._load(stream, is_partial=False)
         except library.Error as error:
             if ImageFile.LOAD_TRUNCATED_IMAGES:
-                return -1, -2  # the image stays blank
+                return self._load_partially(stream)
             raise OSError(f"zaxbriar: {error}") from error
-        decoded += 1
         return -1, 0
 
 

@@ -18,9 +18,18 @@ from ctypes import (
 
 NAME = "libzaxbriar.so.0"
 
-OK, MALFORMED, UNSUPPORTED, TRUNCATED, NO_MEMORY, NO_ROOM, BAD_ARGUMENT, NO_DATA, TOO_LARGE = range(
-    9
-)
+(
+    OK,
+    MALFORMED,
+    UNSUPPORTED,
+    TRUNCATED,
+    NO_MEMORY,
+    NO_ROOM,
+    BAD_ARGUMENT,
+    NO_DATA,
+    TOO_LARGE,
+    PARTIAL,
+) = range(10)
 AS_STORED, GREY, RGB, RGBA, BGRA, BGR, XRGB = range(7)
 FORMAT_GREY8, FORMAT_GREY16, FORMAT_RGB, FORMAT_CMYK = range(1, 5)
 
@@ -63,7 +72,8 @@ class Picture(Structure):
         ("feature", c_uint8),
         ("feature_argument", c_uint8),
         ("sampling", c_uint8 * 4),
-        ("reserved", c_uint8 * 26),
+        ("fault", c_uint8),
+        ("reserved", c_uint8 * 25),
         ("text", c_char * 112),
     ]
 
@@ -99,22 +109,23 @@ def _place():
 
 _library = ctypes.CDLL(_place())
 _library.zaxbriar_read_info.argtypes = [c_void_p, c_size_t, POINTER(Options), POINTER(Picture)]
-_library.zaxbriar_decode.argtypes = [
-    c_void_p,
-    c_size_t,
-    POINTER(Options),
-    c_void_p,
-    c_size_t,
-    POINTER(Picture),
-]
-for _call in (_library.zaxbriar_read_info, _library.zaxbriar_decode):
+_library.zaxbriar_read_info.restype = c_int
+for _call in (_library.zaxbriar_decode, _library.zaxbriar_decode_partial):
+    _call.argtypes = [
+        c_void_p,
+        c_size_t,
+        POINTER(Options),
+        c_void_p,
+        c_size_t,
+        POINTER(Picture),
+    ]
     _call.restype = c_int
 
 
 def _checked(answer, picture):
     if answer == NO_MEMORY:
         raise MemoryError(picture.text.decode())
-    if answer != OK:
+    if answer not in (OK, PARTIAL):
         raise Error(answer, picture.text.decode())
     return picture
 
@@ -128,17 +139,18 @@ def read_info(stream, **options):
     return _checked(answer, picture)
 
 
-def decode_at(stream, address, size, **options):
-    """Decodes the picture to `size` bytes at an address, which nobody else uses meanwhile."""
+def decode_at(stream, address, size, is_partial=False, **options):
+    """Decodes the picture to `size` bytes at an address, which nobody else uses meanwhile. Where
+    `is_partial`, a stream with a fault gives what there is, and the picture's `fault` is not 0."""
     picture = Picture()
-    answer = _library.zaxbriar_decode(
-        stream, len(stream), byref(Options(**options)), address, size, byref(picture)
-    )
+    call = _library.zaxbriar_decode_partial if is_partial else _library.zaxbriar_decode
+    answer = call(stream, len(stream), byref(Options(**options)), address, size, byref(picture))
     return _checked(answer, picture)
 
 
-def decode(stream, **options):
+def decode(stream, is_partial=False, **options):
     """Decodes the picture: what it is, and its pixels in a bytearray."""
     pixels = bytearray(read_info(stream, **options).size)
     memory = (c_uint8 * len(pixels)).from_buffer(pixels)
-    return decode_at(stream, ctypes.addressof(memory), len(pixels), **options), pixels
+    address = ctypes.addressof(memory)
+    return decode_at(stream, address, len(pixels), is_partial, **options), pixels

@@ -14,6 +14,15 @@ enum Stage {
     Failed,
 }
 
+/// The picture that a stream has brought up to its first fault, and that fault.
+#[derive(Debug)]
+pub struct PartialPicture {
+    /// The picture, as [`Decoder::decode`] returns it. What no scan has brought is mid-grey.
+    pub pixels: Vec<u8>,
+    /// The first fault of the stream, or none if it is whole.
+    pub fault: Option<Error>,
+}
+
 /// What segments say besides the picture.
 #[derive(Default)]
 struct Metadata {
@@ -138,11 +147,12 @@ impl<R: Read> Decoder<R> {
         self.stage = Stage::Failed;
         let options = self.options;
         let failure = self.stream.read_header(&mut self.reader);
-        let outcome = self.ask(failure, |bytes| library::read_info(bytes, &options));
+        let call = |bytes: &[u8]| library::read_info(bytes, &options);
+        let (outcome, failure) = self.ask(failure, is_truncated, call);
         if self.stream.may_have_metadata(0) {
             self.read_metadata(Segments::OfHeader)?;
         }
-        self.picture = Some(outcome?);
+        self.picture = Some(outcome.map_err(|refusal| error_of(refusal, failure))?);
         self.stage = Stage::HeaderRead;
         Ok(())
     }
@@ -170,18 +180,7 @@ impl<R: Read> Decoder<R> {
     /// header is read, and other settings may be tried. After another error the decoder has failed,
     /// and after a picture a second one is [`Error::Internal`].
     pub fn decode(&mut self) -> Result<Vec<u8>> {
-        self.read_info()?;
-        let picture = match (self.stage, self.picture) {
-            (Stage::HeaderRead, Some(picture)) => picture,
-            _ => return Err(Error::Internal("image was already decoded".into())),
-        };
-        self.refuse_above_limits(&picture)?;
-        let mut options = self.options;
-        options.transform = transform_number(self.color_transform, &picture)?;
-        self.stage = Stage::Failed;
-        let mut pixels = library::zeros(picture.size).map_err(refused)?;
-        self.decode_into(&options, &mut pixels)?;
-        self.stage = Stage::Decoded;
+        let (pixels, (), _) = self.decode_by(library::decode, is_truncated)?;
         Ok(pixels)
     }
 }
@@ -214,6 +213,42 @@ impl<R: Read> Decoder<R> {
     /// and tables and lines, at most some 256 kB.
     pub fn decoding_bytes(&self) -> Option<u64> {
         self.picture.as_ref().map(bytes_of)
+    }
+
+    /// Reads as far as the stream goes, and returns the picture that it has brought up to its first
+    /// fault, and that fault: for streams that are truncated or damaged, which
+    /// [`decode`](Decoder::decode) refuses.
+    ///
+    /// The blocks before the fault count, in a progressive picture those of all scans before it;
+    /// what no scan has brought is mid-grey. A lossless scan counts if all of it is there. A marker
+    /// in place of blocks is a fault, where `decode` takes zeros for the bits that are lacking. An
+    /// error of the reader is a fault of the stream, by that error.
+    ///
+    /// The result is an error if no frame header was accepted before the fault, if the picture is
+    /// above a limit or can't have the colour transform, and as `decode`'s after another call. It
+    /// takes more memory than [`decoding_bytes`](Decoder::decoding_bytes) counts: the coefficients
+    /// of a sequential picture, too, 128 bytes for each block, and the data of a restart interval.
+    ///
+    /// ```
+    /// # let jpeg = &std::fs::read("tests/grey.jpg").unwrap()[..];
+    /// use zaxbriar::{Decoder, Error};
+    ///
+    /// let cut = &jpeg[..130];
+    /// let partial = Decoder::new(cut).decode_partial()?;
+    /// assert_eq!(partial.pixels, [128; 64]);
+    /// assert!(matches!(partial.fault, Some(Error::Io(_))));
+    ///
+    /// let partial = Decoder::new(jpeg).decode_partial()?;
+    /// assert_eq!(partial.pixels, Decoder::new(jpeg).decode()?);
+    /// assert!(partial.fault.is_none());
+    /// # Ok::<(), Error>(())
+    /// ```
+    pub fn decode_partial(&mut self) -> Result<PartialPicture> {
+        let (pixels, fault, failure) = self.decode_by(library::decode_partial, shows_cut)?;
+        Ok(PartialPicture {
+            pixels,
+            fault: fault.map(|fault| error_of(fault, failure)),
+        })
     }
 
     /// Chooses exactly that part of the picture's size, rounded up, and returns the size that it
@@ -277,15 +312,37 @@ impl<R: Read> Decoder<R> {
         Err(Error::Format(text))
     }
 
-    /// Reads the rest of the image, and decodes it.
-    fn decode_into(&mut self, options: &Options, pixels: &mut [u8]) -> Result<()> {
+    /// Reads the rest of the image, and decodes it by a call. Returns the picture, what the call
+    /// has returned besides, and why the reader gave no more bytes, if it didn't.
+    fn decode_by<T>(
+        &mut self,
+        call: impl Fn(&[u8], &Options, &mut [u8]) -> Outcome<T>,
+        lacks_bytes: impl Fn(&Outcome<T>) -> bool,
+    ) -> Result<(Vec<u8>, T, Option<io::Error>)> {
+        self.read_info()?;
+        let picture = match (self.stage, self.picture) {
+            (Stage::HeaderRead, Some(picture)) => picture,
+            _ => return Err(Error::Internal("image was already decoded".into())),
+        };
+        self.refuse_above_limits(&picture)?;
+        let mut options = self.options;
+        options.transform = transform_number(self.color_transform, &picture)?;
+        self.stage = Stage::Failed;
+        let mut pixels = library::zeros(picture.size).map_err(refused)?;
         let failure = self.stream.read_image(&mut self.reader);
-        let outcome = self.ask(failure, |bytes| library::decode(bytes, options, pixels));
-        let header = self.picture.map_or(0, |picture| picture.stream_bytes);
-        if self.stream.may_have_metadata(header as usize) && self.may_be_full_size()? {
+        let call = |bytes: &[u8]| call(bytes, &options, &mut pixels);
+        let (outcome, failure) = self.ask(failure, lacks_bytes, call);
+        let has_metadata = self.stream.may_have_metadata(picture.stream_bytes as usize);
+        if has_metadata && self.may_be_full_size()? {
             self.read_metadata(Segments::OfImage)?;
         }
-        outcome
+        match outcome {
+            Ok(returned) => {
+                self.stage = Stage::Decoded;
+                Ok((pixels, returned, failure))
+            }
+            Err(refusal) => Err(error_of(refusal, failure)),
+        }
     }
 
     fn read_metadata(&mut self, segments: Segments) -> Result<()> {
@@ -300,20 +357,38 @@ impl<R: Read> Decoder<R> {
         Ok(picture.map_err(refused)?.decoding_bytes <= self.max_bytes)
     }
 
-    /// Makes a call on the bytes that were read. Where these end too soon, and the reader has more,
-    /// all of it is read and the call is made again.
+    /// Makes a call on the bytes that were read. Where its outcome lacks bytes, and the reader has
+    /// more, all of it is read and the call is made again. Returns the outcome, and why the reader
+    /// gave no more bytes, if it didn't.
     fn ask<T>(
         &mut self,
         mut failure: Option<io::Error>,
-        mut call: impl FnMut(&[u8]) -> std::result::Result<T, Refusal>,
-    ) -> Result<T> {
+        lacks_bytes: impl Fn(&Outcome<T>) -> bool,
+        mut call: impl FnMut(&[u8]) -> Outcome<T>,
+    ) -> (Outcome<T>, Option<io::Error>) {
         let mut outcome = call(self.stream.bytes());
-        if failure.is_none() && matches!(outcome, Err(Refusal::Truncated)) {
+        if failure.is_none() && lacks_bytes(&outcome) {
             failure = Some(self.stream.read_rest(&mut self.reader));
             outcome = call(self.stream.bytes());
         }
-        outcome.map_err(|refusal| error_of(refusal, failure))
+        (outcome, failure)
     }
+}
+
+/// What a call of the library returns.
+type Outcome<T> = std::result::Result<T, Refusal>;
+
+/// Returns whether a stream is refused since it ends too soon.
+fn is_truncated<T>(outcome: &Outcome<T>) -> bool {
+    matches!(outcome, Err(Refusal::Truncated))
+}
+
+/// Returns whether it ends too soon, and what there is of it may be shown.
+fn shows_cut(outcome: &Outcome<Option<Refusal>>) -> bool {
+    matches!(
+        outcome,
+        Ok(Some(Refusal::Truncated)) | Err(Refusal::Truncated)
+    )
 }
 
 fn bytes_of(picture: &Picture) -> u64 {

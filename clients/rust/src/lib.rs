@@ -46,6 +46,6 @@ mod library;
 mod stream;
 
 pub use color::ColorTransform;
-pub use decoder::Decoder;
+pub use decoder::{Decoder, PartialPicture};
 pub use error::{Error, UnsupportedFeature};
 pub use info::{CodingProcess, ImageInfo, PixelFormat, Scale};

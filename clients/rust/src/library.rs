@@ -9,6 +9,7 @@ const MALFORMED: c_int = 1;
 const UNSUPPORTED: c_int = 2;
 const TRUNCATED: c_int = 3;
 const NO_MEMORY: c_int = 4;
+const PARTIAL: c_int = 9;
 
 /// A picture's coding process.
 const LOSSLESS: u8 = 3;
@@ -68,7 +69,8 @@ pub struct Picture {
     feature: u8,
     feature_argument: u8,
     sampling: [u8; 4],
-    reserved: [u8; 26],
+    fault: u8,
+    reserved: [u8; 25],
     text: [u8; TEXT_BYTES],
 }
 
@@ -96,7 +98,8 @@ impl Picture {
         feature: 0,
         feature_argument: 0,
         sampling: [0; 4],
-        reserved: [0; 26],
+        fault: 0,
+        reserved: [0; 25],
         text: [0; TEXT_BYTES],
     };
 
@@ -163,6 +166,15 @@ extern "C" {
         picture: *mut Picture,
     ) -> c_int;
 
+    fn zaxbriar_decode_partial(
+        jpeg: *const c_void,
+        jpeg_size: usize,
+        options: *const Options,
+        pixels: *mut c_void,
+        pixels_size: usize,
+        picture: *mut Picture,
+    ) -> c_int;
+
     fn zaxbriar_metadata(
         jpeg: *const c_void,
         jpeg_size: usize,
@@ -183,12 +195,22 @@ pub fn read_info(jpeg: &[u8], options: &Options) -> Result<Picture, Refusal> {
     refusal_of(answer, &picture).map_or(Ok(picture), Err)
 }
 
-/// Decodes a stream into `pixels`.
-pub fn decode(jpeg: &[u8], options: &Options, pixels: &mut [u8]) -> Result<(), Refusal> {
+/// A call that decodes.
+type Decoding = unsafe extern "C" fn(
+    *const c_void,
+    usize,
+    *const Options,
+    *mut c_void,
+    usize,
+    *mut Picture,
+) -> c_int;
+
+/// Makes one of the two calls that decode, and returns its answer and what it says of the picture.
+fn call(decoding: Decoding, jpeg: &[u8], options: &Options, pixels: &mut [u8]) -> (c_int, Picture) {
     let mut picture = Picture::NONE;
     // SAFETY: as in `read_info`; and `pixels` is borrowed to be written.
     let answer = unsafe {
-        zaxbriar_decode(
+        decoding(
             jpeg.as_ptr().cast(),
             jpeg.len(),
             options,
@@ -197,7 +219,26 @@ pub fn decode(jpeg: &[u8], options: &Options, pixels: &mut [u8]) -> Result<(), R
             &mut picture,
         )
     };
+    (answer, picture)
+}
+
+/// Decodes a stream into `pixels`.
+pub fn decode(jpeg: &[u8], options: &Options, pixels: &mut [u8]) -> Result<(), Refusal> {
+    let (answer, picture) = call(zaxbriar_decode, jpeg, options, pixels);
     refusal_of(answer, &picture).map_or(Ok(()), Err)
+}
+
+/// Decodes what there is of a stream into `pixels`, and returns its first fault, if it has any.
+pub fn decode_partial(
+    jpeg: &[u8],
+    options: &Options,
+    pixels: &mut [u8],
+) -> Result<Option<Refusal>, Refusal> {
+    let (answer, picture) = call(zaxbriar_decode_partial, jpeg, options, pixels);
+    if answer == PARTIAL {
+        return Ok(refusal_of(picture.fault.into(), &picture));
+    }
+    refusal_of(answer, &picture).map_or(Ok(None), Err)
 }
 
 /// Returns metadata that the segments have up to the end of the header or the image, or its first

@@ -121,18 +121,33 @@ fn refusal(error: &Error, is_whole: bool) -> String {
     }
 }
 
+/// Returns the text of a picture that a decoder has returned.
+fn picture_text<R: Read>(decoder: &Decoder<R>, pixels: &[u8]) -> String {
+    let info = decoder.info().unwrap();
+    let pixel_bytes = pixels.len() / (usize::from(info.width) * usize::from(info.height));
+    let words = words_of(pixels, pixel_bytes);
+    format!(
+        "{} {} {:?}{words}",
+        info.width, info.height, info.pixel_format
+    )
+}
+
 fn picture<R: Read>(decoder: &mut Decoder<R>, is_whole: bool) -> String {
     match decoder.decode() {
-        Ok(pixels) => {
-            let info = decoder.info().unwrap();
-            let pixel_bytes = pixels.len() / (usize::from(info.width) * usize::from(info.height));
-            let words = words_of(&pixels, pixel_bytes);
-            format!(
-                "{} {} {:?}{words}",
-                info.width, info.height, info.pixel_format
-            )
-        }
+        Ok(pixels) => picture_text(decoder, &pixels),
         Err(error) => refusal(&error, is_whole),
+    }
+}
+
+fn partial_picture<R: Read>(decoder: &mut Decoder<R>) -> String {
+    match decoder.decode_partial() {
+        Ok(partial) => {
+            let fault = partial.fault.map(|fault| refusal(&fault, false));
+            let fault = fault.as_deref().unwrap_or("none");
+            let name = fault.strip_prefix("refused: ").unwrap_or(fault);
+            format!("{}, fault {name}", picture_text(decoder, &partial.pixels))
+        }
+        Err(error) => refusal(&error, false),
     }
 }
 
@@ -205,6 +220,7 @@ fn answers_of(case: &Case<'_>, most: usize) -> Vec<String> {
             ["at", part] => size(decoder.set_scale(scale_named(part))),
             ["decode"] => picture(&mut decoder, false),
             ["refusal"] => picture(&mut decoder, true),
+            ["partial"] => partial_picture(&mut decoder),
             ["info"] => description(&decoder),
             ["exif"] => data(decoder.exif_data()),
             ["xmp"] => data(decoder.xmp_data()),
