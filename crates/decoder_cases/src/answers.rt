@@ -88,7 +88,9 @@ fn bytes_text(alloc: Global, bytes: Option<DecodingBytes>) -> Result<String, All
         Some(bytes) => {
             let (coefficients, planes) = (bytes.coefficients, bytes.planes);
             let (picture, peak) = (bytes.picture, bytes.peak);
-            format!(in alloc; "{coefficients} {planes} {picture} {peak}")
+            let (all, partial_peak) = (bytes.all_coefficients, bytes.partial_peak);
+            let whole = format!(in alloc; "{coefficients} {planes} {picture} {peak}")?;
+            format!(in alloc; "{whole}, partial {all} {partial_peak}")
         }
         None => String::from_str(alloc, "none"),
     }

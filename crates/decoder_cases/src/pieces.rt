@@ -195,7 +195,7 @@ fn decodes_alike(alloc: Global, stream: &[u8]) -> bool {
     }
 }
 
-/// Returns whether `decode` does what a decoder does of which `decode_partial` is asked first.
+/// Returns whether `decode` returns the same picture, if the first request is `decode_partial`.
 fn decodes_as_asked(alloc: Global, stream: &[u8], requests: &[Request]) -> bool {
     match requests.first() {
         Some(Request::Call(Call::Partial)) => decodes_alike(alloc, stream),

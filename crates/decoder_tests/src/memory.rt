@@ -13,6 +13,13 @@ use test_streams::readers::{Counted, Counts, Reader, Trouble, Writer};
 use test_streams::states::is_finished;
 use test_streams::streams::ROOM;
 
+/// What is wanted of a decoder: its picture after a first call, or what there is of it.
+#[derive(Clone, Copy)]
+enum Wanted {
+    Whole(First),
+    Partial,
+}
+
 /// A decoder's stream, and how much of it was read.
 #[derive(Clone, Copy)]
 struct Reading<'a> {
@@ -70,24 +77,18 @@ impl Reading<'_> {
             Err(error) => self.is_failed(decoder, &error),
         }
     }
-}
 
-/// Returns whether a decoder of a stream returns its picture, or runs out of memory.
-fn decodes(alloc: Global, stream: &Written<'_>, first: First) -> bool {
-    let counts = Counts::new();
-    let reader = Reader::new(stream.bytes, usize::MAX, usize::MAX, Trouble::Fails);
-    let reading = Reading {
-        stream,
-        counts: &counts,
-    };
-    match Decoder::new(alloc, Counted::new(reader, &counts)) {
-        Ok(mut decoder) => reading.decodes_after(&mut decoder, first),
-        Err(error) => matches!(error, Error::OutOfMemory),
+    /// Returns whether a decoder returns what is wanted, or has failed.
+    fn answers(&self, decoder: &mut Decoder<Counted<'_>>, wanted: Wanted) -> bool {
+        match wanted {
+            Wanted::Whole(first) => self.decodes_after(decoder, first),
+            Wanted::Partial => self.shows(decoder),
+        }
     }
 }
 
-/// Returns whether a decoder of a stream shows its picture, or runs out of memory.
-fn shows(alloc: Global, stream: &Written<'_>) -> bool {
+/// Returns whether a decoder of a stream returns what is wanted, or runs out of memory.
+fn answers(alloc: Global, stream: &Written<'_>, wanted: Wanted) -> bool {
     let counts = Counts::new();
     let reader = Reader::new(stream.bytes, usize::MAX, usize::MAX, Trouble::Fails);
     let reading = Reading {
@@ -95,7 +96,7 @@ fn shows(alloc: Global, stream: &Written<'_>) -> bool {
         counts: &counts,
     };
     match Decoder::new(alloc, Counted::new(reader, &counts)) {
-        Ok(mut decoder) => reading.shows(&mut decoder),
+        Ok(mut decoder) => reading.answers(&mut decoder, wanted),
         Err(error) => matches!(error, Error::OutOfMemory),
     }
 }
@@ -113,16 +114,16 @@ fn runs(alloc: Global, stream: &Written<'_>) -> bool {
     }
 }
 
-/// Returns whether all of this holds for a stream, `decodes` after each first call.
+/// Returns whether all of this holds for a stream, and for its picture after each first call.
 fn fares(alloc: Global, stream: &Stream) -> bool {
     match stream.write_out(&mut [0; ROOM], &mut [0; ROOM]) {
         Ok(stream) => {
             for first in FIRSTS {
-                if !decodes(alloc, &stream, first) {
+                if !answers(alloc, &stream, Wanted::Whole(first)) {
                     return false;
                 }
             }
-            shows(alloc, &stream) && runs(alloc, &stream)
+            answers(alloc, &stream, Wanted::Partial) && runs(alloc, &stream)
         }
         Err(_) => false,
     }

@@ -188,10 +188,6 @@ decodes-rest bytes_of old mid new r b stage read emptied =
 
 -- ---- calls that do more with what is decoded
 
-read-of : {X : Type 0} (bytes_of : X → List ℕ) (old new : Decoding) (r : Result X Error) → Decodes bytes_of old r new
-    → HasRead bytes_of (told_of new.found.said) old r new.source
-read-of bytes_of old new r d = record { reads = d.reads; told_is = d.told; turns = d.turns }
-
 -- where the header was read already
 begun-stage : {X : Type 0} (stage new : Progress) (r : Result X Error) → IsReading stage → MovesToEnd HeaderRead new r
     → MovesToEnd stage new r

@@ -19,6 +19,7 @@ pub mod BlockSteps
 pub mod LinesOfBlocks
 pub mod PartTurns
 pub mod KeptSpots
+pub mod StoredRows
 pub mod StripRows
 pub mod RowBuffers
 pub mod ByStrips

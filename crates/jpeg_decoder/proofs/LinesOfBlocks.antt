@@ -223,13 +223,6 @@ module _ (p : Pass) (vias : List Via) (n at room : ℕ) (whole : Reads Counted) 
       Leaves-end (λ (u : Unit {0}). now) whole (blocks_from p vias n (line_spots at room) now) a b old cur tt
       (λ t. line-none p vias n at room now t none) left
 
-pub line-whole : (p : Pass) (vias : List Via) (n first wide : ℕ) (old : Counted) (t : Text)
-    → blocks_from p vias n (line_spots first wide) old t
-    ≡ blocks_from p vias n (line_spots first (first + wide - first)) old t
-line-whole p vias n first wide old t =
-    let e : wide ≡ first + wide - first = omega arith in
-    ap (λ (k : ℕ). blocks_from p vias n (line_spots first k) old t) e
-
 -- ---- lines
 
 lines-next : (p : Pass) (vias : List Via) (n : ℕ) (spots more : List Spot)

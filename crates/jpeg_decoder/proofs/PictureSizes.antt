@@ -192,11 +192,6 @@ lines-whole found lines pixels p are is = go found.said.frame refl are
     go (Some f) e are = whole-by f pixels (p f e)
         (ap length is ∙ (together-length (line_bytes f) lines are.1 ∙ ap (λ n. n * line_bytes f) are.0))
 
-pub if-whole : {X : Type 0} (found : Found) (lines_of : X → List (List ℕ)) (result : Result X Error)
-    → OnOk result (HasDecodedFrame found) → IfOk result (λ x. AreLinesOf found.said.frame (lines_of x))
-    → IfOk result (λ x. IsWhole found.said.frame (concat (lines_of x)))
-if-whole found lines_of result p are = grind (arith, common_steps, lines-whole)
-
 -- ---- the samples of a pixel
 
 by-format : (n precision : ℕ) → is_decoded_count n ≡ true → n ≡ samples_a_pixel (format_of n precision)

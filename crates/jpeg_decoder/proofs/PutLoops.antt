@@ -6,16 +6,14 @@ use Rattle.std.specs.declared.alloc.Global.{Global}
 use Rattle.std.specs.declared.vec.Vec.{Vec}
 use Rattle.jpeg_bits.specs.Passes.{Pass, Block}
 use Rattle.jpeg_decoder.specs.declared.scan.coded.Coded.{Coded}
-use Rattle.std.specs.Prelude.{All}
-use Rattle.jpeg_decoder.specs.Scanning.{arrays_in, blocks_in, components_in, IsFull}
-use Rattle.jpeg_decoder.proofs.BlockArrays.{Held, full-count}
+use Rattle.jpeg_decoder.specs.Scanning.{arrays_in, blocks_in, components_in}
+use Rattle.jpeg_decoder.proofs.BlockArrays.{Held}
 use Rattle.jpeg_decoder.specs.Steps.{coding_in, with_its_plane, with_planes, decided_planes}
 use Rattle.jpeg_streams.specs.Rasters.{plane_by}
 use Rattle.jpeg_streams.specs.ScanSegments.{put_arrays, with_arrays, with_blocks, with_plane}
 use Rattle.jpeg_streams.specs.ScanSegments.{Coding}
 use Rattle.jpeg_streams.specs.Found.{Found}
 use Rattle.jpeg_streams.specs.InTurn.{AreArrays}
-use Rattle.jpeg_bits.specs.BlockView.{to_block}
 use Rattle.std.proofs.lemmas.Grind.{common_steps}
 
 -- the first of those that are left, in a list that is seen by a function
@@ -68,29 +66,24 @@ pub arrays-step : (p : Pass) (cs : List Coded) (i : ℕ) (d : Coded) (arrays : L
     (before after : Found)
     → i < length cs → i < length arrays → blocks ≡ get_or arrays i blocks
     → after ≡ with_its_plane p (get_or cs i d).index (plane_by (coding_in (get_or cs i d)).component
-    (coding_in (get_or cs i d)).quantization (map to_block blocks.blocks.items)) before
-    → IsFull blocks
+    (coding_in (get_or cs i d)).quantization (blocks_in blocks)) before
     → with_arrays p (drop (i + 1) (map coding_in cs)) (drop (i + 1) (arrays_in arrays)) after
     ≡ with_arrays p (drop i (map coding_in cs)) (drop i (arrays_in arrays)) before
 unfolding with_arrays
-arrays-step p cs i d arrays blocks before after h k is made full =
-    let all : after ≡ with_its_plane p (get_or cs i d).index (plane_by (coding_in (get_or cs i d)).component
-    (coding_in (get_or cs i d)).quantization (blocks_in blocks)) before
-    = made ∙ ap (λ (l : List Block). with_its_plane p (get_or cs i d).index (plane_by (coding_in
-    (get_or cs i d)).component (coding_in (get_or cs i d)).quantization l) before) (sym full) in
+arrays-step p cs i d arrays blocks before after h k is made =
     search (rules, arith, seen-any, seen-at, blocks-are)
 
 -- each component has its blocks
 pub sized-at : (cs : List Coded) (vs : List Held) (i : ℕ) (d : Coded) (v : Held)
-    → AreArrays (components_in cs) (arrays_in vs) → All IsFull vs → i < length cs
-    → (i < length vs) × (length (get_or vs i v).blocks.items ≡ (coding_in (get_or cs i d)).component.blocks_high
+    → AreArrays (components_in cs) (arrays_in vs) → i < length cs
+    → (i < length vs) × (length (blocks_in (get_or vs i v)) ≡ (coding_in (get_or cs i d)).component.blocks_high
     * (coding_in (get_or cs i d)).component.blocks_wide)
 unfolding AreArrays
-sized-at [] vs i d v a full h = absurd (omega arith)
-sized-at (c ∷ cs) [] i d v a full h = absurd a
-sized-at (c ∷ cs) (x ∷ vs) zero d v a full h = (omega arith, full-count x (full 0 v (omega arith)) ∙ a.0)
-sized-at (c ∷ cs) (x ∷ vs) (suc i) d v a full h =
-    let r = sized-at cs vs i d v a.1 (λ k e l. full (suc k) e (omega (arith, l))) (omega arith) in (omega (arith, r.0), r.1)
+sized-at [] vs i d v a h = absurd (omega arith)
+sized-at (c ∷ cs) [] i d v a h = absurd a
+sized-at (c ∷ cs) (x ∷ vs) zero d v a h = (omega arith, a.0)
+sized-at (c ∷ cs) (x ∷ vs) (suc i) d v a h =
+    let r = sized-at cs vs i d v a.1 (omega arith) in (omega (arith, r.0), r.1)
 
 pub long-at : (cs : List Coded) (vs : List Held) (i : ℕ) → AreArrays (components_in cs) (arrays_in vs) → i < length cs
     → i < length vs

@@ -29,6 +29,7 @@ use Rattle.jpeg_streams.proofs.WholeImages.{cut-whole}
 use Rattle.jpeg_streams.proofs.WorkedStreams.{colour-written, grey-written, padding-written, three-written}
 use Rattle.jpeg_streams.proofs.WrittenParts.{front-closed}
 use Rattle.jpeg_streams.proofs.WrittenPictures.{stream-means, taken-means}
+use Rattle.jpeg_decoder.proofs.StoredRows.{all-stored-long, filled-seen}
 use Rattle.jpeg_decoder.proofs.BlocksBefore.{plane_by-length}
 use Rattle.jpeg_decoder.proofs.HeaderThenRest.{header-lacks, header-means}
 use Rattle.jpeg_decoder.proofs.JointDecided.{or-after, or-at, or-nothing, or-set, room-at, room-past}
@@ -152,6 +153,9 @@ block_planes = tt
 unfoldable pub puts : ⊤
 unfolding put_arrays
 puts = tt
+
+-- blocks of which the first are stored
+pub ruleset stored = (common_steps, all-stored-long, filled-seen)
 
 -- sampling factors that are refused
 pub ruleset ratios = (err_from_is_err_and, ratios_refused)

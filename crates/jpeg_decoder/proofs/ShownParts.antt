@@ -7,7 +7,7 @@ use Rattle.std.specs.Prelude.{◌&&◌, ◌||◌, is_some, option_map, slice_ind
 use Rattle.std.specs.List.{enumerate_from, fold}
 use Rattle.std.proofs.lemmas.Bool.{and_parts, leb-true}
 use Rattle.std.proofs.lemmas.Grind.{common_steps}
-use Rattle.std.proofs.lemmas.List.{at_drop_more, length-map, length-replicate, map-set, set-get_or}
+use Rattle.std.proofs.lemmas.List.{at_drop_more, length-map, length-replicate, set-get_or}
 use Rattle.std.proofs.lemmas.List.FromFn.{length-enumerate_from}
 use Rattle.jpeg_bits.specs.Passes.{Block}
 use Rattle.jpeg_bits.specs.Reading.{Fault, Malformed, Names, NamesFormat}
@@ -65,14 +65,6 @@ pub kept-length : (b : Bool) (kept : List BlockArray) (index : ℕ) (a d : Block
     → length (blocks_in a) ≡ c.blocks_high * c.blocks_wide
 kept-length true kept index a d c k h e l = ap length (mapped-or blocks_in kept index a d [] h e) ∙ l
 kept-length false kept index a d c k h e l = absurd (let n : ⊥ = cc in n)
-
-pub kept-same : (kept : List BlockArray) (index : ℕ) (a d b : BlockArray) → index < length kept
-    → a ≡ get_or kept index d
-    → blocks_in b ≡ blocks_in a → map blocks_in (slice_set kept index b) ≡ map blocks_in kept
-kept-same kept index a d b h e same =
-    map-set blocks_in kept index b
-    ∙ ap (slice_set (map blocks_in kept) index) (same ∙ mapped-or blocks_in kept index a d [] h e)
-    ∙ set-get_or (map blocks_in kept) index []
 
 -- ---- a plane
 

@@ -81,15 +81,25 @@ abbrev pub beside_planes : CodingProcess → Frame → ℕ
 beside_planes Lossless f = picture_size f
 beside_planes _ f = if length f.components == 1 then 0 else picture_size f
 
+-- In a partial picture all blocks are kept of a sequential frame, too.
+abbrev pub keeping_blocks : CodingProcess → CodingProcess
+keeping_blocks DctSequential = DctProgressive
+keeping_blocks process = process
+
 -- The blocks that are read, the planes and the picture, and the most of them at a time: blocks and
--- planes while scans are read, and planes and picture at the end.
+-- planes while scans are read, and planes and picture at the end. And the blocks that are kept for
+-- a partial picture, and the most at a time for it.
 abbrev pub decoding_bytes : Frame → DecodingBytes
 decoding_bytes f =
     let coefficients = sum_by (coefficient_bytes f.process) f.components in
+    let all_coefficients = sum_by (coefficient_bytes (keeping_blocks f.process)) f.components in
     let planes = sum_by (plane_bytes f.process) f.components in
+    let end = planes + beside_planes f.process f in
     record {
       coefficients = coefficients;
+      all_coefficients = all_coefficients;
       planes = planes;
       picture = picture_size f;
-      peak = max (coefficients + planes) (planes + beside_planes f.process f);
+      peak = max (coefficients + planes) end;
+      partial_peak = max (all_coefficients + planes) end;
     }

@@ -1,6 +1,6 @@
 -- What a caller sees of a scan, of what is kept of it, and of the state of an interval.
 use Rattle.std.specs.Prelude.{◌≡◌, ◌<◌, ℕ, ◌+◌, ◌-◌, List, [], ◌∷◌, ◌++◌, map, length, get_or}
-use Rattle.std.specs.Prelude.{replicate, Bool, true, false}
+use Rattle.std.specs.Prelude.{replicate, Bool, true, false, ℤ, pos}
 use Rattle.jpeg_segments.specs.Frame.{Component}
 use Rattle.jpeg_segments.specs.FrameView.{component_in}
 use Rattle.jpeg_bits.specs.Passes.{Pass, Via, Block, zero_block}
@@ -39,6 +39,10 @@ scan_components s = components_in s.components.items
 unfoldable pub blocks_in : BlockArray → List Block
 blocks_in a = map to_block a.blocks.items
     ++ replicate (a.count - length a.blocks.items) zero_block
+
+-- blocks in block order, and zeros after them up to this many
+abbrev pub filled : ℕ → List (List ℤ) → List (List ℤ)
+filled count blocks = blocks ++ replicate (count - length blocks) (replicate 64 (pos 0))
 
 abbrev pub arrays_in : List BlockArray → Arrays
 arrays_in arrays = map blocks_in arrays

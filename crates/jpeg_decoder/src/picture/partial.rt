@@ -18,7 +18,7 @@ ghost use Rattle.jpeg_streams.specs.States.{IsOfBytes};
 ghost use Rattle.jpeg_streams.specs.Stream.{told_of};
 ghost use Rattle.jpeg_decoder.specs.Bytes.{AreLinesOf, IsWhole};
 ghost use Rattle.jpeg_decoder.specs.Reaching.{NamesFault, is_out_of_memory};
-ghost use Rattle.jpeg_decoder.specs.Scanning.{arrays_in, blocks_in};
+ghost use Rattle.jpeg_decoder.specs.Scanning.{arrays_in};
 ghost use Rattle.jpeg_decoder.specs.Seen.{found_in, said_in};
 ghost use Rattle.jpeg_decoder.specs.Shows.{GivesUp, IsShown, ShowsJust, is_there};
 ghost use Rattle.jpeg_decoder.specs.Steps.{with_decoded};
@@ -59,51 +59,32 @@ fn table_held<'a>(state: &'a State, component: &Component) -> &'a [u16; 64]
     }
 }
 
-/// Renders the blocks of a component, and stores those that no scan has stored.
-fn render_all(
-    alloc: Global,
-    component: &Component,
-    quantization: &[u16; 64],
-    array: &mut BlockArray,
-) -> std::result::Result<Vec<u8>, AllocError>
-    requires scale { IsScale component.now.dct_scale }
-    requires blocks { length (blocks_in array.old) ≡ component.now.block_size.height *
-        component.now.block_size.width }
-    ensures blocks { blocks_in array.new ≡ blocks_in array.old }
-    ensures plane { IfOk result (λ v. v.items ≡ plane_by (component_in component.now)
-        quantization.now (blocks_in array.old)) }
-{
-    array.fill()?;
-    render(alloc, component, quantization, &array.blocks)
-}
-
 /// Returns the plane of a component's blocks, which are zeros if none are kept.
 fn plane_held(
     alloc: Global,
     state: &State,
     frame: &FrameInfo,
     component: &Component,
-    kept: &mut Vec<BlockArray>,
+    kept: &[BlockArray],
     index: usize,
 ) -> std::result::Result<Vec<u8>, AllocError>
     requires scale { IsScale component.now.dct_scale }
     requires within { is_kept (found_in state.now) (frame_in frame.now) ≡ true
-        → index < length kept.old.items }
+        → index < length kept.now }
     requires blocks { AreBlocksOf (component_in component.now)
-        (blocks_if (is_kept (found_in state.now) (frame_in frame.now)) (arrays_in kept.old.items)
+        (blocks_if (is_kept (found_in state.now) (frame_in frame.now)) (arrays_in kept.now)
         index) }
-    ensures kept { arrays_in kept.new.items ≡ arrays_in kept.old.items }
-    ensures plane { let c = component_in component.now in
+    ensures { let c = component_in component.now in
         IfOk result (λ v. v.items ≡ plane_by c (table_held (found_in state.now) c)
-        (blocks_held (record (found_in state.now) { kept = arrays_in kept.old.items })
+        (blocks_held (record (found_in state.now) { kept = arrays_in kept.now })
         (frame_in frame.now) (index, c))) }
 {
     let table = table_held(state, component);
     if are_kept(state, frame) {
-        return render_all(alloc, component, table, &mut kept[index]);
+        let array = &kept[index];
+        return render(alloc, component, table, array);
     }
-    let mut zeros = zero_blocks(alloc, component)?;
-    render_all(alloc, component, table, &mut zeros)
+    render(alloc, component, table, &zero_blocks(alloc, component)?)
 }
 
 /// Gives a component without a plane that of its blocks, which are zeros if none are kept.
@@ -127,7 +108,7 @@ fn complete_plane(
     if decoded.planes.has(index) {
         return Ok(());
     }
-    let plane = plane_held(alloc, state, frame, component, &mut decoded.kept, index)?;
+    let plane = plane_held(alloc, state, frame, component, &decoded.kept, index)?;
     decoded.planes.put(index, plane);
     Ok(())
 }

@@ -139,13 +139,12 @@ fn plane_at_end(
         return Ok(plane);
     }
     let identifier = component.identifier;
-    let mut array = needed(alloc, kept, Missing::Scan(identifier))?;
+    let array = needed(alloc, kept, Missing::Scan(identifier))?;
     let destination = component.quantization_table_index;
     let missing = Missing::Table("quantization", destination, identifier);
     let table = table_at(&state.said.quantization, destination);
     let table = needed(alloc, table, missing)?;
-    array.fill()?;
-    Ok(render(alloc, component, table, &array.blocks)?)
+    Ok(render(alloc, component, table, &array)?)
 }
 
 /// Returns the planes of a frame's components at the end of an image, which are taken. Blocks that

@@ -3,7 +3,7 @@ ghost use Rattle.std.specs.Prelude.{◌≡◌, ◌<◌, ◌*◌, [], All, IfOk};
 ghost use Rattle.std.specs.Prelude.{None, OnOk, length, map, replicate, slice_index_or};
 ghost use Rattle.std.specs.Prelude.{slice_set, true};
 ghost use Rattle.std.specs.List.{list_all};
-ghost use Rattle.jpeg_bits.specs.BlockView.{pass_in, to_block, IsPass};
+ghost use Rattle.jpeg_bits.specs.BlockView.{pass_in, IsPass};
 ghost use Rattle.jpeg_pixels.specs.Scaled.{IsScale};
 ghost use Rattle.jpeg_segments.specs.FrameView.{component_in, frame_in};
 ghost use Rattle.jpeg_bits.specs.Reading.{Answers};
@@ -18,13 +18,13 @@ ghost use Rattle.jpeg_decoder.specs.Steps.{blocks_at, coding_in, without_blocks,
 ghost use Rattle.jpeg_bits.specs.Passes.{whole_pass};
 ghost use Rattle.jpeg_decoder.specs.Reaching.{is_out_of_memory, kept_after};
 
-use crate::scan::block_array::{BlockArray, fill_all};
+use crate::scan::block_array::BlockArray;
 use crate::scan::coded::{Coded, Scan, is_progressive};
 use crate::scan::kept::read_blocks;
 use crate::scan::planes::Planes;
 use crate::scan::reached::reach_blocks;
 use crate::scan::rows::read_planes;
-use crate::scan::strips::{GrowingPlanes, append_rows, empty_planes, plane_size, sample_table};
+use crate::scan::strips::{GrowingPlanes, append_stored, empty_planes, plane_size, sample_table};
 use jpeg_bits::blocks::Pass;
 use jpeg_bits::error::{Error, Result};
 use jpeg_bits::marker::Marker;
@@ -111,25 +111,26 @@ fn zero_frame(alloc: Global, frame: &FrameInfo) -> std::result::Result<Vec<Block
 }
 
 /// Returns the plane of a component's blocks, which stand in raster order, at the component's
-/// scale, by its quantization table in zigzag order.
-#[tactic(auto, unfolding(crate::proofs::Rules::block_planes))]
+/// scale, by its quantization table in zigzag order. Blocks that aren't stored take no memory of
+/// their own.
+#[tactic(auto, using(crate::proofs::Rules::stored), unfolding(crate::proofs::Rules::block_planes))]
 pub fn render(
     alloc: Global,
     component: &Component,
     quantization: &[u16; 64],
-    blocks: &[[i16; 64]],
+    array: &BlockArray,
 ) -> std::result::Result<Vec<u8>, AllocError>
     requires scale { IsScale component.now.dct_scale }
-    requires blocks { length blocks.now ≡ component.now.block_size.height *
+    requires blocks { length (blocks_in array.now) ≡ component.now.block_size.height *
         component.now.block_size.width }
     ensures { IfOk result (λ v. v.items
-        ≡ plane_by (component_in component.now) quantization.now (map to_block blocks.now)) }
+        ≡ plane_by (component_in component.now) quantization.now (blocks_in array.now)) }
 {
     let size = component.block_size;
     let samples = plane_size(size.width, size.height, component.dct_scale);
     let mut plane = Vec::with_capacity(alloc, samples)?;
     let table = sample_table(quantization);
-    append_rows(&mut plane, component, &table, blocks, size.height)?;
+    append_stored(alloc, &mut plane, component, &table, &array.blocks)?;
     Ok(plane)
 }
 
@@ -211,13 +212,13 @@ impl Decoded {
     ghost use Rattle.std.specs.Prelude.{◌*◌, true, false, length, map, replicate, slice_index_or};
     ghost use Rattle.std.specs.Prelude.{is_some, slice_set};
     ghost use Rattle.jpeg_bits.specs.Reading.{Answers};
-    ghost use Rattle.jpeg_bits.specs.BlockView.{pass_in, IsPass, to_block};
+    ghost use Rattle.jpeg_bits.specs.BlockView.{pass_in, IsPass};
     ghost use Rattle.jpeg_pixels.specs.Scaled.{IsScale};
     ghost use Rattle.jpeg_segments.specs.FrameView.{component_in, frame_in};
     ghost use Rattle.jpeg_streams.specs.InTurn.{AreArrays};
     ghost use Rattle.jpeg_streams.specs.LosslessScans.{with_samples};
     ghost use Rattle.jpeg_streams.specs.Sound.{ArePlanes};
-    ghost use Rattle.jpeg_decoder.specs.Scanning.{arrays_in, components_in, IsFull};
+    ghost use Rattle.jpeg_decoder.specs.Scanning.{arrays_in, blocks_in, components_in};
     ghost use Rattle.jpeg_decoder.specs.PlanesView.{planes_in};
     ghost use Rattle.jpeg_decoder.specs.Steps.{blocks_before, coding_in, HasIndex, IsBefore};
     ghost use Rattle.jpeg_decoder.specs.Steps.{IsReadable, is_wanted};
@@ -312,22 +313,22 @@ impl Decoded {
         alloc: Global,
         pass: Pass,
         coded: &Coded<'_>,
-        blocks: &[[i16; 64]],
+        array: &BlockArray,
     ) -> std::result::Result<(), AllocError>
         requires pass { IsPass (pass_in pass) }
         requires index { coded.now.index < 4 }
-        requires blocks { length blocks.now ≡ (component_in coded.now.component.now).blocks_high *
-            (component_in coded.now.component.now).blocks_wide }
+        requires blocks { let c = component_in coded.now.component.now in
+            length (blocks_in array.now) ≡ c.blocks_high * c.blocks_wide }
         ensures kept { OnOk result (self.new.kept ≡ self.old.kept) }
         ensures samples { OnOk result (self.new.samples ≡ self.old.samples) }
         ensures plane { OnOk result ((base : Found) →
             with_decoded base self.new
             ≡ with_its_plane (pass_in pass) coded.now.index
             (plane_by (component_in coded.now.component.now) coded.now.quantization.now
-            (map to_block blocks.now)) (with_decoded base self.old)) }
+            (blocks_in array.now)) (with_decoded base self.old)) }
     {
         if self.is_wanted(pass, coded.index) {
-            let plane = render(alloc, coded.component, coded.quantization, blocks)?;
+            let plane = render(alloc, coded.component, coded.quantization, array)?;
             self.planes.put(coded.index, plane);
         }
         Ok(())
@@ -431,7 +432,6 @@ impl Decoded {
         requires indices { All HasIndex scan.now.components.items }
         requires blocks { AreArrays (components_in scan.now.components.items)
             (arrays_in arrays.now.items) }
-        requires full { All IsFull arrays.now.items }
         ensures kept { OnOk result (self.new.kept ≡ self.old.kept) }
         ensures samples { OnOk result (self.new.samples ≡ self.old.samples) }
         ensures planes { OnOk result ((base : Found) → with_decoded base self.new
@@ -441,7 +441,7 @@ impl Decoded {
         let mut slot = 0;
         while slot < scan.components.len() {
             let coded = &scan.components[slot];
-            self.add_blocks(alloc, scan.pass, coded, &arrays[slot].blocks)?;
+            self.add_blocks(alloc, scan.pass, coded, &arrays[slot])?;
             slot += 1;
         }
         Ok(())
@@ -496,7 +496,6 @@ impl Decoded {
         self.keep(alloc, scanned, frame)?;
         let mut arrays = take_blocks(alloc, &scan.components, &mut self.kept)?;
         let met = read_blocks(alloc, source, scan, &mut arrays, frame)?;
-        fill_all(&mut arrays)?;
         self.add_arrays(alloc, scan, &arrays)?;
         put_blocks(alloc, &scan.components, &mut arrays, &mut self.kept);
         Ok(met)
@@ -593,7 +592,6 @@ impl Decoded {
         if is_out_of_memory(&met) {
             return met;
         }
-        fill_all(&mut arrays)?;
         self.add_arrays(alloc, scan, &arrays)?;
         keep_blocks(alloc, frame, &scan.components, &mut arrays, &mut self.kept);
         met

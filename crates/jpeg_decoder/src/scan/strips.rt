@@ -4,10 +4,10 @@ ghost use Rattle.std.specs.Prelude.{◌≡◌, ◌≤◌, ◌<◌, ◌*◌, ◌+
 ghost use Rattle.std.specs.List.{concat};
 ghost use Rattle.jpeg_bits.specs.BlockView.{to_block};
 ghost use Rattle.jpeg_bits.specs.Zigzag.{values_in_block_order};
-ghost use Rattle.jpeg_pixels.specs.Planes.{plane_of};
+ghost use Rattle.jpeg_pixels.specs.Planes.{plane_of, strip_of};
 ghost use Rattle.jpeg_pixels.specs.Scaled.{IsScale};
 ghost use Rattle.jpeg_streams.specs.Rasters.{in_raster};
-ghost use Rattle.jpeg_decoder.specs.Scanning.{arrays_in, sizes_of, IsFull};
+ghost use Rattle.jpeg_decoder.specs.Scanning.{arrays_in, filled, sizes_of, IsFull};
 ghost use Rattle.jpeg_decoder.specs.Steps.{coding_in};
 ghost use Rattle.jpeg_decoder.specs.Strips.{no_samples, plane_lists, row_sizes, zeros_of};
 ghost use Rattle.jpeg_decoder.specs.Strips.{strips_of, tables_of, with_strips};
@@ -124,6 +124,59 @@ pub fn append_rows(
     for _ in 0..high {
         let (row, others) = rest.split_at(wide);
         append_strip(plane, component.dct_scale, row, table)?;
+        rest = others;
+    }
+    Ok(())
+}
+
+/// Appends the samples of a row of a component's blocks to its plane. Blocks that are missing at its
+/// end are zeros.
+fn append_row(
+    alloc: Global,
+    plane: &mut Vec<u8>,
+    component: &Component,
+    table: &SampleTable,
+    row: &[[i16; 64]],
+) -> Result<(), AllocError>
+    requires scale { IsScale component.now.dct_scale }
+    requires within { length row.now ≤ component.now.block_size.width }
+    ensures { OnOk result (plane.new.items ≡ plane.old.items
+        ++ strip_of component.now.dct_scale table.now
+        (filled component.now.block_size.width row.now)) }
+{
+    let wide = usize::from(component.block_size.width);
+    if row.len() == wide {
+        return append_strip(plane, component.dct_scale, row, table);
+    }
+    let mut blocks = Vec::with_capacity(alloc, wide)?;
+    blocks.extend_from_slice(row)?;
+    blocks.resize(wide, [0; 64])?;
+    append_strip(plane, component.dct_scale, &blocks, table)
+}
+
+/// Appends the samples of all of a component's blocks to its plane, row by row. The first blocks are
+/// given; the others are zeros, which take memory for one row.
+pub fn append_stored(
+    alloc: Global,
+    plane: &mut Vec<u8>,
+    component: &Component,
+    table: &SampleTable,
+    blocks: &[[i16; 64]],
+) -> Result<(), AllocError>
+    requires scale { IsScale component.now.dct_scale }
+    requires within { length blocks.now
+        ≤ component.now.block_size.height * component.now.block_size.width }
+    ensures { let size = component.now.block_size in
+        let all = filled (size.height * size.width) blocks.now in
+        OnOk result (plane.new.items ≡ plane.old.items
+        ++ plane_of component.now.dct_scale table.now size.width size.height
+        (in_raster size.width (map to_block all))) }
+{
+    let wide = usize::from(component.block_size.width);
+    let mut rest = blocks;
+    for _ in 0..component.block_size.height {
+        let (row, others) = rest.split_at(wide.min(rest.len()));
+        append_row(alloc, plane, component, table, row)?;
         rest = others;
     }
     Ok(())

@@ -1,7 +1,6 @@
 use Rattle.std.proofs.Common.{◌≡◌, ◌∙◌, arith, rules, length, get_or, ◌<◌}
 use Rattle.jpeg_bits.specs.BlockView.{pass_in}
 use Rattle.jpeg_decoder.specs.Steps.{with_decoded}
-use Rattle.jpeg_decoder.proofs.BlockArrays.{full-there}
 use Rattle.jpeg_decoder.proofs.PutLoops.{arrays-step, none-left, sized-at, long-at}
 use Rattle.jpeg_streams.specs.ScanSegments.{with_arrays}
 use Rattle.jpeg_decoder.proofs.scan.decoded.Decoded.add_arrays.Goals as goal
@@ -30,8 +29,6 @@ loop-slot-preserved c =
           (with_decoded base c.add_blocks.new.self) h
           (long-at cs c.args.arrays.now.items l.slot c.requires.blocks h) (search rules)
           (grind (arith, common_steps, c.in_ok-add_blocks.ensures.plane base))
-          (full-there c.args.arrays.now.items l.slot c.index.result.now c.requires.full
-          (long-at cs c.args.arrays.now.items l.slot c.requires.blocks h) (search rules))
           ∙ l.invariant.added base;
     }
 

@@ -53,8 +53,8 @@ reach_blocks-met-requires-clause-arrays g c =
 pub add_arrays-requires-clause-blocks : goal.add_arrays-requires-clause-blocks
 add_arrays-requires-clause-blocks g c =
     arrays-by-sizes (components_in c.args.scan.now.components.items) c.in_ok-arrays.arrays.items
-    c.fill_all.new.arrays.items (taken g (goal.at.add_arrays-requires-clause-blocks g c).In_ok-arrays).1
-    (c.in_ok-fill_all.ensures.sizes ∙ c.reach_blocks-met.ensures.sizes)
+    c.reach_blocks-met.new.arrays.items (taken g (goal.at.add_arrays-requires-clause-blocks g c).In_ok-arrays).1
+    c.reach_blocks-met.ensures.sizes
 
 pub keep_blocks-requires-clause-indices : goal.keep_blocks-requires-clause-indices
 keep_blocks-requires-clause-indices g c =
@@ -65,27 +65,27 @@ keep_blocks-requires-clause-indices g c =
 held : (g : given.Over) (c : After-keep_blocks g) → let cs = c.args.scan.now.components.items in
     let is_kept = is_progressive (frame_in c.args.frame.now).process in
     (arrays_in c.keep_blocks.new.kept.items ≡ kept_after is_kept (map coding_in cs)
-    (arrays_in c.fill_all.new.arrays.items)
+    (arrays_in c.reach_blocks-met.new.arrays.items)
     (blocks_before c.args.scanned c.args.self.now (frame_in c.args.frame.now)))
     × (is_kept ≡ true → AreArrays (frame_in c.args.frame.now).components (arrays_in c.keep_blocks.new.kept.items))
 held g c =
     kept-all (is_progressive (frame_in c.args.frame.now).process) (frame_in c.args.frame.now)
     c.args.scan.now.components.items c.deref.result.now c.deref-2.result.now c.keep.new.self.kept.items
-    c.add_arrays.new.self.kept.items c.in_ok-arrays.arrays.items c.fill_all.new.arrays.items
+    c.add_arrays.new.self.kept.items c.in_ok-arrays.arrays.items c.reach_blocks-met.new.arrays.items
     c.keep_blocks.new.kept.items _ c.deref.ensures.value c.deref-2.ensures.value c.in_ok-keep.ensures.kept
     c.in_ok-arrays.ensures.taken
     (ap (λ (v : Vec Held Global). arrays_in v.items) c.in_ok-add_arrays.ensures.kept ∙ c.in_ok-arrays.ensures.left)
-    (c.in_ok-fill_all.ensures.sizes ∙ c.reach_blocks-met.ensures.sizes) c.keep_blocks.ensures
+    c.reach_blocks-met.ensures.sizes c.keep_blocks.ensures
     c.requires.ready.of_frame c.requires.ready.rising c.requires.kept
 
 held-by : (g : given.Over) (c : After-keep_blocks g) (base : Found) → IsBefore c.args.scanned c.args.scan.now base
     → arrays_in c.keep_blocks.new.kept.items ≡ kept_after (is_progressive (frame_in c.args.frame.now).process)
-    (map coding_in c.args.scan.now.components.items) (arrays_in c.fill_all.new.arrays.items)
+    (map coding_in c.args.scan.now.components.items) (arrays_in c.reach_blocks-met.new.arrays.items)
     (arrays_before (with_decoded base c.args.self.now) (frame_in c.args.frame.now))
 held-by g c base b =
     (held g c).0
     ∙ sym (ap (kept_after (is_progressive (frame_in c.args.frame.now).process)
-    (map coding_in c.args.scan.now.components.items) (arrays_in c.fill_all.new.arrays.items))
+    (map coding_in c.args.scan.now.components.items) (arrays_in c.reach_blocks-met.new.arrays.items))
     (before-as base c.args.self.now (frame_in c.args.frame.now) _ b.scanned))
 
 pub returns-clause-found : goal.returns-clause-found
@@ -97,11 +97,11 @@ returns-clause-found g c base b =
     (taken-by g at.In_ok-arrays base b) in
     on-told c.args.source.now c.reach_blocks-met.new.source c.reach_blocks-met.result
     (λ is. reached-found f frame (pass_in c.args.scan.now.pass) (map coding_in c.args.scan.now.components.items)
-    (arrays_in c.fill_all.new.arrays.items) c.args.source.now.bytes
+    (arrays_in c.reach_blocks-met.new.arrays.items) c.args.source.now.bytes
     (record c.keep.new.self { kept = c.take_blocks.new.kept }) c.add_arrays.new.self
     (arrays_in c.keep_blocks.new.kept.items) c.in_ok-add_arrays.ensures.planes c.in_ok-keep.ensures.finished
     (ap (λ p. p) c.in_ok-keep.ensures.planes) (ap planes_in c.in_ok-keep.ensures.samples)
-    (held-by g at.After-keep_blocks base b) (c.in_ok-fill_all.ensures.arrays ∙ (is ∙ ap (λ r. r.0) same)))
+    (held-by g at.After-keep_blocks base b) (is ∙ ap (λ r. r.0) same))
     c.reach_blocks-met.ensures.arrays
 
 pub returns-clause-data : goal.returns-clause-data
@@ -124,5 +124,5 @@ returns-clause-planes g c h =
     unless c.reach_blocks-met.result
     (rw (ap (λ (x : Found). x.planes) (c.in_ok-add_arrays.ensures.planes base))
     (arrays-whole (frame_in c.args.frame.now) (pass_in c.args.scan.now.pass) codings
-    (arrays_in c.fill_all.new.arrays.items) one (of-frame _ codings c.requires.ready.of_frame)
+    (arrays_in c.reach_blocks-met.new.arrays.items) one (of-frame _ codings c.requires.ready.of_frame)
     (grind (arith, common_steps))))

@@ -81,8 +81,8 @@ returns-in_err-met-clause-data g c base b =
 pub add_arrays-requires-clause-blocks : goal.add_arrays-requires-clause-blocks
 add_arrays-requires-clause-blocks g c =
     arrays-by-sizes (components_in c.args.scan.now.components.items) c.in_ok-arrays.arrays.items
-    c.fill_all.new.arrays.items (taken g (goal.at.add_arrays-requires-clause-blocks g c).In_ok-arrays).1
-    (c.in_ok-fill_all.ensures.sizes ∙ c.in_ok-met.ensures.sizes)
+    c.read_blocks.new.arrays.items (taken g (goal.at.add_arrays-requires-clause-blocks g c).In_ok-arrays).1
+    c.in_ok-met.ensures.sizes
 
 pub put_blocks-requires-clause-indices : goal.put_blocks-requires-clause-indices
 put_blocks-requires-clause-indices g c =
@@ -91,25 +91,25 @@ put_blocks-requires-clause-indices g c =
     (kept ∙ c.in_ok-arrays.ensures.length) (grind (arith, common_steps)) (grind (arith, common_steps))
 
 held : (g : given.Over) (c : After-put_blocks g) → let cs = c.args.scan.now.components.items in
-    (arrays_in c.put_blocks.new.kept.items ≡ put_arrays (map coding_in cs) (arrays_in c.fill_all.new.arrays.items)
+    (arrays_in c.put_blocks.new.kept.items ≡ put_arrays (map coding_in cs) (arrays_in c.read_blocks.new.arrays.items)
     (blocks_before c.args.scanned c.args.self.now (frame_in c.args.frame.now)))
     × AreArrays (frame_in c.args.frame.now).components (arrays_in c.put_blocks.new.kept.items)
 held g c =
     put-all (frame_in c.args.frame.now) c.args.scan.now.components.items c.deref.result.now c.deref-2.result.now
     c.keep.new.self.kept.items c.add_arrays.new.self.kept.items c.in_ok-arrays.arrays.items
-    c.fill_all.new.arrays.items c.put_blocks.new.kept.items _ c.deref.ensures.value c.deref-2.ensures.value
+    c.read_blocks.new.arrays.items c.put_blocks.new.kept.items _ c.deref.ensures.value c.deref-2.ensures.value
     c.in_ok-keep.ensures.kept c.in_ok-arrays.ensures.taken
     (ap (λ (v : Vec Held Global). arrays_in v.items) c.in_ok-add_arrays.ensures.kept ∙ c.in_ok-arrays.ensures.left)
-    (c.in_ok-fill_all.ensures.sizes ∙ c.in_ok-met.ensures.sizes) c.put_blocks.ensures c.requires.ready.of_frame c.requires.ready.rising c.requires.kept
+    c.in_ok-met.ensures.sizes c.put_blocks.ensures c.requires.ready.of_frame c.requires.ready.rising c.requires.kept
 
 held-by : (g : given.Over) (c : After-put_blocks g) (base : Found) → IsBefore c.args.scanned c.args.scan.now base
     → arrays_in c.put_blocks.new.kept.items ≡ put_arrays (map coding_in c.args.scan.now.components.items)
-    (arrays_in c.fill_all.new.arrays.items)
+    (arrays_in c.read_blocks.new.arrays.items)
     (arrays_before (with_decoded base c.args.self.now) (frame_in c.args.frame.now))
 held-by g c base b =
     let cs = map coding_in c.args.scan.now.components.items in
     (held g c).0
-    ∙ sym (ap (put_arrays cs (arrays_in c.fill_all.new.arrays.items))
+    ∙ sym (ap (put_arrays cs (arrays_in c.read_blocks.new.arrays.items))
     (before-as base c.args.self.now (frame_in c.args.frame.now) _ b.scanned))
 
 pub returns-clause-data : goal.returns-clause-data
@@ -120,7 +120,7 @@ returns-clause-data g c base b =
     (taken-by g at.In_ok-arrays base b) in
     let put = held-by g at.After-put_blocks base b in
     let more = data-kept f (frame_in c.args.frame.now) (pass_in c.args.scan.now.pass)
-    (map coding_in c.args.scan.now.components.items) (arrays_in c.fill_all.new.arrays.items)
+    (map coding_in c.args.scan.now.components.items) (arrays_in c.read_blocks.new.arrays.items)
     c.in_ok-met.met c.args.source.now.bytes c.read_blocks.new.source.bytes
     (record c.keep.new.self { kept = c.take_blocks.new.kept }) c.add_arrays.new.self
     (arrays_in c.put_blocks.new.kept.items) c.requires.process in
@@ -136,5 +136,5 @@ returns-clause-planes g c h =
     let codings = map coding_in c.args.scan.now.components.items in
     rw (ap (λ (x : Found). x.planes) (c.in_ok-add_arrays.ensures.planes base))
     (arrays-whole (frame_in c.args.frame.now) (pass_in c.args.scan.now.pass) codings
-    (arrays_in c.fill_all.new.arrays.items) one (of-frame _ codings c.requires.ready.of_frame)
+    (arrays_in c.read_blocks.new.arrays.items) one (of-frame _ codings c.requires.ready.of_frame)
     (grind (arith, common_steps)))
