@@ -1,9 +1,10 @@
-/* The allocator of the proved code, over malloc, realloc and free.
+/* The allocator of the proved code, over malloc, realloc and free, or over the functions of a
+ * caller while a call with these runs.
  *
  * The proofs take for granted that
- * - the three functions belong to one allocator;
+ * - the three functions belong to one allocator, the same for all of a call;
  * - a block is aligned to each power of two up to 16 that divides its size, which C's malloc and
- *   realloc guarantee where alignof(max_align_t) is 16;
+ *   realloc guarantee where alignof(max_align_t) is 16, and which zaxbriar.h asks of a caller's;
  * - a refused allocation is reported, and leaves a block that was to be resized as it was.
  *
  * `align` is 1, 2, 4, 8 or 16. `kept` bytes of a block have to stay as they are when it is resized;
@@ -23,6 +24,8 @@
 #include <sys/mman.h>
 #endif
 
+#include "heap.h"
+
 /* What an allocation returns: whether it succeeded, and a pointer that is never null. */
 struct tried {
     bool ok;
@@ -36,6 +39,15 @@ void rattle_dealloc(void *block);
 _Static_assert(alignof(max_align_t) >= 16, "blocks are aligned to 16 bytes");
 
 static char nothing;
+
+/* The functions of the caller whose call this thread runs, if it gave any. */
+static PER_THREAD const zaxbriar_memory *in_use;
+
+const zaxbriar_memory *zaxbriar_exchange_memory(const zaxbriar_memory *memory) {
+    const zaxbriar_memory *before = in_use;
+    in_use = memory;
+    return before;
+}
 
 static struct tried tried(void *block) {
     return (struct tried){block != NULL, block ? block : &nothing};
@@ -57,6 +69,7 @@ static void ask_for_large_pages(void *block, size_t size) {
 }
 
 struct tried rattle_alloc(size_t size, size_t align) {
+    if (in_use) return tried(in_use->allocate(in_use->context, size ? size : align));
     void *block = malloc(size ? size : align);
     ask_for_large_pages(block, size);
     return tried(block);
@@ -64,7 +77,13 @@ struct tried rattle_alloc(size_t size, size_t align) {
 
 struct tried rattle_realloc(void *block, size_t kept, size_t size, size_t align) {
     (void)kept;
+    if (in_use) return tried(in_use->resize(in_use->context, block, size ? size : align));
     return tried(realloc(block, size ? size : align));
 }
 
-void rattle_dealloc(void *block) { free(block); }
+void rattle_dealloc(void *block) {
+    if (in_use)
+        in_use->release(in_use->context, block);
+    else
+        free(block);
+}

@@ -1,6 +1,6 @@
 /* The C side of the library: tests what a C caller can get wrong and the proved calls can't (null
- * pointers, sizes above PTRDIFF_MAX), and then calls these. */
-#include "zaxbriar.h"
+ * pointers, sizes above PTRDIFF_MAX), and then calls these, with the memory of the options. */
+#include "heap.h"
 
 #include <stddef.h>
 #include <string.h>
@@ -26,7 +26,8 @@ _Static_assert(offsetof(zaxbriar_options, transform) == 20, "options");
 _Static_assert(offsetof(zaxbriar_options, layout) == 21, "options");
 _Static_assert(offsetof(zaxbriar_options, scale) == 22, "options");
 _Static_assert(offsetof(zaxbriar_options, max_bytes) == 24, "options");
-_Static_assert(offsetof(zaxbriar_options, reserved_words) == 32, "options");
+_Static_assert(offsetof(zaxbriar_options, memory) == 32, "options");
+_Static_assert(offsetof(zaxbriar_options, reserved_word) == 40, "options");
 _Static_assert(sizeof(zaxbriar_picture) == 192, "picture");
 _Static_assert(offsetof(zaxbriar_picture, width) == 32, "picture");
 _Static_assert(offsetof(zaxbriar_picture, pixel_bytes) == 40, "picture");
@@ -37,8 +38,6 @@ _Static_assert(offsetof(zaxbriar_picture, feature_argument) == 49, "picture");
 _Static_assert(offsetof(zaxbriar_picture, sampling) == 50, "picture");
 _Static_assert(offsetof(zaxbriar_picture, fault) == 54, "picture");
 _Static_assert(offsetof(zaxbriar_picture, text) == 80, "picture");
-
-static const zaxbriar_options no_options;
 
 /* Where an empty slice without a pointer begins. */
 static uint8_t nothing;
@@ -53,12 +52,39 @@ static zaxbriar_result bad_argument(zaxbriar_picture *picture, const char *text)
     return ZAXBRIAR_BAD_ARGUMENT;
 }
 
+/* The options as the proved calls know them, which have a zero in place of the memory. */
+static zaxbriar_options without_memory(const zaxbriar_options *options) {
+    zaxbriar_options others = options ? *options : (zaxbriar_options){0};
+    others.memory = NULL;
+    return others;
+}
+
+static const zaxbriar_memory *memory_of(const zaxbriar_options *options) {
+    return options ? options->memory : NULL;
+}
+
+static int is_complete(const zaxbriar_memory *memory) {
+    return !memory || (memory->allocate && memory->resize && memory->release);
+}
+
+/* What is wrong with arguments, or a null pointer. */
+static const char *fault_of(const void *jpeg, size_t jpeg_size, const zaxbriar_options *options) {
+    if (!is_slice(jpeg, jpeg_size)) return "jpeg is a null pointer";
+    if (!is_complete(memory_of(options))) return "a function of memory is a null pointer";
+    return NULL;
+}
+
 zaxbriar_result zaxbriar_read_info(const void *jpeg, size_t jpeg_size,
                                    const zaxbriar_options *options, zaxbriar_picture *picture) {
     if (!picture) return ZAXBRIAR_BAD_ARGUMENT;
-    if (!is_slice(jpeg, jpeg_size)) return bad_argument(picture, "jpeg is a null pointer");
-    return (zaxbriar_result)zaxbriar_checked_read_info(
-        jpeg ? jpeg : &nothing, jpeg_size, options ? options : &no_options, picture);
+    const char *fault = fault_of(jpeg, jpeg_size, options);
+    if (fault) return bad_argument(picture, fault);
+    zaxbriar_options others = without_memory(options);
+    const zaxbriar_memory *before = zaxbriar_exchange_memory(memory_of(options));
+    uint32_t answer =
+        zaxbriar_checked_read_info(jpeg ? jpeg : &nothing, jpeg_size, &others, picture);
+    zaxbriar_exchange_memory(before);
+    return (zaxbriar_result)answer;
 }
 
 /* A proved call that writes pixels. */
@@ -70,11 +96,15 @@ static zaxbriar_result decode_by(decoding *call, const void *jpeg, size_t jpeg_s
                                  zaxbriar_picture *picture) {
     zaxbriar_picture unused;
     if (!picture) picture = &unused;
-    if (!is_slice(jpeg, jpeg_size)) return bad_argument(picture, "jpeg is a null pointer");
+    const char *fault = fault_of(jpeg, jpeg_size, options);
+    if (fault) return bad_argument(picture, fault);
     if (!is_slice(pixels, pixels_size)) return bad_argument(picture, "pixels is a null pointer");
-    return (zaxbriar_result)call(jpeg ? jpeg : &nothing, jpeg_size,
-                                 options ? options : &no_options, pixels ? pixels : &nothing,
-                                 pixels_size, picture);
+    zaxbriar_options others = without_memory(options);
+    const zaxbriar_memory *before = zaxbriar_exchange_memory(memory_of(options));
+    uint32_t answer = call(jpeg ? jpeg : &nothing, jpeg_size, &others, pixels ? pixels : &nothing,
+                           pixels_size, picture);
+    zaxbriar_exchange_memory(before);
+    return (zaxbriar_result)answer;
 }
 
 zaxbriar_result zaxbriar_decode(const void *jpeg, size_t jpeg_size,
@@ -100,6 +130,26 @@ zaxbriar_result zaxbriar_metadata(const void *jpeg, size_t jpeg_size, int kind, 
             jpeg ? jpeg : &nothing, jpeg_size, (uint32_t)kind, data ? data : &nothing, data_size,
             &found);
     if (length) *length = (size_t)found;
+    return answer;
+}
+
+zaxbriar_result zaxbriar_metadata_within(const void *jpeg, size_t jpeg_size,
+                                         const zaxbriar_options *options, int kind, void *data,
+                                         size_t data_size, size_t *length) {
+    zaxbriar_result answer = ZAXBRIAR_BAD_ARGUMENT;
+    if (length) *length = 0;
+    if (fault_of(jpeg, jpeg_size, options)) return answer;
+    if (options && (kind & ZAXBRIAR_WHOLE_IMAGE)) {
+        zaxbriar_picture picture;
+        zaxbriar_options limits = {.max_samples = options->max_samples,
+                                   .max_bytes = options->max_bytes,
+                                   .memory = options->memory};
+        answer = zaxbriar_read_info(jpeg, jpeg_size, &limits, &picture);
+        if (answer == ZAXBRIAR_TOO_LARGE || answer == ZAXBRIAR_NO_MEMORY) return answer;
+    }
+    const zaxbriar_memory *before = zaxbriar_exchange_memory(memory_of(options));
+    answer = zaxbriar_metadata(jpeg, jpeg_size, kind, data, data_size, length);
+    zaxbriar_exchange_memory(before);
     return answer;
 }
 

@@ -136,6 +136,17 @@ typedef enum zaxbriar_kind {
     ZAXBRIAR_WHOLE_IMAGE = 16 /* also from segments after the frame header */
 } zaxbriar_kind;
 
+/* Functions that the library takes its memory from, in place of malloc, realloc and free. They get
+ * `context`, and have to behave like these for sizes that aren't 0: blocks are aligned to 16 bytes,
+ * and a null pointer is returned if there is no memory. They are called only while a call of this
+ * library runs, in its thread, and all blocks have been freed when it returns. */
+typedef struct zaxbriar_memory {
+    void *(*allocate)(void *context, size_t size);
+    void *(*resize)(void *context, void *block, size_t size);
+    void (*release)(void *context, void *block);
+    void *context;
+} zaxbriar_memory;
+
 /* How to decode. Set the whole struct to zero first; a null pointer stands for all zeros. Later
  * versions may give reserved members a meaning, but zero will always mean what it means now, and
  * the size of the struct won't change. Values that a version doesn't know are a
@@ -158,7 +169,8 @@ typedef struct zaxbriar_options {
                            ignore the two minima; 0: the minima count */
     uint8_t reserved;   /* zero */
     uint64_t max_bytes; /* limits picture.decoding_bytes; 0: no limit */
-    uint64_t reserved_words[2]; /* zero */
+    const zaxbriar_memory *memory; /* null: malloc, realloc and free */
+    uint64_t reserved_word;        /* zero */
 } zaxbriar_options;
 
 /* Describes a picture as it is decoded with the options, also after ZAXBRIAR_NO_ROOM and
@@ -169,7 +181,8 @@ typedef struct zaxbriar_picture {
     uint64_t row_bytes;      /* bytes of a line without its gap: width * pixel_bytes */
     uint64_t decoding_bytes; /* the most memory that a call uses for coefficients and samples at a
                                 time, besides `pixels`; tables, metadata and a few lines aren't
-                                counted */
+                                counted. zaxbriar_decode_partial counts all blocks, and the others
+                                what zaxbriar_decode uses */
     uint64_t stream_bytes;   /* how many bytes of `jpeg` the image takes, after ZAXBRIAR_OK of
                                 zaxbriar_decode; or the header, after ZAXBRIAR_OK of
                                 zaxbriar_read_info, ZAXBRIAR_NO_ROOM and ZAXBRIAR_TOO_LARGE.
@@ -222,9 +235,10 @@ ZAXBRIAR_CALL zaxbriar_result zaxbriar_decode(const void *jpeg, size_t jpeg_size
  * MALFORMED, UNSUPPORTED and TRUNCATED are for streams without a frame header that can be decoded,
  * and for a transform that doesn't fit the picture. All other values are as for zaxbriar_decode.
  *
- * The call uses more memory than `decoding_bytes`: the coefficients of all blocks also of a
- * sequential picture, 128 bytes each, and the data of one restart interval, which is at most the
- * rest of the stream. `max_bytes` doesn't count these. */
+ * The call keeps the coefficients of the blocks that it reads, 128 bytes each, also of a sequential
+ * picture. Its `decoding_bytes`, with which it compares `max_bytes`, counts those of all blocks, so
+ * it may be more than zaxbriar_read_info returns. Not counted are the data of one restart interval,
+ * which are at most the rest of the stream. */
 ZAXBRIAR_CALL zaxbriar_result zaxbriar_decode_partial(const void *jpeg, size_t jpeg_size,
                                                       const zaxbriar_options *options,
                                                       void *pixels, size_t pixels_size,
@@ -236,15 +250,22 @@ ZAXBRIAR_CALL zaxbriar_result zaxbriar_decode_partial(const void *jpeg, size_t j
  *
  * With ZAXBRIAR_WHOLE_IMAGE, as in ZAXBRIAR_EXIF | ZAXBRIAR_WHOLE_IMAGE, all segments up to the end
  * of the image count, or up to its first fault. The call then reads the scans as well, which takes
- * about as long as decoding at full size, and as much memory. No option limits it: before you make
- * it for a stream that you don't trust, check `decoding_bytes` as zaxbriar_read_info returns it for
- * options of zeros.
+ * about as long as decoding at full size, and as much memory. For a stream that you don't trust,
+ * make the call with limits: zaxbriar_metadata_within.
  *
  * Of several segments with Exif data the last counts, and so with XMP data; an ICC profile is
  * joined from all of its parts. Data that precede a fault are copied all the same; if there are
  * none, the call returns the fault. */
 ZAXBRIAR_CALL zaxbriar_result zaxbriar_metadata(const void *jpeg, size_t jpeg_size, int kind,
                                                 void *data, size_t data_size, size_t *length);
+
+/* Copies metadata as zaxbriar_metadata does, within the limits of some options (`max_samples` and
+ * `max_bytes`, at full size) and with their `memory`; the other options are ignored. A picture
+ * above a limit is ZAXBRIAR_TOO_LARGE if `kind` has ZAXBRIAR_WHOLE_IMAGE: its scans aren't read. */
+ZAXBRIAR_CALL zaxbriar_result zaxbriar_metadata_within(const void *jpeg, size_t jpeg_size,
+                                                       const zaxbriar_options *options, int kind,
+                                                       void *data, size_t data_size,
+                                                       size_t *length);
 
 /* Returns a short English name of a value that a call returns. */
 ZAXBRIAR_API const char *zaxbriar_answer_name(int answer);

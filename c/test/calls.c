@@ -42,14 +42,14 @@ static void sizes(void) {
 
 static void unknown_options(void) {
     size_t length;
-    for (int which = 0; which < 7; which++) {
+    for (int which = 0; which < 6; which++) {
         zaxbriar_options options = {0};
         if (which == 0) options.layout = ZAXBRIAR_XRGB + 1;
         if (which == 1) options.transform = ZAXBRIAR_TRANSFORM_YCCK + 1;
         if (which == 2) options.layout = UINT8_MAX;
         if (which == 3) options.layout = ZAXBRIAR_RGB, options.transform = ZAXBRIAR_TRANSFORM_NONE;
         if (which == 4) options.reserved = 1;
-        if (which >= 5) options.reserved_words[which - 5] = UINT64_C(1) << 8 * (which - 5) * 7;
+        if (which == 5) options.reserved_word = UINT64_C(1) << 56;
         CHECK(zaxbriar_read_info(jpeg.start, jpeg.size, &options, &picture) ==
               ZAXBRIAR_BAD_ARGUMENT);
         CHECK(picture.text[0] != 0);
@@ -81,6 +81,130 @@ static void unknown_options(void) {
     }
 }
 
+/* Counts its blocks, and refuses the allocation of a number. */
+struct counts {
+    long live, allocations, refused;
+};
+
+static int is_refused(struct counts *counts) { return ++counts->allocations == counts->refused; }
+
+static void *allocate(void *context, size_t size) {
+    struct counts *counts = context;
+    if (is_refused(counts)) return NULL;
+    void *start = malloc(size);
+    counts->live += start != NULL;
+    return start;
+}
+
+static void *resize(void *context, void *start, size_t size) {
+    return is_refused(context) ? NULL : realloc(start, size);
+}
+
+static void release(void *context, void *start) {
+    struct counts *counts = context;
+    counts->live--;
+    free(start);
+}
+
+static void own_memory(void) {
+    struct counts counts = {0};
+    zaxbriar_memory memory = {allocate, resize, release, &counts};
+    zaxbriar_options options = {.memory = &memory};
+    size_t length = 1;
+    CHECK(zaxbriar_read_info(jpeg.start, jpeg.size, &options, &picture) == ZAXBRIAR_OK);
+    CHECK(counts.allocations > 0 && counts.live == 0);
+    size_t size = picture.size;
+    unsigned char *whole = block(size), *own = block(size);
+    CHECK(zaxbriar_decode(jpeg.start, jpeg.size, NULL, whole, size, NULL) == ZAXBRIAR_OK);
+    for (int is_part = 0; is_part < 2; is_part++) {
+        long all = 1;
+        for (long refused = 0; refused < all; refused++) {
+            counts = (struct counts){.refused = refused};
+            memset(own, 0x5A, size);
+            zaxbriar_result answer = (is_part ? zaxbriar_decode_partial : zaxbriar_decode)(
+                jpeg.start, jpeg.size, &options, own, size, &picture);
+            CHECK(counts.live == 0);
+            CHECK(answer == (refused ? ZAXBRIAR_NO_MEMORY : ZAXBRIAR_OK));
+            CHECK(refused ? is_all(own, size, 0x5A) : !memcmp(own, whole, size));
+            if (!refused) all = counts.allocations + 1;
+        }
+    }
+    counts = (struct counts){0};
+    CHECK(zaxbriar_metadata_within(jpeg.start, jpeg.size, &options,
+                                   ZAXBRIAR_EXIF | ZAXBRIAR_WHOLE_IMAGE, NULL, 0,
+                                   &length) != ZAXBRIAR_BAD_ARGUMENT);
+    CHECK(counts.allocations > 0 && counts.live == 0);
+    /* The calls without them take no memory from these. */
+    long before = counts.allocations;
+    CHECK(zaxbriar_read_info(jpeg.start, jpeg.size, NULL, &picture) == ZAXBRIAR_OK);
+    CHECK(counts.allocations == before);
+    for (int which = 0; which < 3; which++) {
+        memory = (zaxbriar_memory){allocate, resize, release, &counts};
+        if (which == 0) memory.allocate = NULL;
+        if (which == 1) memory.resize = NULL;
+        if (which == 2) memory.release = NULL;
+        CHECK(zaxbriar_read_info(jpeg.start, jpeg.size, &options, &picture) ==
+              ZAXBRIAR_BAD_ARGUMENT);
+        CHECK(picture.size == 0 && picture.text[0] != 0);
+        CHECK(zaxbriar_decode(jpeg.start, jpeg.size, &options, own, size, &picture) ==
+              ZAXBRIAR_BAD_ARGUMENT);
+        CHECK(zaxbriar_metadata_within(jpeg.start, jpeg.size, &options, ZAXBRIAR_EXIF, NULL, 0,
+                                       &length) == ZAXBRIAR_BAD_ARGUMENT);
+    }
+    free(whole);
+    free(own);
+}
+
+/* Metadata of a whole image are read within the limits, at full size. */
+static void limited_metadata(void) {
+    size_t length = 1, same = 1;
+    zaxbriar_options options = {.scale = 8};
+    CHECK(zaxbriar_read_info(jpeg.start, jpeg.size, NULL, &picture) == ZAXBRIAR_OK);
+    uint64_t samples = (uint64_t)picture.width * picture.height * picture.components;
+    for (int which = 0; which < 2; which++)
+        for (int less = 0; less < 2; less++)
+            for (int kind = ZAXBRIAR_EXIF; kind <= ZAXBRIAR_ICC; kind++) {
+                int whole = kind | ZAXBRIAR_WHOLE_IMAGE;
+                options.max_samples = which ? 0 : samples - less;
+                options.max_bytes = which ? picture.decoding_bytes - less : 0;
+                zaxbriar_result answer =
+                    zaxbriar_metadata(jpeg.start, jpeg.size, whole, NULL, 0, &same);
+                CHECK(zaxbriar_metadata_within(jpeg.start, jpeg.size, &options, whole, NULL, 0,
+                                               &length) ==
+                      (less ? ZAXBRIAR_TOO_LARGE : answer));
+                CHECK(length == (less ? 0 : same));
+                answer = zaxbriar_metadata(jpeg.start, jpeg.size, kind, NULL, 0, &same);
+                CHECK(zaxbriar_metadata_within(jpeg.start, jpeg.size, &options, kind, NULL, 0,
+                                               &length) == answer &&
+                      length == same);
+            }
+    CHECK(zaxbriar_metadata_within(NULL, 1, &options, ZAXBRIAR_EXIF, NULL, 0, &length) ==
+              ZAXBRIAR_BAD_ARGUMENT &&
+          length == 0);
+    CHECK(zaxbriar_metadata_within(jpeg.start, jpeg.size, NULL, ZAXBRIAR_EXIF, NULL, 0, NULL) ==
+          zaxbriar_metadata(jpeg.start, jpeg.size, ZAXBRIAR_EXIF, NULL, 0, NULL));
+}
+
+/* A partial picture is limited by all of its blocks, of which a sequential one keeps a row else. */
+static void limited_part(void) {
+    zaxbriar_picture part;
+    CHECK(zaxbriar_read_info(jpeg.start, jpeg.size, NULL, &picture) == ZAXBRIAR_OK);
+    CHECK(zaxbriar_decode_partial(jpeg.start, jpeg.size, NULL, NULL, 0, &part) == ZAXBRIAR_NO_ROOM);
+    CHECK(part.decoding_bytes > picture.decoding_bytes);
+    size_t size = picture.size;
+    unsigned char *pixels = block(size);
+    zaxbriar_options options = {.max_bytes = part.decoding_bytes - 1};
+    CHECK(zaxbriar_decode(jpeg.start, jpeg.size, &options, pixels, size, NULL) == ZAXBRIAR_OK);
+    CHECK(zaxbriar_decode_partial(jpeg.start, jpeg.size, &options, pixels, size, &picture) ==
+          ZAXBRIAR_TOO_LARGE);
+    CHECK(picture.decoding_bytes == part.decoding_bytes && picture.text[0] != 0);
+    options.max_bytes = part.decoding_bytes;
+    CHECK(zaxbriar_decode_partial(jpeg.start, jpeg.size, &options, pixels, size, &picture) ==
+          ZAXBRIAR_OK);
+    CHECK(picture.decoding_bytes == part.decoding_bytes);
+    free(pixels);
+}
+
 static void names(void) {
     for (int answer = ZAXBRIAR_OK; answer <= ZAXBRIAR_PARTIAL; answer++) {
         CHECK(zaxbriar_answer_name(answer)[0] != 0);
@@ -103,8 +227,11 @@ int main(int argc, char **argv) {
     null_pointers();
     sizes();
     unknown_options();
+    own_memory();
+    limited_metadata();
+    limited_part();
     names();
     free(jpeg.start);
-    printf("calls: null pointers, sizes, options and names; %d faults\n", faults);
+    printf("calls: null pointers, sizes, options, memory and names; %d faults\n", faults);
     return faults != 0;
 }

@@ -3,8 +3,9 @@
  * page that can't be written; and files of less than 3,000 bytes with each allocation refused in
  * turn; and what there is of the others, which is what decoding gives where no fault is named. A
  * call must free what it has allocated, and change no byte of the pixels unless it succeeds or
- * returns a part. Decoding must take no more memory at a time than `decoding_bytes` says, beside
- * tables, metadata and a few lines; of a picture above a limit it takes that alone. Linked with
+ * returns a part. Decoding, also of a part, must take no more memory at a time than
+ * `decoding_bytes` says, beside tables, metadata and a few lines; of a picture above a limit it
+ * takes that alone. Linked with
  * --wrap=malloc, --wrap=realloc and --wrap=free. */
 #define _GNU_SOURCE
 #include <malloc.h>
@@ -106,6 +107,13 @@ static int decode(const unsigned char *jpeg, size_t size, const zaxbriar_options
     return answer;
 }
 
+/* What a call took beside the samples that it counts: no more than so much, and the metadata. */
+static void take_beside(size_t samples, size_t size) {
+    size_t beside = peak_bytes > samples ? peak_bytes - samples : 0;
+    if (beside > most_beside) most_beside = beside;
+    CHECK(beside <= MOST_BESIDE + 2 * size);
+}
+
 /* What there is of a stream, whose decoding gave this answer and what `pixels` has. */
 static void in_part(const unsigned char *jpeg, size_t size, const zaxbriar_options *options,
                     struct fenced pixels, size_t room, int answer) {
@@ -123,15 +131,11 @@ static void in_part(const unsigned char *jpeg, size_t size, const zaxbriar_optio
     else
         CHECK(is_all(pixels.start, room, 0x5A));
     CHECK((picture.fault != 0) == (part == ZAXBRIAR_PARTIAL));
+    /* and the data of a restart interval */
+    if (part == ZAXBRIAR_OK || part == ZAXBRIAR_PARTIAL)
+        take_beside(picture.decoding_bytes, 2 * size);
     parts += part == ZAXBRIAR_PARTIAL;
     free(whole);
-}
-
-/* What a call took beside the samples that it counts: no more than so much, and the metadata. */
-static void take_beside(size_t samples, size_t size) {
-    size_t beside = peak_bytes > samples ? peak_bytes - samples : 0;
-    if (beside > most_beside) most_beside = beside;
-    CHECK(beside <= MOST_BESIDE + 2 * size);
 }
 
 /* A picture above a limit. */

@@ -70,9 +70,9 @@ export interface Options {
 export interface PartialOptions extends Options {
     /**
      * Decodes a stream that is truncated or damaged, too. What no scan has brought is mid-grey. A
-     * marker in place of blocks is a fault, where decoding without `partial` takes zeros. This
-     * takes more memory than `decodingBytes`: the coefficients of all blocks, 128 bytes each, and
-     * the data of one restart interval; `maxBytes` doesn't count it.
+     * marker in place of blocks is a fault, where decoding without `partial` takes zeros.
+     * `decodingBytes`, which `maxBytes` limits, then counts the coefficients of all blocks, 128
+     * bytes each; the data of one restart interval aren't counted.
      */
     partial: true;
 }

@@ -212,7 +212,7 @@ impl<R: Read> Decoder<R> {
     /// coefficients, once the header was read. Not counted are the bytes of the stream, metadata,
     /// and tables and lines, at most some 256 kB.
     pub fn decoding_bytes(&self) -> Option<u64> {
-        self.picture.as_ref().map(bytes_of)
+        self.picture.as_ref().map(Picture::bytes)
     }
 
     /// Reads as far as the stream goes, and returns the picture that it has brought up to its first
@@ -225,9 +225,12 @@ impl<R: Read> Decoder<R> {
     /// error of the reader is a fault of the stream, by that error.
     ///
     /// The result is an error if no frame header was accepted before the fault, if the picture is
-    /// above a limit or can't have the colour transform, and as `decode`'s after another call. It
-    /// takes more memory than [`decoding_bytes`](Decoder::decoding_bytes) counts: the coefficients
-    /// of a sequential picture, too, 128 bytes for each block, and the data of a restart interval.
+    /// above a limit or can't have the colour transform, and as `decode`'s after another call.
+    ///
+    /// The coefficients of the blocks that are read are in memory, 128 bytes each, those of a
+    /// sequential picture too, and the data of one restart interval.
+    /// [`decoding_bytes`](Decoder::decoding_bytes) counts neither; the limit of
+    /// [`set_max_decoding_bytes`](Decoder::set_max_decoding_bytes) is compared with all blocks.
     ///
     /// ```
     /// # let jpeg = &std::fs::read("tests/grey.jpg").unwrap()[..];
@@ -295,7 +298,7 @@ impl<R: Read> Decoder<R> {
     }
 
     fn refuse_above_limits(&self, picture: &Picture) -> Result<()> {
-        let (samples, bytes) = (picture.samples(), bytes_of(picture));
+        let (samples, bytes) = (picture.samples(), picture.bytes());
         let text = if samples > self.max_samples {
             format!(
                 "{samples} samples in the picture, expected at most {}",
@@ -327,11 +330,17 @@ impl<R: Read> Decoder<R> {
         self.refuse_above_limits(&picture)?;
         let mut options = self.options;
         options.transform = transform_number(self.color_transform, &picture)?;
+        // What a partial picture takes is more than `read_info` says: the library compares it. A
+        // limit of 0 would be none.
+        options.max_bytes = self.max_bytes.saturating_sub(picture.size).max(1);
         self.stage = Stage::Failed;
         let mut pixels = library::zeros(picture.size).map_err(refused)?;
         let failure = self.stream.read_image(&mut self.reader);
         let call = |bytes: &[u8]| call(bytes, &options, &mut pixels);
         let (outcome, failure) = self.ask(failure, lacks_bytes, call);
+        if matches!(outcome, Err(Refusal::TooLarge(_))) {
+            self.stage = Stage::HeaderRead;
+        }
         let has_metadata = self.stream.may_have_metadata(picture.stream_bytes as usize);
         if has_metadata && self.may_be_full_size()? {
             self.read_metadata(Segments::OfImage)?;
@@ -391,10 +400,6 @@ fn shows_cut(outcome: &Outcome<Option<Refusal>>) -> bool {
     )
 }
 
-fn bytes_of(picture: &Picture) -> u64 {
-    picture.size.saturating_add(picture.decoding_bytes)
-}
-
 /// Returns the error for a refusal that is no fault of a reader.
 fn refused(refusal: Refusal) -> Error {
     error_of(refusal, None)
@@ -417,6 +422,9 @@ fn error_of(refusal: Refusal, failure: Option<io::Error>) -> Error {
             Error::Io(failure.unwrap_or_else(|| io::ErrorKind::UnexpectedEof.into()))
         }
         Refusal::NoMemory => Error::Io(io::ErrorKind::OutOfMemory.into()),
+        Refusal::TooLarge(bytes) => {
+            Error::Format(format!("{bytes} bytes for decoding, more than the limit"))
+        }
         Refusal::Call(text) => Error::Internal(text.into()),
     }
 }

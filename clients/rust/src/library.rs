@@ -9,6 +9,7 @@ const MALFORMED: c_int = 1;
 const UNSUPPORTED: c_int = 2;
 const TRUNCATED: c_int = 3;
 const NO_MEMORY: c_int = 4;
+const TOO_LARGE: c_int = 8;
 const PARTIAL: c_int = 9;
 
 /// A picture's coding process.
@@ -44,7 +45,7 @@ pub struct Options {
     layout: u8,
     pub scale: u8,
     reserved: u8,
-    max_bytes: u64,
+    pub max_bytes: u64,
     reserved_words: [u64; 2],
 }
 
@@ -108,6 +109,11 @@ impl Picture {
         u64::from(self.width) * u64::from(self.height) * u64::from(self.components)
     }
 
+    /// Returns how many bytes the picture and decoding it take.
+    pub fn bytes(&self) -> u64 {
+        self.size.saturating_add(self.decoding_bytes)
+    }
+
     /// Returns whether the picture's process is lossless.
     pub fn is_lossless(&self) -> bool {
         self.process == LOSSLESS
@@ -125,6 +131,8 @@ pub enum Refusal {
     },
     Truncated,
     NoMemory,
+    /// The picture and what decoding takes beside it have this many bytes, more than the limit.
+    TooLarge(u64),
     /// A fault of this crate's: a call that no stream answers so.
     Call(String),
 }
@@ -145,6 +153,7 @@ fn refusal_of(answer: c_int, picture: &Picture) -> Option<Refusal> {
         }),
         TRUNCATED => Some(Refusal::Truncated),
         NO_MEMORY => Some(Refusal::NoMemory),
+        TOO_LARGE => Some(Refusal::TooLarge(picture.bytes())),
         _ => Some(Refusal::Call(text())),
     }
 }

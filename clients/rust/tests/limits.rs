@@ -25,6 +25,23 @@ fn a_large_picture_is_refused_by_its_header() -> Result<(), Error> {
 }
 
 #[test]
+fn a_partial_picture_is_limited_by_all_its_blocks_and_takes_none_that_is_not_there(
+) -> Result<(), Error> {
+    let jpeg = large_header();
+    let mut decoder = Decoder::new(&jpeg[..]);
+    decoder.set_scale(Scale::Eighth)?;
+    // The planes and the picture have 2^26 bytes each, and all blocks 2^33.
+    decoder.set_max_decoding_bytes(1 << 33);
+    assert!(decoder.decoding_bytes() < Some(1 << 28));
+    assert!(matches!(decoder.decode_partial(), Err(Error::Format(_))));
+    decoder.set_max_decoding_bytes(1 << 34);
+    let partial = decoder.decode_partial()?;
+    assert!(partial.pixels.len() == 8192 * 8192 && partial.pixels.iter().all(|&byte| byte == 128));
+    assert!(matches!(partial.fault, Some(Error::Io(_))));
+    Ok(())
+}
+
+#[test]
 fn a_scale_makes_a_picture_smaller_and_other_settings_may_be_tried() -> Result<(), Error> {
     let jpeg = std::fs::read("tests/grey.jpg").unwrap();
     let mut decoder = Decoder::new(&jpeg[..]);

@@ -230,12 +230,13 @@ part-told (Err refusals.TooLarge) o bytes old new picture feature fault text res
 is-part : (r : Refusal) → fault_code r ≡ 9 → IsPart r
 is-part r e = grind arith
 
-as-told : (o : Options) (bytes : List ℕ) (picture : Picture) → Describes o bytes (uncounted picture)
+as-told : (part : Bool) (o : Options) (bytes : List ℕ) (picture : Picture) → Describes part o bytes (uncounted picture)
     → as_described (without_fault picture) ≡ uncounted picture
-as-told o bytes picture d = ap (λ (p : Picture). as_described (without_fault p)) d.picture_is ∙ sym d.picture_is
+as-told part o bytes picture d = ap (λ (p : Picture). as_described (without_fault p)) d.picture_is ∙ sym d.picture_is
 
-pub described-part : (outcome : Result (Unit {0}) Refusal) (o : Options) (bytes : List ℕ) (picture : Picture) (result : ℕ)
-    → result ≡ status_of outcome → OnOk outcome (IsWithin o bytes (uncounted picture))
-    → IfErr outcome (λ r. IsPart r → IsWithin o bytes (uncounted picture)) → (result ≡ 0) ⊎ (result ≡ 9)
-    → IsWithin o bytes (as_described (without_fault picture))
-described-part outcome o bytes picture result code d e z = grind (arith, code-fails, is-part, as-told)
+pub described-part : (outcome : Result (Unit {0}) Refusal) (part : Bool) (o : Options) (bytes : List ℕ)
+    (picture : Picture) (result : ℕ)
+    → result ≡ status_of outcome → OnOk outcome (IsWithin part o bytes (uncounted picture))
+    → IfErr outcome (λ r. IsPart r → IsWithin part o bytes (uncounted picture)) → (result ≡ 0) ⊎ (result ≡ 9)
+    → IsWithin part o bytes (as_described (without_fault picture))
+described-part outcome part o bytes picture result code d e z = grind (arith, code-fails, is-part, as-told)

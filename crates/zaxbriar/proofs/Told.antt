@@ -1,26 +1,20 @@
 -- What a caller is given of a picture that was decoded.
-use Rattle.std.proofs.Common.{arith, ◌≡◌, ◌⊎◌, ◌∙◌, ℕ, ◌*◌, ◌<◌, List, Result, Ok, Err, sym, ap, subst}
+use Rattle.std.proofs.Common.{arith, ◌≡◌, ◌⊎◌, ◌∙◌, ℕ, ◌*◌, Bool, List, Result, Ok, Err, sym, ap, subst}
 use Rattle.std.specs.Prelude.{IfErr, IfOk, OnOk, replicate}
-use Rattle.std.proofs.Math.Nat.{mul_comm, mul_assoc}
 use Rattle.jpeg_bits.specs.Reading.{Fault}
 use Rattle.jpeg_streams.specs.declared.images.ImageInfo.{ImageInfo}
 use Rattle.zaxbriar.specs.Faults.{IsOwn, status_of}
 use Rattle.zaxbriar.specs.Features.{feature_told, numbered}
 use Rattle.zaxbriar.specs.Layouts.{laid_out, layout_line}
-use Rattle.zaxbriar.specs.Lines.{Arranged, HasLines, described_picture, stored_bytes}
-use Rattle.zaxbriar.specs.Meanings.{Describes, IsTooLarge, IsWithin, Shows, ShowsSamples, as_described, uncounted}
+use Rattle.zaxbriar.specs.Lines.{Arranged, HasLines, described_picture}
+use Rattle.zaxbriar.specs.Meanings.{Describes, IsWithin, Shows, ShowsSamples, uncounted}
 use Rattle.zaxbriar.proofs.Fails.{code-fails, has-no-room, is-too-large}
-use Rattle.zaxbriar.specs.declared.answers.Refusal.TheVariants.{NoRoom, TooLarge}
+use Rattle.zaxbriar.specs.declared.answers.Refusal.TheVariants.{TooLarge}
 use Rattle.zaxbriar.specs.declared.answers.Refusal.{Refusal}
 use Rattle.zaxbriar.specs.declared.features.Feature.{Feature}
 use Rattle.zaxbriar.specs.declared.lines.Lines.{Lines}
 use Rattle.zaxbriar.specs.declared.options.Options.{Options}
 use Rattle.zaxbriar.specs.declared.picture.Picture.{Picture}
-
-pub count-of : (o : Options) (info : ImageInfo) (precision count : ℕ) (lines : Lines) → HasLines o info precision lines
-    → count ≡ info.width * info.height * stored_bytes info precision
-    → count ≡ lines.height * (lines.width * lines.stored)
-count-of o info precision count lines h e = grind (arith, mul_comm, mul_assoc)
 
 pub arranged-of : (o : Options) (info : ImageInfo) (precision : ℕ) (samples old new : List ℕ) (picture : Picture)
     (lines : Lines) (decoding orientation stream : ℕ) (sampling : List ℕ)
@@ -105,41 +99,20 @@ shown-samples (Err r) o image old new picture taken feature text result code lac
 -- ---- what the exported calls say of a picture
 
 -- what is described has no feature and no text
-as-told : (o : Options) (bytes : List ℕ) (picture : Picture) → Describes o bytes (uncounted picture)
-    → as_described picture ≡ uncounted picture
-as-told o bytes picture d = ap (λ (p : Picture). as_described p) d.picture_is ∙ sym d.picture_is
-
-same : (o : Options) (bytes : List ℕ) (picture : Picture) (feature : Feature) (text : List ℕ)
-    → feature ≡ numbered 0 0 → text ≡ replicate 112 0 → Describes o bytes (uncounted picture)
+same : (part : Bool) (o : Options) (bytes : List ℕ) (picture : Picture) (feature : Feature) (text : List ℕ)
+    → feature ≡ numbered 0 0 → text ≡ replicate 112 0 → Describes part o bytes (uncounted picture)
     → uncounted (ending picture feature text) ≡ uncounted picture
-same o bytes picture feature text none t d =
+same part o bytes picture feature text none t d =
     (λ i. ending (d.picture_is i) (none i) (t i)) ∙ sym d.picture_is
 
-pub described : {X : Type 0} (outcome : Result X Refusal) (o : Options) (bytes : List ℕ) (picture : Picture)
-    (feature : Feature) (text : List ℕ) (result : ℕ)
+pub described : {X : Type 0} (outcome : Result X Refusal) (part : Bool) (o : Options) (bytes : List ℕ)
+    (picture : Picture) (feature : Feature) (text : List ℕ) (result : ℕ)
     → result ≡ status_of outcome → feature ≡ feature_told outcome → IfOk outcome (λ _. text ≡ replicate 112 0)
-    → OnOk outcome (IsWithin o bytes (uncounted picture)) → result ≡ 0
-    → IsWithin o bytes (uncounted (ending picture feature text))
-described (Ok x) o bytes picture feature text result code lacks none d z =
-    subst (λ (p : Picture). IsWithin o bytes p) (sym (same o bytes picture feature text lacks none d.0)) d
-described (Err r) o bytes picture feature text result code lacks none d z = absurd (code-fails r (sym code ∙ z))
-
-pub within : {X : Type 0} (outcome : Result X Refusal) (o : Options) (bytes : List ℕ) (picture : Picture) (result : ℕ)
-    → result ≡ status_of outcome → OnOk outcome (IsWithin o bytes (uncounted picture)) → result ≡ 0
-    → IsWithin o bytes (as_described picture)
-within x o bytes picture result code d z = grind (arith, code-fails, as-told)
-
-pub without-room : {X : Type 0} (outcome : Result X Refusal) (o : Options) (bytes : List ℕ) (room : ℕ) (picture : Picture)
-    (result : ℕ) → result ≡ status_of outcome
-    → IfErr outcome (λ r. r ≡ NoRoom → IsWithin o bytes (uncounted picture) × (room < picture.size)) → result ≡ 5
-    → IsWithin o bytes (as_described picture) × (room < picture.size)
-without-room x o bytes room picture result code d z = grind (arith, has-no-room, as-told)
-
-pub too-large : {X : Type 0} (outcome : Result X Refusal) (o : Options) (bytes : List ℕ) (picture : Picture) (result : ℕ)
-    → result ≡ status_of outcome → IfErr outcome (λ r. r ≡ TooLarge → IsTooLarge o bytes (uncounted picture))
-    → result ≡ 8
-    → IsTooLarge o bytes (as_described picture)
-too-large x o bytes picture result code d z = grind (arith, is-too-large, as-told)
+    → OnOk outcome (IsWithin part o bytes (uncounted picture)) → result ≡ 0
+    → IsWithin part o bytes (uncounted (ending picture feature text))
+described (Ok x) part o bytes picture feature text result code lacks none d z =
+    subst (λ (p : Picture). IsWithin part o bytes p) (sym (same part o bytes picture feature text lacks none d.0)) d
+described (Err r) part o bytes picture feature text result code lacks none d z = absurd (code-fails r (sym code ∙ z))
 
 -- ---- what a call says by its number
 

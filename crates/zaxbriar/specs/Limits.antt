@@ -1,5 +1,6 @@
 -- The limits of some options, and the memory that they are compared with.
 use Rattle.std.specs.Prelude.{◌==◌, ◌&&◌, ◌||◌, ◌+◌, ◌*◌, ℕ, Bool, not, nat_le, nat_lt, slice_index}
+use Rattle.std.specs.Prelude.{if◌then◌else◌}
 use Rattle.jpeg_decoder.specs.declared.sizes.DecodingBytes.{DecodingBytes}
 use Rattle.zaxbriar.specs.declared.options.Options.{Options}
 use Rattle.zaxbriar.specs.declared.picture.Picture.{Picture}
@@ -16,9 +17,10 @@ are_known o = (not (o.transform == 1) || o.layout == 0) && (nat_le o.transform 5
     && (slice_index o.reserved_words 0 == 0 && slice_index o.reserved_words 1 == 0))))
 
 -- The most memory for samples that decoding takes at a time beside the caller's: blocks and planes,
--- from which the lines are written.
-abbrev pub bytes_beside : DecodingBytes → ℕ
-bytes_beside d = d.coefficients + d.planes
+-- from which the lines are written. The first argument says whether a picture in part is asked for,
+-- of which all blocks are kept.
+abbrev pub bytes_beside : Bool → DecodingBytes → ℕ
+bytes_beside part d = (if part then d.all_coefficients else d.coefficients) + d.planes
 
 -- whether a count is above a limit, where 0 is none
 abbrev pub is_over : ℕ → ℕ → Bool

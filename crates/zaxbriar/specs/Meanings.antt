@@ -1,6 +1,6 @@
 -- What a call with some options gives for the bytes of a stream.
 use Rattle.std.specs.Prelude.{◌≡◌, ◌==◌, ◌+◌, ◌&&◌, ℕ, List, Option, Some, None, if◌then◌else◌}
-use Rattle.std.specs.Prelude.{length, option_map, replicate, true, false, Ok, Result, ◌⊎◌}
+use Rattle.std.specs.Prelude.{length, option_map, replicate, Bool, true, false, Ok, Result, ◌⊎◌}
 use Rattle.jpeg_bits.specs.Reading.{Outcome, ◌>>=◌, Fault}
 use Rattle.jpeg_bits.specs.Stream.{Stream}
 use Rattle.jpeg_bits.specs.declared.color_transform.ColorTransform.{ColorTransform}
@@ -100,8 +100,9 @@ abbrev pub orientation_by : Option (List ℕ) → ℕ
 orientation_by None = 1
 orientation_by (Some exif) = or_upright (orientation_in exif)
 
--- A caller is told of the picture of a stream, by its header.
-pub record Describes (o : Options) (bytes : List ℕ) (picture : Picture) : Type 0 where
+-- A caller is told of the picture of a stream, by its header. Whether it is asked for in part
+-- changes only the memory that is told.
+pub record Describes (part : Bool) (o : Options) (bytes : List ℕ) (picture : Picture) : Type 0 where
   pub header : Found
   pub rest : List ℕ
   pub info : ImageInfo
@@ -120,7 +121,7 @@ pub record Describes (o : Options) (bytes : List ℕ) (picture : Picture) : Type
       (at_size (size_wanted o) header.said).frame ≡ Some sampling
   pub picture_is : picture ≡ described_picture o.layout info precision
       (lines_by o.stride info precision conversion)
-      (bytes_beside decoding)
+      (bytes_beside part decoding)
       (orientation_by (at_size (size_wanted o) header.said).metadata.exif) sampling 0
 
 -- The lines that the options ask for don't fit the picture of a header.
@@ -180,12 +181,12 @@ as_described picture = record picture {
 }
 
 -- A picture is that of a header, and within the limits.
-abbrev pub IsWithin : Options → List ℕ → Picture → Type 0
-IsWithin o bytes picture = Describes o bytes picture × (exceeds_limits o picture ≡ false)
+abbrev pub IsWithin : Bool → Options → List ℕ → Picture → Type 0
+IsWithin part o bytes picture = Describes part o bytes picture × (exceeds_limits o picture ≡ false)
 
 -- A picture is that of a header, and above a limit.
-abbrev pub IsTooLarge : Options → List ℕ → Picture → Type 0
-IsTooLarge o bytes picture = Describes o bytes picture × (exceeds_limits o picture ≡ true)
+abbrev pub IsTooLarge : Bool → Options → List ℕ → Picture → Type 0
+IsTooLarge part o bytes picture = Describes part o bytes picture × (exceeds_limits o picture ≡ true)
 
 -- The picture of a stream is in the caller's memory.
 pub record Shows (o : Options) (bytes old new : List ℕ) (picture : Picture) : Type 0 where

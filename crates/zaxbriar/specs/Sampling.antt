@@ -1,6 +1,6 @@
 -- The sampling factors of the components of a frame.
-use Rattle.std.specs.Prelude.{ℕ, ◌+◌, ◌*◌, ◌%◌, List, [], ◌∷◌, Option, Some, None}
-use Rattle.jpeg_segments.specs.Frame.{Component, Frame}
+use Rattle.std.specs.Prelude.{ℕ, ◌+◌, ◌*◌, ◌%◌, List, [], ◌∷◌}
+use Rattle.jpeg_segments.specs.Frame.{Component}
 
 -- those of a component, each in four bits, as a frame header has them (T.81, B.2.2)
 abbrev pub factors_byte : Component → ℕ

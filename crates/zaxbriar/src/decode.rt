@@ -130,7 +130,7 @@ fn read_lines<R: Read + Drop>(
     }
 }
 
-/// Returns what a call tells that has written lines: OK, or the fault beside which they are a part.
+/// Returns OK, or the fault of a picture in part.
 fn outcome_of(fault: Option<Error>) -> std::result::Result<(), Refusal>
     ensures { result ≡ outcome_of fault }
 {
@@ -218,16 +218,16 @@ pub fn decode_into(
         → IfErr result (IsFault (shown_by options.now jpeg.now)) }
     ensures kept { IfErr result (λ r. (IsPart r → ⊥) → pixels.new ≡ pixels.old) }
     ensures within { length jpeg.now < 2 ^ 64
-        → OnOk result (IsWithin options.now jpeg.now (uncounted picture.new)) }
+        → OnOk result (IsWithin is_partial options.now jpeg.now (uncounted picture.new)) }
     ensures described { length jpeg.now < 2 ^ 64 → IfErr result
-        (λ r. IsPart r → IsWithin options.now jpeg.now (uncounted picture.new)) }
+        (λ r. IsPart r → IsWithin is_partial options.now jpeg.now (uncounted picture.new)) }
     ensures room { length jpeg.now < 2 ^ 64 → IfErr result
-        (λ r. r ≡ NoRoom → IsWithin options.now jpeg.now (uncounted picture.new)
+        (λ r. r ≡ NoRoom → IsWithin is_partial options.now jpeg.now (uncounted picture.new)
         × (length pixels.old < picture.new.size)) }
     ensures large { length jpeg.now < 2 ^ 64 → IfErr result
-        (λ r. r ≡ TooLarge → IsTooLarge options.now jpeg.now (uncounted picture.new)) }
+        (λ r. r ≡ TooLarge → IsTooLarge is_partial options.now jpeg.now (uncounted picture.new)) }
     ensures limited { length jpeg.now < 2 ^ 64 → (size : Picture)
-        → IsTooLarge options.now jpeg.now size → IsErrAnd result IsOfCall }
+        → IsTooLarge is_partial options.now jpeg.now size → IsErrAnd result IsOfCall }
     ensures known { are_known options.now ≡ false → IsErrAnd result IsArgument }
     ensures wrong { length jpeg.now < 2 ^ 64 → IfErr result
         (λ r. IsArgument r → AreWrong options.now jpeg.now) }
@@ -239,7 +239,7 @@ pub fn decode_into(
         return Err(Refusal::Argument("an option doesn't exist"));
     }
     let mut decoder = Decoder::new(alloc, SliceReader::new(jpeg))?;
-    let described = describe(&mut decoder, options, picture);
+    let described = describe(&mut decoder, options, picture, is_partial);
     picture.stream_bytes = bytes_read(jpeg, &decoder);
     let (header, lines) = described?;
     if picture.size > pixels.len() as u64 {

@@ -24,12 +24,13 @@ use jpeg_decoder::{Decoder, SliceReader};
 use std::alloc::Global;
 use std::io::Read;
 
-/// Reads a header, and describes the picture that the options ask for. A picture above their limits
-/// is described and refused.
+/// Reads a header, and describes the picture that the options ask for, which may be one in part. A
+/// picture above their limits is described and refused.
 pub fn describe<R: Read + Drop>(
     decoder: &mut Decoder<R>,
     options: &Options,
     picture: &mut Picture,
+    is_partial: bool,
 ) -> std::result::Result<(Header, Lines), Refusal>
     requires fresh { decoder.old.stage ≡ Fresh }
     requires plain { decoder.old.settings ≡ default_settings }
@@ -42,15 +43,17 @@ pub fn describe<R: Read + Drop>(
         ≡ Some a.0.decoding_bytes) }
     ensures lines { IfOk result (λ a. HasLines options.now a.0.info a.0.precision a.1) }
     ensures told { IfOk result (λ a. picture.new ≡ described_picture options.now.layout a.0.info
-        a.0.precision a.1 (bytes_beside a.0.decoding_bytes) a.0.orientation a.0.sampling 0) }
+        a.0.precision a.1 (bytes_beside is_partial a.0.decoding_bytes) a.0.orientation
+        a.0.sampling 0) }
     ensures within { decoder.old.source.known ≡ true
-        → OnOk result (IsWithin options.now decoder.old.source.bytes picture.new) }
-    ensures large { decoder.old.source.known ≡ true → IfErr result
-        (λ r. r ≡ TooLarge → IsTooLarge options.now decoder.old.source.bytes picture.new) }
+        → OnOk result (IsWithin is_partial options.now decoder.old.source.bytes picture.new) }
+    ensures large { decoder.old.source.known ≡ true → IfErr result (λ r. r ≡ TooLarge
+        → IsTooLarge is_partial options.now decoder.old.source.bytes picture.new) }
     ensures after { decoder.old.source.known ≡ true → IfErr result (λ r. r ≡ TooLarge
         → StandsAfter (header_at decoder.old.source.bytes) decoder.new.source) }
     ensures limited { decoder.old.source.known ≡ true → (size : Picture)
-        → IsTooLarge options.now decoder.old.source.bytes size → IsErrAnd result IsOfCall }
+        → IsTooLarge is_partial options.now decoder.old.source.bytes size
+        → IsErrAnd result IsOfCall }
     ensures named { decoder.old.source.known ≡ true
         → IfErr result (IsFault (header_at decoder.old.source.bytes)) }
     ensures misfit { decoder.old.source.known ≡ true → IfErr result
@@ -61,7 +64,7 @@ pub fn describe<R: Read + Drop>(
 {
     let header = read_header(decoder, options)?;
     let lines = lines_of(header.info, header.precision, options)?;
-    *picture = picture_of(header, lines, options.layout);
+    *picture = picture_of(header, lines, options.layout, is_partial);
     if exceeds_limits(options, header.info, picture.decoding_bytes) {
         return Err(Refusal::TooLarge);
     }
@@ -76,16 +79,16 @@ pub fn read_info_from(
     picture: &mut Picture,
 ) -> std::result::Result<(), Refusal>
     ensures within { length jpeg.now < 2 ^ 64
-        → OnOk result (IsWithin options.now jpeg.now (uncounted picture.new)) }
+        → OnOk result (IsWithin false options.now jpeg.now (uncounted picture.new)) }
     ensures large { length jpeg.now < 2 ^ 64 → IfErr result
-        (λ r. r ≡ TooLarge → IsTooLarge options.now jpeg.now (uncounted picture.new)) }
+        (λ r. r ≡ TooLarge → IsTooLarge false options.now jpeg.now (uncounted picture.new)) }
     ensures counts { length jpeg.now < 2 ^ 64
         → OnOk result (CountsRead (header_at jpeg.now) jpeg.now picture.new.stream_bytes) }
     ensures header { length jpeg.now < 2 ^ 64 → IfErr result (λ r. r ≡ TooLarge
         → CountsRead (header_at jpeg.now) jpeg.now picture.new.stream_bytes) }
     ensures most { picture.old.stream_bytes ≡ 0 → picture.new.stream_bytes ≤ length jpeg.now }
     ensures limited { length jpeg.now < 2 ^ 64 → (size : Picture)
-        → IsTooLarge options.now jpeg.now size → IsErrAnd result IsOfCall }
+        → IsTooLarge false options.now jpeg.now size → IsErrAnd result IsOfCall }
     ensures named { length jpeg.now < 2 ^ 64 → IfErr result (IsFault (header_at jpeg.now)) }
     ensures whole { IfErr result (λ r. IsPart r → ⊥) }
     ensures known { are_known options.now ≡ false → IsErrAnd result IsArgument }
@@ -99,7 +102,7 @@ pub fn read_info_from(
         return Err(Refusal::Argument("an option doesn't exist"));
     }
     let mut decoder = Decoder::new(alloc, SliceReader::new(jpeg))?;
-    let described = describe(&mut decoder, options, picture);
+    let described = describe(&mut decoder, options, picture, false);
     picture.stream_bytes = bytes_read(jpeg, &decoder);
     described?;
     Ok(())

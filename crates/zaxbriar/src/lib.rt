@@ -6,7 +6,7 @@
 #![tactic(auto)]
 
 ghost use Rattle.std.specs.Prelude.{◌≡◌, ◌⊎◌, ◌++◌, ◌<◌, ◌≤◌, ◌^◌, ℕ, List, length, slice_index};
-ghost use Rattle.std.specs.Prelude.{false, Err, IsOk, None, Some};
+ghost use Rattle.std.specs.Prelude.{false, true, Err, IsOk, None, Some};
 ghost use Rattle.jpeg_bits.specs.Reading.{Fault, Malformed, Lacks, End};
 ghost use Rattle.jpeg_bits.specs.declared.error.UnsupportedFeature.{UnsupportedFeature};
 ghost use Rattle.jpeg_streams.specs.ArrayPictures.{picture_of_array};
@@ -59,7 +59,7 @@ pub extern "C" fn zaxbriar_checked_read_info(
 ) -> u32
     // After OK, `picture` describes the picture of the header, which is within the limits.
     ensures describes { result ≡ 0 → length jpeg.now < 2 ^ 64
-        → IsWithin options.now jpeg.now (uncounted picture.new) }
+        → IsWithin false options.now jpeg.now (uncounted picture.new) }
 
     // After OK and TOO_LARGE, `stream_bytes` is how many bytes the header takes. It is 0 where
     // options don't exist, and never more than there are.
@@ -71,9 +71,9 @@ pub extern "C" fn zaxbriar_checked_read_info(
     // TOO_LARGE: `picture` describes it, and it is above a limit. No header of such a picture has
     // another result, unless memory or the arguments are to blame.
     ensures large { result ≡ 8 → length jpeg.now < 2 ^ 64
-        → IsTooLarge options.now jpeg.now (as_described picture.new) }
+        → IsTooLarge false options.now jpeg.now (as_described picture.new) }
     ensures limited { length jpeg.now < 2 ^ 64 → (size : Picture)
-        → IsTooLarge options.now jpeg.now size → IsOfCallNumber result }
+        → IsTooLarge false options.now jpeg.now size → IsOfCallNumber result }
 
     // MALFORMED, UNSUPPORTED and TRUNCATED name the header's fault. After UNSUPPORTED `picture`
     // names the feature, and after any other result none.
@@ -154,18 +154,18 @@ pub extern "C" fn zaxbriar_checked_decode(
     // After OK and NO_ROOM `picture` is what `zaxbriar_checked_read_info` describes, within the
     // limits; and after NO_ROOM `pixels` is too short for it.
     ensures describes { result ≡ 0 → length jpeg.now < 2 ^ 64
-        → IsWithin options.now jpeg.now (as_described picture.new) }
+        → IsWithin false options.now jpeg.now (as_described picture.new) }
     ensures room { result ≡ 5 → length jpeg.now < 2 ^ 64
-        → IsWithin options.now jpeg.now (as_described picture.new)
+        → IsWithin false options.now jpeg.now (as_described picture.new)
         × (length pixels.old < picture.new.size) }
 
     // TOO_LARGE: `picture` describes it, and it is above a limit. This depends on the header alone:
     // whatever follows the header of such a picture, there is no other result, unless memory or the
     // arguments are to blame.
     ensures large { result ≡ 8 → length jpeg.now < 2 ^ 64
-        → IsTooLarge options.now jpeg.now (as_described picture.new) }
+        → IsTooLarge false options.now jpeg.now (as_described picture.new) }
     ensures limited { length jpeg.now < 2 ^ 64 → (size : Picture)
-        → IsTooLarge options.now jpeg.now size → IsOfCallNumber result }
+        → IsTooLarge false options.now jpeg.now size → IsOfCallNumber result }
 
     // Options that don't exist are BAD_ARGUMENT, whatever the bytes are. Nothing else is but lines
     // that don't fit the picture of the header.
@@ -227,20 +227,21 @@ pub extern "C" fn zaxbriar_checked_decode_partial(
     // After any other result than OK and PARTIAL, `pixels` is as it was.
     ensures kept { (result ≡ 0 → ⊥) → (result ≡ 9 → ⊥) → pixels.new ≡ pixels.old }
 
-    // After OK, PARTIAL and NO_ROOM `picture` is what `zaxbriar_checked_read_info` describes, within
-    // the limits; and after NO_ROOM `pixels` is too short for it.
+    // After OK, PARTIAL and NO_ROOM `picture` is what `zaxbriar_checked_read_info` describes, but
+    // its `decoding_bytes` counts all blocks, since those that were read are kept here. So counted
+    // it is within the limits; and after NO_ROOM `pixels` is too short for it.
     ensures describes { (result ≡ 0) ⊎ (result ≡ 9) → length jpeg.now < 2 ^ 64
-        → IsWithin options.now jpeg.now (as_described (without_fault picture.new)) }
+        → IsWithin true options.now jpeg.now (as_described (without_fault picture.new)) }
     ensures room { result ≡ 5 → length jpeg.now < 2 ^ 64
-        → IsWithin options.now jpeg.now (as_described picture.new)
+        → IsWithin true options.now jpeg.now (as_described picture.new)
         × (length pixels.old < picture.new.size) }
 
-    // TOO_LARGE: `picture` describes it, and it is above a limit, whatever follows the header, as
-    // for `zaxbriar_checked_decode`.
+    // TOO_LARGE: `picture` describes it, all blocks counted, and it is above a limit, whatever
+    // follows the header, as for `zaxbriar_checked_decode`.
     ensures large { result ≡ 8 → length jpeg.now < 2 ^ 64
-        → IsTooLarge options.now jpeg.now (as_described picture.new) }
+        → IsTooLarge true options.now jpeg.now (as_described picture.new) }
     ensures limited { length jpeg.now < 2 ^ 64 → (size : Picture)
-        → IsTooLarge options.now jpeg.now size → IsOfCallNumber result }
+        → IsTooLarge true options.now jpeg.now size → IsOfCallNumber result }
 
     // `stream_bytes` is how many bytes the header takes after NO_ROOM and TOO_LARGE, 0 where options
     // don't exist, and never more than there are.

@@ -7,13 +7,19 @@ use crate::layouts::samples_a_pixel;
 use crate::options::Options;
 use jpeg_decoder::{DecodingBytes, ImageInfo};
 
-/// Returns the most memory for samples that decoding takes at a time beside the caller's: blocks and
-/// planes. The lines of the picture are written from the planes.
-pub fn bytes_beside(decoding: DecodingBytes) -> u64
-    requires { decoding.coefficients + decoding.planes ≤ decoding.peak }
-    ensures { result ≡ bytes_beside decoding }
+/// Returns the most memory for samples that decoding takes at a time beside the caller's: blocks,
+/// of a picture in part all of them, and planes. The lines of the picture are written from the
+/// planes.
+pub fn bytes_beside(decoding: DecodingBytes, is_partial: bool) -> u64
+    requires peak { decoding.coefficients + decoding.planes ≤ decoding.peak }
+    requires partial_peak { decoding.all_coefficients + decoding.planes ≤ decoding.partial_peak }
+    ensures { result ≡ bytes_beside is_partial decoding }
 {
-    decoding.coefficients + decoding.planes
+    if is_partial {
+        decoding.all_coefficients + decoding.planes
+    } else {
+        decoding.coefficients + decoding.planes
+    }
 }
 
 /// Returns whether a count is above a limit, where 0 is none.

@@ -18,7 +18,8 @@ pub struct Picture {
     pub size: u64,
     /// The bytes of a line without its gap: `width * pixel_bytes`.
     pub row_bytes: u64,
-    /// The most memory for samples that decoding takes at a time beside the caller's.
+    /// The most memory for samples that decoding takes at a time beside the caller's. All blocks of
+    /// a picture that is decoded in part are counted.
     pub decoding_bytes: u64,
     /// After decoding, how many bytes of the stream were read.
     pub stream_bytes: u64,
@@ -103,20 +104,22 @@ fn format_number(format: PixelFormat) -> u8
     }
 }
 
-/// Returns what a caller is told of a picture before it is decoded.
-pub fn picture_of(header: Header, lines: Lines, layout: u8) -> Picture
+/// Returns what a caller is told of a picture before it is decoded, as a whole or in part.
+pub fn picture_of(header: Header, lines: Lines, layout: u8, is_partial: bool) -> Picture
     requires row { lines.row_bytes ≤ lines.stride }
     requires stride { lines.stride ≤ 4294967296 }
     requires peak { header.decoding_bytes.coefficients + header.decoding_bytes.planes
         ≤ header.decoding_bytes.peak }
+    requires partial_peak { header.decoding_bytes.all_coefficients + header.decoding_bytes.planes
+        ≤ header.decoding_bytes.partial_peak }
     ensures { result ≡ described_picture layout header.info header.precision lines
-        (bytes_beside header.decoding_bytes) header.orientation header.sampling 0 }
+        (bytes_beside is_partial header.decoding_bytes) header.orientation header.sampling 0 }
 {
     let sampling = header.sampling;
     Picture {
         size: size_of_lines(lines),
         row_bytes: lines.row_bytes,
-        decoding_bytes: bytes_beside(header.decoding_bytes),
+        decoding_bytes: bytes_beside(header.decoding_bytes, is_partial),
         stream_bytes: 0,
         width: u32::from(lines.width),
         height: u32::from(lines.height),

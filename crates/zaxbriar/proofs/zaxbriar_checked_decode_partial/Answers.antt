@@ -1,4 +1,4 @@
-use Rattle.std.proofs.Common.{refl}
+use Rattle.std.proofs.Common.{refl, true}
 use Rattle.zaxbriar.proofs.Fails.{of-call-number}
 use Rattle.zaxbriar.proofs.Parts.{described-part, part-told, whole-told}
 use Rattle.zaxbriar.proofs.Told.{if-own}
@@ -19,7 +19,7 @@ returns-clause-part c part few =
 
 pub returns-clause-describes : goal.returns-clause-describes
 returns-clause-describes c told few =
-    described-part c.decode_into-outcome.result c.args.options.now c.args.jpeg.now
+    described-part c.decode_into-outcome.result true c.args.options.now c.args.jpeg.now
     c.decode_into-outcome.new.picture c.answer.result
     c.answer.ensures.code (c.decode_into-outcome.ensures.within few) (c.decode_into-outcome.ensures.described few) told
 

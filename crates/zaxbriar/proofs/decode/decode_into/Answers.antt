@@ -37,7 +37,8 @@ returns-clause-means c entire few =
       info_is = ap (λ f. option_map info_of f) decodes.frame ∙ c.in_ok-header.ensures.info;
       precision_is = ap (λ f. option_map (λ f. f.precision) f) decodes.frame ∙ c.in_ok-header.ensures.precision;
       arranged = arranged-of c.args.options.now header.info header.precision decodes.samples c.args.pixels.now
-          c.decode_lines-decoded.new.pixels _ c.in_ok-header.lines (bytes_beside header.decoding_bytes)
+          c.decode_lines-decoded.new.pixels _ c.in_ok-header.lines
+          (bytes_beside c.args.is_partial header.decoding_bytes)
           header.orientation c.bytes_read-picture-2.result header.sampling c.in_ok-header.ensures.lines decodes.pixels
           (ap (λ (p : Picture). record p { stream_bytes = c.bytes_read-picture-2.result })
           c.in_ok-header.ensures.told);
@@ -62,7 +63,8 @@ returns-clause-images c entire few array image rest final last range w is =
         precision = header.precision;
         are = gives.pixels;
         arranged = arranged-of c.args.options.now header.info header.precision decodes.samples c.args.pixels.now
-            c.decode_lines-decoded.new.pixels _ c.in_ok-header.lines (bytes_beside header.decoding_bytes)
+            c.decode_lines-decoded.new.pixels _ c.in_ok-header.lines
+            (bytes_beside c.args.is_partial header.decoding_bytes)
             header.orientation c.bytes_read-picture-2.result header.sampling c.in_ok-header.ensures.lines decodes.pixels
             (ap (λ (p : Picture). record p { stream_bytes = c.bytes_read-picture-2.result })
             c.in_ok-header.ensures.told);
@@ -160,7 +162,7 @@ returns-clause-shown c part few =
     b.brings.fault_is
     (brought-shown c.args.options.now c.args.jpeg.now facts.1.0 header.info header.precision c.in_ok-header.lines None
     c.describe-described.new.decoder c.decode_lines-decoded.new.decoder c.args.pixels.now
-    c.decode_lines-decoded.new.pixels _ (bytes_beside header.decoding_bytes) header.orientation
+    c.decode_lines-decoded.new.pixels _ (bytes_beside c.args.is_partial header.decoding_bytes) header.orientation
     c.bytes_read-picture-2.result header.sampling (ap header_at (sym same) ∙ facts.1.1) read.settings facts.1.2
     c.in_ok-header.ensures.info c.in_ok-header.ensures.precision c.in_ok-header.ensures.lines
     (ap (λ (p : Picture). record p { stream_bytes = c.bytes_read-picture-2.result }) c.in_ok-header.ensures.told) b))
@@ -178,7 +180,7 @@ returns-clause-part c part few =
     c.args.jpeg.now _ (c.decode_lines-decoded.ensures.reaches part facts.0)
     (λ e b. brought-shown c.args.options.now c.args.jpeg.now facts.1.0 header.info header.precision c.in_ok-header.lines
     (Some e) c.describe-described.new.decoder c.decode_lines-decoded.new.decoder c.args.pixels.now
-    c.decode_lines-decoded.new.pixels _ (bytes_beside header.decoding_bytes) header.orientation
+    c.decode_lines-decoded.new.pixels _ (bytes_beside c.args.is_partial header.decoding_bytes) header.orientation
     c.bytes_read-picture-2.result header.sampling (ap header_at (sym same) ∙ facts.1.1) read.settings facts.1.2
     c.in_ok-header.ensures.info c.in_ok-header.ensures.precision c.in_ok-header.ensures.lines
     (ap (λ (p : Picture). record p { stream_bytes = c.bytes_read-picture-2.result }) c.in_ok-header.ensures.told) b)
