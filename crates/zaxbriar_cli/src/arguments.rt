@@ -22,12 +22,32 @@ const MAX_PIXELS: &str =
 const MAX_MEMORY: &str =
     "Refuse pictures that need more bytes, judging by the header; suffixes k, M and G";
 
+/// A command that is being made, unless there was no memory for it.
+///
+/// What makes it passes it on as a result, which `with` and `with_word` look into: a function with
+/// a command that is alive at each of several exits takes a minute to check.
+pub type Making<'a> = Result<Command<'a>, AllocError>;
+
+/// Adds an argument to a command.
+pub fn with<'a>(command: Making<'a>, argument: Arg<'a>) -> Making<'a> {
+    command?.arg(argument)
+}
+
+/// Adds a word's command to a command.
+pub fn with_word<'a>(command: Making<'a>, word: Making<'a>) -> Making<'a> {
+    let command = command?;
+    command.subcommand(word?)
+}
+
 /// Returns a word's command, with the options that limit a picture.
-pub fn word<'a>(alloc: Global, name: &'a str, about: &'a str) -> Result<Command<'a>, AllocError> {
-    Command::new(alloc, name)
+pub fn word<'a>(alloc: Global, name: &'a str, about: &'a str) -> Making<'a> {
+    let command = Command::new(alloc, name)
         .about(about)
-        .arg(value_option(alloc, "max-pixels", "N", MAX_PIXELS))?
-        .arg(value_option(alloc, "max-memory", "BYTES", MAX_MEMORY))
+        .arg(value_option(alloc, "max-pixels", "N", MAX_PIXELS));
+    with(
+        command,
+        value_option(alloc, "max-memory", "BYTES", MAX_MEMORY),
+    )
 }
 
 /// Returns the argument of the file that is read.
@@ -95,7 +115,7 @@ fn print_outcome(rt: &HostRuntime, error: &clap::Error) -> Outcome<()> {
 /// printed; wrong words are reported.
 pub fn parse<'a>(
     rt: &HostRuntime,
-    command: Result<Command<'a>, AllocError>,
+    command: Making<'a>,
     words: &'a [String],
 ) -> Outcome<Option<ArgMatches<'a>>> {
     let parsed = match command {

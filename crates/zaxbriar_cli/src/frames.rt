@@ -5,6 +5,7 @@ use jpeg_decoder::Decoder;
 use std::alloc::Global;
 use std::io::Read;
 use std::{fmt, io};
+use zaxbriar_pictures::extents::Extent;
 use zaxbriar_pictures::limits::Limits;
 use zaxbriar_pictures::netpbm::Picture;
 use zaxbriar_pictures::refusal::Refusal;
@@ -59,6 +60,17 @@ pub struct Frames<R> {
     limits: Limits,
 }
 
+/// Decodes the frame of a decoder that has read nothing, unless it is above the limits.
+fn decode_within<R: Read + Drop>(
+    decoder: &mut Decoder<R>,
+    limits: Limits,
+) -> Result<Picture, Refusal> {
+    decoder.read_info()?;
+    let info = decoder.info().unwrap();
+    limits.check(info.width, info.height, taken_by(decoder, Extent::Whole))?;
+    Ok(decode_picture(decoder)?)
+}
+
 /// Decodes the frame that the reader gives.
 fn decode_frame<R: Read + Drop>(
     alloc: Global,
@@ -66,10 +78,7 @@ fn decode_frame<R: Read + Drop>(
     limits: Limits,
 ) -> Result<Picture, Refusal> {
     let mut decoder = Decoder::new(alloc, reader)?;
-    decoder.read_info()?;
-    let info = decoder.info().unwrap();
-    limits.check(info.width, info.height, taken_by(&decoder))?;
-    Ok(decode_picture(&mut decoder)?)
+    decode_within(&mut decoder, limits)
 }
 
 /// Decodes the frame that begins with a byte that was read and continues in a reader that is lent.

@@ -1,7 +1,7 @@
 -- Steps of the loops over boxes.
-use Rattle.std.proofs.Common.{◌≡◌, ℕ, suc, ◌+◌, ◌*◌, ◌/◌, ◌^◌, ◌<◌, ◌≤◌, List, ◌++◌, refl, arith}
+use Rattle.std.proofs.Common.{◌≡◌, ℕ, suc, ◌+◌, ◌*◌, ◌^◌, ◌<◌, ◌≤◌, List, ◌++◌, refl, arith}
 use Rattle.std.proofs.Common.{append-nil, append_assoc, sym}
-use Rattle.std.proofs.Math.Nat.{div-le_of_le-mul, mul-le-mul_right}
+use Rattle.std.proofs.Math.Nat.{mul-le-mul_right}
 use Rattle.zaxbriar_pictures.specs.Boxes.{texts_below, sum_over}
 
 pub sum-none : (f : ℕ → ℕ) → sum_over 0 f ≡ 0
@@ -25,10 +25,6 @@ unfolding texts_below
 joined-more count f before bytes after known more =
     let next : count + 1 ≡ suc count = omega arith in
     rw (next, more, known) (append_assoc before (texts_below count f) (f count))
-
--- a box begins within its side
-pub edge-most : (index side boxes : ℕ) → index ≤ boxes → index * side / boxes ≤ side
-edge-most index side boxes h = div-le_of_le-mul boxes (mul-le-mul_right side h)
 
 -- the indices of samples are small
 pub index-most : (top down width left across components component : ℕ) → top ≤ 65535 → down ≤ 65535 → width ≤ 65535

@@ -20,10 +20,6 @@ appends-more (Some xs) (Some ys) (Some zs) front back h g =
 appends-more (Some xs) (Some ys) None front back h g = g
 appends-more (Some xs) None after front back h g = absurd h
 
-pub appends-none : (now : Option (List ℕ)) → Appends now now []
-appends-none None = tt
-appends-none (Some xs) = sym (append-nil xs)
-
 -- a line fits into what is left of a piece
 pub line-fits : (count k size long filled : ℕ) → long ≡ count * size → filled ≡ k * size → k < count
     → filled + size ≤ long

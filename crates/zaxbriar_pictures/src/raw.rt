@@ -1,8 +1,11 @@
 //! The bytes of a stream's picture, as the program `jpegraw` writes them.
-ghost use Rattle.std.specs.Prelude.{◌≡◌, ℕ, List, Some, IfOk, OnOk, IsSomeAnd, string_bytes};
+ghost use Rattle.std.specs.Prelude.{◌≡◌, ℕ, List, Some, IfOk, OnOk, IsSomeAnd, string_bytes, true};
 ghost use Rattle.std.specs.Io.KnownBytes.{Appends};
-ghost use Rattle.jpeg_streams.specs.Output.{Tells, header_line_of, name_of, output_of};
+ghost use Rattle.jpeg_streams.specs.Output.{Tells, default_settings, header_line_of, name_of};
+ghost use Rattle.jpeg_streams.specs.Output.{output_of};
+ghost use Rattle.jpeg_streams.specs.declared.progress.Progress.TheVariants.{Fresh};
 
+use crate::extents::Extent;
 use crate::limits::Limits;
 use crate::lines::write_lines;
 use crate::refusal::Refusal;
@@ -33,6 +36,30 @@ fn header_line(alloc: Global, info: ImageInfo) -> Result<String, AllocError>
     format!(in alloc; "{width} {height} {format}\n")
 }
 
+/// Decodes the stream of a decoder that has read nothing, and writes the header line and then the
+/// pixels, line by line from the top.
+fn write_decoded<R: Read + Drop, W: Write>(
+    alloc: Global,
+    decoder: &mut Decoder<R>,
+    limits: Limits,
+    writer: &mut W,
+) -> Result<(), Refusal>
+    requires fresh { decoder.old.stage ≡ Fresh }
+    requires plain { decoder.old.settings ≡ default_settings }
+    ensures { decoder.old.source.known ≡ true
+        → OnOk result (IsSomeAnd (output_of decoder.old.source.bytes) (Appends
+        (W.contents writer.old) (W.contents writer.new))) }
+{
+    decoder.read_info()?;
+    let full = decoder.info().unwrap();
+    let taken = taken_by_lines(decoder, Extent::Whole);
+    limits.check(full.width, full.height, taken)?;
+    let mut lines = decoder.decode_lines()?;
+    let line = header_line(alloc, decoder.info().unwrap())?;
+    write_lines(alloc, line.as_bytes(), &mut lines, writer)?;
+    Ok(())
+}
+
 /// Decodes the stream that the reader gives, and writes the header line and then the pixels, line
 /// by line from the top.
 pub fn write_raw<R: Read + Drop, W: Write>(
@@ -46,11 +73,5 @@ pub fn write_raw<R: Read + Drop, W: Write>(
         (W.contents writer.new))) }
 {
     let mut decoder = Decoder::new(alloc, reader)?;
-    decoder.read_info()?;
-    let full = decoder.info().unwrap();
-    limits.check(full.width, full.height, taken_by_lines(&decoder))?;
-    let mut lines = decoder.decode_lines()?;
-    let line = header_line(alloc, decoder.info().unwrap())?;
-    write_lines(alloc, line.as_bytes(), &mut lines, writer)?;
-    Ok(())
+    write_decoded(alloc, &mut decoder, limits, writer)
 }

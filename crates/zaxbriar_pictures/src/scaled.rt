@@ -68,19 +68,22 @@ pub fn decode_picture<R: Read + Drop>(decoder: &mut Decoder<R>) -> error::Result
     })
 }
 
-/// Returns how many bytes decoding the picture of a decoder takes, whose header was read.
-pub fn taken_by<R: Read + Drop>(decoder: &Decoder<R>) -> u64 {
-    match decoder.decoding_bytes() {
-        Some(bytes) => bytes.peak,
-        None => 0,
+/// Returns how many bytes decoding as much as is wanted of the picture of a decoder takes, whose
+/// header was read: for a partial picture all blocks are counted.
+pub fn taken_by<R: Read + Drop>(decoder: &Decoder<R>, extent: Extent) -> u64 {
+    match (decoder.decoding_bytes(), extent) {
+        (Some(bytes), Extent::Whole) => bytes.peak,
+        (Some(bytes), Extent::Partial) => bytes.partial_peak,
+        (None, _) => 0,
     }
 }
 
-/// Returns how many bytes decoding takes where the lines of the picture are written one by one.
-pub(crate) fn taken_by_lines<R: Read + Drop>(decoder: &Decoder<R>) -> u64 {
-    match decoder.decoding_bytes() {
-        Some(bytes) => bytes.coefficients.saturating_add(bytes.planes),
-        None => 0,
+/// Returns how many bytes this takes where the lines of the picture are written one by one.
+pub(crate) fn taken_by_lines<R: Read + Drop>(decoder: &Decoder<R>, extent: Extent) -> u64 {
+    match (decoder.decoding_bytes(), extent) {
+        (Some(bytes), Extent::Whole) => bytes.coefficients.saturating_add(bytes.planes),
+        (Some(bytes), Extent::Partial) => bytes.all_coefficients.saturating_add(bytes.planes),
+        (None, _) => 0,
     }
 }
 
@@ -217,17 +220,18 @@ fn made_bytes(size: Dimensions, full: ImageInfo, precision: Option<u8>) -> u64 {
 fn bytes_for<R: Read + Drop>(
     decoder: &Decoder<R>,
     request: Request,
+    extent: Extent,
     full: ImageInfo,
     size: Dimensions,
 ) -> u64 {
     let precision = decoder.precision();
     match request {
         Request::At(_) => match precision {
-            Some(8) => taken_by_lines(decoder),
-            _ => taken_by(decoder),
+            Some(8) => taken_by_lines(decoder, extent),
+            _ => taken_by(decoder, extent),
         },
         Request::Within(_, _) => {
-            taken_by(decoder).saturating_add(made_bytes(size, full, precision))
+            taken_by(decoder, extent).saturating_add(made_bytes(size, full, precision))
         }
     }
 }
@@ -237,6 +241,7 @@ fn bytes_for<R: Read + Drop>(
 fn choose<R: Read + Drop>(
     decoder: &mut Decoder<R>,
     request: Request,
+    extent: Extent,
     limits: Limits,
 ) -> Result<Choice, Refusal>
     requires fresh { decoder.old.stage ≡ Fresh }
@@ -258,7 +263,7 @@ fn choose<R: Read + Drop>(
     limits.check(
         full.width,
         full.height,
-        bytes_for(decoder, request, full, size),
+        bytes_for(decoder, request, extent, full, size),
     )?;
     Ok(Choice {
         scale,
@@ -302,7 +307,7 @@ pub fn read_picture<R: Read + Drop>(
         is_at_most limits.pixels (full.width * full.height) ≡ true)) }
 {
     let mut decoder = Decoder::new(alloc, reader)?;
-    let choice = choose(&mut decoder, request, limits)?;
+    let choice = choose(&mut decoder, request, extent, limits)?;
     let (picture, fault) = decode_wanted_picture(alloc, &mut decoder, extent)?;
     Ok(ScaledPicture {
         picture,
@@ -373,6 +378,6 @@ pub fn write_at<R: Read + Drop, W: Write>(
         (W.contents writer.new)) }
 {
     let mut decoder = Decoder::new(alloc, reader)?;
-    choose(&mut decoder, Request::At(scale), limits)?;
+    choose(&mut decoder, Request::At(scale), extent, limits)?;
     Ok(write_decoded(alloc, &mut decoder, extent, writer)?)
 }

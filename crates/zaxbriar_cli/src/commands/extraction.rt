@@ -5,19 +5,27 @@
 //! to its end, since such data may stand anywhere in it; if it is refused, what stands before the
 //! fault is written all the same.
 
+use crate::arguments::{Making, with};
 use crate::commands::pictures::check_output;
 use crate::ending::{Failure, Outcome};
 use crate::metadata::{KINDS, Kind, is_read, write_data};
 use crate::output::Output;
 use crate::{arguments, files, names};
-use clap::{Arg, ArgMatches, Command};
+use clap::{Arg, ArgMatches};
 use jpeg_decoder::error::Result;
 use jpeg_decoder::{Decoder, Scale};
 use std::alloc::{AllocError, Global};
 use std::io::Read;
+use zaxbriar_pictures::extents::Extent;
 use zaxbriar_pictures::limits::Limits;
 use zaxbriar_pictures::refusal::Refusal;
 use zaxbriar_pictures::scaled::taken_by;
+
+const EXIF: &str = "Write the Exif data to FILE, and nothing else";
+
+const XMP: &str = "Write the XMP data to FILE, and nothing else";
+
+const ICC: &str = "Write the ICC profile to FILE, and nothing else";
 
 /// Returns an option that names the file for data of a kind.
 fn data_option<'a>(
@@ -30,23 +38,17 @@ fn data_option<'a>(
         .conflicts_with("output")
 }
 
+/// Adds an option that names the file for data of a kind.
+fn with_option<'a>(alloc: Global, command: Making<'a>, name: &'a str, help: &'a str) -> Making<'a> {
+    let option = data_option(alloc, name, help)?;
+    with(command, option)
+}
+
 /// Adds the options that name files for data.
-pub fn with_options<'a>(
-    alloc: Global,
-    command: Command<'a>,
-) -> std::result::Result<Command<'a>, AllocError> {
-    command
-        .arg(data_option(
-            alloc,
-            "exif",
-            "Write the Exif data to FILE, and nothing else",
-        )?)?
-        .arg(data_option(alloc, "xmp", "Write the XMP data to FILE, and nothing else")?)?
-        .arg(data_option(
-            alloc,
-            "icc",
-            "Write the ICC profile to FILE, and nothing else",
-        )?)
+pub fn with_options<'a>(alloc: Global, command: Making<'a>) -> Making<'a> {
+    let command = with_option(alloc, command, "exif", EXIF);
+    let command = with_option(alloc, command, "xmp", XMP);
+    with_option(alloc, command, "icc", ICC)
 }
 
 /// Returns whether data are requested, and not a description.
@@ -77,7 +79,7 @@ fn read_data<R: Read + Drop>(
     }
     let full = decoder.info().unwrap();
     decoder.set_scale(Scale::Eighth)?;
-    limits.check(full.width, full.height, taken_by(decoder))?;
+    limits.check(full.width, full.height, taken_by(decoder, Extent::Whole))?;
     let _pixels = decoder.decode()?;
     Ok(())
 }

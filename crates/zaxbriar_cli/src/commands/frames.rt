@@ -14,15 +14,16 @@
 //! anything else in it, such as sound and indexes, is skipped. A frame that is refused ends the
 //! program; the frames before it are written.
 
+use crate::arguments::{Making, with};
 use crate::ending::Outcome;
 use crate::files::InputReader;
 use crate::frames::{FrameRefusal, Frames};
 use crate::names::Numbered;
 use crate::output::Output;
 use crate::{arguments, files};
-use clap::{Arg, ArgAction, ArgMatches, Command};
+use clap::{Arg, ArgAction, ArgMatches};
 use jpeg_decoder::ImageInfo;
-use std::alloc::{AllocError, Global};
+use std::alloc::Global;
 use std::io::Write;
 use zaxbriar_pictures::limits::Limits;
 use zaxbriar_pictures::netpbm::{Picture, write_picture};
@@ -39,15 +40,15 @@ const OUTPUT: &str = "The files to write, such as frame-%04d.ppm; or one file of
 type InputFrames = Frames<InputReader>;
 
 /// Returns what the word takes.
-pub fn command<'a>(alloc: Global) -> Result<Command<'a>, AllocError> {
+pub fn command<'a>(alloc: Global) -> Making<'a> {
     let list = Arg::new(alloc, "list")
         .long("list")
         .action(ArgAction::SetTrue)
         .help("Write a line NUMBER WIDTH HEIGHT FORMAT for each frame instead of its pixels");
-    arguments::word(alloc, NAME, ABOUT)?
-        .arg(arguments::file_argument(alloc))?
-        .arg(arguments::output_option(alloc, OUTPUT))?
-        .arg(list)
+    let command = arguments::word(alloc, NAME, ABOUT);
+    let command = with(command, arguments::file_argument(alloc));
+    let command = with(command, arguments::output_option(alloc, OUTPUT));
+    with(command, list)
 }
 
 /// What is requested: a stream, and what is done with its frames.

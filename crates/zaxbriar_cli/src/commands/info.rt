@@ -4,14 +4,15 @@
 //!
 //! `--exif FILE`, `--xmp FILE` and `--icc FILE` write data of that kind in place of a description.
 
+use crate::arguments::{Making, with};
 use crate::commands::extraction;
 use crate::description::{Form, Subject};
 use crate::ending::{Failure, Outcome};
 use crate::header::{Header, read_header};
 use crate::output::Output;
 use crate::{arguments, files};
-use clap::{Arg, ArgAction, ArgMatches, Command};
-use std::alloc::{AllocError, Global};
+use clap::{Arg, ArgAction, ArgMatches};
+use std::alloc::Global;
 use zaxbriar_pictures::limits::Limits;
 use zaxbriar_pictures::refusal::Refusal;
 
@@ -19,19 +20,18 @@ pub const NAME: &str = "info";
 
 const ABOUT: &str = "Says what JPEG files are, and takes their Exif, XMP and ICC data out of them";
 
+const OUTPUT: &str = "The file for the description; standard output by default, or for -";
+
 /// Returns what the word takes.
-pub fn command<'a>(alloc: Global) -> Result<Command<'a>, AllocError> {
+pub fn command<'a>(alloc: Global) -> Making<'a> {
     let json = Arg::new(alloc, "json")
         .long("json")
         .action(ArgAction::SetTrue)
         .help("Write JSON instead of lines: an object, or an array for several files");
-    let command = arguments::word(alloc, NAME, ABOUT)?
-        .arg(arguments::files_argument(alloc))?
-        .arg(arguments::output_option(
-            alloc,
-            "The file for the description; standard output by default, or for -",
-        ))?
-        .arg(json)?;
+    let command = arguments::word(alloc, NAME, ABOUT);
+    let command = with(command, arguments::files_argument(alloc));
+    let command = with(command, arguments::output_option(alloc, OUTPUT));
+    let command = with(command, json);
     extraction::with_options(alloc, command)
 }
 

@@ -6,11 +6,12 @@
 //! damaged file.
 
 use crate::arguments;
+use crate::arguments::{Making, with};
 use crate::commands::pictures;
 use crate::ending::Outcome;
-use clap::{Arg, ArgMatches, Command};
+use clap::{Arg, ArgMatches};
 use jpeg_decoder::Scale;
-use std::alloc::{AllocError, Global};
+use std::alloc::Global;
 use zaxbriar_pictures::scaled::Request;
 
 pub const NAME: &str = "pnm";
@@ -20,18 +21,18 @@ const ABOUT: &str = "Converts JPEG files to netpbm files: PGM, PPM or, of CMYK, 
 const SCALES: [&str; 4] = ["1/8", "1/4", "1/2", "1"];
 
 /// Returns what the word takes.
-pub fn command<'a>(alloc: Global) -> Result<Command<'a>, AllocError> {
+pub fn command<'a>(alloc: Global) -> Making<'a> {
     let scale = Arg::new(alloc, "scale")
         .long("scale")
         .value_name("SCALE")
         .value_parser(SCALES.as_slice())
         .default_value("1")
         .help("The part of the picture's width and height");
-    arguments::word(alloc, NAME, ABOUT)?
-        .arg(arguments::files_argument(alloc))?
-        .arg(pictures::output_option(alloc))?
-        .arg(scale)?
-        .arg(pictures::partial_option(alloc))
+    let command = arguments::word(alloc, NAME, ABOUT);
+    let command = with(command, arguments::files_argument(alloc));
+    let command = with(command, pictures::output_option(alloc));
+    let command = with(command, scale);
+    with(command, pictures::partial_option(alloc))
 }
 
 /// Returns the requested scale.

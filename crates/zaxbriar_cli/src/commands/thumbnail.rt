@@ -2,11 +2,12 @@
 //! thumbnail --max 640x480 photo.jpg -o thumb.ppm`.
 
 use crate::arguments;
+use crate::arguments::{Making, with};
 use crate::commands::pictures;
 use crate::ending::Outcome;
-use clap::{Arg, ArgAction, ArgMatches, Command};
+use clap::{Arg, ArgAction, ArgMatches};
 use jpeg_decoder::parser::Dimensions;
-use std::alloc::{AllocError, Global};
+use std::alloc::Global;
 use zaxbriar_pictures::scaled::{Request, Upright};
 
 pub const NAME: &str = "thumbnail";
@@ -18,17 +19,18 @@ const MAX: &str =
     never enlarged";
 
 /// Returns what the word takes.
-pub fn command<'a>(alloc: Global) -> Result<Command<'a>, AllocError> {
+pub fn command<'a>(alloc: Global) -> Making<'a> {
     let as_stored = Arg::new(alloc, "as-stored")
         .long("as-stored")
         .action(ArgAction::SetTrue)
         .help("Don't turn the picture by the orientation in its Exif data");
-    arguments::word(alloc, NAME, ABOUT)?
-        .arg(arguments::files_argument(alloc))?
-        .arg(pictures::output_option(alloc))?
-        .arg(arguments::value_option(alloc, "max", "WIDTHxHEIGHT", MAX).required(true))?
-        .arg(as_stored)?
-        .arg(pictures::partial_option(alloc))
+    let max = arguments::value_option(alloc, "max", "WIDTHxHEIGHT", MAX).required(true);
+    let command = arguments::word(alloc, NAME, ABOUT);
+    let command = with(command, arguments::files_argument(alloc));
+    let command = with(command, pictures::output_option(alloc));
+    let command = with(command, max);
+    let command = with(command, as_stored);
+    with(command, pictures::partial_option(alloc))
 }
 
 /// Returns the size that a text `WIDTHxHEIGHT` names.

@@ -1,0 +1,19 @@
+use Rattle.std.proofs.Common.{◌∙◌, rules, sym}
+use Rattle.std.specs.List.{concat}
+use Rattle.jpeg_streams.specs.Stream.{told_of}
+use Rattle.zaxbriar_pictures.proofs.ScaledStreams.{output-some}
+use Rattle.zaxbriar_pictures.proofs.raw.write_decoded.Goals as goal
+
+pub returns : goal.returns
+returns g c known =
+    let header = c.in_ok-read_info.ensures.reads c.requires.fresh in
+    let stage = rw c.requires.fresh at c.in_ok-read_info.ensures.stage in
+    let settings = c.in_ok-read_info.ensures.settings ∙ c.requires.plain in
+    let first = header.1 known in
+    let picture = (rw (stage, settings) at c.in_ok-lines.ensures.decodes.reads) tt in
+    let second = picture.1 first.0 in
+    let is = output-some c.args.decoder.now.source.bytes c.read_info.new.self.source.bytes
+    c.decode_lines.new.self.source.bytes c.read_info.new.self.found
+    (told_of c.decode_lines.new.self.found.said) (concat c.in_ok-lines.lines)
+    c.unwrap.result first.1 second.1 (sym c.info-2.ensures ∙ c.unwrap.ensures) in
+    rw is (search rules)
