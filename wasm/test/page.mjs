@@ -78,6 +78,15 @@ const button = (path) =>
     `[...document.querySelectorAll('#files button')].find((it) => it.firstChild.data ===` +
     ` ${JSON.stringify(nameOf(path))})`;
 
+/* A picture whose header says that it is larger than the page. */
+function larger() {
+    const stream = readFileSync(ours('picture.jpg'));
+    stream.writeUInt32BE(1000 * 65536 + 1600, stream.indexOf(Buffer.from([0xff, 0xc0])) + 5);
+    const path = `${folder}/larger.jpg`;
+    writeFileSync(path, stream);
+    return path;
+}
+
 /* Chooses a file of the list, and waits for what it shows. */
 async function show(page, path) {
     await page.run(`document.body.dataset.state = 'waiting'; ${button(path)}.click()`);
@@ -169,6 +178,15 @@ async function give(page, event, path) {
     assert.equal((await factsOf(page)).File, `${event}.jpg`);
 }
 
+/* A picture that is larger than the page, and the first one there, has the width of the view. */
+async function checkFit(page) {
+    await page.choose('#file', [larger()]);
+    await page.until(`document.body.dataset.state === 'shown'`);
+    const width = await page.run(`document.getElementById('canvas').getBoundingClientRect().width`);
+    const room = await page.run(`document.getElementById('view').clientWidth`);
+    assert.ok(Math.abs(width - room) < 1, `${width} of ${room}`);
+}
+
 async function checkKeys(page) {
     const scale = () => page.run(`document.getElementById('scale').textContent`);
     await show(page, PICTURES[0]);
@@ -257,6 +275,9 @@ async function checkTrap() {
 const { url, close } = await serve(web);
 const page = await Page.browse(url);
 await page.until(`document.body.dataset.state === 'ready'`);
+await checkFit(page);
+await page.open(url);
+await page.until(`document.body.dataset.state === 'ready'`);
 const files = [...PICTURES, ...Object.keys(PARTIAL), ...Object.keys(REFUSED)];
 await page.choose('#file', files);
 await page.until(`[...document.querySelectorAll('#files small')].length === ${files.length} &&
@@ -281,6 +302,6 @@ await page.close();
 await checkTrap();
 const [parts, refusals] = [PARTIAL, REFUSED].map((files) => Object.keys(files).length);
 console.log(`page in ${browser}: ${PICTURES.length} pictures with their sampling,`);
-console.log(`      ${parts} in part, ${refusals} refusals by name, drop, paste, zoom,`);
+console.log(`      ${parts} in part, ${refusals} refusals by name, drop, paste, fit, zoom,`);
 console.log(`      ${stops} stops of the tabulator, ${buttons} buttons with names,`);
 console.log('      an empty console, no network, the worker after a trap');

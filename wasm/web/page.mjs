@@ -93,6 +93,8 @@ const ZOOMS = {
     out: () => setZoom(zoom / 2),
     whole: () => setZoom(1),
     fit: () => {
+        // (a scroll bar of the size so far would take room)
+        setZoom(0);
         const { width, height } = at('canvas');
         const room = [at('view').clientWidth / width, (innerHeight * 0.75) / height];
         setZoom(Math.min(1, ...room));
