@@ -23,3 +23,6 @@ pub mod LongerLossless
 pub mod LongerTurns
 pub mod LongerBlocks
 pub mod WrittenCuts
+pub mod CutFrames
+pub mod CutWalks
+pub mod CutScans

@@ -52,8 +52,8 @@ unfolding end_segment
 end-stays more found bytes = search (rules, stays-if, stays-ok, stays-err)
 
 -- the turn that a segment leads to, and the blocks of a scan of which some are brought
-record TurnGoes (more : List ℕ) (found : Found) (b c : Brought) : Type 0 where
-  turn : Stays more b.1 c.1
+pub record TurnGoes (more : List ℕ) (found : Found) (b c : Brought) : Type 0 where
+  pub turn : Stays more b.1 c.1
   adds : (b.0 ≡ found) ⊎ ScanGoesOn found b.0 c.0
 
 plain-goes : (more : List ℕ) (found : Found) (o q : Outcome Turn) → Stays more o q
@@ -63,7 +63,7 @@ plain-goes more found o q h = record { turn = h; adds = inl refl }
 -- ---- a scan of blocks
 
 -- Where a scan is reached up to its end, it is so of longer data.
-abbrev ScanStays : List ℕ → Arrays × Outcome (Option Marker) → Arrays × Outcome (Option Marker) → Type 0
+abbrev pub ScanStays : List ℕ → Arrays × Outcome (Option Marker) → Arrays × Outcome (Option Marker) → Type 0
 ScanStays more r s = (x : Option Marker × List ℕ) → r.1 ≡ Ok x → s ≡ (r.0, Ok (x.0, x.1 ++ more))
 
 after-stays : (more : List ℕ) (r : (Bool × Option Marker) × List ℕ)
@@ -95,7 +95,7 @@ next-stays more k spots before r s reached stays others (Ok b) e x h =
     ap (λ (q : Arrays × Met). next_reached reached q.0 (outcomes.◌>>=◌ q.1 (after_interval k))) (stays y.0 y.1).same
     ∙ ap (next_reached reached r.0) (after-same k y.0 b more y.2) ∙ others b x h
 
-intervals-stay : (more : List ℕ) (p : Pass) (vias : List Via) (k : ℕ) (spots : List Spot) (groups : List (List Spot))
+pub intervals-stay : (more : List ℕ) (p : Pass) (vias : List Via) (k : ℕ) (spots : List Spot) (groups : List (List Spot))
     (arrays : Arrays) (bytes : List ℕ)
     → ScanStays more (intervals_reached p vias k spots groups arrays bytes)
     (intervals_reached p vias k spots groups arrays (bytes ++ more))
@@ -263,7 +263,7 @@ comment-goes : (more : List ℕ) (before : Before) (found : Found) (bytes : List
 unfolding segment_at
 comment-goes more before found bytes = search (rules, stays-bind, length-stays, skip-stays, stays-ok)
 
-segment-goes : (more : List ℕ) (m : Marker) (before : Before) (found : Found) (bytes : List ℕ)
+pub segment-goes : (more : List ℕ) (m : Marker) (before : Before) (found : Found) (bytes : List ℕ)
     → TurnGoes more found (segment_brought m before found bytes) (segment_brought m before found (bytes ++ more))
 unfolding segment_brought segment_at
 segment-goes more SOS before found bytes = scan-goes more found bytes

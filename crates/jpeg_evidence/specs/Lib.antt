@@ -9,3 +9,4 @@ pub mod HeaderRules
 pub mod Extremes
 pub mod CutStreams
 pub mod LongerStreams
+pub mod CutImages

@@ -1,0 +1,49 @@
+//! What is brought of a writer's stream that is cut: what was said and sent up to the cut.
+ghost use Rattle.std.specs.Prelude.{◌≡◌, ℕ, List, [], ◌++◌, Some};
+ghost use Rattle.jpeg_bits.specs.Written.{marker};
+ghost use Rattle.jpeg_segments.specs.Frame.{Frame};
+ghost use Rattle.jpeg_segments.specs.ScanHeaders.{IsScan, ScanHeader, scan_payload, scan_written};
+ghost use Rattle.jpeg_segments.specs.WrittenSegments.{Segment, marker_code, payload_of};
+ghost use Rattle.jpeg_segments.specs.WrittenSegments.{with_length};
+ghost use Rattle.jpeg_streams.specs.Brought.{all_brought};
+ghost use Rattle.jpeg_streams.specs.Found.{Said, nothing_found};
+ghost use Rattle.jpeg_streams.specs.Levels.{Is8Bit, Levels};
+ghost use Rattle.jpeg_streams.specs.SaidSegments.{Stands};
+ghost use Rattle.jpeg_streams.specs.WrittenImages.{WritesImageScan};
+ghost use Rattle.jpeg_streams.specs.WrittenScans.{Coefficients};
+ghost use Rattle.jpeg_evidence.specs.CutImages.{BringsCut, BringsFront, WritesFront};
+
+/// A stream that a writer emits for the coefficients of an image, cut anywhere within the data of a
+/// scan or right after them, brings what segments in front of the scan have said, and of this scan
+/// the first blocks as they were sent; the others are as before it. A progressive frame has kept the
+/// blocks that earlier scans have sent. Planes that were decided before the scan aren't spoken of.
+pub fn cut_images_bring_what_was_sent()
+    ensures { (array : Coefficients) (said : Said) (levels next : ℕ → Levels) (frame : Frame)
+        (first front more : List ℕ) (fill : ℕ) (h : ScanHeader)
+        → ((index row column : ℕ) → Is8Bit (array index row column))
+        → WritesFront array said levels first → said.frame ≡ Some frame → IsScan frame h
+        → (sends : WritesImageScan array said levels frame h (front ++ more) next)
+        → BringsCut array said levels frame (scan_written frame h) sends.codings
+        (all_brought nothing_found (first ++ marker fill 218 (with_length (scan_payload h)
+        ++ front))).0 }
+{}
+
+/// A stream that is cut within a segment or the header of a scan, or right after the marker, brings
+/// what segments in front of it have said, and nothing that this one says. A progressive frame has
+/// kept the blocks that scans in front have sent. Planes that were decided aren't spoken of.
+pub fn cut_segments_add_nothing()
+    ensures segment { (array : Coefficients) (said : Said) (levels : ℕ → Levels)
+        (first part more : List ℕ) (fill : ℕ) (s : Segment)
+        → ((index row column : ℕ) → Is8Bit (array index row column))
+        → WritesFront array said levels first → Stands said s
+        → with_length (payload_of s) ≡ part ++ more → (more ≡ [] → ⊥)
+        → BringsFront array said levels
+        (all_brought nothing_found (first ++ marker fill (marker_code s) part)).0 }
+    ensures header { (array : Coefficients) (said : Said) (levels : ℕ → Levels) (frame : Frame)
+        (first part more : List ℕ) (fill : ℕ) (h : ScanHeader)
+        → ((index row column : ℕ) → Is8Bit (array index row column))
+        → WritesFront array said levels first → said.frame ≡ Some frame → IsScan frame h
+        → with_length (scan_payload h) ≡ part ++ more → (more ≡ [] → ⊥)
+        → BringsFront array said levels
+        (all_brought nothing_found (first ++ marker fill 218 part)).0 }
+{}
