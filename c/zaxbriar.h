@@ -180,9 +180,10 @@ typedef struct zaxbriar_picture {
     uint64_t size;           /* of the picture in bytes: stride * (height - 1) + row_bytes */
     uint64_t row_bytes;      /* bytes of a line without its gap: width * pixel_bytes */
     uint64_t decoding_bytes; /* the most memory that a call uses for coefficients and samples at a
-                                time, besides `pixels`; tables, metadata and a few lines aren't
-                                counted. zaxbriar_decode_partial counts all blocks, and the others
-                                what zaxbriar_decode uses */
+                                time, besides `pixels`; tables, metadata, a few lines and, where a
+                                scan is cut, a row of blocks (at most 1 MB) aren't counted.
+                                zaxbriar_decode_partial counts all blocks, and the others what
+                                zaxbriar_decode uses */
     uint64_t stream_bytes;   /* how many bytes of `jpeg` the image takes, after ZAXBRIAR_OK of
                                 zaxbriar_decode; or the header, after ZAXBRIAR_OK of
                                 zaxbriar_read_info, ZAXBRIAR_NO_ROOM and ZAXBRIAR_TOO_LARGE.

@@ -4,8 +4,8 @@
  * turn; and what there is of the others, which is what decoding gives where no fault is named. A
  * call must free what it has allocated, and change no byte of the pixels unless it succeeds or
  * returns a part. Decoding, also of a part, must take no more memory at a time than
- * `decoding_bytes` says, beside tables, metadata and a few lines; of a picture above a limit it
- * takes that alone. Linked with
+ * `decoding_bytes` says, beside tables, metadata, a few lines and a row of blocks; of a picture
+ * above a limit it takes that alone. Linked with
  * --wrap=malloc, --wrap=realloc and --wrap=free. */
 #define _GNU_SOURCE
 #include <malloc.h>
@@ -107,11 +107,13 @@ static int decode(const unsigned char *jpeg, size_t size, const zaxbriar_options
     return answer;
 }
 
-/* What a call took beside the samples that it counts: no more than so much, and the metadata. */
-static void take_beside(size_t samples, size_t size) {
+/* What a call took beside the samples that it counts: no more than so much, the metadata, and where
+ * a scan was cut a row of a component's blocks. */
+static void take_beside(size_t samples, size_t size, uint32_t width) {
     size_t beside = peak_bytes > samples ? peak_bytes - samples : 0;
+    size_t row = (width / 8 + 4) * (size_t)128;
     if (beside > most_beside) most_beside = beside;
-    CHECK(beside <= MOST_BESIDE + 2 * size);
+    CHECK(beside <= MOST_BESIDE + 2 * size + row);
 }
 
 /* What there is of a stream, whose decoding gave this answer and what `pixels` has. */
@@ -133,7 +135,7 @@ static void in_part(const unsigned char *jpeg, size_t size, const zaxbriar_optio
     CHECK((picture.fault != 0) == (part == ZAXBRIAR_PARTIAL));
     /* and the data of a restart interval */
     if (part == ZAXBRIAR_OK || part == ZAXBRIAR_PARTIAL)
-        take_beside(picture.decoding_bytes, 2 * size);
+        take_beside(picture.decoding_bytes, 2 * size, picture.width);
     parts += part == ZAXBRIAR_PARTIAL;
     free(whole);
 }
@@ -148,7 +150,7 @@ static void above_limit(const unsigned char *jpeg, size_t size, zaxbriar_options
     CHECK(zaxbriar_read_info(jpeg, size, &options, &told) == ZAXBRIAR_TOO_LARGE);
     CHECK(zaxbriar_decode(jpeg, size, &options, &none, 0, &told) == ZAXBRIAR_TOO_LARGE);
     end();
-    take_beside(0, size);
+    take_beside(0, size, 0);
     CHECK(told.decoding_bytes == picture->decoding_bytes && told.size == picture->size);
 }
 
@@ -208,7 +210,7 @@ static void of_stream(const unsigned char *bytes, size_t size, int is_whole) {
     if (answer == ZAXBRIAR_OK && !is_large) {
         struct fenced pixels = fence(picture.size);
         answer = decode(jpeg.start, size, &options, pixels, picture.size, 0);
-        take_beside(picture.decoding_bytes, size);
+        take_beside(picture.decoding_bytes, size, picture.width);
         if (allocations > most_allocations) most_allocations = allocations;
         if (size < SMALL_FILE && is_whole && picture.size < 100000)
             each_allocation(jpeg.start, size, &options, pixels, picture.size, answer);
