@@ -41,7 +41,7 @@ _Static_assert(alignof(max_align_t) >= 16, "blocks are aligned to 16 bytes");
 static char nothing;
 
 /* The functions of the caller whose call this thread runs, if it gave any. */
-static PER_THREAD const zaxbriar_memory *in_use;
+static _Thread_local const zaxbriar_memory *in_use;
 
 const zaxbriar_memory *zaxbriar_exchange_memory(const zaxbriar_memory *memory) {
     const zaxbriar_memory *before = in_use;
