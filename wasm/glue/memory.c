@@ -1,4 +1,4 @@
-/* malloc, realloc and free of the module's memory, for c/heap.c and for JavaScript, and the
+/* malloc, realloc and free of the module's memory, for heap.c and for JavaScript, and the
  * functions of string.h that compiled code calls. For one thread: nothing here is locked.
  *
  * The memory from __heap_base on is blocks without gaps, each a header and its bytes. The free ones

@@ -191,13 +191,18 @@ for (const options of [{ maxPixels: count - 1 }, { maxBytes: picture.decodingByt
 const scan = jpeg.indexOf(Buffer.from([0xff, 0xda]));
 const partly = (stream, options) => zaxbriar.decode(stream, { ...options, partial: true });
 const whole = partly(jpeg);
+// (its memory is that for the coefficients of all blocks)
+const { decodingBytes } = whole.picture;
+assert.ok(decodingBytes > picture.decodingBytes);
 assert.equal(whole.fault, null);
-assert.deepEqual([whole.picture, whole.pixels], [picture, pixels]);
+assert.deepEqual([whole.picture, whole.pixels], [{ ...picture, decodingBytes }, pixels]);
+assert.deepEqual(partly(jpeg, { maxBytes: decodingBytes }).pixels, pixels);
+assert.throws(() => partly(jpeg, { maxBytes: decodingBytes - 1 }), code('TOO_LARGE'));
 assert.ok(!('fault' in zaxbriar.decode(jpeg, { partial: false })));
 for (let length = scan; length < jpeg.length; length++) {
     const part = partly(jpeg.subarray(0, length));
     assert.ok(code('TRUNCATED')(part.fault) && part.fault.message && !('feature' in part.fault));
-    assert.deepEqual({ ...part.picture, streamBytes: jpeg.length }, picture);
+    assert.deepEqual({ ...part.picture, streamBytes: jpeg.length }, whole.picture);
     if (length < scan + 12) assert.ok(part.pixels.every((sample) => sample === 128));
     if (length >= jpeg.length - 2) assert.deepEqual(part.pixels, pixels);
 }
@@ -217,6 +222,17 @@ for (let round = 0; round < 1000; round++) {
     partly(jpeg.subarray(0, scan + (round % (jpeg.length - scan))));
 }
 assert.equal(zaxbriar.memoryBytes, before);
+// A decoding takes the picture, what its header says, and the file: no second picture in any
+// layout. (This one's header says that it is larger, and after its data come zeros.)
+const larger = Buffer.from(jpeg);
+larger.writeUInt32BE(1000 * 65536 + 1600, larger.indexOf(Buffer.from([0xff, 0xc0])) + 5);
+const ROOM = 512 * 1024;
+for (const layout of ['stored', 'grey', 'rgb', 'rgba', 'bgra', 'bgr', 'xrgb']) {
+    const decoder = new Zaxbriar(module);
+    const { size, decodingBytes } = decoder.decode(larger, { layout }).picture;
+    assert.ok(size >= 1600 * 1000);
+    assert.ok(decoder.memoryBytes <= size + decodingBytes + larger.length + ROOM, layout);
+}
 const small = new Zaxbriar(module, { maxMemory: before });
 assert.throws(() => small.decode(new Uint8Array(before)), code('NO_MEMORY'));
 assert.deepEqual(small.decode(jpeg).pixels, pixels);

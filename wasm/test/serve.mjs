@@ -11,8 +11,14 @@ const TYPES = {
     '.wasm': 'application/wasm',
 };
 
+/* The clock of a page that no other page can reach into has a finer grain. */
+const ALONE = {
+    'Cross-Origin-Opener-Policy': 'same-origin',
+    'Cross-Origin-Embedder-Policy': 'require-corp',
+};
+
 /* Serves a folder; `replace` may give other bytes for a path, or null for none. */
-export async function serve(folder, replace = (path, bytes) => bytes) {
+export async function serve(folder, replace = (path, bytes) => bytes, { isAlone = false } = {}) {
     const server = createServer((request, response) => {
         const { pathname } = new URL(request.url, 'http://x');
         const path = normalize(pathname).replace(/\/$/, '/index.html');
@@ -25,6 +31,7 @@ export async function serve(folder, replace = (path, bytes) => bytes) {
         response.writeHead(bytes ? 200 : 404, {
             'Content-Type': TYPES[extname(path)] ?? 'application/octet-stream',
             'Cache-Control': 'no-store',
+            ...(isAlone ? ALONE : {}),
         });
         response.end(bytes ?? undefined);
     });
