@@ -3,7 +3,7 @@
 use Rattle.std.proofs.Common.{◌≡◌, ◌⊎◌, inl, inr, ◌*◌, ◌/◌, ◌%◌, ◌≤◌, ℕ, zero, suc, Bool, true, false, List, []}
 use Rattle.std.proofs.Common.{◌∷◌, ◌++◌, Err, append_assoc, length-append}
 use Rattle.std.proofs.Common.{length, map, get_or, slice_get, Option, Some, None, Ok, refl, sym, ap, ◌∙◌, subst, arith}
-use Rattle.std.proofs.Common.{ap₂}
+use Rattle.std.proofs.Common.{ap₂, ◌<◌, replicate}
 use Rattle.std.specs.List.{AllByRecursion}
 use Rattle.std.proofs.lemmas.List.{length-replicate}
 use lib.ListN.{length-map}
@@ -37,7 +37,10 @@ use Rattle.jpeg_streams.proofs.ReadTurns.{codings-each, codings-indices, ok-same
 use Rattle.jpeg_streams.proofs.SentBlocks.{Suits}
 use Rattle.jpeg_streams.proofs.WrittenFrameScans.{HasGood, HoldsOwn, array-at, in-all, suits-dc, via-good}
 use Rattle.jpeg_evidence.specs.LongerStreams.{HoldsSent, IsDcAlone, IsKeptBefore, arrays_of}
+use Rattle.jpeg_evidence.proofs.CutBlocks.{HasOwn}
+use Rattle.jpeg_evidence.proofs.CutEnds.{puts-count, puts-size, scan-filled}
 use Rattle.jpeg_evidence.proofs.LongerBlocks.{reached_are_read}
+use Rattle.jpeg_evidence.proofs.LongerData.{longer_data_read_on}
 use Rattle.jpeg_evidence.proofs.LongerTurns.{intervals-stay}
 use Rattle.jpeg_evidence.proofs.WrittenCuts.{cut_scans_have_what_was_sent, scan-written, sequential_levels}
 
@@ -127,7 +130,7 @@ module _ (w : Said) (f : Frame) (array : Coefficients) (levels : ℕ → Levels)
     at = get-at k.index f.components k.component is.component;
   })
 
-  stands : (k : Coding) (j : ℕ) → At j codings k → At k.index f.components k.component
+  pub stands : (k : Coding) (j : ℕ) → At j codings k → At k.index f.components k.component
   stands k j t = (at-all (StandsIn f) j codings k stand t).at
 
   is-legal : (k : Coding) (j : ℕ) → At j codings k → IsLegal p (levels k.index)
@@ -167,7 +170,7 @@ module _ (w : Said) (f : Frame) (array : Coefficients) (levels : ℕ → Levels)
       (zero-holds (array k.index) k.component (range k.index))))
   holds-now (progressive e d a lt le) k j t = (framed.kept e).each k.index k.component (stands k j t)
 
-  size-now : (k : ℕ) (c : Component) → At k f.components c
+  pub size-now : (k : ℕ) (c : Component) → At k f.components c
       → length (get_or (arrays_before now f) k []) ≡ c.blocks_high * c.blocks_wide
   size-now k c t = go (is_progressive f.process) refl
     where
@@ -339,3 +342,84 @@ module _ (w : Said) (f : Frame) (array : Coefficients) (levels : ℕ → Levels)
           let a = length-append x.1 left in
           let b = length-append more close in
           absurd (omega arith)
+
+  -- ---- all data, and bytes FF
+
+  -- All data and bytes FF of the marker after them bring the whole scan.
+  pub whole-filled : (j : ℕ)
+      → (scan_reached p (w.restart * mcu_size (components_of codings)) (vias_from 0 codings) spots before
+      (bytes ++ replicate j 255)).0
+      ≡ (scan-brings w f array levels sc h fi pl s codings bytes range shape framed says exist legal written).arrays
+  whole-filled j =
+      let vias = vias_from 0 codings in
+      let apart = spots-apart f (components_of codings) (all-fit f codings shape stand) in
+      let good = all-good codings exist in
+      let is : IsMarker 217 EOI = record { is = eoi_code } in
+      scan-filled p vias (λ x. numbers_at p.al (written.sent x)) 0 217 EOI [] is j
+      (w.restart * mcu_size (components_of codings)) spots before bytes apart
+      (λ x t.
+      let v = via-good codings x.slot good in
+      record {
+        at = record {
+          dc_good = v.dc;
+          ac_good = v.ac;
+          suits = suits-kept (levels_at codings levels x) (written.sent x) (block_at before x) (written.in_range x)
+              (kept-at says.so x t);
+        };
+      }) written.coded
+      ∙ ap (λ (y : Arrays × Outcome (Option Marker)). y.0) (whole-reached 0 217 EOI [] is eoi_ends)
+
+  -- Without the code of a marker they have a fault.
+  pub short-stops : (front left : List ℕ) (fill : ℕ) → 0 < length left → front ++ left ≡ bytes ++ marker fill 217 []
+      → (g : Fault) × ((scan_reached p (w.restart * mcu_size (components_of codings)) (vias_from 0 codings) spots before
+      front).1 ≡ Err g)
+  short-stops front left fill some parts =
+      go (scan_reached p (w.restart * mcu_size (components_of codings)) (vias_from 0 codings) spots before front).1 refl
+    where
+      go : (o : Outcome (Option Marker))
+          → (scan_reached p (w.restart * mcu_size (components_of codings)) (vias_from 0 codings) spots before
+          front).1 ≡ o
+          → (g : Fault) × (o ≡ Err g)
+      go (Err g) e = (g, refl)
+      go (Ok x) e =
+          let n = w.restart * mcu_size (components_of codings) in
+          let vias = vias_from 0 codings in
+          let stays = intervals-stay left p vias 0 (first_group n spots) (other_groups n spots) before front x e in
+          let whole = whole-reached fill 217 EOI [] (record { is = eoi_code }) eoi_ends in
+          let both : (x.0, x.1 ++ left) ≡ (Some EOI, [])
+          = ok-same _ _ (sym (ap (λ (y : Arrays × Outcome (Option Marker)). y.1) stays)
+          ∙ ap (λ (l : List ℕ). (scan_reached p n vias spots before l).1) parts
+          ∙ ap (λ (y : Arrays × Outcome (Option Marker)). y.1) whole) in
+          let none : length (x.1 ++ left) ≡ 0 = ap (λ (y : Option Marker × List ℕ). length y.1) both in
+          let a = length-append x.1 left in
+          absurd (omega arith)
+
+  pub filled-stops : (j : ℕ)
+      → (g : Fault) × ((scan_reached p (w.restart * mcu_size (components_of codings)) (vias_from 0 codings) spots before
+      (bytes ++ replicate j 255)).1 ≡ Err g)
+  filled-stops zero =
+      short-stops (bytes ++ []) (marker 0 217 []) 0 (omega arith) (append_assoc bytes [] (marker 0 217 []))
+  filled-stops (suc fill) =
+      short-stops (bytes ++ replicate (suc fill) 255) (217 ∷ []) fill (omega arith)
+      (append_assoc bytes (replicate (suc fill) 255) (217 ∷ []))
+
+  -- ---- the own blocks
+
+  -- The beginning of the data has the own blocks of the scan's components.
+  pub cut-own : (front more : List ℕ) (parts : bytes ≡ front ++ more)
+      → HasOwn p array levels codings (scan-cut front more parts).done
+      (scan_reached p (w.restart * mcu_size (components_of codings)) (vias_from 0 codings) spots before front).0
+  cut-own front more parts =
+      let n = w.restart * mcu_size (components_of codings) in
+      let vias = vias_from 0 codings in
+      let reached = (scan_reached p n vias spots before front).0 in
+      let on = longer_data_read_on p n vias spots before front [] in
+      record {
+        count = puts-count on.done before reached on.puts ∙ length-map codings (λ (c : Coding). get_or (arrays_before now f) c.index []);
+        sized = λ k j t.
+            puts-size on.done before reached on.puts j
+            ∙ ap (λ (l : List Block). length l) (array-at (arrays_before now f) codings k j t)
+            ∙ size-now k.index k.component (stands k j t);
+        sent = λ k x t own here. own-sent front more parts k x t own here;
+        kept = λ k x t own away. own-unsent front more parts k x t own away;
+      }

@@ -44,20 +44,20 @@ abbrev Walked : Type 0
 Walked = Found × Result (List ℕ) Fault
 
 -- a walk whose next turn has a fault
-walk-stops : (turns : ℕ) (before : Before) (found old : Found) (met : Option Marker) (all : List ℕ) (g : Fault)
+pub walk-stops : (turns : ℕ) (before : Before) (found old : Found) (met : Option Marker) (all : List ℕ) (g : Fault)
     → ◌≡◌ {A = Brought} (turn_brought before found met all) (old, Err g)
     → walk_brought (suc turns) before found met all ≡ (old, Err g)
 unfolding walk_brought
 walk-stops turns before found old met all g e = ap (walk_on turns) e
 
 -- a walk that has turns left
-some-turns : (turns n : ℕ) (before : Before) (found old : Found) (met : Option Marker) (all : List ℕ) (g : Fault)
+pub some-turns : (turns n : ℕ) (before : Before) (found old : Found) (met : Option Marker) (all : List ℕ) (g : Fault)
     → n < turns → ◌≡◌ {A = Brought} (turn_brought before found met all) (old, Err g)
     → walk_brought turns before found met all ≡ (old, Err g)
 some-turns zero n before found old met all g room e = absurd (omega arith)
 some-turns (suc turns) n before found old met all g room e = walk-stops turns before found old met all g e
 
-blocks-stop : (found : Found) (f : Frame) (s : Scan) (codings : List Coding) (bytes : List ℕ) (g : Fault)
+pub blocks-stop : (found : Found) (f : Frame) (s : Scan) (codings : List Coding) (bytes : List ℕ) (g : Fault)
     (r : Arrays × Outcome (Option Marker))
     → scan_reached (pass_of s) (found.said.restart * mcu_size (components_of codings)) (vias_from 0 codings)
     (spots_of f (components_of codings)) (arrays_of found f codings) bytes ≡ r → r.1 ≡ Err g
@@ -70,7 +70,7 @@ blocks-stop found f s codings bytes g r e h =
 none-after : (l : List ℕ) → l ++ [] ≡ l
 none-after l = search rules
 
-begins-scan : (fill : ℕ) (rest : List ℕ) → Begins (marker fill 218 rest)
+pub begins-scan : (fill : ℕ) (rest : List ℕ) → Begins (marker fill 218 rest)
 unfolding after_restarts
 begins-scan fill rest = record {
   fill = fill;
@@ -82,11 +82,11 @@ begins-scan fill rest = record {
   ends = λ turns bytes. refl;
 }
 
-unscanned : nothing_said.scanned ≡ false
+pub unscanned : nothing_said.scanned ≡ false
 unfolding nothing_said
 unscanned = refl
 
-found-nothing : beside bring nothing_said no_progress ≡ nothing_found
+pub found-nothing : beside bring nothing_said no_progress ≡ nothing_found
 unfolding nothing_found
 found-nothing = refl
 
@@ -152,7 +152,7 @@ cut_images_bring_what_was_sent array said levels next frame first front more fil
 
 -- ---- a cut within a segment that is no scan
 
-begins-segment : (fill : ℕ) (said : Said) (s : Segment) (rest : List ℕ) → Stands said s
+pub begins-segment : (fill : ℕ) (said : Said) (s : Segment) (rest : List ℕ) → Stands said s
     → Begins (marker fill (marker_code s) rest)
 begins-segment fill said s rest stands = record {
   fill = fill;
@@ -165,7 +165,7 @@ begins-segment fill said s rest stands = record {
 }
 
 -- a segment that isn't there whole has a fault
-segment-stops : (before : Before) (now : Found) (s : Segment) (part more : List ℕ) → Stands now.said s
+pub segment-stops : (before : Before) (now : Found) (s : Segment) (part more : List ℕ) → Stands now.said s
     → with_length (payload_of s) ≡ part ++ more → (more ≡ [] → ⊥)
     → (g : Fault) × (segment_at (marker_for s) before now part ≡ Err g)
 unfolding Stays
@@ -235,7 +235,7 @@ nothing-left (a ∷ l) more e = absurd (let n : ⊥ = cc in n)
 abbrev with_frame : Frame → Scan × List ℕ → Result Header_at Fault
 with_frame f x = Ok (f, x)
 
-header-stops : (found : Found) (f : Frame) (h : ScanHeader) (part more : List ℕ) → found.said.frame ≡ Some f
+pub header-stops : (found : Found) (f : Frame) (h : ScanHeader) (part more : List ℕ) → found.said.frame ≡ Some f
     → IsScan f h → with_length (scan_payload h) ≡ part ++ more → (more ≡ [] → ⊥)
     → (g : Fault) × ◌≡◌ {A = Brought} (scan_brought found part) (found, Err g)
 unfolding scan_brought Stays

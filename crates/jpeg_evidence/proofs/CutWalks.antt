@@ -96,7 +96,7 @@ walk_on turns b = elim b.1 [
 ]
 
 -- a walk after a turn that has no fault
-walk-goes_on : (turns : ℕ) (before : Before) (found old : Found) (met : Option Marker) (all rest : List ℕ) (t : Turn)
+pub walk-goes_on : (turns : ℕ) (before : Before) (found old : Found) (met : Option Marker) (all rest : List ℕ) (t : Turn)
     → ◌≡◌ {A = Brought} (turn_brought before found met all) (old, Ok (t, rest)) → t.ended ≡ false
     → walk_brought (suc turns) before found met all ≡ walk_brought turns t.before t.found t.met rest
 unfolding walk_brought

@@ -26,3 +26,11 @@ pub mod WrittenCuts
 pub mod CutFrames
 pub mod CutWalks
 pub mod CutScans
+pub mod CutPictures
+pub mod CutLater
+pub mod CutBlocks
+pub mod CutEnds
+pub mod CutFronts
+pub mod CutHeld
+pub mod CutSplits
+pub mod CutShown

@@ -49,11 +49,11 @@ use Rattle.jpeg_evidence.proofs.LongerData.{Met, interval_by, longer_data_read_o
 -- ---- an interval
 
 -- blocks of the bits alone, before the end that follows them
-abbrev restored : Ending → Result (Arrays × Text) Fault → Result (Arrays × Text) Fault
+abbrev pub restored : Ending → Result (Arrays × Text) Fault → Result (Arrays × Text) Fault
 restored e (Ok r) = Ok (r.0, record r.1 { ending = e })
 restored e (Err f) = Err f
 
-abbrev sealed_read : Pass → List Via → List Spot → Arrays → Reads Arrays
+abbrev pub sealed_read : Pass → List Via → List Spot → Arrays → Reads Arrays
 sealed_read p vias spots arrays t =
     restored t.ending (arrays_in (turns_from p vias spots (at_start arrays) (sealed t)))
 
@@ -72,7 +72,7 @@ takes-blocks_at p vias spots arrays u bits ready w =
     (all-map (IsReadyAt p vias arrays u) (IsReady p) (turn_with vias arrays u) spots (λ s is. is.at) ready)
     (rw (map-map) w))
 
-takes-sealed : (p : Pass) (vias : List Via) (spots : List Spot) (arrays : Arrays) (u : Spot → Block) (bits : List Bool)
+pub takes-sealed : (p : Pass) (vias : List Via) (spots : List Spot) (arrays : Arrays) (u : Spot → Block) (bits : List Bool)
     → AreApart spots → AllByRecursion (IsReadyAt p vias arrays u) spots
     → WritesBlocks p predictors_at_start 0 (turns_of vias spots u) bits
     → ReadsJust (sealed_read p vias spots arrays) bits (after_blocks p u spots arrays)
@@ -83,7 +83,7 @@ takes-sealed p vias spots arrays u bits apart ready w = record {
 }
 
 -- blocks that are all read are reached
-turns-reached : (p : Pass) (vias : List Via) (spots : List Spot) (old : Reached) (t : Text) (r : Reached × Text)
+pub turns-reached : (p : Pass) (vias : List Via) (spots : List Spot) (old : Reached) (t : Text) (r : Reached × Text)
     → turns_from p vias spots old t ≡ Ok r → reached_from p vias spots old t ≡ (r.0, Ok r.1.bits)
 unfolding turns_from reached_from
 turns-reached p vias [] old t r e = ap (λ (q : Reached × Text). (q.0, Ok q.1.bits)) (ok-same (old, t) r e)
@@ -167,7 +167,7 @@ interval-sealed p vias spots arrays x bytes rest m h =
         ∙ ap (λ (b : Bool). (r.0.arrays, Ok ((b, Some m), rest))) q.1
         ∙ ap (λ (y : Arrays). (y, Ok ((true, Some m), rest))) q.0
 
-interval-written : (p : Pass) (vias : List Via) (spots : List Spot) (arrays : Arrays) (u : Spot → Block) (bytes : List ℕ)
+pub interval-written : (p : Pass) (vias : List Via) (spots : List Spot) (arrays : Arrays) (u : Spot → Block) (bytes : List ℕ)
     (fill code : ℕ) (m : Marker) (rest : List ℕ) → AreApart spots → AllByRecursion (IsReadyAt p vias arrays u) spots
     → IsMarker code m → WritesInterval (WritesBlocks p predictors_at_start 0 (turns_of vias spots u)) bytes
     → interval_reached p vias spots arrays (bytes ++ marker fill code rest)
@@ -184,15 +184,15 @@ rst : (n : ℕ) → n < 8 → marker_of (0xD0 + n) ≡ Some (RST n)
 unfolding marker_of
 rst n h = grind (arith, nat_tests)
 
-rst-marker : (k : ℕ) → IsMarker (0xD0 + k % 8) (RST (k % 8))
+pub rst-marker : (k : ℕ) → IsMarker (0xD0 + k % 8) (RST (k % 8))
 rst-marker k = record { is = rst (k % 8) (omega arith) }
 
 -- where RST k is met, the next interval begins after it
-restart-met : (k : ℕ) (rest : List ℕ) → after_interval k ((true, Some (RST (k % 8))), rest) ≡ Ok rest
+pub restart-met : (k : ℕ) (rest : List ℕ) → after_interval k ((true, Some (RST (k % 8))), rest) ≡ Ok rest
 restart-met k rest = rw (eq-eqb (k % 8) (k % 8) refl) refl
 
 -- the other blocks stay ready
-stays-ready : (p : Pass) (vias : List Via) (spots others : List Spot) (arrays : Arrays) (u : Spot → Block)
+pub stays-ready : (p : Pass) (vias : List Via) (spots others : List Spot) (arrays : Arrays) (u : Spot → Block)
     → AreApart (spots ++ others) → ((s : Spot) → IsIn s (spots ++ others) → IsReadyAt p vias arrays u s) → (s : Spot)
     → IsIn s others → IsReadyAt p vias (after_blocks p u spots arrays) u s
 stays-ready p vias spots others arrays u apart ready s t =
@@ -249,7 +249,7 @@ intervals-written p vias u fill code m rest y is ends k spots (next ∷ groups) 
     (apart-back spots others apart)
     (stays-ready p vias spots others arrays u apart ready) ws)
 
-groups-coded : (vias : List Via) (spots : List Spot) (u : Spot → Block) (p : Pass) (n : ℕ) (bytes : List ℕ)
+pub groups-coded : (vias : List Via) (spots : List Spot) (u : Spot → Block) (p : Pass) (n : ℕ) (bytes : List ℕ)
     → WritesIntervals (WritesBlocks p predictors_at_start 0) 0 (first_group n (turns_of vias spots u))
     (other_groups n (turns_of vias spots u)) bytes
     → WritesIntervals (WritesBlocks p predictors_at_start 0) 0 (turns_of vias (first_group n spots) u)

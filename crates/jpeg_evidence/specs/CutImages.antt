@@ -1,13 +1,24 @@
 -- Streams of a writer that are cut: what stands whole in front of the cut, and what is brought of
 -- the scan in whose data the cut is.
-use Rattle.std.specs.Prelude.{◌≡◌, ℕ, ◌/◌, ◌%◌, true, List, [], ◌++◌, get_or, slice_get, Some}
+use Rattle.std.specs.Prelude.{◌≡◌, ℕ, ◌/◌, ◌%◌, true, List, [], ◌++◌, get_or, slice_get, Some, None}
+use Rattle.std.specs.Prelude.{Result, Ok, replicate, slice_index_or, unwrap_or}
+use Rattle.std.specs.List.{enumerate_from}
 use Rattle.jpeg_bits.specs.Passes.{zero_block}
+use Rattle.jpeg_bits.specs.Reading.{Fault, ◌>>=◌}
+use Rattle.jpeg_bits.specs.Written.{marker}
+use Rattle.jpeg_segments.specs.Checks.{gathered}
 use Rattle.jpeg_segments.specs.Frame.{Component, Frame}
 use Rattle.jpeg_segments.specs.ScanHeader.{Scan}
+use Rattle.jpeg_segments.specs.ScanHeaders.{IsScan, ScanHeader, scan_payload}
+use Rattle.jpeg_segments.specs.WrittenSegments.{Segment, marker_code, payload_of, with_length}
+use Rattle.jpeg_streams.specs.declared.settings.Settings.{Settings}
 use Rattle.jpeg_streams.specs.Found.{Found, Said, nothing_said}
+use Rattle.jpeg_streams.specs.FoundPictures.{limited, picture_by}
 use Rattle.jpeg_streams.specs.InTurn.{IsIn}
 use Rattle.jpeg_streams.specs.Levels.{Levels, cut, nothing_sent, sent_after}
 use Rattle.jpeg_streams.specs.Order.{Spot, grid_of, spots_of}
+use Rattle.jpeg_streams.specs.Rasters.{plane_of_blocks}
+use Rattle.jpeg_streams.specs.SaidSegments.{Stands}
 use Rattle.jpeg_streams.specs.Scans.{Arrays, block_at}
 use Rattle.jpeg_streams.specs.ScanSegments.{Coding, after_scan, arrays_before, components_of}
 use Rattle.jpeg_streams.specs.ScanSegments.{is_progressive, pass_of}
@@ -59,3 +70,63 @@ pub record BringsFront (array : Coefficients) (said : Said) (levels : ℕ → Le
     : Type 0 where
   pub is_said : found.said ≡ said
   pub keeps : (frame : Frame) → said.frame ≡ Some frame → KeepsOwn array levels frame found
+
+-- ---- the blocks that a cut stream holds
+
+-- The block of a component, in a row and a column, is at one of these spots of a scan.
+pub record HasBlock (codings : List Coding) (spots : List Spot) (index row column : ℕ)
+    : Type 0 where
+  pub spot : Spot
+  pub coding : Coding
+  pub is_there : IsIn spot spots
+  pub is_coded : slice_get codings spot.slot ≡ Some coding
+  pub is_of : coding.index ≡ index
+  pub in_row : spot.index / coding.component.blocks_wide ≡ row
+  pub in_column : spot.index % coding.component.blocks_wide ≡ column
+
+-- What a cut leaves of the segment that comes next, in front of any data of a scan: bytes FF that
+-- begin its marker, or none; its marker, with a part of what it says; or it is EOI, and whole.
+pub data IsPartOfNext (said : Said) : List ℕ → Type 0 where
+  of_marker : (count : ℕ) → IsPartOfNext said (replicate count 255)
+  of_segment : (fill : ℕ) (s : Segment) (part more : List ℕ) → Stands said s
+      → with_length (payload_of s) ≡ part ++ more → (more ≡ [] → ⊥)
+      → IsPartOfNext said (marker fill (marker_code s) part)
+  of_header : (frame : Frame) (fill : ℕ) (h : ScanHeader) (part more : List ℕ)
+      → said.frame ≡ Some frame → IsScan frame h
+      → with_length (scan_payload h) ≡ part ++ more → (more ≡ [] → ⊥)
+      → IsPartOfNext said (marker fill 218 part)
+  of_end : (fill : ℕ) → IsPartOfNext said (marker fill 217 [])
+
+-- The blocks of an image that a stream holds which is cut, and what it has said. Its whole segments
+-- and scans in front have said and sent so much, and only a part of the next segment comes after
+-- them. Or a scan comes next that is cut inside its data: then the first of its blocks are there,
+-- at the levels after it.
+pub data HoldsCut (array blocks : Coefficients) : List ℕ → Said → Type 0 where
+  in_segment : (first rest : List ℕ) (said : Said) (levels : ℕ → Levels)
+      → WritesFront array said levels first → IsPartOfNext said rest
+      → ((index row column : ℕ)
+      → blocks index row column ≡ cut (levels index) (array index row column))
+      → HoldsCut array blocks (first ++ rest) said
+  in_scan : (first : List ℕ) (said : Said) (levels next : ℕ → Levels) (frame : Frame) (fill : ℕ)
+      (h : ScanHeader) (data_bytes more : List ℕ) (done others : List Spot)
+      → WritesFront array said levels first → said.frame ≡ Some frame → IsScan frame h
+      → (scan : WritesImageScan array said levels frame h (data_bytes ++ more) next)
+      → (more ≡ [] → ⊥) → spots_of frame (components_of scan.codings) ≡ done ++ others
+      → ((index row column : ℕ) → HasBlock scan.codings done index row column
+      → blocks index row column ≡ cut (next index) (array index row column))
+      → ((index row column : ℕ) → (HasBlock scan.codings done index row column → ⊥)
+      → blocks index row column ≡ cut (levels index) (array index row column))
+      → HoldsCut array blocks
+      (first ++ marker fill 218 (with_length (scan_payload h) ++ data_bytes))
+      (record said { scanned = true })
+
+-- ---- the picture
+
+-- The picture of an image's blocks, where it is within the limit, also where a component lacks its
+-- quantization table: no scan of it came then, and of zeros any table makes the same samples.
+unfoldable pub picture_held : Settings → Said → Coefficients → Result (List ℕ) Fault
+picture_held settings said blocks = limited settings said (λ frame.
+    gathered (λ c. Ok (plane_of_blocks c.1 (unwrap_or
+    (slice_index_or said.quantization c.1.factors.quantization None) (replicate 64 1))
+    (blocks c.0))) (enumerate_from 0 frame.components)
+    >>= (λ planes. picture_by settings said.metadata frame frame.components planes))

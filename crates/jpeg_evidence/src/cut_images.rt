@@ -1,5 +1,5 @@
 //! What is brought of a writer's stream that is cut: what was said and sent up to the cut.
-ghost use Rattle.std.specs.Prelude.{◌≡◌, ℕ, List, [], ◌++◌, Some};
+ghost use Rattle.std.specs.Prelude.{◌≡◌, ◌*◌, ℕ, List, [], ◌∷◌, ◌++◌, Some, Ok};
 ghost use Rattle.jpeg_bits.specs.Written.{marker};
 ghost use Rattle.jpeg_segments.specs.Frame.{Frame};
 ghost use Rattle.jpeg_segments.specs.ScanHeaders.{IsScan, ScanHeader, scan_payload, scan_written};
@@ -9,9 +9,13 @@ ghost use Rattle.jpeg_streams.specs.Brought.{all_brought};
 ghost use Rattle.jpeg_streams.specs.Found.{Said, nothing_found};
 ghost use Rattle.jpeg_streams.specs.Levels.{Is8Bit, Levels};
 ghost use Rattle.jpeg_streams.specs.SaidSegments.{Stands};
-ghost use Rattle.jpeg_streams.specs.WrittenImages.{WritesImageScan};
+ghost use Rattle.jpeg_streams.specs.Shown.{Shown, shown};
+ghost use Rattle.jpeg_streams.specs.Stream.{told_of};
+ghost use Rattle.jpeg_streams.specs.WrittenImages.{WritesImage, WritesImageScan};
 ghost use Rattle.jpeg_streams.specs.WrittenScans.{Coefficients};
-ghost use Rattle.jpeg_evidence.specs.CutImages.{BringsCut, BringsFront, WritesFront};
+ghost use Rattle.jpeg_streams.specs.declared.settings.Settings.{Settings};
+ghost use Rattle.jpeg_evidence.specs.CutImages.{BringsCut, BringsFront, HoldsCut, WritesFront};
+ghost use Rattle.jpeg_evidence.specs.CutImages.{picture_held};
 
 /// A stream that a writer emits for the coefficients of an image, cut anywhere within the data of a
 /// scan or right after them, brings what segments in front of the scan have said, and of this scan
@@ -46,4 +50,19 @@ pub fn cut_segments_add_nothing()
         → with_length (scan_payload h) ≡ part ++ more → (more ≡ [] → ⊥)
         → BringsFront array said levels
         (all_brought nothing_found (first ++ marker fill 218 part)).0 }
+{}
+
+/// Each beginning of a stream that a writer emits for the coefficients of an image, wherever it is
+/// cut, shows the picture of the blocks that it holds, if it shows one. These are the coefficients
+/// at the levels that the whole scans in it have sent; and of a scan that is cut inside its data,
+/// the first blocks at the levels after this scan. A component of which nothing has come is zeros.
+pub fn cut_images_show_what_was_sent()
+    ensures { (settings : Settings) (array : Coefficients) (image front more : List ℕ)
+        (final : Said) (last : ℕ → Levels)
+        → ((index row column : ℕ) → Is8Bit (array index row column))
+        → WritesImage array image final last → image ≡ front ++ more
+        → (s : Shown) → shown settings front ≡ Ok s
+        → (part : List ℕ) × (front ≡ 255 ∷ 216 ∷ part) × (said : Said) × (blocks : Coefficients)
+        × HoldsCut array blocks part said × (s.told ≡ told_of said)
+        × (picture_held settings said blocks ≡ Ok s.picture) }
 {}

@@ -1,0 +1,220 @@
+-- Where all data of a scan are there, and of the marker after them some bytes FF alone, all its blocks are reached.
+use Rattle.std.proofs.Common.{◌≡◌, ◌⊎◌, inl, inr, ◌+◌, ◌%◌, ◌==◌, ℕ, zero, suc, Bool, true, false, List, []}
+use Rattle.std.proofs.Common.{◌∷◌, ◌++◌, length, map, get_or, set, replicate, refl, sym, ap, ap₂, ◌∙◌, subst}
+use Rattle.std.proofs.Common.{Ok, Err, Result, Option, Some, append_assoc, length-set, get_or-set_other}
+use Rattle.std.proofs.lemmas.Bool.{eqb-true}
+use Rattle.std.specs.List.{AllByRecursion}
+use Rattle.jpeg_bits.specs.Reading.{End, Fault, Outcome}
+use Rattle.jpeg_bits.specs.Reading as outcomes
+use Rattle.jpeg_bits.specs.Entropy.{Broken, Ending, Text, add_byte, bits_of, ending_at, no_bits, text_at}
+use Rattle.jpeg_bits.specs.Intervals.{first_group, other_groups}
+use Rattle.jpeg_bits.specs.Passes.{Block, Pass, Via, predictors_at_start}
+use Rattle.jpeg_bits.specs.Readers.{text}
+use Rattle.jpeg_bits.specs.Written.{IsMarker, WritesInterval, WritesIntervals, bits_of_bytes, marker, stuffed}
+use Rattle.jpeg_bits.specs.Written.WritesIntervals.{another, last}
+use Rattle.jpeg_bits.specs.declared.marker.Marker.{Marker}
+use Rattle.jpeg_bits.specs.declared.marker.Marker.TheVariants.{RST}
+use Rattle.jpeg_bits.proofs.WrittenIntervals.{all-groups, marker-append}
+use Rattle.jpeg_segments.proofs.Codecs.{err-ok, ok-same}
+use Rattle.jpeg_streams.specs.Brought.{after_interval, interval_reached, intervals_reached, reached_from, scan_reached}
+use Rattle.jpeg_streams.specs.Brought.{sealed}
+use Rattle.jpeg_streams.specs.InTurn.{AreApart, IsIn, Reached, at_start, turns_from}
+use Rattle.jpeg_streams.specs.Order.{Spot}
+use Rattle.jpeg_streams.specs.Scans.{Arrays, put_block, turns_of}
+use Rattle.jpeg_streams.specs.WrittenData.{WritesBlocks}
+use Rattle.jpeg_streams.proofs.BroughtLevels.{eqb_cases}
+use Rattle.jpeg_streams.proofs.CountedScans.{all_of, apart-back, apart-front, arrays_in, in-front}
+use Rattle.jpeg_streams.proofs.WrittenFrameScans.{IsReadyAt, all-in}
+use Rattle.jpeg_evidence.specs.LongerStreams.{Puts, finished, put}
+use Rattle.jpeg_evidence.proofs.LongerData.{Met, next_reached}
+use Rattle.jpeg_evidence.proofs.WrittenCuts.{after_blocks, groups-coded, interval-written, restart-met, restored}
+use Rattle.jpeg_evidence.proofs.WrittenCuts.{rst-marker, sealed_read, stays-ready, takes-sealed, turns-reached}
+
+-- ---- sizes
+
+set-either : {A : Type 0} (xs : List A) (i : ℕ) (x d : A)
+    → (get_or (set xs i x) i d ≡ x) ⊎ (get_or (set xs i x) i d ≡ get_or xs i d)
+set-either [] i x d = inr refl
+set-either (y ∷ xs) zero x d = inl refl
+set-either (y ∷ xs) (suc i) x d = set-either xs i x d
+
+-- a block that is put changes no size
+put-size : (s : Spot) (b : Block) (arrays : Arrays) (slot : ℕ)
+    → length (get_or (put_block s b arrays) slot []) ≡ length (get_or arrays slot [])
+put-size s b arrays slot = go (eqb_cases slot s.slot)
+  where
+    at_own : (get_or (put_block s b arrays) s.slot [] ≡ set (get_or arrays s.slot []) s.index b)
+        ⊎ (get_or (put_block s b arrays) s.slot [] ≡ get_or arrays s.slot [])
+        → length (get_or (put_block s b arrays) s.slot []) ≡ length (get_or arrays s.slot [])
+    at_own (inl e) = ap (λ (l : List Block). length l) e ∙ length-set (get_or arrays s.slot []) s.index b
+    at_own (inr e) = ap (λ (l : List Block). length l) e
+
+    go : (slot ≡ s.slot) ⊎ ((slot ≡ s.slot) → ⊥)
+        → length (get_or (put_block s b arrays) slot []) ≡ length (get_or arrays slot [])
+    go (inl e) =
+        subst (λ (n : ℕ). length (get_or (put_block s b arrays) n []) ≡ length (get_or arrays n [])) (sym e)
+        (at_own (set-either arrays s.slot (set (get_or arrays s.slot []) s.index b) []))
+    go (inr n) =
+        ap (λ (l : List Block). length l)
+        (get_or-set_other arrays s.slot slot (set (get_or arrays s.slot []) s.index b) [] n)
+
+pub puts-count : (spots : List Spot) (before after : Arrays) → Puts spots before after
+    → length after ≡ length before
+puts-count spots before after (finished arrays) = refl
+puts-count spots before after (put s more b old new p) =
+    puts-count more (put_block s b before) after p ∙ length-set before s.slot _
+
+pub puts-size : (spots : List Spot) (before after : Arrays) → Puts spots before after → (slot : ℕ)
+    → length (get_or after slot []) ≡ length (get_or before slot [])
+puts-size spots before after (finished arrays) slot = refl
+puts-size spots before after (put s more b old new p) slot =
+    puts-size more (put_block s b before) after p slot ∙ put-size s b before slot
+
+-- ---- the text
+
+ending-filled : (j : ℕ) → ending_at (replicate j 255) ≡ Broken End
+unfolding ending_at
+ending-filled zero = refl
+ending-filled (suc j) = ending-filled j
+
+text-filled : (j : ℕ) → text_at (replicate j 255) ≡ no_bits (Broken End)
+unfolding text_at ending_at
+text-filled zero = refl
+text-filled (suc zero) = refl
+text-filled (suc (suc j)) = ap no_bits (ending-filled j)
+
+-- a text with these bits, and none after them
+record IsText (t : Text) (bits : List Bool) : Type 0 where
+  bits_are : t.bits ≡ bits
+  ends_so : t.ending ≡ Broken End
+
+plain-text : (b : ℕ) (rest : List ℕ) → (b == 255) ≡ false → text_at (b ∷ rest) ≡ add_byte b rest (text_at rest)
+unfolding text_at
+plain-text b [] h = rw (h, text_at) refl
+plain-text b (c ∷ rest) h = rw (h, text_at) refl
+
+stuffed-byte : (rest : List ℕ) → text_at (255 ∷ 0 ∷ rest) ≡ add_byte 255 rest (text_at rest)
+unfolding text_at
+stuffed-byte rest = refl
+
+stuffed-filled : (j : ℕ) (bytes : List ℕ) → IsText (text_at (stuffed bytes ++ replicate j 255)) (bits_of_bytes bytes)
+unfolding stuffed bits_of_bytes
+stuffed-filled j [] = rw (text-filled j) (record { bits_are = refl; ends_so = refl })
+stuffed-filled j (b ∷ bytes) = go (b == 255) refl (stuffed-filled j bytes)
+  where
+    add : (c : ℕ) (rest : List ℕ) (t : Text) (bits : List Bool) → IsText t bits
+        → IsText (add_byte c rest t) (bits_of c ++ bits)
+    add c rest t bits h = record { bits_are = ap (λ (l : List Bool). bits_of c ++ l) h.bits_are; ends_so = h.ends_so }
+
+    go : (t : Bool) → (b == 255) ≡ t → IsText (text_at (stuffed bytes ++ replicate j 255)) (bits_of_bytes bytes)
+        → IsText
+        (text_at ((elim t as (λ _. List ℕ) [ true ↦ 255 ∷ 0 ∷ stuffed bytes | false ↦ b ∷ stuffed bytes ])
+        ++ replicate j 255))
+        (bits_of b ++ bits_of_bytes bytes)
+    go true e h =
+        let rest = stuffed bytes ++ replicate j 255 in
+        subst (λ (c : ℕ). IsText (text_at (255 ∷ 0 ∷ rest)) (bits_of c ++ bits_of_bytes bytes)) (sym (eqb-true b 255 e))
+        (rw (stuffed-byte rest) (add 255 rest (text_at rest) (bits_of_bytes bytes) h))
+    go false e h =
+        let rest = stuffed bytes ++ replicate j 255 in
+        rw (plain-text b rest e) (add b rest (text_at rest) (bits_of_bytes bytes) h)
+
+-- ---- an interval
+
+-- blocks that are read of bits alone are reached
+read-reached : (p : Pass) (vias : List Via) (spots : List Spot) (arrays x : Arrays) (t : Text) (y : Text)
+    → sealed_read p vias spots arrays t ≡ Ok (x, y)
+    → (reached_from p vias spots (at_start arrays) (sealed t)).0.arrays ≡ x
+read-reached p vias spots arrays x t y h = go (turns_from p vias spots (at_start arrays) (sealed t)) refl h
+  where
+    go : (o : Result (Reached × Text) Fault) → turns_from p vias spots (at_start arrays) (sealed t) ≡ o
+        → restored t.ending (arrays_in o) ≡ Ok (x, y)
+        → (reached_from p vias spots (at_start arrays) (sealed t)).0.arrays ≡ x
+    go (Err g) a e = absurd (err-ok g _ e)
+    go (Ok r) a e =
+        ap (λ (q : Reached × Result (List Bool) Fault). q.0.arrays)
+        (turns-reached p vias spots (at_start arrays) (sealed t) r a)
+        ∙ ap (λ (q : Arrays × Text). q.0) (ok-same _ (x, y) e)
+
+interval-filled : (p : Pass) (vias : List Via) (spots : List Spot) (arrays : Arrays) (u : Spot → Block) (bytes : List ℕ)
+    (j : ℕ) → AreApart spots → AllByRecursion (IsReadyAt p vias arrays u) spots
+    → WritesInterval (WritesBlocks p predictors_at_start 0 (turns_of vias spots u)) bytes
+    → (interval_reached p vias spots arrays (bytes ++ replicate j 255)).0 ≡ after_blocks p u spots arrays
+unfolding interval_reached
+interval-filled p vias spots arrays u bytes j apart ready w =
+    let all = bytes ++ replicate j 255 in
+    let is : IsText (text_at all) (w.bits ++ w.filling) =
+    subst (λ (l : List ℕ). IsText (text_at (l ++ replicate j 255)) (w.bits ++ w.filling)) w.has_bytes
+    (subst (IsText (text_at (stuffed w.data_bytes ++ replicate j 255))) w.whole (stuffed-filled j w.data_bytes)) in
+    let same : text_at all ≡ text (w.bits ++ w.filling) (text_at all).following (Broken End)
+    = ap₂ (λ (b : List Bool) (e : Ending). record { bits = b; following = (text_at all).following; ending = e })
+    is.bits_are is.ends_so in
+    read-reached p vias spots arrays (after_blocks p u spots arrays) (text_at all) _
+    (ap (sealed_read p vias spots arrays) same
+    ∙ (takes-sealed p vias spots arrays u w.bits apart ready w.coded).read w.filling (text_at all).following
+    (Broken End))
+
+-- ---- a scan
+
+one-more : (k : ℕ) (r : Arrays × Met) (x : Arrays) (rest : List ℕ)
+    (reached : Arrays → List ℕ → Arrays × Outcome (Option Marker))
+    → r ≡ (x, Ok ((true, Some (RST (k % 8))), rest))
+    → (next_reached reached r.0 (outcomes.◌>>=◌ r.1 (after_interval k))).0 ≡ (reached x rest).0
+one-more k r x rest reached e =
+    ap (λ (q : Arrays × Met). (next_reached reached q.0 (outcomes.◌>>=◌ q.1 (after_interval k))).0) e
+    ∙ ap (λ (o : Result (List ℕ) Fault). (next_reached reached x o).0) (restart-met k rest)
+
+module _ (p : Pass) (vias : List Via) (u : Spot → Block) (fill code : ℕ) (m : Marker) (rest : List ℕ)
+    (is : IsMarker code m) (j : ℕ) where
+  -- up to a marker
+  abbrev marked : List ℕ → List ℕ
+  marked bytes = bytes ++ marker fill code rest
+
+  abbrev filled : List ℕ → List ℕ
+  filled bytes = bytes ++ replicate j 255
+
+  intervals-filled : (k : ℕ) (spots : List Spot) (groups : List (List Spot)) (arrays : Arrays) (bytes : List ℕ)
+      → AreApart (spots ++ all_of groups)
+      → ((s : Spot) → IsIn s (spots ++ all_of groups) → IsReadyAt p vias arrays u s)
+      → WritesIntervals (WritesBlocks p predictors_at_start 0) k (turns_of vias spots u)
+      (map (λ (g : List Spot). turns_of vias g u) groups) bytes
+      → (intervals_reached p vias k spots groups arrays (filled bytes)).0
+      ≡ (intervals_reached p vias k spots groups arrays (marked bytes)).0
+  unfolding intervals_reached
+  intervals-filled k spots [] arrays bytes apart ready (last k' one bytes' w) =
+      let a = apart-front spots [] apart in
+      let r = all-in (IsReadyAt p vias arrays u) spots (λ s t. ready s (in-front s spots [] t)) in
+      interval-filled p vias spots arrays u bytes j a r w
+      ∙ sym (ap (λ (q : Arrays × Met). q.0) (interval-written p vias spots arrays u bytes fill code m rest a r is w))
+  intervals-filled k spots (next ∷ groups) arrays bytes apart ready (another k' fill' one next' more' first after w ws) =
+      let others = all_of (next ∷ groups) in
+      let now = after_blocks p u spots arrays in
+      let a = apart-front spots others apart in
+      let r = all-in (IsReadyAt p vias arrays u) spots (λ s t. ready s (in-front s spots others t)) in
+      let parts : (tail : List ℕ) → (first ++ marker fill' (0xD0 + k % 8) after) ++ tail
+      ≡ first ++ marker fill' (0xD0 + k % 8) (after ++ tail)
+      = λ tail. append_assoc first (marker fill' (0xD0 + k % 8) after) tail
+      ∙ ap (λ (l : List ℕ). first ++ l) (marker-append fill' (0xD0 + k % 8) after tail) in
+      let step : (tail : List ℕ) → (intervals_reached p vias k spots (next ∷ groups) arrays (bytes ++ tail)).0
+      ≡ (intervals_reached p vias (suc k) next groups now (after ++ tail)).0
+      = λ tail. one-more k (interval_reached p vias spots arrays (bytes ++ tail)) now (after ++ tail)
+      (intervals_reached p vias (suc k) next groups)
+      (ap (interval_reached p vias spots arrays) (parts tail)
+      ∙ interval-written p vias spots arrays u first fill' (0xD0 + k % 8) (RST (k % 8)) (after ++ tail) a r
+      (rst-marker k) w) in
+      step (replicate j 255)
+      ∙ intervals-filled (suc k) next groups now after (apart-back spots others apart)
+      (stays-ready p vias spots others arrays u apart ready) ws
+      ∙ sym (step (marker fill code rest))
+
+  -- A written scan and bytes FF bring the blocks that it brings up to a marker.
+  pub scan-filled : (n : ℕ) (spots : List Spot) (arrays : Arrays) (bytes : List ℕ) → AreApart spots
+      → ((s : Spot) → IsIn s spots → IsReadyAt p vias arrays u s)
+      → WritesIntervals (WritesBlocks p predictors_at_start 0) 0 (first_group n (turns_of vias spots u))
+      (other_groups n (turns_of vias spots u)) bytes
+      → (scan_reached p n vias spots arrays (bytes ++ replicate j 255)).0
+      ≡ (scan_reached p n vias spots arrays (bytes ++ marker fill code rest)).0
+  scan-filled n spots arrays bytes apart ready w =
+      let all = all-groups n spots in
+      intervals-filled 0 (first_group n spots) (other_groups n spots) arrays bytes (subst AreApart (sym all) apart)
+      (λ s t. ready s (subst (λ (l : List Spot). IsIn s l) all t)) (groups-coded vias spots u p n bytes w)
