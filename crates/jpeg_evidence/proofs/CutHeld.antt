@@ -81,17 +81,17 @@ framed-scanned w f array levels h fi pl fr = record {
 
 -- ---- the end of an image
 
-eoi_code : marker_of 217 ≡ Some EOI
+pub eoi_code : marker_of 217 ≡ Some EOI
 unfolding marker_of
 eoi_code = refl
 
-begins-end : (fill : ℕ) → Begins (marker fill 217 [])
+pub begins-end : (fill : ℕ) (rest : List ℕ) → Begins (marker fill 217 rest)
 unfolding after_restarts
-begins-end fill = record {
+begins-end fill rest = record {
   fill = fill;
   code = 217;
   m = EOI;
-  after = [];
+  after = rest;
   is = refl;
   makes = eoi_code;
   ends = λ turns bytes. refl;
@@ -100,23 +100,23 @@ begins-end fill = record {
 abbrev last_turn : Found → Turn
 last_turn found = record { found = found; before = Elsewhere; met = None; ended = true }
 
-end-brings : (before : Before) (found : Found) → is_some found.said.frame ≡ true
-    → ◌≡◌ {A = Brought} (segment_brought EOI before found []) (found, Ok (last_turn found, []))
+pub end-brings : (before : Before) (found : Found) (rest : List ℕ) → is_some found.said.frame ≡ true
+    → ◌≡◌ {A = Brought} (segment_brought EOI before found rest) (found, Ok (last_turn found, rest))
 unfolding segment_brought segment_at end_segment
-end-brings before found some =
+end-brings before found rest some =
     ap (λ (o : Outcome Turn). (found, o)) (kept (is_some found.said.frame) _ (Err Malformed) some)
 
-walk-ends : (turns : ℕ) (before : Before) (found : Found) (met : Option Marker) (all : List ℕ)
-    → ◌≡◌ {A = Brought} (turn_brought before found met all) (found, Ok (last_turn found, []))
-    → walk_brought (suc turns) before found met all ≡ (found, Ok [])
+walk-ends : (turns : ℕ) (before : Before) (found : Found) (met : Option Marker) (all rest : List ℕ)
+    → ◌≡◌ {A = Brought} (turn_brought before found met all) (found, Ok (last_turn found, rest))
+    → walk_brought (suc turns) before found met all ≡ (found, Ok rest)
 unfolding walk_brought
-walk-ends turns before found met all e = ap (walk_on turns) e
+walk-ends turns before found met all rest e = ap (walk_on turns) e
 
-some-end : (turns n : ℕ) (before : Before) (found : Found) (met : Option Marker) (all : List ℕ) → n < turns
-    → ◌≡◌ {A = Brought} (turn_brought before found met all) (found, Ok (last_turn found, []))
-    → walk_brought turns before found met all ≡ (found, Ok [])
-some-end zero n before found met all room e = absurd (omega arith)
-some-end (suc turns) n before found met all room e = walk-ends turns before found met all e
+pub some-end : (turns n : ℕ) (before : Before) (found : Found) (met : Option Marker) (all rest : List ℕ) → n < turns
+    → ◌≡◌ {A = Brought} (turn_brought before found met all) (found, Ok (last_turn found, rest))
+    → walk_brought turns before found met all ≡ (found, Ok rest)
+some-end zero n before found met all rest room e = absurd (omega arith)
+some-end (suc turns) n before found met all rest room e = walk-ends turns before found met all rest e
 
 some-more : (turns n : ℕ) (before : Before) (found old : Found) (met : Option Marker) (all : List ℕ) (t : Turn) (j : ℕ)
     → n < turns → ◌≡◌ {A = Brought} (turn_brought before found met all) (old, Ok (t, replicate j 255)) → t.ended ≡ false
@@ -260,15 +260,15 @@ module _ (array : Coefficients) (range : (index row column : ℕ) → Is8Bit (ar
       → Ended (first ++ marker fill 217 []) (all_brought nothing_found (first ++ marker fill 217 []))
   end-there said levels frame first fill w e =
       let rest = marker fill 217 [] in
-      let past = past-of said levels first rest w (begins-end fill) in
+      let past = past-of said levels first rest w (begins-end fill []) in
       let now = beside bring said past.brought in
       let turn = turn-at past.before now past.met past.all [] EOI
       (past.at.first ∙ next-marker fill 217 EOI [] (record { is = eoi_code }))
-      ∙ end-brings past.before now (ap is_some e) in
+      ∙ end-brings past.before now [] (ap is_some e) in
       by-front (first ++ rest) (all_brought nothing_found (first ++ rest)) first rest said levels past.brought refl w
       (of_end fill) past.said past.held
       (found-of (all_brought nothing_found (first ++ rest)) now (Ok [])
-      (past.walked ∙ some-end past.turns (length rest) past.before now past.met past.all past.room turn))
+      (past.walked ∙ some-end past.turns (length rest) past.before now past.met past.all [] past.room turn))
 
   -- ---- cut in the data of a scan
 

@@ -34,3 +34,4 @@ pub mod CutFronts
 pub mod CutHeld
 pub mod CutSplits
 pub mod CutShown
+pub mod WholeShown

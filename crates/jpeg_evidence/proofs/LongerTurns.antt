@@ -2,7 +2,7 @@
 use Rattle.std.proofs.Common.{rules, ◌≡◌, ◌⊎◌, inl, inr, ℕ, zero, suc, ◌*◌, ◌≤◌, Bool, true, false, List, [], ◌∷◌}
 use Rattle.std.proofs.Common.{◌++◌, length, refl, sym, ap, ◌∙◌, subst, arith, Ok, Err, Result, Option}
 use Rattle.std.proofs.Common.{None, length-append, if◌then◌else◌}
-use Rattle.jpeg_bits.specs.Reading.{End, Fault, Malformed, Outcome}
+use Rattle.jpeg_bits.specs.Reading.{End, Fault, Outcome}
 use Rattle.jpeg_bits.specs.Reading as outcomes
 use Rattle.jpeg_bits.specs.Intervals.{first_group, other_groups}
 use Rattle.jpeg_bits.specs.Marker.{found_or, next_marker}

@@ -28,7 +28,7 @@ use Rattle.jpeg_streams.proofs.WrittenRefinements.{through-other}
 use Rattle.jpeg_evidence.specs.Strict.{alone, IsCut, IsNumber, HasByteSymbols, count_zeros, PiecesFit}
 use Rattle.jpeg_evidence.specs.Strict.PiecesFit.{covered, new, zeros, last}
 use Rattle.jpeg_evidence.proofs.TakenBits.{number_taken, symbol_taken, after-read, bind-cut}
-use Rattle.jpeg_evidence.proofs.TakenBits.{if-read, gives-taken, bind-parts, ok-parts, no-error}
+use Rattle.jpeg_evidence.proofs.TakenBits.{if-read, gives-taken, ok-parts, no-error}
 use Rattle.jpeg_evidence.proofs.TakenBits.{map-taken, cut-then, After}
 use Rattle.jpeg_evidence.proofs.TakenBands.{run-small}
 

@@ -1,6 +1,6 @@
 -- The extremes of what is written of 8-bit samples: DC of -1024 and 1023, AC of 1023 and -1023,
 -- level 7, and restart intervals that change between scans.
-use Rattle.std.specs.Prelude.{ℕ, List, [], ◌∷◌, ◌++◌, replicate, pos, negsuc, get_or}
+use Rattle.std.specs.Prelude.{ℕ, List, [], ◌∷◌, replicate, pos, negsuc, get_or}
 use Rattle.jpeg_bits.specs.Passes.{Block}
 use Rattle.jpeg_streams.specs.WorkedImages.{in_column}
 use Rattle.jpeg_streams.specs.WrittenScans.{Coefficients}

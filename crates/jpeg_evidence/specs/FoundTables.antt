@@ -7,7 +7,7 @@ use Rattle.jpeg_bits.specs.declared.huffman.codes.HuffmanTableClass.{HuffmanTabl
 use Rattle.jpeg_bits.specs.declared.huffman.codes.HuffmanTableClass.TheVariants.{DC, AC}
 use Rattle.jpeg_segments.specs.Application.{Chunk}
 use Rattle.jpeg_segments.specs.Frame.{Factors, Frame, frame_of}
-use Rattle.jpeg_segments.specs.HuffmanTables.{Tables, no_tables}
+use Rattle.jpeg_segments.specs.HuffmanTables.{no_tables}
 use Rattle.jpeg_segments.specs.ScanHeader.{Selector}
 use Rattle.jpeg_streams.specs.Found.{Said, nothing_said, no_metadata}
 use Rattle.jpeg_streams.specs.ScanSegments.{Coding}

@@ -1,10 +1,11 @@
 //! What is brought of a writer's stream that is cut: what was said and sent up to the cut.
-ghost use Rattle.std.specs.Prelude.{◌≡◌, ◌*◌, ℕ, List, [], ◌∷◌, ◌++◌, Some, Ok};
+ghost use Rattle.std.specs.Prelude.{◌≡◌, ◌*◌, ℕ, List, [], ◌∷◌, ◌++◌, Some, None, Ok};
 ghost use Rattle.jpeg_bits.specs.Written.{marker};
 ghost use Rattle.jpeg_segments.specs.Frame.{Frame};
 ghost use Rattle.jpeg_segments.specs.ScanHeaders.{IsScan, ScanHeader, scan_payload, scan_written};
 ghost use Rattle.jpeg_segments.specs.WrittenSegments.{Segment, marker_code, payload_of};
 ghost use Rattle.jpeg_segments.specs.WrittenSegments.{with_length};
+ghost use Rattle.jpeg_streams.specs.ArrayPictures.{picture_of_array};
 ghost use Rattle.jpeg_streams.specs.Brought.{all_brought};
 ghost use Rattle.jpeg_streams.specs.Found.{Said, nothing_found};
 ghost use Rattle.jpeg_streams.specs.Levels.{Is8Bit, Levels};
@@ -65,4 +66,18 @@ pub fn cut_images_show_what_was_sent()
         → (part : List ℕ) × (front ≡ 255 ∷ 216 ∷ part) × (said : Said) × (blocks : Coefficients)
         × HoldsCut array blocks part said × (s.told ≡ told_of said)
         × (picture_held settings said blocks ≡ Ok s.picture) }
+{}
+
+/// A stream that a writer emits whole for the coefficients of an image is never taken for one that
+/// is cut, whatever bytes follow it. If the settings allow the picture of these coefficients, as far
+/// as they were sent, it is shown, as `decode` gives it; what is told is what the segments say; and
+/// no fault is named.
+pub fn whole_images_are_shown_whole()
+    ensures { (settings : Settings) (array : Coefficients) (image rest picture : List ℕ)
+        (final : Said) (last : ℕ → Levels)
+        → ((index row column : ℕ) → Is8Bit (array index row column))
+        → WritesImage array image final last
+        → picture_of_array settings final array last ≡ Ok picture
+        → shown settings (image ++ rest)
+        ≡ Ok (record { told = told_of final; picture = picture; fault = None }) }
 {}
