@@ -1,7 +1,7 @@
 -- Where all data of a scan are there, and of the marker after them some bytes FF alone, all its blocks are reached.
-use Rattle.std.proofs.Common.{◌≡◌, ◌⊎◌, inl, inr, ◌+◌, ◌%◌, ◌==◌, ℕ, zero, suc, Bool, true, false, List, []}
-use Rattle.std.proofs.Common.{◌∷◌, ◌++◌, length, map, get_or, set, replicate, refl, sym, ap, ap₂, ◌∙◌, subst}
-use Rattle.std.proofs.Common.{Ok, Err, Result, Option, Some, append_assoc, length-set, get_or-set_other}
+use Rattle.std.proofs.Common.{◌≡◌, ◌⊎◌, inl, inr, ◌+◌, ◌%◌, ◌==◌, ℕ, zero, suc, Bool, true, false, List, [], ◌∷◌, ◌++◌}
+use Rattle.std.proofs.Common.{length, map, get_or, set, replicate, refl, sym, ap, ap₂, ◌∙◌, subst, Ok, Err, Result}
+use Rattle.std.proofs.Common.{Option, Some, append_assoc, length-set, get_or-set_other}
 use Rattle.std.proofs.lemmas.Bool.{eqb-true}
 use Rattle.std.specs.List.{AllByRecursion}
 use Rattle.jpeg_bits.specs.Reading.{End, Fault, Outcome}
@@ -26,7 +26,9 @@ use Rattle.jpeg_streams.proofs.BroughtLevels.{eqb_cases}
 use Rattle.jpeg_streams.proofs.CountedScans.{all_of, apart-back, apart-front, arrays_in, in-front}
 use Rattle.jpeg_streams.proofs.WrittenFrameScans.{IsReadyAt, all-in}
 use Rattle.jpeg_evidence.specs.LongerStreams.{Puts, finished, put}
-use Rattle.jpeg_evidence.proofs.LongerData.{Met, next_reached}
+use Rattle.jpeg_evidence.proofs.LongerData.{Met}
+use Rattle.jpeg_evidence.proofs.LongerScans.{next_reached}
+use Rattle.jpeg_evidence.proofs.StuffedTexts.{plain-text, stuffed-byte}
 use Rattle.jpeg_evidence.proofs.WrittenCuts.{after_blocks, groups-coded, interval-written, restart-met, restored}
 use Rattle.jpeg_evidence.proofs.WrittenCuts.{rst-marker, sealed_read, stays-ready, takes-sealed, turns-reached}
 
@@ -87,15 +89,6 @@ text-filled (suc (suc j)) = ap no_bits (ending-filled j)
 record IsText (t : Text) (bits : List Bool) : Type 0 where
   bits_are : t.bits ≡ bits
   ends_so : t.ending ≡ Broken End
-
-plain-text : (b : ℕ) (rest : List ℕ) → (b == 255) ≡ false → text_at (b ∷ rest) ≡ add_byte b rest (text_at rest)
-unfolding text_at
-plain-text b [] h = rw (h, text_at) refl
-plain-text b (c ∷ rest) h = rw (h, text_at) refl
-
-stuffed-byte : (rest : List ℕ) → text_at (255 ∷ 0 ∷ rest) ≡ add_byte 255 rest (text_at rest)
-unfolding text_at
-stuffed-byte rest = refl
 
 stuffed-filled : (j : ℕ) (bytes : List ℕ) → IsText (text_at (stuffed bytes ++ replicate j 255)) (bits_of_bytes bytes)
 unfolding stuffed bits_of_bytes

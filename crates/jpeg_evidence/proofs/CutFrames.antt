@@ -1,9 +1,8 @@
 -- The beginning of the data of a scan of an image has the own blocks of its components at the levels after the scan, as
 -- far as it has them wholly, and all others at the levels before it.
-use Rattle.std.proofs.Common.{◌≡◌, ◌⊎◌, inl, inr, ◌*◌, ◌/◌, ◌%◌, ◌≤◌, ℕ, zero, suc, Bool, true, false, List, []}
-use Rattle.std.proofs.Common.{◌∷◌, ◌++◌, Err, append_assoc, length-append}
-use Rattle.std.proofs.Common.{length, map, get_or, slice_get, Option, Some, None, Ok, refl, sym, ap, ◌∙◌, subst, arith}
-use Rattle.std.proofs.Common.{ap₂, ◌<◌, replicate}
+use Rattle.std.proofs.Common.{◌≡◌, ◌⊎◌, inl, inr, ◌*◌, ◌/◌, ◌%◌, ◌≤◌, ℕ, zero, suc, Bool, true, false, List, [], ◌∷◌}
+use Rattle.std.proofs.Common.{◌++◌, Err, append_assoc, length-append, length, map, get_or, slice_get, Option, Some}
+use Rattle.std.proofs.Common.{None, Ok, refl, sym, ap, ◌∙◌, subst, arith, ap₂, ◌<◌, replicate}
 use Rattle.std.specs.List.{AllByRecursion}
 use Rattle.std.proofs.lemmas.List.{length-replicate}
 use lib.ListN.{length-map}
@@ -28,21 +27,23 @@ use Rattle.jpeg_streams.specs.ScanSegments.{Coding, arrays_before, codings_of, c
 use Rattle.jpeg_streams.specs.ScanSegments.{after_restarts, scan_arrays, vias_from}
 use Rattle.jpeg_streams.specs.WrittenScans.{Coefficients, IsLegalScan, IsOwn, WritesScan}
 use Rattle.jpeg_streams.proofs.Apart.{At, at-all, at-got, get-at, spots-apart}
-use Rattle.jpeg_streams.proofs.BroughtLevels.{Framed, PassSo, ScanFacts, Shaped, progressive, reading}
-use Rattle.jpeg_streams.proofs.BroughtLevels.{scan-brings, sequential, zero-at, zero-holds, zeros-everywhere}
+use Rattle.jpeg_streams.proofs.BroughtLevels.{Framed, PassSo, ScanFacts, Shaped, progressive, reading, scan-brings}
+use Rattle.jpeg_streams.proofs.BroughtLevels.{sequential, zero-at, zero-holds, zeros-everywhere}
 use Rattle.jpeg_streams.proofs.CodingsInForce.{codings-found}
 use Rattle.jpeg_streams.proofs.CutLevels.{suits-cut}
 use Rattle.jpeg_streams.proofs.OwnSpots.{IsOwnSpot, own-only}
 use Rattle.jpeg_streams.proofs.ReadTurns.{codings-each, codings-indices, ok-same}
 use Rattle.jpeg_streams.proofs.SentBlocks.{Suits}
 use Rattle.jpeg_streams.proofs.WrittenFrameScans.{HasGood, HoldsOwn, array-at, in-all, suits-dc, via-good}
-use Rattle.jpeg_evidence.specs.LongerStreams.{HoldsSent, IsDcAlone, IsKeptBefore, arrays_of}
+use Rattle.jpeg_evidence.specs.FirstBlocks.{StandWhole}
+use Rattle.jpeg_evidence.specs.LongerStreams.{IsDcAlone, IsKeptBefore, arrays_of}
 use Rattle.jpeg_evidence.proofs.CutBlocks.{HasOwn}
 use Rattle.jpeg_evidence.proofs.CutEnds.{puts-count, puts-size, scan-filled}
 use Rattle.jpeg_evidence.proofs.LongerBlocks.{reached_are_read}
-use Rattle.jpeg_evidence.proofs.LongerData.{longer_data_read_on}
+use Rattle.jpeg_evidence.proofs.LongerScans.{longer_data_read_on}
 use Rattle.jpeg_evidence.proofs.LongerTurns.{intervals-stay}
-use Rattle.jpeg_evidence.proofs.WrittenCuts.{cut_scans_have_what_was_sent, scan-written, sequential_levels}
+use Rattle.jpeg_evidence.proofs.SentCuts.{SentMost, cut_scans_have_what_was_sent, sequential_levels}
+use Rattle.jpeg_evidence.proofs.WrittenCuts.{scan-written}
 
 -- ---- levels at a spot
 
@@ -230,9 +231,10 @@ module _ (w : Said) (f : Frame) (array : Coefficients) (levels : ℕ → Levels)
       let own = in-all (IsOwnSpot g) (own_spots g) x (own-only g fits.own_wide) here in
       inl (own-kept k.0 x (subst (λ (n : ℕ). At n codings k.0) (sym own.slot) first) own.own)
 
-  -- The beginning of the data has what was sent.
+  -- The beginning of the data has what was sent, at least the blocks that stand whole in it.
   pub scan-cut : (front more : List ℕ) → bytes ≡ front ++ more
-      → HoldsSent p spots (levels_at codings levels) written.sent before
+      → SentMost (λ count. StandWhole f w.restart p codings written.sent count front) p spots
+      (levels_at codings levels) written.sent before
       (scan_reached p (w.restart * mcu_size (components_of codings)) (vias_from 0 codings) spots before front).0
   scan-cut front more parts =
       cut_scans_have_what_was_sent f w.restart p codings array bytes written (levels_at codings levels) before front
@@ -241,24 +243,24 @@ module _ (w : Said) (f : Frame) (array : Coefficients) (levels : ℕ → Levels)
 
   -- an own block that the beginning has
   pub own-sent : (front more : List ℕ) (parts : bytes ≡ front ++ more) (k : Coding) (x : Spot) → At x.slot codings k
-      → IsOwn (grid_of k.component) x.index → IsIn x (scan-cut front more parts).done
+      → IsOwn (grid_of k.component) x.index → IsIn x (scan-cut front more parts).holds.done
       → block_at
       (scan_reached p (w.restart * mcu_size (components_of codings)) (vias_from 0 codings) spots before front).0 x
       ≡ cut (sent_after p (levels k.index))
       (array k.index (x.index / k.component.blocks_wide) (x.index % k.component.blocks_wide))
   own-sent front more parts k x t own here =
-      (scan-cut front more parts).first x here (own-kept k x t own)
+      (scan-cut front more parts).holds.first x here (own-kept k x t own)
       ∙ ap (λ (l : Levels). cut (sent_after p l) (written.sent x)) (sym (levels-own k x t))
       ∙ ap (λ (b : Block). cut (sent_after p (levels k.index)) b) (sent-own k x t own)
 
   -- an own block that it lacks
   pub own-unsent : (front more : List ℕ) (parts : bytes ≡ front ++ more) (k : Coding) (x : Spot) → At x.slot codings k
-      → IsOwn (grid_of k.component) x.index → (IsIn x (scan-cut front more parts).done → ⊥)
+      → IsOwn (grid_of k.component) x.index → (IsIn x (scan-cut front more parts).holds.done → ⊥)
       → block_at
       (scan_reached p (w.restart * mcu_size (components_of codings)) (vias_from 0 codings) spots before front).0 x
       ≡ cut (levels k.index)
       (array k.index (x.index / k.component.blocks_wide) (x.index % k.component.blocks_wide))
-  own-unsent front more parts k x t own away = (scan-cut front more parts).kept x away ∙ kept-own k x t own
+  own-unsent front more parts k x t own away = (scan-cut front more parts).holds.kept x away ∙ kept-own k x t own
 
   -- ---- the whole scan
 
@@ -407,7 +409,7 @@ module _ (w : Said) (f : Frame) (array : Coefficients) (levels : ℕ → Levels)
 
   -- The beginning of the data has the own blocks of the scan's components.
   pub cut-own : (front more : List ℕ) (parts : bytes ≡ front ++ more)
-      → HasOwn p array levels codings (scan-cut front more parts).done
+      → HasOwn p array levels codings (scan-cut front more parts).holds.done
       (scan_reached p (w.restart * mcu_size (components_of codings)) (vias_from 0 codings) spots before front).0
   cut-own front more parts =
       let n = w.restart * mcu_size (components_of codings) in

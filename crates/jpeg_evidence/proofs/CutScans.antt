@@ -36,6 +36,7 @@ use Rattle.jpeg_evidence.proofs.CutWalks.{framed-now, front-walked, header-bring
 use Rattle.jpeg_evidence.proofs.CutWalks.{sos_code, turn-at, walk_on}
 use Rattle.jpeg_evidence.proofs.LongerSegments.{sos-stays, Stays}
 use Rattle.jpeg_evidence.specs.CutImages.{BringsCut, BringsFront, WritesFront}
+use Rattle.jpeg_evidence.specs.FirstBlocks.{IsMost, StandWhole}
 use Rattle.jpeg_evidence.specs.LongerStreams.{arrays_of}
 use Rattle.jpeg_evidence.proofs.LongerTurns.{segment-goes}
 use Rattle.jpeg_evidence.proofs.CutFrames.{cut-stops, own-sent, own-unsent, scan-cut}
@@ -96,8 +97,10 @@ pub cut_images_bring_what_was_sent : (array : Coefficients) (said : Said) (level
     → ((index row column : ℕ) → Is8Bit (array index row column)) → WritesFront array said levels first
     → said.frame ≡ Some frame → IsScan frame h
     → (sends : WritesImageScan array said levels frame h (front ++ more) next)
-    → BringsCut array said levels frame (scan_written frame h) sends.codings
-    (all_brought nothing_found (first ++ marker fill 218 (with_length (scan_payload h) ++ front))).0
+    → (has : BringsCut array said levels frame (scan_written frame h) sends.codings
+    (all_brought nothing_found (first ++ marker fill 218 (with_length (scan_payload h) ++ front))).0)
+    × IsMost (λ count. StandWhole frame said.restart (pass_of (scan_written frame h)) sends.codings sends.written.sent
+    count front) (length has.done)
 cut_images_bring_what_was_sent array said levels next frame first front more fill h range w e written sends =
     let header = with_length (scan_payload h) in
     let rest = marker fill 218 (header ++ front) in
@@ -129,26 +132,28 @@ cut_images_bring_what_was_sent array said levels next frame first front more fil
     let walked = ap (λ (f : Found). walk_brought (suc (length (first ++ rest))) Elsewhere f None (first ++ rest))
     (sym found-nothing) ∙ past.walked
     ∙ some-turns past.turns (length rest) past.before now (after_scan now frame s codings reached.0) past.met past.all
-    fault.0 past.room turn in
-    record {
-      before = now;
-      blocks = reached.0;
-      done = cut_so.done;
-      others = cut_so.others;
-      is_said = refl;
-      before_scan = record {
-        kept = λ p k c index t own.
-            ((fr.kept p).each k c (get-at k frame.components c t)).each index own;
-      };
-      brought = ap (λ (y : Walked). y.0) walked;
-      parts = cut_so.parts;
-      sent = λ y k t own here.
-          own-sent said frame array levels said.scanned x.0 x.1 x.2 s codings bytes range shape fr facts good
-          sends.legal sends.written front more refl k y (get-at y.slot codings k t) own here;
-      kept = λ y k t own away.
-          own-unsent said frame array levels said.scanned x.0 x.1 x.2 s codings bytes range shape fr facts good
-          sends.legal sends.written front more refl k y (get-at y.slot codings k t) own away;
-    }
+    fault.0 past.room turn in (
+      record {
+        before = now;
+        blocks = reached.0;
+        done = cut_so.holds.done;
+        others = cut_so.holds.others;
+        is_said = refl;
+        before_scan = record {
+          kept = λ p k c index t own.
+              ((fr.kept p).each k c (get-at k frame.components c t)).each index own;
+        };
+        brought = ap (λ (y : Walked). y.0) walked;
+        parts = cut_so.holds.parts;
+        sent = λ y k t own here.
+            own-sent said frame array levels said.scanned x.0 x.1 x.2 s codings bytes range shape fr facts good
+            sends.legal sends.written front more refl k y (get-at y.slot codings k t) own here;
+        kept = λ y k t own away.
+            own-unsent said frame array levels said.scanned x.0 x.1 x.2 s codings bytes range shape fr facts good
+            sends.legal sends.written front more refl k y (get-at y.slot codings k t) own away;
+      },
+      cut_so.most,
+    )
 
 -- ---- a cut within a segment that is no scan
 

@@ -70,17 +70,17 @@ module _ (array : Coefficients) (range : (index row column : ℕ) → Is8Bit (ar
       ∙ blocks-stop now frame s codings front fault.0 reached refl fault.1 in
       let walked = past-stops array range said levels rest (all_brought nothing_found (first ++ rest)) past found fault.0
       turn in
-      let c : CutScan said frame array levels next codings sent.done found
-      = subst (λ (l : ℕ → Levels). CutScan said frame array levels l codings sent.done found) sends.sent
-      (cut-scan said frame array levels said.scanned x.0 x.1 x.2 s codings shape fr facts sends.legal sent.done reached.0
-      own (λ index row column. (range index row column).count)) in
+      let c : CutScan said frame array levels next codings sent.holds.done found
+      = subst (λ (l : ℕ → Levels). CutScan said frame array levels l codings sent.holds.done found) sends.sent
+      (cut-scan said frame array levels said.scanned x.0 x.1 x.2 s codings shape fr facts sends.legal sent.holds.done
+      reached.0 own (λ index row column. (range index row column).count)) in
       by-scan array range (first ++ rest) (all_brought nothing_found (first ++ rest)) said frame c.image next found e
       past.said c.after c.counts
       (all-or-none (record said { scanned = true }) next frame
       (unmixed-scan array said levels next frame h bytes past.said e written sends
       (front-unmixed array said levels first w)) e)
-      (in_scan first said levels next frame fill h front more sent.done sent.others w e written sends some sent.parts c.there
-      c.away)
+      (in_scan first said levels next frame fill h front more sent.holds.done sent.holds.others w e written sends some
+      sent.holds.parts sent.most c.there c.away)
       (found-of array range (all_brought nothing_found (first ++ rest)) found (Err fault.0) walked)
 
   -- what is found where a stream is cut

@@ -1,6 +1,6 @@
 -- The blocks that shorter data of a scan bring are those that longer data bring.
-use Rattle.std.proofs.Common.{◌≡◌, ◌≢◌, ◌⊎◌, inl, inr, ◌<◌, ◌≤◌, ℕ, List, [], length, set, get_or}
-use Rattle.std.proofs.Common.{refl, sym, ap, ◌∙◌, subst, Ok, Option}
+use Rattle.std.proofs.Common.{◌≡◌, ◌≢◌, ◌⊎◌, inl, inr, ◌<◌, ◌≤◌, ℕ, List, [], length, set, get_or, refl, sym, ap, ◌∙◌}
+use Rattle.std.proofs.Common.{subst, Ok, Option}
 use Rattle.std.proofs.lemmas.Bool.{cases_lt}
 use Rattle.std.proofs.lemmas.List.{get_or-set_other, get_or-set_same, set_past}
 use Rattle.jpeg_bits.specs.Intervals.{first_group, other_groups}
@@ -53,19 +53,28 @@ puts-elsewhere q spots before after (put s rest b old new p) n =
     puts-elsewhere q rest (put_block s b before) after p (λ t. n (inr t))
     ∙ elsewhere s q b before (λ e. n (inl e))
 
--- In a scan whose spots are apart, the blocks of shorter data are those of longer ones.
+-- In a scan whose spots are apart, the blocks of shorter data are those of longer ones, and no other is touched.
+pub brought-stay : (spots : List Spot) (before shorter longer : Arrays) → AreApart spots
+    → (r : ReadsOn spots before shorter longer) → (s : Spot) → IsIn s r.done → block_at shorter s ≡ block_at longer s
+brought-stay spots before shorter longer apart r s t =
+    let f = r.further in
+    let all = subst AreApart r.parts apart in
+    sym (puts-elsewhere s f.done shorter longer f.puts (λ u. apart-between s r.done r.others all t
+    (subst (λ (l : List Spot). IsIn s l) (sym f.parts) (in-front s f.done f.others u))))
+
+pub others-stay : (spots : List Spot) (before shorter longer : Arrays) (r : ReadsOn spots before shorter longer)
+    (s : Spot) → (IsIn s r.done → ⊥) → block_at shorter s ≡ block_at before s
+others-stay spots before shorter longer r s n = puts-elsewhere s r.done before shorter r.puts n
+
 pub blocks_stay : (spots : List Spot) (before shorter longer : Arrays) → AreApart spots
     → ReadsOn spots before shorter longer → HoldsFirst spots before shorter longer
 blocks_stay spots before shorter longer apart r =
-    let f = r.further in
-    let all = subst AreApart r.parts apart in
     record {
       done = r.done;
       others = r.others;
       parts = r.parts;
-      same = λ s t. sym (puts-elsewhere s f.done shorter longer f.puts (λ u. apart-between s r.done r.others all t
-          (subst (λ (l : List Spot). IsIn s l) (sym f.parts) (in-front s f.done f.others u))));
-      kept = λ s n. puts-elsewhere s r.done before shorter r.puts n;
+      same = brought-stay spots before shorter longer apart r;
+      kept = others-stay spots before shorter longer r;
     }
 
 -- A scan that is reached up to the marker after it is read as the same blocks.

@@ -1,152 +1,34 @@
--- Longer data bring the blocks that their front brings, and go on from there.
-use Rattle.std.proofs.Common.{rules, ◌≡◌, ◌⊎◌, inl, inr, ℕ, suc, Bool, true, false, cond, List, [], ◌∷◌, ◌++◌}
-use Rattle.std.proofs.Common.{length, drop, refl, sym, ap, ◌∙◌, subst, Ok, Err, Result, Option, Some, None}
-use Rattle.std.proofs.Common.{append_assoc, append-nil, eqb, ℤ, pos, get_or, set}
-use Rattle.std.specs.Prelude.{nat_le, if◌then◌else◌, ◌&&◌}
-use Rattle.std.specs.List.{flat_map}
-use Rattle.jpeg_bits.specs.Reading.{End, Fault, Malformed, Outcome}
+-- What the data of an interval bring, longer data bring too.
+use Rattle.std.proofs.Common.{◌≡◌, ◌⊎◌, inl, inr, ℕ, ◌≤◌, Bool, true, false, cond, List, [], ◌∷◌, ◌++◌, length, drop}
+use Rattle.std.proofs.Common.{refl, sym, ap, ◌∙◌, subst, Ok, Err, Result, Option, Some, None, append_assoc, append-nil}
+use Rattle.std.proofs.Common.{eqb, ℤ, pos, get_or, set}
+use Rattle.std.specs.Prelude.{nat_le}
+use Rattle.jpeg_bits.specs.Reading.{End, Fault, Outcome}
 use Rattle.jpeg_bits.specs.Reading as outcomes
 use Rattle.jpeg_bits.specs.Entropy.{Broken, Ending, Found, Text, add_byte, bits_of, ended_by, ending_at, no_bits}
 use Rattle.jpeg_bits.specs.Entropy.{text_at}
-use Rattle.jpeg_bits.specs.Intervals.{first_group, is_restart, met, other_groups}
+use Rattle.jpeg_bits.specs.Intervals.{met}
 use Rattle.jpeg_bits.specs.Marker.{marker_of}
 use Rattle.jpeg_bits.specs.Passes.{Block, Pass, Via, block_from}
-use Rattle.jpeg_bits.specs.Readers.{ReadsJust, read_on, text}
+use Rattle.jpeg_bits.specs.Readers.{read_on, text}
 use Rattle.jpeg_bits.specs.declared.marker.Marker.{Marker}
-use Rattle.jpeg_bits.proofs.WrittenBits.{following-after}
-use Rattle.jpeg_bits.proofs.WrittenIntervals.{all-groups}
-use Rattle.jpeg_segments.proofs.Codecs.{bind-ok, err-ok, ok-same}
-use Rattle.jpeg_streams.specs.Brought.{after_interval, interval_reached, intervals_reached, or_fault_at}
-use Rattle.jpeg_streams.specs.Brought.{reached_from, scan_reached, sealed}
+use Rattle.jpeg_segments.proofs.Codecs.{err-ok, ok-same}
+use Rattle.jpeg_streams.specs.Brought.{interval_reached, or_fault_at, reached_from, sealed}
 use Rattle.jpeg_streams.specs.InTurn.{Reached, at_start, turn_from}
 use Rattle.jpeg_streams.specs.Order.{Spot}
 use Rattle.jpeg_streams.specs.Scans.{Arrays, block_at, put_block, via_at}
-use Rattle.jpeg_evidence.specs.LongerStreams.{GoesOn, Puts, PutsFirst, ReadsOn}
+use Rattle.jpeg_evidence.specs.LongerStreams.{Puts, PutsFirst, ReadsOn}
 use Rattle.jpeg_evidence.specs.LongerStreams.Puts.{finished, put}
-use Rattle.jpeg_evidence.proofs.FrontReaders.{Front, TakesFront, bind-front, block-front, gives-front}
-use Rattle.jpeg_evidence.proofs.FrontReaders.Front.{gave, failed}
-
--- ---- blocks of bits
-
-abbrev After : Type 0
-After = Reached × Result (List Bool) Fault
-
-pub turn-front : (p : Pass) (vias : List Via) (s : Spot) (old : Reached) → TakesFront (turn_from p vias s old)
-unfolding turn_from
-turn-front p vias s old = search (rules, bind-front, block-front, gives-front)
-
--- what is reached after the next block
-abbrev after_turn : Pass → List Via → List Spot → Reached → Result (Reached × Text) Fault → After
-after_turn p vias spots old o = elim o [
-  | Ok r ↦ reached_from p vias spots r.0 r.1
-  | Err fault ↦ (old, Err fault)
-]
-
--- What is reached of these bits, and that more bits go on from there.
-record Stops (p : Pass) (vias : List Via) (spots : List Spot) (old : Reached) (bits : List Bool) : Type 0 where
-  end : After
-  whole : (ps : List (List ℕ)) → reached_from p vias spots old (text bits ps (Broken End)) ≡ end
-  goes : GoesOn p vias spots old bits end.0
-
-none-stops : (p : Pass) (vias : List Via) (old : Reached) (bits : List Bool) → Stops p vias [] old bits
-unfolding reached_from
-none-stops p vias old bits = record {
-  end = (old, Ok bits);
-  whole = λ ps. refl;
-  goes = record {
-    done = [];
-    others = [];
-    taken = [];
-    left = bits;
-    spots_are = refl;
-    bits_are = refl;
-    brought = λ ps. refl;
-    longer = λ more ps f. refl;
-  };
-}
-
-failed-stops : (p : Pass) (vias : List Via) (s : Spot) (spots : List Spot) (old : Reached) (bits : List Bool) (g : Fault)
-    → ((ps : List (List ℕ)) → turn_from p vias s old (text bits ps (Broken End)) ≡ Err g)
-    → Stops p vias (s ∷ spots) old bits
-unfolding reached_from
-failed-stops p vias s spots old bits g is = record {
-  end = (old, Err g);
-  whole = λ ps. ap (after_turn p vias spots old) (is ps);
-  goes = record {
-    done = [];
-    others = s ∷ spots;
-    taken = [];
-    left = bits;
-    spots_are = refl;
-    bits_are = refl;
-    brought = λ ps. refl;
-    longer = λ more ps f. refl;
-  };
-}
-
--- the next block of bits that begin with its own
-next-turn : (p : Pass) (vias : List Via) (s : Spot) (spots : List Spot) (old x : Reached) (own rest bits : List Bool)
-    (ps : List (List ℕ)) (e : Ending) → bits ≡ own ++ rest → ReadsJust (turn_from p vias s old) own x
-    → reached_from p vias (s ∷ spots) old (text bits ps e)
-    ≡ reached_from p vias spots x (text rest (drop (length own) ps) e)
-unfolding reached_from
-next-turn p vias s spots old x own rest bits ps e is r =
-    ap (λ (b : List Bool). after_turn p vias spots old (turn_from p vias s old (text b ps e))) is
-    ∙ ap (after_turn p vias spots old) (r.read rest ps e)
-
-next-stops : (p : Pass) (vias : List Via) (s : Spot) (spots : List Spot) (old x : Reached) (own left bits : List Bool)
-    → bits ≡ own ++ left → ReadsJust (turn_from p vias s old) own x → Stops p vias spots x left
-    → Stops p vias (s ∷ spots) old bits
-next-stops p vias s spots old x own left bits is r rest =
-    let g = rest.goes in
-    record {
-      end = rest.end;
-      whole = λ ps. next-turn p vias s spots old x own left bits ps (Broken End) is r
-          ∙ rest.whole (drop (length own) ps);
-      goes = record {
-        done = s ∷ g.done;
-        others = g.others;
-        taken = own ++ g.taken;
-        left = g.left;
-        spots_are = ap (λ (l : List Spot). s ∷ l) g.spots_are;
-        bits_are = is ∙ ap (λ (b : List Bool). own ++ b) g.bits_are ∙ sym (append_assoc own g.taken g.left);
-        brought = λ ps. next-turn p vias s g.done old x own left bits ps (Broken End) is r
-            ∙ g.brought (drop (length own) ps);
-        longer = λ more ps f. next-turn p vias s spots old x own (left ++ more) (bits ++ more) ps f
-            (ap (λ (b : List Bool). b ++ more) is ∙ append_assoc own left more) r
-            ∙ g.longer more (drop (length own) ps) f
-            ∙ ap (λ (qs : List (List ℕ)). reached_from p vias g.others rest.end.0 (text (g.left ++ more) qs f))
-            (following-after own g.taken ps);
-      };
-    }
-
-stops : (p : Pass) (vias : List Via) (spots : List Spot) (old : Reached) (bits : List Bool)
-    → Stops p vias spots old bits
-unfolding TakesFront
-stops p vias [] old bits = none-stops p vias old bits
-stops p vias (s ∷ spots) old bits =
-    go (turn-front p vias s old bits) (λ x left. stops p vias spots x left)
-  where
-    go : Front (turn_from p vias s old) bits → ((x : Reached) (left : List Bool) → Stops p vias spots x left)
-        → Stops p vias (s ∷ spots) old bits
-    go (failed g is) others = failed-stops p vias s spots old bits g is
-    go (gave own left x e r) others = next-stops p vias s spots old x own left bits e r (others x left)
-
--- Bits bring blocks, and more bits go on from there.
-pub longer_bits_go_on : (p : Pass) (vias : List Via) (spots : List Spot) (old : Reached) (bits : List Bool)
-    → GoesOn p vias spots old bits (reached_from p vias spots old (text bits [] (Broken End))).0
-longer_bits_go_on p vias spots old bits =
-    let s = stops p vias spots old bits in
-    subst (λ (x : After). GoesOn p vias spots old bits x.0) (sym (s.whole [])) s.goes
+use Rattle.jpeg_evidence.proofs.LongerBits.{After, CanRead, Stops, after_turn, stops}
 
 -- ---- blocks that are put
 
-puts-both : (xs ys : List Spot) (a b c : Arrays) → Puts xs a b → Puts ys b c → Puts (xs ++ ys) a c
+pub puts-both : (xs ys : List Spot) (a b c : Arrays) → Puts xs a b → Puts ys b c → Puts (xs ++ ys) a c
 puts-both xs ys a b c (finished arrays) q = q
 puts-both xs ys a b c (put s spots block before after p) q =
     put s (spots ++ ys) block a c (puts-both spots ys (put_block s block a) b c p q)
 
-puts-then : (xs ys : List Spot) (a b c : Arrays) → Puts xs a b → PutsFirst ys b c → PutsFirst (xs ++ ys) a c
+pub puts-then : (xs ys : List Spot) (a b c : Arrays) → Puts xs a b → PutsFirst ys b c → PutsFirst (xs ++ ys) a c
 puts-then xs ys a b c p f = record {
   done = xs ++ f.done;
   others = f.others;
@@ -154,7 +36,7 @@ puts-then xs ys a b c p f = record {
   puts = puts-both xs f.done a b c p f.puts;
 }
 
-puts-of-more : (xs ys : List Spot) (a b : Arrays) → PutsFirst xs a b → PutsFirst (xs ++ ys) a b
+pub puts-of-more : (xs ys : List Spot) (a b : Arrays) → PutsFirst xs a b → PutsFirst (xs ++ ys) a b
 puts-of-more xs ys a b f = record {
   done = f.done;
   others = f.others ++ ys;
@@ -163,9 +45,9 @@ puts-of-more xs ys a b f = record {
 }
 
 -- what is put of the blocks of an interval, and that all are where it has no fault
-record Reaches (spots : List Spot) (before : Arrays) (o : After) : Type 0 where
-  first : PutsFirst spots before o.0.arrays
-  all : (left : List Bool) → o.1 ≡ Ok left → Puts spots before o.0.arrays
+pub record Reaches (spots : List Spot) (before : Arrays) (o : After) : Type 0 where
+  pub first : PutsFirst spots before o.0.arrays
+  pub all : (left : List Bool) → o.1 ≡ Ok left → Puts spots before o.0.arrays
 
 turn-puts : (p : Pass) (vias : List Via) (s : Spot) (old : Reached) (t : Text) (r : Reached × Text)
     → turn_from p vias s old t ≡ Ok r → (b : Block) × (r.0.arrays ≡ put_block s b old.arrays)
@@ -186,7 +68,7 @@ turn-puts p vias s old t r e = go
     go (Ok q) e = (q.0.0, sym (ap (λ (x : Reached × Text). x.0.arrays) (ok-same _ r e)))
     go (Err g) e = absurd (err-ok g r e)
 
-reaches : (p : Pass) (vias : List Via) (spots : List Spot) (old : Reached) (t : Text)
+pub reaches : (p : Pass) (vias : List Via) (spots : List Spot) (old : Reached) (t : Text)
     → Reaches spots old.arrays (reached_from p vias spots old t)
 unfolding reached_from
 reaches p vias [] old t = record {
@@ -300,24 +182,31 @@ text-grows (b ∷ c ∷ bytes) more =
 abbrev pub Met : Type 0
 Met = Outcome (Bool × Option Marker)
 
--- An interval of longer data goes on after the blocks of shorter ones; where it is read up to a marker, that is all.
-record IntervalGoes (spots : List Spot) (before shorter longer : Arrays) (o : Met) : Type 0 where
-  on : ReadsOn spots before shorter longer
-  all : (x : (Bool × Option Marker) × List ℕ) → o ≡ Ok x → Puts on.others shorter longer
+-- Shorter data bring as many of the first blocks as this allows.
+pub record ReadsMost (P : ℕ → Type 0) (spots : List Spot) (before shorter longer : Arrays) : Type 0 where
+  pub on : ReadsOn spots before shorter longer
+  pub can : P (length on.done)
+  pub most : (count : ℕ) → P count → count ≤ length on.done
+
+-- An interval of longer data goes on after the blocks of shorter ones, which are all that can be read; where it is read
+-- up to a marker, that is all.
+pub record IntervalGoes (P : ℕ → Type 0) (spots : List Spot) (before shorter longer : Arrays) (o : Met) : Type 0 where
+  pub brings : ReadsMost P spots before shorter longer
+  pub all : (x : (Bool × Option Marker) × List ℕ) → o ≡ Ok x → Puts brings.on.others shorter longer
 
 -- what is reached of an interval, and the end of its data
 abbrev pub interval_by : Ending → After → Met
 interval_by e r = outcomes.◌>>=◌ (or_fault_at e r.1) (λ left. outcomes.◌>>=◌ (met e) (λ m.
     Ok ((nat_le (length left) 56, m.0), m.1)))
 
-all-read : (e : Ending) (r : After) (x : (Bool × Option Marker) × List ℕ) → interval_by e r ≡ Ok x
+pub all-read : (e : Ending) (r : After) (x : (Bool × Option Marker) × List ℕ) → interval_by e r ≡ Ok x
     → (left : List Bool) × (r.1 ≡ Ok left)
 all-read e (a, Ok left) x h = (left, refl)
 all-read e (a, Err g) x h = absurd (err-ok _ x h)
 
 bits-go : (p : Pass) (vias : List Via) (spots : List Spot) (arrays : Arrays) (bits more : List Bool)
     (ps : List (List ℕ)) (e : Ending) (s : Stops p vias spots (at_start arrays) bits)
-    → IntervalGoes spots arrays s.end.0.arrays
+    → IntervalGoes (CanRead p vias spots (at_start arrays) bits) spots arrays s.end.0.arrays
     (reached_from p vias spots (at_start arrays) (text (bits ++ more) ps (Broken End))).0.arrays
     (interval_by e (reached_from p vias spots (at_start arrays) (text (bits ++ more) ps (Broken End))))
 bits-go p vias spots arrays bits more ps e s =
@@ -325,22 +214,30 @@ bits-go p vias spots arrays bits more ps e s =
     let first = reaches p vias g.done (at_start arrays) (text bits [] (Broken End)) in
     let others = text (g.left ++ more) (drop (length g.taken) ps) (Broken End) in
     let next = reaches p vias g.others s.end.0 others in
-    subst (λ (r : After). IntervalGoes spots arrays s.end.0.arrays r.0.arrays (interval_by e r))
-    (sym (g.longer more ps (Broken End)))
+    subst (λ (r : After). IntervalGoes (CanRead p vias spots (at_start arrays) bits) spots arrays s.end.0.arrays
+    r.0.arrays (interval_by e r)) (sym (g.longer more ps (Broken End)))
     (record {
-      on = record {
-        done = g.done;
-        others = g.others;
-        parts = g.spots_are;
-        puts = subst (λ (r : After). Puts g.done arrays r.0.arrays) (g.brought [])
-            (first.all g.left (ap (λ (r : After). r.1) (g.brought [])));
-        further = next.first;
+      brings = record {
+        on = record {
+          done = g.done;
+          others = g.others;
+          parts = g.spots_are;
+          puts = subst (λ (r : After). Puts g.done arrays r.0.arrays) (g.brought [])
+              (first.all g.left (ap (λ (r : After). r.1) (g.brought [])));
+          further = next.first;
+        };
+        can = s.can;
+        most = s.most;
       };
       all = λ x h. let l = all-read e (reached_from p vias g.others s.end.0 others) x h in next.all l.0 l.1;
     })
 
-interval-goes : (p : Pass) (vias : List Via) (spots : List Spot) (arrays : Arrays) (bytes more : List ℕ)
-    → IntervalGoes spots arrays (interval_reached p vias spots arrays bytes).0
+-- those of an interval's blocks that can be read of the bits that these bytes have
+abbrev pub CanReadOf : Pass → List Via → List Spot → Arrays → List ℕ → ℕ → Type 0
+CanReadOf p vias spots arrays bytes = CanRead p vias spots (at_start arrays) (text_at bytes).bits
+
+pub interval-goes : (p : Pass) (vias : List Via) (spots : List Spot) (arrays : Arrays) (bytes more : List ℕ)
+    → IntervalGoes (CanReadOf p vias spots arrays bytes) spots arrays (interval_reached p vias spots arrays bytes).0
     (interval_reached p vias spots arrays (bytes ++ more)).0
     (interval_reached p vias spots arrays (bytes ++ more)).1
 unfolding interval_reached
@@ -349,10 +246,11 @@ interval-goes p vias spots arrays bytes more =
     let u = text_at (bytes ++ more) in
     let g = text-grows bytes more in
     let s = stops p vias spots (at_start arrays) t.bits in
-    subst (λ (r : After). IntervalGoes spots arrays r.0.arrays
+    let P = CanReadOf p vias spots arrays bytes in
+    subst (λ (r : After). IntervalGoes P spots arrays r.0.arrays
     (reached_from p vias spots (at_start arrays) (sealed u)).0.arrays
     (interval_by u.ending (reached_from p vias spots (at_start arrays) (sealed u)))) (sym (s.whole t.following))
-    (subst (λ (b : List Bool). IntervalGoes spots arrays s.end.0.arrays
+    (subst (λ (b : List Bool). IntervalGoes P spots arrays s.end.0.arrays
     (reached_from p vias spots (at_start arrays) (text b u.following (Broken End))).0.arrays
     (interval_by u.ending (reached_from p vias spots (at_start arrays) (text b u.following (Broken End)))))
     (sym g.are) (bits-go p vias spots arrays t.bits g.bits u.following u.ending s))
@@ -399,158 +297,3 @@ interval-stays p vias spots arrays bytes more x h =
         ap (λ (z : After). (z.0.arrays, interval_by f z)) (is same.0)
         ∙ ap (λ (d : Ending). (r.0.arrays, interval_by d r)) same.1
         ∙ ap (λ (o : Met). (r.0.arrays, o)) ends.1
-
--- ---- a scan
-
-abbrev Scanned : Type 0
-Scanned = Arrays × Outcome (Option Marker)
-
--- after an interval: the others, or its fault
-abbrev pub next_reached : (Arrays → List ℕ → Scanned) → Arrays → Result (List ℕ) Fault → Scanned
-next_reached others arrays o = elim o [ Ok rest ↦ others arrays rest | Err fault ↦ (arrays, Err fault) ]
-
--- these spots, and those of more intervals
-abbrev with_groups : List Spot → List (List Spot) → List Spot
-with_groups spots more = spots ++ flat_map (λ (g : List Spot). g) more
-
-pub after-same : (k : ℕ) (x : (Bool × Option Marker) × List ℕ) (b more : List ℕ) → after_interval k x ≡ Ok b
-    → after_interval k (x.0, x.1 ++ more) ≡ Ok (b ++ more)
-after-same k x b more h = go (x.0.0 && is_restart k x.0.1) h
-  where
-    go : (y : Bool) → (if y then Ok x.1 else Err Malformed) ≡ Ok b
-        → (if y then Ok (x.1 ++ more) else Err Malformed) ≡ Ok (b ++ more)
-    go true h = ap (λ (l : List ℕ). Ok (l ++ more)) (ok-same x.1 b h)
-    go false h = absurd (err-ok Malformed b h)
-
--- what is put of an interval's blocks, and that all are where it is read
-record IntervalPuts (spots : List Spot) (before after : Arrays) (o : Met) : Type 0 where
-  first : PutsFirst spots before after
-  all : (x : (Bool × Option Marker) × List ℕ) → o ≡ Ok x → Puts spots before after
-
-interval-puts : (p : Pass) (vias : List Via) (spots : List Spot) (arrays : Arrays) (bytes : List ℕ)
-    → IntervalPuts spots arrays (interval_reached p vias spots arrays bytes).0
-    (interval_reached p vias spots arrays bytes).1
-unfolding interval_reached
-interval-puts p vias spots arrays bytes =
-    let t = text_at bytes in
-    let o = reached_from p vias spots (at_start arrays) (sealed t) in
-    let r = reaches p vias spots (at_start arrays) (sealed t) in
-    record { first = r.first; all = λ x h. let l = all-read t.ending o x h in r.all l.0 l.1 }
-
--- after an interval, what the others put
-next-puts : (k : ℕ) (spots others : List Spot) (before after : Arrays) (o : Met)
-    (reached : Arrays → List ℕ → Scanned) → IntervalPuts spots before after o
-    → ((b : List ℕ) → PutsFirst others after (reached after b).0)
-    → (q : Result (List ℕ) Fault) → outcomes.◌>>=◌ o (after_interval k) ≡ q
-    → PutsFirst (spots ++ others) before (next_reached reached after q).0
-next-puts k spots others before after o reached one more (Err g) h = puts-of-more spots others before after one.first
-next-puts k spots others before after o reached one more (Ok b) h =
-    let x = bind-ok o (after_interval k) b h in
-    puts-then spots others before after (reached after b).0 (one.all x.0 x.1) (more b)
-
-intervals-put : (p : Pass) (vias : List Via) (k : ℕ) (spots : List Spot) (more : List (List Spot)) (arrays : Arrays)
-    (bytes : List ℕ)
-    → PutsFirst (with_groups spots more) arrays (intervals_reached p vias k spots more arrays bytes).0
-unfolding intervals_reached
-intervals-put p vias k spots [] arrays bytes =
-    puts-of-more spots [] arrays _ (interval-puts p vias spots arrays bytes).first
-intervals-put p vias k spots (next ∷ more) arrays bytes =
-    let r = interval_reached p vias spots arrays bytes in
-    next-puts k spots (with_groups next more) arrays r.0 r.1 (intervals_reached p vias (suc k) next more)
-    (interval-puts p vias spots arrays bytes) (λ b. intervals-put p vias (suc k) next more r.0 b)
-    (outcomes.◌>>=◌ r.1 (after_interval k)) refl
-
-on-more : (xs ys : List Spot) (before shorter longer : Arrays) → ReadsOn xs before shorter longer
-    → ReadsOn (xs ++ ys) before shorter longer
-on-more xs ys before shorter longer r = record {
-  done = r.done;
-  others = r.others ++ ys;
-  parts = ap (λ (l : List Spot). l ++ ys) r.parts ∙ append_assoc r.done r.others ys;
-  puts = r.puts;
-  further = puts-of-more r.others ys shorter longer r.further;
-}
-
--- further by the other intervals
-on-further : (xs ys : List Spot) (before shorter middle longer : Arrays) (r : ReadsOn xs before shorter middle)
-    → Puts r.others shorter middle → PutsFirst ys middle longer → ReadsOn (xs ++ ys) before shorter longer
-on-further xs ys before shorter middle longer r all more = record {
-  done = r.done;
-  others = r.others ++ ys;
-  parts = ap (λ (l : List Spot). l ++ ys) r.parts ∙ append_assoc r.done r.others ys;
-  puts = r.puts;
-  further = puts-then r.others ys shorter middle longer all more;
-}
-
--- after blocks that both bring
-on-after : (xs ys : List Spot) (before middle shorter longer : Arrays) → Puts xs before middle
-    → ReadsOn ys middle shorter longer → ReadsOn (xs ++ ys) before shorter longer
-on-after xs ys before middle shorter longer p r = record {
-  done = xs ++ r.done;
-  others = r.others;
-  parts = ap (λ (l : List Spot). xs ++ l) r.parts ∙ sym (append_assoc xs r.done r.others);
-  puts = puts-both xs r.done before middle shorter p r.puts;
-  further = r.further;
-}
-
--- where the first interval of the shorter data has a fault
-stopped-goes : (k : ℕ) (spots others : List Spot) (before shorter : Arrays) (s : Arrays × Met)
-    (reached : Arrays → List ℕ → Scanned) → IntervalGoes spots before shorter s.0 s.1
-    → ((b : List ℕ) → PutsFirst others s.0 (reached s.0 b).0)
-    → (q : Result (List ℕ) Fault) → outcomes.◌>>=◌ s.1 (after_interval k) ≡ q
-    → ReadsOn (spots ++ others) before shorter (next_reached reached s.0 q).0
-stopped-goes k spots others before shorter s reached i more (Err g) h = on-more spots others before shorter s.0 i.on
-stopped-goes k spots others before shorter s reached i more (Ok b) h =
-    let x = bind-ok s.1 (after_interval k) b h in
-    on-further spots others before shorter s.0 (reached s.0 b).0 i.on (i.all x.0 x.1) (more b)
-
--- where it is read
-read-goes : (k : ℕ) (spots others : List Spot) (before : Arrays) (r s : Arrays × Met) (b more : List ℕ)
-    (reached : Arrays → List ℕ → Scanned) (x : (Bool × Option Marker) × List ℕ) → after_interval k x ≡ Ok b
-    → StaysRead spots before r s x more → ReadsOn others r.0 (reached r.0 b).0 (reached r.0 (b ++ more)).0
-    → ReadsOn (spots ++ others) before (reached r.0 b).0
-    (next_reached reached s.0 (outcomes.◌>>=◌ s.1 (after_interval k))).0
-read-goes k spots others before r s b more reached x h same on =
-    subst (λ (q : Arrays × Met). ReadsOn (spots ++ others) before (reached r.0 b).0
-    (next_reached reached q.0 (outcomes.◌>>=◌ q.1 (after_interval k))).0) (sym same.same)
-    (subst (λ (o : Result (List ℕ) Fault). ReadsOn (spots ++ others) before (reached r.0 b).0
-    (next_reached reached r.0 o).0) (sym (after-same k x b more h))
-    (on-after spots others before r.0 (reached r.0 b).0 (reached r.0 (b ++ more)).0 same.all on))
-
-next-goes : (k : ℕ) (spots others : List Spot) (before : Arrays) (r s : Arrays × Met) (more : List ℕ)
-    (reached : Arrays → List ℕ → Scanned) → IntervalGoes spots before r.0 s.0 s.1
-    → ((x : (Bool × Option Marker) × List ℕ) → r.1 ≡ Ok x → StaysRead spots before r s x more)
-    → ((b : List ℕ) → PutsFirst others s.0 (reached s.0 b).0)
-    → ((b : List ℕ) → ReadsOn others r.0 (reached r.0 b).0 (reached r.0 (b ++ more)).0)
-    → (q : Result (List ℕ) Fault) → outcomes.◌>>=◌ r.1 (after_interval k) ≡ q
-    → ReadsOn (spots ++ others) before (next_reached reached r.0 q).0
-    (next_reached reached s.0 (outcomes.◌>>=◌ s.1 (after_interval k))).0
-next-goes k spots others before r s more reached i stays first on (Err g) h =
-    stopped-goes k spots others before r.0 s reached i first (outcomes.◌>>=◌ s.1 (after_interval k)) refl
-next-goes k spots others before r s more reached i stays first on (Ok b) h =
-    let x = bind-ok r.1 (after_interval k) b h in
-    read-goes k spots others before r s b more reached x.0 x.2 (stays x.0 x.1) (on b)
-
-pub intervals-go : (p : Pass) (vias : List Via) (k : ℕ) (spots : List Spot) (groups : List (List Spot)) (arrays : Arrays)
-    (bytes more : List ℕ)
-    → ReadsOn (with_groups spots groups) arrays (intervals_reached p vias k spots groups arrays bytes).0
-    (intervals_reached p vias k spots groups arrays (bytes ++ more)).0
-unfolding intervals_reached
-intervals-go p vias k spots [] arrays bytes more =
-    on-more spots [] arrays _ _ (interval-goes p vias spots arrays bytes more).on
-intervals-go p vias k spots (next ∷ groups) arrays bytes more =
-    let r = interval_reached p vias spots arrays bytes in
-    let s = interval_reached p vias spots arrays (bytes ++ more) in
-    next-goes k spots (with_groups next groups) arrays r s more (intervals_reached p vias (suc k) next groups)
-    (interval-goes p vias spots arrays bytes more) (λ x h. interval-stays p vias spots arrays bytes more x h)
-    (λ b. intervals-put p vias (suc k) next groups s.0 b)
-    (λ b. intervals-go p vias (suc k) next groups r.0 b more)
-    (outcomes.◌>>=◌ r.1 (after_interval k)) refl
-
--- Longer data of a scan bring the blocks of shorter ones, and go on after them.
-pub longer_data_read_on : (p : Pass) (n : ℕ) (vias : List Via) (spots : List Spot) (arrays : Arrays) (bytes more : List ℕ)
-    → ReadsOn spots arrays (scan_reached p n vias spots arrays bytes).0
-    (scan_reached p n vias spots arrays (bytes ++ more)).0
-longer_data_read_on p n vias spots arrays bytes more =
-    subst (λ (l : List Spot). ReadsOn l arrays (scan_reached p n vias spots arrays bytes).0
-    (scan_reached p n vias spots arrays (bytes ++ more)).0) (all-groups n spots)
-    (intervals-go p vias 0 (first_group n spots) (other_groups n spots) arrays bytes more)

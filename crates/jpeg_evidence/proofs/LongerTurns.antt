@@ -31,8 +31,8 @@ use Rattle.jpeg_streams.specs.Segments.{Turn, frame_segment}
 use Rattle.jpeg_streams.specs.Stream.{end_segment, segment_at}
 use Rattle.jpeg_evidence.specs.LongerStreams.{ComesBy, ScanGoesOn, arrays_of}
 use Rattle.jpeg_evidence.specs.LongerStreams.ComesBy.{in_front, in_scan}
-use Rattle.jpeg_evidence.proofs.LongerData.{StaysRead, after-same, interval-stays, longer_data_read_on, next_reached}
-use Rattle.jpeg_evidence.proofs.LongerData.{Met}
+use Rattle.jpeg_evidence.proofs.LongerData.{Met, StaysRead, interval-stays}
+use Rattle.jpeg_evidence.proofs.LongerScans.{after-same, longer_data_read_on, next_reached}
 use Rattle.jpeg_evidence.proofs.LongerLossless.{lossless-stays}
 use Rattle.jpeg_evidence.proofs.LongerSegments.{Stays, app-stays, dht-stays, dqt-stays, dri-stays, length-stays}
 use Rattle.jpeg_evidence.proofs.LongerSegments.{marker-stays, restarts-stay, skip-stays, sof-stays, sos-stays}

@@ -1,6 +1,5 @@
 -- The data of a scan that were written are reached without a fault.
-use Rattle.std.proofs.Common.{◌≡◌, ◌⊎◌, inl, inr, ◌+◌, ◌-◌, ◌*◌, ◌%◌, ◌<◌, ℕ, suc, Bool, true, false, List}
-use Rattle.std.proofs.Common.{[], ◌∷◌, ◌++◌, length, map}
+use Rattle.std.proofs.Common.{◌≡◌, ◌+◌, ◌-◌, ◌%◌, ◌<◌, ℕ, suc, Bool, true, false, List, [], ◌∷◌, ◌++◌, length, map}
 use Rattle.std.proofs.Common.{refl, sym, ap, ◌∙◌, subst, arith, Ok, Err, Result, Option, Some, None, append_assoc}
 use Rattle.std.specs.Prelude.{nat_le}
 use Rattle.std.specs.List.{AllByRecursion}
@@ -10,10 +9,9 @@ use Rattle.std.proofs.lemmas.Simd.{map-map}
 use Rattle.jpeg_bits.specs.Reading.{End, Fault, Outcome}
 use Rattle.jpeg_bits.specs.Reading as outcomes
 use Rattle.jpeg_bits.specs.Entropy.{Broken, Ending, Found, Text, text_at}
-use Rattle.jpeg_bits.specs.Codes.{IsTable}
 use Rattle.jpeg_bits.specs.Intervals.{end_after, first_group, interval, met, other_groups}
 use Rattle.jpeg_bits.specs.Marker.{marker_of}
-use Rattle.jpeg_bits.specs.Passes.{Block, Pass, Via, blocks_of, predictors_at_start, whole_pass, zero_block}
+use Rattle.jpeg_bits.specs.Passes.{Block, Pass, Via, blocks_of, predictors_at_start}
 use Rattle.jpeg_bits.specs.Readers.{Reads, ReadsJust, read_on, text}
 use Rattle.jpeg_bits.specs.Written.{IsMarker, WritesInterval, WritesIntervals, marker}
 use Rattle.jpeg_bits.specs.Written.WritesIntervals.{last, another}
@@ -21,30 +19,22 @@ use Rattle.jpeg_bits.specs.declared.marker.Marker.{Marker}
 use Rattle.jpeg_bits.specs.declared.marker.Marker.TheVariants.{EOI, RST}
 use Rattle.jpeg_bits.proofs.ReadIntervals.{all-map}
 use Rattle.jpeg_bits.proofs.WrittenIntervals.{all-groups, first-map, marker-append, others-map, reads-interval}
-use Rattle.jpeg_bits.proofs.Tables.{good-table}
-use Rattle.jpeg_segments.specs.Frame.{Frame}
 use Rattle.jpeg_segments.proofs.Codecs.{err-ok, ok-same}
 use Rattle.jpeg_streams.specs.Brought.{after_interval, after_intervals, interval_reached, intervals_reached}
 use Rattle.jpeg_streams.specs.Brought.{reached_from, scan_reached, sealed}
-use Rattle.jpeg_streams.specs.InTurn.{AreApart, AreArrays, Fits, IsIn, Reached, at_start, turn_from, turns_from}
-use Rattle.jpeg_streams.specs.Levels.{Is8Bit, Levels, cut, nothing_sent, numbers_at, sent_after}
-use Rattle.jpeg_streams.specs.Order.{Spot, mcu_size, spots_of}
+use Rattle.jpeg_streams.specs.InTurn.{AreApart, IsIn, Reached, at_start, turn_from, turns_from}
+use Rattle.jpeg_streams.specs.Order.{Spot}
 use Rattle.jpeg_streams.specs.Scans.{Arrays, block_at, put_blocks, turns_of, via_at}
-use Rattle.jpeg_streams.specs.ScanSegments.{Coding, after_restarts, components_of, vias_from}
+use Rattle.jpeg_streams.specs.ScanSegments.{after_restarts}
 use Rattle.jpeg_streams.specs.WrittenData.{WritesBlocks}
-use Rattle.jpeg_streams.specs.WrittenScans.{Coefficients, IsComplete, WritesScan}
-use Rattle.jpeg_streams.proofs.Apart.{spots-apart, spots-inside}
-use Rattle.jpeg_streams.proofs.CutLevels.{all-same, cut-after, suits-cut}
-use Rattle.jpeg_streams.proofs.WholeImages.{cut-whole}
-use Rattle.jpeg_streams.proofs.CountedScans.{all_of, apart-back, apart-between, apart-front, arrays_in, in-back, in-front}
-use Rattle.jpeg_streams.proofs.CountedScans.{in-turn, others-kept, put_in, reaches}
+use Rattle.jpeg_streams.proofs.CountedScans.{all_of, apart-back, apart-between, apart-front, arrays_in, in-back}
+use Rattle.jpeg_streams.proofs.CountedScans.{in-front, in-turn, others-kept, put_in}
 use Rattle.jpeg_streams.proofs.SentBlocks.{Suits, after_pass}
 use Rattle.jpeg_streams.proofs.WrittenBlocks.{IsReady, takes-blocks}
-use Rattle.jpeg_streams.proofs.WrittenFrameScans.{HasGood, IsReadyAt, all-in, reads-arrays, start-predicts, turn_with}
-use Rattle.jpeg_streams.proofs.WrittenFrameScans.{cut-nothing, suits-dc, via-good, whole-legal}
-use Rattle.jpeg_evidence.specs.LongerStreams.{HoldsSent, IsDcAlone, IsKeptBefore}
-use Rattle.jpeg_evidence.proofs.LongerBlocks.{blocks_stay, reached_are_read}
-use Rattle.jpeg_evidence.proofs.LongerData.{Met, interval_by, longer_data_read_on, next_reached}
+use Rattle.jpeg_streams.proofs.WrittenFrameScans.{IsReadyAt, all-in, reads-arrays, start-predicts, turn_with}
+use Rattle.jpeg_evidence.proofs.LongerBlocks.{reached_are_read}
+use Rattle.jpeg_evidence.proofs.LongerData.{Met, interval_by}
+use Rattle.jpeg_evidence.proofs.LongerScans.{next_reached}
 
 -- ---- an interval
 
@@ -286,7 +276,7 @@ unfolding after_restarts
 ends-there = refl
 
 -- the arrays after a written scan
-whole-reached : (p : Pass) (n : ℕ) (vias : List Via) (u : Spot → Block) (spots : List Spot) (arrays : Arrays)
+pub whole-reached : (p : Pass) (n : ℕ) (vias : List Via) (u : Spot → Block) (spots : List Spot) (arrays : Arrays)
     (bytes : List ℕ) → AreApart spots → ((s : Spot) → IsIn s spots → IsReadyAt p vias arrays u s)
     → WritesIntervals (WritesBlocks p predictors_at_start 0) 0 (first_group n (turns_of vias spots u))
     (other_groups n (turns_of vias spots u)) bytes
@@ -298,84 +288,3 @@ whole-reached p n vias u spots arrays bytes apart ready w =
     let q = reads-arrays p n vias spots arrays u bytes 0 217 EOI []
     (all-in (IsReadyAt p vias arrays u) spots (λ s t. ready s t)) is w in
     ap (λ (y : (Arrays × Option Marker) × List ℕ). y.0.0) (ok-same _ _ (sym r.2 ∙ q))
-
--- what is kept of a block suits the pass
-suits-kept : (p : Pass) (l : Levels) (c b : Block) → Is8Bit c → IsKeptBefore p l c b ⊎ IsDcAlone p
-    → Suits p b (numbers_at p.al c)
-suits-kept p l c b range (inl k) =
-    subst (λ (x : Block). Suits p x (numbers_at p.al c)) (sym k.kept_is)
-    (suits-cut p l c range (range.count ∙ sym k.sized) k.legal)
-suits-kept p l c b range (inr d) = suits-dc p b c d.first d.end d.low range
-
--- The beginning of the data of a written scan has the coefficients that were sent.
-pub cut_scans_have_what_was_sent : (frame : Frame) (restart : ℕ) (p : Pass) (codings : List Coding)
-    (array : Coefficients) (bytes : List ℕ) (w : WritesScan frame restart p codings array bytes)
-    (levels : Spot → Levels) (before : Arrays) (front more : List ℕ)
-    → AllByRecursion (Fits frame) (components_of codings) → AreArrays (components_of codings) before
-    → AllByRecursion (λ k. IsTable k.dc × IsTable k.ac) codings
-    → ((s : Spot) → IsIn s (spots_of frame (components_of codings))
-    → IsKeptBefore p (levels s) (w.sent s) (block_at before s) ⊎ IsDcAlone p)
-    → bytes ≡ front ++ more
-    → HoldsSent p (spots_of frame (components_of codings)) levels w.sent before
-    (scan_reached p (restart * mcu_size (components_of codings)) (vias_from 0 codings)
-    (spots_of frame (components_of codings)) before front).0
-cut_scans_have_what_was_sent frame restart p codings array bytes w levels before front more fits sized tables kept parts =
-    let n = restart * mcu_size (components_of codings) in
-    let vias = vias_from 0 codings in
-    let spots = spots_of frame (components_of codings) in
-    let u : Spot → Block = λ s. numbers_at p.al (w.sent s) in
-    let apart = spots-apart frame (components_of codings) fits in
-    let good = all-good codings tables in
-    let ready : (s : Spot) → IsIn s spots → IsReadyAt p vias before u s = λ s t.
-    let v = via-good codings s.slot good in
-    record {
-      at = record {
-        dc_good = v.dc;
-        ac_good = v.ac;
-        suits = suits-kept p (levels s) (w.sent s) (block_at before s) (w.in_range s) (kept s t);
-      };
-    } in
-    let f : Spot → Block = λ s. after_pass p (block_at before s) (u s) in
-    let all = whole-reached p n vias u spots before bytes apart ready w.coded in
-    let end = more ++ marker 0 217 [] in
-    let cut_so = blocks_stay spots before (scan_reached p n vias spots before front).0
-    (scan_reached p n vias spots before (front ++ end)).0 apart
-    (longer_data_read_on p n vias spots before front end) in
-    let same : front ++ end ≡ bytes ++ marker 0 217 []
-    = sym (append_assoc front more (marker 0 217 [])) ∙ ap (λ (l : List ℕ). l ++ marker 0 217 []) (sym parts) in
-    record {
-      done = cut_so.done;
-      others = cut_so.others;
-      parts = cut_so.parts;
-      first = λ s t k.
-          let within : IsIn s spots = subst (λ (l : List Spot). IsIn s l) (sym cut_so.parts)
-          (in-front s cut_so.done cut_so.others t) in
-          cut_so.same s t
-          ∙ ap (λ (l : List ℕ). block_at (scan_reached p n vias spots before l).0 s) same
-          ∙ ap (λ (a : Arrays). block_at a s) all
-          ∙ reaches f s spots before (spots-inside frame (components_of codings) before s fits sized within) within
-          ∙ ap (λ (b : Block). after_pass p b (u s)) k.kept_is
-          ∙ cut-after p (levels s) (w.sent s) ((w.in_range s).count ∙ sym k.sized) k.legal;
-      kept = cut_so.kept;
-    }
-  where
-    all-good : (ks : List Coding) → AllByRecursion (λ k. IsTable k.dc × IsTable k.ac) ks → AllByRecursion HasGood ks
-    all-good [] h = tt
-    all-good (k ∷ ks) h = (
-      record {
-        dc = good-table k.dc h.0.0.counted h.0.0.exists;
-        ac = good-table k.ac h.0.1.counted h.0.1.exists;
-      },
-      all-good ks h.1,
-    )
-
--- Before a sequential scan zeros are kept, and after it the coefficients.
-complete-after : IsComplete (sent_after whole_pass nothing_sent)
-complete-after = record { dc = refl; acs = all-same (Some 0) 63 }
-
-pub sequential_levels : (c : Block) → Is8Bit c
-    → IsKeptBefore whole_pass nothing_sent c zero_block × (cut (sent_after whole_pass nothing_sent) c ≡ c)
-sequential_levels c range = (
-  record { legal = whole-legal; sized = refl; kept_is = sym (cut-nothing c range.count) },
-  cut-whole (sent_after whole_pass nothing_sent) c complete-after range.count,
-)

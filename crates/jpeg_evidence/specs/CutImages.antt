@@ -1,7 +1,7 @@
 -- Streams of a writer that are cut: what stands whole in front of the cut, and what is brought of
 -- the scan in whose data the cut is.
-use Rattle.std.specs.Prelude.{◌≡◌, ℕ, ◌/◌, ◌%◌, true, List, [], ◌++◌, get_or, slice_get, Some, None}
-use Rattle.std.specs.Prelude.{Result, Ok, replicate, slice_index_or, unwrap_or}
+use Rattle.std.specs.Prelude.{◌≡◌, ℕ, ◌/◌, ◌%◌, true, List, [], ◌++◌, length, get_or, slice_get}
+use Rattle.std.specs.Prelude.{Some, None, Result, Ok, replicate, slice_index_or, unwrap_or}
 use Rattle.std.specs.List.{enumerate_from}
 use Rattle.jpeg_bits.specs.Passes.{zero_block}
 use Rattle.jpeg_bits.specs.Reading.{Fault, ◌>>=◌}
@@ -9,7 +9,7 @@ use Rattle.jpeg_bits.specs.Written.{marker}
 use Rattle.jpeg_segments.specs.Checks.{gathered}
 use Rattle.jpeg_segments.specs.Frame.{Component, Frame}
 use Rattle.jpeg_segments.specs.ScanHeader.{Scan}
-use Rattle.jpeg_segments.specs.ScanHeaders.{IsScan, ScanHeader, scan_payload}
+use Rattle.jpeg_segments.specs.ScanHeaders.{IsScan, ScanHeader, scan_payload, scan_written}
 use Rattle.jpeg_segments.specs.WrittenSegments.{Segment, marker_code, payload_of, with_length}
 use Rattle.jpeg_streams.specs.declared.settings.Settings.{Settings}
 use Rattle.jpeg_streams.specs.Found.{Found, Said, nothing_said}
@@ -25,6 +25,7 @@ use Rattle.jpeg_streams.specs.ScanSegments.{is_progressive, pass_of}
 use Rattle.jpeg_streams.specs.WrittenImages.{MayStandInImage, WritesImageScan}
 use Rattle.jpeg_streams.specs.WrittenScans.{Coefficients, IsOwn}
 use Rattle.jpeg_streams.specs.WrittenStreams.{Writes}
+use Rattle.jpeg_evidence.specs.FirstBlocks.{IsMost, StandWhole}
 
 -- Segments and scans of an image that are whole, without an end: what they say, and the levels
 -- after them.
@@ -100,7 +101,7 @@ pub data IsPartOfNext (said : Said) : List ℕ → Type 0 where
 -- The blocks of an image that a stream holds which is cut, and what it has said. Its whole segments
 -- and scans in front have said and sent so much, and only a part of the next segment comes after
 -- them. Or a scan comes next that is cut inside its data: then the first of its blocks are there,
--- at the levels after it.
+-- at the levels after it, those whose data stand whole in these bytes and no more.
 pub data HoldsCut (array blocks : Coefficients) : List ℕ → Said → Type 0 where
   in_segment : (first rest : List ℕ) (said : Said) (levels : ℕ → Levels)
       → WritesFront array said levels first → IsPartOfNext said rest
@@ -112,6 +113,8 @@ pub data HoldsCut (array blocks : Coefficients) : List ℕ → Said → Type 0 w
       → WritesFront array said levels first → said.frame ≡ Some frame → IsScan frame h
       → (scan : WritesImageScan array said levels frame h (data_bytes ++ more) next)
       → (more ≡ [] → ⊥) → spots_of frame (components_of scan.codings) ≡ done ++ others
+      → IsMost (λ count. StandWhole frame said.restart (pass_of (scan_written frame h)) scan.codings
+      scan.written.sent count data_bytes) (length done)
       → ((index row column : ℕ) → HasBlock scan.codings done index row column
       → blocks index row column ≡ cut (next index) (array index row column))
       → ((index row column : ℕ) → (HasBlock scan.codings done index row column → ⊥)

@@ -1,13 +1,20 @@
 -- Streams that are cut or damaged, worked by hand, and what they show.
-use Rattle.std.specs.Prelude.{ℕ, ◌-◌, List, [], ◌∷◌, length, take, Option, Result, Ok}
-use Rattle.std.specs.Prelude.{Err}
+use Rattle.std.specs.Prelude.{ℕ, ◌+◌, ◌-◌, ◌*◌, List, [], ◌∷◌, length, map, take, replicate, pos}
+use Rattle.std.specs.Prelude.{Option, Result, Ok, Err}
+use Rattle.jpeg_bits.specs.Passes.{Block}
 use Rattle.jpeg_bits.specs.Reading.{Fault, ◌>>=◌}
+use Rattle.jpeg_bits.specs.declared.huffman.codes.HuffmanTableClass.TheVariants.{DC, AC}
+use Rattle.jpeg_segments.specs.Frame.{Frame, frame_of}
 use Rattle.jpeg_streams.specs.Found.{with_said}
+use Rattle.jpeg_streams.specs.Order.{Spot}
+use Rattle.jpeg_streams.specs.ScanSegments.{Coding}
 use Rattle.jpeg_streams.specs.Output.{default_settings}
 use Rattle.jpeg_streams.specs.Shown.{Shown, shown, shown_rest}
 use Rattle.jpeg_streams.specs.Stream.{header_at, sized_to}
-use Rattle.jpeg_streams.specs.Worked.{colour_frame, grey_frame, image_with, one_code, quantization_of}
-use Rattle.jpeg_streams.specs.Worked.{restart_interval, scan_text, stream_with, two_codes}
+use Rattle.jpeg_streams.specs.Worked.{colour_frame, grey_frame, image_with, one_code}
+use Rattle.jpeg_streams.specs.Worked.{quantization_of, restart_interval, scan_text, stream_with}
+use Rattle.jpeg_streams.specs.Worked.{two_codes}
+use Rattle.jpeg_evidence.specs.FoundTables.{factors_with, one_symbol}
 
 -- the picture and the first fault, or why there is no picture
 abbrev pub picture_and_fault : Result Shown Fault → Result (List ℕ × Option Fault) Fault
@@ -30,6 +37,22 @@ without_last n bytes = take (length bytes - n) bytes
 -- 16 by 8 samples: DC 8 and DC 16, in six bits each
 abbrev pub two_blocks : List ℕ
 two_blocks = stream_with 16 (65 ∷ 15 ∷ [])
+
+-- their frame, how its component is coded, and the blocks
+abbrev pub frame_of_two : Frame
+frame_of_two = frame_of 0 8 8 16 (factors_with 1 1 1 0 ∷ [])
+
+abbrev pub codings_of_two : List Coding
+codings_of_two = map (λ c. record {
+  index = 0;
+  component = c;
+  quantization = replicate 64 1;
+  dc = one_symbol DC 4;
+  ac = one_symbol AC 0;
+}) frame_of_two.components
+
+abbrev pub blocks_of_two : Spot → Block
+blocks_of_two s = record { dc = pos (8 + 8 * s.index); acs = replicate 63 (pos 0) }
 
 -- 24 by 8 samples: a band at level 1, and its refinement, of three bits a block
 abbrev pub three_refined : List ℕ

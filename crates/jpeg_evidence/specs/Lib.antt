@@ -9,4 +9,5 @@ pub mod HeaderRules
 pub mod Extremes
 pub mod CutStreams
 pub mod LongerStreams
+pub mod FirstBlocks
 pub mod CutImages

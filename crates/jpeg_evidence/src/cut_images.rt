@@ -1,5 +1,7 @@
 //! What is brought of a writer's stream that is cut: what was said and sent up to the cut.
-ghost use Rattle.std.specs.Prelude.{◌≡◌, ◌*◌, ℕ, List, [], ◌∷◌, ◌++◌, Some, None, Ok};
+ghost use Rattle.std.specs.Prelude.{◌≡◌, ◌*◌, ◌≤◌, ℕ, List, [], ◌∷◌, ◌++◌, length, Some};
+ghost use Rattle.std.specs.Prelude.{None, Ok};
+ghost use Rattle.jpeg_bits.specs.Passes.{Pass, whole_pass};
 ghost use Rattle.jpeg_bits.specs.Written.{marker};
 ghost use Rattle.jpeg_segments.specs.Frame.{Frame};
 ghost use Rattle.jpeg_segments.specs.ScanHeaders.{IsScan, ScanHeader, scan_payload, scan_written};
@@ -9,28 +11,35 @@ ghost use Rattle.jpeg_streams.specs.ArrayPictures.{picture_of_array};
 ghost use Rattle.jpeg_streams.specs.Brought.{all_brought};
 ghost use Rattle.jpeg_streams.specs.Found.{Said, nothing_found};
 ghost use Rattle.jpeg_streams.specs.Levels.{Is8Bit, Levels};
+ghost use Rattle.jpeg_streams.specs.Order.{spots_of};
 ghost use Rattle.jpeg_streams.specs.SaidSegments.{Stands};
+ghost use Rattle.jpeg_streams.specs.ScanSegments.{Coding, components_of, pass_of};
 ghost use Rattle.jpeg_streams.specs.Shown.{Shown, shown};
 ghost use Rattle.jpeg_streams.specs.Stream.{told_of};
 ghost use Rattle.jpeg_streams.specs.WrittenImages.{WritesImage, WritesImageScan};
-ghost use Rattle.jpeg_streams.specs.WrittenScans.{Coefficients};
+ghost use Rattle.jpeg_streams.specs.WrittenScans.{Coefficients, WritesScan};
 ghost use Rattle.jpeg_streams.specs.declared.settings.Settings.{Settings};
 ghost use Rattle.jpeg_evidence.specs.CutImages.{BringsCut, BringsFront, HoldsCut, WritesFront};
 ghost use Rattle.jpeg_evidence.specs.CutImages.{picture_held};
+ghost use Rattle.jpeg_evidence.specs.CutStreams.{codings_of_two, blocks_of_two, frame_of_two};
+ghost use Rattle.jpeg_evidence.specs.FirstBlocks.{IsMost, StandWhole};
 
 /// A stream that a writer emits for the coefficients of an image, cut anywhere within the data of a
 /// scan or right after them, brings what segments in front of the scan have said, and of this scan
-/// the first blocks as they were sent; the others are as before it. A progressive frame has kept the
-/// blocks that earlier scans have sent. Planes that were decided before the scan aren't spoken of.
+/// the first blocks as they were sent, exactly those whose data stand whole in front of the cut;
+/// the others are as before it. A progressive frame has kept the blocks that earlier scans have
+/// sent. Planes that were decided before the scan aren't spoken of.
 pub fn cut_images_bring_what_was_sent()
     ensures { (array : Coefficients) (said : Said) (levels next : ℕ → Levels) (frame : Frame)
         (first front more : List ℕ) (fill : ℕ) (h : ScanHeader)
         → ((index row column : ℕ) → Is8Bit (array index row column))
         → WritesFront array said levels first → said.frame ≡ Some frame → IsScan frame h
         → (sends : WritesImageScan array said levels frame h (front ++ more) next)
-        → BringsCut array said levels frame (scan_written frame h) sends.codings
+        → (has : BringsCut array said levels frame (scan_written frame h) sends.codings
         (all_brought nothing_found (first ++ marker fill 218 (with_length (scan_payload h)
-        ++ front))).0 }
+        ++ front))).0)
+        × IsMost (λ count. StandWhole frame said.restart (pass_of (scan_written frame h))
+        sends.codings sends.written.sent count front) (length has.done) }
 {}
 
 /// A stream that is cut within a segment or the header of a scan, or right after the marker, brings
@@ -53,10 +62,27 @@ pub fn cut_segments_add_nothing()
         (all_brought nothing_found (first ++ marker fill 218 part)).0 }
 {}
 
+/// The data of a scan that a writer emits have its first blocks whole, however many, also where
+/// other bytes come after the data: `StandWhole`, by which `HoldsCut` says what is there of a scan
+/// that is cut, is no narrower than that.
+pub fn whole_data_have_all_blocks()
+    ensures { (frame : Frame) (restart : ℕ) (p : Pass) (codings : List Coding)
+        (array : Coefficients) (bytes more : List ℕ) (count : ℕ)
+        (w : WritesScan frame restart p codings array bytes)
+        → count ≤ length (spots_of frame (components_of codings))
+        → StandWhole frame restart p codings w.sent count (bytes ++ more) }
+{}
+
+/// The first byte of the data of `two_blocks`, of six bits each, has the first block whole.
+pub fn first_byte_has_a_block()
+    ensures { StandWhole frame_of_two 0 whole_pass codings_of_two blocks_of_two 1 (65 ∷ []) }
+{}
+
 /// Each beginning of a stream that a writer emits for the coefficients of an image, wherever it is
 /// cut, shows the picture of the blocks that it holds, if it shows one. These are the coefficients
 /// at the levels that the whole scans in it have sent; and of a scan that is cut inside its data,
-/// the first blocks at the levels after this scan. A component of which nothing has come is zeros.
+/// the first blocks at the levels after this scan, exactly those whose data stand whole in front of
+/// the cut. A component of which nothing has come is zeros.
 pub fn cut_images_show_what_was_sent()
     ensures { (settings : Settings) (array : Coefficients) (image front more : List ℕ)
         (final : Said) (last : ℕ → Levels)
@@ -69,9 +95,9 @@ pub fn cut_images_show_what_was_sent()
 {}
 
 /// A stream that a writer emits whole for the coefficients of an image is never taken for one that
-/// is cut, whatever bytes follow it. If the settings allow the picture of these coefficients, as far
-/// as they were sent, it is shown, as `decode` gives it; what is told is what the segments say; and
-/// no fault is named.
+/// is cut, whatever bytes follow it. If the settings allow the picture of these coefficients, as
+/// far as they were sent, it is shown, as `decode` gives it; what is told is what the segments say;
+/// and no fault is named.
 pub fn whole_images_are_shown_whole()
     ensures { (settings : Settings) (array : Coefficients) (image rest picture : List ℕ)
         (final : Said) (last : ℕ → Levels)

@@ -1,7 +1,7 @@
 //! What a stream brings up to some byte is brought by each longer one, too, which goes on from
 //! there.
 ghost use Rattle.std.specs.Prelude.{◌≡◌, ◌⊎◌, ◌*◌, ℕ, List, Bool, Option, [], ◌++◌, Ok, Err};
-ghost use Rattle.std.specs.Prelude.{Some, None, replicate};
+ghost use Rattle.std.specs.Prelude.{Some, None, length, replicate};
 ghost use Rattle.std.specs.List.{AllByRecursion};
 ghost use Rattle.jpeg_bits.specs.Reading.{End, Fault};
 ghost use Rattle.jpeg_bits.specs.Codes.{IsTable};
@@ -19,13 +19,14 @@ ghost use Rattle.jpeg_streams.specs.Scans.{Arrays, arrays_at, block_at};
 ghost use Rattle.jpeg_streams.specs.ScanSegments.{Coding, components_of, vias_from};
 ghost use Rattle.jpeg_streams.specs.WrittenScans.{Coefficients, WritesScan};
 ghost use Rattle.jpeg_evidence.specs.CutStreams.{requantized, seen, without_last};
+ghost use Rattle.jpeg_evidence.specs.FirstBlocks.{IsMost, StandWhole};
 ghost use Rattle.jpeg_evidence.specs.LongerStreams.{IsDcAlone, IsKeptBefore, ReadsOn};
 ghost use Rattle.jpeg_evidence.specs.LongerStreams.{ComesBy, GoesOn, HoldsFirst, HoldsSent};
 
 /// More bits bring the blocks that the first bits bring alone, with what they carry on to the next
 /// blocks, and are read on from the first bit after them. It holds of any pass, tables and bits,
 /// also where the bits break a rule.
-#[tactic(auto, using(crate::proofs::LongerData::longer_bits_go_on))]
+#[tactic(auto, using(crate::proofs::LongerBits::longer_bits_go_on))]
 pub fn longer_bits_go_on()
     ensures { (p : Pass) (vias : List Via) (spots : List Spot) (old : Reached) (bits : List Bool)
         → GoesOn p vias spots old bits
@@ -35,7 +36,7 @@ pub fn longer_bits_go_on()
 /// Longer data of a scan bring the blocks that shorter ones bring, and go on with the blocks after
 /// them, in the order of the scan and across its restart intervals. It holds of any bytes, whether
 /// the data are cut, end with a marker or break a rule.
-#[tactic(auto, using(crate::proofs::LongerData::longer_data_read_on))]
+#[tactic(auto, using(crate::proofs::LongerScans::longer_data_read_on))]
 pub fn longer_data_read_on()
     ensures { (p : Pass) (n : ℕ) (vias : List Via) (spots : List Spot) (arrays : Arrays)
         (bytes more : List ℕ)
@@ -62,9 +63,10 @@ pub fn blocks_of_shorter_data_stay()
 {}
 
 /// The beginning of the data of a scan that a writer emits has the coefficients that were sent: its
-/// first blocks at the levels after the scan, and no other block is touched. Before the scan the
-/// coefficients are kept at the levels before it; in a scan of DC alone a block of padding may be
-/// another one. In a sequential scan zeros are kept, and the blocks are the coefficients.
+/// first blocks at the levels after the scan, exactly those whose data stand whole in it, and no
+/// other block is touched. Before the scan the coefficients are kept at the levels before it; in a
+/// scan of DC alone a block of padding may be another one. In a sequential scan zeros are kept, and
+/// the blocks are the coefficients.
 pub fn cut_scans_have_what_was_sent()
     ensures sent { (frame : Frame) (restart : ℕ) (p : Pass) (codings : List Coding)
         (array : Coefficients) (bytes : List ℕ)
@@ -76,9 +78,11 @@ pub fn cut_scans_have_what_was_sent()
         → ((s : Spot) → IsIn s (spots_of frame (components_of codings))
         → IsKeptBefore p (levels s) (w.sent s) (block_at before s) ⊎ IsDcAlone p)
         → bytes ≡ front ++ more
-        → HoldsSent p (spots_of frame (components_of codings)) levels w.sent before
+        → (has : HoldsSent p (spots_of frame (components_of codings)) levels w.sent before
         (scan_reached p (restart * mcu_size (components_of codings)) (vias_from 0 codings)
-        (spots_of frame (components_of codings)) before front).0 }
+        (spots_of frame (components_of codings)) before front).0)
+        × IsMost (λ count. StandWhole frame restart p codings w.sent count front)
+        (length has.done) }
     ensures sequential { (c : Block) → Is8Bit c → IsKeptBefore whole_pass nothing_sent c zero_block
         × (cut (sent_after whole_pass nothing_sent) c ≡ c) }
 {}

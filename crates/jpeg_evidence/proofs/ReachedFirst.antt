@@ -1,0 +1,198 @@
+-- The first blocks of a scan whose data stand whole in some bytes can be read of these.
+use Rattle.std.proofs.Common.{◌≡◌, ℕ, suc, ◌+◌, ◌%◌, ◌≤◌, Bool, true, List, [], ◌∷◌, ◌++◌, map, take, drop, get_or, set}
+use Rattle.std.proofs.Common.{ℤ, pos, refl, sym, ap, ◌∙◌, subst, Ok, Err, Result, Some, append_assoc, take-append-drop}
+use Rattle.std.specs.List.{AllByRecursion}
+use Rattle.std.proofs.lemmas.List.{take-map}
+use Rattle.std.proofs.lemmas.Simd.{map-map}
+use Rattle.jpeg_bits.specs.Reading.{Fault}
+use Rattle.jpeg_bits.specs.Reading as outcomes
+use Rattle.jpeg_bits.specs.Entropy.{Broken, Text, text_at}
+use Rattle.jpeg_bits.specs.Reading.{End}
+use Rattle.jpeg_bits.specs.Intervals.{first_group, other_groups}
+use Rattle.jpeg_bits.specs.Passes.{Block, Pass, Via, block_from, blocks_of, predictors_at_start}
+use Rattle.jpeg_bits.specs.Readers.{ReadsJust, text}
+use Rattle.jpeg_bits.specs.Written.{marker}
+use Rattle.jpeg_bits.specs.declared.marker.Marker.TheVariants.{RST}
+use Rattle.jpeg_bits.proofs.ReadIntervals.{all-map, all-take}
+use Rattle.jpeg_bits.proofs.WrittenBits.{takes-as, takes-bind, takes-gives, takes-map}
+use Rattle.jpeg_bits.proofs.WrittenIntervals.{all-groups, first-map, others-map}
+use Rattle.jpeg_segments.proofs.Codecs.{err-ok, ok-same}
+use Rattle.jpeg_streams.specs.Brought.{after_interval, interval_reached}
+use Rattle.jpeg_streams.specs.InTurn.{AreApart, IsIn, Reached, at_start, turns_from}
+use Rattle.jpeg_streams.specs.Order.{Spot}
+use Rattle.jpeg_streams.specs.Scans.{Arrays, block_at, turns_of, via_at}
+use Rattle.jpeg_streams.proofs.CountedScans.{all_of, apart-back, apart-front, arrays_in, in-front, in-turn, put_in}
+use Rattle.jpeg_streams.proofs.SentBlocks.{after_pass, numbers_of, reads_of}
+use Rattle.jpeg_streams.proofs.WrittenBlocks.{IsReady, Predicts, next-range, predicts-set, takes-block}
+use Rattle.jpeg_streams.proofs.WrittenFrameScans.{IsReadyAt, all-in, start-predicts, turn_with}
+use Rattle.jpeg_evidence.specs.FirstBlocks.{BeginsInterval, BeginsIntervals, WritesFirst}
+use Rattle.jpeg_evidence.specs.FirstBlocks.BeginsIntervals.{beyond, within}
+use Rattle.jpeg_evidence.specs.FirstBlocks.WritesFirst.{next_block, no_more}
+use Rattle.jpeg_evidence.proofs.LongerData.{CanReadOf, Met}
+use Rattle.jpeg_evidence.proofs.LongerScans.{CanReach, CanReachOf}
+use Rattle.jpeg_evidence.proofs.LongerScans.CanReach.{here, later}
+use Rattle.jpeg_evidence.proofs.StandingBlocks.{turns-length}
+use Rattle.jpeg_evidence.proofs.StuffedTexts.{stuffed-begins}
+use Rattle.jpeg_evidence.proofs.WrittenCuts.{after_blocks, interval-written, restart-met, rst-marker, stays-ready}
+
+-- ---- the blocks of an interval
+
+-- The first blocks of an interval are read as all are.
+takes-first : (p : Pass) (turns : List (Via × Block × Block)) (predictors : List ℤ) (run : ℕ) (bits : List Bool)
+    → Predicts predictors → AllByRecursion (IsReady p) turns → WritesFirst p predictors run (numbers_of turns) bits
+    → ReadsJust (blocks_of p predictors run (reads_of turns)) bits (map (λ t. after_pass p t.1 t.2) turns)
+unfolding blocks_of
+takes-first p [] predictors run bits predict ready (no_more preds run') = takes-gives []
+takes-first p (t ∷ turns) predictors run bits predict ready
+    (next_block preds run' run_after via u turns' dc ac more next wd wa w) =
+    let good = ready.0 in
+    let before = predict.each t.0.component in
+    let after = next-range p t.0.dc t.2.dc (get_or predictors t.0.component (pos 0)) next dc good.suits.dc_range before
+    wd in
+    takes-as _ ((dc ++ ac) ++ more) (dc ++ (ac ++ more)) _ _ (append_assoc dc ac more) refl
+    (takes-bind (block_from p t.0.dc t.0.ac (get_or predictors t.0.component (pos 0)) run t.1) _ (dc ++ ac) more
+    (after_pass p t.1 t.2, next, run_after) _
+    (takes-block p t.0 t.1 t.2 (get_or predictors t.0.component (pos 0)) next run run_after dc ac good before wd wa)
+    (takes-map (blocks_of p (set predictors t.0.component next) run_after (reads_of turns))
+    (λ (l : List Block). after_pass p t.1 t.2 ∷ l) more _
+    (takes-first p turns (set predictors t.0.component next) run_after more
+    (predicts-set predictors t.0.component next predict after) ready.1 w)))
+
+first-read : (p : Pass) (vias : List Via) (spots : List Spot) (arrays : Arrays) (u : Spot → Block) (bits : List Bool)
+    → AllByRecursion (IsReadyAt p vias arrays u) spots
+    → WritesFirst p predictors_at_start 0 (turns_of vias spots u) bits
+    → ReadsJust (blocks_of p predictors_at_start 0 (turns_of vias spots (block_at arrays))) bits
+    (map (λ s. after_pass p (block_at arrays s) (u s)) spots)
+unfolding turns_of
+first-read p vias spots arrays u bits ready w =
+    rw (map-map, map-map) at (takes-first p (map (turn_with vias arrays u) spots) predictors_at_start 0 bits
+    start-predicts
+    (all-map (IsReadyAt p vias arrays u) (IsReady p) (turn_with vias arrays u) spots (λ s is. is.at) ready)
+    (rw (map-map) w))
+
+pub turns-take : (vias : List Via) (spots : List Spot) (u : Spot → Block) (n : ℕ)
+    → take n (turns_of vias spots u) ≡ turns_of vias (take n spots) u
+unfolding turns_of
+turns-take vias spots u n = take-map (λ (s : Spot). (via_at vias s.slot, u s)) n spots
+
+some-read : (o : Result (Reached × Text) Fault) (y : Arrays × Text) → arrays_in o ≡ Ok y
+    → (r : Reached × Text) × (o ≡ Ok r)
+some-read (Ok r) y e = (r, refl)
+some-read (Err g) y e = absurd (err-ok g y e)
+
+in-arrays : (r : Reached × Text) (y : Arrays × Text) → arrays_in (Ok r) ≡ Ok y → r.1 ≡ y.1
+in-arrays r y e = ap (λ (x : Arrays × Text). x.1) (ok-same (r.0.arrays, r.1) y e)
+
+-- The first blocks of an interval are read of the bits that they are written in.
+pub first-taken : (p : Pass) (vias : List Via) (spots : List Spot) (arrays : Arrays) (u : Spot → Block) (count : ℕ)
+    (bits tail : List Bool) → AreApart spots → AllByRecursion (IsReadyAt p vias arrays u) spots
+    → WritesFirst p predictors_at_start 0 (take count (turns_of vias spots u)) bits
+    → (r : Reached × Text)
+    × (turns_from p vias (take count spots) (at_start arrays) (text (bits ++ tail) [] (Broken End)) ≡ Ok r)
+    × (r.1.bits ≡ tail)
+first-taken p vias spots arrays u count bits tail apart ready coded =
+    let some = take count spots in
+    let is_apart = apart-front some (drop count spots) (subst AreApart (sym (take-append-drop count spots)) apart) in
+    let w = subst (λ (l : List (Via × Block)). WritesFirst p predictors_at_start 0 l bits)
+    (turns-take vias spots u count) coded in
+    let r = first-read p vias some arrays u bits (all-take (IsReadyAt p vias arrays u) count spots ready) w in
+    let e = in-turn p vias some arrays predictors_at_start 0 (text (bits ++ tail) [] (Broken End)) is_apart
+    ∙ ap (put_in some arrays) (r.read tail [] (Broken End)) in
+    let read = some-read (turns_from p vias some (at_start arrays) (text (bits ++ tail) [] (Broken End))) _ e in
+    (read.0, read.1, ap (λ (t : Text). t.bits) (in-arrays read.0 _ (sym (ap arrays_in read.1) ∙ e)))
+
+-- The first blocks of an interval, whose data stand in these bytes, can be read of them.
+first-can : (p : Pass) (vias : List Via) (spots : List Spot) (arrays : Arrays) (u : Spot → Block) (bytes : List ℕ)
+    (count : ℕ) → AreApart spots → AllByRecursion (IsReadyAt p vias arrays u) spots
+    → BeginsInterval p (turns_of vias spots u) count bytes → CanReadOf p vias spots arrays bytes count
+first-can p vias spots arrays u bytes count apart ready b =
+    let some = take count spots in
+    let is_apart = apart-front some (drop count spots) (subst AreApart (sym (take-append-drop count spots)) apart) in
+    let w = subst (λ (l : List (Via × Block)). WritesFirst p predictors_at_start 0 l b.bits)
+    (turns-take vias spots u count) b.coded in
+    let r = first-read p vias some arrays u b.bits (all-take (IsReadyAt p vias arrays u) count spots ready) w in
+    let t = stuffed-begins b.data_bytes b.more_bytes in
+    let tail = b.more_bits ++ t.others in
+    let bits : (text_at bytes).bits ≡ b.bits ++ tail
+    = ap (λ (l : List ℕ). (text_at l).bits) b.begins ∙ t.are ∙ ap (λ (l : List Bool). l ++ t.others) b.whole
+    ∙ append_assoc b.bits b.more_bits t.others in
+    record {
+      are_there = subst (λ (n : ℕ). count ≤ n) (turns-length vias spots u) b.are_there;
+      read = λ ps.
+          let read = some-read (turns_from p vias some (at_start arrays) (text (b.bits ++ tail) ps (Broken End))) _
+          (in-turn p vias some arrays predictors_at_start 0 (text (b.bits ++ tail) ps (Broken End)) is_apart
+          ∙ ap (put_in some arrays) (r.read tail ps (Broken End))) in (
+            read.0,
+            ap (λ (l : List Bool). turns_from p vias some (at_start arrays) (text l ps (Broken End))) bits ∙ read.1,
+          );
+    }
+
+-- ---- the intervals
+
+first-reach : (p : Pass) (vias : List Via) (u : Spot → Block) (k : ℕ) (spots : List Spot) (groups : List (List Spot))
+    (arrays : Arrays) (bytes : List ℕ) (count : ℕ) → AreApart (spots ++ all_of groups)
+    → ((s : Spot) → IsIn s (spots ++ all_of groups) → IsReadyAt p vias arrays u s)
+    → BeginsIntervals p k (turns_of vias spots u) (map (λ (g : List Spot). turns_of vias g u) groups) count bytes
+    → CanReach p vias k spots groups arrays bytes count
+first-reach p vias u k spots [] arrays bytes count apart ready (within k' one more count' bytes' b) =
+    here k spots [] arrays bytes count (first-can p vias spots arrays u bytes count (apart-front spots [] apart)
+    (all-in (IsReadyAt p vias arrays u) spots (λ s t. ready s (in-front s spots [] t))) b)
+first-reach p vias u k spots (next ∷ groups) arrays bytes count apart ready (within k' one more count' bytes' b) =
+    let others = all_of (next ∷ groups) in
+    here k spots (next ∷ groups) arrays bytes count (first-can p vias spots arrays u bytes count
+    (apart-front spots others apart)
+    (all-in (IsReadyAt p vias arrays u) spots (λ s t. ready s (in-front s spots others t))) b)
+first-reach p vias u k spots (next ∷ groups) arrays bytes count apart ready
+    (beyond k' fill one next' more count' first after w b) =
+    let others = all_of (next ∷ groups) in
+    let now = after_blocks p u spots arrays in
+    let all = first ++ marker fill (0xD0 + k % 8) after in
+    let is : interval_reached p vias spots arrays all ≡ (now, Ok ((true, Some (RST (k % 8))), after))
+    = interval-written p vias spots arrays u first fill (0xD0 + k % 8) (RST (k % 8)) after
+    (apart-front spots others apart)
+    (all-in (IsReadyAt p vias arrays u) spots (λ s t. ready s (in-front s spots others t))) (rst-marker k) w in
+    let ends : outcomes.◌>>=◌ (interval_reached p vias spots arrays all).1 (after_interval k) ≡ Ok after
+    = ap (λ (q : Arrays × Met). outcomes.◌>>=◌ q.1 (after_interval k)) is ∙ restart-met k after in
+    let more = first-reach p vias u (suc k) next groups now after count' (apart-back spots others apart)
+    (stays-ready p vias spots others arrays u apart ready) b in
+    subst (λ (n : ℕ). CanReach p vias k spots (next ∷ groups) arrays all (n + count'))
+    (sym (turns-length vias spots u))
+    (later k spots next groups arrays all after count' ends
+    (subst (λ (a : Arrays). CanReach p vias (suc k) next groups a after count')
+    (sym (ap (λ (q : Arrays × Met). q.0) is)) more))
+
+pub groups-begun : (vias : List Via) (spots : List Spot) (u : Spot → Block) (p : Pass) (n count : ℕ) (bytes : List ℕ)
+    → BeginsIntervals p 0 (turns_of vias (first_group n spots) u)
+    (map (λ (g : List Spot). turns_of vias g u) (other_groups n spots)) count bytes
+    → BeginsIntervals p 0 (first_group n (turns_of vias spots u)) (other_groups n (turns_of vias spots u)) count bytes
+unfolding turns_of
+groups-begun vias spots u p n count bytes w =
+    let turn : Spot → Via × Block = λ s. (via_at vias s.slot, u s) in
+    subst (λ (l : List (List (Via × Block))). BeginsIntervals p 0 (first_group n (map turn spots)) l count bytes)
+    (others-map turn n spots)
+    (subst (λ (l : List (Via × Block)). BeginsIntervals p 0 l
+    (map (λ (g : List Spot). map turn g) (other_groups n spots)) count bytes) (first-map turn n spots) w)
+
+groups-begin : (vias : List Via) (spots : List Spot) (u : Spot → Block) (p : Pass) (n count : ℕ) (bytes : List ℕ)
+    → BeginsIntervals p 0 (first_group n (turns_of vias spots u)) (other_groups n (turns_of vias spots u)) count bytes
+    → BeginsIntervals p 0 (turns_of vias (first_group n spots) u)
+    (map (λ (g : List Spot). turns_of vias g u) (other_groups n spots)) count bytes
+unfolding turns_of
+groups-begin vias spots u p n count bytes w =
+    let turn : Spot → Via × Block = λ s. (via_at vias s.slot, u s) in
+    subst (λ (l : List (Via × Block)). BeginsIntervals p 0 l
+    (map (λ (g : List Spot). map turn g) (other_groups n spots)) count bytes) (sym (first-map turn n spots))
+    (subst (λ (l : List (List (Via × Block))). BeginsIntervals p 0 (first_group n (map turn spots)) l count bytes)
+    (sym (others-map turn n spots)) w)
+
+-- The first blocks of a scan, whose data stand whole in these bytes, can be read of them.
+pub first_blocks_are_reached : (p : Pass) (n : ℕ) (vias : List Via) (u : Spot → Block) (spots : List Spot)
+    (arrays : Arrays) (bytes : List ℕ) (count : ℕ) → AreApart spots
+    → ((s : Spot) → IsIn s spots → IsReadyAt p vias arrays u s)
+    → BeginsIntervals p 0 (first_group n (turns_of vias spots u)) (other_groups n (turns_of vias spots u)) count bytes
+    → CanReachOf p n vias spots arrays bytes count
+first_blocks_are_reached p n vias u spots arrays bytes count apart ready w =
+    let all = all-groups n spots in
+    first-reach p vias u 0 (first_group n spots) (other_groups n spots) arrays bytes count
+    (subst AreApart (sym all) apart) (λ s t. ready s (subst (λ (l : List Spot). IsIn s l) all t))
+    (groups-begin vias spots u p n count bytes w)
