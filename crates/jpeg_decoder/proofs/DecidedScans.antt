@@ -1,7 +1,7 @@
 -- Scans of a sequential frame whose components have planes already: what is made of their blocks
 -- decides nothing.
 use Rattle.std.proofs.Common.{rules, ◌≡◌, ℕ, Bool, true, List, [], ◌∷◌, ◌+◌, ◌<◌, length, get_or}
-use Rattle.std.proofs.Common.{Option, None, Result, Ok, Err, refl, sym, ap, ap₂, ◌∙◌, subst, arith}
+use Rattle.std.proofs.Common.{Option, None, Result, Ok, Err, refl, sym, ap, ap₂, ◌∙◌, subst, arith, drop, map}
 use Rattle.std.proofs.lemmas.Bool.{cases_lt}
 use Rattle.std.proofs.lemmas.List.{get_or_default, length-map}
 use Rattle.std.specs.Prelude.{is_some, slice_set, slice_index_or}
@@ -19,10 +19,12 @@ use Rattle.jpeg_streams.specs.Order.{Spot}
 use Rattle.jpeg_streams.specs.ScanSegments.{Coding, components_of}
 use Rattle.jpeg_streams.proofs.McuRows.{AreRows, KeepsCounted, blocks-any, rows-count, rows-kept}
 use Rattle.jpeg_streams.proofs.McuRows.{zero-rows}
-use Rattle.jpeg_decoder.specs.Steps.{marks_after, with_its_plane, with_planes}
+use Rattle.jpeg_decoder.specs.Steps.{coding_in, marks_after, with_its_plane, with_planes}
 use Rattle.jpeg_decoder.specs.Strips.{no_samples, planes_by_rows, strips_from, with_strips}
 use Rattle.jpeg_decoder.proofs.DecidedPlanes.{planes_kept}
+use Rattle.jpeg_decoder.proofs.PutLoops.{seen-any, seen-at}
 use Rattle.jpeg_decoder.proofs.StripRows.{strips-length, strips-none}
+use Rattle.jpeg_decoder.specs.declared.scan.coded.Coded.{Coded}
 use Rattle.jpeg_decoder.proofs.StripScans.{Planes, ended, marked}
 use Rattle.std.proofs.lemmas.Grind.{common_steps}
 
@@ -146,6 +148,24 @@ planes-decided p (c ∷ codings) (x ∷ planes) found h e =
 planes-decided p _ _ found h e = absurd (omega arith)
 
 -- ---- a loop over the components
+
+-- one component more, whose plane stays
+pub again-step : (p : Pass) (cs : List Coded) (i : ℕ) (c : Coded) (found : Found) (marks : List Bool)
+    → i < length cs → c ≡ get_or cs i c → is_some (slice_index_or found.planes c.index None) ≡ true
+    → marks ≡ marks_after p found.finished c.index
+    → with_planes p (drop (i + 1) (map coding_in cs)) (drop (i + 1) (no_samples (map coding_in cs)))
+    (record found { finished = slice_set found.finished c.index marks })
+    ≡ with_planes p (drop i (map coding_in cs)) (drop i (no_samples (map coding_in cs))) found
+unfolding with_planes
+again-step p cs i c found marks h is decided e =
+    let codings = map coding_in cs in
+    let empty = no_samples codings in
+    let none : drop i empty ≡ [] ∷ drop (i + 1) empty =
+    seen-any {A = Coding} {B = List ℕ} (λ d. []) codings i (coding_in c) (omega (arith, length-map cs coding_in)) in
+    let one : record found { finished = slice_set found.finished c.index marks } ≡ with_its_plane p c.index [] found =
+    rw e (sym (its-plane-decided p c.index [] found decided)) in
+    rw (seen-at coding_in cs i c h is, none)
+    (ap (λ (f : Found). with_planes p (drop (i + 1) codings) (drop (i + 1) empty) f) one)
 
 pub so-far-next : {X : Type 0} (P : X → Type 0) (xs : List X) (i : ℕ) (x : X) → x ≡ get_or xs i x → i < length xs → P x
     → ((k : ℕ) (d : X) → k < i → P (get_or xs k d)) → (k : ℕ) (d : X) → k < i + 1 → P (get_or xs k d)

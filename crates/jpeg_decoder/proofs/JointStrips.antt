@@ -191,6 +191,12 @@ module _ (frame : Frame) (cs : List Coded) (seen : List Component) (joint : Join
       (map coding_in cs) → IsJointOf (map coding_in cs) joint
   joint-started rows lines fits of = grind (arith, common_steps, zero-div, same, shaped)
 
+pub some-planes : (codings : List Coding) (joint : JointPlanes) → IsJointOf codings joint
+    → 0 < length (joint_planes joint.shape joint.samples.items)
+some-planes codings joint is =
+    let some = is.some in
+    omega (arith, some, planes-long joint.shape joint.samples.items)
+
 -- after one row more
 module _ (codings : List Coding) (arrays : Arrays) (joint : JointPlanes)
     (is : IsJointOf codings joint) (kept : length arrays ≡ length codings) where

@@ -73,12 +73,6 @@ module _ (found : Found) (before : Decoded) (frame : Frame) (scan : Scan) (bytes
         (length-map codings (λ (c : Coding). []))
         ∙ sym (planes-decided p codings r.planes (with_decoded base one) decided r.count))
 
--- such a scan changes no plane
-pub again-planes : (p : Pass) (codings : List Coding) (base : Found) (one two : Decoded)
-    → AllByRecursion (IsDecided one.planes) codings → with_decoded base two
-    ≡ with_planes p codings (no_samples codings) (with_decoded base one) → two.planes ≡ one.planes
-again-planes p codings base one two decided added = grind (arith, common_steps, planes-decided, length-map)
-
 -- the components whose planes were found to be decided
 pub are-decided : (cs : List Coded) (planes : List (Option (List ℕ)))
     → ((k : ℕ) (d : Coded) → k < length cs → is_some (slice_index_or planes (get_or cs k d).index

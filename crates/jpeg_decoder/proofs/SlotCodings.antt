@@ -74,7 +74,7 @@ if-ac needs o t h e = grind (arith, common_steps)
 
 pub class-in-force : (said : Said) (scan : Scan) (spare : Spare) (needs : Bool) (destination : ℕ)
     (t : Table) → IsSpareOf said scan spare → all_ac said.huffman.ac ≡ true
-    → table_if needs spare.no_ac (in_force said.huffman.ac spare.ac.items destination) ≡ Ok t
+    → table_if needs (no_table classes.AC) (in_force said.huffman.ac spare.ac.items destination) ≡ Ok t
     → t.class ≡ classes.AC
 class-in-force said scan spare needs destination t s a e = grind (
   arith,
@@ -125,7 +125,7 @@ pub dc-read : (state : declared_said.Said) (header : ScanInfo) (spare : Spare) (
     → IsSpareOf (said_of state) (scan_in header) spare → length state.dc_tables ≡ 4
     → slot < length header.dc_table_indices.items → destination ≡ get_or header.dc_table_indices.items slot destination
     → o ≡ in_force state.dc_tables spare.dc.items destination
-    → dc_of (said_of state) (scan_in header) slot ≡ table_if (header.spectral_selection.start == 0) spare.no_dc o
+    → dc_of (said_of state) (scan_in header) slot ≡ table_if (header.spectral_selection.start == 0) (no_table classes.DC) o
 unfolding pass_of tables_of
 dc-read state header spare slot destination o s l h p e =
     grind (arith, common_steps, forced-by, needed-either, get_or_default_zero)
@@ -134,7 +134,7 @@ pub ac-read : (state : declared_said.Said) (header : ScanInfo) (spare : Spare) (
     → IsSpareOf (said_of state) (scan_in header) spare → length state.ac_tables ≡ 4
     → slot < length header.ac_table_indices.items → destination ≡ get_or header.ac_table_indices.items slot destination
     → o ≡ in_force state.ac_tables spare.ac.items destination
-    → ac_of (said_of state) (scan_in header) slot ≡ table_if (nat_lt 1 header.spectral_selection.end) spare.no_ac o
+    → ac_of (said_of state) (scan_in header) slot ≡ table_if (nat_lt 1 header.spectral_selection.end) (no_table classes.AC) o
 unfolding pass_of tables_of
 ac-read state header spare slot destination o s l h p e =
     grind (arith, common_steps, forced-by, needed-either, nat_tests, get_or_default_zero)

@@ -1,7 +1,7 @@
 -- The samples of a component's blocks, row by row of blocks.
 use Rattle.std.proofs.Common.{◌≡◌, ℕ, zero, suc, ◌+◌, ◌*◌, ◌<◌, ◌≤◌, List, [], ◌∷◌, ◌++◌, map, take}
 use Rattle.std.proofs.Common.{drop, length, get_or, slice_index_or, ℤ, refl, sym, ap, ◌∙◌, arith}
-use Rattle.std.proofs.Common.{append-nil, suc-mul, length-take, length-drop, rules}
+use Rattle.std.proofs.Common.{append-nil, suc-mul, length-take, length-drop, rules, subst}
 use Rattle.std.proofs.Math.Nat.{mul-le-mul_right}
 use Rattle.std.proofs.lemmas.List.{drop-drop, ext_get_or, get_or-map, get_or-take, get_or-drop}
 use Rattle.std.proofs.lemmas.List.{get_or_default}
@@ -68,6 +68,11 @@ unfolding with_strips
 strips-none [] arrays = refl
 strips-none (c ∷ codings) [] = refl
 strips-none (c ∷ codings) (a ∷ arrays) = refl
+
+pub some-before : (codings : List Coding) (arrays : Arrays) (planes : List (List ℕ))
+    → 0 < length (with_strips codings arrays planes) → 0 < length planes
+some-before codings arrays [] h = subst (λ (l : List (List ℕ)). 0 < length l) (strips-none codings arrays) h
+some-before codings arrays (plane ∷ planes) h = omega arith
 
 pub strips-length : (codings : List Coding) (arrays : Arrays) (planes : List (List ℕ)) → length arrays
     ≡ length codings → length planes ≡ length codings

@@ -1,9 +1,11 @@
 //! The components of a scan, and the tables that they are coded by (T.81, B.2.3).
 ghost use Rattle.std.specs.Prelude.{◌≡◌, ◌<◌, ◌≤◌, Ok, IfOk, IfErr, length, map};
+ghost use Rattle.std.specs.Prelude.{◌==◌, ◌∷◌, [], false, nat_lt};
 ghost use Rattle.std.specs.List.{AllByRecursion};
 ghost use Rattle.std.specs.Option.{option_copied};
 ghost use Rattle.jpeg_bits.specs.Reading.{Names};
 ghost use Rattle.jpeg_bits.specs.BlockView.{pass_in};
+ghost use Rattle.jpeg_bits.specs.Codes.{Table};
 ghost use Rattle.jpeg_bits.specs.declared.error.Error.TheVariants.{OutOfMemory};
 ghost use Rattle.jpeg_bits.specs.declared.huffman.codes.HuffmanTableClass.TheVariants.{DC, AC};
 ghost use Rattle.jpeg_segments.specs.FrameView.{frame_in, scan_in};
@@ -27,13 +29,14 @@ use jpeg_segments::parser::FrameInfo;
 use std::alloc::{AllocError, Global};
 
 /// The tables that stand in if a scan names a destination that is unset: the default ones of MJPEG
-/// frames by their destinations, and tables without codes if the scan needs none.
+/// frames by their destinations, and a table without codes of a class that the scan doesn't need.
 #[derive(Drop)]
 pub struct Spare {
     dc: Vec<Option<HuffmanTable>>,
     ac: Vec<Option<HuffmanTable>>,
-    no_dc: HuffmanTable,
-    no_ac: HuffmanTable,
+    // one table each, or none: a table takes as much room as all the rest
+    no_dc: Vec<HuffmanTable>,
+    no_ac: Vec<HuffmanTable>,
 }
 
 /// Returns what a scan codes.
@@ -158,6 +161,35 @@ pub fn widen_tables(alloc: Global, state: &mut State) -> std::result::Result<(),
     widen_all(alloc, &mut said.ac_tables, frame)
 }
 
+/// Returns whether a scan codes DC coefficients.
+fn has_dc(header: &ScanInfo) -> bool
+    ensures { result ≡ ((scan_in header.now).first == 0) }
+{
+    header.spectral_selection.start == 0
+}
+
+/// Returns whether a scan codes AC coefficients.
+fn has_ac(header: &ScanInfo) -> bool
+    ensures { result ≡ nat_lt 1 (scan_in header.now).after }
+{
+    header.spectral_selection.end > 1
+}
+
+/// Returns a table without codes in place of one that isn't needed.
+fn table_unless(
+    alloc: Global,
+    is_needed: bool,
+    class: HuffmanTableClass,
+) -> std::result::Result<Vec<HuffmanTable>, AllocError>
+    ensures { is_needed ≡ false → IfOk result (λ v. v.items ≡ no_table class ∷ []) }
+{
+    let mut tables = Vec::new(alloc);
+    if !is_needed {
+        tables.push(HuffmanTable::without_codes(alloc, class))?;
+    }
+    Ok(tables)
+}
+
 /// Returns the spare tables of a scan; the default ones if a frame of an MJPEG stream was named.
 pub fn spare_tables(
     alloc: Global,
@@ -169,15 +201,17 @@ pub fn spare_tables(
         (λ s. s.dc.items ≡ default_dc is_mjpeg (scan_in header.now).dc_destinations) }
     ensures ac { IfOk result
         (λ s. s.ac.items ≡ default_ac is_mjpeg (scan_in header.now).ac_destinations) }
-    ensures no_dc { IfOk result (λ s. s.no_dc ≡ no_table DC) }
-    ensures no_ac { IfOk result (λ s. s.no_ac ≡ no_table AC) }
+    ensures no_dc { ((scan_in header.now).first == 0) ≡ false
+        → IfOk result (λ s. s.no_dc.items ≡ no_table DC ∷ []) }
+    ensures no_ac { nat_lt 1 (scan_in header.now).after ≡ false
+        → IfOk result (λ s. s.no_ac.items ≡ no_table AC ∷ []) }
     ensures err { IfErr result (λ e. e ≡ OutOfMemory) }
 {
     let mut spare = Spare {
         dc: Vec::new(alloc),
         ac: Vec::new(alloc),
-        no_dc: HuffmanTable::without_codes(alloc, HuffmanTableClass::DC),
-        no_ac: HuffmanTable::without_codes(alloc, HuffmanTableClass::AC),
+        no_dc: table_unless(alloc, has_dc(header), HuffmanTableClass::DC)?,
+        no_ac: table_unless(alloc, has_ac(header), HuffmanTableClass::AC)?,
     };
     if is_mjpeg {
         spare.dc = vec![in alloc; None, None, None, None]?;
@@ -209,15 +243,17 @@ fn needed_table<'a>(
     alloc: Global,
     is_needed: bool,
     table: Option<&'a HuffmanTable>,
-    none: &'a HuffmanTable,
+    none: &'a [HuffmanTable],
     missing: Missing,
 ) -> Result<&'a HuffmanTable>
-    ensures { Returns (table_if is_needed none.now (option_copied table.entry)) (λ t. t.now) result }
+    requires { is_needed ≡ false → 0 < length none.now }
+    ensures { (other : Table) → (is_needed ≡ false → none.now ≡ other ∷ [])
+        → Returns (table_if is_needed other (option_copied table.entry)) (λ t. t.now) result }
 {
     if is_needed {
         needed(alloc, table, missing)
     } else {
-        Ok(none)
+        Ok(&none[0])
     }
 }
 
@@ -246,16 +282,14 @@ fn coding_of<'a>(
     let missing = Missing::Table("quantization", destination, identifier);
     let quantization = table_at(&said.quantization, destination);
     let quantization = needed(alloc, quantization, missing)?;
-    let has_dc = header.spectral_selection.start == 0;
     let dc_destination = header.dc_table_indices[slot];
     let missing = Missing::Table("DC", dc_destination, identifier);
     let dc = table_in_force(&said.dc_tables, &spare.dc, dc_destination);
-    let dc = needed_table(alloc, has_dc, dc, &spare.no_dc, missing)?;
-    let has_ac = header.spectral_selection.end > 1;
+    let dc = needed_table(alloc, has_dc(header), dc, &spare.no_dc, missing)?;
     let ac_destination = header.ac_table_indices[slot];
     let missing = Missing::Table("AC", ac_destination, identifier);
     let ac = table_in_force(&said.ac_tables, &spare.ac, ac_destination);
-    let ac = needed_table(alloc, has_ac, ac, &spare.no_ac, missing)?;
+    let ac = needed_table(alloc, has_ac(header), ac, &spare.no_ac, missing)?;
     Ok(Coded {
         index,
         component,

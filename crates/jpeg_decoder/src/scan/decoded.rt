@@ -380,7 +380,7 @@ impl Decoded {
                 return Ok(GrowingPlanes::Joint(JointPlanes::new(alloc, shape)?));
             }
         }
-        let planes = empty_planes(alloc, &scan.components, true)?;
+        let planes = empty_planes(alloc, &scan.components)?;
         Ok(GrowingPlanes::Own(planes))
     }
 
@@ -515,6 +515,23 @@ impl Decoded {
         true
     }
 
+    /// Marks the coefficients that a scan finishes of components whose planes are decided.
+    fn mark_again(&mut self, scan: &Scan<'_>)
+        requires indices { All HasIndex scan.now.components.items }
+        requires decided { All (λ c. is_some (slice_index_or self.old.planes c.index None) ≡ true)
+            scan.now.components.items }
+        ensures kept { self.new.kept ≡ self.old.kept }
+        ensures samples { self.new.samples ≡ self.old.samples }
+        ensures decided { self.new.planes ≡ self.old.planes }
+        ensures planes { (base : Found) → with_decoded base self.new
+            ≡ with_planes (pass_in scan.now.pass) (map coding_in scan.now.components.items)
+            (no_samples (map coding_in scan.now.components.items)) (with_decoded base self.old) }
+    {
+        for coded in &scan.components {
+            finish(scan.pass, &mut self.finished[coded.index]);
+        }
+    }
+
     /// Reads a scan of a sequential frame whose components have planes already, and returns the
     /// marker after it, if one was reached.
     ///
@@ -540,7 +557,6 @@ impl Decoded {
         ensures planes { OnOk result (self.new.planes ≡ self.old.planes) }
         ensures samples { OnOk result (self.new.samples ≡ self.old.samples) }
     {
-        let mut none = empty_planes(alloc, &scan.components, false)?;
         let reached = read_planes(
             alloc,
             source,
@@ -549,7 +565,7 @@ impl Decoded {
             &mut GrowingPlanes::Own(Vec::new(alloc)),
         )?;
         self.kept = Vec::new(alloc);
-        self.add_planes(scan, &mut none, alloc);
+        self.mark_again(scan);
         Ok(reached)
     }
 

@@ -14,7 +14,7 @@ use crate::scan::blocks::first_interval;
 use crate::scan::coded::Scan;
 use crate::scan::mcus::read_mcus;
 use crate::scan::order::ScanOrder;
-use crate::scan::strips::{GrowingPlanes, append_strips, clear_rows, row_buffers, sample_tables};
+use crate::scan::strips::{GrowingPlanes, append_strips, clear_rows, row_buffers, tables_for};
 use jpeg_bits::error::Result;
 use jpeg_bits::marker::Marker;
 use jpeg_bits::source::Source;
@@ -58,7 +58,7 @@ pub fn read_planes<R: Read + Drop>(
     let order = ScanOrder::new(alloc, scan, frame)?;
     let mut interval = first_interval(alloc, order.interval);
     let mut rows = row_buffers(alloc, &scan.components)?;
-    let tables = sample_tables(alloc, &scan.components)?;
+    let tables = tables_for(alloc, &scan.components, planes)?;
     for row in 0..order.rows {
         clear_rows(&mut rows);
         let mut spots = order.row(row);

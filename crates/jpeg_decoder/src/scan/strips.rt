@@ -1,5 +1,5 @@
 //! Planes, as they grow by rows of blocks: in a sequential scan row by row of MCUs (T.81, A.2).
-ghost use Rattle.std.specs.Prelude.{map, length, pos, replicate, All, IfOk, OnOk};
+ghost use Rattle.std.specs.Prelude.{true, map, length, pos, replicate, All, IfOk, OnOk};
 ghost use Rattle.std.specs.Prelude.{◌≡◌, ◌≤◌, ◌<◌, ◌*◌, ◌++◌};
 ghost use Rattle.std.specs.List.{concat};
 ghost use Rattle.jpeg_bits.specs.BlockView.{to_block};
@@ -63,24 +63,15 @@ pub fn plane_size(wide: u16, high: u16, scale: usize) -> usize
     usize::from(wide) * scale * (usize::from(high) * scale)
 }
 
-/// Makes a plane without samples for each component of a scan, with room for all of them if
-/// `has_room`.
-pub fn empty_planes(
-    alloc: Global,
-    codings: &[Coded<'_>],
-    has_room: bool,
-) -> Result<Vec<Vec<u8>>, AllocError>
+/// Makes a plane without samples for each component of a scan, with room for all of them.
+pub fn empty_planes(alloc: Global, codings: &[Coded<'_>]) -> Result<Vec<Vec<u8>>, AllocError>
     ensures { IfOk result (λ v. plane_lists v.items ≡ no_samples (map coding_in codings.now)) }
 {
     let mut planes = Vec::with_capacity(alloc, codings.len())?;
     for coded in codings {
-        let mut plane = Vec::new(alloc);
-        if has_room {
-            let blocks = coded.component.block_size;
-            let size = plane_size(blocks.width, blocks.height, coded.component.dct_scale);
-            plane = Vec::with_capacity(alloc, size)?;
-        }
-        planes.push(plane)?;
+        let blocks = coded.component.block_size;
+        let size = plane_size(blocks.width, blocks.height, coded.component.dct_scale);
+        planes.push(Vec::with_capacity(alloc, size)?)?;
     }
     Ok(planes)
 }
@@ -94,7 +85,7 @@ pub fn sample_table(quantization: &[u16; 64]) -> SampleTable
 }
 
 /// Makes the tables of a scan's components.
-pub fn sample_tables(alloc: Global, codings: &[Coded<'_>]) -> Result<Vec<SampleTable>, AllocError>
+fn sample_tables(alloc: Global, codings: &[Coded<'_>]) -> Result<Vec<SampleTable>, AllocError>
     ensures { IfOk result (λ v. v.items ≡ tables_of codings.now) }
 {
     let mut tables = Vec::with_capacity(alloc, codings.len())?;
@@ -191,6 +182,31 @@ pub enum GrowingPlanes {
     Joint(JointPlanes),
 }
 
+/// Returns whether there are no planes.
+fn are_none(planes: &GrowingPlanes) -> bool
+    ensures { result ≡ true → length (growing_in planes.now) ≡ 0 }
+{
+    match planes {
+        GrowingPlanes::Own(planes) => planes.is_empty(),
+        GrowingPlanes::Joint(_) => false,
+    }
+}
+
+/// Makes the tables by which a scan's blocks are transformed; none if there are no planes.
+pub fn tables_for(
+    alloc: Global,
+    codings: &[Coded<'_>],
+    planes: &GrowingPlanes,
+) -> Result<Vec<SampleTable>, AllocError>
+    ensures { IfOk result
+        (λ v. 0 < length (growing_in planes.now) → v.items ≡ tables_of codings.now) }
+{
+    if are_none(planes) {
+        return Ok(Vec::new(alloc));
+    }
+    sample_tables(alloc, codings)
+}
+
 /// Appends the samples of the blocks of a row of MCUs to planes in memory of their own, if any.
 fn append_to_each(
     planes: &mut [Vec<u8>],
@@ -199,7 +215,7 @@ fn append_to_each(
     rows: &[BlockArray],
 ) -> Result<(), AllocError>
     requires planes { 0 < length planes.old → length planes.old ≡ length codings.now }
-    requires tables { tables.now ≡ tables_of codings.now }
+    requires tables { 0 < length planes.old → tables.now ≡ tables_of codings.now }
     requires sizes { sizes_of rows.now ≡ row_sizes codings.now }
     requires full { All IsFull rows.now }
     ensures { OnOk result (plane_lists planes.new
@@ -254,7 +270,7 @@ pub fn append_strips(
     rows: &[BlockArray],
 ) -> Result<(), AllocError>
     requires planes { GrowsFor (map coding_in codings.now) planes.old }
-    requires tables { tables.now ≡ tables_of codings.now }
+    requires tables { 0 < length (growing_in planes.old) → tables.now ≡ tables_of codings.now }
     requires sizes { sizes_of rows.now ≡ row_sizes codings.now }
     requires full { All IsFull rows.now }
     ensures strips { OnOk result (growing_in planes.new

@@ -1,9 +1,11 @@
 use Rattle.std.proofs.lemmas.Grind.{common_steps}
-use Rattle.std.proofs.Common.{◌≡◌, ◌==◌, get_or, Option, arith, rules}
+use Rattle.std.proofs.Common.{◌≡◌, ◌==◌, ◌∷◌, [], false, get_or, Option, arith, rules}
 use Rattle.jpeg_bits.specs.Codes.{Table}
 use Rattle.jpeg_segments.specs.FrameView.{frame_in, scan_in}
 use Rattle.jpeg_decoder.specs.Steps.{coding_in_slot, table_if}
 use Rattle.std.specs.Prelude.{nat_lt}
+use Rattle.jpeg_bits.specs.declared.huffman.codes.HuffmanTableClass.TheVariants as classes
+use Rattle.jpeg_streams.specs.Scans.{no_table}
 use Rattle.std.proofs.lemmas.Result.{err_from_is_err_and}
 use Rattle.jpeg_bits.proofs.Loops.{bind_err}
 use Rattle.jpeg_decoder.specs.Seen.{said_of}
@@ -23,7 +25,7 @@ coded c = slot-coded c.args.said.now c.args.frame.now c.args.header.now c.args.s
 
 abbrev has-dc : (c : After-table_in_force-dc) → (o : Option Table)
     × (dc_of (said_of c.args.said.now) (scan_in c.args.header.now) c.args.slot
-    ≡ table_if (c.args.header.now.spectral_selection.start == 0) c.args.spare.now.no_dc o)
+    ≡ table_if (c.args.header.now.spectral_selection.start == 0) (no_table classes.DC) o)
 has-dc c = (
   _,
   dc-read c.args.said.now c.args.header.now c.args.spare.now c.args.slot _ _ c.requires.spare (omega arith)
@@ -32,11 +34,11 @@ has-dc c = (
 
 abbrev has-ac : (c : After-table_in_force-ac) → (o : Option Table)
     × (ac_of (said_of c.args.said.now) (scan_in c.args.header.now) c.args.slot
-    ≡ table_if (nat_lt 1 c.args.header.now.spectral_selection.end) c.args.spare.now.no_ac o)
+    ≡ table_if (nat_lt 1 c.args.header.now.spectral_selection.end) (no_table classes.AC) o)
 has-ac c = (
   _,
   ac-read c.args.said.now c.args.header.now c.args.spare.now c.args.slot _ _ c.requires.spare (omega arith)
-      (omega arith) c.index-ac_destination.ensures (rw c.deref-3.ensures.value at c.table_in_force-ac.ensures),
+      (omega arith) c.index-ac_destination.ensures (rw c.deref-4.ensures.value at c.table_in_force-ac.ensures),
 )
 
 -- two facts as one
@@ -74,7 +76,9 @@ returns c =
 
 pub invariant_of-result : goal.invariant_of-result
 invariant_of-result c =
-    let forced = rw c.deref-3.ensures.value at (rw c.table_in_force-ac.ensures at c.in_ok-ac.ensures) in
+    let none : c.has_ac.result ≡ false → c.deref-5.result.now ≡ no_table classes.AC ∷ [] = λ f. search rules in
+    let given = c.in_ok-ac.ensures (no_table classes.AC) none in
+    let forced = rw c.deref-4.ensures.value at (rw c.table_in_force-ac.ensures at given) in
     let component = c.in_ok-component.component.now in
     let at : component ≡ get_or c.args.frame.now.components.items c.index-index.result.now
     component = search rules in

@@ -1,5 +1,5 @@
 use Rattle.std.proofs.lemmas.Grind.{common_steps}
-use Rattle.std.proofs.Common.{rules, ◌≡◌, ◌∙◌, ◌-◌, ◌+◌, ◌*◌, [], ap, map, sym, subst, ℕ, List}
+use Rattle.std.proofs.Common.{rules, ◌≡◌, ◌<◌, ◌∙◌, ◌-◌, ◌+◌, ◌*◌, [], ap, map, sym, subst, ℕ, List}
 use Rattle.std.proofs.Common.{Option, Result, arith, length, refl}
 use Rattle.std.specs.List.{AllByRecursion, range_with_len}
 use Rattle.std.specs.Prelude.{OnOk}
@@ -28,6 +28,7 @@ use Rattle.jpeg_decoder.proofs.StripScans.{rows-refused, scan-ended}
 use Rattle.jpeg_decoder.proofs.StripSteps.{strips_refused, strips_none, whole-rows, first-row}
 use Rattle.jpeg_decoder.proofs.StripSteps.{later-rows, zeros-are, lengths, lengths-all}
 use Rattle.jpeg_decoder.proofs.StripSteps.{lengths-none, lengths-next, row-count}
+use Rattle.jpeg_decoder.proofs.StripRows.{some-before}
 use Rattle.jpeg_decoder.proofs.scan.rows.read_planes.Goals as goal
 
 pub loop-row-init : goal.loop-row-init
@@ -47,6 +48,7 @@ loop-row-init g c =
           (rows-spots frame cs c.in_ok-rows.rows.items c.requires.fits sized));
       growing = c.requires.planes;
       kind = refl;
+      some = λ h. h;
       lengths = lengths-none cs planes;
       strips = grind (arith, common_steps, whole-rows);
     }
@@ -122,6 +124,8 @@ loop-row-preserved g c =
       growing = subst (λ (x : List Coded). GrowsFor (map coding_in x) c.append_strips.new.planes)
           c.deref-in-loop-row.ensures.value c.in_ok-append_strips.ensures.growing;
       kind = c.in_ok-append_strips.ensures.kind ∙ l.invariant.kind;
+      some = λ h. l.invariant.some
+          (some-before codings (arrays_in read) planes (subst (λ (x : List (List ℕ)). 0 < length x) made h));
       lengths = λ none. ap lengths made ∙ lengths-next cs (arrays_in read) planes l.row
           (row-count cs read sizes) (l.invariant.lengths none);
       strips = (

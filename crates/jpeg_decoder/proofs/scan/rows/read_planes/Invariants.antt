@@ -1,4 +1,4 @@
-use Rattle.std.proofs.Common.{◌≡◌, ◌*◌, ◌-◌, [], length, map}
+use Rattle.std.proofs.Common.{◌≡◌, ◌<◌, ◌*◌, ◌-◌, [], length, map}
 use Rattle.std.specs.List.{AllByRecursion, range_with_len}
 use Rattle.jpeg_bits.proofs.BandLoop.{Leaves}
 use Rattle.jpeg_bits.specs.BlockView.{pass_in}
@@ -19,6 +19,7 @@ invariant-loop-row g l = record {
       (map (walk_of_row l.order) (range_with_len l.row (l.order.rows - l.row)));
   growing : GrowsFor (map coding_in l.fn.scan.components.items) l.planes;
   kind : is_joint l.planes ≡ is_joint l.fn.planes;
+  some : 0 < length (growing_in l.planes) → 0 < length (growing_in l.fn.planes);
   lengths : growing_in l.fn.planes ≡ no_samples (map coding_in l.fn.scan.components.items)
       → map length (growing_in l.planes)
       ≡ map (λ c. strip_samples (l.row * down_in c) c) l.fn.scan.components.items;

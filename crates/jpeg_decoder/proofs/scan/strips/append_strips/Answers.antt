@@ -1,9 +1,12 @@
 use Rattle.std.proofs.Common.{arith}
 use Rattle.std.proofs.lemmas.Grind.{common_steps}
 use Rattle.std.proofs.lemmas.Result.{on_ok_weaker}
-use Rattle.jpeg_decoder.proofs.JointStrips.{room-grown, room-kept}
+use Rattle.jpeg_decoder.proofs.JointStrips.{room-grown, room-kept, some-planes}
 use Rattle.jpeg_decoder.proofs.StripSteps.{row-count}
 use Rattle.jpeg_decoder.proofs.scan.strips.append_strips.Goals as goal
+
+pub append_to_room-requires-clause-tables : goal.append_to_room-requires-clause-tables
+append_to_room-requires-clause-tables c = grind (arith, common_steps, some-planes)
 
 pub returns-in-Joint-clause-strips : goal.returns-in-Joint-clause-strips
 returns-in-Joint-clause-strips c = grind (arith, common_steps, on_ok_weaker, room-grown, row-count)

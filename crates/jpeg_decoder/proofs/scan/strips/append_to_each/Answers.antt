@@ -9,11 +9,12 @@ pub bounds-planes-slot : goal.bounds-planes-slot
 bounds-planes-slot c = grind (arith, common_steps, planes-long)
 
 pub bounds-tables-slot : goal.bounds-tables-slot
-bounds-tables-slot c = omega (arith, tables-long c.args.codings.now c.args.tables.now c.requires.tables)
+bounds-tables-slot c =
+    omega (arith, tables-long c.args.codings.now c.args.tables.now (c.requires.tables (search rules)))
 
 pub offset_bounds-tables-slot : goal.offset_bounds-tables-slot
 offset_bounds-tables-slot c =
-    let long = tables-long c.args.codings.now c.args.tables.now c.requires.tables in
+    let long = tables-long c.args.codings.now c.args.tables.now (c.requires.tables (search rules)) in
     search rules
 
 pub append_rows-requires-clause-size : goal.append_rows-requires-clause-size
@@ -26,7 +27,7 @@ pub loop-slot-preserved : goal.loop-slot-preserved
 unfolding samples_of
 loop-slot-preserved c =
     let table = table-here c.args.codings.now c.args.tables.now c.loop-slot.slot c.index-codings-slot.result
-    c.index-tables-slot.result c.requires.tables (search rules) (search rules) (search rules) in
+    c.index-tables-slot.result (c.requires.tables (search rules)) (search rules) (search rules) (search rules) in
     planes-next c.args.codings.now c.args.rows.now c.args.planes.now c.requires.sizes (search rules) c.loop-slot.planes
     c.loop-slot.slot c.index-codings-slot.result c.index-rows-slot.result c.index-planes-slot.result
     c.append_rows.new.plane (search rules) (search rules) (search rules) c.loop-slot.invariant (search rules)

@@ -3,10 +3,9 @@ use Rattle.std.proofs.lemmas.Result.{err_from_is_err_and}
 use Rattle.std.proofs.lemmas.Grind.{common_steps}
 use Rattle.jpeg_bits.specs.BlockView.{pass_in}
 use Rattle.jpeg_segments.specs.FrameView.{frame_in}
-use Rattle.jpeg_streams.specs.Found.{nothing_found}
 use Rattle.jpeg_decoder.specs.Steps.{coding_in}
 use Rattle.jpeg_decoder.specs.GrowingView.{growing_in}
-use Rattle.jpeg_decoder.proofs.SequentialScans.{again-data, again-planes, again-refused-data}
+use Rattle.jpeg_decoder.proofs.SequentialScans.{again-data, again-refused-data}
 use Rattle.jpeg_decoder.proofs.SequentialScans.{are-decided}
 use Rattle.jpeg_decoder.proofs.scan.decoded.Decoded.read_again.Goals as goal
 
@@ -22,17 +21,7 @@ returns-clause-data g c base b =
     let more = again-data base c.args.self.now (frame_in c.args.frame.now)
     c.args.scan.now c.args.source.now.bytes c.requires.process b.restart c.requires.ready
     c.in_ok-reached.reached c.read_planes.new.source.bytes
-    (record c.args.self.now { kept = c.new-2.result }) c.add_planes.new.self refl refl refl
+    (record c.args.self.now { kept = c.new-2.result }) c.mark_again.new.self refl refl refl
     (ap (map _) c.new-2.ensures.items) (growing_in c.read_planes.new.planes)
-    (are-decided c.args.scan.now.components.items _ c.requires.decided) in
-    grind (arith, common_steps, more)
-
-pub returns-clause-planes : goal.returns-clause-planes
-returns-clause-planes g c =
-    let base = nothing_found in
-    let added = c.add_planes.ensures.planes base in
-    let more = again-planes (pass_in c.args.scan.now.pass)
-    (map coding_in c.args.scan.now.components.items) base
-    (record c.args.self.now { kept = c.new-2.result }) c.add_planes.new.self
     (are-decided c.args.scan.now.components.items _ c.requires.decided) in
     grind (arith, common_steps, more)

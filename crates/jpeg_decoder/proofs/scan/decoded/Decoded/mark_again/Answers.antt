@@ -1,0 +1,34 @@
+use Rattle.std.proofs.lemmas.Grind.{common_steps}
+use Rattle.std.proofs.lemmas.List.{get_or_default}
+use Rattle.std.proofs.Common.{rules, ◌≡◌, ◌<◌, ◌∙◌, arith, get_or, length, None, true}
+use Rattle.std.specs.Prelude.{is_some, slice_index_or}
+use Rattle.jpeg_bits.specs.BlockView.{pass_in}
+use Rattle.jpeg_decoder.specs.Steps.{marks_after, with_decoded, with_planes}
+use Rattle.jpeg_decoder.proofs.DecidedScans.{again-step}
+use Rattle.jpeg_decoder.proofs.PutLoops.{none-left}
+use Rattle.jpeg_decoder.proofs.scan.decoded.Decoded.mark_again.Goals as goal
+
+pub loop-coded-preserved : goal.loop-coded-preserved
+loop-coded-preserved c =
+    let l = c.loop-coded in
+    let p = pass_in c.args.scan.now.pass in
+    let cs = c.args.scan.now.components.items in
+    let coded = c.coded-item.result in
+    let within : l.coded-index < length cs = search rules in
+    let is : coded ≡ get_or cs l.coded-index coded = grind (arith, common_steps) in
+    let marked : c.finish.new.marks ≡ marks_after p l.self.finished coded.index =
+    grind (arith, common_steps, get_or_default) in
+    let there = c.requires.decided l.coded-index coded within in
+    let decided : is_some (slice_index_or l.self.planes coded.index None) ≡ true = grind (arith, common_steps) in
+    record {
+      kept = search rules;
+      samples = search rules;
+      planes = search rules;
+      added = λ base.
+          again-step p cs l.coded-index coded (with_decoded base l.self) c.finish.new.marks within is decided marked
+          ∙ l.invariant.added base;
+    }
+
+pub returns-clause-planes : goal.returns-clause-planes
+unfolding with_planes
+returns-clause-planes c = grind (arith, common_steps, none-left)
