@@ -482,39 +482,81 @@ def predicted(ra, rb, rc, selection, start, x, y):
     return model.predict(ra, rb, rc, selection) if x else rb
 
 
-def lossless(case, text):
+def coded(text):
+    """how a scan is coded, and its parts"""
     head, *parts = text.split(':')
-    wide, high, precision, selection, point, interval = numbers(head)
-    parts = [numbers(part) for part in parts]
+    return numbers(head), [numbers(part) for part in parts]
+
+
+def read_mcu(case, t, coding, parts, planes, mcu, first):
+    """the samples of an MCU of an interval whose first row of MCUs is this one"""
+    _, _, precision, selection, point, _ = coding
+    for (across, down, _, _), plane in zip(parts, planes):
+        for y in range(mcu[1] * down, (mcu[1] + 1) * down):
+            for x in range(mcu[0] * across, (mcu[0] + 1) * across):
+                near = [plane.get(at, 0) for at in ((x - 1, y), (x, y - 1), (x - 1, y - 1))]
+                start = 1 << (precision - point - 1)
+                size = t.symbol(case.codes)[0]
+                if size > 16:
+                    raise model.fmt(True)
+                difference = extend(t.bits(size), size) if size else 0
+                sample = predicted(*near, selection, start, x, y - first * down) + difference
+                plane[x, y] = sample & 0xFFFF
+
+
+def own_samples(coding, parts, planes):
+    """the samples of each part that are there"""
+    return [
+        [
+            plane[x, y] << coding[4] & 0xFFFF
+            for y in range(height)
+            for x in range(width)
+            if (x, y) in plane
+        ]
+        for (_, _, width, height), plane in zip(parts, planes)
+    ]
+
+
+def rows_of_interval(coding):
+    wide, high, interval = coding[0], coding[1], coding[5]
+    return interval // wide if 0 < interval < wide * high else high
+
+
+def lossless(case, text):
+    coding, parts = coded(text)
+    wide, high, interval = coding[0], coding[1], coding[5]
     if 0 < interval < wide * high and interval % wide:
         raise model.fmt(True)
     planes = [{} for _ in parts]
 
     def unit(t, mcu, state):
-        for (across, down, _, _), plane in zip(parts, planes):
-            for y in range(mcu[1] * down, (mcu[1] + 1) * down):
-                for x in range(mcu[0] * across, (mcu[0] + 1) * across):
-                    first = state['first'] * down
-                    near = [plane.get(at, 0) for at in ((x - 1, y), (x, y - 1), (x - 1, y - 1))]
-                    start = 1 << (precision - point - 1)
-                    size = t.symbol(case.codes)[0]
-                    difference = extend(t.bits(size), size) if size else 0
-                    sample = predicted(*near, selection, start, x, y - first) + difference
-                    plane[x, y] = sample & 0xFFFF
+        read_mcu(case, t, coding, parts, planes, mcu, state['first'])
 
     mcus = [(x, y) for y in range(high) for x in range(wide)]
-    rows = iter(range(0, high, interval // wide if 0 < interval < wide * high else high))
+    rows = iter(range(0, high, rows_of_interval(coding)))
     marker = model.run_scan(case.r, mcus, interval, lambda: {'first': next(rows)}, unit)
-    cropped = [
-        [plane[x, y] << point & 0xFFFF for y in range(height) for x in range(width)]
-        for (_, _, width, height), plane in zip(parts, planes)
-    ]
-    return '%s, %s' % (cropped, some(marker and marker_name(marker)))
+    return '%s, %s' % (own_samples(coding, parts, planes), some(marker and marker_name(marker)))
+
+
+def rows(case, text):
+    coding, parts = coded(text)
+    planes, said = [{} for _ in parts], '()'
+    try:
+        for y in range(rows_of_interval(coding)):
+            more = [dict(plane) for plane in planes]
+            for x in range(coding[0]):
+                read_mcu(case, case.bits(), coding, parts, more, (x, y), 0)
+            planes = more
+    except Refused as error:
+        said = case.refusal(error)
+    return '%s, %s' % (own_samples(coding, parts, planes), said)
 
 
 def read_lossless(case, verb, text):
     if verb == 'lossless':
         return lossless(case, text)
+    if verb == 'rows':
+        return rows(case, text)
     if verb == 'predict':
         ra, rb, rc, selection, point, precision, x, y = numbers(text)
         return str(predicted(ra, rb, rc, selection, 1 << (precision - point - 1), x, y))

@@ -47,7 +47,7 @@ pub struct Coding {
 
 /// Returns how many rows of MCUs a restart interval has: all without restarts, or if it has the
 /// whole scan. Returns none if an interval would end inside a row.
-fn rows_of_interval(coding: Coding) -> Option<u16>
+pub fn rows_of_interval(coding: Coding) -> Option<u16>
     requires wide { 0 < coding.wide }
     requires high { 0 < coding.high }
     ensures some { IfSome result
@@ -70,10 +70,11 @@ fn rows_of_interval(coding: Coding) -> Option<u16>
 
 /// How the rows of MCUs of a scan are coded.
 #[derive(Drop)]
-struct RowCoding<'a, 't> {
-    scan: Coding,
+pub struct RowCoding<'a, 't> {
+    /// How the scan is coded.
+    pub scan: Coding,
     /// The components of the scan.
-    parts: &'a [Part<'t>],
+    pub parts: &'a [Part<'t>],
     /// The table of each sample of an MCU.
     tables: Vec<&'t HuffmanTable>,
     ghost listed: { map (λ t. t.now) tables.items ≡ mcu_tables (map part_in parts.now) },
@@ -83,32 +84,90 @@ struct RowCoding<'a, 't> {
     ghost precision: { scan.precision ≤ 16 },
 }
 
+impl<'a, 't> RowCoding<'a, 't> {
+    ghost use Rattle.std.specs.Prelude.{◌≡◌, ◌<◌, ◌≤◌, IfOk, map};
+    ghost use Rattle.std.specs.List.{AllByRecursion};
+    ghost use Rattle.jpeg_lossless.specs.Codings.{IsCovered, part_in};
+
+    /// Prepares to read the rows of MCUs of a scan whose components are the parts.
+    #[tactic(auto, using(crate::proofs::Sizes::scan_rules))]
+    pub fn new(
+        alloc: Global,
+        coding: Coding,
+        parts: &'a [Part<'t>],
+    ) -> std::result::Result<RowCoding<'a, 't>, AllocError>
+        requires wide { 0 < coding.wide }
+        requires high { 0 < coding.high }
+        requires point { coding.point_transform < coding.precision }
+        requires precision { coding.precision ≤ 16 }
+        requires covered { AllByRecursion (IsCovered coding.wide coding.high)
+            (map part_in parts.now) }
+        ensures scan { IfOk result (λ r. r.scan ≡ coding) }
+        ensures parts { IfOk result (λ r. r.parts.now ≡ parts.now) }
+    {
+        let tables = mcu_tables(alloc, parts)?;
+        Ok(RowCoding {
+            scan: coding,
+            parts,
+            tables,
+        })
+    }
+}
+
 /// A scan that is being read: the samples so far, and buffers for a row of MCUs.
 #[derive(Drop)]
-struct LosslessScan {
+pub struct LosslessScan {
     alloc: Global,
     /// The differences of a row of MCUs, in the order in which they are coded.
     row: Vec<u16>,
     /// A line of one component: its differences, and then its samples.
     line: Vec<u16>,
-    /// The samples of each component, line by line.
-    planes: Vec<Vec<u16>>,
+    /// The samples of each component so far, line by line, with those of padding lines and before
+    /// the point transform.
+    pub planes: Vec<Vec<u16>>,
 }
 
 impl LosslessScan {
-    ghost use Rattle.std.specs.Prelude.{◌≡◌, ℕ, OnOk, ◌≤◌, ◌<◌, ◌+◌, ◌*◌, length, map, true};
-    ghost use Rattle.jpeg_bits.specs.Reading.{Answers};
-    ghost use Rattle.jpeg_bits.specs.Entropy.{Takes};
+    ghost use Rattle.std.specs.Prelude.{◌≡◌, ℕ, IfOk, OnOk, ◌≤◌, ◌<◌, ◌+◌, ◌*◌, length, map, true};
+    ghost use Rattle.std.specs.Prelude.{MatchResult, Ok, Err, replicate, []};
+    ghost use Rattle.jpeg_bits.specs.Reading.{Answers, Names};
+    ghost use Rattle.jpeg_bits.specs.Entropy.{Takes, upcoming};
+    ghost use Rattle.jpeg_bits.specs.declared.error.Error.TheVariants.{OutOfMemory};
     ghost use Rattle.std.specs.List.{AllByRecursion};
     ghost use Rattle.jpeg_lossless.specs.Codings.{part_in, way_by};
     ghost use Rattle.jpeg_lossless.specs.Differences.{mcu_tables};
-    ghost use Rattle.jpeg_lossless.specs.Rows.{planes_after_rows};
+    ghost use Rattle.jpeg_lossless.specs.Rows.{planes_after_rows, with_mcu_rows};
+    ghost use Rattle.jpeg_lossless.specs.RowsReached.{rows_reached};
+    ghost use Rattle.jpeg_lossless.specs.Scans.{scan_tables};
     ghost use Rattle.jpeg_lossless.specs.PlanesRead.{planes_interval, planes_intervals};
-    ghost use Rattle.jpeg_lossless.specs.PlanesRead.{AreGrown, IsWithinMcus};
+    ghost use Rattle.jpeg_lossless.specs.PlanesRead.{AreGrown, IsWithinMcus, cut_planes};
 
-    /// Reads `count` rows of MCUs, and appends their samples to the planes.
+    /// Begins a scan, of which no row is read yet.
+    pub fn new(
+        alloc: Global,
+        coding: &RowCoding<'_, '_>,
+    ) -> std::result::Result<LosslessScan, AllocError>
+        ensures count { IfOk result (λ s. length s.planes.items ≡ length coding.now.parts.now) }
+        ensures planes { IfOk result (λ s. map (λ v. v.items) s.planes.items
+            ≡ replicate (length coding.now.parts.now) []) }
+    {
+        let planes = empty_planes(alloc, coding.scan.high, coding.parts)?;
+        Ok(LosslessScan {
+            alloc,
+            row: Vec::new(alloc),
+            line: Vec::new(alloc),
+            planes,
+        })
+    }
+
+    /// Reads `count` rows of MCUs from the beginning of a restart interval on, and appends their
+    /// samples to the planes. Of a row that can't be read whole nothing is there, unless memory ran
+    /// out.
+    ///
+    /// Errors: `Format` if bits are no code of their table, a category is above 16, or FF 00 stands
+    /// in place of a marker; `Io` if the bytes end or a read fails; `OutOfMemory`.
     #[tactic(auto, using(crate::proofs::PlaneLoops::planes_none))]
-    fn read_rows<R: Read + Drop>(
+    pub fn read_rows<R: Read + Drop>(
         &mut self,
         decoder: &mut HuffmanDecoder,
         source: &mut Source<R>,
@@ -125,6 +184,15 @@ impl LosslessScan {
             (planes_after_rows (way_by coding.now.scan (map part_in coding.now.parts.now)) true
             count (map (λ v. v.items) self.old.planes.items))
             decoder.old source.old result decoder.new source.new }
+        ensures reached { let w = way_by coding.now.scan (map part_in coding.now.parts.now) in
+            source.old.known ≡ true → source.new.known ≡ true → (result ≡ Err OutOfMemory → ⊥)
+            → map (λ v. v.items) self.new.planes.items ≡ with_mcu_rows w true
+            (rows_reached (scan_tables w count) (upcoming decoder.old source.old.bytes)).0
+            (map (λ v. v.items) self.old.planes.items) }
+        ensures told { let w = way_by coding.now.scan (map part_in coding.now.parts.now) in
+            let read = rows_reached (scan_tables w count) (upcoming decoder.old source.old.bytes) in
+            source.old.known ≡ true → source.new.known ≡ true → MatchResult result
+            (λ _. read.1 ≡ Ok (upcoming decoder.new source.new.bytes).bits) (λ e. Names e read.1) }
     {
         let prediction = Prediction {
             predictor: coding.scan.predictor,
@@ -209,6 +277,23 @@ impl LosslessScan {
         }
         self.read_interval(source, coding, left)
     }
+
+    /// Ends a scan, and returns the plane of each component: its own samples of the rows that were
+    /// read, without padding lines and shifted by the point transform.
+    pub fn finish(mut self, coding: &RowCoding<'_, '_>) -> Vec<Vec<u16>>
+        requires planes { length self.planes.items ≡ length coding.now.parts.now }
+        ensures count { length result.items ≡ length self.planes.items }
+        ensures planes { map (λ v. v.items) result.items
+            ≡ cut_planes coding.now.scan.point_transform (map part_in coding.now.parts.now)
+            (map (λ v. v.items) self.planes.items) }
+    {
+        finish_all(
+            self.planes.as_mut_slice(),
+            coding.parts,
+            coding.scan.point_transform,
+        );
+        self.planes
+    }
 }
 
 /// Returns whether a marker is the RST with this number modulo 8.
@@ -292,21 +377,10 @@ fn read_planes<R: Read + Drop>(
             coding.restart_interval, coding.wide
         )));
     };
-    let planes = empty_planes(alloc, coding.high, parts)?;
-    let mut scan = LosslessScan {
-        alloc,
-        row: Vec::new(alloc),
-        line: Vec::new(alloc),
-        planes,
-    };
-    let row_coding = RowCoding {
-        scan: coding,
-        parts,
-        tables: mcu_tables(alloc, parts)?,
-    };
+    let row_coding = RowCoding::new(alloc, coding, parts)?;
+    let mut scan = LosslessScan::new(alloc, &row_coding)?;
     let marker = scan.read_intervals(source, &row_coding, rows)?;
-    finish_all(scan.planes.as_mut_slice(), parts, coding.point_transform);
-    Ok((scan.planes, marker))
+    Ok((scan.finish(&row_coding), marker))
 }
 
 /// Reads the entropy-coded data of a lossless scan, whose components are the parts. Returns a plane

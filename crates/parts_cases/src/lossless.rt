@@ -1,16 +1,16 @@
 //! Calls of `jpeg_lossless`: predictions, and the samples of scans.
-ghost use Rattle.std.specs.Prelude.{◌≡◌, map, true};
+ghost use Rattle.std.specs.Prelude.{◌≡◌, ◌<◌, ◌≤◌, map, true};
 ghost use Rattle.std.specs.List.{AllByRecursion};
 ghost use Rattle.jpeg_lossless.specs.Codings.{IsCovered, part_in};
 
 use crate::bits::table_of;
 use crate::state::State;
-use crate::words::{halves, numbers, refusal};
+use crate::words::{answer_of, halves, numbers, refusal};
 use anyhow::bail;
 use jpeg_bits::huffman::{HuffmanTable, HuffmanTableClass};
 use jpeg_bits::scan::Predictor;
 use jpeg_lossless::lossless::predict;
-use jpeg_lossless::scan::{Coding, Part, read_scan};
+use jpeg_lossless::scan::{Coding, LosslessScan, Part, RowCoding, read_scan, rows_of_interval};
 use std::alloc::Global;
 
 /// Returns the predictor of a selection (T.81, Table H.1).
@@ -94,8 +94,45 @@ fn are_covered(wide: u16, high: u16, parts: &[Part<'_>]) -> bool
     }
 }
 
-/// Reads a scan by the codes of the last table, by words `CODING: PART: PART ..`.
-fn scan(state: &mut State<'_>, text: &str) -> anyhow::Result<String> {
+/// Reads a scan.
+fn scan_read(state: &mut State<'_>, coding: Coding, parts: &[Part<'_>]) -> anyhow::Result<String>
+    requires wide { 0 < coding.wide }
+    requires high { 0 < coding.high }
+    requires point { coding.point_transform < coding.precision }
+    requires precision { coding.precision ≤ 16 }
+    requires covered { AllByRecursion (IsCovered coding.wide coding.high) (map part_in parts.now) }
+{
+    let alloc = state.alloc;
+    match read_scan(alloc, &mut state.source, coding, parts) {
+        Ok((planes, marker)) => Ok(format!(in alloc; "{planes:?}, {marker:?}")?),
+        Err(error) => Ok(refusal(alloc, &error)?),
+    }
+}
+
+/// Reads the rows of MCUs of a restart interval as far as they go, and says the samples that are
+/// there, and the refusal.
+fn rows_read(state: &mut State<'_>, coding: Coding, parts: &[Part<'_>]) -> anyhow::Result<String>
+    requires wide { 0 < coding.wide }
+    requires high { 0 < coding.high }
+    requires point { coding.point_transform < coding.precision }
+    requires precision { coding.precision ≤ 16 }
+    requires covered { AllByRecursion (IsCovered coding.wide coding.high) (map part_in parts.now) }
+{
+    let alloc = state.alloc;
+    let Some(count) = rows_of_interval(coding) else {
+        bail!("expected an interval of whole rows");
+    };
+    let coding = RowCoding::new(alloc, coding, parts)?;
+    let mut scan = LosslessScan::new(alloc, &coding)?;
+    let read = scan.read_rows(&mut state.decoder, &mut state.source, &coding, count);
+    let planes = scan.finish(&coding);
+    let told = answer_of(alloc, &read)?;
+    Ok(format!(in alloc; "{planes:?}, {told}")?)
+}
+
+/// Reads a scan by the codes of the last table, or the rows of an interval of it, by words
+/// `CODING: PART: PART ..`.
+fn scan(state: &mut State<'_>, is_whole: bool, text: &str) -> anyhow::Result<String> {
     let alloc = state.alloc;
     let (coding, rest) = halves(text)?;
     let coding = coding_of(&numbers(alloc, coding)?)?;
@@ -113,9 +150,10 @@ fn scan(state: &mut State<'_>, text: &str) -> anyhow::Result<String> {
     if !are_covered(coding.wide, coding.high, &parts) {
         bail!("expected components within their MCUs");
     }
-    match read_scan(alloc, &mut state.source, coding, &parts) {
-        Ok((planes, marker)) => Ok(format!(in alloc; "{planes:?}, {marker:?}")?),
-        Err(error) => Ok(refusal(alloc, &error)?),
+    if is_whole {
+        scan_read(state, coding, &parts)
+    } else {
+        rows_read(state, coding, &parts)
     }
 }
 
@@ -123,7 +161,8 @@ fn scan(state: &mut State<'_>, text: &str) -> anyhow::Result<String> {
 pub fn answer(state: &mut State<'_>, verb: &str, text: &str) -> anyhow::Result<Option<String>> {
     Ok(Some(match verb {
         "predict" => predicted(state.alloc, &numbers(state.alloc, text)?)?,
-        "lossless" => scan(state, text)?,
+        "lossless" => scan(state, true, text)?,
+        "rows" => scan(state, false, text)?,
         _ => return Ok(None),
     }))
 }

@@ -77,6 +77,9 @@
 //! ```text
 //! predict LEFT ABOVE CORNER SELECTION POINT PRECISION COLUMN LINE
 //! lossless WIDE HIGH PRECISION SELECTION POINT INTERVAL: PART: PART ..
+//! rows WIDE HIGH PRECISION SELECTION POINT INTERVAL: PART: PART ..
+//!                                 the samples of one interval as far as its rows of MCUs can be
+//!                                 read, and the refusal
 //! ```
 #![tactic(auto)]
 

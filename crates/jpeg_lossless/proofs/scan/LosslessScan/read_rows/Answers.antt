@@ -7,15 +7,19 @@ use Rattle.jpeg_lossless.specs.Rows.{planes_after_rows, with_mcu_row}
 use Rattle.jpeg_lossless.specs.Codings.{part_in, way_by}
 use Rattle.jpeg_lossless.specs.Scans.{samples_an_mcu}
 use Rattle.jpeg_bits.specs.Codes.{Table}
+use Rattle.jpeg_bits.specs.Entropy.{upcoming}
+use Rattle.jpeg_bits.proofs.Loops.{Names-through}
 use Rattle.jpeg_bits.specs.declared.scan.Predictor.{Predictor}
 use Rattle.jpeg_lossless.proofs.Leaves.{Leaves-step, Leaves-refused}
-use Rattle.jpeg_lossless.proofs.PlaneLoops.{planes_more, planes_refused}
+use Rattle.jpeg_lossless.proofs.PlaneLoops.{named, planes_more, planes_refused, reached_more, reached_none}
+use Rattle.jpeg_lossless.proofs.PlaneLoops.{reached_refused}
 use Rattle.jpeg_lossless.proofs.Sizes.{grown-as, written-back}
 use Rattle.jpeg_lossless.proofs.scan.LosslessScan.read_rows.Goals as goal
 
 pub returns-in_err-read_row-clause-reads : goal.returns-in_err-read_row-clause-reads
 returns-in_err-read_row-clause-reads g c =
-    let listed : map (λ t. t.now) c.as_slice-tables.result.now ≡ mcu_tables (map part_in c.args.coding.now.parts.now) = search rules in
+    let listed : map (λ t. t.now) c.as_slice-tables.result.now
+    ≡ mcu_tables (map part_in c.args.coding.now.parts.now) = search rules in
     let e = err_from_is_err_and c.from_residual.result c.from_residual.ensures.1 in
     let tables = map (λ t. t.now) c.as_slice-tables.result.now in
     let v = way_by c.args.coding.now.scan (map part_in c.args.coding.now.parts.now) in
@@ -31,6 +35,52 @@ returns-in_err-read_row-clause-reads g c =
     (ap₂ (λ (n : ℕ) (l : List Table). differences (row_tables n l) t) (sym c.from-wide.ensures)
     (sym listed) ∙ h))
     c.loop-left.invariant.reads c.in_err-read_row.ensures.reads)
+
+pub returns-in_err-read_row-clause-reached : goal.returns-in_err-read_row-clause-reached
+returns-in_err-read_row-clause-reached g c = λ known stays there.
+    let listed : map (λ t. t.now) c.as_slice-tables.result.now
+    ≡ mcu_tables (map part_in c.args.coding.now.parts.now) = search rules in
+    let e = err_from_is_err_and c.from_residual.result c.from_residual.ensures.1 in
+    let tables = map (λ t. t.now) c.as_slice-tables.result.now in
+    let v = way_by c.args.coding.now.scan (map part_in c.args.coding.now.parts.now) in
+    let planes = map (λ v. v.items) c.loop-left.self.planes.items in
+    let t = upcoming c.loop-left.decoder c.loop-left.source.bytes in
+    let told = c.in_err-read_row.ensures.reads.1 (c.loop-left.invariant.reads.1 known).0 stays in
+    let fault = named {Y = Unit {0}} _ _ (λ h. there (rw (e.1, e.2) h)) told in
+    sym (ap (λ r. r.0) (c.loop-left.invariant.reached known
+    ∙ reached_refused v c.loop-left.is_first c.loop-left.left planes t fault.0 c.loop-left-test.true
+    (ap₂ (λ (n : ℕ) (l : List Table). differences (row_tables n l) t) (sym c.from-wide.ensures) (sym listed)
+    ∙ fault.1)))
+
+pub returns-in_err-read_row-clause-told : goal.returns-in_err-read_row-clause-told
+returns-in_err-read_row-clause-told g c = λ known stays.
+    let listed : map (λ t. t.now) c.as_slice-tables.result.now
+    ≡ mcu_tables (map part_in c.args.coding.now.parts.now) = search rules in
+    let e = err_from_is_err_and c.from_residual.result c.from_residual.ensures.1 in
+    let v = way_by c.args.coding.now.scan (map part_in c.args.coding.now.parts.now) in
+    let planes = map (λ v. v.items) c.loop-left.self.planes.items in
+    let t = upcoming c.loop-left.decoder c.loop-left.source.bytes in
+    let told = c.in_err-read_row.ensures.reads.1 (c.loop-left.invariant.reads.1 known).0 stays in
+    rw (e.1, e.2) (Names-through _ _ _ (λ f h. ap (λ r. r.1) (c.loop-left.invariant.reached known
+    ∙ reached_refused v c.loop-left.is_first c.loop-left.left planes t f c.loop-left-test.true
+    (ap₂ (λ (n : ℕ) (l : List Table). differences (row_tables n l) t) (sym c.from-wide.ensures) (sym listed)
+    ∙ h))) told)
+
+pub returns-clause-reached : goal.returns-clause-reached
+returns-clause-reached g c = λ known stays there.
+    let v = way_by c.args.coding.now.scan (map part_in c.args.coding.now.parts.now) in
+    let planes = map (λ v. v.items) c.loop-left.self.planes.items in
+    let t = upcoming c.loop-left.decoder c.loop-left.source.bytes in
+    sym (ap (λ r. r.0) (c.loop-left.invariant.reached known
+    ∙ reached_none v c.loop-left.is_first c.loop-left.left planes t (omega (arith, c.loop-left-test.false))))
+
+pub returns-clause-told : goal.returns-clause-told
+returns-clause-told g c = λ known stays.
+    let v = way_by c.args.coding.now.scan (map part_in c.args.coding.now.parts.now) in
+    let planes = map (λ v. v.items) c.loop-left.self.planes.items in
+    let t = upcoming c.loop-left.decoder c.loop-left.source.bytes in
+    ap (λ r. r.1) (c.loop-left.invariant.reached known
+    ∙ reached_none v c.loop-left.is_first c.loop-left.left planes t (omega (arith, c.loop-left-test.false)))
 
 pub loop-left-preserved : goal.loop-left-preserved
 loop-left-preserved g c =
@@ -74,4 +124,10 @@ loop-left-preserved g c =
           (ap₂ (λ (n : ℕ) (l : List Table). differences (row_tables n l) t) (sym c.from-wide.ensures)
           (sym listed) ∙ h))
           c.loop-left.invariant.reads c.in_ok-read_row.ensures.reads;
+      reached = λ known.
+          let t = upcoming c.loop-left.decoder c.loop-left.source.bytes in
+          c.loop-left.invariant.reached known
+          ∙ reached_more v first c.loop-left.left planes next row t _ c.loop-left-test.true grown
+          (ap₂ (λ (n : ℕ) (l : List Table). differences (row_tables n l) t) (sym c.from-wide.ensures) (sym listed)
+          ∙ (c.in_ok-read_row.ensures.reads.1 (c.loop-left.invariant.reads.1 known).0).1);
     }
