@@ -651,7 +651,9 @@ def predict(ra, rb, rc, sel):
     ][sel]
 
 
-def lossless_scan(r, f, s, dc, ri, settings):
+def lossless_scan(r, f, s, dc, ri, settings, b, is_sealed):
+    """b.planes gets the samples of the components; after a fault those of the rows of MCUs that are
+    whole, and below them the samples from before the scan, or mid-grey"""
     if settings.equal_factors:
         grid = {j: (1, 1, f.w, f.h) for j in range(len(s.comps))}
         cols, rows = f.w, f.h
@@ -669,12 +671,14 @@ def lossless_scan(r, f, s, dc, ri, settings):
         raise fmt(True)
     mcus = [(x, y) for y in range(rows) for x in range(cols)]
     planes = {j: [0] * (g[2] * g[3]) for j, g in grid.items()}
+    whole = [0]
 
     def start():
         return {'first': {}}
 
     def unit(t, mcu, st):
         x, y = mcu
+        whole[0] = y
         for j in range(len(s.comps)):
             h, v, wide, _ = grid[j]
             plane = planes[j]
@@ -695,22 +699,25 @@ def lossless_scan(r, f, s, dc, ri, settings):
                             ra, plane[(yy - 1) * wide + xx], plane[(yy - 1) * wide + xx - 1], s.ss
                         )
                     plane[yy * wide + xx] = (p + d) & 0xFFFF
+        if x == cols - 1:
+            whole[0] = y + 1
 
-    marker = run_scan(r, mcus, ri, start, unit)
-    out = {}
-    for j, i in enumerate(s.comps):
-        c = f.comps[i]
-        wide = grid[j][2]
-        if settings.equal_factors:
-            cw, ch = f.w, f.h
-        else:
-            cw, ch = ceil_div(f.w * c.h, f.hmax), ceil_div(f.h * c.v, f.vmax)
-        out[i] = (
-            cw,
-            ch,
-            [planes[j][y * wide + x] << s.al & 0xFFFF for y in range(ch) for x in range(cw)],
-        )
-    return marker, out
+    try:
+        return run_scan(r, mcus, ri, start, unit, is_sealed)
+    finally:
+        for j, i in enumerate(s.comps):
+            c = f.comps[i]
+            _, v, wide, _ = grid[j]
+            if settings.equal_factors:
+                cw, ch = f.w, f.h
+            else:
+                cw, ch = ceil_div(f.w * c.h, f.hmax), ceil_div(f.h * c.v, f.vmax)
+            own = planes[j]
+            lines = min(ch, whole[0] * v)
+            samples = [own[y * wide + x] << s.al & 0xFFFF for y in range(lines) for x in range(cw)]
+            grey = [1 << (f.precision - 1)] * (cw * ch)
+            before = b.planes[i][2] if i in b.planes else grey
+            b.planes[i] = (cw, ch, samples + before[len(samples) :])
 
 
 # ---- samples and pixels
@@ -1068,9 +1075,9 @@ def meaning(data, settings=None, trace=None):
 
 
 def shown(data, settings=None, trace=None):
-    """What a stream with a fault shows. The blocks of a scan count up to the first that lacks a bit
-    or has a fault, where no zero bits follow the data; of any other segment and of a lossless scan
-    nothing counts unless all of it is there."""
+    """What a stream with a fault shows. The blocks of a scan, or the rows of MCUs of a lossless one,
+    count up to the first that lacks a bit or has a fault, where no zero bits follow the data; of any
+    other segment nothing counts unless all of it is there."""
     settings, st, b, fault = settings or Settings(), nothing_said(trace), Brought(), None
     try:
         read_segments(Bytes(data), settings, st, trace, b, True)
@@ -1115,8 +1122,7 @@ def read_segments(r, settings, st, trace, b, is_partial):
             if f.process == 'lossless':
                 if any(dc[t] is None for t in s.dc):
                     raise fmt(True)
-                pending, got = lossless_scan(r, f, s, dc, ri, settings)
-                b.planes.update(got)
+                pending = lossless_scan(r, f, s, dc, ri, settings, b, is_partial)
             else:
                 if st['avi']:
                     ddc, dac = default_tables()

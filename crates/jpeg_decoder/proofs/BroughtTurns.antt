@@ -3,7 +3,8 @@ use Rattle.std.proofs.Common.{◌≡◌, ◌≤◌, ◌<◌, ◌+◌, ℕ, suc, 
 use Rattle.std.proofs.Common.{Some, None, refl, ap, sym, ◌∙◌, length, arith}
 use Rattle.std.specs.Prelude.{◌==◌, if◌then◌else◌}
 use Rattle.std.proofs.lemmas.Grind.{common_steps}
-use Rattle.jpeg_bits.specs.Reading.{Outcome, End, Fault, ◌>>=◌}
+use Rattle.jpeg_bits.specs.Reading.{Outcome, End, Fault, Malformed, ◌>>=◌}
+use Rattle.jpeg_bits.specs.Codes.{Table}
 use Rattle.jpeg_bits.specs.Entropy.{Text, ending_at, text_at}
 use Rattle.jpeg_bits.specs.Intervals as intervals
 use Rattle.jpeg_bits.specs.Marker.{found_or, next_marker}
@@ -18,7 +19,11 @@ use Rattle.jpeg_segments.specs.declared.frame.CodingProcess.TheVariants.{Lossles
 use Rattle.jpeg_streams.specs.declared.before.Before.{Before}
 use Rattle.jpeg_streams.specs.Brought.{Brought, after_interval, after_intervals, blocks_brought, blocks_brought_by}
 use Rattle.jpeg_streams.specs.Brought.{brought_by, frame_and_scan, interval_reached, intervals_reached, scan_brought}
-use Rattle.jpeg_streams.specs.Brought.{or_fault_at, reached_from, sealed, segment_brought, turn_brought}
+use Rattle.jpeg_streams.specs.Brought.{has_whole_rows, interval_rows_reached, or_fault_at, reached_from}
+use Rattle.jpeg_streams.specs.Brought.{samples_brought, samples_brought_by, scan_rows_reached, sealed, segment_brought}
+use Rattle.jpeg_streams.specs.Brought.{turn_brought}
+use Rattle.jpeg_streams.specs.LosslessScans.{LosslessCoding, lossless_codings}
+use Rattle.jpeg_lossless.specs.RowsReached.{rows_reached}
 use Rattle.jpeg_streams.specs.Found.{Found}
 use Rattle.jpeg_streams.specs.InTurn.{at_start}
 use Rattle.jpeg_streams.specs.Order.{Spot}
@@ -31,7 +36,7 @@ use Rattle.jpeg_streams.proofs.Shorter.{LeavesBelow, below-at, below-err, below-
 use Rattle.jpeg_streams.proofs.Shorter.{sos-below}
 use Rattle.jpeg_decoder.specs.Steps.{is_restart_marker}
 use Rattle.jpeg_decoder.proofs.PassedRestarts.{Passes, after-passes}
-use Rattle.jpeg_decoder.proofs.Turns.{Below, On, on-at, on-err, on-weaker, samples-go, segment-goes}
+use Rattle.jpeg_decoder.proofs.Turns.{Below, On, on-at, on-err, on-weaker, segment-goes}
 
 -- ---- the data of a scan
 
@@ -104,15 +109,15 @@ unfolding LeavesBelow LeavesMet
 last-leaves limit first (Ok x) h p = after-leaves limit x (omega (arith, h, p))
 last-leaves limit first (Err fault) h p = tt
 
-next-leaves : (limit k : ℕ) (r : Outcome (Bool × Option Marker)) (arrays : Arrays)
-    (f : List ℕ → Arrays × Outcome (Option Marker))
+next-leaves : {A : Type 0} (limit k : ℕ) (r : Outcome (Bool × Option Marker)) (refused : A)
+    (f : List ℕ → A × Outcome (Option Marker))
     → LeavesBelow limit r → ((rest : List ℕ) → length rest < limit → LeavesMet limit (f rest).1)
-    → LeavesMet limit (elim (r >>= after_interval k) as (λ _. Arrays × Outcome (Option Marker)) [
+    → LeavesMet limit (elim (r >>= after_interval k) as (λ _. A × Outcome (Option Marker)) [
       | Ok rest ↦ f rest
-      | Err fault ↦ (arrays, Err fault)
+      | Err fault ↦ (refused, Err fault)
     ]).1
 unfolding LeavesBelow LeavesMet
-next-leaves limit k r arrays f p h = grind (arith, common_steps)
+next-leaves limit k r refused f p h = grind (arith, common_steps)
 
 intervals-leave : (limit : ℕ) (p : Pass) (vias : List Via) (k : ℕ) (spots : List Spot) (more : List (List Spot))
     (arrays : Arrays) (bytes : List ℕ) → length bytes < limit
@@ -126,6 +131,26 @@ intervals-leave limit p vias k spots (next ∷ more) arrays bytes h =
     next-leaves limit k r.1 r.0 _
     (below-more (length bytes) limit r.1 (omega (arith, h)) (interval-takes p vias spots arrays bytes))
     (λ rest q. intervals-leave limit p vias (suc k) next more r.0 rest q)
+
+rows-take : (rows : List (List Table)) (bytes : List ℕ)
+    → LeavesBelow (length bytes) (interval_rows_reached rows bytes).1
+unfolding interval_rows_reached
+rows-take rows bytes =
+    let r = rows_reached rows (sealed (text_at bytes)) in
+    below-needs (length bytes) (or_fault_at (text_at bytes).ending r.1) _ (λ left.
+    below-on (length bytes) (intervals.met (text_at bytes).ending) _ (text-takes bytes) (λ m h.
+    below-ok (length bytes) _ m.1 h))
+
+rows-leave : (limit k : ℕ) (rows : List (List Table)) (more : List (List (List Table))) (bytes : List ℕ)
+    → length bytes < limit → LeavesMet limit (scan_rows_reached k rows more bytes).1
+unfolding scan_rows_reached
+rows-leave limit k rows [] bytes h =
+    last-leaves limit (length bytes) (interval_rows_reached rows bytes).1 h (rows-take rows bytes)
+rows-leave limit k rows (next ∷ more) bytes h =
+    let r = interval_rows_reached rows bytes in
+    next-leaves limit k r.1 (r.0 ∷ []) _
+    (below-more (length bytes) limit r.1 (omega (arith, h)) (rows-take rows bytes))
+    (λ rest q. rows-leave limit (suc k) next more rest q)
 
 -- ---- a turn
 
@@ -157,10 +182,24 @@ blocks-lower limit found frame scan bytes h =
     on-elim (Lowers limit) (codings_of found.said frame scan) _ _ (λ codings is.
     met-lowers limit found _ _ (intervals-leave limit _ _ 0 _ _ _ bytes h))
 
+whole-lowers : (limit : ℕ) (found : Found) (frame : Frame) (scan : Scan) (codings : List LosslessCoding)
+    (bytes : List ℕ) (b : Bool) → length bytes < limit
+    → On (Lowers limit) (if◌then◌else◌ {A = Brought} b (samples_brought_by found frame scan codings bytes)
+    (found, Err Malformed)).1
+unfolding samples_brought_by
+whole-lowers limit found frame scan codings bytes true h = met-lowers limit found _ _ (rows-leave limit 0 _ _ bytes h)
+whole-lowers limit found frame scan codings bytes false h = on-err (Lowers limit) Malformed
+
+samples-lower : (limit : ℕ) (found : Found) (frame : Frame) (scan : Scan) (bytes : List ℕ) → length bytes < limit
+    → On (Lowers limit) (samples_brought found frame scan bytes).1
+unfolding samples_brought
+samples-lower limit found frame scan bytes h =
+    on-elim (Lowers limit) (lossless_codings found.said.huffman.dc frame scan.components scan.dc_destinations) _ _
+    (λ codings is. whole-lowers limit found frame scan codings bytes (has_whole_rows found frame scan codings) h)
+
 process-lowers : (limit : ℕ) (p : CodingProcess) (found : Found) (frame : Frame) (scan : Scan) (bytes : List ℕ)
     → length bytes < limit → On (Lowers limit) (brought_by p found frame scan bytes).1
-process-lowers limit Lossless found frame scan bytes h =
-    below-lowers limit _ (samples-go limit found frame scan bytes h)
+process-lowers limit Lossless found frame scan bytes h = samples-lower limit found frame scan bytes h
 process-lowers limit p found frame scan bytes h = blocks-lower limit found frame scan bytes h
 
 header-takes : (limit : ℕ) (found : Found) (bytes : List ℕ) (x : Frame × (Scan × List ℕ)) → length bytes ≤ limit

@@ -48,6 +48,7 @@ pub mod PicturesOfPlanes
 pub mod JointDecided
 pub mod JointEnds
 mod LosslessReads
+mod SampleScans
 mod WrittenSamples
 mod WrittenLosslessStreams
 mod LosslessPixels
@@ -66,6 +67,7 @@ pub mod JointAdded
 pub mod ReachedBlocks
 pub mod ReachedIntervals
 pub mod GroupedScans
+pub mod RowIntervals
 pub mod ShownParts
 pub mod ShownFaults
 pub mod ShownLines

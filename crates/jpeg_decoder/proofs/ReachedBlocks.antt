@@ -2,7 +2,7 @@
 use Rattle.std.proofs.Common.{rules, ◌≡◌, ◌⊎◌, inl, inr, ℕ, zero, suc, ◌-◌, ◌<◌, ◌≤◌, ◌==◌, nat_le, ℤ, Bool}
 use Rattle.std.proofs.Common.{true, false, List, [], ◌∷◌, take, drop, set, get_or, length, length-drop, Option}
 use Rattle.std.proofs.Common.{Result, Ok, Err, refl, sym, ap, ◌∙◌, subst, arith}
-use Rattle.std.specs.Prelude.{is_some}
+use Rattle.std.specs.Prelude.{MatchResult, is_some}
 use Rattle.std.proofs.lemmas.Bool.{false≢true, le-leb, lt-leb, ne_eqb}
 use Rattle.std.proofs.lemmas.Grind.{common_steps}
 use Rattle.std.proofs.Math.Seq.{map-set_same}
@@ -10,7 +10,7 @@ use Rattle.std.proofs.lemmas.List.{set-get_or}
 use Rattle.jpeg_bits.specs.Reading.{Fault, IsGivenUp, Names}
 use Rattle.jpeg_bits.specs.Entropy.{Ahead, Broken, Ending, Found, Text, fresh, marker_by, marker_from}
 use Rattle.jpeg_bits.specs.Entropy.{text_at, upcoming}
-use Rattle.jpeg_bits.specs.Readers.{read_on, text}
+use Rattle.jpeg_bits.specs.Readers.{Reads, read_on, text}
 use Rattle.jpeg_bits.specs.Passes.{Pass, Via}
 use Rattle.jpeg_bits.specs.declared.blocks.Carried.{Carried}
 use Rattle.jpeg_bits.specs.declared.error.Error.{Error}
@@ -24,7 +24,7 @@ use Rattle.jpeg_streams.specs.InTurn.{Reached, turn_from}
 use Rattle.jpeg_streams.specs.Order.{Spot}
 use Rattle.jpeg_streams.specs.Scans.{Arrays}
 use Rattle.jpeg_streams.specs.States.{IfRefused}
-use Rattle.jpeg_decoder.specs.Reaching.{IsAhead}
+use Rattle.jpeg_decoder.specs.Reaching.{IsAhead, TellsLeft}
 use Rattle.jpeg_decoder.specs.Scanning.{arrays_in, blocks_in}
 use Rattle.jpeg_decoder.proofs.BlockArrays.{Held, seen, seen-is, with_block}
 use Rattle.jpeg_decoder.proofs.KeptScans.{kept_reached, kept_read}
@@ -183,25 +183,27 @@ turn-read true (Err f) r u e h = h
 turn-read false o r u e h = absurd (false≢true e)
 
 -- the text after what is read, or another
-abbrev text_or : Text → Result (Reached × Text) Fault → Text
+abbrev text_or : {A : Type 0} → Text → Result (A × Text) Fault → Text
 text_or t (Ok r) = r.1
 text_or t (Err f) = t
 
-ahead-taken : (p : Pass) (vias : List Via) (s : Spot) (old new : Reached) (t u : Text)
-    → Taken (turn_from p vias s old) t.bits t.ending → turn_from p vias s old t ≡ Ok (new, u)
+ahead-taken : {A : Type 0} (p : Reads A) (x : A) (t u : Text) → Taken p t.bits t.ending → p t ≡ Ok (x, u)
     → IsAhead t → IsAhead u
-ahead-taken p vias s old new t u (failed g is) e h = let f = is t.following in cc
-ahead-taken p vias s old new t u (gave n x is) e h =
+ahead-taken p x t u (failed g is) e h = let f = is t.following in cc
+ahead-taken {A} p x t u (gave n y is) e h =
     let left = text (drop n t.bits) (drop n t.following) t.ending in
-    let is-u : left ≡ u = ap (text_or left) (sym (is t.ending t.following (inl refl)) ∙ e) in
+    let is-u : left ≡ u = ap (text_or {A = A} left) (sym (is t.ending t.following (inl refl)) ∙ e) in
     subst IsAhead is-u (omega (arith, h, length-drop n t.following, length-drop n t.bits))
 
--- What follows is given from the 57th bit on after a block too.
+-- What follows is given from the 57th bit on after what is read too.
+pub ahead-after : {A : Type 0} (p : Reads A) (x : A) (t u : Text) → TakesBits p → p t ≡ Ok (x, u)
+    → IsAhead t → IsAhead u
+unfolding TakesBits
+ahead-after p x t u takes e h = ahead-taken p x t u (takes t.bits t.ending) e h
+
 pub ahead-next : (p : Pass) (vias : List Via) (s : Spot) (old new : Reached) (t u : Text)
     → turn_from p vias s old t ≡ Ok (new, u) → IsAhead t → IsAhead u
-unfolding TakesBits
-ahead-next p vias s old new t u e h =
-    ahead-taken p vias s old new t u (turn-takes p vias s old t.bits t.ending) e h
+ahead-next p vias s old new t u e h = ahead-after (turn_from p vias s old) new t u (turn-takes p vias s old) e h
 
 -- ---- refusals
 
@@ -212,6 +214,20 @@ pub names-in-memory : {X : Type 0} (r e : Error) (lost known : Bool) (o : Result
 names-in-memory errors.OutOfMemory e lost known o h names given = tt
 names-in-memory r e lost true o h names given = grind (arith, common_steps)
 names-in-memory r e lost false o h names given = grind (arith, common_steps)
+
+-- What is so of what was read before a refusal, where the source's bytes were known.
+pub refused-in-memory : {P : Type 0} (r e : Error) (lost known : Bool)
+    → IfRefused r ((r ≡ e) × (IsGivenUp e lost → ⊥)) → (known ≡ true → (e ≡ errors.OutOfMemory → ⊥) → P)
+    → (known ≡ false → IsGivenUp e lost) → IfRefused r P
+refused-in-memory errors.OutOfMemory e lost known h p given = tt
+refused-in-memory (errors.Format text) e lost true h p given = p refl (λ m. let same = h.0 ∙ m in cc)
+refused-in-memory (errors.Unsupported feature) e lost true h p given = p refl (λ m. let same = h.0 ∙ m in cc)
+refused-in-memory (errors.Io x) e lost true h p given = p refl (λ m. let same = h.0 ∙ m in cc)
+refused-in-memory (errors.Internal text) e lost true h p given = p refl (λ m. let same = h.0 ∙ m in cc)
+refused-in-memory (errors.Format text) e lost false h p given = absurd (h.1 (given refl))
+refused-in-memory (errors.Unsupported feature) e lost false h p given = absurd (h.1 (given refl))
+refused-in-memory (errors.Io x) e lost false h p given = absurd (h.1 (given refl))
+refused-in-memory (errors.Internal text) e lost false h p given = absurd (h.1 (given refl))
 
 -- what is so where an error names a fault
 pub on-fault : {X P : Type 0} (e : Error) (o : Result X Fault) → Names e o → ((f : Fault) → o ≡ Err f → P)
@@ -270,3 +286,9 @@ refused-near t f h e = go t.following t.ending (length t.bits) h e
         → true ≡ nat_le n 56
     go [] end n h e = let near : n ≤ 56 = omega arith in sym (le-leb n 56 near)
     go (r ∷ rs) end n h e = cc
+
+-- Whether the end is near tells what is left.
+pub near-tells : (r : Result (List Bool) Fault) (left : List Bool) (near : Result Bool Error) → r ≡ Ok left
+    → MatchResult near (λ b. b ≡ nat_le (length left) 56) (λ e. e ≡ errors.OutOfMemory) → TellsLeft r near
+near-tells r left (Ok b) e h = (left, e, h)
+near-tells r left (Err e) is h = subst (λ (x : Error). Names x r) (sym h) tt

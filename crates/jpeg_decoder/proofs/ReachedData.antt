@@ -63,7 +63,7 @@ on-told old new (Ok x) h p = λ k. h (p k)
 on-told old new (Err e) h p = λ k l. if-refused-as e h (p k l)
 
 -- a call answered by another reading of the same bytes
-answers-by : {X Y : Type 0} (v : X → Y) (f g : List ℕ → Outcome Y) (old new : Stream)
+pub answers-by : {X Y : Type 0} (v : X → Y) (f g : List ℕ → Outcome Y) (old new : Stream)
     (r : Result X Error) → f old.bytes ≡ g old.bytes → Answers v f old r new → Answers v g old r new
 answers-by v f g old new (Ok x) e p = grind (arith, common_steps)
 answers-by v f g old new (Err e) is p = grind (arith, common_steps)

@@ -1,6 +1,8 @@
--- An interval is reached as far as its data go, block by block.
+-- An interval is reached as far as its data go, by what is read of them and how they end.
 use Rattle.std.proofs.Common.{◌≡◌, ◌∙◌, inl, inr, ℕ, Bool, true, false, List, length, refl, sym}
 use Rattle.std.proofs.Common.{subst, ap, arith, Result, Ok, Err, Option, Some, nat_le}
+use Rattle.std.specs.Prelude.{OnOk}
+use Rattle.std.proofs.lemmas.Result.{err_from_is_err_and}
 use Rattle.jpeg_bits.specs.Stream.{Stream}
 use Rattle.jpeg_bits.specs.Reading.{Answers, Fault, End, IsGivenUp, Lacks, Malformed, MayFail, Names, Outcome, ◌>>=◌}
 use Rattle.jpeg_bits.specs.Entropy.{Broken, Ending, text_at}
@@ -17,7 +19,8 @@ use Rattle.jpeg_streams.specs.InTurn.{Reached, at_start}
 use Rattle.jpeg_streams.specs.Order.{Spot}
 use Rattle.jpeg_streams.specs.Scans.{Arrays}
 use Rattle.jpeg_streams.specs.States.{IfRefused, OnTold}
-use Rattle.jpeg_decoder.specs.Reaching.{HasBits, IsOfData, IsRefusalAt, TellsLeft, UnlessRefused, first_of}
+use Rattle.jpeg_decoder.specs.Reaching.{HasBits, IsBefore, IsIntervalEnd, IsOfData, IsRefusalAt, TellsLeft}
+use Rattle.jpeg_decoder.specs.Reaching.{UnlessRefused, first_of}
 use Rattle.jpeg_decoder.proofs.GatheredData.{if-refused}
 use Rattle.jpeg_decoder.proofs.ReachedBlocks.{reached-alike}
 
@@ -58,7 +61,7 @@ interval-outcome p vias spots arrays front bytes h =
 -- ---- refusals
 
 -- an error that names a fault of bytes is none of a reader
-named-may-fail : {Y : Type 0} (e : Error) (o : Result Y Fault) (old new : Bool) → new ≡ old → Names e o
+pub named-may-fail : {Y : Type 0} (e : Error) (o : Result Y Fault) (old new : Bool) → new ≡ old → Names e o
     → MayFail e old new
 named-may-fail (errors.Format t) o old new same n = same
 named-may-fail (errors.Unsupported t) o old new same n = same
@@ -101,18 +104,13 @@ marker-ok r e near m rest t h =
     ∙ ap (λ (o : Outcome (Option Marker)). o >>= λ m. Ok ((nat_le (length t.0) 56, m.0), m.1)) h
     ∙ ap (λ (b : Bool). Ok ((b, Some m), rest)) (sym t.2)
 
--- The error of a block in data that a marker ends.
-abbrev pub IsBefore : Error → Error → Type 0
-IsBefore e result = (expected : Result (List Bool) Fault) (m : Marker) (rest : List ℕ)
-    → Names e expected → Names result (or_fault_at (entropy.Found m rest) expected)
-
 marker-names : (e result : Error) (r : Result (List Bool) Fault) (end : Ending) (m : Marker) (rest : List ℕ)
     → IsBefore e result → Names e r → met end ≡ Ok (Some m, rest) → Names result (outcome_by r end)
 marker-names e result r end m rest before n h =
     let is = still-found end m rest h in
     subst (λ (x : Ending). Names result (outcome_by r x)) (sym is)
     (Names-through result (or_fault_at (entropy.Found m rest) r) (outcome_by r (entropy.Found m rest))
-    (or-fault-first r (entropy.Found m rest)) (before r m rest n))
+    (or-fault-first r (entropy.Found m rest)) (before.names r m rest n))
 
 if-memory : (e result : Error) (P : Type 0) → (e ≡ errors.OutOfMemory → result ≡ errors.OutOfMemory) → IfRefused e P
     → IfRefused result P
@@ -257,93 +255,130 @@ outcome_of p vias spots arrays bytes = (interval_reached p vias spots arrays byt
 abbrev pub shown : Bool × Marker → Bool × Option Marker
 shown r = (r.0, Some r.1)
 
+-- An interval of some bytes has the outcome of what is read of others with its bits.
+abbrev pub IsReadBy : (List ℕ → Outcome (Bool × Option Marker)) → Result (List Bool) Fault → List ℕ → List ℕ → Type 0
+IsReadBy outcome r front bytes = HasBits front (text_at bytes) → outcome bytes ≡ outcome_by r (text_at bytes).ending
+
 not-its-own : (ended : Error) (old new : Stream) → IsOfData {X = Marker} old (Err ended) new
     → (new.known ≡ true → new.failed ≡ false) → IsGivenUp ended new.failed → old.known ≡ true → new.known ≡ true → ⊥
 not-its-own ended old new o live given k l = o k l (subst (λ (f : Bool). IsGivenUp ended f) (live l) given)
 
-pub error-answers : (p : Pass) (vias : List Via) (spots : List Spot) (arrays : Arrays) (front : List ℕ)
-    (old new : Stream) (ended result : Error) (reached : Result Bool Error)
+error-answers : (outcome : List ℕ → Outcome (Bool × Option Marker)) (r : Result (List Bool) Fault) (front : List ℕ)
+    (old new : Stream) (ended result : Error) (reached : Result Bool Error) → IsReadBy outcome r front old.bytes
     → Answers {X = Marker} (λ m. Some m) end_of old (Err ended) new → IsOfData {X = Marker} old (Err ended) new
     → OnTold {X = Marker} old new (Err ended) (HasBits front (text_at old.bytes))
     → (new.known ≡ true → new.failed ≡ false)
-    → TellsLeft (read_of p vias spots arrays front).1 reached → IsRefusalAt ended reached new.failed result
-    → Answers {X = Bool × Marker} shown (outcome_of p vias spots arrays) old (Err result) new
-error-answers p vias spots arrays front old new ended result reached a o b live t (inl x) =
-    subst (λ (e : Error). Answers {X = Bool × Marker} shown (outcome_of p vias spots arrays) old (Err e) new)
+    → TellsLeft r reached → IsRefusalAt ended reached new.failed result
+    → Answers {X = Bool × Marker} shown outcome old (Err result) new
+error-answers outcome r front old new ended result reached by a o b live t (inl x) =
+    subst (λ (e : Error). Answers {X = Bool × Marker} shown outcome old (Err e) new)
     (sym x.0) (
       a.0,
       λ k l. absurd (not-its-own ended old new o live x.1 k l),
       λ k l. x.1,
     )
-error-answers p vias spots arrays front old new ended result reached a o b live t (inr x) =
-    subst (λ (e : Error). Answers {X = Bool × Marker} shown (outcome_of p vias spots arrays) old (Err e) new)
+error-answers outcome r front old new ended result reached by a o b live t (inr x) =
+    subst (λ (e : Error). Answers {X = Bool × Marker} shown outcome old (Err e) new)
     (sym x.1) (
-      first-may-fail ended reached (read_of p vias spots arrays front).1 old.failed new.failed x.0 a.0 t,
+      first-may-fail ended reached r old.failed new.failed x.0 a.0 t,
       λ k l.
-          first-names ended reached (read_of p vias spots arrays front).1 (text_at old.bytes).ending
-          (HasBits front (text_at old.bytes)) (outcome_of p vias spots arrays old.bytes) (b k l)
-          (λ h. interval-outcome p vias spots arrays front old.bytes h) (a.1 k l) t,
+          first-names ended reached r (text_at old.bytes).ending
+          (HasBits front (text_at old.bytes)) (outcome old.bytes) (b k l) by (a.1 k l) t,
       λ k l. absurd (x.0 (a.2 k l)),
     )
 
-pub error-arrays : (p : Pass) (vias : List Via) (spots : List Spot) (arrays now : Arrays) (front : List ℕ)
-    (old new : Stream) (ended result : Error) (reached : Result Bool Error)
+error-found : {P Q : Type 0} (front : List ℕ) (old new : Stream) (ended result : Error) (reached : Result Bool Error)
     → IsOfData {X = Marker} old (Err ended) new
     → OnTold {X = Marker} old new (Err ended) (HasBits front (text_at old.bytes))
-    → (new.known ≡ true → new.failed ≡ false)
-    → UnlessRefused reached (now ≡ (read_of p vias spots arrays front).0.arrays)
-    → IsRefusalAt ended reached new.failed result
-    → OnTold {X = Bool × Marker} old new (Err result) (now ≡ (interval_reached p vias spots arrays old.bytes).0)
-error-arrays p vias spots arrays now front old new ended result reached o b live u (inl x) =
+    → (new.known ≡ true → new.failed ≡ false) → (HasBits front (text_at old.bytes) → P → Q)
+    → UnlessRefused reached P → IsRefusalAt ended reached new.failed result
+    → OnTold {X = Bool × Marker} old new (Err result) Q
+error-found front old new ended result reached o b live goes u (inl x) =
     λ k l. absurd (not-its-own ended old new o live x.1 k l)
-error-arrays p vias spots arrays now front old new ended result reached o b live u (inr x) =
+error-found {P} {Q} front old new ended result reached o b live goes u (inr x) =
     λ k l.
-    subst (λ (e : Error). IfRefused e (now ≡ (interval_reached p vias spots arrays old.bytes).0)) (sym x.1)
-    (first-refused ended reached (HasBits front (text_at old.bytes))
-    (now ≡ (read_of p vias spots arrays front).0.arrays) (now ≡ (interval_reached p vias spots arrays old.bytes).0)
-    (b k l) (λ h is. is ∙ sym (interval-arrays p vias spots arrays front old.bytes h)) u)
+    subst (λ (e : Error). IfRefused e Q) (sym x.1)
+    (first-refused ended reached (HasBits front (text_at old.bytes)) P Q (b k l) goes u)
 
-pub block-answers : (p : Pass) (vias : List Via) (spots : List Spot) (arrays : Arrays) (front : List ℕ)
-    (old new : Stream) (m : Marker) (e result : Error)
+inner-answers : (outcome : List ℕ → Outcome (Bool × Option Marker)) (r : Result (List Bool) Fault) (front : List ℕ)
+    (old new : Stream) (m : Marker) (e result : Error) → IsReadBy outcome r front old.bytes
     → Answers {X = Marker} (λ m. Some m) end_of old (Ok m) new
     → (old.known ≡ true → HasBits front (text_at old.bytes))
-    → Names e (read_of p vias spots arrays front).1 → IsBefore e result
-    → Answers {X = Bool × Marker} shown (outcome_of p vias spots arrays) old (Err result) new
-block-answers p vias spots arrays front old new m e result a b n before =
-    let r = (read_of p vias spots arrays front).1 in (
-      named-may-fail result (or_fault_at (entropy.Found m new.bytes) r) old.failed new.failed a.0
-          (before r m new.bytes n),
-      λ k l.
-          Names-through result (outcome_by r (text_at old.bytes).ending) (outcome_of p vias spots arrays old.bytes)
-          (λ f is. interval-outcome p vias spots arrays front old.bytes (b k) ∙ is)
-          (marker-names e result r (text_at old.bytes).ending m new.bytes before n (a.1 k).1),
-      λ k l. still_known result new.failed (a.1 k).0 l,
-    )
+    → Names e r → IsBefore e result
+    → Answers {X = Bool × Marker} shown outcome old (Err result) new
+inner-answers outcome r front old new m e result by a b n before = (
+  named-may-fail result (or_fault_at (entropy.Found m new.bytes) r) old.failed new.failed a.0
+      (before.names r m new.bytes n),
+  λ k l.
+      Names-through result (outcome_by r (text_at old.bytes).ending) (outcome old.bytes)
+      (λ f is. by (b k) ∙ is)
+      (marker-names e result r (text_at old.bytes).ending m new.bytes before n (a.1 k).1),
+  λ k l. still_known result new.failed (a.1 k).0 l,
+)
 
-pub block-arrays : (p : Pass) (vias : List Via) (spots : List Spot) (arrays now : Arrays) (front : List ℕ)
-    (old new : Stream) (e result : Error)
-    → (old.known ≡ true → HasBits front (text_at old.bytes))
-    → IfRefused e (now ≡ (read_of p vias spots arrays front).0.arrays)
-    → (e ≡ errors.OutOfMemory → result ≡ errors.OutOfMemory)
-    → OnTold {X = Bool × Marker} old new (Err result) (now ≡ (interval_reached p vias spots arrays old.bytes).0)
-block-arrays p vias spots arrays now front old new e result b u memory =
-    λ k l.
-    if-memory e result (now ≡ (interval_reached p vias spots arrays old.bytes).0) memory
-    (if-map e (now ≡ (read_of p vias spots arrays front).0.arrays)
-    (now ≡ (interval_reached p vias spots arrays old.bytes).0)
-    (λ is. is ∙ sym (interval-arrays p vias spots arrays front old.bytes (b k))) u)
+inner-found : {P Q : Type 0} (front : List ℕ) (old new : Stream) (e result : Error)
+    → (old.known ≡ true → HasBits front (text_at old.bytes)) → (HasBits front (text_at old.bytes) → P → Q)
+    → IfRefused e P → IsBefore e result → OnTold {X = Bool × Marker} old new (Err result) Q
+inner-found {P} {Q} front old new e result b goes u before =
+    λ k l. if-memory e result Q before.memory (if-map e P Q (goes (b k)) u)
 
-pub whole-answers : (p : Pass) (vias : List Via) (spots : List Spot) (arrays : Arrays) (front : List ℕ)
-    (old new : Stream) (near : Bool) (m : Marker)
+whole-answers : (outcome : List ℕ → Outcome (Bool × Option Marker)) (r : Result (List Bool) Fault) (front : List ℕ)
+    (old new : Stream) (near : Bool) (m : Marker) → IsReadBy outcome r front old.bytes
     → Answers {X = Marker} (λ m. Some m) end_of old (Ok m) new
     → (old.known ≡ true → HasBits front (text_at old.bytes))
-    → TellsLeft (read_of p vias spots arrays front).1 (Ok near)
-    → Answers {X = Bool × Marker} shown (outcome_of p vias spots arrays) old (Ok (near, m)) new
-whole-answers p vias spots arrays front old new near m a b t = (
+    → TellsLeft r (Ok near) → Answers {X = Bool × Marker} shown outcome old (Ok (near, m)) new
+whole-answers outcome r front old new near m by a b t = (
   a.0,
   λ k. (
     (a.1 k).0,
-    interval-outcome p vias spots arrays front old.bytes (b k)
-        ∙ marker-ok (read_of p vias spots arrays front).1 (text_at old.bytes).ending near m new.bytes t (a.1 k).1,
+    by (b k) ∙ marker-ok r (text_at old.bytes).ending near m new.bytes t (a.1 k).1,
   ),
 )
+
+-- The end of an interval is as it was found.
+pub end-answers : (outcome : List ℕ → Outcome (Bool × Option Marker)) (r : Result (List Bool) Fault) (front : List ℕ)
+    (old new : Stream) (ended : Result Marker Error) (reached : Result Bool Error)
+    (result : Result (Bool × Marker) Error) → IsReadBy outcome r front old.bytes
+    → Answers {X = Marker} (λ m. Some m) end_of old ended new → IsOfData old ended new
+    → OnTold old new ended (HasBits front (text_at old.bytes)) → (new.known ≡ true → new.failed ≡ false)
+    → TellsLeft r reached → IsIntervalEnd ended reached new.failed result
+    → Answers {X = Bool × Marker} shown outcome old result new
+end-answers outcome r front old new (Ok m) (Ok near) result by a o b live t e =
+    subst (λ (x : Result (Bool × Marker) Error). Answers shown outcome old x new) (sym e)
+    (whole-answers outcome r front old new near m by a b t)
+end-answers outcome r front old new (Ok m) (Err e) result by a o b live t i =
+    let q = err_from_is_err_and result i in
+    subst (λ (x : Result (Bool × Marker) Error). Answers shown outcome old x new) (sym q.1)
+    (inner-answers outcome r front old new m e q.0 by a b t q.2)
+end-answers outcome r front old new (Err ended) reached result by a o b live t i =
+    let q = err_from_is_err_and result i in
+    subst (λ (x : Result (Bool × Marker) Error). Answers shown outcome old x new) (sym q.1)
+    (error-answers outcome r front old new ended q.0 reached by a o b live t q.2)
+
+-- What is found of the data is found of the interval.
+pub end-found : {P Q : Type 0} (front : List ℕ) (old new : Stream) (ended : Result Marker Error)
+    (reached : Result Bool Error) (result : Result (Bool × Marker) Error) → IsOfData old ended new
+    → OnTold old new ended (HasBits front (text_at old.bytes)) → (new.known ≡ true → new.failed ≡ false)
+    → (HasBits front (text_at old.bytes) → P → Q) → UnlessRefused reached P
+    → IsIntervalEnd ended reached new.failed result → OnTold old new result Q
+end-found {P} {Q} front old new (Ok m) (Ok near) result o b live goes u e =
+    subst (λ (x : Result (Bool × Marker) Error). OnTold old new x Q) (sym e) (λ k. goes (b k) u)
+end-found {P} {Q} front old new (Ok m) (Err e) result o b live goes u i =
+    let q = err_from_is_err_and result i in
+    subst (λ (x : Result (Bool × Marker) Error). OnTold old new x Q) (sym q.1)
+    (inner-found front old new e q.0 b goes u q.2)
+end-found {P} {Q} front old new (Err ended) reached result o b live goes u i =
+    let q = err_from_is_err_and result i in
+    subst (λ (x : Result (Bool × Marker) Error). OnTold old new x Q) (sym q.1)
+    (error-found front old new ended q.0 reached o b live goes u q.2)
+
+-- An interval that is read was reached.
+pub end-reached : (P : Type 0) (ended : Result Marker Error) (reached : Result Bool Error) (failed : Bool)
+    (result : Result (Bool × Marker) Error) → IsIntervalEnd ended reached failed result → OnOk reached P
+    → OnOk result P
+end-reached P (Ok m) (Ok near) failed result e p =
+    subst (λ (x : Result (Bool × Marker) Error). OnOk x P) (sym e) p
+end-reached P (Ok m) (Err e) failed result i p =
+    subst (λ (x : Result (Bool × Marker) Error). OnOk x P) (sym (err_from_is_err_and result i).1) tt
+end-reached P (Err ended) reached failed result i p =
+    subst (λ (x : Result (Bool × Marker) Error). OnOk x P) (sym (err_from_is_err_and result i).1) tt

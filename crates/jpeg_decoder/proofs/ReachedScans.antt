@@ -1,40 +1,45 @@
 -- The steps of a scan that is read as far as it goes, and what they are to what a stream brings.
 use Rattle.std.proofs.Common.{◌≡◌, ◌∙◌, ap, arith, Err, false, List, None, Ok, Option, refl, Result, Some}
-use Rattle.std.proofs.Common.{subst, sym, true, ℕ}
+use Rattle.std.proofs.Common.{subst, sym, true, Bool, ℕ, if◌then◌else◌}
 use Rattle.std.proofs.lemmas.Grind.{common_steps}
 use Rattle.std.proofs.lemmas.Result.{err_from_is_err_and}
 use Rattle.std.specs.Prelude.{IsErrAnd}
 use Rattle.jpeg_bits.specs.Passes.{Pass}
-use Rattle.jpeg_bits.specs.Reading.{Answers, End, Fault, Lacks, Malformed, Names, NamesFormat, Outcome, ◌>>=◌}
+use Rattle.jpeg_bits.specs.Reading.{Answers, End, Fault, Lacks, Malformed, MayFail, Names, NamesFormat, Outcome}
+use Rattle.jpeg_bits.specs.Reading.{◌>>=◌}
 use Rattle.jpeg_bits.specs.Stream.{Stream}
 use Rattle.jpeg_bits.specs.declared.error.Error.{Error}
 use Rattle.jpeg_bits.specs.declared.error.Error.TheVariants as errors
 use Rattle.jpeg_bits.specs.declared.marker.Marker.{Marker}
-use Rattle.jpeg_bits.proofs.Loops.{bind_at, bind_err}
+use Rattle.jpeg_bits.proofs.Loops.{Names-through}
 use Rattle.jpeg_segments.specs.Frame.{Frame}
 use Rattle.jpeg_segments.specs.ScanHeader.{Scan, sos_at}
 use Rattle.jpeg_segments.specs.declared.frame.CodingProcess.{CodingProcess}
 use Rattle.jpeg_segments.specs.declared.frame.CodingProcess.TheVariants.{DctProgressive}
 use Rattle.jpeg_segments.specs.declared.frame.CodingProcess.TheVariants.{DctSequential, Lossless}
-use Rattle.jpeg_streams.specs.Brought.{blocks_brought, blocks_brought_by, brought_by, frame_and_scan}
-use Rattle.jpeg_streams.specs.Brought.{scan_brought, Brought}
-use Rattle.jpeg_streams.specs.Found.{Found}
+use Rattle.jpeg_streams.specs.Brought.{blocks_brought, blocks_brought_by, brought_by, frame_and_scan, has_whole_rows}
+use Rattle.jpeg_streams.specs.Brought.{samples_brought, samples_brought_by, scan_brought, Brought}
+use Rattle.jpeg_streams.specs.Found.{Found, Said}
+use Rattle.jpeg_streams.specs.LosslessScans.{LosslessCoding, lossless_codings}
+use Rattle.jpeg_streams.specs.declared.before.Before.{Before}
+use Rattle.jpeg_streams.specs.Stream.{told_of}
 use Rattle.jpeg_streams.specs.ScanSegments.{scan_turn as turn_of_scan, codings_of, Coding, pass_of}
 use Rattle.jpeg_streams.specs.ScanSegments.{after_scan, once_scanned, scan_before}
 use Rattle.jpeg_streams.specs.InTurn.{AreArrays}
 use Rattle.jpeg_streams.specs.Sound.{ArePlanes, IsSound}
 use Rattle.jpeg_streams.specs.Segments.{Turn}
-use Rattle.jpeg_streams.specs.States.{IfRefused, OnToldRefusal}
+use Rattle.jpeg_streams.specs.States.{IfRefused, OnTold, OnToldRefusal}
 use Rattle.jpeg_decoder.specs.declared.stream.state.Step.{Step}
-use Rattle.jpeg_decoder.specs.Reaching.{data_reached, UnlessRefused}
+use Rattle.jpeg_decoder.specs.Reaching.{data_reached, sample_codings, samples_reached, whole_codings, IsEndOf}
+use Rattle.jpeg_decoder.specs.Reaching.{UnlessRefused}
 use Rattle.jpeg_decoder.specs.PlanesView.{planes_in}
 use Rattle.jpeg_decoder.specs.declared.scan.decoded.Decoded.{Decoded}
-use Rattle.jpeg_decoder.specs.Steps.{blocks_before, IsRefusal, samples_read, with_decoded}
+use Rattle.jpeg_decoder.specs.Steps.{blocks_before, IsRefusal, IsStep, with_decoded}
 use Rattle.std.specs.declared.alloc.Global.{Global}
 use Rattle.std.specs.declared.vec.Vec.{Vec}
 use Rattle.jpeg_decoder.proofs.ReachedData.{if-refused, if-refused-as}
 use Rattle.jpeg_decoder.proofs.ScanData.{answers-err, before-as}
-use Rattle.jpeg_decoder.proofs.ScanReads.{blocks-sound, HasRead, process-parts, refused, scan_turn}
+use Rattle.jpeg_decoder.proofs.ScanReads.{blocks-sound, HasRead, refused, scan-steps}
 use Rattle.jpeg_decoder.proofs.SlotCodings.{format-refuses}
 
 -- ---- what a stream brings, by the steps of a scan
@@ -69,14 +74,8 @@ by-blocks DctProgressive found frame scan bytes h = refl
 by-blocks Lossless found frame scan bytes h = absurd (h refl)
 
 by-samples : (p : CodingProcess) (found : Found) (frame : Frame) (scan : Scan) (bytes : List ℕ) → p ≡ Lossless
-    → ◌≡◌ {A = Brought} (brought_by p found frame scan bytes) (
-      found,
-      samples_read found frame scan bytes
-          >>= scan_turn found,
-    )
-by-samples p found frame scan bytes e =
-    ap (λ (q : CodingProcess). brought_by q found frame scan bytes) e
-    ∙ ap (λ (o : Outcome Turn). (found, o)) (process-parts Lossless found frame scan bytes)
+    → brought_by p found frame scan bytes ≡ samples_brought found frame scan bytes
+by-samples p found frame scan bytes e = ap (λ (q : CodingProcess). brought_by q found frame scan bytes) e
 
 -- after the data of a scan
 abbrev pub after_reached : Found → Found → Option Marker × List ℕ → Outcome Turn
@@ -106,6 +105,36 @@ with-codings : (found : Found) (frame : Frame) (scan : Scan) (p : Pass) (codings
 with-codings found frame scan p codings bytes e is =
     with-pass found frame scan codings bytes e
     ∙ ap (λ (q : Pass). brought_of found (data_reached found frame q codings bytes)) (sym is)
+
+-- what a lossless scan brings, by its components
+abbrev brought_with : Found → Frame → Scan → List ℕ → Result (List LosslessCoding) Fault → Brought
+brought_with found frame scan bytes (Ok codings) = brought_of found (samples_reached found frame scan codings bytes)
+brought_with found frame scan bytes (Err fault) = (found, Err fault)
+
+whole-as : (found : Found) (frame : Frame) (scan : Scan) (bytes : List ℕ) (codings : List LosslessCoding) (b : Bool)
+    → if◌then◌else◌ {A = Brought} b (samples_brought_by found frame scan codings bytes) (found, Err Malformed)
+    ≡ brought_with found frame scan bytes (if b then Ok codings else Err Malformed)
+unfolding samples_brought_by samples_reached
+whole-as found frame scan bytes codings true = refl
+whole-as found frame scan bytes codings false = refl
+
+codings-as : (found : Found) (frame : Frame) (scan : Scan) (bytes : List ℕ) (o : Result (List LosslessCoding) Fault)
+    → ◌≡◌ {A = Brought} (elim o as (λ _. Brought) [
+      | Ok codings ↦ if has_whole_rows found frame scan codings
+          then samples_brought_by found frame scan codings bytes else (found, Err Malformed)
+      | Err fault ↦ (found, Err fault)
+    ]) (brought_with found frame scan bytes (o >>= whole_codings found.said frame))
+codings-as found frame scan bytes (Ok codings) =
+    whole-as found frame scan bytes codings (has_whole_rows found frame scan codings)
+codings-as found frame scan bytes (Err fault) = refl
+
+samples-as : (found : Found) (frame : Frame) (scan : Scan) (bytes : List ℕ)
+    → samples_brought found frame scan bytes
+    ≡ brought_with found frame scan bytes (sample_codings found.said frame scan)
+unfolding samples_brought
+samples-as found frame scan bytes =
+    codings-as found frame scan bytes
+    (lossless_codings found.said.huffman.dc frame scan.components scan.dc_destinations)
 
 -- ---- refusals before the data
 
@@ -161,11 +190,13 @@ header-blocks found frame scan bytes rest framed process h =
     ∙ by-blocks frame.process found frame scan rest process
 
 header-samples : (found : Found) (frame : Frame) (scan : Scan) (bytes rest : List ℕ)
+    (o : Result (List LosslessCoding) Fault)
     → found.said.frame ≡ Some frame → frame.process ≡ Lossless → sos_at frame bytes ≡ Ok (scan, rest)
-    → ◌≡◌ {A = Brought} (scan_brought found bytes) (found, samples_read found frame scan rest >>= scan_turn found)
-header-samples found frame scan bytes rest framed process h =
+    → sample_codings found.said frame scan ≡ o → scan_brought found bytes ≡ brought_with found frame scan rest o
+header-samples found frame scan bytes rest o framed process h is =
     goes-at found frame scan bytes rest (with-header found frame scan bytes rest framed h)
-    ∙ by-samples frame.process found frame scan rest process
+    ∙ by-samples frame.process found frame scan rest process ∙ samples-as found frame scan rest
+    ∙ ap (brought_with found frame scan rest) is
 
 pub no-codings : (found : Found) (frame : Frame) (scan : Scan) (old cur : Stream) (e : Error)
     → found.said.frame ≡ Some frame → (frame.process ≡ Lossless → ⊥) → HasRead (sos_at frame) old scan cur
@@ -183,81 +214,155 @@ no-codings found frame scan old cur e framed process has r n =
           (λ f is. none-brought found old.bytes _ (faults k f is)) n;
     }
 
--- ---- a lossless scan
-
-pub samples-fail : (next found : Found) (frame : Frame) (scan : Scan) (old cur new : Stream) (e : Error)
+pub no-samples : (found : Found) (frame : Frame) (scan : Scan) (old cur : Stream) (e : Error)
     → found.said.frame ≡ Some frame → frame.process ≡ Lossless → HasRead (sos_at frame) old scan cur
-    → Answers (λ (m : Option Marker). (next, m)) (samples_read found frame scan) cur (Err e) new
-    → BringsNone found old e new
-samples-fail next found frame scan old cur new e framed process has p =
-    let at = λ (k : old.known ≡ true). header-samples found frame scan old.bytes cur.bytes framed process (has.1 k).1 in
-    let is = λ (k : old.known ≡ true). ap (λ (w : Brought). w.1) (at k) in
+    → IsRefusal e → Names e (sample_codings found.said frame scan) → BringsNone found old e cur
+no-samples found frame scan old cur e framed process has r n =
+    let faults = λ (k : old.known ≡ true) (f : Fault) (is : sample_codings found.said frame scan ≡ Err f).
+    header-samples found frame scan old.bytes cur.bytes (Err f) framed process (has.1 k).1 is in
+    let at = λ (k : old.known ≡ true).
+    header-samples found frame scan old.bytes cur.bytes (sample_codings found.said frame scan) framed process
+    (has.1 k).1 refl in
     record {
-      reads = grind (arith, common_steps, bind_err);
-      stays = λ k l. if-refused e (none-brought found old.bytes _ (at k));
+      reads = refused (λ (t : Turn). t) (λ bytes. (scan_brought found bytes).1)
+          (λ bytes. (brought_with found frame scan bytes (sample_codings found.said frame scan)).1) old cur e
+          (sample_codings found.said frame scan)
+          (has.0, λ k. ((has.1 k).0, ap (λ (w : Brought). w.1) (at k))) r n
+          (λ f is. ap (λ (o : Result (List LosslessCoding) Fault). (brought_with found frame scan cur.bytes o).1) is);
+      stays = λ k l. on-fault e (sample_codings found.said frame scan)
+          (λ f is. none-brought found old.bytes _ (faults k f is)) n;
     }
 
-pub samples-end : (next found : Found) (frame : Frame) (scan : Scan) (m : Option Marker) (old cur new : Stream)
-    → found.said.frame ≡ Some frame → frame.process ≡ Lossless → HasRead (sos_at frame) old scan cur
-    → HasRead (samples_read found frame scan) cur (next, m) new
-    → HasRead (λ bytes. (scan_brought found bytes).1) old
-    (record { found = next; before = scan_before found; met = m; ended = false }) new
-samples-end next found frame scan m old cur new framed process has p =
-    let is = λ (k : old.known ≡ true). ap (λ (w : Brought). w.1)
-    (header-samples found frame scan old.bytes cur.bytes framed process (has.1 k).1) in
-    grind (arith, common_steps, bind_at)
+-- ---- the data of a scan
 
--- ---- a scan of blocks
+-- what is found after data, and the marker after them, or the fault
+abbrev pub Data : Type 0
+Data = List ℕ → Found × Outcome (Option Marker)
 
--- what a scan of blocks brings, after its header and with its tables
-data-brought : (found : Found) (frame : Frame) (scan : Scan) (p : Pass) (codings : List Coding) (bytes rest : List ℕ)
-    → found.said.frame ≡ Some frame → (frame.process ≡ Lossless → ⊥) → sos_at frame bytes ≡ Ok (scan, rest)
-    → codings_of found.said frame scan ≡ Ok codings → p ≡ pass_of scan
-    → ◌≡◌ {A = Brought} (scan_brought found bytes) (brought_of found (data_reached found frame p codings rest))
-data-brought found frame scan p codings bytes rest framed process h e is =
-    header-blocks found frame scan bytes rest framed process h ∙ with-codings found frame scan p codings rest e is
+-- The header of a scan was read, with its tables; what the scan brings are its data.
+pub record BeginsData (found : Found) (d : Data) (old cur : Stream) : Type 0 where
+  pub failed : cur.failed ≡ old.failed
+  pub brings : old.known ≡ true → (cur.known ≡ true)
+      × (◌≡◌ {A = Brought} (scan_brought found old.bytes) (brought_of found (d cur.bytes)))
 
-pub data-end : (next found : Found) (frame : Frame) (scan : Scan) (p : Pass) (codings : List Coding)
-    (m : Option Marker) (old cur new : Stream)
+pub blocks-begin : (found : Found) (frame : Frame) (scan : Scan) (p : Pass) (codings : List Coding) (old cur : Stream)
     → found.said.frame ≡ Some frame → (frame.process ≡ Lossless → ⊥) → HasRead (sos_at frame) old scan cur
     → codings_of found.said frame scan ≡ Ok codings → p ≡ pass_of scan
-    → (cur.known ≡ true → next ≡ (data_reached found frame p codings cur.bytes).0)
-    → HasRead (λ bytes. (data_reached found frame p codings bytes).1) cur m new
-    → HasRead (λ bytes. (scan_brought found bytes).1) old
-    (record { found = next; before = scan_before found; met = m; ended = false }) new
-data-end next found frame scan p codings m old cur new framed process has e is after read =
-    let at = λ (k : old.known ≡ true). ap (λ (w : Brought). w.1)
-    (data-brought found frame scan p codings old.bytes cur.bytes framed process (has.1 k).1 e is) in
-    grind (arith, common_steps, bind_at)
+    → BeginsData found (data_reached found frame p codings) old cur
+blocks-begin found frame scan p codings old cur framed process has e is = record {
+  failed = has.0;
+  brings = λ k. (
+    (has.1 k).0,
+    header-blocks found frame scan old.bytes cur.bytes framed process (has.1 k).1
+        ∙ with-codings found frame scan p codings cur.bytes e is,
+  );
+}
 
--- A fault in the data: what was reached before it is found.
-pub record BringsSome (next found : Found) (old : Stream) (e : Error) (new : Stream) : Type 0 where
-  pub reads : IfRefused e (Answers (λ (t : Turn). t) (λ bytes. (scan_brought found bytes).1) old (Err e) new)
-  pub reached : old.known ≡ true → new.known ≡ true → IfRefused e (next ≡ (scan_brought found old.bytes).0)
+pub samples-begin : (found : Found) (frame : Frame) (scan : Scan) (codings : List LosslessCoding) (old cur : Stream)
+    → found.said.frame ≡ Some frame → frame.process ≡ Lossless → HasRead (sos_at frame) old scan cur
+    → sample_codings found.said frame scan ≡ Ok codings
+    → BeginsData found (samples_reached found frame scan codings) old cur
+samples-begin found frame scan codings old cur framed process has is = record {
+  failed = has.0;
+  brings = λ k. (
+    (has.1 k).0,
+    header-samples found frame scan old.bytes cur.bytes (Ok codings) framed process (has.1 k).1 is,
+  );
+}
 
-data-answers : (found : Found) (frame : Frame) (scan : Scan) (p : Pass) (codings : List Coding) (e : Error)
-    (old cur new : Stream) → found.said.frame ≡ Some frame → (frame.process ≡ Lossless → ⊥)
-    → HasRead (sos_at frame) old scan cur → codings_of found.said frame scan ≡ Ok codings → p ≡ pass_of scan
-    → Answers (λ (m : Option Marker). m) (λ bytes. (data_reached found frame p codings bytes).1) cur (Err e) new
-    → Answers (λ (t : Turn). t) (λ bytes. (scan_brought found bytes).1) old (Err e) new
-data-answers found frame scan p codings e old cur new framed process has made is read =
-    let at = λ (k : old.known ≡ true). ap (λ (w : Brought). w.1)
-    (data-brought found frame scan p codings old.bytes cur.bytes framed process (has.1 k).1 made is) in
-    grind (arith, common_steps, bind_err)
+-- a fact of three things, each of which is another
+pub moved : {A B C : Type 0} {a x : A} {b y : B} {c z : C} → a ≡ x → b ≡ y → c ≡ z → (P : A → B → C → Type 0)
+    → P a b c → P x y z
+moved {A} {B} {C} {a} {x} {b} {y} {c} {z} e f g P p =
+    subst (λ (t : C). P x y t) g (subst (λ (t : B). P x t c) f (subst (λ (t : A). P t b c) e p))
 
-pub data-fails : (next found : Found) (frame : Frame) (scan : Scan) (p : Pass) (codings : List Coding) (e : Error)
-    (old cur new : Stream) → found.said.frame ≡ Some frame → (frame.process ≡ Lossless → ⊥)
-    → HasRead (sos_at frame) old scan cur → codings_of found.said frame scan ≡ Ok codings → p ≡ pass_of scan
-    → (cur.known ≡ true → new.known ≡ true → IfRefused e (next ≡ (data_reached found frame p codings cur.bytes).0))
-    → IfRefused e (Answers (λ (m : Option Marker). m) (λ bytes. (data_reached found frame p codings bytes).1) cur
-    (Err e) new) → BringsSome next found old e new
-data-fails next found frame scan p codings e old cur new framed process has made is after read =
-    let at = λ (k : old.known ≡ true). ap (λ (w : Brought). w.0)
-    (data-brought found frame scan p codings old.bytes cur.bytes framed process (has.1 k).1 made is) in
-    record {
-      reads = if-refused-as e (data-answers found frame scan p codings e old cur new framed process has made is) read;
-      reached = λ k l. if-refused-as e (λ same. same ∙ sym (at k)) (after (has.1 k).0 l);
-    }
+-- ---- the end of a scan
+
+-- the turn that a scan leads to, whose data lead to this state
+turn-made : (found next : Found) (whole : Brought) (d : Found × Outcome (Option Marker)) (m : Option Marker)
+    (left : List ℕ) → whole ≡ brought_of found d → next ≡ d.0 → d.1 ≡ Ok (m, left)
+    → whole.1 ≡ Ok (turn_of_scan found next m, left)
+turn-made found next whole d m left is same e =
+    ap (λ (w : Brought). w.1) is ∙ ap (λ (o : Outcome (Option Marker)). o >>= after_reached found d.0) e
+    ∙ ap (λ (f : Found). Ok (turn_of_scan found f m, left)) (sym same)
+
+fault-made : (found : Found) (whole : Brought) (d : Found × Outcome (Option Marker)) (f : Fault)
+    → whole ≡ brought_of found d → d.1 ≡ Err f → whole.1 ≡ Err f
+fault-made found whole d f is e =
+    ap (λ (w : Brought). w.1) is ∙ ap (λ (o : Outcome (Option Marker)). o >>= after_reached found d.0) e
+
+refused-reads : {X : Type 0} (v : X → Turn) (found : Found) (d : Data) (old cur new : Stream) (e : Error)
+    → BeginsData found d old cur
+    → Answers (λ (m : Option Marker). m) (λ bytes. (d bytes).1) cur (Err e) new
+    → Answers v (λ bytes. (scan_brought found bytes).1) old (Err e) new
+refused-reads v found d old cur new e b a = (
+  subst (λ (failed : Bool). MayFail e failed new.failed) b.failed a.0,
+  λ k l. Names-through e (d cur.bytes).1 (scan_brought found old.bytes).1
+      (λ f h. fault-made found (scan_brought found old.bytes) (d cur.bytes) f (b.brings k).1 h)
+      (a.1 (b.brings k).0 l),
+  λ k l. a.2 (b.brings k).0 l,
+)
+
+pub ended-reads : (v : Step → Turn) (found prev : Found) (d : Data) (old cur new : Stream)
+    (reached : Result (Option Marker) Error) (result : Result Step Error) → BeginsData found d old cur
+    → scan_before prev ≡ scan_before found → OnTold cur new reached (once_scanned prev ≡ (d cur.bytes).0)
+    → UnlessRefused reached (Answers (λ (m : Option Marker). m) (λ bytes. (d bytes).1) cur reached new)
+    → IsEndOf prev v reached result
+    → UnlessRefused result (Answers v (λ bytes. (scan_brought found bytes).1) old result new)
+ended-reads v found prev d old cur new (Ok m) (Ok step) b before after a is = (
+  a.0 ∙ b.failed,
+  λ k.
+      let at = b.brings k in
+      let read = a.1 at.0 in (
+        read.0,
+        turn-made found (once_scanned prev) (scan_brought found old.bytes) (d cur.bytes) m new.bytes at.1 (after at.0)
+            read.1
+            ∙ ap (λ (t : Turn). Ok (t, new.bytes))
+            (ap (λ (b : Before). record { found = once_scanned prev; before = b; met = m; ended = false }) (sym before)
+            ∙ sym is),
+      ),
+)
+ended-reads v found prev d old cur new (Ok m) (Err f) b before after a is = absurd is
+ended-reads v found prev d old cur new (Err e) (Ok step) b before after a is = absurd is
+ended-reads v found prev d old cur new (Err e) (Err f) b before after a is =
+    subst (λ (x : Error). UnlessRefused {X = Step} (Err x)
+    (Answers v (λ bytes. (scan_brought found bytes).1) old (Err x) new)) (sym is)
+    (if-refused-as e (refused-reads v found d old cur new e b) a)
+
+pub ended-found : (v : Step → Turn) (found prev : Found) (d : Data) (old cur new : Stream)
+    (reached : Result (Option Marker) Error) (result : Result Step Error) → BeginsData found d old cur
+    → OnTold cur new reached (once_scanned prev ≡ (d cur.bytes).0) → IsEndOf prev v reached result
+    → OnToldRefusal old new result (once_scanned prev ≡ (scan_brought found old.bytes).0)
+ended-found v found prev d old cur new (Ok m) (Ok step) b after is = tt
+ended-found v found prev d old cur new (Ok m) (Err f) b after is = absurd is
+ended-found v found prev d old cur new (Err e) (Ok step) b after is = absurd is
+ended-found v found prev d old cur new (Err e) (Err f) b after is = λ k l.
+    let at = b.brings k in
+    subst (λ (x : Error). IfRefused x (once_scanned prev ≡ (scan_brought found old.bytes).0)) (sym is)
+    (if-refused-as e (λ same. same ∙ sym (ap (λ (w : Brought). w.0) at.1)) (after at.0 l))
+
+pub ended-unless : (P : Type 0) (v : Step → Turn) (prev : Found) (reached : Result (Option Marker) Error)
+    (result : Result Step Error) → UnlessRefused reached P → IsEndOf prev v reached result → UnlessRefused result P
+ended-unless P v prev (Ok m) (Ok step) p is = p
+ended-unless P v prev (Ok m) (Err f) p is = absurd is
+ended-unless P v prev (Err e) (Ok step) p is = absurd is
+ended-unless P v prev (Err e) (Err f) p is = subst (λ (x : Error). IfRefused x P) (sym is) p
+
+pub ended-steps : (v : Step → Turn) (old prev : Found) (frame : Frame) (reached : Result (Option Marker) Error)
+    (result : Result Step Error) → old.said.frame ≡ Some frame → prev.said ≡ old.said
+    → UnlessRefused reached (IsSound (once_scanned prev)) → IsEndOf prev v reached result
+    → IsStep old result (once_scanned prev)
+ended-steps v old prev frame (Ok m) (Ok step) framed said sound is =
+    scan-steps old (once_scanned prev) frame step framed (ap (λ (s : Said). s.frame) said) sound
+ended-steps v old prev frame (Ok m) (Err f) framed said sound is = absurd is
+ended-steps v old prev frame (Err e) (Ok step) framed said sound is = absurd is
+ended-steps v old prev frame (Err e) (Err f) framed said sound is = record {
+  kept = ap (λ (s : Said). told_of s) said;
+  framed = tt;
+  stays = λ _. ap (λ (s : Said). s.frame) said;
+  sound = λ _. tt;
+  unread = λ _ _. tt;
+}
 
 -- ---- what a caller sees
 
@@ -273,25 +378,6 @@ pub none-stays : (now at next : Found) (old new : Stream) (r : Result Step Error
     → OnToldRefusal old new r (next ≡ (scan_brought at old.bytes).0)
 none-stays now at next old new r e fails same is b =
     let p = err_from_is_err_and r fails in rw (p.1, p.2, is, sym same) b.stays
-
--- a step that is made
-pub step-reads : (now at next : Found) (m : Option Marker) (old new : Stream) (turn : Turn) → now ≡ at
-    → turn ≡ record { found = next; before = scan_before now; met = m; ended = false }
-    → HasRead (λ bytes. (scan_brought now bytes).1) old
-    (record { found = next; before = scan_before now; met = m; ended = false }) new
-    → HasRead (λ bytes. (scan_brought at bytes).1) old turn new
-step-reads now at next m old new turn same is has = rw (sym same, is) has
-
--- a fault in the data
-pub some-reads : (v : Step → Turn) (now at next : Found) (old new : Stream) (e : Error) → now ≡ at
-    → BringsSome next now old e new
-    → UnlessRefused {X = Step} (Err e) (Answers v (λ bytes. (scan_brought at bytes).1) old (Err e) new)
-some-reads v now at next old new e same b = rw (sym same) b.reads
-
-pub some-found : (now at next made : Found) (old new : Stream) (e : Error) → now ≡ at → made ≡ next
-    → BringsSome next now old e new
-    → OnToldRefusal {X = Step} old new (Err e) (made ≡ (scan_brought at old.bytes).0)
-some-found now at next made old new e same is b = rw (sym same, is) b.reached
 
 -- ---- what holds afterwards
 

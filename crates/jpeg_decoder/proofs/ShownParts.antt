@@ -162,8 +162,8 @@ samples-set (d ∷ cs) (x ∷ samples) zero c plane h l e p = (subst (λ (y : Co
 samples-set (d ∷ cs) (x ∷ samples) (suc index) c plane h l e p =
     (h.0, samples-set cs samples index c plane h.1 (omega arith) e p)
 
-samples-at : (cs : List Component) (samples : List (Option (List ℕ))) (i : ℕ) (d : Component) → AreSampled cs samples
-    → i < length cs → IsSampled (get_or cs i d) (get_or samples i None)
+pub samples-at : (cs : List Component) (samples : List (Option (List ℕ))) (i : ℕ) (d : Component)
+    → AreSampled cs samples → i < length cs → IsSampled (get_or cs i d) (get_or samples i None)
 unfolding AreSampled
 samples-at [] samples i d p h = absurd (omega arith)
 samples-at (c ∷ cs) [] i d p h = absurd p

@@ -1,23 +1,42 @@
 -- What the decoder's own clauses need where a scan is read as far as it goes.
-use Rattle.std.specs.Prelude.{◌≡◌, ℕ, zero, suc, List, [], drop, length, nat_le, Bool, Result, Ok}
-use Rattle.std.specs.Prelude.{Err, Option, Some, None, ◌*◌, ◌-◌, ◌⊎◌, true, false, if◌then◌else◌}
+use Rattle.std.specs.Prelude.{◌≡◌, ℕ, zero, suc, List, [], ◌∷◌, ◌++◌, drop, length, map, nat_le}
+use Rattle.std.specs.Prelude.{Bool, Result, Ok, Err, Option, Some, None, ◌*◌, ◌-◌, ◌⊎◌, ◌==◌}
+use Rattle.std.specs.Prelude.{true, false, if◌then◌else◌, IsErrAnd, IsOkAnd, get_or, slice_index_or}
+use Rattle.std.specs.Prelude.{unwrap_or, zip}
+use Rattle.jpeg_bits.specs.Codes.{Table}
 use Rattle.jpeg_bits.specs.Entropy.{Broken, Text, text_at}
+use Rattle.jpeg_bits.specs.Entropy as entropy
+use Rattle.jpeg_bits.specs.Intervals.{first_group, other_groups}
 use Rattle.jpeg_bits.specs.Passes.{Pass}
-use Rattle.jpeg_bits.specs.Reading.{End, Fault, IsGivenUp, Names, Outcome, ◌>>=◌}
+use Rattle.jpeg_bits.specs.Reading.{End, Fault, IsGivenUp, Malformed, Names, Outcome, ◌>>=◌}
 use Rattle.jpeg_bits.specs.Stream.{Stream}
 use Rattle.jpeg_bits.specs.declared.error.Error.{Error}
 use Rattle.jpeg_bits.specs.declared.error.Error.TheVariants.{Io, OutOfMemory}
 use Rattle.jpeg_bits.specs.declared.marker.Marker.{Marker}
 use Rattle.jpeg_segments.specs.Frame.{Frame}
 use Rattle.jpeg_segments.specs.HuffmanTables.{no_tables}
-use Rattle.jpeg_streams.specs.Brought.{scan_reached}
-use Rattle.jpeg_streams.specs.Found.{Found, with_said}
+use Rattle.jpeg_segments.specs.ScanHeader as headers
+use Rattle.jpeg_lossless.specs.Codings.{part_in}
+use Rattle.jpeg_lossless.specs.PlanesRead.{counted_rows}
+use Rattle.jpeg_lossless.specs.Rows.{with_all_rows, with_mcu_rows}
+use Rattle.jpeg_lossless.specs.Scans.{Way, is_of_rows, lines_by_component, planes_of}
+use Rattle.jpeg_lossless.specs.Scans.{rows_of_interval, scan_tables}
+use Rattle.jpeg_streams.specs.Brought.{grey_samples, interval_rows_reached, or_fault_at}
+use Rattle.jpeg_streams.specs.Brought.{samples_over, scan_reached, scan_rows_reached}
+use Rattle.jpeg_streams.specs.Found.{Found, Said, with_said}
+use Rattle.jpeg_streams.specs.LosslessScans.{LosslessCoding, lossless_codings, mcus_across}
+use Rattle.jpeg_streams.specs.LosslessScans.{mcus_down, tables_in, way_of}
 use Rattle.jpeg_streams.specs.Order.{mcu_size, spots_of}
-use Rattle.jpeg_streams.specs.ScanSegments.{arrays_before, blocks_after, components_of, Coding}
+use Rattle.jpeg_streams.specs.ScanSegments.{after_samples, arrays_before, blocks_after}
+use Rattle.jpeg_streams.specs.ScanSegments.{components_of, scan_before, Coding}
 use Rattle.jpeg_streams.specs.ScanSegments.{once_scanned, put_arrays, vias_from, with_arrays}
 use Rattle.jpeg_streams.specs.Scans.{Arrays}
+use Rattle.jpeg_streams.specs.Segments.{Turn}
 use Rattle.jpeg_streams.specs.States.{IfRefused}
+use Rattle.jpeg_decoder.specs.LosslessParts.{mcus_high, mcus_wide, no_component, parts_at}
 use Rattle.jpeg_decoder.specs.Steps.{blocks_at}
+use Rattle.jpeg_decoder.specs.declared.scan.lossless.SampleScan.{SampleScan}
+use Rattle.jpeg_decoder.specs.declared.stream.state.Step.{Step}
 
 -- These bytes have the bits of a text, and end after them.
 pub record HasBits (bytes : List ℕ) (t : Text) : Type 0 where
@@ -68,6 +87,20 @@ abbrev pub IsRefusalAt : Error → Result Bool Error → Bool → Error → Type
 IsRefusalAt ended reached failed result = ((result ≡ ended) × IsGivenUp ended failed)
     ⊎ ((IsGivenUp ended failed → ⊥) × (result ≡ first_of ended reached))
 
+-- The error of a block or a row in data that a marker ends.
+pub record IsBefore (e result : Error) : Type 0 where
+  pub names : (expected : Result (List Bool) Fault) (m : Marker) (rest : List ℕ)
+      → Names e expected → Names result (or_fault_at (entropy.Found m rest) expected)
+  pub memory : e ≡ OutOfMemory → result ≡ OutOfMemory
+
+-- The end of an interval whose data have ended, by what was read of them.
+abbrev pub IsIntervalEnd : Result Marker Error → Result Bool Error → Bool
+    → Result (Bool × Marker) Error → Type 0
+IsIntervalEnd (Ok m) (Ok is_near) failed result = result ≡ Ok (is_near, m)
+IsIntervalEnd (Ok m) (Err e) failed result = IsErrAnd result (IsBefore e)
+IsIntervalEnd (Err ended) reached failed result =
+    IsErrAnd result (IsRefusalAt ended reached failed)
+
 -- The bits that are left after what is read, or the fault.
 abbrev pub TellsBits : Result (List Bool) Fault → Result (Unit {0}) Error → List Bool → Type 0
 TellsBits expected (Ok x) bits = expected ≡ Ok bits
@@ -96,6 +129,17 @@ walk_end w = w.1 >>= λ rest. Ok (tt, rest)
 
 -- ---- a scan
 
+-- What stands after a scan whose data were read as far as they go, by what these gave.
+abbrev pub IsEndOf : Found → (Step → Turn) → Result (Option Marker) Error → Result Step Error
+    → Type 0
+IsEndOf old view (Ok met) result = IsOkAnd result (λ step. view step ≡ record {
+  found = once_scanned old;
+  before = scan_before old;
+  met = met;
+  ended = false;
+})
+IsEndOf old view (Err e) result = IsErrAnd result (λ f. f ≡ e)
+
 -- the blocks that are kept after a scan, of those that are left beside it, by whether the frame is
 -- progressive
 abbrev pub kept_after : Bool → List Coding → Arrays → Arrays → Arrays
@@ -112,5 +156,82 @@ data_reached found frame p codings bytes =
       with_arrays p codings r.0 (record (once_scanned found) {
         kept = blocks_after found frame codings r.0;
       }),
+      r.1,
+    )
+
+-- ---- a lossless scan
+
+-- the components of a lossless scan, where its restart interval has whole rows
+abbrev pub whole_codings : Said → Frame → List LosslessCoding → Result (List LosslessCoding) Fault
+whole_codings said frame codings =
+    if is_of_rows (mcus_across frame codings) (mcus_down frame codings) said.restart
+    then Ok codings else Err Malformed
+
+abbrev pub sample_codings : Said → Frame → headers.Scan → Result (List LosslessCoding) Fault
+sample_codings said frame scan =
+    lossless_codings said.huffman.dc frame scan.components scan.dc_destinations
+    >>= whole_codings said frame
+
+-- How a lossless scan of a frame is coded: its tables, and whole rows of MCUs in each interval.
+pub record IsSampleScan (said : Said) (frame : Frame) (header : headers.Scan) (s : SampleScan)
+    : Type 0 where
+  pub tables : List Table
+  pub are : tables_in said.huffman.dc header.dc_destinations ≡ Ok tables
+  pub parts : map part_in s.parts.items
+      ≡ parts_at (length header.components == 1) frame.components header.components tables
+  pub coding : s.coding ≡ record {
+    wide = mcus_wide frame header.components;
+    high = mcus_high frame header.components;
+    precision = frame.precision;
+    predictor = header.predictor;
+    point_transform = header.point_transform;
+    restart_interval = said.restart;
+  }
+  pub whole : is_of_rows s.coding.wide s.coding.high said.restart ≡ true
+  pub rows : s.rows ≡ counted_rows s.coding.high
+      (rows_of_interval s.coding.wide s.coding.high said.restart)
+
+-- planes with the rows of an interval appended, as far as they can be read, and its end
+abbrev pub rows_appended : Way → List (List Table) → List (List ℕ) → List ℕ
+    → List (List ℕ) × Outcome (Bool × Option Marker)
+rows_appended w rows planes bytes =
+    let r = interval_rows_reached rows bytes in (with_mcu_rows w true r.0 planes, r.1)
+
+-- planes with the rows of a scan appended, as far as they can be read, and the marker after it
+abbrev pub planes_reached : Way → ℕ → ℕ → List (List ℕ) → List ℕ
+    → List (List ℕ) × Outcome (Option Marker)
+planes_reached w n high planes bytes =
+    let rows = scan_tables w high in
+    let r = scan_rows_reached 0 (first_group n rows) (other_groups n rows) bytes in
+    (with_all_rows w r.0 planes, r.1)
+
+-- samples, and after them those of a whole plane that are left
+abbrev pub over : List ℕ → List ℕ → List ℕ
+over whole samples = samples ++ drop (length samples) whole
+
+-- the samples of a component before a scan, or else grey
+abbrev pub samples_or_grey : Frame → List (Option (List ℕ)) → ℕ → List ℕ
+samples_or_grey frame samples index =
+    unwrap_or (slice_index_or samples index None)
+    (grey_samples frame (get_or frame.components index no_component))
+
+-- Planes of the components at some indices, each over the samples before the scan, or else grey.
+unfoldable pub planes_over : Frame → List (Option (List ℕ)) → List ℕ → List (List ℕ)
+    → List (List ℕ)
+planes_over frame samples (index ∷ indices) (plane ∷ planes) =
+    over (samples_or_grey frame samples index) plane ∷ planes_over frame samples indices planes
+planes_over frame samples _ _ = []
+
+-- A scan of samples as far as it goes: what is found after it, or by its fault, and the marker
+-- after it, or the fault.
+unfoldable pub samples_reached : Found → Frame → headers.Scan → List LosslessCoding → List ℕ
+    → Found × Outcome (Option Marker)
+samples_reached found frame scan codings bytes =
+    let w = way_of frame scan.predictor scan.point_transform codings in
+    let n = rows_of_interval w.wide (mcus_down frame codings) found.said.restart in
+    let rows = scan_tables w (mcus_down frame codings) in
+    let r = scan_rows_reached 0 (first_group n rows) (other_groups n rows) bytes in
+    let planes = planes_of scan.point_transform w.parts (lines_by_component w 0 w.parts r.0) in (
+      after_samples found codings (map (samples_over found frame) (zip codings planes)),
       r.1,
     )

@@ -626,9 +626,10 @@ impl<R: Read + Drop> Decoder<R> {
     /// Reads as far as the stream goes, and returns the picture that it has brought up to its first
     /// fault, and that fault, or none if the stream is whole.
     ///
-    /// The blocks before the fault count, in a progressive picture those of all scans before it;
-    /// what no scan has brought is mid-grey. A lossless scan counts if all of it is there. A marker
-    /// in place of blocks is a fault, where `decode` takes zeros for the bits that are lacking.
+    /// The blocks before the fault count, in a progressive picture those of all scans before it,
+    /// and of a lossless scan the rows of MCUs that are whole; what no scan has brought is mid-grey.
+    /// A marker in place of them is a fault, where `decode` takes zeros for the bits that are
+    /// lacking.
     ///
     /// Unlike `decode`, it keeps the coefficients of a sequential picture in memory, too, and the
     /// data of one restart interval.

@@ -21,7 +21,11 @@ pub mod LongerBits
 pub mod LongerData
 pub mod LongerScans
 pub mod LongerSegments
-pub mod LongerLossless
+pub mod LongerRows
+pub mod LongerSamples
+pub mod LackingBits
+pub mod EarlyEnds
+pub mod NamedFaults
 pub mod LongerTurns
 pub mod LongerBlocks
 pub mod WrittenCuts

@@ -2,18 +2,16 @@
 use Rattle.std.proofs.Common.{◌≡◌, ◌⊎◌, inl, inr, ℕ, ◌≤◌, Bool, true, false, cond, List, [], ◌∷◌, ◌++◌, length, drop}
 use Rattle.std.proofs.Common.{refl, sym, ap, ◌∙◌, subst, Ok, Err, Result, Option, Some, None, append_assoc, append-nil}
 use Rattle.std.proofs.Common.{eqb, ℤ, pos, get_or, set}
-use Rattle.std.specs.Prelude.{nat_le}
 use Rattle.jpeg_bits.specs.Reading.{End, Fault, Outcome}
 use Rattle.jpeg_bits.specs.Reading as outcomes
 use Rattle.jpeg_bits.specs.Entropy.{Broken, Ending, Found, Text, add_byte, bits_of, ended_by, ending_at, no_bits}
 use Rattle.jpeg_bits.specs.Entropy.{text_at}
-use Rattle.jpeg_bits.specs.Intervals.{met}
 use Rattle.jpeg_bits.specs.Marker.{marker_of}
 use Rattle.jpeg_bits.specs.Passes.{Block, Pass, Via, block_from}
 use Rattle.jpeg_bits.specs.Readers.{read_on, text}
 use Rattle.jpeg_bits.specs.declared.marker.Marker.{Marker}
 use Rattle.jpeg_segments.proofs.Codecs.{err-ok, ok-same}
-use Rattle.jpeg_streams.specs.Brought.{interval_reached, or_fault_at, reached_from, sealed}
+use Rattle.jpeg_streams.specs.Brought.{interval_end, interval_reached, reached_from, sealed}
 use Rattle.jpeg_streams.specs.InTurn.{Reached, at_start, turn_from}
 use Rattle.jpeg_streams.specs.Order.{Spot}
 use Rattle.jpeg_streams.specs.Scans.{Arrays, block_at, put_block, via_at}
@@ -196,8 +194,7 @@ pub record IntervalGoes (P : ℕ → Type 0) (spots : List Spot) (before shorter
 
 -- what is reached of an interval, and the end of its data
 abbrev pub interval_by : Ending → After → Met
-interval_by e r = outcomes.◌>>=◌ (or_fault_at e r.1) (λ left. outcomes.◌>>=◌ (met e) (λ m.
-    Ok ((nat_le (length left) 56, m.0), m.1)))
+interval_by e r = interval_end e r.1
 
 pub all-read : (e : Ending) (r : After) (x : (Bool × Option Marker) × List ℕ) → interval_by e r ≡ Ok x
     → (left : List Bool) × (r.1 ≡ Ok left)
@@ -261,11 +258,12 @@ pub record StaysRead (spots : List Spot) (before : Arrays) (r s : Arrays × Met)
   pub all : Puts spots before r.0
   pub same : s ≡ (r.0, Ok (x.0, x.1 ++ more))
 
-ending-met : (e : Ending) (r : After) (x : (Bool × Option Marker) × List ℕ) (more : List ℕ)
-    → interval_by e r ≡ Ok x → (e ≡ Broken End → ⊥) × (interval_by (later e more) r ≡ Ok (x.0, x.1 ++ more))
-ending-met (Broken f) (a, Ok left) x more h = absurd (err-ok f x h)
-ending-met e (a, Err g) x more h = absurd (err-ok _ x h)
-ending-met (Found m rest) (a, Ok left) x more h =
+-- an interval whose end is a marker has the same end before more bytes
+pub ending-met : (e : Ending) (r : Result (List Bool) Fault) (x : (Bool × Option Marker) × List ℕ) (more : List ℕ)
+    → interval_end e r ≡ Ok x → (e ≡ Broken End → ⊥) × (interval_end (later e more) r ≡ Ok (x.0, x.1 ++ more))
+ending-met (Broken f) (Ok left) x more h = absurd (err-ok f x h)
+ending-met e (Err g) x more h = absurd (err-ok _ x h)
+ending-met (Found m rest) (Ok left) x more h =
     (λ n. let b : ⊥ = cc in b, ap (λ (y : (Bool × Option Marker) × List ℕ). Ok (y.0, y.1 ++ more)) (ok-same _ x h))
 
 pub interval-stays : (p : Pass) (vias : List Via) (spots : List Spot) (arrays : Arrays) (bytes more : List ℕ)
@@ -280,7 +278,7 @@ interval-stays p vias spots arrays bytes more x h =
     let s = stops p vias spots (at_start arrays) t.bits in
     let r = reached_from p vias spots (at_start arrays) (sealed t) in
     let l = all-read t.ending r x h in
-    let ends = ending-met t.ending r x more h in
+    let ends = ending-met t.ending r.1 x more h in
     record {
       all = (reaches p vias spots (at_start arrays) (sealed t)).all l.0 l.1;
       same = go r (reached_from p vias spots (at_start arrays) (sealed u)) t.ending u.ending g.ends ends

@@ -1,6 +1,6 @@
 -- A segment that is read is read the same whatever bytes follow it.
 use Rattle.std.proofs.Common.{rules, ◌≡◌, ℕ, zero, suc, ◌≤◌, Bool, true, false, List, [], ◌∷◌, ◌++◌}
-use Rattle.std.proofs.Common.{ap, ◌∙◌, arith, Ok, Err, Result, Option, Some, None}
+use Rattle.std.proofs.Common.{ap, ◌∙◌, arith, length, length-append, Ok, Err, Result, Option, Some, None}
 use Rattle.std.specs.Prelude.{if◌then◌else◌}
 use Rattle.jpeg_bits.specs.Reading.{Fault, Outcome, ◌>>=◌, next_byte, next_u16, length_at, skip_at, times}
 use Rattle.jpeg_bits.specs.Marker.{found_or, marker_at, next_marker}
@@ -11,6 +11,7 @@ use Rattle.jpeg_segments.specs.Frame.{Factors, Frame, components_from, factors_a
 use Rattle.jpeg_segments.specs.HuffmanTables.{Tables, defined_codes_at, dht_at, tables_from}
 use Rattle.jpeg_segments.specs.Quantization.{QuantizationTables, defined_table_at, dqt_at, quantization_from, value_at}
 use Rattle.jpeg_segments.specs.ScanHeader.{Selector, band_at, count_at, selector_at, selectors_from, sos_at}
+use Rattle.jpeg_streams.specs.Brought.{after_intervals}
 use Rattle.jpeg_streams.specs.ScanSegments.{after_restarts}
 use Rattle.jpeg_segments.proofs.Codecs.{bind-ok, err-ok, ok-same}
 
@@ -233,3 +234,12 @@ restarts-stay more (suc turns) (suc others) (Some (RST n)) bytes h =
     (λ (m : Marker × List ℕ). after_restarts others (Some m.0) m.1) (next-stays more bytes)
     (λ m. restarts-stay more turns others (Some m.0) m.1 (omega arith))
 restarts-stay more (suc turns) (suc others) met bytes h = stays-ok more met bytes
+
+-- after the last interval of a scan
+pub after-stays : (more : List ℕ) (r : (Bool × Option Marker) × List ℕ)
+    → Stays more (after_intervals r) (after_intervals (r.0, r.1 ++ more))
+after-stays more r =
+    stays-if more r.0.0 _ _ _ _
+    (restarts-stay more (suc (length r.1)) (suc (length (r.1 ++ more))) r.0.1 r.1
+    (omega (arith, length-append r.1 more)))
+    (stays-ok more r.0.1 r.1)

@@ -2,7 +2,7 @@
 use Rattle.std.proofs.Common.{rules, ◌≡◌, ◌⊎◌, inl, inr, ℕ, zero, suc, ◌*◌, ◌≤◌, Bool, true, false, List, [], ◌∷◌}
 use Rattle.std.proofs.Common.{◌++◌, length, refl, sym, ap, ◌∙◌, subst, arith, Ok, Err, Result, Option}
 use Rattle.std.proofs.Common.{None, length-append, if◌then◌else◌}
-use Rattle.jpeg_bits.specs.Reading.{End, Fault, Outcome}
+use Rattle.jpeg_bits.specs.Reading.{End, Fault, Malformed, Outcome}
 use Rattle.jpeg_bits.specs.Reading as outcomes
 use Rattle.jpeg_bits.specs.Intervals.{first_group, other_groups}
 use Rattle.jpeg_bits.specs.Marker.{found_or, next_marker}
@@ -16,26 +16,29 @@ use Rattle.jpeg_segments.specs.ScanHeader.{Scan, sos_at}
 use Rattle.jpeg_segments.specs.declared.frame.CodingProcess.{CodingProcess}
 use Rattle.jpeg_segments.specs.declared.frame.CodingProcess.TheVariants.{DctSequential, DctProgressive, Lossless}
 use Rattle.jpeg_segments.proofs.Codecs.{bind-ok, err-ok, ok-same}
+use Rattle.jpeg_lossless.specs.Scans.{rows_of_interval, scan_tables}
 use Rattle.jpeg_streams.specs.declared.before.Before.{Before}
 use Rattle.jpeg_streams.specs.declared.before.Before.TheVariants.{FirstScan, LaterScan, Elsewhere}
 use Rattle.jpeg_streams.specs.Brought.{Brought, after_interval, after_intervals, all_brought, blocks_brought}
-use Rattle.jpeg_streams.specs.Brought.{blocks_brought_by, brought_by, frame_and_scan, interval_reached}
-use Rattle.jpeg_streams.specs.Brought.{intervals_reached, scan_brought, scan_reached, segment_brought, turn_brought}
+use Rattle.jpeg_streams.specs.Brought.{blocks_brought_by, brought_by, frame_and_scan, has_whole_rows}
+use Rattle.jpeg_streams.specs.Brought.{interval_reached, intervals_reached, samples_brought, samples_brought_by}
+use Rattle.jpeg_streams.specs.Brought.{scan_brought, scan_reached, scan_rows_reached, segment_brought, turn_brought}
 use Rattle.jpeg_streams.specs.Brought.{walk_brought}
 use Rattle.jpeg_streams.specs.Found.{Found}
+use Rattle.jpeg_streams.specs.LosslessScans.{LosslessCoding, lossless_codings, mcus_down, way_of}
 use Rattle.jpeg_streams.specs.Order.{Spot, mcu_size, spots_of}
 use Rattle.jpeg_streams.specs.Scans.{Arrays}
 use Rattle.jpeg_streams.specs.ScanSegments.{Coding, after_scan, codings_of, components_of}
 use Rattle.jpeg_streams.specs.ScanSegments.{pass_of, scan_turn, vias_from}
 use Rattle.jpeg_streams.specs.Segments.{Turn, frame_segment}
 use Rattle.jpeg_streams.specs.Stream.{end_segment, segment_at}
-use Rattle.jpeg_evidence.specs.LongerStreams.{ComesBy, ScanGoesOn, arrays_of}
-use Rattle.jpeg_evidence.specs.LongerStreams.ComesBy.{in_front, in_scan}
+use Rattle.jpeg_evidence.specs.LongerStreams.{ComesBy, RowScanGoesOn, ScanGoesOn, after_rows, arrays_of}
+use Rattle.jpeg_evidence.specs.LongerStreams.ComesBy.{in_front, in_rows, in_scan}
 use Rattle.jpeg_evidence.proofs.LongerData.{Met, StaysRead, interval-stays}
+use Rattle.jpeg_evidence.proofs.LongerRows.{RowsStay, longer_rows_go_on, scan-rows-stay}
 use Rattle.jpeg_evidence.proofs.LongerScans.{after-same, longer_data_read_on, next_reached}
-use Rattle.jpeg_evidence.proofs.LongerLossless.{lossless-stays}
-use Rattle.jpeg_evidence.proofs.LongerSegments.{Stays, app-stays, dht-stays, dqt-stays, dri-stays, length-stays}
-use Rattle.jpeg_evidence.proofs.LongerSegments.{marker-stays, restarts-stay, skip-stays, sof-stays, sos-stays}
+use Rattle.jpeg_evidence.proofs.LongerSegments.{Stays, after-stays, app-stays, dht-stays, dqt-stays, dri-stays}
+use Rattle.jpeg_evidence.proofs.LongerSegments.{length-stays, marker-stays, skip-stays, sof-stays, sos-stays}
 use Rattle.jpeg_evidence.proofs.LongerSegments.{stays-after, stays-bind, stays-err, stays-if, stays-ok}
 
 -- ---- segments
@@ -51,10 +54,10 @@ end-stays : (more : List ℕ) (found : Found) (bytes : List ℕ)
 unfolding end_segment
 end-stays more found bytes = search (rules, stays-if, stays-ok, stays-err)
 
--- the turn that a segment leads to, and the blocks of a scan of which some are brought
+-- the turn that a segment leads to, and the blocks or the rows of MCUs of a scan of which some are brought
 pub record TurnGoes (more : List ℕ) (found : Found) (b c : Brought) : Type 0 where
   pub turn : Stays more b.1 c.1
-  adds : (b.0 ≡ found) ⊎ ScanGoesOn found b.0 c.0
+  adds : (b.0 ≡ found) ⊎ (ScanGoesOn found b.0 c.0 ⊎ RowScanGoesOn found b.0 c.0)
 
 plain-goes : (more : List ℕ) (found : Found) (o q : Outcome Turn) → Stays more o q
     → TurnGoes more found (found, o) (found, q)
@@ -65,13 +68,6 @@ plain-goes more found o q h = record { turn = h; adds = inl refl }
 -- Where a scan is reached up to its end, it is so of longer data.
 abbrev pub ScanStays : List ℕ → Arrays × Outcome (Option Marker) → Arrays × Outcome (Option Marker) → Type 0
 ScanStays more r s = (x : Option Marker × List ℕ) → r.1 ≡ Ok x → s ≡ (r.0, Ok (x.0, x.1 ++ more))
-
-after-stays : (more : List ℕ) (r : (Bool × Option Marker) × List ℕ)
-    → Stays more (after_intervals r) (after_intervals (r.0, r.1 ++ more))
-after-stays more r =
-    stays-if more r.0.0 _ _ _ _
-    (restarts-stay more (suc (length r.1)) (suc (length (r.1 ++ more))) r.0.1 r.1 (omega (arith, length-append r.1 more)))
-    (stays-ok more r.0.1 r.1)
 
 last-stays : (more : List ℕ) (spots : List Spot) (before : Arrays) (r s : Arrays × Met)
     → ((x : (Bool × Option Marker) × List ℕ) → r.1 ≡ Ok x → StaysRead spots before r s x more)
@@ -140,7 +136,7 @@ coded-goes more found frame scan codings bytes =
     record {
       turn = led-stays more found frame scan codings r s
           (intervals-stay more p vias 0 (first_group n spots) (other_groups n spots) arrays bytes);
-      adds = inr (record {
+      adds = inr (inl (record {
         frame = frame;
         scan = scan;
         codings = codings;
@@ -149,7 +145,7 @@ coded-goes more found frame scan codings bytes =
         shorter_is = refl;
         longer_is = refl;
         reads_on = longer_data_read_on p n vias spots arrays bytes more;
-      });
+      }));
     }
 
 blocks-go : (more : List ℕ) (found : Found) (frame : Frame) (scan : Scan) (bytes : List ℕ)
@@ -167,11 +163,78 @@ blocks-go more found frame scan bytes = go (codings_of found.said frame scan)
     go (Ok codings) = coded-goes more found frame scan codings bytes
     go (Err fault) = plain-goes more found _ _ (stays-err more fault _)
 
+-- ---- a scan of a lossless frame
+
+-- what a scan leads to, by the rows of MCUs that are reached
+abbrev rows_led : Found → Frame → Scan → List LosslessCoding → List (List (List ℕ)) × Outcome (Option Marker) → Brought
+rows_led found frame scan codings r =
+    let after = after_rows found frame scan codings r.0 in
+    (after, outcomes.◌>>=◌ r.1 (λ m. Ok (scan_turn found after m.0, m.1)))
+
+rows-led-stays : (more : List ℕ) (found : Found) (frame : Frame) (scan : Scan) (codings : List LosslessCoding)
+    (r s : List (List (List ℕ)) × Outcome (Option Marker)) → RowsStay more r s
+    → Stays more (rows_led found frame scan codings r).1 (rows_led found frame scan codings s).1
+unfolding Stays
+rows-led-stays more found frame scan codings r s stays = λ x h.
+    let after = after_rows found frame scan codings r.0 in
+    let m = bind-ok r.1 (λ (m : Option Marker × List ℕ). Ok (scan_turn found after m.0, m.1)) x h in
+    ap (λ (q : List (List (List ℕ)) × Outcome (Option Marker)). (rows_led found frame scan codings q).1) (stays m.0 m.1)
+    ∙ ap (λ (y : Turn × List ℕ). Ok (y.0, y.1 ++ more)) (ok-same _ x m.2)
+
+coded-rows-go : (more : List ℕ) (found : Found) (frame : Frame) (scan : Scan) (codings : List LosslessCoding)
+    (bytes : List ℕ) → TurnGoes more found (samples_brought_by found frame scan codings bytes)
+    (samples_brought_by found frame scan codings (bytes ++ more))
+unfolding samples_brought_by
+coded-rows-go more found frame scan codings bytes =
+    let w = way_of frame scan.predictor scan.point_transform codings in
+    let n = rows_of_interval w.wide (mcus_down frame codings) found.said.restart in
+    let rows = scan_tables w (mcus_down frame codings) in
+    let r = scan_rows_reached 0 (first_group n rows) (other_groups n rows) bytes in
+    let s = scan_rows_reached 0 (first_group n rows) (other_groups n rows) (bytes ++ more) in
+    record {
+      turn = rows-led-stays more found frame scan codings r s
+          (scan-rows-stay more 0 (first_group n rows) (other_groups n rows) bytes);
+      adds = inr (inr (record {
+        frame = frame;
+        scan = scan;
+        codings = codings;
+        rows = r.0;
+        more_rows = s.0;
+        shorter_is = refl;
+        longer_is = refl;
+        go_on = longer_rows_go_on 0 (first_group n rows) (other_groups n rows) bytes more;
+      }));
+    }
+
+samples-go : (more : List ℕ) (found : Found) (frame : Frame) (scan : Scan) (bytes : List ℕ)
+    → TurnGoes more found (samples_brought found frame scan bytes) (samples_brought found frame scan (bytes ++ more))
+unfolding samples_brought
+samples-go more found frame scan bytes =
+    go (lossless_codings found.said.huffman.dc frame scan.components scan.dc_destinations)
+  where
+    whole : (codings : List LosslessCoding) (b : Bool) → TurnGoes more found
+        (if b then samples_brought_by found frame scan codings bytes else (found, Err Malformed))
+        (if b then samples_brought_by found frame scan codings (bytes ++ more) else (found, Err Malformed))
+    whole codings true = coded-rows-go more found frame scan codings bytes
+    whole codings false = plain-goes more found _ _ (stays-err more Malformed _)
+
+    go : (o : Result (List LosslessCoding) Fault) → TurnGoes more found (elim o as (λ _. Brought) [
+      | Ok codings ↦ if has_whole_rows found frame scan codings
+          then samples_brought_by found frame scan codings bytes else (found, Err Malformed)
+      | Err fault ↦ (found, Err fault)
+    ]) (elim o as (λ _. Brought) [
+      | Ok codings ↦ if has_whole_rows found frame scan codings
+          then samples_brought_by found frame scan codings (bytes ++ more) else (found, Err Malformed)
+      | Err fault ↦ (found, Err fault)
+    ])
+    go (Ok codings) = whole codings (has_whole_rows found frame scan codings)
+    go (Err fault) = plain-goes more found _ _ (stays-err more fault _)
+
 by-goes : (more : List ℕ) (process : CodingProcess) (found : Found) (frame : Frame) (scan : Scan) (bytes : List ℕ)
     → TurnGoes more found (brought_by process found frame scan bytes) (brought_by process found frame scan (bytes ++ more))
 by-goes more DctSequential found frame scan bytes = blocks-go more found frame scan bytes
 by-goes more DctProgressive found frame scan bytes = blocks-go more found frame scan bytes
-by-goes more Lossless found frame scan bytes = plain-goes more found _ _ (lossless-stays more found frame scan bytes)
+by-goes more Lossless found frame scan bytes = samples-go more found frame scan bytes
 
 -- ---- a turn
 
@@ -344,11 +407,13 @@ on-goes more n k t others false = others t.0.before t.0.found t.0.met t.1
 -- where the turn has a fault
 fault-goes : (more : List ℕ) (k : ℕ) (before : Before) (found some : Found) (met : Option Marker) (bytes : List ℕ)
     (w : Walked) → w ≡ walk_brought (suc k) before found met (bytes ++ more)
-    → (some ≡ found) ⊎ ScanGoesOn found some (turn_brought before found met (bytes ++ more)).0 → ComesBy more some w
+    → (some ≡ found) ⊎ (ScanGoesOn found some (turn_brought before found met (bytes ++ more)).0
+    ⊎ RowScanGoesOn found some (turn_brought before found met (bytes ++ more)).0) → ComesBy more some w
 fault-goes more k before found some met bytes w whole (inl same) =
     in_front (suc k) before met bytes
     (whole ∙ ap (λ (f : Found). walk_brought (suc k) before f met (bytes ++ more)) (sym same))
-fault-goes more k before found some met bytes w whole (inr adds) = in_scan k before found met bytes whole adds
+fault-goes more k before found some met bytes w whole (inr (inl adds)) = in_scan k before found met bytes whole adds
+fault-goes more k before found some met bytes w whole (inr (inr adds)) = in_rows k before found met bytes whole adds
 
 after-goes : (more : List ℕ) (n k : ℕ) (before : Before) (found : Found) (met : Option Marker) (bytes : List ℕ)
     (some : Found) (o : Outcome Turn)

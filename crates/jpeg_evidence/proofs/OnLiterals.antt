@@ -7,8 +7,10 @@ use Rattle.jpeg_segments.specs.Frame.{component_of, frame_of}
 use Rattle.jpeg_segments.specs.Scales.{component_at, frame_at}
 use Rattle.jpeg_streams.specs.ColourChoice.{by_identifiers, transform_of}
 use Rattle.jpeg_streams.proofs.OnLiterals.{samples_on_literals, streams_on_literals}
-use Rattle.jpeg_streams.specs.Brought.{blocks_brought, blocks_brought_by, interval_reached, intervals_reached}
-use Rattle.jpeg_streams.specs.Brought.{reached_from, scan_brought, segment_brought, turn_brought, walk_brought}
+use Rattle.jpeg_lossless.specs.RowsReached.{rows_reached}
+use Rattle.jpeg_streams.specs.Brought.{blocks_brought, blocks_brought_by, interval_reached, interval_rows_reached}
+use Rattle.jpeg_streams.specs.Brought.{intervals_reached, reached_from, samples_brought, samples_brought_by}
+use Rattle.jpeg_streams.specs.Brought.{scan_brought, scan_rows_reached, segment_brought, turn_brought, walk_brought}
 use Rattle.jpeg_streams.specs.InTurn.{turn_from}
 use Rattle.jpeg_streams.specs.Profile.{profile_of}
 use Rattle.jpeg_streams.specs.Shown.{completed, fault_shown, picture_shown, shown, shown_of, shown_rest}
@@ -44,7 +46,8 @@ unfolding streams_on_literals profile_of
 profiles_on_literals = tt
 
 unfoldable pub cuts_on_literals : ⊤
-unfolding streams_on_literals samples_on_literals blocks_brought blocks_brought_by interval_reached intervals_reached
-    reached_from scan_brought segment_brought turn_brought walk_brought turn_from completed fault_shown
+unfolding streams_on_literals samples_on_literals blocks_brought blocks_brought_by interval_reached
+    interval_rows_reached intervals_reached reached_from rows_reached samples_brought samples_brought_by scan_brought
+    scan_rows_reached segment_brought turn_brought walk_brought turn_from completed fault_shown
     picture_shown shown shown_of shown_rest with_plane_shown with_samples_shown
 cuts_on_literals = tt

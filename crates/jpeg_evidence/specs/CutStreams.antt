@@ -1,6 +1,6 @@
 -- Streams that are cut or damaged, worked by hand, and what they show.
-use Rattle.std.specs.Prelude.{ℕ, ◌+◌, ◌-◌, ◌*◌, List, [], ◌∷◌, length, map, take, replicate, pos}
-use Rattle.std.specs.Prelude.{Option, Result, Ok, Err}
+use Rattle.std.specs.Prelude.{ℕ, ◌+◌, ◌-◌, ◌*◌, List, [], ◌∷◌, ◌++◌, length, map, take, replicate}
+use Rattle.std.specs.Prelude.{pos, Option, Result, Ok, Err}
 use Rattle.jpeg_bits.specs.Passes.{Block}
 use Rattle.jpeg_bits.specs.Reading.{Fault, ◌>>=◌}
 use Rattle.jpeg_bits.specs.declared.huffman.codes.HuffmanTableClass.TheVariants.{DC, AC}
@@ -68,16 +68,47 @@ wrong_restart =
     ∷ restart_interval 1
     ∷ scan_text 1 0 63 0 (67 ∷ 255 ∷ 208 ∷ 67 ∷ 255 ∷ 210 ∷ 67 ∷ 255 ∷ 210 ∷ 67 ∷ []) ∷ [])
 
+-- 16 by 8 samples in two restart intervals, the first of which goes on after its six bits
+abbrev pub unread_bits : List ℕ
+unread_bits =
+    image_with (quantization_of 1 ∷ grey_frame 0 8 16 ∷ one_code 0 4 ∷ one_code 16 0
+    ∷ restart_interval 1 ∷ scan_text 1 0 63 0 (replicate 9 67) ∷ [])
+
+-- 8 by 8 samples: a block and 66 bits that it doesn't need, and FF FF 00, which is no marker
+abbrev pub unread_end : List ℕ
+unread_end = stream_with 8 (replicate 9 67 ++ (255 ∷ 255 ∷ 0 ∷ []))
+
 -- an end of band that stands for two blocks, and bytes that end after it
 abbrev pub run_at_end : List ℕ
 run_at_end =
     image_with (quantization_of 1 ∷ grey_frame 2 8 16 ∷ one_code 0 4 ∷ one_code 16 16
     ∷ scan_text 1 0 0 0 (65 ∷ 192 ∷ []) ∷ scan_text 1 1 63 0 (63 ∷ []) ∷ [])
 
--- a lossless stream of two lines of four samples, each of category 1 and so of two bits
+-- a lossless stream of lines of samples, each of category 1 and so of two bits
+abbrev pub lines_of_samples : ℕ → ℕ → List ℕ → List ℕ
+lines_of_samples height width data_bytes =
+    image_with (grey_frame 3 height width ∷ one_code 0 1 ∷ scan_text 1 1 0 0 data_bytes ∷ [])
+
 abbrev pub two_lines : List ℕ
-two_lines =
-    image_with (grey_frame 3 2 4 ∷ one_code 0 1 ∷ scan_text 1 1 0 0 (85 ∷ 85 ∷ []) ∷ [])
+two_lines = lines_of_samples 2 4 (85 ∷ 85 ∷ [])
+
+-- the same, and then a second scan of other samples
+abbrev pub two_lines_twice : List ℕ
+two_lines_twice =
+    image_with (grey_frame 3 2 4 ∷ one_code 0 1 ∷ scan_text 1 1 0 0 (85 ∷ 85 ∷ [])
+    ∷ scan_text 1 1 0 0 (0 ∷ 0 ∷ []) ∷ [])
+
+-- three lossless components of 1 by 4, 1 by 2 and 1 by 2 samples: an MCU has two, one and one
+abbrev pub two_rows_of_mcus : List ℕ
+two_rows_of_mcus =
+    image_with (colour_frame 3 4 1 18 ∷ one_code 0 1 ∷ (255 ∷ 218 ∷ 0 ∷ 12 ∷ 3
+    ∷ 82 ∷ 0 ∷ 71 ∷ 0 ∷ 66 ∷ 0 ∷ 1 ∷ 0 ∷ 0 ∷ 85 ∷ 85 ∷ []) ∷ [])
+
+-- two lines of four samples in a restart interval each, with the wrong marker between them
+abbrev pub wrong_row_restart : List ℕ
+wrong_row_restart =
+    image_with (grey_frame 3 2 4 ∷ one_code 0 1 ∷ restart_interval 4
+    ∷ scan_text 1 1 0 0 (85 ∷ 255 ∷ 209 ∷ 85 ∷ []) ∷ [])
 
 -- two components of a sequential frame were not sent
 abbrev pub one_of_three : List ℕ

@@ -11,3 +11,4 @@ pub mod CutStreams
 pub mod LongerStreams
 pub mod FirstBlocks
 pub mod CutImages
+pub mod EarlyEnds

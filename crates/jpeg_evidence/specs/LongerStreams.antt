@@ -1,5 +1,5 @@
 -- What more bytes add to what was brought of some: what was brought stays, and more comes after it.
-use Rattle.std.specs.Prelude.{◌≡◌, ◌≤◌, ℕ, suc, List, [], ◌∷◌, ◌++◌, length, drop, map, get_or}
+use Rattle.std.specs.Prelude.{◌≡◌, ◌≤◌, ℕ, suc, List, [], ◌∷◌, ◌++◌, length, drop, map, get_or, zip}
 use Rattle.std.specs.Prelude.{Bool, Option, Result, Ok}
 use Rattle.jpeg_bits.specs.Reading.{End, Fault}
 use Rattle.jpeg_bits.specs.Entropy.{Broken, Ending}
@@ -9,13 +9,16 @@ use Rattle.jpeg_bits.specs.declared.marker.Marker.{Marker}
 use Rattle.jpeg_segments.specs.Frame.{Frame}
 use Rattle.jpeg_segments.specs.ScanHeader.{Scan}
 use Rattle.jpeg_streams.specs.declared.before.Before.{Before}
-use Rattle.jpeg_streams.specs.Brought.{reached_from, turn_brought, walk_brought}
+use Rattle.jpeg_lossless.specs.Scans.{lines_by_component, planes_of}
+use Rattle.jpeg_streams.specs.Brought.{reached_from, samples_over, turn_brought, walk_brought}
 use Rattle.jpeg_streams.specs.Found.{Found}
 use Rattle.jpeg_streams.specs.InTurn.{IsIn, Reached}
 use Rattle.jpeg_streams.specs.Levels.{IsLegal, Levels, cut, sent_after}
+use Rattle.jpeg_streams.specs.LosslessScans.{LosslessCoding, way_of}
 use Rattle.jpeg_streams.specs.Order.{Spot, spots_of}
 use Rattle.jpeg_streams.specs.Scans.{Arrays, block_at, put_block}
-use Rattle.jpeg_streams.specs.ScanSegments.{Coding, after_scan, arrays_before, components_of}
+use Rattle.jpeg_streams.specs.ScanSegments.{Coding, after_samples, after_scan, arrays_before}
+use Rattle.jpeg_streams.specs.ScanSegments.{components_of}
 
 -- These bits bring the blocks at `done`, and `left` are left, of which no block more can be read.
 -- Where more bits come after them, the other blocks are read from there on, before any end.
@@ -105,10 +108,49 @@ pub record ScanGoesOn (before shorter longer : Found) : Type 0 where
   pub reads_on : ReadsOn (spots_of frame (components_of codings)) (arrays_of before frame codings)
       blocks more_blocks
 
+-- Of the rows of MCUs of a lossless scan, interval by interval, shorter data bring these, and
+-- longer data the same: of the intervals in front all rows, and of the last the first rows.
+pub record RowsGoOn (shorter longer : List (List (List ℕ))) : Type 0 where
+  pub front : List (List (List ℕ))
+  pub last : List (List ℕ)
+  pub more : List (List ℕ)
+  pub others : List (List (List ℕ))
+  pub shorter_is : shorter ≡ front ++ last ∷ []
+  pub longer_is : longer ≡ front ++ (last ++ more) ∷ others
+
+-- each plane begins with the samples of the shorter one
+unfoldable pub PlanesGoOn : List (List ℕ) → List (List ℕ) → Type 0
+PlanesGoOn [] [] = Unit {0}
+PlanesGoOn (s ∷ shorter) (l ∷ longer) =
+    ((more : List ℕ) × (l ≡ s ++ more)) × PlanesGoOn shorter longer
+PlanesGoOn _ _ = ⊥
+
+-- the planes of some rows of MCUs of a lossless scan
+abbrev pub planes_after : Frame → Scan → List LosslessCoding → List (List (List ℕ)) → List (List ℕ)
+planes_after frame scan codings rows =
+    let w = way_of frame scan.predictor scan.point_transform codings in
+    planes_of scan.point_transform w.parts (lines_by_component w 0 w.parts rows)
+
+-- What is found after some rows of MCUs of a lossless scan.
+abbrev pub after_rows : Found → Frame → Scan → List LosslessCoding → List (List (List ℕ)) → Found
+after_rows found frame scan codings rows = after_samples found codings
+    (map (samples_over found frame) (zip codings (planes_after frame scan codings rows)))
+
+-- What was found with some rows of a lossless scan, and with more of them.
+pub record RowScanGoesOn (before shorter longer : Found) : Type 0 where
+  pub frame : Frame
+  pub scan : Scan
+  pub codings : List LosslessCoding
+  pub rows : List (List (List ℕ))
+  pub more_rows : List (List (List ℕ))
+  pub shorter_is : shorter ≡ after_rows before frame scan codings rows
+  pub longer_is : longer ≡ after_rows before frame scan codings more_rows
+  pub go_on : RowsGoOn rows more_rows
+
 -- How a longer stream goes on, where a shorter one has brought `brought` up to its first fault and
 -- `left` are the bytes of it that are read again. It comes by what was brought, in front of the
 -- segment that has the fault; or the fault is in the data of a scan, and the longer stream comes by
--- what was found before this scan, and brings of it the same blocks first.
+-- what was found before this scan, and brings of it the same blocks first, or rows of MCUs.
 pub data ComesBy (more : List ℕ) (brought : Found) (longer : Found × Result (List ℕ) Fault)
     : Type 0 where
   in_front : (turns : ℕ) (before : Before) (met : Option Marker) (left : List ℕ)
@@ -116,4 +158,8 @@ pub data ComesBy (more : List ℕ) (brought : Found) (longer : Found × Result (
   in_scan : (turns : ℕ) (before : Before) (last : Found) (met : Option Marker) (left : List ℕ)
       → longer ≡ walk_brought (suc turns) before last met (left ++ more)
       → ScanGoesOn last brought (turn_brought before last met (left ++ more)).0
+      → ComesBy more brought longer
+  in_rows : (turns : ℕ) (before : Before) (last : Found) (met : Option Marker) (left : List ℕ)
+      → longer ≡ walk_brought (suc turns) before last met (left ++ more)
+      → RowScanGoesOn last brought (turn_brought before last met (left ++ more)).0
       → ComesBy more brought longer

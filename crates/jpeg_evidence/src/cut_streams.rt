@@ -1,16 +1,19 @@
 //! What streams that are cut or damaged show, computed as it is checked; and, for all streams, that
-//! what is shown without a fault is what is meant.
-ghost use Rattle.std.specs.Prelude.{◌≡◌, ℕ, List, Ok, Err, Some, None, [], ◌∷◌, ◌++◌, replicate};
-ghost use Rattle.std.specs.Prelude.{take};
+//! what is shown without a fault is what is meant, and which faults are those of the meaning.
+ghost use Rattle.std.specs.Prelude.{◌≡◌, ◌⊎◌, ℕ, List, Ok, Err, Some, None, [], ◌∷◌, ◌++◌};
+ghost use Rattle.std.specs.Prelude.{replicate, take};
 ghost use Rattle.std.specs.List.{concat};
-ghost use Rattle.jpeg_bits.specs.Reading.{Malformed, End};
+ghost use Rattle.jpeg_bits.specs.Reading.{Fault, Malformed, End};
 ghost use Rattle.jpeg_streams.specs.Shown.{Shown, shown};
 ghost use Rattle.jpeg_streams.specs.Stream.{meaning};
 ghost use Rattle.jpeg_streams.specs.Worked.{eight_times, picture_meant, scanned_twice, stream_with};
 ghost use Rattle.jpeg_streams.specs.declared.settings.Settings.{Settings};
-ghost use Rattle.jpeg_evidence.specs.CutStreams.{one_of_three, run_at_end, seen, seen_sized};
-ghost use Rattle.jpeg_evidence.specs.CutStreams.{three_refined, two_blocks, two_lines, without_last};
-ghost use Rattle.jpeg_evidence.specs.CutStreams.{wrong_restart};
+ghost use Rattle.jpeg_evidence.specs.EarlyEnds.{StreamEndsEarly};
+ghost use Rattle.jpeg_evidence.specs.CutStreams.{lines_of_samples, one_of_three, run_at_end, seen};
+ghost use Rattle.jpeg_evidence.specs.CutStreams.{seen_sized, three_refined, two_blocks, two_lines};
+ghost use Rattle.jpeg_evidence.specs.CutStreams.{two_lines_twice, two_rows_of_mcus, unread_bits};
+ghost use Rattle.jpeg_evidence.specs.CutStreams.{unread_end, without_last, wrong_restart};
+ghost use Rattle.jpeg_evidence.specs.CutStreams.{wrong_row_restart};
 
 /// Where `decode_partial` names no fault, `decode` gives the same: what a stream shows without a
 /// fault is what it means, picture and metadata, within the same limit.
@@ -19,6 +22,34 @@ pub fn faultless_streams_are_meant()
     ensures { (settings : Settings) (bytes : List ℕ) (s : Shown) → shown settings bytes ≡ Ok s
         → s.fault ≡ None
         → (rest : List ℕ) × (meaning settings bytes ≡ Ok ((s.told, s.picture), rest)) }
+{}
+
+/// The fault that `decode_partial` names is that of `decode`, unless the data of a scan end early.
+/// They may end with a marker: then `decode` takes zeros for the bits that are lacking, and here the
+/// data are malformed. Or they end without one, after more than 56 bits that no block needs, where
+/// `decode` doesn't look: if the bytes end there and a restart is due, it calls the data malformed,
+/// and if FF and a byte that makes no marker with it stand there, it goes on. Where `decode` has a
+/// fault, one is named.
+pub fn faults_are_the_meanings()
+    ensures named { (settings : Settings) (bytes : List ℕ) (s : Shown) (f : Fault)
+        → shown settings bytes ≡ Ok s → s.fault ≡ Some f → (meaning settings bytes ≡ Err f)
+        ⊎ (StreamEndsEarly bytes
+        × ((f ≡ Malformed) ⊎ ((f ≡ End) × (meaning settings bytes ≡ Err Malformed)))) }
+    ensures shown { (settings : Settings) (bytes : List ℕ) (s : Shown) (f : Fault)
+        → shown settings bytes ≡ Ok s → meaning settings bytes ≡ Err f
+        → (g : Fault) × (s.fault ≡ Some g) }
+{}
+
+/// Both names of a fault occur: the first of two restart intervals has 66 bits that its block
+/// doesn't need, and the bytes end after them. Where FF FF 00 stand after such bits, in the last
+/// interval, `decode` goes on at EOI.
+#[tactic(auto, unfolding(crate::proofs::OnLiterals::cuts_on_literals))]
+pub fn unread_bits_are_cut()
+    ensures seen { seen (without_last 2 unread_bits)
+        ≡ Ok (eight_times (replicate 8 129 ++ replicate 8 128), Some End) }
+    ensures meant { picture_meant (without_last 2 unread_bits) ≡ Err Malformed }
+    ensures no_marker { seen unread_end ≡ Ok (replicate 64 129, Some Malformed) }
+    ensures goes_on { picture_meant unread_end ≡ Ok (replicate 64 129) }
 {}
 
 /// A sequential stream of two blocks, cut before each of its last bytes: a block counts if all its
@@ -57,8 +88,8 @@ pub fn refinement_is_cut()
         ) }
 {}
 
-/// The fault of a restart marker, a run of blocks at the end of the bytes, and a second scan that
-/// is cut.
+/// The fault of a restart marker, a run of blocks at the end of the bytes, a second scan that is
+/// cut, and a frame of which two components weren't sent.
 #[tactic(auto, unfolding(crate::proofs::OnLiterals::cuts_on_literals))]
 pub fn other_faults_cut()
     ensures restart { seen wrong_restart
@@ -66,15 +97,40 @@ pub fn other_faults_cut()
     ensures run { seen (without_last 2 run_at_end)
         ≡ Ok (eight_times (replicate 8 129 ++ replicate 8 128), Some End) }
     ensures second_scan { seen (without_last 2 scanned_twice) ≡ Ok (replicate 64 129, Some End) }
-{}
-
-/// A lossless stream that is whole and one that is cut, and a frame of which two components weren't
-/// sent.
-#[tactic(auto, unfolding(crate::proofs::OnLiterals::cuts_on_literals))]
-pub fn whole_scans_count()
-    ensures whole { seen two_lines
-        ≡ Ok (129 ∷ 130 ∷ 131 ∷ 132 ∷ 130 ∷ 131 ∷ 132 ∷ 133 ∷ [], None) }
-    ensures cut { seen (without_last 3 two_lines) ≡ Ok (replicate 8 128, Some End) }
     ensures one_of_three { seen one_of_three
         ≡ Ok (concat (replicate 64 (128 ∷ 128 ∷ 130 ∷ [])), Some Malformed) }
+{}
+
+/// The rows of MCUs of a lossless scan count if they are there whole: the lines of a stream that is
+/// cut in its second line, in its only one, or closed by EOI in the second, where `decode` takes
+/// zeros for the bits that are lacking. Below the lines of a second scan, those of the first stay.
+#[tactic(auto, unfolding(crate::proofs::OnLiterals::cuts_on_literals))]
+pub fn whole_rows_count()
+    ensures whole { seen two_lines
+        ≡ Ok (129 ∷ 130 ∷ 131 ∷ 132 ∷ 130 ∷ 131 ∷ 132 ∷ 133 ∷ [], None) }
+    ensures in_second { seen (without_last 3 two_lines)
+        ≡ Ok (129 ∷ 130 ∷ 131 ∷ 132 ∷ replicate 4 128, Some End) }
+    ensures in_first { seen (without_last 3 (lines_of_samples 1 8 (85 ∷ 85 ∷ [])))
+        ≡ Ok (replicate 8 128, Some End) }
+    ensures closed_meant { picture_meant (lines_of_samples 2 4 (85 ∷ []))
+        ≡ Ok (129 ∷ 130 ∷ 131 ∷ 132 ∷ 128 ∷ 127 ∷ 126 ∷ 125 ∷ []) }
+    ensures closed { seen (lines_of_samples 2 4 (85 ∷ []))
+        ≡ Ok (129 ∷ 130 ∷ 131 ∷ 132 ∷ replicate 4 128, Some Malformed) }
+    ensures earlier_scan { seen (without_last 3 two_lines_twice)
+        ≡ Ok (127 ∷ 126 ∷ 125 ∷ 124 ∷ 130 ∷ 131 ∷ 132 ∷ 133 ∷ [], Some End) }
+{}
+
+/// Such a row may have several lines of a component, and those of others: three components, whose
+/// second row is cut. After a wrong restart marker no row counts.
+#[tactic(auto, unfolding(crate::proofs::OnLiterals::cuts_on_literals))]
+pub fn rows_of_components_count()
+    ensures whole { seen two_rows_of_mcus ≡ Ok (
+      129 ∷ 129 ∷ 129 ∷ 130 ∷ 129 ∷ 129
+          ∷ 131 ∷ 130 ∷ 130 ∷ 132 ∷ 130 ∷ 130 ∷ [],
+      None,
+    ) }
+    ensures cut { seen (without_last 3 two_rows_of_mcus)
+        ≡ Ok (129 ∷ 129 ∷ 129 ∷ 130 ∷ 129 ∷ 129 ∷ replicate 6 128, Some End) }
+    ensures restart { seen wrong_row_restart
+        ≡ Ok (129 ∷ 130 ∷ 131 ∷ 132 ∷ replicate 4 128, Some Malformed) }
 {}

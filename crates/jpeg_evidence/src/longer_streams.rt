@@ -4,16 +4,21 @@ ghost use Rattle.std.specs.Prelude.{◌≡◌, ◌⊎◌, ◌*◌, ℕ, List, Bo
 ghost use Rattle.std.specs.Prelude.{Some, None, length, replicate};
 ghost use Rattle.std.specs.List.{AllByRecursion};
 ghost use Rattle.jpeg_bits.specs.Reading.{End, Fault};
-ghost use Rattle.jpeg_bits.specs.Codes.{IsTable};
+ghost use Rattle.jpeg_bits.specs.Codes.{IsTable, Table};
 ghost use Rattle.jpeg_bits.specs.Entropy.{Broken};
+ghost use Rattle.jpeg_bits.specs.Intervals.{intervals};
 ghost use Rattle.jpeg_bits.specs.Passes.{Block, Pass, Via, whole_pass, zero_block};
 ghost use Rattle.jpeg_bits.specs.Readers.{text};
 ghost use Rattle.jpeg_bits.specs.declared.marker.Marker.{Marker};
+ghost use Rattle.jpeg_lossless.specs.Differences.{interval_rows};
 ghost use Rattle.jpeg_segments.specs.Frame.{Component, Frame};
+ghost use Rattle.jpeg_segments.specs.ScanHeader.{Scan};
 ghost use Rattle.jpeg_streams.specs.Brought.{all_brought, reached_from, scan_reached};
+ghost use Rattle.jpeg_streams.specs.Brought.{scan_rows_reached};
 ghost use Rattle.jpeg_streams.specs.Found.{Found};
 ghost use Rattle.jpeg_streams.specs.InTurn.{AreApart, AreArrays, Fits, IsIn, Reached};
 ghost use Rattle.jpeg_streams.specs.Levels.{Is8Bit, Levels, cut, nothing_sent, sent_after};
+ghost use Rattle.jpeg_streams.specs.LosslessScans.{LosslessCoding};
 ghost use Rattle.jpeg_streams.specs.Order.{Spot, mcu_size, spots_of};
 ghost use Rattle.jpeg_streams.specs.Scans.{Arrays, arrays_at, block_at};
 ghost use Rattle.jpeg_streams.specs.ScanSegments.{Coding, components_of, vias_from};
@@ -22,6 +27,7 @@ ghost use Rattle.jpeg_evidence.specs.CutStreams.{requantized, seen, without_last
 ghost use Rattle.jpeg_evidence.specs.FirstBlocks.{IsMost, StandWhole};
 ghost use Rattle.jpeg_evidence.specs.LongerStreams.{IsDcAlone, IsKeptBefore, ReadsOn};
 ghost use Rattle.jpeg_evidence.specs.LongerStreams.{ComesBy, GoesOn, HoldsFirst, HoldsSent};
+ghost use Rattle.jpeg_evidence.specs.LongerStreams.{PlanesGoOn, RowsGoOn, planes_after};
 
 /// More bits bring the blocks that the first bits bring alone, with what they carry on to the next
 /// blocks, and are read on from the first bit after them. It holds of any pass, tables and bits,
@@ -62,6 +68,25 @@ pub fn blocks_of_shorter_data_stay()
         ≡ Ok (((scan_reached p n vias spots arrays bytes).0, m), rest)) }
 {}
 
+/// Longer data of a lossless scan bring the rows of MCUs that shorter ones bring, and go on with
+/// the rows after them, across its restart intervals. So the samples that shorter data bring of
+/// each component are the first of those that longer data bring. Where the data have no fault,
+/// their rows are those of the scan's meaning.
+pub fn rows_of_shorter_data_stay()
+    ensures stay { (k : ℕ) (rows : List (List Table)) (groups : List (List (List Table)))
+        (bytes more : List ℕ) → RowsGoOn (scan_rows_reached k rows groups bytes).0
+        (scan_rows_reached k rows groups (bytes ++ more)).0 }
+    ensures samples { (frame : Frame) (scan : Scan) (codings : List LosslessCoding)
+        (shorter longer : List (List (List ℕ))) → RowsGoOn shorter longer
+        → PlanesGoOn (planes_after frame scan codings shorter)
+        (planes_after frame scan codings longer) }
+    ensures meant { (k : ℕ) (rows : List (List Table)) (groups : List (List (List Table)))
+        (bytes : List ℕ) (x : Option Marker × List ℕ)
+        → (scan_rows_reached k rows groups bytes).1 ≡ Ok x
+        → (m : Option Marker) × (rest : List ℕ) × (intervals interval_rows k rows groups bytes
+        ≡ Ok (((scan_rows_reached k rows groups bytes).0, m), rest)) }
+{}
+
 /// The beginning of the data of a scan that a writer emits has the coefficients that were sent: its
 /// first blocks at the levels after the scan, exactly those whose data stand whole in it, and no
 /// other block is touched. Before the scan the coefficients are kept at the levels before it; in a
@@ -90,8 +115,8 @@ pub fn cut_scans_have_what_was_sent()
 /// A longer stream comes by what a shorter one has brought. Where the shorter one has ended, more
 /// bytes change nothing. Where it has brought something up to a fault, the longer one goes on from
 /// there, or it brings the same blocks of the scan in which the shorter one stops, and goes on with
-/// the blocks after them. What later segments do to these isn't said. It holds of any bytes, also
-/// of lossless scans and of bytes that break a rule.
+/// the blocks after them; of a lossless scan the same rows of MCUs, and those after them. What
+/// later segments do to these isn't said. It holds of any bytes, also of those that break a rule.
 pub fn longer_streams_go_on()
     ensures ended { (found brought : Found) (bytes more rest : List ℕ)
         → all_brought found bytes ≡ (brought, Ok rest)

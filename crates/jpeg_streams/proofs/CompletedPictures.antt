@@ -222,12 +222,12 @@ pictures-same Lossless settings found frame planes e =
       ap (λ (g : Found). picture_by_process Lossless settings g frame) s,
     )
 
-abbrev within : Settings → Frame → Result (List ℕ) Fault → Result (List ℕ) Fault
+abbrev pub within : Settings → Frame → Result (List ℕ) Fault → Result (List ℕ) Fault
 within settings frame x =
     if nat_lt settings.limit (length frame.components * (frame.output_width * frame.output_height))
     then Err Malformed else x
 
-limited-at : (settings : Settings) (said : Said) (frame : Frame) (picture : Frame → Result (List ℕ) Fault)
+pub limited-at : (settings : Settings) (said : Said) (frame : Frame) (picture : Frame → Result (List ℕ) Fault)
     → said.frame ≡ Some frame → limited settings said picture ≡ within settings frame (picture frame)
 unfolding limited
 limited-at settings said frame picture e = rw e refl

@@ -1,6 +1,6 @@
--- The components of the frame that was found fit it, whatever turns are read.
+-- The components of the frame that was found fit it, and the samples that were found them, whatever turns are read.
 use Rattle.std.proofs.Common.{rules, ◌≡◌, ℕ, zero, suc, ◌+◌, ◌*◌, ◌/◌, ◌%◌, ◌≤◌, Bool, true, false, List, [], ◌∷◌, ◌++◌}
-use Rattle.std.proofs.Common.{Option, Some, None, Ok, Err, refl, sym, ◌∙◌, subst, arith}
+use Rattle.std.proofs.Common.{Option, Some, None, Ok, Err, refl, sym, ap, ◌∙◌, map, replicate, subst, arith}
 use Rattle.std.specs.Prelude.{◌&&◌, not, option_map, fold, zip, is_some, if◌then◌else◌, nat_le, ◌==◌, length}
 use Rattle.std.specs.List.{AllByRecursion}
 use Rattle.std.proofs.lemmas.Bool.{and_parts}
@@ -28,19 +28,32 @@ use Rattle.jpeg_streams.specs.declared.before.Before.TheVariants.{FirstScan, Lat
 use Rattle.jpeg_streams.specs.Found.{Found, with_said}
 use Rattle.jpeg_streams.specs.InTurn.{Fits}
 use Rattle.jpeg_streams.specs.Scans.{Arrays}
-use Rattle.jpeg_streams.specs.LosslessScans.{lossless_codings}
+use Rattle.jpeg_streams.specs.LosslessScans.{LosslessCoding, lossless_codings, mcus_down, way_of, with_samples}
 use Rattle.jpeg_streams.specs.ScanSegments.{Coding, after_restarts, after_scan, blocks_after, blocks_scan, codings_of}
 use Rattle.jpeg_streams.specs.ScanSegments.{lossless_scan, once_scanned, pass_of, scan_arrays, scan_by, scan_samples}
 use Rattle.jpeg_streams.specs.ScanSegments.{scan_segment, with_arrays, with_blocks}
+use Rattle.jpeg_streams.specs.Sound.{AreSampled}
 use Rattle.jpeg_streams.specs.Segments.{Turn, accepted, frame_segment, onward}
 use Rattle.jpeg_bits.specs.Passes.{Block}
 use Rattle.jpeg_streams.specs.Stream.{end_segment, segment_at, turn_at}
-use Rattle.jpeg_streams.proofs.FrameShapes.{frames-fit}
+use Rattle.jpeg_streams.proofs.FrameShapes.{accepted-few, frames-fit}
+use Rattle.jpeg_streams.proofs.LosslessSizes.{IsMade, all-covered, frames-made}
+use Rattle.jpeg_streams.proofs.ScanSamples.{AreOwn, IsAt, codings-all, codings-at, parts-own, scan-whole, with-sampled}
+use Rattle.jpeg_streams.proofs.Soundness.{no-samples}
 
--- the frame, where there is one, has the blocks that the order of a scan goes over
+-- the frame, where there is one, has the blocks that the order of a scan goes over, and components of their sizes
 abbrev pub FrameFits : Option Frame → Type 0
 FrameFits None = Unit {0}
-FrameFits (Some f) = AllByRecursion (Fits f) f.components
+FrameFits (Some f) = AllByRecursion (Fits f) f.components × AllByRecursion (IsMade f) f.components
+
+abbrev pub SamplesFit : Option Frame → List (Option (List ℕ)) → Type 0
+SamplesFit None samples = samples ≡ replicate 4 None
+SamplesFit (Some f) samples = AreSampled f.components samples
+
+-- What was found has a frame that fits, and samples of its components.
+pub record FoundFits (found : Found) : Type 0 where
+  pub frame : FrameFits found.said.frame
+  pub samples : SamplesFit found.said.frame found.samples
 
 -- ---- frame headers
 
@@ -104,9 +117,9 @@ frame-last : (number precision width height count : ℕ) (bytes : List ℕ) (x :
     Ok (frame_of number precision width height components.0, components.1))) ≡ Ok x → FrameFits (Some x.0)
 frame-last number precision width height count bytes x e =
     let cs = bind-ok (components_from (is_lossless_number number) count [] bytes) _ x e in
+    let range = components-range (is_lossless_number number) count [] bytes cs.0 tt cs.1 in
     subst (λ (y : Frame × List ℕ). FrameFits (Some y.0)) (ok-same _ x cs.2)
-    (frames-fit number precision width height cs.0.0
-    (components-range (is_lossless_number number) count [] bytes cs.0 tt cs.1))
+    (frames-fit number precision width height cs.0.0 range, frames-made number precision width height cs.0.0 range)
 
 -- the frame of a header whose sizes are read
 header-fits : (number left precision width height : ℕ) (bytes : List ℕ) (x : Frame × List ℕ)
@@ -139,72 +152,123 @@ framed found frame rest =
     accepted frame >>= (λ decoded. Ok (onward (with_said (λ said. record said { frame = Some decoded }) found), rest))
 
 framed-fits : (found : Found) (frame : Frame) (rest : List ℕ) (x : Turn × List ℕ) → FrameFits (Some frame)
-    → framed found frame rest ≡ Ok x → FrameFits x.0.found.said.frame
-framed-fits found frame rest x fits e =
+    → found.samples ≡ replicate 4 None → framed found frame rest ≡ Ok x → FoundFits x.0.found
+framed-fits found frame rest x fits none e =
     let g = bind-ok (accepted frame) _ x e in
-    subst (λ (y : Turn × List ℕ). FrameFits y.0.found.said.frame) (ok-same _ x g.2)
-    (subst (λ (f : Frame). FrameFits (Some f)) (accepted-is frame g.0 g.1) fits)
+    let same = accepted-is frame g.0 g.1 in
+    let few = accepted-few frame g.0 g.1 in
+    subst (λ (y : Turn × List ℕ). FoundFits y.0.found) (ok-same _ x g.2) (record {
+      frame = subst (λ (f : Frame). FrameFits (Some f)) same fits;
+      samples = subst (λ (f : Frame). AreSampled f.components found.samples) same
+          (subst (AreSampled frame.components) (sym none) (no-samples 4 frame.components few));
+    })
 
-frame-fits : (number : ℕ) (found : Found) (bytes : List ℕ) (x : Turn × List ℕ)
-    → frame_segment number found bytes ≡ Ok x → FrameFits x.0.found.said.frame
+frame-fits : (number : ℕ) (found : Found) (bytes : List ℕ) (x : Turn × List ℕ) → FoundFits found
+    → frame_segment number found bytes ≡ Ok x → FoundFits x.0.found
 unfolding frame_segment
-frame-fits number found bytes x e = go (is_some found.said.frame) e
+frame-fits number found bytes x fits e = go found.said.frame fits.samples e
   where
-    go : (b : Bool) → (if b then Err (Lacks features.Hierarchical)
-        else (sof_at number bytes >>= (λ frame. framed found frame.0 frame.1))) ≡ Ok x → FrameFits x.0.found.said.frame
-    go true e = absurd (err-ok _ x e)
-    go false e =
+    go : (o : Option Frame) → SamplesFit o found.samples → (if is_some o then Err (Lacks features.Hierarchical)
+        else (sof_at number bytes >>= (λ frame. framed found frame.0 frame.1))) ≡ Ok x → FoundFits x.0.found
+    go (Some frame) none e = absurd (err-ok _ x e)
+    go None none e =
         let f = bind-ok (sof_at number bytes) _ x e in
-        framed-fits found f.0.0 f.0.1 x (sof-fits number bytes f.0 f.1) f.2
+        framed-fits found f.0.0 f.0.1 x (sof-fits number bytes f.0 f.1) none f.2
 
--- ---- what keeps the frame
+-- ---- what keeps the frame and the samples
 
 abbrev Keeps : Found → Turn × List ℕ → Type 0
-Keeps found x = x.0.found.said.frame ≡ found.said.frame
+Keeps found x = (x.0.found.said.frame ≡ found.said.frame) × (x.0.found.samples ≡ found.samples)
 
-fold-keeps : {X : Type 0} (f : Found → X → Found) → ((g : Found) (x : X) → (f g x).said.frame ≡ g.said.frame)
-    → (xs : List X) (g : Found) → (fold f g xs).said.frame ≡ g.said.frame
-fold-keeps f k [] g = refl
-fold-keeps f k (x ∷ xs) g = fold-keeps f k xs (f g x) ∙ k g x
+fold-keeps : {X A : Type 0} (of : Found → A) (f : Found → X → Found) → ((g : Found) (x : X) → of (f g x) ≡ of g)
+    → (xs : List X) (g : Found) → of (fold f g xs) ≡ of g
+fold-keeps of f k [] g = refl
+fold-keeps of f k (x ∷ xs) g = fold-keeps of f k xs (f g x) ∙ k g x
 
-pub after-keeps : (found : Found) (frame : Frame) (scan : Scan) (codings : List Coding) (arrays : Arrays)
-    → (after_scan found frame scan codings arrays).said.frame ≡ found.said.frame
-unfolding after_scan with_arrays with_blocks
-after-keeps found frame scan codings arrays =
-    fold-keeps (λ (g : Found) (x : Coding × List Block). with_blocks (pass_of scan) x.0 x.1 g) (λ g x. refl)
-    (zip codings arrays)
+after-keeps : {A : Type 0} (of : Found → A) (found : Found) (frame : Frame) (scan : Scan) (codings : List Coding)
+    (arrays : Arrays) → ((c : Coding) (blocks : List Block) (g : Found)
+    → of (with_blocks (pass_of scan) c blocks g) ≡ of g)
+    → of (record (once_scanned found) { kept = blocks_after found frame codings arrays }) ≡ of found
+    → of (after_scan found frame scan codings arrays) ≡ of found
+unfolding after_scan with_arrays
+after-keeps of found frame scan codings arrays each first =
+    fold-keeps of (λ (g : Found) (x : Coding × List Block). with_blocks (pass_of scan) x.0 x.1 g)
+    (λ g x. each x.0 x.1 g) (zip codings arrays)
     (record (once_scanned found) { kept = blocks_after found frame codings arrays })
+    ∙ first
 
 blocks-keep : (found : Found) (frame : Frame) (scan : Scan) (bytes : List ℕ) (x : Turn × List ℕ)
     → blocks_scan found frame scan bytes ≡ Ok x → Keeps found x
-unfolding blocks_scan
+unfolding blocks_scan with_blocks
 blocks-keep found frame scan bytes x e =
     let c = bind-ok (codings_of found.said frame scan) _ x e in
     let r = bind-ok (scan_arrays found frame scan c.0 bytes) _ x c.2 in
     let m = bind-ok (after_restarts (suc (length r.0.1)) r.0.0.1 r.0.1) _ x r.2 in
-    subst (Keeps found) (ok-same _ x m.2) (after-keeps found frame scan c.0 r.0.0.0)
+    subst (Keeps found) (ok-same _ x m.2) (
+      after-keeps (λ (g : Found). g.said.frame) found frame scan c.0 r.0.0.0 (λ k blocks g. refl) refl,
+      after-keeps (λ (g : Found). g.samples) found frame scan c.0 r.0.0.0 (λ k blocks g. refl) refl,
+    )
 
-samples-keep : (found : Found) (frame : Frame) (scan : Scan) (bytes : List ℕ) (x : Turn × List ℕ)
-    → lossless_scan found frame scan bytes ≡ Ok x → Keeps found x
+kept-fits : (found : Found) (x : Turn × List ℕ) → FoundFits found → Keeps found x → FoundFits x.0.found
+kept-fits found x h k = record {
+  frame = subst FrameFits (sym k.0) h.frame;
+  samples = subst (λ (o : Option Frame). SamplesFit o x.0.found.samples) (sym k.0)
+      (subst (SamplesFit found.said.frame) (sym k.1) h.samples);
+}
+
+-- ---- scans
+
+-- The planes of a lossless scan that is read are of its components.
+pub planes-own : (found : Found) (frame : Frame) (scan : Scan) (codings : List LosslessCoding) (bytes : List ℕ)
+    (x : (List (List ℕ) × Option Marker) × List ℕ) → AllByRecursion (IsMade frame) frame.components
+    → AllByRecursion (IsAt frame.components) codings → scan_samples found frame scan codings bytes ≡ Ok x
+    → AreOwn codings x.0.0
+planes-own found frame scan codings bytes x made at e =
+    let covered = all-covered frame codings (codings-all (IsMade frame) frame.components codings made at) in
+    parts-own codings x.0.0
+    (scan-whole (way_of frame scan.predictor scan.point_transform codings) (mcus_down frame codings) covered
+    found.said.restart scan.point_transform bytes x e)
+
+samples-fit : (found : Found) (frame : Frame) (scan : Scan) (bytes : List ℕ) (x : Turn × List ℕ)
+    → found.said.frame ≡ Some frame → FoundFits found → lossless_scan found frame scan bytes ≡ Ok x
+    → FoundFits x.0.found
 unfolding lossless_scan
-samples-keep found frame scan bytes x e =
+samples-fit found frame scan bytes x is fits e =
     let c = bind-ok (lossless_codings found.said.huffman.dc frame scan.components scan.dc_destinations) _ x e in
     let r = bind-ok (scan_samples found frame scan c.0 bytes) _ x c.2 in
     let m = bind-ok (after_restarts (suc (length r.0.1)) r.0.0.1 r.0.1) _ x r.2 in
-    subst (Keeps found) (ok-same _ x m.2) refl
+    let at = codings-at found.said.huffman.dc frame scan.components scan.dc_destinations c.0 c.1 in
+    let made = (subst FrameFits is fits.frame).1 in
+    let there = subst (λ (o : Option Frame). SamplesFit o found.samples) is fits.samples in
+    subst (λ (y : Turn × List ℕ). FoundFits y.0.found) (ok-same _ x m.2) (record {
+      frame = fits.frame;
+      samples = subst (λ (o : Option Frame). SamplesFit o (with_samples (map (λ k. k.index) c.0) r.0.0.0 found.samples))
+          (sym is) (with-sampled frame.components c.0 r.0.0.0 found.samples at
+          (planes-own found frame scan c.0 bytes r.0 made at r.1) there);
+    })
 
-scans-keep : (process : CodingProcess) (found : Found) (frame : Frame) (scan : Scan) (bytes : List ℕ)
-    (x : Turn × List ℕ) → scan_by process found frame scan bytes ≡ Ok x → Keeps found x
-scans-keep DctSequential found frame scan bytes x e = blocks-keep found frame scan bytes x e
-scans-keep DctProgressive found frame scan bytes x e = blocks-keep found frame scan bytes x e
-scans-keep Lossless found frame scan bytes x e = samples-keep found frame scan bytes x e
+scans-fit : (process : CodingProcess) (found : Found) (frame : Frame) (scan : Scan) (bytes : List ℕ)
+    (x : Turn × List ℕ) → found.said.frame ≡ Some frame → FoundFits found
+    → scan_by process found frame scan bytes ≡ Ok x → FoundFits x.0.found
+scans-fit DctSequential found frame scan bytes x is fits e =
+    kept-fits found x fits (blocks-keep found frame scan bytes x e)
+scans-fit DctProgressive found frame scan bytes x is fits e =
+    kept-fits found x fits (blocks-keep found frame scan bytes x e)
+scans-fit Lossless found frame scan bytes x is fits e = samples-fit found frame scan bytes x is fits e
 
-scan-keeps : (found : Found) (bytes : List ℕ) (x : Turn × List ℕ) → scan_segment found bytes ≡ Ok x → Keeps found x
+pub needed-some : {A : Type 0} (o : Option A) (x : A) → needed o ≡ Ok x → o ≡ Some x
+needed-some None x e = absurd (err-ok Malformed x e)
+needed-some (Some y) x e = ap Some (ok-same y x e)
+
+scan-fits : (found : Found) (bytes : List ℕ) (x : Turn × List ℕ) → FoundFits found → scan_segment found bytes ≡ Ok x
+    → FoundFits x.0.found
 unfolding scan_segment
-scan-keeps found bytes x e =
+scan-fits found bytes x fits e =
     let f = bind-ok (needed found.said.frame) _ x e in
     let s = bind-ok (sos_at f.0 bytes) _ x f.2 in
-    scans-keep f.0.process found f.0 s.0.0 s.0.1 x s.2
+    scans-fit f.0.process found f.0 s.0.0 s.0.1 x (needed-some found.said.frame f.0 f.1) fits s.2
+
+-- ---- other segments
 
 end-keeps : (found : Found) (bytes : List ℕ) (x : Turn × List ℕ) → end_segment found bytes ≡ Ok x → Keeps found x
 unfolding end_segment
@@ -212,19 +276,15 @@ end-keeps found bytes x e = go (is_some found.said.frame) e
   where
     go : (b : Bool)
         → (if b then Ok (record (onward found) { ended = true }, bytes) else Err Malformed) ≡ Ok x → Keeps found x
-    go true e = subst (Keeps found) (ok-same _ x e) refl
+    go true e = subst (Keeps found) (ok-same _ x e) (refl, refl)
     go false e = absurd (err-ok _ x e)
-
-kept-fits : (found : Found) (x : Turn × List ℕ) → FrameFits found.said.frame → Keeps found x
-    → FrameFits x.0.found.said.frame
-kept-fits found x h k = subst FrameFits (sym k) h
 
 restart-keeps : (before : Before) (n : ℕ) (found : Found) (bytes : List ℕ) (x : Turn × List ℕ)
     → segment_at (RST n) before found bytes ≡ Ok x → Keeps found x
 unfolding segment_at
 restart-keeps Elsewhere n found bytes x e = absurd (err-ok _ x e)
-restart-keeps FirstScan n found bytes x e = subst (Keeps found) (ok-same _ x e) refl
-restart-keeps LaterScan n found bytes x e = subst (Keeps found) (ok-same _ x e) refl
+restart-keeps FirstScan n found bytes x e = subst (Keeps found) (ok-same _ x e) (refl, refl)
+restart-keeps LaterScan n found bytes x e = subst (Keeps found) (ok-same _ x e) (refl, refl)
 
 lines-keep : (before : Before) (found : Found) (bytes : List ℕ) (x : Turn × List ℕ)
     → segment_at DNL before found bytes ≡ Ok x → Keeps found x
@@ -234,27 +294,27 @@ lines-keep FirstScan found bytes x e = absurd (err-ok _ x e)
 lines-keep LaterScan found bytes x e = absurd (err-ok _ x e)
 
 segment-fits : (m : Marker) (before : Before) (found : Found) (bytes : List ℕ) (x : Turn × List ℕ)
-    → FrameFits found.said.frame → segment_at m before found bytes ≡ Ok x → FrameFits x.0.found.said.frame
+    → FoundFits found → segment_at m before found bytes ≡ Ok x → FoundFits x.0.found
 unfolding segment_at
-segment-fits (SOF n) before found bytes x h e = frame-fits n found bytes x e
+segment-fits (SOF n) before found bytes x h e = frame-fits n found bytes x h e
 segment-fits DQT before found bytes x h e =
     let r = bind-ok (dqt_at bytes) _ x e in
-    kept-fits found x h (subst (Keeps found) (ok-same _ x r.2) refl)
+    kept-fits found x h (subst (Keeps found) (ok-same _ x r.2) (refl, refl))
 segment-fits DHT before found bytes x h e =
     let r = bind-ok (dht_at (option_map (λ f. f.is_baseline) found.said.frame) bytes) _ x e in
-    kept-fits found x h (subst (Keeps found) (ok-same _ x r.2) refl)
-segment-fits SOS before found bytes x h e = kept-fits found x h (scan-keeps found bytes x e)
+    kept-fits found x h (subst (Keeps found) (ok-same _ x r.2) (refl, refl))
+segment-fits SOS before found bytes x h e = scan-fits found bytes x h e
 segment-fits EOI before found bytes x h e = kept-fits found x h (end-keeps found bytes x e)
 segment-fits DRI before found bytes x h e =
     let r = bind-ok (dri_at bytes) _ x e in
-    kept-fits found x h (subst (Keeps found) (ok-same _ x r.2) refl)
+    kept-fits found x h (subst (Keeps found) (ok-same _ x r.2) (refl, refl))
 segment-fits (APP n) before found bytes x h e =
     let r = bind-ok (app_at n bytes) _ x e in
-    kept-fits found x h (subst (Keeps found) (ok-same _ x r.2) refl)
+    kept-fits found x h (subst (Keeps found) (ok-same _ x r.2) (refl, refl))
 segment-fits COM before found bytes x h e =
     let n = bind-ok (length_at bytes) _ x e in
     let r = bind-ok (skip_at n.0.0 n.0.1) _ x n.2 in
-    kept-fits found x h (subst (Keeps found) (ok-same _ x r.2) refl)
+    kept-fits found x h (subst (Keeps found) (ok-same _ x r.2) (refl, refl))
 segment-fits (RST n) before found bytes x h e = kept-fits found x h (restart-keeps before n found bytes x e)
 segment-fits DNL before found bytes x h e = kept-fits found x h (lines-keep before found bytes x e)
 segment-fits DAC before found bytes x h e = absurd (err-ok _ x e)
@@ -267,7 +327,7 @@ segment-fits TEM before found bytes x h e = absurd (err-ok _ x e)
 segment-fits RES before found bytes x h e = absurd (err-ok _ x e)
 
 pub turn-fits : (before : Before) (found : Found) (met : Option Marker) (bytes : List ℕ) (x : Turn × List ℕ)
-    → FrameFits found.said.frame → turn_at before found met bytes ≡ Ok x → FrameFits x.0.found.said.frame
+    → FoundFits found → turn_at before found met bytes ≡ Ok x → FoundFits x.0.found
 unfolding turn_at
 turn-fits before found met bytes x h e =
     let m = bind-ok (found_or met bytes (next_marker bytes)) _ x e in

@@ -47,6 +47,8 @@ pub mod PaddingUnseen
 pub mod SamplesAlike
 pub mod PlainScans
 pub mod ReachedIntervals
+pub mod RowIntervals
+pub mod ScanSamples
 pub mod FittingFrames
 pub mod CompletedPictures
 pub mod Faultless

@@ -171,7 +171,7 @@ ending-next (b ∷ c ∷ bytes) rest m e =
     go false t y u e p q = next-skips b (c ∷ bytes) (m, rest) t (q e)
 
 -- Data that are read on after k bytes end as they did.
-later-ending : (k : ℕ) (bytes : List ℕ) → 8 * k < length (text_at bytes).bits + 8
+pub later-ending : (k : ℕ) (bytes : List ℕ) → 8 * k < length (text_at bytes).bits + 8
     → (text_at (after_bytes k bytes)).ending ≡ (text_at bytes).ending
 unfolding text_at after_bytes
 later-ending zero bytes h = refl
@@ -207,14 +207,14 @@ Follows true m rest n others = (n ≡ m) × (others ≡ rest)
 Follows false m rest n others = (n ≡ None) × ((k : Marker) × (m ≡ Some k) × (next_marker others ≡ Ok (k, rest)))
 
 -- a scan or an interval is read so
-pub record Meets (o : Outcome (Arrays × Option Marker)) (arrays : Arrays) (P : Option Marker → List ℕ → Type 0)
+pub record Meets {A : Type 0} (o : Outcome (A × Option Marker)) (x : A) (P : Option Marker → List ℕ → Type 0)
     : Type 0 where
   pub marker : Option Marker
   pub others : List ℕ
-  pub read : o ≡ Ok ((arrays, marker), others)
+  pub read : o ≡ Ok ((x, marker), others)
   pub follows : P marker others
 
-end-follows : (n : ℕ) (bytes rest : List ℕ) (m : Marker) → (text_at bytes).ending ≡ Found m rest
+pub end-follows : (n : ℕ) (bytes rest : List ℕ) (m : Marker) → (text_at bytes).ending ≡ Found m rest
     → (small : Bool) → nat_le (length (drop n (text_at bytes).bits)) 56 ≡ small
     → (k : Option Marker) × (others : List ℕ)
     × (end_after n bytes (drop n (text_at bytes).bits) (text_at bytes).ending ≡ Ok (k, others))
@@ -287,7 +287,7 @@ pub record GoesOnAt (m : Option Marker) (rest : List ℕ) (marker : Option Marke
   pub restarts : after_restarts (suc (length others)) marker others ≡ Ok (passed, left)
   pub next : found_or passed left (next_marker left) ≡ found_or m rest (next_marker rest)
 
-last-follows : (small : Bool) (k : Option Marker) (bytes : List ℕ) (m : Option Marker) (rest : List ℕ)
+pub last-follows : (small : Bool) (k : Option Marker) (bytes : List ℕ) (m : Option Marker) (rest : List ℕ)
     (marker : Option Marker) (others : List ℕ)
     → (if small then after_restarts (suc (length bytes)) k bytes else Ok (k, bytes)) ≡ Ok (m, rest)
     → Follows small k bytes marker others → GoesOnAt m rest marker others
@@ -309,7 +309,7 @@ abbrev next_reached : (Arrays → List ℕ → Scanned) → Arrays → Result (L
 next_reached others arrays o = elim o [ Ok rest ↦ others arrays rest | Err fault ↦ (arrays, Err fault) ]
 
 -- an interval after which its restart marker stands
-restart-follows : (number : ℕ) (x : (Bool × Option Marker) × List ℕ) (b : List ℕ) (marker : Option Marker)
+pub restart-follows : (number : ℕ) (x : (Bool × Option Marker) × List ℕ) (b : List ℕ) (marker : Option Marker)
     (others : List ℕ) → after_interval number x ≡ Ok b → Follows x.0.0 x.0.1 x.1 marker others
     → (is_restart number marker ≡ true) × (others ≡ b)
 restart-follows number x b marker others h f = go x.0.0 (is_restart number x.0.1) refl h f
@@ -320,7 +320,7 @@ restart-follows number x b marker others h f = go x.0.0 (is_restart number x.0.1
     go true false t e f = absurd (err-ok Malformed b e)
     go false here t e f = absurd (err-ok Malformed b e)
 
-interval-next : (number : ℕ) (arrays : Arrays) (o : Outcome (Arrays × Option Marker))
+pub interval-next : (number : ℕ) (arrays : Arrays) (o : Outcome (Arrays × Option Marker))
     (more : Arrays → List ℕ → Outcome (Arrays × Option Marker)) (marker : Option Marker) (others b : List ℕ)
     → o ≡ Ok ((arrays, marker), others) → is_restart number marker ≡ true → others ≡ b
     → (o >>= next_interval number more) ≡ more arrays b

@@ -91,7 +91,7 @@ no-planes n [] h = tt
 no-planes zero (c ∷ cs) h = absurd (omega arith)
 no-planes (suc n) (c ∷ cs) h = (tt, no-planes n cs (omega arith))
 
-no-samples : (n : ℕ) (cs : List Component) → length cs ≤ n → AreSampled cs (replicate n None)
+pub no-samples : (n : ℕ) (cs : List Component) → length cs ≤ n → AreSampled cs (replicate n None)
 unfolding AreSampled
 no-samples n [] h = tt
 no-samples zero (c ∷ cs) h = absurd (omega arith)

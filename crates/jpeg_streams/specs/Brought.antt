@@ -1,20 +1,26 @@
 -- What a stream has brought up to its first fault: the blocks that can be read of the bits that are
--- there, and the fault (T.81, B.1.1.5, E.2.4, F.2 and G.2).
+-- there, or the rows of samples, and the fault (T.81, B.1.1.5, E.2.4, F.2, G.2 and H.2).
 --
--- Blocks are read as in a stream without fault, with one difference: where a marker ends the data
--- no zeros follow the bits. A block that needs one bit more isn't read, nor is any after it.
-use Rattle.std.specs.Prelude.{ℕ, zero, suc, ◌*◌, List, [], ◌∷◌, map, length, get_or, Bool, true}
-use Rattle.std.specs.Prelude.{false, Option, Some, None, Result, Ok, Err, nat_le, if◌then◌else◌, ◌&&◌}
+-- They are read as in a stream without fault, with one difference: where a marker ends the data no
+-- zeros follow the bits. A block or a row of MCUs that needs one bit more isn't read, nor is any
+-- after it.
+use Rattle.std.specs.Prelude.{ℕ, zero, suc, ◌*◌, ◌-◌, ◌^◌, List, [], ◌∷◌, ◌++◌, map, length, drop}
+use Rattle.std.specs.Prelude.{zip, replicate, get_or, slice_index_or, unwrap_or, Bool}
+use Rattle.std.specs.Prelude.{Option, None, Result, Ok, Err, nat_le, if◌then◌else◌, ◌&&◌}
 use Rattle.jpeg_bits.specs.Reading.{Fault, Malformed, End, Outcome, ◌>>=◌}
 use Rattle.jpeg_bits.specs.Entropy as entropy
 use Rattle.jpeg_bits.specs.Entropy.{Text, Ending, text_at, Broken}
 use Rattle.jpeg_bits.specs.Intervals.{is_restart, first_group, other_groups, met}
+use Rattle.jpeg_bits.specs.Codes.{Table}
 use Rattle.jpeg_bits.specs.Marker.{found_or, next_marker}
 use Rattle.jpeg_bits.specs.Passes.{Pass, Via}
 use Rattle.jpeg_bits.specs.declared.marker.Marker.{Marker}
 use Rattle.jpeg_bits.specs.declared.marker.Marker.TheVariants.{SOS}
 use Rattle.jpeg_segments.specs.Checks.{needed}
-use Rattle.jpeg_segments.specs.Frame.{Frame}
+use Rattle.jpeg_lossless.specs.RowsReached.{rows_reached}
+use Rattle.jpeg_lossless.specs.Scans.{is_of_rows, lines_by_component, planes_of, rows_of_interval}
+use Rattle.jpeg_lossless.specs.Scans.{scan_tables}
+use Rattle.jpeg_segments.specs.Frame.{Component, Frame}
 use Rattle.jpeg_segments.specs.ScanHeader.{Scan, sos_at}
 use Rattle.jpeg_segments.specs.declared.frame.CodingProcess.{CodingProcess}
 use Rattle.jpeg_segments.specs.declared.frame.CodingProcess.TheVariants.{Lossless}
@@ -22,9 +28,10 @@ use Rattle.jpeg_streams.specs.declared.before.Before.{Before}
 use Rattle.jpeg_streams.specs.declared.before.Before.TheVariants.{Elsewhere}
 use Rattle.jpeg_streams.specs.Found.{Found}
 use Rattle.jpeg_streams.specs.InTurn.{Reached, at_start, turn_from}
+use Rattle.jpeg_streams.specs.LosslessScans.{LosslessCoding, lossless_codings, mcus_down, way_of}
 use Rattle.jpeg_streams.specs.Order.{Spot, spots_of, mcu_size}
 use Rattle.jpeg_streams.specs.Scans.{Arrays}
-use Rattle.jpeg_streams.specs.ScanSegments.{after_restarts, after_scan, lossless_scan}
+use Rattle.jpeg_streams.specs.ScanSegments.{after_restarts, after_samples, after_scan}
 use Rattle.jpeg_streams.specs.ScanSegments.{arrays_before, codings_of, components_of, Coding}
 use Rattle.jpeg_streams.specs.ScanSegments.{pass_of, scan_turn, vias_from}
 use Rattle.jpeg_streams.specs.Segments.{Turn}
@@ -57,16 +64,18 @@ abbrev pub or_fault_at : {A : Type 0} → Ending → Result A Fault → Result A
 or_fault_at e (Ok x) = Ok x
 or_fault_at e (Err fault) = Err (fault_at e fault)
 
--- The interval that begins these bytes: the blocks as far as they can be read; and whether at most 56
--- bits are left after the last, the marker that ends it and the bytes after that, or the fault.
+-- The end of an interval, where these bits are left after what is read of it, or with this fault:
+-- whether at most 56 bits are left, the marker that ends it and the bytes after that, or the fault.
+abbrev pub interval_end : Ending → Result (List Bool) Fault → Outcome (Bool × Option Marker)
+interval_end e r =
+    or_fault_at e r >>= λ left. met e >>= λ m. Ok ((nat_le (length left) 56, m.0), m.1)
+
+-- The interval that begins these bytes: the blocks as far as they can be read; and its end.
 unfoldable pub interval_reached : Pass → List Via → List Spot → Arrays → List ℕ
     → Arrays × Outcome (Bool × Option Marker)
 interval_reached p vias spots arrays bytes =
-    let r = reached_from p vias spots (at_start arrays) (sealed (text_at bytes)) in (
-      r.0.arrays,
-      or_fault_at (text_at bytes).ending r.1 >>= λ left.
-          met (text_at bytes).ending >>= λ m. Ok ((nat_le (length left) 56, m.0), m.1),
-    )
+    let r = reached_from p vias spots (at_start arrays) (sealed (text_at bytes)) in
+    (r.0.arrays, interval_end (text_at bytes).ending r.1)
 
 -- ---- a scan
 
@@ -101,13 +110,13 @@ abbrev pub scan_reached
 scan_reached p n vias spots arrays bytes =
     intervals_reached p vias 0 (first_group n spots) (other_groups n spots) arrays bytes
 
--- ---- a segment
+-- ---- a scan of blocks
 
 -- What is found where a turn ends with a fault, and the turn or its fault.
 abbrev pub Brought : Type 0
 Brought = Found × Outcome Turn
 
--- A scan of blocks: those that were reached count as if the scan had ended after them.
+-- The blocks that were reached count as if the scan had ended after them.
 unfoldable pub blocks_brought_by : Found → Frame → Scan → List Coding → List ℕ → Brought
 blocks_brought_by found frame scan codings bytes =
     let r = scan_reached (pass_of scan) (found.said.restart * mcu_size (components_of codings))
@@ -122,10 +131,69 @@ blocks_brought found frame scan bytes = elim (codings_of found.said frame scan) 
   | Err fault ↦ (found, Err fault)
 ]
 
--- A lossless scan counts where all of it is read, and not at all where it has a fault.
+-- ---- a scan of a lossless frame
+
+-- The interval that begins these bytes: the differences of its rows of MCUs, each by its tables, as
+-- far as rows can be read whole; and its end.
+unfoldable pub interval_rows_reached : List (List Table) → List ℕ
+    → List (List ℕ) × Outcome (Bool × Option Marker)
+interval_rows_reached rows bytes =
+    let r = rows_reached rows (sealed (text_at bytes)) in
+    (r.0, interval_end (text_at bytes).ending r.1)
+
+-- One interval and more, between which RST stand in turn from number k on: the rows of each as far
+-- as they can be read, and the marker after the scan, or the fault.
+unfoldable pub scan_rows_reached : ℕ → List (List Table) → List (List (List Table)) → List ℕ
+    → List (List (List ℕ)) × Outcome (Option Marker)
+scan_rows_reached k rows [] bytes =
+    let r = interval_rows_reached rows bytes in
+    (r.0 ∷ [], r.1 >>= after_intervals)
+scan_rows_reached k rows (next ∷ more) bytes =
+    let r = interval_rows_reached rows bytes in
+    elim (r.1 >>= after_interval k) [
+      | Ok rest ↦ let s = scan_rows_reached (suc k) next more rest in (r.0 ∷ s.0, s.1)
+      | Err fault ↦ (r.0 ∷ [], Err fault)
+    ]
+
+-- a lossless component's samples before any scan: half of their range
+abbrev pub grey_samples : Frame → Component → List ℕ
+grey_samples frame c = replicate (c.width * c.height) (2 ^ (frame.precision - 1))
+
+-- Samples that are reached, and after them those that an earlier scan gave, or else grey.
+abbrev pub samples_over : Found → Frame → LosslessCoding × List ℕ → List ℕ
+samples_over found frame x = x.1 ++ drop (length x.1)
+    (unwrap_or (slice_index_or found.samples x.0.index None) (grey_samples frame x.0.component))
+
+-- A scan of samples: the lines of the rows of MCUs that were reached count.
+unfoldable pub samples_brought_by : Found → Frame → Scan → List LosslessCoding → List ℕ → Brought
+samples_brought_by found frame scan codings bytes =
+    let w = way_of frame scan.predictor scan.point_transform codings in
+    let n = rows_of_interval w.wide (mcus_down frame codings) found.said.restart in
+    let rows = scan_tables w (mcus_down frame codings) in
+    let r = scan_rows_reached 0 (first_group n rows) (other_groups n rows) bytes in
+    let planes = planes_of scan.point_transform w.parts (lines_by_component w 0 w.parts r.0) in
+    let after = after_samples found codings (map (samples_over found frame) (zip codings planes)) in
+    (after, r.1 >>= λ m. Ok (scan_turn found after m.0, m.1))
+
+-- whether the restart interval of a scan has whole rows
+abbrev pub has_whole_rows : Found → Frame → Scan → List LosslessCoding → Bool
+has_whole_rows found frame scan codings =
+    is_of_rows (way_of frame scan.predictor scan.point_transform codings).wide
+    (mcus_down frame codings) found.said.restart
+
+unfoldable pub samples_brought : Found → Frame → Scan → List ℕ → Brought
+samples_brought found frame scan bytes =
+    elim (lossless_codings found.said.huffman.dc frame scan.components scan.dc_destinations) [
+      | Ok codings ↦ if has_whole_rows found frame scan codings
+          then samples_brought_by found frame scan codings bytes else (found, Err Malformed)
+      | Err fault ↦ (found, Err fault)
+    ]
+
 abbrev pub brought_by : CodingProcess → Found → Frame → Scan → List ℕ → Brought
-brought_by Lossless found frame scan bytes = (found, lossless_scan found frame scan bytes)
+brought_by Lossless found frame scan bytes = samples_brought found frame scan bytes
 brought_by _ found frame scan bytes = blocks_brought found frame scan bytes
+
+-- ---- the segments
 
 -- the frame, and the header of a scan of it
 abbrev pub frame_and_scan : Found → List ℕ → Result (Frame × (Scan × List ℕ)) Fault

@@ -1,5 +1,5 @@
 -- What a stream shows: the picture of what it has brought, and its first fault.
-use Rattle.std.specs.Prelude.{ℕ, ◌*◌, ◌-◌, ◌^◌, ◌&&◌, List, fold, get_or, replicate}
+use Rattle.std.specs.Prelude.{ℕ, ◌&&◌, List, fold, get_or, replicate}
 use Rattle.std.specs.Prelude.{Option, Some, None, unwrap_or, slice_index_or, Result, Ok, Err, []}
 use Rattle.std.specs.Prelude.{slice_set}
 use Rattle.std.specs.Prelude.{if◌then◌else◌}
@@ -13,7 +13,7 @@ use Rattle.jpeg_segments.specs.declared.frame.CodingProcess.TheVariants.{Lossles
 use Rattle.jpeg_streams.specs.declared.settings.Settings.{Settings}
 use Rattle.jpeg_streams.specs.declared.progress.Progress.{Progress}
 use Rattle.jpeg_streams.specs.declared.progress.Progress.TheVariants.{Fresh}
-use Rattle.jpeg_streams.specs.Brought.{all_brought}
+use Rattle.jpeg_streams.specs.Brought.{all_brought, grey_samples}
 use Rattle.jpeg_streams.specs.Found.{Found, nothing_found}
 use Rattle.jpeg_streams.specs.FoundPictures.{picture_of, plane_at_end}
 use Rattle.jpeg_streams.specs.Rasters.{plane_by}
@@ -45,7 +45,7 @@ with_plane_shown frame found c = record found {
 unfoldable pub with_samples_shown : Frame → Found → ℕ × Component → Found
 with_samples_shown frame found c = record found {
   samples = slice_set found.samples c.0 (decided (slice_index_or found.samples c.0 None)
-      (replicate (c.1.width * c.1.height) (2 ^ (frame.precision - 1))));
+      (grey_samples frame c.1));
 }
 
 abbrev pub shown_by : CodingProcess → Frame → Found → ℕ × Component → Found

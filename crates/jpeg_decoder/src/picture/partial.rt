@@ -1,5 +1,5 @@
 //! The picture of what a stream with a fault has brought.
-ghost use Rattle.std.specs.Prelude.{◌≡◌, ◌<◌, ◌≤◌, ◌-◌, ◌*◌, ◌^◌, ℕ, List, [], false, true};
+ghost use Rattle.std.specs.Prelude.{◌≡◌, ◌<◌, ℕ, List, [], false, true};
 ghost use Rattle.std.specs.Prelude.{get_or, IfErr, IfOk, IfSome, is_some, length, None, OnOk};
 ghost use Rattle.std.specs.Prelude.{replicate, Result, Some};
 ghost use Rattle.std.specs.List.{concat};
@@ -27,6 +27,7 @@ use crate::picture::lines::Lines;
 use crate::picture::whole::{are_kept, picture, read_start};
 use crate::scan::block_array::BlockArray;
 use crate::scan::decoded::{Decoded, render, zero_blocks};
+use crate::scan::samples::grey_samples;
 use crate::stream::state::State;
 use crate::stream::tables::table_at;
 use crate::stream::turns::reach_segments;
@@ -111,32 +112,6 @@ fn complete_plane(
     let plane = plane_held(alloc, state, frame, component, &decoded.kept, index)?;
     decoded.planes.put(index, plane);
     Ok(())
-}
-
-/// Returns half of the range of samples.
-fn half_of(precision: u8) -> u16
-    requires some { 1 ≤ precision }
-    requires most { precision ≤ 16 }
-    ensures { result ≡ 2 ^ (precision - 1) }
-{
-    1 << (precision - 1)
-}
-
-/// Returns the samples of a lossless component that no scan has brought: half of their range.
-fn grey_samples(
-    alloc: Global,
-    component: &Component,
-    precision: u8,
-) -> std::result::Result<Vec<u16>, AllocError>
-    requires some { 1 ≤ precision }
-    requires most { precision ≤ 16 }
-    ensures { let c = component_in component.now in
-        IfOk result (λ v. v.items ≡ replicate (c.width * c.height) (2 ^ (precision - 1))) }
-{
-    let count = usize::from(component.size.width) * usize::from(component.size.height);
-    let mut samples = Vec::with_capacity(alloc, count)?;
-    samples.resize(count, half_of(precision))?;
-    Ok(samples)
 }
 
 /// Gives a component of a lossless frame without samples half of their range.

@@ -1,6 +1,6 @@
 //! Scans of lossless frames (T.81, B.2.3 and Annex H).
-ghost use Rattle.std.specs.Prelude.{◌≡◌, ◌<◌, ◌==◌, All, IfOk, OnErr, OnOk, Ok, Some, length};
-ghost use Rattle.std.specs.Prelude.{map, true};
+ghost use Rattle.std.specs.Prelude.{◌≡◌, ◌<◌, ◌==◌, All, IfErr, IfOk, OnErr, OnOk, Ok, Some};
+ghost use Rattle.std.specs.Prelude.{length, map};
 ghost use Rattle.jpeg_bits.specs.Reading.{Answers, Names};
 ghost use Rattle.jpeg_segments.specs.Frame.{AllHaveSampling};
 ghost use Rattle.jpeg_segments.specs.FrameView.{component_in, frame_in, scan_in};
@@ -9,8 +9,9 @@ ghost use Rattle.jpeg_segments.specs.declared.frame.CodingProcess.TheVariants.{L
 ghost use Rattle.jpeg_streams.specs.LosslessScans.{tables_in};
 ghost use Rattle.jpeg_decoder.specs.Seen.{found_of, said_of};
 ghost use Rattle.jpeg_streams.specs.ScanSegments.{once_scanned};
-ghost use Rattle.jpeg_streams.specs.Sound.{IsSound};
-ghost use Rattle.jpeg_decoder.specs.Steps.{Returns, samples_read};
+ghost use Rattle.jpeg_streams.specs.Sound.{IsDecodedFrame, IsSound};
+ghost use Rattle.jpeg_decoder.specs.Reaching.{IsSampleScan, sample_codings};
+ghost use Rattle.jpeg_decoder.specs.Steps.{IsRefusal, Returns, samples_read};
 ghost use Rattle.jpeg_decoder.specs.LosslessParts.{mcus_high, mcus_wide, part_by, parts_at};
 ghost use Rattle.jpeg_lossless.specs.Codings.{part_in};
 
@@ -18,12 +19,12 @@ use crate::scan::decoded::Decoded;
 use crate::scan::restarts::pass_restarts;
 use crate::stream::state::Said;
 use crate::stream::tables::{Missing, needed, table_at};
-use jpeg_bits::error::Result;
+use jpeg_bits::error::{Result, format_error_of};
 use jpeg_bits::huffman::HuffmanTable;
 use jpeg_bits::marker::Marker;
 use jpeg_bits::scan::ScanInfo;
 use jpeg_bits::source::Source;
-use jpeg_lossless::scan::{Coding, Part, read_scan};
+use jpeg_lossless::scan::{Coding, Part, read_scan, rows_of_interval};
 use jpeg_segments::parser::{Component, FrameInfo};
 use jpeg_segments::sizes::{ceiling, greatest_of};
 use std::alloc::{AllocError, Global};
@@ -172,4 +173,58 @@ pub fn read_lossless_scan<R: Read + Drop>(
     let met = pass_restarts(alloc, source, met)?;
     decoded.put_samples(alloc, &header.component_indices, &mut planes);
     Ok(met)
+}
+
+/// A lossless scan that is to be read as far as it goes.
+#[derive(Drop)]
+pub struct SampleScan<'a> {
+    /// What was said before it.
+    pub said: &'a Said,
+    /// The frame.
+    pub frame: &'a FrameInfo,
+    /// The header of the scan.
+    pub header: &'a ScanInfo,
+    /// How the scan is coded.
+    pub coding: Coding,
+    /// What the scan has of its components.
+    pub parts: Vec<Part<'a>>,
+    /// How many rows of MCUs a restart interval has.
+    pub rows: u16,
+}
+
+/// Returns the scan that this header begins. It is refused if a table isn't there, or if a restart
+/// interval would end inside a row of MCUs.
+pub fn sample_scan_of<'a>(
+    alloc: Global,
+    said: &'a Said,
+    frame: &'a FrameInfo,
+    header: &'a ScanInfo,
+) -> Result<SampleScan<'a>>
+    requires frame { IsDecodedFrame (frame_in frame.now) }
+    requires process { (frame_in frame.now).process ≡ Lossless }
+    requires legal { IsScanOf (frame_in frame.now) (scan_in header.now) }
+    ensures given { IfOk result (λ s. (s.said.now ≡ said.now) × (s.frame.now ≡ frame.now)
+        × (s.header.now ≡ header.now)) }
+    ensures scan { IfOk result
+        (IsSampleScan (said_of said.now) (frame_in frame.now) (scan_in header.now)) }
+    ensures refused { IfErr result (λ e. IsRefusal e × Names e
+        (sample_codings (said_of said.now) (frame_in frame.now) (scan_in header.now))) }
+{
+    let tables = tables_of(alloc, said, frame, header)?;
+    let parts = parts_of(alloc, frame, &header.component_indices, &tables)?;
+    let coding = coding_of(frame, header, said.restart_interval);
+    let Some(rows) = rows_of_interval(coding) else {
+        return Err(format_error_of(format!(in alloc;
+            "restart interval {}, expected a multiple of the {} MCUs of a row",
+            coding.restart_interval, coding.wide
+        )));
+    };
+    Ok(SampleScan {
+        said,
+        frame,
+        header,
+        coding,
+        parts,
+        rows,
+    })
 }

@@ -3,22 +3,18 @@
 //!
 //! The data of a restart interval are gathered up to the marker that ends them, and blocks are read
 //! of them alone: no zeros follow where the marker stands. `decode` never runs this.
-ghost use Rattle.std.specs.Prelude.{ℕ, List, Bool, Result, ◌≡◌, ◌≤◌, ◌*◌, Some, length, OnOk};
-ghost use Rattle.std.specs.Prelude.{true, false};
+ghost use Rattle.std.specs.Prelude.{◌≡◌, ◌≤◌, ◌*◌, Some, length, OnOk, true};
 ghost use Rattle.std.specs.List.{AllByRecursion};
-ghost use Rattle.jpeg_bits.specs.Entropy.{text_at, upcoming, Found};
+ghost use Rattle.jpeg_bits.specs.Entropy.{text_at, upcoming};
 ghost use Rattle.jpeg_bits.specs.Intervals.{first_group};
-ghost use Rattle.jpeg_bits.specs.Reading.{Answers, Fault, IsGivenUp, Names};
-ghost use Rattle.jpeg_bits.specs.declared.error.Error.TheVariants.{OutOfMemory};
-ghost use Rattle.jpeg_bits.specs.declared.marker.Marker.{Marker};
+ghost use Rattle.jpeg_bits.specs.Reading.{Answers};
 ghost use Rattle.jpeg_segments.specs.FrameView.{frame_in};
-ghost use Rattle.jpeg_streams.specs.Brought.{interval_reached, or_fault_at, reached_from};
-ghost use Rattle.jpeg_streams.specs.Brought.{scan_reached};
+ghost use Rattle.jpeg_streams.specs.Brought.{interval_reached, reached_from, scan_reached};
 ghost use Rattle.jpeg_streams.specs.InTurn.{AreArrays, Fits, at_start};
 ghost use Rattle.jpeg_streams.specs.Order.{mcu_size, spots_of};
-ghost use Rattle.jpeg_streams.specs.States.{IfRefused, OnTold};
-ghost use Rattle.jpeg_decoder.specs.Reaching.{after_group, IsAhead, IsRefusalAt, TellsBits};
-ghost use Rattle.jpeg_decoder.specs.Reaching.{TellsLeft, UnlessRefused};
+ghost use Rattle.jpeg_streams.specs.States.{OnTold};
+ghost use Rattle.jpeg_decoder.specs.Reaching.{after_group, IsAhead, TellsBits, TellsLeft};
+ghost use Rattle.jpeg_decoder.specs.Reaching.{UnlessRefused};
 ghost use Rattle.jpeg_decoder.specs.Scanning.{arrays_in, sizes_of, IsSpotOf};
 ghost use Rattle.jpeg_decoder.specs.Scanning.{scan_components, scan_pass, scan_vias};
 
@@ -27,10 +23,11 @@ use crate::scan::blocks::reach;
 use crate::scan::coded::Scan;
 use crate::scan::data::read_data;
 use crate::scan::order::ScanOrder;
+use crate::scan::refusals::{interval_end, is_near_end, refusal_in_memory};
 use crate::scan::restarts::{is_numbered, pass_restarts};
 use crate::scan::spots::Spots;
 use jpeg_bits::blocks::{BlockCoding, Carried, take_block};
-use jpeg_bits::error::{Error, Result, format_error, take_refusal};
+use jpeg_bits::error::{Result, take_refusal};
 use jpeg_bits::huffman::HuffmanDecoder;
 use jpeg_bits::marker::{Marker, restart_error};
 use jpeg_bits::source::Source;
@@ -38,29 +35,6 @@ use jpeg_bits::source::slice_reader::SliceReader;
 use jpeg_segments::parser::FrameInfo;
 use std::alloc::Global;
 use std::io::Read;
-
-/// Returns whether an error is the reader's own, which bytes in memory never give.
-fn is_of_reader(error: &Error, has_failed: bool) -> bool
-    ensures own { result ≡ true → IsGivenUp error.now has_failed }
-    ensures other { result ≡ false → IsGivenUp error.now has_failed → ⊥ }
-{
-    match error {
-        // A read that was interrupted without end.
-        Error::Format(text) => text.is_empty(),
-        Error::Io(_) => has_failed,
-        Error::Unsupported(_) | Error::Internal(_) | Error::OutOfMemory => false,
-    }
-}
-
-/// Returns the refusal of a reader of bytes in memory, which can't fail.
-fn refusal_in_memory(error: Error, has_failed: bool) -> Error
-    ensures { IfRefused result ((result ≡ error) × (IsGivenUp error has_failed → ⊥)) }
-{
-    if is_of_reader(&error, has_failed) {
-        return Error::OutOfMemory;
-    }
-    error
-}
 
 /// Reads the blocks at the next `n` spots, or at all if `n` is 0, of bytes in memory. After a
 /// refusal the blocks before it are there; the one that it is about is as before.
@@ -142,44 +116,7 @@ fn reach_spots(
     let mut source = Source::new(SliceReader::new(bytes));
     let mut decoder = HuffmanDecoder::new(alloc);
     reach_group(&mut decoder, &mut source, scan, arrays, n, spots)?;
-    // The end is met if at most 56 bits are left. Without a marker there it is an error.
-    match decoder.take_marker(&mut source) {
-        Ok(end) => Ok(end.is_some()),
-        Err(e) => match refusal_in_memory(e, source.has_failed()) {
-            Error::OutOfMemory => Err(Error::OutOfMemory),
-            _ => Ok(true),
-        },
-    }
-}
-
-/// Returns the refusal of a block in data that a marker ends. Where bits are lacking, the marker
-/// stands in their place.
-fn refusal_before(alloc: Global, error: Error) -> Error
-    ensures names { (expected : Result (List Bool) Fault) (m : Marker) (rest : List ℕ)
-        → Names error expected → Names result (or_fault_at (Found m rest) expected) }
-    ensures memory { error ≡ OutOfMemory → result ≡ OutOfMemory }
-{
-    match error {
-        Error::Io(_) => format_error(alloc, "found a marker inside a block, expected more bits"),
-        error => error,
-    }
-}
-
-/// Returns the refusal of an interval whose data end with an error. The refusal of a block comes
-/// before it, unless bits are lacking, or the reader has given up.
-fn refusal_at(ended: Error, reached: Result<bool>, has_failed: bool) -> Error
-    ensures { IsRefusalAt ended reached has_failed result }
-{
-    if is_of_reader(&ended, has_failed) {
-        return ended;
-    }
-    match ended {
-        Error::OutOfMemory => Error::OutOfMemory,
-        ended => match reached {
-            Ok(_) | Err(Error::Io(_)) => ended,
-            Err(e) => e,
-        },
-    }
+    is_near_end(&mut decoder, &mut source)
 }
 
 /// Reads the next interval, of `n` blocks or of all if `n` is 0, as far as it goes, and returns
@@ -207,13 +144,7 @@ fn reach_interval<R: Read + Drop>(
     let mut data = Vec::new(alloc);
     let ended = read_data(alloc, source, &mut data);
     let reached = reach_spots(alloc, &data, scan, arrays, n, spots);
-    match ended {
-        Ok(marker) => match reached {
-            Ok(is_near) => Ok((is_near, marker)),
-            Err(e) => Err(refusal_before(alloc, e)),
-        },
-        Err(e) => Err(refusal_at(e, reached, source.has_failed())),
-    }
+    interval_end(alloc, ended, reached, source.has_failed())
 }
 
 /// Reads the blocks at some spots as far as they go, in restart intervals of `n` blocks, or in one

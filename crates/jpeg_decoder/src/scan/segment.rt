@@ -4,18 +4,19 @@ ghost use Rattle.jpeg_bits.specs.Reading.{Answers, Names};
 ghost use Rattle.jpeg_decoder.specs.Seen.{found_in};
 ghost use Rattle.jpeg_streams.specs.Sound.{IsSound};
 ghost use Rattle.jpeg_decoder.specs.Steps.{IsRefusal, IsStep, turn_of};
-ghost use Rattle.jpeg_streams.specs.ScanSegments.{scan_segment};
+ghost use Rattle.jpeg_streams.specs.ScanSegments.{once_scanned, scan_segment};
 ghost use Rattle.jpeg_bits.specs.declared.marker.Marker.TheVariants.{DNL};
 ghost use Rattle.jpeg_streams.specs.Found.{Found};
 ghost use Rattle.jpeg_streams.specs.Stream.{segment_at};
 ghost use Rattle.std.specs.Prelude.{List, ℕ, ◌≡◌};
 ghost use Rattle.jpeg_streams.specs.Brought.{scan_brought};
 ghost use Rattle.jpeg_streams.specs.States.{OnToldRefusal};
-ghost use Rattle.jpeg_decoder.specs.Reaching.{UnlessRefused};
+ghost use Rattle.jpeg_decoder.specs.Reaching.{IsEndOf, UnlessRefused};
 
 use crate::scan::coded::{Scan, wants_ac};
 use crate::scan::codings::{codings_of, pass_of, spare_tables, widen_tables};
-use crate::scan::lossless::read_lossless_scan;
+use crate::scan::lossless::{read_lossless_scan, sample_scan_of};
+use crate::scan::reached_rows::reach_samples;
 use crate::scan::restarts::pass_restarts;
 use crate::stream::state::{State, Step};
 use crate::stream::tables::{Missing, needed};
@@ -42,11 +43,26 @@ pub fn refused_line_count(alloc: Global, before: Before) -> Error
     }
 }
 
+/// Marks that the data of a scan were read as far as they go, and returns what stands after it, or
+/// the refusal of its data.
+fn end_reached(state: &mut State, reached: Result<Option<Marker>>) -> Result<Step>
+    ensures found { found_in state.new ≡ once_scanned (found_in state.old) }
+    ensures step { IsEndOf (found_in state.old) (turn_of state.new) reached result }
+{
+    match reached {
+        Ok(met) => Ok(state.end_scan(met)),
+        Err(e) => {
+            state.end_scan(None);
+            Err(e)
+        }
+    }
+}
+
 /// Reads a scan as far as it goes, and returns what stands after it: the marker after it and after
 /// the restart markers at its end, if one was reached.
 ///
-/// After an error other than out of memory the blocks count that were read before it; of a lossless
-/// scan nothing does.
+/// After an error other than out of memory the blocks count that were read before it, or the rows
+/// of MCUs of a lossless scan.
 pub fn reach_scan<R: Read + Drop>(
     alloc: Global,
     source: &mut Source<R>,
@@ -65,8 +81,11 @@ pub fn reach_scan<R: Read + Drop>(
     let frame = needed(alloc, said.frame.as_ref(), Missing::Frame(Marker::SOS))?;
     let header = parse_sos(alloc, source, frame)?;
     if frame.coding_process == CodingProcess::Lossless {
-        let met = read_lossless_scan(alloc, source, said, frame, &header, &mut state.decoded)?;
-        return Ok(state.end_scan(met));
+        let scan = sample_scan_of(alloc, said, frame, &header)?;
+        let reached = reach_samples(alloc, source, &scan, &mut state.decoded);
+        // It borrows from `state`, which changes now.
+        drop(scan);
+        return end_reached(state, reached);
     }
     let spare = spare_tables(alloc, &header, frame, said.metadata.avi1)?;
     let components = codings_of(alloc, said, &spare, frame, &header)?;
@@ -81,13 +100,7 @@ pub fn reach_scan<R: Read + Drop>(
         .reach(alloc, source, said.scanned, frame, &scan);
     // It borrows from `state`, which changes now.
     drop(scan);
-    match reached {
-        Ok(met) => Ok(state.end_scan(met)),
-        Err(e) => {
-            state.end_scan(None);
-            Err(e)
-        }
-    }
+    end_reached(state, reached)
 }
 
 /// Reads a scan, and returns what stands after it: the marker after it and after the restart

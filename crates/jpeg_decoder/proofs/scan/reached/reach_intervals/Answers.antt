@@ -3,17 +3,18 @@ use Rattle.std.proofs.lemmas.Result.{err_from_is_err_and}
 use Rattle.std.specs.List.{AllByRecursion}
 use Rattle.jpeg_bits.specs.Intervals.{is_restart}
 use Rattle.jpeg_decoder.specs.Scanning.{arrays_in, scan_pass, scan_vias, sizes_of, IsSpotOf}
-use Rattle.jpeg_decoder.proofs.GroupedScans.{after-all, first-refused-answers, first-refused-arrays}
-use Rattle.jpeg_decoder.proofs.GroupedScans.{next-refused-answers, next-refused-arrays, passed-answers, runs-first}
-use Rattle.jpeg_decoder.proofs.GroupedScans.{runs-next, whole_of}
+use Rattle.jpeg_decoder.proofs.GroupedScans.{after-all, blocks_loop, first-refused-answers}
+use Rattle.jpeg_decoder.proofs.GroupedScans.{first-refused-state, next-refused-answers, next-refused-state}
+use Rattle.jpeg_decoder.proofs.GroupedScans.{passed-answers, runs-first, runs-next, whole_of}
 use Rattle.jpeg_decoder.proofs.scan.reached.reach_intervals.Goals as goal
 
 pub returns-in_err-end-clause-arrays : goal.returns-in_err-end-clause-arrays
 returns-in_err-end-clause-arrays g c =
     let a = c.args in
+    let s = blocks_loop (scan_pass a.scan.now) (scan_vias a.scan.now) in
     let p = err_from_is_err_and c.from_residual.result c.from_residual.ensures.1 in
     rw (p.1, p.2) (
-    first-refused-arrays (scan_pass a.scan.now) (scan_vias a.scan.now) a.n a.spots.now (arrays_in a.arrays.now.items)
+    first-refused-state s a.n a.spots.now (arrays_in a.arrays.now.items)
     (arrays_in c.reach_interval.new.arrays.items) a.source.now c.reach_interval.new.source c.in_err-end.field-0.0
     c.in_err-end.ensures.answers c.in_err-end.ensures.arrays
     )
@@ -21,15 +22,17 @@ returns-in_err-end-clause-arrays g c =
 pub returns-in_err-end-clause-answers : goal.returns-in_err-end-clause-answers
 returns-in_err-end-clause-answers g c =
     let a = c.args in
+    let s = blocks_loop (scan_pass a.scan.now) (scan_vias a.scan.now) in
     let p = err_from_is_err_and c.from_residual.result c.from_residual.ensures.1 in
     rw (p.1, p.2) (
-    first-refused-answers (scan_pass a.scan.now) (scan_vias a.scan.now) a.n a.spots.now (arrays_in a.arrays.now.items)
+    first-refused-answers s a.n a.spots.now (arrays_in a.arrays.now.items)
     a.source.now c.reach_interval.new.source c.in_err-end.field-0.0 c.in_err-end.ensures.answers
     )
 
 pub loop-end-init : goal.loop-end-init
 loop-end-init g c =
     let a = c.args in
+    let s = blocks_loop (scan_pass a.scan.now) (scan_vias a.scan.now) in
     let is = c.in_ok-end.ensures.left in
     record {
       sizes = c.in_ok-end.ensures.sizes;
@@ -39,7 +42,7 @@ loop-end-init g c =
           (after-all (IsSpotOf (length a.scan.now.components.items) (sizes_of a.arrays.now.items)) a.n a.spots.now
           c.requires.spots);
       runs =
-          runs-first (scan_pass a.scan.now) (scan_vias a.scan.now) a.n a.spots.now c.reach_interval.new.spots
+          runs-first s a.n a.spots.now c.reach_interval.new.spots
           (arrays_in a.arrays.now.items) (arrays_in c.reach_interval.new.arrays.items) a.source.now
           c.reach_interval.new.source c.in_ok-end.end is c.in_ok-end.ensures.arrays c.in_ok-end.ensures.answers;
     }
@@ -47,15 +50,15 @@ loop-end-init g c =
 pub returns-in_err-end-2-clause-arrays : goal.returns-in_err-end-2-clause-arrays
 returns-in_err-end-2-clause-arrays g c =
     let a = c.args in
+    let s = blocks_loop (scan_pass a.scan.now) (scan_vias a.scan.now) in
+    let whole = whole_of s a.n a.spots.now (arrays_in a.arrays.now.items) in
     let l = c.loop-end in
     let some : 0 < length l.spots = search rules in
     let near : l.end.0 ≡ true = search rules in
     let restart : is_restart l.number (Some l.end.1) ≡ true = search rules in
     let p = err_from_is_err_and c.from_residual-in_err-end-2.result c.from_residual-in_err-end-2.ensures.1 in
     rw (p.1, p.2) (
-    next-refused-arrays
-    (whole_of (scan_pass a.scan.now) a.n (scan_vias a.scan.now) a.spots.now (arrays_in a.arrays.now.items))
-    (scan_pass a.scan.now) (scan_vias a.scan.now) a.n l.number l.spots (arrays_in l.arrays.items)
+    next-refused-state whole s a.n l.number l.spots (arrays_in l.arrays.items)
     (arrays_in c.reach_interval-in-loop-end.new.arrays.items) a.source.now l.source
     c.reach_interval-in-loop-end.new.source l.end c.in_err-end-2.field-0.0 some near restart l.invariant.runs
     c.in_err-end-2.ensures.answers c.in_err-end-2.ensures.arrays
@@ -64,15 +67,15 @@ returns-in_err-end-2-clause-arrays g c =
 pub returns-in_err-end-2-clause-answers : goal.returns-in_err-end-2-clause-answers
 returns-in_err-end-2-clause-answers g c =
     let a = c.args in
+    let s = blocks_loop (scan_pass a.scan.now) (scan_vias a.scan.now) in
+    let whole = whole_of s a.n a.spots.now (arrays_in a.arrays.now.items) in
     let l = c.loop-end in
     let some : 0 < length l.spots = search rules in
     let near : l.end.0 ≡ true = search rules in
     let restart : is_restart l.number (Some l.end.1) ≡ true = search rules in
     let p = err_from_is_err_and c.from_residual-in_err-end-2.result c.from_residual-in_err-end-2.ensures.1 in
     rw (p.1, p.2) (
-    next-refused-answers
-    (whole_of (scan_pass a.scan.now) a.n (scan_vias a.scan.now) a.spots.now (arrays_in a.arrays.now.items))
-    (scan_pass a.scan.now) (scan_vias a.scan.now) a.n l.number l.spots (arrays_in l.arrays.items) a.source.now
+    next-refused-answers whole s a.n l.number l.spots (arrays_in l.arrays.items) a.source.now
     l.source c.reach_interval-in-loop-end.new.source l.end c.in_err-end-2.field-0.0 some near restart
     l.invariant.runs c.in_err-end-2.ensures.answers
     )
@@ -80,6 +83,8 @@ returns-in_err-end-2-clause-answers g c =
 pub loop-end-preserved : goal.loop-end-preserved
 loop-end-preserved g c =
     let a = c.args in
+    let s = blocks_loop (scan_pass a.scan.now) (scan_vias a.scan.now) in
+    let whole = whole_of s a.n a.spots.now (arrays_in a.arrays.now.items) in
     let l = c.loop-end in
     let some : 0 < length l.spots = search rules in
     let near : l.end.0 ≡ true = search rules in
@@ -95,9 +100,7 @@ loop-end-preserved g c =
           (after-all (IsSpotOf (length a.scan.now.components.items) (sizes_of a.arrays.now.items)) a.n l.spots
           l.invariant.spots);
       runs =
-          runs-next
-          (whole_of (scan_pass a.scan.now) a.n (scan_vias a.scan.now) a.spots.now (arrays_in a.arrays.now.items))
-          (scan_pass a.scan.now) (scan_vias a.scan.now) a.n l.number next l.spots
+          runs-next whole s a.n l.number next l.spots
           c.reach_interval-in-loop-end.new.spots (arrays_in l.arrays.items)
           (arrays_in c.reach_interval-in-loop-end.new.arrays.items) a.source.now l.source
           c.reach_interval-in-loop-end.new.source l.end c.in_ok-end-2.end some near restart counts l.invariant.runs is
@@ -107,10 +110,10 @@ loop-end-preserved g c =
 pub returns-then-end-clause-answers : goal.returns-then-end-clause-answers
 returns-then-end-clause-answers g c =
     let a = c.args in
+    let s = blocks_loop (scan_pass a.scan.now) (scan_vias a.scan.now) in
+    let whole = whole_of s a.n a.spots.now (arrays_in a.arrays.now.items) in
     let l = c.loop-end in
     let none : l.spots ≡ [] = search rules in
     let near : l.end.0 ≡ true = search rules in
-    passed-answers
-    (whole_of (scan_pass a.scan.now) a.n (scan_vias a.scan.now) a.spots.now (arrays_in a.arrays.now.items))
-    (scan_pass a.scan.now) (scan_vias a.scan.now) a.n l.number l.spots (arrays_in l.arrays.items) a.source.now l.source
+    passed-answers whole s a.n l.number l.spots (arrays_in l.arrays.items) a.source.now l.source
     c.pass_restarts.new.source l.end c.pass_restarts.result none near l.invariant.runs c.pass_restarts.ensures

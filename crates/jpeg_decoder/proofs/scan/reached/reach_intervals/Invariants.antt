@@ -2,15 +2,16 @@ use Rattle.std.proofs.Common.{◌≡◌, length}
 use Rattle.std.specs.List.{AllByRecursion}
 use Rattle.jpeg_bits.specs.BlockView.{pass_in}
 use Rattle.jpeg_decoder.specs.Scanning.{vias_in, arrays_in, sizes_of, IsSpotOf}
-use Rattle.jpeg_decoder.proofs.GroupedScans.{Runs, whole_of}
+use Rattle.jpeg_decoder.proofs.GroupedScans.{Runs, blocks_loop, whole_of}
 use Rattle.jpeg_decoder.proofs.scan.reached.reach_intervals.Given as goal
 
 abbrev pub invariant-loop-end : goal.invariant-loop-end
 invariant-loop-end g l = record {
   sizes : sizes_of l.arrays.items ≡ sizes_of l.fn.arrays.items;
   spots : AllByRecursion (IsSpotOf (length l.fn.scan.components.items) (sizes_of l.fn.arrays.items)) l.spots;
-  runs : Runs (whole_of (pass_in l.fn.scan.pass) l.fn.n (vias_in 0 l.fn.scan.components.items) l.fn.spots
-      (arrays_in l.fn.arrays.items)) (pass_in l.fn.scan.pass) (vias_in 0 l.fn.scan.components.items) l.fn.n l.fn.source
+  runs : Runs (whole_of (blocks_loop (pass_in l.fn.scan.pass) (vias_in 0 l.fn.scan.components.items)) l.fn.n
+      l.fn.spots (arrays_in l.fn.arrays.items))
+      (blocks_loop (pass_in l.fn.scan.pass) (vias_in 0 l.fn.scan.components.items)) l.fn.n l.fn.source
       l.number l.end l.spots (arrays_in l.arrays.items) l.source;
 }
 

@@ -1,23 +1,28 @@
-use Rattle.std.proofs.Common.{◌≡◌, ◌∙◌, ap, arith, Err, Ok, Option, refl, rules, Some, subst}
+use Rattle.std.proofs.Common.{◌≡◌, ◌∙◌, ap, arith, List, Ok, Option, refl, rules, Some, subst}
 use Rattle.std.proofs.Common.{sym, true, false}
 use Rattle.jpeg_streams.specs.ScanSegments.{once_scanned}
+use Rattle.jpeg_bits.specs.Reading.{Answers}
+use Rattle.jpeg_streams.specs.Brought.{scan_brought}
 use Rattle.jpeg_segments.specs.FrameView.{frame_in, scan_in}
-use Rattle.jpeg_streams.specs.Found.{Found}
-use Rattle.jpeg_streams.specs.Segments.{Turn}
+use Rattle.jpeg_streams.specs.Found.{Found, Said}
+use Rattle.jpeg_streams.specs.LosslessScans.{LosslessCoding}
+use Rattle.jpeg_streams.specs.States.{OnTold, OnToldRefusal}
 use Rattle.jpeg_streams.specs.InTurn.{AreArrays}
 use Rattle.jpeg_streams.specs.Sound.{IsSound}
-use Rattle.jpeg_decoder.specs.Seen.{found_in}
+use Rattle.jpeg_decoder.specs.Seen.{found_in, found_of, said_of}
 use Rattle.jpeg_decoder.specs.Steps.{turn_of, with_decoded, IsStep}
-use Rattle.jpeg_decoder.specs.declared.scan.decoded.Decoded.{Decoded}
 use Rattle.jpeg_decoder.specs.declared.stream.state.Step.{Step}
 use Rattle.jpeg_bits.specs.declared.marker.Marker.{Marker}
-use Rattle.jpeg_decoder.specs.Reaching.{UnlessRefused}
-use Rattle.jpeg_decoder.proofs.ReachedScans.{data-end, data-fails, decoded-sound, no-codings, no-frame}
-use Rattle.jpeg_decoder.proofs.ReachedScans.{no-header, none-reads, none-stays}
-use Rattle.jpeg_decoder.proofs.ReachedScans.{samples-end, samples-fail, some-found, some-reads, step-reads}
+use Rattle.jpeg_decoder.specs.Reaching.{sample_codings, samples_reached, UnlessRefused}
+use Rattle.jpeg_decoder.proofs.ReachedScans.{blocks-begin, decoded-sound, ended-found, ended-reads, ended-steps}
+use Rattle.jpeg_decoder.proofs.ReachedScans.{ended-unless, no-codings, no-frame, no-header, no-samples, none-reads}
+use Rattle.jpeg_decoder.proofs.ReachedScans.{moved, none-stays, samples-begin, BeginsData, Data}
 use Rattle.jpeg_decoder.proofs.ReadableScans.{decoded-scales, legal-pass, ready, some-after}
 use Rattle.jpeg_decoder.proofs.ScanData.{before-as}
-use Rattle.jpeg_decoder.proofs.ScanReads.{is-dct, scan-steps}
+use Rattle.jpeg_decoder.proofs.ScanReads.{is-dct}
+use Rattle.jpeg_decoder.proofs.SampleScans.{scan-codings}
+use Rattle.jpeg_decoder.proofs.scan.segment.reach_scan.Given as given
+use Rattle.jpeg_decoder.proofs.scan.segment.reach_scan.Goals.{After-reach_samples-reached}
 use Rattle.jpeg_decoder.proofs.scan.segment.reach_scan.Goals as goal
 
 true-false : true ≡ false → ⊥
@@ -51,31 +56,81 @@ returns-in_err-header-clause-found g c =
     (no-header scan_in _ (frame_in c.in_ok-frame.frame.now) _ c.parse_sos.new.reader _ (search rules)
     c.in_err-header.ensures.answers)
 
-pub returns-in_err-met-clause-reads : goal.returns-in_err-met-clause-reads
-returns-in_err-met-clause-reads g c =
-    none-reads _ (found_in c.widen_tables.new.state) _ _ _ _ _ c.from_residual-in_err-met.ensures.1
+pub returns-in_err-scan-clause-reads : goal.returns-in_err-scan-clause-reads
+returns-in_err-scan-clause-reads g c =
+    none-reads _ (found_in c.widen_tables.new.state) _ _ _ _ _ c.from_residual-in_err-scan.ensures.1
     c.widen_tables.ensures
-    (samples-fail (once_scanned (with_decoded (found_in c.widen_tables.new.state) c.read_lossless_scan.new.decoded)) _
-    (frame_in c.in_ok-frame.frame.now) _ _ _ _ _
-    (search rules) (search rules) c.in_ok-header.ensures.answers c.in_err-met.ensures.reads)
+    (no-samples _ (frame_in c.in_ok-frame.frame.now)
+    (scan_in c.in_ok-header.header) _ _ _ (search rules) (search rules) c.in_ok-header.ensures.answers
+    c.in_err-scan.ensures.refused.0 c.in_err-scan.ensures.refused.1)
 
-pub returns-in_err-met-clause-found : goal.returns-in_err-met-clause-found
-returns-in_err-met-clause-found g c =
-    none-stays (found_in c.widen_tables.new.state) _ _ c.args.source.now c.read_lossless_scan.new.source _ _
-    c.from_residual-in_err-met.ensures.1
-    c.widen_tables.ensures
-    (ap (λ (d : Decoded). with_decoded (found_in c.widen_tables.new.state) d) c.in_err-met.ensures.stays)
-    (samples-fail (once_scanned (with_decoded (found_in c.widen_tables.new.state) c.read_lossless_scan.new.decoded)) _
-    (frame_in c.in_ok-frame.frame.now) _ _ _ _ _
-    (search rules) (search rules) c.in_ok-header.ensures.answers c.in_err-met.ensures.reads)
+pub returns-in_err-scan-clause-found : goal.returns-in_err-scan-clause-found
+returns-in_err-scan-clause-found g c =
+    none-stays (found_in c.widen_tables.new.state) _ _ c.args.source.now c.parse_sos.new.reader _ _
+    c.from_residual-in_err-scan.ensures.1
+    c.widen_tables.ensures refl
+    (no-samples _ (frame_in c.in_ok-frame.frame.now)
+    (scan_in c.in_ok-header.header) _ _ _ (search rules) (search rules) c.in_ok-header.ensures.answers
+    c.in_err-scan.ensures.refused.0 c.in_err-scan.ensures.refused.1)
+
+-- what is found after the data of a lossless scan, and the marker after them
+brings : (g : given.Over) (c : After-reach_samples-reached g) → let now = found_in c.widen_tables.new.state in
+    let cur = c.parse_sos.new.reader in
+    let new = c.reach_samples-reached.new.source in
+    let r = c.reach_samples-reached.result in
+    (d : Data) × BeginsData now d c.args.source.now cur
+    × OnTold cur new r (once_scanned (with_decoded now c.reach_samples-reached.new.decoded) ≡ (d cur.bytes).0)
+    × UnlessRefused r (Answers (λ (m : Option Marker). m) (λ bytes. (d bytes).1) cur r new)
+brings g c =
+    let now = found_in c.widen_tables.new.state in
+    let cur = c.parse_sos.new.reader in
+    let new = c.reach_samples-reached.new.source in
+    let r = c.reach_samples-reached.result in
+    let frame = frame_in c.in_ok-frame.frame.now in
+    let scan = scan_in c.in_ok-header.header in
+    let given = c.in_ok-scan.ensures.given in
+    let codings = scan-codings now.said frame scan c.in_ok-scan.scan c.in_ok-scan.ensures.scan
+    c.in_ok-header.ensures.scan in (
+      samples_reached now frame scan codings.0,
+      samples-begin now frame scan codings.0 c.args.source.now cur (search rules) (search rules)
+          c.in_ok-header.ensures.answers codings.1,
+      moved given.0 given.1 given.2 (λ s f h. (l : List LosslessCoding)
+          → sample_codings (said_of s) (frame_in f) (scan_in h) ≡ Ok l
+          → OnTold cur new r (once_scanned (found_of s c.reach_samples-reached.new.decoded)
+          ≡ (samples_reached (found_of s c.widen_tables.new.state.decoded) (frame_in f) (scan_in h) l cur.bytes).0))
+          c.reach_samples-reached.ensures.found codings.0 codings.1,
+      moved given.0 given.1 given.2 (λ s f h. (l : List LosslessCoding)
+          → sample_codings (said_of s) (frame_in f) (scan_in h) ≡ Ok l
+          → UnlessRefused r (Answers (λ (m : Option Marker). m) (λ bytes. (samples_reached
+          (found_of s c.widen_tables.new.state.decoded) (frame_in f) (scan_in h) l bytes).1) cur r new))
+          c.reach_samples-reached.ensures.answers codings.0 codings.1,
+    )
 
 pub returns-then-eq-clause-reads : goal.returns-then-eq-clause-reads
 returns-then-eq-clause-reads g c =
-    step-reads (found_in c.widen_tables.new.state) _
-    (once_scanned (with_decoded (found_in c.widen_tables.new.state) c.read_lossless_scan.new.decoded)) _ _ _ _
-    c.widen_tables.ensures c.end_scan.ensures
-    (samples-end _ _ (frame_in c.in_ok-frame.frame.now) _ _ _ _ _ (search rules) (search rules)
-    c.in_ok-header.ensures.answers c.in_ok-met.ensures.reads)
+    let now = found_in c.widen_tables.new.state in
+    let prev = with_decoded now c.reach_samples-reached.new.decoded in
+    let new = c.reach_samples-reached.new.source in
+    let v = λ (s : Step). turn_of c.end_reached.new.state s in
+    let b = brings g (goal.at.returns-then-eq-clause-reads g c).After-reach_samples-reached in
+    subst (λ (f : Found). UnlessRefused c.end_reached.result (Answers v (λ bytes. (scan_brought f bytes).1)
+    c.args.source.now c.end_reached.result new)) c.widen_tables.ensures
+    (ended-reads v now prev b.0 c.args.source.now c.parse_sos.new.reader new c.reach_samples-reached.result
+    c.end_reached.result b.1 refl b.2 b.3 c.end_reached.ensures.step)
+
+pub returns-then-eq-clause-found : goal.returns-then-eq-clause-found
+returns-then-eq-clause-found g c =
+    let now = found_in c.widen_tables.new.state in
+    let prev = with_decoded now c.reach_samples-reached.new.decoded in
+    let new = c.reach_samples-reached.new.source in
+    let v = λ (s : Step). turn_of c.end_reached.new.state s in
+    let b = brings g (goal.at.returns-then-eq-clause-found g c).After-reach_samples-reached in
+    subst (λ (f : Found). OnToldRefusal c.args.source.now new c.end_reached.result
+    (f ≡ (scan_brought (found_in c.args.state.now) c.args.source.now.bytes).0)) (sym c.end_reached.ensures.found)
+    (subst (λ (f : Found). OnToldRefusal c.args.source.now new c.end_reached.result
+    (once_scanned prev ≡ (scan_brought f c.args.source.now.bytes).0)) c.widen_tables.ensures
+    (ended-found v now prev b.0 c.args.source.now c.parse_sos.new.reader new c.reach_samples-reached.result
+    c.end_reached.result b.1 b.2 c.end_reached.ensures.step))
 
 pub codings_of-requires-clause-scales : goal.codings_of-requires-clause-scales
 codings_of-requires-clause-scales g c =
@@ -135,81 +190,66 @@ reach-reached-requires-clause-kept g c =
     subst (AreArrays frame.components) (before-as now c.widen_tables.new.state.decoded frame now.said.scanned refl)
     ((subst IsSound (sym same) c.requires.sound).kept frame framed)
 
-pub returns-in-Ok-clause-reads : goal.returns-in-Ok-clause-reads
-returns-in-Ok-clause-reads g c =
-    let now = found_in c.widen_tables.new.state in
-    let next = once_scanned (with_decoded now c.reach-reached.new.self) in
-    step-reads now _ next _ _ _ _ c.widen_tables.ensures c.end_scan-in-Ok.ensures
-    (data-end next now (frame_in c.in_ok-frame.frame.now) (scan_in c.in_ok-header.header) _ _ _
-    c.args.source.now c.parse_sos.new.reader c.reach-reached.new.source (search rules) (search rules)
-    c.in_ok-header.ensures.answers c.in_ok-components.ensures.codings c.pass_of.ensures
-    (c.in-Ok.ensures.found now (record { scanned = refl; restart = refl }))
-    (c.in-Ok.ensures.data now (record { scanned = refl; restart = refl })))
-
-pub returns-in-Ok-clause-sound : goal.returns-in-Ok-clause-sound
-returns-in-Ok-clause-sound g c =
-    let now = found_in c.widen_tables.new.state in
-    let frame = frame_in c.in_ok-frame.frame.now in
-    let framed : now.said.frame ≡ Some frame = search rules in
-    let same : with_decoded now c.widen_tables.new.state.decoded ≡ found_in c.args.state.now
-    = c.widen_tables.ensures in
-    let reads = c.in-Ok.ensures in
-    subst IsSound (sym (ap (λ (t : Turn). t.found) c.end_scan-in-Ok.ensures))
-    (decoded-sound {X = Option Marker} now c.widen_tables.new.state.decoded c.reach-reached.new.self frame
-    (Ok c.in-Ok.met)
-    (subst IsSound (sym same) c.requires.sound) framed reads.kept reads.planes reads.samples)
-
-pub returns-in-Ok-clause-steps : goal.returns-in-Ok-clause-steps
-returns-in-Ok-clause-steps g c =
-    let old = found_in c.args.state.now in
-    let now = found_in c.widen_tables.new.state in
-    let frame = frame_in c.in_ok-frame.frame.now in
-    let framed : now.said.frame ≡ Some frame = search rules in
-    let same : with_decoded now c.widen_tables.new.state.decoded ≡ old = c.widen_tables.ensures in
-    let next = once_scanned (with_decoded now c.reach-reached.new.self) in
-    let stays = ap (λ (f : Found). f.said.frame) c.widen_tables.ensures in
-    let reads = c.in-Ok.ensures in
-    subst (λ (f : Found). IsStep old (Ok c.end_scan-in-Ok.result) f)
-    (sym (ap (λ (t : Turn). t.found) c.end_scan-in-Ok.ensures))
-    (scan-steps old next frame c.end_scan-in-Ok.result (sym stays ∙ framed) stays
-    (decoded-sound {X = Option Marker} now c.widen_tables.new.state.decoded c.reach-reached.new.self frame
-    (Ok c.in-Ok.met)
-    (subst IsSound (sym same) c.requires.sound) framed reads.kept reads.planes reads.samples))
-
 pub returns-clause-reads : goal.returns-clause-reads
 returns-clause-reads g c =
     let now = found_in c.widen_tables.new.state in
-    let next = once_scanned (with_decoded now c.reach-reached.new.self) in
-    some-reads (λ (s : Step). turn_of c.end_scan-in-Err.new.self s) now _ next c.args.source.now
-    c.reach-reached.new.source c.in-Err.e c.widen_tables.ensures
-    (data-fails next now (frame_in c.in_ok-frame.frame.now) (scan_in c.in_ok-header.header) _ _ _
-    c.args.source.now c.parse_sos.new.reader c.reach-reached.new.source (search rules) (search rules)
-    c.in_ok-header.ensures.answers c.in_ok-components.ensures.codings c.pass_of.ensures
-    (c.in-Err.ensures.found now (record { scanned = refl; restart = refl }))
-    (c.in-Err.ensures.data now (record { scanned = refl; restart = refl })))
+    let prev = with_decoded now c.reach-reached.new.self in
+    let frame = frame_in c.in_ok-frame.frame.now in
+    let scan = scan_in c.in_ok-header.header in
+    let v = λ (s : Step). turn_of c.end_reached-2.new.state s in
+    subst (λ (f : Found). UnlessRefused c.end_reached-2.result (Answers v (λ bytes. (scan_brought f bytes).1)
+    c.args.source.now c.end_reached-2.result c.reach-reached.new.source)) c.widen_tables.ensures
+    (ended-reads v now prev _ c.args.source.now c.parse_sos.new.reader c.reach-reached.new.source
+    c.reach-reached.result c.end_reached-2.result
+    (blocks-begin now frame scan _ _ c.args.source.now c.parse_sos.new.reader (search rules) (search rules)
+    c.in_ok-header.ensures.answers c.in_ok-components.ensures.codings c.pass_of.ensures)
+    refl (c.reach-reached.ensures.found now (record { scanned = refl; restart = refl }))
+    (c.reach-reached.ensures.data now (record { scanned = refl; restart = refl })) c.end_reached-2.ensures.step)
 
 pub returns-clause-found : goal.returns-clause-found
 returns-clause-found g c =
     let now = found_in c.widen_tables.new.state in
-    let next = once_scanned (with_decoded now c.reach-reached.new.self) in
-    some-found now _ next _ c.args.source.now c.reach-reached.new.source c.in-Err.e c.widen_tables.ensures
-    (ap (λ (t : Turn). t.found) c.end_scan-in-Err.ensures)
-    (data-fails next now (frame_in c.in_ok-frame.frame.now) (scan_in c.in_ok-header.header) _ _ _
-    c.args.source.now c.parse_sos.new.reader c.reach-reached.new.source (search rules) (search rules)
-    c.in_ok-header.ensures.answers c.in_ok-components.ensures.codings c.pass_of.ensures
-    (c.in-Err.ensures.found now (record { scanned = refl; restart = refl }))
-    (c.in-Err.ensures.data now (record { scanned = refl; restart = refl })))
+    let prev = with_decoded now c.reach-reached.new.self in
+    let frame = frame_in c.in_ok-frame.frame.now in
+    let scan = scan_in c.in_ok-header.header in
+    let v = λ (s : Step). turn_of c.end_reached-2.new.state s in
+    subst (λ (f : Found). OnToldRefusal c.args.source.now c.reach-reached.new.source c.end_reached-2.result
+    (f ≡ (scan_brought (found_in c.args.state.now) c.args.source.now.bytes).0)) (sym c.end_reached-2.ensures.found)
+    (subst (λ (f : Found). OnToldRefusal c.args.source.now c.reach-reached.new.source c.end_reached-2.result
+    (once_scanned prev ≡ (scan_brought f c.args.source.now.bytes).0)) c.widen_tables.ensures
+    (ended-found v now prev _ c.args.source.now c.parse_sos.new.reader c.reach-reached.new.source
+    c.reach-reached.result c.end_reached-2.result
+    (blocks-begin now frame scan _ _ c.args.source.now c.parse_sos.new.reader (search rules) (search rules)
+    c.in_ok-header.ensures.answers c.in_ok-components.ensures.codings c.pass_of.ensures)
+    (c.reach-reached.ensures.found now (record { scanned = refl; restart = refl })) c.end_reached-2.ensures.step))
 
 pub returns-clause-sound : goal.returns-clause-sound
 returns-clause-sound g c =
     let now = found_in c.widen_tables.new.state in
+    let prev = with_decoded now c.reach-reached.new.self in
     let frame = frame_in c.in_ok-frame.frame.now in
     let framed : now.said.frame ≡ Some frame = search rules in
-    let same : with_decoded now c.widen_tables.new.state.decoded ≡ found_in c.args.state.now
-    = c.widen_tables.ensures in
-    let reads = c.in-Err.ensures in
-    subst (λ (f : Found). UnlessRefused {X = Option Marker} (Err c.in-Err.e) (IsSound f))
-    (sym (ap (λ (t : Turn). t.found) c.end_scan-in-Err.ensures))
-    (decoded-sound {X = Option Marker} now c.widen_tables.new.state.decoded c.reach-reached.new.self frame
-    (Err c.in-Err.e)
-    (subst IsSound (sym same) c.requires.sound) framed reads.kept reads.planes reads.samples)
+    let reads = c.reach-reached.ensures in
+    let v = λ (s : Step). turn_of c.end_reached-2.new.state s in
+    subst (λ (f : Found). UnlessRefused c.end_reached-2.result (IsSound f)) (sym c.end_reached-2.ensures.found)
+    (ended-unless (IsSound (once_scanned prev)) v prev c.reach-reached.result c.end_reached-2.result
+    (decoded-sound now c.widen_tables.new.state.decoded c.reach-reached.new.self frame c.reach-reached.result
+    (subst IsSound (sym c.widen_tables.ensures) c.requires.sound) framed reads.kept reads.planes reads.samples)
+    c.end_reached-2.ensures.step)
+
+pub returns-clause-steps : goal.returns-clause-steps
+returns-clause-steps g c =
+    let old = found_in c.args.state.now in
+    let now = found_in c.widen_tables.new.state in
+    let prev = with_decoded now c.reach-reached.new.self in
+    let frame = frame_in c.in_ok-frame.frame.now in
+    let framed : now.said.frame ≡ Some frame = search rules in
+    let reads = c.reach-reached.ensures in
+    let said = ap (λ (f : Found). f.said) c.widen_tables.ensures in
+    let v = λ (s : Step). turn_of c.end_reached-2.new.state s in
+    subst (λ (f : Found). IsStep old c.end_reached-2.result f) (sym c.end_reached-2.ensures.found)
+    (ended-steps v old prev frame c.reach-reached.result c.end_reached-2.result
+    (ap (λ (s : Said). s.frame) (sym said) ∙ framed) said
+    (decoded-sound now c.widen_tables.new.state.decoded c.reach-reached.new.self frame c.reach-reached.result
+    (subst IsSound (sym c.widen_tables.ensures) c.requires.sound) framed reads.kept reads.planes reads.samples)
+    c.end_reached-2.ensures.step)

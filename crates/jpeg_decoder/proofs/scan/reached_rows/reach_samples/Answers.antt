@@ -1,0 +1,175 @@
+use Rattle.std.proofs.Common.{◌≡◌, ◌∙◌, ap, sym, arith, length, map, replicate, List, [], ℕ}
+use Rattle.std.proofs.lemmas.List.{length-map}
+use Rattle.jpeg_segments.specs.FrameView.{frame_in, scan_in}
+use Rattle.jpeg_lossless.specs.Codings.{part_in, way_by}
+use Rattle.jpeg_lossless.specs.PlanesRead.{cut_planes}
+use Rattle.jpeg_lossless.specs.declared.scan.Coding.{Coding}
+use Rattle.jpeg_streams.specs.Found.{Found}
+use Rattle.jpeg_streams.specs.LosslessScans.{with_samples}
+use Rattle.jpeg_streams.specs.ScanSegments.{once_scanned}
+use Rattle.jpeg_streams.proofs.Soundness.{decoded-precision}
+use Rattle.jpeg_decoder.specs.Reaching.{planes_over, planes_reached, samples_reached}
+use Rattle.jpeg_decoder.specs.Seen.{found_of, said_of}
+use Rattle.jpeg_decoder.proofs.LosslessReads.{HasMcus, codings-count, four-indices, parts-count, put-made}
+use Rattle.jpeg_decoder.proofs.ReachedData.{answers-by, on-told, unless}
+use Rattle.jpeg_decoder.proofs.SampleScans.{Reads, put_over, reads-found, reads-marker, reads-sound, scan-coded}
+use Rattle.jpeg_decoder.proofs.SampleScans.{scan-mcus, scan-rows}
+use Rattle.jpeg_decoder.proofs.scan.reached_rows.reach_samples.Given as given
+use Rattle.jpeg_decoder.proofs.scan.reached_rows.reach_samples.Goals.{After-deref, After-put_samples, In_ok-rows}
+use Rattle.jpeg_decoder.proofs.scan.reached_rows.reach_samples.Goals as goal
+
+-- the MCUs of the scan
+mcus : (g : given.Over) (c : After-deref g) → let s = c.args.scan.now in
+    HasMcus s.coding.wide s.coding.high (map part_in s.parts.items)
+mcus g c =
+    let s = c.args.scan.now in
+    scan-mcus (said_of s.said.now) (frame_in s.frame.now) (scan_in s.header.now) s c.requires.scan c.requires.legal
+    (c.requires.sound.frames (frame_in s.frame.now) c.requires.frame) c.requires.process
+
+pub new-requires-clause-wide : goal.new-requires-clause-wide
+new-requires-clause-wide g c = (mcus g (goal.at.new-requires-clause-wide g c).After-deref).some_wide
+
+pub new-requires-clause-high : goal.new-requires-clause-high
+new-requires-clause-high g c = (mcus g (goal.at.new-requires-clause-high g c).After-deref).some_high
+
+pub new-requires-clause-precision : goal.new-requires-clause-precision
+new-requires-clause-precision g c =
+    let s = c.args.scan.now in
+    let frame = frame_in s.frame.now in
+    let is = ap (λ (k : Coding). k.precision) c.requires.scan.coding in
+    let most = decoded-precision frame (c.requires.sound.frames frame c.requires.frame) c.requires.process in
+    omega (arith, is, most)
+
+pub new-requires-clause-covered : goal.new-requires-clause-covered
+new-requires-clause-covered g c =
+    let s = c.args.scan.now in
+    rw c.deref.ensures.value (mcus g (goal.at.new-requires-clause-covered g c).After-deref).covered
+
+pub reach_intervals-met-requires-clause-rows : goal.reach_intervals-met-requires-clause-rows
+reach_intervals-met-requires-clause-rows g c =
+    let s = c.args.scan.now in
+    scan-rows (said_of s.said.now) (frame_in s.frame.now) (scan_in s.header.now) s c.requires.scan
+    (mcus g (goal.at.reach_intervals-met-requires-clause-rows g c).After-deref).some_high
+
+-- how the rows are read
+reads : (g : given.Over) (c : In_ok-rows g) → let s = c.args.scan.now in
+    Reads (found_of s.said.now c.args.decoded.now) (frame_in s.frame.now) (scan_in s.header.now) s
+    c.in_ok-coding.coding.scan (map part_in c.in_ok-coding.coding.parts.now)
+    (map (λ v. v.items) c.in_ok-rows.rows.planes.items)
+reads g c = record {
+  scan_is = c.requires.scan;
+  legal = c.requires.legal;
+  sound = c.requires.sound;
+  framed = c.requires.frame;
+  process = c.requires.process;
+  coding = c.in_ok-coding.ensures.scan;
+  parts_are = ap (map part_in) (c.in_ok-coding.ensures.parts ∙ c.deref.ensures.value);
+  begins = c.in_ok-rows.ensures.planes
+      ∙ ap (λ (n : ℕ). replicate n []) (sym (length-map c.in_ok-coding.coding.parts.now part_in));
+}
+
+-- as many planes as components
+counted : (g : given.Over) (c : In_ok-rows g) → let s = c.args.scan.now in
+    length c.in_ok-coding.coding.parts.now ≡ length (scan_in s.header.now).components
+counted g c =
+    let s = c.args.scan.now in
+    let i = c.requires.scan in
+    let frame = frame_in s.frame.now in
+    let scan = scan_in s.header.now in
+    let a = scan-coded (said_of s.said.now) frame scan s i c.requires.legal in
+    sym (length-map c.in_ok-coding.coding.parts.now part_in)
+    ∙ ap (λ l. length l) ((reads g c).parts_are ∙ i.parts)
+    ∙ parts-count _ frame.components scan.components i.tables
+    (codings-count _ frame scan.components scan.dc_destinations i.tables a)
+
+pub complete_all-requires-clause-count : goal.complete_all-requires-clause-count
+complete_all-requires-clause-count g c =
+    c.finish-planes.ensures.count ∙ c.reach_intervals-met.ensures.count ∙ c.in_ok-rows.ensures.count
+    ∙ counted g (goal.at.complete_all-requires-clause-count g c).In_ok-rows
+    ∙ ap (λ l. length l) (sym c.as_slice-indices.ensures.value)
+
+pub complete_all-requires-clause-indices : goal.complete_all-requires-clause-indices
+complete_all-requires-clause-indices g c =
+    let s = c.args.scan.now in
+    let frame = frame_in s.frame.now in
+    rw c.as_slice-indices.ensures.value (four-indices frame (scan_in s.header.now).components
+    (c.requires.sound.frames frame c.requires.frame) c.requires.legal.components)
+
+pub put_samples-requires-clause-count : goal.put_samples-requires-clause-count
+put_samples-requires-clause-count g c =
+    c.in_ok-complete_all.ensures.count
+    ∙ c.finish-planes.ensures.count ∙ c.reach_intervals-met.ensures.count ∙ c.in_ok-rows.ensures.count
+    ∙ counted g (goal.at.put_samples-requires-clause-count g c).In_ok-rows
+    ∙ ap (λ l. length l) (sym c.as_slice-indices.ensures.value)
+
+pub put_samples-requires-clause-indices : goal.put_samples-requires-clause-indices
+put_samples-requires-clause-indices g c =
+    let s = c.args.scan.now in
+    let frame = frame_in s.frame.now in
+    rw c.as_slice-indices.ensures.value (four-indices frame (scan_in s.header.now).components
+    (c.requires.sound.frames frame c.requires.frame) c.requires.legal.components)
+
+-- what is found then
+placed : (g : given.Over) (c : After-put_samples g) → let s = c.args.scan.now in
+    let found = found_of s.said.now c.args.decoded.now in
+    let parts = map part_in c.in_ok-coding.coding.parts.now in
+    ◌≡◌ {A = Found} (once_scanned (found_of s.said.now c.put_samples.new.self))
+    (put_over found (frame_in s.frame.now) (scan_in s.header.now).components
+    (cut_planes c.in_ok-coding.coding.scan.point_transform parts
+    (map (λ v. v.items) c.reach_intervals-met.new.rows.planes.items)))
+placed g c =
+    let s = c.args.scan.now in
+    let found = found_of s.said.now c.args.decoded.now in
+    let frame = frame_in s.frame.now in
+    let indices = c.as_slice-indices.ensures.value in
+    put-made found c.args.decoded.now c.put_samples.new.self _ c.put_samples.ensures.kept c.put_samples.ensures.finished
+    c.put_samples.ensures.planes
+    (c.put_samples.ensures.samples
+    ∙ ap (λ (p : List (List ℕ)). with_samples c.as_slice-indices.result.now p found.samples)
+    (c.in_ok-complete_all.ensures.planes
+    ∙ ap (planes_over frame found.samples c.as_slice-indices.result.now) c.finish-planes.ensures.planes)
+    ∙ ap (λ (l : List ℕ). with_samples l (planes_over frame found.samples l (cut_planes
+    c.in_ok-coding.coding.scan.point_transform (map part_in c.in_ok-coding.coding.parts.now)
+    (map (λ v. v.items) c.reach_intervals-met.new.rows.planes.items))) found.samples) indices)
+
+pub returns-clause-found : goal.returns-clause-found
+returns-clause-found g c codings h =
+    let s = c.args.scan.now in
+    let at = goal.at.returns-clause-found g c in
+    on-told c.args.source.now c.reach_intervals-met.new.source c.reach_intervals-met.result
+    (λ is. reads-found (found_of s.said.now c.args.decoded.now) (frame_in s.frame.now) (scan_in s.header.now) s
+    c.in_ok-coding.coding.scan (map part_in c.in_ok-coding.coding.parts.now)
+    (map (λ v. v.items) c.in_ok-rows.rows.planes.items)
+    (map (λ v. v.items) c.reach_intervals-met.new.rows.planes.items) codings c.args.source.now.bytes _
+    (reads g at.In_ok-rows) h (placed g at.After-put_samples) is)
+    c.reach_intervals-met.ensures.planes
+
+pub returns-clause-answers : goal.returns-clause-answers
+returns-clause-answers g c codings h =
+    let s = c.args.scan.now in
+    let found = found_of s.said.now c.args.decoded.now in
+    let k = c.in_ok-coding.coding.scan in
+    let parts = map part_in c.in_ok-coding.coding.parts.now in
+    let empty = map (λ v. v.items) c.in_ok-rows.rows.planes.items in
+    unless c.reach_intervals-met.result
+    (answers-by (λ m. m) (λ bytes. (planes_reached (way_by k parts) s.rows k.high empty bytes).1)
+    (λ bytes. (samples_reached found (frame_in s.frame.now) (scan_in s.header.now) codings bytes).1)
+    c.args.source.now c.reach_intervals-met.new.source c.reach_intervals-met.result
+    (reads-marker (found_of s.said.now c.args.decoded.now) (frame_in s.frame.now) (scan_in s.header.now) s
+    c.in_ok-coding.coding.scan (map part_in c.in_ok-coding.coding.parts.now)
+    (map (λ v. v.items) c.in_ok-rows.rows.planes.items) codings c.args.source.now.bytes
+    (reads g (goal.at.returns-clause-answers g c).In_ok-rows) h)
+    c.reach_intervals-met.ensures.answers)
+
+pub returns-clause-sound : goal.returns-clause-sound
+returns-clause-sound g c =
+    let s = c.args.scan.now in
+    let at = goal.at.returns-clause-sound g c in
+    let planes = c.reach_intervals-met.new.rows.planes.items in
+    let parts = c.in_ok-coding.coding.parts.now in
+    unless c.reach_intervals-met.result
+    (reads-sound (found_of s.said.now c.args.decoded.now) (frame_in s.frame.now) (scan_in s.header.now) s
+    c.in_ok-coding.coding.scan (map part_in parts) (map (λ v. v.items) c.in_ok-rows.rows.planes.items)
+    (map (λ v. v.items) planes) _ (reads g at.In_ok-rows)
+    (length-map planes (λ v. v.items) ∙ c.reach_intervals-met.ensures.count ∙ c.in_ok-rows.ensures.count
+    ∙ sym (length-map parts part_in)) (placed g at.After-put_samples))

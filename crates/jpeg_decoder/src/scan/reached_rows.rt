@@ -1,0 +1,170 @@
+//! The rows of MCUs of a lossless scan as far as they can be read, where the stream may have a
+//! fault (T.81, E.2.4 and H.2).
+//!
+//! As of a scan of blocks, the data of a restart interval are gathered up to the marker that ends
+//! them, and rows are read of them alone. `decode` never runs this.
+ghost use Rattle.std.specs.Prelude.{◌≡◌, ◌<◌, List, Some, length, map, true};
+ghost use Rattle.jpeg_bits.specs.Entropy.{text_at};
+ghost use Rattle.jpeg_bits.specs.Reading.{Answers};
+ghost use Rattle.jpeg_lossless.specs.Codings.{part_in, way_by};
+ghost use Rattle.jpeg_lossless.specs.Rows.{with_mcu_rows};
+ghost use Rattle.jpeg_lossless.specs.RowsReached.{rows_reached};
+ghost use Rattle.jpeg_lossless.specs.Scans.{scan_tables};
+ghost use Rattle.jpeg_segments.specs.FrameView.{frame_in, scan_in};
+ghost use Rattle.jpeg_segments.specs.ScanHeader.{IsScanOf};
+ghost use Rattle.jpeg_segments.specs.declared.frame.CodingProcess.TheVariants.{Lossless};
+ghost use Rattle.jpeg_streams.specs.LosslessScans.{LosslessCoding};
+ghost use Rattle.jpeg_streams.specs.ScanSegments.{once_scanned};
+ghost use Rattle.jpeg_streams.specs.Sound.{IsSound};
+ghost use Rattle.jpeg_streams.specs.States.{OnTold};
+ghost use Rattle.jpeg_decoder.specs.Reaching.{IsSampleScan, TellsLeft, UnlessRefused};
+ghost use Rattle.jpeg_decoder.specs.Reaching.{planes_reached, rows_appended, sample_codings};
+ghost use Rattle.jpeg_decoder.specs.Reaching.{samples_reached};
+ghost use Rattle.jpeg_decoder.specs.Seen.{found_of, said_of};
+
+use crate::scan::data::read_data;
+use crate::scan::decoded::Decoded;
+use crate::scan::lossless::SampleScan;
+use crate::scan::refusals::{interval_end, is_near_end, refusal_in_memory};
+use crate::scan::restarts::{is_numbered, pass_restarts};
+use crate::scan::samples::complete_all;
+use jpeg_bits::error::Result;
+use jpeg_bits::huffman::HuffmanDecoder;
+use jpeg_bits::marker::{Marker, restart_error};
+use jpeg_bits::source::Source;
+use jpeg_bits::source::slice_reader::SliceReader;
+use jpeg_lossless::scan::{LosslessScan, RowCoding};
+use std::alloc::Global;
+use std::io::Read;
+
+/// Reads the next `count` rows of MCUs in the bytes of an interval, and returns whether at most 56
+/// bits are left after them. After a refusal the rows before it are there.
+fn reach_rows(
+    alloc: Global,
+    bytes: &[u8],
+    coding: &RowCoding<'_, '_>,
+    rows: &mut LosslessScan,
+    count: u16,
+) -> Result<bool>
+    requires planes { length rows.old.planes.items ≡ length coding.now.parts.now }
+    ensures count { length rows.new.planes.items ≡ length rows.old.planes.items }
+    ensures planes { let w = way_by coding.now.scan (map part_in coding.now.parts.now) in
+        UnlessRefused result (map (λ v. v.items) rows.new.planes.items ≡ with_mcu_rows w true
+        (rows_reached (scan_tables w count) (text_at bytes.now)).0
+        (map (λ v. v.items) rows.old.planes.items)) }
+    ensures told { let w = way_by coding.now.scan (map part_in coding.now.parts.now) in
+        TellsLeft (rows_reached (scan_tables w count) (text_at bytes.now)).1 result }
+{
+    let mut source = Source::new(SliceReader::new(bytes));
+    let mut decoder = HuffmanDecoder::new(alloc);
+    match rows.read_rows(&mut decoder, &mut source, coding, count) {
+        Ok(()) => is_near_end(&mut decoder, &mut source),
+        Err(e) => Err(refusal_in_memory(e, source.has_failed())),
+    }
+}
+
+/// Reads the next interval, of `count` rows of MCUs, as far as it goes, and returns whether at most
+/// 56 bits are left after its rows, and the marker that ends it.
+fn reach_interval<R: Read + Drop>(
+    alloc: Global,
+    source: &mut Source<R>,
+    coding: &RowCoding<'_, '_>,
+    rows: &mut LosslessScan,
+    count: u16,
+) -> Result<(bool, Marker)>
+    requires planes { length rows.old.planes.items ≡ length coding.now.parts.now }
+    ensures count { length rows.new.planes.items ≡ length rows.old.planes.items }
+    ensures planes { let w = way_by coding.now.scan (map part_in coding.now.parts.now) in
+        OnTold source.old source.new result (map (λ v. v.items) rows.new.planes.items
+        ≡ (rows_appended w (scan_tables w count) (map (λ v. v.items) rows.old.planes.items)
+        source.old.bytes).0) }
+    ensures answers { let w = way_by coding.now.scan (map part_in coding.now.parts.now) in
+        Answers (λ r. (r.0, Some r.1)) (λ bytes. (rows_appended w (scan_tables w count)
+        (map (λ v. v.items) rows.old.planes.items) bytes).1) source.old result source.new }
+{
+    let mut data = Vec::new(alloc);
+    let ended = read_data(alloc, source, &mut data);
+    let reached = reach_rows(alloc, &data, coding, rows, count);
+    interval_end(alloc, ended, reached, source.has_failed())
+}
+
+/// Reads the intervals of a scan as far as they go, each of `n` rows of MCUs and the last of those
+/// that are left. Returns the marker after them, if it was reached, and after the restart markers
+/// at their end.
+fn reach_intervals<R: Read + Drop>(
+    alloc: Global,
+    source: &mut Source<R>,
+    coding: &RowCoding<'_, '_>,
+    rows: &mut LosslessScan,
+    n: u16,
+) -> Result<Option<Marker>>
+    requires rows { 0 < n }
+    requires planes { length rows.old.planes.items ≡ length coding.now.parts.now }
+    ensures count { length rows.new.planes.items ≡ length rows.old.planes.items }
+    ensures planes { let w = way_by coding.now.scan (map part_in coding.now.parts.now) in
+        OnTold source.old source.new result (map (λ v. v.items) rows.new.planes.items
+        ≡ (planes_reached w n coding.now.scan.high (map (λ v. v.items) rows.old.planes.items)
+        source.old.bytes).0) }
+    ensures answers { let w = way_by coding.now.scan (map part_in coding.now.parts.now) in
+        Answers (λ m. m) (λ bytes. (planes_reached w n coding.now.scan.high
+        (map (λ v. v.items) rows.old.planes.items) bytes).1) source.old result source.new }
+{
+    let mut number = 0u8;
+    let mut count = n.min(coding.scan.high);
+    let mut left = coding.scan.high - count;
+    let mut end = reach_interval(alloc, source, coding, rows, count)?;
+    while left > 0 {
+        if !end.0 || !is_numbered(Some(end.1), number) {
+            return Err(restart_error(alloc, Some(end.1), number));
+        }
+        number = number.wrapping_add(1) % 8;
+        count = n.min(left);
+        left -= count;
+        end = reach_interval(alloc, source, coding, rows, count)?;
+    }
+    if end.0 {
+        pass_restarts(alloc, source, Some(end.1))
+    } else {
+        Ok(Some(end.1))
+    }
+}
+
+/// Reads the data of a lossless scan as far as they go, and returns the marker after it and after
+/// the restart markers at its end, if one was reached.
+///
+/// The rows of MCUs that were read replace the first samples of its components, also after an error
+/// other than out of memory. What lacks is as before, or half of the range of samples.
+pub fn reach_samples<R: Read + Drop>(
+    alloc: Global,
+    source: &mut Source<R>,
+    scan: &SampleScan<'_>,
+    decoded: &mut Decoded,
+) -> Result<Option<Marker>>
+    requires sound { IsSound (found_of scan.now.said.now decoded.old) }
+    requires frame { (said_of scan.now.said.now).frame ≡ Some (frame_in scan.now.frame.now) }
+    requires process { (frame_in scan.now.frame.now).process ≡ Lossless }
+    requires legal { IsScanOf (frame_in scan.now.frame.now) (scan_in scan.now.header.now) }
+    requires scan { IsSampleScan (said_of scan.now.said.now) (frame_in scan.now.frame.now)
+        (scan_in scan.now.header.now) scan.now }
+    ensures found { (codings : List LosslessCoding) → sample_codings (said_of scan.now.said.now)
+        (frame_in scan.now.frame.now) (scan_in scan.now.header.now) ≡ Ok codings
+        → OnTold source.old source.new result (once_scanned (found_of scan.now.said.now decoded.new)
+        ≡ (samples_reached (found_of scan.now.said.now decoded.old) (frame_in scan.now.frame.now)
+        (scan_in scan.now.header.now) codings source.old.bytes).0) }
+    ensures answers { (codings : List LosslessCoding) → sample_codings (said_of scan.now.said.now)
+        (frame_in scan.now.frame.now) (scan_in scan.now.header.now) ≡ Ok codings
+        → UnlessRefused result (Answers (λ m. m) (λ bytes. (samples_reached
+        (found_of scan.now.said.now decoded.old) (frame_in scan.now.frame.now)
+        (scan_in scan.now.header.now) codings bytes).1) source.old result source.new) }
+    ensures sound { UnlessRefused result
+        (IsSound (once_scanned (found_of scan.now.said.now decoded.new))) }
+{
+    let coding = RowCoding::new(alloc, scan.coding, &scan.parts)?;
+    let mut rows = LosslessScan::new(alloc, &coding)?;
+    let met = reach_intervals(alloc, source, &coding, &mut rows, scan.rows);
+    let mut planes = rows.finish(&coding);
+    let indices = scan.header.component_indices.as_slice();
+    complete_all(scan.frame, indices, &decoded.samples, &mut planes)?;
+    decoded.put_samples(alloc, indices, &mut planes);
+    met
+}
