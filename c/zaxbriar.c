@@ -37,6 +37,9 @@ _Static_assert(offsetof(zaxbriar_picture, feature) == 48, "picture");
 _Static_assert(offsetof(zaxbriar_picture, feature_argument) == 49, "picture");
 _Static_assert(offsetof(zaxbriar_picture, sampling) == 50, "picture");
 _Static_assert(offsetof(zaxbriar_picture, fault) == 54, "picture");
+_Static_assert(offsetof(zaxbriar_picture, density_unit) == 55, "picture");
+_Static_assert(offsetof(zaxbriar_picture, horizontal_density) == 56, "picture");
+_Static_assert(offsetof(zaxbriar_picture, vertical_density) == 58, "picture");
 _Static_assert(offsetof(zaxbriar_picture, text) == 80, "picture");
 
 /* Where an empty slice without a pointer begins. */

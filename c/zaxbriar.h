@@ -98,6 +98,14 @@ typedef enum zaxbriar_format {
     ZAXBRIAR_FORMAT_CMYK = 4    /* four components, of `precision` bits each */
 } zaxbriar_format;
 
+/* The unit of a density. A file may have other numbers, which mean nothing. */
+typedef enum zaxbriar_density_unit {
+    ZAXBRIAR_NO_UNIT = 0, /* a pixel's width is to its height as vertical_density is to
+                             horizontal_density; unknown if one of these is 0 */
+    ZAXBRIAR_PER_INCH = 1,
+    ZAXBRIAR_PER_CENTIMETRE = 2
+} zaxbriar_density_unit;
+
 /* How to interpret the components, regardless of what the stream says. RGB and YCBCR are for
  * pictures of three components, CMYK and YCCK for pictures of four; decoding any other picture with
  * them is MALFORMED. Grey and lossless pictures aren't affected.
@@ -208,7 +216,12 @@ typedef struct zaxbriar_picture {
     uint8_t fault;            /* after ZAXBRIAR_PARTIAL: the stream's first fault, which is
                                  ZAXBRIAR_MALFORMED, ZAXBRIAR_UNSUPPORTED or ZAXBRIAR_TRUNCATED;
                                  otherwise 0 */
-    uint8_t reserved[25];     /* zero */
+    uint8_t density_unit;     /* of the stream: zaxbriar_density_unit, and then the pixels per unit
+                                 across and down, at full size, as the first JFIF segment before
+                                 the frame header gives them; zeros if none does */
+    uint16_t horizontal_density;
+    uint16_t vertical_density;
+    uint8_t reserved[20];     /* zero */
     char text[112];           /* why the call failed, or the fault of a partial picture, in English,
                                  ending with a zero; "" after OK */
 } zaxbriar_picture;

@@ -7,6 +7,7 @@
 /* Writes a line about a file. Returns whether its header could be read. */
 static int describe(const char *name, const unsigned char *jpeg, size_t size) {
     static const char *const processes[] = {"?", "sequential", "progressive", "lossless"};
+    static const char *const units[] = {"", "/inch", "/cm", "?"};
     size_t lengths[4] = {0};
     zaxbriar_picture picture;
     int answer = zaxbriar_read_info(jpeg, size, NULL, &picture);
@@ -21,9 +22,11 @@ static int describe(const char *name, const unsigned char *jpeg, size_t size) {
            picture.components, picture.precision);
     for (int i = 0; i < picture.components; i++)
         printf(" %ux%u", picture.sampling[i] >> 4, picture.sampling[i] & 15);
-    printf(", %s, orientation %u, exif %zu, xmp %zu, icc %zu bytes; decoding takes %llu bytes\n",
-           processes[picture.process & 3], picture.orientation, lengths[ZAXBRIAR_EXIF],
-           lengths[ZAXBRIAR_XMP], lengths[ZAXBRIAR_ICC],
+    printf(", %s, orientation %u, density %ux%u%s, exif %zu, xmp %zu, icc %zu bytes;"
+           " decoding takes %llu bytes\n",
+           processes[picture.process & 3], picture.orientation, picture.horizontal_density,
+           picture.vertical_density, units[picture.density_unit < 3 ? picture.density_unit : 3],
+           lengths[ZAXBRIAR_EXIF], lengths[ZAXBRIAR_XMP], lengths[ZAXBRIAR_ICC],
            (unsigned long long)picture.decoding_bytes);
     return 1;
 }

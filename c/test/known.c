@@ -306,6 +306,67 @@ static void cut_with_options(void) {
     CHECK(decode_partial(grey, sizeof grey, above, 64) == ZAXBRIAR_TOO_LARGE);
 }
 
+/* A JFIF segment (T.871, 10.1) of 72 to 300 dots per inch, without a thumbnail. Byte 11 is the
+ * unit. */
+static const unsigned char jfif[18] = {0xff, 0xe0, 0x00, 0x10, 'J',  'F', 'I',  'F',  0x00,
+                                       0x01, 0x02, 0x01, 0x00, 0x48, 1,   0x2c, 0x00, 0x00};
+
+/* Whether a stream is described with this density, or none. */
+static int is_dense(const unsigned char *jpeg, size_t size, int unit, int across, int down) {
+    zaxbriar_options none = {0}, eighth = {.scale = 8};
+    for (int call = 0; call < 4; call++) {
+        if (call < 2) {
+            const zaxbriar_options *options = call ? &eighth : NULL;
+            if (zaxbriar_read_info(jpeg, size, options, &picture) != ZAXBRIAR_OK) return 0;
+        } else if (call == 2) {
+            if (decode(jpeg, size, none, 64) != ZAXBRIAR_OK) return 0;
+        } else if (decode_partial(jpeg, size - 1, none, 64) != ZAXBRIAR_PARTIAL) {
+            return 0;
+        }
+        if (picture.density_unit != unit || picture.horizontal_density != across ||
+            picture.vertical_density != down)
+            return 0;
+    }
+    return 1;
+}
+
+/* The density of a JFIF segment after SOI, after Exif data and fill bytes, and before a second one;
+ * and none after the frame header, by another name or in another segment, or in a segment that is
+ * too short. */
+static void densities(void) {
+    enum { SIZE = sizeof grey + sizeof jfif };
+    unsigned char stream[SIZE], longer[SIZE + sizeof exif[0] + 1], twice[SIZE + sizeof jfif];
+    unsigned char *start = longer + 2 + sizeof exif[0];
+    CHECK(is_dense(grey, sizeof grey, 0, 0, 0));
+    memcpy(stream, grey, 2);
+    memcpy(stream + 2, jfif, sizeof jfif);
+    memcpy(stream + 2 + sizeof jfif, grey + 2, sizeof grey - 2);
+    CHECK(is_dense(stream, SIZE, ZAXBRIAR_PER_INCH, 72, 300));
+    memcpy(twice, grey, 2);
+    memcpy(twice + 2, jfif, sizeof jfif);
+    memcpy(twice + 2 + sizeof jfif, stream + 2, SIZE - 2);
+    twice[2 + 11] = ZAXBRIAR_PER_CENTIMETRE;
+    twice[2 + 13] = 28;
+    CHECK(is_dense(twice, sizeof twice, ZAXBRIAR_PER_CENTIMETRE, 28, 300));
+    twice[2 + 3] = 13; /* eleven bytes of data: what follows them isn't a marker */
+    CHECK(is_dense(twice, sizeof twice, ZAXBRIAR_PER_INCH, 72, 300));
+    memcpy(longer, grey, 2);
+    memcpy(longer + 2, exif[0], sizeof exif[0]);
+    *start = 0xff;
+    memcpy(start + 1, stream + 2, SIZE - 2);
+    CHECK(is_dense(longer, sizeof longer, ZAXBRIAR_PER_INCH, 72, 300));
+    stream[3] = 0xe1;
+    CHECK(is_dense(stream, SIZE, 0, 0, 0));
+    stream[3] = 0xe0;
+    stream[9] = 'X';
+    CHECK(is_dense(stream, SIZE, 0, 0, 0));
+    memcpy(stream, grey, GREY_HEADER);
+    memcpy(stream + GREY_HEADER, jfif, sizeof jfif);
+    memcpy(stream + GREY_HEADER + sizeof jfif, grey + GREY_HEADER, sizeof grey - GREY_HEADER);
+    CHECK(is_dense(stream, SIZE, 0, 0, 0));
+    CHECK(zaxbriar_read_info(stream, GREY_HEADER - 1, NULL, &picture) == ZAXBRIAR_TRUNCATED);
+}
+
 static void metadata(void) {
     for (int i = 0; i < 2; i++) {
         unsigned char stream[sizeof grey + sizeof exif[i]], buffer[23];
@@ -453,6 +514,7 @@ int main(void) {
     cut_streams();
     damaged_streams();
     cut_with_options();
+    densities();
     metadata();
     metadata_of_image();
     long_profile();

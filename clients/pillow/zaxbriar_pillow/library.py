@@ -73,7 +73,10 @@ class Picture(Structure):
         ("feature_argument", c_uint8),
         ("sampling", c_uint8 * 4),
         ("fault", c_uint8),
-        ("reserved", c_uint8 * 25),
+        ("density_unit", c_uint8),
+        ("horizontal_density", c_uint16),
+        ("vertical_density", c_uint16),
+        ("reserved", c_uint8 * 20),
         ("text", c_char * 112),
     ]
 

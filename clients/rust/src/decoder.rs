@@ -1,6 +1,6 @@
 use crate::color::{transform_number, ColorTransform};
 use crate::error::{Error, Result, UnsupportedFeature};
-use crate::info::{size_of, ImageInfo, Scale};
+use crate::info::{size_of, Density, ImageInfo, Scale};
 use crate::library::{self, Kind, Options, Picture, Refusal, Segments};
 use crate::stream::Stream;
 use std::io::{self, Read};
@@ -284,6 +284,23 @@ impl<R: Read> Decoder<R> {
     /// read; 1 where they say none.
     pub fn orientation(&self) -> Option<u8> {
         self.picture.map(|picture| picture.orientation)
+    }
+
+    /// Returns the density that the first JFIF segment before the frame gives, once the header was
+    /// read; none where there is no such segment, or a density is 0.
+    ///
+    /// ```
+    /// # let grey = std::fs::read("tests/grey.jpg").unwrap();
+    /// # let segment = b"\xff\xe0\0\x10JFIF\0\x01\x02\x01\0\x48\0\x60\0\0";
+    /// # let jpeg = [&grey[..2], segment, &grey[2..]].concat();
+    /// let mut decoder = zaxbriar::Decoder::new(&jpeg[..]);
+    /// decoder.read_info()?;
+    /// let density = decoder.density().unwrap();
+    /// assert_eq!((density.unit, density.horizontal, density.vertical), (1, 72, 96));
+    /// # Ok::<(), zaxbriar::Error>(())
+    /// ```
+    pub fn density(&self) -> Option<Density> {
+        self.picture.as_ref().and_then(Density::of)
     }
 }
 

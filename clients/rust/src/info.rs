@@ -77,6 +77,29 @@ impl ImageInfo {
     }
 }
 
+/// The density that a JFIF segment gives, for [`Decoder::density`](crate::Decoder::density).
+#[derive(Clone, Copy, Debug, PartialEq, Eq)]
+pub struct Density {
+    /// The unit of length: 1 is an inch and 2 a centimetre; with 0 the two numbers only say the
+    /// shape of a pixel, whose width is to its height as `vertical` to `horizontal`.
+    pub unit: u8,
+    /// The pixels of a row per unit, at full size.
+    pub horizontal: u16,
+    /// The pixels of a column per unit.
+    pub vertical: u16,
+}
+
+impl Density {
+    pub(crate) fn of(picture: &Picture) -> Option<Density> {
+        let density = Density {
+            unit: picture.density_unit,
+            horizontal: picture.horizontal_density,
+            vertical: picture.vertical_density,
+        };
+        (density.horizontal > 0 && density.vertical > 0).then_some(density)
+    }
+}
+
 /// Returns the width and the height of a picture: a JPEG picture has at most 65535 of either.
 pub(crate) fn size_of(picture: &Picture) -> (u16, u16) {
     (picture.width as u16, picture.height as u16)

@@ -71,7 +71,10 @@ pub struct Picture {
     feature_argument: u8,
     sampling: [u8; 4],
     fault: u8,
-    reserved: [u8; 25],
+    pub density_unit: u8,
+    pub horizontal_density: u16,
+    pub vertical_density: u16,
+    reserved: [u8; 20],
     text: [u8; TEXT_BYTES],
 }
 
@@ -100,7 +103,10 @@ impl Picture {
         feature_argument: 0,
         sampling: [0; 4],
         fault: 0,
-        reserved: [0; 25],
+        density_unit: 0,
+        horizontal_density: 0,
+        vertical_density: 0,
+        reserved: [0; 20],
         text: [0; TEXT_BYTES],
     };
 

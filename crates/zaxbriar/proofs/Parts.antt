@@ -27,6 +27,7 @@ use Rattle.zaxbriar.specs.Meanings.{Describes, IsWithin, as_described, settings_
 use Rattle.zaxbriar.specs.Partial.{BringsLines, Reaches, ShowsFault, ShowsPart, TellsFault, shown_by, without_fault}
 use Rattle.zaxbriar.specs.declared.answers.Refusal.{Refusal}
 use Rattle.zaxbriar.specs.declared.answers.Refusal.TheVariants as refusals
+use Rattle.zaxbriar.specs.declared.density.Density.{Density}
 use Rattle.zaxbriar.specs.declared.features.Feature.{Feature}
 use Rattle.zaxbriar.specs.declared.lines.Lines.{Lines}
 use Rattle.zaxbriar.specs.declared.options.Options.{Options}
@@ -88,15 +89,15 @@ shows-rest o bytes rest header h = then-ok (header_at bytes) _ (header, rest) _ 
 
 pub brought-shown : (o : Options) (bytes : List ℕ) (header : Found) (info : ImageInfo) (precision : ℕ) (lines : Lines)
     (fault : Option Error) (old new : Decoding) (before after : List ℕ) (picture : Picture)
-    (decoding orientation stream : ℕ) (sampling : List ℕ)
+    (decoding orientation stream : ℕ) (sampling : List ℕ) (density : Density)
     → header_at bytes ≡ Ok (header, old.source.bytes) → old.settings ≡ settings_of o
     → old.found ≡ with_said (at_size (size_wanted o)) header
     → option_map info_of old.found.said.frame ≡ Some info
     → option_map (λ f. f.precision) old.found.said.frame ≡ Some precision → HasLines o info precision lines
-    → picture ≡ described_picture o.layout info precision lines decoding orientation sampling stream
+    → picture ≡ described_picture o.layout info precision lines decoding orientation sampling density stream
     → (b : BringsLines lines fault old new before after) → ShowsPart o bytes before after b.brings.named picture
 brought-shown o bytes header info precision lines fault old new before after picture decoding orientation stream sampling
-    h s f i p l d b = record {
+    density h s f i p l d b = record {
       told = told_of new.found.said;
       samples = b.samples;
       info = info;
@@ -105,8 +106,8 @@ brought-shown o bytes header info precision lines fault old new before after pic
           ∙ (λ i. shown_rest (sym s i) (sym f i) old.source.bytes) ∙ b.brings.shown;
       info_is = ap (λ f. option_map info_of f) b.frame ∙ i;
       precision_is = ap (λ f. option_map (λ f. f.precision) f) b.frame ∙ p;
-      arranged = arranged-of o info precision b.samples before after picture lines decoding orientation stream sampling l
-          b.pixels d;
+      arranged = arranged-of o info precision b.samples before after picture lines decoding orientation stream sampling
+          density l b.pixels d;
     }
 
 pub none-named : (named : Option Fault) (P : Option Fault → Type 0) → NamesFault None named → P named → P None
@@ -175,6 +176,7 @@ whole-told (Ok x) o bytes old new picture feature fault text result code lacks n
     decoding = s.arranged.decoding;
     orientation = s.arranged.orientation;
     sampling = s.arranged.sampling;
+    density = s.arranged.density;
     picture_is = λ i. telling (s.arranged.picture_is i) (lacks i) (none i) (t i);
   };
 }

@@ -11,20 +11,21 @@ use Rattle.zaxbriar.specs.Meanings.{Describes, IsWithin, Shows, ShowsSamples, un
 use Rattle.zaxbriar.proofs.Fails.{code-fails, has-no-room, is-too-large}
 use Rattle.zaxbriar.specs.declared.answers.Refusal.TheVariants.{TooLarge}
 use Rattle.zaxbriar.specs.declared.answers.Refusal.{Refusal}
+use Rattle.zaxbriar.specs.declared.density.Density.{Density}
 use Rattle.zaxbriar.specs.declared.features.Feature.{Feature}
 use Rattle.zaxbriar.specs.declared.lines.Lines.{Lines}
 use Rattle.zaxbriar.specs.declared.options.Options.{Options}
 use Rattle.zaxbriar.specs.declared.picture.Picture.{Picture}
 
 pub arranged-of : (o : Options) (info : ImageInfo) (precision : ℕ) (samples old new : List ℕ) (picture : Picture)
-    (lines : Lines) (decoding orientation stream : ℕ) (sampling : List ℕ)
+    (lines : Lines) (decoding orientation stream : ℕ) (sampling : List ℕ) (density : Density)
     → HasLines o info precision lines
     → new ≡ laid_out (layout_line lines.conversion lines.stored lines.width) (lines.width * lines.stored)
     lines.stride lines.height
     samples old
-    → picture ≡ described_picture o.layout info precision lines decoding orientation sampling stream
+    → picture ≡ described_picture o.layout info precision lines decoding orientation sampling density stream
     → Arranged o info precision samples old new picture
-arranged-of o info precision samples old new picture lines decoding orientation stream sampling h e p = record {
+arranged-of o info precision samples old new picture lines decoding orientation stream sampling density h e p = record {
   conversion = h.conversion;
   is = h.is;
   pixels = e ∙ (λ i. laid_out (layout_line (h.lines_are i).conversion (h.lines_are i).stored (h.lines_are i).width)
@@ -32,8 +33,9 @@ arranged-of o info precision samples old new picture lines decoding orientation 
   decoding = decoding;
   orientation = orientation;
   sampling = sampling;
+  density = density;
   picture_is = p ∙ (λ i. described_picture o.layout info precision (h.lines_are i) decoding
-      orientation sampling
+      orientation sampling density
       (ap (λ (q : Picture). q.stream_bytes) (sym p) i));
 }
 
@@ -57,6 +59,7 @@ retold o info precision samples old new picture feature text none t a = record {
   decoding = a.decoding;
   orientation = a.orientation;
   sampling = a.sampling;
+  density = a.density;
   picture_is = λ i. ending (a.picture_is i) (none i) (t i);
 }
 

@@ -1,3 +1,4 @@
+pub mod Density
 pub mod Faults
 pub mod Features
 pub mod Layouts

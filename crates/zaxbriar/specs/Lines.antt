@@ -14,6 +14,7 @@ use Rattle.jpeg_streams.specs.declared.images.PixelFormat.TheVariants.{L8, L16, 
 use Rattle.zaxbriar.specs.Layouts.{TakesStored, conversion_to, converted_bytes, laid_out}
 use Rattle.zaxbriar.specs.Layouts.{layout_line, pixel_bytes, size_of_lines}
 use Rattle.zaxbriar.specs.declared.layouts.Conversion.{Conversion}
+use Rattle.zaxbriar.specs.declared.density.Density.{Density}
 use Rattle.zaxbriar.specs.declared.lines.Lines.{Lines}
 use Rattle.zaxbriar.specs.declared.options.Options.{Options}
 use Rattle.zaxbriar.specs.declared.picture.Picture.{Picture}
@@ -78,13 +79,13 @@ format_number RGB24 = 3
 format_number CMYK32 = 4
 
 -- what a caller is told of a picture: these lines, the memory that decoding takes, the orientation,
--- the sampling factors, and the bytes of the stream
-abbrev pub described_picture : ℕ → ImageInfo → ℕ → Lines → ℕ → ℕ → List ℕ → ℕ → Picture
-described_picture layout info precision lines decoding orientation sampling stream = record {
+-- the sampling factors, the density, and the bytes of the stream
+abbrev pub described_picture : ℕ → ImageInfo → ℕ → Lines → ℕ → ℕ → List ℕ → Density → ℕ → Picture
+described_picture layout info precision lines decoding orientation sampling density bytes = record {
   size = size_of_lines lines.stride lines.row_bytes lines.height;
   row_bytes = lines.row_bytes;
   decoding_bytes = decoding;
-  stream_bytes = stream;
+  stream_bytes = bytes;
   width = lines.width;
   height = lines.height;
   pixel_bytes = lines.pixel_bytes;
@@ -99,7 +100,10 @@ described_picture layout info precision lines decoding orientation sampling stre
   feature_argument = 0;
   sampling = sampling;
   fault = 0;
-  reserved = replicate 25 0;
+  density_unit = density.unit;
+  horizontal_density = density.horizontal;
+  vertical_density = density.vertical;
+  reserved = replicate 20 0;
   text = replicate 112 0;
 }
 
@@ -115,9 +119,10 @@ pub record Arranged (o : Options) (info : ImageInfo) (precision : ℕ) (samples 
   pub decoding : ℕ
   pub orientation : ℕ
   pub sampling : List ℕ
+  pub density : Density
   pub picture_is : picture ≡ described_picture o.layout info precision
       (lines_by o.stride info precision conversion) decoding orientation sampling
-      picture.stream_bytes
+      density picture.stream_bytes
 
 -- A decoder whose header was read has decoded its picture, and the lines of it are in the caller's
 -- memory.

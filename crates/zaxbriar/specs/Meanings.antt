@@ -18,6 +18,7 @@ use Rattle.jpeg_streams.specs.declared.settings.Settings.{Settings}
 use Rattle.jpeg_decoder.specs.Bytes.{decoding_bytes}
 use Rattle.jpeg_decoder.specs.Orientation.{orientation_in}
 use Rattle.jpeg_decoder.specs.declared.sizes.DecodingBytes.{DecodingBytes}
+use Rattle.zaxbriar.specs.Density.{density_of}
 use Rattle.zaxbriar.specs.Layouts.{conversion_to}
 use Rattle.zaxbriar.specs.Limits.{are_known, bytes_beside, exceeds_limits}
 use Rattle.zaxbriar.specs.Lines.{Arranged, FitLines, lines_by, described_picture}
@@ -122,7 +123,8 @@ pub record Describes (part : Bool) (o : Options) (bytes : List ℕ) (picture : P
   pub picture_is : picture ≡ described_picture o.layout info precision
       (lines_by o.stride info precision conversion)
       (bytes_beside part decoding)
-      (orientation_by (at_size (size_wanted o) header.said).metadata.exif) sampling 0
+      (orientation_by (at_size (size_wanted o) header.said).metadata.exif) sampling
+      (density_of bytes) 0
 
 -- The lines that the options ask for don't fit the picture of a header.
 pub record IsMisfit (o : Options) (bytes : List ℕ) : Type 0 where
@@ -162,7 +164,10 @@ no_picture = record {
   feature_argument = 0;
   sampling = replicate 4 0;
   fault = 0;
-  reserved = replicate 25 0;
+  density_unit = 0;
+  horizontal_density = 0;
+  vertical_density = 0;
+  reserved = replicate 20 0;
   text = replicate 112 0;
 }
 

@@ -29,6 +29,7 @@ ghost use Rattle.zaxbriar.specs.declared.answers.Refusal.TheVariants.{NoRoom, To
 
 use crate::answers::{Refusal, refusal_of};
 use crate::counts::bytes_read;
+use crate::density::density_of;
 use crate::description::describe;
 use crate::header::Header;
 use crate::lines::{Lines, put_lines, stored_line};
@@ -239,7 +240,7 @@ pub fn decode_into(
         return Err(Refusal::Argument("an option doesn't exist"));
     }
     let mut decoder = Decoder::new(alloc, SliceReader::new(jpeg))?;
-    let described = describe(&mut decoder, options, picture, is_partial);
+    let described = describe(&mut decoder, options, density_of(jpeg), picture, is_partial);
     picture.stream_bytes = bytes_read(jpeg, &decoder);
     let (header, lines) = described?;
     if picture.size > pixels.len() as u64 {

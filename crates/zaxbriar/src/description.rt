@@ -6,6 +6,7 @@ ghost use Rattle.jpeg_streams.specs.Output.{default_settings};
 ghost use Rattle.jpeg_streams.specs.Pixels.{info_of};
 ghost use Rattle.jpeg_streams.specs.declared.progress.Progress.TheVariants.{Fresh};
 ghost use Rattle.jpeg_streams.specs.Stream.{header_at};
+ghost use Rattle.zaxbriar.specs.Density.{density_of};
 ghost use Rattle.zaxbriar.specs.Faults.{IsArgument, IsFault, IsOfCall, IsPart};
 ghost use Rattle.zaxbriar.specs.Limits.{are_known, bytes_beside};
 ghost use Rattle.zaxbriar.specs.Lines.{HasLines, described_picture};
@@ -15,6 +16,7 @@ ghost use Rattle.zaxbriar.specs.declared.answers.Refusal.TheVariants.{NoRoom, To
 
 use crate::answers::Refusal;
 use crate::counts::bytes_read;
+use crate::density::{Density, density_of};
 use crate::header::{Header, read_header};
 use crate::limits::exceeds_limits;
 use crate::lines::{Lines, lines_of};
@@ -24,16 +26,19 @@ use jpeg_decoder::{Decoder, SliceReader};
 use std::alloc::Global;
 use std::io::Read;
 
-/// Reads a header, and describes the picture that the options ask for, which may be one in part. A
-/// picture above their limits is described and refused.
+/// Reads a header, and describes the picture that the options ask for, which may be one in part,
+/// with the density of the stream. A picture above their limits is described and refused.
 pub fn describe<R: Read + Drop>(
     decoder: &mut Decoder<R>,
     options: &Options,
+    density: Density,
     picture: &mut Picture,
     is_partial: bool,
 ) -> std::result::Result<(Header, Lines), Refusal>
     requires fresh { decoder.old.stage ≡ Fresh }
     requires plain { decoder.old.settings ≡ default_settings }
+    requires dense { decoder.old.source.known ≡ true
+        → density ≡ density_of decoder.old.source.bytes }
     ensures reads { OnOk result (ReadsHeader options.now decoder.old decoder.new) }
     ensures info { IfOk result
         (λ a. option_map info_of decoder.new.found.said.frame ≡ Some a.0.info) }
@@ -44,7 +49,7 @@ pub fn describe<R: Read + Drop>(
     ensures lines { IfOk result (λ a. HasLines options.now a.0.info a.0.precision a.1) }
     ensures told { IfOk result (λ a. picture.new ≡ described_picture options.now.layout a.0.info
         a.0.precision a.1 (bytes_beside is_partial a.0.decoding_bytes) a.0.orientation
-        a.0.sampling 0) }
+        a.0.sampling density 0) }
     ensures within { decoder.old.source.known ≡ true
         → OnOk result (IsWithin is_partial options.now decoder.old.source.bytes picture.new) }
     ensures large { decoder.old.source.known ≡ true → IfErr result (λ r. r ≡ TooLarge
@@ -64,7 +69,7 @@ pub fn describe<R: Read + Drop>(
 {
     let header = read_header(decoder, options)?;
     let lines = lines_of(header.info, header.precision, options)?;
-    *picture = picture_of(header, lines, options.layout, is_partial);
+    *picture = picture_of(header, density, lines, options.layout, is_partial);
     if exceeds_limits(options, header.info, picture.decoding_bytes) {
         return Err(Refusal::TooLarge);
     }
@@ -102,7 +107,7 @@ pub fn read_info_from(
         return Err(Refusal::Argument("an option doesn't exist"));
     }
     let mut decoder = Decoder::new(alloc, SliceReader::new(jpeg))?;
-    let described = describe(&mut decoder, options, picture, false);
+    let described = describe(&mut decoder, options, density_of(jpeg), picture, false);
     picture.stream_bytes = bytes_read(jpeg, &decoder);
     described?;
     Ok(())

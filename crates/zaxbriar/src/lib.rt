@@ -28,6 +28,7 @@ ghost use Rattle.zaxbriar.specs.Partial.{ShowsPart, TellsFault, shown_by, withou
 mod answers;
 mod counts;
 mod decode;
+pub mod density;
 mod description;
 mod features;
 mod header;

@@ -4,6 +4,7 @@ ghost use Rattle.zaxbriar.specs.Limits.{bytes_beside};
 ghost use Rattle.zaxbriar.specs.Lines.{described_picture, format_number, process_number};
 
 use crate::answers::TEXT_BYTES;
+use crate::density::Density;
 use crate::header::Header;
 use crate::layouts::{bytes_a_sample, samples_a_pixel};
 use crate::limits::bytes_beside;
@@ -51,8 +52,13 @@ pub struct Picture {
     pub sampling: [u8; 4],
     /// After a part of a stream, the number of its fault.
     pub fault: u8,
+    /// The density that the header's JFIF segment gives, or zeros. The unit is 1 for dots per inch,
+    /// 2 for dots per centimetre, and 0 where the two only say the shape of a pixel.
+    pub density_unit: u8,
+    pub horizontal_density: u16,
+    pub vertical_density: u16,
     /// Zero.
-    pub reserved: [u8; 25],
+    pub reserved: [u8; 20],
     /// Why a call failed, ended by a zero; all zeros after a success.
     pub text: [u8; TEXT_BYTES],
 }
@@ -77,7 +83,10 @@ pub const NO_PICTURE: Picture = Picture {
     feature_argument: 0,
     sampling: [0; 4],
     fault: 0,
-    reserved: [0; 25],
+    density_unit: 0,
+    horizontal_density: 0,
+    vertical_density: 0,
+    reserved: [0; 20],
     text: [0; TEXT_BYTES],
 };
 
@@ -105,7 +114,13 @@ fn format_number(format: PixelFormat) -> u8
 }
 
 /// Returns what a caller is told of a picture before it is decoded, as a whole or in part.
-pub fn picture_of(header: Header, lines: Lines, layout: u8, is_partial: bool) -> Picture
+pub fn picture_of(
+    header: Header,
+    density: Density,
+    lines: Lines,
+    layout: u8,
+    is_partial: bool,
+) -> Picture
     requires row { lines.row_bytes ≤ lines.stride }
     requires stride { lines.stride ≤ 4294967296 }
     requires peak { header.decoding_bytes.coefficients + header.decoding_bytes.planes
@@ -113,7 +128,8 @@ pub fn picture_of(header: Header, lines: Lines, layout: u8, is_partial: bool) ->
     requires partial_peak { header.decoding_bytes.all_coefficients + header.decoding_bytes.planes
         ≤ header.decoding_bytes.partial_peak }
     ensures { result ≡ described_picture layout header.info header.precision lines
-        (bytes_beside is_partial header.decoding_bytes) header.orientation header.sampling 0 }
+        (bytes_beside is_partial header.decoding_bytes) header.orientation header.sampling
+        density 0 }
 {
     let sampling = header.sampling;
     Picture {
@@ -135,7 +151,10 @@ pub fn picture_of(header: Header, lines: Lines, layout: u8, is_partial: bool) ->
         feature_argument: 0,
         sampling,
         fault: 0,
-        reserved: [0; 25],
+        density_unit: density.unit,
+        horizontal_density: density.horizontal,
+        vertical_density: density.vertical,
+        reserved: [0; 20],
         text: [0; TEXT_BYTES],
     }
 }
