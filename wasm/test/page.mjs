@@ -1,6 +1,6 @@
 /* node page.mjs BROWSER FOLDER: the page of dist/web in headless chromium or firefox: files that
  * are chosen, dropped and pasted, their pixels and sampling factors, what there is of files with a
- * fault, faults by name, zoom and the list by keys, names for a screen reader, the page without a
+ * fault, faults by name, the list, zoom and keys, names for a screen reader, the page without a
  * network, and the worker after a trap. FOLDER takes files and BROWSER.png. */
 import assert from 'node:assert/strict';
 import { readFileSync, writeFileSync } from 'node:fs';
@@ -187,6 +187,17 @@ async function checkFit(page) {
     assert.ok(Math.abs(width - room) < 1, `${width} of ${room}`);
 }
 
+/* The list is scrolled to the file that is chosen. */
+async function checkList(page, paths) {
+    for (const path of [paths.at(-1), paths[0]]) {
+        await show(page, path);
+        const sides = await page.run(`[${button(path)}, document.getElementById('files')].map(
+            (it) => [it.getBoundingClientRect().top, it.getBoundingClientRect().bottom])`);
+        const [[top, bottom], room] = sides;
+        assert.ok(top > room[0] - 1 && bottom < room[1] + 1, path);
+    }
+}
+
 async function checkKeys(page) {
     const scale = () => page.run(`document.getElementById('scale').textContent`);
     await show(page, PICTURES[0]);
@@ -289,6 +300,7 @@ for (const [path, sampling] of Object.entries(SAMPLINGS)) {
 await checkPixels(page);
 await checkPartial(page);
 await checkRefusals(page);
+await checkList(page, files);
 for (const event of ['drop', 'paste']) await give(page, event, PICTURES[0]);
 await checkKeys(page);
 const stops = await checkTabulator(page);
@@ -302,6 +314,6 @@ await page.close();
 await checkTrap();
 const [parts, refusals] = [PARTIAL, REFUSED].map((files) => Object.keys(files).length);
 console.log(`page in ${browser}: ${PICTURES.length} pictures with their sampling,`);
-console.log(`      ${parts} in part, ${refusals} refusals by name, drop, paste, fit, zoom,`);
+console.log(`      ${parts} in part, ${refusals} refusals by name, the list, drop, paste, fit, zoom,`);
 console.log(`      ${stops} stops of the tabulator, ${buttons} buttons with names,`);
 console.log('      an empty console, no network, the worker after a trap');

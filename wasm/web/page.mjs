@@ -183,6 +183,13 @@ function stateOf({ fault, isPartial }) {
 const entries = [];
 let chosen = null;
 
+/* Scrolls the list, and not the page, until an entry of it is seen. */
+function reveal({ button }) {
+    const list = at('files');
+    const [seen, room] = [button, list].map((it) => it.getBoundingClientRect());
+    list.scrollTop += Math.max(seen.bottom - room.bottom, 0) - Math.max(room.top - seen.top, 0);
+}
+
 /* Puts an answer on the page. */
 function show(entry, reply) {
     if (reply.pixels) {
@@ -207,6 +214,7 @@ function show(entry, reply) {
         at('canvas').setAttribute('aria-label', label);
         ZOOMS.fit();
     }
+    reveal(entry);
     tell(`${entry.file.name}: ${statusOf(reply)}`);
     document.body.dataset.state = state;
 }
