@@ -40,6 +40,7 @@ _Static_assert(offsetof(zaxbriar_picture, fault) == 54, "picture");
 _Static_assert(offsetof(zaxbriar_picture, density_unit) == 55, "picture");
 _Static_assert(offsetof(zaxbriar_picture, horizontal_density) == 56, "picture");
 _Static_assert(offsetof(zaxbriar_picture, vertical_density) == 58, "picture");
+_Static_assert(offsetof(zaxbriar_picture, transform) == 60, "picture");
 _Static_assert(offsetof(zaxbriar_picture, text) == 80, "picture");
 
 /* Where an empty slice without a pointer begins. */

@@ -221,7 +221,13 @@ typedef struct zaxbriar_picture {
                                  the frame header gives them; zeros if none does */
     uint16_t horizontal_density;
     uint16_t vertical_density;
-    uint8_t reserved[20];     /* zero */
+    uint8_t transform;        /* of the stream: the zaxbriar_transform that its header asks for, by
+                                 the components' identifiers, or else a JFIF or an Adobe segment
+                                 before the frame header: what zaxbriar_decode applies under
+                                 ZAXBRIAR_TRANSFORM_OF_STREAM, unless such a segment follows. NONE
+                                 for grey and lossless pictures, and 0 for libjpeg's big gamut
+                                 colours, which aren't decoded */
+    uint8_t reserved[19];     /* zero */
     char text[112];           /* why the call failed, or the fault of a partial picture, in English,
                                  ending with a zero; "" after OK */
 } zaxbriar_picture;

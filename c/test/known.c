@@ -367,6 +367,44 @@ static void densities(void) {
     CHECK(zaxbriar_read_info(stream, GREY_HEADER - 1, NULL, &picture) == ZAXBRIAR_TRUNCATED);
 }
 
+/* A frame header of three components after SOI. Bytes 12, 15 and 18 are their identifiers. */
+static const unsigned char colour[21] = {0xff, 0xd8, 0xff, 0xc0, 0,    17, 8, 0,    8, 0, 8,
+                                         3,    0,    0x11, 0,    1,    0x11, 0, 2,    0x11, 0};
+
+/* An Adobe segment. Byte 15 is the transform. */
+static const unsigned char adobe[16] = {0xff, 0xee, 0, 14, 'A', 'd', 'o', 'b', 'e', 0, 100};
+
+/* Whether a header with a segment after its start asks for this transform. */
+static int asks_for(const unsigned char *header, const unsigned char *segment, size_t size,
+                    int transform) {
+    unsigned char stream[sizeof colour + 18];
+    memcpy(stream, header, 2);
+    if (size) memcpy(stream + 2, segment, size);
+    memcpy(stream + 2 + size, header + 2, sizeof colour - 2);
+    if (zaxbriar_read_info(stream, sizeof colour + size, NULL, &picture) != ZAXBRIAR_OK) return 0;
+    return picture.transform == transform;
+}
+
+/* The transform by identifiers, by JFIF, and by Adobe's segment, in this order. */
+static void transforms(void) {
+    unsigned char header[sizeof colour], segment[sizeof adobe];
+    zaxbriar_options none = {0};
+    CHECK(decode(grey, sizeof grey, none, 64) == ZAXBRIAR_OK);
+    CHECK(picture.transform == ZAXBRIAR_TRANSFORM_NONE);
+    memcpy(header, colour, sizeof header);
+    memcpy(segment, adobe, sizeof segment);
+    CHECK(asks_for(header, NULL, 0, ZAXBRIAR_TRANSFORM_YCBCR));
+    CHECK(asks_for(header, jfif, sizeof jfif, ZAXBRIAR_TRANSFORM_YCBCR));
+    CHECK(asks_for(header, segment, sizeof segment, ZAXBRIAR_TRANSFORM_RGB));
+    segment[15] = 1;
+    CHECK(asks_for(header, segment, sizeof segment, ZAXBRIAR_TRANSFORM_YCBCR));
+    header[12] = 'R', header[15] = 'G', header[18] = 'B';
+    CHECK(asks_for(header, segment, sizeof segment, ZAXBRIAR_TRANSFORM_RGB));
+    CHECK(asks_for(header, jfif, sizeof jfif, ZAXBRIAR_TRANSFORM_RGB));
+    header[12] = 'r', header[15] = 'g', header[18] = 'b';
+    CHECK(asks_for(header, jfif, sizeof jfif, ZAXBRIAR_TRANSFORM_OF_STREAM));
+}
+
 static void metadata(void) {
     for (int i = 0; i < 2; i++) {
         unsigned char stream[sizeof grey + sizeof exif[i]], buffer[23];
@@ -515,6 +553,7 @@ int main(void) {
     damaged_streams();
     cut_with_options();
     densities();
+    transforms();
     metadata();
     metadata_of_image();
     long_profile();

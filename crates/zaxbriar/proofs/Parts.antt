@@ -89,15 +89,16 @@ shows-rest o bytes rest header h = then-ok (header_at bytes) _ (header, rest) _ 
 
 pub brought-shown : (o : Options) (bytes : List ℕ) (header : Found) (info : ImageInfo) (precision : ℕ) (lines : Lines)
     (fault : Option Error) (old new : Decoding) (before after : List ℕ) (picture : Picture)
-    (decoding orientation stream : ℕ) (sampling : List ℕ) (density : Density)
+    (decoding orientation stream : ℕ) (sampling : List ℕ) (transform : ℕ) (density : Density)
     → header_at bytes ≡ Ok (header, old.source.bytes) → old.settings ≡ settings_of o
     → old.found ≡ with_said (at_size (size_wanted o)) header
     → option_map info_of old.found.said.frame ≡ Some info
     → option_map (λ f. f.precision) old.found.said.frame ≡ Some precision → HasLines o info precision lines
-    → picture ≡ described_picture o.layout info precision lines decoding orientation sampling density stream
+    → picture ≡ described_picture o.layout info precision lines decoding orientation sampling transform density
+    stream
     → (b : BringsLines lines fault old new before after) → ShowsPart o bytes before after b.brings.named picture
 brought-shown o bytes header info precision lines fault old new before after picture decoding orientation stream sampling
-    density h s f i p l d b = record {
+    transform density h s f i p l d b = record {
       told = told_of new.found.said;
       samples = b.samples;
       info = info;
@@ -107,7 +108,7 @@ brought-shown o bytes header info precision lines fault old new before after pic
       info_is = ap (λ f. option_map info_of f) b.frame ∙ i;
       precision_is = ap (λ f. option_map (λ f. f.precision) f) b.frame ∙ p;
       arranged = arranged-of o info precision b.samples before after picture lines decoding orientation stream sampling
-          density l b.pixels d;
+          transform density l b.pixels d;
     }
 
 pub none-named : (named : Option Fault) (P : Option Fault → Type 0) → NamesFault None named → P named → P None
@@ -176,6 +177,7 @@ whole-told (Ok x) o bytes old new picture feature fault text result code lacks n
     decoding = s.arranged.decoding;
     orientation = s.arranged.orientation;
     sampling = s.arranged.sampling;
+    transform = s.arranged.transform;
     density = s.arranged.density;
     picture_is = λ i. telling (s.arranged.picture_is i) (lacks i) (none i) (t i);
   };

@@ -7,7 +7,7 @@ use Rattle.zaxbriar.specs.Faults.{IsOwn, status_of}
 use Rattle.zaxbriar.specs.Features.{feature_told, numbered}
 use Rattle.zaxbriar.specs.Layouts.{laid_out, layout_line}
 use Rattle.zaxbriar.specs.Lines.{Arranged, HasLines, described_picture}
-use Rattle.zaxbriar.specs.Meanings.{Describes, IsWithin, Shows, ShowsSamples, uncounted}
+use Rattle.zaxbriar.specs.Meanings.{Describes, IsTooLarge, IsWithin, Shows, ShowsSamples, as_described, uncounted}
 use Rattle.zaxbriar.proofs.Fails.{code-fails, has-no-room, is-too-large}
 use Rattle.zaxbriar.specs.declared.answers.Refusal.TheVariants.{TooLarge}
 use Rattle.zaxbriar.specs.declared.answers.Refusal.{Refusal}
@@ -18,26 +18,29 @@ use Rattle.zaxbriar.specs.declared.options.Options.{Options}
 use Rattle.zaxbriar.specs.declared.picture.Picture.{Picture}
 
 pub arranged-of : (o : Options) (info : ImageInfo) (precision : ℕ) (samples old new : List ℕ) (picture : Picture)
-    (lines : Lines) (decoding orientation stream : ℕ) (sampling : List ℕ) (density : Density)
+    (lines : Lines) (decoding orientation stream : ℕ) (sampling : List ℕ) (transform : ℕ) (density : Density)
     → HasLines o info precision lines
     → new ≡ laid_out (layout_line lines.conversion lines.stored lines.width) (lines.width * lines.stored)
     lines.stride lines.height
     samples old
-    → picture ≡ described_picture o.layout info precision lines decoding orientation sampling density stream
+    → picture ≡ described_picture o.layout info precision lines decoding orientation sampling transform density
+    stream
     → Arranged o info precision samples old new picture
-arranged-of o info precision samples old new picture lines decoding orientation stream sampling density h e p = record {
-  conversion = h.conversion;
-  is = h.is;
-  pixels = e ∙ (λ i. laid_out (layout_line (h.lines_are i).conversion (h.lines_are i).stored (h.lines_are i).width)
-      ((h.lines_are i).width * (h.lines_are i).stored) (h.lines_are i).stride (h.lines_are i).height samples old);
-  decoding = decoding;
-  orientation = orientation;
-  sampling = sampling;
-  density = density;
-  picture_is = p ∙ (λ i. described_picture o.layout info precision (h.lines_are i) decoding
-      orientation sampling density
-      (ap (λ (q : Picture). q.stream_bytes) (sym p) i));
-}
+arranged-of o info precision samples old new picture lines decoding orientation stream sampling transform density h e
+    p = record {
+      conversion = h.conversion;
+      is = h.is;
+      pixels = e ∙ (λ i. laid_out (layout_line (h.lines_are i).conversion (h.lines_are i).stored (h.lines_are i).width)
+          ((h.lines_are i).width * (h.lines_are i).stored) (h.lines_are i).stride (h.lines_are i).height samples old);
+      decoding = decoding;
+      orientation = orientation;
+      sampling = sampling;
+      transform = transform;
+      density = density;
+      picture_is = p ∙ (λ i. described_picture o.layout info precision (h.lines_are i) decoding
+          orientation sampling transform density
+          (ap (λ (q : Picture). q.stream_bytes) (sym p) i));
+    }
 
 -- a picture with a feature and a text
 abbrev pub ending : Picture → Feature → List ℕ → Picture
@@ -59,6 +62,7 @@ retold o info precision samples old new picture feature text none t a = record {
   decoding = a.decoding;
   orientation = a.orientation;
   sampling = a.sampling;
+  transform = a.transform;
   density = a.density;
   picture_is = λ i. ending (a.picture_is i) (none i) (t i);
 }
@@ -116,6 +120,20 @@ pub described : {X : Type 0} (outcome : Result X Refusal) (part : Bool) (o : Opt
 described (Ok x) part o bytes picture feature text result code lacks none d z =
     subst (λ (p : Picture). IsWithin part o bytes p) (sym (same part o bytes picture feature text lacks none d.0)) d
 described (Err r) part o bytes picture feature text result code lacks none d z = absurd (code-fails r (sym code ∙ z))
+
+-- a picture above a limit has no text either
+as-called : (part : Bool) (o : Options) (bytes : List ℕ) (picture : Picture) → Describes part o bytes (uncounted picture)
+    → as_described picture ≡ uncounted picture
+as-called part o bytes picture d = ap (λ (p : Picture). as_described p) d.picture_is ∙ sym d.picture_is
+
+pub large-told : {X : Type 0} (outcome : Result X Refusal) (part : Bool) (o : Options) (bytes : List ℕ)
+    (picture : Picture) (result : ℕ) → result ≡ status_of outcome
+    → IfErr outcome (λ r. r ≡ TooLarge → IsTooLarge part o bytes (uncounted picture)) → result ≡ 8
+    → IsTooLarge part o bytes (as_described picture)
+large-told (Ok x) part o bytes picture result code large z = absurd (omega (arith, code, z))
+large-told (Err r) part o bytes picture result code large z =
+    let told = large (is-too-large r (sym code ∙ z)) in
+    subst (λ (p : Picture). IsTooLarge part o bytes p) (sym (as-called part o bytes picture told.0)) told
 
 -- ---- what a call says by its number
 

@@ -1,3 +1,4 @@
+pub mod Colours
 pub mod Density
 pub mod Faults
 pub mod Features

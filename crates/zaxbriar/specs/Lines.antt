@@ -79,33 +79,36 @@ format_number RGB24 = 3
 format_number CMYK32 = 4
 
 -- what a caller is told of a picture: these lines, the memory that decoding takes, the orientation,
--- the sampling factors, the density, and the bytes of the stream
-abbrev pub described_picture : ℕ → ImageInfo → ℕ → Lines → ℕ → ℕ → List ℕ → Density → ℕ → Picture
-described_picture layout info precision lines decoding orientation sampling density bytes = record {
-  size = size_of_lines lines.stride lines.row_bytes lines.height;
-  row_bytes = lines.row_bytes;
-  decoding_bytes = decoding;
-  stream_bytes = bytes;
-  width = lines.width;
-  height = lines.height;
-  pixel_bytes = lines.pixel_bytes;
-  layout = layout;
-  components = samples_a_pixel info.pixel_format;
-  precision = precision;
-  sample_bytes = bytes_a_sample precision;
-  process = process_number info.coding_process;
-  orientation = orientation;
-  format = format_number info.pixel_format;
-  feature = 0;
-  feature_argument = 0;
-  sampling = sampling;
-  fault = 0;
-  density_unit = density.unit;
-  horizontal_density = density.horizontal;
-  vertical_density = density.vertical;
-  reserved = replicate 20 0;
-  text = replicate 112 0;
-}
+-- the sampling factors, the transform, the density, and the bytes of the stream
+abbrev pub described_picture : ℕ → ImageInfo → ℕ → Lines → ℕ → ℕ → List ℕ → ℕ → Density → ℕ
+    → Picture
+described_picture layout info precision lines decoding orientation sampling transform density
+    bytes = record {
+      size = size_of_lines lines.stride lines.row_bytes lines.height;
+      row_bytes = lines.row_bytes;
+      decoding_bytes = decoding;
+      stream_bytes = bytes;
+      width = lines.width;
+      height = lines.height;
+      pixel_bytes = lines.pixel_bytes;
+      layout = layout;
+      components = samples_a_pixel info.pixel_format;
+      precision = precision;
+      sample_bytes = bytes_a_sample precision;
+      process = process_number info.coding_process;
+      orientation = orientation;
+      format = format_number info.pixel_format;
+      feature = 0;
+      feature_argument = 0;
+      sampling = sampling;
+      fault = 0;
+      density_unit = density.unit;
+      horizontal_density = density.horizontal;
+      vertical_density = density.vertical;
+      transform = transform;
+      reserved = replicate 19 0;
+      text = replicate 112 0;
+    }
 
 -- The samples of a picture are in the caller's memory in the layout that the options ask for, and a
 -- caller is told of them.
@@ -119,9 +122,10 @@ pub record Arranged (o : Options) (info : ImageInfo) (precision : ℕ) (samples 
   pub decoding : ℕ
   pub orientation : ℕ
   pub sampling : List ℕ
+  pub transform : ℕ
   pub density : Density
   pub picture_is : picture ≡ described_picture o.layout info precision
-      (lines_by o.stride info precision conversion) decoding orientation sampling
+      (lines_by o.stride info precision conversion) decoding orientation sampling transform
       density picture.stream_bytes
 
 -- A decoder whose header was read has decoded its picture, and the lines of it are in the caller's

@@ -18,6 +18,7 @@ use Rattle.jpeg_streams.specs.declared.settings.Settings.{Settings}
 use Rattle.jpeg_decoder.specs.Bytes.{decoding_bytes}
 use Rattle.jpeg_decoder.specs.Orientation.{orientation_in}
 use Rattle.jpeg_decoder.specs.declared.sizes.DecodingBytes.{DecodingBytes}
+use Rattle.zaxbriar.specs.Colours.{colours_in, frame_transform}
 use Rattle.zaxbriar.specs.Density.{density_of}
 use Rattle.zaxbriar.specs.Layouts.{conversion_to}
 use Rattle.zaxbriar.specs.Limits.{are_known, bytes_beside, exceeds_limits}
@@ -111,6 +112,7 @@ pub record Describes (part : Bool) (o : Options) (bytes : List ℕ) (picture : P
   pub decoding : DecodingBytes
   pub conversion : Conversion
   pub sampling : List ℕ
+  pub transform : ℕ
   pub reads : header_at bytes ≡ Ok (header, rest)
   pub info_is : option_map info_of (at_size (size_wanted o) header.said).frame ≡ Some info
   pub precision_is : option_map (λ f. f.precision) (at_size (size_wanted o) header.said).frame
@@ -120,11 +122,13 @@ pub record Describes (part : Bool) (o : Options) (bytes : List ℕ) (picture : P
   pub conversion_is : conversion_to o.layout info.pixel_format precision ≡ Some conversion
   pub sampling_is : option_map (λ f. sampling_of f.components)
       (at_size (size_wanted o) header.said).frame ≡ Some sampling
+  pub transform_is : option_map (frame_transform (colours_in header.said.metadata))
+      (at_size (size_wanted o) header.said).frame ≡ Some transform
   pub picture_is : picture ≡ described_picture o.layout info precision
       (lines_by o.stride info precision conversion)
       (bytes_beside part decoding)
       (orientation_by (at_size (size_wanted o) header.said).metadata.exif) sampling
-      (density_of bytes) 0
+      transform (density_of bytes) 0
 
 -- The lines that the options ask for don't fit the picture of a header.
 pub record IsMisfit (o : Options) (bytes : List ℕ) : Type 0 where
@@ -167,7 +171,8 @@ no_picture = record {
   density_unit = 0;
   horizontal_density = 0;
   vertical_density = 0;
-  reserved = replicate 20 0;
+  transform = 0;
+  reserved = replicate 19 0;
   text = replicate 112 0;
 }
 

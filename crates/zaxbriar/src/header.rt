@@ -5,12 +5,14 @@ ghost use Rattle.jpeg_streams.specs.Output.{default_settings};
 ghost use Rattle.jpeg_streams.specs.Pixels.{info_of};
 ghost use Rattle.jpeg_streams.specs.declared.progress.Progress.TheVariants.{Fresh};
 ghost use Rattle.jpeg_streams.specs.Stream.{header_at};
+ghost use Rattle.zaxbriar.specs.Colours.{frame_transform};
 ghost use Rattle.zaxbriar.specs.Faults.{IsFault, IsOfDecoder};
 ghost use Rattle.std.specs.Option.{option_copied};
 ghost use Rattle.zaxbriar.specs.Meanings.{ReadsHeader, orientation_by};
 ghost use Rattle.zaxbriar.specs.Sampling.{sampling_of};
 
 use crate::answers::{Refusal, refusal_of};
+use crate::colours::{Colours, transform_told};
 use crate::options::{Options, apply, apply_size};
 use crate::sampling::sampling_of;
 use jpeg_decoder::orientation::orientation_of;
@@ -30,6 +32,8 @@ pub struct Header {
     pub orientation: u8,
     /// The sampling factors of the components.
     pub sampling: [u8; 4],
+    /// The number of the colour transform that the header asks for.
+    pub transform: u8,
 }
 
 /// Returns the orientation that Exif data say, and 1, upright, where they say none.
@@ -45,10 +49,11 @@ fn orientation_in(exif: Option<&[u8]>) -> u8
     }
 }
 
-/// Reads the header, and chooses the scale of the picture.
+/// Reads the header, which says this of its colours, and chooses the scale of the picture.
 pub fn read_header<R: Read + Drop>(
     decoder: &mut Decoder<R>,
     options: &Options,
+    colours: Colours,
 ) -> std::result::Result<Header, Refusal>
     requires fresh { decoder.old.stage ≡ Fresh }
     requires plain { decoder.old.settings ≡ default_settings }
@@ -64,6 +69,8 @@ pub fn read_header<R: Read + Drop>(
         ≡ orientation_by decoder.new.found.said.metadata.exif) }
     ensures sampling { IfOk result (λ h. option_map (λ f. sampling_of f.components)
         decoder.new.found.said.frame ≡ Some h.sampling) }
+    ensures transform { IfOk result (λ h. option_map (frame_transform colours)
+        decoder.new.found.said.frame ≡ Some h.transform) }
     ensures bytes { IfOk result (λ h. option_map decoding_bytes decoder.new.found.said.frame
         ≡ Some h.decoding_bytes) }
     ensures peak { IfOk result (λ h. h.decoding_bytes.coefficients + h.decoding_bytes.planes
@@ -86,11 +93,13 @@ pub fn read_header<R: Read + Drop>(
         return Err(Refusal::Argument("no frame"));
     };
     let sampling = sampling_of(components);
+    let transform = transform_told(info.coding_process, components, colours);
     Ok(Header {
         info,
         precision,
         decoding_bytes,
         orientation: orientation_in(decoder.exif_data()),
         sampling,
+        transform,
     })
 }

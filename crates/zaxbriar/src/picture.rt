@@ -57,8 +57,10 @@ pub struct Picture {
     pub density_unit: u8,
     pub horizontal_density: u16,
     pub vertical_density: u16,
+    /// The number of the colour transform that the header asks for.
+    pub transform: u8,
     /// Zero.
-    pub reserved: [u8; 20],
+    pub reserved: [u8; 19],
     /// Why a call failed, ended by a zero; all zeros after a success.
     pub text: [u8; TEXT_BYTES],
 }
@@ -86,7 +88,8 @@ pub const NO_PICTURE: Picture = Picture {
     density_unit: 0,
     horizontal_density: 0,
     vertical_density: 0,
-    reserved: [0; 20],
+    transform: 0,
+    reserved: [0; 19],
     text: [0; TEXT_BYTES],
 };
 
@@ -129,7 +132,7 @@ pub fn picture_of(
         ≤ header.decoding_bytes.partial_peak }
     ensures { result ≡ described_picture layout header.info header.precision lines
         (bytes_beside is_partial header.decoding_bytes) header.orientation header.sampling
-        density 0 }
+        header.transform density 0 }
 {
     let sampling = header.sampling;
     Picture {
@@ -154,7 +157,8 @@ pub fn picture_of(
         density_unit: density.unit,
         horizontal_density: density.horizontal,
         vertical_density: density.vertical,
-        reserved: [0; 20],
+        transform: header.transform,
+        reserved: [0; 19],
         text: [0; TEXT_BYTES],
     }
 }

@@ -1,6 +1,6 @@
-use Rattle.std.proofs.Common.{refl}
+use Rattle.std.proofs.Common.{false, refl}
 use Rattle.zaxbriar.proofs.Fails.{of-call-number}
-use Rattle.zaxbriar.proofs.Told.{if-ok, if-own, shown, shown-samples}
+use Rattle.zaxbriar.proofs.Told.{if-ok, if-own, large-told, shown, shown-samples}
 use Rattle.zaxbriar.proofs.zaxbriar_checked_decode.Goals as goal
 
 pub returns-clause-means : goal.returns-clause-means
@@ -29,3 +29,8 @@ pub returns-clause-limited : goal.returns-clause-limited
 returns-clause-limited c few size large =
     of-call-number c.decode_into-outcome.result c.answer.result c.answer.ensures.code
     (c.decode_into-outcome.ensures.limited few size large)
+
+pub returns-clause-large : goal.returns-clause-large
+returns-clause-large c large few =
+    large-told c.decode_into-outcome.result false c.args.options.now c.args.jpeg.now c.decode_into-outcome.new.picture
+    c.answer.result c.answer.ensures.code (c.decode_into-outcome.ensures.large few) large

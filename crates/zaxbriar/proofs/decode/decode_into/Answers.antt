@@ -39,7 +39,7 @@ returns-clause-means c entire few =
       arranged = arranged-of c.args.options.now header.info header.precision decodes.samples c.args.pixels.now
           c.decode_lines-decoded.new.pixels _ c.in_ok-header.lines
           (bytes_beside c.args.is_partial header.decoding_bytes)
-          header.orientation c.bytes_read-picture-2.result header.sampling c.density_of.result
+          header.orientation c.bytes_read-picture-2.result header.sampling header.transform c.density_of-density.result
           c.in_ok-header.ensures.lines decodes.pixels
           (ap (λ (p : Picture). record p { stream_bytes = c.bytes_read-picture-2.result })
           c.in_ok-header.ensures.told);
@@ -66,7 +66,7 @@ returns-clause-images c entire few array image rest final last range w is =
         arranged = arranged-of c.args.options.now header.info header.precision decodes.samples c.args.pixels.now
             c.decode_lines-decoded.new.pixels _ c.in_ok-header.lines
             (bytes_beside c.args.is_partial header.decoding_bytes)
-            header.orientation c.bytes_read-picture-2.result header.sampling c.density_of.result
+            header.orientation c.bytes_read-picture-2.result header.sampling header.transform c.density_of-density.result
             c.in_ok-header.ensures.lines decodes.pixels
             (ap (λ (p : Picture). record p { stream_bytes = c.bytes_read-picture-2.result })
             c.in_ok-header.ensures.told);
@@ -165,7 +165,7 @@ returns-clause-shown c part few =
     (brought-shown c.args.options.now c.args.jpeg.now facts.1.0 header.info header.precision c.in_ok-header.lines None
     c.describe-described.new.decoder c.decode_lines-decoded.new.decoder c.args.pixels.now
     c.decode_lines-decoded.new.pixels _ (bytes_beside c.args.is_partial header.decoding_bytes) header.orientation
-    c.bytes_read-picture-2.result header.sampling c.density_of.result (ap header_at (sym same) ∙ facts.1.1)
+    c.bytes_read-picture-2.result header.sampling header.transform c.density_of-density.result (ap header_at (sym same) ∙ facts.1.1)
     read.settings facts.1.2 c.in_ok-header.ensures.info c.in_ok-header.ensures.precision c.in_ok-header.ensures.lines
     (ap (λ (p : Picture). record p { stream_bytes = c.bytes_read-picture-2.result }) c.in_ok-header.ensures.told) b))
 
@@ -183,7 +183,7 @@ returns-clause-part c part few =
     (λ e b. brought-shown c.args.options.now c.args.jpeg.now facts.1.0 header.info header.precision c.in_ok-header.lines
     (Some e) c.describe-described.new.decoder c.decode_lines-decoded.new.decoder c.args.pixels.now
     c.decode_lines-decoded.new.pixels _ (bytes_beside c.args.is_partial header.decoding_bytes) header.orientation
-    c.bytes_read-picture-2.result header.sampling c.density_of.result (ap header_at (sym same) ∙ facts.1.1)
+    c.bytes_read-picture-2.result header.sampling header.transform c.density_of-density.result (ap header_at (sym same) ∙ facts.1.1)
     read.settings facts.1.2 c.in_ok-header.ensures.info c.in_ok-header.ensures.precision c.in_ok-header.ensures.lines
     (ap (λ (p : Picture). record p { stream_bytes = c.bytes_read-picture-2.result }) c.in_ok-header.ensures.told) b)
 
