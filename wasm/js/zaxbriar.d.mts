@@ -43,6 +43,17 @@ export interface Sampling {
     vertical: number;
 }
 
+/** The pixels per unit across and down, as a JFIF segment gives them. */
+export interface Density {
+    /**
+     * 1: an inch, 2: a centimetre. 0: there is none, and a pixel's width is to its height as
+     * `vertical` is to `horizontal`, or unknown if one of these is 0. Others mean nothing.
+     */
+    unit: number;
+    horizontal: number;
+    vertical: number;
+}
+
 export interface Options {
     /**
      * The default is `stored`. All others are of 8 bits per sample; samples of other precisions, and
@@ -106,6 +117,8 @@ export interface Picture {
     format: Format;
     /** Of the stream: one for each component. */
     sampling: Sampling[];
+    /** Of the stream, at full size: by the first JFIF segment before the frame, or zeros. */
+    density: Density;
 }
 
 /**

@@ -53,6 +53,7 @@ const PICTURE_BYTES = 192;
 const FEATURE_AT = 48;
 const SAMPLING_AT = 50;
 const FAULT_AT = 54;
+const DENSITY_AT = 55;
 const TEXT_AT = 80;
 const TEXT_BYTES = 112;
 
@@ -232,6 +233,11 @@ export class Zaxbriar {
             orientation: view.getUint8(46),
             format: FORMATS[view.getUint8(47)],
             sampling: Array.from(this.#bytes(at + SAMPLING_AT, components), factorsOf),
+            density: {
+                unit: view.getUint8(DENSITY_AT),
+                horizontal: view.getUint16(DENSITY_AT + 1, true),
+                vertical: view.getUint16(DENSITY_AT + 3, true),
+            },
         };
     }
 

@@ -1,6 +1,6 @@
-/* node calls.mjs FILE: the calls of zaxbriar.mjs: what load takes, what a frame header says, what
- * options do and which are refused, errors and features, limits, memory, and a worker. FILE is a
- * baseline picture of three components without subsampling, with Exif data alone. */
+/* node calls.mjs FILE: the calls of zaxbriar.mjs: what load takes, what a header says, what options
+ * do and which are refused, errors and features, limits, memory, and a worker. FILE is a baseline
+ * picture of three components without subsampling, with Exif data alone. */
 import assert from 'node:assert/strict';
 import { readFileSync } from 'node:fs';
 import { Worker } from 'node:worker_threads';
@@ -87,6 +87,29 @@ for (const [precision, format] of Object.entries({ 2: 'grey8', 8: 'grey8', 9: 'g
     const described = zaxbriar.readInfo(grey);
     assert.equal(described.format, format);
     assert.deepEqual(described.sampling, [factors(0x23)]);
+}
+
+// The density, by the first JFIF segment if there is one.
+const noDensity = { unit: 0, horizontal: 0, vertical: 0 };
+assert.deepEqual(picture.density, noDensity);
+const jfif = ({ unit, horizontal, vertical }) => {
+    const segment = Buffer.from('ffe000104a46494600010200000000000000', 'hex');
+    segment[11] = unit;
+    segment.writeUInt16BE(horizontal, 12);
+    segment.writeUInt16BE(vertical, 14);
+    return segment;
+};
+for (const density of [
+    { unit: 1, horizontal: 72, vertical: 300 },
+    { unit: 2, horizontal: 0x1234, vertical: 0xfedc },
+    { unit: 0, horizontal: 4, vertical: 3 },
+    { unit: 255, horizontal: 65535, vertical: 0 },
+    noDensity,
+]) {
+    const second = jfif({ unit: 1, horizontal: 96, vertical: 97 });
+    const stream = Buffer.concat([jpeg.subarray(0, 2), jfif(density), second, jpeg.subarray(2)]);
+    assert.deepEqual(zaxbriar.readInfo(stream).density, density);
+    assert.deepEqual(zaxbriar.decode(stream, { scale: 2 }).picture.density, density);
 }
 
 // Features that aren't supported, some with a number.

@@ -106,6 +106,11 @@ function pictureOf(struct) {
             horizontal: byte >> 4,
             vertical: byte % 16,
         })),
+        density: {
+            unit: struct[55],
+            horizontal: struct.readUInt16LE(56),
+            vertical: struct.readUInt16LE(58),
+        },
     });
 }
 

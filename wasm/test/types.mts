@@ -1,6 +1,6 @@
 // What compiles by zaxbriar.d.mts, and what doesn't.
 import { Zaxbriar, ZaxbriarError, compile, load } from '../dist/zaxbriar.mjs';
-import type { Bytes, Feature, Format, Layout, Options } from '../dist/zaxbriar.mjs';
+import type { Bytes, Density, Feature, Format, Layout, Options } from '../dist/zaxbriar.mjs';
 import type { PartialPicture, Picture, Sampling, Source } from '../dist/zaxbriar.mjs';
 
 // Sources, and the bytes of streams.
@@ -29,6 +29,8 @@ const planes = zaxbriar.decode(streams[1], { colorTransform: 'none' });
 const format: Format = described.format;
 const factors: Sampling[] = described.sampling;
 const columns: number = Math.max(...factors.map((it) => it.horizontal * it.vertical));
+const density: Density = described.density;
+const inches: number = density.unit === 1 ? picture.width / density.horizontal : 0;
 // @ts-expect-error
 zaxbriar.decode('text');
 // @ts-expect-error
@@ -45,6 +47,8 @@ if (picture.process === 'hierarchical') throw new Error();
 if (picture.format === 'rgb24') throw new Error();
 // @ts-expect-error
 if (picture.sampling === '4:2:0') throw new Error();
+// @ts-expect-error
+if (picture.density.unit === 'inch') throw new Error();
 
 // What there is of a stream, and its fault.
 const part: PartialPicture = zaxbriar.decode(streams[0], { partial: true, layout: 'grey' });
@@ -87,4 +91,4 @@ try {
 zaxbriar.memoryBytes = 0;
 const version: string = zaxbriar.version;
 export { bits, columns, data, described, feature, fetched, file, format, ink, layout, length };
-export { fault, planes, profile, samples, strict, version };
+export { fault, inches, planes, profile, samples, strict, version };
