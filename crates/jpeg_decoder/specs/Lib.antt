@@ -1,7 +1,9 @@
--- what a caller sees of a decoder, and how many bytes a picture has
+-- what a caller sees of a decoder, how many bytes a picture has, and which colour transform a
+-- stream asks for
 pub mod PlanesView
 pub mod Seen
 pub mod Bytes
+pub mod StreamTransforms
 pub mod LinesView
 pub mod Decodes
 pub mod Shows

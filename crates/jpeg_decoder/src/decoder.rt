@@ -20,6 +20,7 @@ ghost use Rattle.std.specs.List.{concat};
 ghost use Rattle.jpeg_decoder.specs.Bytes.{AreLinesOf, HasRoom, IsCounted, IsWhole};
 ghost use Rattle.jpeg_decoder.specs.Bytes.{decoding_bytes, picture_size};
 ghost use Rattle.jpeg_decoder.specs.HeaderAlone.{ReadsHeaderAlone};
+ghost use Rattle.jpeg_decoder.specs.StreamTransforms.{frame_transform};
 ghost use Rattle.jpeg_streams.specs.States.{IsInternal};
 ghost use Rattle.std.specs.Prelude.{◌≤◌, drop, length, take};
 ghost use Rattle.jpeg_streams.specs.Pixels.{format_of, info_of};
@@ -32,6 +33,7 @@ ghost use Rattle.jpeg_streams.specs.Output.{default_settings};
 ghost use Rattle.jpeg_streams.specs.Profile.{profile_of};
 ghost use Rattle.std.specs.Option.{option_copied};
 
+use crate::picture::color_choice::frame_transform;
 use crate::picture::lines::Lines;
 use crate::picture::partial::{PartialLines, show};
 use crate::picture::whole::{read_header, read_rest};
@@ -735,5 +737,21 @@ impl<R: Read + Drop> Decoder<R> {
             .frame
             .as_ref()
             .map(|frame| frame.components.as_slice())
+    }
+
+    /// Returns the colour transform that the stream asks for once a frame has been accepted, in
+    /// every state: by the identifiers of its components, and the JFIF and Adobe segments read so
+    /// far. It is `ColorTransform::None` for a picture of one component and for a lossless one,
+    /// which aren't converted.
+    ///
+    /// What `set_color_transform` has set makes no difference. Segments after the frame header
+    /// count too: `decode` uses what all segments of the image say.
+    pub fn stream_transform(&self) -> Option<ColorTransform>
+        ensures { result ≡ option_map (frame_transform self.now.found.said.metadata)
+            self.now.found.said.frame }
+    {
+        let said = &self.state.said;
+        let frame = said.frame.as_ref()?;
+        Some(frame_transform(&said.metadata, frame))
     }
 }

@@ -1,11 +1,14 @@
 //! Which colour transform the components of a picture need.
 ghost use Rattle.std.specs.Prelude.{◌≡◌, map};
-ghost use Rattle.jpeg_segments.specs.FrameView.{component_in};
+ghost use Rattle.jpeg_segments.specs.FrameView.{component_in, frame_in};
 ghost use Rattle.jpeg_streams.specs.ColourChoice.{identifiers_of, are_three, by_identifiers};
 ghost use Rattle.jpeg_streams.specs.ColourChoice.{by_adobe, transform_of};
+ghost use Rattle.jpeg_decoder.specs.Seen.{metadata_in};
+ghost use Rattle.jpeg_decoder.specs.StreamTransforms.{frame_transform};
 
+use crate::stream::metadata::Metadata;
 use jpeg_bits::color_transform::ColorTransform;
-use jpeg_segments::parser::{AdobeColorTransform, Component};
+use jpeg_segments::parser::{AdobeColorTransform, CodingProcess, Component, FrameInfo};
 
 /// Returns whether there are three components, of these identifiers.
 fn are_three(components: &[Component], first: u8, second: u8, third: u8) -> bool
@@ -82,4 +85,18 @@ pub fn choose_color_transform(
         return ColorTransform::YCbCr;
     }
     by_adobe(is_three, adobe)
+}
+
+/// Returns the transform that a frame and the segments ask for, whatever a caller set.
+pub fn frame_transform(metadata: &Metadata, frame: &FrameInfo) -> ColorTransform
+    ensures { result ≡ frame_transform (metadata_in metadata.now) (frame_in frame.now) }
+{
+    let components = frame.components.as_slice();
+    match frame.coding_process {
+        CodingProcess::Lossless => ColorTransform::None,
+        CodingProcess::DctSequential | CodingProcess::DctProgressive => match components {
+            [_] => ColorTransform::None,
+            _ => choose_color_transform(None, components, metadata.jfif, metadata.adobe),
+        },
+    }
 }
