@@ -42,7 +42,7 @@ marker-filled [] h first second = absurd (omega (arith, h))
 
 -- ---- a payload
 
-pub times-taken : (n : ℕ) (bytes : List ℕ) → n ≤ length bytes
+times-taken : (n : ℕ) (bytes : List ℕ) → n ≤ length bytes
     → times n next_byte bytes ≡ Ok (take n bytes, drop n bytes)
 unfolding times
 times-taken zero bytes h = refl

@@ -2,8 +2,6 @@
 use Rattle.zaxbriar.proofs.Densities.{density-none, density-short, density-some, first-cut, first-ended, first-jfif}
 use Rattle.zaxbriar.proofs.Densities.{first-later, first-none, first-past, marker-filled, marker-here, marker-later}
 use Rattle.zaxbriar.proofs.Densities.{no-marker, payload-cut, payload-is, payload-short, payload-unsized}
-use Rattle.zaxbriar.proofs.HeaderColours.{from-cut, from-ended, from-later, from-none, from-past, header-colours}
-use Rattle.zaxbriar.proofs.HeaderColours.{short-colours}
 
 -- the next marker
 pub ruleset markers = (no-marker, marker-here, marker-later, marker-filled)
@@ -16,9 +14,3 @@ pub ruleset segments = (first-none, first-ended, first-cut, first-jfif, first-la
 
 -- the density of a stream
 pub ruleset densities = (density-short, density-some, density-none)
-
--- what the segments of a header say of colours
-pub ruleset colours = (from-none, from-ended, from-cut, from-later, from-past)
-
--- the colours of a header
-pub ruleset header_colours = (header-colours, short-colours)

@@ -1,4 +1,3 @@
-pub mod Colours
 pub mod Density
 pub mod Faults
 pub mod Features

@@ -17,8 +17,8 @@ use Rattle.jpeg_streams.specs.declared.images.ImageInfo.{ImageInfo}
 use Rattle.jpeg_streams.specs.declared.settings.Settings.{Settings}
 use Rattle.jpeg_decoder.specs.Bytes.{decoding_bytes}
 use Rattle.jpeg_decoder.specs.Orientation.{orientation_in}
+use Rattle.jpeg_decoder.specs.StreamTransforms.{frame_transform}
 use Rattle.jpeg_decoder.specs.declared.sizes.DecodingBytes.{DecodingBytes}
-use Rattle.zaxbriar.specs.Colours.{colours_in, frame_transform}
 use Rattle.zaxbriar.specs.Density.{density_of}
 use Rattle.zaxbriar.specs.Layouts.{conversion_to}
 use Rattle.zaxbriar.specs.Limits.{are_known, bytes_beside, exceeds_limits}
@@ -35,6 +35,15 @@ transform_number n = if n == 1 then Some transforms.None
     else (if n == 3 then Some transforms.YCbCr
     else (if n == 4 then Some transforms.CMYK
     else (if n == 5 then Some transforms.YCCK else None))))
+
+-- the number of a transform among the options, and 0 for one that is refused
+abbrev pub number_of_transform : ColorTransform → ℕ
+number_of_transform transforms.None = 1
+number_of_transform transforms.RGB = 2
+number_of_transform transforms.YCbCr = 3
+number_of_transform transforms.CMYK = 4
+number_of_transform transforms.YCCK = 5
+number_of_transform _ = 0
 
 -- the settings of a decoder
 abbrev pub settings_of : Options → Settings
@@ -122,8 +131,9 @@ pub record Describes (part : Bool) (o : Options) (bytes : List ℕ) (picture : P
   pub conversion_is : conversion_to o.layout info.pixel_format precision ≡ Some conversion
   pub sampling_is : option_map (λ f. sampling_of f.components)
       (at_size (size_wanted o) header.said).frame ≡ Some sampling
-  pub transform_is : option_map (frame_transform (colours_in header.said.metadata))
-      (at_size (size_wanted o) header.said).frame ≡ Some transform
+  pub transform_is : option_map (λ f. number_of_transform
+      (frame_transform header.said.metadata f)) (at_size (size_wanted o) header.said).frame
+      ≡ Some transform
   pub picture_is : picture ≡ described_picture o.layout info precision
       (lines_by o.stride info precision conversion)
       (bytes_beside part decoding)

@@ -28,7 +28,6 @@ ghost use Rattle.zaxbriar.specs.Meanings.{uncounted};
 ghost use Rattle.zaxbriar.specs.declared.answers.Refusal.TheVariants.{NoRoom, TooLarge};
 
 use crate::answers::{Refusal, refusal_of};
-use crate::colours::colours_of;
 use crate::counts::bytes_read;
 use crate::density::density_of;
 use crate::description::describe;
@@ -241,8 +240,8 @@ pub fn decode_into(
         return Err(Refusal::Argument("an option doesn't exist"));
     }
     let mut decoder = Decoder::new(alloc, SliceReader::new(jpeg))?;
-    let (colours, density) = (colours_of(jpeg), density_of(jpeg));
-    let described = describe(&mut decoder, options, colours, density, picture, is_partial);
+    let density = density_of(jpeg);
+    let described = describe(&mut decoder, options, density, picture, is_partial);
     picture.stream_bytes = bytes_read(jpeg, &decoder);
     let (header, lines) = described?;
     if picture.size > pixels.len() as u64 {

@@ -25,7 +25,7 @@ pub const NO_DENSITY: Density = Density {
 
 /// Returns the next marker, and the bytes after it.
 #[tactic(auto, using(crate::proofs::Rules::markers))]
-pub fn next_marker(bytes: &[u8]) -> Option<(Marker, &[u8])>
+fn next_marker(bytes: &[u8]) -> Option<(Marker, &[u8])>
     ensures { MatchOption result (next_marker bytes.now ≡ Err End)
         (λ m. next_marker bytes.now ≡ Ok (m.0, m.1.now)) }
 {
@@ -48,7 +48,7 @@ pub fn next_marker(bytes: &[u8]) -> Option<(Marker, &[u8])>
 
 /// Returns the payload of a segment, after its marker, and the bytes after it.
 #[tactic(auto, using(crate::proofs::Rules::payloads))]
-pub fn next_payload(bytes: &[u8]) -> Option<(&[u8], &[u8])>
+fn next_payload(bytes: &[u8]) -> Option<(&[u8], &[u8])>
     ensures { MatchOption result (IsErr (payload_at bytes.now))
         (λ p. payload_at bytes.now ≡ Ok (p.0.now, p.1.now)) }
 {
@@ -64,7 +64,7 @@ pub fn next_payload(bytes: &[u8]) -> Option<(&[u8], &[u8])>
 }
 
 /// Returns whether a header ends at a marker, or goes on without a length field.
-pub fn ends_header(marker: Marker) -> bool
+fn ends_header(marker: Marker) -> bool
     ensures { result ≡ ends_header marker }
 {
     matches!(

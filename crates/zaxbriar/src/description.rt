@@ -6,7 +6,6 @@ ghost use Rattle.jpeg_streams.specs.Output.{default_settings};
 ghost use Rattle.jpeg_streams.specs.Pixels.{info_of};
 ghost use Rattle.jpeg_streams.specs.declared.progress.Progress.TheVariants.{Fresh};
 ghost use Rattle.jpeg_streams.specs.Stream.{header_at};
-ghost use Rattle.zaxbriar.specs.Colours.{AreColoursOf};
 ghost use Rattle.zaxbriar.specs.Density.{density_of};
 ghost use Rattle.zaxbriar.specs.Faults.{IsArgument, IsFault, IsOfCall, IsPart};
 ghost use Rattle.zaxbriar.specs.Limits.{are_known, bytes_beside};
@@ -16,7 +15,6 @@ ghost use Rattle.zaxbriar.specs.Meanings.{ReadsHeader, StandsAfter, uncounted};
 ghost use Rattle.zaxbriar.specs.declared.answers.Refusal.TheVariants.{NoRoom, TooLarge};
 
 use crate::answers::Refusal;
-use crate::colours::{Colours, colours_of};
 use crate::counts::bytes_read;
 use crate::density::{Density, density_of};
 use crate::header::{Header, read_header};
@@ -29,20 +27,16 @@ use std::alloc::Global;
 use std::io::Read;
 
 /// Reads a header, and describes the picture that the options ask for, which may be one in part,
-/// with the colours and the density of the stream. A picture above their limits is described and
-/// refused.
+/// with the density of the stream. A picture above their limits is described and refused.
 pub fn describe<R: Read + Drop>(
     decoder: &mut Decoder<R>,
     options: &Options,
-    colours: Colours,
     density: Density,
     picture: &mut Picture,
     is_partial: bool,
 ) -> std::result::Result<(Header, Lines), Refusal>
     requires fresh { decoder.old.stage ≡ Fresh }
     requires plain { decoder.old.settings ≡ default_settings }
-    requires coloured { decoder.old.source.known ≡ true
-        → AreColoursOf decoder.old.source.bytes colours }
     requires dense { decoder.old.source.known ≡ true
         → density ≡ density_of decoder.old.source.bytes }
     ensures reads { OnOk result (ReadsHeader options.now decoder.old decoder.new) }
@@ -73,7 +67,7 @@ pub fn describe<R: Read + Drop>(
     ensures whole { IfErr result (λ r. IsPart r → ⊥) }
     ensures kept { IfErr result (λ r. (r ≡ TooLarge → ⊥) → picture.new ≡ picture.old) }
 {
-    let header = read_header(decoder, options, colours)?;
+    let header = read_header(decoder, options)?;
     let lines = lines_of(header.info, header.precision, options)?;
     *picture = picture_of(header, density, lines, options.layout, is_partial);
     if exceeds_limits(options, header.info, picture.decoding_bytes) {
@@ -113,8 +107,8 @@ pub fn read_info_from(
         return Err(Refusal::Argument("an option doesn't exist"));
     }
     let mut decoder = Decoder::new(alloc, SliceReader::new(jpeg))?;
-    let (colours, density) = (colours_of(jpeg), density_of(jpeg));
-    let described = describe(&mut decoder, options, colours, density, picture, false);
+    let density = density_of(jpeg);
+    let described = describe(&mut decoder, options, density, picture, false);
     picture.stream_bytes = bytes_read(jpeg, &decoder);
     described?;
     Ok(())

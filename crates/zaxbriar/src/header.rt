@@ -1,19 +1,18 @@
 //! The header of a stream.
 ghost use Rattle.std.specs.Prelude.{◌≡◌, ◌+◌, ◌≤◌, true, Some, IfOk, IfErr, OnOk, option_map};
 ghost use Rattle.jpeg_decoder.specs.Bytes.{decoding_bytes};
+ghost use Rattle.jpeg_decoder.specs.StreamTransforms.{frame_transform};
 ghost use Rattle.jpeg_streams.specs.Output.{default_settings};
 ghost use Rattle.jpeg_streams.specs.Pixels.{info_of};
 ghost use Rattle.jpeg_streams.specs.declared.progress.Progress.TheVariants.{Fresh};
 ghost use Rattle.jpeg_streams.specs.Stream.{header_at};
-ghost use Rattle.zaxbriar.specs.Colours.{frame_transform};
 ghost use Rattle.zaxbriar.specs.Faults.{IsFault, IsOfDecoder};
 ghost use Rattle.std.specs.Option.{option_copied};
-ghost use Rattle.zaxbriar.specs.Meanings.{ReadsHeader, orientation_by};
+ghost use Rattle.zaxbriar.specs.Meanings.{ReadsHeader, number_of_transform, orientation_by};
 ghost use Rattle.zaxbriar.specs.Sampling.{sampling_of};
 
 use crate::answers::{Refusal, refusal_of};
-use crate::colours::{Colours, transform_told};
-use crate::options::{Options, apply, apply_size};
+use crate::options::{Options, apply, apply_size, number_of_transform};
 use crate::sampling::sampling_of;
 use jpeg_decoder::orientation::orientation_of;
 use jpeg_decoder::{Decoder, DecodingBytes, ImageInfo};
@@ -49,11 +48,10 @@ fn orientation_in(exif: Option<&[u8]>) -> u8
     }
 }
 
-/// Reads the header, which says this of its colours, and chooses the scale of the picture.
+/// Reads the header, and chooses the scale of the picture.
 pub fn read_header<R: Read + Drop>(
     decoder: &mut Decoder<R>,
     options: &Options,
-    colours: Colours,
 ) -> std::result::Result<Header, Refusal>
     requires fresh { decoder.old.stage ≡ Fresh }
     requires plain { decoder.old.settings ≡ default_settings }
@@ -69,8 +67,9 @@ pub fn read_header<R: Read + Drop>(
         ≡ orientation_by decoder.new.found.said.metadata.exif) }
     ensures sampling { IfOk result (λ h. option_map (λ f. sampling_of f.components)
         decoder.new.found.said.frame ≡ Some h.sampling) }
-    ensures transform { IfOk result (λ h. option_map (frame_transform colours)
-        decoder.new.found.said.frame ≡ Some h.transform) }
+    ensures transform { IfOk result (λ h. option_map (λ f. number_of_transform
+        (frame_transform decoder.new.found.said.metadata f)) decoder.new.found.said.frame
+        ≡ Some h.transform) }
     ensures bytes { IfOk result (λ h. option_map decoding_bytes decoder.new.found.said.frame
         ≡ Some h.decoding_bytes) }
     ensures peak { IfOk result (λ h. h.decoding_bytes.coefficients + h.decoding_bytes.planes
@@ -83,23 +82,23 @@ pub fn read_header<R: Read + Drop>(
         return Err(refusal_of(decoder, error));
     }
     apply_size(decoder, options)?;
-    let (Some(info), Some(precision), Some(components), Some(decoding_bytes)) = (
+    let (Some(info), Some(precision), Some(components), Some(transform), Some(decoding_bytes)) = (
         decoder.info(),
         decoder.precision(),
         decoder.components(),
+        decoder.stream_transform(),
         decoder.decoding_bytes(),
     ) else {
         // There is a frame.
         return Err(Refusal::Argument("no frame"));
     };
     let sampling = sampling_of(components);
-    let transform = transform_told(info.coding_process, components, colours);
     Ok(Header {
         info,
         precision,
         decoding_bytes,
         orientation: orientation_in(decoder.exif_data()),
         sampling,
-        transform,
+        transform: number_of_transform(transform),
     })
 }

@@ -26,7 +26,6 @@ ghost use Rattle.zaxbriar.specs.Meanings.{settings_of, size_wanted, uncounted};
 ghost use Rattle.zaxbriar.specs.Partial.{ShowsPart, TellsFault, shown_by, without_fault};
 
 mod answers;
-pub mod colours;
 mod counts;
 mod decode;
 pub mod density;

@@ -6,7 +6,7 @@ ghost use Rattle.jpeg_streams.specs.Output.{default_settings};
 ghost use Rattle.jpeg_streams.specs.declared.progress.Progress.TheVariants.{HeaderRead};
 ghost use Rattle.zaxbriar.specs.Limits.{are_known, is_denominator};
 ghost use Rattle.zaxbriar.specs.Meanings.{least_side, scale_by, settings_of, size_wanted};
-ghost use Rattle.zaxbriar.specs.Meanings.{transform_number};
+ghost use Rattle.zaxbriar.specs.Meanings.{number_of_transform, transform_number};
 
 use jpeg_decoder::error::Result;
 use jpeg_decoder::{ColorTransform, Decoder, Scale};
@@ -74,6 +74,20 @@ fn transform_of(number: u8) -> Option<ColorTransform>
         4 => Some(ColorTransform::CMYK),
         5 => Some(ColorTransform::YCCK),
         _ => None,
+    }
+}
+
+/// Returns the number of a transform among the options, and 0 for one that is refused.
+pub fn number_of_transform(transform: ColorTransform) -> u8
+    ensures { result ≡ number_of_transform transform }
+{
+    match transform {
+        ColorTransform::None => 1,
+        ColorTransform::RGB => 2,
+        ColorTransform::YCbCr => 3,
+        ColorTransform::CMYK => 4,
+        ColorTransform::YCCK => 5,
+        _ => 0,
     }
 }
 
