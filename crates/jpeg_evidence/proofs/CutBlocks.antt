@@ -1,22 +1,22 @@
 -- A scan that is cut inside its data brings an image of which each block was sent at the levels that it has.
-use Rattle.std.proofs.Common.{◌≡◌, ◌⊎◌, inl, inr, ℕ, zero, suc, ◌+◌, ◌*◌, ◌/◌, ◌%◌, ◌==◌, ◌&&◌, Bool, true, false}
-use Rattle.std.proofs.Common.{List, [], ◌∷◌, length, get_or, slice_get, slice_index_or, Option, Some, None}
-use Rattle.std.proofs.Common.{Ok}
-use Rattle.std.proofs.Common.{refl, sym, ap, ap₂, ◌∙◌, subst, arith, true≢false}
+use Rattle.std.proofs.Common.{◌≡◌, ◌⊎◌, inl, inr, ℕ, zero, suc, ◌+◌, ◌*◌, ◌/◌, ◌%◌, Bool, true, false, List, [], ◌∷◌}
+use Rattle.std.proofs.Common.{length, get_or, slice_get, slice_index_or, Option, Some, None, Ok, refl, sym, ap, ap₂}
+use Rattle.std.proofs.Common.{◌∙◌, subst, arith, true≢false}
 use Rattle.std.specs.List.{AllByRecursion}
-use Rattle.std.proofs.lemmas.Bool.{eqb-true, eq-eqb}
 use Rattle.std.proofs.lemmas.Nat.{div-add-mod'}
 use Rattle.jpeg_bits.specs.Passes.{Block, Pass, whole_pass, zero_block}
+use Rattle.jpeg_bits.specs.Codes.{IsTable}
 use Rattle.jpeg_segments.specs.Frame.{Component, Frame}
 use Rattle.jpeg_segments.specs.ScanHeader.{Scan}
 use Rattle.jpeg_streams.specs.Found.{Found, Said}
 use Rattle.jpeg_streams.specs.InTurn.{IsIn}
-use Rattle.jpeg_streams.specs.Levels.{IsLegal, Levels, cut, nothing_sent, sent_after}
+use Rattle.jpeg_streams.specs.Levels.{Is8Bit, IsLegal, Levels, cut, nothing_sent, sent_after}
 use Rattle.jpeg_streams.specs.Order.{Spot, grid_of}
 use Rattle.jpeg_streams.specs.Scans.{Arrays, block_at}
 use Rattle.jpeg_streams.specs.ScanSegments.{Coding, after_scan, arrays_before, blocks_after, codings_of, is_progressive}
 use Rattle.jpeg_streams.specs.ScanSegments.{pass_of, put_arrays}
-use Rattle.jpeg_streams.specs.WrittenScans.{Coefficients, IsLegalScan, IsOwn, levels_after, levels_of_one}
+use Rattle.jpeg_streams.proofs.WrittenPictures.{Progress}
+use Rattle.jpeg_streams.specs.WrittenScans.{WritesScan, Coefficients, IsLegalScan, IsOwn, levels_after, levels_of_one}
 use Rattle.jpeg_streams.proofs.Apart.{At, at-all, at-got, at-one, get-at}
 use Rattle.jpeg_streams.proofs.BroughtLevels.{AllDone, AllKept, Brought, Framed, Marked, PassSo, PlaneSo}
 use Rattle.jpeg_streams.proofs.BroughtLevels.{ScanFacts, Shaped, after-fresh, after-length, band-so, blocks-after, brings}
@@ -27,23 +27,12 @@ use Rattle.jpeg_streams.proofs.OwnSpots.{AreApart, IsAbsent}
 use Rattle.jpeg_streams.proofs.ReadTurns.{codings-each, codings-indices}
 use Rattle.jpeg_streams.proofs.WrittenFrameScans.{HoldsOwn}
 use Rattle.jpeg_evidence.specs.CutImages.{HasBlock}
+use Rattle.jpeg_evidence.proofs.TakenBits.{none-is, some-is}
 use Rattle.jpeg_evidence.proofs.CutLater.{AreLater, cut-count, cut-earlier, cut-later, later-sent, later-themselves}
 
 -- ---- whether a block is there
 
-abbrev is_of : Option Coding → ℕ → ℕ → ℕ → ℕ → Bool
-is_of None at index row column = false
-is_of (Some c) at index row column =
-    (c.index == index) && ((at / c.component.blocks_wide == row) && (at % c.component.blocks_wide == column))
-
-unfoldable pub has_block : List Coding → List Spot → ℕ → ℕ → ℕ → Bool
-has_block codings [] index row column = false
-has_block codings (s ∷ spots) index row column =
-    elim (is_of (slice_get codings s.slot) s.index index row column) as (λ _. Bool) [
-      | true ↦ true
-      | false ↦ has_block codings spots index row column
-    ]
-
+-- a coding is of the component with this index, and has this block at this place of its spots
 record IsOf (o : Option Coding) (at index row column : ℕ) : Type 0 where
   coding : Coding
   is : o ≡ Some coding
@@ -51,91 +40,74 @@ record IsOf (o : Option Coding) (at index row column : ℕ) : Type 0 where
   in_row : at / coding.component.blocks_wide ≡ row
   in_column : at % coding.component.blocks_wide ≡ column
 
-and-both : (a b : Bool) → (a && b) ≡ true → (a ≡ true) × (b ≡ true)
-and-both true b e = (refl, e)
-and-both false b e = absurd (true≢false (sym e))
-
-of-true : (o : Option Coding) (at index row column : ℕ) → is_of o at index row column ≡ true → IsOf o at index row column
-of-true None at index row column e = absurd (true≢false (sym e))
-of-true (Some c) at index row column e =
-    let a = and-both (c.index == index) _ e in
-    let b = and-both (at / c.component.blocks_wide == row) _ a.1 in
-    record {
-      coding = c;
-      is = refl;
-      of_index = eqb-true c.index index a.0;
-      in_row = eqb-true (at / c.component.blocks_wide) row b.0;
-      in_column = eqb-true (at % c.component.blocks_wide) column b.1;
-    }
-
-of-false : (o : Option Coding) (c : Coding) (at index row column : ℕ) → o ≡ Some c → c.index ≡ index
-    → at / c.component.blocks_wide ≡ row → at % c.component.blocks_wide ≡ column
-    → is_of o at index row column ≡ true
-of-false o c at index row column e i r k =
-    rw (
-      e,
-      eq-eqb c.index index i,
-      eq-eqb (at / c.component.blocks_wide) row r,
-      eq-eqb (at % c.component.blocks_wide) column k,
-    ) refl
-
-pub has-true : (codings : List Coding) (spots : List Spot) (index row column : ℕ)
-    → has_block codings spots index row column ≡ true → HasBlock codings spots index row column
-unfolding has_block
-has-true codings [] index row column e = absurd (true≢false (sym e))
-has-true codings (s ∷ spots) index row column e =
-    go (has-true codings spots index row column) (is_of (slice_get codings s.slot) s.index index row column) refl e
+of-or-not : (o : Option Coding) (at index row column : ℕ)
+    → IsOf o at index row column ⊎ (IsOf o at index row column → ⊥)
+of-or-not None at index row column = inr (λ i. none-is i.coding i.is)
+of-or-not (Some c) at index row column =
+    go (eqb_cases c.index index) (eqb_cases (at / c.component.blocks_wide) row)
+    (eqb_cases (at % c.component.blocks_wide) column)
   where
-    go : (has_block codings spots index row column ≡ true → HasBlock codings spots index row column)
-        → (b : Bool) → is_of (slice_get codings s.slot) s.index index row column ≡ b
-        → (elim b as (λ _. Bool) [ true ↦ true | false ↦ has_block codings spots index row column ]) ≡ true
-        → HasBlock codings (s ∷ spots) index row column
-    go more true t h =
-        let o = of-true (slice_get codings s.slot) s.index index row column t in
-        record {
-          spot = s;
+    same : (i : IsOf (Some c) at index row column) → i.coding ≡ c
+    same i = sym (some-is c i.coding i.is)
+
+    go : (c.index ≡ index) ⊎ ((c.index ≡ index) → ⊥)
+        → (at / c.component.blocks_wide ≡ row) ⊎ ((at / c.component.blocks_wide ≡ row) → ⊥)
+        → (at % c.component.blocks_wide ≡ column) ⊎ ((at % c.component.blocks_wide ≡ column) → ⊥)
+        → IsOf (Some c) at index row column ⊎ (IsOf (Some c) at index row column → ⊥)
+    go (inl a) (inl b) (inl d) = inl (record { coding = c; is = refl; of_index = a; in_row = b; in_column = d })
+    go (inr n) b d = inr (λ i. n (subst (λ (k : Coding). k.index ≡ index) (same i) i.of_index))
+    go (inl a) (inr n) d =
+        inr (λ i. n (subst (λ (k : Coding). at / k.component.blocks_wide ≡ row) (same i) i.in_row))
+    go (inl a) (inl b) (inr n) =
+        inr (λ i. n (subst (λ (k : Coding). at % k.component.blocks_wide ≡ column) (same i) i.in_column))
+
+-- one of these spots is so, or none
+in-or-not : (P : Spot → Type 0) → ((s : Spot) → P s ⊎ (P s → ⊥)) → (spots : List Spot)
+    → ((s : Spot) × IsIn s spots × P s) ⊎ ((s : Spot) → IsIn s spots → P s → ⊥)
+in-or-not P either [] = inr (λ s t p. t)
+in-or-not P either (x ∷ spots) = go (either x) (in-or-not P either spots)
+  where
+    by : (P x → ⊥) → ((s : Spot) → IsIn s spots → P s → ⊥) → (s : Spot) → (x ≡ s) ⊎ IsIn s spots → P s → ⊥
+    by n m s (inl e) p = n (subst P (sym e) p)
+    by n m s (inr t) p = m s t p
+
+    go : P x ⊎ (P x → ⊥) → ((s : Spot) × IsIn s spots × P s) ⊎ ((s : Spot) → IsIn s spots → P s → ⊥)
+        → ((s : Spot) × IsIn s (x ∷ spots) × P s) ⊎ ((s : Spot) → IsIn s (x ∷ spots) → P s → ⊥)
+    go (inl p) m = inl (x, inl refl, p)
+    go (inr n) (inl r) = inl (r.0, inr r.1, r.2)
+    go (inr n) (inr m) = inr (by n m)
+
+abbrev IsDecided : List Coding → List Spot → ℕ → ℕ → ℕ → Type 0
+IsDecided codings spots index row column =
+    HasBlock codings spots index row column ⊎ (HasBlock codings spots index row column → ⊥)
+
+pub has-or-not : (codings : List Coding) (spots : List Spot) (index row column : ℕ)
+    → IsDecided codings spots index row column
+has-or-not codings spots index row column =
+    go (in-or-not (λ s. IsOf (slice_get codings s.slot) s.index index row column)
+    (λ s. of-or-not (slice_get codings s.slot) s.index index row column) spots)
+  where
+    go : ((s : Spot) × IsIn s spots × IsOf (slice_get codings s.slot) s.index index row column)
+        ⊎ ((s : Spot) → IsIn s spots → IsOf (slice_get codings s.slot) s.index index row column → ⊥)
+        → IsDecided codings spots index row column
+    go (inl r) =
+        let o = r.2 in
+        inl (record {
+          spot = r.0;
           coding = o.coding;
-          is_there = inl refl;
+          is_there = r.1;
           is_coded = o.is;
           is_of = o.of_index;
           in_row = o.in_row;
           in_column = o.in_column;
-        }
-    go more false t h =
-        let r = more h in
-        record {
-          spot = r.spot;
-          coding = r.coding;
-          is_there = inr r.is_there;
-          is_coded = r.is_coded;
-          is_of = r.is_of;
-          in_row = r.in_row;
-          in_column = r.in_column;
-        }
-
-pub has-at : (codings : List Coding) (spots : List Spot) (index row column : ℕ) (s : Spot) (c : Coding)
-    → IsIn s spots → slice_get codings s.slot ≡ Some c → c.index ≡ index → s.index / c.component.blocks_wide ≡ row
-    → s.index % c.component.blocks_wide ≡ column → has_block codings spots index row column ≡ true
-unfolding has_block
-has-at codings [] index row column s c h e i r k = absurd h
-has-at codings (x ∷ spots) index row column s c (inl g) e i r k =
-    let here = of-false (slice_get codings s.slot) c s.index index row column e i r k in
-    let same = subst (λ (y : Spot). is_of (slice_get codings y.slot) y.index index row column ≡ true) (sym g) here in
-    ap (λ (b : Bool). elim b as (λ _. Bool) [ true ↦ true | false ↦ has_block codings spots index row column ]) same
-has-at codings (x ∷ spots) index row column s c (inr t) e i r k =
-    go (is_of (slice_get codings x.slot) x.index index row column)
-    (has-at codings spots index row column s c t e i r k)
-  where
-    go : (b : Bool) → has_block codings spots index row column ≡ true
-        → (elim b as (λ _. Bool) [ true ↦ true | false ↦ has_block codings spots index row column ]) ≡ true
-    go true h = refl
-    go false h = h
-
-pub has-false : (codings : List Coding) (spots : List Spot) (index row column : ℕ)
-    → has_block codings spots index row column ≡ false → HasBlock codings spots index row column → ⊥
-has-false codings spots index row column e h =
-    true≢false (sym (has-at codings spots index row column h.spot h.coding h.is_there h.is_coded h.is_of h.in_row
-    h.in_column) ∙ e)
+        })
+    go (inr n) = inr (λ h. n h.spot h.is_there (record {
+      coding = h.coding;
+      is = h.is_coded;
+      of_index = h.is_of;
+      in_row = h.in_row;
+      in_column = h.in_column;
+    }))
 
 -- ---- the components of a scan
 
@@ -188,6 +160,11 @@ levels-in p (c ∷ ks) levels (suc j) k a t =
     levels-in p ks (levels_of_one p c.index levels) j k a.1 t
     ∙ ap (sent_after p) (one-other p c.index k.index levels (λ e. absent-at ks c.index j k a.0 t (sym e)))
 
+pub scan-apart : (said : Said) (f : Frame) (s : Scan) (codings : List Coding) → ScanFacts f s
+    → codings_of said f s ≡ Ok codings → AreApart (indices_of codings)
+scan-apart said f s codings facts e =
+    subst AreApart (sym (codings-indices said f s codings facts.dc_length facts.ac_length e)) facts.apart
+
 -- the levels of a component of which every bit was sent in one scan
 abbrev pub all_sent : Levels
 all_sent = sent_after whole_pass nothing_sent
@@ -222,9 +199,16 @@ whole-after p codings levels q apart legal u k = go (in-scan codings k)
 -- ---- after the scan
 
 -- a coding is of a component of the frame, with its quantization table
-record CodingFacts (w : Said) (frame : Frame) (k : Coding) : Type 0 where
-  at : At k.index frame.components k.component
+pub record CodingFacts (w : Said) (frame : Frame) (k : Coding) : Type 0 where
+  pub at : At k.index frame.components k.component
   table : slice_index_or w.quantization k.component.factors.quantization None ≡ Some k.quantization
+
+pub coding-facts : (w : Said) (f : Frame) (s : Scan) (codings : List Coding) → codings_of w f s ≡ Ok codings
+    → AllByRecursion (CodingFacts w f) codings
+coding-facts w f s codings found = codings-each (CodingFacts w f) w f s codings found (λ index d a k is. record {
+  at = get-at k.index f.components k.component is.component;
+  table = is.quantization;
+})
 
 all-done : (w : Said) (f : Frame) (p : Pass) (array : Coefficients) (levels : ℕ → Levels) (codings : List Coding)
     (arrays : Arrays) → length arrays ≡ length codings
@@ -284,13 +268,30 @@ pub record CutScan (w : Said) (f : Frame) (array : Coefficients) (levels next : 
   pub away : (index row column : ℕ) → (HasBlock codings done index row column → ⊥)
       → cut (next index) (image index row column) ≡ cut (levels index) (array index row column)
 
-module _ (w : Said) (f : Frame) (array : Coefficients) (levels : ℕ → Levels) (sc : Bool) (h : Arrays)
-    (fi : List (List Bool)) (pl : List (Option (List ℕ))) (s : Scan) (codings : List Coding)
-    (shape : Shaped f) (framed : Framed w f array levels sc h fi pl) (says : ScanFacts f s)
-    (legal : IsLegalScan w f levels s codings) (done : List Spot) (arrays : Arrays)
-    (own : HasOwn (pass_of s) array levels codings done arrays) where
+-- What is known of a written scan of a frame, of which so much was said, sent and brought before it.
+pub record KnownScan (w : Said) (f : Frame) (array : Coefficients) (levels : ℕ → Levels) (progress : Progress)
+    (s : Scan) (codings : List Coding) (bytes : List ℕ) : Type 0 where
+  pub range : (index row column : ℕ) → Is8Bit (array index row column)
+  pub shape : Shaped f
+  pub framed : Framed w f array levels w.scanned progress.0 progress.1 progress.2
+  pub says : ScanFacts f s
+  pub exist : AllByRecursion (λ c. IsTable c.dc × IsTable c.ac) codings
+  pub legal : IsLegalScan w f levels s codings
+  pub written : WritesScan f w.restart (pass_of s) codings array bytes
+
+module _ {w : Said} {f : Frame} {array : Coefficients} {levels : ℕ → Levels} {progress : Progress} {s : Scan}
+    {codings : List Coding} {bytes : List ℕ} (known : KnownScan w f array levels progress s codings bytes) where
+  pub found_codings : codings_of w f s ≡ Ok codings
+  found_codings = codings-found w f s codings known.legal.are_in_force
+
+  pub is-legal : (k : Coding) (j : ℕ) → At j codings k → IsLegal (pass_of s) (levels k.index)
+  is-legal k j t = at-all (λ (c : Coding). IsLegal (pass_of s) (levels c.index)) j codings k known.legal.legal t
+
+module _ {w : Said} {f : Frame} {array : Coefficients} {levels : ℕ → Levels} {progress : Progress} {s : Scan}
+    {codings : List Coding} {bytes : List ℕ} (known : KnownScan w f array levels progress s codings bytes)
+    (done : List Spot) (arrays : Arrays) (own : HasOwn (pass_of s) array levels codings done arrays) where
   abbrev now : Found
-  now = reading w sc h fi pl
+  now = reading w w.scanned progress.0 progress.1 progress.2
 
   abbrev p : Pass
   p = pass_of s
@@ -298,20 +299,8 @@ module _ (w : Said) (f : Frame) (array : Coefficients) (levels : ℕ → Levels)
   abbrev next : ℕ → Levels
   next = levels_after p (indices_of codings) levels
 
-  found_codings : codings_of w f s ≡ Ok codings
-  found_codings = codings-found w f s codings legal.are_in_force
-
   apart : AreApart (indices_of codings)
-  apart = subst AreApart (sym (codings-indices w f s codings says.dc_length says.ac_length found_codings)) says.apart
-
-  facts : AllByRecursion (CodingFacts w f) codings
-  facts = codings-each (CodingFacts w f) w f s codings found_codings (λ index d a k is. record {
-    at = get-at k.index f.components k.component is.component;
-    table = is.quantization;
-  })
-
-  is-legal : (k : Coding) (j : ℕ) → At j codings k → IsLegal p (levels k.index)
-  is-legal k j t = at-all (λ (c : Coding). IsLegal p (levels c.index)) j codings k legal.legal t
+  apart = scan-apart w f s codings known.says (found_codings known)
 
   -- the levels after the scan are later
   pub are-later : (index : ℕ) → AreLater (levels index) (next index)
@@ -321,36 +310,41 @@ module _ (w : Said) (f : Frame) (array : Coefficients) (levels : ℕ → Levels)
       go (inl r) =
           subst (λ (i : ℕ). AreLater (levels i) (next i)) r.3
           (subst (AreLater (levels r.1.index)) (sym (levels-in p codings levels r.0 r.1 apart r.2))
-          (later-sent p (levels r.1.index) (is-legal r.1 r.0 r.2)))
+          (later-sent p (levels r.1.index) (is-legal known r.1 r.0 r.2)))
       go (inr a) = subst (AreLater (levels index)) (sym (levels-absent p codings levels index a))
           (later-themselves (levels index))
 
-  abbrev level_if : Bool → ℕ → Levels
-  level_if b index = elim b as (λ _. Levels) [ true ↦ next index | false ↦ levels index ]
+  abbrev level_by : {A B : Type 0} → A ⊎ B → ℕ → Levels
+  level_by (inl there) index = next index
+  level_by (inr away) index = levels index
 
   -- The image of which each block was sent as the cut scan has it.
   abbrev pub cut_array : Coefficients
   cut_array = λ index row column.
-      cut (level_if (has_block codings done index row column) index) (array index row column)
+      cut (level_by (has-or-not codings done index row column) index) (array index row column)
+
+  level-either : {A B : Type 0} (P : Levels → Type 0) (index : ℕ) → P (next index) → P (levels index) → (d : A ⊎ B)
+      → P (level_by d index)
+  level-either P index there away (inl a) = there
+  level-either P index there away (inr b) = away
 
   -- it is as it was at the levels before
   before-same : (index row column : ℕ) → cut (levels index) (cut_array index row column) ≡ cut (levels index)
       (array index row column)
-  before-same index row column = go (has_block codings done index row column)
-    where
-      go : (b : Bool) → cut (levels index) (cut (level_if b index) (array index row column))
-          ≡ cut (levels index) (array index row column)
-      go true = cut-earlier (levels index) (next index) (array index row column) (are-later index)
-      go false = cut-later (levels index) (levels index) (array index row column) (later-themselves (levels index))
+  before-same index row column =
+      let c = array index row column in
+      level-either (λ (l : Levels). cut (levels index) (cut l c) ≡ cut (levels index) c) index
+      (cut-earlier (levels index) (next index) c (are-later index))
+      (cut-later (levels index) (levels index) c (later-themselves (levels index)))
+      (has-or-not codings done index row column)
 
   -- and it stays at the levels after
   pub after-same : (index row column : ℕ) → cut (next index) (cut_array index row column) ≡ cut_array index row column
-  after-same index row column = go (has_block codings done index row column)
-    where
-      go : (b : Bool) → cut (next index) (cut (level_if b index) (array index row column))
-          ≡ cut (level_if b index) (array index row column)
-      go true = cut-later (next index) (next index) (array index row column) (later-themselves (next index))
-      go false = cut-later (levels index) (next index) (array index row column) (are-later index)
+  after-same index row column =
+      let c = array index row column in
+      level-either (λ (l : Levels). cut (next index) (cut l c) ≡ cut l c) index
+      (cut-later (next index) (next index) c (later-themselves (next index)))
+      (cut-later (levels index) (next index) c (are-later index)) (has-or-not codings done index row column)
 
   own-before : (index : ℕ) (c : Component) (blocks : List Block)
       → HoldsOwn (grid_of c) (array index) (levels index) blocks
@@ -360,7 +354,8 @@ module _ (w : Said) (f : Frame) (array : Coefficients) (levels : ℕ → Levels)
     each = λ i t. holds.each i t ∙ sym (before-same index (i / c.blocks_wide) (i % c.blocks_wide));
   }
 
-  plane-before : (k : ℕ) (c : Component) → PlaneSo w array (levels k) pl k c → PlaneSo w cut_array (levels k) pl k c
+  plane-before : (k : ℕ) (c : Component) → PlaneSo w array (levels k) progress.2 k c
+      → PlaneSo w cut_array (levels k) progress.2 k c
   plane-before k c so = record {
     decided = λ e. let o = so.decided e in record {
       table = o.table;
@@ -372,27 +367,26 @@ module _ (w : Said) (f : Frame) (array : Coefficients) (levels : ℕ → Levels)
     undecided = so.undecided;
   }
 
-  marked : Marked w f cut_array levels fi pl
+  marked : Marked w f cut_array levels progress.1 progress.2
   marked = record {
-    fi_count = framed.marked.fi_count;
-    pl_count = framed.marked.pl_count;
-    marks = framed.marked.marks;
-    planes = λ k c t. plane-before k c (framed.marked.planes k c t);
+    fi_count = known.framed.marked.fi_count;
+    pl_count = known.framed.marked.pl_count;
+    marks = known.framed.marked.marks;
+    planes = λ k c t. plane-before k c (known.framed.marked.planes k c t);
   }
 
   kept-before : is_progressive f.process ≡ true → AllKept f cut_array levels (arrays_before now f)
   kept-before e = record {
-    count = (framed.kept e).count;
-    each = λ k c t. own-before k c (get_or (arrays_before now f) k []) ((framed.kept e).each k c t);
+    count = (known.framed.kept e).count;
+    each = λ k c t. own-before k c (get_or (arrays_before now f) k []) ((known.framed.kept e).each k c t);
   }
 
   -- the spot of an own block
   at_spot : (k : Coding) (j i : ℕ) → At j codings k
-      → has_block codings done k.index (i / k.component.blocks_wide) (i % k.component.blocks_wide) ≡ true
+      → HasBlock codings done k.index (i / k.component.blocks_wide) (i % k.component.blocks_wide)
       → IsIn (record { slot = j; index = i }) done
-  at_spot k j i t e =
+  at_spot k j i t b =
       let wide = k.component.blocks_wide in
-      let b = has-true codings done k.index (i / wide) (i % wide) e in
       let there = get-at b.spot.slot codings b.coding b.is_coded in
       let slot : b.spot.slot ≡ j = slots-same codings b.spot.slot j b.coding k apart there t b.is_of in
       let same : b.coding ≡ k = at-one j codings b.coding k (subst (λ (n : ℕ). At n codings b.coding) slot there) t in
@@ -406,51 +400,48 @@ module _ (w : Said) (f : Frame) (array : Coefficients) (levels : ℕ → Levels)
       → HoldsOwn (grid_of k.component) (cut_array k.index) (sent_after p (levels k.index)) (get_or arrays j [])
   holds-after k j t = record {
     sized = own.sized k j t;
-    each = λ i o. each_at i o (has_block codings done k.index (i / k.component.blocks_wide)
-        (i % k.component.blocks_wide)) refl;
+    each = λ i o. each_at i o (has-or-not codings done k.index (i / k.component.blocks_wide)
+        (i % k.component.blocks_wide));
   }
     where
-      l : Levels
-      l = sent_after p (levels k.index)
-
-      each_at : (i : ℕ) → IsOwn (grid_of k.component) i → (b : Bool)
-          → has_block codings done k.index (i / k.component.blocks_wide) (i % k.component.blocks_wide) ≡ b
+      each_at : (i : ℕ) → IsOwn (grid_of k.component) i
+          → (d : IsDecided codings done k.index (i / k.component.blocks_wide) (i % k.component.blocks_wide))
           → get_or (get_or arrays j []) i zero_block
-          ≡ cut (sent_after p (levels k.index))
-          (cut_array k.index (i / k.component.blocks_wide) (i % k.component.blocks_wide))
-      each_at i o true e =
-          let row = i / k.component.blocks_wide in
-          let column = i % k.component.blocks_wide in
-          own.sent k (record { slot = j; index = i }) t o (at_spot k j i t e)
-          ∙ sym (cut-later (sent_after p (levels k.index)) (sent_after p (levels k.index)) (array k.index row column)
-          (later-themselves (sent_after p (levels k.index))))
-          ∙ ap (λ (m : Levels). cut (sent_after p (levels k.index)) (cut m (array k.index row column)))
-          (sym (levels-in p codings levels j k apart t))
-          ∙ ap (λ (b : Bool). cut (sent_after p (levels k.index)) (cut (level_if b k.index) (array k.index row column)))
-          (sym e)
-      each_at i o false e =
-          let row = i / k.component.blocks_wide in
-          let column = i % k.component.blocks_wide in
-          own.kept k (record { slot = j; index = i }) t o (λ here.
-          true≢false (sym (has-at codings done k.index row column (record { slot = j; index = i }) k here
-          (at-got j codings k t) refl refl refl) ∙ e))
-          ∙ sym (cut-later (levels k.index) (sent_after p (levels k.index)) (array k.index row column)
-          (later-sent p (levels k.index) (is-legal k j t)))
-          ∙ ap (λ (b : Bool). cut (sent_after p (levels k.index)) (cut (level_if b k.index) (array k.index row column)))
-          (sym e)
+          ≡ cut (sent_after p (levels k.index)) (cut (level_by d k.index)
+          (array k.index (i / k.component.blocks_wide) (i % k.component.blocks_wide)))
+      each_at i o (inl h) =
+          let c = array k.index (i / k.component.blocks_wide) (i % k.component.blocks_wide) in
+          let l = sent_after p (levels k.index) in
+          own.sent k (record { slot = j; index = i }) t o (at_spot k j i t h)
+          ∙ sym (cut-later l l c (later-themselves l))
+          ∙ ap (λ (m : Levels). cut l (cut m c)) (sym (levels-in p codings levels j k apart t))
+      each_at i o (inr n) =
+          let c = array k.index (i / k.component.blocks_wide) (i % k.component.blocks_wide) in
+          own.kept k (record { slot = j; index = i }) t o (λ here. n (record {
+            spot = record { slot = j; index = i };
+            coding = k;
+            is_there = here;
+            is_coded = at-got j codings k t;
+            is_of = refl;
+            in_row = refl;
+            in_column = refl;
+          }))
+          ∙ sym (cut-later (levels k.index) (sent_after p (levels k.index)) c
+          (later-sent p (levels k.index) (is-legal known k j t)))
 
   all : AllDone w f p cut_array levels codings arrays
-  all = all-done w f p cut_array levels codings arrays own.count holds-after facts legal.legal framed.sized
+  all = all-done w f p cut_array levels codings arrays own.count holds-after
+      (coding-facts w f s codings (found_codings known)) known.legal.legal known.framed.sized
 
   abbrev after_kept : Arrays
   after_kept = blocks_after now f codings arrays
 
-  brought : Brought w f p cut_array levels codings arrays true after_kept fi pl
-  brought = brings w f p cut_array levels codings arrays true after_kept fi pl shape.few (band-so f s says.so) apart all
-      marked
+  brought : Brought w f p cut_array levels codings arrays true after_kept progress.1 progress.2
+  brought = brings w f p cut_array levels codings arrays true after_kept progress.1 progress.2 known.shape.few
+      (band-so f s known.says.so) apart all marked
 
   fresh-after : PassSo f s → is_progressive f.process ≡ false → (k : ℕ) → (next k).dc ≡ None → next k ≡ nothing_sent
-  fresh-after (sequential e q) g k n = after-fresh p (indices_of codings) levels q (framed.fresh g) k n
+  fresh-after (sequential e q) g k n = after-fresh p (indices_of codings) levels q (known.framed.fresh g) k n
   fresh-after (progressive e d a lt le) g k n = absurd (true≢false (sym e ∙ g))
 
   kept-now : is_progressive f.process ≡ true
@@ -469,46 +460,45 @@ module _ (w : Said) (f : Frame) (array : Coefficients) (levels : ℕ → Levels)
     after = brought.is;
     framed = record {
       marked = brought.marked;
-      sized = after-length p (indices_of codings) levels framed.sized;
+      sized = after-length p (indices_of codings) levels known.framed.sized;
       kept = kept-now;
-      fresh = fresh-after says.so;
+      fresh = fresh-after known.says.so;
     };
   }
 
-  counts-after : ((index row column : ℕ) → length (array index row column).acs ≡ 63) → (index row column : ℕ)
-      → length (cut_array index row column).acs ≡ 63
-  counts-after counts index row column = go (has_block codings done index row column)
-    where
-      go : (b : Bool) → length (cut (level_if b index) (array index row column)).acs ≡ 63
-      go true =
-          let n = counts index row column in
-          cut-count (array index row column).acs (next index).acs
-          (n ∙ sym (after-length p (indices_of codings) levels framed.sized index)) ∙ n
-      go false =
-          let n = counts index row column in
-          cut-count (array index row column).acs (levels index).acs (n ∙ sym (framed.sized index)) ∙ n
+  counts-after : (index row column : ℕ) → length (cut_array index row column).acs ≡ 63
+  counts-after index row column =
+      let c = array index row column in
+      let n = (known.range index row column).count in
+      level-either (λ (l : Levels). length (cut l c).acs ≡ 63) index
+      (cut-count c.acs (next index).acs
+      (n ∙ sym (after-length p (indices_of codings) levels known.framed.sized index)) ∙ n)
+      (cut-count c.acs (levels index).acs (n ∙ sym (known.framed.sized index)) ∙ n)
+      (has-or-not codings done index row column)
 
   is-there : (index row column : ℕ) → HasBlock codings done index row column
       → cut (next index) (cut_array index row column) ≡ cut (next index) (array index row column)
-  is-there index row column h =
-      let e = has-at codings done index row column h.spot h.coding h.is_there h.is_coded h.is_of h.in_row h.in_column in
-      after-same index row column ∙ ap (λ (b : Bool). cut (level_if b index) (array index row column)) e
+  is-there index row column h = after-same index row column ∙ go (has-or-not codings done index row column)
+    where
+      go : (d : IsDecided codings done index row column)
+          → cut (level_by d index) (array index row column) ≡ cut (next index) (array index row column)
+      go (inl there) = refl
+      go (inr n) = absurd (n h)
 
   is-away : (index row column : ℕ) → (HasBlock codings done index row column → ⊥)
       → cut (next index) (cut_array index row column) ≡ cut (levels index) (array index row column)
-  is-away index row column n = after-same index row column ∙ go (has_block codings done index row column) refl
+  is-away index row column n = after-same index row column ∙ go (has-or-not codings done index row column)
     where
-      go : (b : Bool) → has_block codings done index row column ≡ b
-          → cut (level_if b index) (array index row column) ≡ cut (levels index) (array index row column)
-      go true e = absurd (n (has-true codings done index row column e))
-      go false e = refl
+      go : (d : IsDecided codings done index row column)
+          → cut (level_by d index) (array index row column) ≡ cut (levels index) (array index row column)
+      go (inl there) = absurd (n there)
+      go (inr away) = refl
 
-  pub cut-scan : ((index row column : ℕ) → length (array index row column).acs ≡ 63)
-      → CutScan w f array levels next codings done (after_scan now f s codings arrays)
-  cut-scan counts = record {
+  pub cut-scan : CutScan w f array levels next codings done (after_scan now f s codings arrays)
+  cut-scan = record {
     image = cut_array;
     after = after-cut;
-    counts = counts-after counts;
+    counts = counts-after;
     there = is-there;
     away = is-away;
   }

@@ -1,12 +1,10 @@
 -- Where all data of a scan are there, and of the marker after them some bytes FF alone, all its blocks are reached.
-use Rattle.std.proofs.Common.{◌≡◌, ◌⊎◌, inl, inr, ◌+◌, ◌%◌, ◌==◌, ℕ, zero, suc, Bool, true, false, List, [], ◌∷◌, ◌++◌}
-use Rattle.std.proofs.Common.{length, map, get_or, set, replicate, refl, sym, ap, ap₂, ◌∙◌, subst, Ok, Err, Result}
-use Rattle.std.proofs.Common.{Option, Some, append_assoc, length-set, get_or-set_other}
-use Rattle.std.proofs.lemmas.Bool.{eqb-true}
+use Rattle.std.proofs.Common.{◌≡◌, ◌⊎◌, inl, inr, ◌+◌, ◌%◌, ℕ, zero, suc, Bool, List, [], ◌∷◌, ◌++◌}
+use Rattle.std.proofs.Common.{length, map, get_or, set, replicate, refl, sym, ap, ap₂, ◌∙◌, subst}
+use Rattle.std.proofs.Common.{Option, append_assoc, append-nil, length-set, get_or-set_other}
 use Rattle.std.specs.List.{AllByRecursion}
-use Rattle.jpeg_bits.specs.Reading.{End, Fault, Outcome}
-use Rattle.jpeg_bits.specs.Reading as outcomes
-use Rattle.jpeg_bits.specs.Entropy.{Broken, Ending, Text, add_byte, bits_of, ending_at, no_bits, text_at}
+use Rattle.jpeg_bits.specs.Reading.{End, Outcome}
+use Rattle.jpeg_bits.specs.Entropy.{Broken, Ending, Text, ending_at, no_bits, text_at}
 use Rattle.jpeg_bits.specs.Intervals.{first_group, other_groups}
 use Rattle.jpeg_bits.specs.Passes.{Block, Pass, Via, predictors_at_start}
 use Rattle.jpeg_bits.specs.Readers.{text}
@@ -15,22 +13,19 @@ use Rattle.jpeg_bits.specs.Written.WritesIntervals.{another, last}
 use Rattle.jpeg_bits.specs.declared.marker.Marker.{Marker}
 use Rattle.jpeg_bits.specs.declared.marker.Marker.TheVariants.{RST}
 use Rattle.jpeg_bits.proofs.WrittenIntervals.{all-groups, marker-append}
-use Rattle.jpeg_segments.proofs.Codecs.{err-ok, ok-same}
-use Rattle.jpeg_streams.specs.Brought.{after_interval, interval_reached, intervals_reached, reached_from, scan_reached}
-use Rattle.jpeg_streams.specs.Brought.{sealed}
-use Rattle.jpeg_streams.specs.InTurn.{AreApart, IsIn, Reached, at_start, turns_from}
+use Rattle.jpeg_streams.specs.Brought.{interval_reached, intervals_reached, scan_reached}
+use Rattle.jpeg_streams.specs.InTurn.{AreApart, IsIn}
 use Rattle.jpeg_streams.specs.Order.{Spot}
 use Rattle.jpeg_streams.specs.Scans.{Arrays, put_block, turns_of}
 use Rattle.jpeg_streams.specs.WrittenData.{WritesBlocks}
 use Rattle.jpeg_streams.proofs.BroughtLevels.{eqb_cases}
-use Rattle.jpeg_streams.proofs.CountedScans.{all_of, apart-back, apart-front, arrays_in, in-front}
+use Rattle.jpeg_streams.proofs.CountedScans.{all_of, apart-back, apart-front, in-front}
 use Rattle.jpeg_streams.proofs.WrittenFrameScans.{IsReadyAt, all-in}
 use Rattle.jpeg_evidence.specs.LongerStreams.{Puts, finished, put}
 use Rattle.jpeg_evidence.proofs.LongerData.{Met}
-use Rattle.jpeg_evidence.proofs.LongerScans.{next_reached}
-use Rattle.jpeg_evidence.proofs.StuffedTexts.{plain-text, stuffed-byte}
-use Rattle.jpeg_evidence.proofs.WrittenCuts.{after_blocks, groups-coded, interval-written, restart-met, restored}
-use Rattle.jpeg_evidence.proofs.WrittenCuts.{rst-marker, sealed_read, stays-ready, takes-sealed, turns-reached}
+use Rattle.jpeg_evidence.proofs.StuffedTexts.{stuffed-begins}
+use Rattle.jpeg_evidence.proofs.WrittenCuts.{after_blocks, groups-coded, interval-written, one-more, read-reached}
+use Rattle.jpeg_evidence.proofs.WrittenCuts.{rst-marker, sealed_read, stays-ready, takes-sealed}
 
 -- ---- sizes
 
@@ -91,43 +86,15 @@ record IsText (t : Text) (bits : List Bool) : Type 0 where
   ends_so : t.ending ≡ Broken End
 
 stuffed-filled : (j : ℕ) (bytes : List ℕ) → IsText (text_at (stuffed bytes ++ replicate j 255)) (bits_of_bytes bytes)
-unfolding stuffed bits_of_bytes
-stuffed-filled j [] = rw (text-filled j) (record { bits_are = refl; ends_so = refl })
-stuffed-filled j (b ∷ bytes) = go (b == 255) refl (stuffed-filled j bytes)
-  where
-    add : (c : ℕ) (rest : List ℕ) (t : Text) (bits : List Bool) → IsText t bits
-        → IsText (add_byte c rest t) (bits_of c ++ bits)
-    add c rest t bits h = record { bits_are = ap (λ (l : List Bool). bits_of c ++ l) h.bits_are; ends_so = h.ends_so }
-
-    go : (t : Bool) → (b == 255) ≡ t → IsText (text_at (stuffed bytes ++ replicate j 255)) (bits_of_bytes bytes)
-        → IsText
-        (text_at ((elim t as (λ _. List ℕ) [ true ↦ 255 ∷ 0 ∷ stuffed bytes | false ↦ b ∷ stuffed bytes ])
-        ++ replicate j 255))
-        (bits_of b ++ bits_of_bytes bytes)
-    go true e h =
-        let rest = stuffed bytes ++ replicate j 255 in
-        subst (λ (c : ℕ). IsText (text_at (255 ∷ 0 ∷ rest)) (bits_of c ++ bits_of_bytes bytes)) (sym (eqb-true b 255 e))
-        (rw (stuffed-byte rest) (add 255 rest (text_at rest) (bits_of_bytes bytes) h))
-    go false e h =
-        let rest = stuffed bytes ++ replicate j 255 in
-        rw (plain-text b rest e) (add b rest (text_at rest) (bits_of_bytes bytes) h)
+stuffed-filled j bytes =
+    let t = stuffed-begins bytes (replicate j 255) in
+    record {
+      bits_are = t.are ∙ ap (λ (u : Text). bits_of_bytes bytes ++ u.bits) (text-filled j)
+          ∙ append-nil (bits_of_bytes bytes);
+      ends_so = t.ends ∙ ap (λ (u : Text). u.ending) (text-filled j);
+    }
 
 -- ---- an interval
-
--- blocks that are read of bits alone are reached
-read-reached : (p : Pass) (vias : List Via) (spots : List Spot) (arrays x : Arrays) (t : Text) (y : Text)
-    → sealed_read p vias spots arrays t ≡ Ok (x, y)
-    → (reached_from p vias spots (at_start arrays) (sealed t)).0.arrays ≡ x
-read-reached p vias spots arrays x t y h = go (turns_from p vias spots (at_start arrays) (sealed t)) refl h
-  where
-    go : (o : Result (Reached × Text) Fault) → turns_from p vias spots (at_start arrays) (sealed t) ≡ o
-        → restored t.ending (arrays_in o) ≡ Ok (x, y)
-        → (reached_from p vias spots (at_start arrays) (sealed t)).0.arrays ≡ x
-    go (Err g) a e = absurd (err-ok g _ e)
-    go (Ok r) a e =
-        ap (λ (q : Reached × Result (List Bool) Fault). q.0.arrays)
-        (turns-reached p vias spots (at_start arrays) (sealed t) r a)
-        ∙ ap (λ (q : Arrays × Text). q.0) (ok-same _ (x, y) e)
 
 interval-filled : (p : Pass) (vias : List Via) (spots : List Spot) (arrays : Arrays) (u : Spot → Block) (bytes : List ℕ)
     (j : ℕ) → AreApart spots → AllByRecursion (IsReadyAt p vias arrays u) spots
@@ -142,20 +109,12 @@ interval-filled p vias spots arrays u bytes j apart ready w =
     let same : text_at all ≡ text (w.bits ++ w.filling) (text_at all).following (Broken End)
     = ap₂ (λ (b : List Bool) (e : Ending). record { bits = b; following = (text_at all).following; ending = e })
     is.bits_are is.ends_so in
-    read-reached p vias spots arrays (after_blocks p u spots arrays) (text_at all) _
+    (read-reached p vias spots arrays (text_at all) _
     (ap (sealed_read p vias spots arrays) same
     ∙ (takes-sealed p vias spots arrays u w.bits apart ready w.coded).read w.filling (text_at all).following
-    (Broken End))
+    (Broken End))).0
 
 -- ---- a scan
-
-one-more : (k : ℕ) (r : Arrays × Met) (x : Arrays) (rest : List ℕ)
-    (reached : Arrays → List ℕ → Arrays × Outcome (Option Marker))
-    → r ≡ (x, Ok ((true, Some (RST (k % 8))), rest))
-    → (next_reached reached r.0 (outcomes.◌>>=◌ r.1 (after_interval k))).0 ≡ (reached x rest).0
-one-more k r x rest reached e =
-    ap (λ (q : Arrays × Met). (next_reached reached q.0 (outcomes.◌>>=◌ q.1 (after_interval k))).0) e
-    ∙ ap (λ (o : Result (List ℕ) Fault). (next_reached reached x o).0) (restart-met k rest)
 
 module _ (p : Pass) (vias : List Via) (u : Spot → Block) (fill code : ℕ) (m : Marker) (rest : List ℕ)
     (is : IsMarker code m) (j : ℕ) where
@@ -190,11 +149,11 @@ module _ (p : Pass) (vias : List Via) (u : Spot → Block) (fill code : ℕ) (m 
       ∙ ap (λ (l : List ℕ). first ++ l) (marker-append fill' (0xD0 + k % 8) after tail) in
       let step : (tail : List ℕ) → (intervals_reached p vias k spots (next ∷ groups) arrays (bytes ++ tail)).0
       ≡ (intervals_reached p vias (suc k) next groups now (after ++ tail)).0
-      = λ tail. one-more k (interval_reached p vias spots arrays (bytes ++ tail)) now (after ++ tail)
-      (intervals_reached p vias (suc k) next groups)
-      (ap (interval_reached p vias spots arrays) (parts tail)
+      = λ tail. ap (λ (q : Arrays × Outcome (Option Marker)). q.0)
+      (one-more k (interval_reached p vias spots arrays (bytes ++ tail)) now (after ++ tail)
+      (intervals_reached p vias (suc k) next groups) (ap (interval_reached p vias spots arrays) (parts tail)
       ∙ interval-written p vias spots arrays u first fill' (0xD0 + k % 8) (RST (k % 8)) (after ++ tail) a r
-      (rst-marker k) w) in
+      (rst-marker k) w)) in
       step (replicate j 255)
       ∙ intervals-filled (suc k) next groups now after (apart-back spots others apart)
       (stays-ready p vias spots others arrays u apart ready) ws

@@ -1,40 +1,31 @@
 -- Each beginning of a written image holds an image of which each block was sent at levels of its own.
-use Rattle.std.proofs.Common.{◌≡◌, ◌⊎◌, inl, inr, ℕ, zero, suc, true, false, List, [], ◌∷◌, ◌++◌}
-use Rattle.std.proofs.Common.{replicate, Some, None, Result, Ok, Err, refl, sym, ap, ap₂, ◌∙◌, subst}
-use Rattle.std.proofs.Common.{true≢false}
+use Rattle.std.proofs.Common.{◌≡◌, ◌⊎◌, inl, inr, ℕ, zero, suc, true, false, List, [], ◌∷◌, ◌++◌, replicate, Some, None}
+use Rattle.std.proofs.Common.{Err, refl, sym, ap, ap₂, ◌∙◌, subst, true≢false}
 use Rattle.jpeg_bits.specs.Marker.{marker_of, next_marker}
-use Rattle.jpeg_bits.specs.Reading.{End, Fault}
+use Rattle.jpeg_bits.specs.Reading.{End}
 use Rattle.jpeg_bits.specs.Written.{marker}
 use Rattle.jpeg_segments.specs.Frame.{Frame}
-use Rattle.jpeg_segments.specs.ScanHeader.{Scan}
 use Rattle.jpeg_segments.specs.ScanHeaders.{IsScan, ScanHeader, scan_written}
 use Rattle.jpeg_segments.specs.WrittenSegments.{Header, Segment}
 use Rattle.jpeg_streams.specs.Brought.{Brought, turn_brought, walk_brought}
 use Rattle.jpeg_streams.specs.Found.{Found, Said, nothing_said}
 use Rattle.jpeg_streams.specs.Levels.{Levels, nothing_sent}
 use Rattle.jpeg_streams.specs.SaidSegments.{Stands, said_after}
-use Rattle.jpeg_streams.specs.ScanSegments.{Coding, codings_of}
 use Rattle.jpeg_streams.specs.ScanSegments.{is_progressive, pass_of}
 use Rattle.jpeg_streams.specs.WrittenImages.{MayStandInImage, WritesImageScan}
 use Rattle.jpeg_streams.specs.WrittenScans.{Coefficients, levels_after}
 use Rattle.jpeg_streams.specs.WrittenStreams.{Writes, end, scan, segment}
 use Rattle.jpeg_streams.specs.declared.before.Before.{Before}
-use Rattle.jpeg_streams.proofs.BroughtLevels.{PassSo, ScanFacts, indices_of}
-use Rattle.jpeg_streams.proofs.BroughtLevels.{is_whole, progressive, sequential}
+use Rattle.jpeg_streams.proofs.BroughtLevels.{PassSo, indices_of, is_whole, progressive, sequential}
 use Rattle.jpeg_streams.proofs.CodingsInForce.{codings-found}
 use Rattle.jpeg_streams.proofs.OwnSpots.{AreApart}
-use Rattle.jpeg_streams.proofs.ReadTurns.{codings-indices, same-frame}
-use Rattle.jpeg_streams.proofs.ReadTurns.{some-none}
+use Rattle.jpeg_streams.proofs.ReadTurns.{same-frame, some-none}
 use Rattle.jpeg_streams.proofs.WalkedStreams.{IsSaid, nothing-said, segment-said}
 use Rattle.jpeg_streams.proofs.WrittenPictures.{IsDrawn, drawn-said, header-facts}
 use Rattle.jpeg_evidence.specs.CutImages.{WritesFront}
-use Rattle.jpeg_evidence.proofs.CutBlocks.{NoneOrAll, all_sent}
-use Rattle.jpeg_evidence.proofs.CutBlocks.{whole-after}
+use Rattle.jpeg_evidence.proofs.CutBlocks.{NoneOrAll, all_sent, scan-apart, whole-after}
 use Rattle.jpeg_evidence.proofs.CutPictures.{AllOrNone}
-use Rattle.jpeg_evidence.proofs.CutWalks.{walk_on}
-
-abbrev Walked : Type 0
-Walked = Found × Result (List ℕ) Fault
+use Rattle.jpeg_evidence.proofs.LongerTurns.{walk_on}
 
 -- ---- beginnings of bytes
 
@@ -122,11 +113,6 @@ unmixed-segment said levels (Header number h) stands u = record {
   whole = λ f e q k. inl (u.fresh stands.0.0 k);
 }
 unmixed-segment said levels s stands u = record { fresh = u.fresh; whole = u.whole }
-
-pub scan-apart : (said : Said) (f : Frame) (s : Scan) (codings : List Coding) → ScanFacts f s
-    → codings_of said f s ≡ Ok codings → AreApart (indices_of codings)
-scan-apart said f s codings facts e =
-    subst AreApart (sym (codings-indices said f s codings facts.dc_length facts.ac_length e)) facts.apart
 
 pub unmixed-scan : (array : Coefficients) (said : Said) (levels next : ℕ → Levels) (f : Frame) (h : ScanHeader)
     (bytes : List ℕ) → IsSaid IsDrawn said → said.frame ≡ Some f → IsScan f h

@@ -16,29 +16,28 @@ use Rattle.jpeg_streams.proofs.WrittenRefinements.{neg-times}
 
 -- ---- numbers
 
--- a number that is scaled comes back
-toward-back : (q : ℤ) (b : ℕ) → toward_zero b (q *ℤ pos (2 ^ b)) ≡ q
-toward-back (pos n) b = ap pos (shl-shr n b)
-toward-back (negsuc n) b = go (suc n * 2 ^ b) refl
+-- a number that is scaled comes back, by what holds of numbers of either sign
+scaled-back : (at : ℕ → ℤ → ℤ) (q : ℤ) (b : ℕ) → ((n : ℕ) → at b (pos n) ≡ pos (n / 2 ^ b))
+    → ((n k : ℕ) → suc n * 2 ^ b ≡ suc k → at b (negsuc k) ≡ negsuc n) → at b (q *ℤ pos (2 ^ b)) ≡ q
+scaled-back at (pos n) b above below = above (n * 2 ^ b) ∙ ap pos (shl-shr n b)
+scaled-back at (negsuc n) b above below = go (suc n * 2 ^ b) refl
   where
-    go : (m : ℕ) → suc n * 2 ^ b ≡ m → toward_zero b (neg_ℤ (pos m)) ≡ negsuc n
+    go : (m : ℕ) → suc n * 2 ^ b ≡ m → at b (neg_ℤ (pos m)) ≡ negsuc n
     go zero e =
         absurd (let p : 0 < 2 ^ b = pow_pos b in let s = add-mul 1 n (2 ^ b) in let o = one-mul (2 ^ b) in omega arith)
-    go (suc k) e = ap (λ (j : ℕ). neg_ℤ (pos (j / 2 ^ b))) (sym e) ∙ ap (λ (j : ℕ). neg_ℤ (pos j)) (shl-shr (suc n) b)
+    go (suc k) e = below n k e
+
+toward-back : (q : ℤ) (b : ℕ) → toward_zero b (q *ℤ pos (2 ^ b)) ≡ q
+toward-back q b = scaled-back toward_zero q b (λ n. refl) (λ n k e.
+    ap (λ (j : ℕ). neg_ℤ (pos (j / 2 ^ b))) (sym e) ∙ ap (λ (j : ℕ). neg_ℤ (pos j)) (shl-shr (suc n) b))
 
 floor-back : (q : ℤ) (b : ℕ) → floor_at b (q *ℤ pos (2 ^ b)) ≡ q
-floor-back (pos n) b = ap pos (shl-shr n b)
-floor-back (negsuc n) b = go (suc n * 2 ^ b) refl
-  where
-    go : (m : ℕ) → suc n * 2 ^ b ≡ m → floor_at b (neg_ℤ (pos m)) ≡ negsuc n
-    go zero e =
-        absurd (let p : 0 < 2 ^ b = pow_pos b in let s = add-mul 1 n (2 ^ b) in let o = one-mul (2 ^ b) in omega arith)
-    go (suc k) e =
-        let p : 0 < 2 ^ b = pow_pos b in
-        let s = add-mul 1 n (2 ^ b) in
-        let o = one-mul (2 ^ b) in
-        let is : k ≡ n * 2 ^ b + (2 ^ b - 1) = omega arith in
-        ap (λ (j : ℕ). negsuc (j / 2 ^ b)) is ∙ ap negsuc (div-mul-add n (2 ^ b) (2 ^ b - 1) (omega arith))
+floor-back q b = scaled-back floor_at q b (λ n. refl) (λ n k e.
+    let p : 0 < 2 ^ b = pow_pos b in
+    let s = add-mul 1 n (2 ^ b) in
+    let o = one-mul (2 ^ b) in
+    let is : k ≡ n * 2 ^ b + (2 ^ b - 1) = omega arith in
+    ap (λ (j : ℕ). negsuc (j / 2 ^ b)) is ∙ ap negsuc (div-mul-add n (2 ^ b) (2 ^ b - 1) (omega arith)))
 
 -- at the next level a number is twice another one
 twice : (n b : ℕ) → n * 2 ^ suc b ≡ n * 2 * 2 ^ b
@@ -66,19 +65,15 @@ module _ (number_at : ℕ → ℤ → ℤ) (back : (q : ℤ) (b : ℕ) → numbe
   by-again : (q : ℤ) (b : ℕ) → number_at b (q *ℤ pos (2 ^ b)) *ℤ pos (2 ^ b) ≡ q *ℤ pos (2 ^ b)
   by-again q b = ap (λ (x : ℤ). x *ℤ pos (2 ^ b)) (back q b)
 
+  zero-again : (l : Option ℕ) → cut_by number_at (pos 0) l ≡ pos 0
+  zero-again None = refl
+  zero-again (Some b) = zero-back b
+
   pub cut-again : (x : ℤ) (old new : Option ℕ) → IsLater old new
       → cut_by number_at (cut_by number_at x old) new ≡ cut_by number_at x old
-  cut-again x None new (same l) = at-zero new
-    where
-      at-zero : (l : Option ℕ) → cut_by number_at (pos 0) l ≡ pos 0
-      at-zero None = refl
-      at-zero (Some b) = zero-back b
+  cut-again x None new (same l) = zero-again new
   cut-again x (Some b) new (same l) = by-again (number_at b x) b
-  cut-again x old new (first l) = at-zero new
-    where
-      at-zero : (l : Option ℕ) → cut_by number_at (pos 0) l ≡ pos 0
-      at-zero None = refl
-      at-zero (Some b) = zero-back b
+  cut-again x old new (first l) = zero-again new
   cut-again x old new (next b) =
       let q = number_at (suc b) x in
       ap (λ (y : ℤ). number_at b y *ℤ pos (2 ^ b)) (as-twice q b) ∙ by-again (q *ℤ pos 2) b ∙ sym (as-twice q b)
@@ -111,17 +106,10 @@ all-later (o ∷ olds) (n ∷ news) xs ys h k = (h.0, all-later olds news xs ys 
 all-later [] (n ∷ news) xs ys h k = absurd h
 all-later (o ∷ olds) [] xs ys h k = absurd h
 
-all-first : (ls : List (Option ℕ)) (l : Option ℕ) → AllByRecursion (λ x. x ≡ None) ls
-    → AllLater ls (replicate (length ls) l)
-all-first [] l h = tt
-all-first (a ∷ ls) l h =
-    (subst (λ (x : Option ℕ). IsLater x l) (sym h.0) (first l), all-first ls l h.1)
-
-all-next : (ls : List (Option ℕ)) (b : ℕ) → AllByRecursion (λ x. x ≡ Some (suc b)) ls
-    → AllLater ls (replicate (length ls) (Some b))
-all-next [] b h = tt
-all-next (a ∷ ls) b h =
-    (subst (λ (x : Option ℕ). IsLater x (Some b)) (sym h.0) (next b), all-next ls b h.1)
+all-as : (P : Option ℕ → Type 0) (l : Option ℕ) → ((x : Option ℕ) → P x → IsLater x l) → (ls : List (Option ℕ))
+    → AllByRecursion P ls → AllLater ls (replicate (length ls) l)
+all-as P l later [] h = tt
+all-as P l later (a ∷ ls) h = (later a h.0, all-as P l later ls h.1)
 
 -- ---- a block
 
@@ -150,8 +138,12 @@ later-sent p l legal = record {
 
     band_later : (f : Bool) → p.is_first ≡ f
         → AllLater (band_of p l.acs) (replicate (length (band_of p l.acs)) (Some p.al))
-    band_later true g = all-first (band_of p l.acs) (Some p.al) (legal.acs_unsent g)
-    band_later false g = all-next (band_of p l.acs) p.al (legal.acs_sent g)
+    band_later true g = all-as (λ x. x ≡ None) (Some p.al)
+        (λ x e. subst (λ (x : Option ℕ). IsLater x (Some p.al)) (sym e) (first (Some p.al))) (band_of p l.acs)
+        (legal.acs_unsent g)
+    band_later false g = all-as (λ x. x ≡ Some (suc p.al)) (Some p.al)
+        (λ x e. subst (λ (x : Option ℕ). IsLater x (Some p.al)) (sym e) (next p.al)) (band_of p l.acs)
+        (legal.acs_sent g)
 
 -- A block that was cut stays where it is cut at later levels.
 pub cut-later : (old new : Levels) (c : Block) → AreLater old new → cut new (cut old c) ≡ cut old c

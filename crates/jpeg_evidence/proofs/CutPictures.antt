@@ -140,14 +140,11 @@ AllOrNone f levels =
 abbrev with_first : List ℕ → List (List ℕ) → Result (List (List ℕ)) Fault
 with_first p ps = Ok (p ∷ ps)
 
-zero-everywhere : (n i : ℕ) → get_or (replicate n zero_block) i zero_block ≡ zero_block
-zero-everywhere n i = get-same zero_block n i
-
 zero-holds : (array : ℕ → ℕ → Block) (c : Component) → ((row column : ℕ) → length (array row column).acs ≡ 63)
     → HoldsOwn (grid_of c) array nothing_sent (zero_of c)
 zero-holds array c counts = record {
   sized = length-replicate (c.blocks_high * c.blocks_wide) zero_block;
-  each = λ i own. zero-everywhere (c.blocks_high * c.blocks_wide) i
+  each = λ i own. get-same zero_block (c.blocks_high * c.blocks_wide) i
       ∙ sym (cut-nothing (array (i / c.blocks_wide) (i % c.blocks_wide)) (counts (i / c.blocks_wide) (i % c.blocks_wide)));
 }
 

@@ -1,7 +1,5 @@
 -- What a cut stream of a writer shows is the picture of the blocks that it holds.
-use Rattle.std.proofs.Common.{◌≡◌, ℕ, List, [], ◌∷◌, ◌++◌, Option, Some, None, Result, Ok, Err, refl, sym, ap}
-use Rattle.std.proofs.Common.{ap₂, ◌∙◌}
-use Rattle.jpeg_bits.specs.Reading.{Fault, Malformed}
+use Rattle.std.proofs.Common.{◌≡◌, ℕ, List, [], ◌∷◌, ◌++◌, Some, Ok, refl, sym, ap, ap₂, ◌∙◌}
 use Rattle.jpeg_segments.specs.Frame.{Frame}
 use Rattle.jpeg_segments.proofs.Codecs.{bind-ok, err-ok, ok-same}
 use Rattle.jpeg_streams.specs.declared.settings.Settings.{Settings}
@@ -14,8 +12,9 @@ use Rattle.jpeg_streams.specs.Stream.{start_at, told_of}
 use Rattle.jpeg_streams.specs.WrittenImages.{WritesImage}
 use Rattle.jpeg_streams.specs.WrittenScans.{Coefficients}
 use Rattle.jpeg_streams.specs.WrittenStreams.{end}
+use Rattle.jpeg_streams.proofs.Faultless.{Walked, framed-some}
 use Rattle.jpeg_evidence.specs.CutImages.{HoldsCut, picture_held}
-use Rattle.jpeg_evidence.proofs.CutHeld.{Ended, Walked, nothing-there}
+use Rattle.jpeg_evidence.proofs.CutHeld.{Ended, nothing-there}
 use Rattle.jpeg_evidence.proofs.CutPictures.{shown-same}
 use Rattle.jpeg_evidence.proofs.CutSplits.{each-front}
 
@@ -26,12 +25,6 @@ record ShowsFound (settings : Settings) (w : Walked) (s : Shown) : Type 0 where
   told : s.told ≡ told_of w.0.said
   picture : picture_shown settings w.0 ≡ Ok s.picture
 
-frame-there : (o : Option Frame) (walked : Result (List ℕ) Fault) (x : Unit {0}) → framed_or o walked ≡ Ok x
-    → (f : Frame) × (o ≡ Some f)
-frame-there (Some f) walked x e = (f, refl)
-frame-there None (Err g) x e = absurd (err-ok g x e)
-frame-there None (Ok rest) x e = absurd (err-ok Malformed x e)
-
 shows-found : (settings : Settings) (w : Walked) (s : Shown) → shown_of settings w ≡ Ok s → ShowsFound settings w s
 unfolding shown_of
 shows-found settings w s e =
@@ -39,7 +32,7 @@ shows-found settings w s e =
     let second = bind-ok (picture_shown settings w.0) _ s first.2 in
     let same : record { told = told_of w.0.said; picture = second.0; fault = fault_shown w.0 w.1 } ≡ s
     = ok-same _ s second.2 in
-    let f = frame-there w.0.said.frame w.1 first.0 first.1 in
+    let f = framed-some w.0.said.frame w.1 first.0 first.1 in
     record {
       frame = f.0;
       framed = f.1;

@@ -1,36 +1,30 @@
 -- Each beginning of a written image is cut at a marker, in a segment, in a scan, or not at all.
-use Rattle.std.proofs.Common.{◌≡◌, ◌⊎◌, inl, inr, ◌*◌, ℕ, true, List, [], ◌∷◌, ◌++◌}
-use Rattle.std.proofs.Common.{replicate, Some, Err, refl, sym, ap, ◌∙◌, subst}
-use Rattle.std.proofs.Common.{append_assoc}
+use Rattle.std.proofs.Common.{◌≡◌, ◌⊎◌, inl, inr, ℕ, true, List, [], ◌∷◌, ◌++◌, replicate, Some, refl, sym, ap, ◌∙◌}
+use Rattle.std.proofs.Common.{subst, append_assoc}
 use Rattle.jpeg_bits.specs.Written.{marker}
-use Rattle.jpeg_bits.specs.declared.marker.Marker.TheVariants.{SOS}
 use Rattle.jpeg_segments.specs.Frame.{Frame}
 use Rattle.jpeg_segments.specs.ScanHeaders.{IsScan, ScanHeader, scan_payload, scan_written}
 use Rattle.jpeg_segments.specs.WrittenSegments.{Segment, marker_code, payload_of, with_length}
-use Rattle.jpeg_segments.proofs.HeaderSegments.{sos-read}
-use Rattle.jpeg_streams.specs.Brought.{all_brought, scan_reached}
+use Rattle.jpeg_streams.specs.Brought.{all_brought}
 use Rattle.jpeg_streams.specs.Found.{Said, nothing_found, nothing_said}
 use Rattle.jpeg_streams.specs.Levels.{Is8Bit, Levels, nothing_sent}
-use Rattle.jpeg_streams.specs.Order.{mcu_size, spots_of}
 use Rattle.jpeg_streams.specs.SaidSegments.{Stands, said_after}
-use Rattle.jpeg_streams.specs.ScanSegments.{after_scan, components_of, pass_of, vias_from}
+use Rattle.jpeg_streams.specs.ScanSegments.{after_scan}
 use Rattle.jpeg_streams.specs.WrittenImages.{ClosesImage, MayStandInImage, WritesImageScan}
 use Rattle.jpeg_streams.specs.WrittenScans.{Coefficients}
 use Rattle.jpeg_streams.specs.WrittenStreams.{Writes, end, scan, segment}
-use Rattle.jpeg_streams.proofs.CodingsInForce.{codings-found}
-use Rattle.jpeg_streams.proofs.ReadTurns.{next-marker, scan-tail, segment-tail}
+use Rattle.jpeg_streams.proofs.ReadTurns.{scan-tail, segment-tail}
 use Rattle.jpeg_streams.proofs.WalkedStreams.{beside, front-append}
-use Rattle.jpeg_streams.proofs.WrittenPictures.{bring, codings-good, header-facts}
+use Rattle.jpeg_streams.proofs.WrittenPictures.{bring}
 use Rattle.jpeg_evidence.specs.CutImages.{WritesFront, in_scan}
-use Rattle.jpeg_evidence.specs.LongerStreams.{arrays_of}
 use Rattle.jpeg_evidence.proofs.CutBlocks.{CutScan, cut-scan}
-use Rattle.jpeg_evidence.proofs.CutFrames.{cut-own, cut-stops, scan-cut}
+use Rattle.jpeg_evidence.proofs.CutFrames.{cut-own, cut-stops, reached_of, scan-cut}
 use Rattle.jpeg_evidence.proofs.CutFronts.{AfterFirst, HasMarker, InFirst, IsFilled, all-or-none, front-unmixed}
 use Rattle.jpeg_evidence.proofs.CutFronts.{split-append, split-marker, unmixed-scan}
-use Rattle.jpeg_evidence.proofs.CutHeld.{Ended, by-scan, data-filled, end-there, found-of, header-cut, past-of}
-use Rattle.jpeg_evidence.proofs.CutHeld.{past-stops, segment-cut, segment-filled}
-use Rattle.jpeg_evidence.proofs.CutScans.{begins-scan, blocks-stop}
-use Rattle.jpeg_evidence.proofs.CutWalks.{codings-bring, framed-now, header-brings, sos-brings, sos_code, turn-at}
+use Rattle.jpeg_evidence.proofs.CutHeld.{Ended, by-scan, data-filled, end-there, header-cut, segment-cut}
+use Rattle.jpeg_evidence.proofs.CutHeld.{segment-filled}
+use Rattle.jpeg_evidence.proofs.CutScans.{begins-scan, past-of, scan-past}
+use Rattle.jpeg_evidence.proofs.CutWalks.{known_scan}
 
 module _ (array : Coefficients) (range : (index row column : ℕ) → Is8Bit (array index row column)) where
   -- a part of the data of a scan
@@ -40,48 +34,28 @@ module _ (array : Coefficients) (range : (index row column : ℕ) → Is8Bit (ar
       → Ended array range (first ++ marker fill 218 (with_length (scan_payload h) ++ front))
       (all_brought nothing_found (first ++ marker fill 218 (with_length (scan_payload h) ++ front)))
   data-cut said levels next frame first fill h front more w e written sends some =
-      let header = with_length (scan_payload h) in
       let bytes = front ++ more in
-      let rest = marker fill 218 (header ++ front) in
-      let past = past-of array range said levels first rest w (begins-scan fill (header ++ front)) in
+      let rest = with_length (scan_payload h) ++ front in
+      let part = first ++ marker fill 218 rest in
+      let past = past-of array range said levels first (marker fill 218 rest) w (begins-scan fill rest) in
       let x = past.brought in
-      let now = beside bring said x in
       let s = scan_written frame h in
       let codings = sends.codings in
-      let shape = (past.said.shaped frame e).0 in
-      let fits = codings-found said frame s codings sends.legal.are_in_force in
-      let fr = framed-now array range said levels x frame past.held e in
-      let facts = header-facts frame h written shape.lossy in
-      let good = codings-good said frame s codings past.said.tables fits in
-      let sent = scan-cut said frame array levels said.scanned x.0 x.1 x.2 s codings bytes range shape fr facts good
-      sends.legal sends.written front more refl in
-      let own = cut-own said frame array levels said.scanned x.0 x.1 x.2 s codings bytes range shape fr facts good
-      sends.legal sends.written front more refl in
-      let fault = cut-stops said frame array levels said.scanned x.0 x.1 x.2 s codings bytes range shape fr facts good
-      sends.legal sends.written front more refl in
-      let reached = scan_reached (pass_of s) (said.restart * mcu_size (components_of codings)) (vias_from 0 codings)
-      (spots_of frame (components_of codings)) (arrays_of now frame codings) front in
-      let found = after_scan now frame s codings reached.0 in
-      let turn = turn-at past.before now past.met past.all (header ++ front) SOS
-      (past.at.first ∙ next-marker fill 218 SOS (header ++ front) (record { is = sos_code }))
-      ∙ sos-brings past.before now (header ++ front)
-      ∙ header-brings now frame s (header ++ front) front shape.lossy e (sos-read frame h front written)
-      ∙ codings-bring now frame s codings front fits
-      ∙ blocks-stop now frame s codings front fault.0 reached refl fault.1 in
-      let walked = past-stops array range said levels rest (all_brought nothing_found (first ++ rest)) past found fault.0
-      turn in
+      let known = known_scan array range said levels next x frame h bytes past.said e written sends past.held in
+      let sent = scan-cut known front more refl in
+      let found = after_scan (beside bring said x) frame s codings (reached_of known front).0 in
       let c : CutScan said frame array levels next codings sent.holds.done found
       = subst (λ (l : ℕ → Levels). CutScan said frame array levels l codings sent.holds.done found) sends.sent
-      (cut-scan said frame array levels said.scanned x.0 x.1 x.2 s codings shape fr facts sends.legal sent.holds.done
-      reached.0 own (λ index row column. (range index row column).count)) in
-      by-scan array range (first ++ rest) (all_brought nothing_found (first ++ rest)) said frame c.image next found e
+      (cut-scan known sent.holds.done (reached_of known front).0 (cut-own known front more refl)) in
+      by-scan array range part (all_brought nothing_found part) said frame c.image next found e
       past.said c.after c.counts
       (all-or-none (record said { scanned = true }) next frame
       (unmixed-scan array said levels next frame h bytes past.said e written sends
       (front-unmixed array said levels first w)) e)
       (in_scan first said levels next frame fill h front more sent.holds.done sent.holds.others w e written sends some
       sent.holds.parts sent.most c.there c.away)
-      (found-of array range (all_brought nothing_found (first ++ rest)) found (Err fault.0) walked)
+      (scan-past array range said levels frame fill h codings bytes front (all_brought nothing_found part) past known e
+      written (cut-stops known front more refl))
 
   -- what is found where a stream is cut
   abbrev Cut : List ℕ → Type 0
@@ -123,82 +97,71 @@ module _ (array : Coefficients) (range : (index row column : ℕ) → Is8Bit (ar
       append_assoc first (marker fill code (header ++ (bytes ++ []))) left
       ∙ ap (λ (l : List ℕ). first ++ l) (scan-tail fill code header bytes [] left)
 
+  -- a beginning of a marker and bytes after it
+  marker-cut : (first front more rest : List ℕ) (fill code : ℕ) → ((j : ℕ) → Cut (first ++ replicate j 255))
+      → ((part : List ℕ) → rest ≡ part ++ more → Cut (first ++ marker fill code part))
+      → marker fill code rest ≡ front ++ more → Cut (first ++ front)
+  marker-cut first front more rest fill code filled inside e = go (split-marker fill code rest front more e)
+    where
+      go : IsFilled front ⊎ HasMarker fill code rest front more → Cut (first ++ front)
+      go (inl r) = subst (λ (l : List ℕ). Cut (first ++ l)) (sym r.1) (filled r.0)
+      go (inr r) = subst (λ (l : List ℕ). Cut (first ++ l)) (sym r.1) (inside r.0 r.2)
+
+  -- a beginning of two parts
+  part-cut : {P : Type 0} (xs ys part more : List ℕ)
+      → ((left : List ℕ) → part ≡ xs ++ left → ys ≡ left ++ more → P)
+      → ((left : List ℕ) → xs ≡ part ++ left → (left ≡ [] → ⊥) → P) → xs ++ ys ≡ part ++ more → P
+  part-cut {P} xs ys part more after inside e = go (split-append xs ys part more e)
+    where
+      go : AfterFirst xs ys part more ⊎ InFirst xs part → P
+      go (inl q) = after q.0 q.1 q.2
+      go (inr q) = inside q.0 q.1 q.2
+
+  nothing-first : (l more : List ℕ) → [] ≡ l ++ more → l ≡ []
+  nothing-first [] more e = refl
+  nothing-first (a ∷ l) more e = absurd (let z : ⊥ = cc in z)
+
   -- Each beginning of what follows some whole segments and scans.
   pub each-front : (said final : Said) (levels last : ℕ → Levels) (bytes : List ℕ)
       → Writes MayStandInImage (WritesImageScan array) ClosesImage said levels bytes final last
       → (first front more : List ℕ) → WritesFront array said levels first
       → ((j : ℕ) → Cut (first ++ replicate j 255)) → bytes ≡ front ++ more → Cut (first ++ front)
   each-front said final levels last bytes (end said' sent' bytes' c) first front more w filled parts =
-      go (split-marker c.fill 217 [] front more (sym c.closed ∙ parts))
-    where
-      nothing : (l m : List ℕ) → [] ≡ l ++ m → l ≡ []
-      nothing [] m e = refl
-      nothing (a ∷ l) m e = absurd (let z : ⊥ = cc in z)
-
-      go : IsFilled front ⊎ HasMarker c.fill 217 [] front more → Cut (first ++ front)
-      go (inl r) = subst (λ (l : List ℕ). Cut (first ++ l)) (sym r.1) (filled r.0)
-      go (inr r) =
-          subst (λ (l : List ℕ). Cut (first ++ l))
-          (ap (λ (l : List ℕ). marker c.fill 217 l) (sym (nothing r.0 more r.2)) ∙ sym r.1)
-          (end-there array range said levels c.frame first c.fill w c.is_said)
+      marker-cut first front more [] c.fill 217 filled (λ part at.
+      subst (λ (l : List ℕ). Cut (first ++ marker c.fill 217 l)) (sym (nothing-first part more at))
+      (end-there array range said levels c.frame first c.fill w c.is_said)) (sym c.closed ∙ parts)
   each-front said final levels last bytes (segment said' final' sent' last' fill s others stands allowed rest) first
       front more w filled parts =
       let payload = with_length (payload_of s) in
       let code = marker_code s in
       let later = first ++ marker fill code (payload ++ []) in
       let now = next-segment said levels first fill s w stands allowed in
-      go (split-marker fill code (payload ++ others) front more parts)
-      (λ left e. each-front (said_after said s) final levels last others rest later left more now
+      marker-cut first front more (payload ++ others) fill code filled (λ part at.
+      part-cut payload others part more
+      (λ left is after.
+      subst Cut (segment-more first fill code payload left
+      ∙ ap (λ (l : List ℕ). first ++ marker fill code l) (sym is))
+      (each-front (said_after said s) final levels last others rest later left more now
       (λ j. segment-filled array range said levels first fill s j w stands allowed (later ++ replicate j 255)
-      (segment-more first fill code payload (replicate j 255)) later refl now) e)
-    where
-      go : IsFilled front ⊎ HasMarker fill (marker_code s) (with_length (payload_of s) ++ others) front more
-          → ((left : List ℕ) → others ≡ left ++ more
-          → Cut ((first ++ marker fill (marker_code s) (with_length (payload_of s) ++ [])) ++ left))
-          → Cut (first ++ front)
-      go (inl r) on = subst (λ (l : List ℕ). Cut (first ++ l)) (sym r.1) (filled r.0)
-      go (inr r) on =
-          subst (λ (l : List ℕ). Cut (first ++ l)) (sym r.1)
-          (inside (split-append (with_length (payload_of s)) others r.0 more r.2))
-        where
-          inside : AfterFirst (with_length (payload_of s)) others r.0 more ⊎ InFirst (with_length (payload_of s)) r.0
-              → Cut (first ++ marker fill (marker_code s) r.0)
-          inside (inl q) =
-              subst Cut (segment-more first fill (marker_code s) (with_length (payload_of s)) q.0
-              ∙ ap (λ (l : List ℕ). first ++ marker fill (marker_code s) l) (sym q.1)) (on q.0 q.2)
-          inside (inr q) = segment-cut array range said levels first fill s r.0 q.0 w stands q.1 q.2
+      (segment-more first fill code payload (replicate j 255)) later refl now) after))
+      (λ left is some. segment-cut array range said levels first fill s part left w stands is some) at) parts
   each-front said final levels last bytes
       (scan said' final' sent' next last' frame fill h data_bytes others e written sends rest) first front more w filled
       parts =
       let header = with_length (scan_payload h) in
       let later = first ++ marker fill 218 (header ++ (data_bytes ++ [])) in
       let now = next-scan said levels next frame first fill h data_bytes w e written sends in
-      go (split-marker fill 218 (header ++ (data_bytes ++ others)) front more parts)
-      (λ left q. each-front (record said { scanned = true }) final next last others rest later left more now
+      marker-cut first front more (header ++ (data_bytes ++ others)) fill 218 filled (λ part at.
+      part-cut header (data_bytes ++ others) part more
+      (λ d is after.
+      subst (λ (l : List ℕ). Cut (first ++ marker fill 218 l)) (sym is)
+      (part-cut data_bytes others d more
+      (λ left whole beyond.
+      subst Cut (scan-more first fill 218 header data_bytes left
+      ∙ ap (λ (l : List ℕ). first ++ marker fill 218 (header ++ l)) (sym whole))
+      (each-front (record said { scanned = true }) final next last others rest later left more now
       (λ j. data-filled array range said levels next frame first fill h data_bytes j w e written sends
-      (later ++ replicate j 255) (scan-more first fill 218 header data_bytes (replicate j 255)) later refl now) q)
-    where
-      go : IsFilled front ⊎ HasMarker fill 218 (with_length (scan_payload h) ++ (data_bytes ++ others)) front more
-          → ((left : List ℕ) → others ≡ left ++ more
-          → Cut ((first ++ marker fill 218 (with_length (scan_payload h) ++ (data_bytes ++ []))) ++ left))
-          → Cut (first ++ front)
-      go (inl r) on = subst (λ (l : List ℕ). Cut (first ++ l)) (sym r.1) (filled r.0)
-      go (inr r) on =
-          subst (λ (l : List ℕ). Cut (first ++ l)) (sym r.1)
-          (inside (split-append (with_length (scan_payload h)) (data_bytes ++ others) r.0 more r.2))
-        where
-          in_data : (d : List ℕ) → AfterFirst data_bytes others d more ⊎ InFirst data_bytes d
-              → Cut (first ++ marker fill 218 (with_length (scan_payload h) ++ d))
-          in_data d (inl q) =
-              subst Cut (scan-more first fill 218 (with_length (scan_payload h)) data_bytes q.0
-              ∙ ap (λ (l : List ℕ). first ++ marker fill 218 (with_length (scan_payload h) ++ l)) (sym q.1)) (on q.0 q.2)
-          in_data d (inr q) =
-              data-cut said levels next frame first fill h d q.0 w e written
-              (subst (λ (l : List ℕ). WritesImageScan array said levels frame h l next) q.1 sends) q.2
-
-          inside : AfterFirst (with_length (scan_payload h)) (data_bytes ++ others) r.0 more
-              ⊎ InFirst (with_length (scan_payload h)) r.0 → Cut (first ++ marker fill 218 r.0)
-          inside (inl q) =
-              subst (λ (l : List ℕ). Cut (first ++ marker fill 218 l)) (sym q.1)
-              (in_data q.0 (split-append data_bytes others q.0 more q.2))
-          inside (inr q) = header-cut array range said levels frame first fill h r.0 q.0 w e written q.1 q.2
+      (later ++ replicate j 255) (scan-more first fill 218 header data_bytes (replicate j 255)) later refl now) beyond))
+      (λ left cut_so some. data-cut said levels next frame first fill h d left w e written
+      (subst (λ (l : List ℕ). WritesImageScan array said levels frame h l next) cut_so sends) some) after))
+      (λ left is some. header-cut array range said levels frame first fill h part left w e written is some) at) parts

@@ -1,10 +1,9 @@
 -- A stream goes by the whole segments and scans in its front, with what they have said and sent.
-use Rattle.std.proofs.Common.{rules, ◌≡◌, ◌<◌, ◌*◌, ℕ, zero, suc, Bool, true, false, List, [], ◌++◌, length}
-use Rattle.std.proofs.Common.{Option, Some}
-use Rattle.std.proofs.Common.{None, Result, Ok, Err, refl, sym, ap, ◌∙◌, subst, arith, length-append}
+use Rattle.std.proofs.Common.{rules, ◌≡◌, ◌<◌, ◌*◌, ℕ, zero, suc, Bool, true, false, List, [], ◌++◌, length, append-nil}
+use Rattle.std.proofs.Common.{Option, Some, None, Ok, refl, sym, ap, ◌∙◌, subst, arith, length-append}
 use Rattle.std.specs.Prelude.{if◌then◌else◌, ◌≢◌}
 use Rattle.jpeg_bits.specs.Marker.{found_or, marker_of, next_marker}
-use Rattle.jpeg_bits.specs.Reading.{Fault, Outcome, ◌>>=◌}
+use Rattle.jpeg_bits.specs.Reading.{Outcome}
 use Rattle.jpeg_bits.specs.Written.{marker}
 use Rattle.jpeg_bits.specs.declared.marker.Marker.{Marker}
 use Rattle.jpeg_bits.specs.declared.marker.Marker.TheVariants.{SOS}
@@ -25,8 +24,7 @@ use Rattle.jpeg_streams.specs.SaidSegments.{Stands, said_after}
 use Rattle.jpeg_streams.specs.Order.{mcu_size, spots_of}
 use Rattle.jpeg_streams.specs.Scans.{Arrays}
 use Rattle.jpeg_streams.specs.ScanSegments.{Coding, after_restarts, after_scan, codings_of, components_of, pass_of}
-use Rattle.jpeg_streams.specs.ScanSegments.{scan_before}
-use Rattle.jpeg_streams.specs.ScanSegments.{scan_turn, vias_from}
+use Rattle.jpeg_streams.specs.ScanSegments.{scan_before, scan_turn, vias_from}
 use Rattle.jpeg_streams.specs.Segments.{Turn, onward}
 use Rattle.jpeg_streams.specs.Stream.{segment_at, turn_at}
 use Rattle.jpeg_streams.specs.WrittenImages.{MayStandInImage, WritesImageScan}
@@ -36,17 +34,18 @@ use Rattle.jpeg_streams.specs.declared.before.Before.{Before}
 use Rattle.jpeg_streams.specs.declared.before.Before.TheVariants.{Elsewhere}
 use Rattle.jpeg_streams.proofs.CodingsInForce.{codings-found}
 use Rattle.jpeg_streams.proofs.DecodedHeaders.{stands-taken}
-use Rattle.jpeg_streams.proofs.BroughtLevels.{Framed, framed-start, scan-brings}
-use Rattle.jpeg_streams.proofs.ReadTurns.{Begins, IsEnd, same-frame, scan-by, then-ok}
-use Rattle.jpeg_streams.proofs.ReadTurns.{marker-begins, marker-longer, marker_for, next-marker, ok-same}
-use Rattle.jpeg_streams.proofs.ReadTurns.{scan-tail, segment-ends, segment-marker, segment-tail, segment-turn}
-use Rattle.jpeg_streams.proofs.ReadTurns.{stands-here}
+use Rattle.jpeg_streams.proofs.BroughtLevels.{Framed, framed-start}
+use Rattle.jpeg_streams.proofs.Faultless.{Walked}
+use Rattle.jpeg_streams.proofs.ReadTurns.{Begins, IsEnd, same-frame, scan-by, then-ok, marker-begins, marker-longer}
+use Rattle.jpeg_streams.proofs.ReadTurns.{marker_for, next-marker, ok-same, scan-tail, segment-ends, segment-marker}
+use Rattle.jpeg_streams.proofs.ReadTurns.{segment-tail, segment-turn, stands-here}
 use Rattle.jpeg_streams.proofs.WalkedStreams.{IsSaid, beside, segment-said}
-use Rattle.jpeg_streams.proofs.WrittenPictures.{Holds, IsDrawn, Progress, bring, codings-good, drawn-said}
-use Rattle.jpeg_streams.proofs.WrittenPictures.{header-facts}
+use Rattle.jpeg_streams.proofs.WrittenPictures.{Holds, IsDrawn, Progress, bring, codings-good, drawn-said, header-facts}
 use Rattle.jpeg_streams.proofs.WrittenPictures.{image-read}
 use Rattle.jpeg_evidence.specs.LongerStreams.{arrays_of}
-use Rattle.jpeg_evidence.proofs.CutFrames.{whole-reached}
+use Rattle.jpeg_evidence.proofs.CutBlocks.{KnownScan}
+use Rattle.jpeg_evidence.proofs.CutFrames.{scanned, whole-reached}
+use Rattle.jpeg_evidence.proofs.LongerTurns.{by_header, scan_led, walk_on}
 
 -- ---- where a marker stands
 
@@ -86,15 +85,6 @@ plain-brought (Application d) before found bytes = refl
 plain-brought (Comment payload) before found bytes = refl
 plain-brought (Header number h) before found bytes = refl
 
-abbrev Walked : Type 0
-Walked = Found × Result (List ℕ) Fault
-
-abbrev pub walk_on : ℕ → Brought → Walked
-walk_on turns b = elim b.1 [
-  | Err fault ↦ (b.0, Err fault)
-  | Ok t ↦ if t.0.ended then (t.0.found, Ok t.1) else walk_brought turns t.0.before t.0.found t.0.met t.1
-]
-
 -- a walk after a turn that has no fault
 pub walk-goes_on : (turns : ℕ) (before : Before) (found old : Found) (met : Option Marker) (all rest : List ℕ) (t : Turn)
     → ◌≡◌ {A = Brought} (turn_brought before found met all) (old, Ok (t, rest)) → t.ended ≡ false
@@ -122,23 +112,10 @@ segment-brings before now s met all fill more stands at =
     ∙ ap (λ (o : Outcome Turn). (now, o))
     (sym (read-at before now (marker fill code (payload ++ more)) (payload ++ more) (marker_for s) next)
     ∙ subst (λ (l : List ℕ). turn_at before now None (marker fill code (payload ++ l))
-    ≡ Ok (onward (record now { said = said_after now.said s }), l)) (no-more more)
+    ≡ Ok (onward (record now { said = said_after now.said s }), l)) (append-nil more)
     (ap (turn_at before now None) (sym (segment-tail fill code payload more [])) ∙ read))
-  where
-    no-more : (l : List ℕ) → l ++ [] ≡ l
-    no-more l = search rules
 
 -- ---- a scan
-
--- the frame, and a header of a scan of it
-abbrev pub Header_at : Type 0
-Header_at = Frame × (Scan × List ℕ)
-
-abbrev pub by_header : Found → Result Header_at Fault → Brought
-by_header found o = elim o as (λ _. Brought) [
-  | Ok x ↦ brought_by x.0.process found x.0 x.1.0 x.1.1
-  | Err fault ↦ (found, Err fault)
-]
 
 lossy-brings : (process : CodingProcess) (found : Found) (f : Frame) (s : Scan) (bytes : List ℕ) → process ≢ Lossless
     → brought_by process found f s bytes ≡ blocks_brought found f s bytes
@@ -160,11 +137,6 @@ pub codings-bring : (found : Found) (f : Frame) (s : Scan) (codings : List Codin
 unfolding blocks_brought
 codings-bring found f s codings bytes e = rw (e, blocks_brought) refl
 
-abbrev pub scan_led : Found → Frame → Scan → List Coding → Arrays × Outcome (Option Marker) → Brought
-scan_led found f s codings r =
-    let after = after_scan found f s codings r.0 in
-    (after, r.1 >>= (λ m. Ok (scan_turn found after m.0, m.1)))
-
 blocks-bring : (found : Found) (f : Frame) (s : Scan) (codings : List Coding) (bytes rest : List ℕ) (arrays : Arrays)
     (m : Marker)
     → scan_reached (pass_of s) (found.said.restart * mcu_size (components_of codings)) (vias_from 0 codings)
@@ -174,7 +146,7 @@ blocks-bring : (found : Found) (f : Frame) (s : Scan) (codings : List Coding) (b
       Ok (scan_turn found (after_scan found f s codings arrays) (Some m), rest),
     )
 unfolding blocks_brought_by
-blocks-bring found f s codings bytes rest arrays m e = ap (scan_led found f s codings) e
+blocks-bring found f s codings bytes rest arrays m e = ap (scan_led found (after_scan found f s codings)) e
 
 pub sos_code : marker_of 218 ≡ Some SOS
 unfolding marker_of
@@ -200,6 +172,25 @@ module _ (array : Coefficients) (range : (index row column : ℕ) → Is8Bit (ar
           let h = held.framed g in
           subst (λ (y : Frame). Framed said y array levels true x.0 x.1 x.2) (same-frame h.0 f said.frame h.1 e) h.2
 
+  -- what is known of a scan that stands next
+  abbrev pub known_scan : (said : Said) (levels next : ℕ → Levels) (x : Progress) (f : Frame) (h : ScanHeader)
+      (bytes : List ℕ) → IsSaid IsDrawn said → said.frame ≡ Some f → IsScan f h
+      → (sends : WritesImageScan array said levels f h bytes next) → Holds array said levels x
+      → KnownScan said f array levels x (scan_written f h) sends.codings bytes
+  known_scan said levels next x f h bytes is e written sends held =
+      let s = scan_written f h in
+      let shape = (is.shaped f e).0 in
+      record {
+        range = range;
+        shape = shape;
+        framed = framed-now said levels x f held e;
+        says = header-facts f h written shape.lossy;
+        exist = codings-good said f s sends.codings is.tables
+            (codings-found said f s sends.codings sends.legal.are_in_force);
+        legal = sends.legal;
+        written = sends.written;
+      }
+
   -- A whole scan is brought, up to the marker after it: what is held then, and what is found.
   pub record BringsScan (said : Said) (next : ℕ → Levels) (x : Progress) (h : ScanHeader) (bytes : List ℕ)
       : Type 0 where
@@ -224,19 +215,15 @@ module _ (array : Coefficients) (range : (index row column : ℕ) → Is8Bit (ar
       let s = scan_written f h in
       let shape = (is.shaped f e).0 in
       let codings = codings-found said f s w.codings w.legal.are_in_force in
-      let fr = framed-now said levels x f held e in
-      let facts = header-facts f h written shape.lossy in
-      let good = codings-good said f s w.codings is.tables codings in
-      let b = scan-brings said f array levels said.scanned x.0 x.1 x.2 s w.codings bytes range shape fr facts good
-      w.legal w.written in
+      let known = known_scan said levels next x f h bytes is e written w held in
+      let b = scanned known in
       let r = (image-read array range).reads said levels next x f h bytes is e written w held in
       record {
         brought = r.brought;
         held = r.held;
         found = λ fill code m left makes ends.
             let data_bytes = bytes ++ marker fill code left in
-            let reached = whole-reached said f array levels said.scanned x.0 x.1 x.2 s w.codings bytes range shape fr
-            facts good w.legal w.written fill code m left (record { is = makes }) (ends (length left) left) in
+            let reached = whole-reached known fill code m left (record { is = makes }) (ends (length left) left) in
             let read = scan-by now f s w.codings b.arrays m _ data_bytes left shape.lossy e
             (sos-read f h data_bytes written) codings (b.read fill code m left (record { is = makes }))
             (ends (length left) left) in
@@ -276,6 +263,20 @@ module _ (array : Coefficients) (range : (index row column : ℕ) → Is8Bit (ar
     pub room : length rest < turns
     pub walked : w ≡ walk_brought turns before (beside bring next brought) met all
 
+  -- the walk after the turn that it is at
+  pub past-turn : (said : Said) (reached : ℕ → Levels) (rest : List ℕ) (w : Walked)
+      (past : IsPast said reached rest w) (b : Brought)
+      → turn_brought past.before (beside bring said past.brought) past.met past.all ≡ b
+      → (k : ℕ) × (w ≡ walk_on k b)
+  unfolding walk_brought
+  past-turn said reached rest w past b e = go past.turns past.room past.walked
+    where
+      go : (turns : ℕ) → length rest < turns
+          → w ≡ walk_brought turns past.before (beside bring said past.brought) past.met past.all
+          → (k : ℕ) × (w ≡ walk_on k b)
+      go zero room walked = absurd (omega arith)
+      go (suc k) room walked = (k, walked ∙ ap (walk_on k) e)
+
   -- A walk comes by the whole segments and scans of an image that stand in front of a marker.
   pub front-walked : (said next : Said) (levels reached : ℕ → Levels) (front rest : List ℕ) (x : Progress)
       (turns : ℕ) (before : Before) (met : Option Marker) (all : List ℕ)
@@ -308,22 +309,10 @@ module _ (array : Coefficients) (range : (index row column : ℕ) → Is8Bit (ar
       ((image-read array range).holds said levels x s stands allowed held) (meets-here (more ++ rest))
       (marker-longer fill (marker_code s) turns payload (more ++ rest)
       (subst (λ (l : List ℕ). length l < suc turns) tail room)) in
-      record {
-        brought = r.brought;
-        said = r.said;
-        held = r.held;
-        turns = r.turns;
-        before = r.before;
-        met = r.met;
-        all = r.all;
-        at = r.at;
-        room = r.room;
-        walked = walk-goes_on turns before now now met all (more ++ rest)
-            (onward (beside bring (said_after said s) x))
-            (segment-brings before now s met all fill (more ++ rest) stands
-            (subst (λ (l : List ℕ). MeetsFirst met all l) tail at)) refl
-            ∙ r.walked;
-      }
+      subst (IsPast next reached rest) (sym (walk-goes_on turns before now now met all (more ++ rest)
+      (onward (beside bring (said_after said s) x))
+      (segment-brings before now s met all fill (more ++ rest) stands
+      (subst (λ (l : List ℕ). MeetsFirst met all l) tail at)) refl)) r
   front-walked said next levels reached front rest x (suc turns) before met all
       (scan said' final' sent' between last' f fill h data_bytes more framed is_scan sends w) b is held at room =
       let header = with_length (scan_payload h) in
@@ -342,20 +331,9 @@ module _ (array : Coefficients) (range : (index row column : ℕ) → Is8Bit (ar
       (subst (λ (l : List ℕ). length l < suc turns) tail room) in
       let k = length-append data_bytes (more ++ rest) in
       omega arith) in
-      record {
-        brought = r.brought;
-        said = r.said;
-        held = r.held;
-        turns = r.turns;
-        before = r.before;
-        met = r.met;
-        all = r.all;
-        at = r.at;
-        room = r.room;
-        walked = walk-goes_on turns before now (beside bring later c.brought) met all n.after
-            (scan_turn now (beside bring later c.brought) (Some n.m))
-            (turn ∙ sos-brings before now (header ++ (data_bytes ++ (more ++ rest)))
-            ∙ ap (λ (l : List ℕ). scan_brought now (header ++ (data_bytes ++ l))) n.is
-            ∙ c.found n.fill n.code n.m n.after n.makes n.ends) refl
-            ∙ r.walked;
-      }
+      subst (IsPast next reached rest)
+      (sym (walk-goes_on turns before now (beside bring later c.brought) met all n.after
+      (scan_turn now (beside bring later c.brought) (Some n.m))
+      (turn ∙ sos-brings before now (header ++ (data_bytes ++ (more ++ rest)))
+      ∙ ap (λ (l : List ℕ). scan_brought now (header ++ (data_bytes ++ l))) n.is
+      ∙ c.found n.fill n.code n.m n.after n.makes n.ends) refl)) r

@@ -1,8 +1,8 @@
 -- The first blocks of a written scan that can be read of a beginning of its data stand whole in this.
 use Rattle.std.proofs.Common.{◌≡◌, ℕ, suc, ◌+◌, ◌%◌, ◌≤◌, Bool, true, false, List, [], ◌∷◌, ◌++◌, length, map, take}
-use Rattle.std.proofs.Common.{refl, sym, ap, ◌∙◌, subst, arith, Ok, Err, Option, Some, append_assoc, append-nil}
-use Rattle.std.proofs.Common.{length-append}
+use Rattle.std.proofs.Common.{sym, ap, ◌∙◌, subst, Ok, Err, Option, Some, append_assoc, append-nil}
 use Rattle.std.specs.List.{AllByRecursion}
+use Rattle.std.proofs.lemmas.List.{append_cancel_right}
 use Rattle.std.specs.Prelude.{if◌then◌else◌, ◌&&◌}
 use Rattle.jpeg_bits.specs.Reading.{End, Malformed}
 use Rattle.jpeg_bits.specs.Entropy.{Broken, Text, text_at}
@@ -24,35 +24,17 @@ use Rattle.jpeg_streams.proofs.CountedScans.{all_of, apart-back, apart-front, in
 use Rattle.jpeg_streams.proofs.WrittenFrameScans.{IsReadyAt, all-in}
 use Rattle.jpeg_evidence.specs.FirstBlocks.{BeginsInterval, BeginsIntervals}
 use Rattle.jpeg_evidence.specs.FirstBlocks.BeginsIntervals.{beyond, within}
-use Rattle.jpeg_evidence.proofs.FrontReaders.{Front, TakesFront, bind-front, gives-front}
+use Rattle.jpeg_evidence.proofs.FrontReaders.{Front, TakesFront, bind-front, fault-read, gives-front}
 use Rattle.jpeg_evidence.proofs.FrontReaders.Front.{failed, gave}
 use Rattle.jpeg_evidence.proofs.LongerBits.{turn-front}
 use Rattle.jpeg_evidence.proofs.LongerData.{CanReadOf, Met, interval-stays, text-grows}
 use Rattle.jpeg_evidence.proofs.LongerScans.{CanReach, CanReachOf}
 use Rattle.jpeg_evidence.proofs.LongerScans.CanReach.{here, later}
-use Rattle.jpeg_evidence.proofs.ReachedFirst.{first-taken, groups-begun}
+use Rattle.jpeg_evidence.proofs.ReachedFirst.{BeginsGroups, first-taken}
 use Rattle.jpeg_evidence.proofs.StandingBlocks.{front-bits, turns-length}
 use Rattle.jpeg_evidence.proofs.StuffedTexts.{stuffed-begins, unstuffed}
-use Rattle.jpeg_evidence.proofs.WrittenCuts.{after_blocks, groups-coded, interval-written, rst-marker, stays-ready}
-
--- ---- lists
-
-same-front : {A : Type 0} (a b c d : List A) → length a ≡ length b → a ++ c ≡ b ++ d → a ≡ b
-same-front [] [] c d n e = refl
-same-front (x ∷ a) (y ∷ b) c d n e =
-    let one : x ≡ y = cc in
-    let more : a ++ c ≡ b ++ d = cc in
-    ap (λ z. z ∷ a) one ∙ ap (λ l. y ∷ l) (same-front a b c d (omega arith) more)
-same-front [] (y ∷ b) c d n e = absurd (omega arith)
-same-front (x ∷ a) [] c d n e = absurd (omega arith)
-
--- lists with the same end
-same-ended : {A : Type 0} (a b c : List A) → a ++ c ≡ b ++ c → a ≡ b
-same-ended a b c e =
-    let n = ap (λ l. length l) e in
-    let x = length-append a c in
-    let y = length-append b c in
-    same-front a b c c (omega arith) e
+use Rattle.jpeg_evidence.proofs.WrittenCuts.{after_blocks, groups-are, groups-coded, interval-written, rst-marker}
+use Rattle.jpeg_evidence.proofs.WrittenCuts.{stays-ready}
 
 -- ---- an interval
 
@@ -71,14 +53,15 @@ own-bits : (p : Pass) (vias : List Via) (spots : List Spot) (old : Reached) (bit
     × (r.1.bits ≡ others)
     → bits ++ more ≡ own ++ others → (left : List Bool) × (bits ≡ own ++ left)
 own-bits p vias spots old bits more own others (failed g is) r q e =
-    absurd (err-ok g r.0 (sym (is []) ∙ r.1))
+    absurd (err-ok g r.0 (sym (fault-read _ bits g [] is) ∙ r.1))
 own-bits p vias spots old bits more own others (gave taken left x is just) r q e =
     let same : taken ++ (left ++ more) ≡ own ++ others
     = sym (append_assoc taken left more) ∙ ap (λ (l : List Bool). l ++ more) (sym is) ∙ e in
     let rest : left ++ more ≡ others
     = ap (λ (y : Reached × Text). y.1.bits) (ok-same _ q.0 (sym (just.read (left ++ more) [] (Broken End))
     ∙ ap (λ (l : List Bool). turns_from p vias spots old (text l [] (Broken End))) same ∙ q.1)) ∙ q.2 in
-    let first : taken ≡ own = same-ended taken own others (ap (λ (l : List Bool). taken ++ l) (sym rest) ∙ same) in
+    let first : taken ≡ own
+    = append_cancel_right taken own others (ap (λ (l : List Bool). taken ++ l) (sym rest) ∙ same) in
     (left, is ∙ ap (λ (l : List Bool). l ++ left) first)
 
 module _ (p : Pass) (vias : List Via) (u : Spot → Block) where
@@ -93,16 +76,17 @@ module _ (p : Pass) (vias : List Via) (u : Spot → Block) where
       let some = take count spots in
       let f = front-bits p predictors_at_start 0 (turns_of vias spots u) w.bits count w.coded in
       let t = stuffed-begins w.data_bytes tail in
-      let others = f.others ++ (w.filling ++ t.others) in
+      let others = f.others ++ (w.filling ++ (text_at tail).bits) in
       let g = text-grows front more in
       let written : (text_at (front ++ more)).bits ≡ f.first ++ others
       = ap (λ (l : List ℕ). (text_at l).bits) (sym parts ∙ ap (λ (l : List ℕ). l ++ tail) (sym w.has_bytes))
-      ∙ t.are ∙ ap (λ (l : List Bool). l ++ t.others) (w.whole ∙ ap (λ (l : List Bool). l ++ w.filling) f.parts)
-      ∙ append_assoc (f.first ++ f.others) w.filling t.others
-      ∙ append_assoc f.first f.others (w.filling ++ t.others) in
+      ∙ t.are
+      ∙ ap (λ (l : List Bool). l ++ (text_at tail).bits) (w.whole ∙ ap (λ (l : List Bool). l ++ w.filling) f.parts)
+      ∙ append_assoc (f.first ++ f.others) w.filling (text_at tail).bits
+      ∙ append_assoc f.first f.others (w.filling ++ (text_at tail).bits) in
       let own = own-bits p vias some (at_start arrays) (text_at front).bits g.bits f.first others
       (turns-front p vias some (at_start arrays) (text_at front).bits) (c.read [])
-      (first-taken p vias spots arrays u count f.first others apart ready f.coded) (sym g.are ∙ written) in
+      (first-taken p vias spots arrays u count f.first others [] apart ready f.coded) (sym g.are ∙ written) in
       let whole = unstuffed front in
       record {
         bits = f.first;
@@ -157,12 +141,12 @@ module _ (p : Pass) (vias : List Via) (u : Spot → Block) where
       (apart-front spots all apart)
       (all-in (IsReadyAt p vias arrays u) spots (λ s t. ready s (in-front s spots all t))) (rst-marker k) w in
       let both : ◌≡◌ {A = Arrays × Met} (r.0, Ok (x.0.0, x.0.1 ++ more)) (now, Ok ((true, Some (RST (k % 8))), after))
-      = sym stays.same ∙ ap (interval_reached p vias spots arrays) (sym parts) ∙ whole in
+      = sym stays ∙ ap (interval_reached p vias spots arrays) (sym parts) ∙ whole in
       let rest : after ≡ left ++ more
       = sym (ap (λ (y : (Bool × Option Marker) × List ℕ). y.1) (ok-same _ _ (ap (λ (y : Arrays × Met). y.1) both)))
       ∙ ap (λ (l : List ℕ). l ++ more) (after-read k x.0 left x.2) in
       let begun : front ≡ first ++ marker fill code left
-      = same-ended front (first ++ marker fill code left) more (sym parts
+      = append_cancel_right front (first ++ marker fill code left) more (sym parts
       ∙ ap (λ (l : List ℕ). first ++ marker fill code l) rest
       ∙ sym (append_assoc first (marker fill code left) more
       ∙ ap (λ (l : List ℕ). first ++ l) (marker-append fill code left more))) in
@@ -188,7 +172,7 @@ pub first_blocks_are_written : (p : Pass) (n : ℕ) (vias : List Via) (u : Spot 
     → BeginsIntervals p 0 (first_group n (turns_of vias spots u)) (other_groups n (turns_of vias spots u)) count front
 first_blocks_are_written p n vias u spots arrays bytes front more count apart ready w parts c =
     let all = all-groups n spots in
-    groups-begun vias spots u p n count front
+    subst (BeginsGroups p count front) (sym (groups-are vias spots u n))
     (first-stand p vias u 0 (first_group n spots) (other_groups n spots) arrays bytes front more count
     (subst AreApart (sym all) apart) (λ s t. ready s (subst (λ (l : List Spot). IsIn s l) all t))
     (groups-coded vias spots u p n bytes w) parts c)

@@ -1,13 +1,14 @@
--- Readers of entropy-coded bits take the same first bits whatever bits come after them.
+-- Readers of entropy-coded bits take the same first bits whatever bits come after them; or they break a rule, whatever
+-- comes after the bits, or lack bits.
 use Rattle.std.proofs.Common.{rules, ◌≡◌, ◌⊎◌, inl, inr, ℕ, zero, suc, ◌+◌, ◌<◌, ◌≤◌, Bool, true, false, cond, List}
-use Rattle.std.proofs.Common.{[], ◌∷◌, ◌++◌, length, take, drop, replicate, refl, sym, ap, ◌∙◌, arith, Err}
+use Rattle.std.proofs.Common.{[], ◌∷◌, ◌++◌, length, take, drop, replicate, refl, sym, ap, ◌∙◌, arith, Ok, Err}
 use Rattle.std.proofs.Common.{Option, Some, None, ℤ, slice_index, get_or, if◌then◌else◌, append_assoc, eqb}
-use Rattle.std.proofs.Common.{take-append-drop, length-take, length-append, le_refl}
+use Rattle.std.proofs.Common.{take-append-drop, length-take, length-append, le_refl, Result, subst}
 use Rattle.std.proofs.lemmas.Bool.{cases_lt, lt-leb}
 use Rattle.std.proofs.lemmas.List.{take-append-le, take-take, drop_at}
 use Rattle.std.specs.Option.{option_map}
 use Rattle.jpeg_bits.specs.Reading.{Fault, End, Malformed}
-use Rattle.jpeg_bits.specs.Entropy.{bits_from, has_bits, number_of, Broken}
+use Rattle.jpeg_bits.specs.Entropy.{bits_from, has_bits, number_of, Broken, Ending, Text}
 use Rattle.jpeg_bits.specs.Readers.{Reads, ReadsJust, each, read_on, gives, refused, signed_from, text, ◌>>=◌}
 use Rattle.jpeg_bits.specs.Codes.{Table, begins, code_by, code_from, code_in, code_lengths, code_value, next_16}
 use Rattle.jpeg_bits.specs.Codes.{symbol_from}
@@ -15,31 +16,76 @@ use Rattle.jpeg_bits.specs.Bands.{Band, after_token, difference, first_ac, first
 use Rattle.jpeg_bits.specs.Refinement.{corrected, corrected_by, refined_ac, refined_piece}
 use Rattle.jpeg_bits.specs.Passes.{Block, Pass, band_part, block_from, dc_part}
 use Rattle.jpeg_bits.specs.declared.blocks.tokens.Token.{Token}
-use Rattle.jpeg_bits.specs.declared.blocks.tokens.Token.TheVariants.{Overlong, Rest, Sixteen, Value}
+use Rattle.jpeg_bits.specs.declared.blocks.tokens.Token.TheVariants.{Value}
 use Rattle.jpeg_bits.proofs.BufferedBits.{has_enough}
 use Rattle.jpeg_bits.proofs.CodeLemmas.{first_from}
 use Rattle.jpeg_bits.proofs.Tables.{ordered, rising-lengths}
 use Rattle.jpeg_bits.proofs.WrittenBits.{takes-bind, takes-bits, takes-gives}
+use Rattle.jpeg_evidence.proofs.TakenBits.{none-is, some-is}
 
 -- ---- readers
+
+-- These bits have this fault for a reader, where nothing follows them: a rule is broken before any end; or bits lack,
+-- and the fault is the one that the data end with.
+pub data FaultIn {A : Type 0} (p : Reads A) (bits : List Bool) (g : Fault) : Type 0 where
+  rule : g ≡ Malformed → ((f : Ending) (ps : List (List ℕ)) → p (text bits ps f) ≡ Err Malformed) → FaultIn p bits g
+  short : g ≡ End → ((h : Fault) (ps : List (List ℕ)) → p (text bits ps (Broken h)) ≡ Err h) → FaultIn p bits g
+
+pub fault-read : {A : Type 0} (p : Reads A) (bits : List Bool) (g : Fault) (ps : List (List ℕ)) → FaultIn p bits g
+    → p (text bits ps (Broken End)) ≡ Err g
+fault-read p bits g ps (rule m is) = is (Broken End) ps ∙ ap Err (sym m)
+fault-read p bits g ps (short m is) = is End ps ∙ ap Err (sym m)
 
 -- What is read of these bits: some first ones, whatever comes after them; or a fault where nothing does.
 pub data Front {A : Type 0} (p : Reads A) (bits : List Bool) : Type 0 where
   gave : (own left : List Bool) (x : A) → bits ≡ own ++ left → ReadsJust p own x → Front p bits
-  failed : (g : Fault) → ((ps : List (List ℕ)) → p (text bits ps (Broken End)) ≡ Err g) → Front p bits
+  failed : (g : Fault) → FaultIn p bits g → Front p bits
+
+-- what is read of bits that begin with the reader's own
+pub own-read : {A : Type 0} (p : Reads A) (own left bits : List Bool) (x : A) (ps : List (List ℕ)) (e : Ending)
+    → bits ≡ own ++ left → ReadsJust p own x → p (text bits ps e) ≡ Ok (x, text left (drop (length own) ps) e)
+own-read p own left bits x ps e is r = ap (λ (b : List Bool). p (text b ps e)) is ∙ r.read left ps e
+
+pub fault-bind : {A B : Type 0} (p : Reads A) (f : A → Reads B) (bits : List Bool) (g : Fault) → FaultIn p bits g
+    → FaultIn (p >>= f) bits g
+fault-bind p f bits g (rule m is) = rule m (λ e ps. ap (read_on f) (is e ps))
+fault-bind p f bits g (short m is) = short m (λ h ps. ap (read_on f) (is h ps))
+
+pub fault-after : {A B : Type 0} (p : Reads A) (f : A → Reads B) (own left bits : List Bool) (x : A) (g : Fault)
+    → bits ≡ own ++ left → ReadsJust p own x → FaultIn (f x) left g → FaultIn (p >>= f) bits g
+fault-after p f own left bits x g e r (rule m is) =
+    rule m (λ d ps. ap (read_on f) (own-read p own left bits x ps d e r) ∙ is d (drop (length own) ps))
+fault-after p f own left bits x g e r (short m is) =
+    short m (λ h ps. ap (read_on f) (own-read p own left bits x ps (Broken h) e r) ∙ is h (drop (length own) ps))
 
 unfoldable pub TakesFront : {A : Type 0} → Reads A → Type 0
 TakesFront p = (bits : List Bool) → Front p bits
 
+pub err-same : {A : Type 0} (f g : Fault) → ◌≡◌ {A = Result A Fault} (Err f) (Err g) → f ≡ g
+err-same f g e = cc
+
+-- The fault of a reader that reads on, by what is reached after its first part.
+pub bound-fault : {A B : Type 0} (p : Reads A) (f : A → Reads B) (bits : List Bool) (ps : List (List ℕ)) (g : Fault)
+    (after : Result (A × Text) Fault → Result (List Bool) Fault) → Front p bits
+    → ((h : Fault) → after (Err h) ≡ Err h)
+    → ((x : A) (left : List Bool) (qs : List (List ℕ)) → after (Ok (x, text left qs (Broken End))) ≡ Err g
+    → FaultIn (f x) left g)
+    → after (p (text bits ps (Broken End))) ≡ Err g → FaultIn (p >>= f) bits g
+bound-fault p f bits ps g after (failed h is) errs others e =
+    subst (FaultIn (p >>= f) bits) (err-same h g (sym (ap after (fault-read p bits h ps is) ∙ errs h) ∙ e))
+    (fault-bind p f bits h is)
+bound-fault p f bits ps g after (gave own left x are r) errs others e =
+    fault-after p f own left bits x g are r (others x left (drop (length own) ps)
+    (sym (ap after (own-read p own left bits x ps (Broken End) are r)) ∙ e))
+
 then-front : {A B : Type 0} (p : Reads A) (f : A → Reads B) → ((x : A) → TakesFront (f x)) → (bits : List Bool)
     → Front p bits → Front (p >>= f) bits
 unfolding TakesFront
-then-front {A} {B} p f each bits (failed g is) = failed g (λ ps. ap (read_on f) (is ps))
+then-front {A} {B} p f each bits (failed g is) = failed g (fault-bind p f bits g is)
 then-front {A} {B} p f each bits (gave own left x e r) = go (each x left)
   where
     go : Front (f x) left → Front (p >>= f) bits
-    go (failed g fails) = failed g (λ ps. ap (λ (b : List Bool). (p >>= f) (text b ps (Broken End))) e
-        ∙ ap (read_on f) (r.read left ps (Broken End)) ∙ fails (drop (length own) ps))
+    go (failed g is) = failed g (fault-after p f own left bits x g e r is)
     go (gave next rest y d s) = gave (own ++ next) rest y
         (e ∙ ap (λ (b : List Bool). own ++ b) d ∙ sym (append_assoc own next rest)) (takes-bind p f own next x y r s)
 
@@ -54,7 +100,7 @@ gives-front x = λ bits. gave [] bits x refl (takes-gives x)
 
 pub refused-front : (A : Type 0) → TakesFront {A = A} refused
 unfolding TakesFront
-refused-front A = λ bits. failed Malformed (λ ps. refl)
+refused-front A = λ bits. failed Malformed (rule refl (λ f ps. refl))
 
 pub if-front : {A : Type 0} (b : Bool) (p q : Reads A) → TakesFront p → TakesFront q
     → TakesFront (if b then p else q)
@@ -72,12 +118,12 @@ front-long : (n : ℕ) (bits : List Bool) → n ≤ length bits → length (take
 front-long n bits h = omega (arith, length-take n bits)
 
 -- bits that aren't all there
-too-few : (n : ℕ) (bits : List Bool) → length bits < n → has_bits n bits (Broken End) ≡ Err End
-too-few n bits h = rw (lt-leb n (length bits) h) refl
+too-few : (n : ℕ) (bits : List Bool) (h : Fault) → length bits < n → has_bits n bits (Broken h) ≡ Err h
+too-few n bits h few = rw (lt-leb n (length bits) few) refl
 
 bits-by : (n : ℕ) (bits : List Bool) → (length bits < n) ⊎ (n ≤ length bits) → Front (bits_from n) bits
 unfolding bits_from
-bits-by n bits (inl few) = failed End (λ ps. rw (too-few n bits few) refl)
+bits-by n bits (inl few) = failed End (short refl (λ h ps. rw (too-few n bits h few) refl))
 bits-by n bits (inr le) = gave (take n bits) (drop n bits) (number_of (take n bits)) (sym (take-append-drop n bits))
     (takes-bits n (take n bits) (front-long n bits le))
 
@@ -86,12 +132,6 @@ unfolding TakesFront
 bits-front n = λ bits. bits-by n bits (cases_lt (length bits) n)
 
 -- ---- codes
-
-some-is : {A : Type 0} (a b : A) → ◌≡◌ {A = Option A} (Some a) (Some b) → a ≡ b
-some-is a b e = cc
-
-none-is : {A : Type 0} (a : A) → ◌≡◌ {A = Option A} None (Some a) → ⊥
-none-is a e = cc
 
 found-within : (test : ℕ → Bool) (a n i : ℕ) → first_from test a n ≡ Some i → (a ≤ i) × (i < a + n)
 found-within test a zero i e = absurd (none-is i e)
@@ -174,7 +214,7 @@ code-by : (table : Table) (bits : List Bool) (c : ℕ × ℕ)
     → Front (code_from table) bits
 unfolding code_from
 code-by table bits c h (inl few) =
-    failed End (λ ps. ap (code_by table (text bits ps (Broken End))) h ∙ rw (too-few c.1 bits few) refl)
+    failed End (short refl (λ e ps. ap (code_by table (text bits ps (Broken e))) h ∙ rw (too-few c.1 bits e few) refl))
 code-by table bits c h (inr le) =
     let long = front-long c.1 bits le in
     gave (take c.1 bits) (drop c.1 bits) (c.1, slice_index table.symbols c.0) (sym (take-append-drop c.1 bits)) (record {
@@ -191,7 +231,7 @@ code-by table bits c h (inr le) =
 code-found : (table : Table) (bits : List Bool) (o : Option (ℕ × ℕ))
     → code_in (code_lengths table.counts) (next_16 bits) ≡ o → Front (code_from table) bits
 unfolding code_from
-code-found table bits None h = failed Malformed (λ ps. ap (code_by table (text bits ps (Broken End))) h)
+code-found table bits None h = failed Malformed (rule refl (λ e ps. ap (code_by table (text bits ps e)) h))
 code-found table bits (Some c) h = code-by table bits c h (cases_lt (length bits) c.1)
 
 pub code-front : (table : Table) → TakesFront (code_from table)
@@ -223,16 +263,13 @@ token_at-front room size r s = search (rules, if-front, bind-front, signed-front
 after-front : (al : ℕ) (others : List ℤ → Reads Band) (rest : List ℤ)
     → ((rest : List ℤ) → TakesFront (others rest)) → (token : Token) → TakesFront (after_token al others rest token)
 after-front al others rest h (Value r v) = search (rules, bind-front, gives-front)
-after-front al others rest h Sixteen = search (rules, bind-front, gives-front)
-after-front al others rest h (Rest run) = gives-front _
-after-front al others rest h Overlong = gives-front _
+after-front al others rest h token = search (rules, bind-front, gives-front)
 
 first_ac-front : (table : Table) (al n : ℕ) (rest : List ℤ) → TakesFront (first_ac table al n rest)
 unfolding first_ac token_from
 first_ac-front table al (suc n) (x ∷ rest) =
     search (rules, bind-front, code-front, token_at-front, after-front, first_ac-front table al n)
-first_ac-front table al n [] = gives-front _
-first_ac-front table al zero (x ∷ rest) = refused-front _
+first_ac-front table al n rest = search (rules, gives-front, refused-front)
 
 dc-front : (p : Pass) (dc : Table) (z predictor : ℤ) → TakesFront (dc_part p dc z predictor)
 unfolding dc_part
@@ -257,8 +294,7 @@ refined_ac-front : (table : Table) (al n : ℕ) (rest : List ℤ) → TakesFront
 unfolding refined_ac
 refined_ac-front table al (suc n) (x ∷ rest) =
     search (rules, bind-front, symbol-front, piece-front, refined_ac-front table al n)
-refined_ac-front table al n [] = gives-front _
-refined_ac-front table al zero (x ∷ rest) = refused-front _
+refined_ac-front table al n rest = search (rules, gives-front, refused-front)
 
 -- ---- blocks
 

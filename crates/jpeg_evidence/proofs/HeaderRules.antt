@@ -15,17 +15,12 @@ use Rattle.jpeg_segments.specs.declared.frame.CodingProcess.TheVariants.{DctProg
 use Rattle.jpeg_segments.specs.Frame.{Component, Factors, Frame, is_count, is_destination, is_factor, is_lossless_number}
 use Rattle.jpeg_segments.specs.Frame.{is_precision, is_taken}
 use Rattle.jpeg_segments.specs.HuffmanTables.{greatest_destination}
-use Rattle.jpeg_segments.specs.ScanHeader.{blocks_by, index_of, is_band, Scan, scan_of, Selector}
+use Rattle.jpeg_segments.specs.ScanHeader.{blocks_by, index_of, is_band, scan_of, Selector}
 use Rattle.jpeg_segments.specs.ScanHeaders.{AreChoices, IsChoice, IsScan, scan_written, ScanHeader, selectors_in}
 use Rattle.jpeg_segments.specs.WrittenSegments.{AreComponents, FrameHeader, IsComponent, IsFrameHeader}
-use Rattle.jpeg_streams.specs.Found.{Said}
-use Rattle.jpeg_streams.specs.ScanSegments.{tables_of}
+use Rattle.jpeg_streams.proofs.EncodedParts.{all-weaker}
 use Rattle.jpeg_evidence.specs.HeaderRules.{AreDistinct, AreInOrder, blocks_of, KeepsBandRules, KeepsChoiceRules}
 use Rattle.jpeg_evidence.specs.HeaderRules.{KeepsComponentRules, KeepsFrameRules, KeepsScanRules}
-
-all-on : {A : Type 0} (P Q : A → Type 0) (xs : List A) → ((x : A) → P x → Q x) → AllByRecursion P xs → AllByRecursion Q xs
-all-on P Q [] f h = tt
-all-on P Q (x ∷ xs) f h = (f x h.0, all-on P Q xs f h.1)
 
 -- ---- frame headers
 
@@ -36,11 +31,9 @@ range-factor : (n : ℕ) → 1 ≤ n → n ≤ 4 → is_factor n ≡ true
 range-factor n a b = grind (arith, nat_tests)
 
 destination-low : (number q : ℕ) → number ≤ 3 → is_destination (is_lossless_number number) q ≡ true → q ≤ 3
-destination-low zero q le h = leb-true q 3 h
-destination-low (suc zero) q le h = leb-true q 3 h
-destination-low (suc (suc zero)) q le h = leb-true q 3 h
 destination-low (suc (suc (suc zero))) q le h = let e = eqb-true q 0 h in omega arith
 destination-low (suc (suc (suc (suc n)))) q le h = absurd (omega arith)
+destination-low number q le h = leb-true q 3 h
 
 destination-zero : (number q : ℕ) → number ≡ 3 → is_destination (is_lossless_number number) q ≡ true → q ≡ 0
 destination-zero (suc (suc (suc zero))) q e h = eqb-true q 0 h
@@ -48,11 +41,9 @@ destination-zero number q e h = absurd (omega arith)
 
 low-destination : (number q : ℕ) → number ≤ 3 → q ≤ 3 → (number ≡ 3 → q ≡ 0)
     → is_destination (is_lossless_number number) q ≡ true
-low-destination zero q le h z = le-leb q 3 h
-low-destination (suc zero) q le h z = le-leb q 3 h
-low-destination (suc (suc zero)) q le h z = le-leb q 3 h
 low-destination (suc (suc (suc zero))) q le h z = eq-eqb q 0 (z refl)
 low-destination (suc (suc (suc (suc n)))) q le h z = absurd (omega arith)
+low-destination number q le h z = le-leb q 3 h
 
 -- a component after those in front keeps the rules, and has another identifier
 abbrev IsNotTaken : List Factors → Factors → Type 0
@@ -92,7 +83,7 @@ components-kept : (number : ℕ) (front cs : List Factors) → number ≤ 3 → 
 unfolding AreComponents AreDistinct
 components-kept number front [] le are = record { new = tt; kept = tt; distinct = tt }
 components-kept number front (c ∷ cs) le are =
-    search (rules, all-on, taken-more, component-kept, components-kept number (front ++ c ∷ []) cs le are.1)
+    search (rules, all-weaker, taken-more, component-kept, components-kept number (front ++ c ∷ []) cs le are.1)
 
 all-both : {A : Type 0} (P Q R : A → Type 0) (xs : List A) → ((x : A) → P x → Q x → R x) → AllByRecursion P xs
     → AllByRecursion Q xs → AllByRecursion R xs
@@ -125,11 +116,9 @@ record AreNumbers (number precision count : ℕ) : Type 0 where
 
 numbers-kept : (number precision count : ℕ) → number ≤ 3 → is_precision number precision ≡ true
     → is_count number count ≡ true → AreNumbers number precision count
-numbers-kept zero precision count le p n = search (rules, nat_tests)
-numbers-kept (suc zero) precision count le p n = search (rules, nat_tests)
-numbers-kept (suc (suc zero)) precision count le p n = search (rules, nat_tests)
 numbers-kept (suc (suc (suc zero))) precision count le p n = search (rules, leb-true, nat_tests)
 numbers-kept (suc (suc (suc (suc k)))) precision count le p n = absurd (omega arith)
+numbers-kept number precision count le p n = search (rules, nat_tests)
 
 kept-precision : (number precision : ℕ) → number ≤ 3 → (number ≡ 0 → precision ≡ 8)
     → (number ≤ 2 → precision ≢ 8 → precision ≡ 12) → (number ≡ 3 → precision ≤ 16)
@@ -260,12 +249,12 @@ choices-kept frame least (c ∷ cs) are =
     record {
       low = (
         here,
-        all-on (λ d. c.1.component + 1 ≤ d.1.component) (λ d. least ≤ d.1.component) cs
+        all-weaker (λ d. c.1.component + 1 ≤ d.1.component) (λ d. least ≤ d.1.component) cs
             (λ d h. omega arith) more.low,
       );
       kept = (choice-kept frame least c are.0, more.kept);
       ordered = (
-        all-on (λ d. c.1.component + 1 ≤ d.1.component) (λ d. c.1.component < d.1.component) cs
+        all-weaker (λ d. c.1.component + 1 ≤ d.1.component) (λ d. c.1.component < d.1.component) cs
             (λ d h. omega arith) more.low,
         more.ordered,
       );
@@ -278,7 +267,7 @@ kept-choices frame least [] low kept ordered = tt
 kept-choices frame least (c ∷ cs) low kept ordered = (
   kept-choice frame least c low.0 kept.0,
   kept-choices frame (c.1.component + 1) cs
-      (all-on (λ d. c.1.component < d.1.component) (λ d. c.1.component + 1 ≤ d.1.component) cs (λ d h. omega arith)
+      (all-weaker (λ d. c.1.component < d.1.component) (λ d. c.1.component + 1 ≤ d.1.component) cs (λ d h. omega arith)
       ordered.0) kept.1 ordered.1,
 )
 
@@ -371,7 +360,3 @@ pub slots-are : (frame : Frame) (h : ScanHeader)
     ≡ map (λ s. (s.component, (s.dc, s.ac))) (selectors_in h)
 unfolding scan_of
 slots-are frame h = zip-maps (λ s. s.component) (λ s. s.dc) (λ s. s.ac) (selectors_in h)
-
-pub plain-tables : (said : Said) (scan : Scan) → said.metadata.avi1 ≡ false → tables_of said scan ≡ said.huffman
-unfolding tables_of
-plain-tables said scan e = rw e refl

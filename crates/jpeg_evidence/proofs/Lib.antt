@@ -23,7 +23,6 @@ pub mod LongerScans
 pub mod LongerSegments
 pub mod LongerRows
 pub mod LongerSamples
-pub mod LackingBits
 pub mod EarlyEnds
 pub mod NamedFaults
 pub mod LongerTurns

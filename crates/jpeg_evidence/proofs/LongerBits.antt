@@ -11,7 +11,8 @@ use Rattle.jpeg_streams.specs.Brought.{reached_from}
 use Rattle.jpeg_streams.specs.InTurn.{Reached, turn_from, turns_from}
 use Rattle.jpeg_streams.specs.Order.{Spot}
 use Rattle.jpeg_evidence.specs.LongerStreams.{GoesOn}
-use Rattle.jpeg_evidence.proofs.FrontReaders.{Front, TakesFront, bind-front, block-front, gives-front}
+use Rattle.jpeg_evidence.proofs.FrontReaders.{Front, TakesFront, bind-front, block-front, fault-read, gives-front}
+use Rattle.jpeg_evidence.proofs.FrontReaders.{own-read}
 use Rattle.jpeg_evidence.proofs.FrontReaders.Front.{gave, failed}
 
 abbrev pub After : Type 0
@@ -51,21 +52,27 @@ unfolding turns_from
 none-can p vias spots old bits =
     record { are_there = omega arith; read = λ ps. ((old, text bits ps (Broken End)), refl) }
 
-none-stops : (p : Pass) (vias : List Via) (old : Reached) (bits : List Bool) → Stops p vias [] old bits
+-- where no block is read, all bits are left
+none-goes : (p : Pass) (vias : List Via) (spots : List Spot) (old : Reached) (bits : List Bool)
+    → GoesOn p vias spots old bits old
 unfolding reached_from
+none-goes p vias spots old bits = record {
+  done = [];
+  others = spots;
+  taken = [];
+  left = bits;
+  spots_are = refl;
+  bits_are = refl;
+  brought = λ ps. refl;
+  longer = λ more ps f. refl;
+}
+
+none-stops : (p : Pass) (vias : List Via) (old : Reached) (bits : List Bool) → Stops p vias [] old bits
+unfolding reached_from none-goes
 none-stops p vias old bits = record {
   end = (old, Ok bits);
   whole = λ ps. refl;
-  goes = record {
-    done = [];
-    others = [];
-    taken = [];
-    left = bits;
-    spots_are = refl;
-    bits_are = refl;
-    brought = λ ps. refl;
-    longer = λ more ps f. refl;
-  };
+  goes = none-goes p vias [] old bits;
   can = none-can p vias [] old bits;
   most = λ count c. c.are_there;
 }
@@ -83,20 +90,11 @@ failed-most p vias s spots old bits g is (suc n) c =
 failed-stops : (p : Pass) (vias : List Via) (s : Spot) (spots : List Spot) (old : Reached) (bits : List Bool)
     (g : Fault) → ((ps : List (List ℕ)) → turn_from p vias s old (text bits ps (Broken End)) ≡ Err g)
     → Stops p vias (s ∷ spots) old bits
-unfolding reached_from
+unfolding reached_from none-goes
 failed-stops p vias s spots old bits g is = record {
   end = (old, Err g);
   whole = λ ps. ap (after_turn p vias spots old) (is ps);
-  goes = record {
-    done = [];
-    others = s ∷ spots;
-    taken = [];
-    left = bits;
-    spots_are = refl;
-    bits_are = refl;
-    brought = λ ps. refl;
-    longer = λ more ps f. refl;
-  };
+  goes = none-goes p vias (s ∷ spots) old bits;
   can = none-can p vias (s ∷ spots) old bits;
   most = failed-most p vias s spots old bits g is;
 }
@@ -108,8 +106,7 @@ next-turn : (p : Pass) (vias : List Via) (s : Spot) (spots : List Spot) (old x :
     ≡ reached_from p vias spots x (text rest (drop (length own) ps) e)
 unfolding reached_from
 next-turn p vias s spots old x own rest bits ps e is r =
-    ap (λ (b : List Bool). after_turn p vias spots old (turn_from p vias s old (text b ps e))) is
-    ∙ ap (after_turn p vias spots old) (r.read rest ps e)
+    ap (after_turn p vias spots old) (own-read (turn_from p vias s old) own rest bits x ps e is r)
 
 -- so many lists and these
 abbrev padded : List Bool → List (List ℕ) → List (List ℕ)
@@ -127,8 +124,7 @@ next-turns : (p : Pass) (vias : List Via) (s : Spot) (spots : List Spot) (old x 
     ≡ turns_from p vias spots x (text left (drop (length own) ps) (Broken End))
 unfolding turns_from
 next-turns p vias s spots old x own left bits ps is r =
-    ap (λ (b : List Bool). read_on (turns_from p vias spots) (turn_from p vias s old (text b ps (Broken End)))) is
-    ∙ ap (read_on (turns_from p vias spots)) (r.read left ps (Broken End))
+    ap (read_on (turns_from p vias spots)) (own-read (turn_from p vias s old) own left bits x ps (Broken End) is r)
 
 next-can : (p : Pass) (vias : List Via) (s : Spot) (spots : List Spot) (old x : Reached) (own left bits : List Bool)
     (n : ℕ) → bits ≡ own ++ left → ReadsJust (turn_from p vias s old) own x → CanRead p vias spots x left n
@@ -196,7 +192,7 @@ stops p vias (s ∷ spots) old bits =
   where
     go : Front (turn_from p vias s old) bits → ((x : Reached) (left : List Bool) → Stops p vias spots x left)
         → Stops p vias (s ∷ spots) old bits
-    go (failed g is) others = failed-stops p vias s spots old bits g is
+    go (failed g is) others = failed-stops p vias s spots old bits g (λ ps. fault-read _ bits g ps is)
     go (gave own left x e r) others = next-stops p vias s spots old x own left bits e r (others x left)
 
 -- Bits bring blocks, and more bits go on from there.

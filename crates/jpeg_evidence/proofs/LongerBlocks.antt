@@ -1,49 +1,16 @@
 -- The blocks that shorter data of a scan bring are those that longer data bring.
-use Rattle.std.proofs.Common.{◌≡◌, ◌≢◌, ◌⊎◌, inl, inr, ◌<◌, ◌≤◌, ℕ, List, [], length, set, get_or, refl, sym, ap, ◌∙◌}
-use Rattle.std.proofs.Common.{subst, Ok, Option}
-use Rattle.std.proofs.lemmas.Bool.{cases_lt}
-use Rattle.std.proofs.lemmas.List.{get_or-set_other, get_or-set_same, set_past}
+use Rattle.std.proofs.Common.{◌≡◌, inl, inr, ℕ, List, refl, sym, ◌∙◌, subst, Ok, Option}
 use Rattle.jpeg_bits.specs.Intervals.{first_group, other_groups}
-use Rattle.jpeg_bits.specs.Passes.{Block, Pass, Via, zero_block}
+use Rattle.jpeg_bits.specs.Passes.{Pass, Via}
 use Rattle.jpeg_bits.specs.declared.marker.Marker.{Marker}
 use Rattle.jpeg_streams.specs.InTurn.{AreApart, IsIn}
 use Rattle.jpeg_streams.specs.Order.{Spot}
 use Rattle.jpeg_streams.specs.Brought.{scan_reached}
 use Rattle.jpeg_streams.specs.Scans.{Arrays, arrays_at, block_at, put_block}
-use Rattle.jpeg_streams.proofs.CountedScans.{apart-between, in-front, same-spot, scans-in-turn}
+use Rattle.jpeg_streams.proofs.CountedScans.{apart-between, in-front, kept-after, scans-in-turn}
 use Rattle.jpeg_streams.proofs.ReachedIntervals.{intervals-read}
 use Rattle.jpeg_evidence.specs.LongerStreams.{HoldsFirst, Puts, ReadsOn}
 use Rattle.jpeg_evidence.specs.LongerStreams.Puts.{finished, put}
-
--- a block that is put at another index
-other-block : (r q : Spot) (b : Block) (arrays : Arrays) → r.slot ≡ q.slot → r.index ≢ q.index
-    → block_at (put_block r b arrays) q ≡ block_at arrays q
-other-block r q b arrays e n = go (cases_lt r.slot (length arrays))
-  where
-    blocks : List Block
-    blocks = set (get_or arrays r.slot []) r.index b
-
-    go : (r.slot < length arrays) ⊎ (length arrays ≤ r.slot) → block_at (put_block r b arrays) q ≡ block_at arrays q
-    go (inl lt) =
-        ap (λ (i : ℕ). get_or (get_or (put_block r b arrays) i []) q.index zero_block) (sym e)
-        ∙ ap (λ (l : List Block). get_or l q.index zero_block)
-        (get_or-set_same arrays r.slot (set (get_or arrays r.slot []) r.index b) [] lt)
-        ∙ get_or-set_other (get_or arrays r.slot []) r.index q.index b zero_block (λ h. n (sym h))
-        ∙ ap (λ (i : ℕ). get_or (get_or arrays i []) q.index zero_block) e
-    go (inr le) =
-        ap (λ (l : Arrays). block_at l q) (set_past arrays r.slot (set (get_or arrays r.slot []) r.index b) le)
-
-elsewhere : (r q : Spot) (b : Block) (arrays : Arrays)
-    → (r ≡ q → ⊥) → block_at (put_block r b arrays) q ≡ block_at arrays q
-elsewhere r q b arrays n = go (same-spot r q)
-  where
-    go : (r ≡ q) ⊎ ((r.slot ≢ q.slot) ⊎ ((r.slot ≡ q.slot) × (r.index ≢ q.index)))
-        → block_at (put_block r b arrays) q ≡ block_at arrays q
-    go (inl e) = absurd (n e)
-    go (inr (inl d)) =
-        ap (λ (l : List Block). get_or l q.index zero_block)
-        (get_or-set_other arrays r.slot q.slot (set (get_or arrays r.slot []) r.index b) [] (λ h. d (sym h)))
-    go (inr (inr d)) = other-block r q b arrays d.0 d.1
 
 -- what is put at these spots leaves the other blocks
 puts-elsewhere : (q : Spot) (spots : List Spot) (before after : Arrays) → Puts spots before after
@@ -51,7 +18,7 @@ puts-elsewhere : (q : Spot) (spots : List Spot) (before after : Arrays) → Puts
 puts-elsewhere q spots before after (finished arrays) n = refl
 puts-elsewhere q spots before after (put s rest b old new p) n =
     puts-elsewhere q rest (put_block s b before) after p (λ t. n (inr t))
-    ∙ elsewhere s q b before (λ e. n (inl e))
+    ∙ kept-after s q b before (λ e. n (inl e))
 
 -- In a scan whose spots are apart, the blocks of shorter data are those of longer ones, and no other is touched.
 pub brought-stay : (spots : List Spot) (before shorter longer : Arrays) → AreApart spots

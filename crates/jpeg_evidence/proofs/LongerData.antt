@@ -3,7 +3,6 @@ use Rattle.std.proofs.Common.{◌≡◌, ◌⊎◌, inl, inr, ℕ, ◌≤◌, Bo
 use Rattle.std.proofs.Common.{refl, sym, ap, ◌∙◌, subst, Ok, Err, Result, Option, Some, None, append_assoc, append-nil}
 use Rattle.std.proofs.Common.{eqb, ℤ, pos, get_or, set}
 use Rattle.jpeg_bits.specs.Reading.{End, Fault, Outcome}
-use Rattle.jpeg_bits.specs.Reading as outcomes
 use Rattle.jpeg_bits.specs.Entropy.{Broken, Ending, Found, Text, add_byte, bits_of, ended_by, ending_at, no_bits}
 use Rattle.jpeg_bits.specs.Entropy.{text_at}
 use Rattle.jpeg_bits.specs.Marker.{marker_of}
@@ -252,11 +251,9 @@ interval-goes p vias spots arrays bytes more =
     (interval_by u.ending (reached_from p vias spots (at_start arrays) (text b u.following (Broken End)))))
     (sym g.are) (bits-go p vias spots arrays t.bits g.bits u.following u.ending s))
 
--- An interval that is read up to a marker is read so of longer data, all of it.
-pub record StaysRead (spots : List Spot) (before : Arrays) (r s : Arrays × Met) (x : (Bool × Option Marker) × List ℕ)
-    (more : List ℕ) : Type 0 where
-  pub all : Puts spots before r.0
-  pub same : s ≡ (r.0, Ok (x.0, x.1 ++ more))
+-- What is brought, and what is read after it, is the same of longer data, where the shorter ones are read.
+abbrev pub StaysBrought : {A X : Type 0} → List ℕ → A × Outcome X → A × Outcome X → Type 0
+StaysBrought {A} {X} more r s = (x : X × List ℕ) → r.1 ≡ Ok x → s ≡ (r.0, Ok (x.0, x.1 ++ more))
 
 -- an interval whose end is a marker has the same end before more bytes
 pub ending-met : (e : Ending) (r : Result (List Bool) Fault) (x : (Bool × Option Marker) × List ℕ) (more : List ℕ)
@@ -266,32 +263,40 @@ ending-met e (Err g) x more h = absurd (err-ok _ x h)
 ending-met (Found m rest) (Ok left) x more h =
     (λ n. let b : ⊥ = cc in b, ap (λ (y : (Bool × Option Marker) × List ℕ). Ok (y.0, y.1 ++ more)) (ok-same _ x h))
 
-pub interval-stays : (p : Pass) (vias : List Via) (spots : List Spot) (arrays : Arrays) (bytes more : List ℕ)
-    (x : (Bool × Option Marker) × List ℕ) → (interval_reached p vias spots arrays bytes).1 ≡ Ok x
-    → StaysRead spots arrays (interval_reached p vias spots arrays bytes)
-    (interval_reached p vias spots arrays (bytes ++ more)) x more
-unfolding interval_reached
-interval-stays p vias spots arrays bytes more x h =
-    let t = text_at bytes in
-    let u = text_at (bytes ++ more) in
+-- what an interval brings by what is reached of its bits, and its end
+abbrev brought_by : {S A : Type 0} → (S → A) → (Text → S × Result (List Bool) Fault) → Text → A × Met
+brought_by to reach t = (to (reach (sealed t)).0, interval_end t.ending (reach (sealed t)).1)
+
+-- An interval that is read up to a marker is read so of longer data.
+pub text-stays : {S A : Type 0} (to : S → A) (reach : Text → S × Result (List Bool) Fault)
+    (end : S × Result (List Bool) Fault) (bytes more : List ℕ)
+    → ((ps : List (List ℕ)) → reach (text (text_at bytes).bits ps (Broken End)) ≡ end)
+    → StaysBrought more (brought_by to reach (text_at bytes)) (brought_by to reach (text_at (bytes ++ more)))
+text-stays {S} {A} to reach end bytes more whole x h =
     let g = text-grows bytes more in
-    let s = stops p vias spots (at_start arrays) t.bits in
-    let r = reached_from p vias spots (at_start arrays) (sealed t) in
-    let l = all-read t.ending r x h in
-    let ends = ending-met t.ending r.1 x more h in
-    record {
-      all = (reaches p vias spots (at_start arrays) (sealed t)).all l.0 l.1;
-      same = go r (reached_from p vias spots (at_start arrays) (sealed u)) t.ending u.ending g.ends ends
-          (λ none. ap (λ (b : List Bool). reached_from p vias spots (at_start arrays) (text b u.following (Broken End)))
-          (g.are ∙ ap (λ (b : List Bool). t.bits ++ b) none ∙ append-nil t.bits)
-          ∙ s.whole u.following ∙ sym (s.whole t.following));
-    }
+    let t = text_at bytes in
+    go (text_at (bytes ++ more)) g.bits g.are (ending-met t.ending (reach (sealed t)).1 x more h) g.ends
   where
-    go : {bits : List Bool} (r q : After) (e f : Ending) → (e ≡ Broken End) ⊎ ((bits ≡ []) × (f ≡ later e more))
-        → (e ≡ Broken End → ⊥) × (interval_by (later e more) r ≡ Ok (x.0, x.1 ++ more)) → (bits ≡ [] → q ≡ r)
-        → ◌≡◌ {A = Arrays × Met} (q.0.arrays, interval_by f q) (r.0.arrays, Ok (x.0, x.1 ++ more))
-    go r q e f (inl cut) ends is = absurd (ends.0 cut)
-    go r q e f (inr same) ends is =
-        ap (λ (z : After). (z.0.arrays, interval_by f z)) (is same.0)
-        ∙ ap (λ (d : Ending). (r.0.arrays, interval_by d r)) same.1
-        ∙ ap (λ (o : Met). (r.0.arrays, o)) ends.1
+    go : (u : Text) (bits : List Bool) → u.bits ≡ (text_at bytes).bits ++ bits
+        → ((text_at bytes).ending ≡ Broken End → ⊥)
+        × (interval_end (later (text_at bytes).ending more) (reach (sealed (text_at bytes))).1 ≡ Ok (x.0, x.1 ++ more))
+        → ((text_at bytes).ending ≡ Broken End) ⊎ ((bits ≡ []) × (u.ending ≡ later (text_at bytes).ending more))
+        → ◌≡◌ {A = A × Met} (brought_by to reach u) (to (reach (sealed (text_at bytes))).0, Ok (x.0, x.1 ++ more))
+    go u bits are ends (inl cut) = absurd (ends.0 cut)
+    go u bits are ends (inr same) =
+        let t = text_at bytes in
+        let r = reach (sealed t) in
+        ap (λ (z : S × Result (List Bool) Fault). (to z.0, interval_end u.ending z.1))
+        (ap (λ (b : List Bool). reach (text b u.following (Broken End)))
+        (are ∙ ap (λ (b : List Bool). t.bits ++ b) same.0 ∙ append-nil t.bits)
+        ∙ whole u.following ∙ sym (whole t.following))
+        ∙ ap (λ (d : Ending). (to r.0, interval_end d r.1)) same.1
+        ∙ ap (λ (o : Met). (to r.0, o)) ends.1
+
+pub interval-stays : (p : Pass) (vias : List Via) (spots : List Spot) (arrays : Arrays) (bytes more : List ℕ)
+    → StaysBrought more (interval_reached p vias spots arrays bytes)
+    (interval_reached p vias spots arrays (bytes ++ more))
+unfolding interval_reached
+interval-stays p vias spots arrays bytes more =
+    let s = stops p vias spots (at_start arrays) (text_at bytes).bits in
+    text-stays (λ (r : Reached). r.arrays) (reached_from p vias spots (at_start arrays)) s.end bytes more s.whole

@@ -1,24 +1,22 @@
 -- Longer data of a lossless scan bring the rows of MCUs that their front brings, and more after them.
-use Rattle.std.proofs.Common.{rules, ◌≡◌, ◌⊎◌, inl, inr, ℕ, suc, Bool, List, [], ◌∷◌, ◌++◌, length, drop, refl, sym, ap}
-use Rattle.std.proofs.Common.{◌∙◌, subst, Ok, Err, Result, Option, append-nil, append_assoc}
+use Rattle.std.proofs.Common.{rules, ◌≡◌, ℕ, suc, Bool, List, [], ◌∷◌, ◌++◌, length, drop, refl, sym, ap}
+use Rattle.std.proofs.Common.{◌∙◌, subst, Ok, Err, Result, Option, append_assoc}
 use Rattle.jpeg_bits.specs.Reading.{End, Fault, Outcome}
 use Rattle.jpeg_bits.specs.Reading as outcomes
-use Rattle.jpeg_bits.specs.Entropy.{Broken, Ending, Text, text_at}
+use Rattle.jpeg_bits.specs.Entropy.{Broken, Text, text_at}
 use Rattle.jpeg_bits.specs.Codes.{Table}
 use Rattle.jpeg_bits.specs.Readers.{ReadsJust, each, text}
 use Rattle.jpeg_bits.specs.declared.marker.Marker.{Marker}
-use Rattle.jpeg_segments.proofs.Codecs.{bind-ok, err-ok}
+use Rattle.jpeg_segments.proofs.Codecs.{bind-ok}
 use Rattle.jpeg_lossless.specs.Differences.{sample_difference}
 use Rattle.jpeg_lossless.specs.RowsReached.{rows_reached}
-use Rattle.jpeg_streams.specs.Brought.{after_interval, after_intervals, interval_end, interval_rows_reached}
-use Rattle.jpeg_streams.specs.Brought.{scan_rows_reached, sealed}
+use Rattle.jpeg_streams.specs.Brought.{after_interval, interval_rows_reached, scan_rows_reached}
 use Rattle.jpeg_evidence.specs.LongerStreams.{RowsGoOn}
-use Rattle.jpeg_evidence.proofs.FrontReaders.{Front, TakesFront, bind-front, each-front, gives-front, if-front}
-use Rattle.jpeg_evidence.proofs.FrontReaders.{refused-front, signed-front, symbol-front}
+use Rattle.jpeg_evidence.proofs.FrontReaders.{Front, TakesFront, bind-front, each-front, fault-read, gives-front}
+use Rattle.jpeg_evidence.proofs.FrontReaders.{if-front, own-read, refused-front, signed-front, symbol-front}
 use Rattle.jpeg_evidence.proofs.FrontReaders.Front.{gave, failed}
-use Rattle.jpeg_evidence.proofs.LongerData.{Met, ending-met, later, text-grows}
-use Rattle.jpeg_evidence.proofs.LongerScans.{after-same}
-use Rattle.jpeg_evidence.proofs.LongerSegments.{Stays, after-stays}
+use Rattle.jpeg_evidence.proofs.LongerData.{Met, StaysBrought, text-grows, text-stays}
+use Rattle.jpeg_evidence.proofs.LongerScans.{after-same, last-stays, next-stays}
 
 -- the differences of rows of MCUs, and those of some intervals
 abbrev pub Rows : Type 0
@@ -31,12 +29,12 @@ unfolding sample_difference
 difference-front table =
     search (rules, bind-front, symbol-front, if-front, signed-front, gives-front, refused-front ℕ)
 
-row-front : (tables : List Table) → TakesFront (each sample_difference tables)
+pub row-front : (tables : List Table) → TakesFront (each sample_difference tables)
 row-front tables = each-front sample_difference tables difference-front
 
--- the one are the first of the others
-abbrev AreFirst : Rows → Rows → Type 0
-AreFirst rows others = (more : Rows) × (others ≡ rows ++ more)
+-- the others go on after these
+abbrev pub GoOn : {A : Type 0} → List A → List A → Type 0
+GoOn {A} xs ys = (more : List A) × (ys ≡ xs ++ more)
 
 abbrev After : Type 0
 After = Rows × Result (List Bool) Fault
@@ -53,7 +51,7 @@ record Stops (rows : List (List Table)) (bits : List Bool) : Type 0 where
   end : After
   whole : (ps : List (List ℕ)) → rows_reached rows (text bits ps (Broken End)) ≡ end
   longer : (more : List Bool) (ps : List (List ℕ))
-      → AreFirst end.0 (rows_reached rows (text (bits ++ more) ps (Broken End))).0
+      → GoOn end.0 (rows_reached rows (text (bits ++ more) ps (Broken End))).0
 
 none-stops : (bits : List Bool) → Stops [] bits
 unfolding rows_reached
@@ -76,8 +74,7 @@ next-row : (tables : List Table) (rows : List (List Table)) (x : List ℕ) (own 
     ≡ after_row rows (Ok (x, text rest (drop (length own) ps) (Broken End)))
 unfolding rows_reached
 next-row tables rows x own rest bits ps is r =
-    ap (λ (b : List Bool). after_row rows (each sample_difference tables (text b ps (Broken End)))) is
-    ∙ ap (after_row rows) (r.read rest ps (Broken End))
+    ap (after_row rows) (own-read (each sample_difference tables) own rest bits x ps (Broken End) is r)
 
 next-stops : (tables : List Table) (rows : List (List Table)) (x : List ℕ) (own left bits : List Bool)
     → bits ≡ own ++ left → ReadsJust (each sample_difference tables) own x → Stops rows left
@@ -102,13 +99,13 @@ stops (tables ∷ rows) bits = go (row-front tables bits) (λ left. stops rows l
   where
     go : Front (each sample_difference tables) bits → ((left : List Bool) → Stops rows left)
         → Stops (tables ∷ rows) bits
-    go (failed g is) others = failed-stops tables rows bits g is
+    go (failed g is) others = failed-stops tables rows bits g (λ ps. fault-read _ bits g ps is)
     go (gave own left x e r) others = next-stops tables rows x own left bits e r (others left)
 
 -- ---- an interval
 
 interval-first : (rows : List (List Table)) (bytes more : List ℕ)
-    → AreFirst (interval_rows_reached rows bytes).0 (interval_rows_reached rows (bytes ++ more)).0
+    → GoOn (interval_rows_reached rows bytes).0 (interval_rows_reached rows (bytes ++ more)).0
 unfolding interval_rows_reached
 interval-first rows bytes more =
     let t = text_at bytes in
@@ -124,33 +121,12 @@ interval-first rows bytes more =
 abbrev Interval : Type 0
 Interval = Rows × Met
 
--- An interval that is read up to a marker is read so of longer data.
-abbrev IntervalStays : Interval → Interval → List ℕ → Type 0
-IntervalStays r s more = (x : (Bool × Option Marker) × List ℕ) → r.1 ≡ Ok x → s ≡ (r.0, Ok (x.0, x.1 ++ more))
-
 interval-stays : (rows : List (List Table)) (bytes more : List ℕ)
-    → IntervalStays (interval_rows_reached rows bytes) (interval_rows_reached rows (bytes ++ more)) more
+    → StaysBrought more (interval_rows_reached rows bytes) (interval_rows_reached rows (bytes ++ more))
 unfolding interval_rows_reached
-interval-stays rows bytes more = λ x h.
-    let t = text_at bytes in
-    let u = text_at (bytes ++ more) in
-    let g = text-grows bytes more in
-    let s = stops rows t.bits in
-    let r = rows_reached rows (sealed t) in
-    go x r (rows_reached rows (sealed u)) t.ending u.ending g.ends (ending-met t.ending r.1 x more h)
-    (λ none. ap (λ (b : List Bool). rows_reached rows (text b u.following (Broken End)))
-    (g.are ∙ ap (λ (b : List Bool). t.bits ++ b) none ∙ append-nil t.bits)
-    ∙ s.whole u.following ∙ sym (s.whole t.following))
-  where
-    go : {bits : List Bool} (x : (Bool × Option Marker) × List ℕ) (r q : After) (e f : Ending)
-        → (e ≡ Broken End) ⊎ ((bits ≡ []) × (f ≡ later e more))
-        → (e ≡ Broken End → ⊥) × (interval_end (later e more) r.1 ≡ Ok (x.0, x.1 ++ more)) → (bits ≡ [] → q ≡ r)
-        → ◌≡◌ {A = Interval} (q.0, interval_end f q.1) (r.0, Ok (x.0, x.1 ++ more))
-    go x r q e f (inl cut) ends is = absurd (ends.0 cut)
-    go x r q e f (inr same) ends is =
-        ap (λ (z : After). (z.0, interval_end f z.1)) (is same.0)
-        ∙ ap (λ (d : Ending). (r.0, interval_end d r.1)) same.1
-        ∙ ap (λ (o : Met). (r.0, o)) ends.1
+interval-stays rows bytes more =
+    let s = stops rows (text_at bytes).bits in
+    text-stays (λ (r : Rows). r) (rows_reached rows) s.end bytes more s.whole
 
 -- ---- a scan
 
@@ -165,7 +141,7 @@ next_reached reached rows o = elim o [
 ]
 
 -- the first rows of an interval, and perhaps other intervals
-last-go : (rows all : Rows) (others : List Rows) → AreFirst rows all → RowsGoOn (rows ∷ []) (all ∷ others)
+last-go : (rows all : Rows) (others : List Rows) → GoOn rows all → RowsGoOn (rows ∷ []) (all ∷ others)
 last-go rows all others first = record {
   front = [];
   last = rows;
@@ -188,13 +164,13 @@ another-goes rows shorter longer r = record {
 }
 
 -- where the first interval of the shorter data has a fault
-stopped-goes : (rows : Rows) (s : Interval) (reached : List ℕ → Scanned) → AreFirst rows s.0
+stopped-goes : (rows : Rows) (s : Interval) (reached : List ℕ → Scanned) → GoOn rows s.0
     → (q : Result (List ℕ) Fault) → RowsGoOn (rows ∷ []) (next_reached reached s.0 q).0
 stopped-goes rows s reached first (Err g) = last-go rows s.0 [] first
 stopped-goes rows s reached first (Ok b) = last-go rows s.0 (reached b).0 first
 
-next-goes : (k : ℕ) (r s : Interval) (more : List ℕ) (reached : List ℕ → Scanned) → AreFirst r.0 s.0
-    → IntervalStays r s more → ((b : List ℕ) → RowsGoOn (reached b).0 (reached (b ++ more)).0)
+next-goes : (k : ℕ) (r s : Interval) (more : List ℕ) (reached : List ℕ → Scanned) → GoOn r.0 s.0
+    → StaysBrought more r s → ((b : List ℕ) → RowsGoOn (reached b).0 (reached (b ++ more)).0)
     → (q : Result (List ℕ) Fault) → outcomes.◌>>=◌ r.1 (after_interval k) ≡ q
     → RowsGoOn (next_reached reached r.0 q).0
     (next_reached reached s.0 (outcomes.◌>>=◌ s.1 (after_interval k))).0
@@ -223,38 +199,16 @@ longer_rows_go_on k rows (next ∷ groups) bytes more =
 -- ---- a scan that is read
 
 -- Where a scan is reached up to its end, it is so of longer data.
-abbrev pub RowsStay : List ℕ → Scanned → Scanned → Type 0
-RowsStay more r s = (x : Option Marker × List ℕ) → r.1 ≡ Ok x → s ≡ (r.0, Ok (x.0, x.1 ++ more))
-
-last-stays : (more : List ℕ) (r s : Interval) → IntervalStays r s more
-    → RowsStay more (r.0 ∷ [], outcomes.◌>>=◌ r.1 after_intervals) (s.0 ∷ [], outcomes.◌>>=◌ s.1 after_intervals)
-unfolding Stays
-last-stays more r s stays x h =
-    let y = bind-ok r.1 after_intervals x h in
-    ap (λ (q : Interval). (q.0 ∷ [], outcomes.◌>>=◌ q.1 after_intervals)) (stays y.0 y.1)
-    ∙ ap (λ (o : Outcome (Option Marker)). (r.0 ∷ [], o)) (after-stays more y.0 x y.2)
-
-next-stays : (more : List ℕ) (k : ℕ) (r s : Interval) (reached : List ℕ → Scanned) → IntervalStays r s more
-    → ((b : List ℕ) → RowsStay more (reached b) (reached (b ++ more)))
-    → (q : Result (List ℕ) Fault) → outcomes.◌>>=◌ r.1 (after_interval k) ≡ q
-    → RowsStay more (next_reached reached r.0 q)
-    (next_reached reached s.0 (outcomes.◌>>=◌ s.1 (after_interval k)))
-next-stays more k r s reached stays others (Err g) e x h = absurd (err-ok g x h)
-next-stays more k r s reached stays others (Ok b) e x h =
-    let y = bind-ok r.1 (after_interval k) b e in
-    ap (λ (q : Interval). next_reached reached q.0 (outcomes.◌>>=◌ q.1 (after_interval k))) (stays y.0 y.1)
-    ∙ ap (next_reached reached r.0) (after-same k y.0 b more y.2)
-    ∙ ap (λ (z : Scanned). (r.0 ∷ z.0, z.1)) (others b x h)
-
 pub scan-rows-stay : (more : List ℕ) (k : ℕ) (rows : List (List Table)) (groups : List (List (List Table)))
     (bytes : List ℕ)
-    → RowsStay more (scan_rows_reached k rows groups bytes) (scan_rows_reached k rows groups (bytes ++ more))
+    → StaysBrought more (scan_rows_reached k rows groups bytes) (scan_rows_reached k rows groups (bytes ++ more))
 unfolding scan_rows_reached
 scan-rows-stay more k rows [] bytes =
-    last-stays more (interval_rows_reached rows bytes) (interval_rows_reached rows (bytes ++ more))
-    (interval-stays rows bytes more)
+    last-stays more (λ (r : Rows). r ∷ []) (interval_rows_reached rows bytes)
+    (interval_rows_reached rows (bytes ++ more)) (interval-stays rows bytes more)
 scan-rows-stay more k rows (next ∷ groups) bytes =
     let r = interval_rows_reached rows bytes in
-    next-stays more k r (interval_rows_reached rows (bytes ++ more)) (scan_rows_reached (suc k) next groups)
-    (interval-stays rows bytes more) (λ b. scan-rows-stay more (suc k) next groups b)
+    next-stays more k (next_reached (scan_rows_reached (suc k) next groups)) r
+    (interval_rows_reached rows (bytes ++ more)) (λ g. refl) (interval-stays rows bytes more)
+    (λ b x h. ap (λ (z : Scanned). (r.0 ∷ z.0, z.1)) (scan-rows-stay more (suc k) next groups b x h))
     (outcomes.◌>>=◌ r.1 (after_interval k)) refl

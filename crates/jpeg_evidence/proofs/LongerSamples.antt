@@ -18,12 +18,9 @@ use Rattle.jpeg_streams.specs.Brought.{scan_rows_reached}
 use Rattle.jpeg_streams.specs.LosslessScans.{LosslessCoding, way_of}
 use Rattle.jpeg_streams.proofs.RowIntervals.{scan-rows-read}
 use Rattle.jpeg_evidence.specs.LongerStreams.{PlanesGoOn, RowsGoOn, planes_after}
+use Rattle.jpeg_evidence.proofs.LongerRows.{GoOn}
 
 -- ---- lists that begin with others
-
--- the others go on after these
-abbrev GoOn : {A : Type 0} → List A → List A → Type 0
-GoOn {A} xs ys = (more : List A) × (ys ≡ xs ++ more)
 
 take-on : {A : Type 0} (n : ℕ) (xs ys : List A) → GoOn xs ys → GoOn (take n xs) (take n ys)
 take-on zero xs ys g = ([], refl)

@@ -11,14 +11,15 @@ use Rattle.jpeg_bits.specs.Passes.{Pass, Via}
 use Rattle.jpeg_bits.specs.declared.marker.Marker.{Marker}
 use Rattle.jpeg_bits.proofs.WrittenIntervals.{all-groups}
 use Rattle.jpeg_segments.proofs.Codecs.{bind-ok, err-ok, ok-same}
-use Rattle.jpeg_streams.specs.Brought.{after_interval, interval_reached, intervals_reached, reached_from, scan_reached}
-use Rattle.jpeg_streams.specs.Brought.{sealed}
+use Rattle.jpeg_streams.specs.Brought.{after_interval, after_intervals, interval_reached, intervals_reached}
+use Rattle.jpeg_streams.specs.Brought.{reached_from, scan_reached, sealed}
 use Rattle.jpeg_streams.specs.InTurn.{at_start}
 use Rattle.jpeg_streams.specs.Order.{Spot}
 use Rattle.jpeg_streams.specs.Scans.{Arrays}
 use Rattle.jpeg_evidence.specs.LongerStreams.{Puts, PutsFirst, ReadsOn}
-use Rattle.jpeg_evidence.proofs.LongerData.{CanReadOf, IntervalGoes, Met, ReadsMost, StaysRead, all-read, interval-goes}
-use Rattle.jpeg_evidence.proofs.LongerData.{interval-stays, puts-both, puts-of-more, puts-then, reaches}
+use Rattle.jpeg_evidence.proofs.LongerData.{CanReadOf, IntervalGoes, Met, ReadsMost, StaysBrought, all-read}
+use Rattle.jpeg_evidence.proofs.LongerData.{interval-goes, interval-stays, puts-both, puts-of-more, puts-then, reaches}
+use Rattle.jpeg_evidence.proofs.LongerSegments.{Stays, after-stays}
 
 abbrev Scanned : Type 0
 Scanned = Arrays × Outcome (Option Marker)
@@ -39,6 +40,28 @@ after-same k x b more h = go (x.0.0 && is_restart k x.0.1) h
         → (if y then Ok (x.1 ++ more) else Err Malformed) ≡ Ok (b ++ more)
     go true h = ap (λ (l : List ℕ). Ok (l ++ more)) (ok-same x.1 b h)
     go false h = absurd (err-ok Malformed b h)
+
+-- what follows the last interval is read so of longer data
+pub last-stays : {A B : Type 0} (more : List ℕ) (to : A → B) (r s : A × Met) → StaysBrought more r s
+    → StaysBrought more (to r.0, outcomes.◌>>=◌ r.1 after_intervals) (to s.0, outcomes.◌>>=◌ s.1 after_intervals)
+unfolding Stays
+last-stays {A} {B} more to r s stays x h =
+    let y = bind-ok r.1 after_intervals x h in
+    ap (λ (q : A × Met). (to q.0, outcomes.◌>>=◌ q.1 after_intervals)) (stays y.0 y.1)
+    ∙ ap (λ (o : Outcome (Option Marker)). (to r.0, o)) (after-stays more y.0 x y.2)
+
+-- and what follows another one
+pub next-stays : {A B : Type 0} (more : List ℕ) (k : ℕ)
+    (next : A → Result (List ℕ) Fault → B × Outcome (Option Marker)) (r s : A × Met)
+    → ((g : Fault) → (next r.0 (Err g)).1 ≡ Err g) → StaysBrought more r s
+    → ((b : List ℕ) → StaysBrought more (next r.0 (Ok b)) (next r.0 (Ok (b ++ more))))
+    → (q : Result (List ℕ) Fault) → outcomes.◌>>=◌ r.1 (after_interval k) ≡ q
+    → StaysBrought more (next r.0 q) (next s.0 (outcomes.◌>>=◌ s.1 (after_interval k)))
+next-stays more k next r s errs stays others (Err g) e x h = absurd (err-ok g x (sym (errs g) ∙ h))
+next-stays {A} more k next r s errs stays others (Ok b) e x h =
+    let y = bind-ok r.1 (after_interval k) b e in
+    ap (λ (q : A × Met). next q.0 (outcomes.◌>>=◌ q.1 (after_interval k))) (stays y.0 y.1)
+    ∙ ap (next r.0) (after-same k y.0 b more y.2) ∙ others b x h
 
 -- what is put of an interval's blocks, and that all are where it is read
 record IntervalPuts (spots : List Spot) (before after : Arrays) (o : Met) : Type 0 where
@@ -78,29 +101,12 @@ intervals-put p vias k spots (next ∷ more) arrays bytes =
     (interval-puts p vias spots arrays bytes) (λ b. intervals-put p vias (suc k) next more r.0 b)
     (outcomes.◌>>=◌ r.1 (after_interval k)) refl
 
-on-more : (P Q : ℕ → Type 0) (xs ys : List Spot) (before shorter longer : Arrays)
-    → ReadsMost P xs before shorter longer → ((count : ℕ) → Q count → P count) → ((count : ℕ) → P count → Q count)
-    → ReadsMost Q (xs ++ ys) before shorter longer
-on-more P Q xs ys before shorter longer m so back =
-    let r = m.on in
-    record {
-      on = record {
-        done = r.done;
-        others = r.others ++ ys;
-        parts = ap (λ (l : List Spot). l ++ ys) r.parts ∙ append_assoc r.done r.others ys;
-        puts = r.puts;
-        further = puts-of-more r.others ys shorter longer r.further;
-      };
-      can = back (length r.done) m.can;
-      most = λ count q. m.most count (so count q);
-    }
-
--- further by the other intervals
-on-further : (P Q : ℕ → Type 0) (xs ys : List Spot) (before shorter middle longer : Arrays)
+-- shorter data of some blocks and more, of which they bring the first
+on-more : (P Q : ℕ → Type 0) (xs ys : List Spot) (before shorter middle longer : Arrays)
     (m : ReadsMost P xs before shorter middle) → ((count : ℕ) → Q count → P count)
-    → ((count : ℕ) → P count → Q count) → Puts m.on.others shorter middle → PutsFirst ys middle longer
+    → ((count : ℕ) → P count → Q count) → PutsFirst (m.on.others ++ ys) shorter longer
     → ReadsMost Q (xs ++ ys) before shorter longer
-on-further P Q xs ys before shorter middle longer m so back all more =
+on-more P Q xs ys before shorter middle longer m so back further =
     let r = m.on in
     record {
       on = record {
@@ -108,7 +114,7 @@ on-further P Q xs ys before shorter middle longer m so back all more =
         others = r.others ++ ys;
         parts = ap (λ (l : List Spot). l ++ ys) r.parts ∙ append_assoc r.done r.others ys;
         puts = r.puts;
-        further = puts-then r.others ys shorter middle longer all more;
+        further = further;
       };
       can = back (length r.done) m.can;
       most = λ count q. m.most count (so count q);
@@ -158,25 +164,27 @@ stopped-goes : (P Q : ℕ → Type 0) (k : ℕ) (spots others : List Spot) (befo
     → (q : Result (List ℕ) Fault) → outcomes.◌>>=◌ s.1 (after_interval k) ≡ q
     → ReadsMost Q (spots ++ others) before shorter (next_reached reached s.0 q).0
 stopped-goes P Q k spots others before shorter s reached i so back more (Err g) h =
-    on-more P Q spots others before shorter s.0 i.brings so back
+    on-more P Q spots others before shorter s.0 s.0 i.brings so back
+    (puts-of-more i.brings.on.others others shorter s.0 i.brings.on.further)
 stopped-goes P Q k spots others before shorter s reached i so back more (Ok b) h =
     let x = bind-ok s.1 (after_interval k) b h in
-    on-further P Q spots others before shorter s.0 (reached s.0 b).0 i.brings so back (i.all x.0 x.1) (more b)
+    on-more P Q spots others before shorter s.0 (reached s.0 b).0 i.brings so back
+    (puts-then i.brings.on.others others shorter s.0 (reached s.0 b).0 (i.all x.0 x.1) (more b))
 
 -- where it is read
 read-goes : (P Q : ℕ → Type 0) (k : ℕ) (spots others : List Spot) (before : Arrays) (r s : Arrays × Met)
     (b more : List ℕ) (reached : Arrays → List ℕ → Scanned) (x : (Bool × Option Marker) × List ℕ)
-    → after_interval k x ≡ Ok b → StaysRead spots before r s x more
+    → after_interval k x ≡ Ok b → Puts spots before r.0 → s ≡ (r.0, Ok (x.0, x.1 ++ more))
     → ReadsMost P others r.0 (reached r.0 b).0 (reached r.0 (b ++ more)).0
     → ((count : ℕ) → Q count → Within spots P count) → ((c : ℕ) → P c → Q (length spots + c))
     → ReadsMost Q (spots ++ others) before (reached r.0 b).0
     (next_reached reached s.0 (outcomes.◌>>=◌ s.1 (after_interval k))).0
-read-goes P Q k spots others before r s b more reached x h same on so back =
+read-goes P Q k spots others before r s b more reached x h all same on so back =
     subst (λ (q : Arrays × Met). ReadsMost Q (spots ++ others) before (reached r.0 b).0
-    (next_reached reached q.0 (outcomes.◌>>=◌ q.1 (after_interval k))).0) (sym same.same)
+    (next_reached reached q.0 (outcomes.◌>>=◌ q.1 (after_interval k))).0) (sym same)
     (subst (λ (o : Result (List ℕ) Fault). ReadsMost Q (spots ++ others) before (reached r.0 b).0
     (next_reached reached r.0 o).0) (sym (after-same k x b more h))
-    (on-after P Q spots others before r.0 (reached r.0 b).0 (reached r.0 (b ++ more)).0 same.all on so back))
+    (on-after P Q spots others before r.0 (reached r.0 b).0 (reached r.0 (b ++ more)).0 all on so back))
 
 -- What can be read of one interval and more is what can be read of the first, or of the others after it.
 record Splits (I Q : ℕ → Type 0) (O : List ℕ → ℕ → Type 0) (k : ℕ) (spots : List Spot) (o : Met) : Type 0 where
@@ -188,22 +196,22 @@ record Splits (I Q : ℕ → Type 0) (O : List ℕ → ℕ → Type 0) (k : ℕ)
 next-goes : (I Q : ℕ → Type 0) (O : List ℕ → ℕ → Type 0) (k : ℕ) (spots others : List Spot) (before : Arrays)
     (r s : Arrays × Met) (more : List ℕ) (reached : Arrays → List ℕ → Scanned)
     → Splits I Q O k spots r.1 → IntervalGoes I spots before r.0 s.0 s.1
-    → ((x : (Bool × Option Marker) × List ℕ) → r.1 ≡ Ok x → StaysRead spots before r s x more)
+    → IntervalPuts spots before r.0 r.1 → StaysBrought more r s
     → ((b : List ℕ) → PutsFirst others s.0 (reached s.0 b).0)
     → ((b : List ℕ) → ReadsMost (O b) others r.0 (reached r.0 b).0 (reached r.0 (b ++ more)).0)
     → (q : Result (List ℕ) Fault) → outcomes.◌>>=◌ r.1 (after_interval k) ≡ q
     → ReadsMost Q (spots ++ others) before (next_reached reached r.0 q).0
     (next_reached reached s.0 (outcomes.◌>>=◌ s.1 (after_interval k))).0
-next-goes I Q O k spots others before r s more reached split i stays first on (Err g) h =
+next-goes I Q O k spots others before r s more reached split i one stays first on (Err g) h =
     stopped-goes I Q k spots others before r.0 s reached i (λ count q. go count (split.parts count q)) split.first first
     (outcomes.◌>>=◌ s.1 (after_interval k)) refl
   where
     go : (count : ℕ) → Parts I O k spots r.1 count → I count
     go count (inl y) = y
     go count (inr y) = absurd (err-ok g y.0 (sym h ∙ y.2))
-next-goes I Q O k spots others before r s more reached split i stays first on (Ok b) h =
+next-goes I Q O k spots others before r s more reached split i one stays first on (Ok b) h =
     let x = bind-ok r.1 (after_interval k) b h in
-    read-goes (O b) Q k spots others before r s b more reached x.0 x.2 (stays x.0 x.1) (on b)
+    read-goes (O b) Q k spots others before r s b more reached x.0 x.2 (one.all x.0 x.1) (stays x.0 x.1) (on b)
     (λ count q. go count (split.parts count q)) (split.after b h)
   where
     go : (count : ℕ) → Parts I O k spots r.1 count → Within spots (O b) count
@@ -255,16 +263,18 @@ intervals-go : (p : Pass) (vias : List Via) (k : ℕ) (spots : List Spot) (group
     (intervals_reached p vias k spots groups arrays (bytes ++ more)).0
 unfolding intervals_reached
 intervals-go p vias k spots [] arrays bytes more =
-    on-more (CanReadOf p vias spots arrays bytes) (CanReach p vias k spots [] arrays bytes) spots [] arrays _ _
-    (interval-goes p vias spots arrays bytes more).brings (here-only p vias k spots arrays bytes)
-    (here k spots [] arrays bytes)
+    let goes = (interval-goes p vias spots arrays bytes more).brings in
+    on-more (CanReadOf p vias spots arrays bytes) (CanReach p vias k spots [] arrays bytes) spots [] arrays _ _ _ goes
+    (here-only p vias k spots arrays bytes) (here k spots [] arrays bytes)
+    (puts-of-more goes.on.others [] _ _ goes.on.further)
 intervals-go p vias k spots (next ∷ groups) arrays bytes more =
     let r = interval_reached p vias spots arrays bytes in
     let s = interval_reached p vias spots arrays (bytes ++ more) in
     next-goes (CanReadOf p vias spots arrays bytes) (CanReach p vias k spots (next ∷ groups) arrays bytes)
     (CanReach p vias (suc k) next groups r.0) k spots (with_groups next groups) arrays r s more
     (intervals_reached p vias (suc k) next groups) (reach-splits p vias k spots next groups arrays bytes)
-    (interval-goes p vias spots arrays bytes more) (λ x h. interval-stays p vias spots arrays bytes more x h)
+    (interval-goes p vias spots arrays bytes more) (interval-puts p vias spots arrays bytes)
+    (interval-stays p vias spots arrays bytes more)
     (λ b. intervals-put p vias (suc k) next groups s.0 b)
     (λ b. intervals-go p vias (suc k) next groups r.0 b more)
     (outcomes.◌>>=◌ r.1 (after_interval k)) refl

@@ -8,22 +8,20 @@ use Rattle.jpeg_bits.specs.Intervals.{first_group, other_groups}
 use Rattle.jpeg_bits.specs.Marker.{found_or, next_marker}
 use Rattle.jpeg_bits.specs.Passes.{Pass, Via}
 use Rattle.jpeg_bits.specs.declared.marker.Marker.{Marker}
-use Rattle.jpeg_bits.specs.declared.marker.Marker.TheVariants.{SOF, JPG, DHT, DAC, RST, SOI, EOI, SOS, DQT, DNL, DRI}
-use Rattle.jpeg_bits.specs.declared.marker.Marker.TheVariants.{DHP, EXP, APP, JPGn, COM, TEM, RES}
+use Rattle.jpeg_bits.specs.declared.marker.Marker.TheVariants.{SOF, DHT, RST, EOI, SOS, DQT, DNL, DRI, APP, COM}
 use Rattle.jpeg_segments.specs.Checks.{needed}
 use Rattle.jpeg_segments.specs.Frame.{Frame}
 use Rattle.jpeg_segments.specs.ScanHeader.{Scan, sos_at}
 use Rattle.jpeg_segments.specs.declared.frame.CodingProcess.{CodingProcess}
-use Rattle.jpeg_segments.specs.declared.frame.CodingProcess.TheVariants.{DctSequential, DctProgressive, Lossless}
+use Rattle.jpeg_segments.specs.declared.frame.CodingProcess.TheVariants.{Lossless}
 use Rattle.jpeg_segments.proofs.Codecs.{bind-ok, err-ok, ok-same}
 use Rattle.jpeg_lossless.specs.Scans.{rows_of_interval, scan_tables}
 use Rattle.jpeg_streams.specs.declared.before.Before.{Before}
-use Rattle.jpeg_streams.specs.declared.before.Before.TheVariants.{FirstScan, LaterScan, Elsewhere}
-use Rattle.jpeg_streams.specs.Brought.{Brought, after_interval, after_intervals, all_brought, blocks_brought}
-use Rattle.jpeg_streams.specs.Brought.{blocks_brought_by, brought_by, frame_and_scan, has_whole_rows}
-use Rattle.jpeg_streams.specs.Brought.{interval_reached, intervals_reached, samples_brought, samples_brought_by}
-use Rattle.jpeg_streams.specs.Brought.{scan_brought, scan_reached, scan_rows_reached, segment_brought, turn_brought}
-use Rattle.jpeg_streams.specs.Brought.{walk_brought}
+use Rattle.jpeg_streams.specs.declared.before.Before.TheVariants.{Elsewhere}
+use Rattle.jpeg_streams.specs.Brought.{Brought, after_interval, all_brought, blocks_brought, blocks_brought_by}
+use Rattle.jpeg_streams.specs.Brought.{brought_by, frame_and_scan, has_whole_rows, interval_reached, intervals_reached}
+use Rattle.jpeg_streams.specs.Brought.{samples_brought, samples_brought_by, scan_brought, scan_reached}
+use Rattle.jpeg_streams.specs.Brought.{scan_rows_reached, segment_brought, turn_brought, walk_brought}
 use Rattle.jpeg_streams.specs.Found.{Found}
 use Rattle.jpeg_streams.specs.LosslessScans.{LosslessCoding, lossless_codings, mcus_down, way_of}
 use Rattle.jpeg_streams.specs.Order.{Spot, mcu_size, spots_of}
@@ -32,27 +30,17 @@ use Rattle.jpeg_streams.specs.ScanSegments.{Coding, after_scan, codings_of, comp
 use Rattle.jpeg_streams.specs.ScanSegments.{pass_of, scan_turn, vias_from}
 use Rattle.jpeg_streams.specs.Segments.{Turn, frame_segment}
 use Rattle.jpeg_streams.specs.Stream.{end_segment, segment_at}
+use Rattle.jpeg_streams.proofs.Faultless.{Walked}
 use Rattle.jpeg_evidence.specs.LongerStreams.{ComesBy, RowScanGoesOn, ScanGoesOn, after_rows, arrays_of}
 use Rattle.jpeg_evidence.specs.LongerStreams.ComesBy.{in_front, in_rows, in_scan}
-use Rattle.jpeg_evidence.proofs.LongerData.{Met, StaysRead, interval-stays}
-use Rattle.jpeg_evidence.proofs.LongerRows.{RowsStay, longer_rows_go_on, scan-rows-stay}
-use Rattle.jpeg_evidence.proofs.LongerScans.{after-same, longer_data_read_on, next_reached}
-use Rattle.jpeg_evidence.proofs.LongerSegments.{Stays, after-stays, app-stays, dht-stays, dqt-stays, dri-stays}
+use Rattle.jpeg_evidence.proofs.LongerData.{StaysBrought, interval-stays}
+use Rattle.jpeg_evidence.proofs.LongerRows.{longer_rows_go_on, scan-rows-stay}
+use Rattle.jpeg_evidence.proofs.LongerScans.{last-stays, longer_data_read_on, next-stays, next_reached}
+use Rattle.jpeg_evidence.proofs.LongerSegments.{Stays, app-stays, dht-stays, dqt-stays, dri-stays}
 use Rattle.jpeg_evidence.proofs.LongerSegments.{length-stays, marker-stays, skip-stays, sof-stays, sos-stays}
 use Rattle.jpeg_evidence.proofs.LongerSegments.{stays-after, stays-bind, stays-err, stays-if, stays-ok}
 
 -- ---- segments
-
-frame-stays : (more : List ℕ) (number : ℕ) (found : Found) (bytes : List ℕ)
-    → Stays more (frame_segment number found bytes) (frame_segment number found (bytes ++ more))
-unfolding frame_segment
-frame-stays more number found bytes =
-    search (rules, stays-if, stays-err, stays-bind, sof-stays, stays-after, stays-ok) depth 12
-
-end-stays : (more : List ℕ) (found : Found) (bytes : List ℕ)
-    → Stays more (end_segment found bytes) (end_segment found (bytes ++ more))
-unfolding end_segment
-end-stays more found bytes = search (rules, stays-if, stays-ok, stays-err)
 
 -- the turn that a segment leads to, and the blocks or the rows of MCUs of a scan of which some are brought
 pub record TurnGoes (more : List ℕ) (found : Found) (b c : Brought) : Type 0 where
@@ -66,59 +54,30 @@ plain-goes more found o q h = record { turn = h; adds = inl refl }
 -- ---- a scan of blocks
 
 -- Where a scan is reached up to its end, it is so of longer data.
-abbrev pub ScanStays : List ℕ → Arrays × Outcome (Option Marker) → Arrays × Outcome (Option Marker) → Type 0
-ScanStays more r s = (x : Option Marker × List ℕ) → r.1 ≡ Ok x → s ≡ (r.0, Ok (x.0, x.1 ++ more))
-
-last-stays : (more : List ℕ) (spots : List Spot) (before : Arrays) (r s : Arrays × Met)
-    → ((x : (Bool × Option Marker) × List ℕ) → r.1 ≡ Ok x → StaysRead spots before r s x more)
-    → ScanStays more (r.0, outcomes.◌>>=◌ r.1 after_intervals) (s.0, outcomes.◌>>=◌ s.1 after_intervals)
-unfolding Stays
-last-stays more spots before r s stays x h =
-    let y = bind-ok r.1 after_intervals x h in
-    ap (λ (q : Arrays × Met). (q.0, outcomes.◌>>=◌ q.1 after_intervals)) (stays y.0 y.1).same
-    ∙ ap (λ (o : Outcome (Option Marker)). (r.0, o)) (after-stays more y.0 x y.2)
-
-next-stays : (more : List ℕ) (k : ℕ) (spots : List Spot) (before : Arrays) (r s : Arrays × Met)
-    (reached : Arrays → List ℕ → Arrays × Outcome (Option Marker))
-    → ((x : (Bool × Option Marker) × List ℕ) → r.1 ≡ Ok x → StaysRead spots before r s x more)
-    → ((b : List ℕ) → ScanStays more (reached r.0 b) (reached r.0 (b ++ more)))
-    → (q : Result (List ℕ) Fault) → outcomes.◌>>=◌ r.1 (after_interval k) ≡ q
-    → ScanStays more (next_reached reached r.0 q)
-    (next_reached reached s.0 (outcomes.◌>>=◌ s.1 (after_interval k)))
-next-stays more k spots before r s reached stays others (Err g) e x h = absurd (err-ok g x h)
-next-stays more k spots before r s reached stays others (Ok b) e x h =
-    let y = bind-ok r.1 (after_interval k) b e in
-    ap (λ (q : Arrays × Met). next_reached reached q.0 (outcomes.◌>>=◌ q.1 (after_interval k))) (stays y.0 y.1).same
-    ∙ ap (next_reached reached r.0) (after-same k y.0 b more y.2) ∙ others b x h
-
 pub intervals-stay : (more : List ℕ) (p : Pass) (vias : List Via) (k : ℕ) (spots : List Spot) (groups : List (List Spot))
     (arrays : Arrays) (bytes : List ℕ)
-    → ScanStays more (intervals_reached p vias k spots groups arrays bytes)
+    → StaysBrought more (intervals_reached p vias k spots groups arrays bytes)
     (intervals_reached p vias k spots groups arrays (bytes ++ more))
 unfolding intervals_reached
 intervals-stay more p vias k spots [] arrays bytes =
-    last-stays more spots arrays (interval_reached p vias spots arrays bytes)
-    (interval_reached p vias spots arrays (bytes ++ more)) (λ x h. interval-stays p vias spots arrays bytes more x h)
+    last-stays more (λ (a : Arrays). a) (interval_reached p vias spots arrays bytes)
+    (interval_reached p vias spots arrays (bytes ++ more)) (interval-stays p vias spots arrays bytes more)
 intervals-stay more p vias k spots (next ∷ groups) arrays bytes =
     let r = interval_reached p vias spots arrays bytes in
-    next-stays more k spots arrays r (interval_reached p vias spots arrays (bytes ++ more))
-    (intervals_reached p vias (suc k) next groups) (λ x h. interval-stays p vias spots arrays bytes more x h)
+    next-stays more k (next_reached (intervals_reached p vias (suc k) next groups)) r
+    (interval_reached p vias spots arrays (bytes ++ more)) (λ g. refl) (interval-stays p vias spots arrays bytes more)
     (λ b. intervals-stay more p vias (suc k) next groups r.0 b) (outcomes.◌>>=◌ r.1 (after_interval k)) refl
 
--- what a scan leads to, by the blocks that are reached
-abbrev scan_led : Found → Frame → Scan → List Coding → Arrays × Outcome (Option Marker) → Brought
-scan_led found frame scan codings r =
-    let after = after_scan found frame scan codings r.0 in
-    (after, outcomes.◌>>=◌ r.1 (λ m. Ok (scan_turn found after m.0, m.1)))
+-- what a scan leads to, by what is reached of it
+abbrev pub scan_led : {A : Type 0} → Found → (A → Found) → A × Outcome (Option Marker) → Brought
+scan_led found to r = (to r.0, outcomes.◌>>=◌ r.1 (λ m. Ok (scan_turn found (to r.0) m.0, m.1)))
 
-led-stays : (more : List ℕ) (found : Found) (frame : Frame) (scan : Scan) (codings : List Coding)
-    (r s : Arrays × Outcome (Option Marker)) → ScanStays more r s
-    → Stays more (scan_led found frame scan codings r).1 (scan_led found frame scan codings s).1
+led-stays : {A : Type 0} (more : List ℕ) (found : Found) (to : A → Found) (r s : A × Outcome (Option Marker))
+    → StaysBrought more r s → Stays more (scan_led found to r).1 (scan_led found to s).1
 unfolding Stays
-led-stays more found frame scan codings r s stays = λ x h.
-    let after = after_scan found frame scan codings r.0 in
-    let m = bind-ok r.1 (λ (m : Option Marker × List ℕ). Ok (scan_turn found after m.0, m.1)) x h in
-    ap (λ (q : Arrays × Outcome (Option Marker)). (scan_led found frame scan codings q).1) (stays m.0 m.1)
+led-stays {A} more found to r s stays = λ x h.
+    let m = bind-ok r.1 (λ (m : Option Marker × List ℕ). Ok (scan_turn found (to r.0) m.0, m.1)) x h in
+    ap (λ (q : A × Outcome (Option Marker)). (scan_led found to q).1) (stays m.0 m.1)
     ∙ ap (λ (y : Turn × List ℕ). Ok (y.0, y.1 ++ more)) (ok-same _ x m.2)
 
 coded-goes : (more : List ℕ) (found : Found) (frame : Frame) (scan : Scan) (codings : List Coding) (bytes : List ℕ)
@@ -134,7 +93,7 @@ coded-goes more found frame scan codings bytes =
     let r = scan_reached p n vias spots arrays bytes in
     let s = scan_reached p n vias spots arrays (bytes ++ more) in
     record {
-      turn = led-stays more found frame scan codings r s
+      turn = led-stays more found (after_scan found frame scan codings) r s
           (intervals-stay more p vias 0 (first_group n spots) (other_groups n spots) arrays bytes);
       adds = inr (inl (record {
         frame = frame;
@@ -148,38 +107,27 @@ coded-goes more found frame scan codings bytes =
       }));
     }
 
+-- what is brought by something that is read, or has a fault
+abbrev pub brought_of : {A : Type 0} → Found → (A → Brought) → Result A Fault → Brought
+brought_of found by o = elim o as (λ _. Brought) [ Ok x ↦ by x | Err fault ↦ (found, Err fault) ]
+
+read-goes : {A : Type 0} (more : List ℕ) (found : Found) (o q : Result A Fault) (f g : A → Brought) (to : A → A)
+    → ((x : A) → o ≡ Ok x → q ≡ Ok (to x)) → ((x : A) → TurnGoes more found (f x) (g (to x)))
+    → TurnGoes more found (brought_of found f o) (brought_of found g q)
+read-goes more found (Err k) q f g to stays each = record { turn = stays-err more k _; adds = inl refl }
+read-goes {A} more found (Ok x) q f g to stays each =
+    subst (λ (z : Result A Fault). TurnGoes more found (f x) (brought_of found g z)) (sym (stays x refl)) (each x)
+
 blocks-go : (more : List ℕ) (found : Found) (frame : Frame) (scan : Scan) (bytes : List ℕ)
     → TurnGoes more found (blocks_brought found frame scan bytes) (blocks_brought found frame scan (bytes ++ more))
 unfolding blocks_brought
-blocks-go more found frame scan bytes = go (codings_of found.said frame scan)
-  where
-    go : (o : Result (List Coding) Fault) → TurnGoes more found (elim o as (λ _. Brought) [
-      | Ok codings ↦ blocks_brought_by found frame scan codings bytes
-      | Err fault ↦ (found, Err fault)
-    ]) (elim o as (λ _. Brought) [
-      | Ok codings ↦ blocks_brought_by found frame scan codings (bytes ++ more)
-      | Err fault ↦ (found, Err fault)
-    ])
-    go (Ok codings) = coded-goes more found frame scan codings bytes
-    go (Err fault) = plain-goes more found _ _ (stays-err more fault _)
+blocks-go more found frame scan bytes =
+    let o = codings_of found.said frame scan in
+    read-goes more found o o (λ codings. blocks_brought_by found frame scan codings bytes)
+    (λ codings. blocks_brought_by found frame scan codings (bytes ++ more)) (λ codings. codings) (λ codings e. e)
+    (λ codings. coded-goes more found frame scan codings bytes)
 
 -- ---- a scan of a lossless frame
-
--- what a scan leads to, by the rows of MCUs that are reached
-abbrev rows_led : Found → Frame → Scan → List LosslessCoding → List (List (List ℕ)) × Outcome (Option Marker) → Brought
-rows_led found frame scan codings r =
-    let after = after_rows found frame scan codings r.0 in
-    (after, outcomes.◌>>=◌ r.1 (λ m. Ok (scan_turn found after m.0, m.1)))
-
-rows-led-stays : (more : List ℕ) (found : Found) (frame : Frame) (scan : Scan) (codings : List LosslessCoding)
-    (r s : List (List (List ℕ)) × Outcome (Option Marker)) → RowsStay more r s
-    → Stays more (rows_led found frame scan codings r).1 (rows_led found frame scan codings s).1
-unfolding Stays
-rows-led-stays more found frame scan codings r s stays = λ x h.
-    let after = after_rows found frame scan codings r.0 in
-    let m = bind-ok r.1 (λ (m : Option Marker × List ℕ). Ok (scan_turn found after m.0, m.1)) x h in
-    ap (λ (q : List (List (List ℕ)) × Outcome (Option Marker)). (rows_led found frame scan codings q).1) (stays m.0 m.1)
-    ∙ ap (λ (y : Turn × List ℕ). Ok (y.0, y.1 ++ more)) (ok-same _ x m.2)
 
 coded-rows-go : (more : List ℕ) (found : Found) (frame : Frame) (scan : Scan) (codings : List LosslessCoding)
     (bytes : List ℕ) → TurnGoes more found (samples_brought_by found frame scan codings bytes)
@@ -192,7 +140,7 @@ coded-rows-go more found frame scan codings bytes =
     let r = scan_rows_reached 0 (first_group n rows) (other_groups n rows) bytes in
     let s = scan_rows_reached 0 (first_group n rows) (other_groups n rows) (bytes ++ more) in
     record {
-      turn = rows-led-stays more found frame scan codings r s
+      turn = led-stays more found (after_rows found frame scan codings) r s
           (scan-rows-stay more 0 (first_group n rows) (other_groups n rows) bytes);
       adds = inr (inr (record {
         frame = frame;
@@ -210,48 +158,42 @@ samples-go : (more : List ℕ) (found : Found) (frame : Frame) (scan : Scan) (by
     → TurnGoes more found (samples_brought found frame scan bytes) (samples_brought found frame scan (bytes ++ more))
 unfolding samples_brought
 samples-go more found frame scan bytes =
-    go (lossless_codings found.said.huffman.dc frame scan.components scan.dc_destinations)
+    let o = lossless_codings found.said.huffman.dc frame scan.components scan.dc_destinations in
+    read-goes more found o o (by bytes) (by (bytes ++ more)) (λ codings. codings) (λ codings e. e)
+    (λ codings. whole codings (has_whole_rows found frame scan codings))
   where
+    by : List ℕ → List LosslessCoding → Brought
+    by bytes codings =
+        if has_whole_rows found frame scan codings then samples_brought_by found frame scan codings bytes
+        else (found, Err Malformed)
+
     whole : (codings : List LosslessCoding) (b : Bool) → TurnGoes more found
         (if b then samples_brought_by found frame scan codings bytes else (found, Err Malformed))
         (if b then samples_brought_by found frame scan codings (bytes ++ more) else (found, Err Malformed))
     whole codings true = coded-rows-go more found frame scan codings bytes
     whole codings false = plain-goes more found _ _ (stays-err more Malformed _)
 
-    go : (o : Result (List LosslessCoding) Fault) → TurnGoes more found (elim o as (λ _. Brought) [
-      | Ok codings ↦ if has_whole_rows found frame scan codings
-          then samples_brought_by found frame scan codings bytes else (found, Err Malformed)
-      | Err fault ↦ (found, Err fault)
-    ]) (elim o as (λ _. Brought) [
-      | Ok codings ↦ if has_whole_rows found frame scan codings
-          then samples_brought_by found frame scan codings (bytes ++ more) else (found, Err Malformed)
-      | Err fault ↦ (found, Err fault)
-    ])
-    go (Ok codings) = whole codings (has_whole_rows found frame scan codings)
-    go (Err fault) = plain-goes more found _ _ (stays-err more fault _)
-
 by-goes : (more : List ℕ) (process : CodingProcess) (found : Found) (frame : Frame) (scan : Scan) (bytes : List ℕ)
     → TurnGoes more found (brought_by process found frame scan bytes) (brought_by process found frame scan (bytes ++ more))
-by-goes more DctSequential found frame scan bytes = blocks-go more found frame scan bytes
-by-goes more DctProgressive found frame scan bytes = blocks-go more found frame scan bytes
 by-goes more Lossless found frame scan bytes = samples-go more found frame scan bytes
+by-goes more process found frame scan bytes = blocks-go more found frame scan bytes
 
 -- ---- a turn
 
 -- the frame and the header of a scan, and the bytes after it
-abbrev Header : Type 0
-Header = Frame × (Scan × List ℕ)
+abbrev pub FoundHeader : Type 0
+FoundHeader = Frame × (Scan × List ℕ)
 
-abbrev with_frame : Frame → Scan × List ℕ → Result Header Fault
+abbrev pub with_frame : Frame → Scan × List ℕ → Result FoundHeader Fault
 with_frame frame scan = Ok (frame, scan)
 
-abbrev header_by : List ℕ → Frame → Result Header Fault
+abbrev header_by : List ℕ → Frame → Result FoundHeader Fault
 header_by bytes frame = outcomes.◌>>=◌ (sos_at frame bytes) (with_frame frame)
 
-abbrev later_header : List ℕ → Header → Header
+abbrev later_header : List ℕ → FoundHeader → FoundHeader
 later_header more x = (x.0, (x.1.0, x.1.1 ++ more))
 
-framed-stays : (more : List ℕ) (found : Found) (bytes : List ℕ) (x : Header)
+framed-stays : (more : List ℕ) (found : Found) (bytes : List ℕ) (x : FoundHeader)
     → frame_and_scan found bytes ≡ Ok x → frame_and_scan found (bytes ++ more) ≡ Ok (later_header more x)
 unfolding Stays
 framed-stays more found bytes x h = go (needed found.said.frame) h
@@ -260,121 +202,61 @@ framed-stays more found bytes x h = go (needed found.said.frame) h
     at frame h =
         let s = bind-ok (sos_at frame bytes) (with_frame frame) x h in
         ap (λ (o : Outcome Scan). outcomes.◌>>=◌ o (with_frame frame)) (sos-stays more frame bytes s.0 s.1)
-        ∙ ap (λ (y : Header). Ok (later_header more y)) (ok-same (frame, s.0) x s.2)
+        ∙ ap (λ (y : FoundHeader). Ok (later_header more y)) (ok-same (frame, s.0) x s.2)
 
     go : (o : Result Frame Fault) → outcomes.◌>>=◌ o (header_by bytes) ≡ Ok x
         → outcomes.◌>>=◌ o (header_by (bytes ++ more)) ≡ Ok (later_header more x)
     go (Ok frame) h = at frame h
     go (Err g) h = absurd (err-ok g x h)
 
-abbrev scan_of_header : Found → Result Header Fault → Brought
-scan_of_header found o = elim o as (λ _. Brought) [
-  | Ok x ↦ brought_by x.0.process found x.0 x.1.0 x.1.1
-  | Err fault ↦ (found, Err fault)
-]
+-- what a scan brings, by its header
+abbrev pub by_header : Found → Result FoundHeader Fault → Brought
+by_header found o = brought_of found (λ (x : FoundHeader). brought_by x.0.process found x.0 x.1.0 x.1.1) o
 
 scan-goes : (more : List ℕ) (found : Found) (bytes : List ℕ)
     → TurnGoes more found (scan_brought found bytes) (scan_brought found (bytes ++ more))
 unfolding scan_brought
-scan-goes more found bytes = go (frame_and_scan found bytes) (λ x h. framed-stays more found bytes x h)
-  where
-    go : (o : Result Header Fault)
-        → ((x : Header) → o ≡ Ok x
-        → frame_and_scan found (bytes ++ more) ≡ Ok (later_header more x))
-        → TurnGoes more found (scan_of_header found o) (scan_of_header found (frame_and_scan found (bytes ++ more)))
-    go (Err g) stays = record { turn = stays-err more g _; adds = inl refl }
-    go (Ok x) stays =
-        subst (λ (o : Result Header Fault). TurnGoes more found (scan_of_header found (Ok x))
-        (scan_of_header found o)) (sym (stays x refl)) (by-goes more x.0.process found x.0 x.1.0 x.1.1)
-
-restart-goes : (more : List ℕ) (n : ℕ) (before : Before) (found : Found) (bytes : List ℕ)
-    → Stays more (segment_at (RST n) before found bytes) (segment_at (RST n) before found (bytes ++ more))
-unfolding segment_at
-restart-goes more n Elsewhere found bytes = stays-err more _ _
-restart-goes more n FirstScan found bytes = stays-ok more _ bytes
-restart-goes more n LaterScan found bytes = stays-ok more _ bytes
-
-lines-go : (more : List ℕ) (before : Before) (found : Found) (bytes : List ℕ)
-    → Stays more (segment_at DNL before found bytes) (segment_at DNL before found (bytes ++ more))
-unfolding segment_at
-lines-go more Elsewhere found bytes = stays-err more _ _
-lines-go more FirstScan found bytes = stays-err more _ _
-lines-go more LaterScan found bytes = stays-err more _ _
-
-tables-go : (more : List ℕ) (before : Before) (found : Found) (bytes : List ℕ)
-    → Stays more (segment_at DHT before found bytes) (segment_at DHT before found (bytes ++ more))
-unfolding segment_at
-tables-go more before found bytes = search (rules, stays-bind, dht-stays, stays-ok)
-
-quantization-goes : (more : List ℕ) (before : Before) (found : Found) (bytes : List ℕ)
-    → Stays more (segment_at DQT before found bytes) (segment_at DQT before found (bytes ++ more))
-unfolding segment_at
-quantization-goes more before found bytes = search (rules, stays-bind, dqt-stays, stays-ok)
-
-interval-goes : (more : List ℕ) (before : Before) (found : Found) (bytes : List ℕ)
-    → Stays more (segment_at DRI before found bytes) (segment_at DRI before found (bytes ++ more))
-unfolding segment_at
-interval-goes more before found bytes = search (rules, stays-bind, dri-stays, stays-ok)
-
-application-goes : (more : List ℕ) (n : ℕ) (before : Before) (found : Found) (bytes : List ℕ)
-    → Stays more (segment_at (APP n) before found bytes) (segment_at (APP n) before found (bytes ++ more))
-unfolding segment_at
-application-goes more n before found bytes = search (rules, stays-bind, app-stays, stays-ok)
-
-comment-goes : (more : List ℕ) (before : Before) (found : Found) (bytes : List ℕ)
-    → Stays more (segment_at COM before found bytes) (segment_at COM before found (bytes ++ more))
-unfolding segment_at
-comment-goes more before found bytes = search (rules, stays-bind, length-stays, skip-stays, stays-ok)
+scan-goes more found bytes =
+    let by : FoundHeader → Brought = λ x. brought_by x.0.process found x.0 x.1.0 x.1.1 in
+    read-goes more found (frame_and_scan found bytes) (frame_and_scan found (bytes ++ more)) by by (later_header more)
+    (framed-stays more found bytes) (λ x. by-goes more x.0.process found x.0 x.1.0 x.1.1)
 
 pub segment-goes : (more : List ℕ) (m : Marker) (before : Before) (found : Found) (bytes : List ℕ)
     → TurnGoes more found (segment_brought m before found bytes) (segment_brought m before found (bytes ++ more))
-unfolding segment_brought segment_at
+unfolding segment_brought segment_at frame_segment end_segment
 segment-goes more SOS before found bytes = scan-goes more found bytes
-segment-goes more (SOF n) before found bytes = plain-goes more found _ _ (frame-stays more n found bytes)
-segment-goes more DQT before found bytes = plain-goes more found _ _ (quantization-goes more before found bytes)
-segment-goes more DHT before found bytes = plain-goes more found _ _ (tables-go more before found bytes)
-segment-goes more EOI before found bytes = plain-goes more found _ _ (end-stays more found bytes)
-segment-goes more DRI before found bytes = plain-goes more found _ _ (interval-goes more before found bytes)
-segment-goes more (APP n) before found bytes = plain-goes more found _ _ (application-goes more n before found bytes)
-segment-goes more COM before found bytes = plain-goes more found _ _ (comment-goes more before found bytes)
-segment-goes more (RST n) before found bytes = plain-goes more found _ _ (restart-goes more n before found bytes)
-segment-goes more DNL before found bytes = plain-goes more found _ _ (lines-go more before found bytes)
-segment-goes more DAC before found bytes = plain-goes more found _ _ (stays-err more _ _)
-segment-goes more DHP before found bytes = plain-goes more found _ _ (stays-err more _ _)
-segment-goes more EXP before found bytes = plain-goes more found _ _ (stays-err more _ _)
-segment-goes more JPG before found bytes = plain-goes more found _ _ (stays-err more _ _)
-segment-goes more SOI before found bytes = plain-goes more found _ _ (stays-err more _ _)
-segment-goes more (JPGn n) before found bytes = plain-goes more found _ _ (stays-err more _ _)
-segment-goes more TEM before found bytes = plain-goes more found _ _ (stays-err more _ _)
-segment-goes more RES before found bytes = plain-goes more found _ _ (stays-err more _ _)
-
-abbrev segment_met : Before → Found → Outcome Marker → Brought
-segment_met before found o = elim o as (λ _. Brought) [
-  | Ok m ↦ segment_brought m.0 before found m.1
-  | Err fault ↦ (found, Err fault)
-]
+segment-goes more (SOF n) before found bytes = plain-goes more found _ _
+    (search (rules, stays-if, stays-err, stays-bind, sof-stays, stays-after, stays-ok) depth 12)
+segment-goes more DQT before found bytes =
+    plain-goes more found _ _ (search (rules, stays-bind, dqt-stays, stays-ok))
+segment-goes more DHT before found bytes =
+    plain-goes more found _ _ (search (rules, stays-bind, dht-stays, stays-ok))
+segment-goes more EOI before found bytes =
+    plain-goes more found _ _ (search (rules, stays-if, stays-ok, stays-err))
+segment-goes more DRI before found bytes =
+    plain-goes more found _ _ (search (rules, stays-bind, dri-stays, stays-ok))
+segment-goes more (APP n) before found bytes =
+    plain-goes more found _ _ (search (rules, stays-bind, app-stays, stays-ok))
+segment-goes more COM before found bytes =
+    plain-goes more found _ _ (search (rules, stays-bind, length-stays, skip-stays, stays-ok))
+segment-goes more (RST n) Elsewhere found bytes = plain-goes more found _ _ (stays-err more _ _)
+segment-goes more (RST n) before found bytes = plain-goes more found _ _ (stays-ok more _ bytes)
+segment-goes more DNL Elsewhere found bytes = plain-goes more found _ _ (stays-err more _ _)
+segment-goes more m before found bytes = plain-goes more found _ _ (stays-err more _ _)
 
 turn-goes : (more : List ℕ) (before : Before) (found : Found) (met : Option Marker) (bytes : List ℕ)
     → TurnGoes more found (turn_brought before found met bytes) (turn_brought before found met (bytes ++ more))
 unfolding turn_brought Stays
-turn-goes more before found met bytes = go (found_or met bytes (next_marker bytes)) (marker-stays more met bytes)
-  where
-    go : (o : Outcome Marker) → ((m : Marker × List ℕ) → o ≡ Ok m
-        → found_or met (bytes ++ more) (next_marker (bytes ++ more)) ≡ Ok (m.0, m.1 ++ more))
-        → TurnGoes more found (segment_met before found o)
-        (segment_met before found (found_or met (bytes ++ more) (next_marker (bytes ++ more))))
-    go (Err g) stays = record { turn = stays-err more g _; adds = inl refl }
-    go (Ok m) stays =
-        subst (λ (q : Outcome Marker). TurnGoes more found (segment_met before found (Ok m)) (segment_met before found q))
-        (sym (stays m refl)) (segment-goes more m.0 before found m.1)
+turn-goes more before found met bytes =
+    let by : Marker × List ℕ → Brought = λ m. segment_brought m.0 before found m.1 in
+    read-goes more found (found_or met bytes (next_marker bytes))
+    (found_or met (bytes ++ more) (next_marker (bytes ++ more))) by by (λ m. (m.0, m.1 ++ more))
+    (marker-stays more met bytes) (λ m. segment-goes more m.0 before found m.1)
 
 -- ---- the walk
 
-abbrev Walked : Type 0
-Walked = Found × Result (List ℕ) Fault
-
 -- after a turn
-abbrev walk_on : ℕ → Brought → Walked
+abbrev pub walk_on : ℕ → Brought → Walked
 walk_on turns b = elim b.1 [
   | Err fault ↦ (b.0, Err fault)
   | Ok t ↦ if t.0.ended then (t.0.found, Ok t.1) else walk_brought turns t.0.before t.0.found t.0.met t.1

@@ -7,8 +7,7 @@ use Rattle.jpeg_bits.specs.Reading.{Outcome, Fault, Malformed, End, ◌>>=◌}
 use Rattle.jpeg_bits.specs.Intervals.{first_group, intervals, other_groups}
 use Rattle.jpeg_bits.specs.Marker.{found_or, next_marker}
 use Rattle.jpeg_bits.specs.declared.marker.Marker.{Marker}
-use Rattle.jpeg_bits.specs.declared.marker.Marker.TheVariants.{SOF, JPG, DHT, DAC, RST, SOI, EOI, SOS, DQT, DNL, DRI}
-use Rattle.jpeg_bits.specs.declared.marker.Marker.TheVariants.{DHP, EXP, APP, JPGn, COM, TEM, RES}
+use Rattle.jpeg_bits.specs.declared.marker.Marker.TheVariants.{SOS}
 use Rattle.jpeg_lossless.specs.Differences.{interval_rows}
 use Rattle.jpeg_lossless.specs.Scans.{scan_at}
 use Rattle.jpeg_segments.specs.declared.frame.CodingProcess.{CodingProcess}
@@ -47,26 +46,33 @@ use Rattle.jpeg_evidence.specs.EarlyEnds.{BlocksEndEarly, RowsEndEarly, ScanEnds
 use Rattle.jpeg_evidence.specs.EarlyEnds.{StreamEndsEarly}
 use Rattle.jpeg_evidence.specs.EarlyEnds.ScanEndsEarly.{of_blocks, of_rows}
 use Rattle.jpeg_evidence.specs.EarlyEnds.SegmentsEndEarly.{at_scan, later_turn}
-use Rattle.jpeg_evidence.proofs.EarlyEnds.{FaultOf, blocks-have, changed, changed-fault, ended, err-same, rows-have}
+use Rattle.jpeg_evidence.proofs.EarlyEnds.{FaultOf, ScanFault, blocks-have, changed, changed-fault, ended}
+use Rattle.jpeg_evidence.proofs.EarlyEnds.{fault-earlier, fault-on, rows-have}
+use Rattle.jpeg_evidence.proofs.FrontReaders.{err-same}
+use Rattle.jpeg_evidence.proofs.LongerTurns.{FoundHeader, brought_of}
+use Rattle.jpeg_evidence.proofs.TakenBits.{some-is}
 use Rattle.jpeg_evidence.proofs.EarlyEnds.FaultOf.{other, refused, same, unmet}
 
 -- ---- a scan
 
--- The fault of a turn as it is read: the same; or the data of a scan end early, and the fault is another, or none; or
--- no marker comes after the turn.
-data TurnFault (o : Outcome Turn) (early : Type 0) (f : Fault) : Type 0 where
-  alike : o ≡ Err f → TurnFault o early f
-  another : early → f ≡ Malformed → TurnFault o early f
-  malformed : early → f ≡ End → o ≡ Err Malformed → TurnFault o early f
-  last : f ≡ End → (t : Turn) (left : List ℕ) → o ≡ Ok (t, left) → t.ended ≡ false
-      → found_or t.met left (next_marker left) ≡ Err End → TurnFault o early f
+-- A turn is read that doesn't end the walk, and no marker comes after it.
+record LastTurn (o : Outcome Turn) : Type 0 where
+  turn : Turn
+  left : List ℕ
+  read : o ≡ Ok (turn, left)
+  going : turn.ended ≡ false
+  none : found_or turn.met left (next_marker left) ≡ Err End
 
-fault-earlier : (o : Outcome Turn) (early whole : Type 0) (f : Fault) → (early → whole) → TurnFault o early f
-    → TurnFault o whole f
-fault-earlier o early whole f first (alike e) = alike e
-fault-earlier o early whole f first (another e m) = another (first e) m
-fault-earlier o early whole f first (malformed e m is) = malformed (first e) m is
-fault-earlier o early whole f first (last m t left is e none) = last m t left is e none
+-- the fault of a turn
+abbrev TurnFault : Outcome Turn → Type 0 → Fault → Type 0
+TurnFault o early f = FaultOf (λ g. o ≡ Err g) early (LastTurn o) f
+
+-- a turn that brings something by what is read, or has a fault
+either-fault : {A : Type 0} (found : Found) (o : Result A Fault) (by : A → Brought) (q : Outcome Turn) (early : Type 0)
+    (f : Fault) → ((x : A) → o ≡ Ok x → (by x).1 ≡ Err f → TurnFault q early f)
+    → ((g : Fault) → o ≡ Err g → q ≡ Err g) → (brought_of found by o).1 ≡ Err f → TurnFault q early f
+either-fault found (Ok x) by q early f each errs h = each x refl h
+either-fault found (Err g) by q early f each errs h = same (errs g refl ∙ h)
 
 -- the turn of a scan, by what is found after what is read of it
 abbrev turned : {A : Type 0} → Found → (A → Found) → Outcome (A × Option Marker) → Outcome Turn
@@ -88,15 +94,17 @@ turned-is {A} found to (Ok read) = go (after_restarts (suc (length read.1)) read
     go (Ok m) = refl
 
 turned-fault : {A : Type 0} (found : Found) (to : A → Found) (o : Outcome (A × Option Marker)) (early : Type 0)
-    (f : Fault) → FaultOf (ended o) early f → TurnFault (turned found to o) early f
+    (f : Fault) → ScanFault (ended o) early f → TurnFault (turned found to o) early f
 turned-fault {A} found to o early f h =
-    subst (λ (q : Outcome Turn). TurnFault q early f) (sym (turned-is found to o)) (go (ended o) h)
-  where
-    go : (q : Outcome (A × Option Marker)) → FaultOf q early f → TurnFault (led found to q) early f
-    go q (same e) = alike (ap (led found to) e)
-    go q (other e m) = another e m
-    go q (refused e m is) = malformed e m (ap (led found to) is)
-    go q (unmet m x others is none) = last m (scan_turn found (to x) None) others (ap (led found to) is) refl none
+    subst (λ (q : Outcome Turn). TurnFault q early f) (sym (turned-is found to o))
+    (fault-on (λ k e. ap (led found to) e) (λ y. y)
+    (λ m u. unmet m (record {
+      turn = scan_turn found (to u.value) None;
+      left = u.others;
+      read = ap (led found to) u.read;
+      going = refl;
+      none = u.none;
+    })) h)
 
 -- a step that gives something of each result has its fault
 given-err : {A B : Type 0} (o : Result A Fault) (g : A → B) (f : Fault) → (o >>= λ x. Ok (g x)) ≡ Err f → o ≡ Err f
@@ -111,13 +119,6 @@ EarlyBlocks found frame scan codings bytes =
     let spots = spots_of frame (components_of codings) in
     BlocksEndEarly (pass_of scan) (vias_from 0 codings) 0 (first_group n spots) (other_groups n spots)
     (arrays_of_scan found frame codings) bytes
-
-scan-turned : (found : Found) (frame : Frame) (scan : Scan) (codings : List Coding) (bytes : List ℕ)
-    → codings_of found.said frame scan ≡ Ok codings
-    → blocks_scan found frame scan bytes
-    ≡ turned found (after_scan found frame scan codings) (scan_arrays found frame scan codings bytes)
-unfolding blocks_scan
-scan-turned found frame scan codings bytes c = rw c refl
 
 scan-in-turn : (found : Found) (frame : Frame) (scan : Scan) (codings : List Coding) (bytes : List ℕ)
     → AllByRecursion (Fits frame) (components_of codings)
@@ -136,19 +137,17 @@ coded-fault : (found : Found) (frame : Frame) (scan : Scan) (codings : List Codi
     → AllByRecursion (Fits frame) frame.components → codings_of found.said frame scan ≡ Ok codings
     → (blocks_brought_by found frame scan codings bytes).1 ≡ Err f
     → TurnFault (blocks_scan found frame scan bytes) (EarlyBlocks found frame scan codings bytes) f
-unfolding blocks_brought_by
+unfolding blocks_brought_by blocks_scan
 coded-fault found frame scan codings bytes f fits c h =
     let n = found.said.restart * mcu_size (components_of codings) in
     let spots = spots_of frame (components_of codings) in
     let r = given-err (scan_of_codings found frame scan codings bytes).1 _ f h in
     let have = blocks-have (pass_of scan) (vias_from 0 codings) 0 (first_group n spots) (other_groups n spots)
     (arrays_of_scan found frame codings) bytes f r in
-    subst (λ (o : Outcome Turn). TurnFault o (EarlyBlocks found frame scan codings bytes) f)
-    (sym (scan-turned found frame scan codings bytes c))
-    (turned-fault found (after_scan found frame scan codings) (scan_arrays found frame scan codings bytes)
+    rw c (turned-fault found (after_scan found frame scan codings) (scan_arrays found frame scan codings bytes)
     (EarlyBlocks found frame scan codings bytes) f
-    (subst (λ (o : Outcome (Arrays × Option Marker)). FaultOf (ended o) (EarlyBlocks found frame scan codings bytes) f)
-    (sym (scan-in-turn found frame scan codings bytes (codings-fit found frame scan codings fits c))) have))
+    (subst (λ (o : Outcome (Arrays × Option Marker)). ScanFault (ended o) (EarlyBlocks found frame scan codings bytes)
+    f) (sym (scan-in-turn found frame scan codings bytes (codings-fit found frame scan codings fits c))) have))
 
 blocks-scan : (found : Found) (frame : Frame) (scan : Scan) (bytes : List ℕ) (whole : Type 0) (f : Fault)
     → AllByRecursion (Fits frame) frame.components
@@ -156,20 +155,11 @@ blocks-scan : (found : Found) (frame : Frame) (scan : Scan) (bytes : List ℕ) (
     → EarlyBlocks found frame scan codings bytes → whole)
     → (blocks_brought found frame scan bytes).1 ≡ Err f → TurnFault (blocks_scan found frame scan bytes) whole f
 unfolding blocks_brought blocks_scan
-blocks-scan found frame scan bytes whole f fits first h = go (codings_of found.said frame scan) refl h
-  where
-    refused_so : (g : Fault) → codings_of found.said frame scan ≡ Err g → blocks_scan found frame scan bytes ≡ Err g
-    refused_so g c = rw c refl
-
-    go : (o : Result (List Coding) Fault) → codings_of found.said frame scan ≡ o
-        → (elim o as (λ _. Brought) [
-          | Ok codings ↦ blocks_brought_by found frame scan codings bytes
-          | Err fault ↦ (found, Err fault)
-        ]).1 ≡ Err f → TurnFault (blocks_scan found frame scan bytes) whole f
-    go (Ok codings) c h =
-        fault-earlier (blocks_scan found frame scan bytes) (EarlyBlocks found frame scan codings bytes) whole f
-        (first codings c) (coded-fault found frame scan codings bytes f fits c h)
-    go (Err g) c h = alike (refused_so g c ∙ h)
+blocks-scan found frame scan bytes whole f fits first h =
+    either-fault found (codings_of found.said frame scan)
+    (λ codings. blocks_brought_by found frame scan codings bytes) (blocks_scan found frame scan bytes) whole f
+    (λ codings c k. fault-earlier (first codings c) (coded-fault found frame scan codings bytes f fits c k))
+    (λ g c. rw c refl) h
 
 -- ---- a lossless scan
 
@@ -178,13 +168,6 @@ EarlyRows found frame scan codings bytes =
     let n = rows_by found frame scan codings in
     let rows = tables_by frame scan codings in
     RowsEndEarly 0 (first_group n rows) (other_groups n rows) bytes
-
-samples-turned : (found : Found) (frame : Frame) (scan : Scan) (codings : List LosslessCoding) (bytes : List ℕ)
-    → lossless_codings found.said.huffman.dc frame scan.components scan.dc_destinations ≡ Ok codings
-    → lossless_scan found frame scan bytes
-    ≡ turned found (after_samples found codings) (scan_samples found frame scan codings bytes)
-unfolding lossless_scan
-samples-turned found frame scan codings bytes c = rw c refl
 
 samples-whole : (found : Found) (frame : Frame) (scan : Scan) (codings : List LosslessCoding) (bytes : List ℕ)
     → has_whole_rows found frame scan codings ≡ true
@@ -195,71 +178,45 @@ samples-whole : (found : Found) (frame : Frame) (scan : Scan) (codings : List Lo
 unfolding scan_at
 samples-whole found frame scan codings bytes t = rw t refl
 
-samples-refused : (found : Found) (frame : Frame) (scan : Scan) (codings : List LosslessCoding) (bytes : List ℕ)
-    → has_whole_rows found frame scan codings ≡ false
-    → scan_samples found frame scan codings bytes ≡ Err Malformed
-unfolding scan_at
-samples-refused found frame scan codings bytes t = rw t refl
-
 coded-rows-fault : (found : Found) (frame : Frame) (scan : Scan) (codings : List LosslessCoding) (bytes : List ℕ)
     (f : Fault) → lossless_codings found.said.huffman.dc frame scan.components scan.dc_destinations ≡ Ok codings
     → has_whole_rows found frame scan codings ≡ true → (samples_brought_by found frame scan codings bytes).1 ≡ Err f
     → TurnFault (lossless_scan found frame scan bytes) (EarlyRows found frame scan codings bytes) f
-unfolding samples_brought_by
+unfolding samples_brought_by lossless_scan
 coded-rows-fault found frame scan codings bytes f c t h =
     let n = rows_by found frame scan codings in
     let rows = tables_by frame scan codings in
     let r = given-err (rows_of_codings found frame scan codings bytes).1 _ f h in
     let have = rows-have 0 (first_group n rows) (other_groups n rows) bytes f r in
-    subst (λ (o : Outcome Turn). TurnFault o (EarlyRows found frame scan codings bytes) f)
-    (sym (samples-turned found frame scan codings bytes c))
-    (turned-fault found (after_samples found codings) (scan_samples found frame scan codings bytes)
+    rw c (turned-fault found (after_samples found codings) (scan_samples found frame scan codings bytes)
     (EarlyRows found frame scan codings bytes) f
-    (subst (λ (o : Outcome (List (List ℕ) × Option Marker)). FaultOf (ended o)
+    (subst (λ (o : Outcome (List (List ℕ) × Option Marker)). ScanFault (ended o)
     (EarlyRows found frame scan codings bytes) f) (sym (samples-whole found frame scan codings bytes t))
     (changed-fault (planes_by_rows frame scan codings)
     (intervals interval_rows 0 (first_group n rows) (other_groups n rows) bytes) _ _ f (λ y. y) have)))
-
-turned-err : {A : Type 0} (found : Found) (to : A → Found) (o : Outcome (A × Option Marker)) (g : Fault) → o ≡ Err g
-    → turned found to o ≡ Err g
-turned-err found to o g e = rw e refl
 
 samples-scan : (found : Found) (frame : Frame) (scan : Scan) (bytes : List ℕ) (whole : Type 0) (f : Fault)
     → ((codings : List LosslessCoding)
     → lossless_codings found.said.huffman.dc frame scan.components scan.dc_destinations ≡ Ok codings
     → has_whole_rows found frame scan codings ≡ true → EarlyRows found frame scan codings bytes → whole)
     → (samples_brought found frame scan bytes).1 ≡ Err f → TurnFault (lossless_scan found frame scan bytes) whole f
-unfolding samples_brought lossless_scan
+unfolding samples_brought lossless_scan scan_at
 samples-scan found frame scan bytes whole f first h =
-    go (lossless_codings found.said.huffman.dc frame scan.components scan.dc_destinations) refl h
+    either-fault found (lossless_codings found.said.huffman.dc frame scan.components scan.dc_destinations)
+    (λ codings. if has_whole_rows found frame scan codings then samples_brought_by found frame scan codings bytes
+    else (found, Err Malformed)) (lossless_scan found frame scan bytes) whole f
+    (λ codings c k. by codings (has_whole_rows found frame scan codings) c refl k) (λ g c. rw c refl) h
   where
-    refused_so : (g : Fault)
-        → lossless_codings found.said.huffman.dc frame scan.components scan.dc_destinations ≡ Err g
-        → lossless_scan found frame scan bytes ≡ Err g
-    refused_so g c = rw c refl
-
     by : (codings : List LosslessCoding) (b : Bool)
         → lossless_codings found.said.huffman.dc frame scan.components scan.dc_destinations ≡ Ok codings
         → has_whole_rows found frame scan codings ≡ b
         → (if b then samples_brought_by found frame scan codings bytes else (found, Err Malformed)).1 ≡ Err f
         → TurnFault (lossless_scan found frame scan bytes) whole f
     by codings true c t h =
-        fault-earlier (lossless_scan found frame scan bytes) (EarlyRows found frame scan codings bytes) whole f
-        (first codings c t) (coded-rows-fault found frame scan codings bytes f c t h)
+        fault-earlier (first codings c t) (coded-rows-fault found frame scan codings bytes f c t h)
     by codings false c t h =
-        alike (samples-turned found frame scan codings bytes c
-        ∙ turned-err found (after_samples found codings) (scan_samples found frame scan codings bytes) Malformed
-        (samples-refused found frame scan codings bytes t) ∙ h)
-
-    go : (o : Result (List LosslessCoding) Fault)
-        → lossless_codings found.said.huffman.dc frame scan.components scan.dc_destinations ≡ o
-        → (elim o as (λ _. Brought) [
-          | Ok codings ↦ if has_whole_rows found frame scan codings
-              then samples_brought_by found frame scan codings bytes else (found, Err Malformed)
-          | Err fault ↦ (found, Err fault)
-        ]).1 ≡ Err f → TurnFault (lossless_scan found frame scan bytes) whole f
-    go (Ok codings) c h = by codings (has_whole_rows found frame scan codings) c refl h
-    go (Err g) c h = alike (refused_so g c ∙ h)
+        let refused_so : scan_samples found frame scan codings bytes ≡ Err Malformed = rw t refl in
+        rw c (same (ap (turned found (after_samples found codings)) refused_so ∙ h))
 
 -- ---- a segment
 
@@ -268,27 +225,21 @@ by-scan : (process : CodingProcess) (found : Found) (frame : Frame) (scan : Scan
     → AllByRecursion (Fits frame) frame.components
     → (brought_by process found frame scan data_bytes).1 ≡ Err f
     → TurnFault (scan_by process found frame scan data_bytes) (ScanEndsEarly found bytes) f
-by-scan DctSequential found frame scan bytes data_bytes f p header fits h =
-    blocks-scan found frame scan data_bytes (ScanEndsEarly found bytes) f fits
-    (λ codings c y. of_blocks frame scan codings data_bytes header (λ l. let n : ⊥ = cc in n) c y) h
-by-scan DctProgressive found frame scan bytes data_bytes f p header fits h =
-    blocks-scan found frame scan data_bytes (ScanEndsEarly found bytes) f fits
-    (λ codings c y. of_blocks frame scan codings data_bytes header (λ l. let n : ⊥ = cc in n) c y) h
 by-scan Lossless found frame scan bytes data_bytes f p header fits h =
     samples-scan found frame scan data_bytes (ScanEndsEarly found bytes) f
     (λ codings c t y. of_rows frame scan codings data_bytes header p c t y) h
-
--- the frame and the header of a scan, and the bytes after it
-abbrev Header : Type 0
-Header = Frame × (Scan × List ℕ)
+by-scan process found frame scan bytes data_bytes f p header fits h =
+    blocks-scan found frame scan data_bytes (ScanEndsEarly found bytes) f fits
+    (λ codings c y. of_blocks frame scan codings data_bytes header (λ l. let n : ⊥ = cc in n) c y) h
 
 header-err : (o : Result Frame Fault) (next : Frame → Outcome Scan) (to : Frame → Scan × List ℕ → Outcome Turn)
-    (g : Fault) → ◌≡◌ {A = Result Header Fault} (o >>= (λ frame. next frame >>= (λ scan. Ok (frame, scan)))) (Err g)
+    (g : Fault)
+    → ◌≡◌ {A = Result FoundHeader Fault} (o >>= (λ frame. next frame >>= (λ scan. Ok (frame, scan)))) (Err g)
     → (o >>= (λ frame. next frame >>= to frame)) ≡ Err g
 header-err (Err k) next to g e = ap Err (err-same k g e)
 header-err (Ok frame) next to g e = go (next frame) e
   where
-    go : (q : Outcome Scan) → ◌≡◌ {A = Result Header Fault} (q >>= (λ scan. Ok (frame, scan))) (Err g)
+    go : (q : Outcome Scan) → ◌≡◌ {A = Result FoundHeader Fault} (q >>= (λ scan. Ok (frame, scan))) (Err g)
         → (q >>= to frame) ≡ Err g
     go (Err k) e = ap Err (err-same k g e)
     go (Ok scan) e = absurd (err-ok g (frame, scan) (sym e))
@@ -299,31 +250,23 @@ scanned_by found frame scan = scan_by frame.process found frame scan.0 scan.1
 scan-fault : (found : Found) (bytes : List ℕ) (f : Fault) → FoundFits found → (scan_brought found bytes).1 ≡ Err f
     → TurnFault (scan_segment found bytes) (ScanEndsEarly found bytes) f
 unfolding scan_brought scan_segment
-scan-fault found bytes f fits h = go (frame_and_scan found bytes) refl h
+scan-fault found bytes f fits h =
+    either-fault found (frame_and_scan found bytes) (λ y. brought_by y.0.process found y.0 y.1.0 y.1.1)
+    (scan_segment found bytes) (ScanEndsEarly found bytes) f
+    (λ y a k.
+    let c = bind-ok (needed found.said.frame) _ y a in
+    let s = bind-ok (sos_at c.0 bytes) _ y c.2 in
+    let together : (c.0, s.0) ≡ y = ok-same _ y s.2 in
+    let fit = (subst FrameFits (needed-some found.said.frame c.0 c.1) fits.frame).0 in
+    at c.0 s.0 c.1 s.1 (by-scan c.0.process found c.0 s.0.0 bytes s.0.1 f refl (a ∙ ap Ok (sym together)) fit
+    (ap (λ (z : FoundHeader). (brought_by z.0.process found z.0 z.1.0 z.1.1).1) together ∙ k)))
+    (λ g a. header-err (needed found.said.frame) (λ frame. sos_at frame bytes) (scanned_by found) g a) h
   where
     at : (frame : Frame) (scan : Scan × List ℕ) → needed found.said.frame ≡ Ok frame → sos_at frame bytes ≡ Ok scan
         → TurnFault (scanned_by found frame scan) (ScanEndsEarly found bytes) f
         → TurnFault (needed found.said.frame >>= (λ frame. sos_at frame bytes >>= scanned_by found frame))
         (ScanEndsEarly found bytes) f
     at frame scan a b t = rw (a, b) t
-
-    go : (o : Result Header Fault) → frame_and_scan found bytes ≡ o
-        → (elim o as (λ _. Brought) [
-          | Ok y ↦ brought_by y.0.process found y.0 y.1.0 y.1.1
-          | Err fault ↦ (found, Err fault)
-        ]).1 ≡ Err f
-        → TurnFault (needed found.said.frame >>= (λ frame. sos_at frame bytes >>= scanned_by found frame))
-        (ScanEndsEarly found bytes) f
-    go (Err g) a h =
-        alike (header-err (needed found.said.frame) (λ frame. sos_at frame bytes) (scanned_by found) f
-        (a ∙ ap Err (err-same g f h)))
-    go (Ok y) a h =
-        let c = bind-ok (needed found.said.frame) _ y a in
-        let s = bind-ok (sos_at c.0 bytes) _ y c.2 in
-        let together : (c.0, s.0) ≡ y = ok-same _ y s.2 in
-        let fit = (subst FrameFits (needed-some found.said.frame c.0 c.1) fits.frame).0 in
-        at c.0 s.0 c.1 s.1 (by-scan c.0.process found c.0 s.0.0 bytes s.0.1 f refl (a ∙ ap Ok (sym together)) fit
-        (ap (λ (z : Header). (brought_by z.0.process found z.0 z.1.0 z.1.1).1) together ∙ h))
 
 -- the data of the scan that stands after this marker end early
 abbrev EarlyAfter : Marker → Found → List ℕ → Type 0
@@ -334,25 +277,8 @@ segment-fault : (m : Marker) (before : Before) (found : Found) (bytes : List ℕ
     → TurnFault (segment_at m before found bytes) (EarlyAfter m found bytes) f
 unfolding segment_brought segment_at
 segment-fault SOS before found bytes f fits h =
-    fault-earlier (scan_segment found bytes) (ScanEndsEarly found bytes) (EarlyAfter SOS found bytes) f
-    (λ y. (refl, y)) (scan-fault found bytes f fits h)
-segment-fault (SOF n) before found bytes f fits h = alike h
-segment-fault DQT before found bytes f fits h = alike h
-segment-fault DHT before found bytes f fits h = alike h
-segment-fault EOI before found bytes f fits h = alike h
-segment-fault DRI before found bytes f fits h = alike h
-segment-fault (APP n) before found bytes f fits h = alike h
-segment-fault COM before found bytes f fits h = alike h
-segment-fault (RST n) before found bytes f fits h = alike h
-segment-fault DNL before found bytes f fits h = alike h
-segment-fault DAC before found bytes f fits h = alike h
-segment-fault DHP before found bytes f fits h = alike h
-segment-fault EXP before found bytes f fits h = alike h
-segment-fault JPG before found bytes f fits h = alike h
-segment-fault SOI before found bytes f fits h = alike h
-segment-fault (JPGn n) before found bytes f fits h = alike h
-segment-fault TEM before found bytes f fits h = alike h
-segment-fault RES before found bytes f fits h = alike h
+    fault-earlier (λ y. (refl, y)) (scan-fault found bytes f fits h)
+segment-fault m before found bytes f fits h = same h
 
 -- the data of the scan that stands next end early
 abbrev EarlyNext : Found → Option Marker → List ℕ → Type 0
@@ -365,24 +291,19 @@ turn-fault : (before : Before) (found : Found) (met now : Option Marker) (bytes 
     → TurnFault (turn_at before found now left) (EarlyNext found met bytes) f
 unfolding turn_brought turn_at
 turn-fault before found met now bytes left f fits next h =
-    go (found_or met bytes (next_marker bytes)) (found_or now left (next_marker left)) next refl h
-  where
-    go : (o q : Outcome Marker) → q ≡ o → found_or met bytes (next_marker bytes) ≡ o → (elim o as (λ _. Brought) [
-      | Ok m ↦ segment_brought m.0 before found m.1
-      | Err fault ↦ (found, Err fault)
-    ]).1 ≡ Err f → TurnFault (q >>= (λ m. segment_at m.0 before found m.1)) (EarlyNext found met bytes) f
-    go (Err g) q e at h = alike (ap (λ (z : Outcome Marker). z >>= (λ m. segment_at m.0 before found m.1)) e ∙ h)
-    go (Ok m) q e at h =
-        rw e (fault-earlier (segment_at m.0 before found m.1) (EarlyAfter m.0 found m.1) (EarlyNext found met bytes) f
-        (λ y. (m.1, at ∙ ap (λ (k : Marker). Ok (k, m.1)) y.0, y.1)) (segment-fault m.0 before found m.1 f fits h))
+    let by : Outcome Marker → Outcome Turn = λ o. o >>= (λ m. segment_at m.0 before found m.1) in
+    either-fault found (found_or met bytes (next_marker bytes)) (λ m. segment_brought m.0 before found m.1)
+    (turn_at before found now left) (EarlyNext found met bytes) f
+    (λ m at k.
+    subst (λ (o : Outcome Marker). TurnFault (by o) (EarlyNext found met bytes) f) (sym (next ∙ at))
+    (fault-earlier (λ y. (m.1, at ∙ ap (λ (k : Marker). Ok (k, m.1)) y.0, y.1))
+    (segment-fault m.0 before found m.1 f fits k))) (λ g at. ap by (next ∙ at)) h
 
 -- ---- the walk
 
--- the fault of the segments as they are read
-data WalkFault (w : Walked) (early : Type 0) (f : Fault) : Type 0 where
-  as_shown : w.1 ≡ Err f → WalkFault w early f
-  elsewhere : early → f ≡ Malformed → WalkFault w early f
-  breaking : early → f ≡ End → w.1 ≡ Err Malformed → WalkFault w early f
+-- the fault of the segments
+abbrev WalkFault : Walked → Type 0 → Fault → Type 0
+WalkFault w early f = FaultOf (λ g. w.1 ≡ Err g) early ⊥ f
 
 -- a walk that meets no marker
 walk-unmet : (turns : ℕ) (before : Before) (found : Found) (met : Option Marker) (bytes : List ℕ)
@@ -394,15 +315,13 @@ walk-unmet (suc turns) before found met bytes e = rw e refl
 -- after a turn that has a fault
 stopped-walk : (turns : ℕ) (found : Found) (o : Outcome Turn) (early whole : Type 0) (f : Fault) → (early → whole)
     → TurnFault o early f → WalkFault (walk_on turns found o) whole f
-stopped-walk turns found o early whole f first (alike e) =
-    as_shown (ap (λ (q : Outcome Turn). (walk_on turns found q).1) e)
-stopped-walk turns found o early whole f first (another y m) = elsewhere (first y) m
-stopped-walk turns found o early whole f first (malformed y m is) =
-    breaking (first y) m (ap (λ (q : Outcome Turn). (walk_on turns found q).1) is)
-stopped-walk turns found o early whole f first (last m t left is going none) =
-    as_shown (ap (λ (q : Outcome Turn). (walk_on turns found q).1) is
-    ∙ ap (λ (b : Bool). (if b then (t.found, Ok left) else walk turns false t.before t.found t.met left).1) going
-    ∙ walk-unmet turns t.before t.found t.met left none ∙ ap Err (sym m))
+stopped-walk turns found o early whole f first h =
+    fault-on (λ g e. ap (λ (q : Outcome Turn). (walk_on turns found q).1) e) first
+    (λ m l.
+    let t = l.turn in
+    same (ap (λ (q : Outcome Turn). (walk_on turns found q).1) l.read
+    ∙ ap (λ (b : Bool). (if b then (t.found, Ok l.left) else walk turns false t.before t.found t.met l.left).1) l.going
+    ∙ walk-unmet turns t.before t.found t.met l.left l.none ∙ ap Err (sym m))) h
 
 -- what a later turn of the walk gives
 abbrev Again : ℕ → Fault → Type 0
@@ -413,12 +332,6 @@ Again turns f =
     → WalkFault (walk turns false x.0.before x.0.found now left)
     (SegmentsEndEarly x.0.before x.0.found x.0.met x.1) f
 
-walk-earlier : (w v : Walked) (early whole : Type 0) (f : Fault) → v ≡ w → (early → whole) → WalkFault w early f
-    → WalkFault v whole f
-walk-earlier w v early whole f e first (as_shown h) = as_shown (ap (λ (z : Walked). z.1) e ∙ h)
-walk-earlier w v early whole f e first (elsewhere y m) = elsewhere (first y) m
-walk-earlier w v early whole f e first (breaking y m h) = breaking (first y) m (ap (λ (z : Walked). z.1) e ∙ h)
-
 going-walk : (turns : ℕ) (found : Found) (o : Outcome Turn) (x : Turn × List ℕ) (whole : Type 0) (f : Fault)
     (t : IsTurn o x.0 x.1) → FoundFits x.0.found → Again turns f → (ended : Bool) → x.0.ended ≡ ended
     → (ended ≡ false → SegmentsEndEarly x.0.before x.0.found x.0.met x.1 → whole)
@@ -426,13 +339,12 @@ going-walk : (turns : ℕ) (found : Found) (o : Outcome Turn) (x : Turn × List 
     → WalkFault (walk_on turns found o) whole f
 going-walk turns found o x whole f t fits again true u first h = absurd (err-ok f x.1 (sym h))
 going-walk turns found o x whole f t fits again false u first h =
-    walk-earlier (walk turns false x.0.before x.0.found t.now.met t.left) (walk_on turns found o) _ whole f
-    (ap (walk_on turns found) t.read
+    subst (λ (w : Walked). WalkFault w whole f) (sym (ap (walk_on turns found) t.read
     ∙ ap (λ (b : Bool). if b then (t.now.found, Ok t.left)
     else walk turns false t.now.before t.now.found t.now.met t.left) (t.ended ∙ u)
     ∙ ap (λ (b : Before). walk turns false b t.now.found t.now.met t.left) t.before
-    ∙ ap (λ (g : Found). walk turns false x.0.before g t.now.met t.left) t.found)
-    (first refl) (again x t.now.met t.left fits t.next h)
+    ∙ ap (λ (g : Found). walk turns false x.0.before g t.now.met t.left) t.found))
+    (fault-earlier (first refl) (again x t.now.met t.left fits t.next h))
 
 -- a walk after its next turn
 walk-after : (turns : ℕ) (found old : Found) (o b : Outcome Turn) (early whole : Type 0) (f : Fault)
@@ -454,7 +366,7 @@ walk-fault : (turns : ℕ) (before : Before) (found : Found) (met now : Option M
     → (walk_brought turns before found met bytes).1 ≡ Err f
     → WalkFault (walk turns false before found now left) (SegmentsEndEarly before found met bytes) f
 unfolding walk_brought walk
-walk-fault zero before found met now bytes left f fits next h = as_shown h
+walk-fault zero before found met now bytes left f fits next h = same h
 walk-fault (suc turns) before found met now bytes left f fits next h =
     let b = turn_brought before found met bytes in
     walk-after turns found b.0 (turn_at before found now left) b.1 (EarlyNext found met bytes) _ f
@@ -480,9 +392,8 @@ said-planes frame (c ∷ cs) found = said-planes frame cs (with_plane_shown fram
 
 said-by : (process : CodingProcess) (frame : Frame) (found : Found)
     → (fold (shown_by process frame) found (enumerate_from 0 frame.components)).said ≡ found.said
-said-by DctSequential frame found = said-planes frame (enumerate_from 0 frame.components) found
-said-by DctProgressive frame found = said-planes frame (enumerate_from 0 frame.components) found
 said-by Lossless frame found = said-samples frame (enumerate_from 0 frame.components) found
+said-by process frame found = said-planes frame (enumerate_from 0 frame.components) found
 
 completed-said : (found : Found) (frame : Frame) → (completed found frame).said ≡ found.said
 unfolding completed
@@ -496,7 +407,7 @@ picture-lacks DctProgressive settings found frame f e = rw e refl
 picture-lacks Lossless settings found frame f e = rw e refl
 
 -- a picture that is within the limit
-limit-passed : (settings : Settings) (frame : Frame) (x y : Result (List ℕ) Fault) (picture : List ℕ)
+pub limit-passed : (settings : Settings) (frame : Frame) (x y : Result (List ℕ) Fault) (picture : List ℕ)
     → within settings frame x ≡ Ok picture → within settings frame y ≡ y
 limit-passed settings frame x y picture e =
     go (nat_lt settings.limit (length frame.components * (frame.output_width * frame.output_height))) e
@@ -548,9 +459,6 @@ nothing-fits : FoundFits nothing_found
 unfolding nothing_found nothing_said
 nothing-fits = record { frame = tt; samples = refl }
 
-some-same : (f g : Fault) → ◌≡◌ {A = Option Fault} (Some f) (Some g) → f ≡ g
-some-same f g e = cc
-
 -- by the end of the segments
 named-by : (settings : Settings) (bytes rest picture : List ℕ) (frame : Frame) (f : Fault) (found : Found)
     (ended : Result (List ℕ) Fault) → start_at bytes ≡ Ok (tt, rest) → all_brought nothing_found rest ≡ (found, ended)
@@ -559,13 +467,13 @@ named-by : (settings : Settings) (bytes rest picture : List ℕ) (frame : Frame)
 unfolding fault_shown
 named-by settings bytes rest picture frame f found (Err g) start walked framed shows fault =
     go (walk-fault (suc (length rest)) Elsewhere nothing_found None None rest rest f nothing-fits refl
-    (ap (λ (w : Walked). w.1) walked ∙ ap Err (some-same g f fault)))
+    (ap (λ (w : Walked). w.1) walked ∙ ap Err (some-is g f fault)))
   where
     go : WalkFault (walk (suc (length rest)) false Elsewhere nothing_found None rest)
         (SegmentsEndEarly Elsewhere nothing_found None rest) f → Named settings bytes f
-    go (as_shown e) = inl (meant-err settings bytes (tt, rest) f start (walked-err settings rest f e))
-    go (elsewhere y m) = inr ((rest, start, y), inl m)
-    go (breaking y m e) =
+    go (same e) = inl (meant-err settings bytes (tt, rest) f start (walked-err settings rest f e))
+    go (other y m) = inr ((rest, start, y), inl m)
+    go (refused y m e) =
         inr (
           (rest, start, y),
           inr (
@@ -574,6 +482,7 @@ named-by settings bytes rest picture frame f found (Err g) start walked framed s
                 (walked-err settings rest Malformed e),
           ),
         )
+    go (unmet m n) = absurd n
 named-by settings bytes rest picture frame f found (Ok left) start walked framed shows fault =
     let same = walk-read (suc (length rest)) Elsewhere nothing_found None None rest rest left nothing-fits refl
     (ap (λ (w : Walked). w.1) walked) ∙ ap (λ (w : Walked). (w.0, Ok left)) walked in
@@ -589,7 +498,7 @@ named-by settings bytes rest picture frame f found (Ok left) start walked framed
 
     lacking : (o : Result (List (List ℕ)) Fault) → fault_in o ≡ Some f → o ≡ Err f
     lacking (Ok x) h = absurd (let n : ⊥ = cc in n)
-    lacking (Err g) h = ap Err (some-same g f h)
+    lacking (Err g) h = ap Err (some-is g f h)
 
 -- The fault that is shown is that of the meaning, or the data of a scan end early.
 pub faults_are_the_meanings : (settings : Settings) (bytes : List ℕ) (s : Shown) (f : Fault)

@@ -4,10 +4,9 @@ use Rattle.std.proofs.Common.{ℤ, pos, refl, sym, ap, ◌∙◌, subst, Ok, Err
 use Rattle.std.specs.List.{AllByRecursion}
 use Rattle.std.proofs.lemmas.List.{take-map}
 use Rattle.std.proofs.lemmas.Simd.{map-map}
-use Rattle.jpeg_bits.specs.Reading.{Fault}
+use Rattle.jpeg_bits.specs.Reading.{Fault, End}
 use Rattle.jpeg_bits.specs.Reading as outcomes
 use Rattle.jpeg_bits.specs.Entropy.{Broken, Text, text_at}
-use Rattle.jpeg_bits.specs.Reading.{End}
 use Rattle.jpeg_bits.specs.Intervals.{first_group, other_groups}
 use Rattle.jpeg_bits.specs.Passes.{Block, Pass, Via, block_from, blocks_of, predictors_at_start}
 use Rattle.jpeg_bits.specs.Readers.{ReadsJust, text}
@@ -15,7 +14,7 @@ use Rattle.jpeg_bits.specs.Written.{marker}
 use Rattle.jpeg_bits.specs.declared.marker.Marker.TheVariants.{RST}
 use Rattle.jpeg_bits.proofs.ReadIntervals.{all-map, all-take}
 use Rattle.jpeg_bits.proofs.WrittenBits.{takes-as, takes-bind, takes-gives, takes-map}
-use Rattle.jpeg_bits.proofs.WrittenIntervals.{all-groups, first-map, others-map}
+use Rattle.jpeg_bits.proofs.WrittenIntervals.{all-groups}
 use Rattle.jpeg_segments.proofs.Codecs.{err-ok, ok-same}
 use Rattle.jpeg_streams.specs.Brought.{after_interval, interval_reached}
 use Rattle.jpeg_streams.specs.InTurn.{AreApart, IsIn, Reached, at_start, turns_from}
@@ -33,7 +32,8 @@ use Rattle.jpeg_evidence.proofs.LongerScans.{CanReach, CanReachOf}
 use Rattle.jpeg_evidence.proofs.LongerScans.CanReach.{here, later}
 use Rattle.jpeg_evidence.proofs.StandingBlocks.{turns-length}
 use Rattle.jpeg_evidence.proofs.StuffedTexts.{stuffed-begins}
-use Rattle.jpeg_evidence.proofs.WrittenCuts.{after_blocks, interval-written, restart-met, rst-marker, stays-ready}
+use Rattle.jpeg_evidence.proofs.WrittenCuts.{after_blocks, groups-are, interval-written, restart-met, rst-marker}
+use Rattle.jpeg_evidence.proofs.WrittenCuts.{stays-ready}
 
 -- ---- the blocks of an interval
 
@@ -85,20 +85,20 @@ in-arrays r y e = ap (λ (x : Arrays × Text). x.1) (ok-same (r.0.arrays, r.1) y
 
 -- The first blocks of an interval are read of the bits that they are written in.
 pub first-taken : (p : Pass) (vias : List Via) (spots : List Spot) (arrays : Arrays) (u : Spot → Block) (count : ℕ)
-    (bits tail : List Bool) → AreApart spots → AllByRecursion (IsReadyAt p vias arrays u) spots
+    (bits tail : List Bool) (ps : List (List ℕ)) → AreApart spots → AllByRecursion (IsReadyAt p vias arrays u) spots
     → WritesFirst p predictors_at_start 0 (take count (turns_of vias spots u)) bits
     → (r : Reached × Text)
-    × (turns_from p vias (take count spots) (at_start arrays) (text (bits ++ tail) [] (Broken End)) ≡ Ok r)
+    × (turns_from p vias (take count spots) (at_start arrays) (text (bits ++ tail) ps (Broken End)) ≡ Ok r)
     × (r.1.bits ≡ tail)
-first-taken p vias spots arrays u count bits tail apart ready coded =
+first-taken p vias spots arrays u count bits tail ps apart ready coded =
     let some = take count spots in
     let is_apart = apart-front some (drop count spots) (subst AreApart (sym (take-append-drop count spots)) apart) in
     let w = subst (λ (l : List (Via × Block)). WritesFirst p predictors_at_start 0 l bits)
     (turns-take vias spots u count) coded in
     let r = first-read p vias some arrays u bits (all-take (IsReadyAt p vias arrays u) count spots ready) w in
-    let e = in-turn p vias some arrays predictors_at_start 0 (text (bits ++ tail) [] (Broken End)) is_apart
-    ∙ ap (put_in some arrays) (r.read tail [] (Broken End)) in
-    let read = some-read (turns_from p vias some (at_start arrays) (text (bits ++ tail) [] (Broken End))) _ e in
+    let e = in-turn p vias some arrays predictors_at_start 0 (text (bits ++ tail) ps (Broken End)) is_apart
+    ∙ ap (put_in some arrays) (r.read tail ps (Broken End)) in
+    let read = some-read (turns_from p vias some (at_start arrays) (text (bits ++ tail) ps (Broken End))) _ e in
     (read.0, read.1, ap (λ (t : Text). t.bits) (in-arrays read.0 _ (sym (ap arrays_in read.1) ∙ e)))
 
 -- The first blocks of an interval, whose data stand in these bytes, can be read of them.
@@ -106,24 +106,19 @@ first-can : (p : Pass) (vias : List Via) (spots : List Spot) (arrays : Arrays) (
     (count : ℕ) → AreApart spots → AllByRecursion (IsReadyAt p vias arrays u) spots
     → BeginsInterval p (turns_of vias spots u) count bytes → CanReadOf p vias spots arrays bytes count
 first-can p vias spots arrays u bytes count apart ready b =
-    let some = take count spots in
-    let is_apart = apart-front some (drop count spots) (subst AreApart (sym (take-append-drop count spots)) apart) in
-    let w = subst (λ (l : List (Via × Block)). WritesFirst p predictors_at_start 0 l b.bits)
-    (turns-take vias spots u count) b.coded in
-    let r = first-read p vias some arrays u b.bits (all-take (IsReadyAt p vias arrays u) count spots ready) w in
     let t = stuffed-begins b.data_bytes b.more_bytes in
-    let tail = b.more_bits ++ t.others in
+    let left = (text_at b.more_bytes).bits in
+    let tail = b.more_bits ++ left in
     let bits : (text_at bytes).bits ≡ b.bits ++ tail
-    = ap (λ (l : List ℕ). (text_at l).bits) b.begins ∙ t.are ∙ ap (λ (l : List Bool). l ++ t.others) b.whole
-    ∙ append_assoc b.bits b.more_bits t.others in
+    = ap (λ (l : List ℕ). (text_at l).bits) b.begins ∙ t.are ∙ ap (λ (l : List Bool). l ++ left) b.whole
+    ∙ append_assoc b.bits b.more_bits left in
     record {
       are_there = subst (λ (n : ℕ). count ≤ n) (turns-length vias spots u) b.are_there;
       read = λ ps.
-          let read = some-read (turns_from p vias some (at_start arrays) (text (b.bits ++ tail) ps (Broken End))) _
-          (in-turn p vias some arrays predictors_at_start 0 (text (b.bits ++ tail) ps (Broken End)) is_apart
-          ∙ ap (put_in some arrays) (r.read tail ps (Broken End))) in (
+          let read = first-taken p vias spots arrays u count b.bits tail ps apart ready b.coded in (
             read.0,
-            ap (λ (l : List Bool). turns_from p vias some (at_start arrays) (text l ps (Broken End))) bits ∙ read.1,
+            ap (λ (l : List Bool). turns_from p vias (take count spots) (at_start arrays) (text l ps (Broken End))) bits
+                ∙ read.1,
           );
     }
 
@@ -161,29 +156,9 @@ first-reach p vias u k spots (next ∷ groups) arrays bytes count apart ready
     (subst (λ (a : Arrays). CanReach p vias (suc k) next groups a after count')
     (sym (ap (λ (q : Arrays × Met). q.0) is)) more))
 
-pub groups-begun : (vias : List Via) (spots : List Spot) (u : Spot → Block) (p : Pass) (n count : ℕ) (bytes : List ℕ)
-    → BeginsIntervals p 0 (turns_of vias (first_group n spots) u)
-    (map (λ (g : List Spot). turns_of vias g u) (other_groups n spots)) count bytes
-    → BeginsIntervals p 0 (first_group n (turns_of vias spots u)) (other_groups n (turns_of vias spots u)) count bytes
-unfolding turns_of
-groups-begun vias spots u p n count bytes w =
-    let turn : Spot → Via × Block = λ s. (via_at vias s.slot, u s) in
-    subst (λ (l : List (List (Via × Block))). BeginsIntervals p 0 (first_group n (map turn spots)) l count bytes)
-    (others-map turn n spots)
-    (subst (λ (l : List (Via × Block)). BeginsIntervals p 0 l
-    (map (λ (g : List Spot). map turn g) (other_groups n spots)) count bytes) (first-map turn n spots) w)
-
-groups-begin : (vias : List Via) (spots : List Spot) (u : Spot → Block) (p : Pass) (n count : ℕ) (bytes : List ℕ)
-    → BeginsIntervals p 0 (first_group n (turns_of vias spots u)) (other_groups n (turns_of vias spots u)) count bytes
-    → BeginsIntervals p 0 (turns_of vias (first_group n spots) u)
-    (map (λ (g : List Spot). turns_of vias g u) (other_groups n spots)) count bytes
-unfolding turns_of
-groups-begin vias spots u p n count bytes w =
-    let turn : Spot → Via × Block = λ s. (via_at vias s.slot, u s) in
-    subst (λ (l : List (Via × Block)). BeginsIntervals p 0 l
-    (map (λ (g : List Spot). map turn g) (other_groups n spots)) count bytes) (sym (first-map turn n spots))
-    (subst (λ (l : List (List (Via × Block))). BeginsIntervals p 0 (first_group n (map turn spots)) l count bytes)
-    (sym (others-map turn n spots)) w)
+-- the first blocks of groups of a scan's turns stand whole in these bytes
+abbrev pub BeginsGroups : Pass → ℕ → List ℕ → List (Via × Block) × List (List (Via × Block)) → Type 0
+BeginsGroups p count bytes groups = BeginsIntervals p 0 groups.0 groups.1 count bytes
 
 -- The first blocks of a scan, whose data stand whole in these bytes, can be read of them.
 pub first_blocks_are_reached : (p : Pass) (n : ℕ) (vias : List Via) (u : Spot → Block) (spots : List Spot)
@@ -195,4 +170,4 @@ first_blocks_are_reached p n vias u spots arrays bytes count apart ready w =
     let all = all-groups n spots in
     first-reach p vias u 0 (first_group n spots) (other_groups n spots) arrays bytes count
     (subst AreApart (sym all) apart) (λ s t. ready s (subst (λ (l : List Spot). IsIn s l) all t))
-    (groups-begin vias spots u p n count bytes w)
+    (subst (BeginsGroups p count bytes) (groups-are vias spots u n) w)

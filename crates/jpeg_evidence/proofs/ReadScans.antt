@@ -19,7 +19,7 @@ use Rattle.jpeg_evidence.specs.Strict.{others_read}
 use Rattle.jpeg_evidence.specs.Strict.IntervalsFit.{last, another}
 use Rattle.jpeg_bits.proofs.TakenTexts.{Taken, TakesBits, blocks-takes}
 use Rattle.jpeg_bits.proofs.TakenTexts.Taken.{gave, failed}
-use Rattle.jpeg_evidence.proofs.TakenBits.{no-error, ok-parts}
+use Rattle.jpeg_evidence.proofs.TakenBits.{no-error, ok-parts, some-is}
 use Rattle.jpeg_evidence.proofs.TakenScans.{another_interval, last_interval, interval_of_taken}
 
 -- An interval that fits is read, up to its marker.
@@ -81,9 +81,6 @@ after-first : (k : ℕ) (first blocks : List Block) (m n : Marker) (bytes rest :
     → with_others k others ((first, Some m), bytes) ≡ Ok ((blocks, Some n), rest)
     → AfterFirst k first blocks m n rest (others bytes)
 after-first k first blocks m n bytes rest others h = search (rules, scan-parts, restart-named)
-
-some-is : (m n : Marker) → Some m ≡ Some n → m ≡ n
-some-is m n h = cc
 
 -- The intervals of a scan that are read, and fit, are written for the blocks read.
 pub scan_written : (p : Pass) (k : ℕ) (turns : List (Via × Block)) (more : List (List (Via × Block)))

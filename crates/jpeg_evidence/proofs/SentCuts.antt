@@ -36,6 +36,31 @@ suits-kept p l c b range (inl k) =
     (suits-cut p l c range (range.count ∙ sym k.sized) k.legal)
 suits-kept p l c b range (inr d) = suits-dc p b c d.first d.end d.low range
 
+all-good : (ks : List Coding) → AllByRecursion (λ k. IsTable k.dc × IsTable k.ac) ks → AllByRecursion HasGood ks
+all-good [] h = tt
+all-good (k ∷ ks) h = (
+  record {
+    dc = good-table k.dc h.0.0.counted h.0.0.exists;
+    ac = good-table k.ac h.0.1.counted h.0.1.exists;
+  },
+  all-good ks h.1,
+)
+
+-- a block that is kept is ready for the pass
+pub kept-ready : (p : Pass) (codings : List Coding) (levels : Spot → Levels) (sent : Spot → Block) (before : Arrays)
+    (s : Spot) → AllByRecursion (λ k. IsTable k.dc × IsTable k.ac) codings → Is8Bit (sent s)
+    → IsKeptBefore p (levels s) (sent s) (block_at before s) ⊎ IsDcAlone p
+    → IsReadyAt p (vias_from 0 codings) before (λ s. numbers_at p.al (sent s)) s
+kept-ready p codings levels sent before s tables range kept =
+    let v = via-good codings s.slot (all-good codings tables) in
+    record {
+      at = record {
+        dc_good = v.dc;
+        ac_good = v.ac;
+        suits = suits-kept p (levels s) (sent s) (block_at before s) range kept;
+      };
+    }
+
 -- What the beginning of the data of a scan has of what was sent: as many blocks as this allows.
 pub record SentMost (P : ℕ → Type 0) (p : Pass) (spots : List Spot) (levels : Spot → Levels) (sent : Spot → Block)
     (before reached : Arrays) : Type 0 where
@@ -62,16 +87,8 @@ cut_scans_have_what_was_sent frame restart p codings array bytes w levels before
     let spots = spots_of frame (components_of codings) in
     let u : Spot → Block = λ s. numbers_at p.al (w.sent s) in
     let apart = spots-apart frame (components_of codings) fits in
-    let good = all-good codings tables in
-    let ready : (s : Spot) → IsIn s spots → IsReadyAt p vias before u s = λ s t.
-    let v = via-good codings s.slot good in
-    record {
-      at = record {
-        dc_good = v.dc;
-        ac_good = v.ac;
-        suits = suits-kept p (levels s) (w.sent s) (block_at before s) (w.in_range s) (kept s t);
-      };
-    } in
+    let ready : (s : Spot) → IsIn s spots → IsReadyAt p vias before u s
+    = λ s t. kept-ready p codings levels w.sent before s tables (w.in_range s) (kept s t) in
     let f : Spot → Block = λ s. after_pass p (block_at before s) (u s) in
     let all = whole-reached p n vias u spots before bytes apart ready w.coded in
     let end = more ++ marker 0 217 [] in
@@ -103,16 +120,6 @@ cut_scans_have_what_was_sent frame restart p codings array bytes w levels before
         most = λ count b. most.most count (first_blocks_are_reached p n vias u spots before front count apart ready b);
       };
     }
-  where
-    all-good : (ks : List Coding) → AllByRecursion (λ k. IsTable k.dc × IsTable k.ac) ks → AllByRecursion HasGood ks
-    all-good [] h = tt
-    all-good (k ∷ ks) h = (
-      record {
-        dc = good-table k.dc h.0.0.counted h.0.0.exists;
-        ac = good-table k.ac h.0.1.counted h.0.1.exists;
-      },
-      all-good ks h.1,
-    )
 
 -- Before a sequential scan zeros are kept, and after it the coefficients.
 complete-after : IsComplete (sent_after whole_pass nothing_sent)

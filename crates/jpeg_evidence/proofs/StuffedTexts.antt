@@ -5,45 +5,47 @@ use Rattle.std.proofs.lemmas.Bool.{eqb-true}
 use Rattle.jpeg_bits.specs.Entropy.{Text, add_byte, bits_of, text_at}
 use Rattle.jpeg_bits.specs.Written.{bits_of_bytes, stuffed}
 
--- a text that begins with these bits
-pub record TextBegins (t : Text) (bits : List Bool) : Type 0 where
-  pub others : List Bool
-  pub are : t.bits ≡ bits ++ others
+-- a text that begins with these bits, and goes on as another one
+pub record TextBegins (t : Text) (bits : List Bool) (rest : Text) : Type 0 where
+  pub are : t.bits ≡ bits ++ rest.bits
+  pub ends : t.ending ≡ rest.ending
 
-pub plain-text : (b : ℕ) (rest : List ℕ) → (b == 255) ≡ false → text_at (b ∷ rest) ≡ add_byte b rest (text_at rest)
+plain-text : (b : ℕ) (rest : List ℕ) → (b == 255) ≡ false → text_at (b ∷ rest) ≡ add_byte b rest (text_at rest)
 unfolding text_at
 plain-text b [] h = rw (h, text_at) refl
 plain-text b (c ∷ rest) h = rw (h, text_at) refl
 
-pub stuffed-byte : (rest : List ℕ) → text_at (255 ∷ 0 ∷ rest) ≡ add_byte 255 rest (text_at rest)
+stuffed-byte : (rest : List ℕ) → text_at (255 ∷ 0 ∷ rest) ≡ add_byte 255 rest (text_at rest)
 unfolding text_at
 stuffed-byte rest = refl
 
-byte-begins : (b : ℕ) (rest : List ℕ) (t : Text) (bits : List Bool) → TextBegins t bits
-    → TextBegins (add_byte b rest t) (bits_of b ++ bits)
-byte-begins b rest t bits h = record {
-  others = h.others;
-  are = ap (λ (l : List Bool). bits_of b ++ l) h.are ∙ sym (append_assoc (bits_of b) bits h.others);
+byte-begins : (b : ℕ) (rest : List ℕ) (t : Text) (bits : List Bool) (others : Text) → TextBegins t bits others
+    → TextBegins (add_byte b rest t) (bits_of b ++ bits) others
+byte-begins b rest t bits others h = record {
+  are = ap (λ (l : List Bool). bits_of b ++ l) h.are ∙ sym (append_assoc (bits_of b) bits others.bits);
+  ends = h.ends;
 }
 
 -- stuffed bytes begin a text with their bits
-pub stuffed-begins : (bytes more : List ℕ) → TextBegins (text_at (stuffed bytes ++ more)) (bits_of_bytes bytes)
+pub stuffed-begins : (bytes more : List ℕ)
+    → TextBegins (text_at (stuffed bytes ++ more)) (bits_of_bytes bytes) (text_at more)
 unfolding stuffed bits_of_bytes
-stuffed-begins [] more = record { others = (text_at more).bits; are = refl }
+stuffed-begins [] more = record { are = refl; ends = refl }
 stuffed-begins (b ∷ bytes) more = go (b == 255) refl (stuffed-begins bytes more)
   where
-    go : (t : Bool) → (b == 255) ≡ t → TextBegins (text_at (stuffed bytes ++ more)) (bits_of_bytes bytes)
+    go : (t : Bool) → (b == 255) ≡ t
+        → TextBegins (text_at (stuffed bytes ++ more)) (bits_of_bytes bytes) (text_at more)
         → TextBegins
         (text_at ((elim t as (λ _. List ℕ) [ true ↦ 255 ∷ 0 ∷ stuffed bytes | false ↦ b ∷ stuffed bytes ]) ++ more))
-        (bits_of b ++ bits_of_bytes bytes)
+        (bits_of b ++ bits_of_bytes bytes) (text_at more)
     go true e h =
         let rest = stuffed bytes ++ more in
-        subst (λ (c : ℕ). TextBegins (text_at (255 ∷ 0 ∷ rest)) (bits_of c ++ bits_of_bytes bytes))
+        subst (λ (c : ℕ). TextBegins (text_at (255 ∷ 0 ∷ rest)) (bits_of c ++ bits_of_bytes bytes) (text_at more))
         (sym (eqb-true b 255 e))
-        (rw (stuffed-byte rest) (byte-begins 255 rest (text_at rest) (bits_of_bytes bytes) h))
+        (rw (stuffed-byte rest) (byte-begins 255 rest (text_at rest) (bits_of_bytes bytes) (text_at more) h))
     go false e h =
         let rest = stuffed bytes ++ more in
-        rw (plain-text b rest e) (byte-begins b rest (text_at rest) (bits_of_bytes bytes) h)
+        rw (plain-text b rest e) (byte-begins b rest (text_at rest) (bits_of_bytes bytes) (text_at more) h)
 
 -- ---- whole bytes
 

@@ -151,10 +151,10 @@ number_taken {n} {v} {bits} {t} e =
 
 -- ---- codes
 
-some-is : {A : Type 0} (a b : A) → ◌≡◌ {A = Option A} (Some a) (Some b) → a ≡ b
+pub some-is : {A : Type 0} (a b : A) → ◌≡◌ {A = Option A} (Some a) (Some b) → a ≡ b
 some-is a b e = cc
 
-none-is : {A : Type 0} (a : A) → ◌≡◌ {A = Option A} None (Some a) → ⊥
+pub none-is : {A : Type 0} (a : A) → ◌≡◌ {A = Option A} None (Some a) → ⊥
 none-is a e = cc
 
 test-found : (test : ℕ → Bool) (a n i : ℕ) → first_from test a n ≡ Some i → (test i ≡ true) × (i < a + n)

@@ -3,7 +3,7 @@ use Rattle.std.proofs.Common.{◌≡◌, ℕ, ◌<◌, ◌≤◌, List, [], ◌�
 use Rattle.std.proofs.Common.{pow_pos, length-take, length-drop, append-nil}
 use Rattle.std.proofs.Math.Nat.{add-mul, mul-div_cancel, one-mul}
 use Rattle.std.proofs.lemmas.Bool.{cases_lt}
-use Rattle.std.proofs.lemmas.List.{take-append-le, take_all, drop_at, drop_all}
+use Rattle.std.proofs.lemmas.List.{take-append-le, take_all, drop_at, drop_all, nil_from_length}
 use Rattle.jpeg_bits.specs.Passes.{Pass, band_of, with_band}
 use Rattle.jpeg_streams.specs.Levels.{floor_at, toward_zero}
 use Rattle.jpeg_streams.proofs.SentBlocks.{scaled}
@@ -22,10 +22,6 @@ all-toward al (u ∷ us) = ap₂ (λ (x : ℤ) (xs : List ℤ). x ∷ xs) (towar
 
 -- ---- bands
 
-nil-of : (l : List ℤ) → length l ≡ 0 → l ≡ []
-nil-of [] h = refl
-nil-of (x ∷ l) h = absurd (omega arith)
-
 put-front : (s : ℕ) (band rest : List ℤ) → length band ≤ s → (length band < s → rest ≡ [])
     → take s (band ++ rest) ≡ band
 put-front s band rest h none = grind (arith, cases_lt, append-nil, take_all, take-append-le)
@@ -34,4 +30,4 @@ put-front s band rest h none = grind (arith, cases_lt, append-nil, take_all, tak
 pub band-put : (p : Pass) (acs band : List ℤ) → length band ≡ length (band_of p acs)
     → band_of p (with_band p acs band) ≡ band
 band-put p acs band h =
-    grind (arith, cases_lt, length-take, length-drop, nil-of, drop_all, append-nil, drop_at, put-front)
+    grind (arith, cases_lt, length-take, length-drop, nil_from_length, drop_all, append-nil, drop_at, put-front)

@@ -27,9 +27,8 @@ use Rattle.jpeg_streams.proofs.WrittenRefinements.{count-old, with_last-end, new
 use Rattle.jpeg_streams.proofs.WrittenRefinements.{through-other}
 use Rattle.jpeg_evidence.specs.Strict.{alone, IsCut, IsNumber, HasByteSymbols, count_zeros, PiecesFit}
 use Rattle.jpeg_evidence.specs.Strict.PiecesFit.{covered, new, zeros, last}
-use Rattle.jpeg_evidence.proofs.TakenBits.{number_taken, symbol_taken, after-read, bind-cut}
-use Rattle.jpeg_evidence.proofs.TakenBits.{if-read, gives-taken, ok-parts, no-error}
-use Rattle.jpeg_evidence.proofs.TakenBits.{map-taken, cut-then, After}
+use Rattle.jpeg_evidence.proofs.TakenBits.{number_taken, symbol_taken, after-read, bind-cut, if-read, gives-taken}
+use Rattle.jpeg_evidence.proofs.TakenBits.{ok-parts, no-error, map-taken, cut-then, After}
 use Rattle.jpeg_evidence.proofs.TakenBands.{run-small}
 
 -- ---- a coefficient
@@ -296,8 +295,7 @@ pub refined-taken : {table : Table} {al n : ℕ} {bits : List Bool} {y : Band} {
     → refined_ac table al n zs (alone bits) ≡ Ok (y, t) → IsCut (IsRefined table al zs y) bits t
 unfolding refined_ac refined_piece
 refined-taken {table} {al} zs is bytes kept (covered bits') le e = search (rules, gives-taken, refined)
-refined-taken {n = zero} zs is bytes kept (new r sign z rest front bits' one two more h small h1 h2 w) le e =
-    absurd (omega arith)
+refined-taken {n = zero} zs is bytes kept fits le e = absurd (omega arith)
 refined-taken {table} {al} {n = suc n} {bits} {t = t} zs is bytes kept (new r sign z rest front bits' one two more h small h1 h2 w) le e =
     let k = through_zero r (z ∷ rest) in
     let all = z ∷ rest in
@@ -310,7 +308,6 @@ refined-taken {table} {al} {n = suc n} {bits} {t = t} zs is bytes kept (new r si
     (λ m. refined-taken (drop k all) is bytes (all-drop (IsKept al) k all kept) w (drop-small n r z rest le))
     (λ m d D c C b B a A. found-refined table al r sign all front m a b c d bytes small A B C D)
     (after-read (corrected al (take k all)) _ h2 (after-read (bits_from 1) _ h1 (after-symbol table al n r 1 z rest bits one (omega arith) h e))))))
-refined-taken {n = zero} zs is bytes kept (zeros z rest front bits' one more h small h2 w) le e = absurd (omega arith)
 refined-taken {table} {al} {n = suc n} {bits} {t = t} zs is bytes kept (zeros z rest front bits' one more h small h2 w) le e =
     let k = through_zero 15 (z ∷ rest) in
     let all = z ∷ rest in
@@ -322,7 +319,6 @@ refined-taken {table} {al} {n = suc n} {bits} {t = t} zs is bytes kept (zeros z 
     (λ m d D c C a A. through-refined table al 15 (pos 0) a [] c d all front front m small C D (λ front e. e)
     (λ front more back none count. passed front a more back m.1 none count A))
     (after-read (corrected al (take k all)) _ h2 (after-symbol table al n 15 0 z rest bits one (omega arith) h e))))
-refined-taken {n = zero} zs is bytes kept (last r z rest bits' one h ne) le e = absurd (omega arith)
 refined-taken {table} {al} {n = suc n} {bits} zs is bytes kept (last r z rest bits' one h ne) le e =
     let all = z ∷ rest in
     cut-then (symbol_taken is h) (if-read (eqb r 15) _ _ (after-symbol table al n r 0 z rest bits one (omega arith) h e)

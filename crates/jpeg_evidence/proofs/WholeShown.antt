@@ -1,9 +1,9 @@
 -- A whole stream of a writer is shown whole: its picture is that of the array, and no fault is named.
-use Rattle.std.proofs.Common.{◌≡◌, ℕ, List, [], ◌++◌, length, Bool, true, false, Option, Some, None, Result, Ok, Err}
-use Rattle.std.proofs.Common.{refl, sym, ap, ◌∙◌, append_assoc, is_some, nat_lt, if◌then◌else◌}
-use Rattle.std.specs.Prelude.{◌*◌, slice_index_or}
+use Rattle.std.proofs.Common.{◌≡◌, ℕ, List, [], ◌++◌, true, Option, Some, None, Result, Ok}
+use Rattle.std.proofs.Common.{refl, sym, ap, ◌∙◌, append_assoc, is_some}
+use Rattle.std.specs.Prelude.{slice_index_or}
 use Rattle.std.specs.List.{enumerate_from}
-use Rattle.jpeg_bits.specs.Reading.{Fault, Malformed, Outcome, ◌>>=◌}
+use Rattle.jpeg_bits.specs.Reading.{Fault, Outcome, ◌>>=◌}
 use Rattle.jpeg_bits.specs.Written.{marker}
 use Rattle.jpeg_bits.specs.declared.marker.Marker.TheVariants.{EOI}
 use Rattle.jpeg_segments.specs.Checks.{gathered, needed}
@@ -26,13 +26,17 @@ use Rattle.jpeg_streams.specs.Stream.{Told, start_at, told_of}
 use Rattle.jpeg_streams.specs.WrittenImages.{ClosesImage, MayStandInImage, WritesImage, WritesImageScan, WritesPart}
 use Rattle.jpeg_streams.specs.WrittenScans.{Coefficients}
 use Rattle.jpeg_streams.specs.WrittenStreams.{Writes, end, scan, segment}
-use Rattle.jpeg_streams.proofs.CompletedPictures.{completed-same}
+use Rattle.jpeg_streams.proofs.CompletedPictures.{completed-same, limited-at}
 use Rattle.jpeg_streams.proofs.ReadTurns.{bind-ok, marker-append, next-marker, ok-same, scan-tail, segment-tail}
 use Rattle.jpeg_streams.proofs.ReadTurns.{then-ok}
 use Rattle.jpeg_streams.proofs.WalkedStreams.{beside}
 use Rattle.jpeg_streams.proofs.WrittenPictures.{ReadImage, bring, pictured}
-use Rattle.jpeg_evidence.proofs.CutHeld.{Walked, begins-end, end-brings, eoi_code, past-of, some-end}
-use Rattle.jpeg_evidence.proofs.CutWalks.{turn-at}
+use Rattle.jpeg_streams.proofs.Faultless.{Walked}
+use Rattle.jpeg_evidence.proofs.CutHeld.{begins-end, end-brings, last_turn}
+use Rattle.jpeg_evidence.proofs.CutScans.{past-of}
+use Rattle.jpeg_evidence.proofs.NamedFaults.{limit-passed}
+use Rattle.jpeg_evidence.proofs.CutWalks.{past-turn, turn-at}
+use Rattle.jpeg_evidence.proofs.WrittenCuts.{eoi_code}
 
 -- ---- the walk
 
@@ -110,8 +114,9 @@ whole-walked array range after rest final last w =
         framed = c.closes.is_said;
         ended = c.closes.ended;
       };
-      walked = ap (all_brought nothing_found) parts ∙ past.walked
-          ∙ some-end past.turns (length tail) past.before now past.met past.all rest past.room turn;
+      walked = ap (all_brought nothing_found) parts
+          ∙ (past-turn array range final last tail (all_brought nothing_found (c.front ++ tail)) past
+          (now, Ok (last_turn now, rest)) turn).1;
     }
 
 -- ---- the picture, and no fault
@@ -134,14 +139,9 @@ picture-found settings array final last r picture e =
 within-limit : (settings : Settings) (said : Said) (frame : Frame) (pictures : Frame → Result (List ℕ) Fault)
     (picture : List ℕ) → said.frame ≡ Some frame → limited settings said pictures ≡ Ok picture
     → pictures frame ≡ Ok picture
-unfolding limited
 within-limit settings said frame pictures picture f e =
-    go (nat_lt settings.limit (length frame.components * (frame.output_width * frame.output_height)))
-    (rw f at e)
-  where
-    go : (b : Bool) → (if b then Err Malformed else pictures frame) ≡ Ok picture → pictures frame ≡ Ok picture
-    go true e = absurd (let n : ⊥ = cc in n)
-    go false e = e
+    let is = sym (limited-at settings said frame pictures f) ∙ e in
+    sym (limit-passed settings frame (pictures frame) (pictures frame) picture is) ∙ is
 
 -- a picture is made of planes that are there
 planes-there : (settings : Settings) (found : Found) (frame : Frame) (process : CodingProcess) (picture : List ℕ)

@@ -1,6 +1,6 @@
 -- The data of a scan that were written are reached without a fault.
 use Rattle.std.proofs.Common.{◌≡◌, ◌+◌, ◌-◌, ◌%◌, ◌<◌, ℕ, suc, Bool, true, false, List, [], ◌∷◌, ◌++◌, length, map}
-use Rattle.std.proofs.Common.{refl, sym, ap, ◌∙◌, subst, arith, Ok, Err, Result, Option, Some, None, append_assoc}
+use Rattle.std.proofs.Common.{refl, sym, ap, ap₂, ◌∙◌, subst, arith, Ok, Err, Result, Option, Some, append_assoc}
 use Rattle.std.specs.Prelude.{nat_le}
 use Rattle.std.specs.List.{AllByRecursion}
 use Rattle.std.proofs.lemmas.Bool.{eq-eqb}
@@ -19,9 +19,9 @@ use Rattle.jpeg_bits.specs.declared.marker.Marker.{Marker}
 use Rattle.jpeg_bits.specs.declared.marker.Marker.TheVariants.{EOI, RST}
 use Rattle.jpeg_bits.proofs.ReadIntervals.{all-map}
 use Rattle.jpeg_bits.proofs.WrittenIntervals.{all-groups, first-map, marker-append, others-map, reads-interval}
-use Rattle.jpeg_segments.proofs.Codecs.{err-ok, ok-same}
-use Rattle.jpeg_streams.specs.Brought.{after_interval, after_intervals, interval_reached, intervals_reached}
-use Rattle.jpeg_streams.specs.Brought.{reached_from, scan_reached, sealed}
+use Rattle.jpeg_segments.proofs.Codecs.{bind-ok, err-ok, ok-same}
+use Rattle.jpeg_streams.specs.Brought.{after_interval, after_intervals, interval_end, interval_reached}
+use Rattle.jpeg_streams.specs.Brought.{intervals_reached, reached_from, scan_reached, sealed}
 use Rattle.jpeg_streams.specs.InTurn.{AreApart, IsIn, Reached, at_start, turn_from, turns_from}
 use Rattle.jpeg_streams.specs.Order.{Spot}
 use Rattle.jpeg_streams.specs.Scans.{Arrays, block_at, put_blocks, turns_of, via_at}
@@ -33,8 +33,10 @@ use Rattle.jpeg_streams.proofs.SentBlocks.{Suits, after_pass}
 use Rattle.jpeg_streams.proofs.WrittenBlocks.{IsReady, takes-blocks}
 use Rattle.jpeg_streams.proofs.WrittenFrameScans.{IsReadyAt, all-in, reads-arrays, start-predicts, turn_with}
 use Rattle.jpeg_evidence.proofs.LongerBlocks.{reached_are_read}
-use Rattle.jpeg_evidence.proofs.LongerData.{Met, interval_by}
+use Rattle.jpeg_evidence.proofs.LongerBits.{after_turn}
+use Rattle.jpeg_evidence.proofs.LongerData.{Met}
 use Rattle.jpeg_evidence.proofs.LongerScans.{next_reached}
+use Rattle.jpeg_evidence.proofs.TakenBits.{none-is}
 
 -- ---- an interval
 
@@ -83,10 +85,7 @@ turns-reached p vias (s ∷ spots) old t r e = go (turn_from p vias s old t) e
     go : (o : Result (Reached × Text) Fault) → read_on (turns_from p vias spots) o ≡ Ok r
         → ((x : Reached) (y : Text) → turns_from p vias spots x y ≡ Ok r
         → reached_from p vias spots x y ≡ (r.0, Ok r.1.bits))
-        → (elim o as (λ _. Reached × Result (List Bool) Fault) [
-          | Ok q ↦ reached_from p vias spots q.0 q.1
-          | Err fault ↦ (old, Err fault)
-        ]) ≡ (r.0, Ok r.1.bits)
+        → after_turn p vias spots old o ≡ (r.0, Ok r.1.bits)
     go (Ok q) h more = more q.0 q.1 h
     go (Err g) h more = absurd (err-ok g r h)
 
@@ -110,9 +109,6 @@ some-marker (Found n others) arrays x m rest h =
       ap (λ (y : (Arrays × Option Marker) × List ℕ). Ok (y.0.1, y.1)) s,
     )
 
-none-some : (m : Marker) → ◌≡◌ {A = Option Marker} None (Some m) → ⊥
-none-some m e = cc
-
 end-so : (k : ℕ) (bytes : List ℕ) (left : List Bool) (e : Ending) (arrays x : Arrays) (m : Marker) (rest : List ℕ)
     (small : Bool) → nat_le (length left) 56 ≡ small
     → outcomes.◌>>=◌ (end_after k bytes left e) (ended_with arrays)
@@ -122,8 +118,27 @@ unfolding end_after
 end-so k bytes left e arrays x m rest true s h =
     let q = some-marker e arrays x m rest (rw (s, end_after) at h) in (q.0, s, q.1)
 end-so k bytes left e arrays x m rest false s h =
-    absurd (none-some m (ap (λ (y : (Arrays × Option Marker) × List ℕ). y.0.1)
+    absurd (none-is m (ap (λ (y : (Arrays × Option Marker) × List ℕ). y.0.1)
     (ok-same _ ((x, Some m), rest) (rw (s, end_after) at h))))
+
+-- blocks that are read of bits alone are reached
+pub read-reached : (p : Pass) (vias : List Via) (spots : List Spot) (arrays : Arrays) (t : Text) (r : Arrays × Text)
+    → sealed_read p vias spots arrays t ≡ Ok r
+    → ((reached_from p vias spots (at_start arrays) (sealed t)).0.arrays ≡ r.0)
+    × ((reached_from p vias spots (at_start arrays) (sealed t)).1 ≡ Ok r.1.bits)
+read-reached p vias spots arrays t r h = go (turns_from p vias spots (at_start arrays) (sealed t)) refl h
+  where
+    go : (o : Result (Reached × Text) Fault) → turns_from p vias spots (at_start arrays) (sealed t) ≡ o
+        → restored t.ending (arrays_in o) ≡ Ok r
+        → ((reached_from p vias spots (at_start arrays) (sealed t)).0.arrays ≡ r.0)
+        × ((reached_from p vias spots (at_start arrays) (sealed t)).1 ≡ Ok r.1.bits)
+    go (Err g) a e = absurd (err-ok g r e)
+    go (Ok q) a e =
+        let is = turns-reached p vias spots (at_start arrays) (sealed t) q a in
+        let same = ok-same _ r e in (
+          ap (λ (y : Reached × Result (List Bool) Fault). y.0.arrays) is ∙ ap (λ (y : Arrays × Text). y.0) same,
+          ap (λ (y : Reached × Result (List Bool) Fault). y.1) is ∙ ap (λ (y : Arrays × Text). Ok y.1.bits) same,
+        )
 
 -- An interval of which the bits alone are read up to a marker is reached.
 interval-sealed : (p : Pass) (vias : List Via) (spots : List Spot) (arrays x : Arrays) (bytes rest : List ℕ) (m : Marker)
@@ -131,31 +146,15 @@ interval-sealed : (p : Pass) (vias : List Via) (spots : List Spot) (arrays x : A
     → interval_reached p vias spots arrays bytes ≡ (x, Ok ((true, Some m), rest))
 unfolding interval interval_reached
 interval-sealed p vias spots arrays x bytes rest m h =
-    go (turns_from p vias spots (at_start arrays) (sealed (text_at bytes))) refl (text_at bytes).ending h
-  where
-    go : (o : Result (Reached × Text) Fault)
-        → turns_from p vias spots (at_start arrays) (sealed (text_at bytes)) ≡ o → (e : Ending)
-        → outcomes.◌>>=◌ (restored e (arrays_in o)) (λ (r : Arrays × Text).
-        outcomes.◌>>=◌ (end_after (length (text_at bytes).bits - length r.1.bits) bytes r.1.bits e)
-        (ended_with r.0)) ≡ Ok ((x, Some m), rest)
-        → ◌≡◌ {A = Arrays × Met} (
-          (reached_from p vias spots (at_start arrays) (sealed (text_at bytes))).0.arrays,
-          interval_by e (reached_from p vias spots (at_start arrays) (sealed (text_at bytes))),
-        )
-        (x, Ok ((true, Some m), rest))
-    go (Err g) a e h = absurd (err-ok g _ h)
-    go (Ok r) a e h =
-        let is = turns-reached p vias spots (at_start arrays) (sealed (text_at bytes)) r a in
-        let q = end-so (length (text_at bytes).bits - length r.1.bits) bytes r.1.bits e r.0.arrays x m rest
-        (nat_le (length r.1.bits) 56) refl h in
-        ap (λ (y : Reached × Result (List Bool) Fault). (y.0.arrays, interval_by e y)) is
-        ∙ ap (λ (o : Outcome (Option Marker)). (
-          r.0.arrays,
-          outcomes.◌>>=◌ o
-              (tested_with (nat_le (length r.1.bits) 56)),
-        )) q.2
-        ∙ ap (λ (b : Bool). (r.0.arrays, Ok ((b, Some m), rest))) q.1
-        ∙ ap (λ (y : Arrays). (y, Ok ((true, Some m), rest))) q.0
+    let t = text_at bytes in
+    let r = bind-ok (sealed_read p vias spots arrays t) _ ((x, Some m), rest) h in
+    let left = r.0.1.bits in
+    let is = read-reached p vias spots arrays t r.0 r.1 in
+    let q = end-so (length t.bits - length left) bytes left t.ending r.0.0 x m rest (nat_le (length left) 56) refl
+    r.2 in
+    ap₂ (λ (a : Arrays) (o : Result (List Bool) Fault). (a, interval_end t.ending o)) is.0 is.1
+    ∙ ap (λ (o : Outcome (Option Marker)). (r.0.0, outcomes.◌>>=◌ o (tested_with (nat_le (length left) 56)))) q.2
+    ∙ ap₂ (λ (y : Arrays) (b : Bool). (y, Ok ((b, Some m), rest))) q.0 q.1
 
 pub interval-written : (p : Pass) (vias : List Via) (spots : List Spot) (arrays : Arrays) (u : Spot → Block) (bytes : List ℕ)
     (fill code : ℕ) (m : Marker) (rest : List ℕ) → AreApart spots → AllByRecursion (IsReadyAt p vias arrays u) spots
@@ -197,13 +196,13 @@ stays-ready p vias spots others arrays u apart ready s t =
       };
     }
 
-one-more : (k : ℕ) (r : Arrays × Met) (x : Arrays) (rest : List ℕ)
-    (reached : Arrays → List ℕ → Arrays × Outcome (Option Marker)) (y : Option Marker × List ℕ)
-    → r ≡ (x, Ok ((true, Some (RST (k % 8))), rest)) → (reached x rest).1 ≡ Ok y
-    → (next_reached reached r.0 (outcomes.◌>>=◌ r.1 (after_interval k))).1 ≡ Ok y
-one-more k r x rest reached y e h =
-    ap (λ (q : Arrays × Met). (next_reached reached q.0 (outcomes.◌>>=◌ q.1 (after_interval k))).1) e
-    ∙ ap (λ (o : Result (List ℕ) Fault). (next_reached reached x o).1) (restart-met k rest) ∙ h
+-- after an interval that ends with its restart marker
+pub one-more : (k : ℕ) (r : Arrays × Met) (x : Arrays) (rest : List ℕ)
+    (reached : Arrays → List ℕ → Arrays × Outcome (Option Marker)) → r ≡ (x, Ok ((true, Some (RST (k % 8))), rest))
+    → next_reached reached r.0 (outcomes.◌>>=◌ r.1 (after_interval k)) ≡ reached x rest
+one-more k r x rest reached e =
+    ap (λ (q : Arrays × Met). next_reached reached q.0 (outcomes.◌>>=◌ q.1 (after_interval k))) e
+    ∙ ap (next_reached reached x) (restart-met k rest)
 
 -- Written intervals are reached up to the marker after them.
 pub intervals-written : (p : Pass) (vias : List Via) (u : Spot → Block) (fill code : ℕ) (m : Marker) (rest : List ℕ)
@@ -229,28 +228,37 @@ intervals-written p vias u fill code m rest y is ends k spots (next ∷ groups) 
     ≡ first ++ marker fill' (0xD0 + k % 8) left
     = append_assoc first (marker fill' (0xD0 + k % 8) after) (marker fill code rest)
     ∙ ap (λ (l : List ℕ). first ++ l) (marker-append fill' (0xD0 + k % 8) after (marker fill code rest)) in
-    one-more k (interval_reached p vias spots arrays (bytes ++ marker fill code rest)) now left
-    (intervals_reached p vias (suc k) next groups) y
+    ap (λ (q : Arrays × Outcome (Option Marker)). q.1)
+    (one-more k (interval_reached p vias spots arrays (bytes ++ marker fill code rest)) now left
+    (intervals_reached p vias (suc k) next groups)
     (ap (interval_reached p vias spots arrays) parts
     ∙ interval-written p vias spots arrays u first fill' (0xD0 + k % 8) (RST (k % 8)) left
     (apart-front spots others apart)
-    (all-in (IsReadyAt p vias arrays u) spots (λ s t. ready s (in-front s spots others t))) (rst-marker k) w)
-    (intervals-written p vias u fill code m rest y is ends (suc k) next groups now after
+    (all-in (IsReadyAt p vias arrays u) spots (λ s t. ready s (in-front s spots others t))) (rst-marker k) w))
+    ∙ (intervals-written p vias u fill code m rest y is ends (suc k) next groups now after
     (apart-back spots others apart)
     (stays-ready p vias spots others arrays u apart ready) ws)
 
+-- the groups of a scan's turns are the turns of the groups of its spots
+pub groups-are : (vias : List Via) (spots : List Spot) (u : Spot → Block) (n : ℕ)
+    → ◌≡◌ {A = List (Via × Block) × List (List (Via × Block))}
+    (first_group n (turns_of vias spots u), other_groups n (turns_of vias spots u))
+    (turns_of vias (first_group n spots) u, map (λ (g : List Spot). turns_of vias g u) (other_groups n spots))
+unfolding turns_of
+groups-are vias spots u n =
+    let turn : Spot → Via × Block = λ s. (via_at vias s.slot, u s) in
+    ap₂ (λ (one : List (Via × Block)) (more : List (List (Via × Block))). (one, more)) (sym (first-map turn n spots))
+    (sym (others-map turn n spots))
+
+-- the intervals of a scan are those of its groups of spots
 pub groups-coded : (vias : List Via) (spots : List Spot) (u : Spot → Block) (p : Pass) (n : ℕ) (bytes : List ℕ)
     → WritesIntervals (WritesBlocks p predictors_at_start 0) 0 (first_group n (turns_of vias spots u))
     (other_groups n (turns_of vias spots u)) bytes
     → WritesIntervals (WritesBlocks p predictors_at_start 0) 0 (turns_of vias (first_group n spots) u)
     (map (λ (g : List Spot). turns_of vias g u) (other_groups n spots)) bytes
-unfolding turns_of
 groups-coded vias spots u p n bytes w =
-    let turn : Spot → Via × Block = λ s. (via_at vias s.slot, u s) in
-    subst (λ (l : List (Via × Block)). WritesIntervals (WritesBlocks p predictors_at_start 0) 0 l
-    (map (λ (g : List Spot). map turn g) (other_groups n spots)) bytes) (sym (first-map turn n spots))
-    (subst (λ (l : List (List (Via × Block))). WritesIntervals (WritesBlocks p predictors_at_start 0) 0
-    (first_group n (map turn spots)) l bytes) (sym (others-map turn n spots)) w)
+    subst (λ (g : List (Via × Block) × List (List (Via × Block))).
+    WritesIntervals (WritesBlocks p predictors_at_start 0) 0 g.0 g.1 bytes) (groups-are vias spots u n) w
 
 -- A written scan is reached up to the marker after it.
 pub scan-written : (p : Pass) (n : ℕ) (vias : List Via) (u : Spot → Block) (spots : List Spot) (arrays : Arrays)
@@ -267,13 +275,13 @@ scan-written p n vias u spots arrays bytes fill code m rest y is ends apart read
     (λ s t. ready s (subst (λ (l : List Spot). IsIn s l) all t))
     (groups-coded vias spots u p n bytes w)
 
-eoi : marker_of 217 ≡ Some EOI
+pub eoi_code : marker_of 217 ≡ Some EOI
 unfolding marker_of
-eoi = refl
+eoi_code = refl
 
-ends-there : after_restarts 1 (Some EOI) [] ≡ Ok (Some EOI, [])
+pub eoi_ends : after_restarts 1 (Some EOI) [] ≡ Ok (Some EOI, [])
 unfolding after_restarts
-ends-there = refl
+eoi_ends = refl
 
 -- the arrays after a written scan
 pub whole-reached : (p : Pass) (n : ℕ) (vias : List Via) (u : Spot → Block) (spots : List Spot) (arrays : Arrays)
@@ -282,9 +290,9 @@ pub whole-reached : (p : Pass) (n : ℕ) (vias : List Via) (u : Spot → Block) 
     (other_groups n (turns_of vias spots u)) bytes
     → (scan_reached p n vias spots arrays (bytes ++ marker 0 217 [])).0 ≡ after_blocks p u spots arrays
 whole-reached p n vias u spots arrays bytes apart ready w =
-    let is : IsMarker 217 EOI = record { is = eoi } in
+    let is : IsMarker 217 EOI = record { is = eoi_code } in
     let r = reached_are_read p n vias spots arrays (bytes ++ marker 0 217 []) (Some EOI, []) apart
-    (scan-written p n vias u spots arrays bytes 0 217 EOI [] (Some EOI, []) is ends-there apart ready w) in
+    (scan-written p n vias u spots arrays bytes 0 217 EOI [] (Some EOI, []) is eoi_ends apart ready w) in
     let q = reads-arrays p n vias spots arrays u bytes 0 217 EOI []
     (all-in (IsReadyAt p vias arrays u) spots (λ s t. ready s t)) is w in
     ap (λ (y : (Arrays × Option Marker) × List ℕ). y.0.0) (ok-same _ _ (sym r.2 ∙ q))
