@@ -194,7 +194,8 @@ class Decoder:
         self.stage = 'failed' if got[0] == 'err' else 'finished'
         if got[0] == 'err':
             return refusal_texts(got[1], False)
-        return ['%s%s, fault %s' % (self.size(), self.words(got[4]), fault_text(got[5]))]
+        said = self.size(), self.words(got[4]), got[6], fault_text(got[5])
+        return ['%s%s, rows %d, fault %s' % said]
 
     def words(self, picture):
         width, height = model.info(self.frame, self.scale_of_now())[:2]

@@ -568,8 +568,9 @@ def intervals(total, ri):
     return out + [total]
 
 
-def run_scan(r, mcus, ri, start, unit, is_sealed=False):
-    """cuts the MCUs into intervals; unit(text, mcu, state); returns the pending marker or None"""
+def run_scan(r, mcus, ri, start, unit, is_sealed=False, read=None):
+    """cuts the MCUs into intervals; unit(text, mcu, state); returns the pending marker or None. The
+    MCUs that were read go to the list read."""
     number, at = 0, 0
     parts = intervals(len(mcus), ri)
     for j, n in enumerate(parts):
@@ -577,6 +578,8 @@ def run_scan(r, mcus, ri, start, unit, is_sealed=False):
         state = start()
         for m in mcus[at : at + n]:
             unit(t, m, state)
+            if read is not None:
+                read.append(m)
         at += n
         marker, r.p = t.finish()
         is_near = t.left() <= 56
@@ -592,9 +595,10 @@ def run_scan(r, mcus, ri, start, unit, is_sealed=False):
     return marker
 
 
-def dct_scan(r, f, s, dc, ac, ri, blocks, is_sealed):
+def dct_scan(r, f, s, dc, ac, ri, blocks, is_sealed, b):
     """blocks: of each component of the scan the blocks held. Each is replaced as soon as all of it
-    is read, so that after a fault those before it are there."""
+    is read, so that after a fault those before it are there. b.rows gets the rows of the picture
+    that whole rows of MCUs make, if MCUs are lacking."""
     if len(s.comps) == 1:
         i = s.comps[0]
         c = f.comps[i]
@@ -635,7 +639,14 @@ def dct_scan(r, f, s, dc, ac, ri, blocks, is_sealed):
                     st['run'] = ac_refine(t, ac[s.ac[j]], block, s.ss, s.se, s.al, st['run'])
             blocks[i][at] = block
 
-    return run_scan(r, mcus, ri, start, unit, is_sealed)
+    read = []
+    try:
+        return run_scan(r, mcus, ri, start, unit, is_sealed, read)
+    except Refused:
+        if len(read) < len(mcus):
+            across, each = (wide, c.v) if len(s.comps) == 1 else (f.mcus[0], 1)
+            b.rows = len(read) // across * b.scale * f.vmax // each
+        raise
 
 
 def predict(ra, rb, rc, sel):
@@ -704,6 +715,10 @@ def lossless_scan(r, f, s, dc, ri, settings, b, is_sealed):
 
     try:
         return run_scan(r, mcus, ri, start, unit, is_sealed)
+    except Refused:
+        each = f.comps[s.comps[0]].v if len(s.comps) == 1 else 1
+        b.rows = whole[0] if settings.equal_factors else whole[0] * f.vmax // each
+        raise
     finally:
         for j, i in enumerate(s.comps):
             c = f.comps[i]
@@ -991,11 +1006,12 @@ def parse_app(r, n, st):
 
 class Brought:
     """What a stream has brought so far: the frame and its scale, the quantization tables, the
-    blocks that a progressive frame holds between scans, and the planes that are decided."""
+    blocks that a progressive frame holds between scans, the planes that are decided, and how many
+    rows a scan with a fault makes whole."""
 
     def __init__(self):
         self.frame, self.scale, self.qt = None, 8, [None] * 4
-        self.held, self.finished, self.planes = None, {}, {}
+        self.held, self.finished, self.planes, self.rows = None, {}, {}, None
 
     def zero_blocks(self, i):
         c = self.frame.comps[i]
@@ -1077,7 +1093,9 @@ def meaning(data, settings=None, trace=None):
 def shown(data, settings=None, trace=None):
     """What a stream with a fault shows. The blocks of a scan, or the rows of MCUs of a lossless one,
     count up to the first that lacks a bit or has a fault, where no zero bits follow the data; of any
-    other segment nothing counts unless all of it is there."""
+    other segment nothing counts unless all of it is there. After the picture and the fault stands
+    how many rows, from the top, come of rows of MCUs that each scan has wholly: none where a
+    component has no scan that the picture needs."""
     settings, st, b, fault = settings or Settings(), nothing_said(trace), Brought(), None
     try:
         read_segments(Bytes(data), settings, st, trace, b, True)
@@ -1087,10 +1105,12 @@ def shown(data, settings=None, trace=None):
         return ('err', fault)
     try:
         b.check_limit(settings)
+        height = info(b.frame, b.scale)[1]
+        rows = height if b.rows is None else min(b.rows, height)
         if not b.end():
-            fault = fault or 'Format'
+            fault, rows = fault or 'Format', 0
         b.complete()
-        return b.picture(settings, st) + (fault,)
+        return b.picture(settings, st) + (fault, rows)
     except Refused as e:
         return ('err', e.kind)
 
@@ -1139,7 +1159,7 @@ def read_segments(r, settings, st, trace, b, is_partial):
                     raise fmt(True)
                 blocks = b.blocks_for(s)
                 try:
-                    pending = dct_scan(r, f, s, dc, ac, ri, blocks, is_partial)
+                    pending = dct_scan(r, f, s, dc, ac, ri, blocks, is_partial, b)
                 finally:
                     # (of a scan that has a fault the blocks before it count)
                     b.finish(s, blocks)
@@ -1189,7 +1209,7 @@ def main():
         return 1
     sys.stdout.buffer.write(b'%d %d %s\n' % (got[1], got[2], got[3].encode()) + got[4])
     if is_partial:
-        print('model: fault %s' % (got[5] or 'none'), file=sys.stderr)
+        print('model: fault %s, rows %d' % (got[5] or 'none', got[6]), file=sys.stderr)
     return 0
 
 

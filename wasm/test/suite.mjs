@@ -69,9 +69,10 @@ function isPicture({ picture, pixels }, answer) {
     );
 }
 
-/* Whether what there is of a stream is that of an answer, and its fault too. */
+/* Whether what there is of a stream is that of an answer, and its fault too. (The module doesn't
+ * return how many rows are whole.) */
 function isPartial({ picture, pixels, fault }, answer) {
-    const [, whole, name] = answer.match(/^(.*), fault (.*)$/s);
+    const [, whole, name] = answer.match(/^(.*), rows \d+, fault (.*)$/s);
     const isFault = fault
         ? isRefusal({ refused: fault.message, error: fault }, `refused: ${name}`, false)
         : name === 'none';

@@ -234,9 +234,19 @@ fn answers_of(case: &Case<'_>, most: usize) -> Vec<String> {
     answers
 }
 
+/// What the suite has, without the number of rows of a partial picture that are whole, which the
+/// library doesn't return.
+fn without_rows(wanted: &str) -> String {
+    let parts = wanted.split_once(", rows ").and_then(|(picture, rest)| {
+        let (_, fault) = rest.split_once(", fault ")?;
+        Some(format!("{picture}, fault {fault}"))
+    });
+    parts.unwrap_or_else(|| wanted.to_string())
+}
+
 /// Whether an answer is what the suite has; the texts of the library end after 111 bytes.
 fn is_wanted(answer: &str, wanted: &str) -> bool {
-    let wanted = wanted.split(", bytes").next().unwrap();
+    let wanted = without_rows(wanted.split(", bytes").next().unwrap());
     answer == wanted || (answer.len() >= "refused: ".len() + 111 && wanted.starts_with(answer))
 }
 

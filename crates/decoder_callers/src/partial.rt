@@ -1,8 +1,9 @@
 //! Callers that ask for the picture that a stream has brought up to its first fault.
-ghost use Rattle.jpeg_decoder.specs.Shows.{ShowsJust};
+ghost use Rattle.jpeg_decoder.specs.Shows.{CountsRows, ShowsJust};
 ghost use Rattle.jpeg_streams.specs.Shown.{shown_ahead};
 ghost use Rattle.jpeg_streams.specs.States.{IsReading};
 ghost use Rattle.jpeg_streams.specs.Stream.{told_of};
+ghost use Rattle.jpeg_streams.specs.WholeRows.{whole_rows_ahead};
 
 use jpeg_decoder::error::Result;
 use jpeg_decoder::{Decoder, PartialPicture};
@@ -24,4 +25,22 @@ pub fn shown<R: Read + Drop>(decoder: &mut Decoder<R>) -> Result<PartialPicture>
         decoder.old.source result decoder.new.source (told_of decoder.new.found.said) }
 {
     partial_by_meaning(decoder)
+}
+
+/// Calls `Decoder::decode_partial`, and says how many rows of the picture are wholly there.
+pub fn partial_by_rows<R: Read + Drop>(decoder: &mut Decoder<R>) -> Result<PartialPicture>
+    ensures { IsReading decoder.old.stage → CountsRows (λ p. p.whole_rows)
+        (whole_rows_ahead decoder.old.stage decoder.old.found) decoder.old.source result
+        decoder.new.source }
+{
+    decoder.decode_partial()
+}
+
+/// Decodes in part by the clause `rows`.
+pub fn whole_rows<R: Read + Drop>(decoder: &mut Decoder<R>) -> Result<PartialPicture>
+    ensures { IsReading decoder.old.stage → CountsRows (λ p. p.whole_rows)
+        (whole_rows_ahead decoder.old.stage decoder.old.found) decoder.old.source result
+        decoder.new.source }
+{
+    partial_by_rows(decoder)
 }

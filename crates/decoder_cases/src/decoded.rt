@@ -64,7 +64,8 @@ pub fn refusal_text(alloc: Global, error: &Error, is_whole: bool) -> Result<Stri
     format!(in alloc; "refused: {text}")
 }
 
-/// Returns the words for a picture and the first fault of its stream.
+/// Returns the words for a picture, how many of its rows are wholly there, and the first fault of
+/// its stream.
 pub fn partial_text(
     alloc: Global,
     info: Option<ImageInfo>,
@@ -75,7 +76,8 @@ pub fn partial_text(
         Some(error) => error_text(alloc, error, false)?,
         None => String::from_str(alloc, "none")?,
     };
-    format!(in alloc; "{picture}, fault {fault}")
+    let rows = partial.whole_rows;
+    format!(in alloc; "{picture}, rows {rows}, fault {fault}")
 }
 
 /// Returns the words for the memory that a picture of `size` bytes was decoded into.

@@ -17,8 +17,9 @@
 //!     at 1/8, 1/4, 1/2, 1  `set_scale`: the size of the picture
 //!     decode               `decode`: the line that `run` writes before the pixels, and the pixels
 //!     refusal              `decode`, where a refusal is answered by its whole text
-//!     partial              `decode_partial`: the line and the pixels, as of `decode`, and after
-//!                          `, fault ` the text of the fault, or `none`
+//!     partial              `decode_partial`: the line and the pixels, as of `decode`; after
+//!                          `, rows ` its `whole_rows`; and after `, fault ` the text of the
+//!                          fault, or `none`
 //!     into BYTES           `decode_into`, with memory of that many bytes, each 07: how many were
 //!                          written, and the memory
 //!     info                 `info`, with the coding process; `precision`; and `decoding_bytes`:

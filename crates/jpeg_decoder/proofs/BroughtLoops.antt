@@ -14,11 +14,12 @@ use Rattle.jpeg_streams.specs.Found.{Found}
 use Rattle.jpeg_streams.specs.Segments.{Turn}
 use Rattle.jpeg_streams.specs.Sound.{IsSound}
 use Rattle.jpeg_streams.specs.States.{IfRefused, OnToldRefusal}
+use Rattle.jpeg_streams.specs.WholeRows.{rows_of_turn, rows_of_walk}
 use Rattle.jpeg_streams.proofs.ReadTurns.{Walked}
 use Rattle.jpeg_streams.proofs.Refusals.{told-err}
 use Rattle.jpeg_streams.proofs.Soundness.{sound_kept}
 use Rattle.jpeg_decoder.specs.Reaching.{OnFault, UnlessRefused, walk_end, without_tables}
-use Rattle.jpeg_decoder.proofs.BroughtTurns.{brought-takes, left_at, turn-unmarked}
+use Rattle.jpeg_decoder.proofs.BroughtTurns.{brought-takes, left_at, rows-unmarked, turn-unmarked}
 
 -- ---- what is found but for the tables
 
@@ -49,7 +50,7 @@ unless-any (Ok x) P h = h
 unless-any (Err e) P h = refused-any e P h
 
 -- where an error names the fault of a reading
-refused-at : {Y : Type 0} (e : Error) (outcome : Result Y Fault) (P Q : Type 0) → Names e outcome
+pub refused-at : {Y : Type 0} (e : Error) (outcome : Result Y Fault) (P Q : Type 0) → Names e outcome
     → ((f : Fault) → outcome ≡ Err f → P → Q) → IfRefused e P → IfRefused e Q
 refused-at e outcome P Q n f h = search rules
 
@@ -63,6 +64,11 @@ pub refusal-told : {X : Type 0} (old new : Stream) (r : Result X Error) (P : Typ
     → OnToldRefusal old new r P
 refusal-told old new (Ok x) P h = tt
 refusal-told old new (Err e) P h = λ _ _. h
+
+-- a fact that holds in any case
+pub refusal-any : {X : Type 0} (old new : Stream) (r : Result X Error) (P : Type 0) → P → OnToldRefusal old new r P
+refusal-any old new (Ok x) P h = tt
+refusal-any old new (Err e) P h = λ _ _. refused-any e P h
 
 -- ---- what stands after a marker
 
@@ -104,6 +110,19 @@ marked-found before found now met old mid new m after r P begins a f h =
       λ p. f p ∙ ap (λ (b : Brought). without_tables b.0) (sym (begins mid.bytes read.1)),
     )) h
 
+pub marked-rows : {X : Type 0} (found : Found) (met : Option Marker) (old mid new : Stream) (m : Marker)
+    (after : List ℕ → Option ℕ) (rows : Option ℕ) (r : Result X Error)
+    → ((rest : List ℕ) → found_or met old.bytes (next_marker old.bytes) ≡ Ok (m, rest)
+    → rows_of_turn found met old.bytes ≡ after rest)
+    → Answers (λ (m : Marker). m) (λ bytes. found_or met bytes (next_marker bytes)) old (Ok m) mid
+    → OnToldRefusal mid new r (rows ≡ after mid.bytes)
+    → OnToldRefusal old new r (rows ≡ rows_of_turn found met old.bytes)
+marked-rows found met old mid new m after rows r begins a h =
+    refusal-after old mid new r _ _ (λ k. let read = a.1 k in (
+      read.0,
+      λ is. is ∙ sym (begins mid.bytes read.1),
+    )) h
+
 -- no marker begins a turn
 pub unmarked-reads : {X : Type 0} (view : X → Turn) (before : Before) (found : Found) (met : Option Marker)
     (old new : Stream) (e : Error)
@@ -122,6 +141,13 @@ pub unmarked-found : (before : Before) (found : Found) (met : Option Marker) (ol
 unmarked-found before found met old new e a k known =
     told-err e (found_or met old.bytes (next_marker old.bytes)) _ (a.1 k known)
     (λ f q. ap (λ (b : Brought). without_tables b.0) (sym (turn-unmarked before found met old.bytes f q)))
+
+pub unmarked-rows : (found : Found) (met : Option Marker) (old new : Stream) (e : Error) (rows : Option ℕ)
+    → rows ≡ None → Answers (λ (m : Marker). m) (λ bytes. found_or met bytes (next_marker bytes)) old (Err e) new
+    → old.known ≡ true → new.known ≡ true → IfRefused e (rows ≡ rows_of_turn found met old.bytes)
+unmarked-rows found met old new e rows none a k known =
+    told-err e (found_or met old.bytes (next_marker old.bytes)) _ (a.1 k known)
+    (λ f q. none ∙ sym (rows-unmarked found met old.bytes f q))
 
 -- ---- a turn
 
@@ -143,6 +169,25 @@ brought-on : (turns : ℕ) (before : Before) (f : Found) (met : Option Marker) (
 unfolding walk_brought
 brought-on turns before f met all rest t e g = rw (e, walk_brought, g) refl
 
+-- the rows that are wholly there
+rows-refused : (turns : ℕ) (before : Before) (f : Found) (met : Option Marker) (all : List ℕ) (fault : Fault)
+    → (turn_brought before f met all).1 ≡ Err fault
+    → rows_of_walk (suc turns) before f met all ≡ rows_of_turn f met all
+unfolding rows_of_walk
+rows-refused turns before f met all fault e = rw (e, rows_of_walk) refl
+
+rows-end : (turns : ℕ) (before : Before) (f : Found) (met : Option Marker) (all rest : List ℕ) (t : Turn)
+    → (turn_brought before f met all).1 ≡ Ok (t, rest) → t.ended ≡ true
+    → rows_of_walk (suc turns) before f met all ≡ None
+unfolding rows_of_walk
+rows-end turns before f met all rest t e g = rw (e, rows_of_walk, g) refl
+
+rows-on : (turns : ℕ) (before : Before) (f : Found) (met : Option Marker) (all rest : List ℕ) (t : Turn)
+    → (turn_brought before f met all).1 ≡ Ok (t, rest) → t.ended ≡ false
+    → rows_of_walk (suc turns) before f met all ≡ rows_of_walk turns t.before t.found t.met rest
+unfolding rows_of_walk
+rows-on turns before f met all rest t e g = rw (e, rows_of_walk, g) refl
+
 -- ---- turns
 
 -- After these turns, what the bytes of old have brought is what those of new bring.
@@ -152,6 +197,8 @@ pub record IsBrought (found : Found) (old : Stream) (turns : ℕ) (before : Befo
   pub known : old.known ≡ true → new.known ≡ true
   pub walks : old.known ≡ true → (m : ℕ)
       → walk_brought (turns + m) Elsewhere found None old.bytes ≡ walk_brought m before now met new.bytes
+  pub rows : old.known ≡ true → (m : ℕ)
+      → rows_of_walk (turns + m) Elsewhere found None old.bytes ≡ rows_of_walk m before now met new.bytes
   pub took : old.known ≡ true → left_at met new.bytes + turns ≤ length old.bytes
 
 -- one more turn
@@ -167,20 +214,39 @@ brought-more found old turns before now met cur new t w on read = record {
       let one : turns + 1 + m ≡ turns + suc m = omega arith in
       ap (λ (n : ℕ). walk_brought n Elsewhere found None old.bytes) one ∙ w.walks k (suc m)
       ∙ brought-on m before now met cur.bytes new.bytes t (read.1 (w.known k)).1 on;
+  rows = λ k m.
+      let one : turns + 1 + m ≡ turns + suc m = omega arith in
+      ap (λ (n : ℕ). rows_of_walk n Elsewhere found None old.bytes) one ∙ w.rows k (suc m)
+      ∙ rows-on m before now met cur.bytes new.bytes t (read.1 (w.known k)).1 on;
   took = λ k. omega (arith, w.took k, takes k);
 }
   where
     takes : old.known ≡ true → left_at t.met new.bytes < left_at met cur.bytes
     takes k = brought-takes before now met cur.bytes (t, new.bytes) (read.1 (w.known k)).1 on
 
--- There were no more turns than bytes: what all bytes have brought goes on.
+-- There were no more turns than bytes.
+turns-left : {found : Found} {old : Stream} {turns : ℕ} {before : Before} {now : Found} {met : Option Marker}
+    {cur : Stream} → IsBrought found old turns before now met cur → old.known ≡ true
+    → suc (length old.bytes) ≡ turns + suc (length old.bytes - turns)
+turns-left w k = let few = w.took k in omega (arith, few)
+
+-- What all bytes have brought goes on.
 walk-left : {found : Found} {old : Stream} {turns : ℕ} {before : Before} {now : Found} {met : Option Marker}
     {cur : Stream} → IsBrought found old turns before now met cur → old.known ≡ true
     → all_brought found old.bytes ≡ walk_brought (suc (length old.bytes - turns)) before now met cur.bytes
 walk-left {found} {old} {turns} w k =
-    let few = w.took k in
-    let n : suc (length old.bytes) ≡ turns + suc (length old.bytes - turns) = omega (arith, few) in
-    ap (λ (n : ℕ). walk_brought n Elsewhere found None old.bytes) n ∙ w.walks k (suc (length old.bytes - turns))
+    ap (λ (n : ℕ). walk_brought n Elsewhere found None old.bytes) (turns-left w k)
+    ∙ w.walks k (suc (length old.bytes - turns))
+
+abbrev pub all_rows : Found → List ℕ → Option ℕ
+all_rows found bytes = rows_of_walk (suc (length bytes)) Elsewhere found None bytes
+
+rows-left : {found : Found} {old : Stream} {turns : ℕ} {before : Before} {now : Found} {met : Option Marker}
+    {cur : Stream} → IsBrought found old turns before now met cur → old.known ≡ true
+    → all_rows found old.bytes ≡ rows_of_walk (suc (length old.bytes - turns)) before now met cur.bytes
+rows-left {found} {old} {turns} w k =
+    ap (λ (n : ℕ). rows_of_walk n Elsewhere found None old.bytes) (turns-left w k)
+    ∙ w.rows k (suc (length old.bytes - turns))
 
 -- what all bytes have brought
 pub brought-whole : {found : Found} {old : Stream} {turns : ℕ} {before : Before} {now : Found} {met : Option Marker}
@@ -215,3 +281,23 @@ brought-found view found left old turns before now met cur new e w a h k known =
     (λ f q is. is ∙ ap (λ (w : Walked). without_tables w.0) (sym (brought-whole (turn.0, Err f) w
     (λ n. brought-refused n before now met cur.bytes f q) k)))
     (h (w.known k) known)) a
+
+-- the rows of a turn that is refused, and none where the image ends
+pub brought-rows : {X : Type 0} (view : X → Turn) (found : Found) (old : Stream) (turns : ℕ) (before : Before)
+    (now : Found) (met : Option Marker) (cur new : Stream) (e : Error) (rows : Option ℕ)
+    → IsBrought found old turns before now met cur
+    → IfRefused e (Answers view (λ bytes. (turn_brought before now met bytes).1) cur (Err e) new)
+    → (cur.known ≡ true → new.known ≡ true → IfRefused e (rows ≡ rows_of_turn now met cur.bytes))
+    → old.known ≡ true → new.known ≡ true → IfRefused e (rows ≡ all_rows found old.bytes)
+brought-rows view found old turns before now met cur new e rows w a h k known =
+    refused-then e _ _ (λ read. refused-at e (turn_brought before now met cur.bytes).1 _ _ (read.1 (w.known k) known)
+    (λ f q is. is ∙ sym (rows-left w k
+    ∙ rows-refused (length old.bytes - turns) before now met cur.bytes f q))
+    (h (w.known k) known)) a
+
+pub ended-rows : (found : Found) (old : Stream) (turns : ℕ) (before : Before) (now : Found) (met : Option Marker)
+    (cur : Stream) (rest : List ℕ) (t : Turn) (rows : Option ℕ) → IsBrought found old turns before now met cur
+    → (turn_brought before now met cur.bytes).1 ≡ Ok (t, rest) → t.ended ≡ true → rows ≡ None → old.known ≡ true
+    → rows ≡ all_rows found old.bytes
+ended-rows found old turns before now met cur rest t rows w e ended none k =
+    none ∙ sym (rows-left w k ∙ rows-end (length old.bytes - turns) before now met cur.bytes rest t e ended)

@@ -31,6 +31,7 @@ use Rattle.jpeg_streams.specs.Scans.{Arrays}
 use Rattle.jpeg_streams.specs.ScanSegments.{after_restarts, codings_of, scan_turn}
 use Rattle.jpeg_streams.specs.Segments.{Turn}
 use Rattle.jpeg_streams.specs.Stream.{segment_at}
+use Rattle.jpeg_streams.specs.WholeRows.{rows_of_scan, rows_of_segment, rows_of_turn}
 use Rattle.jpeg_streams.proofs.ReadTurns.{bind-ok, ok-same}
 use Rattle.jpeg_streams.proofs.Shorter.{LeavesBelow, below-at, below-err, below-more, below-ok, below-on, marker-below}
 use Rattle.jpeg_streams.proofs.Shorter.{sos-below}
@@ -276,3 +277,30 @@ pub turn-segment : (before : Before) (found : Found) (met : Option Marker) (byte
     → turn_brought before found met bytes ≡ (found, segment_at m before found rest)
 turn-segment before found met bytes rest m other e =
     turn-marked before found met bytes rest m e ∙ segment-other m before found rest other
+
+-- the rows that are wholly there, by what stands after the marker
+rows-marked : (found : Found) (met : Option Marker) (bytes rest : List ℕ) (m : Marker)
+    → found_or met bytes (next_marker bytes) ≡ Ok (m, rest)
+    → rows_of_turn found met bytes ≡ rows_of_segment m found rest
+unfolding rows_of_turn
+rows-marked found met bytes rest m e = rw (e, rows_of_turn) refl
+
+rows-other : (m : Marker) (found : Found) (bytes : List ℕ) → (m ≡ SOS → ⊥) → rows_of_segment m found bytes ≡ None
+rows-other SOS found bytes other = absurd (other refl)
+rows-other m found bytes other = refl
+
+pub rows-unmarked : (found : Found) (met : Option Marker) (bytes : List ℕ) (fault : Fault)
+    → found_or met bytes (next_marker bytes) ≡ Err fault → rows_of_turn found met bytes ≡ None
+unfolding rows_of_turn
+rows-unmarked found met bytes fault e = rw (e, rows_of_turn) refl
+
+pub rows-scan : (found : Found) (met : Option Marker) (bytes rest : List ℕ) (m : Marker) → m ≡ SOS
+    → found_or met bytes (next_marker bytes) ≡ Ok (m, rest)
+    → rows_of_turn found met bytes ≡ rows_of_scan found rest
+rows-scan found met bytes rest m is e =
+    rows-marked found met bytes rest m e ∙ ap (λ (m : Marker). rows_of_segment m found rest) is
+
+pub rows-segment : (found : Found) (met : Option Marker) (bytes rest : List ℕ) (m : Marker) → (m ≡ SOS → ⊥)
+    → found_or met bytes (next_marker bytes) ≡ Ok (m, rest) → rows_of_turn found met bytes ≡ None
+rows-segment found met bytes rest m other e =
+    rows-marked found met bytes rest m e ∙ rows-other m found rest other

@@ -166,7 +166,7 @@ same-restart k (markers.COM) = refl
 same-restart k (markers.TEM) = refl
 same-restart k (markers.RES) = refl
 
-numbered : (k number : ℕ) (m : Marker) → number ≡ k % 8 → is_restart number (Some m) ≡ is_restart k (Some m)
+pub numbered : (k number : ℕ) (m : Marker) → number ≡ k % 8 → is_restart number (Some m) ≡ is_restart k (Some m)
 numbered k number m is = ap (λ (n : ℕ). is_restart n (Some m)) is ∙ same-restart k m
 
 -- the next interval is reached, where the marker before it stands there

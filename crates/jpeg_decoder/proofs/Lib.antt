@@ -64,10 +64,13 @@ pub mod KeptScans
 pub mod KeptStrips
 pub mod JointStrips
 pub mod JointAdded
+pub mod RowsAbove
 pub mod ReachedBlocks
 pub mod ReachedIntervals
 pub mod GroupedScans
+pub mod UnreadIntervals
 pub mod RowIntervals
 pub mod ShownParts
 pub mod ShownFaults
+pub mod ShownRows
 pub mod ShownLines

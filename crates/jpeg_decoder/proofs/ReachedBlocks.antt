@@ -1,8 +1,8 @@
 -- Blocks as far as they can be read: they go by the bits of a text and its ending alone, and block by block.
 use Rattle.std.proofs.Common.{rules, ◌≡◌, ◌⊎◌, inl, inr, ℕ, zero, suc, ◌-◌, ◌<◌, ◌≤◌, ◌==◌, nat_le, ℤ, Bool}
 use Rattle.std.proofs.Common.{true, false, List, [], ◌∷◌, take, drop, set, get_or, length, length-drop, Option}
-use Rattle.std.proofs.Common.{Result, Ok, Err, refl, sym, ap, ◌∙◌, subst, arith}
-use Rattle.std.specs.Prelude.{MatchResult, is_some}
+use Rattle.std.proofs.Common.{None, Some, Result, Ok, Err, refl, sym, ap, ◌∙◌, subst, arith}
+use Rattle.std.specs.Prelude.{MatchResult, is_some, slice_get}
 use Rattle.std.proofs.lemmas.Bool.{false≢true, le-leb, lt-leb, ne_eqb}
 use Rattle.std.proofs.lemmas.Grind.{common_steps}
 use Rattle.std.proofs.Math.Seq.{map-set_same}
@@ -24,8 +24,11 @@ use Rattle.jpeg_streams.specs.InTurn.{Reached, turn_from}
 use Rattle.jpeg_streams.specs.Order.{Spot}
 use Rattle.jpeg_streams.specs.Scans.{Arrays}
 use Rattle.jpeg_streams.specs.States.{IfRefused}
+use Rattle.jpeg_streams.specs.WholeRows.{or_first, unread_from}
 use Rattle.jpeg_decoder.specs.Reaching.{IsAhead, TellsLeft}
 use Rattle.jpeg_decoder.specs.Scanning.{arrays_in, blocks_in}
+use Rattle.jpeg_decoder.specs.Walk.{NextSpot}
+use Rattle.jpeg_decoder.specs.declared.scan.spots.Spot as taken
 use Rattle.jpeg_decoder.proofs.BlockArrays.{Held, seen, seen-is, with_block}
 use Rattle.jpeg_decoder.proofs.KeptScans.{kept_reached, kept_read}
 
@@ -33,57 +36,84 @@ pub turn-takes : (p : Pass) (vias : List Via) (s : Spot) (old : Reached) → Tak
 unfolding turn_from
 turn-takes p vias s old = search (rules, bind-takes, block-takes, gives-takes)
 
--- what is reached after the next block
-abbrev pub after_turn : Pass → List Via → List Spot → Reached → Result (Reached × Text) Fault
+-- what is reached, the bits that are left or the fault, and the first block that isn't read
+abbrev pub Read : Type 0
+Read = (Reached × Result (List Bool) Fault) × Option Spot
+
+abbrev pub read_from : Pass → List Via → List Spot → Reached → Text → Read
+read_from p vias spots old t = (reached_from p vias spots old t, unread_from p vias spots old t)
+
+-- after the next block
+abbrev reached_after : Pass → List Via → List Spot → Reached → Result (Reached × Text) Fault
     → Reached × Result (List Bool) Fault
-after_turn p vias spots old o = elim o [
+reached_after p vias spots old o = elim o [
   | Ok r ↦ reached_from p vias spots r.0 r.1
   | Err fault ↦ (old, Err fault)
 ]
 
-pub reached-next : (p : Pass) (vias : List Via) (s : Spot) (spots : List Spot) (old : Reached) (t : Text)
-    → reached_from p vias (s ∷ spots) old t ≡ after_turn p vias spots old (turn_from p vias s old t)
-unfolding reached_from
-reached-next p vias s spots old t = refl
+abbrev unread_after : Pass → List Via → Spot → List Spot → Result (Reached × Text) Fault → Option Spot
+unread_after p vias s spots o = elim o [
+  | Ok r ↦ unread_from p vias spots r.0 r.1
+  | Err fault ↦ Some s
+]
 
-pub reached-none : (p : Pass) (vias : List Via) (old : Reached) (t : Text)
-    → reached_from p vias [] old t ≡ (old, Ok t.bits)
-unfolding reached_from
-reached-none p vias old t = refl
+abbrev pub after_turn : Pass → List Via → Spot → List Spot → Reached → Result (Reached × Text) Fault → Read
+after_turn p vias s spots old o = elim o [
+  | Ok r ↦ read_from p vias spots r.0 r.1
+  | Err fault ↦ ((old, Err fault), Some s)
+]
+
+after-both : (p : Pass) (vias : List Via) (s : Spot) (spots : List Spot) (old : Reached)
+    (o : Result (Reached × Text) Fault)
+    → ◌≡◌ {A = Read} (reached_after p vias spots old o, unread_after p vias s spots o)
+    (after_turn p vias s spots old o)
+after-both p vias s spots old (Ok r) = refl
+after-both p vias s spots old (Err fault) = refl
+
+pub read-next : (p : Pass) (vias : List Via) (s : Spot) (spots : List Spot) (old : Reached) (t : Text)
+    → ◌≡◌ {A = Read} (read_from p vias (s ∷ spots) old t)
+    (after_turn p vias s spots old (turn_from p vias s old t))
+unfolding reached_from unread_from
+read-next p vias s spots old t = after-both p vias s spots old (turn_from p vias s old t)
+
+pub read-none : (p : Pass) (vias : List Via) (old : Reached) (t : Text)
+    → ◌≡◌ {A = Read} (read_from p vias [] old t) ((old, Ok t.bits), None)
+unfolding reached_from unread_from
+read-none p vias old t = refl
 
 turn-alike : (p : Pass) (vias : List Via) (s : Spot) (spots : List Spot) (old : Reached) (bits : List Bool)
     (e : Ending) (ps qs : List (List ℕ)) → Taken (turn_from p vias s old) bits e
     → ((new : Reached) (left : List Bool) (ps qs : List (List ℕ))
-    → reached_from p vias spots new (text left ps e) ≡ reached_from p vias spots new (text left qs e))
-    → after_turn p vias spots old (turn_from p vias s old (text bits ps e))
-    ≡ after_turn p vias spots old (turn_from p vias s old (text bits qs e))
+    → ◌≡◌ {A = Read} (read_from p vias spots new (text left ps e)) (read_from p vias spots new (text left qs e)))
+    → after_turn p vias s spots old (turn_from p vias s old (text bits ps e))
+    ≡ after_turn p vias s spots old (turn_from p vias s old (text bits qs e))
 turn-alike p vias s spots old bits e ps qs (failed g is) others =
-    ap (after_turn p vias spots old) (is ps ∙ sym (is qs))
+    ap (after_turn p vias s spots old) (is ps ∙ sym (is qs))
 turn-alike p vias s spots old bits e ps qs (gave n x is) others =
-    ap (after_turn p vias spots old) (is e ps (inl refl)) ∙ others x (drop n bits) (drop n ps) (drop n qs)
-    ∙ sym (ap (after_turn p vias spots old) (is e qs (inl refl)))
+    ap (after_turn p vias s spots old) (is e ps (inl refl)) ∙ others x (drop n bits) (drop n ps) (drop n qs)
+    ∙ sym (ap (after_turn p vias s spots old) (is e qs (inl refl)))
 
 -- whatever follows the bits
 followed-alike : (p : Pass) (vias : List Via) (spots : List Spot) (old : Reached) (bits : List Bool)
     (e : Ending) (ps qs : List (List ℕ))
-    → reached_from p vias spots old (text bits ps e) ≡ reached_from p vias spots old (text bits qs e)
+    → ◌≡◌ {A = Read} (read_from p vias spots old (text bits ps e)) (read_from p vias spots old (text bits qs e))
 unfolding TakesBits
 followed-alike p vias [] old bits e ps qs =
-    reached-none p vias old (text bits ps e) ∙ sym (reached-none p vias old (text bits qs e))
+    read-none p vias old (text bits ps e) ∙ sym (read-none p vias old (text bits qs e))
 followed-alike p vias (s ∷ spots) old bits e ps qs =
-    reached-next p vias s spots old (text bits ps e)
+    read-next p vias s spots old (text bits ps e)
     ∙ turn-alike p vias s spots old bits e ps qs (turn-takes p vias s old bits e)
     (λ new left qs rs. followed-alike p vias spots new left e qs rs)
-    ∙ sym (reached-next p vias s spots old (text bits qs e))
+    ∙ sym (read-next p vias s spots old (text bits qs e))
 
 -- the same bits and the same ending
-pub reached-alike : (p : Pass) (vias : List Via) (spots : List Spot) (old : Reached) (t u : Text)
+pub read-alike : (p : Pass) (vias : List Via) (spots : List Spot) (old : Reached) (t u : Text)
     → t.bits ≡ u.bits → t.ending ≡ u.ending
-    → reached_from p vias spots old t ≡ reached_from p vias spots old u
-reached-alike p vias spots old t u b e =
+    → ◌≡◌ {A = Read} (read_from p vias spots old t) (read_from p vias spots old u)
+read-alike p vias spots old t u b e =
     followed-alike p vias spots old t.bits t.ending t.following u.following
-    ∙ ap (λ (bits : List Bool). reached_from p vias spots old (text bits u.following t.ending)) b
-    ∙ ap (λ (end : Ending). reached_from p vias spots old (text u.bits u.following end)) e
+    ∙ ap (λ (bits : List Bool). read_from p vias spots old (text bits u.following t.ending)) b
+    ∙ ap (λ (end : Ending). read_from p vias spots old (text u.bits u.following end)) e
 
 -- ---- block by block
 
@@ -143,37 +173,55 @@ first-end n left xs e = ap (first_left n left) e ∙ first-empty n left
 
 -- where no block is left of a group
 pub group-none : (p : Pass) (vias : List Via) (spots : List Spot) (old : Reached) (t : Text)
-    → spots ≡ [] → reached_from p vias spots old t ≡ (old, Ok t.bits)
+    → spots ≡ [] → ◌≡◌ {A = Read} (read_from p vias spots old t) ((old, Ok t.bits), None)
 group-none p vias spots old t e =
-    ap (λ (l : List Spot). reached_from p vias l old t) e ∙ reached-none p vias old t
+    ap (λ (l : List Spot). read_from p vias l old t) e ∙ read-none p vias old t
 
 group-turn : (p : Pass) (vias : List Via) (n left : ℕ) (spots others : List Spot) (s : Spot) (c : Carried)
     (a b : Arrays) (t : Text) → spots ≡ s ∷ others → b ≡ a → n ≡ 0 ⊎ 0 < left
-    → reached_from p vias (first_left n left spots) (carried_on c a) t
-    ≡ after_turn p vias (first_left n (left - 1) others) (carried_on c b) (turn_from p vias s (carried_on c b) t)
+    → ◌≡◌ {A = Read} (read_from p vias (first_left n left spots) (carried_on c a) t)
+    (after_turn p vias s (first_left n (left - 1) others) (carried_on c b) (turn_from p vias s (carried_on c b) t))
 group-turn p vias n left spots others s c a b t e f h =
-    ap (λ (l : List Spot). reached_from p vias l (carried_on c a) t)
+    ap (λ (l : List Spot). read_from p vias l (carried_on c a) t)
     (ap (first_left n left) e ∙ first-some n left s others h)
-    ∙ ap (λ (x : Arrays). reached_from p vias (s ∷ first_left n (left - 1) others) (carried_on c x) t) (sym f)
-    ∙ reached-next p vias s (first_left n (left - 1) others) (carried_on c b) t
+    ∙ ap (λ (x : Arrays). read_from p vias (s ∷ first_left n (left - 1) others) (carried_on c x) t) (sym f)
+    ∙ read-next p vias s (first_left n (left - 1) others) (carried_on c b) t
 
 -- what is left of a group after its next block, or where that is refused
 pub group-next : (p : Pass) (vias : List Via) (n left : ℕ) (spots others : List Spot) (s : Spot) (c : Carried)
     (a b : Arrays) (t : Text) (new : Reached) (u : Text) → spots ≡ s ∷ others → b ≡ a → n ≡ 0 ⊎ 0 < left
     → turn_from p vias s (carried_on c b) t ≡ Ok (new, u)
-    → reached_from p vias (first_left n left spots) (carried_on c a) t
-    ≡ reached_from p vias (first_left n (left - 1) others) new u
+    → ◌≡◌ {A = Read} (read_from p vias (first_left n left spots) (carried_on c a) t)
+    (read_from p vias (first_left n (left - 1) others) new u)
 group-next p vias n left spots others s c a b t new u e f h k =
     group-turn p vias n left spots others s c a b t e f h
-    ∙ ap (after_turn p vias (first_left n (left - 1) others) (carried_on c b)) k
+    ∙ ap (after_turn p vias s (first_left n (left - 1) others) (carried_on c b)) k
 
 pub group-refused : (p : Pass) (vias : List Via) (n left : ℕ) (spots others : List Spot) (s : Spot) (c : Carried)
     (a b : Arrays) (t : Text) (f : Fault) → spots ≡ s ∷ others → b ≡ a → n ≡ 0 ⊎ 0 < left
     → turn_from p vias s (carried_on c b) t ≡ Err f
-    → reached_from p vias (first_left n left spots) (carried_on c a) t ≡ (carried_on c b, Err f)
+    → ◌≡◌ {A = Read} (read_from p vias (first_left n left spots) (carried_on c a) t) ((carried_on c b, Err f), Some s)
 group-refused p vias n left spots others s c a b t g e f h k =
     group-turn p vias n left spots others s c a b t e f h
-    ∙ ap (after_turn p vias (first_left n (left - 1) others) (carried_on c b)) k
+    ∙ ap (after_turn p vias s (first_left n (left - 1) others) (carried_on c b)) k
+
+-- Where no block is left of a group, the first that isn't read is the first after it.
+pub unread-none : (unread : Option Spot) (spots left : List Spot) → unread ≡ None → spots ≡ left
+    → slice_get left 0 ≡ or_first unread spots
+unread-none unread spots left e f =
+    ap (λ (l : List Spot). slice_get l 0) (sym f) ∙ ap (λ (o : Option Spot). or_first o spots) (sym e)
+
+-- Where one is refused, it is that.
+pub unread-refused : (unread : Option Spot) (spots left others : List Spot) (s : Spot) → unread ≡ Some s
+    → left ≡ s ∷ others → slice_get left 0 ≡ or_first unread spots
+unread-refused unread spots left others s e f =
+    ap (λ (l : List Spot). slice_get l 0) f ∙ ap (λ (o : Option Spot). or_first o spots) (sym e)
+
+-- what is left where a block was taken
+pub taken-left : (spots cur new : List Spot) (r : Option taken.Spot) → cur ≡ spots → NextSpot cur r new
+    → new ≡ drop 1 spots
+taken-left spots cur new None e h = h.1 ∙ ap (drop 1) (sym h.0 ∙ e)
+taken-left spots cur new (Some x) e h = ap (drop 1) (sym h ∙ e)
 
 -- a turn of which all is kept
 pub turn-read : (keeps : Bool) (o : Result (Reached × Text) Fault) (r : Reached) (u : Text) → keeps ≡ true
@@ -261,12 +309,12 @@ ahead-fresh bytes =
 
 pub start-alike : (p : Pass) (vias : List Via) (spots : List Spot) (old : Reached) (a : Ahead) (bytes there : List ℕ)
     → a ≡ fresh → bytes ≡ there
-    → reached_from p vias spots old (upcoming a bytes) ≡ reached_from p vias spots old (text_at there)
+    → ◌≡◌ {A = Read} (read_from p vias spots old (upcoming a bytes)) (read_from p vias spots old (text_at there))
 unfolding upcoming
 start-alike p vias spots old a bytes there e f =
-    ap (λ (x : Ahead). reached_from p vias spots old (upcoming x bytes)) e
-    ∙ ap (λ (l : List ℕ). reached_from p vias spots old (upcoming fresh l)) f
-    ∙ reached-alike p vias spots old (upcoming fresh there) (text_at there) refl refl
+    ap (λ (x : Ahead). read_from p vias spots old (upcoming x bytes)) e
+    ∙ ap (λ (l : List ℕ). read_from p vias spots old (upcoming fresh l)) f
+    ∙ read-alike p vias spots old (upcoming fresh there) (text_at there) refl refl
 
 -- whether the end is met, of what follows
 pub met-near : (t : Text) (m : Option Marker) (rest : List ℕ) → IsAhead t → marker_from t ≡ Ok (m, rest)

@@ -2,6 +2,7 @@
 -- the blocks that are taken for a scan, and put back.
 use Rattle.std.proofs.Common.{◌≡◌, ◌*◌, ◌∙◌, Bool, true, false, ℕ, List, length, map, Option, Result, Ok, Err}
 use Rattle.std.proofs.Common.{refl, sym, ap, arith}
+use Rattle.std.specs.Prelude.{option_map}
 use Rattle.std.specs.List.{AllByRecursion}
 use Rattle.std.proofs.lemmas.Grind.{common_steps}
 use Rattle.std.proofs.lemmas.List.{length-map}
@@ -21,6 +22,7 @@ use Rattle.jpeg_streams.specs.Scans.{Arrays}
 use Rattle.jpeg_streams.specs.ScanSegments.{arrays_before, blocks_after, components_of, is_progressive}
 use Rattle.jpeg_streams.specs.ScanSegments.{once_scanned, put_arrays, vias_from, with_arrays, Coding}
 use Rattle.jpeg_streams.specs.States.{IfRefused, OnTold}
+use Rattle.jpeg_streams.specs.WholeRows.{rows_above, rows_of_codings, unread_of_scan}
 use Rattle.jpeg_streams.proofs.Apart.{zeros-sized}
 use Rattle.jpeg_streams.proofs.McuRows.{arrays-sized, kept-sized}
 use Rattle.jpeg_decoder.specs.declared.scan.coded.Coded.{Coded}
@@ -107,6 +109,17 @@ reached-answers f frame scan arrays old new r n is h =
     (spots_of frame (components_in scan.components.items)) arrays bytes).1)
     (λ bytes. (data_reached f frame (pass_in scan.pass) (map coding_in scan.components.items) bytes).1) old new r
     (ap (λ (r : Arrays × Outcome (Option Marker)). r.1) same ∙ sym marker) h)
+
+-- the rows of the picture that are wholly there, as the code counts them
+pub rows-as : (f : Found) (frame : Frame) (scan : Scan) (arrays : Arrays) (bytes : List ℕ)
+    → scan.restart_interval ≡ f.said.restart
+    → arrays ≡ blocks_at (map coding_in scan.components.items) (arrays_before f frame)
+    → option_map (rows_above frame (components_in scan.components.items)) (unread_of_scan (pass_in scan.pass)
+    (scan.restart_interval * mcu_size (components_in scan.components.items)) (vias_in 0 scan.components.items)
+    (spots_of frame (components_in scan.components.items)) arrays bytes)
+    ≡ rows_of_codings f frame (pass_in scan.pass) (map coding_in scan.components.items) bytes
+unfolding rows_of_codings
+rows-as f frame scan arrays bytes n is = grind (arith, common_steps, vias-same, coded-components)
 
 data-found : (f : Found) (frame : Frame) (p : Pass) (codings : List Coding) (bytes : List ℕ)
     → (data_reached f frame p codings bytes).0 ≡ with_arrays p codings (reached_at f frame p codings bytes).0

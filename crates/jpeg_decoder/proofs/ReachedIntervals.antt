@@ -19,10 +19,11 @@ use Rattle.jpeg_streams.specs.InTurn.{Reached, at_start}
 use Rattle.jpeg_streams.specs.Order.{Spot}
 use Rattle.jpeg_streams.specs.Scans.{Arrays}
 use Rattle.jpeg_streams.specs.States.{IfRefused, OnTold}
+use Rattle.jpeg_streams.specs.WholeRows.{unread_from}
 use Rattle.jpeg_decoder.specs.Reaching.{HasBits, IsBefore, IsIntervalEnd, IsOfData, IsRefusalAt, TellsLeft}
 use Rattle.jpeg_decoder.specs.Reaching.{UnlessRefused, first_of}
 use Rattle.jpeg_decoder.proofs.GatheredData.{if-refused}
-use Rattle.jpeg_decoder.proofs.ReachedBlocks.{reached-alike}
+use Rattle.jpeg_decoder.proofs.ReachedBlocks.{Read, read-alike, read_from}
 
 -- ---- what an interval is, by its blocks and how its data end
 
@@ -36,18 +37,29 @@ outcome_by r e = or_fault_at e r >>= is_near e
 abbrev pub read_of : Pass → List Via → List Spot → Arrays → List ℕ → Reached × Result (List Bool) Fault
 read_of p vias spots arrays front = reached_from p vias spots (at_start arrays) (text_at front)
 
+-- the first block that isn't read of the interval that begins some bytes
+abbrev pub unread_of : Pass → List Via → List Spot → Arrays → List ℕ → Option Spot
+unread_of p vias spots arrays bytes = unread_from p vias spots (at_start arrays) (sealed (text_at bytes))
+
 same-blocks : (p : Pass) (vias : List Via) (spots : List Spot) (arrays : Arrays) (front bytes : List ℕ)
     → HasBits front (text_at bytes)
-    → reached_from p vias spots (at_start arrays) (sealed (text_at bytes)) ≡ read_of p vias spots arrays front
+    → ◌≡◌ {A = Read} (read_from p vias spots (at_start arrays) (sealed (text_at bytes)))
+    (read_from p vias spots (at_start arrays) (text_at front))
 same-blocks p vias spots arrays front bytes h =
-    sym (reached-alike p vias spots (at_start arrays) (text_at front) (sealed (text_at bytes)) h.bits h.ending)
+    sym (read-alike p vias spots (at_start arrays) (text_at front) (sealed (text_at bytes)) h.bits h.ending)
+
+pub interval-unread : (p : Pass) (vias : List Via) (spots : List Spot) (arrays : Arrays) (front bytes : List ℕ)
+    → HasBits front (text_at bytes)
+    → unread_of p vias spots arrays bytes ≡ unread_from p vias spots (at_start arrays) (text_at front)
+interval-unread p vias spots arrays front bytes h =
+    ap (λ (r : Read). r.1) (same-blocks p vias spots arrays front bytes h)
 
 pub interval-arrays : (p : Pass) (vias : List Via) (spots : List Spot) (arrays : Arrays) (front bytes : List ℕ)
     → HasBits front (text_at bytes)
     → (interval_reached p vias spots arrays bytes).0 ≡ (read_of p vias spots arrays front).0.arrays
 unfolding interval_reached
 interval-arrays p vias spots arrays front bytes h =
-    ap (λ (r : Reached × Result (List Bool) Fault). r.0.arrays) (same-blocks p vias spots arrays front bytes h)
+    ap (λ (r : Read). r.0.0.arrays) (same-blocks p vias spots arrays front bytes h)
 
 pub interval-outcome : (p : Pass) (vias : List Via) (spots : List Spot) (arrays : Arrays) (front bytes : List ℕ)
     → HasBits front (text_at bytes)
@@ -55,7 +67,7 @@ pub interval-outcome : (p : Pass) (vias : List Via) (spots : List Spot) (arrays 
     ≡ outcome_by (read_of p vias spots arrays front).1 (text_at bytes).ending
 unfolding interval_reached
 interval-outcome p vias spots arrays front bytes h =
-    ap (λ (r : Reached × Result (List Bool) Fault). outcome_by r.1 (text_at bytes).ending)
+    ap (λ (r : Read). outcome_by r.0.1 (text_at bytes).ending)
     (same-blocks p vias spots arrays front bytes h)
 
 -- ---- refusals

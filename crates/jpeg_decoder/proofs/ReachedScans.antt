@@ -3,7 +3,7 @@ use Rattle.std.proofs.Common.{◌≡◌, ◌∙◌, ap, arith, Err, false, List,
 use Rattle.std.proofs.Common.{subst, sym, true, Bool, ℕ, if◌then◌else◌}
 use Rattle.std.proofs.lemmas.Grind.{common_steps}
 use Rattle.std.proofs.lemmas.Result.{err_from_is_err_and}
-use Rattle.std.specs.Prelude.{IsErrAnd}
+use Rattle.std.specs.Prelude.{IsErrAnd, OnOk}
 use Rattle.jpeg_bits.specs.Passes.{Pass}
 use Rattle.jpeg_bits.specs.Reading.{Answers, End, Fault, Lacks, Malformed, MayFail, Names, NamesFormat, Outcome}
 use Rattle.jpeg_bits.specs.Reading.{◌>>=◌}
@@ -18,7 +18,7 @@ use Rattle.jpeg_segments.specs.declared.frame.CodingProcess.{CodingProcess}
 use Rattle.jpeg_segments.specs.declared.frame.CodingProcess.TheVariants.{DctProgressive}
 use Rattle.jpeg_segments.specs.declared.frame.CodingProcess.TheVariants.{DctSequential, Lossless}
 use Rattle.jpeg_streams.specs.Brought.{blocks_brought, blocks_brought_by, brought_by, frame_and_scan, has_whole_rows}
-use Rattle.jpeg_streams.specs.Brought.{samples_brought, samples_brought_by, scan_brought, Brought}
+use Rattle.jpeg_streams.specs.Brought.{planes_brought, samples_brought, samples_brought_by, scan_brought, Brought}
 use Rattle.jpeg_streams.specs.Found.{Found, Said}
 use Rattle.jpeg_streams.specs.LosslessScans.{LosslessCoding, lossless_codings}
 use Rattle.jpeg_streams.specs.declared.before.Before.{Before}
@@ -29,9 +29,11 @@ use Rattle.jpeg_streams.specs.InTurn.{AreArrays}
 use Rattle.jpeg_streams.specs.Sound.{ArePlanes, IsSound}
 use Rattle.jpeg_streams.specs.Segments.{Turn}
 use Rattle.jpeg_streams.specs.States.{IfRefused, OnTold, OnToldRefusal}
+use Rattle.jpeg_streams.specs.WholeRows.{rows_by, rows_of_blocks, rows_of_codings, rows_of_planes, rows_of_samples}
+use Rattle.jpeg_streams.specs.WholeRows.{rows_of_scan}
 use Rattle.jpeg_decoder.specs.declared.stream.state.Step.{Step}
 use Rattle.jpeg_decoder.specs.Reaching.{data_reached, sample_codings, samples_reached, whole_codings, IsEndOf}
-use Rattle.jpeg_decoder.specs.Reaching.{UnlessRefused}
+use Rattle.jpeg_decoder.specs.Reaching.{UnlessRefused, rows_after}
 use Rattle.jpeg_decoder.specs.PlanesView.{planes_in}
 use Rattle.jpeg_decoder.specs.declared.scan.decoded.Decoded.{Decoded}
 use Rattle.jpeg_decoder.specs.Steps.{blocks_before, IsRefusal, IsStep, with_decoded}
@@ -136,12 +138,92 @@ samples-as found frame scan bytes =
     codings-as found frame scan bytes
     (lossless_codings found.said.huffman.dc frame scan.components scan.dc_destinations)
 
+-- ---- the rows that are wholly there, by these steps
+
+no-rows : (found : Found) (bytes : List ℕ) (f : Fault) → frame_and_scan found bytes ≡ Err f
+    → rows_of_scan found bytes ≡ None
+unfolding rows_of_scan
+no-rows found bytes f e = rw (e, rows_of_scan) refl
+
+rows-at : (found : Found) (frame : Frame) (scan : Scan) (bytes rest : List ℕ)
+    → frame_and_scan found bytes ≡ Ok (frame, (scan, rest))
+    → rows_of_scan found bytes ≡ rows_by frame.process found frame scan rest
+unfolding rows_of_scan
+rows-at found frame scan bytes rest e = rw (e, rows_of_scan) refl
+
+rows-by-blocks : (p : CodingProcess) (found : Found) (frame : Frame) (scan : Scan) (bytes : List ℕ)
+    → (p ≡ Lossless → ⊥) → rows_by p found frame scan bytes ≡ rows_of_blocks found frame scan bytes
+rows-by-blocks DctSequential found frame scan bytes h = refl
+rows-by-blocks DctProgressive found frame scan bytes h = refl
+rows-by-blocks Lossless found frame scan bytes h = absurd (h refl)
+
+rows-without : (found : Found) (frame : Frame) (scan : Scan) (bytes : List ℕ) (f : Fault)
+    → codings_of found.said frame scan ≡ Err f → rows_of_blocks found frame scan bytes ≡ None
+unfolding rows_of_blocks
+rows-without found frame scan bytes f e = rw (e, rows_of_blocks) refl
+
+rows-with : (found : Found) (frame : Frame) (scan : Scan) (codings : List Coding) (bytes : List ℕ)
+    → codings_of found.said frame scan ≡ Ok codings
+    → rows_of_blocks found frame scan bytes ≡ rows_of_codings found frame (pass_of scan) codings bytes
+unfolding rows_of_blocks
+rows-with found frame scan codings bytes e = rw (e, rows_of_blocks) refl
+
+-- those of a lossless scan, by its components
+abbrev rows_with : Found → Frame → Scan → List ℕ → Result (List LosslessCoding) Fault → Option ℕ
+rows_with found frame scan bytes (Ok codings) =
+    rows_of_planes frame codings (planes_brought found frame scan codings bytes).0
+rows_with found frame scan bytes (Err fault) = None
+
+rows-if-whole : (found : Found) (frame : Frame) (scan : Scan) (bytes : List ℕ) (codings : List LosslessCoding)
+    (b : Bool) → if◌then◌else◌ {A = Option ℕ} b
+    (rows_of_planes frame codings (planes_brought found frame scan codings bytes).0) None
+    ≡ rows_with found frame scan bytes (if b then Ok codings else Err Malformed)
+rows-if-whole found frame scan bytes codings true = refl
+rows-if-whole found frame scan bytes codings false = refl
+
+rows-codings : (found : Found) (frame : Frame) (scan : Scan) (bytes : List ℕ)
+    (o : Result (List LosslessCoding) Fault)
+    → ◌≡◌ {A = Option ℕ} (elim o as (λ _. Option ℕ) [
+      | Ok codings ↦ if has_whole_rows found frame scan codings
+          then rows_of_planes frame codings (planes_brought found frame scan codings bytes).0 else None
+      | Err fault ↦ None
+    ]) (rows_with found frame scan bytes (o >>= whole_codings found.said frame))
+rows-codings found frame scan bytes (Ok codings) =
+    rows-if-whole found frame scan bytes codings (has_whole_rows found frame scan codings)
+rows-codings found frame scan bytes (Err fault) = refl
+
+rows-of-samples : (found : Found) (frame : Frame) (scan : Scan) (bytes : List ℕ)
+    → rows_of_samples found frame scan bytes
+    ≡ rows_with found frame scan bytes (sample_codings found.said frame scan)
+unfolding rows_of_samples
+rows-of-samples found frame scan bytes =
+    rows-codings found frame scan bytes
+    (lossless_codings found.said.huffman.dc frame scan.components scan.dc_destinations)
+
+-- The header of a scan was read.
+rows-blocks : (found : Found) (frame : Frame) (scan : Scan) (bytes rest : List ℕ)
+    → found.said.frame ≡ Some frame → (frame.process ≡ Lossless → ⊥) → sos_at frame bytes ≡ Ok (scan, rest)
+    → rows_of_scan found bytes ≡ rows_of_blocks found frame scan rest
+rows-blocks found frame scan bytes rest framed process h =
+    rows-at found frame scan bytes rest (with-header found frame scan bytes rest framed h)
+    ∙ rows-by-blocks frame.process found frame scan rest process
+
+rows-samples : (found : Found) (frame : Frame) (scan : Scan) (bytes rest : List ℕ)
+    (o : Result (List LosslessCoding) Fault)
+    → found.said.frame ≡ Some frame → frame.process ≡ Lossless → sos_at frame bytes ≡ Ok (scan, rest)
+    → sample_codings found.said frame scan ≡ o → rows_of_scan found bytes ≡ rows_with found frame scan rest o
+rows-samples found frame scan bytes rest o framed process h is =
+    rows-at found frame scan bytes rest (with-header found frame scan bytes rest framed h)
+    ∙ ap (λ (p : CodingProcess). rows_by p found frame scan rest) process ∙ rows-of-samples found frame scan rest
+    ∙ ap (rows_with found frame scan rest) is
+
 -- ---- refusals before the data
 
 -- A refusal brings nothing.
 pub record BringsNone (found : Found) (old : Stream) (e : Error) (new : Stream) : Type 0 where
   pub reads : Answers (λ (t : Turn). t) (λ bytes. (scan_brought found bytes).1) old (Err e) new
   pub stays : old.known ≡ true → new.known ≡ true → IfRefused e (found ≡ (scan_brought found old.bytes).0)
+  pub rows : old.known ≡ true → new.known ≡ true → IfRefused e (rows_of_scan found old.bytes ≡ None)
 
 on-fault : {Y P : Type 0} (e : Error) (o : Result Y Fault) → ((f : Fault) → o ≡ Err f → P) → Names e o
     → IfRefused e P
@@ -167,6 +249,7 @@ no-frame found s e lacking names =
     record {
       reads = grind (arith, common_steps, format-refuses);
       stays = λ k l. if-refused e (none-brought found s.bytes _ at);
+      rows = λ k l. if-refused e (no-rows found s.bytes Malformed (without-frame found s.bytes lacking));
     }
 
 pub no-header : {Y : Type 0} (v : Y → Scan) (found : Found) (frame : Frame) (old new : Stream) (e : Error)
@@ -179,6 +262,8 @@ no-header v found frame old new e framed h =
           (λ f is. fault-brought found old.bytes f (at f is)) h;
       stays = λ k l. on-fault e (sos_at frame old.bytes) (λ f is. none-brought found old.bytes _ (at f is))
           (h.1 k l);
+      rows = λ k l. on-fault e (sos_at frame old.bytes)
+          (λ f is. no-rows found old.bytes f (without-header found frame old.bytes f framed is)) (h.1 k l);
     }
 
 -- The header of a scan of blocks was read.
@@ -212,6 +297,9 @@ no-codings found frame scan old cur e framed process has r n =
           (λ f is. ap (λ (w : Brought). w.1) (without-codings found frame scan cur.bytes f is));
       stays = λ k l. on-fault e (codings_of found.said frame scan)
           (λ f is. none-brought found old.bytes _ (faults k f is)) n;
+      rows = λ k l. on-fault e (codings_of found.said frame scan)
+          (λ f is. rows-blocks found frame scan old.bytes cur.bytes framed process (has.1 k).1
+          ∙ rows-without found frame scan cur.bytes f is) n;
     }
 
 pub no-samples : (found : Found) (frame : Frame) (scan : Scan) (old cur : Stream) (e : Error)
@@ -231,6 +319,8 @@ no-samples found frame scan old cur e framed process has r n =
           (λ f is. ap (λ (o : Result (List LosslessCoding) Fault). (brought_with found frame scan cur.bytes o).1) is);
       stays = λ k l. on-fault e (sample_codings found.said frame scan)
           (λ f is. none-brought found old.bytes _ (faults k f is)) n;
+      rows = λ k l. on-fault e (sample_codings found.said frame scan)
+          (λ f is. rows-samples found frame scan old.bytes cur.bytes (Err f) framed process (has.1 k).1 is) n;
     }
 
 -- ---- the data of a scan
@@ -364,6 +454,51 @@ ended-steps v old prev frame (Err e) (Err f) framed said sound is = record {
   unread = λ _ _. tt;
 }
 
+-- The rows of what the bytes of a scan bring are known by its data.
+abbrev pub Counts : Found → Stream → Stream → Option ℕ → Type 0
+Counts found old cur expected = old.known ≡ true → (cur.known ≡ true) × (rows_of_scan found old.bytes ≡ expected)
+
+pub blocks-count : (found : Found) (frame : Frame) (scan : Scan) (p : Pass) (codings : List Coding) (old cur : Stream)
+    → found.said.frame ≡ Some frame → (frame.process ≡ Lossless → ⊥) → HasRead (sos_at frame) old scan cur
+    → codings_of found.said frame scan ≡ Ok codings → p ≡ pass_of scan
+    → Counts found old cur (rows_of_codings found frame p codings cur.bytes)
+blocks-count found frame scan p codings old cur framed process has e is = λ k. (
+  (has.1 k).0,
+  rows-blocks found frame scan old.bytes cur.bytes framed process (has.1 k).1
+      ∙ rows-with found frame scan codings cur.bytes e
+      ∙ ap (λ (q : Pass). rows_of_codings found frame q codings cur.bytes) (sym is),
+)
+
+pub samples-count : (found : Found) (frame : Frame) (scan : Scan) (codings : List LosslessCoding) (old cur : Stream)
+    → found.said.frame ≡ Some frame → frame.process ≡ Lossless → HasRead (sos_at frame) old scan cur
+    → sample_codings found.said frame scan ≡ Ok codings
+    → Counts found old cur (rows_of_planes frame codings (planes_brought found frame scan codings cur.bytes).0)
+samples-count found frame scan codings old cur framed process has is = λ k. (
+  (has.1 k).0,
+  rows-samples found frame scan old.bytes cur.bytes (Ok codings) framed process (has.1 k).1 is,
+)
+
+pub ended-rows : (v : Step → Turn) (found prev : Found) (old cur new : Stream) (made rows before : Option ℕ)
+    (expected : Option ℕ) (reached : Result (Option Marker) Error) (result : Result Step Error)
+    → Counts found old cur expected → OnTold cur new reached (made ≡ expected)
+    → rows ≡ rows_after reached before made → IsEndOf prev v reached result
+    → OnToldRefusal old new result (rows ≡ rows_of_scan found old.bytes)
+ended-rows v found prev old cur new made rows before expected (Ok m) (Ok step) c told same is = tt
+ended-rows v found prev old cur new made rows before expected (Ok m) (Err f) c told same is = absurd is
+ended-rows v found prev old cur new made rows before expected (Err e) (Ok step) c told same is = absurd is
+ended-rows v found prev old cur new made rows before expected (Err e) (Err f) c told same is = λ k l.
+    let at = c k in
+    subst (λ (x : Error). IfRefused x (rows ≡ rows_of_scan found old.bytes)) (sym is)
+    (if-refused-as e (λ counted. same ∙ counted ∙ sym at.1) (told at.0 l))
+
+pub ended-whole : (v : Step → Turn) (prev : Found) (made rows before : Option ℕ)
+    (reached : Result (Option Marker) Error) (result : Result Step Error) → before ≡ None
+    → rows ≡ rows_after reached before made → IsEndOf prev v reached result → OnOk result (rows ≡ None)
+ended-whole v prev made rows before (Ok m) (Ok step) none same is = same ∙ none
+ended-whole v prev made rows before (Ok m) (Err f) none same is = tt
+ended-whole v prev made rows before (Err e) (Ok step) none same is = absurd is
+ended-whole v prev made rows before (Err e) (Err f) none same is = tt
+
 -- ---- what a caller sees
 
 -- a refusal that brings nothing, of a state that is as before
@@ -378,6 +513,13 @@ pub none-stays : (now at next : Found) (old new : Stream) (r : Result Step Error
     → OnToldRefusal old new r (next ≡ (scan_brought at old.bytes).0)
 none-stays now at next old new r e fails same is b =
     let p = err_from_is_err_and r fails in rw (p.1, p.2, is, sym same) b.stays
+
+pub none-counted : (now at : Found) (rows : Option ℕ) (old new : Stream) (r : Result Step Error) (e : Error)
+    → IsErrAnd r (λ y. y ≡ e) → now ≡ at → rows ≡ None → BringsNone now old e new
+    → OnToldRefusal old new r (rows ≡ rows_of_scan at old.bytes)
+none-counted now at rows old new r e fails same none b =
+    let p = err_from_is_err_and r fails in
+    rw (p.1, p.2, none, sym same) (λ k l. if-refused-as e (λ none. sym none) (b.rows k l))
 
 -- ---- what holds afterwards
 

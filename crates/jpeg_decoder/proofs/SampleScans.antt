@@ -32,7 +32,7 @@ use Rattle.jpeg_lossless.proofs.ReachedRows.{reached-long, reached-planes}
 use Rattle.jpeg_lossless.proofs.Sizes.{covered-within}
 use Rattle.jpeg_lossless.proofs.WholeScans.{all-whole}
 use Rattle.jpeg_streams.specs.Brought.{grey_samples, interval_rows_reached, samples_over, scan_rows_reached, sealed}
-use Rattle.jpeg_streams.specs.Brought.{after_interval}
+use Rattle.jpeg_streams.specs.Brought.{after_interval, planes_brought}
 use Rattle.jpeg_streams.specs.Found.{Found, Said}
 use Rattle.jpeg_streams.specs.LosslessScans.{LosslessCoding, mcus_down, tables_in, way_of, with_samples}
 use Rattle.jpeg_streams.specs.ScanSegments.{after_samples, once_scanned}
@@ -176,23 +176,24 @@ over-none frame samples indices slot planes h l =
 abbrev Reached : Type 0
 Reached = Found × Outcome (Option Marker)
 
--- what a scan reaches, by the way its rows are coded and how many there are
-abbrev reached_with : Found → Frame → ℕ → List LosslessCoding → List ℕ → Way → ℕ → Reached
-reached_with found frame point codings bytes w high =
+-- the lines that a scan brings, by the way its rows are coded and how many there are
+abbrev brought_with : Found → ℕ → List ℕ → Way → ℕ → Planes × Outcome (Option Marker)
+brought_with found point bytes w high =
     let n = rows_of_interval w.wide high found.said.restart in
     let rows = scan_tables w high in
     let r = scan_rows_reached 0 (first_group n rows) (other_groups n rows) bytes in
-    let planes = planes_of point w.parts (lines_by_component w 0 w.parts r.0) in (
-      after_samples found codings (map (samples_over found frame) (zip codings planes)),
-      r.1,
-    )
+    (planes_of point w.parts (lines_by_component w 0 w.parts r.0), r.1)
 
-reached-with : (found : Found) (frame : Frame) (scan : Scan) (codings : List LosslessCoding) (bytes : List ℕ)
+-- what a scan reaches, by those lines
+abbrev reached_by : Found → Frame → List LosslessCoding → Planes × Outcome (Option Marker) → Reached
+reached_by found frame codings r =
+    (after_samples found codings (map (samples_over found frame) (zip codings r.0)), r.1)
+
+reached-by : (found : Found) (frame : Frame) (scan : Scan) (codings : List LosslessCoding) (bytes : List ℕ)
     → samples_reached found frame scan codings bytes
-    ≡ reached_with found frame scan.point_transform codings bytes
-    (way_of frame scan.predictor scan.point_transform codings) (mcus_down frame codings)
+    ≡ reached_by found frame codings (planes_brought found frame scan codings bytes)
 unfolding samples_reached
-reached-with found frame scan codings bytes = refl
+reached-by found frame scan codings bytes = refl
 
 way-as : (found : Found) (frame : Frame) (scan : Scan) (ts : List Table)
     (a : AreCodings found.said.huffman.dc frame scan.components scan.dc_destinations ts) (k : Coding)
@@ -273,16 +274,19 @@ groups_reached w rows others bytes =
     let r = scan_rows_reached 0 rows others bytes in
     (with_all_rows w r.0 (replicate (length w.parts) []), r.1)
 
--- What a scan reaches, by the rows as they are appended to planes.
-pub reached-as : (found : Found) (frame : Frame) (scan : Scan) (ts : List Table)
+-- The lines that a scan brings, by the rows as they are appended to planes.
+abbrev cut_as : ℕ → List Part → Planes × Outcome (Option Marker) → Planes × Outcome (Option Marker)
+cut_as point parts r = (cut_planes point parts r.0, r.1)
+
+planes-as : (found : Found) (frame : Frame) (scan : Scan) (ts : List Table)
     (a : AreCodings found.said.huffman.dc frame scan.components scan.dc_destinations ts) (k : Coding)
     (parts : List Part) (n : ℕ) (bytes : List ℕ) → k ≡ coding_found found frame scan
     → parts ≡ parts_at (length scan.components == 1) frame.components scan.components ts
     → n ≡ counted_rows k.high (rows_of_interval k.wide k.high found.said.restart) → HasMcus k.wide k.high parts
-    → ◌≡◌ {A = Reached} (samples_reached found frame scan a.codings bytes)
-    (cut_over found frame scan.components scan.point_transform parts
+    → ◌≡◌ {A = Planes × Outcome (Option Marker)} (planes_brought found frame scan a.codings bytes)
+    (cut_as scan.point_transform parts
     (planes_reached (way_by k parts) n k.high (replicate (length parts) []) bytes))
-reached-as found frame scan ts a k parts n bytes e is counts has =
+planes-as found frame scan ts a k parts n bytes e is counts has =
     let w = way_by k parts in
     let same = way-as found frame scan ts a k parts e is in
     let point = scan.point_transform in
@@ -293,13 +297,10 @@ reached-as found frame scan ts a k parts n bytes e is counts has =
     let r = scan_rows_reached 0 (first_group m rows) (other_groups m rows) bytes in
     let whole = scan-long (w.wide * samples_an_mcu w) 0 (first_group m rows) (other_groups m rows) bytes
     (first-all _ m rows (all-whole w fits k.high)) (others-all _ m rows (all-whole w fits k.high)) in
-    reached-with found frame scan a.codings bytes
-    ∙ ap₂ (reached_with found frame point a.codings bytes) same.0 same.1
-    ∙ ap (λ (f : Found). (f, r.1)) (put-as found frame scan.components scan.dc_destinations ts
-    (planes_of point parts (lines_by_component w 0 parts r.0)) a)
-    ∙ ap (λ (p : Planes). (put_over found frame scan.components p, r.1)) (sym (reached-planes w fits point r.0 whole))
+    ap₂ (brought_with found point bytes) same.0 same.1
+    ∙ ap (λ (p : Planes). (p, r.1)) (sym (reached-planes w fits point r.0 whole))
     ∙ ap₂ (λ (g : List (List Table)) (o : List (List (List Table))).
-    cut_over found frame scan.components point parts (groups_reached w g o bytes))
+    cut_as point parts (groups_reached w g o bytes))
     (sym (ap (λ (c : ℕ). first_group c rows) counts ∙ counted-first k.high m rows long has.some_high))
     (sym (ap (λ (c : ℕ). other_groups c rows) counts ∙ counted-others k.high m rows long has.some_high))
 
@@ -357,19 +358,46 @@ pub record Reads (found : Found) (frame : Frame) (scan : Scan) (s : SampleScan) 
   pub parts_are : parts ≡ map part_in s.parts.items
   pub begins : empty ≡ replicate (length parts) []
 
-reads-as : (found : Found) (frame : Frame) (scan : Scan) (s : SampleScan) (k : Coding) (parts : List Part)
-    (empty : Planes) (codings : List LosslessCoding) (bytes : List ℕ) → Reads found frame scan s k parts empty
+-- the components of the scan
+reads-codings : (found : Found) (frame : Frame) (scan : Scan) (s : SampleScan) (k : Coding) (parts : List Part)
+    (empty : Planes) (codings : List LosslessCoding) (r : Reads found frame scan s k parts empty)
     → sample_codings found.said frame scan ≡ Ok codings
-    → ◌≡◌ {A = Reached} (samples_reached found frame scan codings bytes)
-    (cut_over found frame scan.components scan.point_transform parts
-    (planes_reached (way_by k parts) s.rows k.high empty bytes))
-reads-as found frame scan s k parts empty codings bytes r h =
+    → codings ≡ (scan-coded found.said frame scan s r.scan_is r.legal).codings
+reads-codings found frame scan s k parts empty codings r h =
     let i = r.scan_is in
     let a = scan-coded found.said frame scan s i r.legal in
-    let whole : is_of_rows (mcus_wide frame scan.components) (mcus_high frame scan.components) found.said.restart ≡ true
-    = ap (λ (k : Coding). is_of_rows k.wide k.high found.said.restart) (sym i.coding) ∙ i.whole in
-    let same : codings ≡ a.codings
-    = ok-same codings a.codings (sym h ∙ whole-codings found.said frame scan i.tables a whole) in
+    ok-same codings a.codings (sym h ∙ whole-codings found.said frame scan i.tables a
+    (ap (λ (k : Coding). is_of_rows k.wide k.high found.said.restart) (sym i.coding) ∙ i.whole))
+
+components-are : (cs : List Component) (codings : List LosslessCoding) (indices : List ℕ) (ts : List Table)
+    → AreOf cs codings indices ts
+    → map (λ k. k.component) codings ≡ map (λ index. get_or cs index no_component) indices
+unfolding AreOf
+components-are cs [] [] [] h = refl
+components-are cs (k ∷ codings) (p ∷ indices) (t ∷ ts) h =
+    ap₂ (λ (c : Component) (more : List Component). c ∷ more)
+    (sym (get_or_from_slice_get cs p k.component no_component h.0.0)) (components-are cs codings indices ts h.1)
+components-are cs _ _ _ h = absurd h
+
+pub reads-components : (found : Found) (frame : Frame) (scan : Scan) (s : SampleScan) (k : Coding)
+    (parts : List Part) (empty : Planes) (codings : List LosslessCoding) → Reads found frame scan s k parts empty
+    → sample_codings found.said frame scan ≡ Ok codings
+    → map (λ k. k.component) codings ≡ map (λ index. get_or frame.components index no_component) scan.components
+reads-components found frame scan s k parts empty codings r h =
+    let i = r.scan_is in
+    let a = scan-coded found.said frame scan s i r.legal in
+    ap (map (λ k. k.component)) (reads-codings found frame scan s k parts empty codings r h)
+    ∙ components-are frame.components a.codings scan.components i.tables a.of
+
+-- the lines that it brings
+reads-planes : (found : Found) (frame : Frame) (scan : Scan) (s : SampleScan) (k : Coding) (parts : List Part)
+    (empty : Planes) (codings : List LosslessCoding) (bytes : List ℕ) → Reads found frame scan s k parts empty
+    → sample_codings found.said frame scan ≡ Ok codings
+    → ◌≡◌ {A = Planes × Outcome (Option Marker)} (planes_brought found frame scan codings bytes)
+    (cut_as scan.point_transform parts (planes_reached (way_by k parts) s.rows k.high empty bytes))
+reads-planes found frame scan s k parts empty codings bytes r h =
+    let i = r.scan_is in
+    let a = scan-coded found.said frame scan s i r.legal in
     let has : HasMcus k.wide k.high parts
     = subst (λ (q : Coding). HasMcus q.wide q.high parts) (sym r.coding)
     (subst (HasMcus s.coding.wide s.coding.high) (sym r.parts_are)
@@ -377,11 +405,40 @@ reads-as found frame scan s k parts empty codings bytes r h =
     let counts : s.rows ≡ counted_rows k.high (rows_of_interval k.wide k.high found.said.restart)
     = i.rows ∙ ap (λ (q : Coding). counted_rows q.high (rows_of_interval q.wide q.high found.said.restart))
     (sym r.coding) in
-    ap (λ (l : List LosslessCoding). samples_reached found frame scan l bytes) same
-    ∙ reached-as found frame scan i.tables a k parts s.rows bytes (r.coding ∙ i.coding) (r.parts_are ∙ i.parts) counts
+    ap (λ (l : List LosslessCoding). planes_brought found frame scan l bytes)
+    (reads-codings found frame scan s k parts empty codings r h)
+    ∙ planes-as found frame scan i.tables a k parts s.rows bytes (r.coding ∙ i.coding) (r.parts_are ∙ i.parts) counts
     has
-    ∙ ap (λ (p : Planes). cut_over found frame scan.components scan.point_transform parts
+    ∙ ap (λ (p : Planes). cut_as scan.point_transform parts
     (planes_reached (way_by k parts) s.rows k.high p bytes)) (sym r.begins)
+
+reads-as : (found : Found) (frame : Frame) (scan : Scan) (s : SampleScan) (k : Coding) (parts : List Part)
+    (empty : Planes) (codings : List LosslessCoding) (bytes : List ℕ) → Reads found frame scan s k parts empty
+    → sample_codings found.said frame scan ≡ Ok codings
+    → ◌≡◌ {A = Reached} (samples_reached found frame scan codings bytes)
+    (cut_over found frame scan.components scan.point_transform parts
+    (planes_reached (way_by k parts) s.rows k.high empty bytes))
+reads-as found frame scan s k parts empty codings bytes r h =
+    let a = scan-coded found.said frame scan s r.scan_is r.legal in
+    let x = cut_as scan.point_transform parts (planes_reached (way_by k parts) s.rows k.high empty bytes) in
+    reached-by found frame scan codings bytes
+    ∙ ap (reached_by found frame codings) (reads-planes found frame scan s k parts empty codings bytes r h)
+    ∙ ap (λ (l : List LosslessCoding). reached_by found frame l x)
+    (reads-codings found frame scan s k parts empty codings r h)
+    ∙ ap (λ (f : Found). (f, x.1)) (put-as found frame scan.components scan.dc_destinations r.scan_is.tables x.0 a)
+
+-- the lines as they are cut to the components
+pub reads-cut : (found : Found) (frame : Frame) (scan : Scan) (s : SampleScan) (k : Coding) (parts : List Part)
+    (empty planes : Planes) (codings : List LosslessCoding) (bytes : List ℕ) → Reads found frame scan s k parts empty
+    → sample_codings found.said frame scan ≡ Ok codings
+    → planes ≡ (planes_reached (way_by k parts) s.rows k.high empty bytes).0
+    → cut_planes k.point_transform parts planes ≡ (planes_brought found frame scan codings bytes).0
+reads-cut found frame scan s k parts empty planes codings bytes r h same =
+    let point : k.point_transform ≡ scan.point_transform
+    = ap (λ (q : Coding). q.point_transform) (r.coding ∙ r.scan_is.coding) in
+    ap₂ (λ (n : ℕ) (p : Planes). cut_planes n parts p) point same
+    ∙ sym (ap (λ (x : Planes × Outcome (Option Marker)). x.0)
+    (reads-planes found frame scan s k parts empty codings bytes r h))
 
 pub reads-found : (found : Found) (frame : Frame) (scan : Scan) (s : SampleScan) (k : Coding) (parts : List Part)
     (empty planes : Planes) (codings : List LosslessCoding) (bytes : List ℕ) (next : Found)

@@ -66,7 +66,7 @@ shown-picture settings f =
     (ap (picture_of settings) (all-tables frame.process frame f (enumerate_from 0 frame.components))
     ∙ picture-tables settings (completed f frame)) i)
 
-planes-tables : (p : CodingProcess) (f : Found) (frame : Frame)
+pub planes-tables : (p : CodingProcess) (f : Found) (frame : Frame)
     → planes_by p (without_tables f) frame ≡ planes_by p f frame
 unfolding plane_at_end
 planes-tables Lossless f frame = refl
@@ -271,6 +271,11 @@ pub then-holds : (ended : Result (Unit {0}) Error) (P : Type 0) → is_out_of_me
     → UnlessRefused ended P → P
 then-holds (Ok u) P m p = p
 then-holds (Err e) P m p = unless e P (not-memory e m) p
+
+pub told-holds : (s n : Stream) (ended : Result (Unit {0}) Error) (P : Type 0) → is_out_of_memory ended ≡ false
+    → OnTold s n ended P → s.known ≡ true → n.known ≡ true → P
+told-holds s n (Ok u) P m p k l = p k
+told-holds s n (Err e) P m p k l = unless e P (not-memory e m) (p k l)
 
 -- an error of a call on a source is one of bytes
 of-bytes : (e : Error) (a b : Bool) → MayFail e a b → IsOfBytes e

@@ -19,13 +19,14 @@ use Rattle.jpeg_segments.specs.ScanHeader as headers
 use Rattle.jpeg_lossless.specs.Codings.{part_in}
 use Rattle.jpeg_lossless.specs.PlanesRead.{counted_rows}
 use Rattle.jpeg_lossless.specs.Rows.{with_all_rows, with_mcu_rows}
-use Rattle.jpeg_lossless.specs.Scans.{Way, is_of_rows, lines_by_component, planes_of}
+use Rattle.jpeg_lossless.specs.Scans.{Way, is_of_rows}
 use Rattle.jpeg_lossless.specs.Scans.{rows_of_interval, scan_tables}
 use Rattle.jpeg_streams.specs.Brought.{grey_samples, interval_rows_reached, or_fault_at}
-use Rattle.jpeg_streams.specs.Brought.{samples_over, scan_reached, scan_rows_reached}
+use Rattle.jpeg_streams.specs.Brought.{planes_brought, samples_over, scan_reached}
+use Rattle.jpeg_streams.specs.Brought.{scan_rows_reached}
 use Rattle.jpeg_streams.specs.Found.{Found, Said, with_said}
 use Rattle.jpeg_streams.specs.LosslessScans.{LosslessCoding, lossless_codings, mcus_across}
-use Rattle.jpeg_streams.specs.LosslessScans.{mcus_down, tables_in, way_of}
+use Rattle.jpeg_streams.specs.LosslessScans.{mcus_down, tables_in}
 use Rattle.jpeg_streams.specs.Order.{mcu_size, spots_of}
 use Rattle.jpeg_streams.specs.ScanSegments.{after_samples, arrays_before, blocks_after}
 use Rattle.jpeg_streams.specs.ScanSegments.{components_of, scan_before, Coding}
@@ -140,6 +141,11 @@ IsEndOf old view (Ok met) result = IsOkAnd result (λ step. view step ≡ record
 })
 IsEndOf old view (Err e) result = IsErrAnd result (λ f. f ≡ e)
 
+-- The rows of the picture that are wholly there after a scan, where those of its fault are known.
+abbrev pub rows_after : {X : Type 0} → Result X Error → Option ℕ → Option ℕ → Option ℕ
+rows_after (Ok x) old rows = old
+rows_after (Err e) old rows = rows
+
 -- the blocks that are kept after a scan, of those that are left beside it, by whether the frame is
 -- progressive
 abbrev pub kept_after : Bool → List Coding → Arrays → Arrays → Arrays
@@ -227,11 +233,5 @@ planes_over frame samples _ _ = []
 unfoldable pub samples_reached : Found → Frame → headers.Scan → List LosslessCoding → List ℕ
     → Found × Outcome (Option Marker)
 samples_reached found frame scan codings bytes =
-    let w = way_of frame scan.predictor scan.point_transform codings in
-    let n = rows_of_interval w.wide (mcus_down frame codings) found.said.restart in
-    let rows = scan_tables w (mcus_down frame codings) in
-    let r = scan_rows_reached 0 (first_group n rows) (other_groups n rows) bytes in
-    let planes = planes_of scan.point_transform w.parts (lines_by_component w 0 w.parts r.0) in (
-      after_samples found codings (map (samples_over found frame) (zip codings planes)),
-      r.1,
-    )
+    let r = planes_brought found frame scan codings bytes in
+    (after_samples found codings (map (samples_over found frame) (zip codings r.0)), r.1)

@@ -1,7 +1,7 @@
 -- What a call does that shows what its decoder has left up to its first fault.
 use Rattle.std.specs.Prelude.{◌≡◌, ◌&&◌, ◌||◌, ℕ, Bool, List, [], None, Option, Ok, Err}
 use Rattle.std.specs.Prelude.{◌⊎◌, is_some, replicate, Result, slice_index_or, true, false}
-use Rattle.std.specs.Prelude.{IsSomeAnd}
+use Rattle.std.specs.Prelude.{IfOk, IsSomeAnd}
 use Rattle.jpeg_bits.specs.Reading.{Fault, IsGivenUp, Names}
 use Rattle.jpeg_bits.specs.Stream.{Stream}
 use Rattle.jpeg_bits.specs.declared.error.Error.{Error}
@@ -45,6 +45,13 @@ GivesUp fault_of old (Ok x) new = old.known ≡ true → new.known ≡ false
     → IsSomeAnd (fault_of x) (λ e. IsGivenUp e new.failed)
 GivesUp fault_of old (Err e) new = old.known ≡ true → new.known ≡ false
     → IfRefused e ((new.failed ≡ true) ⊎ IsGivenUp e new.failed)
+
+-- Where the bytes of a source were known to the end of a call, an Ok counted the rows that are
+-- wholly there.
+abbrev pub CountsRows : {X : Type 0} → (X → ℕ) → (List ℕ → ℕ) → Stream → Result X Error → Stream
+    → Type 0
+CountsRows rows_of expected old result new =
+    old.known ≡ true → new.known ≡ true → IfOk result (λ x. rows_of x ≡ expected old.bytes)
 
 pub record Shows {X : Type 0} (bytes_of : X → List ℕ) (fault_of : X → Option Error) (old : Decoding)
     (result : Result X Error) (new : Decoding) : Type 0 where

@@ -54,10 +54,14 @@ abbrev pub spots_left : List Member → ℕ → ℕ × ℕ → List (ℕ × ℕ)
 spots_left members number mcu mcus =
     map (spot_at mcu) (drop number members) ++ spots_at members mcus
 
+-- a block that is taken
+abbrev pub spot_of : taken.Spot → Spot
+spot_of s = record { slot = s.slot; index = s.index }
+
 -- the first block of those to come, and the others; or none
 abbrev pub NextSpot : List Spot → Option taken.Spot → List Spot → Type 0
 NextSpot old None new = (old ≡ []) × (new ≡ [])
-NextSpot old (Some s) new = old ≡ record { slot = s.slot; index = s.index } ∷ new
+NextSpot old (Some s) new = old ≡ spot_of s ∷ new
 
 -- ---- the members of an MCU
 

@@ -10,11 +10,11 @@ ghost use Rattle.jpeg_streams.specs.Stream.{header_at, scaled_header_at, scaled_
 ghost use Rattle.jpeg_streams.specs.Stream.{sized_header_at, sized_to};
 ghost use Rattle.jpeg_streams.specs.Found.{nothing_found, with_said};
 ghost use Rattle.jpeg_streams.specs.Reported.{IsOfTurns};
-ghost use Rattle.jpeg_streams.specs.States.{Decoding, MovesToHeader, MovesToEnd, IsReading, ahead};
+ghost use Rattle.jpeg_streams.specs.States.{Decoding, MovesToHeader, IsReading, ahead};
 ghost use Rattle.jpeg_streams.specs.States.{told_ahead, turns_ahead, OnTold, OnToldRefusal};
 ghost use Rattle.jpeg_streams.specs.States.{HasHeader};
 ghost use Rattle.jpeg_decoder.specs.Decodes.{Decodes};
-ghost use Rattle.jpeg_decoder.specs.Shows.{Shows};
+ghost use Rattle.jpeg_decoder.specs.Shows.{CountsRows, Shows};
 ghost use Rattle.jpeg_decoder.specs.Seen.{found_in, said_in};
 ghost use Rattle.std.specs.List.{concat};
 ghost use Rattle.jpeg_decoder.specs.Bytes.{AreLinesOf, HasRoom, IsCounted, IsWhole};
@@ -31,6 +31,7 @@ ghost use Rattle.jpeg_segments.specs.FrameView.{component_in, frame_in};
 ghost use Rattle.jpeg_segments.specs.Scales.{IsSizedFrame, is_scale, scale_for, scaled_by};
 ghost use Rattle.jpeg_streams.specs.Output.{default_settings};
 ghost use Rattle.jpeg_streams.specs.Profile.{profile_of};
+ghost use Rattle.jpeg_streams.specs.WholeRows.{whole_rows_ahead};
 ghost use Rattle.std.specs.Option.{option_copied};
 
 use crate::picture::color_choice::frame_transform;
@@ -192,6 +193,9 @@ fn is_fresh(progress: Progress) -> Result<bool>
 pub struct PartialPicture {
     /// The picture, as `decode` returns it. What no scan has brought is mid-grey.
     pub pixels: Vec<u8>,
+    /// The number of rows, from the top, that come of rows of MCUs that are wholly there: of each
+    /// scan that was begun. All rows if the stream has no fault.
+    pub whole_rows: u16,
     /// The first fault of the stream, or none if it is whole.
     pub fault: Option<Error>,
 }
@@ -591,6 +595,11 @@ impl<R: Read + Drop> Decoder<R> {
         // What the source's bytes bring, and the state: see `Shows`.
         ensures shows { Shows (λ p. concat p.lines) (λ p. p.fault) self.old result self.new }
 
+        // For any bytes, it counts the rows of the picture that are wholly there.
+        ensures rows { IsReading self.old.stage → CountsRows (λ p. p.whole_rows)
+            (whole_rows_ahead self.old.stage self.old.found) self.old.source result
+            self.new.source }
+
         // The settings stay.
         ensures settings { self.new.settings ≡ self.old.settings }
 
@@ -643,6 +652,11 @@ impl<R: Read + Drop> Decoder<R> {
         // What the source's bytes bring, and the state: see `Shows`.
         ensures shows { Shows (λ p. p.pixels.items) (λ p. p.fault) self.old result self.new }
 
+        // For any bytes, it counts the rows of the picture that are wholly there.
+        ensures rows { IsReading self.old.stage → CountsRows (λ p. p.whole_rows)
+            (whole_rows_ahead self.old.stage self.old.found) self.old.source result
+            self.new.source }
+
         // The settings stay.
         ensures settings { self.new.settings ≡ self.old.settings }
 
@@ -666,6 +680,7 @@ impl<R: Read + Drop> Decoder<R> {
         match shown.lines.into_picture(self.alloc) {
             Ok(pixels) => Ok(PartialPicture {
                 pixels,
+                whole_rows: shown.whole_rows,
                 fault: shown.fault,
             }),
             Err(error) => {

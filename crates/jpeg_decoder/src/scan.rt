@@ -21,3 +21,4 @@ pub mod samples;
 pub mod segment;
 pub mod spots;
 pub mod strips;
+pub mod whole_rows;

@@ -45,3 +45,4 @@ pub mod CutHeld
 pub mod CutSplits
 pub mod CutShown
 pub mod WholeShown
+pub mod AllRows

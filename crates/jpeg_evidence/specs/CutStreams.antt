@@ -12,7 +12,8 @@ use Rattle.jpeg_streams.specs.Output.{default_settings}
 use Rattle.jpeg_streams.specs.Shown.{Shown, shown, shown_rest}
 use Rattle.jpeg_streams.specs.Stream.{header_at, sized_to}
 use Rattle.jpeg_streams.specs.Worked.{colour_frame, grey_frame, image_with, one_code}
-use Rattle.jpeg_streams.specs.Worked.{quantization_of, restart_interval, scan_text, stream_with}
+use Rattle.jpeg_streams.specs.Worked.{quantization_of, restart_interval, scan_text, stream_parts}
+use Rattle.jpeg_streams.specs.Worked.{stream_with}
 use Rattle.jpeg_streams.specs.Worked.{two_codes}
 use Rattle.jpeg_evidence.specs.FoundTables.{factors_with, one_symbol}
 
@@ -37,6 +38,10 @@ without_last n bytes = take (length bytes - n) bytes
 -- 16 by 8 samples: DC 8 and DC 16, in six bits each
 abbrev pub two_blocks : List ℕ
 two_blocks = stream_with 16 (65 ∷ 15 ∷ [])
+
+-- the same blocks, one below the other
+abbrev pub block_below : List ℕ
+block_below = stream_parts 16 8 (65 ∷ 15 ∷ []) []
 
 -- their frame, how its component is coded, and the blocks
 abbrev pub frame_of_two : Frame

@@ -4,12 +4,15 @@ ghost use Rattle.std.specs.Prelude.{◌≡◌, ◌⊎◌, ℕ, List, Ok, Err, So
 ghost use Rattle.std.specs.Prelude.{replicate, take};
 ghost use Rattle.std.specs.List.{concat};
 ghost use Rattle.jpeg_bits.specs.Reading.{Fault, Malformed, End};
+ghost use Rattle.jpeg_segments.specs.Frame.{Frame};
 ghost use Rattle.jpeg_streams.specs.Shown.{Shown, shown};
 ghost use Rattle.jpeg_streams.specs.Stream.{meaning};
+ghost use Rattle.jpeg_streams.specs.WholeRows.{whole_rows};
 ghost use Rattle.jpeg_streams.specs.Worked.{eight_times, picture_meant, scanned_twice, stream_with};
 ghost use Rattle.jpeg_streams.specs.declared.settings.Settings.{Settings};
 ghost use Rattle.jpeg_evidence.specs.EarlyEnds.{StreamEndsEarly};
-ghost use Rattle.jpeg_evidence.specs.CutStreams.{lines_of_samples, one_of_three, run_at_end, seen};
+ghost use Rattle.jpeg_evidence.specs.CutStreams.{block_below, lines_of_samples, one_of_three};
+ghost use Rattle.jpeg_evidence.specs.CutStreams.{run_at_end, seen};
 ghost use Rattle.jpeg_evidence.specs.CutStreams.{seen_sized, three_refined, two_blocks, two_lines};
 ghost use Rattle.jpeg_evidence.specs.CutStreams.{two_lines_twice, two_rows_of_mcus, unread_bits};
 ghost use Rattle.jpeg_evidence.specs.CutStreams.{unread_end, without_last, wrong_restart};
@@ -22,6 +25,14 @@ pub fn faultless_streams_are_meant()
     ensures { (settings : Settings) (bytes : List ℕ) (s : Shown) → shown settings bytes ≡ Ok s
         → s.fault ≡ None
         → (rest : List ℕ) × (meaning settings bytes ≡ Ok ((s.told, s.picture), rest)) }
+{}
+
+/// Where `decode_partial` names no fault, all rows of the picture are wholly there.
+#[tactic(auto, using(crate::proofs::AllRows::faultless_streams_have_all_rows))]
+pub fn faultless_streams_have_all_rows()
+    ensures { (settings : Settings) (bytes : List ℕ) (s : Shown) (frame : Frame)
+        → shown settings bytes ≡ Ok s → s.fault ≡ None → s.told.frame ≡ Some frame
+        → whole_rows bytes ≡ frame.output_height }
 {}
 
 /// The fault that `decode_partial` names is that of `decode`, unless the data of a scan end early.
@@ -99,6 +110,26 @@ pub fn other_faults_cut()
     ensures second_scan { seen (without_last 2 scanned_twice) ≡ Ok (replicate 64 129, Some End) }
     ensures one_of_three { seen one_of_three
         ≡ Ok (concat (replicate 64 (128 ∷ 128 ∷ 130 ∷ [])), Some Malformed) }
+{}
+
+/// The rows of the picture above the row of MCUs that lacks a block: with two blocks beside each
+/// other none, and with one below the other those of the first. A whole stream has all.
+#[tactic(auto, unfolding(crate::proofs::OnLiterals::rows_on_literals))]
+pub fn rows_above_a_block_count()
+    ensures whole { whole_rows block_below ≡ 16 }
+    ensures beside { whole_rows (without_last 3 two_blocks) ≡ 0 }
+    ensures below { whole_rows (without_last 3 block_below) ≡ 8 }
+    ensures one_of_three { whole_rows one_of_three ≡ 0 }
+{}
+
+/// And those of whole lines of samples: of a scan that is cut in its second line, or has a wrong
+/// restart marker after the first; and of three components, the second of whose rows of MCUs is
+/// cut, which have two lines of the first component.
+#[tactic(auto, unfolding(crate::proofs::OnLiterals::rows_on_literals))]
+pub fn rows_of_whole_lines_count()
+    ensures cut { whole_rows (without_last 3 two_lines) ≡ 1 }
+    ensures restart { whole_rows wrong_row_restart ≡ 1 }
+    ensures components { whole_rows (without_last 3 two_rows_of_mcus) ≡ 2 }
 {}
 
 /// The rows of MCUs of a lossless scan count if they are there whole: the lines of a stream that is

@@ -410,7 +410,7 @@ no-fault (Ok x) e = (x, refl)
 no-fault (Err fault) e = some-fault fault e
 
 -- at the end of an image of which each component is there
-faultless : (found : Found) (w : Result (List ℕ) Fault) (frame : Frame) → found.said.frame ≡ Some frame
+pub faultless : (found : Found) (w : Result (List ℕ) Fault) (frame : Frame) → found.said.frame ≡ Some frame
     → fault_shown found w ≡ None
     → (rest : List ℕ) × (planes : List (List ℕ)) × (w ≡ Ok rest) × (planes_by frame.process found frame ≡ Ok planes)
 unfolding fault_shown

@@ -279,7 +279,7 @@ parts-within (k ∷ []) (plane ∷ []) h = (h.0, tt)
 parts-within (k ∷ []) (plane ∷ q ∷ planes) h = absurd h.1
 parts-within (k ∷ l ∷ codings) planes h = several-within (k ∷ l ∷ codings) planes h
 
--- Fewer samples and those that were there behind them are as many as the component has.
+-- Fewer samples, and after them those that were there, are as many as the component has.
 one-whole : (found : Found) (frame : Frame) (k : LosslessCoding) (plane : List ℕ)
     → length plane ≤ k.component.width * k.component.height
     → IsSampled k.component (slice_index_or found.samples k.index None)

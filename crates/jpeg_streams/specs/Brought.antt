@@ -164,15 +164,22 @@ abbrev pub samples_over : Found → Frame → LosslessCoding × List ℕ → Lis
 samples_over found frame x = x.1 ++ drop (length x.1)
     (unwrap_or (slice_index_or found.samples x.0.index None) (grey_samples frame x.0.component))
 
--- A scan of samples: the lines of the rows of MCUs that were reached count.
-unfoldable pub samples_brought_by : Found → Frame → Scan → List LosslessCoding → List ℕ → Brought
-samples_brought_by found frame scan codings bytes =
+-- The lines of each component in the rows of MCUs that were reached, and the marker after the scan,
+-- or the fault.
+abbrev pub planes_brought : Found → Frame → Scan → List LosslessCoding → List ℕ
+    → List (List ℕ) × Outcome (Option Marker)
+planes_brought found frame scan codings bytes =
     let w = way_of frame scan.predictor scan.point_transform codings in
     let n = rows_of_interval w.wide (mcus_down frame codings) found.said.restart in
     let rows = scan_tables w (mcus_down frame codings) in
     let r = scan_rows_reached 0 (first_group n rows) (other_groups n rows) bytes in
-    let planes = planes_of scan.point_transform w.parts (lines_by_component w 0 w.parts r.0) in
-    let after = after_samples found codings (map (samples_over found frame) (zip codings planes)) in
+    (planes_of scan.point_transform w.parts (lines_by_component w 0 w.parts r.0), r.1)
+
+-- A scan of samples: these lines count.
+unfoldable pub samples_brought_by : Found → Frame → Scan → List LosslessCoding → List ℕ → Brought
+samples_brought_by found frame scan codings bytes =
+    let r = planes_brought found frame scan codings bytes in
+    let after = after_samples found codings (map (samples_over found frame) (zip codings r.0)) in
     (after, r.1 >>= λ m. Ok (scan_turn found after m.0, m.1))
 
 -- whether the restart interval of a scan has whole rows

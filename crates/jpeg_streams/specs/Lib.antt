@@ -17,6 +17,7 @@ pub mod Output
 -- what a stream with a fault shows
 pub mod Brought
 pub mod Shown
+pub mod WholeRows
 -- what a writer emits, and its picture
 pub mod Levels
 pub mod WrittenData

@@ -36,7 +36,7 @@ use crate::lines::{Lines, put_lines, stored_line};
 use crate::options::{Options, are_known};
 use crate::picture::Picture;
 use jpeg_decoder::error::Error;
-use jpeg_decoder::{Decoder, PartialLines, SliceReader};
+use jpeg_decoder::{Decoder, Lines as DecodedLines, SliceReader};
 use std::alloc::Global;
 use std::io::Read;
 
@@ -62,26 +62,25 @@ fn stream_fault<R: Read + Drop>(
     }
 }
 
-/// Reads the rest of a stream as far as it goes.
-fn read_part<R: Read + Drop>(decoder: &mut Decoder<R>) -> std::result::Result<PartialLines, Refusal>
+/// Reads the rest of a stream as far as it goes, and returns its lines and its first fault.
+fn read_part<R: Read + Drop>(
+    decoder: &mut Decoder<R>,
+) -> std::result::Result<(DecodedLines, Option<Error>), Refusal>
     requires read { decoder.old.stage ≡ HeaderRead }
     ensures stays { IfOk result
         (λ _. decoder.new.found.said.frame ≡ decoder.old.found.said.frame) }
     ensures counted { IfOk result (λ _. IsCounted decoder.new.found.said.frame) }
-    ensures lines { IfOk result (λ p. AreLinesOf decoder.new.found.said.frame p.lines) }
+    ensures lines { IfOk result (λ p. AreLinesOf decoder.new.found.said.frame p.0) }
     ensures shown { decoder.old.source.known ≡ true → IfOk result (λ p. Brings
         (shown_rest decoder.old.settings decoder.old.found decoder.old.source.bytes)
-        (concat p.lines) p.fault (told_of decoder.new.found.said)) }
+        (concat p.0) p.1 (told_of decoder.new.found.said)) }
     ensures named { decoder.old.source.known ≡ true → IfErr result (IsFault
         (shown_rest decoder.old.settings decoder.old.found decoder.old.source.bytes)) }
     ensures own { IfErr result IsOfDecoder }
 {
     match decoder.decode_partial_lines() {
         Ok(partial) => match stream_fault(decoder, partial.fault) {
-            Ok(fault) => Ok(PartialLines {
-                lines: partial.lines,
-                fault,
-            }),
+            Ok(fault) => Ok((partial.lines, fault)),
             Err(refusal) => Err(refusal),
         },
         Err(error) => {
@@ -95,26 +94,27 @@ fn read_part<R: Read + Drop>(decoder: &mut Decoder<R>) -> std::result::Result<Pa
     }
 }
 
-/// Reads the rest of a stream: all of it, or, in part, as far as it goes.
+/// Reads the rest of a stream, all of it, or, in part, as far as it goes, and returns its lines and
+/// its first fault.
 fn read_lines<R: Read + Drop>(
     decoder: &mut Decoder<R>,
     is_partial: bool,
-) -> std::result::Result<PartialLines, Refusal>
+) -> std::result::Result<(DecodedLines, Option<Error>), Refusal>
     requires read { decoder.old.stage ≡ HeaderRead }
     ensures stays { IfOk result
         (λ _. decoder.new.found.said.frame ≡ decoder.old.found.said.frame) }
     ensures counted { IfOk result (λ _. IsCounted decoder.new.found.said.frame) }
-    ensures lines { IfOk result (λ p. AreLinesOf decoder.new.found.said.frame p.lines) }
-    ensures entire { is_partial ≡ false → IfOk result (λ p. p.fault ≡ None) }
+    ensures lines { IfOk result (λ p. AreLinesOf decoder.new.found.said.frame p.0) }
+    ensures entire { is_partial ≡ false → IfOk result (λ p. p.1 ≡ None) }
     ensures reads { is_partial ≡ false → IfOk result (λ p. Answers {X = Unit {0}}
-        (λ u. (told_of decoder.new.found.said, concat p.lines))
+        (λ u. (told_of decoder.new.found.said, concat p.0))
         (rest_at decoder.old.settings decoder.old.found) decoder.old.source (Ok tt)
         decoder.new.source) }
     ensures images { is_partial ≡ false → IfOk result (λ p. DecodesImages {X = Unit {0}}
-        (λ u. concat p.lines) decoder.old (Ok tt) decoder.new) }
+        (λ u. concat p.0) decoder.old (Ok tt) decoder.new) }
     ensures shown { is_partial ≡ true → decoder.old.source.known ≡ true → IfOk result (λ p. Brings
         (shown_rest decoder.old.settings decoder.old.found decoder.old.source.bytes)
-        (concat p.lines) p.fault (told_of decoder.new.found.said)) }
+        (concat p.0) p.1 (told_of decoder.new.found.said)) }
     ensures named { is_partial ≡ false → decoder.old.source.known ≡ true
         → IfErr result (IsFault (rest_at decoder.old.settings decoder.old.found
         decoder.old.source.bytes)) }
@@ -126,7 +126,7 @@ fn read_lines<R: Read + Drop>(
         return read_part(decoder);
     }
     match decoder.decode_lines() {
-        Ok(lines) => Ok(PartialLines { lines, fault: None }),
+        Ok(lines) => Ok((lines, None)),
         Err(error) => Err(refusal_of(decoder, error)),
     }
 }
@@ -175,9 +175,9 @@ fn decode_lines<R: Read + Drop>(
     // After a refusal the caller's memory is as it was, so all memory is taken before.
     let mut row = stored_line(alloc, lines)?;
     match read_lines(decoder, is_partial) {
-        Ok(mut read) => {
-            put_lines(&mut read.lines, lines, &mut row, pixels);
-            outcome_of(read.fault)
+        Ok((mut decoded, fault)) => {
+            put_lines(&mut decoded, lines, &mut row, pixels);
+            outcome_of(fault)
         }
         Err(refusal) => Err(refusal),
     }

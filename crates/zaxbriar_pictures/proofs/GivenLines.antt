@@ -1,6 +1,7 @@
 -- What a decoder gives whose header was read: the whole of its stream, or what there is of it.
 use Rattle.std.proofs.Common.{◌≡◌, ◌∙◌, ℕ, List, Option, None, Some, Result, Ok, Err, Bool, true, false, ap, refl, subst, sym}
 use Rattle.std.specs.Prelude.{IfOk, IfSome, IsSomeAnd}
+use Rattle.std.specs.List.{concat}
 use Rattle.jpeg_bits.specs.Reading.{IsGivenUp, Outcome, ◌>>=◌}
 use Rattle.jpeg_bits.specs.declared.error.Error.{Error}
 use Rattle.jpeg_streams.specs.Output.{default_settings}
@@ -41,18 +42,20 @@ still-known true fault failed given_up none = refl
 still-known false None failed given_up none = absurd (given_up refl)
 still-known false (Some e) failed given_up none = absurd (none (given_up refl))
 
-pub partial-gives : {X : Type 0} (bytes_of : X → List ℕ) (fault_of : X → Option Error) (old new : Decoding) (shown : X)
-    (failed : Bool) (r : Result X Error) → old.stage ≡ HeaderRead → old.settings ≡ default_settings
-    → Shows bytes_of fault_of old (Ok shown) new → failed ≡ new.source.failed → IfOk r (λ x. x ≡ shown)
-    → IfOk r (λ x. IfSome (fault_of x) (λ e. IsGivenUp e failed → ⊥))
-    → IfOk r (λ x. GivesRest Partial old new (bytes_of x) (fault_of x))
-partial-gives bytes_of fault_of old new shown failed (Err e) at plain d seen same none = tt
-partial-gives {X} bytes_of fault_of old new shown failed (Ok x) at plain d seen same none =
-    subst (λ (y : X). GivesRest Partial old new (bytes_of y) (fault_of y)) (sym same) (λ known.
+pub partial-gives : {X : Type 0} (lines_of : X → List (List ℕ)) (fault_of : X → Option Error) (old new : Decoding)
+    (shown : X) (failed : Bool) (r : Result (List (List ℕ) × Option Error) Error) → old.stage ≡ HeaderRead
+    → old.settings ≡ default_settings → Shows (λ x. concat (lines_of x)) fault_of old (Ok shown) new
+    → failed ≡ new.source.failed → IfOk r (λ p. (p.0 ≡ lines_of shown) × (p.1 ≡ fault_of shown))
+    → IfOk r (λ p. IfSome p.1 (λ e. IsGivenUp e failed → ⊥))
+    → IfOk r (λ p. GivesRest Partial old new (concat p.0) p.1)
+partial-gives lines_of fault_of old new shown failed (Err e) at plain d seen same none = tt
+partial-gives lines_of fault_of old new shown failed (Ok p) at plain d seen same none =
+    subst (λ (l : List (List ℕ)). GivesRest Partial old new (concat l) p.1) (sym same.0)
+    (subst (λ (f : Option Error). GivesRest Partial old new (concat (lines_of shown)) f) (sym same.1) (λ known.
     let now = reading old.stage at in
     let still = still-known new.source.known (fault_of shown) new.source.failed (d.given_up now known)
-    (subst (λ (y : X). IfSome (fault_of y) (λ e. IsGivenUp e new.source.failed → ⊥)) same
-    (subst (λ (b : Bool). IfSome (fault_of x) (λ e. IsGivenUp e b → ⊥)) seen none)) in
+    (subst (λ (f : Option Error). IfSome f (λ e. IsGivenUp e new.source.failed → ⊥)) same.1
+    (subst (λ (b : Bool). IfSome p.1 (λ e. IsGivenUp e b → ⊥)) seen none)) in
     let s = d.shown now known still in (
       s.0,
       ap (λ (s : Settings). shown_rest s old.found old.source.bytes) (sym plain)
@@ -60,4 +63,4 @@ partial-gives {X} bytes_of fault_of old new shown failed (Ok x) at plain d seen 
       s.2,
       s.3,
       s.4,
-    ))
+    )))

@@ -11,7 +11,7 @@ ghost use Rattle.zaxbriar_pictures.specs.declared.extents.Extent.TheVariants.{Pa
 
 use crate::netpbm::Picture;
 use jpeg_decoder::error::{Error, Result};
-use jpeg_decoder::{Decoder, PartialLines};
+use jpeg_decoder::{Decoder, Lines, PartialLines};
 use std::alloc::Global;
 use std::io::Read;
 
@@ -36,25 +36,24 @@ fn is_of_reader(fault: &Error, has_failed: bool) -> bool
     }
 }
 
-/// Refuses what was shown where its fault is that of the reader.
-fn refuse_of_reader(shown: PartialLines, has_failed: bool) -> Result<PartialLines>
-    ensures same { IfOk result (λ p. p ≡ shown) }
-    ensures of_bytes { IfOk result (λ p. IfSome p.fault (λ e. IsGivenUp e has_failed → ⊥)) }
+/// Returns the lines that were shown, and their fault, or refuses them where that is the reader's.
+fn refuse_of_reader(shown: PartialLines, has_failed: bool) -> Result<(Lines, Option<Error>)>
+    ensures same { IfOk result (λ p. (p.0 ≡ shown.lines) × (p.1 ≡ shown.fault)) }
+    ensures of_bytes { IfOk result (λ p. IfSome p.1 (λ e. IsGivenUp e has_failed → ⊥)) }
 {
-    let PartialLines { lines, fault } = shown;
+    let PartialLines { lines, fault, .. } = shown;
     match fault {
         Some(fault) if is_of_reader(&fault, has_failed) => Err(fault),
-        fault => Ok(PartialLines { lines, fault }),
+        fault => Ok((lines, fault)),
     }
 }
 
 /// Decodes what there is of the stream of a decoder, whose header was read. A read that fails is an
 /// error.
-fn decode_partial<R: Read + Drop>(decoder: &mut Decoder<R>) -> Result<PartialLines>
+fn decode_partial<R: Read + Drop>(decoder: &mut Decoder<R>) -> Result<(Lines, Option<Error>)>
     requires header { decoder.old.stage ≡ HeaderRead }
     requires plain { decoder.old.settings ≡ default_settings }
-    ensures gives { IfOk result (λ p. GivesRest Partial decoder.old decoder.new (concat p.lines)
-        p.fault) }
+    ensures gives { IfOk result (λ p. GivesRest Partial decoder.old decoder.new (concat p.0) p.1) }
     ensures framed { IfOk result (λ _. is_some decoder.new.found.said.frame ≡ true) }
 {
     let shown = decoder.decode_partial_lines()?;
@@ -62,27 +61,25 @@ fn decode_partial<R: Read + Drop>(decoder: &mut Decoder<R>) -> Result<PartialLin
 }
 
 /// Decodes the whole stream of a decoder, whose header was read.
-fn decode_whole<R: Read + Drop>(decoder: &mut Decoder<R>) -> Result<PartialLines>
+fn decode_whole<R: Read + Drop>(decoder: &mut Decoder<R>) -> Result<(Lines, Option<Error>)>
     requires header { decoder.old.stage ≡ HeaderRead }
     requires plain { decoder.old.settings ≡ default_settings }
-    ensures gives { IfOk result (λ p. GivesRest Whole decoder.old decoder.new (concat p.lines)
-        p.fault) }
+    ensures gives { IfOk result (λ p. GivesRest Whole decoder.old decoder.new (concat p.0) p.1) }
     ensures framed { IfOk result (λ _. is_some decoder.new.found.said.frame ≡ true) }
 {
     let lines = decoder.decode_lines()?;
-    Ok(PartialLines { lines, fault: None })
+    Ok((lines, None))
 }
 
 /// Decodes as much as is wanted of the stream of a decoder, whose header was read, and returns the
-/// lines of the picture, and the first fault: none of a whole stream.
+/// lines of the picture, and its first fault: none of a whole stream.
 pub(crate) fn decode_wanted_lines<R: Read + Drop>(
     decoder: &mut Decoder<R>,
     extent: Extent,
-) -> Result<PartialLines>
+) -> Result<(Lines, Option<Error>)>
     requires header { decoder.old.stage ≡ HeaderRead }
     requires plain { decoder.old.settings ≡ default_settings }
-    ensures gives { IfOk result (λ p. GivesRest extent decoder.old decoder.new (concat p.lines)
-        p.fault) }
+    ensures gives { IfOk result (λ p. GivesRest extent decoder.old decoder.new (concat p.0) p.1) }
     ensures framed { IfOk result (λ _. is_some decoder.new.found.said.frame ≡ true) }
 {
     match extent {
@@ -102,7 +99,7 @@ pub(crate) fn decode_wanted_picture<R: Read + Drop>(
     requires plain { decoder.old.settings ≡ default_settings }
     ensures { IfOk result (λ p. GivesPicture extent decoder.old decoder.new (decoded_in p.0) p.1) }
 {
-    let PartialLines { lines, fault } = decode_wanted_lines(decoder, extent)?;
+    let (lines, fault) = decode_wanted_lines(decoder, extent)?;
     let info = decoder.info().unwrap();
     let precision = decoder.precision().unwrap();
     let pixels = lines.into_picture(alloc)?;

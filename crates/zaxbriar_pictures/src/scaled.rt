@@ -31,7 +31,7 @@ use crate::turns::bytes_of;
 use jpeg_decoder::error::Error;
 use jpeg_decoder::orientation::orientation_of;
 use jpeg_decoder::parser::Dimensions;
-use jpeg_decoder::{Decoder, ImageInfo, Lines, PartialLines, Scale, error};
+use jpeg_decoder::{Decoder, ImageInfo, Lines, Scale, error};
 use std::alloc::Global;
 use std::io::{Read, Write};
 
@@ -356,7 +356,7 @@ fn write_decoded<R: Read + Drop, W: Write>(
     ensures { IfOk result (λ fault. WritesFile extent decoder.old decoder.new
         (W.contents writer.old) (W.contents writer.new) fault) }
 {
-    let PartialLines { lines, fault } = decode_wanted_lines(decoder, extent)?;
+    let (lines, fault) = decode_wanted_lines(decoder, extent)?;
     let info = decoder.info().unwrap();
     let precision = decoder.precision().unwrap();
     write_lines_of(alloc, info, precision, lines, writer)?;

@@ -1,7 +1,7 @@
 //! The picture of what a stream with a fault has brought.
 ghost use Rattle.std.specs.Prelude.{◌≡◌, ◌<◌, ℕ, List, [], false, true};
 ghost use Rattle.std.specs.Prelude.{get_or, IfErr, IfOk, IfSome, is_some, length, None, OnOk};
-ghost use Rattle.std.specs.Prelude.{replicate, Result, Some};
+ghost use Rattle.std.specs.Prelude.{replicate, Result, Some, unwrap_or};
 ghost use Rattle.std.specs.List.{concat};
 ghost use Rattle.jpeg_bits.specs.Reading.{Fault, IsGivenUp};
 ghost use Rattle.jpeg_pixels.specs.Scaled.{IsScale};
@@ -16,11 +16,12 @@ ghost use Rattle.jpeg_streams.specs.Shown.{with_plane_shown, with_samples_shown}
 ghost use Rattle.jpeg_streams.specs.Sound.{HasDecodedFrame, IsDecodedFrame, IsSound};
 ghost use Rattle.jpeg_streams.specs.States.{IsOfBytes};
 ghost use Rattle.jpeg_streams.specs.Stream.{told_of};
+ghost use Rattle.jpeg_streams.specs.WholeRows.{rows_of_found, whole_rows, whole_rows_rest};
 ghost use Rattle.jpeg_decoder.specs.Bytes.{AreLinesOf, IsWhole};
 ghost use Rattle.jpeg_decoder.specs.Reaching.{NamesFault, is_out_of_memory};
 ghost use Rattle.jpeg_decoder.specs.Scanning.{arrays_in};
 ghost use Rattle.jpeg_decoder.specs.Seen.{found_in, said_in};
-ghost use Rattle.jpeg_decoder.specs.Shows.{GivesUp, IsShown, ShowsJust, is_there};
+ghost use Rattle.jpeg_decoder.specs.Shows.{CountsRows, GivesUp, IsShown, ShowsJust, is_there};
 ghost use Rattle.jpeg_decoder.specs.Steps.{with_decoded};
 
 use crate::picture::lines::Lines;
@@ -43,6 +44,9 @@ use std::io::Read;
 pub struct PartialLines {
     /// The lines of the picture. What no scan has brought is mid-grey.
     pub lines: Lines,
+    /// The number of rows, from the top, that come of rows of MCUs that are wholly there: of each
+    /// scan that was begun. All rows if the stream has no fault.
+    pub whole_rows: u16,
     /// The first fault of the stream, or none if it is whole.
     pub fault: Option<Error>,
 }
@@ -229,20 +233,36 @@ fn missing_fault(
     None
 }
 
-/// Gives the lines of the picture of what was found, and the first fault: that of the segments, or
-/// that a component was not sent.
+/// Returns how many rows of the picture are wholly there, of those that the scan with the fault
+/// says: none if a component was not sent.
+fn whole_rows_of(frame: &FrameInfo, rows: Option<u16>, is_missing: bool) -> u16
+    ensures all { is_missing ≡ false
+        → result ≡ unwrap_or rows (frame_in frame.now).output_height }
+    ensures none { is_missing ≡ true → result ≡ 0 }
+{
+    if is_missing {
+        return 0;
+    }
+    rows.unwrap_or(frame.output_size.height)
+}
+
+/// Gives the lines of the picture of what was found, how many of them are wholly there, and the
+/// first fault: that of the segments, or that a component was not sent.
 fn show_found(
     alloc: Global,
     state: &State,
     decoded: &mut Decoded,
     settings: Settings,
     fault: Option<Error>,
+    rows: Option<u16>,
 ) -> Result<PartialLines>
     requires sound { IsSound (with_decoded (found_in state.now) decoded.old) }
     requires fault { IfSome fault IsOfBytes }
     ensures shown { (ended : Result (List ℕ) Fault) → NamesFault fault (fault_in ended)
         → IsShown (shown_of settings (with_decoded (found_in state.now) decoded.old, ended))
         (λ p. concat p.lines) (λ p. p.fault) result (told_of (said_in state.now)) }
+    ensures rows { IfOk result (λ p. p.whole_rows
+        ≡ rows_of_found rows (with_decoded (found_in state.now) decoded.old)) }
     ensures first { IfOk result (λ p. IfSome fault (λ e. p.fault ≡ Some e)) }
     ensures refused { IfErr result IsOfBytes }
     ensures framed { IfOk result (λ _. is_some (said_in state.now).frame ≡ true) }
@@ -255,10 +275,12 @@ fn show_found(
         return Err(format_error(alloc, "found EOI, expected a frame header"));
     };
     let missing = missing_fault(alloc, state, frame, decoded);
+    let whole_rows = whole_rows_of(frame, rows, missing.is_some());
     complete(alloc, state, frame, decoded)?;
     let lines = picture(alloc, state, decoded, settings)?;
     Ok(PartialLines {
         lines,
+        whole_rows,
         fault: fault.or(missing),
     })
 }
@@ -277,7 +299,7 @@ fn is_lost(ended: &Result<()>) -> bool
 }
 
 /// Reads the rest of a stream as far as it goes, and gives the lines of the picture that it has
-/// brought, and its first fault. No blocks or planes are kept.
+/// brought, how many of them are wholly there, and its first fault. No blocks or planes are kept.
 fn show_rest<R: Read + Drop>(
     alloc: Global,
     source: &mut Source<R>,
@@ -288,6 +310,8 @@ fn show_rest<R: Read + Drop>(
     ensures shown { ShowsJust (shown_rest settings (found_in state.old))
         (λ p. concat p.lines) (λ p. p.fault) source.old result source.new
         (told_of (said_in state.new)) }
+    ensures rows { CountsRows (λ p. p.whole_rows) (whole_rows_rest (found_in state.old))
+        source.old result source.new }
     ensures given_up { GivesUp (λ p. p.fault) source.old result source.new }
     ensures refused { IfErr result IsOfBytes }
     ensures framed { IfOk result (λ _. is_some (said_in state.new).frame ≡ true) }
@@ -300,16 +324,18 @@ fn show_rest<R: Read + Drop>(
         × ((found_in state.new).planes ≡ replicate 4 None)
         × ((found_in state.new).samples ≡ replicate 4 None) }
 {
-    let ended = reach_segments(alloc, source, state);
+    let mut rows = None;
+    let ended = reach_segments(alloc, source, state, &mut rows);
     let mut decoded = std::mem::replace(&mut state.decoded, Decoded::new(alloc));
     if is_lost(&ended) {
         return Err(Error::OutOfMemory);
     }
-    show_found(alloc, state, &mut decoded, settings, ended.err())
+    show_found(alloc, state, &mut decoded, settings, ended.err(), rows)
 }
 
 /// Reads a stream, or the rest of one after its header, as far as it goes, and gives the lines of
-/// the picture that it has brought, and its first fault. No blocks or planes are kept.
+/// the picture that it has brought, how many of them are wholly there, and its first fault. No
+/// blocks or planes are kept.
 ///
 /// The error is the fault if the stream has no frame, `Format` if the picture is above the limit or
 /// the transform doesn't fit it, and out of memory.
@@ -324,6 +350,10 @@ pub fn show<R: Read + Drop>(
     requires start { from_start ≡ true → found_in state.old ≡ nothing_found }
     ensures whole { from_start ≡ true → ShowsJust (shown settings) (λ p. concat p.lines)
         (λ p. p.fault) source.old result source.new (told_of (said_in state.new)) }
+    ensures whole_rows { from_start ≡ true → CountsRows (λ p. p.whole_rows) whole_rows source.old
+        result source.new }
+    ensures rest_rows { from_start ≡ false → CountsRows (λ p. p.whole_rows)
+        (whole_rows_rest (found_in state.old)) source.old result source.new }
     ensures rest { from_start ≡ false → ShowsJust (shown_rest settings (found_in state.old))
         (λ p. concat p.lines) (λ p. p.fault) source.old result source.new
         (told_of (said_in state.new)) }

@@ -25,6 +25,7 @@ use crate::scan::planes::Planes;
 use crate::scan::reached::reach_blocks;
 use crate::scan::rows::read_planes;
 use crate::scan::strips::{GrowingPlanes, append_stored, empty_planes, plane_size, sample_table};
+use crate::scan::whole_rows::rows_above_unread;
 use jpeg_bits::blocks::Pass;
 use jpeg_bits::error::{Error, Result};
 use jpeg_bits::marker::Marker;
@@ -46,6 +47,9 @@ pub struct Decoded {
     pub planes: Planes,
     /// The samples of a lossless frame's components, line by line.
     pub samples: [Option<Vec<u16>>; 4],
+    /// Where the last scan was read as far as it goes, and has a fault: how many rows of the
+    /// picture lie above the first block that wasn't read, or are of whole lines of samples.
+    pub rows: Option<u16>,
 }
 
 /// Marks the coefficients that a pass finishes: those that it codes at level 0.
@@ -207,6 +211,7 @@ fn is_out_of_memory(met: &Result<Option<Marker>>) -> bool
 
 impl Decoded {
     ghost use Rattle.jpeg_streams.specs.States.{OnTold};
+    ghost use Rattle.jpeg_streams.specs.WholeRows.{rows_of_codings};
     ghost use Rattle.jpeg_decoder.specs.Reaching.{data_reached, UnlessRefused};
     ghost use Rattle.std.specs.Prelude.{◌≡◌, ◌<◌, [], All, IfOk, OnOk, None, Some};
     ghost use Rattle.std.specs.Prelude.{◌*◌, true, false, length, map, replicate, slice_index_or};
@@ -249,6 +254,7 @@ impl Decoded {
             finished: [[false; 64]; 4],
             planes: Planes::none(),
             samples: [None, None, None, None],
+            rows: None,
         }
     }
 
@@ -592,6 +598,10 @@ impl Decoded {
             ≡ (data_reached (with_decoded base self.old) (frame_in frame.now)
             (pass_in scan.now.pass) (map coding_in scan.now.components.items)
             source.old.bytes).0) }
+        ensures rows { (base : Found) → IsBefore scanned scan.now base
+            → OnTold source.old source.new result (self.new.rows ≡ rows_of_codings
+            (with_decoded base self.old) (frame_in frame.now) (pass_in scan.now.pass)
+            (map coding_in scan.now.components.items) source.old.bytes) }
         ensures data { (base : Found) → IsBefore scanned scan.now base
             → UnlessRefused result (Answers (λ m. m) (λ bytes. (data_reached
             (with_decoded base self.old) (frame_in frame.now) (pass_in scan.now.pass)
@@ -604,12 +614,14 @@ impl Decoded {
     {
         self.keep(alloc, scanned, frame)?;
         let mut arrays = take_blocks(alloc, &scan.components, &mut self.kept)?;
-        let met = reach_blocks(alloc, source, scan, &mut arrays, frame);
+        let mut unread = None;
+        let met = reach_blocks(alloc, source, scan, &mut arrays, frame, &mut unread);
         if is_out_of_memory(&met) {
             return met;
         }
         self.add_arrays(alloc, scan, &arrays)?;
         keep_blocks(alloc, frame, &scan.components, &mut arrays, &mut self.kept);
+        self.rows = rows_above_unread(frame, scan, unread);
         met
     }
 

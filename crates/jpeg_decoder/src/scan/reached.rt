@@ -3,20 +3,24 @@
 //!
 //! The data of a restart interval are gathered up to the marker that ends them, and blocks are read
 //! of them alone: no zeros follow where the marker stands. `decode` never runs this.
-ghost use Rattle.std.specs.Prelude.{◌≡◌, ◌≤◌, ◌*◌, Some, length, OnOk, true};
+ghost use Rattle.std.specs.Prelude.{◌≡◌, ◌≤◌, ◌*◌, Some, length, OnOk, option_map, slice_get};
+ghost use Rattle.std.specs.Prelude.{true};
 ghost use Rattle.std.specs.List.{AllByRecursion};
 ghost use Rattle.jpeg_bits.specs.Entropy.{text_at, upcoming};
 ghost use Rattle.jpeg_bits.specs.Intervals.{first_group};
 ghost use Rattle.jpeg_bits.specs.Reading.{Answers};
 ghost use Rattle.jpeg_segments.specs.FrameView.{frame_in};
 ghost use Rattle.jpeg_streams.specs.Brought.{interval_reached, reached_from, scan_reached};
+ghost use Rattle.jpeg_streams.specs.Brought.{sealed};
 ghost use Rattle.jpeg_streams.specs.InTurn.{AreArrays, Fits, at_start};
 ghost use Rattle.jpeg_streams.specs.Order.{mcu_size, spots_of};
 ghost use Rattle.jpeg_streams.specs.States.{OnTold};
+ghost use Rattle.jpeg_streams.specs.WholeRows.{or_first, unread_from, unread_of_scan};
 ghost use Rattle.jpeg_decoder.specs.Reaching.{after_group, IsAhead, TellsBits, TellsLeft};
 ghost use Rattle.jpeg_decoder.specs.Reaching.{UnlessRefused};
 ghost use Rattle.jpeg_decoder.specs.Scanning.{arrays_in, sizes_of, IsSpotOf};
 ghost use Rattle.jpeg_decoder.specs.Scanning.{scan_components, scan_pass, scan_vias};
+ghost use Rattle.jpeg_decoder.specs.Walk.{spot_of};
 
 use crate::scan::block_array::BlockArray;
 use crate::scan::blocks::reach;
@@ -25,7 +29,7 @@ use crate::scan::data::read_data;
 use crate::scan::order::ScanOrder;
 use crate::scan::refusals::{interval_end, is_near_end, refusal_in_memory};
 use crate::scan::restarts::{is_numbered, pass_restarts};
-use crate::scan::spots::Spots;
+use crate::scan::spots::{Spot, Spots};
 use jpeg_bits::blocks::{BlockCoding, Carried, take_block};
 use jpeg_bits::error::{Result, take_refusal};
 use jpeg_bits::huffman::HuffmanDecoder;
@@ -37,7 +41,8 @@ use std::alloc::Global;
 use std::io::Read;
 
 /// Reads the blocks at the next `n` spots, or at all if `n` is 0, of bytes in memory. After a
-/// refusal the blocks before it are there; the one that it is about is as before.
+/// refusal the blocks before it are there; the one that it is about is as before, and its spot is
+/// the first that is left.
 fn reach_group<R: Read + Drop>(
     decoder: &mut HuffmanDecoder,
     source: &mut Source<R>,
@@ -56,6 +61,10 @@ fn reach_group<R: Read + Drop>(
     ensures arrays { UnlessRefused result (arrays_in arrays.new.items
         ≡ (reached_from (scan_pass scan.now) (scan_vias scan.now) (first_group n spots.old)
         (at_start (arrays_in arrays.old.items)) (upcoming decoder.old source.old.bytes)).0.arrays) }
+    ensures unread { UnlessRefused result (slice_get spots.new 0 ≡ or_first (unread_from
+        (scan_pass scan.now) (scan_vias scan.now) (first_group n spots.old)
+        (at_start (arrays_in arrays.old.items)) (upcoming decoder.old source.old.bytes))
+        (after_group n spots.old)) }
     ensures told { TellsBits (reached_from (scan_pass scan.now) (scan_vias scan.now)
         (first_group n spots.old) (at_start (arrays_in arrays.old.items))
         (upcoming decoder.old source.old.bytes)).1 result
@@ -67,7 +76,7 @@ fn reach_group<R: Read + Drop>(
     let mut refusal = None;
     let mut left = n;
     while n == 0 || left > 0 {
-        let Some(spot) = spots.next() else {
+        let Some(spot) = spots.first() else {
             return Ok(());
         };
         reach(arrays, spot)?;
@@ -85,6 +94,7 @@ fn reach_group<R: Read + Drop>(
             *block = before;
             return Err(refusal_in_memory(take_refusal(&mut refusal), source.has_failed()));
         }
+        spots.next();
         left = left.saturating_sub(1);
     }
     Ok(())
@@ -92,7 +102,7 @@ fn reach_group<R: Read + Drop>(
 
 /// Reads the blocks at the next `n` spots, or at all if `n` is 0, in the bytes of an interval, and
 /// returns whether at most 56 bits are left after them. After a refusal the blocks before it are
-/// there; the one that it is about is as before.
+/// there; the one that it is about is as before, and its spot is the first that is left.
 fn reach_spots(
     alloc: Global,
     bytes: &[u8],
@@ -109,6 +119,9 @@ fn reach_spots(
     ensures arrays { UnlessRefused result (arrays_in arrays.new.items
         ≡ (reached_from (scan_pass scan.now) (scan_vias scan.now) (first_group n spots.old)
         (at_start (arrays_in arrays.old.items)) (text_at bytes.now)).0.arrays) }
+    ensures unread { UnlessRefused result (slice_get spots.new 0 ≡ or_first (unread_from
+        (scan_pass scan.now) (scan_vias scan.now) (first_group n spots.old)
+        (at_start (arrays_in arrays.old.items)) (text_at bytes.now)) (after_group n spots.old)) }
     ensures told { TellsLeft (reached_from (scan_pass scan.now) (scan_vias scan.now)
         (first_group n spots.old) (at_start (arrays_in arrays.old.items)) (text_at bytes.now)).1
         result }
@@ -137,6 +150,10 @@ fn reach_interval<R: Read + Drop>(
     ensures arrays { OnTold source.old source.new result (arrays_in arrays.new.items
         ≡ (interval_reached (scan_pass scan.now) (scan_vias scan.now) (first_group n spots.old)
         (arrays_in arrays.old.items) source.old.bytes).0) }
+    ensures unread { OnTold source.old source.new result (slice_get spots.new 0 ≡ or_first
+        (unread_from (scan_pass scan.now) (scan_vias scan.now) (first_group n spots.old)
+        (at_start (arrays_in arrays.old.items)) (sealed (text_at source.old.bytes)))
+        (after_group n spots.old)) }
     ensures answers { Answers (λ r. (r.0, Some r.1)) (λ bytes. (interval_reached
         (scan_pass scan.now) (scan_vias scan.now) (first_group n spots.old)
         (arrays_in arrays.old.items) bytes).1) source.old result source.new }
@@ -149,7 +166,7 @@ fn reach_interval<R: Read + Drop>(
 
 /// Reads the blocks at some spots as far as they go, in restart intervals of `n` blocks, or in one
 /// where `n` is 0, and returns the marker after them, if it was reached, and after the restart
-/// markers at their end.
+/// markers at their end. The spots that are left begin with the first whose block wasn't read.
 fn reach_intervals<R: Read + Drop>(
     alloc: Global,
     source: &mut Source<R>,
@@ -165,6 +182,9 @@ fn reach_intervals<R: Read + Drop>(
     ensures arrays { OnTold source.old source.new result (arrays_in arrays.new.items
         ≡ (scan_reached (scan_pass scan.now) n (scan_vias scan.now) spots.old
         (arrays_in arrays.old.items) source.old.bytes).0) }
+    ensures unread { OnTold source.old source.new result (slice_get spots.new 0
+        ≡ unread_of_scan (scan_pass scan.now) n (scan_vias scan.now) spots.old
+        (arrays_in arrays.old.items) source.old.bytes) }
     ensures answers { Answers (λ m. m) (λ bytes. (scan_reached (scan_pass scan.now) n
         (scan_vias scan.now) spots.old (arrays_in arrays.old.items) bytes).1) source.old result
         source.new }
@@ -189,12 +209,14 @@ fn reach_intervals<R: Read + Drop>(
 /// marker after it, if it was reached, and after the restart markers at its end.
 ///
 /// After an error other than out of memory the blocks before the one that it is about are there.
+/// The first block that wasn't read is `unread`.
 pub fn reach_blocks<R: Read + Drop>(
     alloc: Global,
     source: &mut Source<R>,
     scan: &Scan<'_>,
     arrays: &mut Vec<BlockArray>,
     frame: &FrameInfo,
+    unread: &mut Option<Spot>,
 ) -> Result<Option<Marker>>
     requires keeps { scan.now.keeps_ac ≡ true }
     requires some { 1 ≤ length scan.now.components.items }
@@ -206,6 +228,11 @@ pub fn reach_blocks<R: Read + Drop>(
         (scan.now.restart_interval * mcu_size (scan_components scan.now)) (scan_vias scan.now)
         (spots_of (frame_in frame.now) (scan_components scan.now)) (arrays_in arrays.old.items)
         source.old.bytes).0) }
+    ensures unread { OnTold source.old source.new result (option_map spot_of unread.new
+        ≡ unread_of_scan (scan_pass scan.now)
+        (scan.now.restart_interval * mcu_size (scan_components scan.now)) (scan_vias scan.now)
+        (spots_of (frame_in frame.now) (scan_components scan.now)) (arrays_in arrays.old.items)
+        source.old.bytes) }
     ensures answers { Answers (λ m. m) (λ bytes. (scan_reached (scan_pass scan.now)
         (scan.now.restart_interval * mcu_size (scan_components scan.now)) (scan_vias scan.now)
         (spots_of (frame_in frame.now) (scan_components scan.now)) (arrays_in arrays.old.items)
@@ -213,5 +240,7 @@ pub fn reach_blocks<R: Read + Drop>(
 {
     let order = ScanOrder::new(alloc, scan, frame)?;
     let mut spots = order.spots();
-    reach_intervals(alloc, source, scan, arrays, order.interval, &mut spots)
+    let met = reach_intervals(alloc, source, scan, arrays, order.interval, &mut spots);
+    *unread = spots.first();
+    met
 }

@@ -17,6 +17,8 @@ ghost use Rattle.jpeg_streams.specs.LosslessScans.{LosslessCoding};
 ghost use Rattle.jpeg_streams.specs.ScanSegments.{once_scanned};
 ghost use Rattle.jpeg_streams.specs.Sound.{IsSound};
 ghost use Rattle.jpeg_streams.specs.States.{OnTold};
+ghost use Rattle.jpeg_streams.specs.Brought.{planes_brought};
+ghost use Rattle.jpeg_streams.specs.WholeRows.{rows_of_planes};
 ghost use Rattle.jpeg_decoder.specs.Reaching.{IsSampleScan, TellsLeft, UnlessRefused};
 ghost use Rattle.jpeg_decoder.specs.Reaching.{planes_reached, rows_appended, sample_codings};
 ghost use Rattle.jpeg_decoder.specs.Reaching.{samples_reached};
@@ -28,6 +30,7 @@ use crate::scan::lossless::SampleScan;
 use crate::scan::refusals::{interval_end, is_near_end, refusal_in_memory};
 use crate::scan::restarts::{is_numbered, pass_restarts};
 use crate::scan::samples::complete_all;
+use crate::scan::whole_rows::rows_of_planes;
 use jpeg_bits::error::Result;
 use jpeg_bits::huffman::HuffmanDecoder;
 use jpeg_bits::marker::{Marker, restart_error};
@@ -151,6 +154,12 @@ pub fn reach_samples<R: Read + Drop>(
         → OnTold source.old source.new result (once_scanned (found_of scan.now.said.now decoded.new)
         ≡ (samples_reached (found_of scan.now.said.now decoded.old) (frame_in scan.now.frame.now)
         (scan_in scan.now.header.now) codings source.old.bytes).0) }
+    ensures rows { (codings : List LosslessCoding) → sample_codings (said_of scan.now.said.now)
+        (frame_in scan.now.frame.now) (scan_in scan.now.header.now) ≡ Ok codings
+        → OnTold source.old source.new result (decoded.new.rows
+        ≡ rows_of_planes (frame_in scan.now.frame.now) codings (planes_brought
+        (found_of scan.now.said.now decoded.old) (frame_in scan.now.frame.now)
+        (scan_in scan.now.header.now) codings source.old.bytes).0) }
     ensures answers { (codings : List LosslessCoding) → sample_codings (said_of scan.now.said.now)
         (frame_in scan.now.frame.now) (scan_in scan.now.header.now) ≡ Ok codings
         → UnlessRefused result (Answers (λ m. m) (λ bytes. (samples_reached
@@ -164,7 +173,9 @@ pub fn reach_samples<R: Read + Drop>(
     let met = reach_intervals(alloc, source, &coding, &mut rows, scan.rows);
     let mut planes = rows.finish(&coding);
     let indices = scan.header.component_indices.as_slice();
+    let whole = rows_of_planes(scan.frame, indices, &planes);
     complete_all(scan.frame, indices, &decoded.samples, &mut planes)?;
     decoded.put_samples(alloc, indices, &mut planes);
+    decoded.rows = whole;
     met
 }

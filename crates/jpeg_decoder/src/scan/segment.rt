@@ -8,10 +8,11 @@ ghost use Rattle.jpeg_streams.specs.ScanSegments.{once_scanned, scan_segment};
 ghost use Rattle.jpeg_bits.specs.declared.marker.Marker.TheVariants.{DNL};
 ghost use Rattle.jpeg_streams.specs.Found.{Found};
 ghost use Rattle.jpeg_streams.specs.Stream.{segment_at};
-ghost use Rattle.std.specs.Prelude.{List, ℕ, ◌≡◌};
+ghost use Rattle.std.specs.Prelude.{List, None, OnOk, ℕ, ◌≡◌};
 ghost use Rattle.jpeg_streams.specs.Brought.{scan_brought};
 ghost use Rattle.jpeg_streams.specs.States.{OnToldRefusal};
-ghost use Rattle.jpeg_decoder.specs.Reaching.{IsEndOf, UnlessRefused};
+ghost use Rattle.jpeg_decoder.specs.Reaching.{IsEndOf, UnlessRefused, rows_after};
+ghost use Rattle.jpeg_streams.specs.WholeRows.{rows_of_scan};
 
 use crate::scan::coded::{Scan, wants_ac};
 use crate::scan::codings::{codings_of, pass_of, spare_tables, widen_tables};
@@ -44,14 +45,20 @@ pub fn refused_line_count(alloc: Global, before: Before) -> Error
 }
 
 /// Marks that the data of a scan were read as far as they go, and returns what stands after it, or
-/// the refusal of its data.
-fn end_reached(state: &mut State, reached: Result<Option<Marker>>) -> Result<Step>
+/// the refusal of its data, and with that the rows of the picture that are wholly there.
+fn end_reached(
+    state: &mut State,
+    reached: Result<Option<Marker>>,
+    rows: &mut Option<u16>,
+) -> Result<Step>
+    ensures rows { rows.new ≡ rows_after reached rows.old state.old.decoded.rows }
     ensures found { found_in state.new ≡ once_scanned (found_in state.old) }
     ensures step { IsEndOf (found_in state.old) (turn_of state.new) reached result }
 {
     match reached {
         Ok(met) => Ok(state.end_scan(met)),
         Err(e) => {
+            *rows = state.decoded.rows;
             state.end_scan(None);
             Err(e)
         }
@@ -62,13 +69,19 @@ fn end_reached(state: &mut State, reached: Result<Option<Marker>>) -> Result<Ste
 /// the restart markers at its end, if one was reached.
 ///
 /// After an error other than out of memory the blocks count that were read before it, or the rows
-/// of MCUs of a lossless scan.
+/// of MCUs of a lossless scan. Where it lacks some, `rows` says how many rows of the picture are
+/// wholly there.
 pub fn reach_scan<R: Read + Drop>(
     alloc: Global,
     source: &mut Source<R>,
     state: &mut State,
+    rows: &mut Option<u16>,
 ) -> Result<Step>
     requires sound { IsSound (found_in state.old) }
+    requires rows { rows.old ≡ None }
+    ensures whole { OnOk result (rows.new ≡ None) }
+    ensures rows { OnToldRefusal source.old source.new result (rows.new
+        ≡ rows_of_scan (found_in state.old) source.old.bytes) }
     ensures reads { UnlessRefused result (Answers (turn_of state.new) (λ bytes. (scan_brought
         (found_in state.old) bytes).1) source.old result source.new) }
     ensures found { OnToldRefusal source.old source.new result (found_in state.new
@@ -85,7 +98,7 @@ pub fn reach_scan<R: Read + Drop>(
         let reached = reach_samples(alloc, source, &scan, &mut state.decoded);
         // It borrows from `state`, which changes now.
         drop(scan);
-        return end_reached(state, reached);
+        return end_reached(state, reached, rows);
     }
     let spare = spare_tables(alloc, &header, frame, said.metadata.avi1)?;
     let components = codings_of(alloc, said, &spare, frame, &header)?;
@@ -100,7 +113,7 @@ pub fn reach_scan<R: Read + Drop>(
         .reach(alloc, source, said.scanned, frame, &scan);
     // It borrows from `state`, which changes now.
     drop(scan);
-    end_reached(state, reached)
+    end_reached(state, reached, rows)
 }
 
 /// Reads a scan, and returns what stands after it: the marker after it and after the restart

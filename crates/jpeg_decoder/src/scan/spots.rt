@@ -65,7 +65,7 @@ impl<'a> Model for Spots<'a> {
 }
 
 impl<'a> Spots<'a> {
-    ghost use Rattle.std.specs.Prelude.{◌≡◌, ◌<◌, [], length, true, false};
+    ghost use Rattle.std.specs.Prelude.{◌≡◌, ◌<◌, [], drop, length, true, false};
     ghost use Rattle.jpeg_decoder.specs.Walk.{raster, spots_at, NextSpot};
 
     /// Makes the blocks of the MCUs of these members, `wide` MCUs across and `high` down.
@@ -105,6 +105,25 @@ impl<'a> Spots<'a> {
         }
         let member = self.members[self.number];
         self.number += 1;
+        Some(Spot {
+            slot: usize::from(member.slot),
+            index: member.index(self.row, self.column),
+        })
+    }
+
+    /// Returns the next block, and doesn't take it.
+    #[tactic(auto, using(crate::proofs::Walks::spots_rules))]
+    pub fn first(&mut self) -> Option<Spot>
+        ensures first { NextSpot self.old result (drop 1 self.old) }
+        ensures same { self.new ≡ self.old }
+    {
+        if self.number == self.members.len() {
+            let (row, column) = self.mcus.next()?;
+            self.row = row;
+            self.column = column;
+            self.number = 0;
+        }
+        let member = self.members[self.number];
         Some(Spot {
             slot: usize::from(member.slot),
             index: member.index(self.row, self.column),

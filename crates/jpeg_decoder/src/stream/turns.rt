@@ -8,6 +8,7 @@ ghost use Rattle.jpeg_streams.specs.Sound.{IsSound, IsUnread};
 ghost use Rattle.jpeg_streams.specs.States.{OnTold, OnToldRefusal};
 ghost use Rattle.jpeg_streams.specs.Stream.{segment_at, segments_at, told_of, turn_at};
 ghost use Rattle.jpeg_streams.specs.Brought.{all_brought, turn_brought};
+ghost use Rattle.jpeg_streams.specs.WholeRows.{rows_of_turn, rows_of_walk};
 ghost use Rattle.jpeg_bits.specs.declared.marker.Marker.TheVariants.{SOS};
 ghost use Rattle.jpeg_decoder.specs.Reaching.{OnFault, UnlessRefused, walk_end, without_tables};
 ghost use Rattle.jpeg_decoder.specs.Seen.{found_in, said_in};
@@ -96,7 +97,7 @@ fn read_turn<R: Read + Drop>(
 }
 
 /// Reads one marker, which may have been reached already, and what stands after it, a scan as far
-/// as it goes.
+/// as it goes: see `reach_scan`.
 #[tactic(auto, unfolding(crate::proofs::Rules::turns))]
 fn reach_turn<R: Read + Drop>(
     alloc: Global,
@@ -104,8 +105,13 @@ fn reach_turn<R: Read + Drop>(
     state: &mut State,
     before: Before,
     met: Option<Marker>,
+    rows: &mut Option<u16>,
 ) -> Result<Step>
     requires sound { IsSound (found_in state.old) }
+    requires rows { rows.old ≡ None }
+    ensures whole { OnOk result (rows.new ≡ None) }
+    ensures rows { OnToldRefusal source.old source.new result (rows.new
+        ≡ rows_of_turn (found_in state.old) met source.old.bytes) }
     ensures reads { UnlessRefused result (Answers (turn_of state.new) (λ bytes. (turn_brought before
         (found_in state.old) met bytes).1) source.old result source.new) }
     ensures found { OnToldRefusal source.old source.new result
@@ -117,7 +123,7 @@ fn reach_turn<R: Read + Drop>(
 {
     let marker = marker_or_next(alloc, source, met)?;
     if marker == Marker::SOS {
-        return reach_scan(alloc, source, state);
+        return reach_scan(alloc, source, state, rows);
     }
     read_segment(alloc, source, state, before, marker)
 }
@@ -170,13 +176,18 @@ pub fn read_segments<R: Read + Drop>(
 }
 
 /// Reads segments and scans up to the end of the image or the first fault, of the scan that it is
-/// in what stands before it.
+/// in what stands before it. Where that lacks some, `rows` says how many rows of the picture are
+/// wholly there.
 pub fn reach_segments<R: Read + Drop>(
     alloc: Global,
     source: &mut Source<R>,
     state: &mut State,
+    rows: &mut Option<u16>,
 ) -> Result<()>
     requires sound { IsSound (found_in state.old) }
+    requires rows { rows.old ≡ None }
+    ensures rows { OnTold source.old source.new result (rows.new ≡ rows_of_walk
+        (suc (length source.old.bytes)) Elsewhere (found_in state.old) None source.old.bytes) }
     ensures reads { UnlessRefused result (Answers (λ _. tt) (λ bytes. walk_end (all_brought
         (found_in state.old) bytes)) source.old result source.new) }
     ensures found { OnTold source.old source.new result (without_tables (found_in state.new)
@@ -189,7 +200,7 @@ pub fn reach_segments<R: Read + Drop>(
     let mut before = Before::Elsewhere;
     let mut met = None;
     for _ in 0..=u64::MAX {
-        let step = reach_turn(alloc, source, state, before, met)?;
+        let step = reach_turn(alloc, source, state, before, met, rows)?;
         if step.ended {
             return Ok(());
         }

@@ -1,10 +1,9 @@
-use Rattle.std.specs.List.{concat}
 use Rattle.zaxbriar_pictures.proofs.GivenLines.{partial-gives}
 use Rattle.zaxbriar_pictures.proofs.extents.decode_partial.Goals as goal
 
 pub returns-clause-gives : goal.returns-clause-gives
 returns-clause-gives g c =
-    partial-gives (λ p. concat p.lines) (λ p. p.fault) c.args.decoder.now c.decode_partial_lines.new.self
+    partial-gives (λ p. p.lines) (λ p. p.fault) c.args.decoder.now c.decode_partial_lines.new.self
     c.in_ok-shown.shown c.has_read_failed.result c.refuse_of_reader.result c.requires.header
     c.requires.plain c.in_ok-shown.ensures.shows c.has_read_failed.ensures
     c.refuse_of_reader.ensures.same c.refuse_of_reader.ensures.of_bytes

@@ -5,7 +5,7 @@ use Rattle.zaxbriar_pictures.proofs.scaled.write_decoded.Goals as goal
 
 pub returns : goal.returns
 returns g c = record {
-  picture = decoded c.unwrap-info.result c.unwrap-precision.result (concat c.in_ok-lines.field-0.lines);
+  picture = decoded c.unwrap-info.result c.unwrap-precision.result (concat c.in_ok-lines.lines);
   gives = record {
     rest = c.in_ok-lines.ensures.gives;
     info_is = sym c.info.ensures ∙ c.unwrap-info.ensures;

@@ -1,4 +1,4 @@
-use Rattle.std.proofs.Common.{rules, arith}
+use Rattle.std.proofs.Common.{◌∙◌, rules, arith}
 use Rattle.std.proofs.lemmas.Grind.{common_steps}
 use Rattle.std.proofs.lemmas.Result.{err_from_is_err_and}
 use Rattle.std.specs.List.{concat}
@@ -6,6 +6,7 @@ use Rattle.jpeg_segments.specs.FrameView.{frame_in}
 use Rattle.jpeg_decoder.specs.Seen.{found_in}
 use Rattle.jpeg_decoder.specs.Steps.{with_decoded}
 use Rattle.jpeg_decoder.proofs.ShownFaults.{first-stays, framed-lacks, framed-shown, unframed-end, unframed-fault}
+use Rattle.jpeg_decoder.proofs.ShownRows.{found-counted}
 use Rattle.jpeg_decoder.proofs.picture.partial.show_found.Goals as goal
 
 pub returns-in-Some-fault-clause-shown : goal.returns-in-Some-fault-clause-shown
@@ -35,3 +36,10 @@ returns-clause-shown c ended n =
 pub returns-clause-first : goal.returns-clause-first
 returns-clause-first c =
     first-stays c.args.fault c.missing_fault-missing.result c.or.result c.or.ensures
+
+pub returns-clause-rows : goal.returns-clause-rows
+returns-clause-rows c =
+    found-counted c.args.rows (with_decoded (found_in c.args.state.now) c.args.decoded.now)
+    (frame_in c.in-Some.frame.now) c.missing_fault-missing.result c.whole_rows_of-whole_rows.result (search rules)
+    c.missing_fault-missing.ensures (λ e. c.whole_rows_of-whole_rows.ensures.all (c.is_some.ensures ∙ e))
+    (λ e. c.whole_rows_of-whole_rows.ensures.none (c.is_some.ensures ∙ e))

@@ -11,6 +11,7 @@ use Rattle.jpeg_decoder.specs.declared.scan.decoded.Decoded.{Decoded}
 use Rattle.jpeg_decoder.proofs.LosslessReads.{on-ok}
 use Rattle.jpeg_decoder.proofs.PictureSizes.{lines-whole}
 use Rattle.jpeg_decoder.proofs.ShownFaults.{ended-bytes, rest-given-up, rest-shown, then-holds}
+use Rattle.jpeg_decoder.proofs.ShownRows.{rest-counted}
 use Rattle.jpeg_decoder.proofs.picture.partial.show_rest.Goals as goal
 
 pub show_found-requires : goal.show_found-requires
@@ -37,6 +38,17 @@ returns-clause-shown g c =
     c.reach_segments-ended.ensures.found c.err.ensures.value
     (ap (λ (d : Decoded). with_decoded (found_in c.reach_segments-ended.new.state) d) c.replace-decoded.ensures.value)
     c.show_found.ensures.shown
+
+pub returns-clause-rows : goal.returns-clause-rows
+returns-clause-rows g c =
+    rest-counted {X = PartialLines} (λ p. p.whole_rows) (found_in c.args.state.now)
+    (found_in c.reach_segments-ended.new.state)
+    (with_decoded (found_in c.reach_segments-ended.new.state) c.replace-decoded.result) c.args.source.now
+    c.reach_segments-ended.new.source c.reach_segments-ended.result c.reach_segments-ended.new.rows
+    c.show_found.result (c.is_lost.ensures.memory c.if-is_lost.false) c.reach_segments-ended.ensures.found
+    c.reach_segments-ended.ensures.rows
+    (ap (λ (d : Decoded). with_decoded (found_in c.reach_segments-ended.new.state) d) c.replace-decoded.ensures.value)
+    c.show_found.ensures.rows
 
 pub returns-clause-given_up : goal.returns-clause-given_up
 returns-clause-given_up g c =

@@ -1,9 +1,11 @@
-use Rattle.std.proofs.Common.{◌∙◌, Bool, sym, subst}
+use Rattle.std.proofs.Common.{◌∙◌, ap, Bool, Option, sym, subst}
 use Rattle.jpeg_bits.specs.Intervals.{first_group}
-use Rattle.jpeg_decoder.specs.Reaching.{IsIntervalEnd}
+use Rattle.jpeg_streams.specs.Order.{Spot}
+use Rattle.jpeg_streams.specs.WholeRows.{or_first}
+use Rattle.jpeg_decoder.specs.Reaching.{after_group, IsIntervalEnd}
 use Rattle.jpeg_decoder.specs.Scanning.{arrays_in, scan_pass, scan_vias}
 use Rattle.jpeg_decoder.proofs.ReachedIntervals.{end-answers, end-found, end-reached, interval-arrays}
-use Rattle.jpeg_decoder.proofs.ReachedIntervals.{interval-outcome, outcome_of, read_of}
+use Rattle.jpeg_decoder.proofs.ReachedIntervals.{interval-outcome, interval-unread, outcome_of, read_of}
 use Rattle.jpeg_decoder.proofs.scan.reached.reach_interval.Goals as goal
 
 pub returns-clause-left : goal.returns-clause-left
@@ -25,6 +27,24 @@ returns-clause-arrays g c =
     (λ k. sym c.has_failed.ensures.failed ∙ c.has_failed.ensures.known k)
     (λ h is. is ∙ sym (interval-arrays p vias spots arrays front a.source.now.bytes h))
     c.reach_spots-reached.ensures.arrays
+    (subst (λ (f : Bool). IsIntervalEnd c.read_data-ended.result c.reach_spots-reached.result f c.interval_end.result)
+    c.has_failed.ensures.failed c.interval_end.ensures)
+
+pub returns-clause-unread : goal.returns-clause-unread
+returns-clause-unread g c =
+    let a = c.args in
+    let p = scan_pass a.scan.now in
+    let vias = scan_vias a.scan.now in
+    let spots = first_group a.n a.spots.now in
+    let arrays = arrays_in a.arrays.now.items in
+    let front = c.deref.result.now in
+    let new = c.read_data-ended.new.source in
+    end-found front a.source.now new c.read_data-ended.result c.reach_spots-reached.result c.interval_end.result
+    c.read_data-ended.ensures.own (rw c.deref.ensures.value c.read_data-ended.ensures.data)
+    (λ k. sym c.has_failed.ensures.failed ∙ c.has_failed.ensures.known k)
+    (λ h is. is ∙ sym (ap (λ (o : Option Spot). or_first o (after_group a.n a.spots.now))
+    (interval-unread p vias spots arrays front a.source.now.bytes h)))
+    c.reach_spots-reached.ensures.unread
     (subst (λ (f : Bool). IsIntervalEnd c.read_data-ended.result c.reach_spots-reached.result f c.interval_end.result)
     c.has_failed.ensures.failed c.interval_end.ensures)
 

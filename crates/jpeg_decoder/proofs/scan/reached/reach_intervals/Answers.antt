@@ -6,6 +6,8 @@ use Rattle.jpeg_decoder.specs.Scanning.{arrays_in, scan_pass, scan_vias, sizes_o
 use Rattle.jpeg_decoder.proofs.GroupedScans.{after-all, blocks_loop, first-refused-answers}
 use Rattle.jpeg_decoder.proofs.GroupedScans.{first-refused-state, next-refused-answers, next-refused-state}
 use Rattle.jpeg_decoder.proofs.GroupedScans.{passed-answers, runs-first, runs-next, whole_of}
+use Rattle.jpeg_decoder.proofs.UnreadIntervals.{first-refused, lacks-first, lacks-next, last-lacks}
+use Rattle.jpeg_decoder.proofs.UnreadIntervals.{next-refused, told-any, whole_by}
 use Rattle.jpeg_decoder.proofs.scan.reached.reach_intervals.Goals as goal
 
 pub returns-in_err-end-clause-arrays : goal.returns-in_err-end-clause-arrays
@@ -17,6 +19,16 @@ returns-in_err-end-clause-arrays g c =
     first-refused-state s a.n a.spots.now (arrays_in a.arrays.now.items)
     (arrays_in c.reach_interval.new.arrays.items) a.source.now c.reach_interval.new.source c.in_err-end.field-0.0
     c.in_err-end.ensures.answers c.in_err-end.ensures.arrays
+    )
+
+pub returns-in_err-end-clause-unread : goal.returns-in_err-end-clause-unread
+returns-in_err-end-clause-unread g c =
+    let a = c.args in
+    let p = err_from_is_err_and c.from_residual.result c.from_residual.ensures.1 in
+    rw (p.1, p.2) (
+    first-refused (scan_pass a.scan.now) (scan_vias a.scan.now) a.n a.spots.now (arrays_in a.arrays.now.items)
+    a.source.now c.reach_interval.new.source c.in_err-end.field-0.0 _ c.in_err-end.ensures.answers
+    c.in_err-end.ensures.unread
     )
 
 pub returns-in_err-end-clause-answers : goal.returns-in_err-end-clause-answers
@@ -45,6 +57,11 @@ loop-end-init g c =
           runs-first s a.n a.spots.now c.reach_interval.new.spots
           (arrays_in a.arrays.now.items) (arrays_in c.reach_interval.new.arrays.items) a.source.now
           c.reach_interval.new.source c.in_ok-end.end is c.in_ok-end.ensures.arrays c.in_ok-end.ensures.answers;
+      unread =
+          lacks-first (scan_pass a.scan.now) (scan_vias a.scan.now) a.n a.spots.now c.reach_interval.new.spots
+          (arrays_in a.arrays.now.items) (arrays_in c.reach_interval.new.arrays.items) a.source.now
+          c.reach_interval.new.source c.in_ok-end.end is c.in_ok-end.ensures.arrays c.in_ok-end.ensures.unread
+          c.in_ok-end.ensures.answers;
     }
 
 pub returns-in_err-end-2-clause-arrays : goal.returns-in_err-end-2-clause-arrays
@@ -62,6 +79,22 @@ returns-in_err-end-2-clause-arrays g c =
     (arrays_in c.reach_interval-in-loop-end.new.arrays.items) a.source.now l.source
     c.reach_interval-in-loop-end.new.source l.end c.in_err-end-2.field-0.0 some near restart l.invariant.runs
     c.in_err-end-2.ensures.answers c.in_err-end-2.ensures.arrays
+    )
+
+pub returns-in_err-end-2-clause-unread : goal.returns-in_err-end-2-clause-unread
+returns-in_err-end-2-clause-unread g c =
+    let a = c.args in
+    let l = c.loop-end in
+    let vias = scan_vias a.scan.now in
+    let some : 0 < length l.spots = search rules in
+    let near : l.end.0 ≡ true = search rules in
+    let restart : is_restart l.number (Some l.end.1) ≡ true = search rules in
+    let p = err_from_is_err_and c.from_residual-in_err-end-2.result c.from_residual-in_err-end-2.ensures.1 in
+    rw (p.1, p.2) (
+    next-refused (whole_by (scan_pass a.scan.now) vias a.n a.spots.now (arrays_in a.arrays.now.items))
+    (scan_pass a.scan.now) vias a.n l.number l.spots (arrays_in l.arrays.items) a.source.now l.source
+    c.reach_interval-in-loop-end.new.source l.end c.in_err-end-2.field-0.0 _ some near restart l.invariant.unread
+    c.in_err-end-2.ensures.answers c.in_err-end-2.ensures.unread
     )
 
 pub returns-in_err-end-2-clause-answers : goal.returns-in_err-end-2-clause-answers
@@ -89,6 +122,8 @@ loop-end-preserved g c =
     let some : 0 < length l.spots = search rules in
     let near : l.end.0 ≡ true = search rules in
     let restart : is_restart l.number (Some l.end.1) ≡ true = search rules in
+    let p = scan_pass a.scan.now in
+    let vias = scan_vias a.scan.now in
     let is = c.in_ok-end-2.ensures.left in
     let next : ℕ = (l.number + 1) % 256 % 8 in
     let counts : next ≡ (l.number + 1) % 8 = omega arith in
@@ -105,6 +140,12 @@ loop-end-preserved g c =
           (arrays_in c.reach_interval-in-loop-end.new.arrays.items) a.source.now l.source
           c.reach_interval-in-loop-end.new.source l.end c.in_ok-end-2.end some near restart counts l.invariant.runs is
           c.in_ok-end-2.ensures.arrays c.in_ok-end-2.ensures.answers;
+      unread =
+          lacks-next (whole_by p vias a.n a.spots.now (arrays_in a.arrays.now.items)) p vias a.n l.number next l.spots
+          c.reach_interval-in-loop-end.new.spots (arrays_in l.arrays.items)
+          (arrays_in c.reach_interval-in-loop-end.new.arrays.items) a.source.now l.source
+          c.reach_interval-in-loop-end.new.source l.end c.in_ok-end-2.end some near restart counts l.invariant.unread is
+          c.in_ok-end-2.ensures.arrays c.in_ok-end-2.ensures.unread c.in_ok-end-2.ensures.answers;
     }
 
 pub returns-then-end-clause-answers : goal.returns-then-end-clause-answers
@@ -117,3 +158,14 @@ returns-then-end-clause-answers g c =
     let near : l.end.0 ≡ true = search rules in
     passed-answers whole s a.n l.number l.spots (arrays_in l.arrays.items) a.source.now l.source
     c.pass_restarts.new.source l.end c.pass_restarts.result none near l.invariant.runs c.pass_restarts.ensures
+
+pub returns-then-end-clause-unread : goal.returns-then-end-clause-unread
+returns-then-end-clause-unread g c =
+    let a = c.args in
+    let l = c.loop-end in
+    let vias = scan_vias a.scan.now in
+    let none : l.spots ≡ [] = search rules in
+    told-any _ a.source.now c.pass_restarts.new.source c.pass_restarts.result
+    (last-lacks (whole_by (scan_pass a.scan.now) vias a.n a.spots.now (arrays_in a.arrays.now.items))
+    (scan_pass a.scan.now) vias a.n l.number l.spots (arrays_in l.arrays.items) a.source.now l.source l.end
+    l.invariant.unread none)

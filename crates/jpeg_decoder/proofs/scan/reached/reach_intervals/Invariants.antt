@@ -3,6 +3,7 @@ use Rattle.std.specs.List.{AllByRecursion}
 use Rattle.jpeg_bits.specs.BlockView.{pass_in}
 use Rattle.jpeg_decoder.specs.Scanning.{vias_in, arrays_in, sizes_of, IsSpotOf}
 use Rattle.jpeg_decoder.proofs.GroupedScans.{Runs, blocks_loop, whole_of}
+use Rattle.jpeg_decoder.proofs.UnreadIntervals.{Lacks, whole_by}
 use Rattle.jpeg_decoder.proofs.scan.reached.reach_intervals.Given as goal
 
 abbrev pub invariant-loop-end : goal.invariant-loop-end
@@ -13,6 +14,9 @@ invariant-loop-end g l = record {
       l.fn.spots (arrays_in l.fn.arrays.items))
       (blocks_loop (pass_in l.fn.scan.pass) (vias_in 0 l.fn.scan.components.items)) l.fn.n l.fn.source
       l.number l.end l.spots (arrays_in l.arrays.items) l.source;
+  unread : Lacks (whole_by (pass_in l.fn.scan.pass) (vias_in 0 l.fn.scan.components.items) l.fn.n l.fn.spots
+      (arrays_in l.fn.arrays.items)) (pass_in l.fn.scan.pass) (vias_in 0 l.fn.scan.components.items) l.fn.n
+      l.fn.source l.number l.end l.spots (arrays_in l.arrays.items) l.source;
 }
 
 abbrev pub decreases-loop-end : goal.decreases-loop-end

@@ -8,7 +8,6 @@ use Rattle.jpeg_lossless.specs.Scans.{scan_tables}
 use Rattle.jpeg_decoder.proofs.ReachedBlocks.{ahead-after, ahead-fresh, names-in-memory, near-tells, refused-in-memory}
 use Rattle.jpeg_decoder.proofs.ReachedData.{unless}
 use Rattle.jpeg_decoder.proofs.RowIntervals.{Rows, not-refused, planes-take, rows-start}
-use Rattle.jpeg_decoder.proofs.scan.reached_rows.reach_rows.Given as given
 use Rattle.jpeg_decoder.proofs.scan.reached_rows.reach_rows.Goals.{After-new-decoder}
 use Rattle.jpeg_decoder.proofs.scan.reached_rows.reach_rows.Goals as goal
 

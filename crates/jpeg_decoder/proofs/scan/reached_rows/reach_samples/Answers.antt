@@ -1,19 +1,21 @@
 use Rattle.std.proofs.Common.{◌≡◌, ◌∙◌, ap, sym, arith, length, map, replicate, List, [], ℕ}
 use Rattle.std.proofs.lemmas.List.{length-map}
 use Rattle.jpeg_segments.specs.FrameView.{frame_in, scan_in}
+use Rattle.jpeg_segments.proofs.ScaleLemmas.{sized_frames_have_factors}
 use Rattle.jpeg_lossless.specs.Codings.{part_in, way_by}
 use Rattle.jpeg_lossless.specs.PlanesRead.{cut_planes}
 use Rattle.jpeg_lossless.specs.declared.scan.Coding.{Coding}
 use Rattle.jpeg_streams.specs.Found.{Found}
 use Rattle.jpeg_streams.specs.LosslessScans.{with_samples}
 use Rattle.jpeg_streams.specs.ScanSegments.{once_scanned}
-use Rattle.jpeg_streams.proofs.Soundness.{decoded-precision}
+use Rattle.jpeg_streams.specs.WholeRows.{rows_of_planes}
+use Rattle.jpeg_streams.proofs.Soundness.{decoded-precision, decoded-sized}
 use Rattle.jpeg_decoder.specs.Reaching.{planes_over, planes_reached, samples_reached}
 use Rattle.jpeg_decoder.specs.Seen.{found_of, said_of}
 use Rattle.jpeg_decoder.proofs.LosslessReads.{HasMcus, codings-count, four-indices, parts-count, put-made}
 use Rattle.jpeg_decoder.proofs.ReachedData.{answers-by, on-told, unless}
-use Rattle.jpeg_decoder.proofs.SampleScans.{Reads, put_over, reads-found, reads-marker, reads-sound, scan-coded}
-use Rattle.jpeg_decoder.proofs.SampleScans.{scan-mcus, scan-rows}
+use Rattle.jpeg_decoder.proofs.SampleScans.{Reads, put_over, reads-components, reads-cut, reads-found}
+use Rattle.jpeg_decoder.proofs.SampleScans.{reads-marker, reads-sound, scan-coded, scan-mcus, scan-rows}
 use Rattle.jpeg_decoder.proofs.scan.reached_rows.reach_samples.Given as given
 use Rattle.jpeg_decoder.proofs.scan.reached_rows.reach_samples.Goals.{After-deref, After-put_samples, In_ok-rows}
 use Rattle.jpeg_decoder.proofs.scan.reached_rows.reach_samples.Goals as goal
@@ -82,6 +84,11 @@ counted g c =
     ∙ parts-count _ frame.components scan.components i.tables
     (codings-count _ frame scan.components scan.dc_destinations i.tables a)
 
+pub rows_of_planes-whole-requires-clause-sampling : goal.rows_of_planes-whole-requires-clause-sampling
+rows_of_planes-whole-requires-clause-sampling g c =
+    let frame = frame_in c.args.scan.now.frame.now in
+    sized_frames_have_factors frame (decoded-sized frame (c.requires.sound.frames frame c.requires.frame))
+
 pub complete_all-requires-clause-count : goal.complete_all-requires-clause-count
 complete_all-requires-clause-count g c =
     c.finish-planes.ensures.count ∙ c.reach_intervals-met.ensures.count ∙ c.in_ok-rows.ensures.count
@@ -142,6 +149,25 @@ returns-clause-found g c codings h =
     (map (λ v. v.items) c.in_ok-rows.rows.planes.items)
     (map (λ v. v.items) c.reach_intervals-met.new.rows.planes.items) codings c.args.source.now.bytes _
     (reads g at.In_ok-rows) h (placed g at.After-put_samples) is)
+    c.reach_intervals-met.ensures.planes
+
+pub returns-clause-rows : goal.returns-clause-rows
+returns-clause-rows g c codings h =
+    let s = c.args.scan.now in
+    let found = found_of s.said.now c.args.decoded.now in
+    let frame = frame_in s.frame.now in
+    let scan = scan_in s.header.now in
+    let k = c.in_ok-coding.coding.scan in
+    let parts = map part_in c.in_ok-coding.coding.parts.now in
+    let empty = map (λ v. v.items) c.in_ok-rows.rows.planes.items in
+    let read = map (λ v. v.items) c.reach_intervals-met.new.rows.planes.items in
+    let r = reads g (goal.at.returns-clause-rows g c).In_ok-rows in
+    on-told c.args.source.now c.reach_intervals-met.new.source c.reach_intervals-met.result
+    (λ is. c.rows_of_planes-whole.ensures codings
+    (rw c.as_slice-indices.ensures.value (reads-components found frame scan s k parts empty codings r h))
+    ∙ ap (λ planes. rows_of_planes frame codings planes) (ap (map (λ v. v.items)) c.deref-2.ensures.value
+    ∙ c.finish-planes.ensures.planes
+    ∙ reads-cut found frame scan s k parts empty read codings c.args.source.now.bytes r h is))
     c.reach_intervals-met.ensures.planes
 
 pub returns-clause-answers : goal.returns-clause-answers

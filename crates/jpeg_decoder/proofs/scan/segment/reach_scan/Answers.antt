@@ -1,8 +1,8 @@
 use Rattle.std.proofs.Common.{◌≡◌, ◌∙◌, ap, arith, List, Ok, Option, refl, rules, Some, subst}
-use Rattle.std.proofs.Common.{sym, true, false}
+use Rattle.std.proofs.Common.{sym, true, false, ℕ}
 use Rattle.jpeg_streams.specs.ScanSegments.{once_scanned}
 use Rattle.jpeg_bits.specs.Reading.{Answers}
-use Rattle.jpeg_streams.specs.Brought.{scan_brought}
+use Rattle.jpeg_streams.specs.Brought.{planes_brought, scan_brought}
 use Rattle.jpeg_segments.specs.FrameView.{frame_in, scan_in}
 use Rattle.jpeg_streams.specs.Found.{Found, Said}
 use Rattle.jpeg_streams.specs.LosslessScans.{LosslessCoding}
@@ -14,6 +14,8 @@ use Rattle.jpeg_decoder.specs.Steps.{turn_of, with_decoded, IsStep}
 use Rattle.jpeg_decoder.specs.declared.stream.state.Step.{Step}
 use Rattle.jpeg_bits.specs.declared.marker.Marker.{Marker}
 use Rattle.jpeg_decoder.specs.Reaching.{sample_codings, samples_reached, UnlessRefused}
+use Rattle.jpeg_streams.specs.WholeRows.{rows_of_planes, rows_of_scan}
+use Rattle.jpeg_decoder.proofs.ReachedScans.{blocks-count, ended-rows, ended-whole, none-counted, samples-count, Counts}
 use Rattle.jpeg_decoder.proofs.ReachedScans.{blocks-begin, decoded-sound, ended-found, ended-reads, ended-steps}
 use Rattle.jpeg_decoder.proofs.ReachedScans.{ended-unless, no-codings, no-frame, no-header, no-samples, none-reads}
 use Rattle.jpeg_decoder.proofs.ReachedScans.{moved, none-stays, samples-begin, BeginsData, Data}
@@ -41,6 +43,12 @@ returns-in_err-frame-clause-found g c =
     c.widen_tables.ensures refl
     (no-frame _ _ _ (search rules) c.in_err-frame.ensures.1)
 
+pub returns-in_err-frame-clause-rows : goal.returns-in_err-frame-clause-rows
+returns-in_err-frame-clause-rows g c =
+    none-counted (found_in c.widen_tables.new.state) _ c.args.rows.now c.args.source.now c.args.source.now _ _
+    c.from_residual-in_err-frame.ensures.1 c.widen_tables.ensures c.requires.rows
+    (no-frame _ _ _ (search rules) c.in_err-frame.ensures.1)
+
 pub returns-in_err-header-clause-reads : goal.returns-in_err-header-clause-reads
 returns-in_err-header-clause-reads g c =
     none-reads _ (found_in c.widen_tables.new.state) _ _ _ _ _ c.from_residual-in_err-header.ensures.1
@@ -53,6 +61,13 @@ returns-in_err-header-clause-found g c =
     none-stays (found_in c.widen_tables.new.state) _ _ c.args.source.now c.parse_sos.new.reader _ _
     c.from_residual-in_err-header.ensures.1
     c.widen_tables.ensures refl
+    (no-header scan_in _ (frame_in c.in_ok-frame.frame.now) _ c.parse_sos.new.reader _ (search rules)
+    c.in_err-header.ensures.answers)
+
+pub returns-in_err-header-clause-rows : goal.returns-in_err-header-clause-rows
+returns-in_err-header-clause-rows g c =
+    none-counted (found_in c.widen_tables.new.state) _ c.args.rows.now c.args.source.now c.parse_sos.new.reader _ _
+    c.from_residual-in_err-header.ensures.1 c.widen_tables.ensures c.requires.rows
     (no-header scan_in _ (frame_in c.in_ok-frame.frame.now) _ c.parse_sos.new.reader _ (search rules)
     c.in_err-header.ensures.answers)
 
@@ -69,6 +84,14 @@ returns-in_err-scan-clause-found g c =
     none-stays (found_in c.widen_tables.new.state) _ _ c.args.source.now c.parse_sos.new.reader _ _
     c.from_residual-in_err-scan.ensures.1
     c.widen_tables.ensures refl
+    (no-samples _ (frame_in c.in_ok-frame.frame.now)
+    (scan_in c.in_ok-header.header) _ _ _ (search rules) (search rules) c.in_ok-header.ensures.answers
+    c.in_err-scan.ensures.refused.0 c.in_err-scan.ensures.refused.1)
+
+pub returns-in_err-scan-clause-rows : goal.returns-in_err-scan-clause-rows
+returns-in_err-scan-clause-rows g c =
+    none-counted (found_in c.widen_tables.new.state) _ c.args.rows.now c.args.source.now c.parse_sos.new.reader _ _
+    c.from_residual-in_err-scan.ensures.1 c.widen_tables.ensures c.requires.rows
     (no-samples _ (frame_in c.in_ok-frame.frame.now)
     (scan_in c.in_ok-header.header) _ _ _ (search rules) (search rules) c.in_ok-header.ensures.answers
     c.in_err-scan.ensures.refused.0 c.in_err-scan.ensures.refused.1)
@@ -132,6 +155,52 @@ returns-then-eq-clause-found g c =
     (ended-found v now prev b.0 c.args.source.now c.parse_sos.new.reader new c.reach_samples-reached.result
     c.end_reached.result b.1 b.2 c.end_reached.ensures.step))
 
+-- the rows that are wholly there after the data of a lossless scan
+counted : (g : given.Over) (c : After-reach_samples-reached g) → let now = found_in c.widen_tables.new.state in
+    let cur = c.parse_sos.new.reader in
+    (expected : Option ℕ) × Counts now c.args.source.now cur expected
+    × OnTold cur c.reach_samples-reached.new.source c.reach_samples-reached.result
+    (c.reach_samples-reached.new.decoded.rows ≡ expected)
+counted g c =
+    let now = found_in c.widen_tables.new.state in
+    let cur = c.parse_sos.new.reader in
+    let new = c.reach_samples-reached.new.source in
+    let r = c.reach_samples-reached.result in
+    let frame = frame_in c.in_ok-frame.frame.now in
+    let scan = scan_in c.in_ok-header.header in
+    let given = c.in_ok-scan.ensures.given in
+    let codings = scan-codings now.said frame scan c.in_ok-scan.scan c.in_ok-scan.ensures.scan
+    c.in_ok-header.ensures.scan in (
+      rows_of_planes frame codings.0 (planes_brought now frame scan codings.0 cur.bytes).0,
+      samples-count now frame scan codings.0 c.args.source.now cur (search rules) (search rules)
+          c.in_ok-header.ensures.answers codings.1,
+      moved given.0 given.1 given.2 (λ s f h. (l : List LosslessCoding)
+          → sample_codings (said_of s) (frame_in f) (scan_in h) ≡ Ok l
+          → OnTold cur new r (c.reach_samples-reached.new.decoded.rows
+          ≡ rows_of_planes (frame_in f) l (planes_brought (found_of s c.widen_tables.new.state.decoded) (frame_in f)
+          (scan_in h) l cur.bytes).0)) c.reach_samples-reached.ensures.rows codings.0 codings.1,
+    )
+
+pub returns-then-eq-clause-rows : goal.returns-then-eq-clause-rows
+returns-then-eq-clause-rows g c =
+    let now = found_in c.widen_tables.new.state in
+    let prev = with_decoded now c.reach_samples-reached.new.decoded in
+    let new = c.reach_samples-reached.new.source in
+    let v = λ (s : Step). turn_of c.end_reached.new.state s in
+    let b = counted g (goal.at.returns-then-eq-clause-rows g c).After-reach_samples-reached in
+    subst (λ (f : Found). OnToldRefusal c.args.source.now new c.end_reached.result
+    (c.end_reached.new.rows ≡ rows_of_scan f c.args.source.now.bytes)) c.widen_tables.ensures
+    (ended-rows v now prev c.args.source.now c.parse_sos.new.reader new c.reach_samples-reached.new.decoded.rows
+    c.end_reached.new.rows c.args.rows.now b.0 c.reach_samples-reached.result c.end_reached.result b.1 b.2
+    c.end_reached.ensures.rows c.end_reached.ensures.step)
+
+pub returns-then-eq-clause-whole : goal.returns-then-eq-clause-whole
+returns-then-eq-clause-whole g c =
+    ended-whole (λ (s : Step). turn_of c.end_reached.new.state s)
+    (with_decoded (found_in c.widen_tables.new.state) c.reach_samples-reached.new.decoded)
+    c.reach_samples-reached.new.decoded.rows c.end_reached.new.rows c.args.rows.now c.reach_samples-reached.result
+    c.end_reached.result c.requires.rows c.end_reached.ensures.rows c.end_reached.ensures.step
+
 pub codings_of-requires-clause-scales : goal.codings_of-requires-clause-scales
 codings_of-requires-clause-scales g c =
     let frame = frame_in c.in_ok-frame.frame.now in
@@ -152,6 +221,14 @@ returns-in_err-components-clause-found g c =
     none-stays (found_in c.widen_tables.new.state) _ _ c.args.source.now c.parse_sos.new.reader _ _
     c.from_residual-in_err-components.ensures.1
     c.widen_tables.ensures refl
+    (no-codings _ (frame_in c.in_ok-frame.frame.now)
+    (scan_in c.in_ok-header.header) _ _ _ (search rules) (search rules) c.in_ok-header.ensures.answers
+    c.in_err-components.ensures.codings.0 c.in_err-components.ensures.codings.1)
+
+pub returns-in_err-components-clause-rows : goal.returns-in_err-components-clause-rows
+returns-in_err-components-clause-rows g c =
+    none-counted (found_in c.widen_tables.new.state) _ c.args.rows.now c.args.source.now c.parse_sos.new.reader _ _
+    c.from_residual-in_err-components.ensures.1 c.widen_tables.ensures c.requires.rows
     (no-codings _ (frame_in c.in_ok-frame.frame.now)
     (scan_in c.in_ok-header.header) _ _ _ (search rules) (search rules) c.in_ok-header.ensures.answers
     c.in_err-components.ensures.codings.0 c.in_err-components.ensures.codings.1)
@@ -222,6 +299,30 @@ returns-clause-found g c =
     (blocks-begin now frame scan _ _ c.args.source.now c.parse_sos.new.reader (search rules) (search rules)
     c.in_ok-header.ensures.answers c.in_ok-components.ensures.codings c.pass_of.ensures)
     (c.reach-reached.ensures.found now (record { scanned = refl; restart = refl })) c.end_reached-2.ensures.step))
+
+pub returns-clause-rows : goal.returns-clause-rows
+returns-clause-rows g c =
+    let now = found_in c.widen_tables.new.state in
+    let prev = with_decoded now c.reach-reached.new.self in
+    let frame = frame_in c.in_ok-frame.frame.now in
+    let scan = scan_in c.in_ok-header.header in
+    let v = λ (s : Step). turn_of c.end_reached-2.new.state s in
+    subst (λ (f : Found). OnToldRefusal c.args.source.now c.reach-reached.new.source c.end_reached-2.result
+    (c.end_reached-2.new.rows ≡ rows_of_scan f c.args.source.now.bytes)) c.widen_tables.ensures
+    (ended-rows v now prev c.args.source.now c.parse_sos.new.reader c.reach-reached.new.source
+    c.reach-reached.new.self.rows c.end_reached-2.new.rows c.args.rows.now _ c.reach-reached.result
+    c.end_reached-2.result
+    (blocks-count now frame scan _ _ c.args.source.now c.parse_sos.new.reader (search rules) (search rules)
+    c.in_ok-header.ensures.answers c.in_ok-components.ensures.codings c.pass_of.ensures)
+    (c.reach-reached.ensures.rows now (record { scanned = refl; restart = refl })) c.end_reached-2.ensures.rows
+    c.end_reached-2.ensures.step)
+
+pub returns-clause-whole : goal.returns-clause-whole
+returns-clause-whole g c =
+    ended-whole (λ (s : Step). turn_of c.end_reached-2.new.state s)
+    (with_decoded (found_in c.widen_tables.new.state) c.reach-reached.new.self) c.reach-reached.new.self.rows
+    c.end_reached-2.new.rows c.args.rows.now c.reach-reached.result c.end_reached-2.result c.requires.rows
+    c.end_reached-2.ensures.rows c.end_reached-2.ensures.step
 
 pub returns-clause-sound : goal.returns-clause-sound
 returns-clause-sound g c =

@@ -8,7 +8,7 @@ use Rattle.jpeg_decoder.specs.Reaching.{walk_end, without_tables}
 use Rattle.jpeg_decoder.specs.Seen.{found_in}
 use Rattle.jpeg_decoder.specs.Steps.{turn_of}
 use Rattle.jpeg_decoder.proofs.BroughtLoops.{brought-end, brought-err, brought-found, brought-more}
-use Rattle.jpeg_decoder.proofs.BroughtLoops.{brought-whole, refused-any}
+use Rattle.jpeg_decoder.proofs.BroughtLoops.{brought-rows, brought-whole, ended-rows, refused-any}
 use Rattle.jpeg_decoder.proofs.BroughtTurns.{brought-takes}
 use Rattle.jpeg_decoder.proofs.stream.turns.reach_segments.Given.{Over}
 use Rattle.jpeg_decoder.proofs.stream.turns.reach_segments.Goals as goal
@@ -32,6 +32,13 @@ returns-in_err-step-clause-found g c =
     c.loop.source c.reach_turn.new.source _ c.loop.invariant.brought c.in_err-step.ensures.reads
     c.in_err-step.ensures.found)
 
+pub returns-in_err-step-clause-rows : goal.returns-in_err-step-clause-rows
+returns-in_err-step-clause-rows g c =
+    let p = err_from_is_err_and c.from_residual.result c.from_residual.ensures.1 in
+    rw (p.1, p.2) (brought-rows (turn_of c.reach_turn.new.state) (found_in c.args.state.now) c.args.source.now
+    c.loop.counter c.loop.before (found_in c.loop.state) c.loop.met c.loop.source c.reach_turn.new.source
+    _ c.reach_turn.new.rows c.loop.invariant.brought c.in_err-step.ensures.reads c.in_err-step.ensures.rows)
+
 -- ---- the end of the image
 
 ended : (g : Over) (c : goal.Then-step g) → c.args.source.now.known ≡ true
@@ -51,6 +58,13 @@ returns-then-step-clause-reads g c =
 pub returns-then-step-clause-found : goal.returns-then-step-clause-found
 returns-then-step-clause-found g c k = ap (λ (w : Walked). without_tables w.0) (sym (ended g c k))
 
+pub returns-then-step-clause-rows : goal.returns-then-step-clause-rows
+returns-then-step-clause-rows g c k =
+    let brought = c.loop.invariant.brought in
+    ended-rows (found_in c.args.state.now) c.args.source.now c.loop.counter c.loop.before (found_in c.loop.state)
+    c.loop.met c.loop.source _ _ c.reach_turn.new.rows brought
+    (c.in_ok-step.ensures.reads.1 (brought.known k)).1 c.if-step.true c.in_ok-step.ensures.whole k
+
 -- ---- one more turn
 
 pub loop-preserved : goal.loop-preserved
@@ -64,6 +78,7 @@ loop-preserved g c =
           c.loop.invariant.first c.in_ok-step.ensures.short;
       stays = λ h. grind (arith, common_steps, c.loop.invariant.stays h);
       sound = c.in_ok-step.ensures.steps.sound c.loop.invariant.sound;
+      rows = c.in_ok-step.ensures.whole;
       first = λ e. absurd (omega arith);
     }
 
@@ -90,3 +105,6 @@ returns-clause-reads g c =
 
 pub returns-clause-found : goal.returns-clause-found
 returns-clause-found g c k = absurd (never g c k)
+
+pub returns-clause-rows : goal.returns-clause-rows
+returns-clause-rows g c k = absurd (never g c k)

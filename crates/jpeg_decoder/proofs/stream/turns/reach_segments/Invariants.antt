@@ -12,5 +12,6 @@ invariant-loop g l = record {
   stays : is_some (found_in l.fn.state).said.frame ≡ true
       → (found_in l.state).said.frame ≡ (found_in l.fn.state).said.frame;
   sound : IsSound (found_in l.state);
+  rows : l.rows ≡ None;
   first : l.counter ≡ 0 → (l.met ≡ None) × (l.source ≡ l.fn.source);
 }

@@ -1,14 +1,15 @@
-use Rattle.std.proofs.Common.{rules, ◌≡◌, ap}
+use Rattle.std.proofs.Common.{rules, ◌≡◌, ap, None}
 use Rattle.std.proofs.lemmas.Result.{err_from_is_err_and}
 use Rattle.jpeg_bits.specs.declared.marker.Marker.TheVariants.{SOS}
 use Rattle.jpeg_streams.specs.Brought.{scan_brought}
 use Rattle.jpeg_streams.specs.Stream.{segment_at}
+use Rattle.jpeg_streams.specs.WholeRows.{rows_of_scan}
 use Rattle.jpeg_decoder.specs.Reaching.{without_tables}
 use Rattle.jpeg_decoder.specs.Seen.{found_in}
 use Rattle.jpeg_decoder.specs.Steps.{turn_of}
-use Rattle.jpeg_decoder.proofs.BroughtLoops.{marked-found, marked-reads, refusal-told, sound-unless, unmarked-found}
-use Rattle.jpeg_decoder.proofs.BroughtLoops.{unless-any, unmarked-reads}
-use Rattle.jpeg_decoder.proofs.BroughtTurns.{turn-scan, turn-segment}
+use Rattle.jpeg_decoder.proofs.BroughtLoops.{marked-found, marked-reads, marked-rows, refusal-any, refusal-told}
+use Rattle.jpeg_decoder.proofs.BroughtLoops.{sound-unless, unless-any, unmarked-found, unmarked-reads, unmarked-rows}
+use Rattle.jpeg_decoder.proofs.BroughtTurns.{rows-scan, rows-segment, turn-scan, turn-segment}
 use Rattle.jpeg_decoder.proofs.stream.turns.reach_turn.Goals as goal
 
 -- ---- no marker
@@ -24,6 +25,12 @@ returns-in_err-marker-clause-found g c =
     let p = err_from_is_err_and c.from_residual.result c.from_residual.ensures.1 in
     rw (p.1, p.2) (unmarked-found c.args.before (found_in c.args.state.now) c.args.met c.args.source.now
     c.marker_or_next.new.source _ c.in_err-marker.ensures.answers)
+
+pub returns-in_err-marker-clause-rows : goal.returns-in_err-marker-clause-rows
+returns-in_err-marker-clause-rows g c =
+    let p = err_from_is_err_and c.from_residual.result c.from_residual.ensures.1 in
+    rw (p.1, p.2) (unmarked-rows (found_in c.args.state.now) c.args.met c.args.source.now
+    c.marker_or_next.new.source _ c.args.rows.now c.requires.rows c.in_err-marker.ensures.answers)
 
 -- ---- a scan
 
@@ -44,6 +51,15 @@ returns-then-eq-clause-found g c =
     c.marker_or_next.new.source c.reach_scan.new.source c.in_ok-marker.marker (scan_brought found) c.reach_scan.result _
     (λ rest e. turn-scan c.args.before found c.args.met c.args.source.now.bytes rest c.in_ok-marker.marker is e)
     c.in_ok-marker.ensures.answers (λ e. ap without_tables e) c.reach_scan.ensures.found
+
+pub returns-then-eq-clause-rows : goal.returns-then-eq-clause-rows
+returns-then-eq-clause-rows g c =
+    let is : c.in_ok-marker.marker ≡ SOS = search rules in
+    let found = found_in c.args.state.now in
+    marked-rows found c.args.met c.args.source.now c.marker_or_next.new.source c.reach_scan.new.source
+    c.in_ok-marker.marker (rows_of_scan found) c.reach_scan.new.rows c.reach_scan.result
+    (λ rest e. rows-scan found c.args.met c.args.source.now.bytes rest c.in_ok-marker.marker is e)
+    c.in_ok-marker.ensures.answers c.reach_scan.ensures.rows
 
 -- ---- another segment
 
@@ -68,6 +84,16 @@ returns-clause-found g c =
     c.in_ok-marker.ensures.answers (λ e. e)
     (refusal-told c.marker_or_next.new.source c.read_segment.new.source c.read_segment.result _
     c.read_segment.ensures.kept)
+
+pub returns-clause-rows : goal.returns-clause-rows
+returns-clause-rows g c =
+    let other : c.in_ok-marker.marker ≡ SOS → ⊥ = search rules in
+    let found = found_in c.args.state.now in
+    marked-rows found c.args.met c.args.source.now c.marker_or_next.new.source c.read_segment.new.source
+    c.in_ok-marker.marker (λ _. None) c.args.rows.now c.read_segment.result
+    (λ rest e. rows-segment found c.args.met c.args.source.now.bytes rest c.in_ok-marker.marker other e)
+    c.in_ok-marker.ensures.answers
+    (refusal-any c.marker_or_next.new.source c.read_segment.new.source c.read_segment.result _ c.requires.rows)
 
 pub returns-clause-sound : goal.returns-clause-sound
 returns-clause-sound g c =

@@ -2,18 +2,20 @@ use Rattle.std.proofs.Common.{◌≡◌, ◌∙◌, ap, arith, map, length, refl
 use Rattle.std.specs.declared.alloc.Global.{Global}
 use Rattle.std.specs.declared.vec.Vec.{Vec}
 use Rattle.std.proofs.lemmas.Grind.{common_steps}
+use Rattle.std.specs.Prelude.{option_map}
 use Rattle.jpeg_bits.specs.BlockView.{pass_in}
 use Rattle.jpeg_segments.specs.FrameView.{frame_in}
 use Rattle.jpeg_streams.specs.Found.{Found, nothing_found}
 use Rattle.jpeg_streams.specs.InTurn.{AreArrays}
 use Rattle.jpeg_streams.specs.ScanSegments.{arrays_before, is_progressive}
+use Rattle.jpeg_streams.specs.WholeRows.{rows_above}
 use Rattle.jpeg_decoder.specs.PlanesView.{planes_in}
 use Rattle.jpeg_decoder.specs.Reaching.{kept_after}
 use Rattle.jpeg_decoder.specs.Scanning.{arrays_in, components_in}
 use Rattle.jpeg_decoder.specs.Steps.{blocks_at, blocks_before, coding_in, with_decoded, IsBefore}
 use Rattle.jpeg_decoder.proofs.BlockArrays.{Held}
 use Rattle.jpeg_decoder.proofs.ReachedData.{kept-all, on-told, reached-answers, reached-as}
-use Rattle.jpeg_decoder.proofs.ReachedData.{reached-found, taken-sized, unless, whole-after}
+use Rattle.jpeg_decoder.proofs.ReachedData.{reached-found, rows-as, taken-sized, unless, whole-after}
 use Rattle.jpeg_decoder.proofs.ScanData.{arrays-by-sizes, arrays-whole, before-as, coded-within-kept}
 use Rattle.jpeg_decoder.proofs.ScanData.{of-frame, rising-codings}
 use Rattle.jpeg_decoder.proofs.scan.decoded.Decoded.reach.Given as given
@@ -103,6 +105,16 @@ returns-clause-found g c base b =
     (ap (λ p. p) c.in_ok-keep.ensures.planes) (ap planes_in c.in_ok-keep.ensures.samples)
     (held-by g at.After-keep_blocks base b) (is ∙ ap (λ r. r.0) same))
     c.reach_blocks-met.ensures.arrays
+
+pub returns-clause-rows : goal.returns-clause-rows
+returns-clause-rows g c base b =
+    let frame = frame_in c.args.frame.now in
+    let above = rows_above frame (components_in c.args.scan.now.components.items) in
+    on-told c.args.source.now c.reach_blocks-met.new.source c.reach_blocks-met.result
+    (λ is. c.rows_above_unread-self.ensures ∙ ap (option_map above) is
+    ∙ rows-as (with_decoded base c.args.self.now) frame c.args.scan.now _ c.args.source.now.bytes b.restart
+    (taken-by g (goal.at.returns-clause-rows g c).In_ok-arrays base b))
+    c.reach_blocks-met.ensures.unread
 
 pub returns-clause-data : goal.returns-clause-data
 returns-clause-data g c base b =

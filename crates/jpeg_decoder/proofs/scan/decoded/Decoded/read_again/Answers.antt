@@ -1,9 +1,7 @@
 use Rattle.std.proofs.Common.{arith, ap, map, refl}
 use Rattle.std.proofs.lemmas.Result.{err_from_is_err_and}
 use Rattle.std.proofs.lemmas.Grind.{common_steps}
-use Rattle.jpeg_bits.specs.BlockView.{pass_in}
 use Rattle.jpeg_segments.specs.FrameView.{frame_in}
-use Rattle.jpeg_decoder.specs.Steps.{coding_in}
 use Rattle.jpeg_decoder.specs.GrowingView.{growing_in}
 use Rattle.jpeg_decoder.proofs.SequentialScans.{again-data, again-refused-data}
 use Rattle.jpeg_decoder.proofs.SequentialScans.{are-decided}

@@ -1,0 +1,29 @@
+use Rattle.std.proofs.Common.{rules, ◌≡◌, ◌∙◌, ◌*◌, ◌==◌, ◌/◌, ap, sym, length, min, ℕ, Some}
+use Rattle.std.specs.Prelude.{slice_get}
+use Rattle.std.proofs.lemmas.List.{length-map}
+use Rattle.jpeg_segments.specs.FrameView.{component_in, frame_in}
+use Rattle.jpeg_decoder.specs.Scanning.{scan_components}
+use Rattle.jpeg_decoder.proofs.RowsAbove.{above-line, slot-component}
+use Rattle.jpeg_decoder.proofs.scan.whole_rows.rows_above.Goals as goal
+
+pub returns : goal.returns
+returns c =
+    let frame = frame_in c.args.frame.now in
+    let cs = scan_components c.args.scan.now in
+    let coded = c.in-Some.coded.now in
+    let part = component_in coded.component.now in
+    let n = c.lines_above-lines.result in
+    let found = c.in-Some.ensures.lookup in
+    let long : length c.args.scan.now.components.items ≡ c.len-is_alone.result = search rules in
+    let count : length cs ≡ c.len-is_alone.result =
+    length-map c.args.scan.now.components.items (λ c. component_in c.component.now) ∙ long in
+    let component : slice_get cs c.args.spot.slot ≡ Some part =
+    slot-component c.args.scan.now.components.items c.deref.result.now c.args.spot.slot coded c.deref.ensures.value
+    found.3.0 found.1 in
+    let line = c.args.spot.index / part.blocks_wide in
+    rw component (
+    c.rows_of_lines.ensures
+    ∙ ap (min frame.output_height) (above-line frame cs part line n
+    (λ e. c.lines_above-lines.ensures.alone (ap (λ (k : ℕ). k == 1) (sym count) ∙ e) ∙ c.lines_before-line.ensures)
+    (λ e. c.lines_above-lines.ensures.others (ap (λ (k : ℕ). k == 1) (sym count) ∙ e)
+    ∙ ap (λ (l : ℕ). l / part.factors.vertical * part.factors.vertical) c.lines_before-line.ensures)))
