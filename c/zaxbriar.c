@@ -17,6 +17,9 @@ uint32_t zaxbriar_checked_decode_partial(const uint8_t *jpeg, size_t jpeg_size,
                                          size_t pixels_size, zaxbriar_picture *picture);
 uint32_t zaxbriar_checked_metadata(const uint8_t *jpeg, size_t jpeg_size, uint32_t kind,
                                    uint8_t *data, size_t data_size, uint64_t *length);
+void zaxbriar_checked_find_metadata(const uint8_t *jpeg, size_t jpeg_size, zaxbriar_places *places);
+uint32_t zaxbriar_checked_next_segment(const uint8_t *jpeg, size_t jpeg_size,
+                                       zaxbriar_segment *segment);
 
 /* The proved code has the same structs. */
 _Static_assert(sizeof(size_t) == 8, "the proofs are for 64 bits");
@@ -27,7 +30,7 @@ _Static_assert(offsetof(zaxbriar_options, layout) == 21, "options");
 _Static_assert(offsetof(zaxbriar_options, scale) == 22, "options");
 _Static_assert(offsetof(zaxbriar_options, max_bytes) == 24, "options");
 _Static_assert(offsetof(zaxbriar_options, memory) == 32, "options");
-_Static_assert(offsetof(zaxbriar_options, reserved_word) == 40, "options");
+_Static_assert(offsetof(zaxbriar_options, places) == 40, "options");
 _Static_assert(sizeof(zaxbriar_picture) == 192, "picture");
 _Static_assert(offsetof(zaxbriar_picture, width) == 32, "picture");
 _Static_assert(offsetof(zaxbriar_picture, pixel_bytes) == 40, "picture");
@@ -42,6 +45,19 @@ _Static_assert(offsetof(zaxbriar_picture, horizontal_density) == 56, "picture");
 _Static_assert(offsetof(zaxbriar_picture, vertical_density) == 58, "picture");
 _Static_assert(offsetof(zaxbriar_picture, transform) == 60, "picture");
 _Static_assert(offsetof(zaxbriar_picture, text) == 80, "picture");
+_Static_assert(sizeof(zaxbriar_place) == 16, "place");
+_Static_assert(sizeof(zaxbriar_places) == 4160, "places");
+_Static_assert(offsetof(zaxbriar_places, xmp) == 16, "places");
+_Static_assert(offsetof(zaxbriar_places, stream_bytes) == 32, "places");
+_Static_assert(offsetof(zaxbriar_places, icc_parts) == 40, "places");
+_Static_assert(offsetof(zaxbriar_places, ended) == 44, "places");
+_Static_assert(offsetof(zaxbriar_places, icc) == 80, "places");
+_Static_assert(sizeof(zaxbriar_segment) == 64, "segment");
+_Static_assert(offsetof(zaxbriar_segment, size) == 8, "segment");
+_Static_assert(offsetof(zaxbriar_segment, end) == 16, "segment");
+_Static_assert(offsetof(zaxbriar_segment, needed) == 24, "segment");
+_Static_assert(offsetof(zaxbriar_segment, skipped) == 32, "segment");
+_Static_assert(offsetof(zaxbriar_segment, marker) == 40, "segment");
 
 /* Where an empty slice without a pointer begins. */
 static uint8_t nothing;
@@ -56,10 +72,11 @@ static zaxbriar_result bad_argument(zaxbriar_picture *picture, const char *text)
     return ZAXBRIAR_BAD_ARGUMENT;
 }
 
-/* The options as the proved calls know them, which have a zero in place of the memory. */
-static zaxbriar_options without_memory(const zaxbriar_options *options) {
+/* The options as the proved calls know them, which have zeros in place of the pointers. */
+static zaxbriar_options without_pointers(const zaxbriar_options *options) {
     zaxbriar_options others = options ? *options : (zaxbriar_options){0};
     others.memory = NULL;
+    others.places = NULL;
     return others;
 }
 
@@ -78,17 +95,25 @@ static const char *fault_of(const void *jpeg, size_t jpeg_size, const zaxbriar_o
     return NULL;
 }
 
+/* Finds the places that the options ask for, unless the arguments are wrong. */
+static zaxbriar_result with_places(uint32_t answer, const void *jpeg, size_t jpeg_size,
+                                   const zaxbriar_options *options) {
+    if (options && options->places && answer != ZAXBRIAR_BAD_ARGUMENT)
+        zaxbriar_checked_find_metadata(jpeg ? jpeg : &nothing, jpeg_size, options->places);
+    return (zaxbriar_result)answer;
+}
+
 zaxbriar_result zaxbriar_read_info(const void *jpeg, size_t jpeg_size,
                                    const zaxbriar_options *options, zaxbriar_picture *picture) {
     if (!picture) return ZAXBRIAR_BAD_ARGUMENT;
     const char *fault = fault_of(jpeg, jpeg_size, options);
     if (fault) return bad_argument(picture, fault);
-    zaxbriar_options others = without_memory(options);
+    zaxbriar_options others = without_pointers(options);
     const zaxbriar_memory *before = zaxbriar_exchange_memory(memory_of(options));
     uint32_t answer =
         zaxbriar_checked_read_info(jpeg ? jpeg : &nothing, jpeg_size, &others, picture);
     zaxbriar_exchange_memory(before);
-    return (zaxbriar_result)answer;
+    return with_places(answer, jpeg, jpeg_size, options);
 }
 
 /* A proved call that writes pixels. */
@@ -103,12 +128,12 @@ static zaxbriar_result decode_by(decoding *call, const void *jpeg, size_t jpeg_s
     const char *fault = fault_of(jpeg, jpeg_size, options);
     if (fault) return bad_argument(picture, fault);
     if (!is_slice(pixels, pixels_size)) return bad_argument(picture, "pixels is a null pointer");
-    zaxbriar_options others = without_memory(options);
+    zaxbriar_options others = without_pointers(options);
     const zaxbriar_memory *before = zaxbriar_exchange_memory(memory_of(options));
     uint32_t answer = call(jpeg ? jpeg : &nothing, jpeg_size, &others, pixels ? pixels : &nothing,
                            pixels_size, picture);
     zaxbriar_exchange_memory(before);
-    return (zaxbriar_result)answer;
+    return with_places(answer, jpeg, jpeg_size, options);
 }
 
 zaxbriar_result zaxbriar_decode(const void *jpeg, size_t jpeg_size,
@@ -155,6 +180,24 @@ zaxbriar_result zaxbriar_metadata_within(const void *jpeg, size_t jpeg_size,
     answer = zaxbriar_metadata(jpeg, jpeg_size, kind, data, data_size, length);
     zaxbriar_exchange_memory(before);
     return answer;
+}
+
+zaxbriar_result zaxbriar_find_metadata(const void *jpeg, size_t jpeg_size,
+                                       zaxbriar_places *places) {
+    if (!places) return ZAXBRIAR_BAD_ARGUMENT;
+    memset(places, 0, sizeof *places);
+    if (!is_slice(jpeg, jpeg_size)) return ZAXBRIAR_BAD_ARGUMENT;
+    zaxbriar_checked_find_metadata(jpeg ? jpeg : &nothing, jpeg_size, places);
+    return ZAXBRIAR_OK;
+}
+
+zaxbriar_result zaxbriar_next_segment(const void *jpeg, size_t jpeg_size,
+                                      zaxbriar_segment *segment) {
+    if (!segment) return ZAXBRIAR_BAD_ARGUMENT;
+    memset(segment, 0, sizeof *segment);
+    if (!is_slice(jpeg, jpeg_size)) return ZAXBRIAR_BAD_ARGUMENT;
+    return (zaxbriar_result)zaxbriar_checked_next_segment(jpeg ? jpeg : &nothing, jpeg_size,
+                                                          segment);
 }
 
 const char *zaxbriar_answer_name(int answer) {

@@ -13,8 +13,8 @@
  *
  * The caller guarantees that
  * - `jpeg` points to `jpeg_size` readable bytes that don't change during the call;
- * - `pixels`, `data`, `picture` and `length` point to writable memory, which doesn't overlap each
- *   other, `jpeg` or `options`, and which nothing else uses during the call;
+ * - `pixels`, `data`, `picture`, `length`, `segment` and `places` point to writable memory, which
+ *   doesn't overlap each other, `jpeg` or `options`, and which nothing else uses during the call;
  * - at least 64 kB of stack are left;
  * - the system has 64-bit pointers.
  *
@@ -155,6 +155,51 @@ typedef struct zaxbriar_memory {
     void *context;
 } zaxbriar_memory;
 
+/* Some of the bytes of `jpeg`; all zeros stand for none. */
+typedef struct zaxbriar_place {
+    uint64_t offset; /* where they begin */
+    uint64_t size;   /* how many they are */
+} zaxbriar_place;
+
+/* Where the metadata of a whole image are: in all segments up to the end of the image, or as far as
+ * there are whole segments. Of several segments with Exif data the last counts, and so with XMP
+ * data.
+ *
+ * An ICC profile is joined from its parts in the order of their numbers. The number of a part, from
+ * 1, and how many parts there are stand in the two bytes before its place:
+ * jpeg[icc[i].offset - 2] and jpeg[icc[i].offset - 1]. */
+typedef struct zaxbriar_places {
+    zaxbriar_place exif;     /* Exif data, from the TIFF header on */
+    zaxbriar_place xmp;      /* XMP data */
+    uint64_t stream_bytes;   /* how many bytes there are up to the end of the last segment: if the
+                                image ends, how many it takes */
+    uint32_t icc_parts;      /* how many parts of an ICC profile there are, at most 2^32 - 1 */
+    uint32_t ended;          /* 1 if the end of the image was reached, otherwise 0 */
+    uint64_t reserved[4];    /* zero */
+    zaxbriar_place icc[255]; /* the first parts, in the order of the stream; each without the 14
+                                bytes of its name and numbers */
+} zaxbriar_places;
+
+/* The first segment in some bytes. What a result doesn't set is zero. */
+typedef struct zaxbriar_segment {
+    /* After ZAXBRIAR_OK. The payload of a segment follows its length field; RST0 to RST7, SOI, EOI
+     * and TEM are markers without one, and have no payload. */
+    uint64_t offset; /* where the payload begins */
+    uint64_t size;   /* how many bytes it has */
+    uint64_t end;    /* how many bytes there are up to the end of the segment */
+
+    /* After ZAXBRIAR_TRUNCATED. */
+    uint64_t needed;  /* how many more bytes are needed at least: with fewer the call is TRUNCATED
+                         again, whatever they are */
+    uint64_t skipped; /* how many bytes, from the first on, don't matter any more: all before the
+                         marker, or without one all but an FF at the end. Without them the call
+                         finds the same segment, so many bytes earlier */
+
+    uint8_t marker;       /* the second byte of the marker's code, such as 0xE1 for APP1; 0 if there
+                             is no marker. Also after ZAXBRIAR_TRUNCATED and ZAXBRIAR_MALFORMED */
+    uint8_t reserved[23]; /* zero */
+} zaxbriar_segment;
+
 /* How to decode. Set the whole struct to zero first; a null pointer stands for all zeros. Later
  * versions may give reserved members a meaning, but zero will always mean what it means now, and
  * the size of the struct won't change. Values that a version doesn't know are a
@@ -178,7 +223,10 @@ typedef struct zaxbriar_options {
     uint8_t reserved;   /* zero */
     uint64_t max_bytes; /* limits picture.decoding_bytes; 0: no limit */
     const zaxbriar_memory *memory; /* null: malloc, realloc and free */
-    uint64_t reserved_word;        /* zero */
+    zaxbriar_places *places; /* null, or where zaxbriar_read_info, zaxbriar_decode and
+                                zaxbriar_decode_partial store what zaxbriar_find_metadata finds,
+                                whatever they return but ZAXBRIAR_BAD_ARGUMENT; the limits don't
+                                affect it */
 } zaxbriar_options;
 
 /* Describes a picture as it is decoded with the options, also after ZAXBRIAR_NO_ROOM and
@@ -286,6 +334,30 @@ ZAXBRIAR_CALL zaxbriar_result zaxbriar_metadata_within(const void *jpeg, size_t 
                                                        const zaxbriar_options *options, int kind,
                                                        void *data, size_t data_size,
                                                        size_t *length);
+
+/* Finds where the metadata of a whole image are, without decoding or copying anything: the call
+ * looks at the markers alone, allocates nothing and takes as long as a search for bytes. What it
+ * finds is what zaxbriar_metadata copies with ZAXBRIAR_WHOLE_IMAGE if the image has no fault; in a
+ * damaged one it may find more, since the scans aren't read.
+ *
+ * Returns ZAXBRIAR_OK also for bytes that aren't a JPEG stream, in which there may be nothing, and
+ * ZAXBRIAR_BAD_ARGUMENT only for a null pointer. */
+ZAXBRIAR_CALL zaxbriar_result zaxbriar_find_metadata(const void *jpeg, size_t jpeg_size,
+                                                     zaxbriar_places *places);
+
+/* Finds the first marker in some bytes, whatever stands before it, and the payload of its segment.
+ * Returns ZAXBRIAR_OK; ZAXBRIAR_TRUNCATED if the bytes end before the segment does, or contain no
+ * marker; ZAXBRIAR_MALFORMED if its length field is less than 2, its own size; or
+ * ZAXBRIAR_BAD_ARGUMENT for a null pointer.
+ *
+ * To list the segments of a stream, make the call again with the bytes after each `end`. After SOS
+ * it passes over the entropy-coded data to the next marker, which may be an RST. Stop at EOI, 0xD9.
+ *
+ * To read a stream piece by piece, without a byte too many, read `needed` bytes after each
+ * ZAXBRIAR_TRUNCATED, and make the call again with all bytes that were read but the first `skipped`
+ * ones. */
+ZAXBRIAR_CALL zaxbriar_result zaxbriar_next_segment(const void *jpeg, size_t jpeg_size,
+                                                    zaxbriar_segment *segment);
 
 /* Returns a short English name of a value that a call returns. */
 ZAXBRIAR_API const char *zaxbriar_answer_name(int answer);

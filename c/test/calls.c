@@ -29,6 +29,32 @@ static void null_pointers(void) {
     CHECK(zaxbriar_metadata(NULL, 0, ZAXBRIAR_EXIF, NULL, 0, NULL) != ZAXBRIAR_OK);
 }
 
+static void null_segments(void) {
+    zaxbriar_segment segment;
+    zaxbriar_places places;
+    memset(&segment, 1, sizeof segment);
+    CHECK(zaxbriar_next_segment(NULL, 1, &segment) == ZAXBRIAR_BAD_ARGUMENT);
+    CHECK(is_all((unsigned char *)&segment, sizeof segment, 0));
+    CHECK(zaxbriar_next_segment(jpeg.start, SIZE_MAX, &segment) == ZAXBRIAR_BAD_ARGUMENT);
+    CHECK(zaxbriar_next_segment(jpeg.start, jpeg.size, NULL) == ZAXBRIAR_BAD_ARGUMENT);
+    CHECK(zaxbriar_next_segment(NULL, 0, &segment) == ZAXBRIAR_TRUNCATED && segment.needed == 2);
+    memset(&places, 1, sizeof places);
+    CHECK(zaxbriar_find_metadata(NULL, 1, &places) == ZAXBRIAR_BAD_ARGUMENT);
+    CHECK(is_all((unsigned char *)&places, sizeof places, 0));
+    CHECK(zaxbriar_find_metadata(jpeg.start, SIZE_MAX, &places) == ZAXBRIAR_BAD_ARGUMENT);
+    CHECK(zaxbriar_find_metadata(jpeg.start, jpeg.size, NULL) == ZAXBRIAR_BAD_ARGUMENT);
+    memset(&places, 1, sizeof places);
+    CHECK(zaxbriar_find_metadata(NULL, 0, &places) == ZAXBRIAR_OK);
+    CHECK(is_all((unsigned char *)&places, sizeof places, 0));
+
+    /* Places that are asked for by options stay as they were after a bad argument. */
+    zaxbriar_options options = {.layout = ZAXBRIAR_XRGB + 1, .places = &places};
+    memset(&places, 1, sizeof places);
+    CHECK(zaxbriar_read_info(jpeg.start, jpeg.size, &options, &picture) == ZAXBRIAR_BAD_ARGUMENT);
+    CHECK(zaxbriar_decode(NULL, 1, &options, NULL, 0, NULL) == ZAXBRIAR_BAD_ARGUMENT);
+    CHECK(is_all((unsigned char *)&places, sizeof places, 1));
+}
+
 static void sizes(void) {
     unsigned char pixel;
     CHECK(zaxbriar_read_info(jpeg.start, SIZE_MAX, NULL, &picture) == ZAXBRIAR_BAD_ARGUMENT);
@@ -42,14 +68,13 @@ static void sizes(void) {
 
 static void unknown_options(void) {
     size_t length;
-    for (int which = 0; which < 6; which++) {
+    for (int which = 0; which < 5; which++) {
         zaxbriar_options options = {0};
         if (which == 0) options.layout = ZAXBRIAR_XRGB + 1;
         if (which == 1) options.transform = ZAXBRIAR_TRANSFORM_YCCK + 1;
         if (which == 2) options.layout = UINT8_MAX;
         if (which == 3) options.layout = ZAXBRIAR_RGB, options.transform = ZAXBRIAR_TRANSFORM_NONE;
         if (which == 4) options.reserved = 1;
-        if (which == 5) options.reserved_word = UINT64_C(1) << 56;
         CHECK(zaxbriar_read_info(jpeg.start, jpeg.size, &options, &picture) ==
               ZAXBRIAR_BAD_ARGUMENT);
         CHECK(picture.text[0] != 0);
@@ -225,6 +250,7 @@ int main(int argc, char **argv) {
     subject = argv[1];
     jpeg = read_file(argv[1]);
     null_pointers();
+    null_segments();
     sizes();
     unknown_options();
     own_memory();

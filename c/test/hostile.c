@@ -189,6 +189,21 @@ static void each_allocation_of(const unsigned char *jpeg, size_t size, int kind)
     }
 }
 
+/* Segments and places are found within the stream, without memory. */
+static void found(const unsigned char *jpeg, size_t size) {
+    static zaxbriar_places places;
+    zaxbriar_segment segment;
+    begin(0);
+    CHECK(zaxbriar_find_metadata(jpeg, size, &places) == ZAXBRIAR_OK);
+    int answer = zaxbriar_next_segment(jpeg, size, &segment);
+    end();
+    CHECK(allocations == 0 && answer != ZAXBRIAR_BAD_ARGUMENT);
+    CHECK(segment.end <= size && segment.skipped <= size && places.stream_bytes <= size);
+    CHECK(places.exif.offset + places.exif.size <= size);
+    CHECK(places.xmp.offset + places.xmp.size <= size);
+    for (int i = 0; i < 255; i++) CHECK(places.icc[i].offset + places.icc[i].size <= size);
+}
+
 static void of_stream(const unsigned char *bytes, size_t size, int is_whole) {
     static const uint8_t layouts[] = {
         ZAXBRIAR_AS_STORED, ZAXBRIAR_AS_STORED, ZAXBRIAR_BGRA, ZAXBRIAR_RGB,
@@ -200,6 +215,7 @@ static void of_stream(const unsigned char *bytes, size_t size, int is_whole) {
     if (size) memcpy(jpeg.start, bytes, size);
     mprotect(jpeg.base + PAGE, jpeg.whole - 2 * PAGE, PROT_READ);
     files++;
+    found(jpeg.start, size);
     begin(0);
     int answer = zaxbriar_read_info(jpeg.start, size, &options, &picture);
     end();

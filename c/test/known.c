@@ -538,6 +538,65 @@ static void long_profile(void) {
     free(stream);
 }
 
+/* The first segment in bytes that end at any place: a byte, a fill byte and a segment of APP1 with
+ * the length 260, after which another marker stands. */
+static void first_segment(void) {
+    static const struct {
+        size_t size, needed, skipped;
+    } cut[] = {{0, 2, 0}, {1, 2, 1}, {2, 1, 1}, {3, 1, 2}, {4, 2, 2}, {5, 255, 2}};
+    unsigned char bytes[267] = {0x00, 0xff, 0xff, 0xe1, 0x01, 0x04};
+    zaxbriar_segment segment;
+    bytes[264] = 0xff, bytes[265] = 0xd9;
+    for (size_t size = 0; size < 264; size++) {
+        CHECK(zaxbriar_next_segment(bytes, size, &segment) == ZAXBRIAR_TRUNCATED);
+        CHECK(segment.needed == (size < 6 ? cut[size].needed : 264 - size));
+        CHECK(segment.skipped == (size < 6 ? cut[size].skipped : 2));
+        CHECK(segment.marker == (size < 4 ? 0 : 0xe1));
+        CHECK(segment.offset == 0 && segment.size == 0 && segment.end == 0);
+    }
+    for (size_t size = 264; size <= sizeof bytes; size++) {
+        CHECK(zaxbriar_next_segment(bytes, size, &segment) == ZAXBRIAR_OK);
+        CHECK(segment.marker == 0xe1 && segment.offset == 6 && segment.size == 258);
+        CHECK(segment.end == 264 && segment.needed == 0 && segment.skipped == 0);
+    }
+    CHECK(zaxbriar_next_segment(bytes + 264, 3, &segment) == ZAXBRIAR_OK);
+    CHECK(segment.marker == 0xd9 && segment.offset == 2 && segment.size == 0 && segment.end == 2);
+    bytes[4] = 0, bytes[5] = 1;
+    CHECK(zaxbriar_next_segment(bytes, 264, &segment) == ZAXBRIAR_MALFORMED);
+    CHECK(segment.marker == 0xe1 && segment.end == 0 && segment.needed == 0);
+}
+
+static int is_place(zaxbriar_place place, size_t offset, size_t size) {
+    return place.offset == offset && place.size == size;
+}
+
+/* The places of Exif data, the last of which counts, and of more parts of a profile than fit. */
+static void places_of_metadata(void) {
+    enum { PARTS = 257, PART = 19 };
+    static unsigned char stream[sizeof grey + 3 * sizeof exif[0] + PARTS * PART];
+    static zaxbriar_places places;
+    unsigned char *at = stream + 2;
+    memcpy(stream, grey, 2);
+    memcpy(at, exif, sizeof exif);
+    at += sizeof exif;
+    for (int part = 1; part <= PARTS; part++, at += PART) {
+        memcpy(at, "\xff\xe2\x00\x11ICC_PROFILE\0", 16);
+        at[16] = (unsigned char)part, at[17] = 255, at[18] = 7;
+    }
+    memcpy(at, grey + 2, sizeof grey - 2);
+    size_t size = (size_t)(at - stream) + sizeof grey - 2;
+    CHECK(zaxbriar_find_metadata(stream, size, &places) == ZAXBRIAR_OK);
+    CHECK(places.stream_bytes == size && places.ended == 1 && places.icc_parts == PARTS);
+    CHECK(is_place(places.exif, 2 + 32 + 10, 22) && is_place(places.xmp, 0, 0));
+    for (size_t i = 0; i < 255; i++) CHECK(is_place(places.icc[i], 66 + PART * i + 18, 1));
+
+    /* Without the last byte of the image its end isn't reached. */
+    CHECK(zaxbriar_find_metadata(stream, size - 1, &places) == ZAXBRIAR_OK);
+    CHECK(places.ended == 0 && places.stream_bytes == size - 3 && places.icc_parts == PARTS);
+    CHECK(zaxbriar_find_metadata("GIF89a", 6, &places) == ZAXBRIAR_OK);
+    CHECK(is_all((unsigned char *)&places, sizeof places, 0));
+}
+
 int main(void) {
     subject = "a stream made by hand";
     memory();
@@ -557,6 +616,8 @@ int main(void) {
     metadata();
     metadata_of_image();
     long_profile();
+    first_segment();
+    places_of_metadata();
     printf("known: streams made by hand; %d faults\n", faults);
     return faults != 0;
 }

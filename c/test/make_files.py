@@ -61,6 +61,18 @@ def with_profile():
     return joined([*segments, *segments_of(stream)]), profile
 
 
+def with_later_metadata():
+    """A file with XMP data and a part of an ICC profile, the second one, before the frame, and with
+    others before the scan; and the XMP data before the frame."""
+    first, last = (
+        segment(APP1, b"http://ns.adobe.com/xap/1.0/\0" + data)
+        for data in (b"<first/>", b"<last/>")
+    )
+    parts = [segment(APP2, b"ICC_PROFILE\0%c\2part %c" % (n, n)) for n in (1, 2)]
+    stream = segments_of(output_of(["cjpeg", "-quality", "80"], ppm("noise", 24, 24)))
+    return joined([first, parts[1], *stream[:-1], last, parts[0], stream[-1]]), b"<first/>"
+
+
 def lossless():
     """Lossless files of each precision, of 1, 3 and 4 components."""
     chance = random.Random(2)
@@ -129,6 +141,8 @@ def main(folder, every):
             write(name, stream, exif=data)
         stream, profile = with_profile()
         write("profile", stream, icc=profile)
+        stream, data = with_later_metadata()
+        write("later-metadata", stream, xmp=data)
         write(
             "photo",
             output_of(["cjpeg", "-quality", "88", "-sample", "2x2"], ppm("gradient", 640, 425)),

@@ -1,84 +1,17 @@
--- The next marker, the payload of a segment, and the first JFIF segment, as they are searched for.
-use Rattle.std.proofs.Common.{arith, ◌≡◌, ◌∙◌, ℕ, zero, suc, ◌+◌, ◌-◌, ◌*◌, ◌<◌, ◌≤◌, List, [], ◌∷◌, Ok, Err}
-use Rattle.std.proofs.Common.{Some, None, ap, drop, false, length, length-drop, ne_eqb, refl}
-use Rattle.std.proofs.Common.{slice_index, take, true}
+-- The first JFIF segment of a header, as it is searched for.
+use Rattle.std.proofs.Common.{arith, ◌≡◌, ◌∙◌, ℕ, zero, suc, ◌+◌, ◌-◌, ◌<◌, ◌≤◌, List, [], ◌∷◌, Ok, Err}
+use Rattle.std.proofs.Common.{Some, None, ap, drop, false, length, length-drop, refl}
+use Rattle.std.proofs.Common.{true}
 use Rattle.std.specs.Prelude.{IsErr, ◌++◌, codes}
 use Rattle.std.proofs.lemmas.Grind.{common_steps}
 use Rattle.jpeg_bits.specs.Marker.{marker_of, next_marker}
-use Rattle.jpeg_bits.specs.Reading.{End, ◌>>=◌, length_at, next_byte, next_u16, times}
+use Rattle.jpeg_bits.specs.Reading.{End, length_at, next_u16, times}
 use Rattle.jpeg_bits.specs.declared.marker.Marker.{Marker}
 use Rattle.zaxbriar.specs.Density.{density_in, density_of, ends_header, first_density, is_jfif}
-use Rattle.zaxbriar.specs.Density.{no_density, or_none, payload_at}
+use Rattle.zaxbriar.specs.Density.{no_density, or_none}
+use Rattle.zaxbriar.specs.StreamSegments.{payload_at}
+use Rattle.zaxbriar.proofs.FoundSegments.{no-marker}
 use Rattle.zaxbriar.specs.declared.density.Density.{Density}
-
--- ---- the next marker
-
-pub no-marker : (bytes : List ℕ) → length bytes < 2 → next_marker bytes ≡ Err End
-unfolding next_marker
-no-marker [] h = refl
-no-marker (a ∷ []) h = refl
-no-marker (a ∷ b ∷ rest) h = absurd (omega (arith, h))
-
-pub marker-here : (bytes : List ℕ) (m : Marker) → 2 ≤ length bytes → slice_index bytes 0 ≡ 255
-    → marker_of (slice_index bytes 1) ≡ Some m → next_marker bytes ≡ Ok (m, drop 2 bytes)
-unfolding next_marker
-marker-here (a ∷ b ∷ rest) m h first second = rw (first, second) refl
-marker-here (a ∷ []) m h first second = absurd (omega (arith, h))
-marker-here [] m h first second = absurd (omega (arith, h))
-
-pub marker-later : (bytes : List ℕ) → 2 ≤ length bytes → (slice_index bytes 0 ≡ 255 → ⊥)
-    → next_marker bytes ≡ next_marker (drop 1 bytes)
-unfolding next_marker
-marker-later (a ∷ b ∷ rest) h other = rw (ne_eqb a 255 other) refl
-marker-later (a ∷ []) h other = absurd (omega (arith, h))
-marker-later [] h other = absurd (omega (arith, h))
-
-pub marker-filled : (bytes : List ℕ) → 2 ≤ length bytes → slice_index bytes 0 ≡ 255
-    → marker_of (slice_index bytes 1) ≡ None → next_marker bytes ≡ next_marker (drop 1 bytes)
-unfolding next_marker
-marker-filled (a ∷ b ∷ rest) h first second = rw (first, second) refl
-marker-filled (a ∷ []) h first second = absurd (omega (arith, h))
-marker-filled [] h first second = absurd (omega (arith, h))
-
--- ---- a payload
-
-times-taken : (n : ℕ) (bytes : List ℕ) → n ≤ length bytes
-    → times n next_byte bytes ≡ Ok (take n bytes, drop n bytes)
-unfolding times
-times-taken zero bytes h = refl
-times-taken (suc n) (b ∷ bytes) h =
-    ap (λ r. r >>= (λ (others : List ℕ × List ℕ). Ok (b ∷ others.0, others.1))) (times-taken n bytes (omega (arith, h)))
-times-taken (suc n) [] h = absurd (omega (arith, h))
-
-times-cut : (n : ℕ) (bytes : List ℕ) → length bytes < n → times n next_byte bytes ≡ Err End
-unfolding times
-times-cut (suc n) [] h = refl
-times-cut (suc n) (b ∷ bytes) h =
-    ap (λ r. r >>= (λ (others : List ℕ × List ℕ). Ok (b ∷ others.0, others.1))) (times-cut n bytes (omega (arith, h)))
-times-cut zero bytes h = absurd (omega (arith, h))
-
-pub payload-unsized : (bytes : List ℕ) → length bytes < 2 → IsErr (payload_at bytes)
-unfolding payload_at length_at next_u16
-payload-unsized [] h = refl
-payload-unsized (a ∷ []) h = refl
-payload-unsized (a ∷ b ∷ rest) h = absurd (omega (arith, h))
-
-pub payload-short : (bytes : List ℕ) → 2 ≤ length bytes → 256 * slice_index bytes 0 + slice_index bytes 1 < 2
-    → IsErr (payload_at bytes)
-unfolding payload_at length_at next_u16
-payload-short bytes h short = grind (arith, common_steps)
-
-pub payload-cut : (bytes : List ℕ) (size : ℕ) → 2 ≤ length bytes
-    → size ≡ 256 * slice_index bytes 0 + slice_index bytes 1 → 2 ≤ size → length (drop 2 bytes) < size - 2
-    → IsErr (payload_at bytes)
-unfolding payload_at length_at next_u16
-payload-cut bytes size h is some cut = grind (arith, common_steps, times-cut)
-
-pub payload-is : (bytes : List ℕ) (size : ℕ) → 2 ≤ length bytes
-    → size ≡ 256 * slice_index bytes 0 + slice_index bytes 1 → 2 ≤ size → size - 2 ≤ length (drop 2 bytes)
-    → payload_at bytes ≡ Ok (take (size - 2) (drop 2 bytes), drop (size - 2) (drop 2 bytes))
-unfolding payload_at length_at next_u16
-payload-is bytes size h is some fits = grind (arith, common_steps, times-taken)
 
 -- ---- the first JFIF segment
 

@@ -1,6 +1,9 @@
 mod Decoded
 mod Densities
 mod Fails
+mod FoundPlaces
+mod FoundSegments
+mod KeptBytes
 mod Laid
 mod Means
 mod Parts

@@ -1,13 +1,35 @@
 -- Lemmas that the proofs of functions use, by what they are about.
 use Rattle.zaxbriar.proofs.Densities.{density-none, density-short, density-some, first-cut, first-ended, first-jfif}
-use Rattle.zaxbriar.proofs.Densities.{first-later, first-none, first-past, marker-filled, marker-here, marker-later}
-use Rattle.zaxbriar.proofs.Densities.{no-marker, payload-cut, payload-is, payload-short, payload-unsized}
+use Rattle.zaxbriar.proofs.Densities.{first-later, first-none, first-past}
+use Rattle.zaxbriar.proofs.FoundSegments.{marker-filled, marker-here, marker-later, no-marker, payload-cut, payload-is}
+use Rattle.zaxbriar.proofs.FoundSegments.{few-refused, marked-long, payload-short, payload-unsized, sized}
+use Rattle.zaxbriar.proofs.FoundSegments.{some-left, unsized}
+use Rattle.zaxbriar.proofs.KeptBytes.{marker-long, segment-cut, segment-found, segment-none}
+use Rattle.zaxbriar.proofs.FoundPlaces.{other-said, places-are, places-ended, places-later, places-none, places-past}
 
 -- the next marker
 pub ruleset markers = (no-marker, marker-here, marker-later, marker-filled)
 
 -- the payload of a segment
 pub ruleset payloads = (payload-unsized, payload-short, payload-cut, payload-is)
+
+-- a marker with or without a length field
+pub ruleset lengths = (sized, unsized)
+
+-- what a payload needs that isn't whole
+pub ruleset needs = (few-refused, some-left)
+
+-- how long what is read of a segment is
+pub ruleset long_segments = (marker-long, marked-long)
+
+-- the first segment
+pub ruleset read_segments = (segment-cut, segment-found, segment-none)
+
+-- the applications that have no metadata
+pub ruleset others = (other-said)
+
+-- the places of metadata
+pub ruleset places = (places-are, places-ended, places-later, places-none, places-past)
 
 -- the first JFIF segment
 pub ruleset segments = (first-none, first-ended, first-cut, first-jfif, first-later, first-past)

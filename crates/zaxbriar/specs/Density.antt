@@ -3,10 +3,10 @@ use Rattle.std.specs.Prelude.{ℕ, zero, suc, ◌+◌, ◌*◌, ◌==◌, ◌&&�
 use Rattle.std.specs.Prelude.{length, nat_le, slice_index, Option, Some, None, Ok, Err}
 use Rattle.std.specs.Prelude.{if◌then◌else◌}
 use Rattle.jpeg_bits.specs.Marker.{next_marker}
-use Rattle.jpeg_bits.specs.Reading.{Outcome, ◌>>=◌, length_at, next_byte, times}
 use Rattle.jpeg_bits.specs.declared.marker.Marker.{Marker}
 use Rattle.jpeg_bits.specs.declared.marker.Marker.TheVariants.{SOF, RST, SOI, EOI, TEM, APP}
 use Rattle.jpeg_segments.specs.Application.{begins_with, jfif_name}
+use Rattle.zaxbriar.specs.StreamSegments.{payload_at}
 use Rattle.zaxbriar.specs.declared.density.Density.{Density}
 
 -- A JFIF segment, whose payload begins with the name, two bytes of a version, the unit, and
@@ -33,12 +33,6 @@ ends_header SOI = true
 ends_header EOI = true
 ends_header TEM = true
 ends_header _ = false
-
--- the payload of a segment, after its marker
-unfoldable pub payload_at : List ℕ → Outcome (List ℕ)
-payload_at bytes = do
-  left ← length_at bytes
-  times left.0 next_byte left.1
 
 -- the density of the first JFIF segment among this many, up to the end of the header
 unfoldable pub first_density : ℕ → List ℕ → Option Density

@@ -83,6 +83,13 @@ abbrev pub status_of : {X : Type 0} → Result X Refusal → ℕ
 status_of (Ok x) = 0
 status_of (Err r) = fault_code r
 
+-- the number of what a reading of bytes comes to
+abbrev pub reading_code : {X : Type 0} → Result X Fault → ℕ
+reading_code (Ok x) = 0
+reading_code (Err Malformed) = 1
+reading_code (Err (Lacks feature)) = 2
+reading_code (Err End) = 3
+
 -- the number of the fault of which an outcome tells beside a part of the stream
 abbrev pub fault_told : {X : Type 0} → Result X Refusal → ℕ
 fault_told (Err (Part e)) = error_code e

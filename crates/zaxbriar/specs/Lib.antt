@@ -7,4 +7,6 @@ pub mod Lines
 pub mod Meanings
 pub mod Metadata
 pub mod Partial
+pub mod Places
 pub mod Sampling
+pub mod StreamSegments

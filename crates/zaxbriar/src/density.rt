@@ -1,10 +1,9 @@
 //! The density that the JFIF segment of a header gives (T.871, 10.1).
-ghost use Rattle.std.specs.Prelude.{◌≡◌, ◌≤◌, Ok, Err, IsErr, MatchOption, length, drop};
-ghost use Rattle.jpeg_bits.specs.Marker.{next_marker};
-ghost use Rattle.jpeg_bits.specs.Reading.{End};
+ghost use Rattle.std.specs.Prelude.{◌≡◌, ◌≤◌, length};
 ghost use Rattle.zaxbriar.specs.Density.{density_in, density_of, ends_header, first_density};
-ghost use Rattle.zaxbriar.specs.Density.{is_jfif, payload_at};
+ghost use Rattle.zaxbriar.specs.Density.{is_jfif};
 
+use crate::segments::{next_marker, next_payload};
 use jpeg_bits::marker::Marker;
 
 /// How many samples a unit of length has, or, without a unit, the shape of a sample.
@@ -22,46 +21,6 @@ pub const NO_DENSITY: Density = Density {
     horizontal: 0,
     vertical: 0,
 };
-
-/// Returns the next marker, and the bytes after it.
-#[tactic(auto, using(crate::proofs::Rules::markers))]
-fn next_marker(bytes: &[u8]) -> Option<(Marker, &[u8])>
-    ensures { MatchOption result (next_marker bytes.now ≡ Err End)
-        (λ m. next_marker bytes.now ≡ Ok (m.0, m.1.now)) }
-{
-    let mut rest = bytes;
-    for _ in 0..bytes.len() {
-        let &[first, second, ..] = rest else {
-            return None;
-        };
-        if first == 0xff {
-            if let Some(marker) = Marker::from_u8(second) {
-                let (_, after) = rest.split_at(2);
-                return Some((marker, after));
-            }
-        }
-        let (_, later) = rest.split_at(1);
-        rest = later;
-    }
-    None
-}
-
-/// Returns the payload of a segment, after its marker, and the bytes after it.
-#[tactic(auto, using(crate::proofs::Rules::payloads))]
-fn next_payload(bytes: &[u8]) -> Option<(&[u8], &[u8])>
-    ensures { MatchOption result (IsErr (payload_at bytes.now))
-        (λ p. payload_at bytes.now ≡ Ok (p.0.now, p.1.now)) }
-{
-    let &[high, low, ..] = bytes else {
-        return None;
-    };
-    let size = 256 * usize::from(high) + usize::from(low);
-    if size < 2 {
-        return None;
-    }
-    let (_, rest) = bytes.split_at(2);
-    rest.split_at_checked(size - 2)
-}
 
 /// Returns whether a header ends at a marker, or goes on without a length field.
 fn ends_header(marker: Marker) -> bool

@@ -6,7 +6,7 @@
 #![tactic(auto)]
 
 ghost use Rattle.std.specs.Prelude.{◌≡◌, ◌⊎◌, ◌++◌, ◌<◌, ◌≤◌, ◌^◌, ℕ, List, length, slice_index};
-ghost use Rattle.std.specs.Prelude.{false, true, Err, IsOk, None, Some};
+ghost use Rattle.std.specs.Prelude.{false, true, Err, IsOk, None, Some, replicate};
 ghost use Rattle.jpeg_bits.specs.Reading.{Fault, Malformed, Lacks, End};
 ghost use Rattle.jpeg_bits.specs.declared.error.UnsupportedFeature.{UnsupportedFeature};
 ghost use Rattle.jpeg_streams.specs.ArrayPictures.{picture_of_array};
@@ -16,7 +16,7 @@ ghost use Rattle.jpeg_streams.specs.Levels.{Is8Bit, Levels};
 ghost use Rattle.jpeg_streams.specs.Stream.{header_at};
 ghost use Rattle.jpeg_streams.specs.WrittenImages.{WritesImage};
 ghost use Rattle.jpeg_streams.specs.WrittenScans.{Coefficients};
-ghost use Rattle.zaxbriar.specs.Faults.{IsOfCallNumber};
+ghost use Rattle.zaxbriar.specs.Faults.{IsOfCallNumber, reading_code};
 ghost use Rattle.zaxbriar.specs.Features.{LacksFeature, NamesFeature, numbered};
 ghost use Rattle.zaxbriar.specs.Limits.{are_known};
 ghost use Rattle.zaxbriar.specs.Metadata.{IsCopied, IsLonger, IsNoKind, end_at, is_whole, said_of};
@@ -24,6 +24,8 @@ ghost use Rattle.zaxbriar.specs.Meanings.{AreWrong, CountsRead, IsTooLarge, IsWi
 ghost use Rattle.zaxbriar.specs.Meanings.{ShowsSamples, as_described, meaning_by, no_picture};
 ghost use Rattle.zaxbriar.specs.Meanings.{settings_of, size_wanted, uncounted};
 ghost use Rattle.zaxbriar.specs.Partial.{ShowsPart, TellsFault, shown_by, without_fault};
+ghost use Rattle.zaxbriar.specs.Places.{places_of};
+ghost use Rattle.zaxbriar.specs.StreamSegments.{IsCut, IsFound, next_code, next_segment};
 
 mod answers;
 mod counts;
@@ -38,9 +40,11 @@ mod lines;
 mod metadata;
 pub mod options;
 pub mod picture;
+pub mod places;
 mod sampling;
+pub mod segments;
 
-use answers::{BAD_ARGUMENT, NO_MEMORY, answer, fault_told};
+use answers::{BAD_ARGUMENT, MALFORMED, NO_MEMORY, OK, TRUNCATED, answer, fault_told};
 use decode::decode_into;
 use description::read_info_from;
 use features::feature_told;
@@ -48,6 +52,8 @@ use jpeg_decoder::SliceReader;
 use metadata::{kind_alone, read_metadata};
 use options::Options;
 use picture::{NO_PICTURE, Picture};
+use places::{Places, find_places};
+use segments::{NO_SEGMENT, Segment, ends_by_ff, next_marker, payload_after, payload_needs};
 use std::alloc::Global;
 
 /// Describes the picture of a stream, by its header.
@@ -322,4 +328,59 @@ pub extern "C" fn zaxbriar_checked_metadata(
         Ok(code) => code,
         Err(_) => NO_MEMORY,
     }
+}
+
+/// Finds the first segment in some bytes, whatever stands before its marker.
+#[tactic(auto, using(crate::proofs::Rules::long_segments))]
+#[unsafe(no_mangle)]
+pub extern "C" fn zaxbriar_checked_next_segment(jpeg: &[u8], segment: &mut Segment) -> u32
+    // OK, MALFORMED or TRUNCATED, as reading a segment from the bytes ends.
+    ensures code { result ≡ reading_code (next_segment jpeg.now) }
+
+    // Whatever is returned, `marker` is the second byte of the first marker, and 0 without one.
+    ensures marker { segment.new.marker ≡ next_code jpeg.now }
+
+    // After OK, `segment` says where the payload is, and where the segment ends.
+    ensures found { result ≡ 0 → IsFound jpeg.now segment.new }
+    ensures none { (result ≡ 0 → ⊥) → (segment.new.offset ≡ 0) × (segment.new.size ≡ 0)
+        × (segment.new.end ≡ 0) }
+
+    // After TRUNCATED, it says how many bytes more are needed, and how many of those at hand don't
+    // matter any more.
+    ensures cut { result ≡ 3 → IsCut jpeg.now segment.new }
+    ensures whole { (result ≡ 3 → ⊥) → (segment.new.needed ≡ 0) × (segment.new.skipped ≡ 0) }
+    ensures reserved { segment.new.reserved ≡ replicate 23 0 }
+{
+    *segment = NO_SEGMENT;
+    let Some((marker, after)) = next_marker(jpeg) else {
+        let begun = usize::from(ends_by_ff(jpeg));
+        segment.needed = (2 - begun) as u64;
+        segment.skipped = (jpeg.len() - begun) as u64;
+        return TRUNCATED;
+    };
+    let start = jpeg.len() - after.len();
+    segment.marker = jpeg[start - 1];
+    if let Some((payload, rest)) = payload_after(marker, after) {
+        segment.end = (jpeg.len() - rest.len()) as u64;
+        segment.size = payload.len() as u64;
+        segment.offset = segment.end - segment.size;
+        return OK;
+    }
+    match payload_needs(after) {
+        Some(needed) => {
+            segment.needed = needed as u64;
+            segment.skipped = (start - 2) as u64;
+            TRUNCATED
+        }
+        None => MALFORMED,
+    }
+}
+
+/// Finds the metadata in the segments of an image, also of one that is cut or damaged: those up to
+/// its end or as far as there are whole segments.
+#[unsafe(no_mangle)]
+pub extern "C" fn zaxbriar_checked_find_metadata(jpeg: &[u8], places: &mut Places)
+    ensures { places.new ≡ places_of jpeg.now }
+{
+    find_places(jpeg, places);
 }

@@ -1,6 +1,6 @@
 use Rattle.std.proofs.Common.{◌≡◌, ◌+◌, length}
 use Rattle.jpeg_bits.specs.Marker.{next_marker}
-use Rattle.zaxbriar.proofs.density.next_marker.Given as goal
+use Rattle.zaxbriar.proofs.segments.next_marker.Given as goal
 
 abbrev pub invariant-loop : goal.invariant-loop
 invariant-loop l = record {
