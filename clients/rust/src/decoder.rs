@@ -1,9 +1,10 @@
 use crate::color::{transform_number, ColorTransform};
 use crate::error::{Error, Result, UnsupportedFeature};
 use crate::info::{size_of, Density, ImageInfo, Scale};
-use crate::library::{self, Kind, Options, Picture, Refusal, Segments};
+use crate::library::{self, Answer, Metadata, Options, Picture, Refusal};
 use crate::stream::Stream;
 use std::io::{self, Read};
+use std::ops::Range;
 
 /// How far a decoder has come.
 #[derive(Clone, Copy, PartialEq)]
@@ -21,24 +22,6 @@ pub struct PartialPicture {
     pub pixels: Vec<u8>,
     /// The first fault of the stream, or none if it is whole.
     pub fault: Option<Error>,
-}
-
-/// What segments say besides the picture.
-#[derive(Default)]
-struct Metadata {
-    exif: Option<Vec<u8>>,
-    xmp: Option<Vec<u8>>,
-    icc: Option<Vec<u8>>,
-}
-
-impl Metadata {
-    fn of(jpeg: &[u8], segments: Segments) -> std::result::Result<Metadata, Refusal> {
-        Ok(Metadata {
-            exif: library::metadata(jpeg, Kind::Exif, segments)?,
-            xmp: library::metadata(jpeg, Kind::Xmp, segments)?,
-            icc: library::metadata(jpeg, Kind::Icc, segments)?,
-        })
-    }
 }
 
 /// A decoder of the JPEG stream that a reader gives.
@@ -113,17 +96,17 @@ impl<R: Read> Decoder<R> {
     ///
     /// Like the next two calls it returns what was read before a failure, too.
     pub fn exif_data(&self) -> Option<&[u8]> {
-        self.metadata.exif.as_deref()
+        self.data_at(&self.metadata.exif)
     }
 
     /// Returns the last XMP data that were read.
     pub fn xmp_data(&self) -> Option<&[u8]> {
-        self.metadata.xmp.as_deref()
+        self.data_at(&self.metadata.xmp)
     }
 
     /// Returns a copy of the ICC profile, if all of its parts were read.
     pub fn icc_profile(&self) -> Option<Vec<u8>> {
-        self.metadata.icc.clone()
+        library::icc_profile(self.stream.bytes(), &self.metadata)
     }
 
     /// Reads the header, and nothing after it, if it wasn't read before.
@@ -149,9 +132,6 @@ impl<R: Read> Decoder<R> {
         let failure = self.stream.read_header(&mut self.reader);
         let call = |bytes: &[u8]| library::read_info(bytes, &options);
         let (outcome, failure) = self.ask(failure, is_truncated, call);
-        if self.stream.may_have_metadata(0) {
-            self.read_metadata(Segments::OfHeader)?;
-        }
         self.picture = Some(outcome.map_err(|refusal| error_of(refusal, failure))?);
         self.stage = Stage::HeaderRead;
         Ok(())
@@ -190,9 +170,6 @@ impl<R: Read> Decoder<R> {
     /// Sets how many bytes decoding may take, as [`decoding_bytes`](Decoder::decoding_bytes) counts
     /// them. [`decode`](Decoder::decode) refuses a picture that needs more by its header, before it
     /// takes any.
-    ///
-    /// Metadata after the frame header are read at full size. Where a picture is within the limit
-    /// only since it is scaled, they aren't read.
     ///
     /// ```
     /// # let jpeg = &std::fs::read("tests/grey.jpg").unwrap()[..];
@@ -308,7 +285,8 @@ impl<R: Read> Decoder<R> {
     /// Describes the picture anew, by other options.
     fn resize(&mut self, options: Options) -> Result<(u16, u16)> {
         self.read_info()?;
-        let picture = library::read_info(self.stream.bytes(), &options).map_err(refused)?;
+        let answer = library::read_info(self.stream.bytes(), &options);
+        let picture = answer.outcome.map_err(refused)?;
         self.options = options;
         self.picture = Some(picture);
         Ok(size_of(&picture))
@@ -336,7 +314,7 @@ impl<R: Read> Decoder<R> {
     /// has returned besides, and why the reader gave no more bytes, if it didn't.
     fn decode_by<T>(
         &mut self,
-        call: impl Fn(&[u8], &Options, &mut [u8]) -> Outcome<T>,
+        call: impl Fn(&[u8], &Options, &mut [u8]) -> Answer<T>,
         lacks_bytes: impl Fn(&Outcome<T>) -> bool,
     ) -> Result<(Vec<u8>, T, Option<io::Error>)> {
         self.read_info()?;
@@ -358,10 +336,6 @@ impl<R: Read> Decoder<R> {
         if matches!(outcome, Err(Refusal::TooLarge(_))) {
             self.stage = Stage::HeaderRead;
         }
-        let has_metadata = self.stream.may_have_metadata(picture.stream_bytes as usize);
-        if has_metadata && self.may_be_full_size()? {
-            self.read_metadata(Segments::OfImage)?;
-        }
         match outcome {
             Ok(returned) => {
                 self.stage = Stage::Decoded;
@@ -371,37 +345,31 @@ impl<R: Read> Decoder<R> {
         }
     }
 
-    fn read_metadata(&mut self, segments: Segments) -> Result<()> {
-        self.metadata = Metadata::of(self.stream.bytes(), segments).map_err(refused)?;
-        Ok(())
+    fn data_at(&self, place: &Option<Range<usize>>) -> Option<&[u8]> {
+        place.clone().map(|place| &self.stream.bytes()[place])
     }
 
-    /// Returns whether the limit of memory allows reading the scans at full size, as the library
-    /// does for the metadata of a whole image. No picture is in memory then.
-    fn may_be_full_size(&self) -> Result<bool> {
-        let picture = library::read_info(self.stream.bytes(), &Options::default());
-        Ok(picture.map_err(refused)?.decoding_bytes <= self.max_bytes)
-    }
-
-    /// Makes a call on the bytes that were read. Where its outcome lacks bytes, and the reader has
-    /// more, all of it is read and the call is made again. Returns the outcome, and why the reader
-    /// gave no more bytes, if it didn't.
+    /// Makes a call on the bytes that were read, and finds the metadata in those that it has read.
+    /// Where its outcome lacks bytes, and the reader has more, all of it is read and the call is
+    /// made again. Returns the outcome, and why the reader gave no more bytes, if it didn't.
     fn ask<T>(
         &mut self,
         mut failure: Option<io::Error>,
         lacks_bytes: impl Fn(&Outcome<T>) -> bool,
-        mut call: impl FnMut(&[u8]) -> Outcome<T>,
+        mut call: impl FnMut(&[u8]) -> Answer<T>,
     ) -> (Outcome<T>, Option<io::Error>) {
-        let mut outcome = call(self.stream.bytes());
-        if failure.is_none() && lacks_bytes(&outcome) {
+        let mut answer = call(self.stream.bytes());
+        if failure.is_none() && lacks_bytes(&answer.outcome) {
             failure = Some(self.stream.read_rest(&mut self.reader));
-            outcome = call(self.stream.bytes());
+            answer = call(self.stream.bytes());
         }
-        (outcome, failure)
+        let end = answer.stream_bytes.min(self.stream.metadata_end());
+        self.metadata = library::find_metadata(&self.stream.bytes()[..end]);
+        (answer.outcome, failure)
     }
 }
 
-/// What a call of the library returns.
+/// What a call of the library comes to.
 type Outcome<T> = std::result::Result<T, Refusal>;
 
 /// Returns whether a stream is refused since it ends too soon.

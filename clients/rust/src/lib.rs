@@ -23,10 +23,11 @@
 //! ITU-T T.81. This crate is only tested. It reads a stream into memory, makes the calls, and names
 //! their errors. Two parts of it aren't a matter of types:
 //!
-//! - one module of four `unsafe` blocks, which hands slices to the library and takes zeroed memory;
-//! - a scanner that finds where a header and an image end, so that a lent reader stays right after
-//!   them. Pictures and errors don't rest on it: where it has read too little, all is read, and the
-//!   library is asked again.
+//! - one module of `unsafe` blocks, which hands slices to the library and takes zeroed memory;
+//! - a loop that reads segment by segment up to the end of a header or an image, so that a lent
+//!   reader stays right after them. How many bytes a segment needs is the library's to say, which
+//!   is proved, too. Pictures and errors don't rest on the loop: where it has read too little, all
+//!   is read, and the library is asked again.
 //!
 //! # What differs from jpeg-decoder
 //!
@@ -34,6 +35,10 @@
 //! other samples, by up to 3 in some 2 to 4 percent of them; texts of [`Error::Format`] are others;
 //! limits are compared before the picture is decoded; running out of memory is an [`Error::Io`]
 //! and doesn't abort; and a decoder that has failed, or has returned its picture, decodes no more.
+//!
+//! # With the crate `image`
+//!
+//! The crate `zaxbriar-image` beside this one has a decoder for `image`, 0.25 or 0.24.
 
 #![deny(unsafe_code)]
 #![warn(missing_docs)]

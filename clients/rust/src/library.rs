@@ -2,6 +2,7 @@
 #![allow(unsafe_code)]
 
 use std::alloc::{alloc_zeroed, Layout};
+use std::ops::Range;
 use std::os::raw::{c_int, c_void};
 
 const OK: c_int = 0;
@@ -18,20 +19,12 @@ const LOSSLESS: u8 = 3;
 /// The bytes of a picture's text.
 const TEXT_BYTES: usize = 112;
 
-/// Kinds of metadata.
-#[derive(Clone, Copy)]
-pub enum Kind {
-    Exif = 1,
-    Xmp = 2,
-    Icc = 3,
-}
+/// The kind of metadata that an ICC profile is.
+const ICC: c_int = 3;
 
-/// The segments that metadata are taken from: those before the frame, or all of the image.
-#[derive(Clone, Copy)]
-pub enum Segments {
-    OfHeader = 0,
-    OfImage = 16,
-}
+/// The bytes of a segment before those of an ICC profile's part: the marker, the length field, the
+/// name, and the two numbers.
+const ICC_HEAD_BYTES: usize = 18;
 
 /// `zaxbriar_options`.
 #[repr(C)]
@@ -78,10 +71,53 @@ pub struct Picture {
     text: [u8; TEXT_BYTES],
 }
 
+/// `zaxbriar_segment`.
+#[repr(C)]
+#[derive(Default)]
+struct FoundSegment {
+    offset: u64,
+    size: u64,
+    end: u64,
+    needed: u64,
+    skipped: u64,
+    marker: u8,
+    reserved: [u8; 23],
+}
+
+/// `zaxbriar_place`.
+#[repr(C)]
+#[derive(Clone, Copy, Default)]
+struct Place {
+    offset: u64,
+    size: u64,
+}
+
+impl Place {
+    /// Returns the range of the place in the bytes, or none where it says that there is none.
+    fn range(self) -> Option<Range<usize>> {
+        let start = self.offset as usize;
+        (start > 0).then(|| start..start + self.size as usize)
+    }
+}
+
+/// `zaxbriar_places`.
+#[repr(C)]
+struct Places {
+    exif: Place,
+    xmp: Place,
+    stream_bytes: u64,
+    icc_parts: u32,
+    ended: u32,
+    reserved: [u64; 4],
+    icc: [Place; 255],
+}
+
 // The library is for 64 bits, and has structs of these sizes.
 const _: () = assert!(std::mem::size_of::<usize>() == 8);
 const _: () = assert!(std::mem::size_of::<Options>() == 48);
 const _: () = assert!(std::mem::size_of::<Picture>() == 192);
+const _: () = assert!(std::mem::size_of::<FoundSegment>() == 64);
+const _: () = assert!(std::mem::size_of::<Places>() == 4160);
 
 impl Picture {
     const NONE: Picture = Picture {
@@ -198,16 +234,40 @@ extern "C" {
         data_size: usize,
         length: *mut usize,
     ) -> c_int;
+
+    fn zaxbriar_next_segment(
+        jpeg: *const c_void,
+        jpeg_size: usize,
+        segment: *mut FoundSegment,
+    ) -> c_int;
+
+    fn zaxbriar_find_metadata(jpeg: *const c_void, jpeg_size: usize, places: *mut Places) -> c_int;
+}
+
+/// What a call that reads a picture gives.
+pub struct Answer<T> {
+    pub outcome: Result<T, Refusal>,
+    /// How many bytes the header or the image takes, or how many were read before a refusal.
+    pub stream_bytes: usize,
+}
+
+impl<T> Answer<T> {
+    fn new(answer: c_int, picture: &Picture, returned: T) -> Answer<T> {
+        Answer {
+            outcome: refusal_of(answer, picture).map_or(Ok(returned), Err),
+            stream_bytes: picture.stream_bytes as usize,
+        }
+    }
 }
 
 /// Describes the picture of a stream by its header.
-pub fn read_info(jpeg: &[u8], options: &Options) -> Result<Picture, Refusal> {
+pub fn read_info(jpeg: &[u8], options: &Options) -> Answer<Picture> {
     let mut picture = Picture::NONE;
     // SAFETY: `jpeg` and `options` are borrowed to be read and `picture` to be written, so that
     // they are valid, and apart, as long as the call takes; the structs are those of the header.
     let answer =
         unsafe { zaxbriar_read_info(jpeg.as_ptr().cast(), jpeg.len(), options, &mut picture) };
-    refusal_of(answer, &picture).map_or(Ok(picture), Err)
+    Answer::new(answer, &picture, picture)
 }
 
 /// A call that decodes.
@@ -238,9 +298,9 @@ fn call(decoding: Decoding, jpeg: &[u8], options: &Options, pixels: &mut [u8]) -
 }
 
 /// Decodes a stream into `pixels`.
-pub fn decode(jpeg: &[u8], options: &Options, pixels: &mut [u8]) -> Result<(), Refusal> {
+pub fn decode(jpeg: &[u8], options: &Options, pixels: &mut [u8]) -> Answer<()> {
     let (answer, picture) = call(zaxbriar_decode, jpeg, options, pixels);
-    refusal_of(answer, &picture).map_or(Ok(()), Err)
+    Answer::new(answer, &picture, ())
 }
 
 /// Decodes what there is of a stream into `pixels`, and returns its first fault, if it has any.
@@ -248,37 +308,103 @@ pub fn decode_partial(
     jpeg: &[u8],
     options: &Options,
     pixels: &mut [u8],
-) -> Result<Option<Refusal>, Refusal> {
+) -> Answer<Option<Refusal>> {
     let (answer, picture) = call(zaxbriar_decode_partial, jpeg, options, pixels);
     if answer == PARTIAL {
-        return Ok(refusal_of(picture.fault.into(), &picture));
+        return Answer::new(OK, &picture, refusal_of(picture.fault.into(), &picture));
     }
-    refusal_of(answer, &picture).map_or(Ok(None), Err)
+    Answer::new(answer, &picture, None)
 }
 
-/// Returns metadata that the segments have up to the end of the header or the image, or its first
-/// fault, if they have any.
-pub fn metadata(jpeg: &[u8], kind: Kind, segments: Segments) -> Result<Option<Vec<u8>>, Refusal> {
-    // They aren't longer than the stream.
-    let mut data = zeros(jpeg.len() as u64)?;
+/// What bytes have of the next segment.
+pub enum Segment {
+    /// All of it: its marker's second byte, and how many bytes there are up to its end.
+    Whole { marker: u8, end: usize },
+    /// Not all of it, perhaps not even the marker: it doesn't depend on so many bytes at the
+    /// beginning, and needs at least so many more.
+    Cut {
+        marker: Option<u8>,
+        skipped: usize,
+        needed: usize,
+    },
+    /// A length field that is less than its own size.
+    Malformed,
+}
+
+/// Finds the first segment in some bytes.
+pub fn next_segment(jpeg: &[u8]) -> Segment {
+    let mut found = FoundSegment::default();
+    // SAFETY: as in `read_info`; and `found` is borrowed to be written.
+    let answer = unsafe { zaxbriar_next_segment(jpeg.as_ptr().cast(), jpeg.len(), &mut found) };
+    let marker = found.marker;
+    match answer {
+        OK => Segment::Whole {
+            marker,
+            end: found.end as usize,
+        },
+        TRUNCATED => Segment::Cut {
+            marker: (marker > 0).then_some(marker),
+            skipped: found.skipped as usize,
+            needed: found.needed as usize,
+        },
+        _ => Segment::Malformed,
+    }
+}
+
+/// Where metadata are in a stream.
+#[derive(Default)]
+pub struct Metadata {
+    pub exif: Option<Range<usize>>,
+    pub xmp: Option<Range<usize>>,
+    /// The parts of an ICC profile, in the order of the stream.
+    icc: Vec<Range<usize>>,
+}
+
+/// Finds the metadata of an image. Nothing is decoded.
+pub fn find_metadata(jpeg: &[u8]) -> Metadata {
+    let mut places = Places {
+        exif: Place::default(),
+        xmp: Place::default(),
+        stream_bytes: 0,
+        icc_parts: 0,
+        ended: 0,
+        reserved: [0; 4],
+        icc: [Place::default(); 255],
+    };
+    // SAFETY: as in `read_info`; and `places` is borrowed to be written. Bytes that hold nothing
+    // leave nothing in it.
+    unsafe { zaxbriar_find_metadata(jpeg.as_ptr().cast(), jpeg.len(), &mut places) };
+    Metadata {
+        exif: places.exif.range(),
+        xmp: places.xmp.range(),
+        icc: places.icc.iter().map_while(|part| part.range()).collect(),
+    }
+}
+
+/// Joins an ICC profile from its parts, if all of them are there.
+///
+/// That is the library's to do. It is given the parts' segments alone, as those of a header, since
+/// it would read the scans for those that follow the frame header.
+pub fn icc_profile(jpeg: &[u8], metadata: &Metadata) -> Option<Vec<u8>> {
+    let mut header = b"\xFF\xD8".to_vec();
+    for part in &metadata.icc {
+        header.extend_from_slice(&jpeg[part.start - ICC_HEAD_BYTES..part.end]);
+    }
+    let mut profile = zeros(header.len() as u64).ok()?;
     let mut length = 0;
-    // SAFETY: as in `read_info`; and `data` and `length` are borrowed to be written.
+    // SAFETY: as in `read_info`; and `profile` and `length` are borrowed to be written.
     let answer = unsafe {
         zaxbriar_metadata(
-            jpeg.as_ptr().cast(),
-            jpeg.len(),
-            kind as c_int | segments as c_int,
-            data.as_mut_ptr().cast(),
-            data.len(),
+            header.as_ptr().cast(),
+            header.len(),
+            ICC,
+            profile.as_mut_ptr().cast(),
+            profile.len(),
             &mut length,
         )
     };
-    if answer == NO_MEMORY {
-        return Err(Refusal::NoMemory);
-    }
-    data.truncate(length);
-    data.shrink_to_fit();
-    Ok((answer == OK).then_some(data))
+    profile.truncate(length);
+    (answer == OK).then_some(profile)
 }
 
 /// Returns that many zeros, on pages that the system has cleared and that are taken when they are

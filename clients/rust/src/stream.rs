@@ -1,21 +1,35 @@
 //! Reads as much of a reader as a decoder needs: for a header up to the end of the frame header,
 //! and for a picture up to the end of the image.
 //!
-//! The library wants its bytes in memory, and a lent reader is to stay right after the image. So
-//! this module finds where segments and scans end (T.81, B.1.1). **It isn't proved.** What a stream
-//! means is the library's to say, whatever is found here: where it lacks bytes that the reader has,
-//! [`Stream::read_rest`] adds all of them, and it is asked again. So a fault here can leave a lent
-//! reader at another place, wait for bytes of it that nobody needs, or overlook that there may be
-//! metadata after the frame header, and no more.
+//! The library takes its bytes in memory, and a borrowed reader has to be left right after the
+//! image. The library's call `zaxbriar_next_segment` is proved to find the next segment (T.81,
+//! B.1.1.2), or else to return the least number of further bytes with which there can be one.
+//! Exactly that many are read.
 //!
-//! Where a header ends is the library's to say, once its bytes are here (`stream_bytes`). A call that
-//! says how many bytes a header or an image needs beyond those that it was given would make this
-//! module needless: a lent reader can't be given back what was read too much.
+//! Only the loop is this module's own, and only tested: it decides which markers end the header and
+//! the image, and that every marker begins with FF, since it asks the library about the data of a
+//! scan only where it has read an FF. It doesn't decide what a stream means: if a call lacks bytes
+//! that the reader has, [`Stream::read_rest`] adds all of them, and the call is made again. So a
+//! fault here can leave a borrowed reader at the wrong place, wait for bytes that nobody needs, or
+//! overlook metadata, and nothing else.
 
+use crate::library::{self, Segment};
 use std::io::{self, ErrorKind, Read};
 
+const DHT: u8 = 0xC4;
+const JPG: u8 = 0xC8;
+const DAC: u8 = 0xCC;
+const RST0: u8 = 0xD0;
+const RST7: u8 = 0xD7;
 const SOI: u8 = 0xD8;
 const SOS: u8 = 0xDA;
+const DQT: u8 = 0xDB;
+const DRI: u8 = 0xDD;
+const APP0: u8 = 0xE0;
+const APP1: u8 = 0xE1;
+const APP2: u8 = 0xE2;
+const APP15: u8 = 0xEF;
+const COM: u8 = 0xFE;
 
 /// Why reading stops before the place that is looked for.
 enum Stop {
@@ -39,18 +53,26 @@ fn end_of_bytes() -> io::Error {
 #[derive(Default)]
 pub struct Stream {
     bytes: Vec<u8>,
+    /// Where the next segment is looked for: after the last one, or later in the data of a scan.
+    position: usize,
     /// Whether the frame header was read.
     has_header: bool,
-    /// Where the last segment APP1 or APP2 starts, which may have metadata.
-    last_application: Option<usize>,
-    /// The marker after the data of the last scan, where nothing was read after it.
-    end_of_data: Option<u8>,
+    /// Whether the last segment was a scan's, but for restart markers.
+    is_in_scan: bool,
+    /// Where the last segment APP1 or APP2 ends.
+    metadata_end: usize,
 }
 
 impl Stream {
     /// Returns all bytes that were read.
     pub fn bytes(&self) -> &[u8] {
         &self.bytes
+    }
+
+    /// Returns how many of the bytes may have metadata: those up to the end of the last segment
+    /// APP1 or APP2.
+    pub fn metadata_end(&self) -> usize {
+        self.metadata_end
     }
 
     /// Reads up to the end of the frame header. Returns why no more could be read, if that is the
@@ -67,22 +89,18 @@ impl Stream {
     /// Reads all that the reader has, and returns what it ended with.
     pub fn read_rest<R: Read>(&mut self, reader: &mut R) -> io::Error {
         let outcome = reader.read_to_end(&mut self.bytes);
+        self.metadata_end = self.bytes.len();
         outcome.err().unwrap_or_else(end_of_bytes)
     }
 
-    /// Returns whether any segment that may have metadata was read from the place `start` on.
-    pub fn may_have_metadata(&self, start: usize) -> bool {
-        self.last_application.map_or(false, |place| place >= start)
-    }
-
-    /// Reads part by part as long as more is wanted.
+    /// Reads segment by segment as long as more is wanted.
     fn read_while<R: Read>(
         &mut self,
         reader: &mut R,
         is_wanted: impl Fn(&Stream) -> bool,
     ) -> Option<io::Error> {
         while is_wanted(self) {
-            match self.read_part(reader) {
+            match self.read_segment(reader) {
                 Ok(()) => {}
                 Err(Stop::AtEnd) => return None,
                 Err(Stop::Failed(error)) => return Some(error),
@@ -91,86 +109,117 @@ impl Stream {
         None
     }
 
-    /// Reads the marker at the start, or another one with its segment; after the header of a scan
-    /// also the data, and the marker that ends them.
-    fn read_part<R: Read>(&mut self, reader: &mut R) -> Result<(), Stop> {
-        if self.bytes.is_empty() {
-            let is_start = self.read_byte(reader)? == 0xFF && self.read_byte(reader)? == SOI;
-            return if is_start { Ok(()) } else { Err(Stop::AtEnd) };
+    /// Reads the marker at the start, or up to the end of the next segment, if one may follow here:
+    /// of another, such as EOI, no more than the marker.
+    fn read_segment<R: Read>(&mut self, reader: &mut R) -> Result<(), Stop> {
+        if self.position == 0 {
+            return self.read_start(reader);
         }
-        let marker = match self.end_of_data.take() {
-            Some(marker) => marker,
-            None => self.read_marker(reader)?,
-        };
-        let start = self.bytes.len() - 2;
-        match (marker, self.has_header) {
-            // DHT, DQT, DRI, COM, and application data but for those below.
-            (0xC4 | 0xDB | 0xDD | 0xFE | 0xE0 | 0xE3..=0xEF, _) => self.read_segment(reader)?,
-            // APP1 and APP2.
-            (0xE1 | 0xE2, _) => {
-                self.read_segment(reader)?;
-                self.last_application = Some(start);
+        loop {
+            match library::next_segment(&self.bytes[self.position..]) {
+                Segment::Malformed => return Err(Stop::AtEnd),
+                Segment::Whole { marker, .. }
+                | Segment::Cut {
+                    marker: Some(marker),
+                    ..
+                } if !self.may_follow(marker) => return Err(Stop::AtEnd),
+                Segment::Whole { marker, end } => {
+                    self.pass(marker, end);
+                    return Ok(());
+                }
+                Segment::Cut {
+                    skipped, needed, ..
+                } => {
+                    self.position += skipped;
+                    if self.position < self.bytes.len() {
+                        self.read(reader, needed)?;
+                    } else {
+                        self.read_to_ff(reader)?;
+                    }
+                }
             }
-            // Frame headers. JPG and DAC, which are refused, stand between them.
-            (0xC0..=0xC7 | 0xC9..=0xCB | 0xCD..=0xCF, false) => {
-                self.read_segment(reader)?;
-                self.has_header = true;
-            }
-            (SOS, true) => {
-                self.read_segment(reader)?;
-                self.end_of_data = Some(self.read_data(reader)?);
-            }
-            // EOI, or what is refused here.
-            _ => return Err(Stop::AtEnd),
         }
+    }
+
+    /// Reads SOI, without which a stream is refused by its first byte or two.
+    fn read_start<R: Read>(&mut self, reader: &mut R) -> Result<(), Stop> {
+        for byte in [0xFF, SOI] {
+            self.read(reader, 1)?;
+            if self.bytes.last() != Some(&byte) {
+                return Err(Stop::AtEnd);
+            }
+        }
+        self.position = self.bytes.len();
         Ok(())
     }
 
-    /// Reads the data of a scan with its restart markers, up to the marker after them and with it.
-    fn read_data<R: Read>(&mut self, reader: &mut R) -> Result<u8, Stop> {
+    /// Returns whether a marker may follow here. After EOI nothing does, and decoding refuses all
+    /// other markers.
+    fn may_follow(&self, marker: u8) -> bool {
+        match marker {
+            DHT | DQT | DRI | COM | APP0..=APP15 => true,
+            RST0..=RST7 => self.is_in_scan,
+            SOS => self.has_header,
+            _ => is_of_frame(marker) && !self.has_header,
+        }
+    }
+
+    /// Passes over a segment that ends so many bytes after the position.
+    fn pass(&mut self, marker: u8, end: usize) {
+        self.position += end;
+        if matches!(marker, APP1 | APP2) {
+            self.metadata_end = self.position;
+        }
+        self.has_header |= is_of_frame(marker);
+        self.is_in_scan = matches!(marker, SOS | RST0..=RST7);
+    }
+
+    /// Reads up to an FF, and passes over all bytes before it. To gather some bytes before they are
+    /// appended halves the time that a [`BufReader`](io::BufReader) takes.
+    fn read_to_ff<R: Read>(&mut self, reader: &mut R) -> Result<(), Stop> {
         loop {
-            let marker = self.read_marker(reader)?;
-            if !(0xD0..=0xD7).contains(&marker) {
-                return Ok(marker);
+            let mut run = [0; 64];
+            let (count, outcome) = read_run(reader, &mut run);
+            if self.bytes.try_reserve(count).is_err() {
+                return Err(Stop::Failed(ErrorKind::OutOfMemory.into()));
+            }
+            self.bytes.extend_from_slice(&run[..count]);
+            outcome?;
+            self.position = self.bytes.len();
+            if self.bytes.last() == Some(&0xFF) {
+                self.position -= 1;
+                return Ok(());
             }
         }
     }
 
-    /// Reads a segment after its marker.
-    fn read_segment<R: Read>(&mut self, reader: &mut R) -> Result<(), Stop> {
-        let length = u16::from_be_bytes([self.read_byte(reader)?, self.read_byte(reader)?]);
-        let rest = length.checked_sub(2).ok_or(Stop::AtEnd)?;
-        let read = reader
-            .by_ref()
-            .take(rest.into())
-            .read_to_end(&mut self.bytes)?;
-        if read < rest.into() {
+    /// Reads so many bytes, and keeps those that there are where the reader has fewer.
+    fn read<R: Read>(&mut self, reader: &mut R, count: usize) -> Result<(), Stop> {
+        let mut part = reader.by_ref().take(count as u64);
+        if part.read_to_end(&mut self.bytes)? < count {
             return Err(end_of_bytes().into());
         }
         Ok(())
     }
+}
 
-    /// Reads up to a marker and with it, and passes over all other bytes.
-    fn read_marker<R: Read>(&mut self, reader: &mut R) -> Result<u8, Stop> {
-        loop {
-            while self.read_byte(reader)? != 0xFF {}
-            let mut byte = 0xFF;
-            while byte == 0xFF {
-                byte = self.read_byte(reader)?;
-            }
-            if byte != 0 {
-                return Ok(byte);
-            }
-        }
-    }
+/// Returns whether a marker is a frame header's, SOFn. DHT, JPG and DAC stand between them.
+fn is_of_frame(marker: u8) -> bool {
+    matches!(marker, 0xC0..=0xCF) && !matches!(marker, DHT | JPG | DAC)
+}
 
-    fn read_byte<R: Read>(&mut self, reader: &mut R) -> Result<u8, Stop> {
+/// Reads single bytes up to an FF and with it, or as many as there is room for. Returns how many
+/// were read, and whether the reader had them.
+fn read_run<R: Read>(reader: &mut R, room: &mut [u8]) -> (usize, io::Result<()>) {
+    for (index, place) in room.iter_mut().enumerate() {
         let mut byte = [0];
-        reader.read_exact(&mut byte)?;
-        if self.bytes.try_reserve(1).is_err() {
-            return Err(Stop::Failed(ErrorKind::OutOfMemory.into()));
+        if let Err(error) = reader.read_exact(&mut byte) {
+            return (index, Err(error));
         }
-        self.bytes.push(byte[0]);
-        Ok(byte[0])
+        *place = byte[0];
+        if byte[0] == 0xFF {
+            return (index + 1, Ok(()));
+        }
     }
+    (room.len(), Ok(()))
 }

@@ -54,17 +54,14 @@ fn a_scale_makes_a_picture_smaller_and_other_settings_may_be_tried() -> Result<(
 }
 
 #[test]
-fn metadata_behind_the_frame_are_read_where_the_full_size_is_within_the_limit() -> Result<(), Error>
-{
+fn metadata_behind_the_frame_are_read_under_any_limit() -> Result<(), Error> {
     let mut jpeg = std::fs::read("tests/grey.jpg").unwrap();
     jpeg.splice(84..84, *b"\xFF\xE1\0\x09Exif\0\0\x01");
-    // 128 bytes of coefficients and 64 of samples.
-    for (max, exif) in [(191, None), (192, Some(&[1][..]))] {
-        let mut decoder = Decoder::new(&jpeg[..]);
-        decoder.set_max_decoding_bytes(max);
-        decoder.set_scale(Scale::Eighth)?;
-        assert_eq!(decoder.decode()?, [0x81]);
-        assert_eq!(decoder.exif_data(), exif);
-    }
+    let mut decoder = Decoder::new(&jpeg[..]);
+    decoder.set_scale(Scale::Eighth)?;
+    // At full size it takes 192 bytes.
+    decoder.set_max_decoding_bytes(191);
+    assert_eq!(decoder.decode()?, [0x81]);
+    assert_eq!(decoder.exif_data(), Some(&[1][..]));
     Ok(())
 }
