@@ -119,6 +119,11 @@ export interface Picture {
     sampling: Sampling[];
     /** Of the stream, at full size: by the first JFIF segment before the frame, or zeros. */
     density: Density;
+    /**
+     * Which transform the stream's header asks for: `none` for grey and lossless pictures, and null
+     * for libjpeg's big gamut colours, which aren't decoded.
+     */
+    colorTransform: 'none' | 'rgb' | 'ycbcr' | 'cmyk' | 'ycck' | null;
 }
 
 /**

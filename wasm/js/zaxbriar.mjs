@@ -54,8 +54,11 @@ const FEATURE_AT = 48;
 const SAMPLING_AT = 50;
 const FAULT_AT = 54;
 const DENSITY_AT = 55;
+const TRANSFORM_AT = 60;
 const TEXT_AT = 80;
 const TEXT_BYTES = 112;
+
+const nameOf = (numbers, number) => Object.keys(numbers).find((name) => numbers[name] === number);
 
 export class ZaxbriarError extends Error {
     constructor(answer, text, [feature, argument] = [0, 0]) {
@@ -217,6 +220,7 @@ export class Zaxbriar {
         const long = (place) => Number(view.getBigUint64(place, true));
         const layout = view.getUint8(41);
         const components = view.getUint8(42);
+        const transform = view.getUint8(TRANSFORM_AT);
         return {
             width: view.getUint32(32, true),
             height: view.getUint32(36, true),
@@ -225,7 +229,7 @@ export class Zaxbriar {
             decodingBytes: long(16),
             streamBytes: long(24),
             pixelBytes: view.getUint8(40),
-            layout: Object.keys(LAYOUTS).find((name) => LAYOUTS[name] === layout),
+            layout: nameOf(LAYOUTS, layout),
             components,
             precision: view.getUint8(43),
             sampleBytes: view.getUint8(44),
@@ -238,6 +242,7 @@ export class Zaxbriar {
                 horizontal: view.getUint16(DENSITY_AT + 1, true),
                 vertical: view.getUint16(DENSITY_AT + 3, true),
             },
+            colorTransform: transform === 0 ? null : nameOf(TRANSFORMS, transform),
         };
     }
 

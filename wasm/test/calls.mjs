@@ -112,6 +112,11 @@ for (const density of [
     assert.deepEqual(zaxbriar.decode(stream, { scale: 2 }).picture.density, density);
 }
 
+// The transform that the stream's header asks for, whatever the options are.
+assert.equal(picture.colorTransform, 'rgb');
+assert.equal(zaxbriar.decode(jpeg, { colorTransform: 'ycbcr' }).picture.colorTransform, 'rgb');
+assert.equal(zaxbriar.readInfo(withFrame({ 1: 0xc3, 3: 11, 9: 1 })).colorTransform, 'none');
+
 // Features that aren't supported, some with a number.
 for (const [stream, feature, argument] of [
     [withFrame({ 1: 0xc5 }), 'hierarchical'],

@@ -111,6 +111,7 @@ function pictureOf(struct) {
             horizontal: struct.readUInt16LE(56),
             vertical: struct.readUInt16LE(58),
         },
+        colorTransform: struct[60] === 0 ? null : TRANSFORMS[struct[60]],
     });
 }
 

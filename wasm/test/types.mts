@@ -30,6 +30,7 @@ const format: Format = described.format;
 const factors: Sampling[] = described.sampling;
 const columns: number = Math.max(...factors.map((it) => it.horizontal * it.vertical));
 const density: Density = described.density;
+const isLuma: boolean = described.colorTransform === 'ycbcr';
 const inches: number = density.unit === 1 ? picture.width / density.horizontal : 0;
 // @ts-expect-error
 zaxbriar.decode('text');
@@ -49,6 +50,8 @@ if (picture.format === 'rgb24') throw new Error();
 if (picture.sampling === '4:2:0') throw new Error();
 // @ts-expect-error
 if (picture.density.unit === 'inch') throw new Error();
+// @ts-expect-error
+if (picture.colorTransform === 'stream') throw new Error();
 
 // What there is of a stream, and its fault.
 const part: PartialPicture = zaxbriar.decode(streams[0], { partial: true, layout: 'grey' });
