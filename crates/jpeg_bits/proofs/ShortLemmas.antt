@@ -4,11 +4,11 @@ use Rattle.std.proofs.Common.{◌≡◌, length-set, set, below_more, get_or-set
 use Rattle.std.proofs.Common.{◌-◌, ◌*◌, ◌/◌, ◌%◌, ◌^◌, ◌<◌, ◌≤◌, Bool, true, false, cond, eqb, leb, ltb, ◌&&◌, List, []}
 use Rattle.std.proofs.Common.{◌∷◌, ◌++◌, length, take, drop, get_or, replicate, Option, Some, None, Ok, refl, sym, ap}
 use Rattle.std.proofs.Common.{◌∙◌, arith, inl, inr, length-append, length-take, length-drop, IfSome, is_some, pow_pos}
-use Rattle.std.proofs.Common.{Result, Err, is_ok, subst, ◌⊎◌, nat_lt, nat_le, if◌then◌else◌}
+use Rattle.std.proofs.Common.{Result, Err, is_ok, subst, ◌⊎◌, nat_lt, nat_le, if◌then◌else◌, le_refl, sum}
 use Rattle.std.specs.Option.{option_map}
 use Rattle.std.proofs.Math.Seq.{drop-nil}
 use Rattle.std.proofs.lemmas.List.{take-take, take-append-le, take_all, take-replicate}
-use Rattle.std.proofs.lemmas.List.{drop-replicate, drop-take, drop-drop, length-replicate}
+use Rattle.std.proofs.lemmas.List.{drop-replicate, drop-take, drop-drop, get_or-drop, length-replicate}
 use Rattle.std.proofs.lemmas.Bool.{cases_lt, false≢true}
 use Rattle.std.proofs.lemmas.Bool.Decides.{nat_tests}
 use Rattle.jpeg_bits.specs.Reading.{◌>>=◌, Fault, ◌>>=◌ as ◌>>r=◌, Names, NamesFormat}
@@ -20,15 +20,16 @@ use Rattle.jpeg_bits.specs.Codes.{Table, code_in, code_lengths, code_value, begi
 use Rattle.jpeg_bits.specs.Codes.{short_token, after_code, short_code_by, short_code_from}
 use Rattle.jpeg_bits.specs.Codes.{short_value, fast_from, symbol_from, code_from}
 use Rattle.jpeg_bits.specs.ShortCodes.{named, symbol_in, short_only, short_code, short_value_by, short_value_of}
-use Rattle.jpeg_bits.specs.ShortCodes.{next_bits, packed, IsRun, rest_of_code, rest_of_value}
+use Rattle.jpeg_bits.specs.ShortCodes.{next_bits, packed, ArePassed, HoldsRows, IsRun, rest_of_code, rest_of_value}
 use Rattle.jpeg_bits.specs.declared.huffman.codes.HuffmanTableClass.{HuffmanTableClass}
+use Rattle.jpeg_bits.specs.declared.huffman.codes.Row.{Row}
 use Rattle.jpeg_bits.specs.declared.huffman.ahead.DataEnd.{DataEnd}
 use Rattle.std.proofs.Math.Nat.{mod-lt, div-mul-le_self, div-eq_of_lt-le, mul-le-mul_right}
-use Rattle.jpeg_bits.proofs.CodeLemmas.{first_from}
+use Rattle.jpeg_bits.proofs.CodeLemmas.{first_from, passed-none, still-passed, tried-at}
 use Rattle.jpeg_bits.proofs.WrittenBits.{length_low_bits, number_of-low_bits}
 use Rattle.jpeg_bits.proofs.Reservoirs.{low_bits-append, low_bits-zeros, low_bits-take}
 use Rattle.jpeg_bits.proofs.Reservoirs.{low_bits-drop, same_zeros, front_small}
-use Rattle.jpeg_bits.proofs.Tables.{IsRising, ordered, all-rising, symbol-code}
+use Rattle.jpeg_bits.proofs.Tables.{IsRising, ordered, all-rising, rising-at, rising-lengths, symbol-code}
 use Rattle.jpeg_bits.proofs.BufferedBits.{has_bits-buffered, advance-buffered, bits_from-buffered, filled-less}
 use Rattle.jpeg_bits.proofs.BufferedBits.{if_buffered, ok_unit, MayFail-same, code_from-buffered, code_from-none}
 use Rattle.jpeg_bits.proofs.BufferedBits.{names_format, may_fail_format}
@@ -343,6 +344,31 @@ run-entry counts symbols first end b None counted from to few run is =
     is ∙ ap (λ (k : ℕ). short_code counts symbols (low_bits 8 k)) (sym same)
 run-entry counts symbols first end b (Some (v, l)) counted from to few run is =
     sym (same-run counts symbols first b v l counted few (run b from to) (sym is))
+
+-- no code of at most 8 bits begins the bits once their rows are passed
+pub none-after : (counts symbols : List ℕ) (rows : List Row) (byte b n : ℕ) → length counts ≡ 16
+    → HoldsRows counts rows → byte ≤ b → b < 256 → 8 ≤ n → ArePassed rows n (byte * 256)
+    → None ≡ short_code counts symbols (low_bits 8 b)
+unfolding code_in
+none-after counts symbols rows byte b n counted holds le few enough passed =
+    let lens = code_lengths counts in
+    let base = sum (take 8 counts) in
+    let t = tried-at counts 8 (omega arith) in
+    let p = passed-none counts rows (b * 256) counted holds (omega arith) 8 (omega arith)
+    (λ i lt. still-passed rows n (byte * 256) (b * 256) (omega arith) passed i (omega arith)) in
+    let rising = subst (IsRising 9 16) (sym t.rest) (rising-lengths 9 16 (drop 8 counts) 9 (le_refl 9)
+    (omega (arith, length-drop 8 counts))) in
+    let long : (j : ℕ) → base ≤ j → j < base + (length lens - base) → 8 < get_or lens j 0 = λ j a z.
+    let whole : base + (j - base) ≡ j = omega arith in
+    omega (
+      arith,
+      (rising-at 9 16 (drop base lens) (j - base) rising (omega (arith, length-drop base lens))).0,
+      get_or-drop base lens (j - base) 0 ∙ ap (λ (k : ℕ). get_or lens k 0) whole,
+    ) in
+    let none = ap (short_from 8 lens) p.1
+    ∙ long_only 8 lens (begins lens (low_bits 16 (b * 256))) base (length lens - base) long in
+    sym (ap (λ (l : List Bool). named symbols (short_only (code_in lens l))) (sym (byte_padded b))
+    ∙ ap (named symbols) none)
 
 -- ---- numbers of n bits that the same value begins
 

@@ -132,7 +132,7 @@ pub fn rows_of_whole_lines_count()
     ensures components { whole_rows (without_last 3 two_rows_of_mcus) ≡ 2 }
 {}
 
-/// The rows of MCUs of a lossless scan count if they are there whole: the lines of a stream that is
+/// The rows of MCUs of a lossless scan count if they are complete: the lines of a stream that is
 /// cut in its second line, in its only one, or closed by EOI in the second, where `decode` takes
 /// zeros for the bits that are lacking. Below the lines of a second scan, those of the first stay.
 #[tactic(auto, unfolding(crate::proofs::OnLiterals::cuts_on_literals))]

@@ -1,6 +1,7 @@
 //! What is read ahead of a source: bits, and the end of the data (T.81, B.1.1.5).
 ghost use Rattle.std.specs.Prelude.{◌≡◌, ◌++◌, Ok, is_some, true, false};
 ghost use Rattle.std.specs.Prelude.{ℕ, ◌<◌, Bool, List, length, is_ok};
+ghost use Rattle.jpeg_bits.specs.Stream.{Stream};
 ghost use Rattle.jpeg_bits.specs.Reading.{Answers, IsShort, Gives, NamesFormat, Names};
 ghost use Rattle.jpeg_bits.specs.Refusals.{kept_refusal, answer_of, IsRefused};
 ghost use Rattle.jpeg_bits.specs.Entropy.{piece_at, after_ff, byte_or_end, marker_at_end};
@@ -35,19 +36,24 @@ pub(crate) enum Piece {
     Data(DataEnd),
 }
 
-/// Reads what comes next. A refusal is stored in `refusal`, and none is returned.
-#[inline(always)]
+/// Reads what a byte that was read, or the end of the bytes, begins. A refusal is stored in
+/// `refusal`, and none is returned.
+#[cold]
+#[inline(never)]
 #[tactic(auto, unfolding(crate::specs::Entropy::piece_at))]
-fn next_piece<R: Read + Drop>(
+fn piece_of<R: Read + Drop>(
     alloc: Global,
     source: &mut Source<R>,
+    next: Option<Option<u8>>,
     refusal: &mut Option<Error>,
 ) -> Option<Piece>
-    ensures answers { Answers (λ p. p) piece_at source.old (answer_of result refusal.new)
-        source.new }
+    requires { IsRefused next refusal.old }
+    ensures answers { (before : Stream) → Answers (λ b. b) byte_or_end before
+        (answer_of next refusal.old) source.old
+        → Answers (λ p. p) piece_at before (answer_of result refusal.new) source.new }
     ensures refused { IsRefused result refusal.new }
 {
-    match source.next(alloc, refusal) {
+    match next {
         Some(Some(0xff)) => next_after_ff(alloc, source, refusal),
         Some(Some(byte)) => Some(Piece::Byte(byte)),
         Some(None) => Some(Piece::Data(DataEnd::Ended)),
@@ -216,19 +222,36 @@ impl BufferedBits {
         ensures full { result ≡ true → IsFilled 57 self.new.bits self.new.met }
         ensures refused { result ≡ false → is_some refusal.new ≡ true }
     {
+        if self.end.is_some() {
+            return true;
+        }
         // The loop works on a local, which stays in registers.
-        let mut buffered = self.copied();
-        while buffered.bits.len() <= 56 && buffered.end.is_none() {
-            match next_piece(buffered.alloc, source, refusal) {
-                Some(Piece::Byte(byte)) => buffered.bits.push(byte),
-                Some(Piece::Data(end)) => buffered.end = Some(end),
+        let mut bits = self.bits.copied();
+        while bits.len() <= 56 {
+            let next = source.next(self.alloc, refusal);
+            // Nearly all bytes stand for themselves.
+            if let Some(Some(byte)) = next
+                && byte != 0xff
+            {
+                bits.push(byte);
+                continue;
+            }
+            // The call gets the address of a copy, so that `next` itself stays in a register.
+            let special = next;
+            match piece_of(self.alloc, source, special, refusal) {
+                Some(Piece::Byte(byte)) => bits.push(byte),
+                Some(Piece::Data(end)) => {
+                    self.bits = bits;
+                    self.end = Some(end);
+                    return true;
+                }
                 None => {
-                    *self = buffered;
+                    self.bits = bits;
                     return false;
                 }
             }
         }
-        *self = buffered;
+        self.bits = bits;
         true
     }
 

@@ -575,7 +575,8 @@ fn short_codes(
     let mut short = vec![in alloc; None; 256]?;
     let mut row = 0;
     let mut byte = 0;
-    while byte < 256 {
+    // After a longer code, or bits that begin none, no greater byte begins a short one.
+    while byte < 256 && row < 8 {
         let code = short_only(codes.code_of(&mut row, (byte as u16) << 8));
         let end = end_of_run(byte, rest_of_code(code));
         for at in byte..end {

@@ -1,10 +1,12 @@
 use Rattle.jpeg_bits.proofs.huffman.codes.short_codes.Goals as goal
-use Rattle.std.proofs.Common.{◌≡◌, ◌∙◌, ◌*◌, ◌%◌, ◌++◌, ℕ, List, Bool, ap, arith, replicate, false, None}
+use Rattle.std.proofs.Common.{◌≡◌, ◌∙◌, ◌*◌, ◌%◌, ◌++◌, ℕ, List, Bool, ap, arith, replicate, false, None, inl, inr}
+use Rattle.std.proofs.Common.{get_or-set_other}
+use Rattle.std.proofs.lemmas.Bool.{cases_lt}
 use Rattle.jpeg_bits.specs.Codes.{code_in, code_lengths}
 use Rattle.jpeg_bits.specs.Written.{low_bits}
 use Rattle.jpeg_bits.specs.ShortCodes.{named, short_code, short_only}
 use Rattle.jpeg_bits.proofs.CodeLemmas.{still-passed}
-use Rattle.jpeg_bits.proofs.ShortLemmas.{byte_padded, length_set, set_next, short-of-named, run-entry}
+use Rattle.jpeg_bits.proofs.ShortLemmas.{byte_padded, length_set, none-after, set_next, short-of-named, run-entry}
 use Rattle.std.proofs.lemmas.Grind.{common_steps}
 
 pub loop-at-preserved : goal.loop-at-preserved
@@ -30,7 +32,23 @@ loop-at-preserved c =
       filled = set_next c.loop-at.short.items b c.short_only-code.result None
           (λ (k : ℕ). short_code t.counts.now t.values.now (low_bits 8 k))
           (omega (arith, i.whole, c.loop-at-test.true, most)) i.filled same;
+      rest = λ k le. get_or-set_other c.loop-at.short.items b k c.short_only-code.result None (omega arith)
+          ∙ i.rest k (omega arith);
     }
 
 pub loop-byte-preserved : goal.loop-byte-preserved
 loop-byte-preserved c = grind (arith, common_steps, still-passed)
+
+pub returns-clause-codes : goal.returns-clause-codes
+returns-clause-codes c b lt =
+    let l = c.loop-byte in
+    let t = c.args.codes.now in
+    elim (cases_lt b l.byte) [
+      | inl before ↦ l.invariant.filled b before
+      | inr after ↦ elim c.loop-byte-test.branch [
+        | goal.then-loop-byte-test+else-row-lt8 w ↦ l.invariant.rest b after
+            ∙ none-after t.counts.now t.values.now t.rows.now l.byte b l.row c.requires.counted c.requires.rows after lt
+            (omega (arith, w.if-row-lt8.false)) l.invariant.passed
+        | goal.else-loop-byte-test w ↦ absurd (omega (arith, w.loop-byte-test.false))
+      ]
+    ]

@@ -11,6 +11,7 @@ invariant-loop-byte l = record {
   whole : length l.short.items ≡ 256;
   filled : (b : ℕ) → b < l.byte
       → slice_index_or l.short.items b None ≡ short_code l.codes.counts.now l.codes.values.now (low_bits 8 b);
+  rest : (b : ℕ) → l.byte ≤ b → slice_index_or l.short.items b None ≡ None;
   within : l.row ≤ 16;
   passed : ArePassed l.codes.rows.now l.row (l.byte * 256);
   few : l.byte ≤ 256;
@@ -21,4 +22,5 @@ invariant-loop-at l = record {
   whole : length l.short.items ≡ 256;
   filled : (b : ℕ) → b < l.at
       → slice_index_or l.short.items b None ≡ short_code l.codes.counts.now l.codes.values.now (low_bits 8 b);
+  rest : (b : ℕ) → l.at ≤ b → slice_index_or l.short.items b None ≡ None;
 }
