@@ -27,7 +27,7 @@ pub fn shown<R: Read + Drop>(decoder: &mut Decoder<R>) -> Result<PartialPicture>
     partial_by_meaning(decoder)
 }
 
-/// Calls `Decoder::decode_partial`, and says how many rows of the picture are wholly there.
+/// Calls `Decoder::decode_partial`, and says how many rows of the picture are complete.
 pub fn partial_by_rows<R: Read + Drop>(decoder: &mut Decoder<R>) -> Result<PartialPicture>
     ensures { IsReading decoder.old.stage → CountsRows (λ p. p.whole_rows)
         (whole_rows_ahead decoder.old.stage decoder.old.found) decoder.old.source result

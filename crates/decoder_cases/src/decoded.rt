@@ -64,8 +64,8 @@ pub fn refusal_text(alloc: Global, error: &Error, is_whole: bool) -> Result<Stri
     format!(in alloc; "refused: {text}")
 }
 
-/// Returns the words for a picture, how many of its rows are wholly there, and the first fault of
-/// its stream.
+/// Returns the words for a picture, how many of its rows are complete, and the first fault of its
+/// stream.
 pub fn partial_text(
     alloc: Global,
     info: Option<ImageInfo>,

@@ -169,7 +169,7 @@ brought-on : (turns : ℕ) (before : Before) (f : Found) (met : Option Marker) (
 unfolding walk_brought
 brought-on turns before f met all rest t e g = rw (e, walk_brought, g) refl
 
--- the rows that are wholly there
+-- the complete rows
 rows-refused : (turns : ℕ) (before : Before) (f : Found) (met : Option Marker) (all : List ℕ) (fault : Fault)
     → (turn_brought before f met all).1 ≡ Err fault
     → rows_of_walk (suc turns) before f met all ≡ rows_of_turn f met all

@@ -278,7 +278,7 @@ pub turn-segment : (before : Before) (found : Found) (met : Option Marker) (byte
 turn-segment before found met bytes rest m other e =
     turn-marked before found met bytes rest m e ∙ segment-other m before found rest other
 
--- the rows that are wholly there, by what stands after the marker
+-- the complete rows, by what stands after the marker
 rows-marked : (found : Found) (met : Option Marker) (bytes rest : List ℕ) (m : Marker)
     → found_or met bytes (next_marker bytes) ≡ Ok (m, rest)
     → rows_of_turn found met bytes ≡ rows_of_segment m found rest

@@ -110,7 +110,7 @@ reached-answers f frame scan arrays old new r n is h =
     (λ bytes. (data_reached f frame (pass_in scan.pass) (map coding_in scan.components.items) bytes).1) old new r
     (ap (λ (r : Arrays × Outcome (Option Marker)). r.1) same ∙ sym marker) h)
 
--- the rows of the picture that are wholly there, as the code counts them
+-- the complete rows of the picture, as the code counts them
 pub rows-as : (f : Found) (frame : Frame) (scan : Scan) (arrays : Arrays) (bytes : List ℕ)
     → scan.restart_interval ≡ f.said.restart
     → arrays ≡ blocks_at (map coding_in scan.components.items) (arrays_before f frame)

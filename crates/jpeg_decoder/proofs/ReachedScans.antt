@@ -138,7 +138,7 @@ samples-as found frame scan bytes =
     codings-as found frame scan bytes
     (lossless_codings found.said.huffman.dc frame scan.components scan.dc_destinations)
 
--- ---- the rows that are wholly there, by these steps
+-- ---- the complete rows, by these steps
 
 no-rows : (found : Found) (bytes : List ℕ) (f : Fault) → frame_and_scan found bytes ≡ Err f
     → rows_of_scan found bytes ≡ None

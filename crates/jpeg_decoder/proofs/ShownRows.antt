@@ -1,4 +1,4 @@
--- The rows of what is shown that are wholly there.
+-- The complete rows of what is shown.
 use Rattle.std.proofs.Common.{◌≡◌, ◌∙◌, ℕ, List, Option, Some, None, Result, Ok, Err, ap, refl, sym, true, false}
 use Rattle.std.specs.Prelude.{IfOk, is_some, option_map, unwrap_or}
 use Rattle.std.proofs.lemmas.Result.{IfOk-weaker}

@@ -141,7 +141,7 @@ IsEndOf old view (Ok met) result = IsOkAnd result (λ step. view step ≡ record
 })
 IsEndOf old view (Err e) result = IsErrAnd result (λ f. f ≡ e)
 
--- The rows of the picture that are wholly there after a scan, where those of its fault are known.
+-- The complete rows of the picture after a scan, where those of its fault are known.
 abbrev pub rows_after : {X : Type 0} → Result X Error → Option ℕ → Option ℕ → Option ℕ
 rows_after (Ok x) old rows = old
 rows_after (Err e) old rows = rows

@@ -46,8 +46,7 @@ GivesUp fault_of old (Ok x) new = old.known ≡ true → new.known ≡ false
 GivesUp fault_of old (Err e) new = old.known ≡ true → new.known ≡ false
     → IfRefused e ((new.failed ≡ true) ⊎ IsGivenUp e new.failed)
 
--- Where the bytes of a source were known to the end of a call, an Ok counted the rows that are
--- wholly there.
+-- Where the bytes of a source were known to the end of a call, an Ok counted the complete rows.
 abbrev pub CountsRows : {X : Type 0} → (X → ℕ) → (List ℕ → ℕ) → Stream → Result X Error → Stream
     → Type 0
 CountsRows rows_of expected old result new =

@@ -193,8 +193,8 @@ fn is_fresh(progress: Progress) -> Result<bool>
 pub struct PartialPicture {
     /// The picture, as `decode` returns it. What no scan has brought is mid-grey.
     pub pixels: Vec<u8>,
-    /// The number of rows, from the top, that come of rows of MCUs that are wholly there: of each
-    /// scan that was begun. All rows if the stream has no fault.
+    /// The number of rows, from the top, in rows of MCUs that are complete in each scan that was
+    /// begun. All rows if the stream has no fault.
     pub whole_rows: u16,
     /// The first fault of the stream, or none if it is whole.
     pub fault: Option<Error>,
@@ -595,7 +595,7 @@ impl<R: Read + Drop> Decoder<R> {
         // What the source's bytes bring, and the state: see `Shows`.
         ensures shows { Shows (λ p. concat p.lines) (λ p. p.fault) self.old result self.new }
 
-        // For any bytes, it counts the rows of the picture that are wholly there.
+        // For any bytes, it counts the complete rows of the picture.
         ensures rows { IsReading self.old.stage → CountsRows (λ p. p.whole_rows)
             (whole_rows_ahead self.old.stage self.old.found) self.old.source result
             self.new.source }
@@ -652,7 +652,7 @@ impl<R: Read + Drop> Decoder<R> {
         // What the source's bytes bring, and the state: see `Shows`.
         ensures shows { Shows (λ p. p.pixels.items) (λ p. p.fault) self.old result self.new }
 
-        // For any bytes, it counts the rows of the picture that are wholly there.
+        // For any bytes, it counts the complete rows of the picture.
         ensures rows { IsReading self.old.stage → CountsRows (λ p. p.whole_rows)
             (whole_rows_ahead self.old.stage self.old.found) self.old.source result
             self.new.source }

@@ -1,4 +1,4 @@
--- Of a stream without a fault all rows are wholly there.
+-- All rows of a stream without a fault are complete.
 use Rattle.std.proofs.Common.{◌≡◌, ◌∙◌, ℕ, zero, suc, Bool, true, false, List, length, Option, Some, None, Result, Ok}
 use Rattle.std.proofs.Common.{Err, refl, ap}
 use Rattle.std.specs.Prelude.{if◌then◌else◌, option_map, unwrap_or}

@@ -27,7 +27,7 @@ pub fn faultless_streams_are_meant()
         → (rest : List ℕ) × (meaning settings bytes ≡ Ok ((s.told, s.picture), rest)) }
 {}
 
-/// Where `decode_partial` names no fault, all rows of the picture are wholly there.
+/// Where `decode_partial` names no fault, all rows of the picture are complete.
 #[tactic(auto, using(crate::proofs::AllRows::faultless_streams_have_all_rows))]
 pub fn faultless_streams_have_all_rows()
     ensures { (settings : Settings) (bytes : List ℕ) (s : Shown) (frame : Frame)

@@ -1,6 +1,6 @@
--- How many rows of the picture, from its top, come of rows of MCUs that are wholly there: of every
--- scan that the stream has begun, of all components (T.81, A.2 and E.2.4). Only the scan in which
--- the fault lies may lack blocks, or lines of samples.
+-- How many rows of the picture, from its top, lie in rows of MCUs that are complete in every scan
+-- that the stream has begun, of all components (T.81, A.2 and E.2.4). Only the scan in which the
+-- fault lies may lack blocks, or lines of samples.
 use Rattle.std.specs.Prelude.{ℕ, zero, suc, ◌*◌, ◌/◌, List, [], ◌∷◌, length, get_or, min, map}
 use Rattle.std.specs.Prelude.{Option, Some, None, option_map, unwrap_or, Ok, Err, slice_get}
 use Rattle.std.specs.Prelude.{if◌then◌else◌}

@@ -44,8 +44,8 @@ use std::io::Read;
 pub struct PartialLines {
     /// The lines of the picture. What no scan has brought is mid-grey.
     pub lines: Lines,
-    /// The number of rows, from the top, that come of rows of MCUs that are wholly there: of each
-    /// scan that was begun. All rows if the stream has no fault.
+    /// The number of rows, from the top, in rows of MCUs that are complete in each scan that was
+    /// begun. All rows if the stream has no fault.
     pub whole_rows: u16,
     /// The first fault of the stream, or none if it is whole.
     pub fault: Option<Error>,
@@ -233,8 +233,8 @@ fn missing_fault(
     None
 }
 
-/// Returns how many rows of the picture are wholly there, of those that the scan with the fault
-/// says: none if a component was not sent.
+/// Returns how many rows of the picture are complete, by what the scan with the fault says: none if
+/// a component was not sent.
 fn whole_rows_of(frame: &FrameInfo, rows: Option<u16>, is_missing: bool) -> u16
     ensures all { is_missing ≡ false
         → result ≡ unwrap_or rows (frame_in frame.now).output_height }
@@ -246,8 +246,8 @@ fn whole_rows_of(frame: &FrameInfo, rows: Option<u16>, is_missing: bool) -> u16
     rows.unwrap_or(frame.output_size.height)
 }
 
-/// Gives the lines of the picture of what was found, how many of them are wholly there, and the
-/// first fault: that of the segments, or that a component was not sent.
+/// Returns the lines of the picture of what was found, how many of them are complete, and the first
+/// fault: that of the segments, or that a component was not sent.
 fn show_found(
     alloc: Global,
     state: &State,
@@ -298,8 +298,8 @@ fn is_lost(ended: &Result<()>) -> bool
     }
 }
 
-/// Reads the rest of a stream as far as it goes, and gives the lines of the picture that it has
-/// brought, how many of them are wholly there, and its first fault. No blocks or planes are kept.
+/// Reads the rest of a stream as far as it goes, and returns the lines of the picture that it has
+/// brought, how many of them are complete, and its first fault. No blocks or planes are kept.
 fn show_rest<R: Read + Drop>(
     alloc: Global,
     source: &mut Source<R>,
@@ -333,9 +333,9 @@ fn show_rest<R: Read + Drop>(
     show_found(alloc, state, &mut decoded, settings, ended.err(), rows)
 }
 
-/// Reads a stream, or the rest of one after its header, as far as it goes, and gives the lines of
-/// the picture that it has brought, how many of them are wholly there, and its first fault. No
-/// blocks or planes are kept.
+/// Reads a stream, or the rest of one after its header, as far as it goes, and returns the lines of
+/// the picture that it has brought, how many of them are complete, and its first fault. No blocks
+/// or planes are kept.
 ///
 /// The error is the fault if the stream has no frame, `Format` if the picture is above the limit or
 /// the transform doesn't fit it, and out of memory.

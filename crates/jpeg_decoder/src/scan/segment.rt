@@ -45,7 +45,7 @@ pub fn refused_line_count(alloc: Global, before: Before) -> Error
 }
 
 /// Marks that the data of a scan were read as far as they go, and returns what stands after it, or
-/// the refusal of its data, and with that the rows of the picture that are wholly there.
+/// the refusal of its data, and with that the number of complete rows of the picture.
 fn end_reached(
     state: &mut State,
     reached: Result<Option<Marker>>,
@@ -70,7 +70,7 @@ fn end_reached(
 ///
 /// After an error other than out of memory the blocks count that were read before it, or the rows
 /// of MCUs of a lossless scan. Where it lacks some, `rows` says how many rows of the picture are
-/// wholly there.
+/// complete.
 pub fn reach_scan<R: Read + Drop>(
     alloc: Global,
     source: &mut Source<R>,

@@ -1,5 +1,4 @@
-//! The rows of the picture that are wholly there, where a scan was read as far as it goes (T.81,
-//! A.2).
+//! The complete rows of the picture, where a scan was read as far as it goes (T.81, A.2).
 ghost use Rattle.std.specs.Prelude.{◌≡◌, ◌<◌, ◌≤◌, ◌*◌, ◌/◌, All, false, get_or, length};
 ghost use Rattle.std.specs.Prelude.{List, map, min, option_map, true};
 ghost use Rattle.jpeg_segments.specs.Frame.{AllHaveSampling};

@@ -175,9 +175,9 @@ pub fn read_segments<R: Read + Drop>(
     Err(format_error(alloc, "found 2^64 markers, expected EOI"))
 }
 
-/// Reads segments and scans up to the end of the image or the first fault, of the scan that it is
-/// in what stands before it. Where that lacks some, `rows` says how many rows of the picture are
-/// wholly there.
+/// Reads segments and scans up to the end of the image or the first fault, and in the scan with the
+/// fault what stands before it. Where that scan lacks some blocks or lines, `rows` says how many
+/// rows of the picture are complete.
 pub fn reach_segments<R: Read + Drop>(
     alloc: Global,
     source: &mut Source<R>,

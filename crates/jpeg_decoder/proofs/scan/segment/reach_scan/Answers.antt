@@ -155,7 +155,7 @@ returns-then-eq-clause-found g c =
     (ended-found v now prev b.0 c.args.source.now c.parse_sos.new.reader new c.reach_samples-reached.result
     c.end_reached.result b.1 b.2 c.end_reached.ensures.step))
 
--- the rows that are wholly there after the data of a lossless scan
+-- the complete rows after the data of a lossless scan
 counted : (g : given.Over) (c : After-reach_samples-reached g) → let now = found_in c.widen_tables.new.state in
     let cur = c.parse_sos.new.reader in
     (expected : Option ℕ) × Counts now c.args.source.now cur expected
