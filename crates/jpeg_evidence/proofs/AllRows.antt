@@ -19,7 +19,7 @@ use Rattle.jpeg_streams.specs.WholeRows.{whole_rows_rest}
 use Rattle.jpeg_streams.proofs.Faultless.{brought_on, faultless}
 
 -- the rows after a turn
-abbrev rows_on : ℕ → Option ℕ → Outcome Turn → Option ℕ
+abbrev pub rows_on : ℕ → Option ℕ → Outcome Turn → Option ℕ
 rows_on turns refused o = elim o [
   | Err fault ↦ refused
   | Ok t ↦ if t.0.ended then None else rows_of_walk turns t.0.before t.0.found t.0.met t.1

@@ -5,6 +5,7 @@ use Rattle.std.proofs.Common.{◌++◌, Err, append_assoc, length-append, length
 use Rattle.std.proofs.Common.{None, Ok, refl, sym, ap, ◌∙◌, subst, arith, ap₂, ◌<◌, replicate}
 use Rattle.std.specs.List.{AllByRecursion}
 use Rattle.std.proofs.lemmas.List.{length-replicate}
+use Rattle.std.proofs.lemmas.Option.{slice_get_past}
 use lib.ListN.{length-map}
 use Rattle.jpeg_bits.specs.Passes.{Block, Pass, whole_pass, zero_block}
 use Rattle.jpeg_bits.specs.Intervals.{first_group, other_groups}
@@ -22,6 +23,7 @@ use Rattle.jpeg_streams.specs.Order.{Spot, grid_of, mcu_size, own_spots, spots_o
 use Rattle.jpeg_streams.specs.Scans.{Arrays, block_at, zero_arrays}
 use Rattle.jpeg_streams.specs.ScanSegments.{Coding, arrays_before, components_of, is_progressive, pass_of}
 use Rattle.jpeg_streams.specs.ScanSegments.{after_restarts, scan_arrays, vias_from}
+use Rattle.jpeg_streams.specs.WholeRows.{unread_of_scan}
 use Rattle.jpeg_streams.specs.WrittenScans.{Coefficients, IsOwn}
 use Rattle.jpeg_streams.proofs.Apart.{At, at-all, at-got, get-at, spots-apart}
 use Rattle.jpeg_streams.proofs.BroughtLevels.{PassSo, Scanned, Shaped, progressive, reading, scan-brings, sequential}
@@ -30,13 +32,17 @@ use Rattle.jpeg_streams.proofs.OwnSpots.{IsOwnSpot, own-only}
 use Rattle.jpeg_streams.proofs.ReadTurns.{codings-indices, ok-same}
 use Rattle.jpeg_streams.proofs.WrittenFrameScans.{HoldsOwn, IsReadyAt, array-at, in-all}
 use Rattle.jpeg_streams.proofs.WrittenPictures.{Progress}
-use Rattle.jpeg_evidence.specs.FirstBlocks.{StandWhole}
+use Rattle.jpeg_evidence.specs.FirstBlocks.{IsMost, StandWhole}
 use Rattle.jpeg_evidence.specs.LongerStreams.{IsDcAlone, IsKeptBefore, arrays_of}
 use Rattle.jpeg_evidence.proofs.CutBlocks.{CodingFacts, HasOwn, KnownScan, coding-facts, found_codings, is-legal}
 use Rattle.jpeg_evidence.proofs.CutEnds.{puts-count, puts-size, scan-filled}
 use Rattle.jpeg_evidence.proofs.LongerBlocks.{reached_are_read}
-use Rattle.jpeg_evidence.proofs.LongerScans.{longer_data_read_on}
+use Rattle.jpeg_evidence.proofs.FirstWritten.{first_blocks_are_written}
+use Rattle.jpeg_evidence.proofs.LongerScans.{longer_data_read_most, longer_data_read_on}
 use Rattle.jpeg_evidence.proofs.LongerTurns.{intervals-stay}
+use Rattle.jpeg_evidence.proofs.ReachedFirst.{first_blocks_are_reached}
+use Rattle.jpeg_evidence.proofs.StandingBlocks.{whole_data_have_all_blocks}
+use Rattle.jpeg_evidence.proofs.UnreadScans.{unread_is_next}
 use Rattle.jpeg_evidence.proofs.SentCuts.{SentMost, cut_scans_have_what_was_sent, kept-ready, sequential_levels}
 use Rattle.jpeg_evidence.proofs.WrittenCuts.{eoi_code, eoi_ends, scan-written}
 
@@ -77,9 +83,10 @@ single [] h = absurd (omega arith)
 single (x ∷ []) h = (x, refl)
 single (x ∷ y ∷ xs) h = absurd (omega arith)
 
-first-at : {A : Type 0} (xs : List A) → 1 ≤ length xs → (x : A) × At 0 xs x
-first-at [] h = absurd (omega arith)
-first-at (x ∷ xs) h = (x, refl)
+pub at-below : {A : Type 0} (k : ℕ) (xs : List A) → k < length xs → (x : A) × At k xs x
+at-below k [] lt = absurd (omega arith)
+at-below zero (x ∷ xs) lt = (x, refl)
+at-below (suc k) (x ∷ xs) lt = at-below k xs (omega arith)
 
 zeros-before : (found : Found) (f : Frame) → is_progressive f.process ≡ false
     → arrays_before found f ≡ zero_arrays f.components
@@ -128,7 +135,7 @@ module _ {w : Said} {f : Frame} {array : Coefficients} {levels : ℕ → Levels}
   low =
       let some = known.says.some in
       let c = count in
-      let x = first-at codings (omega arith) in
+      let x = at-below 0 codings (omega arith) in
       (is-legal known x.0 0 x.1).low
 
   -- nothing was sent of the components of a sequential scan
@@ -269,6 +276,44 @@ module _ {w : Said} {f : Frame} {array : Coefficients} {levels : ℕ → Levels}
       = ap (λ (y : (Arrays × Option Marker) × List ℕ). y.0.0)
       (ok-same _ _ (sym r.2 ∙ scanned.read fill code m rest is)) in
       ap₂ (λ (a : Arrays) (o : Outcome (Option Marker)). (a, o)) same reached
+
+  -- ---- the first block that isn't read
+
+  -- what isn't read of these bytes comes first so
+  abbrev pub unread_of : List ℕ → Option Spot
+  unread_of front =
+      unread_of_scan p (w.restart * mcu_size (components_of codings)) (vias_from 0 codings) spots before front
+
+  -- Of a beginning of the data it is the one after all that stand whole in it.
+  pub cut-unread : (front more : List ℕ) (number : ℕ) → bytes ≡ front ++ more
+      → IsMost (λ number. StandWhole f w.restart p codings known.written.sent number front) number
+      → unread_of front ≡ slice_get spots number
+  cut-unread front more number parts m =
+      let n = w.restart * mcu_size (components_of codings) in
+      let vias = vias_from 0 codings in
+      let u : Spot → Block = λ x. numbers_at p.al (known.written.sent x) in
+      unread_is_next p n vias spots before front number (record {
+        holds = first_blocks_are_reached p n vias u spots before front number apart ready m.holds;
+        most = λ k c. m.most k (first_blocks_are_written p n vias u spots before bytes front more k apart ready
+            known.written.coded parts c);
+      })
+
+  -- Of all data there is none.
+  pub whole-unread : (more : List ℕ) → unread_of (bytes ++ more) ≡ None
+  whole-unread more =
+      let n = w.restart * mcu_size (components_of codings) in
+      let vias = vias_from 0 codings in
+      let u : Spot → Block = λ x. numbers_at p.al (known.written.sent x) in
+      let on = longer_data_read_most p n vias spots before (bytes ++ more) [] in
+      let sum = length-append on.on.done on.on.others in
+      let all : length spots ≡ length (on.on.done ++ on.on.others) = ap (λ (l : List Spot). length l) on.on.parts in
+      unread_is_next p n vias spots before (bytes ++ more) (length spots) (record {
+        holds = first_blocks_are_reached p n vias u spots before (bytes ++ more) (length spots) apart ready
+            (whole_data_have_all_blocks f w.restart p codings array bytes more (length spots) known.written
+            (omega arith));
+        most = λ k c. let le = on.most k c in omega arith;
+      })
+      ∙ slice_get_past spots (length spots) (omega arith)
 
   -- Without the code of the marker after them the data have a fault.
   short-stops : (front left : List ℕ) (fill : ℕ) → 0 < length left → front ++ left ≡ bytes ++ marker fill 217 []

@@ -1,31 +1,38 @@
 -- Each beginning of a written image holds an image of which each block was sent at levels of its own.
-use Rattle.std.proofs.Common.{◌≡◌, ◌⊎◌, inl, inr, ℕ, zero, suc, true, false, List, [], ◌∷◌, ◌++◌, replicate, Some, None}
+use Rattle.std.proofs.Common.{◌≡◌, ◌⊎◌, inl, inr, ℕ, zero, suc, true, false, List, [], ◌∷◌, ◌++◌, replicate, Some, None, Option, ◌<◌, length}
 use Rattle.std.proofs.Common.{Err, refl, sym, ap, ap₂, ◌∙◌, subst, true≢false}
 use Rattle.jpeg_bits.specs.Marker.{marker_of, next_marker}
 use Rattle.jpeg_bits.specs.Reading.{End}
 use Rattle.jpeg_bits.specs.Written.{marker}
 use Rattle.jpeg_segments.specs.Frame.{Frame}
 use Rattle.jpeg_segments.specs.ScanHeaders.{IsScan, ScanHeader, scan_written}
-use Rattle.jpeg_segments.specs.WrittenSegments.{Header, Segment}
+use Rattle.jpeg_segments.specs.WrittenSegments.{Header, Segment, frame_written}
 use Rattle.jpeg_streams.specs.Brought.{Brought, turn_brought, walk_brought}
 use Rattle.jpeg_streams.specs.Found.{Found, Said, nothing_said}
 use Rattle.jpeg_streams.specs.Levels.{Levels, nothing_sent}
 use Rattle.jpeg_streams.specs.SaidSegments.{Stands, said_after}
 use Rattle.jpeg_streams.specs.ScanSegments.{is_progressive, pass_of}
+use Rattle.jpeg_streams.specs.WholeRows.{rows_of_turn, rows_of_walk}
 use Rattle.jpeg_streams.specs.WrittenImages.{MayStandInImage, WritesImageScan}
 use Rattle.jpeg_streams.specs.WrittenScans.{Coefficients, levels_after}
 use Rattle.jpeg_streams.specs.WrittenStreams.{Writes, end, scan, segment}
 use Rattle.jpeg_streams.specs.declared.before.Before.{Before}
 use Rattle.jpeg_streams.proofs.BroughtLevels.{PassSo, indices_of, is_whole, progressive, sequential}
 use Rattle.jpeg_streams.proofs.CodingsInForce.{codings-found}
+use Rattle.jpeg_streams.proofs.DecodedHeaders.{decoded-accepted}
+use Rattle.jpeg_streams.proofs.FrameShapes.{accepted-facts, count-few}
 use Rattle.jpeg_streams.proofs.OwnSpots.{AreApart}
 use Rattle.jpeg_streams.proofs.ReadTurns.{same-frame, some-none}
 use Rattle.jpeg_streams.proofs.WalkedStreams.{IsSaid, nothing-said, segment-said}
 use Rattle.jpeg_streams.proofs.WrittenPictures.{IsDrawn, drawn-said, header-facts}
 use Rattle.jpeg_evidence.specs.CutImages.{WritesFront}
+use Rattle.jpeg_evidence.proofs.AllRows.{rows_on}
 use Rattle.jpeg_evidence.proofs.CutBlocks.{NoneOrAll, all_sent, scan-apart, whole-after}
 use Rattle.jpeg_evidence.proofs.CutPictures.{AllOrNone}
 use Rattle.jpeg_evidence.proofs.LongerTurns.{walk_on}
+
+some-is : (f g : Frame) → ◌≡◌ {A = Option Frame} (Some f) (Some g) → f ≡ g
+some-is f g e = cc
 
 -- ---- beginnings of bytes
 
@@ -99,20 +106,37 @@ unfolding walk_brought
 walk-filled zero before found j = refl
 walk-filled (suc turns) before found j = ap (walk_on turns) (turn-filled before found j)
 
+pub rows-filled : (turns : ℕ) (before : Before) (found : Found) (j : ℕ)
+    → rows_of_walk turns before found None (replicate j 255) ≡ None
+unfolding rows_of_walk rows_of_turn
+rows-filled zero before found j = refl
+rows-filled (suc turns) before found j =
+    ap (λ (b : Brought). rows_on turns (rows_of_turn found None (replicate j 255)) b.1) (turn-filled before found j)
+    ∙ rw (none-filled j, rows_of_turn) refl
+
 -- ---- the levels of a sequential frame
 
--- Nothing was sent before the frame, and of a sequential one all of a component or nothing.
+-- Nothing was sent before the frame and its first scan, and of a sequential one all of a component or nothing. A frame
+-- has a component.
 pub record Unmixed (said : Said) (levels : ℕ → Levels) : Type 0 where
   pub fresh : said.frame ≡ None → (k : ℕ) → levels k ≡ nothing_sent
   pub whole : (f : Frame) → said.frame ≡ Some f → is_progressive f.process ≡ false → (k : ℕ) → NoneOrAll (levels k)
+  pub unsent : said.scanned ≡ false → (k : ℕ) → levels k ≡ nothing_sent
+  pub some : (f : Frame) → said.frame ≡ Some f → 0 < length f.components
 
 unmixed-segment : (said : Said) (levels : ℕ → Levels) (s : Segment) → Stands said s → Unmixed said levels
     → Unmixed (said_after said s) levels
 unmixed-segment said levels (Header number h) stands u = record {
   fresh = λ e. absurd (let z : ⊥ = cc in z);
   whole = λ f e q k. inl (u.fresh stands.0.0 k);
+  unsent = u.unsent;
+  some = λ f e.
+      let facts = accepted-facts (frame_written number h) (frame_written number h) (decoded-accepted number h stands.1) in
+      subst (λ (g : Frame). 0 < length g.components) (some-is (frame_written number h) f e)
+      (count-few (length (frame_written number h).components) facts.0).0;
 }
-unmixed-segment said levels s stands u = record { fresh = u.fresh; whole = u.whole }
+unmixed-segment said levels s stands u =
+    record { fresh = u.fresh; whole = u.whole; unsent = u.unsent; some = u.some }
 
 pub unmixed-scan : (array : Coefficients) (said : Said) (levels next : ℕ → Levels) (f : Frame) (h : ScanHeader)
     (bytes : List ℕ) → IsSaid IsDrawn said → said.frame ≡ Some f → IsScan f h
@@ -128,6 +152,8 @@ unmixed-scan array said levels next f h bytes is e written w u = record {
       let apart = scan-apart said f s w.codings facts (codings-found said f s w.codings w.legal.are_in_force) in
       subst (λ (l : ℕ → Levels). NoneOrAll (l k)) w.sent
       (by facts.so (subst (λ (x : Frame). is_progressive x.process ≡ false) same q) apart k);
+  unsent = λ n. absurd (true≢false n);
+  some = u.some;
 }
   where
     by : PassSo f (scan_written f h) → is_progressive f.process ≡ false → AreApart (indices_of w.codings) → (k : ℕ)
@@ -158,9 +184,14 @@ pub front-unmixed : (array : Coefficients) (said : Said) (levels : ℕ → Level
     → WritesFront array said levels first → Unmixed said levels
 front-unmixed array said levels first w =
     unmixed array nothing_said said (λ k. nothing_sent) levels first w (nothing-said IsDrawn)
-    (record { fresh = λ e k. refl; whole = λ f e q k. absurd (no-frame f e) })
+    (record {
+      fresh = λ e k. refl;
+      whole = λ f e q k. absurd (no-frame f e);
+      unsent = λ e k. refl;
+      some = λ f e. absurd (no-frame f e);
+    })
 
-all-whole : is_whole all_sent ≡ true
+pub all-whole : is_whole all_sent ≡ true
 all-whole = refl
 
 pub all-or-none : (said : Said) (levels : ℕ → Levels) (f : Frame) → Unmixed said levels → said.frame ≡ Some f

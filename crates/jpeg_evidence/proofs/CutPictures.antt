@@ -125,7 +125,7 @@ lossy-completed : (process : CodingProcess) (found : Found) (frame : Frame) → 
 lossy-completed Lossless found frame n = absurd (n refl)
 lossy-completed process found frame n = refl
 
-plane-there : (found : Found) (f : Frame) (k : ℕ) (c : Component) (plane : List ℕ)
+pub plane-there : (found : Found) (f : Frame) (k : ℕ) (c : Component) (plane : List ℕ)
     → slice_index_or found.planes k None ≡ Some plane → plane_at_end found f (k, c) ≡ Ok plane
 unfolding plane_at_end
 plane-there found f k c plane e = rw (e, plane_at_end) refl

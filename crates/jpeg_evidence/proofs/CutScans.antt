@@ -1,6 +1,7 @@
 -- A stream of a writer that is cut brings what was said and sent up to the cut.
 use Rattle.std.proofs.Common.{append-nil, [], ◌∷◌, subst, Ok, ◌≡◌, ◌*◌, ℕ, suc, false, List, ◌++◌, length}
 use Rattle.std.proofs.Common.{Option, Some, None, Err, refl, sym, ap, ◌∙◌, arith}
+use Rattle.std.specs.Prelude.{Result, option_map}
 use Rattle.jpeg_bits.specs.Marker.{marker_of}
 use Rattle.jpeg_bits.specs.Reading.{◌>>=◌, Fault, Outcome}
 use Rattle.jpeg_bits.specs.Written.{marker}
@@ -23,6 +24,7 @@ use Rattle.jpeg_streams.specs.Levels.{Is8Bit, Levels, nothing_sent}
 use Rattle.jpeg_streams.specs.Order.{mcu_size, spots_of}
 use Rattle.jpeg_streams.specs.Scans.{Arrays}
 use Rattle.jpeg_streams.specs.ScanSegments.{Coding, after_restarts, after_scan, components_of, pass_of, vias_from}
+use Rattle.jpeg_streams.specs.WholeRows.{rows_above, rows_by, rows_of_codings, rows_of_scan, rows_of_walk}
 use Rattle.jpeg_streams.specs.WrittenImages.{WritesImageScan}
 use Rattle.jpeg_streams.specs.WrittenScans.{Coefficients}
 use Rattle.jpeg_streams.proofs.Apart.{get-at}
@@ -34,15 +36,15 @@ use Rattle.jpeg_streams.specs.Segments.{Turn, onward}
 use Rattle.jpeg_streams.specs.Stream.{segment_at}
 use Rattle.jpeg_streams.proofs.Faultless.{Walked}
 use Rattle.jpeg_evidence.proofs.CutWalks.{IsPast, codings-bring, framed-now, front-walked, header-brings, known_scan}
-use Rattle.jpeg_evidence.proofs.CutWalks.{meets-here, past-turn, plain-brought, segment-brings, sos-brings, sos_code}
-use Rattle.jpeg_evidence.proofs.CutWalks.{turn-at}
+use Rattle.jpeg_evidence.proofs.CutWalks.{meets-here, past-turn, plain-brought, plain-rows, rows-at, scan-rows}
+use Rattle.jpeg_evidence.proofs.CutWalks.{segment-brings, sos-brings, sos_code, turn-at}
 use Rattle.jpeg_evidence.proofs.LongerSegments.{sos-stays, Stays}
 use Rattle.jpeg_evidence.specs.CutImages.{BringsCut, BringsFront, WritesFront}
 use Rattle.jpeg_evidence.specs.FirstBlocks.{IsMost, StandWhole}
 use Rattle.jpeg_evidence.specs.LongerStreams.{arrays_of}
 use Rattle.jpeg_evidence.proofs.LongerTurns.{by_header, scan_led, segment-goes, with_frame}
 use Rattle.jpeg_evidence.proofs.CutBlocks.{KnownScan}
-use Rattle.jpeg_evidence.proofs.CutFrames.{cut-own, cut-stops, reached_of, scan-cut}
+use Rattle.jpeg_evidence.proofs.CutFrames.{cut-own, cut-stops, reached_of, scan-cut, unread_of}
 
 blocks-stop : (found : Found) (f : Frame) (s : Scan) (codings : List Coding) (bytes : List ℕ) (g : Fault)
     (r : Arrays × Outcome (Option Marker))
@@ -82,6 +84,10 @@ pub begins-segment : (fill : ℕ) (said : Said) (s : Segment) (rest : List ℕ) 
 begins-segment fill said s rest stands =
     begins-marker fill (marker_code s) (marker_for s) rest (segment-marker said.frame s stands.0) (segment-ends s)
 
+-- the rows of a scan that the segments of a stream stop in
+abbrev pub all_rows : List ℕ → Option ℕ
+all_rows bytes = rows_of_walk (suc (length bytes)) Elsewhere nothing_found None bytes
+
 -- a segment that isn't there whole has a fault
 segment-stops : (before : Before) (now : Found) (s : Segment) (part more : List ℕ) → Stands now.said s
     → with_length (payload_of s) ≡ part ++ more → (more ≡ [] → ⊥)
@@ -111,20 +117,26 @@ segment-stops before now s part more stands parts some = go (segment_at (marker_
 
 -- ---- a cut within the header of a scan
 
+-- what the rows of a scan are by its header
+abbrev rows_by_header : Found → Result (Frame × (Scan × List ℕ)) Fault → Option ℕ
+rows_by_header found o = elim o as (λ _. Option ℕ) [
+  | Ok x ↦ rows_by x.0.process found x.0 x.1.0 x.1.1
+  | Err fault ↦ None
+]
+
 header-stops : (found : Found) (f : Frame) (h : ScanHeader) (part more : List ℕ) → found.said.frame ≡ Some f
     → IsScan f h → with_length (scan_payload h) ≡ part ++ more → (more ≡ [] → ⊥)
-    → (g : Fault) × ◌≡◌ {A = Brought} (scan_brought found part) (found, Err g)
-unfolding scan_brought Stays
+    → (g : Fault) × ◌≡◌ {A = Brought} (scan_brought found part) (found, Err g) × (rows_of_scan found part ≡ None)
+unfolding scan_brought rows_of_scan Stays
 header-stops found f h part more e written parts some = go (sos_at f part) refl
   where
     go : (o : Outcome Scan) → sos_at f part ≡ o
         → (g : Fault) × ◌≡◌ {A = Brought} (by_header found (frame_and_scan found part)) (found, Err g)
-    go (Err g) a = (
-      g,
-      ap (by_header found)
-          (then-ok (needed found.said.frame) _ f (Err g) (ap needed e)
-          (ap (λ (o : Outcome Scan). o >>= with_frame f) a)),
-    )
+        × (rows_by_header found (frame_and_scan found part) ≡ None)
+    go (Err g) a =
+        let stops = then-ok (needed found.said.frame) _ f (Err g) (ap needed e)
+        (ap (λ (o : Outcome Scan). o >>= with_frame f) a) in
+        (g, ap (by_header found) stops, ap (rows_by_header found) stops)
     go (Ok x) a =
         let header = with_length (scan_payload h) in
         let both : (x.0, x.1 ++ more) ≡ (scan_written f h, [])
@@ -137,65 +149,81 @@ header-stops found f h part more e written parts some = go (sos_at f part) refl
 module _ (array : Coefficients) (range : (index row column : ℕ) → Is8Bit (array index row column)) where
   -- A walk comes by the whole segments and scans in the front of a stream.
   pub past-of : (said : Said) (levels : ℕ → Levels) (first rest : List ℕ) → WritesFront array said levels first
-      → Begins rest → IsPast array range said levels rest (all_brought nothing_found (first ++ rest))
+      → Begins rest
+      → IsPast array range said levels rest (all_brought nothing_found (first ++ rest)) (all_rows (first ++ rest))
   past-of said levels first rest w b =
       subst (λ (f : Found). IsPast array range said levels rest
-      (walk_brought (suc (length (first ++ rest))) Elsewhere f None (first ++ rest))) found-nothing
+      (walk_brought (suc (length (first ++ rest))) Elsewhere f None (first ++ rest))
+      (rows_of_walk (suc (length (first ++ rest))) Elsewhere f None (first ++ rest))) found-nothing
       (front-walked array range nothing_said said (λ k. nothing_sent) levels first rest no_progress
       (suc (length (first ++ rest))) Elsewhere None (first ++ rest) w b (nothing-said IsDrawn)
       (holds-nothing array nothing_said unscanned) (meets-here (first ++ rest)) (omega arith))
 
-  -- what is found where the data of a scan have a fault
+  -- what is found where the data of a scan have a fault, and which rows of the scan are whole
   pub scan-past : (said : Said) (levels : ℕ → Levels) (frame : Frame) (fill : ℕ) (h : ScanHeader)
-      (codings : List Coding) (bytes front : List ℕ) (w : Walked)
-      (past : IsPast array range said levels (marker fill 218 (with_length (scan_payload h) ++ front)) w)
+      (codings : List Coding) (bytes front : List ℕ) (w : Walked) {rows : Option ℕ}
+      (past : IsPast array range said levels (marker fill 218 (with_length (scan_payload h) ++ front)) w rows)
       (known : KnownScan said frame array levels past.brought (scan_written frame h) codings bytes)
       → said.frame ≡ Some frame → IsScan frame h → (g : Fault) × ((reached_of known front).1 ≡ Err g)
-      → w.0
-      ≡ after_scan (beside bring said past.brought) frame (scan_written frame h) codings (reached_of known front).0
+      → (w.0
+      ≡ after_scan (beside bring said past.brought) frame (scan_written frame h) codings (reached_of known front).0)
+      × (rows ≡ option_map (rows_above frame (components_of codings)) (unread_of known front))
+  unfolding rows_of_codings
   scan-past said levels frame fill h codings bytes front w past known e written fault =
       let rest = with_length (scan_payload h) ++ front in
       let now = beside bring said past.brought in
       let s = scan_written frame h in
-      ap (λ (y : Walked). y.0) (past-turn array range said levels (marker fill 218 rest) w past
+      let first = past.at.first ∙ next-marker fill 218 SOS rest (record { is = sos_code }) in
+      let read = sos-read frame h front written in
+      let found = codings-found said frame s codings known.legal.are_in_force in
+      let turn = past-turn array range said levels (marker fill 218 rest) w past
       (after_scan now frame s codings (reached_of known front).0, Err fault.0)
-      (turn-at past.before now past.met past.all rest SOS
-      (past.at.first ∙ next-marker fill 218 SOS rest (record { is = sos_code }))
+      (turn-at past.before now past.met past.all rest SOS first
       ∙ sos-brings past.before now rest
-      ∙ header-brings now frame s rest front known.shape.lossy e (sos-read frame h front written)
-      ∙ codings-bring now frame s codings front (codings-found said frame s codings known.legal.are_in_force)
-      ∙ blocks-stop now frame s codings front fault.0 (reached_of known front) refl fault.1)).1
+      ∙ header-brings now frame s rest front known.shape.lossy e read
+      ∙ codings-bring now frame s codings front found
+      ∙ blocks-stop now frame s codings front fault.0 (reached_of known front) refl fault.1) in (
+        ap (λ (y : Walked). y.0) turn.1,
+        turn.2 ∙ rows-at now past.met past.all rest SOS first
+            ∙ scan-rows now frame s codings rest front known.shape.lossy e read found,
+      )
 
-  -- what is found where a segment has a fault
+  -- what is found where a segment has a fault: no scan lacks rows
   pub segment-past : (said : Said) (levels : ℕ → Levels) (fill : ℕ) (s : Segment) (part more : List ℕ) (w : Walked)
-      (past : IsPast array range said levels (marker fill (marker_code s) part) w) → Stands said s
-      → with_length (payload_of s) ≡ part ++ more → (more ≡ [] → ⊥) → w.0 ≡ beside bring said past.brought
+      {rows : Option ℕ} (past : IsPast array range said levels (marker fill (marker_code s) part) w rows)
+      → Stands said s → with_length (payload_of s) ≡ part ++ more → (more ≡ [] → ⊥)
+      → (w.0 ≡ beside bring said past.brought) × (rows ≡ None)
   segment-past said levels fill s part more w past stands parts some =
       let now = beside bring said past.brought in
       let fault = segment-stops past.before now s part more stands parts some in
-      ap (λ (y : Walked). y.0) (past-turn array range said levels (marker fill (marker_code s) part) w past
-      (now, Err fault.0)
-      (turn-at past.before now past.met past.all part (marker_for s)
-      (past.at.first ∙ next-marker fill (marker_code s) (marker_for s) part
-      (record { is = segment-marker said.frame s stands.0 }))
-      ∙ plain-brought s past.before now part ∙ ap (λ (o : Outcome Turn). (now, o)) fault.1)).1
+      let first = past.at.first ∙ next-marker fill (marker_code s) (marker_for s) part
+      (record { is = segment-marker said.frame s stands.0 }) in
+      let turn = past-turn array range said levels (marker fill (marker_code s) part) w past (now, Err fault.0)
+      (turn-at past.before now past.met past.all part (marker_for s) first
+      ∙ plain-brought s past.before now part ∙ ap (λ (o : Outcome Turn). (now, o)) fault.1) in (
+        ap (λ (y : Walked). y.0) turn.1,
+        turn.2 ∙ rows-at now past.met past.all part (marker_for s) first ∙ plain-rows s now part,
+      )
 
   -- and where the header of a scan has one
   pub header-past : (said : Said) (levels : ℕ → Levels) (frame : Frame) (fill : ℕ) (h : ScanHeader)
-      (part more : List ℕ) (w : Walked) (past : IsPast array range said levels (marker fill 218 part) w)
+      (part more : List ℕ) (w : Walked) {rows : Option ℕ}
+      (past : IsPast array range said levels (marker fill 218 part) w rows)
       → said.frame ≡ Some frame → IsScan frame h → with_length (scan_payload h) ≡ part ++ more → (more ≡ [] → ⊥)
-      → w.0 ≡ beside bring said past.brought
+      → (w.0 ≡ beside bring said past.brought) × (rows ≡ None)
   header-past said levels frame fill h part more w past e written parts some =
       let now = beside bring said past.brought in
       let fault = header-stops now frame h part more e written parts some in
-      ap (λ (y : Walked). y.0) (past-turn array range said levels (marker fill 218 part) w past (now, Err fault.0)
-      (turn-at past.before now past.met past.all part SOS
-      (past.at.first ∙ next-marker fill 218 SOS part (record { is = sos_code }))
-      ∙ sos-brings past.before now part ∙ fault.1)).1
+      let first = past.at.first ∙ next-marker fill 218 SOS part (record { is = sos_code }) in
+      let turn = past-turn array range said levels (marker fill 218 part) w past (now, Err fault.0)
+      (turn-at past.before now past.met past.all part SOS first ∙ sos-brings past.before now part ∙ fault.1) in (
+        ap (λ (y : Walked). y.0) turn.1,
+        turn.2 ∙ rows-at now past.met past.all part SOS first ∙ fault.2,
+      )
 
   -- where that is all that is found
-  front-brought : (said : Said) (levels : ℕ → Levels) (rest : List ℕ) (w : Walked)
-      (past : IsPast array range said levels rest w) → w.0 ≡ beside bring said past.brought
+  front-brought : (said : Said) (levels : ℕ → Levels) (rest : List ℕ) (w : Walked) {rows : Option ℕ}
+      (past : IsPast array range said levels rest w rows) → w.0 ≡ beside bring said past.brought
       → BringsFront array said levels w.0
   front-brought said levels rest w past same = subst (BringsFront array said levels) (sym same) (record {
     is_said = refl;
@@ -233,9 +261,9 @@ cut_images_bring_what_was_sent array said levels next frame first front more fil
           kept = λ p k c index t own.
               ((known.framed.kept p).each k c (get-at k frame.components c t)).each index own;
         };
-        brought = scan-past array range said levels frame fill h sends.codings (front ++ more) front
+        brought = (scan-past array range said levels frame fill h sends.codings (front ++ more) front
             (all_brought nothing_found (first ++ marker fill 218 rest)) past known e written
-            (cut-stops known front more refl);
+            (cut-stops known front more refl)).0;
         parts = sent.holds.parts;
         sent = λ y k t is here. own.sent k y (get-at y.slot sends.codings k t) is here;
         kept = λ y k t is away. own.kept k y (get-at y.slot sends.codings k t) is away;
@@ -254,7 +282,7 @@ cut_segments_add_nothing array said levels first part more fill s range w stands
     let walked = all_brought nothing_found (first ++ rest) in
     let past = past-of array range said levels first rest w (begins-segment fill said s part stands) in
     front-brought array range said levels rest walked past
-    (segment-past array range said levels fill s part more walked past stands parts some)
+    (segment-past array range said levels fill s part more walked past stands parts some).0
 
 -- What is brought of a stream that is cut within the header of a scan, or right after its marker.
 pub cut_headers_add_nothing : (array : Coefficients) (said : Said) (levels : ℕ → Levels) (frame : Frame)
@@ -267,4 +295,4 @@ cut_headers_add_nothing array said levels frame first part more fill h range w e
     let walked = all_brought nothing_found (first ++ rest) in
     let past = past-of array range said levels first rest w (begins-scan fill part) in
     front-brought array range said levels rest walked past
-    (header-past array range said levels frame fill h part more walked past e written parts some)
+    (header-past array range said levels frame fill h part more walked past e written parts some).0

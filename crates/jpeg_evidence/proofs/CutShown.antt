@@ -1,5 +1,5 @@
 -- What a cut stream of a writer shows is the picture of the blocks that it holds.
-use Rattle.std.proofs.Common.{◌≡◌, ℕ, List, [], ◌∷◌, ◌++◌, Some, Ok, refl, sym, ap, ap₂, ◌∙◌}
+use Rattle.std.proofs.Common.{◌≡◌, ℕ, List, [], ◌∷◌, ◌++◌, Some, Ok, refl, sym, ap, ap₂, ◌∙◌, subst}
 use Rattle.jpeg_segments.specs.Frame.{Frame}
 use Rattle.jpeg_segments.proofs.Codecs.{bind-ok, err-ok, ok-same}
 use Rattle.jpeg_streams.specs.declared.settings.Settings.{Settings}
@@ -9,13 +9,15 @@ use Rattle.jpeg_streams.specs.Found.{Found, Said, nothing_found, nothing_said}
 use Rattle.jpeg_streams.specs.Levels.{Is8Bit, Levels, nothing_sent}
 use Rattle.jpeg_streams.specs.Shown.{Shown, fault_shown, framed_or, picture_shown, shown, shown_of, shown_rest}
 use Rattle.jpeg_streams.specs.Stream.{start_at, told_of}
+use Rattle.jpeg_streams.specs.WholeRows.{rows_of_found, whole_rows, whole_rows_rest}
 use Rattle.jpeg_streams.specs.WrittenImages.{WritesImage}
 use Rattle.jpeg_streams.specs.WrittenScans.{Coefficients}
 use Rattle.jpeg_streams.specs.WrittenStreams.{end}
 use Rattle.jpeg_streams.proofs.Faultless.{Walked, framed-some}
 use Rattle.jpeg_evidence.specs.CutImages.{HoldsCut, picture_held}
-use Rattle.jpeg_evidence.proofs.CutHeld.{Ended, nothing-there}
+use Rattle.jpeg_evidence.proofs.CutHeld.{EndedAt, nothing-there}
 use Rattle.jpeg_evidence.proofs.CutPictures.{shown-same}
+use Rattle.jpeg_evidence.proofs.CutScans.{all_rows}
 use Rattle.jpeg_evidence.proofs.CutSplits.{each-front}
 
 -- The picture of what was found, as it is shown.
@@ -57,16 +59,21 @@ starts settings after (a ∷ b ∷ part) more s e h =
     = ap₂ (λ (x y : ℕ). x ∷ y ∷ part) one two in
     (part, front, cc, sym (ap (shown settings) front) ∙ h)
 
--- A cut stream of a writer shows the picture of the blocks that it holds.
+rows-started : (part : List ℕ)
+    → whole_rows (255 ∷ 216 ∷ part) ≡ rows_of_found (all_rows part) (all_brought nothing_found part).0
+unfolding whole_rows whole_rows_rest start_at
+rows-started part = refl
+
+-- A cut stream of a writer shows the picture of the blocks that it holds, and has the rows above those that it lacks.
 pub cut_images_show_what_was_sent : (settings : Settings) (array : Coefficients) (image front more : List ℕ)
     (final : Said) (last : ℕ → Levels) → ((index row column : ℕ) → Is8Bit (array index row column))
     → WritesImage array image final last → image ≡ front ++ more → (s : Shown) → shown settings front ≡ Ok s
     → (part : List ℕ) × (front ≡ 255 ∷ 216 ∷ part) × (said : Said) × (blocks : Coefficients)
-    × HoldsCut array blocks part said × (s.told ≡ told_of said) × (picture_held settings said blocks ≡ Ok s.picture)
+    × HoldsCut array blocks part said (whole_rows front) × (s.told ≡ told_of said) × (picture_held settings said blocks ≡ Ok s.picture)
 cut_images_show_what_was_sent settings array image front more final last range w parts s h =
     let a = starts settings w.after front more s (sym w.starts ∙ parts) h in
     let part = a.0 in
-    let e : Ended array range part (all_brought nothing_found part)
+    let e : EndedAt array range part
     = each-front array range nothing_said final (λ k. nothing_sent) last w.after w.written [] part more
     (end nothing_said (λ k. nothing_sent) [] refl) (nothing-there array range) a.2 in
     let c = shows-found settings (all_brought nothing_found part) s a.3 in
@@ -79,7 +86,8 @@ cut_images_show_what_was_sent settings array image front more final last range w
       a.1,
       e.said,
       as_sent e.image e.levels,
-      e.holds,
+      subst (λ (rows : ℕ). HoldsCut array (as_sent e.image e.levels) part e.said rows)
+          (sym (ap whole_rows a.1 ∙ rows-started part)) e.holds,
       c.told ∙ ap told_of said_same,
       sym same ∙ ap (picture_shown settings) (sym e.found) ∙ c.picture,
     )

@@ -1,6 +1,7 @@
 -- Each beginning of a written image is cut at a marker, in a segment, in a scan, or not at all.
-use Rattle.std.proofs.Common.{◌≡◌, ◌⊎◌, inl, inr, ℕ, true, List, [], ◌∷◌, ◌++◌, replicate, Some, refl, sym, ap, ◌∙◌}
+use Rattle.std.proofs.Common.{◌≡◌, ◌⊎◌, inl, inr, ℕ, true, List, [], ◌∷◌, ◌++◌, replicate, Some, refl, sym, ap, ◌∙◌, length}
 use Rattle.std.proofs.Common.{subst, append_assoc}
+use Rattle.std.specs.Prelude.{option_map}
 use Rattle.jpeg_bits.specs.Written.{marker}
 use Rattle.jpeg_segments.specs.Frame.{Frame}
 use Rattle.jpeg_segments.specs.ScanHeaders.{IsScan, ScanHeader, scan_payload, scan_written}
@@ -9,21 +10,24 @@ use Rattle.jpeg_streams.specs.Brought.{all_brought}
 use Rattle.jpeg_streams.specs.Found.{Said, nothing_found, nothing_said}
 use Rattle.jpeg_streams.specs.Levels.{Is8Bit, Levels, nothing_sent}
 use Rattle.jpeg_streams.specs.SaidSegments.{Stands, said_after}
-use Rattle.jpeg_streams.specs.ScanSegments.{after_scan}
+use Rattle.jpeg_streams.specs.Order.{spots_of}
+use Rattle.jpeg_streams.specs.ScanSegments.{after_scan, components_of}
+use Rattle.jpeg_streams.specs.WholeRows.{rows_above, rows_of_found}
 use Rattle.jpeg_streams.specs.WrittenImages.{ClosesImage, MayStandInImage, WritesImageScan}
 use Rattle.jpeg_streams.specs.WrittenScans.{Coefficients}
 use Rattle.jpeg_streams.specs.WrittenStreams.{Writes, end, scan, segment}
 use Rattle.jpeg_streams.proofs.ReadTurns.{scan-tail, segment-tail}
 use Rattle.jpeg_streams.proofs.WalkedStreams.{beside, front-append}
 use Rattle.jpeg_streams.proofs.WrittenPictures.{bring}
-use Rattle.jpeg_evidence.specs.CutImages.{WritesFront, in_scan}
+use Rattle.jpeg_evidence.specs.CutImages.{WritesFront, in_scan, rows_before}
 use Rattle.jpeg_evidence.proofs.CutBlocks.{CutScan, cut-scan}
-use Rattle.jpeg_evidence.proofs.CutFrames.{cut-own, cut-stops, reached_of, scan-cut}
-use Rattle.jpeg_evidence.proofs.CutFronts.{AfterFirst, HasMarker, InFirst, IsFilled, all-or-none, front-unmixed}
+use Rattle.jpeg_evidence.proofs.CutFrames.{cut-own, cut-stops, cut-unread, reached_of, scan-cut}
+use Rattle.jpeg_evidence.proofs.CutFronts.{AfterFirst, HasMarker, InFirst, IsFilled, front-unmixed}
 use Rattle.jpeg_evidence.proofs.CutFronts.{split-append, split-marker, unmixed-scan}
-use Rattle.jpeg_evidence.proofs.CutHeld.{Ended, by-scan, data-filled, end-there, header-cut, segment-cut}
+use Rattle.jpeg_evidence.proofs.CutHeld.{EndedAt, by-scan, data-filled, end-there, header-cut, segment-cut}
 use Rattle.jpeg_evidence.proofs.CutHeld.{segment-filled}
-use Rattle.jpeg_evidence.proofs.CutScans.{begins-scan, past-of, scan-past}
+use Rattle.jpeg_evidence.proofs.CutRows.{rows-first}
+use Rattle.jpeg_evidence.proofs.CutScans.{all_rows, begins-scan, past-of, scan-past}
 use Rattle.jpeg_evidence.proofs.CutWalks.{known_scan}
 
 module _ (array : Coefficients) (range : (index row column : ℕ) → Is8Bit (array index row column)) where
@@ -31,8 +35,7 @@ module _ (array : Coefficients) (range : (index row column : ℕ) → Is8Bit (ar
   data-cut : (said : Said) (levels next : ℕ → Levels) (frame : Frame) (first : List ℕ) (fill : ℕ) (h : ScanHeader)
       (front more : List ℕ) → WritesFront array said levels first → said.frame ≡ Some frame → IsScan frame h
       → WritesImageScan array said levels frame h (front ++ more) next → (more ≡ [] → ⊥)
-      → Ended array range (first ++ marker fill 218 (with_length (scan_payload h) ++ front))
-      (all_brought nothing_found (first ++ marker fill 218 (with_length (scan_payload h) ++ front)))
+      → EndedAt array range (first ++ marker fill 218 (with_length (scan_payload h) ++ front))
   data-cut said levels next frame first fill h front more w e written sends some =
       let bytes = front ++ more in
       let rest = with_length (scan_payload h) ++ front in
@@ -47,19 +50,24 @@ module _ (array : Coefficients) (range : (index row column : ℕ) → Is8Bit (ar
       let c : CutScan said frame array levels next codings sent.holds.done found
       = subst (λ (l : ℕ → Levels). CutScan said frame array levels l codings sent.holds.done found) sends.sent
       (cut-scan known sent.holds.done (reached_of known front).0 (cut-own known front more refl)) in
-      by-scan array range part (all_brought nothing_found part) said frame c.image next found e
-      past.said c.after c.counts
-      (all-or-none (record said { scanned = true }) next frame
+      let stops = scan-past array range said levels frame fill h codings bytes front (all_brought nothing_found part) past
+      known e written (cut-stops known front more refl) in
+      let first_away = cut-unread known front more (length sent.holds.done) refl sent.most in
+      let rows = rows_of_found (all_rows part) (all_brought nothing_found part).0 in
+      by-scan array range part (all_brought nothing_found part) said frame c.image next found (all_rows part)
+      (λ f. rows_before f (components_of codings) sent.holds.others) e past.said c.after c.counts
       (unmixed-scan array said levels next frame h bytes past.said e written sends
-      (front-unmixed array said levels first w)) e)
-      (in_scan first said levels next frame fill h front more sent.holds.done sent.holds.others w e written sends some
-      sent.holds.parts sent.most c.there c.away)
-      (scan-past array range said levels frame fill h codings bytes front (all_brought nothing_found part) past known e
-      written (cut-stops known front more refl))
+      (front-unmixed array said levels first w))
+      (rows-first frame (components_of codings) (spots_of frame (components_of codings)) sent.holds.done
+      sent.holds.others (all_rows part) sent.holds.parts
+      (stops.1 ∙ ap (option_map (rows_above frame (components_of codings))) first_away))
+      (λ has. in_scan first said levels next frame fill h front more sent.holds.done sent.holds.others rows w e written
+      sends some sent.holds.parts sent.most c.there c.away has)
+      stops.0
 
   -- what is found where a stream is cut
   abbrev Cut : List ℕ → Type 0
-  Cut part = Ended array range part (all_brought nothing_found part)
+  Cut part = EndedAt array range part
 
   -- one segment more
   next-segment : (said : Said) (levels : ℕ → Levels) (first : List ℕ) (fill : ℕ) (s : Segment)

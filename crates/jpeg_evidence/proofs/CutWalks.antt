@@ -1,6 +1,6 @@
 -- A stream goes by the whole segments and scans in its front, with what they have said and sent.
 use Rattle.std.proofs.Common.{rules, ◌≡◌, ◌<◌, ◌*◌, ℕ, zero, suc, Bool, true, false, List, [], ◌++◌, length, append-nil}
-use Rattle.std.proofs.Common.{Option, Some, None, Ok, refl, sym, ap, ◌∙◌, subst, arith, length-append}
+use Rattle.std.proofs.Common.{Option, Some, None, Ok, refl, sym, ap, ap₂, ◌∙◌, subst, arith, length-append}
 use Rattle.std.specs.Prelude.{if◌then◌else◌, ◌≢◌}
 use Rattle.jpeg_bits.specs.Marker.{found_or, marker_of, next_marker}
 use Rattle.jpeg_bits.specs.Reading.{Outcome}
@@ -27,6 +27,8 @@ use Rattle.jpeg_streams.specs.ScanSegments.{Coding, after_restarts, after_scan, 
 use Rattle.jpeg_streams.specs.ScanSegments.{scan_before, scan_turn, vias_from}
 use Rattle.jpeg_streams.specs.Segments.{Turn, onward}
 use Rattle.jpeg_streams.specs.Stream.{segment_at, turn_at}
+use Rattle.jpeg_streams.specs.WholeRows.{rows_by, rows_of_blocks, rows_of_codings, rows_of_scan, rows_of_segment}
+use Rattle.jpeg_streams.specs.WholeRows.{rows_of_turn, rows_of_walk}
 use Rattle.jpeg_streams.specs.WrittenImages.{MayStandInImage, WritesImageScan}
 use Rattle.jpeg_streams.specs.WrittenScans.{Coefficients}
 use Rattle.jpeg_streams.specs.WrittenStreams.{Writes, end, scan, segment}
@@ -43,6 +45,7 @@ use Rattle.jpeg_streams.proofs.WalkedStreams.{IsSaid, beside, segment-said}
 use Rattle.jpeg_streams.proofs.WrittenPictures.{Holds, IsDrawn, Progress, bring, codings-good, drawn-said, header-facts}
 use Rattle.jpeg_streams.proofs.WrittenPictures.{image-read}
 use Rattle.jpeg_evidence.specs.LongerStreams.{arrays_of}
+use Rattle.jpeg_evidence.proofs.AllRows.{rows_on}
 use Rattle.jpeg_evidence.proofs.CutBlocks.{KnownScan}
 use Rattle.jpeg_evidence.proofs.CutFrames.{scanned, whole-reached}
 use Rattle.jpeg_evidence.proofs.LongerTurns.{by_header, scan_led, walk_on}
@@ -94,6 +97,29 @@ walk-goes_on turns before found old met all rest t e n =
     ap (walk_on turns) e
     ∙ ap (λ (b : Bool). if b then (t.found, Ok rest) else walk_brought turns t.before t.found t.met rest) n
 
+-- what a walk brings, and the rows of a scan that it stops in
+abbrev Both : Type 0
+Both = Walked × Option ℕ
+
+abbrev walk_both : ℕ → Before → Found → Option Marker → List ℕ → Both
+walk_both turns before found met all =
+    (walk_brought turns before found met all, rows_of_walk turns before found met all)
+
+rows-go_on : (turns : ℕ) (before : Before) (found old : Found) (met : Option Marker) (all rest : List ℕ) (t : Turn)
+    → ◌≡◌ {A = Brought} (turn_brought before found met all) (old, Ok (t, rest)) → t.ended ≡ false
+    → rows_of_walk (suc turns) before found met all ≡ rows_of_walk turns t.before t.found t.met rest
+unfolding rows_of_walk
+rows-go_on turns before found old met all rest t e n =
+    ap (λ (b : Brought). rows_on turns (rows_of_turn found met all) b.1) e
+    ∙ ap (λ (b : Bool). if b then None else rows_of_walk turns t.before t.found t.met rest) n
+
+both-go_on : (turns : ℕ) (before : Before) (found old : Found) (met : Option Marker) (all rest : List ℕ) (t : Turn)
+    → ◌≡◌ {A = Brought} (turn_brought before found met all) (old, Ok (t, rest)) → t.ended ≡ false
+    → ◌≡◌ {A = Both} (walk_both (suc turns) before found met all) (walk_both turns t.before t.found t.met rest)
+both-go_on turns before found old met all rest t e n =
+    ap₂ (λ (w : Walked) (rows : Option ℕ). (w, rows)) (walk-goes_on turns before found old met all rest t e n)
+    (rows-go_on turns before found old met all rest t e n)
+
 -- a segment's turn
 pub segment-brings : (before : Before) (now : Found) (s : Segment) (met : Option Marker) (all : List ℕ) (fill : ℕ)
     (more : List ℕ) → Stands now.said s
@@ -122,14 +148,17 @@ lossy-brings : (process : CodingProcess) (found : Found) (f : Frame) (s : Scan) 
 lossy-brings Lossless found f s bytes n = absurd (n refl)
 lossy-brings process found f s bytes n = refl
 
+header-is : (found : Found) (f : Frame) (s : Scan) (bytes rest : List ℕ) → found.said.frame ≡ Some f
+    → sos_at f bytes ≡ Ok (s, rest) → frame_and_scan found bytes ≡ Ok (f, (s, rest))
+header-is found f s bytes rest e h =
+    then-ok (needed found.said.frame) _ f _ (ap needed e) (then-ok (sos_at f bytes) _ (s, rest) _ h refl)
+
 pub header-brings : (found : Found) (f : Frame) (s : Scan) (bytes rest : List ℕ) → f.process ≢ Lossless
     → found.said.frame ≡ Some f → sos_at f bytes ≡ Ok (s, rest)
     → scan_brought found bytes ≡ blocks_brought found f s rest
 unfolding scan_brought
 header-brings found f s bytes rest n e h =
-    let both : frame_and_scan found bytes ≡ Ok (f, (s, rest))
-    = then-ok (needed found.said.frame) _ f _ (ap needed e) (then-ok (sos_at f bytes) _ (s, rest) _ h refl) in
-    ap (by_header found) both ∙ lossy-brings f.process found f s rest n
+    ap (by_header found) (header-is found f s bytes rest e h) ∙ lossy-brings f.process found f s rest n
 
 pub codings-bring : (found : Found) (f : Frame) (s : Scan) (codings : List Coding) (bytes : List ℕ)
     → codings_of found.said f s ≡ Ok codings
@@ -147,6 +176,42 @@ blocks-bring : (found : Found) (f : Frame) (s : Scan) (codings : List Coding) (b
     )
 unfolding blocks_brought_by
 blocks-bring found f s codings bytes rest arrays m e = ap (scan_led found (after_scan found f s codings)) e
+
+-- ---- the rows of a scan
+
+pub rows-at : (found : Found) (met : Option Marker) (all rest : List ℕ) (m : Marker)
+    → found_or met all (next_marker all) ≡ Ok (m, rest) → rows_of_turn found met all ≡ rows_of_segment m found rest
+unfolding rows_of_turn
+rows-at found met all rest m e = rw (e, rows_of_turn) refl
+
+-- a segment that is no scan has none
+pub plain-rows : (s : Segment) (found : Found) (bytes : List ℕ) → rows_of_segment (marker_for s) found bytes ≡ None
+plain-rows (Quantization ts) found bytes = refl
+plain-rows (Huffman ts) found bytes = refl
+plain-rows (Interval n) found bytes = refl
+plain-rows (Application d) found bytes = refl
+plain-rows (Comment payload) found bytes = refl
+plain-rows (Header number h) found bytes = refl
+
+lossy-rows : (process : CodingProcess) (found : Found) (f : Frame) (s : Scan) (bytes : List ℕ) → process ≢ Lossless
+    → rows_by process found f s bytes ≡ rows_of_blocks found f s bytes
+lossy-rows Lossless found f s bytes n = absurd (n refl)
+lossy-rows process found f s bytes n = refl
+
+blocks-rows : (found : Found) (f : Frame) (s : Scan) (codings : List Coding) (bytes : List ℕ)
+    → codings_of found.said f s ≡ Ok codings
+    → rows_of_blocks found f s bytes ≡ rows_of_codings found f (pass_of s) codings bytes
+unfolding rows_of_blocks
+blocks-rows found f s codings bytes e = rw (e, rows_of_blocks) refl
+
+pub scan-rows : (found : Found) (f : Frame) (s : Scan) (codings : List Coding) (bytes rest : List ℕ)
+    → f.process ≢ Lossless → found.said.frame ≡ Some f → sos_at f bytes ≡ Ok (s, rest)
+    → codings_of found.said f s ≡ Ok codings
+    → rows_of_scan found bytes ≡ rows_of_codings found f (pass_of s) codings rest
+unfolding rows_of_scan
+scan-rows found f s codings bytes rest n e h is =
+    rw (header-is found f s bytes rest e h, rows_of_scan)
+    (lossy-rows f.process found f s rest n ∙ blocks-rows found f s codings rest is)
 
 pub sos_code : marker_of 218 ≡ Some SOS
 unfolding marker_of
@@ -251,7 +316,8 @@ module _ (array : Coefficients) (range : (index row column : ℕ) → Is8Bit (ar
       marker-begins fill 218 SOS _ rest refl (λ turns bytes. refl)
 
   -- A walk is at the bytes after the front: so much is said and held, and the walk goes on so.
-  pub record IsPast (next : Said) (reached : ℕ → Levels) (rest : List ℕ) (w : Walked) : Type 0 where
+  pub record IsPast (next : Said) (reached : ℕ → Levels) (rest : List ℕ) (w : Walked) (rows : Option ℕ)
+      : Type 0 where
     pub brought : Progress
     pub said : IsSaid IsDrawn next
     pub held : Holds array next reached brought
@@ -262,20 +328,29 @@ module _ (array : Coefficients) (range : (index row column : ℕ) → Is8Bit (ar
     pub at : MeetsFirst met all rest
     pub room : length rest < turns
     pub walked : w ≡ walk_brought turns before (beside bring next brought) met all
+    pub rows_are : rows ≡ rows_of_walk turns before (beside bring next brought) met all
 
   -- the walk after the turn that it is at
-  pub past-turn : (said : Said) (reached : ℕ → Levels) (rest : List ℕ) (w : Walked)
-      (past : IsPast said reached rest w) (b : Brought)
+  pub past-turn : (said : Said) (reached : ℕ → Levels) (rest : List ℕ) (w : Walked) {rows : Option ℕ}
+      (past : IsPast said reached rest w rows) (b : Brought)
       → turn_brought past.before (beside bring said past.brought) past.met past.all ≡ b
       → (k : ℕ) × (w ≡ walk_on k b)
-  unfolding walk_brought
-  past-turn said reached rest w past b e = go past.turns past.room past.walked
+      × (rows ≡ rows_on k (rows_of_turn (beside bring said past.brought) past.met past.all) b.1)
+  unfolding walk_brought rows_of_walk
+  past-turn said reached rest w {rows} past b e = go past.turns past.room past.walked past.rows_are
     where
       go : (turns : ℕ) → length rest < turns
           → w ≡ walk_brought turns past.before (beside bring said past.brought) past.met past.all
+          → rows ≡ rows_of_walk turns past.before (beside bring said past.brought) past.met past.all
           → (k : ℕ) × (w ≡ walk_on k b)
-      go zero room walked = absurd (omega arith)
-      go (suc k) room walked = (k, walked ∙ ap (walk_on k) e)
+          × (rows ≡ rows_on k (rows_of_turn (beside bring said past.brought) past.met past.all) b.1)
+      go zero room walked rows_are = absurd (omega arith)
+      go (suc k) room walked rows_are = (
+        k,
+        walked ∙ ap (walk_on k) e,
+        rows_are ∙ ap (λ (y : Brought). rows_on k (rows_of_turn (beside bring said past.brought) past.met past.all) y.1)
+            e,
+      )
 
   -- A walk comes by the whole segments and scans of an image that stand in front of a marker.
   pub front-walked : (said next : Said) (levels reached : ℕ → Levels) (front rest : List ℕ) (x : Progress)
@@ -284,6 +359,7 @@ module _ (array : Coefficients) (range : (index row column : ℕ) → Is8Bit (ar
       → Begins rest → IsSaid IsDrawn said → Holds array said levels x → MeetsFirst met all (front ++ rest)
       → length (front ++ rest) < turns
       → IsPast next reached rest (walk_brought turns before (beside bring said x) met all)
+      (rows_of_walk turns before (beside bring said x) met all)
   front-walked said next levels reached front rest x zero before met all w b is held at room = absurd (omega arith)
   front-walked said next levels reached front rest x (suc turns) before met all (end said' sent' bytes' none) b is held at
       room =
@@ -298,6 +374,7 @@ module _ (array : Coefficients) (range : (index row column : ℕ) → Is8Bit (ar
         at = subst (λ (l : List ℕ). MeetsFirst met all (l ++ rest)) none at;
         room = subst (λ (l : List ℕ). length (l ++ rest) < suc turns) none room;
         walked = refl;
+        rows_are = refl;
       }
   front-walked said next levels reached front rest x (suc turns) before met all
       (segment said' final' sent' last' fill s more stands allowed w) b is held at room =
@@ -309,7 +386,7 @@ module _ (array : Coefficients) (range : (index row column : ℕ) → Is8Bit (ar
       ((image-read array range).holds said levels x s stands allowed held) (meets-here (more ++ rest))
       (marker-longer fill (marker_code s) turns payload (more ++ rest)
       (subst (λ (l : List ℕ). length l < suc turns) tail room)) in
-      subst (IsPast next reached rest) (sym (walk-goes_on turns before now now met all (more ++ rest)
+      subst (λ (b : Both). IsPast next reached rest b.0 b.1) (sym (both-go_on turns before now now met all (more ++ rest)
       (onward (beside bring (said_after said s) x))
       (segment-brings before now s met all fill (more ++ rest) stands
       (subst (λ (l : List ℕ). MeetsFirst met all l) tail at)) refl)) r
@@ -331,8 +408,8 @@ module _ (array : Coefficients) (range : (index row column : ℕ) → Is8Bit (ar
       (subst (λ (l : List ℕ). length l < suc turns) tail room) in
       let k = length-append data_bytes (more ++ rest) in
       omega arith) in
-      subst (IsPast next reached rest)
-      (sym (walk-goes_on turns before now (beside bring later c.brought) met all n.after
+      subst (λ (b : Both). IsPast next reached rest b.0 b.1)
+      (sym (both-go_on turns before now (beside bring later c.brought) met all n.after
       (scan_turn now (beside bring later c.brought) (Some n.m))
       (turn ∙ sos-brings before now (header ++ (data_bytes ++ (more ++ rest)))
       ∙ ap (λ (l : List ℕ). scan_brought now (header ++ (data_bytes ++ l))) n.is

@@ -20,6 +20,7 @@ pub mod FrontReaders
 pub mod LongerBits
 pub mod LongerData
 pub mod LongerScans
+pub mod UnreadScans
 pub mod LongerSegments
 pub mod LongerRows
 pub mod LongerSamples
@@ -41,6 +42,7 @@ pub mod CutLater
 pub mod CutBlocks
 pub mod CutEnds
 pub mod CutFronts
+pub mod CutRows
 pub mod CutHeld
 pub mod CutSplits
 pub mod CutShown

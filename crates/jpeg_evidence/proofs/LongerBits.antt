@@ -1,6 +1,6 @@
 -- Bits bring the blocks that can be read of them, and more bits go on from there.
 use Rattle.std.proofs.Common.{rules, ◌≡◌, ℕ, zero, suc, ◌≤◌, Bool, List, [], ◌∷◌, ◌++◌, length, take, drop, arith, refl}
-use Rattle.std.proofs.Common.{sym, ap, ◌∙◌, subst, Ok, Err, Result, append_assoc}
+use Rattle.std.proofs.Common.{sym, ap, ◌∙◌, subst, Ok, Err, Result, append_assoc, Option, Some, slice_get}
 use Rattle.jpeg_bits.specs.Reading.{End, Fault}
 use Rattle.jpeg_bits.specs.Entropy.{Broken, Ending, Text}
 use Rattle.jpeg_bits.specs.Passes.{Pass, Via}
@@ -10,6 +10,7 @@ use Rattle.jpeg_segments.proofs.Codecs.{err-ok}
 use Rattle.jpeg_streams.specs.Brought.{reached_from}
 use Rattle.jpeg_streams.specs.InTurn.{Reached, turn_from, turns_from}
 use Rattle.jpeg_streams.specs.Order.{Spot}
+use Rattle.jpeg_streams.specs.WholeRows.{unread_from}
 use Rattle.jpeg_evidence.specs.LongerStreams.{GoesOn}
 use Rattle.jpeg_evidence.proofs.FrontReaders.{Front, TakesFront, bind-front, block-front, fault-read, gives-front}
 use Rattle.jpeg_evidence.proofs.FrontReaders.{own-read}
@@ -37,13 +38,20 @@ pub record CanRead (p : Pass) (vias : List Via) (spots : List Spot) (old : Reach
       → (after : Reached × Text)
       × (turns_from p vias (take count spots) old (text bits following (Broken End)) ≡ Ok after)
 
--- What is reached of these bits, all blocks that can be read, and that more bits go on from there.
+-- after the next block, the first that isn't read
+abbrev unread_after : Pass → List Via → Spot → List Spot → Result (Reached × Text) Fault → Option Spot
+unread_after p vias s spots o = elim o [ Ok r ↦ unread_from p vias spots r.0 r.1 | Err fault ↦ Some s ]
+
+-- What is reached of these bits, all blocks that can be read, that more bits go on from there, and the first block that
+-- isn't read.
 pub record Stops (p : Pass) (vias : List Via) (spots : List Spot) (old : Reached) (bits : List Bool) : Type 0 where
   pub end : After
   pub whole : (ps : List (List ℕ)) → reached_from p vias spots old (text bits ps (Broken End)) ≡ end
   pub goes : GoesOn p vias spots old bits end.0
   pub can : CanRead p vias spots old bits (length goes.done)
   pub most : (count : ℕ) → CanRead p vias spots old bits count → count ≤ length goes.done
+  pub unread : (ps : List (List ℕ))
+      → unread_from p vias spots old (text bits ps (Broken End)) ≡ slice_get spots (length goes.done)
 
 -- no block
 none-can : (p : Pass) (vias : List Via) (spots : List Spot) (old : Reached) (bits : List Bool)
@@ -68,13 +76,14 @@ none-goes p vias spots old bits = record {
 }
 
 none-stops : (p : Pass) (vias : List Via) (old : Reached) (bits : List Bool) → Stops p vias [] old bits
-unfolding reached_from none-goes
+unfolding reached_from unread_from none-goes
 none-stops p vias old bits = record {
   end = (old, Ok bits);
   whole = λ ps. refl;
   goes = none-goes p vias [] old bits;
   can = none-can p vias [] old bits;
   most = λ count c. c.are_there;
+  unread = λ ps. refl;
 }
 
 -- no block is read where the first has a fault
@@ -90,13 +99,14 @@ failed-most p vias s spots old bits g is (suc n) c =
 failed-stops : (p : Pass) (vias : List Via) (s : Spot) (spots : List Spot) (old : Reached) (bits : List Bool)
     (g : Fault) → ((ps : List (List ℕ)) → turn_from p vias s old (text bits ps (Broken End)) ≡ Err g)
     → Stops p vias (s ∷ spots) old bits
-unfolding reached_from none-goes
+unfolding reached_from unread_from none-goes
 failed-stops p vias s spots old bits g is = record {
   end = (old, Err g);
   whole = λ ps. ap (after_turn p vias spots old) (is ps);
   goes = none-goes p vias (s ∷ spots) old bits;
   can = none-can p vias (s ∷ spots) old bits;
   most = failed-most p vias s spots old bits g is;
+  unread = λ ps. ap (unread_after p vias s spots) (is ps);
 }
 
 -- the next block of bits that begin with its own
@@ -107,6 +117,14 @@ next-turn : (p : Pass) (vias : List Via) (s : Spot) (spots : List Spot) (old x :
 unfolding reached_from
 next-turn p vias s spots old x own rest bits ps e is r =
     ap (after_turn p vias spots old) (own-read (turn_from p vias s old) own rest bits x ps e is r)
+
+next-unread : (p : Pass) (vias : List Via) (s : Spot) (spots : List Spot) (old x : Reached) (own rest bits : List Bool)
+    (ps : List (List ℕ)) → bits ≡ own ++ rest → ReadsJust (turn_from p vias s old) own x
+    → unread_from p vias (s ∷ spots) old (text bits ps (Broken End))
+    ≡ unread_from p vias spots x (text rest (drop (length own) ps) (Broken End))
+unfolding unread_from
+next-unread p vias s spots old x own rest bits ps is r =
+    ap (unread_after p vias s spots) (own-read (turn_from p vias s old) own rest bits x ps (Broken End) is r)
 
 -- so many lists and these
 abbrev padded : List Bool → List (List ℕ) → List (List ℕ)
@@ -181,6 +199,7 @@ next-stops p vias s spots old x own left bits is r rest =
       };
       can = next-can p vias s spots old x own left bits (length g.done) is r rest.can;
       most = next-most p vias s spots old x own left bits is r (length g.done) rest.most;
+      unread = λ ps. next-unread p vias s spots old x own left bits ps is r ∙ rest.unread (drop (length own) ps);
     }
 
 pub stops : (p : Pass) (vias : List Via) (spots : List Spot) (old : Reached) (bits : List Bool)

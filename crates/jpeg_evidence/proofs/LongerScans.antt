@@ -29,7 +29,7 @@ abbrev pub next_reached : (Arrays → List ℕ → Scanned) → Arrays → Resul
 next_reached others arrays o = elim o [ Ok rest ↦ others arrays rest | Err fault ↦ (arrays, Err fault) ]
 
 -- these spots, and those of more intervals
-abbrev with_groups : List Spot → List (List Spot) → List Spot
+abbrev pub with_groups : List Spot → List (List Spot) → List Spot
 with_groups spots more = spots ++ flat_map (λ (g : List Spot). g) more
 
 pub after-same : (k : ℕ) (x : (Bool × Option Marker) × List ℕ) (b more : List ℕ) → after_interval k x ≡ Ok b
@@ -151,7 +151,7 @@ on-after P Q xs ys before middle shorter longer p m so back =
     }
 
 -- So many blocks of the first interval can be read; or it ends so, and so many of the others after it.
-abbrev Parts : (ℕ → Type 0) → (List ℕ → ℕ → Type 0) → ℕ → List Spot → Met → ℕ → Type 0
+abbrev pub Parts : (ℕ → Type 0) → (List ℕ → ℕ → Type 0) → ℕ → List Spot → Met → ℕ → Type 0
 Parts I O k spots o count =
     I count
     ⊎ ((b : List ℕ) × (c : ℕ) × (outcomes.◌>>=◌ o (after_interval k) ≡ Ok b) × (count ≡ length spots + c) × O b c)
@@ -231,11 +231,11 @@ pub data CanReach (p : Pass) (vias : List Via) : ℕ → List Spot → List (Lis
       → CanReach p vias (suc k) next groups (interval_reached p vias spots arrays bytes).0 left count
       → CanReach p vias k spots (next ∷ groups) arrays bytes (length spots + count)
 
-here-only : (p : Pass) (vias : List Via) (k : ℕ) (spots : List Spot) (arrays : Arrays) (bytes : List ℕ) (count : ℕ)
+pub here-only : (p : Pass) (vias : List Via) (k : ℕ) (spots : List Spot) (arrays : Arrays) (bytes : List ℕ) (count : ℕ)
     → CanReach p vias k spots [] arrays bytes count → CanReadOf p vias spots arrays bytes count
 here-only p vias k spots arrays bytes count (here k' spots' groups' arrays' bytes' count' c) = c
 
-here-or-later : (p : Pass) (vias : List Via) (k : ℕ) (spots next : List Spot) (groups : List (List Spot))
+pub here-or-later : (p : Pass) (vias : List Via) (k : ℕ) (spots next : List Spot) (groups : List (List Spot))
     (arrays : Arrays) (bytes : List ℕ) (count : ℕ) → CanReach p vias k spots (next ∷ groups) arrays bytes count
     → Parts (CanReadOf p vias spots arrays bytes)
     (CanReach p vias (suc k) next groups (interval_reached p vias spots arrays bytes).0) k spots

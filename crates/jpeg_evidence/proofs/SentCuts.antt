@@ -122,7 +122,7 @@ cut_scans_have_what_was_sent frame restart p codings array bytes w levels before
     }
 
 -- Before a sequential scan zeros are kept, and after it the coefficients.
-complete-after : IsComplete (sent_after whole_pass nothing_sent)
+pub complete-after : IsComplete (sent_after whole_pass nothing_sent)
 complete-after = record { dc = refl; acs = all-same (Some 0) 63 }
 
 pub sequential_levels : (c : Block) → Is8Bit c

@@ -1,7 +1,7 @@
 -- Streams of a writer that are cut: what stands whole in front of the cut, and what is brought of
 -- the scan in whose data the cut is.
-use Rattle.std.specs.Prelude.{◌≡◌, ℕ, ◌/◌, ◌%◌, true, List, [], ◌++◌, length, get_or, slice_get}
-use Rattle.std.specs.Prelude.{Some, None, Result, Ok, replicate, slice_index_or, unwrap_or}
+use Rattle.std.specs.Prelude.{◌≡◌, ℕ, ◌/◌, ◌%◌, true, List, [], ◌∷◌, ◌++◌, length, get_or}
+use Rattle.std.specs.Prelude.{slice_get, Some, None, Result, Ok, replicate, slice_index_or, unwrap_or}
 use Rattle.std.specs.List.{enumerate_from}
 use Rattle.jpeg_bits.specs.Passes.{zero_block}
 use Rattle.jpeg_bits.specs.Reading.{Fault, ◌>>=◌}
@@ -22,7 +22,8 @@ use Rattle.jpeg_streams.specs.SaidSegments.{Stands}
 use Rattle.jpeg_streams.specs.Scans.{Arrays, block_at}
 use Rattle.jpeg_streams.specs.ScanSegments.{Coding, after_scan, arrays_before, components_of}
 use Rattle.jpeg_streams.specs.ScanSegments.{is_progressive, pass_of}
-use Rattle.jpeg_streams.specs.WrittenImages.{MayStandInImage, WritesImageScan}
+use Rattle.jpeg_streams.specs.WholeRows.{rows_above}
+use Rattle.jpeg_streams.specs.WrittenImages.{ClosesImage, MayStandInImage, WritesImageScan}
 use Rattle.jpeg_streams.specs.WrittenScans.{Coefficients, IsOwn}
 use Rattle.jpeg_streams.specs.WrittenStreams.{Writes}
 use Rattle.jpeg_evidence.specs.FirstBlocks.{IsMost, StandWhole}
@@ -72,6 +73,20 @@ pub record BringsFront (array : Coefficients) (said : Said) (levels : ℕ → Le
   pub is_said : found.said ≡ said
   pub keeps : (frame : Frame) → said.frame ≡ Some frame → KeepsOwn array levels frame found
 
+-- ---- the rows that are complete
+
+-- The rows of the picture above the row of MCUs of the first of these blocks of a scan; all rows
+-- where there is no block.
+abbrev pub rows_before : Frame → List Component → List Spot → ℕ
+rows_before frame components [] = frame.output_height
+rows_before frame components (s ∷ others) = rows_above frame components s
+
+-- So many rows of the picture are complete: these, where the image might be closed here, since each
+-- component has what its picture is made of; and else none.
+pub record HasRows (said : Said) (levels : ℕ → Levels) (these : Frame → ℕ) (rows : ℕ) : Type 0 where
+  pub closed : (c : ClosesImage said levels (marker 0 217 [])) → rows ≡ these c.frame
+  pub lacking : (ClosesImage said levels (marker 0 217 []) → ⊥) → rows ≡ 0
+
 -- ---- the blocks that a cut stream holds
 
 -- The block of a component, in a row and a column, is at one of these spots of a scan.
@@ -98,18 +113,21 @@ pub data IsPartOfNext (said : Said) : List ℕ → Type 0 where
       → IsPartOfNext said (marker fill 218 part)
   of_end : (fill : ℕ) → IsPartOfNext said (marker fill 217 [])
 
--- The blocks of an image that a stream holds which is cut, and what it has said. Its whole segments
--- and scans in front have said and sent so much, and only a part of the next segment comes after
--- them. Or a scan comes next that is cut inside its data: then the first of its blocks are there,
--- at the levels after it, those whose data stand whole in these bytes and no more.
-pub data HoldsCut (array blocks : Coefficients) : List ℕ → Said → Type 0 where
-  in_segment : (first rest : List ℕ) (said : Said) (levels : ℕ → Levels)
+-- The blocks of an image that a stream holds which is cut, what it has said, and how many rows of
+-- the picture are complete. Its whole segments and scans in front have said and sent so much, and
+-- only a part of the next segment comes after them: then all rows are complete. Or a scan comes
+-- next that is cut inside its data: then the first of its blocks are there, at the levels after it,
+-- those whose data stand whole in these bytes and no more; and the rows above the others are
+-- complete.
+pub data HoldsCut (array blocks : Coefficients) : List ℕ → Said → ℕ → Type 0 where
+  in_segment : (first rest : List ℕ) (said : Said) (levels : ℕ → Levels) (rows : ℕ)
       → WritesFront array said levels first → IsPartOfNext said rest
       → ((index row column : ℕ)
       → blocks index row column ≡ cut (levels index) (array index row column))
-      → HoldsCut array blocks (first ++ rest) said
+      → HasRows said levels (λ frame. frame.output_height) rows
+      → HoldsCut array blocks (first ++ rest) said rows
   in_scan : (first : List ℕ) (said : Said) (levels next : ℕ → Levels) (frame : Frame) (fill : ℕ)
-      (h : ScanHeader) (data_bytes more : List ℕ) (done others : List Spot)
+      (h : ScanHeader) (data_bytes more : List ℕ) (done others : List Spot) (rows : ℕ)
       → WritesFront array said levels first → said.frame ≡ Some frame → IsScan frame h
       → (scan : WritesImageScan array said levels frame h (data_bytes ++ more) next)
       → (more ≡ [] → ⊥) → spots_of frame (components_of scan.codings) ≡ done ++ others
@@ -119,9 +137,11 @@ pub data HoldsCut (array blocks : Coefficients) : List ℕ → Said → Type 0 w
       → blocks index row column ≡ cut (next index) (array index row column))
       → ((index row column : ℕ) → (HasBlock scan.codings done index row column → ⊥)
       → blocks index row column ≡ cut (levels index) (array index row column))
+      → HasRows (record said { scanned = true }) next
+      (λ frame. rows_before frame (components_of scan.codings) others) rows
       → HoldsCut array blocks
       (first ++ marker fill 218 (with_length (scan_payload h) ++ data_bytes))
-      (record said { scanned = true })
+      (record said { scanned = true }) rows
 
 -- ---- the picture
 

@@ -16,6 +16,7 @@ ghost use Rattle.jpeg_streams.specs.SaidSegments.{Stands};
 ghost use Rattle.jpeg_streams.specs.ScanSegments.{Coding, components_of, pass_of};
 ghost use Rattle.jpeg_streams.specs.Shown.{Shown, shown};
 ghost use Rattle.jpeg_streams.specs.Stream.{told_of};
+ghost use Rattle.jpeg_streams.specs.WholeRows.{whole_rows};
 ghost use Rattle.jpeg_streams.specs.WrittenImages.{WritesImage, WritesImageScan};
 ghost use Rattle.jpeg_streams.specs.WrittenScans.{Coefficients, WritesScan};
 ghost use Rattle.jpeg_streams.specs.declared.settings.Settings.{Settings};
@@ -82,7 +83,9 @@ pub fn first_byte_has_a_block()
 /// cut, shows the picture of the blocks that it holds, if it shows one. These are the coefficients
 /// at the levels that the whole scans in it have sent; and of a scan that is cut inside its data,
 /// the first blocks at the levels after this scan, exactly those whose data stand whole in front of
-/// the cut. A component of which nothing has come is zeros.
+/// the cut. A component of which nothing has come is zeros. The number of complete rows is that of
+/// the rows above the row of MCUs of the first block that this scan lacks, or of all rows; and 0 if
+/// a component lacks what its picture is made of, so that the image couldn't be closed there.
 pub fn cut_images_show_what_was_sent()
     ensures { (settings : Settings) (array : Coefficients) (image front more : List ℕ)
         (final : Said) (last : ℕ → Levels)
@@ -90,7 +93,7 @@ pub fn cut_images_show_what_was_sent()
         → WritesImage array image final last → image ≡ front ++ more
         → (s : Shown) → shown settings front ≡ Ok s
         → (part : List ℕ) × (front ≡ 255 ∷ 216 ∷ part) × (said : Said) × (blocks : Coefficients)
-        × HoldsCut array blocks part said × (s.told ≡ told_of said)
+        × HoldsCut array blocks part said (whole_rows front) × (s.told ≡ told_of said)
         × (picture_held settings said blocks ≡ Ok s.picture) }
 {}
 

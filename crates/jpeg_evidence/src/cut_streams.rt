@@ -5,14 +5,16 @@ ghost use Rattle.std.specs.Prelude.{replicate, take};
 ghost use Rattle.std.specs.List.{concat};
 ghost use Rattle.jpeg_bits.specs.Reading.{Fault, Malformed, End};
 ghost use Rattle.jpeg_segments.specs.Frame.{Frame};
+ghost use Rattle.jpeg_streams.specs.ScanSegments.{components_of};
 ghost use Rattle.jpeg_streams.specs.Shown.{Shown, shown};
 ghost use Rattle.jpeg_streams.specs.Stream.{meaning};
 ghost use Rattle.jpeg_streams.specs.WholeRows.{whole_rows};
 ghost use Rattle.jpeg_streams.specs.Worked.{eight_times, picture_meant, scanned_twice, stream_with};
 ghost use Rattle.jpeg_streams.specs.declared.settings.Settings.{Settings};
 ghost use Rattle.jpeg_evidence.specs.EarlyEnds.{StreamEndsEarly};
-ghost use Rattle.jpeg_evidence.specs.CutStreams.{block_below, lines_of_samples, one_of_three};
-ghost use Rattle.jpeg_evidence.specs.CutStreams.{run_at_end, seen};
+ghost use Rattle.jpeg_evidence.specs.CutImages.{rows_before};
+ghost use Rattle.jpeg_evidence.specs.CutStreams.{block_below, codings_of_two, frame_of_two};
+ghost use Rattle.jpeg_evidence.specs.CutStreams.{lines_of_samples, one_of_three, run_at_end, seen};
 ghost use Rattle.jpeg_evidence.specs.CutStreams.{seen_sized, three_refined, two_blocks, two_lines};
 ghost use Rattle.jpeg_evidence.specs.CutStreams.{two_lines_twice, two_rows_of_mcus, unread_bits};
 ghost use Rattle.jpeg_evidence.specs.CutStreams.{unread_end, without_last, wrong_restart};
@@ -113,13 +115,17 @@ pub fn other_faults_cut()
 {}
 
 /// The rows of the picture above the row of MCUs that lacks a block: with two blocks beside each
-/// other none, and with one below the other those of the first. A whole stream has all.
+/// other none, and with one below the other those of the first. A whole stream has all. Those above
+/// the second of the latter, by the frame and its component alone, are as many.
 #[tactic(auto, unfolding(crate::proofs::OnLiterals::rows_on_literals))]
 pub fn rows_above_a_block_count()
     ensures whole { whole_rows block_below ≡ 16 }
     ensures beside { whole_rows (without_last 3 two_blocks) ≡ 0 }
     ensures below { whole_rows (without_last 3 block_below) ≡ 8 }
     ensures one_of_three { whole_rows one_of_three ≡ 0 }
+    ensures second { rows_before frame_of_two (components_of codings_of_two)
+        (record { slot = 0; index = 1 } ∷ []) ≡ 8 }
+    ensures none { rows_before frame_of_two (components_of codings_of_two) [] ≡ 16 }
 {}
 
 /// And those of whole lines of samples: of a scan that is cut in its second line, or has a wrong
