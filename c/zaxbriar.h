@@ -246,6 +246,9 @@ typedef struct zaxbriar_picture {
                                 Otherwise how many were read: 0 if the options don't exist */
     uint32_t width;          /* in pixels, at the scale of the options */
     uint32_t height;
+    uint32_t whole_rows;      /* after ZAXBRIAR_PARTIAL, and ZAXBRIAR_OK of zaxbriar_decode_partial:
+                                 how many rows of the picture, from its top, are complete in each
+                                 scan that has begun (all after ZAXBRIAR_OK); otherwise 0 */
     uint8_t pixel_bytes;      /* bytes of a pixel in this layout */
     uint8_t layout;           /* the requested layout */
     uint8_t components;       /* of the stream: 1, 3 or 4 */
@@ -275,7 +278,7 @@ typedef struct zaxbriar_picture {
                                  ZAXBRIAR_TRANSFORM_OF_STREAM, unless such a segment follows. NONE
                                  for grey and lossless pictures, and 0 for libjpeg's big gamut
                                  colours, which aren't decoded */
-    uint8_t reserved[19];     /* zero */
+    uint8_t reserved[15];     /* zero */
     char text[112];           /* why the call failed, or the fault of a partial picture, in English,
                                  ending with a zero; "" after OK */
 } zaxbriar_picture;
@@ -297,8 +300,8 @@ ZAXBRIAR_CALL zaxbriar_result zaxbriar_decode(const void *jpeg, size_t jpeg_size
 
 /* Decodes as zaxbriar_decode does, but also a stream that is truncated or damaged: then `pixels`
  * gets the picture of what the stream brings up to its first fault, and the call returns
- * ZAXBRIAR_PARTIAL. What no scan has brought is mid-grey. ZAXBRIAR_OK means that the stream has no
- * fault.
+ * ZAXBRIAR_PARTIAL. What no scan has brought is mid-grey; the first `whole_rows` rows are complete.
+ * ZAXBRIAR_OK means that the stream has no fault.
  *
  * MALFORMED, UNSUPPORTED and TRUNCATED are for streams without a frame header that can be decoded,
  * and for a transform that doesn't fit the picture. All other values are as for zaxbriar_decode.

@@ -133,6 +133,9 @@ static void in_part(const unsigned char *jpeg, size_t size, const zaxbriar_optio
     else
         CHECK(is_all(pixels.start, room, 0x5A));
     CHECK((picture.fault != 0) == (part == ZAXBRIAR_PARTIAL));
+    uint32_t most_rows = part == ZAXBRIAR_OK || part == ZAXBRIAR_PARTIAL ? picture.height : 0;
+    CHECK(picture.whole_rows <= most_rows);
+    if (part == ZAXBRIAR_OK) CHECK(picture.whole_rows == picture.height);
     /* and the data of a restart interval */
     if (part == ZAXBRIAR_OK || part == ZAXBRIAR_PARTIAL)
         take_beside(picture.decoding_bytes, 2 * size, picture.width);

@@ -239,10 +239,11 @@ static zaxbriar_result decode_partial(const unsigned char *jpeg, size_t size,
     return zaxbriar_decode_partial(jpeg, size, &options, pixels, room, &picture);
 }
 
-/* Whether the picture of `grey` is described beside this fault. */
-static int is_partial(zaxbriar_result fault) {
-    return picture.width == 8 && picture.fault == fault && picture.text[0] != 0 &&
-           is_all(picture.reserved, sizeof picture.reserved, 0);
+/* Whether the picture of `grey` is described beside this fault, with so many rows that are
+ * complete. */
+static int is_partial(zaxbriar_result fault, uint32_t rows) {
+    return picture.width == 8 && picture.fault == fault && picture.whole_rows == rows &&
+           picture.text[0] != 0 && is_all(picture.reserved, sizeof picture.reserved, 0);
 }
 
 /* A whole stream, and one that is cut: in its scan header, before and after its only block, after
@@ -253,17 +254,43 @@ static void cut_streams(void) {
     CHECK(decode_partial(grey, sizeof grey, none, 65) == ZAXBRIAR_OK);
     CHECK(is_all(pixels, 64, 0x81) && pixels[64] == 7);
     CHECK(picture.fault == 0 && picture.text[0] == 0 && picture.stream_bytes == 141);
+    CHECK(picture.whole_rows == 8);
     for (size_t size = GREY_HEADER; size < sizeof grey; size++) {
         unsigned char *cut = block(size);
         memcpy(cut, grey, size);
         CHECK(decode_partial(cut, size, none, 65) == ZAXBRIAR_PARTIAL);
-        CHECK(is_partial(ZAXBRIAR_TRUNCATED) && picture.feature == ZAXBRIAR_NO_FEATURE);
-        CHECK(is_all(pixels, 64, size <= BLOCK ? 0x80 : 0x81) && pixels[64] == 7);
+        int is_there = size > BLOCK;
+        CHECK(is_partial(ZAXBRIAR_TRUNCATED, is_there ? 8 : 0));
+        CHECK(picture.feature == ZAXBRIAR_NO_FEATURE);
+        CHECK(is_all(pixels, 64, is_there ? 0x81 : 0x80) && pixels[64] == 7);
         free(cut);
     }
     CHECK(decode_partial(grey, GREY_HEADER - 1, none, 65) == ZAXBRIAR_TRUNCATED);
-    CHECK(picture.fault == 0 && picture.width == 0 && is_all(pixels, 65, 7));
+    CHECK(picture.fault == 0 && picture.width == 0 && picture.whole_rows == 0);
+    CHECK(is_all(pixels, 65, 7));
     CHECK(zaxbriar_decode_partial(grey, SCAN_HEADER, NULL, pixels, 64, NULL) == ZAXBRIAR_PARTIAL);
+}
+
+/* A picture of two blocks, one below the other, of which the second lacks. */
+static void lower_block_lacks(void) {
+    enum { HEIGHT = 77 };
+    zaxbriar_options none = {0}, half = {.scale = 2}, rgb = {.layout = ZAXBRIAR_RGB, .scale = 8};
+    unsigned char stream[sizeof grey];
+    memcpy(stream, grey, sizeof grey);
+    stream[HEIGHT] = 16;
+    CHECK(decode_partial(stream, sizeof stream, none, 128) == ZAXBRIAR_PARTIAL);
+    CHECK(picture.height == 16 && picture.whole_rows == 8 && picture.fault != 0);
+    CHECK(is_all(pixels, 64, 0x81) && is_all(pixels + 64, 64, 0x80));
+    CHECK(decode_partial(stream, sizeof stream, half, 128) == ZAXBRIAR_PARTIAL);
+    CHECK(picture.height == 8 && picture.whole_rows == 4);
+    CHECK(is_all(pixels, 16, 0x81) && is_all(pixels + 16, 16, 0x80));
+    CHECK(decode_partial(stream, sizeof stream, rgb, 128) == ZAXBRIAR_PARTIAL);
+    CHECK(picture.height == 2 && picture.whole_rows == 1);
+    CHECK(decode_partial(stream, sizeof stream, none, 127) == ZAXBRIAR_NO_ROOM);
+    CHECK(picture.height == 16 && picture.whole_rows == 0);
+    CHECK(zaxbriar_read_info(stream, sizeof stream, NULL, &picture) == ZAXBRIAR_OK);
+    CHECK(picture.height == 16 && picture.whole_rows == 0);
+    CHECK(decode(grey, sizeof grey, none, 64) == ZAXBRIAR_OK && picture.whole_rows == 0);
 }
 
 /* Other faults, of which one names a feature. */
@@ -274,14 +301,14 @@ static void damaged_streams(void) {
     memcpy(stream, grey, sizeof grey);
     memcpy(stream + sizeof grey - 2, lines, sizeof lines);
     CHECK(decode_partial(stream, sizeof stream, none, 64) == ZAXBRIAR_PARTIAL);
-    CHECK(is_partial(ZAXBRIAR_UNSUPPORTED) && is_all(pixels, 64, 0x81));
+    CHECK(is_partial(ZAXBRIAR_UNSUPPORTED, 8) && is_all(pixels, 64, 0x81));
     CHECK(picture.feature == ZAXBRIAR_FEATURE_DNL && picture.feature_argument == 0);
     memcpy(stream, grey, sizeof grey);
     memcpy(stream + GREY_HEADER, "\xff\xdb\0\1", 4); /* no length is below 2 */
     CHECK(decode_partial(stream, sizeof grey, none, 64) == ZAXBRIAR_PARTIAL);
-    CHECK(is_partial(ZAXBRIAR_MALFORMED) && is_all(pixels, 64, 0x80));
+    CHECK(is_partial(ZAXBRIAR_MALFORMED, 0) && is_all(pixels, 64, 0x80));
     CHECK(decode_partial((const unsigned char *)"GIF89a", 6, none, 64) == ZAXBRIAR_MALFORMED);
-    CHECK(picture.fault == 0 && is_all(pixels, 65, 7));
+    CHECK(picture.fault == 0 && picture.whole_rows == 0 && is_all(pixels, 65, 7));
 }
 
 /* A cut stream with gaps, in another layout, in too little room, and above a limit. */
@@ -289,7 +316,7 @@ static void cut_with_options(void) {
     for (uint8_t layout = ZAXBRIAR_AS_STORED; layout <= ZAXBRIAR_GREY; layout++) {
         zaxbriar_options options = {.layout = layout, .stride = 9};
         CHECK(decode_partial(grey, GREY_HEADER, options, 80) == ZAXBRIAR_PARTIAL);
-        CHECK(is_partial(ZAXBRIAR_TRUNCATED) && picture.size == 71);
+        CHECK(is_partial(ZAXBRIAR_TRUNCATED, 0) && picture.size == 71);
         for (uint64_t x = 0; x < 80; x++)
             CHECK(pixels[x] == (x < picture.size && x % 9 < 8 ? 0x80 : 7));
     }
@@ -298,11 +325,15 @@ static void cut_with_options(void) {
     CHECK(decode_partial(grey, GREY_HEADER, rgb, 192) == ZAXBRIAR_PARTIAL);
     CHECK(is_all(pixels, 192, 0x80) && pixels[192] == 7);
     CHECK(decode_partial(grey, GREY_HEADER, eighth, 1) == ZAXBRIAR_PARTIAL && pixels[0] == 0x80);
+    CHECK(decode_partial(grey, sizeof grey - 1, eighth, 1) == ZAXBRIAR_PARTIAL);
+    CHECK(picture.whole_rows == 1 && pixels[0] == 0x81);
     CHECK(decode_partial(grey, GREY_HEADER, rgb, 191) == ZAXBRIAR_NO_ROOM);
-    CHECK(picture.size == 192 && picture.fault == 0 && is_all(pixels, 193, 7));
+    CHECK(picture.size == 192 && picture.fault == 0 && picture.whole_rows == 0);
+    CHECK(is_all(pixels, 193, 7));
     CHECK(picture.stream_bytes == GREY_HEADER);
     CHECK(decode_partial(grey, GREY_HEADER, above, 64) == ZAXBRIAR_TOO_LARGE);
-    CHECK(picture.width == 8 && picture.fault == 0 && is_all(pixels, 64, 7));
+    CHECK(picture.width == 8 && picture.fault == 0 && picture.whole_rows == 0);
+    CHECK(is_all(pixels, 64, 7));
     CHECK(decode_partial(grey, sizeof grey, above, 64) == ZAXBRIAR_TOO_LARGE);
 }
 
@@ -609,6 +640,7 @@ int main(void) {
     without_conversion();
     limits();
     cut_streams();
+    lower_block_lacks();
     damaged_streams();
     cut_with_options();
     densities();

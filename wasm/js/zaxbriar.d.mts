@@ -182,6 +182,11 @@ export interface DecodedPicture {
 
 /** The picture that a stream has brought up to its first fault, and that fault. */
 export interface PartialPicture extends DecodedPicture {
+    /**
+     * How many rows of the picture, from its top, are complete in each scan that has begun: all
+     * rows if the stream has no fault.
+     */
+    wholeRows: number;
     fault: ZaxbriarError | null;
 }
 
@@ -212,8 +217,8 @@ export class Zaxbriar {
 
     /**
      * Decodes the picture. `pixels` is a copy, outside the module's memory. With `partial`, `fault`
-     * is the first fault of the stream, or null if it has none; a stream whose header can't be
-     * decoded is refused all the same.
+     * is the first fault of the stream, or null if it has none, and `wholeRows` is how many rows
+     * are complete; a stream whose header can't be decoded is refused all the same.
      */
     decode(jpeg: Bytes, options: PartialOptions): PartialPicture;
     decode(jpeg: Bytes, options?: Options & { partial?: false }): DecodedPicture;

@@ -50,11 +50,12 @@ const CODES = [
 /* The structs zaxbriar_options and zaxbriar_picture of c/zaxbriar.h. */
 const OPTIONS_BYTES = 48;
 const PICTURE_BYTES = 192;
-const FEATURE_AT = 48;
-const SAMPLING_AT = 50;
-const FAULT_AT = 54;
-const DENSITY_AT = 55;
-const TRANSFORM_AT = 60;
+const WHOLE_ROWS_AT = 40;
+const FEATURE_AT = 52;
+const SAMPLING_AT = 54;
+const FAULT_AT = 58;
+const DENSITY_AT = 59;
+const TRANSFORM_AT = 64;
 const TEXT_AT = 80;
 const TEXT_BYTES = 112;
 
@@ -218,8 +219,8 @@ export class Zaxbriar {
     #picture(at) {
         const view = new DataView(this.#exports.memory.buffer, at, PICTURE_BYTES);
         const long = (place) => Number(view.getBigUint64(place, true));
-        const layout = view.getUint8(41);
-        const components = view.getUint8(42);
+        const layout = view.getUint8(45);
+        const components = view.getUint8(46);
         const transform = view.getUint8(TRANSFORM_AT);
         return {
             width: view.getUint32(32, true),
@@ -228,14 +229,14 @@ export class Zaxbriar {
             rowBytes: long(8),
             decodingBytes: long(16),
             streamBytes: long(24),
-            pixelBytes: view.getUint8(40),
+            pixelBytes: view.getUint8(44),
             layout: nameOf(LAYOUTS, layout),
             components,
-            precision: view.getUint8(43),
-            sampleBytes: view.getUint8(44),
-            process: PROCESSES[view.getUint8(45)],
-            orientation: view.getUint8(46),
-            format: FORMATS[view.getUint8(47)],
+            precision: view.getUint8(47),
+            sampleBytes: view.getUint8(48),
+            process: PROCESSES[view.getUint8(49)],
+            orientation: view.getUint8(50),
+            format: FORMATS[view.getUint8(51)],
             sampling: Array.from(this.#bytes(at + SAMPLING_AT, components), factorsOf),
             density: {
                 unit: view.getUint8(DENSITY_AT),
@@ -304,9 +305,11 @@ export class Zaxbriar {
             // (engines fill what `slice` gives with zeros first, which takes as long as the copy)
             const view = new Uint8ClampedArray(this.#exports.memory.buffer, pixels, size);
             const decoded = { picture: this.#picture(at), pixels: new Uint8ClampedArray(view) };
+            if (!isPartial) return decoded;
             const [fault] = this.#bytes(at + FAULT_AT, 1);
-            if (isPartial) decoded.fault = fault ? this.#error(fault, at) : null;
-            return decoded;
+            const struct = new DataView(this.#exports.memory.buffer, at, PICTURE_BYTES);
+            const wholeRows = struct.getUint32(WHOLE_ROWS_AT, true);
+            return { ...decoded, wholeRows, fault: fault ? this.#error(fault, at) : null };
         });
     }
 

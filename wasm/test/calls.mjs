@@ -224,15 +224,19 @@ const { decodingBytes } = whole.picture;
 assert.ok(decodingBytes > picture.decodingBytes);
 assert.equal(whole.fault, null);
 assert.deepEqual([whole.picture, whole.pixels], [{ ...picture, decodingBytes }, pixels]);
+assert.equal(whole.wholeRows, picture.height);
 assert.deepEqual(partly(jpeg, { maxBytes: decodingBytes }).pixels, pixels);
 assert.throws(() => partly(jpeg, { maxBytes: decodingBytes - 1 }), code('TOO_LARGE'));
-assert.ok(!('fault' in zaxbriar.decode(jpeg, { partial: false })));
+const entire = zaxbriar.decode(jpeg, { partial: false });
+assert.ok(!('fault' in entire) && !('wholeRows' in entire));
 for (let length = scan; length < jpeg.length; length++) {
     const part = partly(jpeg.subarray(0, length));
     assert.ok(code('TRUNCATED')(part.fault) && part.fault.message && !('feature' in part.fault));
     assert.deepEqual({ ...part.picture, streamBytes: jpeg.length }, whole.picture);
     if (length < scan + 12) assert.ok(part.pixels.every((sample) => sample === 128));
+    if (length < scan + 12) assert.equal(part.wholeRows, 0);
     if (length >= jpeg.length - 2) assert.deepEqual(part.pixels, pixels);
+    if (length >= jpeg.length - 2) assert.equal(part.wholeRows, picture.height);
 }
 assert.ok(unsupported('dnl')(partly(withLines).fault));
 assert.deepEqual(partly(withLines, { layout: 'bgr' }).pixels, laidOut([2, 1, 0]));

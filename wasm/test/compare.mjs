@@ -79,10 +79,14 @@ class Written {
     /* A description, or a refusal; for PARTIAL a description, and the fault after it. */
     description(answer) {
         const struct = this.take(192);
-        if (answer === PARTIAL) return pictureOf(struct) + refusalOf(struct[54], struct);
-        return answer ? refusalOf(answer, struct) : pictureOf(struct);
+        if (answer && answer !== PARTIAL) return refusalOf(answer, struct);
+        const described = pictureOf(struct) + rowsText(struct.readUInt32LE(40));
+        return answer ? described + refusalOf(struct[58], struct) : described;
     }
 }
+
+/* How many rows of a picture in part are complete, if any are. */
+const rowsText = (rows = 0) => (rows ? ` with ${rows} rows` : '');
 
 /* A picture, as the module describes it. */
 function pictureOf(struct) {
@@ -94,24 +98,24 @@ function pictureOf(struct) {
         rowBytes: long(8),
         decodingBytes: long(16),
         streamBytes: long(24),
-        pixelBytes: struct[40],
-        layout: LAYOUTS[struct[41]],
-        components: struct[42],
-        precision: struct[43],
-        sampleBytes: struct[44],
-        process: PROCESSES[struct[45]],
-        orientation: struct[46],
-        format: FORMATS[struct[47]],
-        sampling: [...struct.subarray(50, 50 + struct[42])].map((byte) => ({
+        pixelBytes: struct[44],
+        layout: LAYOUTS[struct[45]],
+        components: struct[46],
+        precision: struct[47],
+        sampleBytes: struct[48],
+        process: PROCESSES[struct[49]],
+        orientation: struct[50],
+        format: FORMATS[struct[51]],
+        sampling: [...struct.subarray(54, 54 + struct[46])].map((byte) => ({
             horizontal: byte >> 4,
             vertical: byte % 16,
         })),
         density: {
-            unit: struct[55],
-            horizontal: struct.readUInt16LE(56),
-            vertical: struct.readUInt16LE(58),
+            unit: struct[59],
+            horizontal: struct.readUInt16LE(60),
+            vertical: struct.readUInt16LE(62),
         },
-        colorTransform: struct[60] === 0 ? null : TRANSFORMS[struct[60]],
+        colorTransform: struct[64] === 0 ? null : TRANSFORMS[struct[64]],
     });
 }
 
@@ -121,7 +125,7 @@ const words = (code, feature, argument, text) =>
 
 /* The refusal of an answer and its struct. */
 function refusalOf(answer, struct) {
-    const [feature, argument] = struct.subarray(48);
+    const [feature, argument] = struct.subarray(52);
     const text = struct.subarray(80);
     return words(
         CODES[answer],
@@ -160,7 +164,10 @@ function compareDecoding(name, what, jpeg, options, written) {
     const pixels = written.take(written.long());
     const mine = outcome(() => zaxbriar.decode(jpeg, options));
     const fault = mine.fault ? refusedBy(mine.fault) : '';
-    const told = typeof mine === 'string' ? mine : JSON.stringify(mine.picture) + fault;
+    const told =
+        typeof mine === 'string'
+            ? mine
+            : JSON.stringify(mine.picture) + rowsText(mine.wholeRows) + fault;
     if (told !== described) {
         differs(name, what, told, described);
     } else if (typeof mine === 'string') {

@@ -69,14 +69,13 @@ function isPicture({ picture, pixels }, answer) {
     );
 }
 
-/* Whether what there is of a stream is that of an answer, and its fault too. (The module doesn't
- * return how many rows are whole.) */
-function isPartial({ picture, pixels, fault }, answer) {
-    const [, whole, name] = answer.match(/^(.*), rows \d+, fault (.*)$/s);
+/* Whether what there is of a stream is that of an answer, and its rows and its fault too. */
+function isPartial({ picture, pixels, wholeRows, fault }, answer) {
+    const [, whole, rows, name] = answer.match(/^(.*), rows (\d+), fault (.*)$/s);
     const isFault = fault
         ? isRefusal({ refused: fault.message, error: fault }, `refused: ${name}`, false)
         : name === 'none';
-    return isFault && isPicture({ picture, pixels }, whole);
+    return isFault && wholeRows === Number(rows) && isPicture({ picture, pixels }, whole);
 }
 
 function isMetadata(found, answer) {

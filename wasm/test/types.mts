@@ -53,12 +53,15 @@ if (picture.density.unit === 'inch') throw new Error();
 // @ts-expect-error
 if (picture.colorTransform === 'stream') throw new Error();
 
-// What there is of a stream, and its fault.
+// What there is of a stream, its rows that are complete, and its fault.
 const part: PartialPicture = zaxbriar.decode(streams[0], { partial: true, layout: 'grey' });
+const rows: number = part.wholeRows;
 const fault: string = part.fault?.code ?? 'none';
 const strict = zaxbriar.decode(streams[0], { partial: false });
 // @ts-expect-error
 strict.fault;
+// @ts-expect-error
+strict.wholeRows;
 // @ts-expect-error
 part.fault.code;
 // @ts-expect-error
@@ -94,4 +97,4 @@ try {
 zaxbriar.memoryBytes = 0;
 const version: string = zaxbriar.version;
 export { bits, columns, data, described, feature, fetched, file, format, ink, layout, length };
-export { fault, inches, planes, profile, samples, strict, version };
+export { fault, inches, planes, profile, rows, samples, strict, version };

@@ -61,6 +61,7 @@ class Picture(Structure):
         ("stream_bytes", c_uint64),
         ("width", c_uint32),
         ("height", c_uint32),
+        ("whole_rows", c_uint32),
         ("pixel_bytes", c_uint8),
         ("layout", c_uint8),
         ("components", c_uint8),
@@ -76,7 +77,7 @@ class Picture(Structure):
         ("density_unit", c_uint8),
         ("horizontal_density", c_uint16),
         ("vertical_density", c_uint16),
-        ("reserved", c_uint8 * 20),
+        ("reserved", c_uint8 * 16),
         ("text", c_char * 112),
     ]
 

@@ -1,7 +1,7 @@
 use crate::color::{transform_number, ColorTransform};
 use crate::error::{Error, Result, UnsupportedFeature};
 use crate::info::{size_of, Density, ImageInfo, Scale};
-use crate::library::{self, Answer, Metadata, Options, Picture, Refusal};
+use crate::library::{self, Answer, Metadata, Options, Part, Picture, Refusal};
 use crate::stream::Stream;
 use std::io::{self, Read};
 use std::ops::Range;
@@ -20,6 +20,9 @@ enum Stage {
 pub struct PartialPicture {
     /// The picture, as [`Decoder::decode`] returns it. What no scan has brought is mid-grey.
     pub pixels: Vec<u8>,
+    /// The number of rows, from the top, that come of rows of MCUs that are wholly there: of each
+    /// scan that was begun. All rows if the stream has no fault.
+    pub whole_rows: u16,
     /// The first fault of the stream, or none if it is whole.
     pub fault: Option<Error>,
 }
@@ -197,9 +200,9 @@ impl<R: Read> Decoder<R> {
     /// [`decode`](Decoder::decode) refuses.
     ///
     /// The blocks before the fault count, in a progressive picture those of all scans before it;
-    /// what no scan has brought is mid-grey. A lossless scan counts if all of it is there. A marker
-    /// in place of blocks is a fault, where `decode` takes zeros for the bits that are lacking. An
-    /// error of the reader is a fault of the stream, by that error.
+    /// of a lossless scan the rows of MCUs that are whole; what no scan has brought is mid-grey. A
+    /// marker in place of blocks is a fault, where `decode` takes zeros for the bits that are
+    /// lacking. An error of the reader is a fault of the stream, by that error.
     ///
     /// The result is an error if no frame header was accepted before the fault, if the picture is
     /// above a limit or can't have the colour transform, and as `decode`'s after another call.
@@ -216,18 +219,22 @@ impl<R: Read> Decoder<R> {
     /// let cut = &jpeg[..130];
     /// let partial = Decoder::new(cut).decode_partial()?;
     /// assert_eq!(partial.pixels, [128; 64]);
+    /// assert_eq!(partial.whole_rows, 0);
     /// assert!(matches!(partial.fault, Some(Error::Io(_))));
     ///
     /// let partial = Decoder::new(jpeg).decode_partial()?;
     /// assert_eq!(partial.pixels, Decoder::new(jpeg).decode()?);
+    /// assert_eq!(partial.whole_rows, 8);
     /// assert!(partial.fault.is_none());
     /// # Ok::<(), Error>(())
     /// ```
     pub fn decode_partial(&mut self) -> Result<PartialPicture> {
-        let (pixels, fault, failure) = self.decode_by(library::decode_partial, shows_cut)?;
+        let (pixels, part, failure) = self.decode_by(library::decode_partial, shows_cut)?;
         Ok(PartialPicture {
             pixels,
-            fault: fault.map(|fault| error_of(fault, failure)),
+            // No picture has more rows than 65,535.
+            whole_rows: part.whole_rows as u16,
+            fault: part.fault.map(|fault| error_of(fault, failure)),
         })
     }
 
@@ -378,11 +385,12 @@ fn is_truncated<T>(outcome: &Outcome<T>) -> bool {
 }
 
 /// Returns whether it ends too soon, and what there is of it may be shown.
-fn shows_cut(outcome: &Outcome<Option<Refusal>>) -> bool {
-    matches!(
-        outcome,
-        Ok(Some(Refusal::Truncated)) | Err(Refusal::Truncated)
-    )
+fn shows_cut(outcome: &Outcome<Part>) -> bool {
+    let fault = match outcome {
+        Ok(part) => part.fault.as_ref(),
+        Err(refusal) => Some(refusal),
+    };
+    matches!(fault, Some(Refusal::Truncated))
 }
 
 /// Returns the error for a refusal that is no fault of a reader.

@@ -52,6 +52,7 @@ pub struct Picture {
     pub stream_bytes: u64,
     pub width: u32,
     pub height: u32,
+    whole_rows: u32,
     pixel_bytes: u8,
     layout: u8,
     pub components: u8,
@@ -67,7 +68,7 @@ pub struct Picture {
     pub density_unit: u8,
     pub horizontal_density: u16,
     pub vertical_density: u16,
-    reserved: [u8; 20],
+    reserved: [u8; 16],
     text: [u8; TEXT_BYTES],
 }
 
@@ -127,6 +128,7 @@ impl Picture {
         stream_bytes: 0,
         width: 0,
         height: 0,
+        whole_rows: 0,
         pixel_bytes: 0,
         layout: 0,
         components: 0,
@@ -142,7 +144,7 @@ impl Picture {
         density_unit: 0,
         horizontal_density: 0,
         vertical_density: 0,
-        reserved: [0; 20],
+        reserved: [0; 16],
         text: [0; TEXT_BYTES],
     };
 
@@ -303,17 +305,23 @@ pub fn decode(jpeg: &[u8], options: &Options, pixels: &mut [u8]) -> Answer<()> {
     Answer::new(answer, &picture, ())
 }
 
-/// Decodes what there is of a stream into `pixels`, and returns its first fault, if it has any.
-pub fn decode_partial(
-    jpeg: &[u8],
-    options: &Options,
-    pixels: &mut [u8],
-) -> Answer<Option<Refusal>> {
+/// What there is of a stream.
+pub struct Part {
+    /// How many rows of the picture, from its top, are complete in each scan that has begun.
+    pub whole_rows: u32,
+    /// The first fault of the stream, if it has any.
+    pub fault: Option<Refusal>,
+}
+
+/// Decodes what there is of a stream into `pixels`.
+pub fn decode_partial(jpeg: &[u8], options: &Options, pixels: &mut [u8]) -> Answer<Part> {
     let (answer, picture) = call(zaxbriar_decode_partial, jpeg, options, pixels);
-    if answer == PARTIAL {
-        return Answer::new(OK, &picture, refusal_of(picture.fault.into(), &picture));
-    }
-    Answer::new(answer, &picture, None)
+    let is_cut = answer == PARTIAL;
+    let part = Part {
+        whole_rows: picture.whole_rows,
+        fault: refusal_of(if is_cut { picture.fault.into() } else { OK }, &picture),
+    };
+    Answer::new(if is_cut { OK } else { answer }, &picture, part)
 }
 
 /// What bytes have of the next segment.

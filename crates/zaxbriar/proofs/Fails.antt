@@ -48,7 +48,7 @@ header-names o bytes x h = grind (arith, refused)
 
 pub header-fails : (o : Options) (bytes : List ℕ) (r : Refusal) → IsFault (header_at bytes) r → IsFault (meaning_by o bytes) r
 header-fails o bytes (refusals.Stream e) h = header-names o bytes e h
-header-fails o bytes (refusals.Part e) h = tt
+header-fails o bytes (refusals.Part e rows) h = tt
 header-fails o bytes refusals.Reader h = tt
 header-fails o bytes (refusals.Argument text) h = tt
 header-fails o bytes refusals.NoRoom h = tt

@@ -15,16 +15,17 @@ use Rattle.jpeg_streams.specs.Pixels.{info_of}
 use Rattle.jpeg_streams.specs.Shown.{Shown, shown_ahead, shown_rest}
 use Rattle.jpeg_streams.specs.States.{Decoding, IfRefused, IsReading}
 use Rattle.jpeg_streams.specs.Stream.{header_at, told_of}
+use Rattle.jpeg_streams.specs.WholeRows.{whole_rows_rest}
 use Rattle.jpeg_streams.specs.declared.images.ImageInfo.{ImageInfo}
 use Rattle.jpeg_streams.specs.declared.progress.Progress.{Progress}
 use Rattle.jpeg_streams.specs.declared.progress.Progress.TheVariants.{HeaderRead}
 use Rattle.zaxbriar.proofs.Fails.{code-fails}
 use Rattle.zaxbriar.proofs.Told.{arranged-of}
-use Rattle.zaxbriar.specs.Faults.{IsFault, IsPart, StandsFor, fault_code, fault_told, status_of}
+use Rattle.zaxbriar.specs.Faults.{IsFault, IsPart, StandsFor, fault_code, fault_told, rows_told, status_of}
 use Rattle.zaxbriar.specs.Features.{NamesFeature, feature_told}
 use Rattle.zaxbriar.specs.Lines.{Arranged, HasLines, described_picture}
 use Rattle.zaxbriar.specs.Meanings.{Describes, IsWithin, as_described, settings_of, size_wanted, uncounted}
-use Rattle.zaxbriar.specs.Partial.{BringsLines, Reaches, ShowsFault, ShowsPart, TellsFault, shown_by, without_fault}
+use Rattle.zaxbriar.specs.Partial.{BringsLines, HasRows, Reaches, ShowsFault, ShowsPart, TellsFault, complete_rows_by, shown_by, without_fault, without_rows}
 use Rattle.zaxbriar.specs.declared.answers.Refusal.{Refusal}
 use Rattle.zaxbriar.specs.declared.answers.Refusal.TheVariants as refusals
 use Rattle.zaxbriar.specs.declared.density.Density.{Density}
@@ -46,7 +47,7 @@ lacks : (known failed : Bool) (e : Error) (r : Refusal) (expected : Result Shown
 lacks true failed e (refusals.Stream x) expected n s k g = subst (λ (x : Error). Names x expected) (sym s.0) (k refl)
 lacks false failed e (refusals.Stream x) expected n s k g =
     subst (λ (x : Error). Names x expected) (sym s.0) (refused-known e failed expected n s.1 (g refl))
-lacks known failed e (refusals.Part x) expected n s k g = tt
+lacks known failed e (refusals.Part x rows) expected n s k g = tt
 lacks known failed e refusals.Reader expected n s k g = tt
 lacks known failed e (refusals.Argument t) expected n s k g = tt
 lacks known failed e refusals.NoRoom expected n s k g = tt
@@ -76,7 +77,7 @@ part-names o bytes x h = grind (arith, shown-refused)
 
 pub header-lacks : (o : Options) (bytes : List ℕ) (r : Refusal) → IsFault (header_at bytes) r → IsFault (shown_by o bytes) r
 header-lacks o bytes (refusals.Stream e) h = part-names o bytes e h
-header-lacks o bytes (refusals.Part e) h = tt
+header-lacks o bytes (refusals.Part e rows) h = tt
 header-lacks o bytes refusals.Reader h = tt
 header-lacks o bytes (refusals.Argument text) h = tt
 header-lacks o bytes refusals.NoRoom h = tt
@@ -120,19 +121,19 @@ some-named : (e : Error) (named : Option Fault) (P : Option Fault → Type 0) �
 some-named e None P n p = absurd n
 some-named e (Some f) P n p = (f, n, p)
 
-pub reached-ok : (lines : Lines) (r : Result (Unit {0}) Refusal) (old new : Decoding) (before after : List ℕ) (P : Type 0)
+pub reached-ok : (lines : Lines) (r : Result ℕ Refusal) (old new : Decoding) (before after : List ℕ) (P : Type 0)
     → Reaches lines r old new before after → (BringsLines lines None old new before after → P) → OnOk r P
 reached-ok lines (Ok x) old new before after P h f = f h
 reached-ok lines (Err r) old new before after P h f = tt
 
-pub reached-err : (lines : Lines) (r : Result (Unit {0}) Refusal) (old new : Decoding) (before after : List ℕ)
+pub reached-err : (lines : Lines) (r : Result ℕ Refusal) (old new : Decoding) (before after : List ℕ)
     (o : Options) (bytes : List ℕ) (picture : Picture)
     → Reaches lines r old new before after
     → ((e : Error) (b : BringsLines lines (Some e) old new before after)
     → ShowsPart o bytes before after b.brings.named picture)
     → IfErr r (ShowsFault o bytes before after picture)
 reached-err lines (Ok x) old new before after o bytes picture h f = tt
-reached-err lines (Err (refusals.Part e)) old new before after o bytes picture h f =
+reached-err lines (Err (refusals.Part e rows)) old new before after o bytes picture h f =
     let s = some-named e h.brings.named (λ n. ShowsPart o bytes before after n picture) h.brings.fault_is (f e h) in
     (s.0, s.1, (λ is. h.brings.memory (ap Some is)), s.2)
 reached-err lines (Err (refusals.Stream e)) old new before after o bytes picture h f = tt
@@ -147,16 +148,17 @@ no-part o bytes before after picture r n = grind (arith, common_steps)
 
 -- ---- what a caller is told
 
--- a picture with a feature, a fault and a text
+-- a picture with a feature, a fault and a text, whose number of complete rows is left out
 abbrev pub telling : Picture → Feature → ℕ → List ℕ → Picture
 telling picture feature fault text = record picture {
+  whole_rows = 0;
   feature = feature.number;
   feature_argument = feature.argument;
   fault = fault;
   text = text;
 }
 
-pub whole-told : (outcome : Result (Unit {0}) Refusal) (o : Options) (bytes old new : List ℕ) (picture : Picture)
+pub whole-told : (outcome : Result ℕ Refusal) (o : Options) (bytes old new : List ℕ) (picture : Picture)
     (feature : Feature) (fault : ℕ) (text : List ℕ) (result : ℕ)
     → result ≡ status_of outcome → feature ≡ feature_told outcome → fault ≡ fault_told outcome
     → IfOk outcome (λ _. text ≡ replicate 112 0)
@@ -190,28 +192,28 @@ without-same : (o : Options) (info : ImageInfo) (precision : ℕ) (samples old n
     (feature : Feature) (fault : ℕ) (text : List ℕ) → Arranged o info precision samples old new picture
     → picture ≡ without_fault (telling picture feature fault text)
 without-same o info precision samples old new picture feature fault text a =
-    a.picture_is ∙ sym (ap (λ (p : Picture). without_fault p) a.picture_is)
+    a.picture_is ∙ sym (ap (λ (p : Picture). without_fault (without_rows p)) a.picture_is)
 
-numbers : (e : Error) (f : Fault) → Names {Y = Unit {0}} e (Err f) → (e ≡ errors.OutOfMemory → ⊥) → (picture : Picture)
-    → picture.fault ≡ fault_told {X = Unit {0}} (Err (refusals.Part e))
-    → NamesFeature picture (feature_told {X = Unit {0}} (Err (refusals.Part e))) → TellsFault picture f
-numbers (errors.Format t) f n m picture p q = grind (arith, common_steps)
-numbers (errors.Unsupported feature) f n m picture p q = grind (arith, common_steps)
-numbers (errors.Io e) f n m picture p q = grind (arith, common_steps)
-numbers (errors.Internal t) f n m picture p q = absurd n
-numbers errors.OutOfMemory f n m picture p q = absurd (m refl)
+numbers : (e : Error) (n : ℕ) (f : Fault) → Names {Y = Unit {0}} e (Err f) → (e ≡ errors.OutOfMemory → ⊥)
+    → (picture : Picture) → picture.fault ≡ fault_told {X = ℕ} (Err (refusals.Part e n))
+    → NamesFeature picture (feature_told {X = ℕ} (Err (refusals.Part e n))) → TellsFault picture f
+numbers (errors.Format t) rows f n m picture p q = grind (arith, common_steps)
+numbers (errors.Unsupported feature) rows f n m picture p q = grind (arith, common_steps)
+numbers (errors.Io e) rows f n m picture p q = grind (arith, common_steps)
+numbers (errors.Internal t) rows f n m picture p q = absurd n
+numbers errors.OutOfMemory rows f n m picture p q = absurd (m refl)
 
-pub part-told : (outcome : Result (Unit {0}) Refusal) (o : Options) (bytes old new : List ℕ) (picture : Picture)
+pub part-told : (outcome : Result ℕ Refusal) (o : Options) (bytes old new : List ℕ) (picture : Picture)
     (feature : Feature) (fault : ℕ) (text : List ℕ) (result : ℕ)
     → result ≡ status_of outcome → feature ≡ feature_told outcome → fault ≡ fault_told outcome
     → IfErr outcome (ShowsFault o bytes old new picture) → result ≡ 9
     → (f : Fault) × ShowsPart o bytes old new (Some f) (without_fault (telling picture feature fault text))
     × TellsFault (telling picture feature fault text) f
-part-told (Err (refusals.Part e)) o bytes old new picture feature fault text result code is names s z = (
+part-told (Err (refusals.Part e n)) o bytes old new picture feature fault text result code is names s z = (
   s.0,
   subst (λ (p : Picture). ShowsPart o bytes old new (Some s.0) p)
       (without-same o s.3.info s.3.precision s.3.samples old new picture feature fault text s.3.arranged) s.3,
-  numbers e s.0 s.1 s.2 (telling picture feature fault text) names
+  numbers e n s.0 s.1 s.2 (telling picture feature fault text) names
       (ap (λ (f : Feature). f.number) is, ap (λ (f : Feature). f.argument) is),
 )
 part-told (Ok x) o bytes old new picture feature fault text result code is names s z = absurd (omega (arith, code, z))
@@ -235,12 +237,31 @@ is-part : (r : Refusal) → fault_code r ≡ 9 → IsPart r
 is-part r e = grind arith
 
 as-told : (part : Bool) (o : Options) (bytes : List ℕ) (picture : Picture) → Describes part o bytes (uncounted picture)
-    → as_described (without_fault picture) ≡ uncounted picture
-as-told part o bytes picture d = ap (λ (p : Picture). as_described (without_fault p)) d.picture_is ∙ sym d.picture_is
+    → as_described (without_fault (without_rows picture)) ≡ uncounted picture
+as-told part o bytes picture d =
+    ap (λ (p : Picture). as_described (without_fault (without_rows p))) d.picture_is ∙ sym d.picture_is
 
-pub described-part : (outcome : Result (Unit {0}) Refusal) (part : Bool) (o : Options) (bytes : List ℕ)
+pub described-part : (outcome : Result ℕ Refusal) (part : Bool) (o : Options) (bytes : List ℕ)
     (picture : Picture) (result : ℕ)
     → result ≡ status_of outcome → OnOk outcome (IsWithin part o bytes (uncounted picture))
     → IfErr outcome (λ r. IsPart r → IsWithin part o bytes (uncounted picture)) → (result ≡ 0) ⊎ (result ≡ 9)
-    → IsWithin part o bytes (as_described (without_fault picture))
+    → IsWithin part o bytes (as_described (without_fault (without_rows picture)))
 described-part outcome part o bytes picture result code d e z = grind (arith, code-fails, is-part, as-told)
+
+-- ---- rows that are complete
+
+pub part-rows : (o : Options) (bytes rest : List ℕ) (header : Found) → header_at bytes ≡ Ok (header, rest)
+    → complete_rows_by o bytes ≡ whole_rows_rest (with_said (at_size (size_wanted o)) header) rest
+unfolding complete_rows_by
+part-rows o bytes rest header h = rw (h, complete_rows_by) refl
+
+pub no-rows : (complete : ℕ) (r : Refusal) → (IsPart r → ⊥) → HasRows complete (Err r)
+no-rows complete r n = grind (arith, common_steps)
+
+pub told-rows : (outcome : Result ℕ Refusal) (complete result : ℕ) → result ≡ status_of outcome
+    → HasRows complete outcome → (result ≡ 0) ⊎ (result ≡ 9) → rows_told outcome ≡ complete
+told-rows outcome complete result code h z = grind (arith, code-fails, is-part)
+
+pub none-told : (outcome : Result ℕ Refusal) (result : ℕ) → result ≡ status_of outcome → (result ≡ 0 → ⊥)
+    → (result ≡ 9 → ⊥) → rows_told outcome ≡ 0
+none-told outcome result code a b = grind arith

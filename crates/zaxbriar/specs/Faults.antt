@@ -12,7 +12,7 @@ use Rattle.zaxbriar.specs.declared.answers.Refusal.TheVariants.{Part, Reader, To
 -- A refusal of a stream names the fault of its bytes.
 abbrev pub IsFault : {Y : Type 0} → Result Y Fault → Refusal → Type 0
 IsFault outcome (Stream e) = Names e outcome
-IsFault outcome (Part e) = Unit {0}
+IsFault outcome (Part e rows) = Unit {0}
 IsFault outcome Reader = Unit {0}
 IsFault outcome (Argument text) = Unit {0}
 IsFault outcome NoRoom = Unit {0}
@@ -31,12 +31,12 @@ IsOfDecoder _ = ⊥
 
 -- A refusal of a call to a decoder, or else a part of a stream.
 abbrev pub IsOfReading : Refusal → Type 0
-IsOfReading (Part e) = Unit {0}
+IsOfReading (Part e rows) = Unit {0}
 IsOfReading r = IsOfDecoder r
 
 -- No refusal: a part of a stream was written.
 abbrev pub IsPart : Refusal → Type 0
-IsPart (Part e) = Unit {0}
+IsPart (Part e rows) = Unit {0}
 IsPart _ = ⊥
 
 -- A refusal of a picture for its size: it is longer than the buffer, or above a limit.
@@ -48,7 +48,7 @@ IsOwn _ = ⊥
 -- A refusal by the limits, by the arguments, because of the reader, or for lack of memory.
 abbrev pub IsOfCall : Refusal → Type 0
 IsOfCall (Stream e) = e ≡ errors.OutOfMemory
-IsOfCall (Part e) = ⊥
+IsOfCall (Part e rows) = ⊥
 IsOfCall Reader = Unit {0}
 IsOfCall (Argument text) = Unit {0}
 IsOfCall NoRoom = ⊥
@@ -73,7 +73,7 @@ error_code (errors.Internal text) = 6
 
 abbrev pub fault_code : Refusal → ℕ
 fault_code (Stream e) = error_code e
-fault_code (Part e) = 9
+fault_code (Part e rows) = 9
 fault_code Reader = 4
 fault_code (Argument text) = 6
 fault_code NoRoom = 5
@@ -92,8 +92,14 @@ reading_code (Err End) = 3
 
 -- the number of the fault of which an outcome tells beside a part of the stream
 abbrev pub fault_told : {X : Type 0} → Result X Refusal → ℕ
-fault_told (Err (Part e)) = error_code e
+fault_told (Err (Part e rows)) = error_code e
 fault_told _ = 0
+
+-- how many rows are complete of a picture that was written, or of a part of it
+abbrev pub rows_told : Result ℕ Refusal → ℕ
+rows_told (Ok rows) = rows
+rows_told (Err (Part e rows)) = rows
+rows_told _ = 0
 
 -- Where a number is that of a fault, it is the fault of the bytes.
 abbrev pub IsNamed : {Y : Type 0} → ℕ → Result Y Fault → Type 0

@@ -39,7 +39,7 @@ feature_in (features.ColorTransform transform) = numbered 8 (transform_code tran
 -- the feature that a refusal names, and that of an outcome
 abbrev pub feature_of : Refusal → Feature
 feature_of (Stream (errors.Unsupported feature)) = feature_in feature
-feature_of (Part (errors.Unsupported feature)) = feature_in feature
+feature_of (Part (errors.Unsupported feature) rows) = feature_in feature
 feature_of _ = numbered 0 0
 
 abbrev pub feature_told : {X : Type 0} → Result X Refusal → Feature

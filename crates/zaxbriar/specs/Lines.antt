@@ -90,6 +90,7 @@ described_picture layout info precision lines decoding orientation sampling tran
       stream_bytes = bytes;
       width = lines.width;
       height = lines.height;
+      whole_rows = 0;
       pixel_bytes = lines.pixel_bytes;
       layout = layout;
       components = samples_a_pixel info.pixel_format;
@@ -106,7 +107,7 @@ described_picture layout info precision lines decoding orientation sampling tran
       horizontal_density = density.horizontal;
       vertical_density = density.vertical;
       transform = transform;
-      reserved = replicate 19 0;
+      reserved = replicate 15 0;
       text = replicate 112 0;
     }
 

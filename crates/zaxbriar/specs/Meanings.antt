@@ -166,6 +166,7 @@ no_picture = record {
   stream_bytes = 0;
   width = 0;
   height = 0;
+  whole_rows = 0;
   pixel_bytes = 0;
   layout = 0;
   components = 0;
@@ -182,7 +183,7 @@ no_picture = record {
   horizontal_density = 0;
   vertical_density = 0;
   transform = 0;
-  reserved = replicate 19 0;
+  reserved = replicate 15 0;
   text = replicate 112 0;
 }
 

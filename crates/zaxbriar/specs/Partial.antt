@@ -11,6 +11,7 @@ use Rattle.jpeg_streams.specs.Pixels.{info_of}
 use Rattle.jpeg_streams.specs.Shown.{Shown, shown_rest}
 use Rattle.jpeg_streams.specs.States.{Decoding}
 use Rattle.jpeg_streams.specs.Stream.{Told, header_at, told_of}
+use Rattle.jpeg_streams.specs.WholeRows.{whole_rows_rest}
 use Rattle.jpeg_streams.specs.declared.images.ImageInfo.{ImageInfo}
 use Rattle.zaxbriar.specs.Features.{NamesFeature, feature_in, numbered}
 use Rattle.zaxbriar.specs.Layouts.{laid_out, layout_line}
@@ -28,6 +29,13 @@ unfoldable pub shown_by : Options → List ℕ → Result Shown Fault
 shown_by o bytes = do
   header ← header_at bytes
   shown_rest (settings_of o) (with_said (at_size (size_wanted o)) header.0) header.1
+
+-- how many rows of that picture, from its top, are complete in each scan that the stream has begun
+unfoldable pub complete_rows_by : Options → List ℕ → ℕ
+complete_rows_by o bytes = elim (header_at bytes) [
+  | Ok header ↦ whole_rows_rest (with_said (at_size (size_wanted o)) header.0) header.1
+  | Err fault ↦ 0
+]
 
 -- The picture of what a stream has brought up to its first fault, if it has one, is in the caller's
 -- memory.
@@ -57,6 +65,10 @@ abbrev pub TellsFault : Picture → Fault → Type 0
 TellsFault picture fault =
     (picture.fault ≡ fault_number fault) × NamesFeature picture (feature_lacking fault)
 
+-- a picture without the number of rows that are complete
+abbrev pub without_rows : Picture → Picture
+without_rows picture = record picture { whole_rows = 0 }
+
 -- a picture without the fault of which a call tells, its feature, and its text
 abbrev pub without_fault : Picture → Picture
 without_fault picture = record picture {
@@ -69,8 +81,9 @@ without_fault picture = record picture {
 -- What a call says that has written a part: the picture of what the stream has brought up to its
 -- first fault, which the error names.
 abbrev pub ShowsFault : Options → List ℕ → List ℕ → List ℕ → Picture → Refusal → Type 0
-ShowsFault o bytes old new picture (Part e) = (fault : Fault) × Names {Y = Unit {0}} e (Err fault)
-    × (e ≡ errors.OutOfMemory → ⊥) × ShowsPart o bytes old new (Some fault) picture
+ShowsFault o bytes old new picture (Part e rows) = (fault : Fault)
+    × Names {Y = Unit {0}} e (Err fault) × (e ≡ errors.OutOfMemory → ⊥)
+    × ShowsPart o bytes old new (Some fault) picture
 ShowsFault o bytes old new picture _ = Unit {0}
 
 -- ---- what the code's own clauses need
@@ -84,9 +97,15 @@ pub record Brings (expected : Result Shown Fault) (samples : List ℕ) (fault : 
   pub fault_is : NamesFault fault named
   pub memory : fault ≡ Some errors.OutOfMemory → ⊥
 
-abbrev pub outcome_of : Option Error → Result (Unit {0}) Refusal
-outcome_of None = Ok tt
-outcome_of (Some e) = Err (Part e)
+abbrev pub outcome_of : ℕ → Option Error → Result ℕ Refusal
+outcome_of rows None = Ok rows
+outcome_of rows (Some e) = Err (Part e rows)
+
+-- Where a picture was written, or a part of it, this many of its rows are complete.
+abbrev pub HasRows : ℕ → Result ℕ Refusal → Type 0
+HasRows complete (Ok rows) = rows ≡ complete
+HasRows complete (Err (Part e rows)) = rows ≡ complete
+HasRows complete (Err r) = Unit {0}
 
 -- A decoder whose header was read has brought what a stream shows, and the lines of it are in the
 -- caller's memory.
@@ -99,9 +118,8 @@ pub record BringsLines (lines : Lines) (fault : Option Error) (old new : Decodin
   pub pixels : after ≡ laid_out (layout_line lines.conversion lines.stored lines.width)
       (lines.width * lines.stored) lines.stride lines.height samples before
 
-abbrev pub Reaches : Lines → Result (Unit {0}) Refusal → Decoding → Decoding → List ℕ → List ℕ
-    → Type 0
-Reaches lines (Ok x) old new before after = BringsLines lines None old new before after
-Reaches lines (Err (Part e)) old new before after =
+abbrev pub Reaches : Lines → Result ℕ Refusal → Decoding → Decoding → List ℕ → List ℕ → Type 0
+Reaches lines (Ok rows) old new before after = BringsLines lines None old new before after
+Reaches lines (Err (Part e rows)) old new before after =
     BringsLines lines (Some e) old new before after
 Reaches lines (Err r) old new before after = Unit {0}

@@ -1,7 +1,7 @@
 //! What a call returns, and the text of a refusal.
 ghost use Rattle.std.specs.Prelude.{◌≡◌, IfOk, IfErr, replicate, slice_index};
 ghost use Rattle.zaxbriar.specs.Faults.{IsOwn, StandsFor, error_code, fault_code, fault_told};
-ghost use Rattle.zaxbriar.specs.Faults.{padded, status_of};
+ghost use Rattle.zaxbriar.specs.Faults.{padded, rows_told, status_of};
 
 use jpeg_decoder::Decoder;
 use jpeg_decoder::error::Error;
@@ -35,8 +35,9 @@ pub const TEXT_BYTES: usize = 112;
 #[derive(Drop)]
 pub enum Refusal {
     Stream(Error),
-    /// The fault of a stream of which a part was written: what it brings up to that fault.
-    Part(Error),
+    /// The fault of a stream of which a part was written, what it brings up to that fault, and how
+    /// many rows of that part are complete.
+    Part(Error, u16),
     /// A read failed, or was interrupted without end. It never happens over bytes in memory.
     Reader,
     Argument(&'static str),
@@ -91,7 +92,7 @@ pub fn code_of(refusal: &Refusal) -> u32
 {
     match refusal {
         Refusal::Stream(error) => error_code(error),
-        Refusal::Part(_) => PARTIAL,
+        Refusal::Part(..) => PARTIAL,
         Refusal::Reader => NO_MEMORY,
         Refusal::Argument(_) => BAD_ARGUMENT,
         Refusal::NoRoom => NO_ROOM,
@@ -100,12 +101,23 @@ pub fn code_of(refusal: &Refusal) -> u32
 }
 
 /// Returns the number of the fault of a stream of which a part was written, or 0.
-pub fn fault_told(outcome: &std::result::Result<(), Refusal>) -> u8
+pub fn fault_told<T>(outcome: &std::result::Result<T, Refusal>) -> u8
     ensures { result ≡ fault_told outcome.now }
 {
     match outcome {
-        Err(Refusal::Part(error)) => error_code(error) as u8,
+        Err(Refusal::Part(error, _)) => error_code(error) as u8,
         _ => 0,
+    }
+}
+
+/// Returns how many rows are complete of a picture that was written, or of a part of it, or 0.
+pub fn rows_told(outcome: &std::result::Result<u16, Refusal>) -> u16
+    ensures { result ≡ rows_told outcome.now }
+{
+    match outcome {
+        Ok(rows) => *rows,
+        Err(Refusal::Part(_, rows)) => *rows,
+        Err(_) => 0,
     }
 }
 
@@ -125,7 +137,7 @@ fn put_refusal(alloc: Global, refusal: &Refusal, text: &mut [u8; TEXT_BYTES])
     ensures said { IsOwn refusal.now → slice_index text.new 0 ≡ 0 → ⊥ }
 {
     match refusal {
-        Refusal::Stream(error) | Refusal::Part(error) => match format!(in alloc; "{error}") {
+        Refusal::Stream(error) | Refusal::Part(error, _) => match format!(in alloc; "{error}") {
             Ok(line) => put_text(line.as_bytes(), text),
             Err(_) => put_text(b"out of memory", text),
         },
@@ -137,9 +149,9 @@ fn put_refusal(alloc: Global, refusal: &Refusal, text: &mut [u8; TEXT_BYTES])
 }
 
 /// Returns the number of an outcome, and writes the text of a refusal, or none.
-pub fn answer(
+pub fn answer<T: Drop>(
     alloc: Global,
-    outcome: std::result::Result<(), Refusal>,
+    outcome: std::result::Result<T, Refusal>,
     text: &mut [u8; TEXT_BYTES],
 ) -> u32
     ensures code { result ≡ status_of outcome }
@@ -148,7 +160,7 @@ pub fn answer(
     ensures said { IfErr outcome (λ r. IsOwn r → slice_index text.new 0 ≡ 0 → ⊥) }
 {
     match outcome {
-        Ok(()) => {
+        Ok(_) => {
             *text = [0; TEXT_BYTES];
             OK
         }

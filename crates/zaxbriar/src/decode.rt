@@ -13,6 +13,7 @@ ghost use Rattle.jpeg_streams.specs.declared.progress.Progress.TheVariants.{Head
 ghost use Rattle.jpeg_bits.specs.Reading.{Answers, Fault, IsGivenUp};
 ghost use Rattle.jpeg_streams.specs.Shown.{shown_rest};
 ghost use Rattle.jpeg_streams.specs.Stream.{header_at, rest_at, told_of};
+ghost use Rattle.jpeg_streams.specs.WholeRows.{whole_rows_rest};
 ghost use Rattle.jpeg_streams.specs.WrittenImages.{WritesImage};
 ghost use Rattle.jpeg_streams.specs.WrittenScans.{Coefficients};
 ghost use Rattle.zaxbriar.specs.Faults.{IsArgument, IsFault, IsOfCall, IsOfDecoder};
@@ -20,8 +21,8 @@ ghost use Rattle.zaxbriar.specs.Faults.{IsOfReading, IsOwn, IsPart};
 ghost use Rattle.zaxbriar.specs.Layouts.{size_of_lines};
 ghost use Rattle.zaxbriar.specs.Limits.{are_known};
 ghost use Rattle.zaxbriar.specs.Lines.{Decodes, HasLines};
-ghost use Rattle.zaxbriar.specs.Partial.{Brings, Reaches, ShowsFault, ShowsPart, outcome_of};
-ghost use Rattle.zaxbriar.specs.Partial.{shown_by};
+ghost use Rattle.zaxbriar.specs.Partial.{Brings, HasRows, Reaches, ShowsFault, ShowsPart};
+ghost use Rattle.zaxbriar.specs.Partial.{complete_rows_by, outcome_of, shown_by};
 ghost use Rattle.zaxbriar.specs.Meanings.{AreWrong, CountsRead, IsTooLarge, IsWithin, Shows};
 ghost use Rattle.zaxbriar.specs.Meanings.{ShowsSamples, meaning_by, settings_of, size_wanted};
 ghost use Rattle.zaxbriar.specs.Meanings.{uncounted};
@@ -36,7 +37,7 @@ use crate::lines::{Lines, put_lines, stored_line};
 use crate::options::{Options, are_known};
 use crate::picture::Picture;
 use jpeg_decoder::error::Error;
-use jpeg_decoder::{Decoder, Lines as DecodedLines, SliceReader};
+use jpeg_decoder::{Decoder, PartialLines, SliceReader};
 use std::alloc::Global;
 use std::io::Read;
 
@@ -62,25 +63,30 @@ fn stream_fault<R: Read + Drop>(
     }
 }
 
-/// Reads the rest of a stream as far as it goes, and returns its lines and its first fault.
-fn read_part<R: Read + Drop>(
-    decoder: &mut Decoder<R>,
-) -> std::result::Result<(DecodedLines, Option<Error>), Refusal>
+/// Reads the rest of a stream as far as it goes, and returns its lines, how many of them are
+/// complete, and its first fault.
+fn read_part<R: Read + Drop>(decoder: &mut Decoder<R>) -> std::result::Result<PartialLines, Refusal>
     requires read { decoder.old.stage ≡ HeaderRead }
     ensures stays { IfOk result
         (λ _. decoder.new.found.said.frame ≡ decoder.old.found.said.frame) }
     ensures counted { IfOk result (λ _. IsCounted decoder.new.found.said.frame) }
-    ensures lines { IfOk result (λ p. AreLinesOf decoder.new.found.said.frame p.0) }
+    ensures lines { IfOk result (λ p. AreLinesOf decoder.new.found.said.frame p.lines) }
     ensures shown { decoder.old.source.known ≡ true → IfOk result (λ p. Brings
         (shown_rest decoder.old.settings decoder.old.found decoder.old.source.bytes)
-        (concat p.0) p.1 (told_of decoder.new.found.said)) }
+        (concat p.lines) p.fault (told_of decoder.new.found.said)) }
+    ensures rows { decoder.old.source.known ≡ true → IfOk result
+        (λ p. p.whole_rows ≡ whole_rows_rest decoder.old.found decoder.old.source.bytes) }
     ensures named { decoder.old.source.known ≡ true → IfErr result (IsFault
         (shown_rest decoder.old.settings decoder.old.found decoder.old.source.bytes)) }
     ensures own { IfErr result IsOfDecoder }
 {
     match decoder.decode_partial_lines() {
         Ok(partial) => match stream_fault(decoder, partial.fault) {
-            Ok(fault) => Ok((partial.lines, fault)),
+            Ok(fault) => Ok(PartialLines {
+                lines: partial.lines,
+                whole_rows: partial.whole_rows,
+                fault,
+            }),
             Err(refusal) => Err(refusal),
         },
         Err(error) => {
@@ -94,27 +100,30 @@ fn read_part<R: Read + Drop>(
     }
 }
 
-/// Reads the rest of a stream, all of it, or, in part, as far as it goes, and returns its lines and
-/// its first fault.
+/// Reads the rest of a stream, all of it, or, in part, as far as it goes, and returns its `height`
+/// lines, how many of them are complete, and its first fault.
 fn read_lines<R: Read + Drop>(
     decoder: &mut Decoder<R>,
+    height: u16,
     is_partial: bool,
-) -> std::result::Result<(DecodedLines, Option<Error>), Refusal>
+) -> std::result::Result<PartialLines, Refusal>
     requires read { decoder.old.stage ≡ HeaderRead }
     ensures stays { IfOk result
         (λ _. decoder.new.found.said.frame ≡ decoder.old.found.said.frame) }
     ensures counted { IfOk result (λ _. IsCounted decoder.new.found.said.frame) }
-    ensures lines { IfOk result (λ p. AreLinesOf decoder.new.found.said.frame p.0) }
-    ensures entire { is_partial ≡ false → IfOk result (λ p. p.1 ≡ None) }
+    ensures lines { IfOk result (λ p. AreLinesOf decoder.new.found.said.frame p.lines) }
+    ensures entire { is_partial ≡ false → IfOk result (λ p. p.fault ≡ None) }
     ensures reads { is_partial ≡ false → IfOk result (λ p. Answers {X = Unit {0}}
-        (λ u. (told_of decoder.new.found.said, concat p.0))
+        (λ u. (told_of decoder.new.found.said, concat p.lines))
         (rest_at decoder.old.settings decoder.old.found) decoder.old.source (Ok tt)
         decoder.new.source) }
     ensures images { is_partial ≡ false → IfOk result (λ p. DecodesImages {X = Unit {0}}
-        (λ u. concat p.0) decoder.old (Ok tt) decoder.new) }
+        (λ u. concat p.lines) decoder.old (Ok tt) decoder.new) }
     ensures shown { is_partial ≡ true → decoder.old.source.known ≡ true → IfOk result (λ p. Brings
         (shown_rest decoder.old.settings decoder.old.found decoder.old.source.bytes)
-        (concat p.0) p.1 (told_of decoder.new.found.said)) }
+        (concat p.lines) p.fault (told_of decoder.new.found.said)) }
+    ensures rows { is_partial ≡ true → decoder.old.source.known ≡ true → IfOk result
+        (λ p. p.whole_rows ≡ whole_rows_rest decoder.old.found decoder.old.source.bytes) }
     ensures named { is_partial ≡ false → decoder.old.source.known ≡ true
         → IfErr result (IsFault (rest_at decoder.old.settings decoder.old.found
         decoder.old.source.bytes)) }
@@ -126,23 +135,27 @@ fn read_lines<R: Read + Drop>(
         return read_part(decoder);
     }
     match decoder.decode_lines() {
-        Ok(lines) => Ok((lines, None)),
+        Ok(lines) => Ok(PartialLines {
+            lines,
+            whole_rows: height,
+            fault: None,
+        }),
         Err(error) => Err(refusal_of(decoder, error)),
     }
 }
 
-/// Returns OK, or the fault of a picture in part.
-fn outcome_of(fault: Option<Error>) -> std::result::Result<(), Refusal>
-    ensures { result ≡ outcome_of fault }
+/// Returns how many rows of a picture are complete, as OK or beside the fault of a picture in part.
+fn outcome_of(whole_rows: u16, fault: Option<Error>) -> std::result::Result<u16, Refusal>
+    ensures { result ≡ outcome_of whole_rows fault }
 {
     match fault {
-        Some(error) => Err(Refusal::Part(error)),
-        None => Ok(()),
+        Some(error) => Err(Refusal::Part(error, whole_rows)),
+        None => Ok(whole_rows),
     }
 }
 
 /// Decodes the picture whose header was read into its lines in the caller's memory; or, in part,
-/// what the stream brings of it.
+/// what the stream brings of it. Returns how many rows of it are complete.
 fn decode_lines<R: Read + Drop>(
     alloc: Global,
     decoder: &mut Decoder<R>,
@@ -150,7 +163,7 @@ fn decode_lines<R: Read + Drop>(
     lines: Lines,
     pixels: &mut [u8],
     is_partial: bool,
-) -> std::result::Result<(), Refusal>
+) -> std::result::Result<u16, Refusal>
     requires read { decoder.old.stage ≡ HeaderRead }
     requires info { option_map info_of decoder.old.found.said.frame ≡ Some header.info }
     requires precision { option_map (λ f. f.precision) decoder.old.found.said.frame
@@ -164,6 +177,8 @@ fn decode_lines<R: Read + Drop>(
     ensures entire { is_partial ≡ false → IfErr result (λ r. IsPart r → ⊥) }
     ensures reaches { is_partial ≡ true → decoder.old.source.known ≡ true
         → Reaches lines result decoder.old decoder.new pixels.old pixels.new }
+    ensures rows { is_partial ≡ true → decoder.old.source.known ≡ true
+        → HasRows (whole_rows_rest decoder.old.found decoder.old.source.bytes) result }
     ensures named { is_partial ≡ false → decoder.old.source.known ≡ true
         → IfErr result (IsFault (rest_at decoder.old.settings decoder.old.found
         decoder.old.source.bytes)) }
@@ -174,17 +189,17 @@ fn decode_lines<R: Read + Drop>(
 {
     // After a refusal the caller's memory is as it was, so all memory is taken before.
     let mut row = stored_line(alloc, lines)?;
-    match read_lines(decoder, is_partial) {
-        Ok((mut decoded, fault)) => {
-            put_lines(&mut decoded, lines, &mut row, pixels);
-            outcome_of(fault)
+    match read_lines(decoder, lines.height, is_partial) {
+        Ok(mut decoded) => {
+            put_lines(&mut decoded.lines, lines, &mut row, pixels);
+            outcome_of(decoded.whole_rows, decoded.fault)
         }
         Err(refusal) => Err(refusal),
     }
 }
 
 /// Decodes a stream, or, in part, what there is of it, into the caller's memory, and counts the
-/// bytes that were read.
+/// bytes that were read. Returns how many rows of the picture are complete.
 pub fn decode_into(
     alloc: Global,
     jpeg: &[u8],
@@ -192,13 +207,15 @@ pub fn decode_into(
     pixels: &mut [u8],
     picture: &mut Picture,
     is_partial: bool,
-) -> std::result::Result<(), Refusal>
+) -> std::result::Result<u16, Refusal>
     ensures means { is_partial ≡ false → length jpeg.now < 2 ^ 64
         → OnOk result (Shows options.now jpeg.now pixels.old pixels.new picture.new) }
     ensures shown { is_partial ≡ true → length jpeg.now < 2 ^ 64
         → OnOk result (ShowsPart options.now jpeg.now pixels.old pixels.new None picture.new) }
     ensures part { is_partial ≡ true → length jpeg.now < 2 ^ 64
         → IfErr result (ShowsFault options.now jpeg.now pixels.old pixels.new picture.new) }
+    ensures rows { is_partial ≡ true → length jpeg.now < 2 ^ 64
+        → HasRows (complete_rows_by options.now jpeg.now) result }
     ensures entire { is_partial ≡ false → IfErr result (λ r. IsPart r → ⊥) }
     ensures images { is_partial ≡ false → length jpeg.now < 2 ^ 64 →
         (array : Coefficients) (image rest : List ℕ) (final : Said) (last : ℕ → Levels) →
@@ -213,6 +230,7 @@ pub fn decode_into(
     ensures header { length jpeg.now < 2 ^ 64 → IfErr result (λ r. IsOwn r
         → CountsRead (header_at jpeg.now) jpeg.now picture.new.stream_bytes) }
     ensures most { picture.old.stream_bytes ≡ 0 → picture.new.stream_bytes ≤ length jpeg.now }
+    ensures rowless { picture.old.whole_rows ≡ 0 → picture.new.whole_rows ≡ 0 }
     ensures named { is_partial ≡ false → length jpeg.now < 2 ^ 64
         → IfErr result (IsFault (meaning_by options.now jpeg.now)) }
     ensures lacking { is_partial ≡ true → length jpeg.now < 2 ^ 64

@@ -66,6 +66,7 @@ pub fn describe<R: Read + Drop>(
     ensures other { IfErr result (λ r. r ≡ NoRoom → ⊥) }
     ensures whole { IfErr result (λ r. IsPart r → ⊥) }
     ensures kept { IfErr result (λ r. (r ≡ TooLarge → ⊥) → picture.new ≡ picture.old) }
+    ensures rowless { picture.old.whole_rows ≡ 0 → picture.new.whole_rows ≡ 0 }
 {
     let header = read_header(decoder, options)?;
     let lines = lines_of(header.info, header.precision, options)?;
@@ -92,6 +93,7 @@ pub fn read_info_from(
     ensures header { length jpeg.now < 2 ^ 64 → IfErr result (λ r. r ≡ TooLarge
         → CountsRead (header_at jpeg.now) jpeg.now picture.new.stream_bytes) }
     ensures most { picture.old.stream_bytes ≡ 0 → picture.new.stream_bytes ≤ length jpeg.now }
+    ensures rowless { picture.old.whole_rows ≡ 0 → picture.new.whole_rows ≡ 0 }
     ensures limited { length jpeg.now < 2 ^ 64 → (size : Picture)
         → IsTooLarge false options.now jpeg.now size → IsErrAnd result IsOfCall }
     ensures named { length jpeg.now < 2 ^ 64 → IfErr result (IsFault (header_at jpeg.now)) }

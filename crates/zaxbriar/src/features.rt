@@ -51,12 +51,12 @@ fn feature_in(feature: &UnsupportedFeature) -> Feature
 }
 
 /// Returns the feature for which an outcome is a refusal, or for which a part was written, or none.
-pub fn feature_told(outcome: &std::result::Result<(), Refusal>) -> Feature
+pub fn feature_told<T>(outcome: &std::result::Result<T, Refusal>) -> Feature
     ensures { result ≡ feature_told outcome.now }
 {
     match outcome {
         Err(Refusal::Stream(Error::Unsupported(feature)))
-        | Err(Refusal::Part(Error::Unsupported(feature))) => feature_in(feature),
+        | Err(Refusal::Part(Error::Unsupported(feature), _)) => feature_in(feature),
         _ => Feature {
             number: 0,
             argument: 0,

@@ -23,7 +23,8 @@ ghost use Rattle.zaxbriar.specs.Metadata.{IsCopied, IsLonger, IsNoKind, end_at, 
 ghost use Rattle.zaxbriar.specs.Meanings.{AreWrong, CountsRead, IsTooLarge, IsWithin, Shows};
 ghost use Rattle.zaxbriar.specs.Meanings.{ShowsSamples, as_described, meaning_by, no_picture};
 ghost use Rattle.zaxbriar.specs.Meanings.{settings_of, size_wanted, uncounted};
-ghost use Rattle.zaxbriar.specs.Partial.{ShowsPart, TellsFault, shown_by, without_fault};
+ghost use Rattle.zaxbriar.specs.Partial.{ShowsPart, TellsFault, complete_rows_by, shown_by};
+ghost use Rattle.zaxbriar.specs.Partial.{without_fault, without_rows};
 ghost use Rattle.zaxbriar.specs.Places.{places_of};
 ghost use Rattle.zaxbriar.specs.StreamSegments.{IsCut, IsFound, next_code, next_segment};
 
@@ -44,7 +45,7 @@ pub mod places;
 mod sampling;
 pub mod segments;
 
-use answers::{BAD_ARGUMENT, MALFORMED, NO_MEMORY, OK, TRUNCATED, answer, fault_told};
+use answers::{BAD_ARGUMENT, MALFORMED, NO_MEMORY, OK, TRUNCATED, answer, fault_told, rows_told};
 use decode::decode_into;
 use description::read_info_from;
 use features::feature_told;
@@ -81,6 +82,9 @@ pub extern "C" fn zaxbriar_checked_read_info(
         → IsTooLarge false options.now jpeg.now (as_described picture.new) }
     ensures limited { length jpeg.now < 2 ^ 64 → (size : Picture)
         → IsTooLarge false options.now jpeg.now size → IsOfCallNumber result }
+
+    // No rows are counted, whatever is returned.
+    ensures rowless { picture.new.whole_rows ≡ 0 }
 
     // MALFORMED, UNSUPPORTED and TRUNCATED name the header's fault. After UNSUPPORTED `picture`
     // names the feature, and after any other result none.
@@ -144,6 +148,9 @@ pub extern "C" fn zaxbriar_checked_decode(
         → CountsRead (header_at jpeg.now) jpeg.now picture.new.stream_bytes }
     ensures unread { are_known options.now ≡ false → picture.new.stream_bytes ≡ 0 }
     ensures most { picture.new.stream_bytes ≤ length jpeg.now }
+
+    // No rows are counted, whatever is returned.
+    ensures rowless { picture.new.whole_rows ≡ 0 }
 
     // MALFORMED, UNSUPPORTED and TRUNCATED name the stream's fault. After UNSUPPORTED `picture`
     // names the feature, and after any other result none.
@@ -210,14 +217,20 @@ pub extern "C" fn zaxbriar_checked_decode_partial(
     // After OK, the stream has no fault, `pixels` has the picture that it shows, in the layout of
     // the options, and nothing else has changed in it; and `picture` describes it.
     ensures whole { result ≡ 0 → length jpeg.now < 2 ^ 64 →
-        ShowsPart options.now jpeg.now pixels.old pixels.new None picture.new }
+        ShowsPart options.now jpeg.now pixels.old pixels.new None (without_rows picture.new) }
 
     // After PARTIAL, `pixels` has the picture of what the stream brings up to its first fault, which
     // `picture` names beside describing the picture. After any other result it names no fault.
     ensures part { result ≡ 9 → length jpeg.now < 2 ^ 64 → (fault : Fault)
         × ShowsPart options.now jpeg.now pixels.old pixels.new (Some fault)
-        (without_fault picture.new) × TellsFault picture.new fault }
+        (without_fault (without_rows picture.new)) × TellsFault picture.new fault }
     ensures entire { (result ≡ 9 → ⊥) → picture.new.fault ≡ 0 }
+
+    // After OK and PARTIAL, `whole_rows` is how many rows of the picture, from its top, are
+    // complete in each scan that the stream has begun. It is 0 after any other result.
+    ensures rows { (result ≡ 0) ⊎ (result ≡ 9) → length jpeg.now < 2 ^ 64
+        → picture.new.whole_rows ≡ complete_rows_by options.now jpeg.now }
+    ensures rowless { (result ≡ 0 → ⊥) → (result ≡ 9 → ⊥) → picture.new.whole_rows ≡ 0 }
 
     // MALFORMED, UNSUPPORTED and TRUNCATED name the fault for which nothing is shown: that of a
     // stream without an accepted frame header, or a transform that doesn't fit the picture. After
@@ -234,11 +247,13 @@ pub extern "C" fn zaxbriar_checked_decode_partial(
     // After any other result than OK and PARTIAL, `pixels` is as it was.
     ensures kept { (result ≡ 0 → ⊥) → (result ≡ 9 → ⊥) → pixels.new ≡ pixels.old }
 
-    // After OK, PARTIAL and NO_ROOM `picture` is what `zaxbriar_checked_read_info` describes, but
-    // its `decoding_bytes` counts all blocks, since those that were read are kept here. So counted
-    // it is within the limits; and after NO_ROOM `pixels` is too short for it.
+    // After OK, PARTIAL and NO_ROOM `picture` is, but for `whole_rows`, what
+    // `zaxbriar_checked_read_info` describes, except that its `decoding_bytes` counts all blocks,
+    // since those that were read are kept here. So counted it is within the limits; and after
+    // NO_ROOM `pixels` is too short for it.
     ensures describes { (result ≡ 0) ⊎ (result ≡ 9) → length jpeg.now < 2 ^ 64
-        → IsWithin true options.now jpeg.now (as_described (without_fault picture.new)) }
+        → IsWithin true options.now jpeg.now
+        (as_described (without_fault (without_rows picture.new))) }
     ensures room { result ≡ 5 → length jpeg.now < 2 ^ 64
         → IsWithin true options.now jpeg.now (as_described picture.new)
         × (length pixels.old < picture.new.size) }
@@ -278,6 +293,7 @@ pub extern "C" fn zaxbriar_checked_decode_partial(
     picture.feature = feature.number;
     picture.feature_argument = feature.argument;
     picture.fault = fault_told(&outcome);
+    picture.whole_rows = u32::from(rows_told(&outcome));
     answer(alloc, outcome, &mut picture.text)
 }
 

@@ -27,6 +27,9 @@ pub struct Picture {
     /// The size in pixels, at the scale of the options.
     pub width: u32,
     pub height: u32,
+    /// After decoding in part, how many rows of the picture, from its top, are complete in each
+    /// scan that has begun.
+    pub whole_rows: u32,
     /// The bytes of a pixel in its layout.
     pub pixel_bytes: u8,
     /// The number of the layout that was asked for.
@@ -60,7 +63,7 @@ pub struct Picture {
     /// The number of the colour transform that the header asks for.
     pub transform: u8,
     /// Zero.
-    pub reserved: [u8; 19],
+    pub reserved: [u8; 15],
     /// Why a call failed, ended by a zero; all zeros after a success.
     pub text: [u8; TEXT_BYTES],
 }
@@ -73,6 +76,7 @@ pub const NO_PICTURE: Picture = Picture {
     stream_bytes: 0,
     width: 0,
     height: 0,
+    whole_rows: 0,
     pixel_bytes: 0,
     layout: 0,
     components: 0,
@@ -89,7 +93,7 @@ pub const NO_PICTURE: Picture = Picture {
     horizontal_density: 0,
     vertical_density: 0,
     transform: 0,
-    reserved: [0; 19],
+    reserved: [0; 15],
     text: [0; TEXT_BYTES],
 };
 
@@ -142,6 +146,7 @@ pub fn picture_of(
         stream_bytes: 0,
         width: u32::from(lines.width),
         height: u32::from(lines.height),
+        whole_rows: 0,
         pixel_bytes: lines.pixel_bytes,
         layout,
         components: samples_a_pixel(header.info.pixel_format),
@@ -158,7 +163,7 @@ pub fn picture_of(
         horizontal_density: density.horizontal,
         vertical_density: density.vertical,
         transform: header.transform,
-        reserved: [0; 19],
+        reserved: [0; 15],
         text: [0; TEXT_BYTES],
     }
 }

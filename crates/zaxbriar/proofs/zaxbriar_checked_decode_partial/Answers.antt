@@ -1,6 +1,6 @@
-use Rattle.std.proofs.Common.{refl, true}
+use Rattle.std.proofs.Common.{◌∙◌, refl, true}
 use Rattle.zaxbriar.proofs.Fails.{of-call-number}
-use Rattle.zaxbriar.proofs.Parts.{described-part, part-told, whole-told}
+use Rattle.zaxbriar.proofs.Parts.{described-part, none-told, part-told, told-rows, whole-told}
 use Rattle.zaxbriar.proofs.Told.{if-own}
 use Rattle.zaxbriar.proofs.zaxbriar_checked_decode_partial.Goals as goal
 
@@ -32,3 +32,12 @@ pub returns-clause-limited : goal.returns-clause-limited
 returns-clause-limited c few size large =
     of-call-number c.decode_into-outcome.result c.answer.result c.answer.ensures.code
     (c.decode_into-outcome.ensures.limited few size large)
+
+pub returns-clause-rows : goal.returns-clause-rows
+returns-clause-rows c told few =
+    c.from-picture.ensures ∙ c.rows_told.ensures ∙ told-rows c.decode_into-outcome.result _ c.answer.result c.answer.ensures.code
+    (c.decode_into-outcome.ensures.rows refl few) told
+
+pub returns-clause-rowless : goal.returns-clause-rowless
+returns-clause-rowless c a b =
+    c.from-picture.ensures ∙ c.rows_told.ensures ∙ none-told c.decode_into-outcome.result c.answer.result c.answer.ensures.code a b

@@ -6,7 +6,8 @@ use Rattle.jpeg_streams.specs.Pixels.{info_of}
 use Rattle.jpeg_streams.specs.Stream.{header_at, told_of}
 use Rattle.zaxbriar.proofs.Fails.{header-fails, if-err, means-rest, not-own, on-ok, own-large, tells-slice}
 use Rattle.zaxbriar.proofs.Means.{after-header, after-rest, joined, has-left}
-use Rattle.zaxbriar.proofs.Parts.{brought-shown, header-lacks, no-part, none-named, reached-err, reached-ok, shows-rest}
+use Rattle.zaxbriar.proofs.Parts.{brought-shown, header-lacks, no-part, no-rows, none-named, part-rows}
+use Rattle.zaxbriar.proofs.Parts.{reached-err, reached-ok, shows-rest}
 use Rattle.zaxbriar.proofs.Rests.{header-counted, image-counted, meaning-counted}
 use Rattle.zaxbriar.proofs.Told.{arranged-of}
 use Rattle.zaxbriar.specs.Limits.{bytes_beside}
@@ -211,3 +212,19 @@ returns-clause-lacking c part few =
     let lacking = rw (read.settings, facts.1.2) at (c.decode_lines-decoded.ensures.lacking part facts.0) in
     rw (shows-rest c.args.options.now c.args.jpeg.now c.describe-described.new.decoder.source.bytes facts.1.0
     (ap header_at (sym same) ∙ facts.1.1)) lacking
+
+pub returns-in_err-header-clause-rows : goal.returns-in_err-header-clause-rows
+returns-in_err-header-clause-rows c part few =
+    let p = err_from_is_err_and c.from_residual-in_err-header.result c.from_residual-in_err-header.ensures.1 in
+    rw (p.1, p.2) (no-rows _ _ c.in_err-header.ensures.whole)
+
+pub returns-clause-rows : goal.returns-clause-rows
+returns-clause-rows c part few =
+    let tells = tells-slice c.new.result.bytes.now c.args.jpeg.now c.new.ensures few in
+    let known = bytes_are_known _ c.args.jpeg.now tells in
+    let same = known_bytes_are_told _ c.args.jpeg.now tells in
+    let read = rw c.in_ok-decoder.ensures.ok at c.in_ok-header.ensures.reads in
+    let facts = read.reads known in
+    let rows = rw facts.1.2 at (c.decode_lines-decoded.ensures.rows part facts.0) in
+    rw (part-rows c.args.options.now c.args.jpeg.now c.describe-described.new.decoder.source.bytes facts.1.0
+    (ap header_at (sym same) ∙ facts.1.1)) rows
