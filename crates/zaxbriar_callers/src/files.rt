@@ -6,11 +6,10 @@ ghost use Rattle.zaxbriar_pictures.specs.Given.{WritesGiven};
 ghost use Rattle.zaxbriar_pictures.specs.Netpbm.{file_of};
 ghost use Rattle.zaxbriar_pictures.specs.Thumbnails.{WritesThumbnail};
 
-use jpeg_decoder::error::Error;
 use jpeg_decoder::{Scale, error};
 use std::alloc::Global;
 use std::io::{Read, Write};
-use zaxbriar_pictures::extents::Extent;
+use zaxbriar_pictures::extents::{Completeness, Extent};
 use zaxbriar_pictures::limits::Limits;
 use zaxbriar_pictures::netpbm::{Picture, write_picture};
 use zaxbriar_pictures::raw::write_raw;
@@ -34,7 +33,7 @@ pub fn picture_at<R: Read + Drop, W: Write>(
     extent: Extent,
     limits: Limits,
     writer: &mut W,
-) -> Result<Option<Error>, Refusal>
+) -> Result<Completeness, Refusal>
     ensures { (bytes : List ℕ) → Tells (R.remaining reader) bytes
         → IfOk result (WritesGiven extent scale bytes (W.contents writer.old)
         (W.contents writer.new)) }
@@ -50,7 +49,7 @@ pub fn thumbnail<R: Read + Drop, W: Write>(
     extent: Extent,
     limits: Limits,
     writer: &mut W,
-) -> Result<Option<Error>, Refusal>
+) -> Result<Completeness, Refusal>
     ensures { (bytes : List ℕ) → Tells (R.remaining reader) bytes
         → IfOk result (WritesThumbnail extent request bytes (W.contents writer.old)
         (W.contents writer.new)) }

@@ -12,8 +12,8 @@ use zaxbriar_pictures::limits::Limits;
 use zaxbriar_pictures::refusal::Refusal;
 use zaxbriar_pictures::scaled::{Request, ScaledPicture, read_picture};
 
-/// Calls `read_picture`, and says that picture and fault are those that the stream gives at its
-/// scale.
+/// Calls `read_picture`, and says that picture, complete rows and fault are those that the stream
+/// gives at its scale.
 pub fn scaled_picture<R: Read + Drop>(
     alloc: Global,
     reader: R,
@@ -23,7 +23,7 @@ pub fn scaled_picture<R: Read + Drop>(
 ) -> Result<ScaledPicture, Refusal>
     ensures { (bytes : List ℕ) → Tells (R.remaining reader) bytes
         → IfOk result (λ made. IsGiven extent made.scale bytes (decoded_in made.picture)
-        made.fault) }
+        made.whole_rows made.fault) }
 {
     read_picture(alloc, reader, request, extent, limits)
 }

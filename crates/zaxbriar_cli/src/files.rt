@@ -3,6 +3,7 @@
 use crate::arguments::NAME;
 use crate::ending::{Failure, Outcome};
 use crate::output::Output;
+use crate::partial::{Measure, Part};
 use jpeg_decoder::ByteReader;
 use jpeg_decoder::error::Error;
 use std::fmt::Display;
@@ -10,6 +11,7 @@ use std::fs::File;
 use std::io;
 use std::io::{BufRead, BufReader, ErrorKind, Read};
 use std::rt::Stdin;
+use zaxbriar_pictures::extents::Completeness;
 use zaxbriar_pictures::formats::FileFormat;
 use zaxbriar_pictures::refusal::Refusal;
 
@@ -107,21 +109,22 @@ pub fn finish(
 }
 
 /// Ends an output like `finish`, and reports the fault of a file of which what there is was
-/// written.
+/// written, and how much of the picture is complete.
 pub fn finish_with_fault(
     rt: &HostRuntime,
     input: Option<&str>,
     output: Output<'_>,
-    written: Result<Option<Error>, Refusal>,
+    written: Result<Completeness, Refusal>,
+    measure: Measure,
 ) -> Outcome<()> {
-    let (outcome, fault) = match written {
-        Ok(fault) => (Ok(()), fault),
+    let (outcome, part) = match written {
+        Ok(told) => (Ok(()), Part::of(told, measure)),
         Err(refusal) => (Err(refusal), None),
     };
     finish(rt, input, output, outcome)?;
-    match fault {
-        Some(fault) => {
-            report(rt, input, &fault);
+    match part {
+        Some(part) => {
+            report(rt, input, &part);
             Err(Failure::Faulty)
         }
         None => Ok(()),

@@ -5,7 +5,8 @@
 //! which decodes MJPEG streams. Each reads the files that are named, or standard input, and writes
 //! to `-o` or standard output. It is silent on success. A refusal is one line on standard error
 //! that names the file, and the status is then 1; it is 2 for wrong arguments, and 3 if `--partial`
-//! has written what there is of a file that has a fault, which a line names.
+//! has written what there is of a file that has a fault, which a line names with how much of the
+//! picture is complete.
 #![tactic(auto)]
 
 mod arguments;
@@ -19,6 +20,7 @@ mod header;
 mod metadata;
 mod names;
 mod output;
+mod partial;
 
 use ending::exit_code;
 use std::process::ExitCode;

@@ -8,6 +8,7 @@ use Rattle.jpeg_streams.specs.Output.{default_settings}
 use Rattle.jpeg_streams.specs.Shown.{shown_ahead, shown_rest}
 use Rattle.jpeg_streams.specs.States.{Decoding, IsReading, ahead}
 use Rattle.jpeg_streams.specs.Stream.{Told, rest_at, told_of}
+use Rattle.jpeg_streams.specs.WholeRows.{whole_rows_ahead, whole_rows_rest}
 use Rattle.jpeg_streams.specs.declared.progress.Progress.{Progress}
 use Rattle.jpeg_streams.specs.declared.progress.Progress.TheVariants.{HeaderRead}
 use Rattle.jpeg_streams.specs.declared.settings.Settings.{Settings}
@@ -42,20 +43,27 @@ still-known true fault failed given_up none = refl
 still-known false None failed given_up none = absurd (given_up refl)
 still-known false (Some e) failed given_up none = absurd (none (given_up refl))
 
+-- One that showed a fault which isn't its own is still known.
+still-read : {X : Type 0} (lines_of : X → List (List ℕ)) (fault_of : X → Option Error) (old new : Decoding)
+    (shown p : X) (failed : Bool) → IsReading old.stage → Shows (λ x. concat (lines_of x)) fault_of old (Ok shown) new
+    → failed ≡ new.source.failed → p ≡ shown → IfSome (fault_of p) (λ e. IsGivenUp e failed → ⊥)
+    → old.source.known ≡ true → new.source.known ≡ true
+still-read lines_of fault_of old new shown p failed now d seen same none known =
+    still-known new.source.known (fault_of shown) new.source.failed (d.given_up now known)
+    (subst (λ (f : Option Error). IfSome f (λ e. IsGivenUp e new.source.failed → ⊥)) (ap fault_of same)
+    (subst (λ (b : Bool). IfSome (fault_of p) (λ e. IsGivenUp e b → ⊥)) seen none))
+
 pub partial-gives : {X : Type 0} (lines_of : X → List (List ℕ)) (fault_of : X → Option Error) (old new : Decoding)
-    (shown : X) (failed : Bool) (r : Result (List (List ℕ) × Option Error) Error) → old.stage ≡ HeaderRead
+    (shown : X) (failed : Bool) (r : Result X Error) → old.stage ≡ HeaderRead
     → old.settings ≡ default_settings → Shows (λ x. concat (lines_of x)) fault_of old (Ok shown) new
-    → failed ≡ new.source.failed → IfOk r (λ p. (p.0 ≡ lines_of shown) × (p.1 ≡ fault_of shown))
-    → IfOk r (λ p. IfSome p.1 (λ e. IsGivenUp e failed → ⊥))
-    → IfOk r (λ p. GivesRest Partial old new (concat p.0) p.1)
+    → failed ≡ new.source.failed → IfOk r (λ p. p ≡ shown)
+    → IfOk r (λ p. IfSome (fault_of p) (λ e. IsGivenUp e failed → ⊥))
+    → IfOk r (λ p. GivesRest Partial old new (concat (lines_of p)) (fault_of p))
 partial-gives lines_of fault_of old new shown failed (Err e) at plain d seen same none = tt
-partial-gives lines_of fault_of old new shown failed (Ok p) at plain d seen same none =
-    subst (λ (l : List (List ℕ)). GivesRest Partial old new (concat l) p.1) (sym same.0)
-    (subst (λ (f : Option Error). GivesRest Partial old new (concat (lines_of shown)) f) (sym same.1) (λ known.
+partial-gives {X} lines_of fault_of old new shown failed (Ok p) at plain d seen same none =
+    subst (λ (x : X). GivesRest Partial old new (concat (lines_of x)) (fault_of x)) (sym same) (λ known.
     let now = reading old.stage at in
-    let still = still-known new.source.known (fault_of shown) new.source.failed (d.given_up now known)
-    (subst (λ (f : Option Error). IfSome f (λ e. IsGivenUp e new.source.failed → ⊥)) same.1
-    (subst (λ (b : Bool). IfSome p.1 (λ e. IsGivenUp e b → ⊥)) seen none)) in
+    let still = still-read lines_of fault_of old new shown p failed now d seen same none known in
     let s = d.shown now known still in (
       s.0,
       ap (λ (s : Settings). shown_rest s old.found old.source.bytes) (sym plain)
@@ -63,4 +71,19 @@ partial-gives lines_of fault_of old new shown failed (Ok p) at plain d seen same
       s.2,
       s.3,
       s.4,
-    )))
+    ))
+
+pub partial-counts : {X : Type 0} (lines_of : X → List (List ℕ)) (fault_of : X → Option Error) (rows_of : X → ℕ)
+    (old new : Decoding) (shown : X) (failed : Bool) (r : Result X Error) → old.stage ≡ HeaderRead
+    → Shows (λ x. concat (lines_of x)) fault_of old (Ok shown) new
+    → (IsReading old.stage → old.source.known ≡ true → new.source.known ≡ true
+    → rows_of shown ≡ whole_rows_ahead old.stage old.found old.source.bytes)
+    → failed ≡ new.source.failed → IfOk r (λ p. p ≡ shown)
+    → IfOk r (λ p. IfSome (fault_of p) (λ e. IsGivenUp e failed → ⊥)) → old.source.known ≡ true
+    → IfOk r (λ p. rows_of p ≡ whole_rows_rest old.found old.source.bytes)
+partial-counts lines_of fault_of rows_of old new shown failed (Err e) at d counted seen same none known = tt
+partial-counts lines_of fault_of rows_of old new shown failed (Ok p) at d counted seen same none known =
+    let now = reading old.stage at in
+    let still = still-read lines_of fault_of old new shown p failed now d seen same none known in
+    ap rows_of same ∙ counted now known still
+    ∙ ap (λ (p : Progress). whole_rows_ahead p old.found old.source.bytes) at

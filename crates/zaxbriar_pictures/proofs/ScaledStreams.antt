@@ -16,9 +16,10 @@ use Rattle.jpeg_streams.specs.declared.images.ImageInfo.{ImageInfo}
 use Rattle.jpeg_decoder.specs.Reaching.{NamesFault}
 use Rattle.jpeg_decoder.proofs.HeaderThenRest.{header-means}
 use Rattle.zaxbriar_pictures.specs.Given.{Given, IsGiven, WritesGiven, file_in, given, given_at_scale, given_of}
-use Rattle.zaxbriar_pictures.specs.Given.{given_rest, without_fault}
+use Rattle.zaxbriar_pictures.specs.Given.{TellsGiven, complete_rest, complete_rows, given_rest, without_fault}
 use Rattle.zaxbriar_pictures.specs.ScaledPictures.{Decoded, decoded, header_exif, header_info, picture_at_scale}
 use Rattle.zaxbriar_pictures.specs.Steps.{GivesPicture}
+use Rattle.zaxbriar_pictures.specs.declared.extents.Completeness.{Completeness}
 use Rattle.zaxbriar_pictures.specs.declared.extents.Extent.{Extent}
 use Rattle.zaxbriar_pictures.specs.declared.extents.Extent.TheVariants.{Whole}
 use Rattle.jpeg_segments.specs.declared.scale.Scale.{Scale}
@@ -45,68 +46,94 @@ given-some extent scale bytes rest found s info precision header gives hi hp =
     rw (given_at_scale, then-ok (header_at bytes) _ (found, rest) (Ok s) header gives)
     (of_frame s.told.frame info_of (λ f. f.precision) s.picture s.fault info precision hi hp)
 
+-- The rows that are complete of what the rest gives are those of what the stream gives.
+rows-at : (extent : Extent) (scale : Scale) (bytes rest : List ℕ) (found : Found) (height : ℕ)
+    → header_at bytes ≡ Ok (found, rest)
+    → complete_rows extent scale bytes height ≡ complete_rest extent (with_said (scaled_to scale) found) rest height
+unfolding complete_rows
+rows-at extent scale bytes rest found height header = rw (complete_rows, header) refl
+
 pub is-given : (extent : Extent) (scale : Scale) (bytes : List ℕ) (found : Found) (old new : Decoding) (picture : Decoded)
-    (fault : Option Error)
+    (told : Completeness)
     → header_at bytes ≡ Ok (found, old.source.bytes) → old.source.known ≡ true
     → old.found ≡ with_said (scaled_to scale) found
-    → GivesPicture extent old new picture fault → IsGiven extent scale bytes picture fault
-is-given extent scale bytes found old new picture fault header known is gives =
+    → GivesPicture extent old new picture told → IsGiven extent scale bytes picture told.whole_rows told.fault
+is-given extent scale bytes found old new picture told header known is gives =
     let r = gives.rest known in
     let s : Shown = r.0 in
     let at = given-some extent scale bytes old.source.bytes found s picture.info picture.precision header
     (ap (λ (f : Found). given_rest extent f old.source.bytes) (sym is) ∙ r.1)
     (ap (λ (t : Told). option_map info_of t.frame) (sym r.3) ∙ gives.info_is)
     (ap (λ (t : Told). option_map (λ f. f.precision) t.frame) (sym r.3) ∙ gives.precision_is) in
-    subst (λ (o : Option Given). IsSomeAnd o (λ g. (picture ≡ g.picture) × NamesFault fault g.fault)) (sym at)
-    (ap (λ (pixels : List ℕ). decoded picture.info picture.precision pixels) r.2, r.4)
+    let counted = gives.rows known ∙ ap (λ (i : ImageInfo). complete_rest extent old.found old.source.bytes i.height) gives.told_is
+    ∙ ap (λ (f : Found). complete_rest extent f old.source.bytes picture.info.height) is
+    ∙ sym (rows-at extent scale bytes old.source.bytes found picture.info.height header) in
+    subst (λ (o : Option Given). IsSomeAnd o (λ g. (picture ≡ g.picture) × NamesFault told.fault g.fault
+    × (told.whole_rows ≡ complete_rows extent scale bytes g.picture.info.height))) (sym at)
+    (ap (λ (pixels : List ℕ). decoded picture.info picture.precision pixels) r.2, r.4, counted)
+
+-- What is told of a picture is told of what is given, which has that picture.
+pub tells-given : (extent : Extent) (scale : Scale) (bytes : List ℕ) (g : Given) (picture : Decoded) (told : Completeness)
+    → told.info ≡ picture.info → picture ≡ g.picture → NamesFault told.fault g.fault
+    → told.whole_rows ≡ complete_rows extent scale bytes g.picture.info.height
+    → TellsGiven extent scale bytes g told
+tells-given extent scale bytes g picture told is same names rows =
+    let said = is ∙ ap (λ (p : Decoded). p.info) same in
+    (said, rows ∙ ap (λ (i : ImageInfo). complete_rows extent scale bytes i.height) (sym said), names)
 
 pub file-given : (extent : Extent) (scale : Scale) (bytes : List ℕ) (before after : Option (List ℕ)) (picture : Decoded)
-    (fault : Option Error)
-    → IsGiven extent scale bytes picture fault → Appends before after (file_in picture)
-    → WritesGiven extent scale bytes before after fault
-file-given extent scale bytes before after picture fault h appended = go (given_at_scale extent scale bytes) h
+    (told : Completeness)
+    → IsGiven extent scale bytes picture told.whole_rows told.fault → told.info ≡ picture.info
+    → Appends before after (file_in picture) → WritesGiven extent scale bytes before after told
+file-given extent scale bytes before after picture told h is appended = go (given_at_scale extent scale bytes) h
   where
-    go : (o : Option Given) → IsSomeAnd o (λ g. (picture ≡ g.picture) × NamesFault fault g.fault)
-        → IsSomeAnd o (λ g. Appends before after (file_in g.picture) × NamesFault fault g.fault)
+    go : (o : Option Given) → IsSomeAnd o (λ g. (picture ≡ g.picture) × NamesFault told.fault g.fault
+        × (told.whole_rows ≡ complete_rows extent scale bytes g.picture.info.height))
+        → IsSomeAnd o (λ g. Appends before after (file_in g.picture) × TellsGiven extent scale bytes g told)
     go None h = absurd h
-    go (Some g) h = (subst (λ (p : Decoded). Appends before after (file_in p)) h.0 appended, h.1)
+    go (Some g) h = (
+      subst (λ (p : Decoded). Appends before after (file_in p)) h.0 appended,
+      tells-given extent scale bytes g picture told is h.0 h.1 h.2,
+    )
 
 -- Where the whole is wanted, the picture is the one that the stream means at the scale.
-whole-rest : (r : Outcome (Told × List ℕ)) (picture : Decoded) (fault : Option Error)
+whole-rest : (r : Outcome (Told × List ℕ)) (picture : Decoded) (P Q : Given → Type 0)
     → IsSomeAnd (elim (r >>= (λ m. Ok (without_fault m.0))) [
       | Ok s ↦ given_of s
       | Err fault ↦ None
-    ]) (λ g. (picture ≡ g.picture) × NamesFault fault g.fault)
+    ]) (λ g. (picture ≡ g.picture) × P g × Q g)
     → elim r [
       | Ok stream ↦ option_map (λ f. decoded (info_of f) f.precision stream.0.1) stream.0.0.frame
       | Err fault ↦ None
     ] ≡ Some picture
-whole-rest (Err e) picture fault h = absurd h
-whole-rest (Ok ((told, pixels), left)) picture fault h = go told.frame h
+whole-rest (Err e) picture P Q h = absurd h
+whole-rest (Ok ((told, pixels), left)) picture P Q h = go told.frame h
   where
     go : (frame : Option Frame) → IsSomeAnd (option_map (λ f. given (decoded (info_of f) f.precision pixels) None) frame)
-        (λ g. (picture ≡ g.picture) × NamesFault fault g.fault)
+        (λ g. (picture ≡ g.picture) × P g × Q g)
         → option_map (λ f. decoded (info_of f) f.precision pixels) frame ≡ Some picture
     go None h = absurd h
     go (Some f) h = ap Some (sym h.0)
 
-pub whole-given : (scale : Scale) (bytes : List ℕ) (picture : Decoded) (fault : Option Error)
-    → IsGiven Whole scale bytes picture fault → picture_at_scale scale bytes ≡ Some picture
+pub whole-given : (scale : Scale) (bytes : List ℕ) (picture : Decoded) (rows : ℕ) (fault : Option Error)
+    → IsGiven Whole scale bytes picture rows fault → picture_at_scale scale bytes ≡ Some picture
 unfolding given_at_scale picture_at_scale scaled_meaning
-whole-given scale bytes picture fault h = go (header_at bytes) h
+whole-given scale bytes picture rows fault h = go (header_at bytes) h
   where
     go : (r : Outcome Found) → IsSomeAnd (elim (r >>= (λ header.
         given_rest Whole (with_said (scaled_to scale) header.0) header.1)) [
           | Ok s ↦ given_of s
           | Err fault ↦ None
-        ]) (λ g. (picture ≡ g.picture) × NamesFault fault g.fault)
+        ]) (λ g. (picture ≡ g.picture) × NamesFault fault g.fault
+        × (rows ≡ complete_rows Whole scale bytes g.picture.info.height))
         → elim (r >>= (λ header. rest_at default_settings (with_said (scaled_to scale) header.0) header.1)) [
           | Ok stream ↦ option_map (λ f. decoded (info_of f) f.precision stream.0.1) stream.0.0.frame
           | Err fault ↦ None
         ] ≡ Some picture
     go (Err e) h = absurd h
     go (Ok header) h =
-        whole-rest (rest_at default_settings (with_said (scaled_to scale) header.0) header.1) picture fault h
+        whole-rest (rest_at default_settings (with_said (scaled_to scale) header.0) header.1) picture
+        (λ g. NamesFault fault g.fault) (λ g. rows ≡ complete_rows Whole scale bytes g.picture.info.height) h
 
 -- ---- what a header says
 

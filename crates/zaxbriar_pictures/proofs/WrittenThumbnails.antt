@@ -2,13 +2,14 @@
 use Rattle.std.proofs.Common.{◌≡◌, ℕ, List, Option, None, Some, IsSomeAnd, ap, refl, ◌∙◌}
 use Rattle.std.specs.Io.KnownBytes.{Appends}
 use Rattle.jpeg_segments.specs.declared.frame.Dimensions.{Dimensions}
-use Rattle.jpeg_bits.specs.declared.error.Error.{Error}
 use Rattle.zaxbriar_pictures.specs.Boxes.{boxed}
-use Rattle.zaxbriar_pictures.specs.Given.{Given, IsGiven, file_in, given_at_scale}
+use Rattle.zaxbriar_pictures.specs.Given.{Given, IsGiven, TellsGiven, file_in, given_at_scale}
 use Rattle.zaxbriar_pictures.specs.ScaledPictures.{Decoded, header_exif, header_info}
 use Rattle.zaxbriar_pictures.specs.Sizes.{orientation_for, scale_of_request, size_for}
 use Rattle.zaxbriar_pictures.specs.Thumbnails.{WritesThumbnail}
 use Rattle.zaxbriar_pictures.specs.Turns.{upright}
+use Rattle.zaxbriar_pictures.proofs.ScaledStreams.{tells-given}
+use Rattle.zaxbriar_pictures.specs.declared.extents.Completeness.{Completeness}
 use Rattle.zaxbriar_pictures.specs.declared.extents.Extent.{Extent}
 use Rattle.zaxbriar_pictures.specs.declared.scaled.Request.{Request}
 use Rattle.jpeg_segments.specs.declared.scale.Scale.{Scale}
@@ -23,15 +24,16 @@ moved : (before after : Option (List ℕ)) (made p : Decoded) → made ≡ p →
 moved before after made p same h = rw (← same) h
 
 pub written : (extent : Extent) (request : Request) (bytes : List ℕ) (before after : Option (List ℕ)) (scale : Scale)
-    (size : Dimensions) (orientation : ℕ) (p smaller made : Decoded) (fault : Option Error)
-    → orientation ≡ orientation_for request (header_exif bytes) → IsGiven extent scale bytes p fault
+    (size : Dimensions) (orientation : ℕ) (p smaller made : Decoded) (told : Completeness)
+    → orientation ≡ orientation_for request (header_exif bytes)
+    → IsGiven extent scale bytes p told.whole_rows told.fault → told.info ≡ p.info
     → IsSomeAnd (header_info bytes)
     (λ full. (scale ≡ scale_of_request request full orientation) × (size ≡ size_for request full
     orientation))
     → smaller ≡ boxed size p → made ≡ upright orientation smaller
     → Appends before after (file_in made)
-    → WritesThumbnail extent request bytes before after fault
-written extent request bytes before after scale size orientation p smaller made fault turn is chosen less same appended =
+    → WritesThumbnail extent request bytes before after told
+written extent request bytes before after scale size orientation p smaller made told turn is said chosen less same appended =
     let header = held (header_info bytes) _ chosen in
     let full = header.0 in
     let gives = held (given_at_scale extent scale bytes) _ is in
@@ -41,4 +43,6 @@ written extent request bytes before after scale size orientation p smaller made 
     let known : made ≡ upright orientation (boxed (size_for request full orientation) g.picture)
     = same ∙ ap (upright orientation) (less ∙ ap (λ (s : Dimensions). boxed s p) header.2.1
     ∙ ap (boxed (size_for request full orientation)) gives.2.0) in
-    rw (← turn) (full, g, header.1, at_scale, moved before after made _ known appended, gives.2.1)
+    let tells : TellsGiven extent (scale_of_request request full orientation) bytes g told
+    = rw (← header.2.0) (tells-given extent scale bytes g p told said gives.2.0 gives.2.1 gives.2.2) in
+    rw (← turn) (full, g, header.1, at_scale, moved before after made _ known appended, tells)

@@ -8,9 +8,11 @@ use Rattle.jpeg_streams.specs.Output.{default_settings}
 use Rattle.jpeg_streams.specs.Pixels.{info_of}
 use Rattle.jpeg_streams.specs.Shown.{Shown, shown_rest}
 use Rattle.jpeg_streams.specs.Stream.{Told, header_at, rest_at, scaled_to}
+use Rattle.jpeg_streams.specs.WholeRows.{whole_rows_rest}
 use Rattle.jpeg_decoder.specs.Reaching.{NamesFault}
 use Rattle.zaxbriar_pictures.specs.Netpbm.{file_of}
 use Rattle.zaxbriar_pictures.specs.ScaledPictures.{Decoded, decoded}
+use Rattle.zaxbriar_pictures.specs.declared.extents.Completeness.{Completeness}
 use Rattle.zaxbriar_pictures.specs.declared.extents.Extent.{Extent}
 use Rattle.zaxbriar_pictures.specs.declared.extents.Extent.TheVariants.{Whole, Partial}
 use Rattle.jpeg_segments.specs.declared.scale.Scale.{Scale}
@@ -47,18 +49,40 @@ given_at_scale extent scale bytes = elim (header_at bytes >>= (λ header.
       | Err fault ↦ None
     ]
 
+-- How many rows of such a picture, from its top, are complete in each scan that the stream has
+-- begun; all of a whole picture, which has this height.
+abbrev pub complete_rest : Extent → Found → List ℕ → ℕ → ℕ
+complete_rest Whole found bytes height = height
+complete_rest Partial found bytes height = whole_rows_rest found bytes
+
+-- How many rows of the picture that a stream gives at a scale are complete.
+unfoldable pub complete_rows : Extent → Scale → List ℕ → ℕ → ℕ
+complete_rows extent scale bytes height = elim (header_at bytes) [
+  | Ok header ↦ complete_rest extent (with_said (scaled_to scale) header.0) header.1 height
+  | Err fault ↦ 0
+]
+
 -- the file of a picture
 abbrev pub file_in : Decoded → List ℕ
 file_in p = file_of p.info p.precision p.pixels
 
--- A stream gives a picture at a scale, and the fault that an error names, or none.
-abbrev pub IsGiven : Extent → Scale → List ℕ → Decoded → Option Error → Type 0
-IsGiven extent scale bytes picture fault = IsSomeAnd (given_at_scale extent scale bytes)
-    (λ g. (picture ≡ g.picture) × NamesFault fault g.fault)
+-- A stream gives a picture at a scale, of which this many rows are complete, and the fault that an
+-- error names, or none.
+abbrev pub IsGiven : Extent → Scale → List ℕ → Decoded → ℕ → Option Error → Type 0
+IsGiven extent scale bytes picture rows fault = IsSomeAnd (given_at_scale extent scale bytes)
+    (λ g. (picture ≡ g.picture) × NamesFault fault g.fault
+    × (rows ≡ complete_rows extent scale bytes g.picture.info.height))
 
--- A writer is given the file of the picture of a stream at a scale, and its caller the name of the
--- fault.
+-- A caller is told how much of the picture that a stream gives at a scale is complete: what is said
+-- of it, how many of its rows are complete, and the name of the fault.
+abbrev pub TellsGiven : Extent → Scale → List ℕ → Given → Completeness → Type 0
+TellsGiven extent scale bytes g told = (told.info ≡ g.picture.info)
+    × (told.whole_rows ≡ complete_rows extent scale bytes told.info.height)
+    × NamesFault told.fault g.fault
+
+-- A writer is given the file of the picture of a stream at a scale, and its caller is told how much
+-- of it is complete.
 abbrev pub WritesGiven : Extent → Scale → List ℕ → Option (List ℕ) → Option (List ℕ)
-    → Option Error → Type 0
-WritesGiven extent scale bytes before after fault = IsSomeAnd (given_at_scale extent scale bytes)
-    (λ g. Appends before after (file_in g.picture) × NamesFault fault g.fault)
+    → Completeness → Type 0
+WritesGiven extent scale bytes before after told = IsSomeAnd (given_at_scale extent scale bytes)
+    (λ g. Appends before after (file_in g.picture) × TellsGiven extent scale bytes g told)

@@ -11,9 +11,10 @@ use Rattle.jpeg_streams.specs.States.{Decoding}
 use Rattle.jpeg_streams.specs.Stream.{header_at, scaled_to, told_of}
 use Rattle.jpeg_streams.specs.declared.progress.Progress.TheVariants.{HeaderRead}
 use Rattle.jpeg_decoder.specs.Reaching.{NamesFault}
-use Rattle.zaxbriar_pictures.specs.Given.{file_in, given_rest}
+use Rattle.zaxbriar_pictures.specs.Given.{complete_rest, file_in, given_rest}
 use Rattle.zaxbriar_pictures.specs.ScaledPictures.{Decoded}
 use Rattle.zaxbriar_pictures.specs.Sizes.{orientation_for, scale_of_request, size_for}
+use Rattle.zaxbriar_pictures.specs.declared.extents.Completeness.{Completeness}
 use Rattle.zaxbriar_pictures.specs.declared.extents.Extent.{Extent}
 use Rattle.zaxbriar_pictures.specs.declared.scaled.Choice.{Choice}
 use Rattle.zaxbriar_pictures.specs.declared.scaled.Request.{Request}
@@ -42,16 +43,23 @@ GivesRest extent old new samples fault = old.source.known ≡ true → (s : Show
     × (given_rest extent old.found old.source.bytes ≡ Ok s) × (samples ≡ s.picture)
     × (told_of new.found.said ≡ s.told) × NamesFault fault s.fault
 
--- Such a decoder has given a picture.
+-- Such a decoder has counted the complete rows of what it gave, which has this height.
+abbrev pub CountsRest : Extent → Decoding → ℕ → ℕ → Type 0
+CountsRest extent old height rows = old.source.known ≡ true
+    → rows ≡ complete_rest extent old.found old.source.bytes height
+
+-- Such a decoder has given a picture, and has told how much of it is complete.
 pub record GivesPicture (extent : Extent) (old new : Decoding) (picture : Decoded)
-    (fault : Option Error) : Type 0 where
-  pub rest : GivesRest extent old new picture.pixels fault
+    (told : Completeness) : Type 0 where
+  pub rest : GivesRest extent old new picture.pixels told.fault
   pub info_is : option_map info_of new.found.said.frame ≡ Some picture.info
   pub precision_is : option_map (λ f. f.precision) new.found.said.frame ≡ Some picture.precision
+  pub told_is : told.info ≡ picture.info
+  pub rows : CountsRest extent old told.info.height told.whole_rows
 
 -- Such a decoder has given a picture, and a writer has got its file.
 pub record WritesFile (extent : Extent) (old new : Decoding) (before after : Option (List ℕ))
-    (fault : Option Error) : Type 0 where
+    (told : Completeness) : Type 0 where
   pub picture : Decoded
-  pub gives : GivesPicture extent old new picture fault
+  pub gives : GivesPicture extent old new picture told
   pub written : Appends before after (file_in picture)

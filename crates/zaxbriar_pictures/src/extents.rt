@@ -1,17 +1,19 @@
 //! How much of a stream's picture is decoded: the whole, or what a stream that has a fault has
 //! brought up to it.
-ghost use Rattle.std.specs.Prelude.{◌≡◌, IfOk, IfSome, is_some, true};
+ghost use Rattle.std.specs.Prelude.{◌≡◌, IfOk, IfSome, Some, is_some, option_map, true};
 ghost use Rattle.std.specs.List.{concat};
 ghost use Rattle.jpeg_bits.specs.Reading.{IsGivenUp};
 ghost use Rattle.jpeg_streams.specs.Output.{default_settings};
+ghost use Rattle.jpeg_streams.specs.Pixels.{info_of};
+ghost use Rattle.jpeg_streams.specs.WholeRows.{whole_rows_rest};
 ghost use Rattle.jpeg_streams.specs.declared.progress.Progress.TheVariants.{HeaderRead};
-ghost use Rattle.zaxbriar_pictures.specs.Steps.{GivesPicture, GivesRest};
+ghost use Rattle.zaxbriar_pictures.specs.Steps.{CountsRest, GivesPicture, GivesRest};
 ghost use Rattle.zaxbriar_pictures.specs.Turns.{decoded_in};
 ghost use Rattle.zaxbriar_pictures.specs.declared.extents.Extent.TheVariants.{Partial, Whole};
 
 use crate::netpbm::Picture;
 use jpeg_decoder::error::{Error, Result};
-use jpeg_decoder::{Decoder, Lines, PartialLines};
+use jpeg_decoder::{Decoder, ImageInfo, PartialLines};
 use std::alloc::Global;
 use std::io::Read;
 
@@ -22,6 +24,19 @@ pub enum Extent {
     Whole,
     /// What the stream has brought up to its first fault.
     Partial,
+}
+
+/// How much of a picture its stream has brought.
+#[derive(Drop)]
+pub struct Completeness {
+    /// The size and the process of the picture as it was decoded, before it is made smaller or
+    /// turned.
+    pub info: ImageInfo,
+    /// The number of its rows, from the top, that are complete in each scan that was begun. All of
+    /// them if the stream has no fault.
+    pub whole_rows: u16,
+    /// The first fault of the stream, or none if it is whole.
+    pub fault: Option<Error>,
 }
 
 /// Returns whether a fault is none of the bytes: the reader has failed, or was interrupted without
@@ -36,24 +51,35 @@ fn is_of_reader(fault: &Error, has_failed: bool) -> bool
     }
 }
 
-/// Returns the lines that were shown, and their fault, or refuses them where that is the reader's.
-fn refuse_of_reader(shown: PartialLines, has_failed: bool) -> Result<(Lines, Option<Error>)>
-    ensures same { IfOk result (λ p. (p.0 ≡ shown.lines) × (p.1 ≡ shown.fault)) }
-    ensures of_bytes { IfOk result (λ p. IfSome p.1 (λ e. IsGivenUp e has_failed → ⊥)) }
+/// Returns what was shown, or refuses it where its fault is the reader's.
+fn refuse_of_reader(shown: PartialLines, has_failed: bool) -> Result<PartialLines>
+    ensures same { IfOk result (λ p. p ≡ shown) }
+    ensures of_bytes { IfOk result (λ p. IfSome p.fault (λ e. IsGivenUp e has_failed → ⊥)) }
 {
-    let PartialLines { lines, fault, .. } = shown;
+    let PartialLines {
+        lines,
+        whole_rows,
+        fault,
+    } = shown;
     match fault {
         Some(fault) if is_of_reader(&fault, has_failed) => Err(fault),
-        fault => Ok((lines, fault)),
+        fault => Ok(PartialLines {
+            lines,
+            whole_rows,
+            fault,
+        }),
     }
 }
 
 /// Decodes what there is of the stream of a decoder, whose header was read. A read that fails is an
 /// error.
-fn decode_partial<R: Read + Drop>(decoder: &mut Decoder<R>) -> Result<(Lines, Option<Error>)>
+fn decode_partial<R: Read + Drop>(decoder: &mut Decoder<R>) -> Result<PartialLines>
     requires header { decoder.old.stage ≡ HeaderRead }
     requires plain { decoder.old.settings ≡ default_settings }
-    ensures gives { IfOk result (λ p. GivesRest Partial decoder.old decoder.new (concat p.0) p.1) }
+    ensures gives { IfOk result
+        (λ p. GivesRest Partial decoder.old decoder.new (concat p.lines) p.fault) }
+    ensures rows { decoder.old.source.known ≡ true → IfOk result (λ p. p.whole_rows
+        ≡ whole_rows_rest decoder.old.found decoder.old.source.bytes) }
     ensures framed { IfOk result (λ _. is_some decoder.new.found.said.frame ≡ true) }
 {
     let shown = decoder.decode_partial_lines()?;
@@ -61,25 +87,39 @@ fn decode_partial<R: Read + Drop>(decoder: &mut Decoder<R>) -> Result<(Lines, Op
 }
 
 /// Decodes the whole stream of a decoder, whose header was read.
-fn decode_whole<R: Read + Drop>(decoder: &mut Decoder<R>) -> Result<(Lines, Option<Error>)>
+fn decode_whole<R: Read + Drop>(decoder: &mut Decoder<R>) -> Result<PartialLines>
     requires header { decoder.old.stage ≡ HeaderRead }
     requires plain { decoder.old.settings ≡ default_settings }
-    ensures gives { IfOk result (λ p. GivesRest Whole decoder.old decoder.new (concat p.0) p.1) }
+    ensures gives { IfOk result
+        (λ p. GivesRest Whole decoder.old decoder.new (concat p.lines) p.fault) }
+    ensures rows { IfOk result (λ p. (info : ImageInfo)
+        → option_map info_of decoder.new.found.said.frame ≡ Some info
+        → p.whole_rows ≡ info.height) }
     ensures framed { IfOk result (λ _. is_some decoder.new.found.said.frame ≡ true) }
 {
     let lines = decoder.decode_lines()?;
-    Ok((lines, None))
+    let info = decoder.info().unwrap();
+    Ok(PartialLines {
+        lines,
+        whole_rows: info.height,
+        fault: None,
+    })
 }
 
 /// Decodes as much as is wanted of the stream of a decoder, whose header was read, and returns the
-/// lines of the picture, and its first fault: none of a whole stream.
+/// lines of the picture, how many of them are complete, and its first fault. All lines of a whole
+/// stream are complete, and it has no fault.
 pub(crate) fn decode_wanted_lines<R: Read + Drop>(
     decoder: &mut Decoder<R>,
     extent: Extent,
-) -> Result<(Lines, Option<Error>)>
+) -> Result<PartialLines>
     requires header { decoder.old.stage ≡ HeaderRead }
     requires plain { decoder.old.settings ≡ default_settings }
-    ensures gives { IfOk result (λ p. GivesRest extent decoder.old decoder.new (concat p.0) p.1) }
+    ensures gives { IfOk result
+        (λ p. GivesRest extent decoder.old decoder.new (concat p.lines) p.fault) }
+    ensures rows { IfOk result (λ p. (info : ImageInfo)
+        → option_map info_of decoder.new.found.said.frame ≡ Some info
+        → CountsRest extent decoder.old info.height p.whole_rows) }
     ensures framed { IfOk result (λ _. is_some decoder.new.found.said.frame ≡ true) }
 {
     match extent {
@@ -89,24 +129,29 @@ pub(crate) fn decode_wanted_lines<R: Read + Drop>(
 }
 
 /// Decodes as much as is wanted of the picture of a decoder, whose header was read, and returns it
-/// with its first fault.
+/// and how much of it is complete.
 pub(crate) fn decode_wanted_picture<R: Read + Drop>(
     alloc: Global,
     decoder: &mut Decoder<R>,
     extent: Extent,
-) -> Result<(Picture, Option<Error>)>
+) -> Result<(Picture, Completeness)>
     requires header { decoder.old.stage ≡ HeaderRead }
     requires plain { decoder.old.settings ≡ default_settings }
     ensures { IfOk result (λ p. GivesPicture extent decoder.old decoder.new (decoded_in p.0) p.1) }
 {
-    let (lines, fault) = decode_wanted_lines(decoder, extent)?;
+    let decoded = decode_wanted_lines(decoder, extent)?;
     let info = decoder.info().unwrap();
     let precision = decoder.precision().unwrap();
-    let pixels = lines.into_picture(alloc)?;
+    let pixels = decoded.lines.into_picture(alloc)?;
     let picture = Picture {
         info,
         precision,
         pixels,
     };
-    Ok((picture, fault))
+    let completeness = Completeness {
+        info,
+        whole_rows: decoded.whole_rows,
+        fault: decoded.fault,
+    };
+    Ok((picture, completeness))
 }

@@ -21,7 +21,7 @@ ghost use Rattle.zaxbriar_pictures.specs.Sizes.{covers, is_full, least_scale, or
 ghost use Rattle.zaxbriar_pictures.specs.Sizes.{scale_of_request, size_for};
 ghost use Rattle.zaxbriar_pictures.specs.declared.scaled.Request.TheVariants.{At};
 
-use crate::extents::{Extent, decode_wanted_lines, decode_wanted_picture};
+use crate::extents::{Completeness, Extent, decode_wanted_lines, decode_wanted_picture};
 use crate::limits::Limits;
 use crate::lines::write_lines;
 use crate::netpbm::{Picture, header, write_picture};
@@ -122,6 +122,9 @@ pub struct Choice {
 pub struct ScaledPicture {
     /// The picture.
     pub picture: Picture,
+    /// The number of its rows, from the top, that are complete in each scan that was begun. All of
+    /// them if the stream has no fault.
+    pub whole_rows: u16,
     /// The first fault of its stream, or none if it is whole.
     pub fault: Option<Error>,
     /// Its scale.
@@ -281,10 +284,11 @@ pub fn read_picture<R: Read + Drop>(
     extent: Extent,
     limits: Limits,
 ) -> Result<ScaledPicture, Refusal>
-    // The picture is the one that the bytes give at its scale, and the fault is named.
+    // The picture is the one that the bytes give at its scale, its complete rows are counted, and
+    // the fault is named.
     ensures picture { (bytes : List ℕ) → Tells (R.remaining reader) bytes
         → IfOk result (λ made. IsGiven extent made.scale bytes (decoded_in made.picture)
-        made.fault) }
+        made.whole_rows made.fault) }
 
     // A requested scale is the scale.
     ensures asked { (scale : _) → request ≡ At scale → IfOk result (λ made. made.scale ≡ scale) }
@@ -308,10 +312,11 @@ pub fn read_picture<R: Read + Drop>(
 {
     let mut decoder = Decoder::new(alloc, reader)?;
     let choice = choose(&mut decoder, request, extent, limits)?;
-    let (picture, fault) = decode_wanted_picture(alloc, &mut decoder, extent)?;
+    let (picture, completeness) = decode_wanted_picture(alloc, &mut decoder, extent)?;
     Ok(ScaledPicture {
         picture,
-        fault,
+        whole_rows: completeness.whole_rows,
+        fault: completeness.fault,
         scale: choice.scale,
         size: choice.size,
         orientation: choice.orientation,
@@ -344,27 +349,32 @@ fn write_lines_of<W: Write>(
 }
 
 /// Decodes as much as is wanted of the picture of a decoder, at the scale that was set, writes it as
-/// a file, and returns its first fault.
+/// a file, and returns how much of it is complete.
 fn write_decoded<R: Read + Drop, W: Write>(
     alloc: Global,
     decoder: &mut Decoder<R>,
     extent: Extent,
     writer: &mut W,
-) -> error::Result<Option<Error>>
+) -> error::Result<Completeness>
     requires header { decoder.old.stage ≡ HeaderRead }
     requires plain { decoder.old.settings ≡ default_settings }
-    ensures { IfOk result (λ fault. WritesFile extent decoder.old decoder.new
-        (W.contents writer.old) (W.contents writer.new) fault) }
+    ensures { IfOk result (λ told. WritesFile extent decoder.old decoder.new
+        (W.contents writer.old) (W.contents writer.new) told) }
 {
-    let (lines, fault) = decode_wanted_lines(decoder, extent)?;
+    let decoded = decode_wanted_lines(decoder, extent)?;
     let info = decoder.info().unwrap();
     let precision = decoder.precision().unwrap();
-    write_lines_of(alloc, info, precision, lines, writer)?;
-    Ok(fault)
+    write_lines_of(alloc, info, precision, decoded.lines, writer)?;
+    Ok(Completeness {
+        info,
+        whole_rows: decoded.whole_rows,
+        fault: decoded.fault,
+    })
 }
 
 /// Decodes as much as is wanted of the stream that the reader gives, writes its picture at a scale,
-/// and returns its first fault: none of a whole stream. A read that fails is an error.
+/// and returns how much of the picture is complete, with the first fault of the stream. A read that
+/// fails is an error.
 pub fn write_at<R: Read + Drop, W: Write>(
     alloc: Global,
     reader: R,
@@ -372,7 +382,7 @@ pub fn write_at<R: Read + Drop, W: Write>(
     extent: Extent,
     limits: Limits,
     writer: &mut W,
-) -> Result<Option<Error>, Refusal>
+) -> Result<Completeness, Refusal>
     ensures { (bytes : List ℕ) → Tells (R.remaining reader) bytes
         → IfOk result (WritesGiven extent scale bytes (W.contents writer.old)
         (W.contents writer.new)) }

@@ -10,19 +10,19 @@ ghost use Rattle.jpeg_streams.specs.Output.{Tells};
 ghost use Rattle.zaxbriar_pictures.specs.Thumbnails.{WritesThumbnail};
 
 use crate::boxes::boxed;
-use crate::extents::Extent;
+use crate::extents::{Completeness, Extent};
 use crate::limits::Limits;
 use crate::netpbm::write_picture;
 use crate::refusal::Refusal;
 use crate::scaled::{Request, read_picture};
 use crate::turns::upright;
-use jpeg_decoder::error::Error;
 use std::alloc::Global;
 use std::io::{Read, Write};
 
 /// Decodes as much as is wanted of the stream that the reader gives, writes the requested picture,
-/// and returns the first fault of the stream: none of a whole one. A picture above the limits is
-/// refused by its header. A read that fails is an error.
+/// and returns how much is complete of the one that was decoded, before it was made smaller and
+/// turned, with the first fault of the stream. A picture above the limits is refused by its header.
+/// A read that fails is an error.
 pub fn write_thumbnail<R: Read + Drop, W: Write>(
     alloc: Global,
     reader: R,
@@ -30,14 +30,19 @@ pub fn write_thumbnail<R: Read + Drop, W: Write>(
     extent: Extent,
     limits: Limits,
     writer: &mut W,
-) -> Result<Option<Error>, Refusal>
+) -> Result<Completeness, Refusal>
     ensures { (bytes : List ℕ) → Tells (R.remaining reader) bytes
         → IfOk result (WritesThumbnail extent request bytes (W.contents writer.old)
         (W.contents writer.new)) }
 {
     let made = read_picture(alloc, reader, request, extent, limits)?;
+    let info = made.picture.info;
     let smaller = boxed(alloc, made.picture, made.size)?;
     let picture = upright(alloc, smaller, made.orientation)?;
     write_picture(alloc, picture, writer)?;
-    Ok(made.fault)
+    Ok(Completeness {
+        info,
+        whole_rows: made.whole_rows,
+        fault: made.fault,
+    })
 }

@@ -2,13 +2,13 @@
 
 use crate::ending::{Outcome, worse_of};
 use crate::output::Output;
+use crate::partial::Measure;
 use crate::{arguments, files, names};
 use clap::{Arg, ArgAction, ArgMatches};
-use jpeg_decoder::error::Error;
 use std::alloc::{AllocError, Global};
 use std::collections::BTreeSet;
 use std::io::{Read, Write};
-use zaxbriar_pictures::extents::Extent;
+use zaxbriar_pictures::extents::{Completeness, Extent};
 use zaxbriar_pictures::limits::Limits;
 use zaxbriar_pictures::refusal::Refusal;
 use zaxbriar_pictures::scaled::{Request, write_at};
@@ -87,12 +87,13 @@ struct Job {
 }
 
 impl Job {
-    /// Writes the picture of the stream that the reader gives, and returns its first fault.
+    /// Writes the picture of the stream that the reader gives, and returns how much of it is
+    /// complete.
     fn write_picture<R: Read + Drop, W: Write>(
         &self,
         reader: R,
         writer: &mut W,
-    ) -> Result<Option<Error>, Refusal> {
+    ) -> Result<Completeness, Refusal> {
         let alloc = self.rt.alloc();
         match self.request {
             Request::At(scale) => {
@@ -111,6 +112,15 @@ impl Job {
         }
     }
 
+    /// Returns how the complete rows of a picture are counted: those of a thumbnail aren't rows of
+    /// its file.
+    fn measure(&self) -> Measure {
+        match self.request {
+            Request::At(_) => Measure::Rows,
+            Request::Within(_, _) => Measure::Share,
+        }
+    }
+
     /// Writes the picture of a file.
     fn write(&self, input: Option<&str>, output: Option<&str>) -> Outcome<()> {
         let mut output = Output::new(self.rt, output);
@@ -118,7 +128,7 @@ impl Job {
             Ok(reader) => self.write_picture(reader, &mut output),
             Err(refusal) => Err(refusal),
         };
-        files::finish_with_fault(&self.rt, input, output, written)
+        files::finish_with_fault(&self.rt, input, output, written, self.measure())
     }
 
     /// Writes the picture of a file to the output of its name.

@@ -10,7 +10,7 @@ returns-clause-picture g c bytes tells =
     let begun = rw c.in_ok-decoder.ensures.ok at c.in_ok-choice.ensures.reads in
     let read = begun.reads known in
     is-given c.args.extent c.in_ok-choice.choice.scale bytes read.1.0 c.choose.new.decoder
-    c.decode_wanted_picture.new.decoder (decoded_in c.in_ok-picture.picture) c.in_ok-picture.fault
+    c.decode_wanted_picture.new.decoder (decoded_in c.in_ok-picture.picture) c.in_ok-picture.completeness
     (rw same at read.1.1) read.0 read.1.2 c.in_ok-picture.ensures
 
 pub returns-clause-chosen : goal.returns-clause-chosen

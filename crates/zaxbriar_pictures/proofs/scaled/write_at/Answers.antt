@@ -15,4 +15,4 @@ returns g c bytes tells =
     (g.W.Write.contents c.write_decoded.new.writer) file.picture _
     (is-given c.args.extent c.args.scale bytes read.1.0 c.choose.new.decoder c.write_decoded.new.decoder
     file.picture _ (rw same at read.1.1) read.0 read.1.2 file.gives)
-    file.written
+    file.gives.told_is file.written

@@ -1,13 +1,20 @@
+use Rattle.std.proofs.Common.{refl}
 use Rattle.zaxbriar_pictures.specs.Turns.{decoded_in}
+use Rattle.zaxbriar_pictures.specs.declared.extents.Completeness.{Completeness}
 use Rattle.zaxbriar_pictures.proofs.WrittenThumbnails.{written}
 use Rattle.zaxbriar_pictures.proofs.thumbnails.write_thumbnail.Goals as goal
 
 pub returns : goal.returns
 returns g c bytes tells =
     let made = c.in_ok-made.made in
+    let told : Completeness = record {
+      info = made.picture.info;
+      whole_rows = made.whole_rows;
+      fault = made.fault;
+    } in
     written c.args.extent c.args.request bytes (g.W.Write.contents c.args.writer.now)
     (g.W.Write.contents c.write_picture.new.writer) made.scale made.size made.orientation
     (decoded_in made.picture) (decoded_in c.in_ok-smaller.smaller)
-    (decoded_in c.in_ok-picture.picture) made.fault (c.in_ok-made.ensures.said bytes tells)
-    (c.in_ok-made.ensures.picture bytes tells) (c.in_ok-made.ensures.chosen bytes tells)
+    (decoded_in c.in_ok-picture.picture) told (c.in_ok-made.ensures.said bytes tells)
+    (c.in_ok-made.ensures.picture bytes tells) refl (c.in_ok-made.ensures.chosen bytes tells)
     c.in_ok-smaller.ensures c.in_ok-picture.ensures c.in_ok-write_picture.ensures.file

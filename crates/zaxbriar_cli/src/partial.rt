@@ -1,0 +1,79 @@
+//! What the program says of a file of which it has written what there is.
+
+use jpeg_decoder::error::Error;
+use jpeg_decoder::{CodingProcess, ImageInfo};
+use std::fmt;
+use zaxbriar_pictures::extents::Completeness;
+
+/// How the complete rows of a picture are counted.
+#[derive(Clone, Copy)]
+pub enum Measure {
+    /// As rows of the file that was written.
+    Rows,
+    /// As a share of all rows, since the picture may have been made smaller or turned.
+    Share,
+}
+
+/// The fault of a file, and how much of its picture is complete.
+#[derive(Drop)]
+pub struct Part {
+    fault: Error,
+    info: ImageInfo,
+    whole_rows: u16,
+    measure: Measure,
+}
+
+impl Part {
+    /// Returns what is to be said of a picture, or nothing if it is whole.
+    pub fn of(told: Completeness, measure: Measure) -> Option<Part> {
+        let Completeness {
+            info,
+            whole_rows,
+            fault,
+        } = told;
+        match fault {
+            Some(fault) => Some(Part {
+                fault,
+                info,
+                whole_rows,
+                measure,
+            }),
+            None => None,
+        }
+    }
+}
+
+/// Returns how many of a hundred rows some of all rows are, and at least 1.
+fn percent_of(rows: u16, all: u16) -> u32 {
+    (u32::from(rows) * 100 / u32::from(all.max(1))).max(1)
+}
+
+impl fmt::Display for Part {
+    fn fmt<W: fmt::Write>(&self, f: &mut fmt::Formatter<W>) -> fmt::Result {
+        let rows = self.whole_rows;
+        let height = self.info.height;
+        // A progressive picture may lack whole scans.
+        let so_far = match self.info.coding_process {
+            CodingProcess::DctProgressive => " in the scans so far",
+            _ => "",
+        };
+        write!(f, "{}; ", self.fault)?;
+        if rows == 0 {
+            return write!(f, "no row is complete");
+        }
+        if rows >= height {
+            return write!(f, "all rows are complete{so_far}");
+        }
+        match self.measure {
+            Measure::Rows if rows == 1 => write!(
+                f,
+                "the first of {height} rows is complete{so_far}"
+            ),
+            Measure::Rows => write!(f, "the first {rows} of {height} rows are complete{so_far}"),
+            Measure::Share => {
+                let percent = percent_of(rows, height);
+                write!(f, "about {percent}% of its rows are complete{so_far}")
+            }
+        }
+    }
+}
