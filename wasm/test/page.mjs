@@ -65,8 +65,21 @@ function withLines() {
     return path;
 }
 
-/* Files of which there is a part. */
-const PARTIAL = { [ours('cut.jpg')]: 'TRUNCATED', [withLines()]: 'UNSUPPORTED' };
+/* The beginning of a picture that is shown turned: two of its three rows of blocks. */
+function twoThirds() {
+    const path = `${folder}/two thirds.jpg`;
+    writeFileSync(path, readFileSync(ours('turned.jpg')).subarray(0, 320));
+    return path;
+}
+
+/* Files of which there is a part, with their fault, and what the page says of their rows. */
+const PARTIAL = {
+    [twoThirds()]: [
+        'TRUNCATED',
+        'The first 16 of 24 rows are complete, before the picture is turned.',
+    ],
+    [withLines()]: ['UNSUPPORTED', 'All rows are complete.'],
+};
 const REFUSED = {
     [headless()]: 'TRUNCATED',
     [ours('large.jpg')]: 'NO_MEMORY',
@@ -133,13 +146,14 @@ async function checkPixels(page) {
     }
 }
 
-/* A fault is named beside what there is: in its alert, the status and the list; and the picture's
- * name says that it is a part. */
+/* A fault is named beside what there is: in its alert, with the rows that are complete, the status
+ * and the list; and the picture's name says that it is a part. */
 async function checkPartial(page) {
-    for (const [path, fault] of Object.entries(PARTIAL)) {
+    for (const [path, [fault, rows]] of Object.entries(PARTIAL)) {
         assert.equal(await show(page, path), 'partial', path);
         const textOf = (id) => page.run(`document.getElementById('${id}').textContent`);
-        assert.ok((await textOf('error')).startsWith(`${fault}: `));
+        const error = await textOf('error');
+        assert.ok(error.startsWith(`${fault}: `) && error.endsWith(` ${rows}`), error);
         const told = `${nameOf(path)}: shown in part: ${fault}, `;
         assert.ok((await textOf('status')).startsWith(told));
         const note = await page.run(`${button(path)}.lastChild.textContent`);

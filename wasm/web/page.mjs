@@ -157,9 +157,26 @@ function showFacts(facts) {
     at('facts').replaceChildren(...lines);
 }
 
+/* How many rows of a picture in part are complete. The file stores them in this order, and an
+ * orientation above 2 exchanges or reverses them. */
+function rowsText({ picture: { height, orientation, process }, wholeRows }) {
+    if (wholeRows === 0) return 'No row is complete.';
+    // (a progressive picture may lack whole scans)
+    const soFar = process === 'progressive' ? ' in the scans so far' : '';
+    if (wholeRows === height) return `All rows are complete${soFar}.`;
+    const rows =
+        wholeRows === 1
+            ? `The first of ${height} rows is complete`
+            : `The first ${wholeRows} of ${height} rows are complete`;
+    return `${rows}${soFar}${orientation > 2 ? ', before the picture is turned' : ''}.`;
+}
+
 /* The fault in words, after its name. */
-const faultText = ({ text, isPartial }) =>
-    isPartial ? `${text}. What the file brings before that is shown; the rest is grey.` : text;
+function faultText(reply) {
+    if (!reply.isPartial) return reply.text;
+    const shown = 'What the file brings before that is shown; the rest is grey.';
+    return `${reply.text}. ${shown} ${rowsText(reply)}`;
+}
 
 function showFault(reply) {
     at('error').hidden = !reply.fault;

@@ -21,11 +21,12 @@ function pictureOf(zaxbriar, jpeg) {
     }
 }
 
-/* The picture for a canvas, its fault if it has one, and how long that took. */
+/* The picture for a canvas, its fault and how many of its rows are complete if it has one, and how
+ * long that took. */
 function decode(zaxbriar, jpeg) {
     const start = performance.now();
-    const { pixels, fault } = pictureOf(zaxbriar, jpeg);
-    return { pixels, fault, milliseconds: performance.now() - start };
+    const { pixels, wholeRows, fault } = pictureOf(zaxbriar, jpeg);
+    return { pixels, wholeRows, fault, milliseconds: performance.now() - start };
 }
 
 /* What the segments before the frame say: how many bytes of each kind there are, and the text of
@@ -47,9 +48,10 @@ async function answer({ id, file }) {
         const jpeg = new Uint8Array(await file.arrayBuffer());
         reply.picture = zaxbriar.readInfo(jpeg);
         reply.metadata = metadata(zaxbriar, jpeg);
-        const { pixels, fault, milliseconds } = decode(zaxbriar, jpeg);
+        const { pixels, wholeRows, fault, milliseconds } = decode(zaxbriar, jpeg);
         reply.pixels = pixels.buffer;
         reply.milliseconds = milliseconds;
+        reply.wholeRows = wholeRows;
         reply.isPartial = Boolean(fault);
         reply.fault = fault?.code;
         reply.text = fault?.message;
