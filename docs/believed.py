@@ -62,6 +62,8 @@ PICTURE = [
     "jpeg_streams.ArrayPictures.picture_of_array",
     "jpeg_streams.WrittenLossless.picture_of_samples",
 ]
+# Where the structs stand whose values the view of a `Decoder` shows: their views count with it.
+HELD = "stream/state"
 # What is answered by a definition that reads bytes, or that looks something up and may not find it.
 # What is written rests on none: else a reader that refused more would make streams fewer.
 ANSWERS = {"Outcome", "Reads", "Result", "Fault"}
@@ -79,7 +81,8 @@ def without_comments(text):
 def imports(text, keyword):
     """For each name that a file imports of specs/, the file it is of and its name there."""
     scope = {}
-    path = r" Rattle\.(\w+)\.specs\.(\w+|declared(?:\.[a-z]\w*)+\.[A-Z]\w*)(?:\.TheVariants)?"
+    path = r" Rattle\.(\w+)\.specs\.(\w+|declared(?:\.[a-z]\w*)+\.[A-Z]\w*)"
+    path += r"(?:\.The(?:Variants|Inside))?"
     form = r"(?m)^\s*" + keyword + path + r"(?:\.\{([^}]*)\}| as (\w+))"
     for crate, module, names, alias in re.findall(form, without_comments(text)):
         for entry in filter(None, map(str.strip, names.split(","))):
@@ -186,7 +189,8 @@ def believed(specs):
         name: specs.seeds("jpeg_decoder/src/" + name, r"\w+")
         for name in ["decoder", "run", *THEOREMS]
     }
-    calls = specs.reached(of["decoder"] | of["run"])
+    held = specs.seeds("jpeg_decoder/src/" + HELD, "(?!)")
+    calls = specs.reached(of["decoder"] | of["run"] | held)
     return calls, specs.reached(set().union(*(of[name] for name in THEOREMS))) - calls
 
 

@@ -1,7 +1,7 @@
 -- Scans that are ready to be read, by what was found before them.
 use Rattle.std.proofs.lemmas.Grind.{common_steps}
 use Rattle.std.proofs.Common.{◌≡◌, ◌≤◌, ◌<◌, ◌+◌, ℕ, true, List, [], ◌∷◌, length, map, Ok, sym}
-use Rattle.std.proofs.Common.{subst, arith}
+use Rattle.std.proofs.Common.{subst, arith, ap, ◌∙◌}
 use Rattle.std.specs.List.{AllByRecursion}
 use Rattle.std.proofs.lemmas.List.Elements.{All-from_recursion, recursion_from_All}
 use Rattle.jpeg_bits.specs.BlockView.{IsPass}
@@ -14,17 +14,30 @@ use Rattle.jpeg_segments.specs.ScanHeader as headers
 use Rattle.jpeg_segments.specs.ScanHeader.{IsBandOf, IsRising, IsScanOf}
 use Rattle.jpeg_decoder.specs.declared.scan.coded.Coded.{Coded}
 use Rattle.jpeg_decoder.specs.declared.scan.coded.Scan.{Scan}
+use Rattle.jpeg_decoder.specs.declared.stream.state.Said.TheInside.{Inside}
 use Rattle.jpeg_streams.specs.InTurn.{Fits}
 use Rattle.jpeg_decoder.specs.Scanning.{components_in}
 use Rattle.jpeg_streams.specs.Sound.{IsDecodedFrame}
 use Rattle.jpeg_streams.specs.ScanSegments.{codings_of, Coding, pass_of}
-use Rattle.jpeg_streams.specs.Found.{Found}
+use Rattle.jpeg_streams.specs.Found.{Found, Said}
 use Rattle.jpeg_decoder.specs.Steps.{AreRising, HasIndex, HasScale, IsCodingOf, IsDct, IsReadable}
-use Rattle.jpeg_decoder.specs.Steps.{coding_in}
+use Rattle.jpeg_decoder.specs.Steps.{coding_in, IsBefore}
+use Rattle.jpeg_decoder.specs.Seen.{said_of}
 use Rattle.jpeg_streams.proofs.LosslessSizes.{all-at}
 use Rattle.jpeg_streams.proofs.ReadTurns.{codings-each, codings-indices}
 use Rattle.jpeg_segments.proofs.ScaleLemmas.{sized_frames_have_factors}
 use Rattle.jpeg_streams.proofs.Soundness.{count-few, decoded-count, decoded-fits, decoded-sized}
+
+-- what was said before a scan, by the fields
+pub scanned-before : (s : Inside) (said : Said) → said_of s ≡ said → said.scanned ≡ s.scanned
+scanned-before s said is = ap (λ (said : Said). said.scanned) (sym is)
+
+pub before-said : (s : Inside) (scan : Scan) (found : Found) → said_of s ≡ found.said
+    → scan.restart_interval ≡ s.restart_interval → IsBefore s.scanned scan found
+before-said s scan found is e = record {
+  scanned = scanned-before s found.said is;
+  restart = e ∙ ap (λ (said : Said). said.restart) is;
+}
 
 -- ---- the pass of a scan
 

@@ -19,11 +19,7 @@ use Rattle.jpeg_streams.specs.ScanSegments.{lossless_scan, scan_before, scan_arr
 use Rattle.jpeg_streams.specs.ScanSegments.{scan_segment}
 use Rattle.jpeg_streams.specs.Segments.{Turn}
 use Rattle.jpeg_streams.specs.Found.{Found}
-use Rattle.jpeg_decoder.specs.Seen.{found_in}
 use Rattle.jpeg_decoder.specs.Steps.{IsDct, IsRefusal, IsStep, after_all, samples_read, scan_data}
-use Rattle.jpeg_decoder.specs.Steps.{with_decoded}
-use Rattle.jpeg_decoder.specs.declared.scan.decoded.Decoded.{Decoded}
-use Rattle.jpeg_decoder.specs.declared.stream.state.State.{State}
 use Rattle.jpeg_decoder.specs.declared.stream.state.Step.{Step}
 use Rattle.jpeg_decoder.proofs.SlotCodings.{format-refuses}
 use Rattle.jpeg_streams.specs.InTurn.{AreArrays}
@@ -210,24 +206,17 @@ scan-parts : (found : Found) (bytes : List ℕ) → scan_segment found bytes ≡
 unfolding scan_segment scan_read
 scan-parts found bytes = grind (arith, common_steps, through, process-parts)
 
--- what is found where its planes were taken out of the state
-taken-out : (s : State) (d : Decoded) (at : Found) → d ≡ s.decoded → found_in s ≡ at → with_decoded (found_in s) d ≡ at
-taken-out s d at e is = ap (λ (d : Decoded). with_decoded (found_in s) d) e ∙ is
-
-pub segment-ends : (s : State) (d : Decoded) (at next : Found) (met : Option Marker) (old new : Stream) (turn : Turn)
-    → d ≡ s.decoded → found_in s ≡ at
-    → turn ≡ record { found = next; before = scan_before (found_in s); met = met; ended = false }
-    → Answers (λ (m : Option Marker). (next, m)) (scan_read (with_decoded (found_in s) d)) old (Ok met) new
+pub segment-ends : (now at next : Found) (met : Option Marker) (old new : Stream) (turn : Turn) → now ≡ at
+    → turn ≡ record { found = next; before = scan_before now; met = met; ended = false }
+    → Answers (λ (m : Option Marker). (next, m)) (scan_read now) old (Ok met) new
     → HasRead (scan_segment at) old turn new
-segment-ends s d at next met old new turn e is same p =
-    let there = taken-out s d at e is in grind (arith, common_steps, scan-parts, bind_at)
+segment-ends now at next met old new turn same is p = grind (arith, common_steps, scan-parts, bind_at)
 
 -- A scan that is refused is a segment that is refused.
-pub segment-refused : (v : Step → Turn) (s : State) (d : Decoded) (at : Found) (old new : Stream)
-    (r : Result Step Error) (e : Error) → IsErrAnd r (λ y. y ≡ e) → d ≡ s.decoded → found_in s ≡ at
-    → ScanFails (with_decoded (found_in s) d) old e new → Answers v (scan_segment at) old r new
-segment-refused v s d at old new r e fails same is p =
-    grind (arith, common_steps, err_from_is_err_and, taken-out, scan-parts, bind_err)
+pub segment-refused : (v : Step → Turn) (now at : Found) (old new : Stream) (r : Result Step Error) (e : Error)
+    → IsErrAnd r (λ y. y ≡ e) → now ≡ at → ScanFails now old e new → Answers v (scan_segment at) old r new
+segment-refused v now at old new r e fails same p =
+    grind (arith, common_steps, err_from_is_err_and, scan-parts, bind_err)
 
 -- ---- what holds after a scan
 

@@ -21,12 +21,10 @@ use Rattle.jpeg_segments.specs.FrameView.{component_in, frame_in, scan_in}
 use Rattle.jpeg_segments.specs.ScanHeader.{Scan}
 use Rattle.jpeg_segments.specs.HuffmanTables.{all_ac, is_ac_or_none}
 use Rattle.jpeg_decoder.specs.declared.scan.codings.Spare.{Spare}
-use Rattle.jpeg_decoder.specs.declared.stream.state.Said as declared_said
 use Rattle.jpeg_streams.specs.Scans.{no_table}
 use Rattle.jpeg_segments.specs.Checks.{needed}
 use Rattle.jpeg_streams.specs.ScanSegments.{Coding, component_coding, needed_if, tables_of, pass_of}
 use Rattle.jpeg_streams.specs.Found.{Said}
-use Rattle.jpeg_decoder.specs.Seen.{said_of}
 use Rattle.jpeg_decoder.specs.Steps.{IsRefusal, IsSpareOf, coding_in_slot, in_force, or_spare}
 use Rattle.jpeg_decoder.specs.Steps.{table_if}
 use Rattle.std.proofs.lemmas.Bool.{and_parts}
@@ -105,38 +103,38 @@ component-at : {A : Type 0} (f : A → Component) (xs : List A) (i : ℕ) (d : A
 component-at f xs i d h = slice_get-map f xs i ∙ ap (option_map f) (slice_get-get_or xs i d h)
 
 -- what the tables in force give of the component in a slot
-abbrev pub coded_by : declared_said.Said → ScanInfo → ℕ → ℕ → declared.Component → Result Coding Fault
-coded_by state header slot index c = do
-  q ← needed (get_or state.quantization c.quantization_table_index None)
-  dc ← dc_of (said_of state) (scan_in header) slot
-  ac ← ac_of (said_of state) (scan_in header) slot
+abbrev pub coded_by : Said → ScanInfo → ℕ → ℕ → declared.Component → Result Coding Fault
+coded_by said header slot index c = do
+  q ← needed (get_or said.quantization c.quantization_table_index None)
+  dc ← dc_of said (scan_in header) slot
+  ac ← ac_of said (scan_in header) slot
   Ok (record { index = index; component = component_in c; quantization = q; dc = dc; ac = ac })
 
-pub slot-coded : (state : declared_said.Said) (frame : FrameInfo) (header : ScanInfo) (slot index : ℕ) (c : declared.Component)
+pub slot-coded : (said : Said) (frame : FrameInfo) (header : ScanInfo) (slot index : ℕ) (c : declared.Component)
     → slot < length header.component_indices.items → index ≡ get_or header.component_indices.items slot index
     → index < length frame.components.items → c ≡ get_or frame.components.items index c
-    → coding_in_slot (said_of state) (frame_in frame) (scan_in header) slot ≡ coded_by state header slot index c
+    → coding_in_slot said (frame_in frame) (scan_in header) slot ≡ coded_by said header slot index c
 unfolding component_coding
-slot-coded state frame header slot index c h p l e =
+slot-coded said frame header slot index c h p l e =
     search (rules, arith, get_or_default_zero, component-at)
 
 -- the tables as the code looks them up
-pub dc-read : (state : declared_said.Said) (header : ScanInfo) (spare : Spare) (slot destination : ℕ) (o : Option Table)
-    → IsSpareOf (said_of state) (scan_in header) spare → length state.dc_tables ≡ 4
+pub dc-read : (said : Said) (header : ScanInfo) (spare : Spare) (slot destination : ℕ) (o : Option Table)
+    → IsSpareOf said (scan_in header) spare → length said.huffman.dc ≡ 4
     → slot < length header.dc_table_indices.items → destination ≡ get_or header.dc_table_indices.items slot destination
-    → o ≡ in_force state.dc_tables spare.dc.items destination
-    → dc_of (said_of state) (scan_in header) slot ≡ table_if (header.spectral_selection.start == 0) (no_table classes.DC) o
+    → o ≡ in_force said.huffman.dc spare.dc.items destination
+    → dc_of said (scan_in header) slot ≡ table_if (header.spectral_selection.start == 0) (no_table classes.DC) o
 unfolding pass_of tables_of
-dc-read state header spare slot destination o s l h p e =
+dc-read said header spare slot destination o s l h p e =
     grind (arith, common_steps, forced-by, needed-either, get_or_default_zero)
 
-pub ac-read : (state : declared_said.Said) (header : ScanInfo) (spare : Spare) (slot destination : ℕ) (o : Option Table)
-    → IsSpareOf (said_of state) (scan_in header) spare → length state.ac_tables ≡ 4
+pub ac-read : (said : Said) (header : ScanInfo) (spare : Spare) (slot destination : ℕ) (o : Option Table)
+    → IsSpareOf said (scan_in header) spare → length said.huffman.ac ≡ 4
     → slot < length header.ac_table_indices.items → destination ≡ get_or header.ac_table_indices.items slot destination
-    → o ≡ in_force state.ac_tables spare.ac.items destination
-    → ac_of (said_of state) (scan_in header) slot ≡ table_if (nat_lt 1 header.spectral_selection.end) (no_table classes.AC) o
+    → o ≡ in_force said.huffman.ac spare.ac.items destination
+    → ac_of said (scan_in header) slot ≡ table_if (nat_lt 1 header.spectral_selection.end) (no_table classes.AC) o
 unfolding pass_of tables_of
-ac-read state header spare slot destination o s l h p e =
+ac-read said header spare slot destination o s l h p e =
     grind (arith, common_steps, forced-by, needed-either, nat_tests, get_or_default_zero)
 
 -- a step that is refused

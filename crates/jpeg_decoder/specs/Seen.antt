@@ -2,8 +2,7 @@
 use Rattle.std.specs.Prelude.{ℕ, List, Option, map, option_map}
 use Rattle.jpeg_segments.specs.FrameView.{frame_in, chunk_in}
 use Rattle.jpeg_decoder.specs.declared.scan.decoded.Decoded.{Decoded}
-use Rattle.jpeg_decoder.specs.declared.stream.state.State.{State}
-use Rattle.jpeg_decoder.specs.declared.stream.state.Said as declared_said
+use Rattle.jpeg_decoder.specs.declared.stream.state.Said.TheInside.{Inside}
 use Rattle.jpeg_decoder.specs.declared.stream.metadata.Metadata as declared
 use Rattle.jpeg_decoder.specs.PlanesView.{planes_in}
 use Rattle.jpeg_decoder.specs.Scanning.{arrays_in}
@@ -25,7 +24,8 @@ metadata_in m = record {
   icc = map chunk_in m.icc.items;
 }
 
-abbrev pub said_of : declared_said.Said → Said
+-- what the segments have said
+abbrev pub said_of : Inside → Said
 said_of s = record {
   frame = option_map frame_in s.frame;
   quantization = s.quantization;
@@ -35,18 +35,12 @@ said_of s = record {
   metadata = metadata_in s.metadata;
 }
 
-abbrev pub said_in : State → Said
-said_in s = said_of s.said
-
 -- what was said, and what scans have given
-abbrev pub found_of : declared_said.Said → Decoded → Found
-found_of s d = record {
-  said = said_of s;
+abbrev pub found_of : Said → Decoded → Found
+found_of said d = record {
+  said = said;
   kept = arrays_in d.kept.items;
   finished = d.finished;
   planes = d.planes;
   samples = planes_in d.samples;
 }
-
-abbrev pub found_in : State → Found
-found_in s = found_of s.said s.decoded

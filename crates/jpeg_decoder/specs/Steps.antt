@@ -26,7 +26,6 @@ use Rattle.jpeg_segments.specs.FrameView.{component_in}
 use Rattle.jpeg_segments.specs.ScanHeader as headers
 use Rattle.jpeg_decoder.specs.declared.scan.coded.Scan.{Scan}
 use Rattle.jpeg_streams.specs.InTurn.{Fits}
-use Rattle.jpeg_decoder.specs.declared.stream.state.State.{State}
 use Rattle.jpeg_decoder.specs.declared.stream.state.Step.{Step}
 use Rattle.jpeg_decoder.specs.declared.scan.coded.Coded.{Coded}
 use Rattle.jpeg_decoder.specs.declared.scan.codings.Spare.{Spare}
@@ -44,12 +43,11 @@ use Rattle.jpeg_streams.specs.Stream.{told_of}
 use Rattle.jpeg_segments.specs.declared.frame.CodingProcess.{CodingProcess}
 use Rattle.jpeg_segments.specs.declared.frame.CodingProcess.TheVariants.{DctSequential}
 use Rattle.jpeg_segments.specs.declared.frame.CodingProcess.TheVariants.{DctProgressive, Lossless}
-use Rattle.jpeg_decoder.specs.Seen.{found_in}
 use Rattle.jpeg_decoder.specs.PlanesView.{planes_in}
 
-abbrev pub turn_of : State → Step → Turn
-turn_of s step =
-    record { found = found_in s; before = step.before; met = step.met; ended = step.ended }
+abbrev pub turn_of : Found → Step → Turn
+turn_of found step =
+    record { found = found; before = step.before; met = step.met; ended = step.ended }
 
 -- What a segment does to what was found before it, beside what it says. A refusal changes nothing
 -- that a caller is told; an image ends with a frame; a frame that was read stays; and what holds

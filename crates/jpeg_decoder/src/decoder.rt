@@ -15,7 +15,6 @@ ghost use Rattle.jpeg_streams.specs.States.{told_ahead, turns_ahead, OnTold, OnT
 ghost use Rattle.jpeg_streams.specs.States.{HasHeader};
 ghost use Rattle.jpeg_decoder.specs.Decodes.{Decodes};
 ghost use Rattle.jpeg_decoder.specs.Shows.{CountsRows, Shows};
-ghost use Rattle.jpeg_decoder.specs.Seen.{found_in, said_in};
 ghost use Rattle.std.specs.List.{concat};
 ghost use Rattle.jpeg_decoder.specs.Bytes.{AreLinesOf, HasRoom, IsCounted, IsWhole};
 ghost use Rattle.jpeg_decoder.specs.Bytes.{decoding_bytes, picture_size};
@@ -105,7 +104,7 @@ fn size_frame(frame: &mut FrameInfo, scale: usize) -> (u16, u16)
 /// Returns the least scale at which the picture is at least that wide or that high, if a frame was
 /// read.
 fn scale_reaching(state: &State, width: u16, height: u16) -> usize
-    ensures scale { IfSome (said_in state.now).frame
+    ensures scale { IfSome state.now.said.frame
         (λ f. result ≡ scale_for f.width f.height width height) }
     ensures some { is_scale result ≡ true }
 {
@@ -118,33 +117,34 @@ fn scale_reaching(state: &State, width: u16, height: u16) -> usize
 /// Sizes the frame at a scale, if one was read.
 #[tactic(auto, using(jpeg_streams::proofs::Soundness::scaled_rules))]
 fn scale_state(state: &mut State, scale: usize) -> Result<(u16, u16)>
-    requires frames { HasDecodedFrame (found_in state.old) }
+    requires frames { HasDecodedFrame state.old }
     requires scale { is_scale scale ≡ true }
-    ensures found { found_in state.new ≡ with_said (λ said. record said {
+    ensures found { state.new ≡ with_said (λ said. record said {
       frame = option_map
           (λ f. scaled_by f.process scale f) said.frame;
-    }) (found_in state.old) }
-    ensures none { OnErr result ((said_in state.old).frame ≡ None) }
-    ensures size { IfOk result (λ size. IfSome (said_in state.new).frame (λ f. (f.output_width
+    }) state.old }
+    ensures none { OnErr result (state.old.said.frame ≡ None) }
+    ensures size { IfOk result (λ size. IfSome state.new.said.frame (λ f. (f.output_width
         ≡ size.0) × (f.output_height ≡ size.1))) }
-    ensures frames { HasDecodedFrame (found_in state.new) }
-    ensures sound { IsSound (found_in state.old) → IsUnread (found_in state.old)
-        → IsSound (found_in state.new) × IsUnread (found_in state.new) }
+    ensures frames { HasDecodedFrame state.new }
+    ensures sound { IsSound state.old → IsUnread state.old
+        → IsSound state.new × IsUnread state.new }
 {
-    match &mut state.said.frame {
-        Some(frame) => Ok(size_frame(frame, scale)),
-        None => Err(Error::Internal("decoder has no frame")),
-    }
+    let said = &mut state.said;
+    let Some(frame) = &mut said.frame else {
+        return Err(Error::Internal("decoder has no frame"));
+    };
+    Ok(size_frame(frame, scale))
 }
 
 /// Returns how many bytes the picture takes if the memory is large enough, otherwise `Internal`.
 fn size_within(state: &State, room: usize) -> Result<usize>
-    requires framed { is_some (said_in state.now).frame ≡ true }
-    requires frames { HasDecodedFrame (found_in state.now) }
-    ensures size { IfOk result (λ n. IfSome (said_in state.now).frame (λ f. n ≡ picture_size f)) }
+    requires framed { is_some state.now.said.frame ≡ true }
+    requires frames { HasDecodedFrame state.now }
+    ensures size { IfOk result (λ n. IfSome state.now.said.frame (λ f. n ≡ picture_size f)) }
     ensures room { IfOk result (λ n. n ≤ room) }
-    ensures has_room { OnOk result (HasRoom (said_in state.now).frame room) }
-    ensures short { OnErr result (HasRoom (said_in state.now).frame room → ⊥) }
+    ensures has_room { OnOk result (HasRoom state.now.said.frame room) }
+    ensures short { OnErr result (HasRoom state.now.said.frame room → ⊥) }
     ensures err { IfErr result IsInternal }
 {
     let Some(frame) = &state.said.frame else {
@@ -159,10 +159,9 @@ fn size_within(state: &State, room: usize) -> Result<usize>
 
 /// Drops what the scans have given.
 fn drop_decoded(state: &mut State, alloc: Global)
-    ensures told { told_of (said_in state.new) ≡ told_of (said_in state.old) }
-    ensures emptied { ((found_in state.new).kept ≡ [])
-        × ((found_in state.new).planes ≡ replicate 4 None)
-        × ((found_in state.new).samples ≡ replicate 4 None) }
+    ensures told { told_of state.new.said ≡ told_of state.old.said }
+    ensures emptied { (state.new.kept ≡ []) × (state.new.planes ≡ replicate 4 None)
+        × (state.new.samples ≡ replicate 4 None) }
 {
     state.decoded = Decoded::new(alloc);
 }
@@ -216,24 +215,22 @@ impl<R: Read + Drop> Model for Decoder<R> {
     ghost use Rattle.jpeg_streams.specs.States.{Decoding, HasHeader};
     ghost use Rattle.jpeg_streams.specs.declared.progress.Progress.TheVariants.{Fresh, HeaderRead};
     ghost use Rattle.jpeg_streams.specs.Found.{nothing_found};
-    ghost use Rattle.jpeg_decoder.specs.Seen.{found_in, said_in};
 
     ghost Value = { Decoding };
 
     ghost view = { λ d. record {
       source = d.source;
       stage = d.progress;
-      found = found_in d.state;
+      found = d.state;
       settings = d.settings;
     } };
 
     // A fresh decoder has found nothing. One whose header was read has a frame, which is decoded;
     // and until it is decoded no scan was read.
-    ghost invariant = { λ d. (d.progress ≡ Fresh → found_in d.state ≡ nothing_found)
-        × (HasHeader d.progress → is_some (said_in d.state).frame ≡ true)
-        × (HasHeader d.progress → HasDecodedFrame (found_in d.state))
-        × (d.progress ≡ HeaderRead → IsSound (found_in d.state)
-        × IsUnread (found_in d.state)) };
+    ghost invariant = { λ d. (d.progress ≡ Fresh → d.state ≡ nothing_found)
+        × (HasHeader d.progress → is_some d.state.said.frame ≡ true)
+        × (HasHeader d.progress → HasDecodedFrame d.state)
+        × (d.progress ≡ HeaderRead → IsSound d.state × IsUnread d.state) };
 }
 
 impl<R: Read + Drop> Decoder<R> {

@@ -20,7 +20,6 @@ ghost use Rattle.jpeg_streams.specs.WholeRows.{rows_of_found, whole_rows, whole_
 ghost use Rattle.jpeg_decoder.specs.Bytes.{AreLinesOf, IsWhole};
 ghost use Rattle.jpeg_decoder.specs.Reaching.{NamesFault, is_out_of_memory};
 ghost use Rattle.jpeg_decoder.specs.Scanning.{arrays_in};
-ghost use Rattle.jpeg_decoder.specs.Seen.{found_in, said_in};
 ghost use Rattle.jpeg_decoder.specs.Shows.{CountsRows, GivesUp, IsShown, ShowsJust, is_there};
 ghost use Rattle.jpeg_decoder.specs.Steps.{with_decoded};
 
@@ -56,7 +55,7 @@ const ONES: [u16; 64] = [1; 64];
 
 /// Returns the quantization table in force for a component, or else one of ones.
 fn table_held<'a>(state: &'a State, component: &Component) -> &'a [u16; 64]
-    ensures { result.now ≡ table_held (found_in state.now) (component_in component.now) }
+    ensures { result.now ≡ table_held state.now (component_in component.now) }
 {
     match table_at(&state.said.quantization, component.quantization_table_index) {
         Some(table) => table,
@@ -74,14 +73,12 @@ fn plane_held(
     index: usize,
 ) -> std::result::Result<Vec<u8>, AllocError>
     requires scale { IsScale component.now.dct_scale }
-    requires within { is_kept (found_in state.now) (frame_in frame.now) ≡ true
-        → index < length kept.now }
+    requires within { is_kept state.now (frame_in frame.now) ≡ true → index < length kept.now }
     requires blocks { AreBlocksOf (component_in component.now)
-        (blocks_if (is_kept (found_in state.now) (frame_in frame.now)) (arrays_in kept.now)
-        index) }
+        (blocks_if (is_kept state.now (frame_in frame.now)) (arrays_in kept.now) index) }
     ensures { let c = component_in component.now in
-        IfOk result (λ v. v.items ≡ plane_by c (table_held (found_in state.now) c)
-        (blocks_held (record (found_in state.now) { kept = arrays_in kept.now })
+        IfOk result (λ v. v.items ≡ plane_by c (table_held state.now c)
+        (blocks_held (record state.now { kept = arrays_in kept.now })
         (frame_in frame.now) (index, c))) }
 {
     let table = table_held(state, component);
@@ -101,13 +98,13 @@ fn complete_plane(
     decoded: &mut Decoded,
     index: usize,
 ) -> std::result::Result<(), AllocError>
-    requires sound { IsSound (with_decoded (found_in state.now) decoded.old) }
-    requires frame { (said_in state.now).frame ≡ Some (frame_in frame.now) }
+    requires sound { IsSound (with_decoded state.now decoded.old) }
+    requires frame { state.now.said.frame ≡ Some (frame_in frame.now) }
     requires index { index < length (frame_in frame.now).components }
     requires component { component_in component.now
         ≡ get_or (frame_in frame.now).components index (component_in component.now) }
-    ensures { OnOk result (with_decoded (found_in state.now) decoded.new
-        ≡ with_plane_shown (frame_in frame.now) (with_decoded (found_in state.now) decoded.old)
+    ensures { OnOk result (with_decoded state.now decoded.new
+        ≡ with_plane_shown (frame_in frame.now) (with_decoded state.now decoded.old)
         (index, component_in component.now)) }
 {
     if decoded.planes.has(index) {
@@ -150,14 +147,14 @@ fn complete_part(
     decoded: &mut Decoded,
     index: usize,
 ) -> std::result::Result<(), AllocError>
-    requires sound { IsSound (with_decoded (found_in state.now) decoded.old) }
-    requires frame { (said_in state.now).frame ≡ Some (frame_in frame.now) }
+    requires sound { IsSound (with_decoded state.now decoded.old) }
+    requires frame { state.now.said.frame ≡ Some (frame_in frame.now) }
     requires index { index < length (frame_in frame.now).components }
     requires component { component_in component.now
         ≡ get_or (frame_in frame.now).components index (component_in component.now) }
-    ensures { OnOk result (with_decoded (found_in state.now) decoded.new
+    ensures { OnOk result (with_decoded state.now decoded.new
         ≡ shown_by (frame_in frame.now).process (frame_in frame.now)
-        (with_decoded (found_in state.now) decoded.old) (index, component_in component.now)) }
+        (with_decoded state.now decoded.old) (index, component_in component.now)) }
 {
     match frame.coding_process {
         CodingProcess::Lossless => complete_samples(alloc, frame, component, decoded, index),
@@ -174,11 +171,11 @@ fn complete(
     frame: &FrameInfo,
     decoded: &mut Decoded,
 ) -> std::result::Result<(), AllocError>
-    requires sound { IsSound (with_decoded (found_in state.now) decoded.old) }
-    requires frame { (said_in state.now).frame ≡ Some (frame_in frame.now) }
-    ensures completed { OnOk result (with_decoded (found_in state.now) decoded.new
-        ≡ completed (with_decoded (found_in state.now) decoded.old) (frame_in frame.now)) }
-    ensures sound { OnOk result (IsSound (with_decoded (found_in state.now) decoded.new)) }
+    requires sound { IsSound (with_decoded state.now decoded.old) }
+    requires frame { state.now.said.frame ≡ Some (frame_in frame.now) }
+    ensures completed { OnOk result (with_decoded state.now decoded.new
+        ≡ completed (with_decoded state.now decoded.old) (frame_in frame.now)) }
+    ensures sound { OnOk result (IsSound (with_decoded state.now decoded.new)) }
 {
     for index in 0..frame.components.len() {
         complete_part(
@@ -203,7 +200,7 @@ fn is_there(
 ) -> bool
     requires { index < 4 }
     ensures { result ≡ is_there (frame_in frame.now).process
-        (with_decoded (found_in state.now) decoded.now) (frame_in frame.now)
+        (with_decoded state.now decoded.now) (frame_in frame.now)
         (index, component_in component.now) }
 {
     if frame.coding_process == CodingProcess::Lossless {
@@ -220,10 +217,10 @@ fn missing_fault(
     frame: &FrameInfo,
     decoded: &Decoded,
 ) -> Option<Error>
-    requires sound { IsSound (with_decoded (found_in state.now) decoded.now) }
-    requires frame { (said_in state.now).frame ≡ Some (frame_in frame.now) }
+    requires sound { IsSound (with_decoded state.now decoded.now) }
+    requires frame { state.now.said.frame ≡ Some (frame_in frame.now) }
     ensures { NamesFault result (fault_in (planes_by (frame_in frame.now).process
-        (with_decoded (found_in state.now) decoded.now) (frame_in frame.now))) }
+        (with_decoded state.now decoded.now) (frame_in frame.now))) }
 {
     for index in 0..frame.components.len() {
         if !is_there(state, frame, &frame.components[index], decoded, index) {
@@ -256,17 +253,17 @@ fn show_found(
     fault: Option<Error>,
     rows: Option<u16>,
 ) -> Result<PartialLines>
-    requires sound { IsSound (with_decoded (found_in state.now) decoded.old) }
+    requires sound { IsSound (with_decoded state.now decoded.old) }
     requires fault { IfSome fault IsOfBytes }
     ensures shown { (ended : Result (List ℕ) Fault) → NamesFault fault (fault_in ended)
-        → IsShown (shown_of settings (with_decoded (found_in state.now) decoded.old, ended))
-        (λ p. concat p.lines) (λ p. p.fault) result (told_of (said_in state.now)) }
+        → IsShown (shown_of settings (with_decoded state.now decoded.old, ended))
+        (λ p. concat p.lines) (λ p. p.fault) result (told_of state.now.said) }
     ensures rows { IfOk result (λ p. p.whole_rows
-        ≡ rows_of_found rows (with_decoded (found_in state.now) decoded.old)) }
+        ≡ rows_of_found rows (with_decoded state.now decoded.old)) }
     ensures first { IfOk result (λ p. IfSome fault (λ e. p.fault ≡ Some e)) }
     ensures refused { IfErr result IsOfBytes }
-    ensures framed { IfOk result (λ _. is_some (said_in state.now).frame ≡ true) }
-    ensures lines { IfOk result (λ p. AreLinesOf (said_in state.now).frame p.lines) }
+    ensures framed { IfOk result (λ _. is_some state.now.said.frame ≡ true) }
+    ensures lines { IfOk result (λ p. AreLinesOf state.now.said.frame p.lines) }
 {
     let Some(frame) = state.said.frame.as_ref() else {
         if let Some(e) = fault {
@@ -306,23 +303,21 @@ fn show_rest<R: Read + Drop>(
     state: &mut State,
     settings: Settings,
 ) -> Result<PartialLines>
-    requires sound { IsSound (found_in state.old) }
-    ensures shown { ShowsJust (shown_rest settings (found_in state.old))
-        (λ p. concat p.lines) (λ p. p.fault) source.old result source.new
-        (told_of (said_in state.new)) }
-    ensures rows { CountsRows (λ p. p.whole_rows) (whole_rows_rest (found_in state.old))
+    requires sound { IsSound state.old }
+    ensures shown { ShowsJust (shown_rest settings state.old)
+        (λ p. concat p.lines) (λ p. p.fault) source.old result source.new (told_of state.new.said) }
+    ensures rows { CountsRows (λ p. p.whole_rows) (whole_rows_rest state.old)
         source.old result source.new }
     ensures given_up { GivesUp (λ p. p.fault) source.old result source.new }
     ensures refused { IfErr result IsOfBytes }
-    ensures framed { IfOk result (λ _. is_some (said_in state.new).frame ≡ true) }
-    ensures frames { OnOk result (HasDecodedFrame (found_in state.new)) }
-    ensures stays { is_some (said_in state.old).frame ≡ true → (said_in state.new).frame
-        ≡ (said_in state.old).frame }
-    ensures lines { IfOk result (λ p. AreLinesOf (said_in state.new).frame p.lines) }
-    ensures size { IfOk result (λ p. IsWhole (said_in state.new).frame (concat p.lines)) }
-    ensures emptied { ((found_in state.new).kept ≡ [])
-        × ((found_in state.new).planes ≡ replicate 4 None)
-        × ((found_in state.new).samples ≡ replicate 4 None) }
+    ensures framed { IfOk result (λ _. is_some state.new.said.frame ≡ true) }
+    ensures frames { OnOk result (HasDecodedFrame state.new) }
+    ensures stays { is_some state.old.said.frame ≡ true → state.new.said.frame
+        ≡ state.old.said.frame }
+    ensures lines { IfOk result (λ p. AreLinesOf state.new.said.frame p.lines) }
+    ensures size { IfOk result (λ p. IsWhole state.new.said.frame (concat p.lines)) }
+    ensures emptied { (state.new.kept ≡ []) × (state.new.planes ≡ replicate 4 None)
+        × (state.new.samples ≡ replicate 4 None) }
 {
     let mut rows = None;
     let ended = reach_segments(alloc, source, state, &mut rows);
@@ -346,28 +341,26 @@ pub fn show<R: Read + Drop>(
     settings: Settings,
     from_start: bool,
 ) -> Result<PartialLines>
-    requires sound { IsSound (found_in state.old) }
-    requires start { from_start ≡ true → found_in state.old ≡ nothing_found }
+    requires sound { IsSound state.old }
+    requires start { from_start ≡ true → state.old ≡ nothing_found }
     ensures whole { from_start ≡ true → ShowsJust (shown settings) (λ p. concat p.lines)
-        (λ p. p.fault) source.old result source.new (told_of (said_in state.new)) }
+        (λ p. p.fault) source.old result source.new (told_of state.new.said) }
     ensures whole_rows { from_start ≡ true → CountsRows (λ p. p.whole_rows) whole_rows source.old
         result source.new }
     ensures rest_rows { from_start ≡ false → CountsRows (λ p. p.whole_rows)
-        (whole_rows_rest (found_in state.old)) source.old result source.new }
-    ensures rest { from_start ≡ false → ShowsJust (shown_rest settings (found_in state.old))
-        (λ p. concat p.lines) (λ p. p.fault) source.old result source.new
-        (told_of (said_in state.new)) }
+        (whole_rows_rest state.old) source.old result source.new }
+    ensures rest { from_start ≡ false → ShowsJust (shown_rest settings state.old)
+        (λ p. concat p.lines) (λ p. p.fault) source.old result source.new (told_of state.new.said) }
     ensures given_up { GivesUp (λ p. p.fault) source.old result source.new }
     ensures refused { IfErr result IsOfBytes }
-    ensures framed { IfOk result (λ _. is_some (said_in state.new).frame ≡ true) }
-    ensures frames { OnOk result (HasDecodedFrame (found_in state.new)) }
-    ensures stays { is_some (said_in state.old).frame ≡ true → (said_in state.new).frame
-        ≡ (said_in state.old).frame }
-    ensures lines { IfOk result (λ p. AreLinesOf (said_in state.new).frame p.lines) }
-    ensures size { IfOk result (λ p. IsWhole (said_in state.new).frame (concat p.lines)) }
-    ensures emptied { ((found_in state.new).kept ≡ [])
-        × ((found_in state.new).planes ≡ replicate 4 None)
-        × ((found_in state.new).samples ≡ replicate 4 None) }
+    ensures framed { IfOk result (λ _. is_some state.new.said.frame ≡ true) }
+    ensures frames { OnOk result (HasDecodedFrame state.new) }
+    ensures stays { is_some state.old.said.frame ≡ true → state.new.said.frame
+        ≡ state.old.said.frame }
+    ensures lines { IfOk result (λ p. AreLinesOf state.new.said.frame p.lines) }
+    ensures size { IfOk result (λ p. IsWhole state.new.said.frame (concat p.lines)) }
+    ensures emptied { (state.new.kept ≡ []) × (state.new.planes ≡ replicate 4 None)
+        × (state.new.samples ≡ replicate 4 None) }
 {
     if !from_start {
         return show_rest(alloc, source, state, settings);

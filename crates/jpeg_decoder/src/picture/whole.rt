@@ -16,7 +16,6 @@ ghost use Rattle.jpeg_streams.specs.EndPlanes.{AreBlocksOf, blocks_if, is_kept, 
 ghost use Rattle.jpeg_segments.specs.declared.frame.CodingProcess.TheVariants.{Lossless};
 ghost use Rattle.jpeg_segments.specs.Checks.{gathered, needed};
 ghost use Rattle.jpeg_decoder.specs.Scanning.{arrays_in, blocks_in};
-ghost use Rattle.jpeg_decoder.specs.Seen.{found_in, metadata_in, said_in};
 ghost use Rattle.jpeg_decoder.specs.PlanesView.{planes_in};
 ghost use Rattle.jpeg_streams.specs.Sound.{IsDecodedFrame, IsPlaneOf, IsSound, HasDecodedFrame};
 ghost use Rattle.jpeg_streams.specs.Sound.{IsUnread};
@@ -90,7 +89,7 @@ fn is_within(limit: usize, count: usize, area: usize) -> bool
 
 /// Returns whether blocks of a frame are kept: it is progressive, and a scan of it was read.
 pub fn are_kept(state: &State, frame: &FrameInfo) -> bool
-    ensures { result ≡ is_kept (found_in state.now) (frame_in frame.now) }
+    ensures { result ≡ is_kept state.now (frame_in frame.now) }
 {
     is_progressive(frame.coding_process) && state.said.scanned
 }
@@ -156,10 +155,10 @@ fn planes_at_end(
     frame: &FrameInfo,
     decoded: &mut Decoded,
 ) -> Result<Vec<Vec<u8>>>
-    requires sound { IsSound (with_decoded (found_in state.now) decoded.old) }
-    requires frame { (said_in state.now).frame ≡ Some (frame_in frame.now) }
+    requires sound { IsSound (with_decoded state.now decoded.old) }
+    requires frame { state.now.said.frame ≡ Some (frame_in frame.now) }
     ensures planes { let expected = gathered (plane_at_end
-        (with_decoded (found_in state.now) decoded.old) (frame_in frame.now))
+        (with_decoded state.now decoded.old) (frame_in frame.now))
         (enumerate_from 0 (frame_in frame.now).components) in
         Returns expected (λ v. map (λ p. p.items) v.items) result }
     ensures whole { IfOk result (λ v. AreWhole (frame_in frame.now).components
@@ -206,7 +205,7 @@ fn picture_by(
     requires planes { AreWhole (frame_in frame.now).components (map (λ p. p.items) planes.items) }
     requires count { length planes.items ≡ length (frame_in frame.now).components }
     requires process { (frame_in frame.now).process ≡ Lossless → ⊥ }
-    ensures meant { let expected = picture_by settings (metadata_in state.now.said.metadata)
+    ensures meant { let expected = picture_by settings state.now.said.metadata
         (frame_in frame.now) (frame_in frame.now).components (map (λ p. p.items) planes.items) in
         Returns expected (λ l. concat l) result }
     ensures lines { IfOk result (λ l. AreLinesOf (Some (frame_in frame.now)) l) }
@@ -259,7 +258,7 @@ fn joint_picture(
         (frame_in frame.now).output_height planes.shape }
     requires full { IsFullJoint planes }
     requires process { (frame_in frame.now).process ≡ Lossless → ⊥ }
-    ensures meant { let expected = picture_by settings (metadata_in state.now.said.metadata)
+    ensures meant { let expected = picture_by settings state.now.said.metadata
         (frame_in frame.now) (frame_in frame.now).components
         (joint_planes planes.shape planes.samples.items) in
         Returns expected (λ l. concat l) result }
@@ -284,11 +283,11 @@ fn blocks_picture(
     decoded: &mut Decoded,
     settings: Settings,
 ) -> Result<PictureLines>
-    requires sound { IsSound (with_decoded (found_in state.now) decoded.old) }
-    requires frame { (said_in state.now).frame ≡ Some (frame_in frame.now) }
+    requires sound { IsSound (with_decoded state.now decoded.old) }
+    requires frame { state.now.said.frame ≡ Some (frame_in frame.now) }
     requires process { (frame_in frame.now).process ≡ Lossless → ⊥ }
     ensures meant { let expected = blocks_picture settings
-        (with_decoded (found_in state.now) decoded.old) (frame_in frame.now) in
+        (with_decoded state.now decoded.old) (frame_in frame.now) in
         Returns expected (λ l. concat l) result }
     ensures lines { IfOk result (λ l. AreLinesOf (Some (frame_in frame.now)) l) }
 {
@@ -326,11 +325,11 @@ fn samples_picture(
     frame: &FrameInfo,
     decoded: &mut Decoded,
 ) -> Result<SampleLines>
-    requires sound { IsSound (with_decoded (found_in state.now) decoded.old) }
-    requires frame { (said_in state.now).frame ≡ Some (frame_in frame.now) }
+    requires sound { IsSound (with_decoded state.now decoded.old) }
+    requires frame { state.now.said.frame ≡ Some (frame_in frame.now) }
     requires process { (frame_in frame.now).process ≡ Lossless }
     ensures meant { let expected =
-        samples_picture (with_decoded (found_in state.now) decoded.old) (frame_in frame.now) in
+        samples_picture (with_decoded state.now decoded.old) (frame_in frame.now) in
         Returns expected (λ l. concat l) result }
     ensures lines { IfOk result (λ l. AreLinesOf (Some (frame_in frame.now)) l) }
 {
@@ -360,11 +359,10 @@ pub fn picture(
     decoded: &mut Decoded,
     settings: Settings,
 ) -> Result<Lines>
-    requires sound { IsSound (with_decoded (found_in state.now) decoded.old) }
-    ensures meant { let expected = picture_of settings
-        (with_decoded (found_in state.now) decoded.old) in
+    requires sound { IsSound (with_decoded state.now decoded.old) }
+    ensures meant { let expected = picture_of settings (with_decoded state.now decoded.old) in
         Returns expected (λ l. concat l) result }
-    ensures lines { IfOk result (λ l. AreLinesOf (said_in state.now).frame l) }
+    ensures lines { IfOk result (λ l. AreLinesOf state.now.said.frame l) }
 {
     let frame = needed(
         alloc,
@@ -398,15 +396,15 @@ pub fn read_header<R: Read + Drop>(
     source: &mut Source<R>,
     state: &mut State,
 ) -> Result<()>
-    requires { found_in state.old ≡ nothing_found }
-    ensures reads { Answers (λ _. found_in state.new) header_at source.old result source.new }
-    ensures told { OnTold source.old source.new result (told_of (said_in state.new)
+    requires { state.old ≡ nothing_found }
+    ensures reads { Answers (λ _. state.new) header_at source.old result source.new }
+    ensures told { OnTold source.old source.new result (told_of state.new.said
         ≡ told_by_turns (suc (length source.old.bytes)) true source.old.bytes) }
     ensures turns { source.old.known ≡ true → IsOfTurns (λ n. told_by_turns n true source.old.bytes)
-        (told_of (said_in state.new)) }
-    ensures framed { IfOk result (λ _. is_some (said_in state.new).frame ≡ true) }
-    ensures sound { OnOk result (IsSound (found_in state.new)) }
-    ensures unread { OnOk result (IsUnread (found_in state.new)) }
+        (told_of state.new.said) }
+    ensures framed { IfOk result (λ _. is_some state.new.said.frame ≡ true) }
+    ensures sound { OnOk result (IsSound state.new) }
+    ensures unread { OnOk result (IsUnread state.new) }
 {
     read_start(alloc, source)?;
     read_segments(alloc, source, state, true)
@@ -421,24 +419,21 @@ pub fn read_rest<R: Read + Drop>(
     state: &mut State,
     settings: Settings,
 ) -> Result<Lines>
-    requires sound { IsSound (found_in state.old) }
-    ensures reads { Answers (λ l. (told_of (said_in state.new), concat l))
-        (rest_at settings (found_in state.old)) source.old result source.new }
-    ensures told { OnTold source.old source.new result (told_of (said_in state.new)
-        ≡ told_in_turns (suc (length source.old.bytes)) false (found_in state.old)
-        source.old.bytes) }
+    requires sound { IsSound state.old }
+    ensures reads { Answers (λ l. (told_of state.new.said, concat l))
+        (rest_at settings state.old) source.old result source.new }
+    ensures told { OnTold source.old source.new result (told_of state.new.said
+        ≡ told_in_turns (suc (length source.old.bytes)) false state.old source.old.bytes) }
     ensures turns { source.old.known ≡ true → IsOfTurns
-        (λ n. told_in_turns n false (found_in state.old) source.old.bytes)
-        (told_of (said_in state.new)) }
-    ensures framed { IfOk result (λ _. is_some (said_in state.new).frame ≡ true) }
-    ensures stays { is_some (said_in state.old).frame ≡ true → (said_in state.new).frame
-        ≡ (said_in state.old).frame }
-    ensures frames { OnOk result (HasDecodedFrame (found_in state.new)) }
-    ensures lines { IfOk result (λ l. AreLinesOf (said_in state.new).frame l) }
-    ensures size { IfOk result (λ l. IsWhole (said_in state.new).frame (concat l)) }
-    ensures emptied { ((found_in state.new).kept ≡ [])
-        × ((found_in state.new).planes ≡ replicate 4 None)
-        × ((found_in state.new).samples ≡ replicate 4 None) }
+        (λ n. told_in_turns n false state.old source.old.bytes) (told_of state.new.said) }
+    ensures framed { IfOk result (λ _. is_some state.new.said.frame ≡ true) }
+    ensures stays { is_some state.old.said.frame ≡ true → state.new.said.frame
+        ≡ state.old.said.frame }
+    ensures frames { OnOk result (HasDecodedFrame state.new) }
+    ensures lines { IfOk result (λ l. AreLinesOf state.new.said.frame l) }
+    ensures size { IfOk result (λ l. IsWhole state.new.said.frame (concat l)) }
+    ensures emptied { (state.new.kept ≡ []) × (state.new.planes ≡ replicate 4 None)
+        × (state.new.samples ≡ replicate 4 None) }
 {
     let ended = read_segments(alloc, source, state, false);
     let mut decoded = std::mem::replace(&mut state.decoded, Decoded::new(alloc));

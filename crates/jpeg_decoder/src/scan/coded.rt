@@ -1,6 +1,7 @@
 //! A scan, as it is read (T.81, B.2.3).
 ghost use Rattle.std.specs.Prelude.{◌≡◌, ◌≤◌, All, length, false, true};
 ghost use Rattle.jpeg_bits.specs.BlockView.{IsPass, pass_in};
+ghost use Rattle.jpeg_bits.specs.Passes.{whole_pass};
 ghost use Rattle.jpeg_bits.specs.declared.huffman.codes.HuffmanTableClass.TheVariants.{AC};
 ghost use Rattle.jpeg_segments.specs.Scales.{is_scale};
 ghost use Rattle.jpeg_streams.specs.ScanSegments.{is_progressive};
@@ -56,6 +57,13 @@ pub fn is_progressive(process: CodingProcess) -> bool
         CodingProcess::DctProgressive => true,
         CodingProcess::DctSequential | CodingProcess::Lossless => false,
     }
+}
+
+/// Returns whether a pass codes all coefficients of a block, and finishes them.
+pub fn is_whole(pass: Pass) -> bool
+    ensures { result ≡ true → pass_in pass ≡ whole_pass }
+{
+    pass.is_first && pass.ss == 0 && pass.se == 63 && pass.al == 0
 }
 
 /// Returns whether the AC coefficients of a scan's blocks are wanted. Those of a sequential frame

@@ -11,7 +11,6 @@ ghost use Rattle.jpeg_bits.specs.declared.huffman.codes.HuffmanTableClass.TheVar
 ghost use Rattle.jpeg_segments.specs.FrameView.{frame_in, scan_in};
 ghost use Rattle.jpeg_segments.specs.ScanHeader.{IsScanOf};
 ghost use Rattle.jpeg_streams.specs.Scans.{no_table};
-ghost use Rattle.jpeg_decoder.specs.Seen.{found_in, said_of};
 ghost use Rattle.jpeg_decoder.specs.Steps.{Returns, IsSpareOf, coding_in};
 ghost use Rattle.jpeg_decoder.specs.Steps.{coding_in_slot, default_dc, default_ac, in_force};
 ghost use Rattle.jpeg_decoder.specs.Steps.{HasScale, table_if};
@@ -149,7 +148,7 @@ fn widen_all(
 
 /// Fills the look-up tables of AC values if the frame has enough samples for them to pay.
 pub fn widen_tables(alloc: Global, state: &mut State) -> std::result::Result<(), AllocError>
-    ensures { found_in state.new ≡ found_in state.old }
+    ensures { state.new ≡ state.old }
 {
     let said = &mut state.said;
     let Some(frame) = &said.frame else {
@@ -269,10 +268,10 @@ fn coding_of<'a>(
     requires slot { slot < length (scan_in header.now).components }
     requires legal { IsScanOf (frame_in frame.now) (scan_in header.now) }
     requires scales { AllByRecursion HasScale (frame_in frame.now).components }
-    requires spare { IsSpareOf (said_of said.now) (scan_in header.now) spare.now }
+    requires spare { IsSpareOf said.now (scan_in header.now) spare.now }
     ensures coding { let frame = frame_in frame.now in
         let scan = scan_in header.now in
-        Returns (coding_in_slot (said_of said.now) frame scan slot) (λ c. coding_in c) result }
+        Returns (coding_in_slot said.now frame scan slot) (λ c. coding_in c) result }
 {
     let index = header.component_indices[slot];
     let component = frame.components.get(index);
@@ -311,10 +310,10 @@ pub fn codings_of<'a>(
 ) -> Result<Vec<Coded<'a>>>
     requires legal { IsScanOf (frame_in frame.now) (scan_in header.now) }
     requires scales { AllByRecursion HasScale (frame_in frame.now).components }
-    requires spare { IsSpareOf (said_of said.now) (scan_in header.now) spare.now }
+    requires spare { IsSpareOf said.now (scan_in header.now) spare.now }
     ensures codings { let frame = frame_in frame.now in
         let scan = scan_in header.now in
-        Returns (codings_of (said_of said.now) frame scan) (λ v. map coding_in v.items) result }
+        Returns (codings_of said.now frame scan) (λ v. map coding_in v.items) result }
     ensures count { IfOk result (λ v. length v.items ≡ length (scan_in header.now).components) }
 {
     let mut codings = Vec::with_capacity(alloc, header.component_indices.len())?;

@@ -19,7 +19,7 @@ ghost use Rattle.jpeg_bits.specs.Passes.{whole_pass};
 ghost use Rattle.jpeg_decoder.specs.Reaching.{is_out_of_memory, kept_after};
 
 use crate::scan::block_array::BlockArray;
-use crate::scan::coded::{Coded, Scan, is_progressive};
+use crate::scan::coded::{Coded, Scan, is_progressive, is_whole};
 use crate::scan::kept::read_blocks;
 use crate::scan::planes::Planes;
 use crate::scan::reached::reach_blocks;
@@ -62,13 +62,6 @@ fn finish(pass: Pass, marks: &mut [bool; 64])
         let after = usize::from(pass.se) + 1;
         marks[usize::from(pass.ss)..after].fill(true);
     }
-}
-
-/// Returns whether a pass finishes all coefficients of a block.
-fn is_whole(pass: Pass) -> bool
-    ensures { result ≡ true → pass_in pass ≡ whole_pass }
-{
-    pass.is_first && pass.ss == 0 && pass.se == 63 && pass.al == 0
 }
 
 /// Returns whether a scan has this many components, those of the frame in their order.

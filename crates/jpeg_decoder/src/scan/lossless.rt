@@ -7,7 +7,7 @@ ghost use Rattle.jpeg_segments.specs.FrameView.{component_in, frame_in, scan_in}
 ghost use Rattle.jpeg_segments.specs.ScanHeader.{IsScanOf};
 ghost use Rattle.jpeg_segments.specs.declared.frame.CodingProcess.TheVariants.{Lossless};
 ghost use Rattle.jpeg_streams.specs.LosslessScans.{tables_in};
-ghost use Rattle.jpeg_decoder.specs.Seen.{found_of, said_of};
+ghost use Rattle.jpeg_decoder.specs.Seen.{found_of};
 ghost use Rattle.jpeg_streams.specs.ScanSegments.{once_scanned};
 ghost use Rattle.jpeg_streams.specs.Sound.{IsDecodedFrame, IsSound};
 ghost use Rattle.jpeg_decoder.specs.Reaching.{IsSampleScan, sample_codings};
@@ -45,7 +45,7 @@ fn tables_of<'a>(
     frame: &FrameInfo,
     header: &ScanInfo,
 ) -> Result<Vec<&'a HuffmanTable>>
-    ensures { let expected = tables_in said.now.dc_tables (scan_in header.now).dc_destinations in
+    ensures { let expected = tables_in said.now.huffman.dc (scan_in header.now).dc_destinations in
         Returns expected (λ v. map (λ t. t.now) v.items) result }
 {
     let mut tables = Vec::with_capacity(alloc, header.dc_table_indices.len())?;
@@ -157,7 +157,7 @@ pub fn read_lossless_scan<R: Read + Drop>(
     decoded: &mut Decoded,
 ) -> Result<Option<Marker>>
     requires sound { IsSound (found_of said.now decoded.old) }
-    requires frame { (said_of said.now).frame ≡ Some (frame_in frame.now) }
+    requires frame { said.now.frame ≡ Some (frame_in frame.now) }
     requires process { (frame_in frame.now).process ≡ Lossless }
     requires legal { IsScanOf (frame_in frame.now) (scan_in header.now) }
     ensures reads { Answers (λ m. (once_scanned (found_of said.now decoded.new), m))
@@ -205,10 +205,9 @@ pub fn sample_scan_of<'a>(
     requires legal { IsScanOf (frame_in frame.now) (scan_in header.now) }
     ensures given { IfOk result (λ s. (s.said.now ≡ said.now) × (s.frame.now ≡ frame.now)
         × (s.header.now ≡ header.now)) }
-    ensures scan { IfOk result
-        (IsSampleScan (said_of said.now) (frame_in frame.now) (scan_in header.now)) }
+    ensures scan { IfOk result (IsSampleScan said.now (frame_in frame.now) (scan_in header.now)) }
     ensures refused { IfErr result (λ e. IsRefusal e × Names e
-        (sample_codings (said_of said.now) (frame_in frame.now) (scan_in header.now))) }
+        (sample_codings said.now (frame_in frame.now) (scan_in header.now))) }
 {
     let tables = tables_of(alloc, said, frame, header)?;
     let parts = parts_of(alloc, frame, &header.component_indices, &tables)?;

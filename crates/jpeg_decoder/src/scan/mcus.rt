@@ -1,7 +1,6 @@
 //! The blocks of a sequential scan, each of which is coded at once (T.81, F.2.2).
 ghost use Rattle.std.specs.Prelude.{is_some, true, false, length, ◌≡◌};
 ghost use Rattle.std.specs.List.{AllByRecursion};
-ghost use Rattle.jpeg_bits.specs.BlockView.{pass_in};
 ghost use Rattle.jpeg_bits.specs.Refusals.{outcome_of};
 ghost use Rattle.jpeg_bits.specs.Entropy.{Takes};
 ghost use Rattle.jpeg_bits.specs.Passes.{whole_pass};
@@ -14,7 +13,7 @@ ghost use Rattle.jpeg_decoder.specs.Scanning.{kept_blocks, kept_counted};
 
 use crate::scan::block_array::BlockArray;
 use crate::scan::blocks::{Interval, begin, reach, read_spots};
-use crate::scan::coded::Scan;
+use crate::scan::coded::{Scan, is_whole};
 use crate::scan::spots::Spots;
 use jpeg_bits::blocks::{BlockCoding, Carried, Pass, take_inlined_block};
 use jpeg_bits::error::{Result, take_refusal};
@@ -30,13 +29,6 @@ const WHOLE: Pass = Pass {
     se: 63,
     al: 0,
 };
-
-/// Returns whether a pass codes all of a block at once.
-fn is_whole(pass: Pass) -> bool
-    ensures { result ≡ true → pass_in pass ≡ whole_pass }
-{
-    pass.is_first && pass.ss == 0 && pass.se == 63 && pass.al == 0
-}
 
 /// Begins the next restart interval as `begin` does, where the blocks are read by locals in place
 /// of what `interval` has. A refusal is stored in `interval`, and false is returned.

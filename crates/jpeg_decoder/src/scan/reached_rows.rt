@@ -22,7 +22,7 @@ ghost use Rattle.jpeg_streams.specs.WholeRows.{rows_of_planes};
 ghost use Rattle.jpeg_decoder.specs.Reaching.{IsSampleScan, TellsLeft, UnlessRefused};
 ghost use Rattle.jpeg_decoder.specs.Reaching.{planes_reached, rows_appended, sample_codings};
 ghost use Rattle.jpeg_decoder.specs.Reaching.{samples_reached};
-ghost use Rattle.jpeg_decoder.specs.Seen.{found_of, said_of};
+ghost use Rattle.jpeg_decoder.specs.Seen.{found_of};
 
 use crate::scan::data::read_data;
 use crate::scan::decoded::Decoded;
@@ -144,23 +144,23 @@ pub fn reach_samples<R: Read + Drop>(
     decoded: &mut Decoded,
 ) -> Result<Option<Marker>>
     requires sound { IsSound (found_of scan.now.said.now decoded.old) }
-    requires frame { (said_of scan.now.said.now).frame ≡ Some (frame_in scan.now.frame.now) }
+    requires frame { scan.now.said.now.frame ≡ Some (frame_in scan.now.frame.now) }
     requires process { (frame_in scan.now.frame.now).process ≡ Lossless }
     requires legal { IsScanOf (frame_in scan.now.frame.now) (scan_in scan.now.header.now) }
-    requires scan { IsSampleScan (said_of scan.now.said.now) (frame_in scan.now.frame.now)
+    requires scan { IsSampleScan scan.now.said.now (frame_in scan.now.frame.now)
         (scan_in scan.now.header.now) scan.now }
-    ensures found { (codings : List LosslessCoding) → sample_codings (said_of scan.now.said.now)
+    ensures found { (codings : List LosslessCoding) → sample_codings scan.now.said.now
         (frame_in scan.now.frame.now) (scan_in scan.now.header.now) ≡ Ok codings
         → OnTold source.old source.new result (once_scanned (found_of scan.now.said.now decoded.new)
         ≡ (samples_reached (found_of scan.now.said.now decoded.old) (frame_in scan.now.frame.now)
         (scan_in scan.now.header.now) codings source.old.bytes).0) }
-    ensures rows { (codings : List LosslessCoding) → sample_codings (said_of scan.now.said.now)
+    ensures rows { (codings : List LosslessCoding) → sample_codings scan.now.said.now
         (frame_in scan.now.frame.now) (scan_in scan.now.header.now) ≡ Ok codings
         → OnTold source.old source.new result (decoded.new.rows
         ≡ rows_of_planes (frame_in scan.now.frame.now) codings (planes_brought
         (found_of scan.now.said.now decoded.old) (frame_in scan.now.frame.now)
         (scan_in scan.now.header.now) codings source.old.bytes).0) }
-    ensures answers { (codings : List LosslessCoding) → sample_codings (said_of scan.now.said.now)
+    ensures answers { (codings : List LosslessCoding) → sample_codings scan.now.said.now
         (frame_in scan.now.frame.now) (scan_in scan.now.header.now) ≡ Ok codings
         → UnlessRefused result (Answers (λ m. m) (λ bytes. (samples_reached
         (found_of scan.now.said.now decoded.old) (frame_in scan.now.frame.now)

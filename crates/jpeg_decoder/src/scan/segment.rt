@@ -1,7 +1,6 @@
 //! A scan in a stream: its header, the tables in force, its data (T.81, B.2.3), and what may stand
 //! after it.
 ghost use Rattle.jpeg_bits.specs.Reading.{Answers, Names};
-ghost use Rattle.jpeg_decoder.specs.Seen.{found_in};
 ghost use Rattle.jpeg_streams.specs.Sound.{IsSound};
 ghost use Rattle.jpeg_decoder.specs.Steps.{IsRefusal, IsStep, turn_of};
 ghost use Rattle.jpeg_streams.specs.ScanSegments.{once_scanned, scan_segment};
@@ -45,20 +44,22 @@ pub fn refused_line_count(alloc: Global, before: Before) -> Error
 }
 
 /// Marks that the data of a scan were read as far as they go, and returns what stands after it, or
-/// the refusal of its data, and with that the number of complete rows of the picture.
+/// the refusal of its data, and with that the number of complete rows of the picture, which the
+/// scan has given.
 fn end_reached(
     state: &mut State,
     reached: Result<Option<Marker>>,
+    given: Option<u16>,
     rows: &mut Option<u16>,
 ) -> Result<Step>
-    ensures rows { rows.new ≡ rows_after reached rows.old state.old.decoded.rows }
-    ensures found { found_in state.new ≡ once_scanned (found_in state.old) }
-    ensures step { IsEndOf (found_in state.old) (turn_of state.new) reached result }
+    ensures rows { rows.new ≡ rows_after reached rows.old given }
+    ensures found { state.new ≡ once_scanned state.old }
+    ensures step { IsEndOf state.old (turn_of state.new) reached result }
 {
     match reached {
         Ok(met) => Ok(state.end_scan(met)),
         Err(e) => {
-            *rows = state.decoded.rows;
+            *rows = given;
             state.end_scan(None);
             Err(e)
         }
@@ -77,17 +78,17 @@ pub fn reach_scan<R: Read + Drop>(
     state: &mut State,
     rows: &mut Option<u16>,
 ) -> Result<Step>
-    requires sound { IsSound (found_in state.old) }
+    requires sound { IsSound state.old }
     requires rows { rows.old ≡ None }
     ensures whole { OnOk result (rows.new ≡ None) }
     ensures rows { OnToldRefusal source.old source.new result (rows.new
-        ≡ rows_of_scan (found_in state.old) source.old.bytes) }
+        ≡ rows_of_scan state.old source.old.bytes) }
     ensures reads { UnlessRefused result (Answers (turn_of state.new) (λ bytes. (scan_brought
-        (found_in state.old) bytes).1) source.old result source.new) }
-    ensures found { OnToldRefusal source.old source.new result (found_in state.new
-        ≡ (scan_brought (found_in state.old) source.old.bytes).0) }
-    ensures sound { UnlessRefused result (IsSound (found_in state.new)) }
-    ensures steps { IsStep (found_in state.old) result (found_in state.new) }
+        state.old bytes).1) source.old result source.new) }
+    ensures found { OnToldRefusal source.old source.new result (state.new
+        ≡ (scan_brought state.old source.old.bytes).0) }
+    ensures sound { UnlessRefused result (IsSound state.new) }
+    ensures steps { IsStep state.old result state.new }
 {
     widen_tables(alloc, state)?;
     let said = &state.said;
@@ -98,7 +99,8 @@ pub fn reach_scan<R: Read + Drop>(
         let reached = reach_samples(alloc, source, &scan, &mut state.decoded);
         // It borrows from `state`, which changes now.
         drop(scan);
-        return end_reached(state, reached, rows);
+        let given = state.decoded.rows;
+        return end_reached(state, reached, given, rows);
     }
     let spare = spare_tables(alloc, &header, frame, said.metadata.avi1)?;
     let components = codings_of(alloc, said, &spare, frame, &header)?;
@@ -113,7 +115,8 @@ pub fn reach_scan<R: Read + Drop>(
         .reach(alloc, source, said.scanned, frame, &scan);
     // It borrows from `state`, which changes now.
     drop(scan);
-    end_reached(state, reached, rows)
+    let given = state.decoded.rows;
+    end_reached(state, reached, given, rows)
 }
 
 /// Reads a scan, and returns what stands after it: the marker after it and after the restart
@@ -123,10 +126,10 @@ pub fn read_scan<R: Read + Drop>(
     source: &mut Source<R>,
     state: &mut State,
 ) -> Result<Step>
-    requires sound { IsSound (found_in state.old) }
-    ensures reads { Answers (turn_of state.new) (scan_segment (found_in state.old)) source.old
+    requires sound { IsSound state.old }
+    ensures reads { Answers (turn_of state.new) (scan_segment state.old) source.old
         result source.new }
-    ensures steps { IsStep (found_in state.old) result (found_in state.new) }
+    ensures steps { IsStep state.old result state.new }
 {
     widen_tables(alloc, state)?;
     let said = &state.said;

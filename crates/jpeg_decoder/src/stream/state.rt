@@ -1,6 +1,4 @@
 //! What the segments of a stream have said so far, and the segments (T.81, B.2).
-ghost use Rattle.std.specs.Prelude.{◌≡◌, true};
-ghost use Rattle.jpeg_segments.specs.HuffmanTables.{all_ac};
 
 use crate::scan::decoded::Decoded;
 use crate::stream::frames::check_frame;
@@ -17,6 +15,7 @@ use jpeg_segments::parser::{
 use jpeg_streams::before::Before;
 use std::alloc::Global;
 use std::io::Read;
+use std::marker::Model;
 
 /// What the segments of a stream have said so far: the frame, the tables in force by their
 /// destinations, and metadata.
@@ -36,9 +35,21 @@ pub struct Said {
     pub scanned: bool,
     /// What the segments of applications have said.
     pub metadata: Metadata,
+}
+
+impl Model for Said {
+    ghost use Rattle.std.specs.Prelude.{◌≡◌, true};
+    ghost use Rattle.jpeg_segments.specs.HuffmanTables.{all_ac};
+    ghost use Rattle.jpeg_streams.specs.Found.{Said};
+
+    ghost Value = { Said };
+
+    ghost use Rattle.jpeg_decoder.specs.Seen.{said_of};
+
+    ghost view = { said_of };
 
     // Each AC table is of class AC.
-    ghost ac_classes: { all_ac ac_tables ≡ true },
+    ghost invariant = { λ s. all_ac s.ac_tables ≡ true };
 }
 
 /// What has been found in a stream so far.
@@ -48,6 +59,16 @@ pub struct State {
     pub said: Said,
     /// What its scans have decoded.
     pub decoded: Decoded,
+}
+
+impl Model for State {
+    ghost use Rattle.jpeg_streams.specs.Found.{Found};
+
+    ghost Value = { Found };
+
+    ghost use Rattle.jpeg_decoder.specs.Seen.{found_of};
+
+    ghost view = { λ s. found_of s.said s.decoded };
 }
 
 /// What stands after a segment: what stands before the next marker, that marker, if it was reached
@@ -79,14 +100,13 @@ impl State {
     ghost use Rattle.jpeg_streams.specs.Found.{nothing_found};
     ghost use Rattle.jpeg_streams.specs.ScanSegments.{once_scanned, scan_before};
     ghost use Rattle.jpeg_streams.specs.Stream.{end_segment, segment_at};
-    ghost use Rattle.jpeg_decoder.specs.Seen.{found_in};
     ghost use Rattle.jpeg_decoder.specs.Steps.{IsStep, turn_of};
     ghost use Rattle.jpeg_decoder.specs.Reaching.{OnFault, without_tables};
 
     /// Makes the state at the start of a stream.
     #[tactic(auto, unfolding(crate::proofs::Rules::nothing))]
     pub fn new(alloc: Global) -> State
-        ensures { found_in result ≡ nothing_found }
+        ensures { result ≡ nothing_found }
     {
         State {
             said: Said {
@@ -110,17 +130,18 @@ impl State {
         source: &mut Source<R>,
         number: u8,
     ) -> Result<Step>
-        ensures reads { Answers (turn_of self.new) (frame_segment number (found_in self.old))
+        ensures reads { Answers (turn_of self.new) (frame_segment number self.old)
             source.old result source.new }
-        ensures steps { IsStep (found_in self.old) result (found_in self.new) }
-        ensures kept { OnFault result (found_in self.new ≡ found_in self.old) }
+        ensures steps { IsStep self.old result self.new }
+        ensures kept { OnFault result (self.new ≡ self.old) }
     {
-        if self.said.frame.is_some() {
+        let said = &mut self.said;
+        if said.frame.is_some() {
             return Err(Error::Unsupported(UnsupportedFeature::Hierarchical));
         }
         let frame = parse_sof(alloc, source, Marker::SOF(number))?;
         check_frame(alloc, &frame)?;
-        self.said.frame = Some(frame);
+        said.frame = Some(frame);
         Ok(ONWARD)
     }
 
@@ -131,10 +152,10 @@ impl State {
         alloc: Global,
         source: &mut Source<R>,
     ) -> Result<Step>
-        ensures reads { Answers (turn_of self.new) (quantization_segment (found_in self.old))
+        ensures reads { Answers (turn_of self.new) (quantization_segment self.old)
             source.old result source.new }
-        ensures steps { IsStep (found_in self.old) result (found_in self.new) }
-        ensures kept { OnFault result (found_in self.new ≡ found_in self.old) }
+        ensures steps { IsStep self.old result self.new }
+        ensures kept { OnFault result (self.new ≡ self.old) }
     {
         let mut tables = parse_dqt(alloc, source)?;
         update(&mut self.said.quantization, &mut tables);
@@ -148,11 +169,10 @@ impl State {
         alloc: Global,
         source: &mut Source<R>,
     ) -> Result<Step>
-        ensures reads { Answers (turn_of self.new) (huffman_segment (found_in self.old)) source.old
+        ensures reads { Answers (turn_of self.new) (huffman_segment self.old) source.old
             result source.new }
-        ensures steps { IsStep (found_in self.old) result (found_in self.new) }
-        ensures kept { OnFault result (without_tables (found_in self.new)
-            ≡ without_tables (found_in self.old)) }
+        ensures steps { IsStep self.old result self.new }
+        ensures kept { OnFault result (without_tables self.new ≡ without_tables self.old) }
     {
         let is_baseline = self.said.frame.as_ref().map(|frame| frame.is_baseline);
         let said = &mut self.said;
@@ -173,10 +193,10 @@ impl State {
         alloc: Global,
         source: &mut Source<R>,
     ) -> Result<Step>
-        ensures reads { Answers (turn_of self.new) (restart_segment (found_in self.old)) source.old
+        ensures reads { Answers (turn_of self.new) (restart_segment self.old) source.old
             result source.new }
-        ensures steps { IsStep (found_in self.old) result (found_in self.new) }
-        ensures kept { OnFault result (found_in self.new ≡ found_in self.old) }
+        ensures steps { IsStep self.old result self.new }
+        ensures kept { OnFault result (self.new ≡ self.old) }
     {
         self.said.restart_interval = parse_dri(alloc, source)?;
         Ok(ONWARD)
@@ -190,10 +210,10 @@ impl State {
         source: &mut Source<R>,
         number: u8,
     ) -> Result<Step>
-        ensures reads { Answers (turn_of self.new) (application_segment number (found_in self.old))
+        ensures reads { Answers (turn_of self.new) (application_segment number self.old)
             source.old result source.new }
-        ensures steps { IsStep (found_in self.old) result (found_in self.new) }
-        ensures kept { OnFault result (found_in self.new ≡ found_in self.old) }
+        ensures steps { IsStep self.old result self.new }
+        ensures kept { OnFault result (self.new ≡ self.old) }
     {
         let said = parse_app(alloc, source, Marker::APP(number))?;
         self.said.metadata.add(said)?;
@@ -206,9 +226,9 @@ impl State {
         alloc: Global,
         source: &mut Source<R>,
     ) -> Result<Step>
-        ensures reads { Answers (turn_of self.now) (skipped_segment (found_in self.now)) source.old
+        ensures reads { Answers (turn_of self.now) (skipped_segment self.now) source.old
             result source.new }
-        ensures steps { IsStep (found_in self.now) result (found_in self.now) }
+        ensures steps { IsStep self.now result self.now }
     {
         let length = read_length(alloc, source)?;
         skip(alloc, source, length)?;
@@ -218,9 +238,9 @@ impl State {
     /// Ends the image, which needs a frame.
     #[tactic(auto, unfolding(jpeg_streams::specs::Stream::end_segment))]
     pub fn end<R: Read + Drop>(&self, alloc: Global, source: &mut Source<R>) -> Result<Step>
-        ensures reads { Answers (turn_of self.now) (end_segment (found_in self.now)) source.old
+        ensures reads { Answers (turn_of self.now) (end_segment self.now) source.old
             result source.new }
-        ensures steps { IsStep (found_in self.now) result (found_in self.now) }
+        ensures steps { IsStep self.now result self.now }
     {
         if self.said.frame.is_none() {
             return Err(format_error(alloc, "found EOI, expected a frame header"));
@@ -236,8 +256,8 @@ impl State {
     /// reached.
     pub fn end_scan(&mut self, met: Option<Marker>) -> Step
         ensures { turn_of self.new result ≡ record {
-          found = once_scanned (found_in self.old);
-          before = scan_before (found_in self.old);
+          found = once_scanned self.old;
+          before = scan_before self.old;
           met = met;
           ended = false;
         } }
@@ -265,8 +285,8 @@ impl State {
         before: Before,
     ) -> Result<Step>
         ensures reads { Answers (turn_of self.now)
-            (segment_at (RST number) before (found_in self.now)) source.old result source.new }
-        ensures steps { IsStep (found_in self.now) result (found_in self.now) }
+            (segment_at (RST number) before self.now) source.old result source.new }
+        ensures steps { IsStep self.now result self.now }
     {
         match before {
             Before::FirstScan | Before::LaterScan => Ok(ONWARD),

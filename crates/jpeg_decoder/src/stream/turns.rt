@@ -11,7 +11,6 @@ ghost use Rattle.jpeg_streams.specs.Brought.{all_brought, turn_brought};
 ghost use Rattle.jpeg_streams.specs.WholeRows.{rows_of_turn, rows_of_walk};
 ghost use Rattle.jpeg_bits.specs.declared.marker.Marker.TheVariants.{SOS};
 ghost use Rattle.jpeg_decoder.specs.Reaching.{OnFault, UnlessRefused, walk_end, without_tables};
-ghost use Rattle.jpeg_decoder.specs.Seen.{found_in, said_in};
 ghost use Rattle.jpeg_decoder.specs.Steps.{IsStep, turn_of};
 
 use crate::scan::segment::{reach_scan, read_scan, refused_line_count};
@@ -48,13 +47,12 @@ fn read_segment<R: Read + Drop>(
     before: Before,
     marker: Marker,
 ) -> Result<Step>
-    requires sound { IsSound (found_in state.old) }
+    requires sound { IsSound state.old }
     requires other { marker ≡ SOS → ⊥ }
-    ensures reads { Answers (turn_of state.new) (segment_at marker before (found_in state.old))
+    ensures reads { Answers (turn_of state.new) (segment_at marker before state.old)
         source.old result source.new }
-    ensures steps { IsStep (found_in state.old) result (found_in state.new) }
-    ensures kept { OnFault result (without_tables (found_in state.new)
-        ≡ without_tables (found_in state.old)) }
+    ensures steps { IsStep state.old result state.new }
+    ensures kept { OnFault result (without_tables state.new ≡ without_tables state.old) }
 {
     match marker {
         Marker::SOF(number) => state.read_frame(alloc, source, number),
@@ -83,10 +81,10 @@ fn read_turn<R: Read + Drop>(
     before: Before,
     met: Option<Marker>,
 ) -> Result<Step>
-    requires sound { IsSound (found_in state.old) }
-    ensures reads { Answers (turn_of state.new) (turn_at before (found_in state.old) met)
+    requires sound { IsSound state.old }
+    ensures reads { Answers (turn_of state.new) (turn_at before state.old met)
         source.old result source.new }
-    ensures steps { IsStep (found_in state.old) result (found_in state.new) }
+    ensures steps { IsStep state.old result state.new }
     ensures short { met ≡ None → IsShort source.old }
 {
     let marker = marker_or_next(alloc, source, met)?;
@@ -107,18 +105,18 @@ fn reach_turn<R: Read + Drop>(
     met: Option<Marker>,
     rows: &mut Option<u16>,
 ) -> Result<Step>
-    requires sound { IsSound (found_in state.old) }
+    requires sound { IsSound state.old }
     requires rows { rows.old ≡ None }
     ensures whole { OnOk result (rows.new ≡ None) }
     ensures rows { OnToldRefusal source.old source.new result (rows.new
-        ≡ rows_of_turn (found_in state.old) met source.old.bytes) }
+        ≡ rows_of_turn state.old met source.old.bytes) }
     ensures reads { UnlessRefused result (Answers (turn_of state.new) (λ bytes. (turn_brought before
-        (found_in state.old) met bytes).1) source.old result source.new) }
+        state.old met bytes).1) source.old result source.new) }
     ensures found { OnToldRefusal source.old source.new result
-        (without_tables (found_in state.new) ≡ without_tables (turn_brought before
-        (found_in state.old) met source.old.bytes).0) }
-    ensures sound { UnlessRefused result (IsSound (found_in state.new)) }
-    ensures steps { IsStep (found_in state.old) result (found_in state.new) }
+        (without_tables state.new ≡ without_tables (turn_brought before
+        state.old met source.old.bytes).0) }
+    ensures sound { UnlessRefused result (IsSound state.new) }
+    ensures steps { IsStep state.old result state.new }
     ensures short { met ≡ None → IsShort source.old }
 {
     let marker = marker_or_next(alloc, source, met)?;
@@ -130,7 +128,7 @@ fn reach_turn<R: Read + Drop>(
 
 /// Returns whether only the header is wanted, and the frame was read.
 fn is_read_for(state: &State, header: bool) -> bool
-    ensures { result ≡ (header && is_some (said_in state.now).frame) }
+    ensures { result ≡ (header && is_some state.now.said.frame) }
 {
     header && state.said.frame.is_some()
 }
@@ -143,21 +141,19 @@ pub fn read_segments<R: Read + Drop>(
     state: &mut State,
     header: bool,
 ) -> Result<()>
-    requires sound { IsSound (found_in state.old) }
-    ensures reads { Answers (λ _. found_in state.new)
-        (segments_at header Elsewhere (found_in state.old) None) source.old result source.new }
-    ensures told { OnTold source.old source.new result (told_of (said_in state.new)
-        ≡ told_in_turns (suc (length source.old.bytes)) header (found_in state.old)
-        source.old.bytes) }
+    requires sound { IsSound state.old }
+    ensures reads { Answers (λ _. state.new)
+        (segments_at header Elsewhere state.old None) source.old result source.new }
+    ensures told { OnTold source.old source.new result (told_of state.new.said
+        ≡ told_in_turns (suc (length source.old.bytes)) header state.old source.old.bytes) }
     ensures turns { source.old.known ≡ true → IsOfTurns
-        (λ n. told_in_turns n header (found_in state.old) source.old.bytes)
-        (told_of (said_in state.new)) }
-    ensures framed { IfOk result (λ _. is_some (said_in state.new).frame ≡ true) }
-    ensures stays { is_some (said_in state.old).frame ≡ true → (said_in state.new).frame
-        ≡ (said_in state.old).frame }
-    ensures sound { IsSound (found_in state.old) → OnOk result (IsSound (found_in state.new)) }
-    ensures unread { header ≡ true → (said_in state.old).frame ≡ None
-        → OnOk result (IsUnread (found_in state.new)) }
+        (λ n. told_in_turns n header state.old source.old.bytes) (told_of state.new.said) }
+    ensures framed { IfOk result (λ _. is_some state.new.said.frame ≡ true) }
+    ensures stays { is_some state.old.said.frame ≡ true → state.new.said.frame
+        ≡ state.old.said.frame }
+    ensures sound { IsSound state.old → OnOk result (IsSound state.new) }
+    ensures unread { header ≡ true → state.old.said.frame ≡ None
+        → OnOk result (IsUnread state.new) }
 {
     let mut before = Before::Elsewhere;
     let mut met = None;
@@ -184,18 +180,18 @@ pub fn reach_segments<R: Read + Drop>(
     state: &mut State,
     rows: &mut Option<u16>,
 ) -> Result<()>
-    requires sound { IsSound (found_in state.old) }
+    requires sound { IsSound state.old }
     requires rows { rows.old ≡ None }
     ensures rows { OnTold source.old source.new result (rows.new ≡ rows_of_walk
-        (suc (length source.old.bytes)) Elsewhere (found_in state.old) None source.old.bytes) }
+        (suc (length source.old.bytes)) Elsewhere state.old None source.old.bytes) }
     ensures reads { UnlessRefused result (Answers (λ _. tt) (λ bytes. walk_end (all_brought
-        (found_in state.old) bytes)) source.old result source.new) }
-    ensures found { OnTold source.old source.new result (without_tables (found_in state.new)
-        ≡ without_tables (all_brought (found_in state.old) source.old.bytes).0) }
-    ensures sound { UnlessRefused result (IsSound (found_in state.new)) }
-    ensures framed { IfOk result (λ _. is_some (said_in state.new).frame ≡ true) }
-    ensures stays { is_some (said_in state.old).frame ≡ true → (said_in state.new).frame
-        ≡ (said_in state.old).frame }
+        state.old bytes)) source.old result source.new) }
+    ensures found { OnTold source.old source.new result (without_tables state.new
+        ≡ without_tables (all_brought state.old source.old.bytes).0) }
+    ensures sound { UnlessRefused result (IsSound state.new) }
+    ensures framed { IfOk result (λ _. is_some state.new.said.frame ≡ true) }
+    ensures stays { is_some state.old.said.frame ≡ true → state.new.said.frame
+        ≡ state.old.said.frame }
 {
     let mut before = Before::Elsewhere;
     let mut met = None;

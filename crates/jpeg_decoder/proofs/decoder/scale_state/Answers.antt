@@ -1,21 +1,29 @@
-use Rattle.std.proofs.Common.{Some, rules}
-use Rattle.jpeg_streams.specs.Found.{with_said}
+use Rattle.std.proofs.Common.{◌≡◌, ◌∙◌, Some, ap, rules, subst, sym}
+use Rattle.jpeg_streams.specs.Found.{Said, with_said}
+use Rattle.jpeg_streams.specs.Sound.{HasDecodedFrame, IsSound, IsUnread}
 use Rattle.jpeg_segments.specs.FrameView.{frame_in}
-use Rattle.jpeg_decoder.specs.Seen.{found_in}
+use Rattle.jpeg_decoder.specs.Seen.{found_of, said_of}
 use Rattle.jpeg_streams.proofs.Soundness.{frames_scaled, sound_scaled}
+use Rattle.jpeg_decoder.proofs.decoder.scale_state.Goals.{After-size_frame}
 use Rattle.jpeg_decoder.proofs.decoder.scale_state.Goals as goal
 
-pub returns-in-Some-clause-frames : goal.returns-in-Some-clause-frames
-returns-in-Some-clause-frames c =
-    let old = found_in c.args.state.now in
-    frames_scaled c.args.scale old (with_said (λ said. record said { frame = Some (frame_in c.size_frame.new.frame) }) old)
-    c.requires.scale (search rules) c.requires.frames
+-- what was found, by the fields
+opened : (c : After-size_frame) → found_of (said_of c.said.inside) c.state.inside.decoded ≡ c.args.state.now
+opened c = ap (λ (s : Said). found_of s c.state.inside.decoded) c.said.view_is ∙ c.state.view_is
 
-pub returns-in-Some-clause-sound : goal.returns-in-Some-clause-sound
-returns-in-Some-clause-sound c =
-    let old = found_in c.args.state.now in
+pub returns-clause-frames : goal.returns-clause-frames
+returns-clause-frames c =
+    let old = found_of (said_of c.said.inside) c.state.inside.decoded in
+    let same = sym (opened (goal.at.returns-clause-frames c).After-size_frame) in
+    frames_scaled c.args.scale old (with_said (λ said. record said { frame = Some (frame_in c.size_frame.new.frame) }) old)
+    c.requires.scale (search rules) (subst HasDecodedFrame same c.requires.frames)
+
+pub returns-clause-sound : goal.returns-clause-sound
+returns-clause-sound c =
+    let old = found_of (said_of c.said.inside) c.state.inside.decoded in
+    let same = sym (opened (goal.at.returns-clause-sound c).After-size_frame) in
     λ p u. (
       sound_scaled c.args.scale old (with_said (λ said. record said { frame = Some (frame_in c.size_frame.new.frame) }) old)
-          c.requires.scale (search rules) p u,
-      u,
+          c.requires.scale (search rules) (subst IsSound same p) (subst IsUnread same u),
+      subst IsUnread same u,
     )

@@ -8,7 +8,6 @@ use Rattle.jpeg_streams.specs.Sound.{HasDecodedFrame, IsSound, IsUnread}
 use Rattle.jpeg_streams.specs.States.{HasHeader}
 use Rattle.jpeg_streams.specs.declared.progress.Progress.{Progress}
 use Rattle.jpeg_streams.specs.declared.progress.Progress.TheVariants.{Failed, Finished, Fresh, HeaderRead}
-use Rattle.jpeg_decoder.specs.Seen.{found_in}
 use Rattle.jpeg_decoder.proofs.DecodedLines.{begun-seen, decodes-rest, decodes-unbegun}
 use Rattle.jpeg_decoder.proofs.PictureSizes.{if-counted}
 use Rattle.jpeg_decoder.proofs.decoder.Decoder.decode_lines.Goals as goal
@@ -54,6 +53,6 @@ holds found (Err x) b p e q framed frames = rw (q, e) (search rules)
 
 pub invariant_of-self : goal.invariant_of-self
 invariant_of-self g c =
-    holds (found_in c.read_rest-result.new.state) c.read_rest-result.result _ c.progress_after-self-inside.result
+    holds c.read_rest-result.new.state c.read_rest-result.result _ c.progress_after-self-inside.result
     c.is_ok.ensures.value c.progress_after-self-inside.ensures c.read_rest-result.ensures.framed
     c.read_rest-result.ensures.frames

@@ -3,7 +3,6 @@ use Rattle.std.proofs.lemmas.Result.{err_from_is_err_and}
 use Rattle.jpeg_streams.specs.Found.{with_said}
 use Rattle.jpeg_streams.specs.Stream.{scaled_header_at, scaled_to}
 use Rattle.jpeg_streams.proofs.Soundness.{scaled-read, scaled-refused}
-use Rattle.jpeg_decoder.specs.Seen.{found_in}
 use Rattle.jpeg_decoder.proofs.ScanData.{answers-err}
 use Rattle.jpeg_decoder.proofs.ScaledHeaders.{answers-changed}
 use Rattle.jpeg_decoder.proofs.decoder.Decoder.set_scale.Goals as goal
@@ -15,10 +14,10 @@ returns-in_err-read_info-clause-reads g c =
 pub returns-clause-reads : goal.returns-clause-reads
 returns-clause-reads g c =
     let scale = c.args.scale in
-    let scaled : found_in c.scale_state.new.state ≡ with_said (scaled_to scale) c.read_info.new.self.found
+    let scaled : c.scale_state.new.state ≡ with_said (scaled_to scale) c.read_info.new.self.found
     = search rules in
     let same : c.self.inside.source ≡ c.read_info.new.self.source = search rules in
     λ fresh. answers-changed (scaled_to scale) (scaled_header_at scale) c.args.self.now.source
     c.read_info.new.self.source c.self.inside.source c.read_info.new.self.found
-    (found_in c.scale_state.new.state) (tt {0}) c.scale_state.result (scaled-read scale) (search rules)
+    c.scale_state.new.state (tt {0}) c.scale_state.result (scaled-read scale) (search rules)
     c.in_ok-read_info.ensures.framed (c.in_ok-read_info.ensures.reads fresh) same scaled

@@ -3,7 +3,6 @@ use Rattle.std.proofs.lemmas.Grind.{common_steps}
 use Rattle.std.proofs.lemmas.List.{length-map}
 use Rattle.jpeg_lossless.proofs.RowLoops.{mapped-within}
 use Rattle.jpeg_segments.specs.FrameView.{component_in, frame_in}
-use Rattle.jpeg_decoder.specs.Seen.{found_in}
 use Rattle.jpeg_decoder.specs.Steps.{with_decoded}
 use Rattle.jpeg_decoder.proofs.EndedPlanes.{mapped-or}
 use Rattle.jpeg_decoder.proofs.ShownParts.{shown-all, shown-first, shown-more, shown-sound}
@@ -13,7 +12,7 @@ use Rattle.jpeg_decoder.proofs.picture.partial.complete.Goals as goal
 pub loop-index-init : goal.loop-index-init
 loop-index-init c = record {
   sound = c.requires.sound;
-  made = shown-first (frame_in c.args.frame.now) (with_decoded (found_in c.args.state.now) c.args.decoded.now);
+  made = shown-first (frame_in c.args.frame.now) (with_decoded c.args.state.now c.args.decoded.now);
 }
 
 within : (c : After-index) → c.loop-index.index < length (frame_in c.args.frame.now).components
@@ -36,20 +35,20 @@ complete_part-requires c =
 pub loop-index-preserved : goal.loop-index-preserved
 loop-index-preserved c =
     let at = (goal.at.loop-index-preserved c).After-index in
-    let before = with_decoded (found_in c.args.state.now) c.loop-index.decoded in
-    let after = with_decoded (found_in c.args.state.now) c.complete_part.new.decoded in
+    let before = with_decoded c.args.state.now c.loop-index.decoded in
+    let after = with_decoded c.args.state.now c.complete_part.new.decoded in
     let component = component_in c.index.result.now in
     record {
       sound = shown-sound (frame_in c.args.frame.now) before after c.loop-index.index component
           c.loop-index.invariant.sound
           c.requires.frame (within at) (there at) c.in_ok-complete_part.ensures;
-      made = shown-more (frame_in c.args.frame.now) (with_decoded (found_in c.args.state.now) c.args.decoded.now) before
+      made = shown-more (frame_in c.args.frame.now) (with_decoded c.args.state.now c.args.decoded.now) before
           after c.loop-index.index component (within at) (there at) c.in_ok-complete_part.ensures
           c.loop-index.invariant.made;
     }
 
 pub returns-clause-completed : goal.returns-clause-completed
 returns-clause-completed c =
-    shown-all (frame_in c.args.frame.now) (with_decoded (found_in c.args.state.now) c.args.decoded.now)
-    (with_decoded (found_in c.args.state.now) c.loop-index.decoded) c.loop-index.index
+    shown-all (frame_in c.args.frame.now) (with_decoded c.args.state.now c.args.decoded.now)
+    (with_decoded c.args.state.now c.loop-index.decoded) c.loop-index.index
     (omega (arith, length-map c.args.frame.now.components.items component_in)) c.loop-index.invariant.made

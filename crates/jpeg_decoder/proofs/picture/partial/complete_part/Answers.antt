@@ -1,6 +1,5 @@
 use Rattle.std.proofs.Common.{rules, arith}
 use Rattle.jpeg_segments.specs.FrameView.{component_in, frame_in}
-use Rattle.jpeg_decoder.specs.Seen.{found_in}
 use Rattle.jpeg_decoder.specs.Steps.{with_decoded}
 use Rattle.jpeg_decoder.proofs.PicturesOfPlanes.{decoded-few}
 use Rattle.jpeg_decoder.proofs.ShownParts.{lossless-shown}
@@ -13,5 +12,5 @@ complete_samples-requires-clause-index c =
 pub returns-in-Lossless : goal.returns-in-Lossless
 returns-in-Lossless c =
     lossless-shown c.complete_samples.result (frame_in c.args.frame.now)
-    (with_decoded (found_in c.args.state.now) c.args.decoded.now) _ (c.args.index, component_in c.args.component.now)
-    (search rules) (c.complete_samples.ensures (found_in c.args.state.now))
+    (with_decoded c.args.state.now c.args.decoded.now) _ (c.args.index, component_in c.args.component.now)
+    (search rules) (c.complete_samples.ensures c.args.state.now)

@@ -6,7 +6,6 @@ use Rattle.jpeg_streams.specs.Rasters.{plane_by}
 use Rattle.jpeg_streams.specs.Shown.{blocks_held, table_held}
 use Rattle.jpeg_decoder.specs.Scanning.{blocks_in}
 use Rattle.jpeg_decoder.specs.declared.scan.block_array.BlockArray.{BlockArray}
-use Rattle.jpeg_decoder.specs.Seen.{found_in}
 use Rattle.jpeg_decoder.specs.Steps.{with_decoded}
 use Rattle.jpeg_decoder.proofs.PicturesOfPlanes.{decoded-few}
 use Rattle.jpeg_decoder.proofs.ShownParts.{held-blocks, held-within, plane-put, plane-there, scale-at}
@@ -17,17 +16,17 @@ has-requires c = omega (arith, c.requires.index, decoded-few _ (c.requires.sound
 
 pub returns-then-has : goal.returns-then-has
 returns-then-has c =
-    plane-there (frame_in c.args.frame.now) (with_decoded (found_in c.args.state.now) c.args.decoded.now) c.args.index
+    plane-there (frame_in c.args.frame.now) (with_decoded c.args.state.now c.args.decoded.now) c.args.index
     (component_in c.args.component.now) (search rules)
 
 pub plane_held-requires : goal.plane_held-requires
 plane_held-requires c = record {
   scale = scale-at c.requires.sound c.requires.frame c.requires.index c.requires.component;
-  within = held-within (with_decoded (found_in c.args.state.now) c.args.decoded.now) (frame_in c.args.frame.now)
+  within = held-within (with_decoded c.args.state.now c.args.decoded.now) (frame_in c.args.frame.now)
       c.args.index c.deref.result.now c.requires.sound c.requires.frame c.requires.index
       (ap (map blocks_in) (sym c.deref.ensures.value));
   blocks = subst (λ (kept : List BlockArray). AreBlocksOf (component_in c.args.component.now)
-      (blocks_if (is_kept (found_in c.args.state.now) (frame_in c.args.frame.now)) (map blocks_in kept) c.args.index))
+      (blocks_if (is_kept c.args.state.now (frame_in c.args.frame.now)) (map blocks_in kept) c.args.index))
       (sym c.deref.ensures.value)
       (held-blocks c.requires.sound c.requires.frame c.requires.index c.requires.component);
 }
@@ -37,13 +36,13 @@ put-requires c = omega (arith, c.requires.index, decoded-few _ (c.requires.sound
 
 pub returns : goal.returns
 returns c =
-    let found = with_decoded (found_in c.args.state.now) c.args.decoded.now in
+    let found = with_decoded c.args.state.now c.args.decoded.now in
     let component = component_in c.args.component.now in
     plane-put (frame_in c.args.frame.now) found _ c.args.index component (table_held found component)
     (blocks_held found (frame_in c.args.frame.now) (c.args.index, component)) c.in_ok-plane.plane.items (search rules)
     refl refl
     (c.in_ok-plane.ensures
     ∙ ap (λ (kept : List BlockArray). plane_by component (table_held found component)
-    (blocks_held (record (found_in c.args.state.now) { kept = map blocks_in kept }) (frame_in c.args.frame.now)
+    (blocks_held (record c.args.state.now { kept = map blocks_in kept }) (frame_in c.args.frame.now)
     (c.args.index, component))) c.deref.ensures.value)
     (grind (arith, common_steps))

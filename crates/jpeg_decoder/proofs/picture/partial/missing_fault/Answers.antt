@@ -3,7 +3,6 @@ use Rattle.std.proofs.lemmas.Grind.{common_steps}
 use Rattle.std.proofs.lemmas.List.{length-map}
 use Rattle.jpeg_lossless.proofs.RowLoops.{mapped-within}
 use Rattle.jpeg_segments.specs.FrameView.{component_in, frame_in}
-use Rattle.jpeg_decoder.specs.Seen.{found_in}
 use Rattle.jpeg_decoder.specs.Steps.{with_decoded}
 use Rattle.jpeg_decoder.proofs.EndedPlanes.{mapped-or}
 use Rattle.jpeg_decoder.proofs.PicturesOfPlanes.{decoded-few}
@@ -20,7 +19,7 @@ there c = grind (arith, common_steps, mapped-or)
 
 pub loop-index-init : goal.loop-index-init
 loop-index-init c = record {
-  given = given-none (with_decoded (found_in c.args.state.now) c.args.decoded.now) (frame_in c.args.frame.now);
+  given = given-none (with_decoded c.args.state.now c.args.decoded.now) (frame_in c.args.frame.now);
 }
 
 pub is_there-requires : goal.is_there-requires
@@ -31,7 +30,7 @@ is_there-requires c =
 pub returns-then-not-is_there : goal.returns-then-not-is_there
 returns-then-not-is_there c =
     let at = (goal.at.returns-then-not-is_there c).After-index in
-    missing-at (with_decoded (found_in c.args.state.now) c.args.decoded.now) (frame_in c.args.frame.now)
+    missing-at (with_decoded c.args.state.now c.args.decoded.now) (frame_in c.args.frame.now)
     c.loop-index.index (component_in c.index.result.now) c.format_error.result (within at) (there at) (search rules)
     c.loop-index.invariant.given (search rules)
 
@@ -39,13 +38,13 @@ pub loop-index-preserved : goal.loop-index-preserved
 loop-index-preserved c =
     let at = (goal.at.loop-index-preserved c).After-index in
     record {
-      given = given-more (with_decoded (found_in c.args.state.now) c.args.decoded.now) (frame_in c.args.frame.now)
+      given = given-more (with_decoded c.args.state.now c.args.decoded.now) (frame_in c.args.frame.now)
           c.loop-index.index (component_in c.index.result.now) (within at) (there at) (search rules)
           c.loop-index.invariant.given;
     }
 
 pub returns : goal.returns
 returns c =
-    missing-none (with_decoded (found_in c.args.state.now) c.args.decoded.now) (frame_in c.args.frame.now)
+    missing-none (with_decoded c.args.state.now c.args.decoded.now) (frame_in c.args.frame.now)
     c.loop-index.index (omega (arith, length-map c.args.frame.now.components.items component_in))
     c.loop-index.invariant.given

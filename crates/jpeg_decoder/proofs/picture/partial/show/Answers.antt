@@ -2,7 +2,6 @@ use Rattle.std.proofs.Common.{rules, ap}
 use Rattle.std.proofs.lemmas.Result.{err_from_is_err_and}
 use Rattle.std.specs.List.{concat}
 use Rattle.jpeg_streams.specs.Found.{Found, nothing_found}
-use Rattle.jpeg_decoder.specs.Seen.{found_in}
 use Rattle.jpeg_decoder.specs.declared.picture.partial.PartialLines.{PartialLines}
 use Rattle.jpeg_decoder.proofs.ShownFaults.{start-given-up, start-lacks, start-shown, start-unknown}
 use Rattle.jpeg_decoder.proofs.ShownRows.{start-counted}
@@ -30,13 +29,13 @@ returns-in_err-read_start-clause-emptied g c =
 
 pub returns-clause-whole : goal.returns-clause-whole
 returns-clause-whole g c start =
-    start-shown {X = PartialLines} (λ p. concat p.lines) (λ p. p.fault) c.args.settings (found_in c.args.state.now)
+    start-shown {X = PartialLines} (λ p. concat p.lines) (λ p. p.fault) c.args.settings c.args.state.now
     c.args.source.now c.read_start.new.source c.show_rest-2.new.source c.show_rest-2.result _ (c.requires.start start)
     c.in_ok-read_start.ensures c.show_rest-2.ensures.shown
 
 pub returns-clause-whole_rows : goal.returns-clause-whole_rows
 returns-clause-whole_rows g c start =
-    start-counted {X = PartialLines} (λ p. p.whole_rows) (found_in c.args.state.now) c.args.source.now
+    start-counted {X = PartialLines} (λ p. p.whole_rows) c.args.state.now c.args.source.now
     c.read_start.new.source c.show_rest-2.new.source c.show_rest-2.result (c.requires.start start)
     c.in_ok-read_start.ensures c.show_rest-2.ensures.rows
 

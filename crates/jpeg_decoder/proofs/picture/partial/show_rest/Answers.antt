@@ -1,17 +1,18 @@
-use Rattle.std.proofs.Common.{ap, refl, subst, sym}
+use Rattle.std.proofs.Common.{◌∙◌, ap, refl, subst, sym}
 use Rattle.std.proofs.lemmas.Result.{IfOk-weaker}
 use Rattle.std.specs.List.{concat}
 use Rattle.jpeg_streams.specs.Brought.{all_brought}
-use Rattle.jpeg_streams.specs.Sound.{IsSound}
+use Rattle.jpeg_streams.specs.Sound.{HasDecodedFrame, IsSound}
 use Rattle.jpeg_decoder.specs.Reaching.{walk_end}
-use Rattle.jpeg_decoder.specs.Seen.{found_in}
-use Rattle.jpeg_decoder.specs.Steps.{with_decoded}
+use Rattle.jpeg_decoder.specs.Seen.{found_of}
 use Rattle.jpeg_decoder.specs.declared.picture.partial.PartialLines.{PartialLines}
 use Rattle.jpeg_decoder.specs.declared.scan.decoded.Decoded.{Decoded}
 use Rattle.jpeg_decoder.proofs.LosslessReads.{on-ok}
 use Rattle.jpeg_decoder.proofs.PictureSizes.{lines-whole}
 use Rattle.jpeg_decoder.proofs.ShownFaults.{ended-bytes, rest-given-up, rest-shown, then-holds}
 use Rattle.jpeg_decoder.proofs.ShownRows.{rest-counted}
+use Rattle.jpeg_decoder.proofs.picture.partial.show_rest.Given as given
+use Rattle.jpeg_decoder.proofs.picture.partial.show_rest.Goals.{After-show_found}
 use Rattle.jpeg_decoder.proofs.picture.partial.show_rest.Goals as goal
 
 pub show_found-requires : goal.show_found-requires
@@ -19,55 +20,59 @@ show_found-requires g c =
     let m = c.is_lost.ensures.memory c.if-is_lost.false in
     record {
       sound = subst IsSound
-          (sym (ap (λ (d : Decoded). with_decoded (found_in c.reach_segments-ended.new.state) d)
-          c.replace-decoded.ensures.value))
-          (then-holds c.reach_segments-ended.result (IsSound (found_in c.reach_segments-ended.new.state)) m
+          (sym (ap (λ (d : Decoded). found_of c.state.inside.said d) c.replace-decoded.ensures.value ∙ c.state.view_is))
+          (then-holds c.reach_segments-ended.result (IsSound c.reach_segments-ended.new.state) m
           c.reach_segments-ended.ensures.sound);
       fault = ended-bytes c.reach_segments-ended.result c.err.result (λ (u : Unit {0}). tt)
-          (λ bytes. walk_end (all_brought (found_in c.args.state.now) bytes)) c.args.source.now
+          (λ bytes. walk_end (all_brought c.args.state.now bytes)) c.args.source.now
           c.reach_segments-ended.new.source m c.reach_segments-ended.ensures.reads c.err.ensures.value;
     }
 
 pub returns-clause-shown : goal.returns-clause-shown
 returns-clause-shown g c =
-    rest-shown {X = PartialLines} (λ p. concat p.lines) (λ p. p.fault) c.args.settings (found_in c.args.state.now)
-    (found_in c.reach_segments-ended.new.state)
-    (with_decoded (found_in c.reach_segments-ended.new.state) c.replace-decoded.result) c.args.source.now
+    rest-shown {X = PartialLines} (λ p. concat p.lines) (λ p. p.fault) c.args.settings c.args.state.now
+    c.reach_segments-ended.new.state
+    (found_of c.state.inside.said c.replace-decoded.result) c.args.source.now
     c.reach_segments-ended.new.source c.reach_segments-ended.result c.err.result c.show_found.result _
     (c.is_lost.ensures.memory c.if-is_lost.false) c.reach_segments-ended.ensures.reads
     c.reach_segments-ended.ensures.found c.err.ensures.value
-    (ap (λ (d : Decoded). with_decoded (found_in c.reach_segments-ended.new.state) d) c.replace-decoded.ensures.value)
+    (ap (λ (d : Decoded). found_of c.state.inside.said d) c.replace-decoded.ensures.value ∙ c.state.view_is)
     c.show_found.ensures.shown
 
 pub returns-clause-rows : goal.returns-clause-rows
 returns-clause-rows g c =
-    rest-counted {X = PartialLines} (λ p. p.whole_rows) (found_in c.args.state.now)
-    (found_in c.reach_segments-ended.new.state)
-    (with_decoded (found_in c.reach_segments-ended.new.state) c.replace-decoded.result) c.args.source.now
+    rest-counted {X = PartialLines} (λ p. p.whole_rows) c.args.state.now
+    c.reach_segments-ended.new.state
+    (found_of c.state.inside.said c.replace-decoded.result) c.args.source.now
     c.reach_segments-ended.new.source c.reach_segments-ended.result c.reach_segments-ended.new.rows
     c.show_found.result (c.is_lost.ensures.memory c.if-is_lost.false) c.reach_segments-ended.ensures.found
     c.reach_segments-ended.ensures.rows
-    (ap (λ (d : Decoded). with_decoded (found_in c.reach_segments-ended.new.state) d) c.replace-decoded.ensures.value)
+    (ap (λ (d : Decoded). found_of c.state.inside.said d) c.replace-decoded.ensures.value ∙ c.state.view_is)
     c.show_found.ensures.rows
 
 pub returns-clause-given_up : goal.returns-clause-given_up
 returns-clause-given_up g c =
     rest-given-up {X = PartialLines} (λ p. p.fault) (λ (u : Unit {0}). tt)
-    (λ bytes. walk_end (all_brought (found_in c.args.state.now) bytes)) c.args.source.now
+    (λ bytes. walk_end (all_brought c.args.state.now bytes)) c.args.source.now
     c.reach_segments-ended.new.source c.reach_segments-ended.result c.err.result c.show_found.result
     (c.is_lost.ensures.memory c.if-is_lost.false) (c.is_lost.ensures.interrupted c.if-is_lost.false)
     c.reach_segments-ended.ensures.reads c.err.ensures.value c.show_found.ensures.first
 
+-- the frame is decoded
+decoded : (g : given.Over) (c : After-show_found g)
+    → HasDecodedFrame (found_of c.state.inside.said c.state.inside.decoded)
+decoded g c =
+    subst HasDecodedFrame (sym c.state.view_is)
+    (then-holds c.reach_segments-ended.result (IsSound c.reach_segments-ended.new.state)
+    (c.is_lost.ensures.memory c.if-is_lost.false) c.reach_segments-ended.ensures.sound).frames
+
 pub returns-clause-frames : goal.returns-clause-frames
 returns-clause-frames g c =
-    on-ok c.show_found.result
-    (then-holds c.reach_segments-ended.result (IsSound (found_in c.reach_segments-ended.new.state))
-    (c.is_lost.ensures.memory c.if-is_lost.false) c.reach_segments-ended.ensures.sound).frames
+    on-ok c.show_found.result (decoded g (goal.at.returns-clause-frames g c).After-show_found)
 
 pub returns-clause-size : goal.returns-clause-size
 returns-clause-size g c =
     IfOk-weaker c.show_found.result _ _
-    (λ p h. lines-whole (found_in c.reach_segments-ended.new.state) p.lines _
-    (then-holds c.reach_segments-ended.result (IsSound (found_in c.reach_segments-ended.new.state))
-    (c.is_lost.ensures.memory c.if-is_lost.false) c.reach_segments-ended.ensures.sound).frames h refl)
+    (λ p h. lines-whole (found_of c.state.inside.said c.state.inside.decoded) p.lines _
+    (decoded g (goal.at.returns-clause-size g c).After-show_found) h refl)
     c.show_found.ensures.lines

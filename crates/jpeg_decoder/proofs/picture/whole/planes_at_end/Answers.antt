@@ -5,7 +5,6 @@ use Rattle.std.proofs.lemmas.Result.{err_from_is_err_and}
 use Rattle.std.specs.Option.{option_map}
 use Rattle.jpeg_segments.specs.FrameView.{component_in, frame_in}
 use Rattle.jpeg_decoder.specs.Scanning.{blocks_in}
-use Rattle.jpeg_decoder.specs.Seen.{found_in}
 use Rattle.jpeg_decoder.specs.Steps.{with_decoded}
 use Rattle.jpeg_decoder.proofs.EndedPlanes.{IsTaken, mapped-or, none-left, reached-kept, taken, taken-blocks, taken-more}
 use Rattle.jpeg_decoder.proofs.EndedPlanes.{taken-plane, taken-refused, taken-scale, taken-whole, whole-all}
@@ -28,7 +27,7 @@ take_kept-kept-requires c h =
 
 -- ---- a component of the frame
 
-there : (c : After-index) → IsTaken (with_decoded (found_in c.args.state.now) c.args.decoded.now) (frame_in c.args.frame.now)
+there : (c : After-index) → IsTaken (with_decoded c.args.state.now c.args.decoded.now) (frame_in c.args.frame.now)
     c.loop-index.index (component_in c.index.result.now) (option_map (λ v. v.items) c.in_ok-plane.plane)
     (option_map blocks_in c.take_kept-kept.result)
 there c = grind (arith, common_steps, taken, mapped-within, mapped-or)

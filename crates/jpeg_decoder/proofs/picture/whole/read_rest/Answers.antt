@@ -1,11 +1,13 @@
-use Rattle.std.proofs.Common.{refl}
+use Rattle.std.proofs.Common.{refl, subst, sym}
 use Rattle.std.proofs.lemmas.Result.{IfOk-weaker}
-use Rattle.jpeg_decoder.specs.Seen.{found_in}
+use Rattle.jpeg_streams.specs.Sound.{HasDecodedFrame}
+use Rattle.jpeg_decoder.specs.Seen.{found_of}
 use Rattle.jpeg_decoder.proofs.PictureSizes.{lines-whole}
 use Rattle.jpeg_decoder.proofs.picture.whole.read_rest.Goals as goal
 
 pub returns-clause-size : goal.returns-clause-size
 returns-clause-size g c =
+    let decoded = subst HasDecodedFrame (sym c.state.view_is) (c.in_ok-ended.ensures.sound c.requires.sound).frames in
     IfOk-weaker c.picture.result _ _
-    (λ l h. lines-whole (found_in c.read_segments-ended.new.state) l _ (c.in_ok-ended.ensures.sound c.requires.sound).frames h refl)
+    (λ l h. lines-whole (found_of c.state.inside.said c.state.inside.decoded) l _ decoded h refl)
     c.picture.ensures.lines

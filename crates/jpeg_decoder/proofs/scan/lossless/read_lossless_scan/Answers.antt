@@ -6,15 +6,15 @@ use Rattle.jpeg_lossless.specs.Codings.{part_in}
 use Rattle.std.proofs.lemmas.Result.{err_from_is_err_and}
 use Rattle.jpeg_bits.specs.Reading.{Fault}
 use Rattle.jpeg_decoder.proofs.LosslessReads.{samples-read, AreCodings, HasMcus, codings-by-tables}
-use Rattle.jpeg_decoder.proofs.LosslessReads.{codings-count, codings-lacking, four-indices}
+use Rattle.jpeg_decoder.proofs.LosslessReads.{coding_found, codings-count, codings-lacking, four-indices}
 use Rattle.jpeg_decoder.proofs.LosslessReads.{has-mcus, parts-count, put-made, samples-end}
 use Rattle.jpeg_decoder.proofs.LosslessReads.{samples-fail, samples-lacking, samples-sound}
 use Rattle.jpeg_decoder.proofs.LosslessReads.{scan-sampled}
 use Rattle.jpeg_segments.specs.FrameView.{frame_in, scan_in}
-use Rattle.jpeg_streams.specs.Found.{Found}
+use Rattle.jpeg_streams.specs.Found.{Found, Said}
 use Rattle.jpeg_streams.specs.LosslessScans.{with_samples}
 use Rattle.jpeg_decoder.specs.LosslessParts.{mcus_high, mcus_wide, parts_at}
-use Rattle.jpeg_decoder.specs.Seen.{found_of, said_of}
+use Rattle.jpeg_decoder.specs.Seen.{found_of}
 use Rattle.jpeg_decoder.proofs.PicturesOfPlanes.{decoded-factors}
 use Rattle.jpeg_streams.proofs.Soundness.{decoded-precision}
 use Rattle.jpeg_decoder.proofs.scan.lossless.read_lossless_scan.Given as given
@@ -26,7 +26,7 @@ use Rattle.std.proofs.lemmas.Grind.{common_steps}
 
 -- the components of the scan, with their tables
 coded : (g : given.Over) (c : After-deref-2 g) → let scan = scan_in c.args.header.now in
-    AreCodings (said_of c.args.said.now).huffman.dc (frame_in c.args.frame.now) scan.components
+    AreCodings c.args.said.now.huffman.dc (frame_in c.args.frame.now) scan.components
     scan.dc_destinations
     (map (λ t. t.now) c.in_ok-tables.tables.items)
 coded g c = grind (arith, common_steps, codings-by-tables, recursion_from_All)
@@ -37,6 +37,13 @@ made : (g : given.Over) (c : After-deref-3 g)
     ≡ parts_at (length indices == 1)
     (frame_in c.args.frame.now).components indices (map (λ t. t.now) c.in_ok-tables.tables.items)
 made g c = grind (arith, common_steps)
+
+-- how it is coded
+scanned : (g : given.Over) (c : After-deref-3 g) → c.coding_of-coding.result
+    ≡ coding_found (found_of c.args.said.now c.args.decoded.now) (frame_in c.args.frame.now)
+    (scan_in c.args.header.now)
+scanned g c = c.coding_of-coding.ensures ∙ ap (λ (s : Said). coding_found (found_of s c.args.decoded.now)
+    (frame_in c.args.frame.now) (scan_in c.args.header.now)) c.said.view_is
 
 -- their MCUs
 mcus : (g : given.Over) (c : After-deref-2 g)
@@ -110,7 +117,7 @@ returns-in_err-planes-clause-reads g c =
     let a = coded g at.After-deref-2 in
     rw (p.1, p.2) (samples-fail _ _ _ a.codings _ c.args.source.now c.read_scan.new.source _
     (samples-read (found_of c.args.said.now c.args.decoded.now) _ _ _ a _ _ c.args.source.now.bytes
-    c.coding_of-coding.ensures (made g at.After-deref-3)) c.in_err-planes.ensures.reads)
+    (scanned g at.After-deref-3) (made g at.After-deref-3)) c.in_err-planes.ensures.reads)
 
 pub put_samples-requires-clause-count : goal.put_samples-requires-clause-count
 put_samples-requires-clause-count g c =
@@ -135,7 +142,7 @@ returns-in_err-met-clause-reads g c =
     rw (p.1, p.2) (samples-end found (after_samples found a.codings planes) _ _ a.codings _
     planes c.in_ok-planes.met c.args.source.now c.read_scan.new.source c.pass_restarts.new.source
     (Err c.in_err-met.field-0.0)
-    (samples-read found _ _ _ a _ _ c.args.source.now.bytes c.coding_of-coding.ensures (made g at.After-deref-3))
+    (samples-read found _ _ _ a _ _ c.args.source.now.bytes (scanned g at.After-deref-3) (made g at.After-deref-3))
     refl c.in_ok-planes.ensures.reads c.in_err-met.ensures)
 
 pub returns-clause-reads : goal.returns-clause-reads
@@ -147,7 +154,7 @@ returns-clause-reads g c =
     samples-end found (once_scanned (found_of c.args.said.now c.put_samples.new.self)) _ _ a.codings _
     planes c.in_ok-planes.met c.args.source.now c.read_scan.new.source c.pass_restarts.new.source
     (Ok c.in_ok-met.met)
-    (samples-read found _ _ _ a _ _ c.args.source.now.bytes c.coding_of-coding.ensures (made g at.After-deref-3))
+    (samples-read found _ _ _ a _ _ c.args.source.now.bytes (scanned g at.After-deref-3) (made g at.After-deref-3))
     (placed g at.After-put_samples ∙ ap (λ (l : List ℕ). record (once_scanned found) {
       samples = with_samples l planes found.samples;
     }) (sym a.indices_are)) c.in_ok-planes.ensures.reads c.in_ok-met.ensures

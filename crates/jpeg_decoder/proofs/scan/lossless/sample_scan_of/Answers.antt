@@ -7,8 +7,8 @@ use Rattle.jpeg_bits.specs.Reading.{Fault}
 use Rattle.jpeg_segments.specs.FrameView.{frame_in, scan_in}
 use Rattle.jpeg_lossless.specs.Scans.{is_of_rows}
 use Rattle.jpeg_lossless.specs.declared.scan.Coding.{Coding}
+use Rattle.jpeg_streams.specs.Found.{Said}
 use Rattle.jpeg_decoder.specs.LosslessParts.{mcus_high, mcus_wide, parts_at}
-use Rattle.jpeg_decoder.specs.Seen.{said_of}
 use Rattle.jpeg_decoder.proofs.LosslessReads.{AreCodings, HasMcus, codings-by-tables, codings-count, has-mcus}
 use Rattle.jpeg_decoder.proofs.PicturesOfPlanes.{decoded-factors}
 use Rattle.jpeg_decoder.proofs.SampleScans.{broken-codings, no-codings}
@@ -18,7 +18,7 @@ use Rattle.jpeg_decoder.proofs.scan.lossless.sample_scan_of.Goals as goal
 
 -- the components of the scan, with their tables
 coded : (c : After-deref-2) → let scan = scan_in c.args.header.now in
-    AreCodings (said_of c.args.said.now).huffman.dc (frame_in c.args.frame.now) scan.components
+    AreCodings c.args.said.now.huffman.dc (frame_in c.args.frame.now) scan.components
     scan.dc_destinations (map (λ t. t.now) c.in_ok-tables.tables.items)
 coded c = grind (arith, common_steps, codings-by-tables, recursion_from_All)
 
@@ -35,7 +35,7 @@ returns-in_err-tables-clause-refused c =
     let scan = scan_in c.args.header.now in
     let within = recursion_from_All (λ index. index < length frame.components) scan.components
     c.requires.legal.components in
-    let lacking = λ (f : Fault). no-codings (said_of c.args.said.now) frame scan f within c.requires.legal.dc_length in
+    let lacking = λ (f : Fault). no-codings c.args.said.now frame scan f within c.requires.legal.dc_length in
     grind (arith, common_steps, err_from_is_err_and, lacking)
 
 pub parts_of-requires-clause-count : goal.parts_of-requires-clause-count
@@ -56,8 +56,11 @@ rows_of_interval-requires-clause-high c =
 
 pub returns-in_default-clause-refused : goal.returns-in_default-clause-refused
 returns-in_default-clause-refused c =
+    let frame = frame_in c.args.frame.now in
+    let indices = (scan_in c.args.header.now).components in
     format-refuses c.format_error_of.result _ c.format_error_of.ensures
-    (broken-codings (said_of c.args.said.now) (frame_in c.args.frame.now) (scan_in c.args.header.now) _
+    (broken-codings c.args.said.now (frame_in c.args.frame.now) (scan_in c.args.header.now) _
     (coded (goal.at.returns-in_default-clause-refused c).After-deref-2)
-    (ap (λ (k : Coding). is_of_rows k.wide k.high k.restart_interval) (sym c.coding_of-coding.ensures)
+    (ap (λ (s : Said). is_of_rows (mcus_wide frame indices) (mcus_high frame indices) s.restart) (sym c.said.view_is)
+    ∙ ap (λ (k : Coding). is_of_rows k.wide k.high k.restart_interval) (sym c.coding_of-coding.ensures)
     ∙ c.in_default.ensures.none))

@@ -11,7 +11,7 @@ use Rattle.jpeg_decoder.proofs.scan.lossless.tables_of.Goals as goal
 
 pub returns-in_err-needed : goal.returns-in_err-needed
 returns-in_err-needed c =
-    let ts = c.args.said.now.dc_tables in
+    let ts = c.args.said.now.huffman.dc in
     let ds = c.args.header.now.dc_table_indices.items in
     let at : c.index-destination.result.now ≡ get_or ds c.loop-slot.slot c.index-destination.result.now = search rules in
     let unset : slice_index_or ts c.index-destination.result.now None ≡ None = search rules in

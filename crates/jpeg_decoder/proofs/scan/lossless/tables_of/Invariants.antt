@@ -7,5 +7,5 @@ use Rattle.jpeg_decoder.proofs.scan.lossless.tables_of.Given as goal
 
 abbrev pub invariant-loop-slot : goal.invariant-loop-slot
 invariant-loop-slot l =
-    Gathers (λ d. needed (slice_index_or l.said.dc_tables d None)) (scan_in l.header).dc_destinations l.slot
+    Gathers (λ d. needed (slice_index_or l.said.huffman.dc d None)) (scan_in l.header).dc_destinations l.slot
     (map (λ t. t.now) l.tables.items)

@@ -11,7 +11,7 @@ use Rattle.jpeg_streams.specs.ScanSegments.{once_scanned}
 use Rattle.jpeg_streams.specs.WholeRows.{rows_of_planes}
 use Rattle.jpeg_streams.proofs.Soundness.{decoded-precision, decoded-sized}
 use Rattle.jpeg_decoder.specs.Reaching.{planes_over, planes_reached, samples_reached}
-use Rattle.jpeg_decoder.specs.Seen.{found_of, said_of}
+use Rattle.jpeg_decoder.specs.Seen.{found_of}
 use Rattle.jpeg_decoder.proofs.LosslessReads.{HasMcus, codings-count, four-indices, parts-count, put-made}
 use Rattle.jpeg_decoder.proofs.ReachedData.{answers-by, on-told, unless}
 use Rattle.jpeg_decoder.proofs.SampleScans.{Reads, put_over, reads-components, reads-cut, reads-found}
@@ -25,7 +25,7 @@ mcus : (g : given.Over) (c : After-deref g) → let s = c.args.scan.now in
     HasMcus s.coding.wide s.coding.high (map part_in s.parts.items)
 mcus g c =
     let s = c.args.scan.now in
-    scan-mcus (said_of s.said.now) (frame_in s.frame.now) (scan_in s.header.now) s c.requires.scan c.requires.legal
+    scan-mcus s.said.now (frame_in s.frame.now) (scan_in s.header.now) s c.requires.scan c.requires.legal
     (c.requires.sound.frames (frame_in s.frame.now) c.requires.frame) c.requires.process
 
 pub new-requires-clause-wide : goal.new-requires-clause-wide
@@ -50,7 +50,7 @@ new-requires-clause-covered g c =
 pub reach_intervals-met-requires-clause-rows : goal.reach_intervals-met-requires-clause-rows
 reach_intervals-met-requires-clause-rows g c =
     let s = c.args.scan.now in
-    scan-rows (said_of s.said.now) (frame_in s.frame.now) (scan_in s.header.now) s c.requires.scan
+    scan-rows s.said.now (frame_in s.frame.now) (scan_in s.header.now) s c.requires.scan
     (mcus g (goal.at.reach_intervals-met-requires-clause-rows g c).After-deref).some_high
 
 -- how the rows are read
@@ -78,7 +78,7 @@ counted g c =
     let i = c.requires.scan in
     let frame = frame_in s.frame.now in
     let scan = scan_in s.header.now in
-    let a = scan-coded (said_of s.said.now) frame scan s i c.requires.legal in
+    let a = scan-coded s.said.now frame scan s i c.requires.legal in
     sym (length-map c.in_ok-coding.coding.parts.now part_in)
     ∙ ap (λ l. length l) ((reads g c).parts_are ∙ i.parts)
     ∙ parts-count _ frame.components scan.components i.tables

@@ -5,7 +5,6 @@ use Rattle.jpeg_streams.specs.Brought.{all_brought}
 use Rattle.jpeg_streams.proofs.ReadTurns.{Walked}
 use Rattle.jpeg_streams.proofs.Refusals.{short-step, never-met}
 use Rattle.jpeg_decoder.specs.Reaching.{walk_end, without_tables}
-use Rattle.jpeg_decoder.specs.Seen.{found_in}
 use Rattle.jpeg_decoder.specs.Steps.{turn_of}
 use Rattle.jpeg_decoder.proofs.BroughtLoops.{brought-end, brought-err, brought-found, brought-more}
 use Rattle.jpeg_decoder.proofs.BroughtLoops.{brought-rows, brought-whole, ended-rows, refused-any}
@@ -20,30 +19,30 @@ use Rattle.jpeg_decoder.proofs.stream.turns.reach_segments.Goals.{then-loop-test
 pub returns-in_err-step-clause-reads : goal.returns-in_err-step-clause-reads
 returns-in_err-step-clause-reads g c =
     let p = err_from_is_err_and c.from_residual.result c.from_residual.ensures.1 in
-    rw (p.1, p.2) (brought-err (turn_of c.reach_turn.new.state) (found_in c.args.state.now) c.args.source.now
-    c.loop.counter c.loop.before (found_in c.loop.state) c.loop.met c.loop.source c.reach_turn.new.source
+    rw (p.1, p.2) (brought-err (turn_of c.reach_turn.new.state) c.args.state.now c.args.source.now
+    c.loop.counter c.loop.before c.loop.state c.loop.met c.loop.source c.reach_turn.new.source
     _ c.loop.invariant.brought c.in_err-step.ensures.reads)
 
 pub returns-in_err-step-clause-found : goal.returns-in_err-step-clause-found
 returns-in_err-step-clause-found g c =
     let p = err_from_is_err_and c.from_residual.result c.from_residual.ensures.1 in
-    rw (p.1, p.2) (brought-found (turn_of c.reach_turn.new.state) (found_in c.args.state.now)
-    (found_in c.reach_turn.new.state) c.args.source.now c.loop.counter c.loop.before (found_in c.loop.state) c.loop.met
+    rw (p.1, p.2) (brought-found (turn_of c.reach_turn.new.state) c.args.state.now
+    c.reach_turn.new.state c.args.source.now c.loop.counter c.loop.before c.loop.state c.loop.met
     c.loop.source c.reach_turn.new.source _ c.loop.invariant.brought c.in_err-step.ensures.reads
     c.in_err-step.ensures.found)
 
 pub returns-in_err-step-clause-rows : goal.returns-in_err-step-clause-rows
 returns-in_err-step-clause-rows g c =
     let p = err_from_is_err_and c.from_residual.result c.from_residual.ensures.1 in
-    rw (p.1, p.2) (brought-rows (turn_of c.reach_turn.new.state) (found_in c.args.state.now) c.args.source.now
-    c.loop.counter c.loop.before (found_in c.loop.state) c.loop.met c.loop.source c.reach_turn.new.source
+    rw (p.1, p.2) (brought-rows (turn_of c.reach_turn.new.state) c.args.state.now c.args.source.now
+    c.loop.counter c.loop.before c.loop.state c.loop.met c.loop.source c.reach_turn.new.source
     _ c.reach_turn.new.rows c.loop.invariant.brought c.in_err-step.ensures.reads c.in_err-step.ensures.rows)
 
 -- ---- the end of the image
 
 ended : (g : Over) (c : goal.Then-step g) → c.args.source.now.known ≡ true
-    → all_brought (found_in c.args.state.now) c.args.source.now.bytes
-    ≡ (found_in c.reach_turn.new.state, Ok c.reach_turn.new.source.bytes)
+    → all_brought c.args.state.now c.args.source.now.bytes
+    ≡ (c.reach_turn.new.state, Ok c.reach_turn.new.source.bytes)
 ended g c k =
     let brought = c.loop.invariant.brought in
     brought-whole _ brought (λ n. brought-end n _ _ _ _ _ _ (c.in_ok-step.ensures.reads.1 (brought.known k)).1
@@ -61,7 +60,7 @@ returns-then-step-clause-found g c k = ap (λ (w : Walked). without_tables w.0) 
 pub returns-then-step-clause-rows : goal.returns-then-step-clause-rows
 returns-then-step-clause-rows g c k =
     let brought = c.loop.invariant.brought in
-    ended-rows (found_in c.args.state.now) c.args.source.now c.loop.counter c.loop.before (found_in c.loop.state)
+    ended-rows c.args.state.now c.args.source.now c.loop.counter c.loop.before c.loop.state
     c.loop.met c.loop.source _ _ c.reach_turn.new.rows brought
     (c.in_ok-step.ensures.reads.1 (brought.known k)).1 c.if-step.true c.in_ok-step.ensures.whole k
 
@@ -69,9 +68,9 @@ returns-then-step-clause-rows g c k =
 
 pub loop-preserved : goal.loop-preserved
 loop-preserved g c =
-    let found = found_in c.loop.state in
+    let found = c.loop.state in
     record {
-      brought = brought-more (found_in c.args.state.now) c.args.source.now c.loop.counter c.loop.before found
+      brought = brought-more c.args.state.now c.args.source.now c.loop.counter c.loop.before found
           c.loop.met c.loop.source c.reach_turn.new.source (turn_of c.reach_turn.new.state c.in_ok-step.step)
           c.loop.invariant.brought c.if-step.false c.in_ok-step.ensures.reads;
       short = λ _. short-step c.loop.counter c.loop.met c.loop.source c.args.source.now c.loop.invariant.short
@@ -91,7 +90,7 @@ never g c k =
     elim c.loop-test.branch [
       | else-loop-test w ↦ omega (arith, brought.took k)
       | then-loop-test+in_ok-step+else-step+else-counter-lt18446744073709551615 w ↦
-          let less = brought-takes c.loop.before (found_in c.loop.state) c.loop.met c.loop.source.bytes
+          let less = brought-takes c.loop.before c.loop.state c.loop.met c.loop.source.bytes
           (turn_of w.reach_turn.new.state w.in_ok-step.step, w.reach_turn.new.source.bytes)
           (w.in_ok-step.ensures.reads.1 (brought.known k)).1 w.if-step.false in
           omega (arith, brought.took k, less)
@@ -100,7 +99,7 @@ never g c k =
 pub returns-clause-reads : goal.returns-clause-reads
 returns-clause-reads g c =
     refused-any c.format_error.result _ (never-met {X = Unit {0}} (λ _. tt)
-    (λ bytes. walk_end (all_brought (found_in c.args.state.now) bytes)) c.args.source.now c.loop-test.source
+    (λ bytes. walk_end (all_brought c.args.state.now bytes)) c.args.source.now c.loop-test.source
     c.format_error.result c.format_error.ensures (grind (arith, common_steps)) (never g c))
 
 pub returns-clause-found : goal.returns-clause-found

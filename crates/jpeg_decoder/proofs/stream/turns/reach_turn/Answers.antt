@@ -5,7 +5,6 @@ use Rattle.jpeg_streams.specs.Brought.{scan_brought}
 use Rattle.jpeg_streams.specs.Stream.{segment_at}
 use Rattle.jpeg_streams.specs.WholeRows.{rows_of_scan}
 use Rattle.jpeg_decoder.specs.Reaching.{without_tables}
-use Rattle.jpeg_decoder.specs.Seen.{found_in}
 use Rattle.jpeg_decoder.specs.Steps.{turn_of}
 use Rattle.jpeg_decoder.proofs.BroughtLoops.{marked-found, marked-reads, marked-rows, refusal-any, refusal-told}
 use Rattle.jpeg_decoder.proofs.BroughtLoops.{sound-unless, unless-any, unmarked-found, unmarked-reads, unmarked-rows}
@@ -17,19 +16,19 @@ use Rattle.jpeg_decoder.proofs.stream.turns.reach_turn.Goals as goal
 pub returns-in_err-marker-clause-reads : goal.returns-in_err-marker-clause-reads
 returns-in_err-marker-clause-reads g c =
     let p = err_from_is_err_and c.from_residual.result c.from_residual.ensures.1 in
-    rw (p.1, p.2) (unmarked-reads (turn_of c.args.state.now) c.args.before (found_in c.args.state.now) c.args.met
+    rw (p.1, p.2) (unmarked-reads (turn_of c.args.state.now) c.args.before c.args.state.now c.args.met
     c.args.source.now c.marker_or_next.new.source _ c.in_err-marker.ensures.answers)
 
 pub returns-in_err-marker-clause-found : goal.returns-in_err-marker-clause-found
 returns-in_err-marker-clause-found g c =
     let p = err_from_is_err_and c.from_residual.result c.from_residual.ensures.1 in
-    rw (p.1, p.2) (unmarked-found c.args.before (found_in c.args.state.now) c.args.met c.args.source.now
+    rw (p.1, p.2) (unmarked-found c.args.before c.args.state.now c.args.met c.args.source.now
     c.marker_or_next.new.source _ c.in_err-marker.ensures.answers)
 
 pub returns-in_err-marker-clause-rows : goal.returns-in_err-marker-clause-rows
 returns-in_err-marker-clause-rows g c =
     let p = err_from_is_err_and c.from_residual.result c.from_residual.ensures.1 in
-    rw (p.1, p.2) (unmarked-rows (found_in c.args.state.now) c.args.met c.args.source.now
+    rw (p.1, p.2) (unmarked-rows c.args.state.now c.args.met c.args.source.now
     c.marker_or_next.new.source _ c.args.rows.now c.requires.rows c.in_err-marker.ensures.answers)
 
 -- ---- a scan
@@ -37,7 +36,7 @@ returns-in_err-marker-clause-rows g c =
 pub returns-then-eq-clause-reads : goal.returns-then-eq-clause-reads
 returns-then-eq-clause-reads g c =
     let is : c.in_ok-marker.marker ≡ SOS = search rules in
-    let found = found_in c.args.state.now in
+    let found = c.args.state.now in
     marked-reads (turn_of c.reach_scan.new.state) c.args.before found c.args.met c.args.source.now
     c.marker_or_next.new.source c.reach_scan.new.source c.in_ok-marker.marker (scan_brought found) c.reach_scan.result
     (λ rest e. turn-scan c.args.before found c.args.met c.args.source.now.bytes rest c.in_ok-marker.marker is e)
@@ -46,8 +45,8 @@ returns-then-eq-clause-reads g c =
 pub returns-then-eq-clause-found : goal.returns-then-eq-clause-found
 returns-then-eq-clause-found g c =
     let is : c.in_ok-marker.marker ≡ SOS = search rules in
-    let found = found_in c.args.state.now in
-    marked-found c.args.before found (found_in c.reach_scan.new.state) c.args.met c.args.source.now
+    let found = c.args.state.now in
+    marked-found c.args.before found c.reach_scan.new.state c.args.met c.args.source.now
     c.marker_or_next.new.source c.reach_scan.new.source c.in_ok-marker.marker (scan_brought found) c.reach_scan.result _
     (λ rest e. turn-scan c.args.before found c.args.met c.args.source.now.bytes rest c.in_ok-marker.marker is e)
     c.in_ok-marker.ensures.answers (λ e. ap without_tables e) c.reach_scan.ensures.found
@@ -55,7 +54,7 @@ returns-then-eq-clause-found g c =
 pub returns-then-eq-clause-rows : goal.returns-then-eq-clause-rows
 returns-then-eq-clause-rows g c =
     let is : c.in_ok-marker.marker ≡ SOS = search rules in
-    let found = found_in c.args.state.now in
+    let found = c.args.state.now in
     marked-rows found c.args.met c.args.source.now c.marker_or_next.new.source c.reach_scan.new.source
     c.in_ok-marker.marker (rows_of_scan found) c.reach_scan.new.rows c.reach_scan.result
     (λ rest e. rows-scan found c.args.met c.args.source.now.bytes rest c.in_ok-marker.marker is e)
@@ -66,7 +65,7 @@ returns-then-eq-clause-rows g c =
 pub returns-clause-reads : goal.returns-clause-reads
 returns-clause-reads g c =
     let other : c.in_ok-marker.marker ≡ SOS → ⊥ = search rules in
-    let found = found_in c.args.state.now in
+    let found = c.args.state.now in
     marked-reads (turn_of c.read_segment.new.state) c.args.before found c.args.met c.args.source.now
     c.marker_or_next.new.source c.read_segment.new.source c.in_ok-marker.marker
     (λ bytes. (found, segment_at c.in_ok-marker.marker c.args.before found bytes)) c.read_segment.result
@@ -76,8 +75,8 @@ returns-clause-reads g c =
 pub returns-clause-found : goal.returns-clause-found
 returns-clause-found g c =
     let other : c.in_ok-marker.marker ≡ SOS → ⊥ = search rules in
-    let found = found_in c.args.state.now in
-    marked-found c.args.before found (found_in c.read_segment.new.state) c.args.met c.args.source.now
+    let found = c.args.state.now in
+    marked-found c.args.before found c.read_segment.new.state c.args.met c.args.source.now
     c.marker_or_next.new.source c.read_segment.new.source c.in_ok-marker.marker
     (λ bytes. (found, segment_at c.in_ok-marker.marker c.args.before found bytes)) c.read_segment.result _
     (λ rest e. turn-segment c.args.before found c.args.met c.args.source.now.bytes rest c.in_ok-marker.marker other e)
@@ -88,7 +87,7 @@ returns-clause-found g c =
 pub returns-clause-rows : goal.returns-clause-rows
 returns-clause-rows g c =
     let other : c.in_ok-marker.marker ≡ SOS → ⊥ = search rules in
-    let found = found_in c.args.state.now in
+    let found = c.args.state.now in
     marked-rows found c.args.met c.args.source.now c.marker_or_next.new.source c.read_segment.new.source
     c.in_ok-marker.marker (λ _. None) c.args.rows.now c.read_segment.result
     (λ rest e. rows-segment found c.args.met c.args.source.now.bytes rest c.in_ok-marker.marker other e)
@@ -97,5 +96,5 @@ returns-clause-rows g c =
 
 pub returns-clause-sound : goal.returns-clause-sound
 returns-clause-sound g c =
-    sound-unless c.read_segment.result (found_in c.args.state.now) (found_in c.read_segment.new.state) c.requires.sound
+    sound-unless c.read_segment.result c.args.state.now c.read_segment.new.state c.requires.sound
     (c.read_segment.ensures.steps.sound c.requires.sound) c.read_segment.ensures.kept

@@ -4,7 +4,6 @@ use Rattle.std.proofs.lemmas.Result.{err_from_is_err_and}
 use Rattle.jpeg_streams.specs.declared.before.Before.TheVariants.{Elsewhere}
 use Rattle.jpeg_streams.specs.Stream.{told_of, turn_at, segments_at, walk}
 use Rattle.jpeg_streams.specs.Reported.{IsOfTurns}
-use Rattle.jpeg_decoder.specs.Seen.{found_in}
 use Rattle.jpeg_decoder.specs.Steps.{turn_of}
 use Rattle.jpeg_streams.proofs.ReadTurns.{Walked, segments-walked, walk-end, walk-refused}
 use Rattle.jpeg_streams.proofs.ReadTurns.{walk-stop}
@@ -21,15 +20,15 @@ use Rattle.jpeg_decoder.proofs.stream.turns.read_segments.Goals.{then-loop-test+
 pub returns-in_err-step-clause-reads : goal.returns-in_err-step-clause-reads
 returns-in_err-step-clause-reads g c =
     let p = err_from_is_err_and c.from_residual.result c.from_residual.ensures.1 in
-    rw (p.1, p.2) (walked-err (turn_of c.read_turn.new.state) c.args.header (found_in c.args.state.now) c.args.source.now
-    c.loop.counter c.loop.before (found_in c.loop.state) c.loop.met c.loop.source c.read_turn.new.source
-    (found_in c.read_turn.new.state) _ c.loop.invariant.walked (sym c.if-is_read_for.ensures) c.in_err-step.ensures.reads)
+    rw (p.1, p.2) (walked-err (turn_of c.read_turn.new.state) c.args.header c.args.state.now c.args.source.now
+    c.loop.counter c.loop.before c.loop.state c.loop.met c.loop.source c.read_turn.new.source
+    c.read_turn.new.state _ c.loop.invariant.walked (sym c.if-is_read_for.ensures) c.in_err-step.ensures.reads)
 
 pub returns-in_err-step-clause-told : goal.returns-in_err-step-clause-told
 returns-in_err-step-clause-told g c =
     let p = err_from_is_err_and c.from_residual.result c.from_residual.ensures.1 in
     let walked = c.loop.invariant.walked in
-    rw (p.1, p.2) (λ k known. told-err _ (turn_at c.loop.before (found_in c.loop.state) c.loop.met c.loop.source.bytes) _
+    rw (p.1, p.2) (λ k known. told-err _ (turn_at c.loop.before c.loop.state c.loop.met c.loop.source.bytes) _
     (c.in_err-step.ensures.reads.1 (walked.known k) known)
     (λ f h. c.in_err-step.ensures.steps.kept ∙ ap (λ (w : Walked). told_of w.0.said) (sym (walked-whole _ walked
     (λ n. walk-refused n _ _ _ _ _ f (sym c.if-is_read_for.ensures) h) k))))
@@ -44,8 +43,8 @@ returns-in_err-step-clause-turns g c k = (
 -- ---- a header that is read
 
 stopped : (g : Over) (c : goal.Then-is_read_for g) → c.args.source.now.known ≡ true
-    → walk (suc (length c.args.source.now.bytes)) c.args.header Elsewhere (found_in c.args.state.now) None
-    c.args.source.now.bytes ≡ (found_in c.loop.state, Ok c.loop.source.bytes)
+    → walk (suc (length c.args.source.now.bytes)) c.args.header Elsewhere c.args.state.now None
+    c.args.source.now.bytes ≡ (c.loop.state, Ok c.loop.source.bytes)
 stopped g c k = walked-whole _ c.loop.invariant.walked
     (λ n. walk-stop (suc n) _ _ _ _ _ (omega arith) (sym c.if-is_read_for.ensures)) k
 
@@ -64,8 +63,8 @@ returns-then-is_read_for-clause-turns g c k = (_, ap (λ (w : Walked). told_of w
 -- ---- the end of the image
 
 ended : (g : Over) (c : goal.Then-step g) → c.args.source.now.known ≡ true
-    → walk (suc (length c.args.source.now.bytes)) c.args.header Elsewhere (found_in c.args.state.now) None
-    c.args.source.now.bytes ≡ (found_in c.read_turn.new.state, Ok c.read_turn.new.source.bytes)
+    → walk (suc (length c.args.source.now.bytes)) c.args.header Elsewhere c.args.state.now None
+    c.args.source.now.bytes ≡ (c.read_turn.new.state, Ok c.read_turn.new.source.bytes)
 ended g c k =
     let walked = c.loop.invariant.walked in
     walked-whole _ walked (λ n. walk-end n _ _ _ _ _ _ _ (sym c.if-is_read_for.ensures)
@@ -88,9 +87,9 @@ returns-then-step-clause-turns g c k = (_, ap (λ (w : Walked). told_of w.0.said
 
 pub loop-preserved : goal.loop-preserved
 loop-preserved g c =
-    let found = found_in c.loop.state in
+    let found = c.loop.state in
     record {
-      walked = walked-on c.args.header (found_in c.args.state.now) c.args.source.now c.loop.counter c.loop.before found
+      walked = walked-on c.args.header c.args.state.now c.args.source.now c.loop.counter c.loop.before found
           c.loop.met c.loop.source c.read_turn.new.source (turn_of c.read_turn.new.state c.in_ok-step.step)
           c.loop.invariant.walked (sym c.if-is_read_for.ensures) c.if-step.false c.in_ok-step.ensures.reads;
       short = λ _. short-step c.loop.counter c.loop.met c.loop.source c.args.source.now c.loop.invariant.short
@@ -111,15 +110,15 @@ never g c k =
     elim c.loop-test.branch [
       | else-loop-test w ↦ omega (arith, walked.took k)
       | then-loop-test+else-is_read_for+in_ok-step+else-step+else-counter-lt18446744073709551615 w ↦
-          let less = (turn-takes c.loop.before (found_in c.loop.state) c.loop.met c.loop.source.bytes _
+          let less = (turn-takes c.loop.before c.loop.state c.loop.met c.loop.source.bytes _
           (walked.none k) (w.in_ok-step.ensures.reads.1 (walked.known k)).1 w.if-step.false).0 in
           omega (arith, walked.took k, less)
     ]
 
 pub returns-clause-reads : goal.returns-clause-reads
 returns-clause-reads g c =
-    never-met {X = Unit {0}} (λ _. found_in c.loop-test.state) (segments_at c.args.header Elsewhere
-    (found_in c.args.state.now) None) c.args.source.now c.loop-test.source c.format_error.result
+    never-met {X = Unit {0}} (λ _. c.loop-test.state) (segments_at c.args.header Elsewhere
+    c.args.state.now None) c.args.source.now c.loop-test.source c.format_error.result
     c.format_error.ensures
     (grind (arith, common_steps)) (never g c)
 

@@ -1,16 +1,15 @@
 use Rattle.std.proofs.Common.{◌≡◌, ◌<◌, true, None, is_some}
 use Rattle.jpeg_bits.specs.Reading.{IsShort}
-use Rattle.jpeg_decoder.specs.Seen.{found_in}
 use Rattle.jpeg_streams.specs.Sound.{IsSound, IsUnread}
 use Rattle.jpeg_decoder.proofs.TurnLoops.{IsWalked}
 use Rattle.jpeg_decoder.proofs.stream.turns.read_segments.Given as goal
 
 abbrev pub invariant-loop : goal.invariant-loop
 invariant-loop g l = record {
-  walked : IsWalked l.fn.header (found_in l.fn.state) l.fn.source l.counter l.before (found_in l.state) l.met l.source;
+  walked : IsWalked l.fn.header l.fn.state l.fn.source l.counter l.before l.state l.met l.source;
   short : 0 < l.counter → IsShort l.fn.source;
-  stays : is_some (found_in l.fn.state).said.frame ≡ true → (found_in l.state).said.frame ≡ (found_in l.fn.state).said.frame;
-  sound : IsSound (found_in l.state);
-  unread : l.fn.header ≡ true → (found_in l.fn.state).said.frame ≡ None → IsUnread (found_in l.state);
+  stays : is_some l.fn.state.said.frame ≡ true → l.state.said.frame ≡ l.fn.state.said.frame;
+  sound : IsSound l.state;
+  unread : l.fn.header ≡ true → l.fn.state.said.frame ≡ None → IsUnread l.state;
   first : l.counter ≡ 0 → (l.met ≡ None) × (l.source ≡ l.fn.source);
 }
