@@ -2,7 +2,7 @@
 //! in `pictures` and `streams` call these.
 ghost use Rattle.std.specs.Prelude.{◌≡◌, drop, take, IfOk, IsErrAnd};
 ghost use Rattle.jpeg_bits.specs.Reading.{Answers};
-ghost use Rattle.jpeg_decoder.specs.Bytes.{IsWhole};
+ghost use Rattle.jpeg_decoder.specs.Bytes.{IsWhole, shape_in};
 ghost use Rattle.jpeg_streams.specs.DecodedImages.{DecodesImages};
 ghost use Rattle.jpeg_streams.specs.DecodedSamples.{DecodesSamples};
 ghost use Rattle.jpeg_streams.specs.States.{IsInternal, IsReading, MovesToEnd, ahead};
@@ -59,7 +59,7 @@ pub fn decode_into_by_size<R: Read + Drop>(
     decoder: &mut Decoder<R>,
     pixels: &mut [u8],
 ) -> Result<usize>
-    ensures { IfOk result (λ n. IsWhole decoder.new.found.said.frame (take n pixels.new)) }
+    ensures { IfOk result (λ n. IsWhole (shape_in decoder.new) (take n pixels.new)) }
 {
     decoder.decode_into(pixels)
 }

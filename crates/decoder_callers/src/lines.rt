@@ -3,7 +3,7 @@ ghost use Rattle.std.specs.Prelude.{◌≡◌, ◌<◌, [], IfOk, MatchResult, l
 ghost use Rattle.std.specs.List.{concat};
 ghost use Rattle.jpeg_bits.specs.Reading.{Answers};
 ghost use Rattle.jpeg_bits.specs.declared.error.Error.TheVariants.{OutOfMemory};
-ghost use Rattle.jpeg_decoder.specs.Bytes.{AreLinesOf, HaveBytes};
+ghost use Rattle.jpeg_decoder.specs.Bytes.{AreLinesOf, HaveBytes, shape_in};
 ghost use Rattle.jpeg_streams.specs.States.{IsReading, ahead};
 ghost use Rattle.jpeg_streams.specs.Stream.{told_of};
 
@@ -24,7 +24,7 @@ pub fn lines_by_meaning<R: Read + Drop>(decoder: &mut Decoder<R>) -> Result<Line
 
 /// Calls `Decoder::decode_lines`, and says how many lines there are and how long each is.
 pub fn lines_by_size<R: Read + Drop>(decoder: &mut Decoder<R>) -> Result<Lines>
-    ensures { IfOk result (λ l. AreLinesOf decoder.new.found.said.frame l) }
+    ensures { IfOk result (λ l. AreLinesOf (shape_in decoder.new) l) }
 {
     decoder.decode_lines()
 }

@@ -9,7 +9,7 @@ use Rattle.jpeg_streams.specs.Output.{Tells}
 use Rattle.jpeg_streams.specs.Pixels.{info_of}
 use Rattle.jpeg_streams.specs.declared.images.ImageInfo.{ImageInfo}
 use Rattle.jpeg_decoder.specs.Bytes.{IsCounted, IsWhole, bytes_a_sample, picture_size}
-use Rattle.jpeg_decoder.specs.Bytes.{samples_a_pixel}
+use Rattle.jpeg_decoder.specs.Bytes.{frame_shape, samples_a_pixel}
 use Rattle.std.proofs.lemmas.Grind.{common_steps}
 
 -- its bytes are known
@@ -24,7 +24,8 @@ known_bytes_are_told remaining bytes tells = rw tells.told refl
 
 -- the bytes of a picture by `info` and `precision`
 pub picture_is_counted : (frame : Option Frame) (info : ImageInfo) (precision : ℕ) (pixels : List ℕ)
-    → IsWhole frame pixels → IsCounted frame → option_map info_of frame ≡ Some info
+    → IsWhole (option_map frame_shape frame) pixels → IsCounted (option_map frame_shape frame)
+    → option_map info_of frame ≡ Some info
     → option_map (λ f. f.precision) frame ≡ Some precision
     → length pixels ≡ info.width * info.height * (samples_a_pixel info.pixel_format * bytes_a_sample precision)
 unfolding picture_size

@@ -2,10 +2,10 @@
 use Rattle.std.proofs.lemmas.Grind.{common_steps}
 use Rattle.std.proofs.Common.{◌≡◌, ℕ, ◌*◌, ◌/◌, ◌<◌, ◌≤◌, List, [], ◌∷◌, length, ap}
 use Rattle.std.proofs.Common.{◌∙◌, refl, arith, subst, Result, Option, Some, None, true}
-use Rattle.std.proofs.Common.{IfOk, OnOk, map, min, mul_assoc, mul_comm, mul-div_cancel, mul-le-mul_left, sym}
+use Rattle.std.proofs.Common.{IfOk, OnOk, map, option_map, min, mul_assoc, mul_comm, mul-div_cancel, mul-le-mul_left, sym}
 use Rattle.jpeg_bits.specs.declared.error.Error.{Error}
 use Rattle.jpeg_decoder.specs.Bytes.{AreLinesOf, HasBytes, HaveBytes, IsCounted, IsWhole, bytes_a_sample}
-use Rattle.jpeg_decoder.specs.Bytes.{line_bytes}
+use Rattle.jpeg_decoder.specs.Bytes.{frame_shape, line_bytes}
 use Rattle.jpeg_decoder.specs.Bytes.{picture_size, samples_a_pixel}
 use Rattle.jpeg_segments.specs.declared.frame.CodingProcess.{CodingProcess}
 use Rattle.jpeg_segments.specs.declared.frame.CodingProcess.TheVariants.{DctProgressive, DctSequential}
@@ -48,21 +48,21 @@ precision-8 : (f : Frame) → IsDecodedFrame f → (f.process ≡ Lossless → �
 precision-8 f p dct = eight f.process f.precision (precision-of f p) dct
 
 -- a byte a sample
-by-samples : (f : Frame) → f.precision ≡ 8 → length f.components * f.output_width ≡ line_bytes f
+by-samples : (f : Frame) → f.precision ≡ 8 → length f.components * f.output_width ≡ line_bytes (frame_shape f)
 unfolding line_bytes
 by-samples f e = grind (arith, common_steps, mul_comm)
 
 -- a byte for each component of each pixel
 block-lines : (f : Frame) (lines : List (List ℕ)) → IsDecodedFrame f → (f.process ≡ Lossless → ⊥)
     → length lines ≡ f.output_height → HaveBytes (length f.components * f.output_width) lines
-    → AreLinesOf (Some f) lines
+    → AreLinesOf (Some (frame_shape f)) lines
 block-lines f lines p dct high wide =
     (high, subst (λ (n : ℕ). HaveBytes n lines) (by-samples f (precision-8 f p dct)) wide)
 
 pub if-block_lines : (f : Frame) (slice : List declared.Component) (result : Result (List (List ℕ)) Error)
     → IsDecodedFrame f → (f.process ≡ Lossless → ⊥) → map component_in slice ≡ f.components
     → IfOk result (λ l. (length l ≡ f.output_height) × HaveBytes (length slice * f.output_width) l)
-    → IfOk result (λ l. AreLinesOf (Some f) l)
+    → IfOk result (λ l. AreLinesOf (Some (frame_shape f)) l)
 if-block_lines f slice result p dct same h =
     let count : length slice ≡ length f.components = sym (length-map slice component_in) ∙ ap length same in
     IfOk-weaker result _ _
@@ -91,7 +91,7 @@ pub one-lines : (f : Frame) (c : Component) (plane : List ℕ) (lines : List (Li
     → (f.process ≡ Lossless → ⊥) → f.components ≡ c ∷ []
     → length plane ≡ (c.blocks_high * c.scale) * (c.blocks_wide * c.scale)
     → length lines ≡ min f.output_height (length plane / (c.scale * c.blocks_wide))
-    → HaveBytes (min f.output_width (c.scale * c.blocks_wide)) lines → AreLinesOf (Some f) lines
+    → HaveBytes (min f.output_width (c.scale * c.blocks_wide)) lines → AreLinesOf (Some (frame_shape f)) lines
 one-lines f c plane lines p dct e long rows columns =
     let stride = c.scale * c.blocks_wide in
     let made = made-of f p in
@@ -127,7 +127,7 @@ sample-bytes precision = grind (arith, common_steps)
 
 sample-lines : (f : Frame) (count : ℕ) (lines : List (List ℕ)) → IsDecodedFrame f → f.process ≡ Lossless
     → count ≡ length f.components → length lines ≡ f.height
-    → HaveBytes (f.width * (count * sample_size f.precision)) lines → AreLinesOf (Some f) lines
+    → HaveBytes (f.width * (count * sample_size f.precision)) lines → AreLinesOf (Some (frame_shape f)) lines
 unfolding line_bytes
 sample-lines f count lines p e same high wide =
     let size = read-size f p e in
@@ -139,7 +139,7 @@ sample-lines f count lines p e same high wide =
 pub if-sample_lines : (f : Frame) (count : ℕ) (result : Result (List (List ℕ)) Error) → IsDecodedFrame f
     → f.process ≡ Lossless → count ≡ length f.components
     → IfOk result (λ l. (length l ≡ f.height) × HaveBytes (f.width * (count * sample_size f.precision)) l)
-    → IfOk result (λ l. AreLinesOf (Some f) l)
+    → IfOk result (λ l. AreLinesOf (Some (frame_shape f)) l)
 if-sample_lines f count result p e same h =
     IfOk-weaker result _ _ (λ l q. sample-lines f count l p e same q.0 q.1) h
 
@@ -162,7 +162,7 @@ by-info : (f : Frame) (pixels : List ℕ) → IsDecodedFrame f → f.precision �
 by-info f pixels p eight long = grind (arith, common_steps, turned, format-bytes, decoded-count)
 
 -- that of its lines
-all-bytes : (f : Frame) → f.output_height * line_bytes f ≡ picture_size f
+all-bytes : (f : Frame) → f.output_height * line_bytes (frame_shape f) ≡ picture_size (frame_shape f)
 unfolding line_bytes picture_size
 all-bytes f = grind (arith, common_steps, mul_comm, mul_assoc)
 
@@ -173,8 +173,8 @@ has-bytes Lossless info pixels h = tt
 has-bytes DctSequential info pixels h = h (λ e. let n : ⊥ = cc in n)
 has-bytes DctProgressive info pixels h = h (λ e. let n : ⊥ = cc in n)
 
-whole-by : (f : Frame) (pixels : List ℕ) → IsDecodedFrame f → length pixels ≡ f.output_height * line_bytes f
-    → IsWhole (Some f) pixels
+whole-by : (f : Frame) (pixels : List ℕ) → IsDecodedFrame f → length pixels ≡ f.output_height * line_bytes (frame_shape f)
+    → IsWhole (Some (frame_shape f)) pixels
 whole-by f pixels p long = (
   long ∙ all-bytes f,
   has-bytes f.process (info_of f) pixels (λ dct.
@@ -184,22 +184,23 @@ whole-by f pixels p long = (
 
 -- The lines of a picture together are whole.
 pub lines-whole : (found : Found) (lines : List (List ℕ)) (pixels : List ℕ) → HasDecodedFrame found
-    → AreLinesOf found.said.frame lines → pixels ≡ concat lines → IsWhole found.said.frame pixels
+    → AreLinesOf (option_map frame_shape found.said.frame) lines → pixels ≡ concat lines → IsWhole (option_map frame_shape found.said.frame) pixels
 lines-whole found lines pixels p are is = go found.said.frame refl are
   where
-    go : (o : Option Frame) → found.said.frame ≡ o → AreLinesOf o lines → IsWhole o pixels
+    go : (o : Option Frame) → found.said.frame ≡ o → AreLinesOf (option_map frame_shape o) lines
+        → IsWhole (option_map frame_shape o) pixels
     go None e are = tt
     go (Some f) e are = whole-by f pixels (p f e)
-        (ap length is ∙ (together-length (line_bytes f) lines are.1 ∙ ap (λ n. n * line_bytes f) are.0))
+        (ap length is ∙ (together-length (line_bytes (frame_shape f)) lines are.1 ∙ ap (λ n. n * line_bytes (frame_shape f)) are.0))
 
 -- ---- the samples of a pixel
 
 by-format : (n precision : ℕ) → is_decoded_count n ≡ true → n ≡ samples_a_pixel (format_of n precision)
 by-format n precision h = grind (arith, common_steps, decoded-counts)
 
-counted : (found : Found) → HasDecodedFrame found → IsCounted found.said.frame
+counted : (found : Found) → HasDecodedFrame found → IsCounted (option_map frame_shape found.said.frame)
 counted found p = grind (arith, common_steps, by-format, decoded-count)
 
 pub if-counted : {X : Type 0} (found : Found) (result : Result X Error) → OnOk result (HasDecodedFrame found)
-    → IfOk result (λ x. IsCounted found.said.frame)
+    → IfOk result (λ x. IsCounted (option_map frame_shape found.said.frame))
 if-counted found result p = grind (arith, common_steps, counted)

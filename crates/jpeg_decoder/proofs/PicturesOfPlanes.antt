@@ -20,7 +20,7 @@ use Rattle.jpeg_pixels.specs.Pictures.{Source, AllCover, AreWhole, image_of, con
 use Rattle.jpeg_pixels.specs.Pictures.{sources_of}
 use Rattle.jpeg_streams.specs.ColourChoice.{identifiers_of, transform_of}
 use Rattle.jpeg_streams.specs.Sound.{IsDecodedFrame}
-use Rattle.jpeg_decoder.specs.Bytes.{AreLinesOf, HaveBytes}
+use Rattle.jpeg_decoder.specs.Bytes.{AreLinesOf, HaveBytes, frame_shape}
 use Rattle.jpeg_decoder.specs.Steps.{IsRefusal, cropped_to}
 use Rattle.jpeg_streams.specs.FoundPictures.{picture_by}
 use Rattle.jpeg_streams.specs.Found.{Metadata}
@@ -160,7 +160,7 @@ pub lines-first : (f : Frame) (items slice : List declared.Component) (d : decla
     * (component_in (get_or slice 0 d)).blocks_wide))
     → HaveBytes (min f.output_width ((component_in (get_or slice 0 d)).scale
     * (component_in (get_or slice 0 d)).blocks_wide)) lines
-    → AreLinesOf (Some f) lines
+    → AreLinesOf (Some (frame_shape f)) lines
 unfolding AreWhole
 lines-first f items slice d planes front o plane lines p dct is e one count popped taken whole rows columns =
     let c = component_in (get_or slice 0 d) in

@@ -1,6 +1,6 @@
 -- How many bytes a picture has, and how many are taken while it is decoded.
 use Rattle.std.specs.Prelude.{◌≡◌, ◌≤◌, ℕ, ◌*◌, ◌+◌, ◌==◌, if◌then◌else◌, max, nat_le}
-use Rattle.std.specs.Prelude.{List, length, Option, Some, None, sum_by}
+use Rattle.std.specs.Prelude.{List, length, Option, Some, None, option_map, sum_by}
 use Rattle.std.specs.List.{AllByRecursion}
 use Rattle.jpeg_segments.specs.Frame.{Component, Frame}
 use Rattle.jpeg_segments.specs.declared.frame.CodingProcess.{CodingProcess}
@@ -10,6 +10,8 @@ use Rattle.jpeg_streams.specs.Pixels.{bytes_a_pixel, info_of}
 use Rattle.jpeg_streams.specs.declared.images.ImageInfo.{ImageInfo}
 use Rattle.jpeg_streams.specs.declared.images.PixelFormat.{PixelFormat}
 use Rattle.jpeg_streams.specs.declared.images.PixelFormat.TheVariants.{L16}
+use Rattle.jpeg_streams.specs.declared.settings.Settings.{Settings}
+use Rattle.jpeg_streams.specs.States.{Decoding}
 use Rattle.jpeg_decoder.specs.declared.sizes.DecodingBytes.{DecodingBytes}
 
 -- ---- the picture
@@ -18,48 +20,74 @@ use Rattle.jpeg_decoder.specs.declared.sizes.DecodingBytes.{DecodingBytes}
 abbrev pub bytes_a_sample : ℕ → ℕ
 bytes_a_sample precision = if nat_le precision 8 then 1 else 2
 
--- the bytes of a picture: for each pixel those of a sample of each component
-unfoldable pub picture_size : Frame → ℕ
-picture_size f =
-    f.output_width * f.output_height * (length f.components * bytes_a_sample f.precision)
+-- the samples of a pixel, by its format
+abbrev pub samples_a_pixel : PixelFormat → ℕ
+samples_a_pixel L16 = 1
+samples_a_pixel format = bytes_a_pixel format
+
+-- the size and the format of a picture, the samples of a pixel, and the bits of a sample
+pub record Shape : Type 0 where
+  pub info : ImageInfo
+  pub samples : ℕ
+  pub precision : ℕ
+
+-- that of the picture which has a sample of each component of a frame
+abbrev pub frame_shape : Frame → Shape
+frame_shape f = record {
+  info = info_of f;
+  samples = length f.components;
+  precision = f.precision;
+}
+
+-- that of the picture of a frame by the settings, none of which changes it
+abbrev pub shape_of : Settings → Frame → Shape
+shape_of settings = frame_shape
+
+-- that of the picture of a decoder, once it has a frame
+abbrev pub shape_in : Decoding → Option Shape
+shape_in d = option_map (shape_of d.settings) d.found.said.frame
+
+-- the bytes of a pixel of a shape
+abbrev pub pixel_bytes : Shape → ℕ
+pixel_bytes s = s.samples * bytes_a_sample s.precision
+
+-- the bytes of a picture
+unfoldable pub picture_size : Shape → ℕ
+picture_size s = s.info.width * s.info.height * pixel_bytes s
 
 -- those of the picture of a frame of blocks, by what `info` says of it
 abbrev pub HasBytes : CodingProcess → ImageInfo → List ℕ → Type 0
 HasBytes Lossless info pixels = Unit {0}
 HasBytes _ info pixels = length pixels ≡ info.width * info.height * bytes_a_pixel info.pixel_format
 
--- A picture has the bytes that its frame says, and one of blocks those that its format says.
-abbrev pub IsWhole : Option Frame → List ℕ → Type 0
+-- A picture has the bytes of its shape, and one of blocks those that its format says.
+abbrev pub IsWhole : Option Shape → List ℕ → Type 0
 IsWhole None pixels = Unit {0}
-IsWhole (Some f) pixels = (length pixels ≡ picture_size f) × HasBytes f.process (info_of f) pixels
+IsWhole (Some s) pixels = (length pixels ≡ picture_size s)
+    × HasBytes s.info.coding_process s.info pixels
 
--- the bytes of a line of a picture: for each of its pixels those of a sample of each component
-unfoldable pub line_bytes : Frame → ℕ
-line_bytes f = f.output_width * (length f.components * bytes_a_sample f.precision)
+-- the bytes of a line of a picture
+unfoldable pub line_bytes : Shape → ℕ
+line_bytes s = s.info.width * pixel_bytes s
 
 -- each line has this many bytes
 abbrev pub HaveBytes : ℕ → List (List ℕ) → Type 0
 HaveBytes bytes lines = AllByRecursion (λ line. length line ≡ bytes) lines
 
--- The lines of a picture are as many and as long as its frame says.
-abbrev pub AreLinesOf : Option Frame → List (List ℕ) → Type 0
+-- The lines of a picture are as many and as long as its shape says.
+abbrev pub AreLinesOf : Option Shape → List (List ℕ) → Type 0
 AreLinesOf None lines = Unit {0}
-AreLinesOf (Some f) lines = (length lines ≡ f.output_height) × HaveBytes (line_bytes f) lines
+AreLinesOf (Some s) lines = (length lines ≡ s.info.height) × HaveBytes (line_bytes s) lines
 
--- this many bytes are enough for the picture of a frame
-abbrev pub HasRoom : Option Frame → ℕ → Type 0
+-- this many bytes are enough for a picture
+abbrev pub HasRoom : Option Shape → ℕ → Type 0
 HasRoom None room = Unit {0}
-HasRoom (Some f) room = picture_size f ≤ room
+HasRoom (Some s) room = picture_size s ≤ room
 
--- the samples of a pixel, by its format
-abbrev pub samples_a_pixel : PixelFormat → ℕ
-samples_a_pixel L16 = 1
-samples_a_pixel format = bytes_a_pixel format
-
--- A pixel of a frame has as many samples as its format says.
-abbrev pub IsCounted : Option Frame → Type 0
+-- A pixel has as many samples as its format says.
+abbrev pub IsCounted : Option Shape → Type 0
 IsCounted None = Unit {0}
-IsCounted (Some f) = length f.components ≡ samples_a_pixel (info_of f).pixel_format
+IsCounted (Some s) = s.samples ≡ samples_a_pixel s.info.pixel_format
 
 -- ---- what is taken while it is decoded
 
@@ -77,9 +105,9 @@ plane_bytes Lossless c = 2 * (c.width * c.height)
 plane_bytes _ c = c.blocks_wide * c.scale * (c.blocks_high * c.scale)
 
 -- The picture beside its planes: the one plane of a frame of blocks becomes the picture itself.
-abbrev pub beside_planes : CodingProcess → Frame → ℕ
-beside_planes Lossless f = picture_size f
-beside_planes _ f = if length f.components == 1 then 0 else picture_size f
+abbrev pub beside_planes : CodingProcess → List Component → ℕ → ℕ
+beside_planes Lossless components picture = picture
+beside_planes _ components picture = if length components == 1 then 0 else picture
 
 -- In a partial picture all blocks are kept of a sequential frame, too.
 abbrev pub keeping_blocks : CodingProcess → CodingProcess
@@ -89,17 +117,22 @@ keeping_blocks process = process
 -- The blocks that are read, the planes and the picture, and the most of them at a time: blocks and
 -- planes while scans are read, and planes and picture at the end. And the blocks that are kept for
 -- a partial picture, and the most at a time for it.
-abbrev pub decoding_bytes : Frame → DecodingBytes
-decoding_bytes f =
+abbrev pub bytes_of_shape : Shape → Frame → DecodingBytes
+bytes_of_shape shape f =
     let coefficients = sum_by (coefficient_bytes f.process) f.components in
     let all_coefficients = sum_by (coefficient_bytes (keeping_blocks f.process)) f.components in
     let planes = sum_by (plane_bytes f.process) f.components in
-    let end = planes + beside_planes f.process f in
+    let picture = picture_size shape in
+    let end = planes + beside_planes f.process f.components picture in
     record {
       coefficients = coefficients;
       all_coefficients = all_coefficients;
       planes = planes;
-      picture = picture_size f;
+      picture = picture;
       peak = max (coefficients + planes) end;
       partial_peak = max (all_coefficients + planes) end;
     }
+
+-- those of the picture of a frame by the settings
+abbrev pub decoding_bytes : Settings → Frame → DecodingBytes
+decoding_bytes settings f = bytes_of_shape (shape_of settings f) f

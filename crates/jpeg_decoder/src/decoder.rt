@@ -16,8 +16,8 @@ ghost use Rattle.jpeg_streams.specs.States.{HasHeader};
 ghost use Rattle.jpeg_decoder.specs.Decodes.{Decodes};
 ghost use Rattle.jpeg_decoder.specs.Shows.{CountsRows, Shows};
 ghost use Rattle.std.specs.List.{concat};
-ghost use Rattle.jpeg_decoder.specs.Bytes.{AreLinesOf, HasRoom, IsCounted, IsWhole};
-ghost use Rattle.jpeg_decoder.specs.Bytes.{decoding_bytes, picture_size};
+ghost use Rattle.jpeg_decoder.specs.Bytes.{AreLinesOf, HasRoom, IsCounted, IsWhole, frame_shape};
+ghost use Rattle.jpeg_decoder.specs.Bytes.{decoding_bytes, picture_size, shape_in};
 ghost use Rattle.jpeg_decoder.specs.HeaderAlone.{ReadsHeaderAlone};
 ghost use Rattle.jpeg_decoder.specs.StreamTransforms.{frame_transform};
 ghost use Rattle.jpeg_streams.specs.States.{IsInternal};
@@ -141,10 +141,11 @@ fn scale_state(state: &mut State, scale: usize) -> Result<(u16, u16)>
 fn size_within(state: &State, room: usize) -> Result<usize>
     requires framed { is_some state.now.said.frame ≡ true }
     requires frames { HasDecodedFrame state.now }
-    ensures size { IfOk result (λ n. IfSome state.now.said.frame (λ f. n ≡ picture_size f)) }
+    ensures size { IfOk result (λ n. IfSome state.now.said.frame (λ f. n
+        ≡ picture_size (frame_shape f))) }
     ensures room { IfOk result (λ n. n ≤ room) }
-    ensures has_room { OnOk result (HasRoom state.now.said.frame room) }
-    ensures short { OnErr result (HasRoom state.now.said.frame room → ⊥) }
+    ensures has_room { OnOk result (HasRoom (option_map frame_shape state.now.said.frame) room) }
+    ensures short { OnErr result (HasRoom (option_map frame_shape state.now.said.frame) room → ⊥) }
     ensures err { IfErr result IsInternal }
 {
     let Some(frame) = &state.said.frame else {
@@ -302,7 +303,8 @@ impl<R: Read + Drop> Decoder<R> {
     /// what isn't.
     pub fn decoding_bytes(&self) -> Option<DecodingBytes>
         ensures header { HasHeader self.now.stage
-            → result ≡ option_map decoding_bytes self.now.found.said.frame }
+            → result ≡ option_map (decoding_bytes self.now.settings)
+            self.now.found.said.frame }
         ensures none { (HasHeader self.now.stage → ⊥) → result ≡ None }
     {
         match self.progress {
@@ -525,13 +527,13 @@ impl<R: Read + Drop> Decoder<R> {
         ensures framed { IfOk result (λ _. is_some self.new.found.said.frame ≡ true) }
 
         // There are as many lines as `info` says, each of as many bytes as the frame says.
-        ensures lines { IfOk result (λ l. AreLinesOf self.new.found.said.frame l) }
+        ensures lines { IfOk result (λ l. AreLinesOf (shape_in self.new) l) }
 
         // Together they are a picture as `decode` returns it.
-        ensures size { IfOk result (λ l. IsWhole self.new.found.said.frame (concat l)) }
+        ensures size { IfOk result (λ l. IsWhole (shape_in self.new) (concat l)) }
 
         // There are as many samples as the format of `info` says.
-        ensures counted { IfOk result (λ _. IsCounted self.new.found.said.frame) }
+        ensures counted { IfOk result (λ _. IsCounted (shape_in self.new)) }
     {
         self.begin()?;
         let result = read_rest(self.alloc, &mut self.source, &mut self.state, self.settings);
@@ -571,10 +573,10 @@ impl<R: Read + Drop> Decoder<R> {
 
         // The picture has one sample of each component for each pixel, of one byte or two by the
         // frame's precision; of blocks, as many bytes as `pixel_bytes` says.
-        ensures size { IfOk result (λ v. IsWhole self.new.found.said.frame v.items) }
+        ensures size { IfOk result (λ v. IsWhole (shape_in self.new) v.items) }
 
         // There are as many samples as the format of `info` says.
-        ensures counted { IfOk result (λ _. IsCounted self.new.found.said.frame) }
+        ensures counted { IfOk result (λ _. IsCounted (shape_in self.new)) }
     {
         let lines = self.decode_lines()?;
         match lines.into_picture(self.alloc) {
@@ -611,13 +613,13 @@ impl<R: Read + Drop> Decoder<R> {
         ensures framed { IfOk result (λ _. is_some self.new.found.said.frame ≡ true) }
 
         // There are as many lines as `info` says, each of as many bytes as the frame says.
-        ensures lines { IfOk result (λ p. AreLinesOf self.new.found.said.frame p.lines) }
+        ensures lines { IfOk result (λ p. AreLinesOf (shape_in self.new) p.lines) }
 
         // Together they are a picture as `decode` returns it.
-        ensures size { IfOk result (λ p. IsWhole self.new.found.said.frame (concat p.lines)) }
+        ensures size { IfOk result (λ p. IsWhole (shape_in self.new) (concat p.lines)) }
 
         // There are as many samples as the format of `info` says.
-        ensures counted { IfOk result (λ _. IsCounted self.new.found.said.frame) }
+        ensures counted { IfOk result (λ _. IsCounted (shape_in self.new)) }
     {
         let from_start = is_fresh(self.progress)?;
         let result = show(
@@ -635,9 +637,9 @@ impl<R: Read + Drop> Decoder<R> {
     /// fault, and that fault, or none if the stream is whole.
     ///
     /// The blocks before the fault count, in a progressive picture those of all scans before it,
-    /// and of a lossless scan the rows of MCUs that are whole; what no scan has brought is mid-grey.
-    /// A marker in place of them is a fault, where `decode` takes zeros for the bits that are
-    /// lacking.
+    /// and of a lossless scan the rows of MCUs that are whole; what no scan has brought is
+    /// mid-grey. A marker in place of them is a fault, where `decode` takes zeros for the missing
+    /// bits.
     ///
     /// Unlike `decode`, it keeps the coefficients of a sequential picture in memory, too, and the
     /// data of one restart interval.
@@ -668,10 +670,10 @@ impl<R: Read + Drop> Decoder<R> {
         ensures framed { IfOk result (λ _. is_some self.new.found.said.frame ≡ true) }
 
         // The picture has as many bytes as the frame says.
-        ensures size { IfOk result (λ p. IsWhole self.new.found.said.frame p.pixels.items) }
+        ensures size { IfOk result (λ p. IsWhole (shape_in self.new) p.pixels.items) }
 
         // There are as many samples as the format of `info` says.
-        ensures counted { IfOk result (λ _. IsCounted self.new.found.said.frame) }
+        ensures counted { IfOk result (λ _. IsCounted (shape_in self.new)) }
     {
         let shown = self.decode_partial_lines()?;
         match shown.lines.into_picture(self.alloc) {
@@ -697,12 +699,12 @@ impl<R: Read + Drop> Decoder<R> {
     /// `pixels` is unchanged.
     pub fn decode_into(&mut self, pixels: &mut [u8]) -> Result<usize>
         // Where there is room for the picture, all is as for `decode`.
-        ensures decodes { HasRoom self.new.found.said.frame (length pixels.old)
+        ensures decodes { HasRoom (shape_in self.new) (length pixels.old)
             → Decodes (λ n. take n pixels.new) self.old result self.new }
 
         // Where there is none, it is a refusal, and the decoder is as after `read_info`.
         ensures short { IsReading self.old.stage
-            → (HasRoom self.new.found.said.frame (length pixels.old) → ⊥)
+            → (HasRoom (shape_in self.new) (length pixels.old) → ⊥)
             → ReadsHeaderAlone self.old result self.new }
 
         // What follows the picture stays, and after an error all does.
@@ -725,10 +727,10 @@ impl<R: Read + Drop> Decoder<R> {
         ensures framed { IfOk result (λ _. is_some self.new.found.said.frame ≡ true) }
 
         // The picture has as many bytes as the frame says, and the memory has them.
-        ensures size { IfOk result (λ n. IsWhole self.new.found.said.frame (take n pixels.new)) }
+        ensures size { IfOk result (λ n. IsWhole (shape_in self.new) (take n pixels.new)) }
 
         // There are as many samples as the format of `info` says.
-        ensures counted { IfOk result (λ _. IsCounted self.new.found.said.frame) }
+        ensures counted { IfOk result (λ _. IsCounted (shape_in self.new)) }
     {
         self.begin()?;
         let size = size_within(&self.state, pixels.len())?;

@@ -3,8 +3,8 @@ ghost use Rattle.std.specs.Prelude.{◌≡◌, ◌<◌, ◌≤◌, ◌*◌, ◌^
 ghost use Rattle.jpeg_segments.specs.Frame.{AllHaveSampling};
 ghost use Rattle.jpeg_segments.specs.FrameView.{component_in, frame_in};
 ghost use Rattle.jpeg_decoder.specs.Bytes.{beside_planes, bytes_a_sample, coefficient_bytes};
-ghost use Rattle.jpeg_decoder.specs.Bytes.{decoding_bytes, keeping_blocks, line_bytes, picture_size};
-ghost use Rattle.jpeg_decoder.specs.Bytes.{plane_bytes};
+ghost use Rattle.jpeg_decoder.specs.Bytes.{bytes_of_shape, frame_shape, keeping_blocks, line_bytes};
+ghost use Rattle.jpeg_decoder.specs.Bytes.{picture_size, plane_bytes};
 
 use jpeg_segments::parser::{CodingProcess, Component, FrameInfo};
 
@@ -20,8 +20,8 @@ pub struct DecodingBytes {
     /// The coefficients that are buffered, two bytes each: those of a row of MCUs for a sequential
     /// frame, of all blocks for a progressive one, and none for a lossless one.
     pub coefficients: u64,
-    /// The coefficients of all blocks, which `decode_partial` buffers as far as they are read, those
-    /// of a sequential frame too; none for a lossless one.
+    /// The coefficients of all blocks, which `decode_partial` buffers as far as they are read,
+    /// those of a sequential frame too; none for a lossless one.
     pub all_coefficients: u64,
     /// The planes of all components: a byte per sample of all blocks at the scale, or two bytes per
     /// sample for a lossless frame.
@@ -133,7 +133,7 @@ fn pixel_bytes(count: usize, precision: u8) -> u64
 #[tactic(auto, unfolding(crate::specs::Bytes::picture_size))]
 pub(crate) fn picture_bytes(frame: &FrameInfo) -> u64
     requires { length (frame_in frame.now).components ≤ 4 }
-    ensures bytes { result ≡ picture_size (frame_in frame.now) }
+    ensures bytes { result ≡ picture_size (frame_shape (frame_in frame.now)) }
     ensures most { result < 2 ^ 35 }
 {
     let size = frame.output_size;
@@ -144,7 +144,7 @@ pub(crate) fn picture_bytes(frame: &FrameInfo) -> u64
 #[tactic(auto, unfolding(crate::specs::Bytes::line_bytes))]
 pub(crate) fn line_bytes(frame: &FrameInfo) -> usize
     requires { length (frame_in frame.now).components ≤ 4 }
-    ensures { result ≡ line_bytes (frame_in frame.now) }
+    ensures { result ≡ line_bytes (frame_shape (frame_in frame.now)) }
 {
     let pixel = pixel_bytes(frame.components.len(), frame.precision);
     usize::from(frame.output_size.width) * pixel as usize
@@ -152,8 +152,8 @@ pub(crate) fn line_bytes(frame: &FrameInfo) -> usize
 
 /// Returns how many bytes a picture takes beside the planes that it is made of.
 fn beside_planes(frame: &FrameInfo, picture: u64) -> u64
-    requires { picture ≡ picture_size (frame_in frame.now) }
-    ensures bytes { result ≡ beside_planes (frame_in frame.now).process (frame_in frame.now) }
+    ensures bytes { result ≡ beside_planes (frame_in frame.now).process
+        (frame_in frame.now).components picture }
     ensures most { result ≤ picture }
 {
     match frame.coding_process {
@@ -172,7 +172,8 @@ fn beside_planes(frame: &FrameInfo, picture: u64) -> u64
 pub(crate) fn decoding_bytes(frame: &FrameInfo) -> DecodingBytes
     requires few { length (frame_in frame.now).components ≤ 4 }
     requires sampling { AllHaveSampling (frame_in frame.now).components }
-    ensures { result ≡ decoding_bytes (frame_in frame.now) }
+    ensures { result
+        ≡ bytes_of_shape (frame_shape (frame_in frame.now)) (frame_in frame.now) }
 {
     let process = frame.coding_process;
     let (coefficients, planes) = component_bytes(frame, process);

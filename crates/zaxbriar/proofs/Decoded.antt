@@ -4,7 +4,8 @@ use Rattle.std.specs.Prelude.{option_map}
 use Rattle.jpeg_segments.specs.Frame.{Frame}
 use Rattle.jpeg_streams.specs.Pixels.{info_of}
 use Rattle.jpeg_streams.specs.declared.images.ImageInfo.{ImageInfo}
-use Rattle.jpeg_decoder.specs.Bytes.{AreLinesOf, HaveBytes, IsCounted, bytes_a_sample, line_bytes, samples_a_pixel}
+use Rattle.jpeg_decoder.specs.Bytes.{AreLinesOf, HaveBytes, IsCounted, bytes_a_sample}
+use Rattle.jpeg_decoder.specs.Bytes.{frame_shape, line_bytes, samples_a_pixel}
 use Rattle.zaxbriar.specs.Lines.{HasLines}
 use Rattle.zaxbriar.specs.declared.lines.Lines.{Lines}
 use Rattle.zaxbriar.specs.declared.options.Options.{Options}
@@ -12,7 +13,8 @@ use Rattle.zaxbriar.specs.declared.options.Options.{Options}
 -- each line of a picture has as many bytes as its pixels are stored in
 pub lines-stored : (o : Options) (info : ImageInfo) (precision : ℕ) (lines : Lines) (old new : Option Frame)
     (picture : List (List ℕ)) → HasLines o info precision lines → new ≡ old → option_map info_of old ≡ Some info
-    → option_map (λ f. f.precision) old ≡ Some precision → IsCounted new → AreLinesOf new picture
+    → option_map (λ f. f.precision) old ≡ Some precision → IsCounted (option_map frame_shape new)
+    → AreLinesOf (option_map frame_shape new) picture
     → HaveBytes (lines.width * lines.stored) picture
 unfolding line_bytes
 lines-stored o info precision lines old None picture h same i p counted are =

@@ -126,8 +126,8 @@ pub record Describes (part : Bool) (o : Options) (bytes : List ℕ) (picture : P
   pub info_is : option_map info_of (at_size (size_wanted o) header.said).frame ≡ Some info
   pub precision_is : option_map (λ f. f.precision) (at_size (size_wanted o) header.said).frame
       ≡ Some precision
-  pub decoding_is : option_map decoding_bytes (at_size (size_wanted o) header.said).frame
-      ≡ Some decoding
+  pub decoding_is : option_map (decoding_bytes (settings_of o))
+      (at_size (size_wanted o) header.said).frame ≡ Some decoding
   pub conversion_is : conversion_to o.layout info.pixel_format precision ≡ Some conversion
   pub sampling_is : option_map (λ f. sampling_of f.components)
       (at_size (size_wanted o) header.said).frame ≡ Some sampling

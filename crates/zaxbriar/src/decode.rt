@@ -1,9 +1,10 @@
 //! Pictures of streams in the caller's memory.
 ghost use Rattle.std.specs.Prelude.{◌≡◌, ◌++◌, ◌≤◌, ◌<◌, ◌^◌, ℕ, List, Some, length, option_map};
-ghost use Rattle.std.specs.Prelude.{true, false, Err, IfErr, IfOk, IfSome, IsErrAnd, None, Ok, OnOk};
+ghost use Rattle.std.specs.Prelude.{true, false, Err, IfErr, IfOk, IfSome, IsErrAnd, None, Ok};
+ghost use Rattle.std.specs.Prelude.{OnOk};
 ghost use Rattle.std.specs.List.{concat};
 ghost use Rattle.jpeg_bits.specs.declared.error.Error.TheVariants.{OutOfMemory};
-ghost use Rattle.jpeg_decoder.specs.Bytes.{AreLinesOf, IsCounted, decoding_bytes};
+ghost use Rattle.jpeg_decoder.specs.Bytes.{AreLinesOf, IsCounted, decoding_bytes, shape_in};
 ghost use Rattle.jpeg_streams.specs.ArrayPictures.{picture_of_array};
 ghost use Rattle.jpeg_streams.specs.DecodedImages.{DecodesImages, at_size};
 ghost use Rattle.jpeg_streams.specs.Found.{Said};
@@ -69,8 +70,8 @@ fn read_part<R: Read + Drop>(decoder: &mut Decoder<R>) -> std::result::Result<Pa
     requires read { decoder.old.stage ≡ HeaderRead }
     ensures stays { IfOk result
         (λ _. decoder.new.found.said.frame ≡ decoder.old.found.said.frame) }
-    ensures counted { IfOk result (λ _. IsCounted decoder.new.found.said.frame) }
-    ensures lines { IfOk result (λ p. AreLinesOf decoder.new.found.said.frame p.lines) }
+    ensures counted { IfOk result (λ _. IsCounted (shape_in decoder.new)) }
+    ensures lines { IfOk result (λ p. AreLinesOf (shape_in decoder.new) p.lines) }
     ensures shown { decoder.old.source.known ≡ true → IfOk result (λ p. Brings
         (shown_rest decoder.old.settings decoder.old.found decoder.old.source.bytes)
         (concat p.lines) p.fault (told_of decoder.new.found.said)) }
@@ -110,8 +111,8 @@ fn read_lines<R: Read + Drop>(
     requires read { decoder.old.stage ≡ HeaderRead }
     ensures stays { IfOk result
         (λ _. decoder.new.found.said.frame ≡ decoder.old.found.said.frame) }
-    ensures counted { IfOk result (λ _. IsCounted decoder.new.found.said.frame) }
-    ensures lines { IfOk result (λ p. AreLinesOf decoder.new.found.said.frame p.lines) }
+    ensures counted { IfOk result (λ _. IsCounted (shape_in decoder.new)) }
+    ensures lines { IfOk result (λ p. AreLinesOf (shape_in decoder.new) p.lines) }
     ensures entire { is_partial ≡ false → IfOk result (λ p. p.fault ≡ None) }
     ensures reads { is_partial ≡ false → IfOk result (λ p. Answers {X = Unit {0}}
         (λ u. (told_of decoder.new.found.said, concat p.lines))
@@ -168,7 +169,8 @@ fn decode_lines<R: Read + Drop>(
     requires info { option_map info_of decoder.old.found.said.frame ≡ Some header.info }
     requires precision { option_map (λ f. f.precision) decoder.old.found.said.frame
         ≡ Some header.precision }
-    requires bytes { option_map decoding_bytes decoder.old.found.said.frame
+    requires bytes { option_map (decoding_bytes decoder.old.settings)
+        decoder.old.found.said.frame
         ≡ Some header.decoding_bytes }
     requires lines { (options : Options) × HasLines options header.info header.precision lines }
     requires room { size_of_lines lines.stride lines.row_bytes lines.height ≤ length pixels.old }

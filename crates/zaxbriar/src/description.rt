@@ -44,7 +44,8 @@ pub fn describe<R: Read + Drop>(
         (λ a. option_map info_of decoder.new.found.said.frame ≡ Some a.0.info) }
     ensures precision { IfOk result (λ a. option_map (λ f. f.precision) decoder.new.found.said.frame
         ≡ Some a.0.precision) }
-    ensures bytes { IfOk result (λ a. option_map decoding_bytes decoder.new.found.said.frame
+    ensures bytes { IfOk result (λ a. option_map (decoding_bytes decoder.new.settings)
+        decoder.new.found.said.frame
         ≡ Some a.0.decoding_bytes) }
     ensures lines { IfOk result (λ a. HasLines options.now a.0.info a.0.precision a.1) }
     ensures told { IfOk result (λ a. picture.new ≡ described_picture options.now.layout a.0.info

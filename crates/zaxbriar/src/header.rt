@@ -70,7 +70,8 @@ pub fn read_header<R: Read + Drop>(
     ensures transform { IfOk result (λ h. option_map (λ f. number_of_transform
         (frame_transform decoder.new.found.said.metadata f)) decoder.new.found.said.frame
         ≡ Some h.transform) }
-    ensures bytes { IfOk result (λ h. option_map decoding_bytes decoder.new.found.said.frame
+    ensures bytes { IfOk result (λ h. option_map (decoding_bytes decoder.new.settings)
+        decoder.new.found.said.frame
         ≡ Some h.decoding_bytes) }
     ensures peak { IfOk result (λ h. h.decoding_bytes.coefficients + h.decoding_bytes.planes
         ≤ h.decoding_bytes.peak) }

@@ -219,8 +219,9 @@ pub extern "C" fn zaxbriar_checked_decode_partial(
     ensures whole { result ≡ 0 → length jpeg.now < 2 ^ 64 →
         ShowsPart options.now jpeg.now pixels.old pixels.new None (without_rows picture.new) }
 
-    // After PARTIAL, `pixels` has the picture of what the stream brings up to its first fault, which
-    // `picture` names beside describing the picture. After any other result it names no fault.
+    // After PARTIAL, `pixels` has the picture of what the stream brings up to its first fault,
+    // which `picture` names beside describing the picture. After any other result it names no
+    // fault.
     ensures part { result ≡ 9 → length jpeg.now < 2 ^ 64 → (fault : Fault)
         × ShowsPart options.now jpeg.now pixels.old pixels.new (Some fault)
         (without_fault (without_rows picture.new)) × TellsFault picture.new fault }
@@ -265,8 +266,8 @@ pub extern "C" fn zaxbriar_checked_decode_partial(
     ensures limited { length jpeg.now < 2 ^ 64 → (size : Picture)
         → IsTooLarge true options.now jpeg.now size → IsOfCallNumber result }
 
-    // `stream_bytes` is how many bytes the header takes after NO_ROOM and TOO_LARGE, 0 where options
-    // don't exist, and never more than there are.
+    // `stream_bytes` is how many bytes the header takes after NO_ROOM and TOO_LARGE, 0 where
+    // options don't exist, and never more than there are.
     ensures header { (result ≡ 5) ⊎ (result ≡ 8) → length jpeg.now < 2 ^ 64
         → CountsRead (header_at jpeg.now) jpeg.now picture.new.stream_bytes }
     ensures unread { are_known options.now ≡ false → picture.new.stream_bytes ≡ 0 }
@@ -297,8 +298,8 @@ pub extern "C" fn zaxbriar_checked_decode_partial(
     answer(alloc, outcome, &mut picture.text)
 }
 
-/// Copies the Exif data, the XMP data or the ICC profile of a header or of a whole image, and writes
-/// how many bytes they have.
+/// Copies the Exif data, the XMP data or the ICC profile of a header or of a whole image, and
+/// writes how many bytes they have.
 #[unsafe(no_mangle)]
 pub extern "C" fn zaxbriar_checked_metadata(
     alloc: Global,
@@ -361,8 +362,8 @@ pub extern "C" fn zaxbriar_checked_next_segment(jpeg: &[u8], segment: &mut Segme
     ensures none { (result ≡ 0 → ⊥) → (segment.new.offset ≡ 0) × (segment.new.size ≡ 0)
         × (segment.new.end ≡ 0) }
 
-    // After TRUNCATED, it says how many bytes more are needed, and how many of those at hand don't
-    // matter any more.
+    // After TRUNCATED, it says how many further bytes are needed, and how many of those at hand no
+    // longer matter.
     ensures cut { result ≡ 3 → IsCut jpeg.now segment.new }
     ensures whole { (result ≡ 3 → ⊥) → (segment.new.needed ≡ 0) × (segment.new.skipped ≡ 0) }
     ensures reserved { segment.new.reserved ≡ replicate 23 0 }

@@ -7,7 +7,7 @@ ghost use Rattle.jpeg_segments.specs.Application.{application_by};
 use crate::segments::next_segment;
 use jpeg_bits::marker::Marker;
 
-/// Some bytes of a stream: `zaxbriar_place` of the header. All zeros are none.
+/// A range of bytes of a stream: `zaxbriar_place` of the header. All zeros if there is none.
 #[repr(C)]
 #[derive(Clone, Copy)]
 pub struct Place {
@@ -15,7 +15,7 @@ pub struct Place {
     pub size: u64,
 }
 
-/// How many parts of a profile have a place.
+/// The number of parts of a profile whose ranges are recorded.
 const PART_PLACES: usize = 255;
 
 /// Where the metadata of an image are: `zaxbriar_places` of the header.
@@ -26,11 +26,11 @@ pub struct Places {
     pub exif: Place,
     /// The XMP data of the last segment that has some.
     pub xmp: Place,
-    /// How many bytes there are up to the end of the last segment that was found.
+    /// The number of bytes up to the end of the last segment that was found.
     pub stream_bytes: u64,
-    /// How many parts of an ICC profile there are.
+    /// The number of parts of the ICC profile.
     pub icc_parts: u32,
-    /// 1 if the image ends, and 0 if its bytes do before.
+    /// 1 if the image ends, and 0 if the bytes end before it does.
     pub ended: u32,
     /// Zero.
     pub reserved: [u64; 4],
@@ -50,7 +50,7 @@ const NO_PLACES: Places = Places {
     icc: [NO_PLACE; PART_PLACES],
 };
 
-/// Returns the place of the last bytes of a segment that ends there.
+/// Returns the range of the last bytes of a segment that ends after so many bytes.
 fn place_before(end: usize, size: usize) -> Place
     ensures { result ≡ place_before end size }
 {
@@ -60,7 +60,7 @@ fn place_before(end: usize, size: usize) -> Place
     }
 }
 
-/// Puts one more part of a profile.
+/// Records the range of one more part of a profile.
 fn put_part(places: &mut Places, place: Place)
     ensures { places.new ≡ with_part place places.old }
 {
@@ -71,7 +71,7 @@ fn put_part(places: &mut Places, place: Place)
     places.icc_parts = count.saturating_add(1);
 }
 
-/// Puts what the payload of APP1 says: Exif or XMP data.
+/// Records the range of Exif or XMP data in the payload of APP1.
 #[tactic(auto, unfolding(jpeg_segments::specs::Application::application_by))]
 fn put_application_1(places: &mut Places, payload: &[u8], end: usize)
     ensures { places.new ≡ with_said end (application_by 1 payload.now) places.old }
@@ -83,7 +83,7 @@ fn put_application_1(places: &mut Places, payload: &[u8], end: usize)
     }
 }
 
-/// Puts what the payload of APP2 says: a part of an ICC profile, of at least one byte.
+/// Records the range of a part of an ICC profile, of at least one byte, in the payload of APP2.
 #[tactic(auto, unfolding(jpeg_segments::specs::Application::application_by))]
 fn put_application_2(places: &mut Places, payload: &[u8], end: usize)
     ensures { places.new ≡ with_said end (application_by 2 payload.now) places.old }
@@ -93,7 +93,7 @@ fn put_application_2(places: &mut Places, payload: &[u8], end: usize)
     }
 }
 
-/// Puts what the payload of an application's segment says, which ends after so many bytes.
+/// Records the range of the metadata in an application's segment, which ends after so many bytes.
 #[tactic(auto, using(crate::proofs::Rules::others))]
 fn put_application(places: &mut Places, number: u8, payload: &[u8], end: usize)
     ensures { places.new ≡ with_said end (application_by number payload.now) places.old }
@@ -112,7 +112,7 @@ fn ends_image(marker: Marker) -> bool
     matches!(marker, Marker::EOI)
 }
 
-/// Puts what a segment says, which ends after so many bytes.
+/// Records the range of the metadata in a segment, which ends after so many bytes.
 fn put_segment(places: &mut Places, marker: Marker, payload: &[u8], end: usize)
     ensures { places.new ≡ with_segment end marker payload.now places.old }
 {

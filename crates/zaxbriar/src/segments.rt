@@ -11,14 +11,14 @@ use jpeg_bits::marker::Marker;
 #[repr(C)]
 #[derive(Clone, Copy)]
 pub struct Segment {
-    /// Where its payload begins, and how many bytes this has.
+    /// Where its payload begins, and the length of the payload in bytes.
     pub offset: u64,
     pub size: u64,
-    /// How many bytes there are up to its end.
+    /// The number of bytes up to its end.
     pub end: u64,
-    /// How many bytes more it needs at least, where the bytes end before it does.
+    /// The least number of further bytes that it needs, if the bytes end before it does.
     pub needed: u64,
-    /// How many of the bytes it doesn't depend on then.
+    /// The number of bytes, from the first, that it doesn't depend on in that case.
     pub skipped: u64,
     /// The second byte of its marker's code, or 0.
     pub marker: u8,
@@ -102,8 +102,8 @@ pub fn next_segment(bytes: &[u8]) -> Option<(Marker, &[u8], &[u8])>
     Some((marker, payload, rest))
 }
 
-/// Returns how many bytes more a payload needs at least, after its marker, or none if its length
-/// field is less than its own size.
+/// Returns the least number of further bytes that a payload needs, given the bytes after its
+/// marker, or none if its length field is less than its own size.
 #[tactic(auto, using(crate::proofs::Rules::needs))]
 pub fn payload_needs(bytes: &[u8]) -> Option<usize>
     requires cut { IsErr (payload_at bytes.now) }

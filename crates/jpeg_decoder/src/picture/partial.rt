@@ -1,7 +1,7 @@
 //! The picture of what a stream with a fault has brought.
 ghost use Rattle.std.specs.Prelude.{◌≡◌, ◌<◌, ℕ, List, [], false, true};
 ghost use Rattle.std.specs.Prelude.{get_or, IfErr, IfOk, IfSome, is_some, length, None, OnOk};
-ghost use Rattle.std.specs.Prelude.{replicate, Result, Some, unwrap_or};
+ghost use Rattle.std.specs.Prelude.{option_map, replicate, Result, Some, unwrap_or};
 ghost use Rattle.std.specs.List.{concat};
 ghost use Rattle.jpeg_bits.specs.Reading.{Fault, IsGivenUp};
 ghost use Rattle.jpeg_pixels.specs.Scaled.{IsScale};
@@ -17,7 +17,7 @@ ghost use Rattle.jpeg_streams.specs.Sound.{HasDecodedFrame, IsDecodedFrame, IsSo
 ghost use Rattle.jpeg_streams.specs.States.{IsOfBytes};
 ghost use Rattle.jpeg_streams.specs.Stream.{told_of};
 ghost use Rattle.jpeg_streams.specs.WholeRows.{rows_of_found, whole_rows, whole_rows_rest};
-ghost use Rattle.jpeg_decoder.specs.Bytes.{AreLinesOf, IsWhole};
+ghost use Rattle.jpeg_decoder.specs.Bytes.{AreLinesOf, IsWhole, frame_shape};
 ghost use Rattle.jpeg_decoder.specs.Reaching.{NamesFault, is_out_of_memory};
 ghost use Rattle.jpeg_decoder.specs.Scanning.{arrays_in};
 ghost use Rattle.jpeg_decoder.specs.Shows.{CountsRows, GivesUp, IsShown, ShowsJust, is_there};
@@ -263,7 +263,8 @@ fn show_found(
     ensures first { IfOk result (λ p. IfSome fault (λ e. p.fault ≡ Some e)) }
     ensures refused { IfErr result IsOfBytes }
     ensures framed { IfOk result (λ _. is_some state.now.said.frame ≡ true) }
-    ensures lines { IfOk result (λ p. AreLinesOf state.now.said.frame p.lines) }
+    ensures lines { IfOk result (λ p. AreLinesOf
+        (option_map frame_shape state.now.said.frame) p.lines) }
 {
     let Some(frame) = state.said.frame.as_ref() else {
         if let Some(e) = fault {
@@ -314,8 +315,10 @@ fn show_rest<R: Read + Drop>(
     ensures frames { OnOk result (HasDecodedFrame state.new) }
     ensures stays { is_some state.old.said.frame ≡ true → state.new.said.frame
         ≡ state.old.said.frame }
-    ensures lines { IfOk result (λ p. AreLinesOf state.new.said.frame p.lines) }
-    ensures size { IfOk result (λ p. IsWhole state.new.said.frame (concat p.lines)) }
+    ensures lines { IfOk result (λ p. AreLinesOf
+        (option_map frame_shape state.new.said.frame) p.lines) }
+    ensures size { IfOk result (λ p. IsWhole
+        (option_map frame_shape state.new.said.frame) (concat p.lines)) }
     ensures emptied { (state.new.kept ≡ []) × (state.new.planes ≡ replicate 4 None)
         × (state.new.samples ≡ replicate 4 None) }
 {
@@ -357,8 +360,10 @@ pub fn show<R: Read + Drop>(
     ensures frames { OnOk result (HasDecodedFrame state.new) }
     ensures stays { is_some state.old.said.frame ≡ true → state.new.said.frame
         ≡ state.old.said.frame }
-    ensures lines { IfOk result (λ p. AreLinesOf state.new.said.frame p.lines) }
-    ensures size { IfOk result (λ p. IsWhole state.new.said.frame (concat p.lines)) }
+    ensures lines { IfOk result (λ p. AreLinesOf
+        (option_map frame_shape state.new.said.frame) p.lines) }
+    ensures size { IfOk result (λ p. IsWhole
+        (option_map frame_shape state.new.said.frame) (concat p.lines)) }
     ensures emptied { (state.new.kept ≡ []) × (state.new.planes ≡ replicate 4 None)
         × (state.new.samples ≡ replicate 4 None) }
 {

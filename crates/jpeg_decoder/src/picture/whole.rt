@@ -26,7 +26,7 @@ ghost use Rattle.jpeg_streams.specs.Reported.{IsOfTurns, told_by_turns, told_in_
 ghost use Rattle.jpeg_streams.specs.FoundPictures.{blocks_picture, picture_of, picture_by};
 ghost use Rattle.jpeg_streams.specs.FoundPictures.{plane_at_end, samples_picture};
 ghost use Rattle.jpeg_streams.specs.Found.{nothing_found};
-ghost use Rattle.jpeg_decoder.specs.Bytes.{AreLinesOf, HaveBytes, IsWhole};
+ghost use Rattle.jpeg_decoder.specs.Bytes.{AreLinesOf, HaveBytes, IsWhole, frame_shape};
 
 use crate::picture::color_choice::choose_color_transform;
 use crate::picture::lines::Lines;
@@ -208,7 +208,7 @@ fn picture_by(
     ensures meant { let expected = picture_by settings state.now.said.metadata
         (frame_in frame.now) (frame_in frame.now).components (map (λ p. p.items) planes.items) in
         Returns expected (λ l. concat l) result }
-    ensures lines { IfOk result (λ l. AreLinesOf (Some (frame_in frame.now)) l) }
+    ensures lines { IfOk result (λ l. AreLinesOf (Some (frame_shape (frame_in frame.now))) l) }
 {
     let components = frame.components.as_slice();
     if components.len() == 1 {
@@ -222,7 +222,7 @@ fn picture_by(
 }
 
 /// Returns the layout of a frame's planes in one buffer, where its components are alike.
-fn shape_of(frame: &FrameInfo) -> Option<JointShape>
+fn joint_shape_of(frame: &FrameInfo) -> Option<JointShape>
     requires { AllHaveSampling (frame_in frame.now).components }
     ensures { IfSome result (IsShapeOf (frame_in frame.now).components
         (frame_in frame.now).output_width (frame_in frame.now).output_height) }
@@ -262,7 +262,7 @@ fn joint_picture(
         (frame_in frame.now) (frame_in frame.now).components
         (joint_planes planes.shape planes.samples.items) in
         Returns expected (λ l. concat l) result }
-    ensures lines { IfOk result (λ l. AreLinesOf (Some (frame_in frame.now)) l) }
+    ensures lines { IfOk result (λ l. AreLinesOf (Some (frame_shape (frame_in frame.now))) l) }
 {
     let transform = transform_of(state, frame, settings);
     joint_lines(
@@ -289,9 +289,9 @@ fn blocks_picture(
     ensures meant { let expected = blocks_picture settings
         (with_decoded state.now decoded.old) (frame_in frame.now) in
         Returns expected (λ l. concat l) result }
-    ensures lines { IfOk result (λ l. AreLinesOf (Some (frame_in frame.now)) l) }
+    ensures lines { IfOk result (λ l. AreLinesOf (Some (frame_shape (frame_in frame.now))) l) }
 {
-    if let Some(planes) = decoded.planes.take_joint(shape_of(frame)) {
+    if let Some(planes) = decoded.planes.take_joint(joint_shape_of(frame)) {
         return joint_picture(alloc, state, frame, planes, settings);
     }
     let planes = planes_at_end(alloc, state, frame, decoded)?;
@@ -331,7 +331,7 @@ fn samples_picture(
     ensures meant { let expected =
         samples_picture (with_decoded state.now decoded.old) (frame_in frame.now) in
         Returns expected (λ l. concat l) result }
-    ensures lines { IfOk result (λ l. AreLinesOf (Some (frame_in frame.now)) l) }
+    ensures lines { IfOk result (λ l. AreLinesOf (Some (frame_shape (frame_in frame.now))) l) }
 {
     let planes = samples_at_end(alloc, frame, decoded)?;
     sample_lines(alloc, frame, planes)
@@ -362,7 +362,7 @@ pub fn picture(
     requires sound { IsSound (with_decoded state.now decoded.old) }
     ensures meant { let expected = picture_of settings (with_decoded state.now decoded.old) in
         Returns expected (λ l. concat l) result }
-    ensures lines { IfOk result (λ l. AreLinesOf state.now.said.frame l) }
+    ensures lines { IfOk result (λ l. AreLinesOf (option_map frame_shape state.now.said.frame) l) }
 {
     let frame = needed(
         alloc,
@@ -430,8 +430,9 @@ pub fn read_rest<R: Read + Drop>(
     ensures stays { is_some state.old.said.frame ≡ true → state.new.said.frame
         ≡ state.old.said.frame }
     ensures frames { OnOk result (HasDecodedFrame state.new) }
-    ensures lines { IfOk result (λ l. AreLinesOf state.new.said.frame l) }
-    ensures size { IfOk result (λ l. IsWhole state.new.said.frame (concat l)) }
+    ensures lines { IfOk result (λ l. AreLinesOf (option_map frame_shape state.new.said.frame) l) }
+    ensures size { IfOk result (λ l. IsWhole
+        (option_map frame_shape state.new.said.frame) (concat l)) }
     ensures emptied { (state.new.kept ≡ []) × (state.new.planes ≡ replicate 4 None)
         × (state.new.samples ≡ replicate 4 None) }
 {

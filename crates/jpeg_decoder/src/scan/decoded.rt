@@ -154,7 +154,7 @@ fn take_blocks(
     Ok(taken)
 }
 
-/// Puts blocks at the indices of a scan's components in the frame.
+/// Stores blocks at the indices of a scan's components in the frame.
 #[tactic(auto, using(crate::proofs::PutLoops::put_rules), unfolding(crate::proofs::Rules::puts))]
 fn put_blocks(
     alloc: Global,
@@ -251,7 +251,7 @@ impl Decoded {
         }
     }
 
-    /// Puts the samples of a lossless scan at the indices of its components, where they replace
+    /// Stores the samples of a lossless scan at the indices of its components, where they replace
     /// those of earlier scans.
     pub fn put_samples(&mut self, alloc: Global, indices: &[usize], planes: &mut Vec<Vec<u16>>)
         requires count { length planes.old.items ≡ length indices.now }

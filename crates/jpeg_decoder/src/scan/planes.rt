@@ -87,7 +87,7 @@ impl Planes {
         self.joint.is_none() && are_none(&self.own)
     }
 
-    /// Puts the plane of a component.
+    /// Stores the plane of a component.
     pub fn put(&mut self, index: usize, plane: Vec<u8>)
         requires { index < 4 }
         ensures { self.new ≡ slice_set self.old index (Some plane.items) }
@@ -95,7 +95,7 @@ impl Planes {
         self.own[index] = Some(plane);
     }
 
-    /// Puts the planes of like components, if none is decided.
+    /// Stores the planes of like components, if none is decided.
     pub fn put_joint(&mut self, joint: JointPlanes)
         requires none { self.old ≡ replicate 4 None }
         requires full { IsFullJoint joint }
