@@ -10,6 +10,7 @@ use Rattle.jpeg_bits.specs.Readers.{Reads, gives, read_on, ◌>>=◌}
 use Rattle.jpeg_bits.specs.Passes.{Block, Pass, Via, block_from, zero_block}
 use Rattle.jpeg_bits.specs.Skips.{dc_alone, kept, kept_turn}
 use Rattle.jpeg_bits.proofs.DcAlone.{blocks-alike as block-alike}
+use Rattle.jpeg_streams.proofs.CountedScans.{on-on}
 use Rattle.jpeg_streams.specs.Order.{Spot}
 use Rattle.jpeg_streams.specs.Scans.{Arrays, block_at, put_block, via_at}
 use Rattle.jpeg_streams.specs.InTurn.{Counted, Reached, begun_from, blocks_from, next_from}
@@ -100,24 +101,19 @@ turn-alike false p vias s a b t first e = grind (arith, common_steps, turn-array
 
 -- ---- the next block
 
-pub read-on-on : {A B C : Type 0} (f : A → Reads B) (g : B → Reads C) (o : Result (A × Text) Fault)
-    → read_on g (read_on f o) ≡ read_on (λ a. λ u. read_on g (f a u)) o
-read-on-on f g (Ok r) = refl
-read-on-on f g (Err e) = refl
-
 -- what was begun alike goes on so
 begun-alike : (keeps : Bool) (p : Pass) (vias : List Via) (s : Spot) (a b : Counted) (t : Text)
     → (keeps ≡ false → p.is_first ≡ true) → kept_counted keeps a ≡ kept_counted keeps b
     → read_on (kept_after keeps) (begun_turn p vias s a t) ≡ read_on (kept_after keeps) (begun_turn p vias s b t)
 unfolding begun_turn
 begun-alike keeps p vias s a b t first e =
-    read-on-on (turn_then a) (kept_after keeps) (turn_from p vias s a.reached t)
+    on-on (turn_then a) (kept_after keeps) (turn_from p vias s a.reached t)
     ∙ pass-on (kept_reached keeps) (λ r. λ u. read_on (kept_after keeps) (turn_then a r u))
     (λ r. λ u. read_on (kept_after keeps) (turn_then b r u)) (turn_from p vias s a.reached t)
     (turn_from p vias s b.reached t)
     (turn-alike keeps p vias s a.reached b.reached t first (ap (λ (c : Counted). c.reached) e))
     (λ r q u k. grind (arith, common_steps))
-    ∙ sym (read-on-on (turn_then b) (kept_after keeps) (turn_from p vias s b.reached t))
+    ∙ sym (on-on (turn_then b) (kept_after keeps) (turn_from p vias s b.reached t))
 
 -- an interval begins alike
 kept-begun : (keeps : Bool) (n : ℕ) (c : Counted) (b : Bool) (t : Text)
@@ -134,12 +130,12 @@ next-alike : (keeps : Bool) (p : Pass) (vias : List Via) (n : ℕ) (s : Spot) (a
     → read_on (kept_after keeps) (next_from p vias n s a t) ≡ read_on (kept_after keeps) (next_from p vias n s b t)
 next-alike keeps p vias n s a b t first e =
     ap (read_on (kept_after keeps)) (next-is p vias n s a t)
-    ∙ read-on-on (begun_turn p vias s) (kept_after keeps) (begun_from n a t)
+    ∙ on-on (begun_turn p vias s) (kept_after keeps) (begun_from n a t)
     ∙ pass-on (kept_counted keeps) (λ c. λ u. read_on (kept_after keeps) (begun_turn p vias s c u))
     (λ c. λ u. read_on (kept_after keeps) (begun_turn p vias s c u)) (begun_from n a t) (begun_from n b t)
     (start-kept keeps n a t ∙ ap (λ (c : Counted). begun_from n c t) e ∙ sym (start-kept keeps n b t))
     (λ c d u k. begun-alike keeps p vias s c d u first k)
-    ∙ sym (read-on-on (begun_turn p vias s) (kept_after keeps) (begun_from n b t))
+    ∙ sym (on-on (begun_turn p vias s) (kept_after keeps) (begun_from n b t))
     ∙ sym (ap (read_on (kept_after keeps)) (next-is p vias n s b t))
 
 -- Blocks at some spots are read alike, as far as what is kept goes, where what is kept so far is the same.
@@ -150,12 +146,12 @@ pub blocks-alike : (keeps : Bool) (p : Pass) (vias : List Via) (n : ℕ) (spots 
 unfolding blocks_from
 blocks-alike keeps p vias n [] a b t first e = ap (λ (c : Counted). Ok (c, t)) e
 blocks-alike keeps p vias n (s ∷ spots) a b t first e =
-    read-on-on (blocks_from p vias n spots) (kept_after keeps) (next_from p vias n s a t)
+    on-on (blocks_from p vias n spots) (kept_after keeps) (next_from p vias n s a t)
     ∙ pass-on (kept_counted keeps) (λ c. λ u. read_on (kept_after keeps) (blocks_from p vias n spots c u))
     (λ c. λ u. read_on (kept_after keeps) (blocks_from p vias n spots c u)) (next_from p vias n s a t)
     (next_from p vias n s b t) (next-alike keeps p vias n s a b t first e)
     (λ c d u k. blocks-alike keeps p vias n spots c d u first k)
-    ∙ sym (read-on-on (blocks_from p vias n spots) (kept_after keeps) (next_from p vias n s b t))
+    ∙ sym (on-on (blocks_from p vias n spots) (kept_after keeps) (next_from p vias n s b t))
 
 pub put-kept : (keeps : Bool) (s : Spot) (arrays : Arrays) (a b : Block) → kept keeps a ≡ kept keeps b
     → kept_arrays keeps (put_block s a arrays) ≡ kept_arrays keeps (put_block s b arrays)
@@ -180,7 +176,7 @@ pub next-kept : (keeps : Bool) (p : Pass) (vias : List Via) (n : ℕ) (s : Spot)
     }) u)
 unfolding begun_turn
 next-kept keeps p vias n s spots now r t u first e =
-    search (rules, read-on-on, turn_then, pass-on, blocks-alike)
+    search (rules, on-on, turn_then, pass-on, blocks-alike)
 
 pub kept_none : (keeps : Bool) (p : Pass) (vias : List Via) (n : ℕ) (old : Counted) (t : Text)
     → (blocks_from p vias n [] old >>= kept_after keeps) t ≡ Ok (kept_counted keeps old, t)

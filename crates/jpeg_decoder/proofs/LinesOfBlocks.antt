@@ -25,7 +25,7 @@ use Rattle.jpeg_decoder.proofs.BlockArrays.{Held}
 use Rattle.jpeg_streams.specs.InTurn.{Counted, Reached, begun_from, blocks_from, next_from, turn_from, turns_from, scan_from}
 use Rattle.jpeg_streams.specs.InTurn.{counted_at_start, AreArrays, Fits}
 use Rattle.jpeg_streams.specs.Scans.{Arrays, arrays_at}
-use Rattle.jpeg_streams.proofs.CountedScans.{frame-scans}
+use Rattle.jpeg_streams.proofs.CountedScans.{blocks-append, frame-scans}
 use Rattle.jpeg_decoder.specs.Walk.{line_spots, rows_spots}
 use Rattle.jpeg_decoder.proofs.BlockSteps.{begun_none, begun_within, begun_turn, blocks_begun, blocks_refused}
 use Rattle.jpeg_decoder.proofs.BlockSteps.{next_begun, next_unbegun, turn_then}
@@ -224,23 +224,6 @@ module _ (p : Pass) (vias : List Via) (n at room : ℕ) (whole : Reads Counted) 
       (λ t. line-none p vias n at room now t none) left
 
 -- ---- lines
-
-lines-next : (p : Pass) (vias : List Via) (n : ℕ) (spots more : List Spot)
-    → ((c : Counted) (u : Text) → blocks_from p vias n (spots ++ more) c u
-    ≡ read_on (blocks_from p vias n more) (blocks_from p vias n spots c u))
-    → (o : Result (Counted × Text) Fault)
-    → read_on (blocks_from p vias n (spots ++ more)) o
-    ≡ read_on (blocks_from p vias n more) (read_on (blocks_from p vias n spots) o)
-lines-next p vias n spots more ih (Ok r) = ih r.0 r.1
-lines-next p vias n spots more ih (Err f) = refl
-
-blocks-append : (p : Pass) (vias : List Via) (n : ℕ) (spots more : List Spot) (old : Counted) (t : Text)
-    → blocks_from p vias n (spots ++ more) old t
-    ≡ read_on (blocks_from p vias n more) (blocks_from p vias n spots old t)
-unfolding blocks_from
-blocks-append p vias n [] more old t = refl
-blocks-append p vias n (s ∷ spots) more old t =
-    lines-next p vias n spots more (λ c u. blocks-append p vias n spots more c u) (next_from p vias n s old t)
 
 rows-first : (g : Grid) (row high : ℕ) → row < high
     → rows_spots g row (high - row) ≡ line_spots (row * g.wide) g.own_wide ++ rows_spots g (row + 1) (high - (row + 1))

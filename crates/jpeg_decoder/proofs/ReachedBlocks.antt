@@ -1,5 +1,5 @@
 -- Blocks as far as they can be read: they go by the bits of a text and its ending alone, and block by block.
-use Rattle.std.proofs.Common.{rules, ◌≡◌, ◌⊎◌, inl, inr, ℕ, zero, suc, ◌-◌, ◌<◌, ◌≤◌, ◌==◌, nat_le, ℤ, Bool}
+use Rattle.std.proofs.Common.{◌≡◌, ◌⊎◌, inl, inr, ℕ, zero, suc, ◌-◌, ◌<◌, ◌≤◌, ◌==◌, nat_le, ℤ, Bool}
 use Rattle.std.proofs.Common.{true, false, List, [], ◌∷◌, take, drop, set, get_or, length, length-drop, Option}
 use Rattle.std.proofs.Common.{None, Some, Result, Ok, Err, refl, sym, ap, ◌∙◌, subst, arith}
 use Rattle.std.specs.Prelude.{MatchResult, is_some, slice_get}
@@ -17,8 +17,9 @@ use Rattle.jpeg_bits.specs.declared.error.Error.{Error}
 use Rattle.jpeg_bits.specs.declared.error.Error.TheVariants as errors
 use Rattle.jpeg_bits.specs.declared.marker.Marker.{Marker}
 use Rattle.jpeg_bits.proofs.EndLemmas.{placed}
-use Rattle.jpeg_bits.proofs.TakenTexts.{Taken, TakesBits, bind-takes, block-takes, gives-takes}
+use Rattle.jpeg_bits.proofs.TakenTexts.{Taken, TakesBits}
 use Rattle.jpeg_bits.proofs.TakenTexts.Taken.{gave, failed}
+use Rattle.jpeg_streams.proofs.ReachedIntervals.{turn-takes}
 use Rattle.jpeg_streams.specs.Brought.{reached_from}
 use Rattle.jpeg_streams.specs.InTurn.{Reached, turn_from}
 use Rattle.jpeg_streams.specs.Order.{Spot}
@@ -31,10 +32,6 @@ use Rattle.jpeg_decoder.specs.Walk.{NextSpot}
 use Rattle.jpeg_decoder.specs.declared.scan.spots.Spot as taken
 use Rattle.jpeg_decoder.proofs.BlockArrays.{Held, seen, seen-is, with_block}
 use Rattle.jpeg_decoder.proofs.KeptScans.{kept_reached, kept_read}
-
-pub turn-takes : (p : Pass) (vias : List Via) (s : Spot) (old : Reached) → TakesBits (turn_from p vias s old)
-unfolding turn_from
-turn-takes p vias s old = search (rules, bind-takes, block-takes, gives-takes)
 
 -- what is reached, the bits that are left or the fault, and the first block that isn't read
 abbrev pub Read : Type 0

@@ -31,6 +31,7 @@ use Rattle.jpeg_streams.specs.ScanSegments.{with_arrays, with_blocks, vias_from}
 use Rattle.jpeg_streams.specs.Found.{Found}
 use Rattle.jpeg_decoder.specs.Strips.{planes_by, planes_at}
 use Rattle.jpeg_streams.proofs.Apart.{At, zeros-sized, get-at}
+use Rattle.jpeg_streams.proofs.BroughtLevels.{sequential-arrays}
 use Rattle.jpeg_decoder.proofs.BlocksBefore.{plane_by-length}
 use Rattle.jpeg_decoder.proofs.PlacedCodings.{coded-components}
 use Rattle.jpeg_decoder.proofs.BlockArrays.{Held}
@@ -105,11 +106,6 @@ data-is : (f : Found) (frame : Frame) (p : Pass) (codings : List Coding) (bytes 
 unfolding scan_data
 data-is f frame p codings bytes = refl
 
-pub before-sequential : (f : Found) (frame : Frame) → is_progressive frame.process ≡ false
-    → arrays_before f frame ≡ zero_arrays frame.components
-unfolding arrays_before
-before-sequential f frame e = rw e refl
-
 -- what was found, with other blocks
 pub same-found : (f : Found) (one : Decoded) (kept : Arrays)
     → one.finished ≡ f.finished → one.planes ≡ f.planes → planes_in one.samples ≡ f.samples
@@ -160,7 +156,7 @@ planes_after codings r = Ok ((planes_by codings r.0.0, r.0.1), r.1)
 zeros-read : (f : Found) (frame : Frame) (codings : List Coding) → is_progressive frame.process ≡ false
     → AllByRecursion (IsOf frame) codings
     → blocks_at codings (arrays_before f frame) ≡ zero_arrays (components_of codings)
-zeros-read f frame codings e of = ap (blocks_at codings) (before-sequential f frame e) ∙ zeros-of frame codings of
+zeros-read f frame codings e of = ap (blocks_at codings) (sequential-arrays f frame e) ∙ zeros-of frame codings of
 
 planes-are : (n : ℕ) (frame : Frame) (p : Pass) (codings : List Coding) (vias : List Via) (bytes : List ℕ)
     → planes_at p n vias frame codings bytes

@@ -51,9 +51,6 @@ walk-whole (suc turns) before found met bytes rest e =
     turn-whole turns rest b.0 (rows_of_turn found met bytes) b.1
     (λ x h. walk-whole turns x.0.before x.0.found x.0.met x.1 rest h) e
 
-abbrev Walked : Type 0
-Walked = Found × Result (List ℕ) Fault
-
 rest-whole : (settings : Settings) (bytes : List ℕ) (s : Shown) (frame : Frame)
     → shown_rest settings nothing_found bytes ≡ Ok s → s.fault ≡ None → s.told.frame ≡ Some frame
     → whole_rows_rest nothing_found bytes ≡ frame.output_height

@@ -1,30 +1,23 @@
 -- A scan that is cut inside its data brings an image of which each block was sent at the levels that it has.
-use Rattle.std.proofs.Common.{◌≡◌, ◌⊎◌, inl, inr, ℕ, zero, suc, ◌+◌, ◌*◌, ◌/◌, ◌%◌, Bool, true, false, List, [], ◌∷◌}
-use Rattle.std.proofs.Common.{length, get_or, slice_get, slice_index_or, Option, Some, None, Ok, refl, sym, ap, ap₂}
-use Rattle.std.proofs.Common.{◌∙◌, subst, arith, true≢false}
+use Rattle.std.proofs.Common.{◌≡◌, ◌⊎◌, inl, inr, ℕ, zero, suc, ◌+◌, ◌*◌, ◌/◌, ◌%◌, true, List, [], ◌∷◌, length}
+use Rattle.std.proofs.Common.{get_or, slice_get, Option, Some, None, refl, sym, ap, ap₂, ◌∙◌, subst}
 use Rattle.std.specs.List.{AllByRecursion}
 use Rattle.std.proofs.lemmas.Nat.{div-add-mod'}
 use Rattle.jpeg_bits.specs.Passes.{Block, Pass, whole_pass, zero_block}
-use Rattle.jpeg_bits.specs.Codes.{IsTable}
 use Rattle.jpeg_segments.specs.Frame.{Component, Frame}
 use Rattle.jpeg_segments.specs.ScanHeader.{Scan}
 use Rattle.jpeg_streams.specs.Found.{Found, Said}
 use Rattle.jpeg_streams.specs.InTurn.{IsIn}
-use Rattle.jpeg_streams.specs.Levels.{Is8Bit, IsLegal, Levels, cut, nothing_sent, sent_after}
+use Rattle.jpeg_streams.specs.Levels.{IsLegal, Levels, cut, nothing_sent, sent_after}
 use Rattle.jpeg_streams.specs.Order.{Spot, grid_of}
 use Rattle.jpeg_streams.specs.Scans.{Arrays, block_at}
-use Rattle.jpeg_streams.specs.ScanSegments.{Coding, after_scan, arrays_before, blocks_after, codings_of, is_progressive}
-use Rattle.jpeg_streams.specs.ScanSegments.{pass_of, put_arrays}
-use Rattle.jpeg_streams.proofs.WrittenPictures.{Progress}
-use Rattle.jpeg_streams.specs.WrittenScans.{WritesScan, Coefficients, IsLegalScan, IsOwn, levels_after, levels_of_one}
+use Rattle.jpeg_streams.specs.ScanSegments.{Coding, after_scan, arrays_before, is_progressive, pass_of}
+use Rattle.jpeg_streams.specs.WrittenScans.{Coefficients, IsOwn, levels_after, levels_of_one}
 use Rattle.jpeg_streams.proofs.Apart.{At, at-all, at-got, at-one, get-at}
-use Rattle.jpeg_streams.proofs.BroughtLevels.{AllDone, AllKept, Brought, Framed, Marked, PassSo, PlaneSo}
-use Rattle.jpeg_streams.proofs.BroughtLevels.{ScanFacts, Shaped, after-fresh, after-length, band-so, blocks-after, brings}
-use Rattle.jpeg_streams.proofs.BroughtLevels.{eqb_cases, indices_of, kept-arrays, one-other, one-same}
-use Rattle.jpeg_streams.proofs.BroughtLevels.{progressive, reading, sequential}
-use Rattle.jpeg_streams.proofs.CodingsInForce.{codings-found}
+use Rattle.jpeg_streams.proofs.BroughtLevels.{AfterScan, AllDone, AllKept, Framed, KnownScan, Marked, PlaneSo}
+use Rattle.jpeg_streams.proofs.BroughtLevels.{Progress, after-brings, after-length, all-done, apart, eqb_cases, facts}
+use Rattle.jpeg_streams.proofs.BroughtLevels.{indices_of, is-legal, one-other, one-same, reading}
 use Rattle.jpeg_streams.proofs.OwnSpots.{AreApart, IsAbsent}
-use Rattle.jpeg_streams.proofs.ReadTurns.{codings-each, codings-indices}
 use Rattle.jpeg_streams.proofs.WrittenFrameScans.{HoldsOwn}
 use Rattle.jpeg_evidence.specs.CutImages.{HasBlock}
 use Rattle.jpeg_evidence.proofs.TakenBits.{none-is, some-is}
@@ -160,21 +153,12 @@ levels-in p (c ∷ ks) levels (suc j) k a t =
     levels-in p ks (levels_of_one p c.index levels) j k a.1 t
     ∙ ap (sent_after p) (one-other p c.index k.index levels (λ e. absent-at ks c.index j k a.0 t (sym e)))
 
-pub scan-apart : (said : Said) (f : Frame) (s : Scan) (codings : List Coding) → ScanFacts f s
-    → codings_of said f s ≡ Ok codings → AreApart (indices_of codings)
-scan-apart said f s codings facts e =
-    subst AreApart (sym (codings-indices said f s codings facts.dc_length facts.ac_length e)) facts.apart
-
 -- the levels of a component of which every bit was sent in one scan
 abbrev pub all_sent : Levels
 all_sent = sent_after whole_pass nothing_sent
 
 abbrev pub NoneOrAll : Levels → Type 0
 NoneOrAll l = (l ≡ nothing_sent) ⊎ (l ≡ all_sent)
-
-some-none : (l : Levels) → l ≡ all_sent → l.dc ≡ None → ⊥
-some-none l e n =
-    let s : ◌≡◌ {A = Option ℕ} (Some 0) None = sym (ap (λ (x : Levels). x.dc) e) ∙ n in absurd (let z : ⊥ = cc in z)
 
 -- A scan of a sequential frame sends all of its components, or none of them.
 pub whole-after : (p : Pass) (codings : List Coding) (levels : ℕ → Levels) → p ≡ whole_pass
@@ -184,7 +168,7 @@ whole-after p codings levels q apart legal u k = go (in-scan codings k)
   where
     sent : (l : Levels) → IsLegal whole_pass l → NoneOrAll l → NoneOrAll (sent_after whole_pass l)
     sent l is (inl e) = inr (ap (sent_after whole_pass) e)
-    sent l is (inr e) = absurd (some-none l e (is.dc_unsent refl refl))
+    sent l is (inr e) = absurd (none-is 0 (sym (is.dc_unsent refl refl) ∙ ap (λ (x : Levels). x.dc) e))
 
     go : InScan codings k ⊎ IsAbsent k (indices_of codings) → NoneOrAll (levels_after p (indices_of codings) levels k)
     go (inl r) =
@@ -197,43 +181,6 @@ whole-after p codings levels q apart legal u k = go (in-scan codings k)
     go (inr a) = subst NoneOrAll (sym (levels-absent p codings levels k a)) (u k)
 
 -- ---- after the scan
-
--- a coding is of a component of the frame, with its quantization table
-pub record CodingFacts (w : Said) (frame : Frame) (k : Coding) : Type 0 where
-  pub at : At k.index frame.components k.component
-  table : slice_index_or w.quantization k.component.factors.quantization None ≡ Some k.quantization
-
-pub coding-facts : (w : Said) (f : Frame) (s : Scan) (codings : List Coding) → codings_of w f s ≡ Ok codings
-    → AllByRecursion (CodingFacts w f) codings
-coding-facts w f s codings found = codings-each (CodingFacts w f) w f s codings found (λ index d a k is. record {
-  at = get-at k.index f.components k.component is.component;
-  table = is.quantization;
-})
-
-all-done : (w : Said) (f : Frame) (p : Pass) (array : Coefficients) (levels : ℕ → Levels) (codings : List Coding)
-    (arrays : Arrays) → length arrays ≡ length codings
-    → ((k : Coding) (j : ℕ) → At j codings k → HoldsOwn (grid_of k.component) (array k.index)
-    (sent_after p (levels k.index)) (get_or arrays j [])) → AllByRecursion (CodingFacts w f) codings
-    → AllByRecursion (λ c. IsLegal p (levels c.index)) codings → ((k : ℕ) → length (levels k).acs ≡ 63)
-    → AllDone w f p array levels codings arrays
-all-done w f p array levels [] [] n holds facts legal sized = tt
-all-done w f p array levels (k ∷ codings) (b ∷ arrays) n holds facts legal sized = (
-  record {
-    at = facts.0.at;
-    table = facts.0.table;
-    legal = legal.0;
-    sized = sized k.index;
-    holds = holds k 0 refl;
-  },
-  all-done w f p array levels codings arrays (omega arith) (λ c j t. holds c (suc j) t) facts.1 legal.1 sized,
-)
-all-done w f p array levels [] (b ∷ arrays) n holds facts legal sized = absurd (omega arith)
-all-done w f p array levels (k ∷ codings) [] n holds facts legal sized = absurd (omega arith)
-
-blocks-after_is : (found : Found) (f : Frame) (codings : List Coding) (arrays : Arrays)
-    → is_progressive f.process ≡ true
-    → blocks_after found f codings arrays ≡ put_arrays codings arrays (arrays_before found f)
-blocks-after_is found f codings arrays e = rw (e, blocks_after) refl
 
 -- The own blocks of a scan's components are those of the array: at the levels after the scan where they stand at one
 -- of these spots, and else at those before it.
@@ -249,46 +196,19 @@ pub record HasOwn (p : Pass) (array : Coefficients) (levels : ℕ → Levels) (c
       → block_at arrays x ≡ cut (levels k.index)
       (array k.index (x.index / k.component.blocks_wide) (x.index % k.component.blocks_wide))
 
--- What is found after a scan of which some blocks are there.
-pub record AfterCut (w : Said) (f : Frame) (array : Coefficients) (next : ℕ → Levels) (found : Found) : Type 0 where
-  pub kept : Arrays
-  pub finished : List (List Bool)
-  pub planes : List (Option (List ℕ))
-  pub after : found ≡ reading w true kept finished planes
-  pub framed : Framed w f array next true kept finished planes
-
 -- A cut scan brings an image with the blocks that are there at the levels after it, and the others at those before it.
 pub record CutScan (w : Said) (f : Frame) (array : Coefficients) (levels next : ℕ → Levels) (codings : List Coding)
     (done : List Spot) (found : Found) : Type 0 where
   pub image : Coefficients
-  pub after : AfterCut w f image next found
+  pub after : AfterScan w f image next found
   pub counts : (index row column : ℕ) → length (image index row column).acs ≡ 63
   pub there : (index row column : ℕ) → HasBlock codings done index row column
       → cut (next index) (image index row column) ≡ cut (next index) (array index row column)
   pub away : (index row column : ℕ) → (HasBlock codings done index row column → ⊥)
       → cut (next index) (image index row column) ≡ cut (levels index) (array index row column)
 
--- What is known of a written scan of a frame, of which so much was said, sent and brought before it.
-pub record KnownScan (w : Said) (f : Frame) (array : Coefficients) (levels : ℕ → Levels) (progress : Progress)
-    (s : Scan) (codings : List Coding) (bytes : List ℕ) : Type 0 where
-  pub range : (index row column : ℕ) → Is8Bit (array index row column)
-  pub shape : Shaped f
-  pub framed : Framed w f array levels w.scanned progress.0 progress.1 progress.2
-  pub says : ScanFacts f s
-  pub exist : AllByRecursion (λ c. IsTable c.dc × IsTable c.ac) codings
-  pub legal : IsLegalScan w f levels s codings
-  pub written : WritesScan f w.restart (pass_of s) codings array bytes
-
 module _ {w : Said} {f : Frame} {array : Coefficients} {levels : ℕ → Levels} {progress : Progress} {s : Scan}
-    {codings : List Coding} {bytes : List ℕ} (known : KnownScan w f array levels progress s codings bytes) where
-  pub found_codings : codings_of w f s ≡ Ok codings
-  found_codings = codings-found w f s codings known.legal.are_in_force
-
-  pub is-legal : (k : Coding) (j : ℕ) → At j codings k → IsLegal (pass_of s) (levels k.index)
-  is-legal k j t = at-all (λ (c : Coding). IsLegal (pass_of s) (levels c.index)) j codings k known.legal.legal t
-
-module _ {w : Said} {f : Frame} {array : Coefficients} {levels : ℕ → Levels} {progress : Progress} {s : Scan}
-    {codings : List Coding} {bytes : List ℕ} (known : KnownScan w f array levels progress s codings bytes)
+    {codings : List Coding} {bytes : List ℕ} (known : KnownScan w f array levels w.scanned progress s codings bytes)
     (done : List Spot) (arrays : Arrays) (own : HasOwn (pass_of s) array levels codings done arrays) where
   abbrev now : Found
   now = reading w w.scanned progress.0 progress.1 progress.2
@@ -299,9 +219,6 @@ module _ {w : Said} {f : Frame} {array : Coefficients} {levels : ℕ → Levels}
   abbrev next : ℕ → Levels
   next = levels_after p (indices_of codings) levels
 
-  apart : AreApart (indices_of codings)
-  apart = scan-apart w f s codings known.says (found_codings known)
-
   -- the levels after the scan are later
   pub are-later : (index : ℕ) → AreLater (levels index) (next index)
   are-later index = go (in-scan codings index)
@@ -309,7 +226,7 @@ module _ {w : Said} {f : Frame} {array : Coefficients} {levels : ℕ → Levels}
       go : InScan codings index ⊎ IsAbsent index (indices_of codings) → AreLater (levels index) (next index)
       go (inl r) =
           subst (λ (i : ℕ). AreLater (levels i) (next i)) r.3
-          (subst (AreLater (levels r.1.index)) (sym (levels-in p codings levels r.0 r.1 apart r.2))
+          (subst (AreLater (levels r.1.index)) (sym (levels-in p codings levels r.0 r.1 (apart known) r.2))
           (later-sent p (levels r.1.index) (is-legal known r.1 r.0 r.2)))
       go (inr a) = subst (AreLater (levels index)) (sym (levels-absent p codings levels index a))
           (later-themselves (levels index))
@@ -381,6 +298,14 @@ module _ {w : Said} {f : Frame} {array : Coefficients} {levels : ℕ → Levels}
     each = λ k c t. own-before k c (get_or (arrays_before now f) k []) ((known.framed.kept e).each k c t);
   }
 
+  framed-before : Framed w f cut_array levels w.scanned progress.0 progress.1 progress.2
+  framed-before = record {
+    marked = marked;
+    sized = known.framed.sized;
+    kept = kept-before;
+    fresh = known.framed.fresh;
+  }
+
   -- the spot of an own block
   at_spot : (k : Coding) (j i : ℕ) → At j codings k
       → HasBlock codings done k.index (i / k.component.blocks_wide) (i % k.component.blocks_wide)
@@ -388,7 +313,7 @@ module _ {w : Said} {f : Frame} {array : Coefficients} {levels : ℕ → Levels}
   at_spot k j i t b =
       let wide = k.component.blocks_wide in
       let there = get-at b.spot.slot codings b.coding b.is_coded in
-      let slot : b.spot.slot ≡ j = slots-same codings b.spot.slot j b.coding k apart there t b.is_of in
+      let slot : b.spot.slot ≡ j = slots-same codings b.spot.slot j b.coding k (apart known) there t b.is_of in
       let same : b.coding ≡ k = at-one j codings b.coding k (subst (λ (n : ℕ). At n codings b.coding) slot there) t in
       let row = subst (λ (c : Coding). b.spot.index / c.component.blocks_wide ≡ i / wide) same b.in_row in
       let column = subst (λ (c : Coding). b.spot.index % c.component.blocks_wide ≡ i % wide) same b.in_column in
@@ -414,7 +339,7 @@ module _ {w : Said} {f : Frame} {array : Coefficients} {levels : ℕ → Levels}
           let l = sent_after p (levels k.index) in
           own.sent k (record { slot = j; index = i }) t o (at_spot k j i t h)
           ∙ sym (cut-later l l c (later-themselves l))
-          ∙ ap (λ (m : Levels). cut l (cut m c)) (sym (levels-in p codings levels j k apart t))
+          ∙ ap (λ (m : Levels). cut l (cut m c)) (sym (levels-in p codings levels j k (apart known) t))
       each_at i o (inr n) =
           let c = array k.index (i / k.component.blocks_wide) (i % k.component.blocks_wide) in
           own.kept k (record { slot = j; index = i }) t o (λ here. n (record {
@@ -431,40 +356,7 @@ module _ {w : Said} {f : Frame} {array : Coefficients} {levels : ℕ → Levels}
 
   all : AllDone w f p cut_array levels codings arrays
   all = all-done w f p cut_array levels codings arrays own.count holds-after
-      (coding-facts w f s codings (found_codings known)) known.legal.legal known.framed.sized
-
-  abbrev after_kept : Arrays
-  after_kept = blocks_after now f codings arrays
-
-  brought : Brought w f p cut_array levels codings arrays true after_kept progress.1 progress.2
-  brought = brings w f p cut_array levels codings arrays true after_kept progress.1 progress.2 known.shape.few
-      (band-so f s known.says.so) apart all marked
-
-  fresh-after : PassSo f s → is_progressive f.process ≡ false → (k : ℕ) → (next k).dc ≡ None → next k ≡ nothing_sent
-  fresh-after (sequential e q) g k n = after-fresh p (indices_of codings) levels q (known.framed.fresh g) k n
-  fresh-after (progressive e d a lt le) g k n = absurd (true≢false (sym e ∙ g))
-
-  kept-now : is_progressive f.process ≡ true
-      → AllKept f cut_array next (arrays_before (reading w true after_kept brought.finished brought.planes) f)
-  kept-now e =
-      rw (sym (kept-arrays w after_kept brought.finished brought.planes f e ∙ blocks-after_is now f codings arrays e)) at
-      (blocks-after w f p cut_array levels codings arrays (arrays_before now f) apart all (kept-before e))
-
-  -- The cut scan brings this image at the levels after it.
-  pub after-cut : AfterCut w f cut_array next (after_scan now f s codings arrays)
-  unfolding after_scan
-  after-cut = record {
-    kept = after_kept;
-    finished = brought.finished;
-    planes = brought.planes;
-    after = brought.is;
-    framed = record {
-      marked = brought.marked;
-      sized = after-length p (indices_of codings) levels known.framed.sized;
-      kept = kept-now;
-      fresh = fresh-after known.says.so;
-    };
-  }
+      (facts known) known.legal.legal known.framed.sized
 
   counts-after : (index row column : ℕ) → length (cut_array index row column).acs ≡ 63
   counts-after index row column =
@@ -497,7 +389,8 @@ module _ {w : Said} {f : Frame} {array : Coefficients} {levels : ℕ → Levels}
   pub cut-scan : CutScan w f array levels next codings done (after_scan now f s codings arrays)
   cut-scan = record {
     image = cut_array;
-    after = after-cut;
+    after = after-brings w f cut_array levels w.scanned progress s codings arrays known.shape framed-before
+        known.says.so (apart known) all;
     counts = counts-after;
     there = is-there;
     away = is-away;

@@ -1,7 +1,6 @@
 -- Where all data of a scan are there, and of the marker after them some bytes FF alone, all its blocks are reached.
-use Rattle.std.proofs.Common.{◌≡◌, ◌⊎◌, inl, inr, ◌+◌, ◌%◌, ℕ, zero, suc, Bool, List, [], ◌∷◌, ◌++◌}
-use Rattle.std.proofs.Common.{length, map, get_or, set, replicate, refl, sym, ap, ap₂, ◌∙◌, subst}
-use Rattle.std.proofs.Common.{Option, append_assoc, append-nil, length-set, get_or-set_other}
+use Rattle.std.proofs.Common.{◌≡◌, ◌+◌, ◌%◌, ℕ, zero, suc, Bool, List, [], ◌∷◌, ◌++◌, length, map, get_or, replicate}
+use Rattle.std.proofs.Common.{refl, sym, ap, ap₂, ◌∙◌, subst, Option, append_assoc, append-nil, length-set}
 use Rattle.std.specs.List.{AllByRecursion}
 use Rattle.jpeg_bits.specs.Reading.{End, Outcome}
 use Rattle.jpeg_bits.specs.Entropy.{Broken, Ending, Text, ending_at, no_bits, text_at}
@@ -16,11 +15,10 @@ use Rattle.jpeg_bits.proofs.WrittenIntervals.{all-groups, marker-append}
 use Rattle.jpeg_streams.specs.Brought.{interval_reached, intervals_reached, scan_reached}
 use Rattle.jpeg_streams.specs.InTurn.{AreApart, IsIn}
 use Rattle.jpeg_streams.specs.Order.{Spot}
-use Rattle.jpeg_streams.specs.Scans.{Arrays, put_block, turns_of}
+use Rattle.jpeg_streams.specs.Scans.{Arrays, put_block, put_blocks, turns_of}
 use Rattle.jpeg_streams.specs.WrittenData.{WritesBlocks}
-use Rattle.jpeg_streams.proofs.BroughtLevels.{eqb_cases}
 use Rattle.jpeg_streams.proofs.CountedScans.{all_of, apart-back, apart-front, in-front}
-use Rattle.jpeg_streams.proofs.WrittenFrameScans.{IsReadyAt, all-in}
+use Rattle.jpeg_streams.proofs.WrittenFrameScans.{IsReadyAt, all-in, put-size}
 use Rattle.jpeg_evidence.specs.LongerStreams.{Puts, finished, put}
 use Rattle.jpeg_evidence.proofs.LongerData.{Met}
 use Rattle.jpeg_evidence.proofs.StuffedTexts.{stuffed-begins}
@@ -28,32 +26,6 @@ use Rattle.jpeg_evidence.proofs.WrittenCuts.{after_blocks, groups-coded, interva
 use Rattle.jpeg_evidence.proofs.WrittenCuts.{rst-marker, sealed_read, stays-ready, takes-sealed}
 
 -- ---- sizes
-
-set-either : {A : Type 0} (xs : List A) (i : ℕ) (x d : A)
-    → (get_or (set xs i x) i d ≡ x) ⊎ (get_or (set xs i x) i d ≡ get_or xs i d)
-set-either [] i x d = inr refl
-set-either (y ∷ xs) zero x d = inl refl
-set-either (y ∷ xs) (suc i) x d = set-either xs i x d
-
--- a block that is put changes no size
-put-size : (s : Spot) (b : Block) (arrays : Arrays) (slot : ℕ)
-    → length (get_or (put_block s b arrays) slot []) ≡ length (get_or arrays slot [])
-put-size s b arrays slot = go (eqb_cases slot s.slot)
-  where
-    at_own : (get_or (put_block s b arrays) s.slot [] ≡ set (get_or arrays s.slot []) s.index b)
-        ⊎ (get_or (put_block s b arrays) s.slot [] ≡ get_or arrays s.slot [])
-        → length (get_or (put_block s b arrays) s.slot []) ≡ length (get_or arrays s.slot [])
-    at_own (inl e) = ap (λ (l : List Block). length l) e ∙ length-set (get_or arrays s.slot []) s.index b
-    at_own (inr e) = ap (λ (l : List Block). length l) e
-
-    go : (slot ≡ s.slot) ⊎ ((slot ≡ s.slot) → ⊥)
-        → length (get_or (put_block s b arrays) slot []) ≡ length (get_or arrays slot [])
-    go (inl e) =
-        subst (λ (n : ℕ). length (get_or (put_block s b arrays) n []) ≡ length (get_or arrays n [])) (sym e)
-        (at_own (set-either arrays s.slot (set (get_or arrays s.slot []) s.index b) []))
-    go (inr n) =
-        ap (λ (l : List Block). length l)
-        (get_or-set_other arrays s.slot slot (set (get_or arrays s.slot []) s.index b) [] n)
 
 pub puts-count : (spots : List Spot) (before after : Arrays) → Puts spots before after
     → length after ≡ length before
@@ -63,9 +35,10 @@ puts-count spots before after (put s more b old new p) =
 
 pub puts-size : (spots : List Spot) (before after : Arrays) → Puts spots before after → (slot : ℕ)
     → length (get_or after slot []) ≡ length (get_or before slot [])
+unfolding put_blocks
 puts-size spots before after (finished arrays) slot = refl
 puts-size spots before after (put s more b old new p) slot =
-    puts-size more (put_block s b before) after p slot ∙ put-size s b before slot
+    puts-size more (put_block s b before) after p slot ∙ put-size (λ x. b) slot (s ∷ []) before
 
 -- ---- the text
 

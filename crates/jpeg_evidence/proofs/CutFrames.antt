@@ -1,8 +1,8 @@
 -- The beginning of the data of a scan of an image has the own blocks of its components at the levels after the scan, as
 -- far as it has them wholly, and all others at the levels before it.
-use Rattle.std.proofs.Common.{◌≡◌, ◌⊎◌, inl, inr, ◌*◌, ◌/◌, ◌%◌, ◌≤◌, ℕ, zero, suc, Bool, true, false, List, [], ◌∷◌}
-use Rattle.std.proofs.Common.{◌++◌, Err, append_assoc, length-append, length, map, get_or, slice_get, Option, Some}
-use Rattle.std.proofs.Common.{None, Ok, refl, sym, ap, ◌∙◌, subst, arith, ap₂, ◌<◌, replicate}
+use Rattle.std.proofs.Common.{◌≡◌, ◌⊎◌, inl, inr, ◌*◌, ◌/◌, ◌%◌, ℕ, zero, suc, Bool, true, false, List, [], ◌∷◌, ◌++◌}
+use Rattle.std.proofs.Common.{Err, append_assoc, length-append, length, map, get_or, slice_get, Option, Some, None}
+use Rattle.std.proofs.Common.{Ok, refl, sym, ap, ◌∙◌, subst, arith, ap₂, ◌<◌, replicate}
 use Rattle.std.specs.List.{AllByRecursion}
 use Rattle.std.proofs.lemmas.List.{length-replicate}
 use Rattle.std.proofs.lemmas.Option.{slice_get_past}
@@ -20,21 +20,21 @@ use Rattle.jpeg_streams.specs.Found.{Found, Said}
 use Rattle.jpeg_streams.specs.InTurn.{AreApart, AreArrays, Fits, IsIn}
 use Rattle.jpeg_streams.specs.Levels.{Levels, cut, nothing_sent, numbers_at, sent_after}
 use Rattle.jpeg_streams.specs.Order.{Spot, grid_of, mcu_size, own_spots, spots_of}
-use Rattle.jpeg_streams.specs.Scans.{Arrays, block_at, zero_arrays}
+use Rattle.jpeg_streams.specs.Scans.{Arrays, block_at}
 use Rattle.jpeg_streams.specs.ScanSegments.{Coding, arrays_before, components_of, is_progressive, pass_of}
 use Rattle.jpeg_streams.specs.ScanSegments.{after_restarts, scan_arrays, vias_from}
 use Rattle.jpeg_streams.specs.WholeRows.{unread_of_scan}
 use Rattle.jpeg_streams.specs.WrittenScans.{Coefficients, IsOwn}
-use Rattle.jpeg_streams.proofs.Apart.{At, at-all, at-got, get-at, spots-apart}
-use Rattle.jpeg_streams.proofs.BroughtLevels.{PassSo, Scanned, Shaped, progressive, reading, scan-brings, sequential}
-use Rattle.jpeg_streams.proofs.BroughtLevels.{zero-at, zero-holds, zeros-everywhere}
+use Rattle.jpeg_streams.proofs.Apart.{At, at-got, get-at, spots-apart}
+use Rattle.jpeg_streams.proofs.BroughtLevels.{CodingFacts, KnownScan, PassSo, Progress, Scanned, Shaped, count, facts}
+use Rattle.jpeg_streams.proofs.BroughtLevels.{holds-now, is-legal, low, progressive, reading, scan-brings, sequential}
+use Rattle.jpeg_streams.proofs.BroughtLevels.{sequential-arrays, single, stands, unsent, zero-at, zeros-now}
 use Rattle.jpeg_streams.proofs.OwnSpots.{IsOwnSpot, own-only}
-use Rattle.jpeg_streams.proofs.ReadTurns.{codings-indices, ok-same}
-use Rattle.jpeg_streams.proofs.WrittenFrameScans.{HoldsOwn, IsReadyAt, array-at, in-all}
-use Rattle.jpeg_streams.proofs.WrittenPictures.{Progress}
+use Rattle.jpeg_streams.proofs.ReadTurns.{ok-same}
+use Rattle.jpeg_streams.proofs.WrittenFrameScans.{IsReadyAt, array-at, in-all, zeros-in}
 use Rattle.jpeg_evidence.specs.FirstBlocks.{IsMost, StandWhole}
 use Rattle.jpeg_evidence.specs.LongerStreams.{IsDcAlone, IsKeptBefore, arrays_of}
-use Rattle.jpeg_evidence.proofs.CutBlocks.{CodingFacts, HasOwn, KnownScan, coding-facts, found_codings, is-legal}
+use Rattle.jpeg_evidence.proofs.CutBlocks.{HasOwn}
 use Rattle.jpeg_evidence.proofs.CutEnds.{puts-count, puts-size, scan-filled}
 use Rattle.jpeg_evidence.proofs.LongerBlocks.{reached_are_read}
 use Rattle.jpeg_evidence.proofs.FirstWritten.{first_blocks_are_written}
@@ -71,32 +71,11 @@ unfolding AreArrays
 all-sized w f before [] sized h = tt
 all-sized w f before (k ∷ ks) sized h = (sized k.index k.component h.0.at, all-sized w f before ks sized h.1)
 
-zeros-in : (before : Arrays) (ks : List Coding) (slot index : ℕ)
-    → ((nth i : ℕ) → get_or (get_or before nth []) i zero_block ≡ zero_block)
-    → get_or (get_or (map (λ (c : Coding). get_or before c.index []) ks) slot []) index zero_block ≡ zero_block
-zeros-in before [] slot index z = refl
-zeros-in before (k ∷ ks) zero index z = z k.index index
-zeros-in before (k ∷ ks) (suc slot) index z = zeros-in before ks slot index z
-
-single : {A : Type 0} (xs : List A) → length xs ≡ 1 → (x : A) × (xs ≡ x ∷ [])
-single [] h = absurd (omega arith)
-single (x ∷ []) h = (x, refl)
-single (x ∷ y ∷ xs) h = absurd (omega arith)
-
-pub at-below : {A : Type 0} (k : ℕ) (xs : List A) → k < length xs → (x : A) × At k xs x
-at-below k [] lt = absurd (omega arith)
-at-below zero (x ∷ xs) lt = (x, refl)
-at-below (suc k) (x ∷ xs) lt = at-below k xs (omega arith)
-
-zeros-before : (found : Found) (f : Frame) → is_progressive f.process ≡ false
-    → arrays_before found f ≡ zero_arrays f.components
-unfolding arrays_before
-zeros-before found f e = rw (e, arrays_before) refl
-
 -- ---- a scan of a frame
 
 module _ {w : Said} {f : Frame} {array : Coefficients} {levels : ℕ → Levels} {progress : Progress} {s : Scan}
-    {codings : List Coding} {bytes : List ℕ} (known : KnownScan w f array levels progress s codings bytes) where
+    {codings : List Coding} {bytes : List ℕ}
+    (known : KnownScan w f array levels w.scanned progress s codings bytes) where
   abbrev now : Found
   now = reading w w.scanned progress.0 progress.1 progress.2
 
@@ -116,34 +95,7 @@ module _ {w : Said} {f : Frame} {array : Coefficients} {levels : ℕ → Levels}
 
   -- the whole scan
   abbrev pub scanned : Scanned w f array levels w.scanned progress.0 progress.1 progress.2 s codings bytes
-  scanned =
-      scan-brings w f array levels w.scanned progress.0 progress.1 progress.2 s codings bytes known.range known.shape
-      known.framed known.says known.exist known.legal known.written
-
-  stand : AllByRecursion (CodingFacts w f) codings
-  stand = coding-facts w f s codings (found_codings known)
-
-  pub stands : (k : Coding) (j : ℕ) → At j codings k → At k.index f.components k.component
-  stands k j t = (at-all (CodingFacts w f) j codings k stand t).at
-
-  count : length codings ≡ length s.components
-  count = sym (length-map codings (λ (c : Coding). c.index))
-      ∙ ap (λ (l : List ℕ). length l)
-      (codings-indices w f s codings known.says.dc_length known.says.ac_length (found_codings known))
-
-  low : p.al ≤ 7
-  low =
-      let some = known.says.some in
-      let c = count in
-      let x = at-below 0 codings (omega arith) in
-      (is-legal known x.0 0 x.1).low
-
-  -- nothing was sent of the components of a sequential scan
-  unsent : is_progressive f.process ≡ false → p ≡ whole_pass → (k : Coding) (j : ℕ) → At j codings k
-      → levels k.index ≡ nothing_sent
-  unsent e q k j t =
-      known.framed.fresh e k.index
-      ((is-legal known k j t).dc_unsent (ap (λ (x : Pass). x.ss) q) (ap (λ (x : Pass). x.is_first) q))
+  scanned = scan-brings known
 
   unsent-at : is_progressive f.process ≡ false → p ≡ whole_pass → (x : Spot)
       → levels_at codings levels x ≡ nothing_sent
@@ -151,15 +103,7 @@ module _ {w : Said} {f : Frame} {array : Coefficients} {levels : ℕ → Levels}
     where
       go : (o : Option Coding) → slice_get codings x.slot ≡ o → levels_in levels o ≡ nothing_sent
       go None a = refl
-      go (Some k) a = unsent e q k x.slot (get-at x.slot codings k a)
-
-  holds-now : PassSo f s → (k : Coding) (j : ℕ) → At j codings k
-      → HoldsOwn (grid_of k.component) (array k.index) (levels k.index) (get_or (arrays_before now f) k.index [])
-  holds-now (sequential e q) k j t =
-      rw (zeros-before now f e)
-      (rw (unsent e q k j t) (rw (zero-at f.components k.index k.component (stands k j t))
-      (zero-holds (array k.index) k.component (known.range k.index))))
-  holds-now (progressive e d a lt le) k j t = (known.framed.kept e).each k.index k.component (stands k j t)
+      go (Some k) a = unsent known e q k x.slot (get-at x.slot codings k a)
 
   pub size-now : (k : ℕ) (c : Component) → At k f.components c
       → length (get_or (arrays_before now f) k []) ≡ c.blocks_high * c.blocks_wide
@@ -169,7 +113,7 @@ module _ {w : Said} {f : Frame} {array : Coefficients} {levels : ℕ → Levels}
           → length (get_or (arrays_before now f) k []) ≡ c.blocks_high * c.blocks_wide
       go true e = ((known.framed.kept e).each k c t).sized
       go false e =
-          ap (λ (a : Arrays). length (get_or a k [])) (zeros-before now f e)
+          ap (λ (a : Arrays). length (get_or a k [])) (sequential-arrays now f e)
           ∙ ap (λ (l : List Block). length l) (zero-at f.components k c t)
           ∙ length-replicate (c.blocks_high * c.blocks_wide) zero_block
 
@@ -179,7 +123,7 @@ module _ {w : Said} {f : Frame} {array : Coefficients} {levels : ℕ → Levels}
       (array k.index (x.index / k.component.blocks_wide) (x.index % k.component.blocks_wide))
   kept-own k x t own =
       ap (λ (l : List Block). get_or l x.index zero_block) (array-at (arrays_before now f) codings k x.slot t)
-      ∙ (holds-now known.says.so k x.slot t).each x.index own
+      ∙ (holds-now known known.says.so k x.slot t).each x.index own
 
   sent-own : (k : Coding) (x : Spot) → At x.slot codings k → IsOwn (grid_of k.component) x.index
       → known.written.sent x ≡ array k.index (x.index / k.component.blocks_wide) (x.index % k.component.blocks_wide)
@@ -205,18 +149,17 @@ module _ {w : Said} {f : Frame} {array : Coefficients} {levels : ℕ → Levels}
   unfolding pass_of spots_of
   kept-at (sequential e q) x t =
       let zeros : block_at before x ≡ zero_block = zeros-in (arrays_before now f) codings x.slot x.index
-      (λ nth i. ap (λ (a : Arrays). get_or (get_or a nth []) i zero_block) (zeros-before now f e)
-      ∙ zeros-everywhere f.components nth i) in
+      (zeros-now known e) in
       inl (subst (λ (l : Levels). IsKeptBefore p l (known.written.sent x) (block_at before x)) (sym (unsent-at e q x))
       (subst (λ (b : Block). IsKeptBefore p nothing_sent (known.written.sent x) b) (sym zeros)
       (subst (λ (y : Pass). IsKeptBefore y nothing_sent (known.written.sent x) zero_block) (sym q)
       (sequential_levels (known.written.sent x) (known.written.in_range x)).0)))
-  kept-at (progressive e d (inl z) lt le) x t = inr (record { first = z; end = d z; low = low })
+  kept-at (progressive e d (inl z) lt le) x t = inr (record { first = z; end = d z; low = low known })
   kept-at (progressive e d (inr one) lt le) x t =
-      let k = single codings (count ∙ one) in
+      let k = single codings (count known ∙ one) in
       let first : At 0 codings k.0 = subst (λ (l : List Coding). At 0 l k.0) (sym k.1) refl in
       let g = grid_of k.0.component in
-      let fits = known.shape.fits k.0.index k.0.component (stands k.0 0 first) in
+      let fits = known.shape.fits k.0.index k.0.component (stands known k.0 0 first) in
       let here : IsIn x (own_spots g) = subst (λ (l : List Coding). IsIn x (spots_of f (components_of l))) k.1 t in
       let own = in-all (IsOwnSpot g) (own_spots g) x (own-only g fits.own_wide) here in
       inl (own-kept k.0 x (subst (λ (n : ℕ). At n codings k.0) (sym own.slot) first) own.own)
@@ -227,7 +170,8 @@ module _ {w : Said} {f : Frame} {array : Coefficients} {levels : ℕ → Levels}
       (levels_at codings levels) known.written.sent before (reached_of front).0
   scan-cut front more parts =
       cut_scans_have_what_was_sent f w.restart p codings array bytes known.written (levels_at codings levels) before
-      front more (all-fit w f codings known.shape stand) (all-sized w f (arrays_before now f) codings size-now stand)
+      front more (all-fit w f codings known.shape (facts known))
+      (all-sized w f (arrays_before now f) codings size-now (facts known))
       known.exist (kept-at known.says.so) parts
 
   -- an own block that the beginning has
@@ -252,7 +196,7 @@ module _ {w : Said} {f : Frame} {array : Coefficients} {levels : ℕ → Levels}
   -- ---- the whole scan
 
   apart : AreApart spots
-  apart = spots-apart f (components_of codings) (all-fit w f codings known.shape stand)
+  apart = spots-apart f (components_of codings) (all-fit w f codings known.shape (facts known))
 
   ready : (x : Spot) → IsIn x spots
       → IsReadyAt p (vias_from 0 codings) before (λ x. numbers_at p.al (known.written.sent x)) x
@@ -376,7 +320,7 @@ module _ {w : Said} {f : Frame} {array : Coefficients} {levels : ℕ → Levels}
         sized = λ k j t.
             puts-size on.done before reached on.puts j
             ∙ ap (λ (l : List Block). length l) (array-at (arrays_before now f) codings k j t)
-            ∙ size-now k.index k.component (stands k j t);
+            ∙ size-now k.index k.component (stands known k j t);
         sent = own-sent front more parts;
         kept = own-unsent front more parts;
       }

@@ -1,5 +1,5 @@
 -- Each beginning of a written image holds an image of which each block was sent at levels of its own.
-use Rattle.std.proofs.Common.{◌≡◌, ◌⊎◌, inl, inr, ℕ, zero, suc, true, false, List, [], ◌∷◌, ◌++◌, replicate, Some, None, Option, ◌<◌, length}
+use Rattle.std.proofs.Common.{◌≡◌, ◌⊎◌, inl, inr, ℕ, zero, suc, true, false, List, [], ◌∷◌, ◌++◌, replicate, Some, None, ◌<◌, length}
 use Rattle.std.proofs.Common.{Err, refl, sym, ap, ap₂, ◌∙◌, subst, true≢false}
 use Rattle.jpeg_bits.specs.Marker.{marker_of, next_marker}
 use Rattle.jpeg_bits.specs.Reading.{End}
@@ -17,7 +17,7 @@ use Rattle.jpeg_streams.specs.WrittenImages.{MayStandInImage, WritesImageScan}
 use Rattle.jpeg_streams.specs.WrittenScans.{Coefficients, levels_after}
 use Rattle.jpeg_streams.specs.WrittenStreams.{Writes, end, scan, segment}
 use Rattle.jpeg_streams.specs.declared.before.Before.{Before}
-use Rattle.jpeg_streams.proofs.BroughtLevels.{PassSo, indices_of, is_whole, progressive, sequential}
+use Rattle.jpeg_streams.proofs.BroughtLevels.{PassSo, indices_of, is_whole, progressive, scan-apart, sequential}
 use Rattle.jpeg_streams.proofs.CodingsInForce.{codings-found}
 use Rattle.jpeg_streams.proofs.DecodedHeaders.{decoded-accepted}
 use Rattle.jpeg_streams.proofs.FrameShapes.{accepted-facts, count-few}
@@ -27,12 +27,10 @@ use Rattle.jpeg_streams.proofs.WalkedStreams.{IsSaid, nothing-said, segment-said
 use Rattle.jpeg_streams.proofs.WrittenPictures.{IsDrawn, drawn-said, header-facts}
 use Rattle.jpeg_evidence.specs.CutImages.{WritesFront}
 use Rattle.jpeg_evidence.proofs.AllRows.{rows_on}
-use Rattle.jpeg_evidence.proofs.CutBlocks.{NoneOrAll, all_sent, scan-apart, whole-after}
+use Rattle.jpeg_evidence.proofs.CutBlocks.{NoneOrAll, all_sent, whole-after}
 use Rattle.jpeg_evidence.proofs.CutPictures.{AllOrNone}
 use Rattle.jpeg_evidence.proofs.LongerTurns.{walk_on}
-
-some-is : (f g : Frame) → ◌≡◌ {A = Option Frame} (Some f) (Some g) → f ≡ g
-some-is f g e = cc
+use Rattle.jpeg_evidence.proofs.TakenBits.{some-is}
 
 -- ---- beginnings of bytes
 

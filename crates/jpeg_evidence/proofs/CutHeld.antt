@@ -1,11 +1,11 @@
 -- Where a written image is cut, what was found holds an image of which each block was sent at levels of its own.
-use Rattle.std.proofs.Common.{◌≡◌, ℕ, suc, Bool, true, List, [], ◌++◌, length, replicate, Option, Some, None, Ok, Err}
-use Rattle.std.proofs.Common.{refl, sym, ap, ◌∙◌, subst, is_some}
+use Rattle.std.proofs.Common.{◌≡◌, ℕ, suc, true, List, [], ◌++◌, length, replicate, Option, Some, None, Ok, Err, refl}
+use Rattle.std.proofs.Common.{sym, ap, ◌∙◌, subst, is_some}
 use Rattle.std.specs.Prelude.{option_map, unwrap_or}
 use Rattle.jpeg_bits.specs.Reading.{Malformed, Outcome}
 use Rattle.jpeg_bits.specs.Written.{marker}
 use Rattle.jpeg_bits.specs.declared.marker.Marker.TheVariants.{EOI}
-use Rattle.jpeg_segments.specs.Frame.{Component, Frame}
+use Rattle.jpeg_segments.specs.Frame.{Frame}
 use Rattle.jpeg_segments.specs.ScanHeaders.{IsScan, ScanHeader, scan_payload, scan_written}
 use Rattle.jpeg_segments.specs.WrittenSegments.{Segment, marker_code, payload_of, with_length}
 use Rattle.jpeg_segments.proofs.Fields.{kept}
@@ -24,54 +24,25 @@ use Rattle.jpeg_streams.specs.WrittenScans.{Coefficients}
 use Rattle.jpeg_streams.specs.WrittenStreams.{end}
 use Rattle.jpeg_streams.specs.declared.before.Before.{Before}
 use Rattle.jpeg_streams.specs.declared.before.Before.TheVariants.{Elsewhere}
-use Rattle.jpeg_streams.proofs.BroughtLevels.{Framed, PlaneSo}
+use Rattle.jpeg_streams.proofs.BroughtLevels.{AfterScan, Framed}
 use Rattle.jpeg_streams.proofs.ReadTurns.{Begins, next-marker, same-frame}
 use Rattle.jpeg_streams.proofs.WalkedStreams.{IsSaid, beside, nothing-said, segment-said}
-use Rattle.jpeg_streams.proofs.WrittenPictures.{Holds, IsDrawn, Progress, bring, drawn-said}
-use Rattle.jpeg_streams.proofs.WrittenPictures.{holds-nothing, image-read, no_progress}
+use Rattle.jpeg_streams.proofs.WrittenPictures.{Holds, IsDrawn, Progress, bring, drawn-said, framed-now, framed-same}
+use Rattle.jpeg_streams.proofs.WrittenPictures.{holds-nothing, image-read, known_scan, no_progress}
 use Rattle.jpeg_streams.proofs.Faultless.{Walked}
 use Rattle.jpeg_evidence.specs.CutImages.{HasRows, HoldsCut, IsPartOfNext, WritesFront, in_segment, of_end}
 use Rattle.jpeg_evidence.specs.CutImages.{of_header, of_marker}
 use Rattle.jpeg_evidence.specs.CutImages.{of_segment}
-use Rattle.jpeg_evidence.proofs.CutBlocks.{AfterCut}
 use Rattle.jpeg_evidence.proofs.CutFrames.{filled-stops, reached_of, scanned, whole-filled, whole-unread}
 use Rattle.jpeg_evidence.proofs.CutFronts.{Unmixed, all-or-none, front-unmixed, rows-filled, walk-filled}
 use Rattle.jpeg_evidence.proofs.CutPictures.{AllOrNone}
 use Rattle.jpeg_evidence.proofs.CutScans.{begins-marker, begins-scan, begins-segment, found-nothing, header-past}
 use Rattle.jpeg_evidence.proofs.CutRows.{has-rows}
 use Rattle.jpeg_evidence.proofs.CutScans.{all_rows, past-of, scan-past, segment-past, unscanned}
-use Rattle.jpeg_evidence.proofs.CutWalks.{framed-now, known_scan, past-turn, segment-brings, turn-at}
+use Rattle.jpeg_evidence.proofs.CutWalks.{past-turn, segment-brings, turn-at}
 use Rattle.jpeg_evidence.proofs.WrittenCuts.{eoi_code}
 
 -- ---- a frame in which a scan was
-
-plane-scanned : (w : Said) (array : Coefficients) (l : Levels) (pl : List (Option (List ℕ))) (k : ℕ) (c : Component)
-    → PlaneSo w array l pl k c → PlaneSo (record w { scanned = true }) array l pl k c
-plane-scanned w array l pl k c so = record {
-  decided = λ e. let o = so.decided e in record {
-    table = o.table;
-    is_table = o.is_table;
-    blocks = o.blocks;
-    holds = o.holds;
-    plane = o.plane;
-  };
-  undecided = so.undecided;
-}
-
-framed-scanned : (w : Said) (f : Frame) (array : Coefficients) (levels : ℕ → Levels) (h : Arrays)
-    (fi : List (List Bool)) (pl : List (Option (List ℕ))) → Framed w f array levels true h fi pl
-    → Framed (record w { scanned = true }) f array levels true h fi pl
-framed-scanned w f array levels h fi pl fr = record {
-  marked = record {
-    fi_count = fr.marked.fi_count;
-    pl_count = fr.marked.pl_count;
-    marks = fr.marked.marks;
-    planes = λ k c t. plane-scanned w array (levels k) pl k c (fr.marked.planes k c t);
-  };
-  sized = fr.sized;
-  kept = fr.kept;
-  fresh = fr.fresh;
-}
 
 -- ---- the end of an image
 
@@ -229,7 +200,7 @@ module _ (array : Coefficients) (range : (index row column : ℕ) → Is8Bit (ar
   -- what a cut scan holds
   pub by-scan : (part : List ℕ) (w : Walked) (said : Said) (frame : Frame) (image : Coefficients) (next : ℕ → Levels)
       (found : Found) (rows : Option ℕ) (above : Frame → ℕ) → said.frame ≡ Some frame → IsSaid IsDrawn said
-      → AfterCut said frame image next found → ((index row column : ℕ) → length (image index row column).acs ≡ 63)
+      → AfterScan said frame image next found → ((index row column : ℕ) → length (image index row column).acs ≡ 63)
       → Unmixed (record said { scanned = true }) next → unwrap_or rows frame.output_height ≡ above frame
       → (HasRows (record said { scanned = true }) next above (rows_of_found rows w.0)
       → HoldsCut array (as_sent image next) part (record said { scanned = true }) (rows_of_found rows w.0))
@@ -240,7 +211,7 @@ module _ (array : Coefficients) (range : (index row column : ℕ) → Is8Bit (ar
       let is_said : IsSaid IsDrawn later = record { tables = is.tables; shaped = is.shaped } in
       let framed : (f : Frame) → later.frame ≡ Some f → Framed later f image next true x.0 x.1 x.2 = λ f g.
       subst (λ (y : Frame). Framed later y image next true x.0 x.1 x.2) (same-frame frame f said.frame e g)
-      (framed-scanned said frame image next after.kept after.finished after.planes after.framed) in
+      (framed-same said later frame image next x refl after.framed) in
       record {
         said = later;
         levels = next;
@@ -274,7 +245,7 @@ module _ (array : Coefficients) (range : (index row column : ℕ) → Is8Bit (ar
       past.held in
       let b = scanned known in
       let found = after_scan now frame (scan_written frame h) sends.codings (reached_of known d).0 in
-      let all : AfterCut said frame array next found
+      let all : AfterScan said frame array next found
       = record {
         kept = b.kept;
         finished = b.finished;

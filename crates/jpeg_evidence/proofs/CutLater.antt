@@ -1,43 +1,20 @@
 -- What was cut at the bits that were sent stays where it is cut at those that are sent later.
-use Rattle.std.proofs.Common.{◌≡◌, ℕ, zero, suc, ◌+◌, ◌*◌, ◌-◌, ◌/◌, ◌^◌, ◌<◌, Bool, true, false, List, []}
-use Rattle.std.proofs.Common.{◌∷◌, ◌++◌, length, take, replicate, ℤ, pos, negsuc, neg_ℤ, ◌*ℤ◌, Option, Some, None}
-use Rattle.std.proofs.Common.{refl, sym, ap, ap₂, ◌∙◌, subst, arith}
+use Rattle.std.proofs.Common.{◌≡◌, ℕ, suc, ◌+◌, ◌*◌, ◌-◌, ◌^◌, Bool, true, false, List, [], ◌∷◌, ◌++◌, length, take}
+use Rattle.std.proofs.Common.{replicate, ℤ, pos, negsuc, neg_ℤ, ◌*ℤ◌, Option, Some, None, refl, sym, ap, ap₂, ◌∙◌}
+use Rattle.std.proofs.Common.{subst, arith}
 use Rattle.std.specs.Prelude.{◌==◌}
 use Rattle.std.specs.List.{AllByRecursion}
-use Rattle.std.proofs.lemmas.Nat.{div-mul-add}
-use Rattle.std.proofs.Math.Nat.{mul_assoc, zero-mul, add-mul, one-mul}
+use Rattle.std.proofs.Math.Nat.{mul_assoc, zero-mul}
 use Rattle.std.proofs.lemmas.Bool.{eqb-true}
-use lib.Pow.{pow-add, pow_pos, shl-shr}
+use lib.Pow.{pow-add}
 use Rattle.jpeg_bits.specs.Passes.{Block, Pass, band_of, before_band}
 use Rattle.jpeg_streams.specs.Levels.{IsLegal, Levels, cut, cut_acs, cut_by, floor_at, sent_after, toward_zero}
 use Rattle.jpeg_streams.proofs.CutLevels.{around-band, half-floor, halved-toward}
 use Rattle.jpeg_streams.proofs.SentBlocks.{floor_half, halved}
 use Rattle.jpeg_streams.proofs.WrittenRefinements.{neg-times}
+use Rattle.jpeg_evidence.proofs.TakenLevels.{floor-scaled, toward-scaled}
 
 -- ---- numbers
-
--- a number that is scaled comes back, by what holds of numbers of either sign
-scaled-back : (at : ℕ → ℤ → ℤ) (q : ℤ) (b : ℕ) → ((n : ℕ) → at b (pos n) ≡ pos (n / 2 ^ b))
-    → ((n k : ℕ) → suc n * 2 ^ b ≡ suc k → at b (negsuc k) ≡ negsuc n) → at b (q *ℤ pos (2 ^ b)) ≡ q
-scaled-back at (pos n) b above below = above (n * 2 ^ b) ∙ ap pos (shl-shr n b)
-scaled-back at (negsuc n) b above below = go (suc n * 2 ^ b) refl
-  where
-    go : (m : ℕ) → suc n * 2 ^ b ≡ m → at b (neg_ℤ (pos m)) ≡ negsuc n
-    go zero e =
-        absurd (let p : 0 < 2 ^ b = pow_pos b in let s = add-mul 1 n (2 ^ b) in let o = one-mul (2 ^ b) in omega arith)
-    go (suc k) e = below n k e
-
-toward-back : (q : ℤ) (b : ℕ) → toward_zero b (q *ℤ pos (2 ^ b)) ≡ q
-toward-back q b = scaled-back toward_zero q b (λ n. refl) (λ n k e.
-    ap (λ (j : ℕ). neg_ℤ (pos (j / 2 ^ b))) (sym e) ∙ ap (λ (j : ℕ). neg_ℤ (pos j)) (shl-shr (suc n) b))
-
-floor-back : (q : ℤ) (b : ℕ) → floor_at b (q *ℤ pos (2 ^ b)) ≡ q
-floor-back q b = scaled-back floor_at q b (λ n. refl) (λ n k e.
-    let p : 0 < 2 ^ b = pow_pos b in
-    let s = add-mul 1 n (2 ^ b) in
-    let o = one-mul (2 ^ b) in
-    let is : k ≡ n * 2 ^ b + (2 ^ b - 1) = omega arith in
-    ap (λ (j : ℕ). negsuc (j / 2 ^ b)) is ∙ ap negsuc (div-mul-add n (2 ^ b) (2 ^ b - 1) (omega arith)))
 
 -- at the next level a number is twice another one
 twice : (n b : ℕ) → n * 2 ^ suc b ≡ n * 2 * 2 ^ b
@@ -55,15 +32,15 @@ pub data IsLater : Option ℕ → Option ℕ → Type 0 where
   first : (l : Option ℕ) → IsLater None l
   next : (b : ℕ) → IsLater (Some (suc b)) (Some b)
 
-module _ (number_at : ℕ → ℤ → ℤ) (back : (q : ℤ) (b : ℕ) → number_at b (q *ℤ pos (2 ^ b)) ≡ q) where
+module _ (number_at : ℕ → ℤ → ℤ) (back : (b : ℕ) (q : ℤ) → number_at b (q *ℤ pos (2 ^ b)) ≡ q) where
   zero-back : (b : ℕ) → number_at b (pos 0) *ℤ pos (2 ^ b) ≡ pos 0
   zero-back b =
       let z : 0 * 2 ^ b ≡ 0 = zero-mul (2 ^ b) in
       ap (λ (x : ℤ). number_at b x *ℤ pos (2 ^ b)) (ap pos (sym z))
-      ∙ ap (λ (x : ℤ). x *ℤ pos (2 ^ b)) (back (pos 0) b) ∙ ap pos z
+      ∙ ap (λ (x : ℤ). x *ℤ pos (2 ^ b)) (back b (pos 0)) ∙ ap pos z
 
   by-again : (q : ℤ) (b : ℕ) → number_at b (q *ℤ pos (2 ^ b)) *ℤ pos (2 ^ b) ≡ q *ℤ pos (2 ^ b)
-  by-again q b = ap (λ (x : ℤ). x *ℤ pos (2 ^ b)) (back q b)
+  by-again q b = ap (λ (x : ℤ). x *ℤ pos (2 ^ b)) (back b q)
 
   zero-again : (l : Option ℕ) → cut_by number_at (pos 0) l ≡ pos 0
   zero-again None = refl
@@ -91,7 +68,7 @@ unfolding cut_acs
 acs-again [] olds news h = refl
 acs-again (c ∷ cs) [] [] h = refl
 acs-again (c ∷ cs) (a ∷ olds) (b ∷ news) h =
-    ap₂ (λ (x : ℤ) (xs : List ℤ). x ∷ xs) (cut-again toward_zero toward-back c a b h.0) (acs-again cs olds news h.1)
+    ap₂ (λ (x : ℤ) (xs : List ℤ). x ∷ xs) (cut-again toward_zero toward-scaled c a b h.0) (acs-again cs olds news h.1)
 acs-again (c ∷ cs) [] (b ∷ news) h = absurd h
 acs-again (c ∷ cs) (a ∷ olds) [] h = absurd h
 
@@ -148,13 +125,13 @@ later-sent p l legal = record {
 -- A block that was cut stays where it is cut at later levels.
 pub cut-later : (old new : Levels) (c : Block) → AreLater old new → cut new (cut old c) ≡ cut old c
 cut-later old new c h =
-    ap₂ (λ (x : ℤ) (xs : List ℤ). record { dc = x; acs = xs }) (cut-again floor_at floor-back c.dc old.dc new.dc h.dc)
+    ap₂ (λ (x : ℤ) (xs : List ℤ). record { dc = x; acs = xs }) (cut-again floor_at floor-scaled c.dc old.dc new.dc h.dc)
     (acs-again c.acs old.acs new.acs h.acs)
 
 -- ---- levels at which a later cut was cut
 
 module _ (number_at : ℕ → ℤ → ℤ) (half : ℤ → ℤ)
-    (back : (q : ℤ) (b : ℕ) → number_at b (q *ℤ pos (2 ^ b)) ≡ q)
+    (back : (b : ℕ) (q : ℤ) → number_at b (q *ℤ pos (2 ^ b)) ≡ q)
     (halves : (b : ℕ) (x : ℤ) → half (number_at b x) ≡ number_at (suc b) x) where
   cut-before : (x : ℤ) (old new : Option ℕ) → IsLater old new
       → cut_by number_at (cut_by number_at x new) old ≡ cut_by number_at x old
@@ -162,7 +139,7 @@ module _ (number_at : ℕ → ℤ → ℤ) (half : ℤ → ℤ)
   cut-before x old new (first l) = refl
   cut-before x old new (next b) =
       ap (λ (y : ℤ). y *ℤ pos (2 ^ suc b))
-      (sym (halves b (number_at b x *ℤ pos (2 ^ b))) ∙ ap half (back (number_at b x) b) ∙ halves b x)
+      (sym (halves b (number_at b x *ℤ pos (2 ^ b))) ∙ ap half (back b (number_at b x)) ∙ halves b x)
 
 acs-before : (cs : List ℤ) (olds news : List (Option ℕ)) → AllLater olds news
     → cut_acs (cut_acs cs news) olds ≡ cut_acs cs olds
@@ -170,7 +147,7 @@ unfolding cut_acs
 acs-before [] olds news h = refl
 acs-before (c ∷ cs) [] [] h = refl
 acs-before (c ∷ cs) (a ∷ olds) (b ∷ news) h =
-    ap₂ (λ (x : ℤ) (xs : List ℤ). x ∷ xs) (cut-before toward_zero halved toward-back halved-toward c a b h.0)
+    ap₂ (λ (x : ℤ) (xs : List ℤ). x ∷ xs) (cut-before toward_zero halved toward-scaled halved-toward c a b h.0)
     (acs-before cs olds news h.1)
 acs-before (c ∷ cs) [] (b ∷ news) h = absurd h
 acs-before (c ∷ cs) (a ∷ olds) [] h = absurd h
@@ -179,7 +156,7 @@ acs-before (c ∷ cs) (a ∷ olds) [] h = absurd h
 pub cut-earlier : (old new : Levels) (c : Block) → AreLater old new → cut old (cut new c) ≡ cut old c
 cut-earlier old new c h =
     ap₂ (λ (x : ℤ) (xs : List ℤ). record { dc = x; acs = xs })
-    (cut-before floor_at floor_half floor-back half-floor c.dc old.dc new.dc h.dc)
+    (cut-before floor_at floor_half floor-scaled half-floor c.dc old.dc new.dc h.dc)
     (acs-before c.acs old.acs new.acs h.acs)
 
 pub cut-count : (cs : List ℤ) (ls : List (Option ℕ)) → length cs ≡ length ls → length (cut_acs cs ls) ≡ length cs

@@ -1,12 +1,10 @@
 -- The picture that is shown of what was found is that of the blocks that are held.
-use Rattle.std.proofs.Common.{◌≡◌, ℕ, zero, suc, ◌+◌, ◌*◌, ◌/◌, ◌%◌, ◌<◌, ◌≤◌, ◌≢◌, Bool, true, false, List, [], ◌∷◌, length}
+use Rattle.std.proofs.Common.{◌≡◌, ℕ, zero, suc, ◌+◌, ◌*◌, ◌<◌, ◌≤◌, ◌≢◌, Bool, true, false, List, [], ◌∷◌, length}
 use Rattle.std.proofs.Common.{Option, Some, None, Result, Ok, refl, sym, ap, ◌∙◌, subst, arith, replicate, get_or}
-use Rattle.std.proofs.Common.{get_or-set_same, get_or-set_other, length-set}
+use Rattle.std.proofs.Common.{get_or-set_same, get_or-set_other}
 use Rattle.std.specs.Prelude.{◌&&◌, fold, slice_index_or, unwrap_or, if◌then◌else◌}
 use Rattle.std.specs.List.{enumerate_from}
-use Rattle.std.proofs.lemmas.List.{length-replicate}
-use Rattle.jpeg_bits.specs.Reading.{Fault, ◌>>=◌}
-use Rattle.jpeg_bits.specs.Passes.{Block, zero_block}
+use Rattle.jpeg_bits.specs.Reading.{Fault}
 use Rattle.jpeg_segments.specs.Checks.{gathered, needed}
 use Rattle.jpeg_segments.specs.Frame.{Component, Frame}
 use Rattle.jpeg_segments.specs.declared.frame.CodingProcess.{CodingProcess}
@@ -14,7 +12,7 @@ use Rattle.jpeg_segments.specs.declared.frame.CodingProcess.TheVariants.{Lossles
 use Rattle.jpeg_streams.specs.declared.settings.Settings.{Settings}
 use Rattle.jpeg_streams.specs.ArrayPictures.{as_sent}
 use Rattle.jpeg_streams.specs.Found.{Found, Said}
-use Rattle.jpeg_streams.specs.FoundPictures.{blocks_picture, picture_by, picture_by_process, picture_of, plane_at_end}
+use Rattle.jpeg_streams.specs.FoundPictures.{blocks_picture, picture_by, picture_of, plane_at_end}
 use Rattle.jpeg_streams.specs.Levels.{Levels, nothing_sent}
 use Rattle.jpeg_streams.specs.Order.{grid_of}
 use Rattle.jpeg_streams.specs.Rasters.{plane_by, plane_of_blocks}
@@ -23,20 +21,19 @@ use Rattle.jpeg_streams.specs.ScanSegments.{arrays_before, decided, is_progressi
 use Rattle.jpeg_streams.specs.Shown.{blocks_held, completed, picture_shown, shown_by, table_held, with_plane_shown}
 use Rattle.jpeg_streams.specs.WrittenScans.{Coefficients}
 use Rattle.jpeg_streams.proofs.Apart.{At}
-use Rattle.jpeg_streams.proofs.BroughtLevels.{Framed, Shaped, get-same, is_whole, zero-at}
+use Rattle.jpeg_streams.proofs.BroughtLevels.{Framed, Shaped, is_whole, zero-at, zero-holds}
 use Rattle.jpeg_streams.proofs.FrameShapes.{scale-made}
 use Rattle.jpeg_streams.proofs.LimitedPictures.{limited-same}
 use Rattle.jpeg_streams.proofs.ReadTurns.{then-ok}
-use Rattle.jpeg_streams.proofs.UpsampledFactors.{AllAlike, SamePlane}
+use Rattle.jpeg_streams.proofs.UpsampledFactors.{SamePlane}
 use Rattle.jpeg_streams.proofs.WalkedStreams.{beside}
-use Rattle.jpeg_streams.proofs.WrittenFrameScans.{HoldsOwn, cut-nothing}
-use Rattle.jpeg_streams.proofs.WrittenPictures.{Progress, bring, picture-by-same, plane-same}
+use Rattle.jpeg_streams.proofs.WrittenFrameScans.{HoldsOwn}
+use Rattle.jpeg_streams.proofs.WrittenPictures.{OnePlane, Progress, bring, end-decided, lossy-picture, plane-same}
+use Rattle.jpeg_streams.proofs.WrittenPictures.{picture-by-same, planes-of}
+use Rattle.jpeg_streams.proofs.CompletedPictures.{all-stay, all_shown, one-stays}
 use Rattle.jpeg_evidence.specs.CutImages.{picture_held}
 
 -- ---- what is completed
-
-abbrev all_shown : Frame → Found → ℕ → List Component → Found
-all_shown frame found i cs = fold (with_plane_shown frame) found (enumerate_from i cs)
 
 -- the plane of a component, by what was found
 abbrev plane_held : Frame → Found → ℕ × Component → List ℕ
@@ -44,37 +41,6 @@ plane_held frame found c = plane_by c.1 (table_held found c.1) (blocks_held foun
 
 abbrev plane_found : Found → ℕ → Option (List ℕ)
 plane_found found k = slice_index_or found.planes k None
-
--- what stays where planes are completed from an index on
-record Stays (old new : Found) (i : ℕ) : Type 0 where
-  said : new.said ≡ old.said
-  kept : new.kept ≡ old.kept
-  count : length new.planes ≡ length old.planes
-  planes : (k : ℕ) → k < i → plane_found new k ≡ plane_found old k
-
-one-stays : (frame : Frame) (found : Found) (i : ℕ) (c : Component)
-    → Stays found (with_plane_shown frame found (i, c)) i
-unfolding with_plane_shown
-one-stays frame found i c = record {
-  said = refl;
-  kept = refl;
-  count = length-set found.planes i _;
-  planes = λ k lt. get_or-set_other found.planes i k _ None (λ e. absurd (omega arith));
-}
-
-stays-on : (a b c : Found) (i j : ℕ) → i ≤ j → Stays a b i → Stays b c j → Stays a c i
-stays-on a b c i j le p q = record {
-  said = q.said ∙ p.said;
-  kept = q.kept ∙ p.kept;
-  count = q.count ∙ p.count;
-  planes = λ k lt. q.planes k (omega arith) ∙ p.planes k lt;
-}
-
-all-stay : (frame : Frame) (cs : List Component) (i : ℕ) (found : Found) → Stays found (all_shown frame found i cs) i
-all-stay frame [] i found = record { said = refl; kept = refl; count = refl; planes = λ k lt. refl }
-all-stay frame (c ∷ cs) i found =
-    stays-on found (with_plane_shown frame found (i, c)) _ i (i + 1) (omega arith) (one-stays frame found i c)
-    (all-stay frame cs (i + 1) (with_plane_shown frame found (i, c)))
 
 one-set : (frame : Frame) (found : Found) (i : ℕ) (c : Component) → i < length found.planes
     → plane_found (with_plane_shown frame found (i, c)) i
@@ -125,28 +91,12 @@ lossy-completed : (process : CodingProcess) (found : Found) (frame : Frame) → 
 lossy-completed Lossless found frame n = absurd (n refl)
 lossy-completed process found frame n = refl
 
-pub plane-there : (found : Found) (f : Frame) (k : ℕ) (c : Component) (plane : List ℕ)
-    → slice_index_or found.planes k None ≡ Some plane → plane_at_end found f (k, c) ≡ Ok plane
-unfolding plane_at_end
-plane-there found f k c plane e = rw (e, plane_at_end) refl
-
 -- ---- one plane
 
 -- The levels of a sequential frame are those of no scan, or no bit is missing.
 abbrev pub AllOrNone : Frame → (ℕ → Levels) → Type 0
 AllOrNone f levels =
     is_progressive f.process ≡ false → (k : ℕ) → is_whole (levels k) ≡ false → levels k ≡ nothing_sent
-
-abbrev with_first : List ℕ → List (List ℕ) → Result (List (List ℕ)) Fault
-with_first p ps = Ok (p ∷ ps)
-
-zero-holds : (array : ℕ → ℕ → Block) (c : Component) → ((row column : ℕ) → length (array row column).acs ≡ 63)
-    → HoldsOwn (grid_of c) array nothing_sent (zero_of c)
-zero-holds array c counts = record {
-  sized = length-replicate (c.blocks_high * c.blocks_wide) zero_block;
-  each = λ i own. get-same zero_block (c.blocks_high * c.blocks_wide) i
-      ∙ sym (cut-nothing (array (i / c.blocks_wide) (i % c.blocks_wide)) (counts (i / c.blocks_wide) (i % c.blocks_wide)));
-}
 
 table-of : (o : Option (List ℕ)) (t : List ℕ) → o ≡ Some t → unwrap_or o (replicate 64 1) ≡ t
 table-of o t e = rw e refl
@@ -180,22 +130,33 @@ module _ (settings : Settings) (said : Said) (f : Frame) (array : Coefficients) 
       go true e false g =
           rw (zero-at f.components k c t) at (rw (e, g) at ((framed.kept e).each k c t))
 
-  -- the plane of a component is that of its blocks
-  record Shows (k : ℕ) (c : Component) : Type 0 where
-    plane : List ℕ
-    is : decided (plane_found found k) (plane_held f found (k, c)) ≡ Some plane
-    same : SamePlane (c.blocks_wide * c.scale) c.width c.height plane
-        (plane_of_blocks c (table_of c) (as_sent array levels k))
+  -- ---- all planes
 
-  shows : (k : ℕ) (c : Component) → At k f.components c → Shows k c
+  abbrev all : Found
+  all = all_shown f found 0 f.components
+
+  plane-end : (k : ℕ) (c : Component) (t : At k f.components c) (plane : List ℕ)
+      → decided (plane_found found k) (plane_held f found (k, c)) ≡ Some plane → plane_at_end all f (k, c) ≡ Ok plane
+  plane-end k c t plane is =
+      let start : 0 + k ≡ k = omega arith in
+      let room : 0 + length f.components ≤ length found.planes =
+      let few = shape.few in let n = framed.marked.pl_count in omega arith in
+      end-decided all f k c plane
+      (subst (λ (j : ℕ). plane_found all j ≡ decided (plane_found found j) (plane_held f found (j, c))) start
+      (all-set f f.components 0 k found c t room) ∙ is)
+
+  -- the plane of a component is that of its blocks
+  shows : (k : ℕ) (c : Component) → At k f.components c → OnePlane (plane_at_end all f) theirs_of k c
   shows k c t = go (is_whole (levels k)) refl
     where
-      go : (b : Bool) → is_whole (levels k) ≡ b → Shows k c
+      go : (b : Bool) → is_whole (levels k) ≡ b → OnePlane (plane_at_end all f) theirs_of k c
       go true e =
           let o = (framed.marked.planes k c t).decided e in
           record {
             plane = plane_by c o.table o.blocks;
-            is = ap (λ (q : Option (List ℕ)). decided q (plane_held f found (k, c))) o.plane;
+            other = plane_of_blocks c (table_of c) (as_sent array levels k);
+            is = plane-end k c t _ (ap (λ (q : Option (List ℕ)). decided q (plane_held f found (k, c))) o.plane);
+            other_is = refl;
             same = subst (λ (q : List ℕ). SamePlane (c.blocks_wide * c.scale) c.width c.height
                 (plane_by c o.table o.blocks) (plane_of_blocks c q (as_sent array levels k)))
                 (sym (table-of _ o.table o.is_table))
@@ -204,73 +165,24 @@ module _ (settings : Settings) (said : Said) (f : Frame) (array : Coefficients) 
           }
       go false e = record {
         plane = plane_held f found (k, c);
-        is = ap (λ (q : Option (List ℕ)). decided q (plane_held f found (k, c)))
-            ((framed.marked.planes k c t).undecided e);
+        other = plane_of_blocks c (table_of c) (as_sent array levels k);
+        is = plane-end k c t _ (ap (λ (q : Option (List ℕ)). decided q (plane_held f found (k, c)))
+            ((framed.marked.planes k c t).undecided e));
+        other_is = refl;
         same = plane-same f c (table_of c) (levels k) (array k) (blocks_held found f (k, c))
             (scale-made f shape.made k c t) (shape.fits k c t) (holds-blocks k c t e);
       }
 
-  -- ---- all planes
-
-  abbrev all : Found
-  all = all_shown f found 0 f.components
-
-  plane-end : (k : ℕ) (c : Component) (t : At k f.components c) → plane_at_end all f (k, c) ≡ Ok (shows k c t).plane
-  plane-end k c t =
-      let start : 0 + k ≡ k = omega arith in
-      let room : 0 + length f.components ≤ length found.planes =
-      let few = shape.few in let n = framed.marked.pl_count in omega arith in
-      plane-there all f k c (shows k c t).plane
-      (subst (λ (j : ℕ). plane_found all j ≡ decided (plane_found found j) (plane_held f found (j, c))) start
-      (all-set f f.components 0 k found c t room) ∙ (shows k c t).is)
-
-  record BothPlanes (index : ℕ) (components : List Component) : Type 0 where
-    ours : List (List ℕ)
-    theirs : List (List ℕ)
-    ours_are : gathered (plane_at_end all f) (enumerate_from index components) ≡ Ok ours
-    theirs_are : gathered theirs_of (enumerate_from index components) ≡ Ok theirs
-    alike : AllAlike components ours theirs
-
-  planes-end : (index : ℕ) (components : List Component)
-      → ((j : ℕ) (c : Component) → At j components c → At (index + j) f.components c) → BothPlanes index components
-  unfolding gathered
-  planes-end index [] within =
-      record { ours = []; theirs = []; ours_are = refl; theirs_are = refl; alike = tt }
-  planes-end index (c ∷ more) within =
-      let start : index + 0 ≡ index = omega arith in
-      let t : At index f.components c =
-      subst (λ (n : ℕ). At n f.components c) start (within 0 c refl) in
-      let e = shows index c t in
-      let others = planes-end (index + 1) more
-      (λ j d u. let next : index + suc j ≡ (index + 1) + j = omega arith in
-      subst (λ (n : ℕ). At n f.components d) next (within (suc j) d u)) in
-      let their = plane_of_blocks c (table_of c) (as_sent array levels index) in
-      record {
-        ours = e.plane ∷ others.ours;
-        theirs = their ∷ others.theirs;
-        ours_are = then-ok (plane_at_end all f (index, c)) _ e.plane _ (plane-end index c t)
-            (then-ok (gathered (plane_at_end all f) (enumerate_from (index + 1) more)) _ others.ours _
-            others.ours_are refl);
-        theirs_are = ap (λ (o : Result (List (List ℕ)) Fault). o >>= with_first their) others.theirs_are;
-        alike = (e.same, others.alike);
-      }
-
   -- ---- the picture
-
-  lossy-picture : (g : Found) (p : CodingProcess) → p ≢ Lossless
-      → picture_by_process p settings g f ≡ blocks_picture settings g f
-  lossy-picture g Lossless n = absurd (n refl)
-  lossy-picture g p n = refl
 
   all-same : (g : Found) → g ≡ all → picture_of settings g ≡ picture_held settings said (as_sent array levels)
   unfolding picture_of picture_held blocks_picture
   all-same g e =
-      let b = planes-end 0 f.components (λ j c t.
-      let start : 0 + j ≡ j = omega arith in subst (λ (n : ℕ). At n f.components c) (sym start) t) in
+      let b = planes-of (plane_at_end all f) theirs_of f.components shows in
       let s = all-stay f f.components 0 found in
       let said_same : all.said ≡ said = s.said in
       rw e (limited-same settings all.said said f f _ _ (ap (λ (w : Said). w.frame) said_same ∙ is_said) is_said refl
-      (lossy-picture all f.process shape.lossy
+      (lossy-picture settings all f f.process shape.lossy
       ∙ then-ok (gathered (plane_at_end all f) (enumerate_from 0 f.components)) _ b.ours _ b.ours_are
       (ap (λ (w : Said). picture_by settings w.metadata f f.components b.ours) said_same
       ∙ picture-by-same settings said.metadata f f.components b.ours b.theirs refl shape.made b.alike)

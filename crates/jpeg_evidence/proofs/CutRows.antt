@@ -2,10 +2,10 @@
 use Rattle.std.proofs.Common.{◌≡◌, ◌⊎◌, inl, inr, ℕ, zero, suc, ◌+◌, ◌<◌, ◌&&◌, ◌≢◌, Bool, true, false, List, [], ◌∷◌}
 use Rattle.std.proofs.Common.{◌++◌, length, slice_get, Option, Some, None, Result, Ok, Err, refl, sym, ap, ◌∙◌, subst, arith}
 use Rattle.std.proofs.Common.{is_some, true≢false}
-use Rattle.std.specs.Prelude.{option_map, slice_index_or, unwrap_or, get_or}
-use Rattle.std.specs.List.{AllByRecursion, enumerate_from, range_with_len}
+use Rattle.std.specs.Prelude.{option_map, slice_index_or, unwrap_or}
+use Rattle.std.specs.List.{enumerate_from, range_with_len}
 use Rattle.std.proofs.lemmas.Bool.{and_parts}
-use Rattle.jpeg_bits.specs.Reading.{Fault, ◌>>=◌}
+use Rattle.jpeg_bits.specs.Reading.{Fault}
 use Rattle.jpeg_bits.specs.Written.{marker}
 use Rattle.jpeg_segments.specs.Checks.{check, gathered, needed}
 use Rattle.jpeg_segments.specs.Frame.{Component, Frame}
@@ -15,33 +15,29 @@ use Rattle.jpeg_streams.specs.Found.{Found, Said}
 use Rattle.jpeg_streams.specs.FoundPictures.{plane_at_end}
 use Rattle.jpeg_streams.specs.Levels.{Levels, nothing_sent}
 use Rattle.jpeg_streams.specs.Order.{Spot}
-use Rattle.jpeg_streams.specs.Rasters.{plane_by}
 use Rattle.jpeg_streams.specs.ScanSegments.{is_progressive}
 use Rattle.jpeg_streams.specs.Shown.{planes_by}
 use Rattle.jpeg_streams.specs.WholeRows.{rows_above, rows_of_found, rows_of_frame}
 use Rattle.jpeg_streams.specs.WrittenImages.{ClosesImage}
 use Rattle.jpeg_streams.specs.WrittenScans.{Coefficients, HasTable, IsComplete}
-use Rattle.jpeg_streams.proofs.Apart.{At, at-all}
+use Rattle.jpeg_streams.proofs.Apart.{At, all-from, at-all}
 use Rattle.jpeg_streams.proofs.BroughtLevels.{Framed, PlaneSo, Shaped, is_whole}
 use Rattle.jpeg_streams.proofs.EncodedParts.{in-range}
-use Rattle.jpeg_streams.proofs.OwnSpots.{at-within, in-below}
-use Rattle.jpeg_streams.proofs.ReadTurns.{bind-ok, err-ok, needed-some, then-ok}
+use Rattle.jpeg_streams.proofs.CompletedPictures.{plane-goes, plane_of_parts}
+use Rattle.jpeg_streams.proofs.FittingFrames.{checked}
+use Rattle.jpeg_streams.proofs.OwnSpots.{at-below, at-within, in-below}
+use Rattle.jpeg_streams.proofs.ReadTurns.{bind-ok, gathered-more, needed-some}
 use Rattle.jpeg_streams.proofs.WalkedStreams.{beside, closes}
 use Rattle.jpeg_streams.proofs.WrittenFrameScans.{in-all}
-use Rattle.jpeg_streams.proofs.WrittenPictures.{Progress, bring}
+use Rattle.jpeg_streams.proofs.WrittenPictures.{Progress, bring, end-decided, end-kept, some-there}
 use Rattle.jpeg_evidence.specs.CutImages.{HasRows, rows_before}
 use Rattle.jpeg_evidence.proofs.CutBlocks.{NoneOrAll}
-use Rattle.jpeg_evidence.proofs.CutFrames.{at-below}
 use Rattle.jpeg_evidence.proofs.CutFronts.{Unmixed, all-whole}
-use Rattle.jpeg_evidence.proofs.CutPictures.{plane-there}
 use Rattle.jpeg_evidence.proofs.SentCuts.{complete-after}
+use Rattle.jpeg_evidence.proofs.TakenBits.{none-is}
 use Rattle.jpeg_evidence.proofs.UnreadScans.{get-after}
 
 -- ---- lists
-
-all-from : {A : Type 0} (P : A → Type 0) (xs : List A) → ((j : ℕ) (x : A) → At j xs x → P x) → AllByRecursion P xs
-all-from P [] each = tt
-all-from P (x ∷ xs) each = (each 0 x refl, all-from P xs (λ j y t. each (suc j) y t))
 
 -- what each element gives, beside its index
 abbrev Each : (ℕ × Component → Result (List ℕ) Fault) → ℕ → List Component → Type 0
@@ -58,8 +54,8 @@ all-gathered g i (c ∷ cs) each =
     let next : i + suc j ≡ (i + 1) + j = omega arith in
     subst (λ (n : ℕ). (y : List ℕ) × (g (n, d) ≡ Ok y)) next (each (suc j) d t)) in (
       y.0 ∷ more.0,
-      then-ok (g (i, c)) _ y.0 _ (subst (λ (n : ℕ). g (n, c) ≡ Ok y.0) start y.1)
-          (then-ok (gathered g (enumerate_from (i + 1) cs)) _ more.0 _ more.1 refl),
+      gathered-more g (i, c) (enumerate_from (i + 1) cs) y.0 more.0
+          (subst (λ (n : ℕ). g (n, c) ≡ Ok y.0) start y.1) more.1,
     )
 
 each-gathered : (g : ℕ × Component → Result (List ℕ) Fault) (i : ℕ) (cs : List Component) (ys : List (List ℕ))
@@ -77,48 +73,25 @@ each-gathered g i (d ∷ cs) ys e (suc j) c t =
 
 -- ---- one plane
 
-abbrev plane_or : Found → Frame → ℕ × Component → Option (List ℕ) → Result (List ℕ) Fault
-plane_or found frame c o = elim o as (λ _. Result (List ℕ) Fault) [
-  | Some plane ↦ Ok plane
-  | None ↦ check (is_progressive frame.process && found.said.scanned) >>= (λ u.
-      needed (slice_index_or found.said.quantization c.1.factors.quantization None) >>= (λ table.
-      Ok (plane_by c.1 table (get_or found.kept c.0 []))))
-]
-
 -- a plane at the end was decided, or it is that of blocks that were kept
 abbrev IsMade : Found → Frame → ℕ → Component → Type 0
 IsMade found f k c =
     ((plane : List ℕ) × (slice_index_or found.planes k None ≡ Some plane))
     ⊎ (((is_progressive f.process && found.said.scanned) ≡ true) × HasTable found.said c)
 
-checked : (b : Bool) (u : Unit {0}) → check b ≡ Ok u → b ≡ true
-checked true u e = refl
-checked false u e = absurd (err-ok _ u e)
-
 plane-made : (found : Found) (f : Frame) (k : ℕ) (c : Component) (y : List ℕ)
     → plane_at_end found f (k, c) ≡ Ok y → IsMade found f k c
-unfolding plane_at_end
-plane-made found f k c y e = go (slice_index_or found.planes k None) refl e
+plane-made found f k c y e =
+    go (slice_index_or found.planes k None) refl (sym (plane-goes found f (k, c)) ∙ e)
   where
-    go : (o : Option (List ℕ)) → slice_index_or found.planes k None ≡ o → plane_or found f (k, c) o ≡ Ok y
-        → IsMade found f k c
+    go : (o : Option (List ℕ)) → slice_index_or found.planes k None ≡ o
+        → plane_of_parts found.said found.kept f (k, c) o ≡ Ok y → IsMade found f k c
     go (Some plane) h e = inl (plane, h)
     go None h e =
         let b = is_progressive f.process && found.said.scanned in
         let a = bind-ok (check b) _ y e in
         let t = bind-ok (needed (slice_index_or found.said.quantization c.factors.quantization None)) _ y a.2 in
         inr (checked b a.0 a.1, ap is_some (needed-some _ t.0 t.1))
-
-some-there : {A : Type 0} (o : Option A) → is_some o ≡ true → (x : A) × (o ≡ Some x)
-some-there None e = absurd (true≢false (sym e))
-some-there (Some x) e = (x, refl)
-
-plane-kept : (found : Found) (f : Frame) (k : ℕ) (c : Component) (table : List ℕ)
-    → slice_index_or found.planes k None ≡ None → is_progressive f.process ≡ true → found.said.scanned ≡ true
-    → slice_index_or found.said.quantization c.factors.quantization None ≡ Some table
-    → plane_at_end found f (k, c) ≡ Ok (plane_by c table (get_or found.kept k []))
-unfolding plane_at_end
-plane-kept found f k c table n p s t = rw (n, p, s, t, plane_at_end) refl
 
 -- ---- the picture
 
@@ -129,10 +102,6 @@ lossy-planes process found f n = refl
 
 none-whole : is_whole nothing_sent ≡ false
 none-whole = refl
-
-none-incomplete : (l : Levels) → l ≡ nothing_sent → IsComplete l → ⊥
-none-incomplete l e c =
-    let n : ◌≡◌ {A = Option ℕ} None (Some 0) = ap (λ (x : Levels). x.dc) (sym e) ∙ c.dc in absurd (let z : ⊥ = cc in z)
 
 module _ (said : Said) (array : Coefficients) (levels : ℕ → Levels) (x : Progress) (u : Unmixed said levels)
     (shaped : (f : Frame) → said.frame ≡ Some f → Shaped f)
@@ -149,10 +118,7 @@ module _ (said : Said) (array : Coefficients) (levels : ℕ → Levels) (x : Pro
     where
       go : (b : Bool) → is_whole (levels k) ≡ b → b ≡ true
       go true h = refl
-      go false h =
-          let n : ◌≡◌ {A = Option (List ℕ)} None (Some plane)
-          = sym (((framed f e).marked.planes k c t).undecided h) ∙ p in
-          absurd (let z : ⊥ = cc in z)
+      go false h = absurd (none-is plane (sym (((framed f e).marked.planes k c t).undecided h) ∙ p))
 
   -- where the image may end, each component has its plane
   plane-there_at : (c : Closes) (k : ℕ) (d : Component) → At k c.frame.components d
@@ -168,15 +134,15 @@ module _ (said : Said) (array : Coefficients) (levels : ℕ → Levels) (x : Pro
           (in-below k (length c.frame.components) (at-within k c.frame.components d t))
 
       either : is_progressive c.frame.process ≡ false → is_whole (levels k) ≡ false → NoneOrAll (levels k) → ⊥
-      either q h (inl n) = none-incomplete (levels k) n (complete q)
+      either q h (inl n) = none-is 0 (ap (λ (l : Levels). l.dc) (sym n) ∙ (complete q).dc)
       either q h (inr a) = true≢false (sym all-whole ∙ sym (ap is_whole a) ∙ h)
 
       go : (b : Bool) → is_whole (levels k) ≡ b → (p : Bool) → is_progressive c.frame.process ≡ p
           → (y : List ℕ) × (plane_at_end found c.frame (k, d) ≡ Ok y)
-      go true h p q = let o = so.decided h in (_, plane-there found c.frame k d _ o.plane)
+      go true h p q = let o = so.decided h in (_, end-decided found c.frame k d _ o.plane)
       go false h true q =
           let table = some-there _ (at-all (HasTable said) k c.frame.components d c.ended.1 t) in
-          (_, plane-kept found c.frame k d table.0 (so.undecided h) q c.ended.0 table.1)
+          (_, end-kept found c.frame k d table.0 (so.undecided h) q c.ended.0 table.1)
       go false h false q = absurd (either q h (u.whole c.frame c.is_said q k))
 
   -- Where each has its plane, the image may end.

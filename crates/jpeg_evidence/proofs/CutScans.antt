@@ -30,20 +30,20 @@ use Rattle.jpeg_streams.specs.WrittenScans.{Coefficients}
 use Rattle.jpeg_streams.proofs.Apart.{get-at}
 use Rattle.jpeg_streams.proofs.CodingsInForce.{codings-found}
 use Rattle.jpeg_streams.proofs.WalkedStreams.{beside, nothing-said}
-use Rattle.jpeg_streams.proofs.WrittenPictures.{IsDrawn, bring, holds-nothing, no_progress}
+use Rattle.jpeg_streams.proofs.BroughtLevels.{KnownScan}
+use Rattle.jpeg_streams.proofs.WrittenPictures.{IsDrawn, bring, framed-now, holds-nothing, known_scan, no_progress}
 use Rattle.jpeg_streams.specs.SaidSegments.{Stands, said_after}
 use Rattle.jpeg_streams.specs.Segments.{Turn, onward}
 use Rattle.jpeg_streams.specs.Stream.{segment_at}
 use Rattle.jpeg_streams.proofs.Faultless.{Walked}
-use Rattle.jpeg_evidence.proofs.CutWalks.{IsPast, codings-bring, framed-now, front-walked, header-brings, known_scan}
-use Rattle.jpeg_evidence.proofs.CutWalks.{meets-here, past-turn, plain-brought, plain-rows, rows-at, scan-rows}
-use Rattle.jpeg_evidence.proofs.CutWalks.{segment-brings, sos-brings, sos_code, turn-at}
+use Rattle.jpeg_evidence.proofs.CutWalks.{IsPast, codings-bring, front-walked, header-brings, meets-here, past-turn}
+use Rattle.jpeg_evidence.proofs.CutWalks.{plain-brought, plain-rows, rows-at, scan-rows, segment-brings, sos-brings}
+use Rattle.jpeg_evidence.proofs.CutWalks.{sos_code, turn-at}
 use Rattle.jpeg_evidence.proofs.LongerSegments.{sos-stays, Stays}
 use Rattle.jpeg_evidence.specs.CutImages.{BringsCut, BringsFront, WritesFront}
 use Rattle.jpeg_evidence.specs.FirstBlocks.{IsMost, StandWhole}
 use Rattle.jpeg_evidence.specs.LongerStreams.{arrays_of}
 use Rattle.jpeg_evidence.proofs.LongerTurns.{by_header, scan_led, segment-goes, with_frame}
-use Rattle.jpeg_evidence.proofs.CutBlocks.{KnownScan}
 use Rattle.jpeg_evidence.proofs.CutFrames.{cut-own, cut-stops, reached_of, scan-cut, unread_of}
 
 blocks-stop : (found : Found) (f : Frame) (s : Scan) (codings : List Coding) (bytes : List ℕ) (g : Fault)
@@ -163,7 +163,7 @@ module _ (array : Coefficients) (range : (index row column : ℕ) → Is8Bit (ar
   pub scan-past : (said : Said) (levels : ℕ → Levels) (frame : Frame) (fill : ℕ) (h : ScanHeader)
       (codings : List Coding) (bytes front : List ℕ) (w : Walked) {rows : Option ℕ}
       (past : IsPast array range said levels (marker fill 218 (with_length (scan_payload h) ++ front)) w rows)
-      (known : KnownScan said frame array levels past.brought (scan_written frame h) codings bytes)
+      (known : KnownScan said frame array levels said.scanned past.brought (scan_written frame h) codings bytes)
       → said.frame ≡ Some frame → IsScan frame h → (g : Fault) × ((reached_of known front).1 ≡ Err g)
       → (w.0
       ≡ after_scan (beside bring said past.brought) frame (scan_written frame h) codings (reached_of known front).0)

@@ -18,7 +18,7 @@ use Rattle.jpeg_streams.specs.WrittenScans.{Coefficients}
 use Rattle.jpeg_streams.specs.WrittenStreams.{Writes, end, scan, segment}
 use Rattle.jpeg_streams.proofs.ReadTurns.{scan-tail, segment-tail}
 use Rattle.jpeg_streams.proofs.WalkedStreams.{beside, front-append}
-use Rattle.jpeg_streams.proofs.WrittenPictures.{bring}
+use Rattle.jpeg_streams.proofs.WrittenPictures.{bring, known_scan}
 use Rattle.jpeg_evidence.specs.CutImages.{WritesFront, in_scan, rows_before}
 use Rattle.jpeg_evidence.proofs.CutBlocks.{CutScan, cut-scan}
 use Rattle.jpeg_evidence.proofs.CutFrames.{cut-own, cut-stops, cut-unread, reached_of, scan-cut}
@@ -28,7 +28,6 @@ use Rattle.jpeg_evidence.proofs.CutHeld.{EndedAt, by-scan, data-filled, end-ther
 use Rattle.jpeg_evidence.proofs.CutHeld.{segment-filled}
 use Rattle.jpeg_evidence.proofs.CutRows.{rows-first}
 use Rattle.jpeg_evidence.proofs.CutScans.{all_rows, begins-scan, past-of, scan-past}
-use Rattle.jpeg_evidence.proofs.CutWalks.{known_scan}
 
 module _ (array : Coefficients) (range : (index row column : ℕ) → Is8Bit (array index row column)) where
   -- a part of the data of a scan

@@ -36,17 +36,14 @@ use Rattle.jpeg_streams.specs.declared.before.Before.{Before}
 use Rattle.jpeg_streams.specs.declared.before.Before.TheVariants.{Elsewhere}
 use Rattle.jpeg_streams.proofs.CodingsInForce.{codings-found}
 use Rattle.jpeg_streams.proofs.DecodedHeaders.{stands-taken}
-use Rattle.jpeg_streams.proofs.BroughtLevels.{Framed, framed-start}
 use Rattle.jpeg_streams.proofs.Faultless.{Walked}
-use Rattle.jpeg_streams.proofs.ReadTurns.{Begins, IsEnd, same-frame, scan-by, then-ok, marker-begins, marker-longer}
-use Rattle.jpeg_streams.proofs.ReadTurns.{marker_for, next-marker, ok-same, scan-tail, segment-ends, segment-marker}
-use Rattle.jpeg_streams.proofs.ReadTurns.{segment-tail, segment-turn, stands-here}
+use Rattle.jpeg_streams.proofs.ReadTurns.{Begins, IsEnd, scan-by, then-ok, marker-begins, marker-longer, marker_for}
+use Rattle.jpeg_streams.proofs.ReadTurns.{next-marker, ok-same, scan-tail, segment-ends, segment-marker, segment-tail}
+use Rattle.jpeg_streams.proofs.ReadTurns.{segment-turn, stands-here}
 use Rattle.jpeg_streams.proofs.WalkedStreams.{IsSaid, beside, segment-said}
-use Rattle.jpeg_streams.proofs.WrittenPictures.{Holds, IsDrawn, Progress, bring, codings-good, drawn-said, header-facts}
-use Rattle.jpeg_streams.proofs.WrittenPictures.{image-read}
+use Rattle.jpeg_streams.proofs.WrittenPictures.{Holds, IsDrawn, Progress, bring, drawn-said, image-read, known_scan}
 use Rattle.jpeg_evidence.specs.LongerStreams.{arrays_of}
 use Rattle.jpeg_evidence.proofs.AllRows.{rows_on}
-use Rattle.jpeg_evidence.proofs.CutBlocks.{KnownScan}
 use Rattle.jpeg_evidence.proofs.CutFrames.{scanned, whole-reached}
 use Rattle.jpeg_evidence.proofs.LongerTurns.{by_header, scan_led, walk_on}
 
@@ -223,39 +220,6 @@ unfolding segment_brought
 sos-brings before found bytes = refl
 
 module _ (array : Coefficients) (range : (index row column : ℕ) → Is8Bit (array index row column)) where
-  -- what is kept, finished and decided before a scan
-  pub framed-now : (said : Said) (levels : ℕ → Levels) (x : Progress) (f : Frame) → Holds array said levels x
-      → said.frame ≡ Some f → Framed said f array levels said.scanned x.0 x.1 x.2
-  framed-now said levels x f held e = go said.scanned refl
-    where
-      go : (b : Bool) → said.scanned ≡ b → Framed said f array levels b x.0 x.1 x.2
-      go false g =
-          let n = held.fresh g in
-          rw n.1 (framed-start said f array x.0 x.1 x.2 range (ap (λ (y : Progress). y.1) n.0)
-          (ap (λ (y : Progress). y.2) n.0))
-      go true g =
-          let h = held.framed g in
-          subst (λ (y : Frame). Framed said y array levels true x.0 x.1 x.2) (same-frame h.0 f said.frame h.1 e) h.2
-
-  -- what is known of a scan that stands next
-  abbrev pub known_scan : (said : Said) (levels next : ℕ → Levels) (x : Progress) (f : Frame) (h : ScanHeader)
-      (bytes : List ℕ) → IsSaid IsDrawn said → said.frame ≡ Some f → IsScan f h
-      → (sends : WritesImageScan array said levels f h bytes next) → Holds array said levels x
-      → KnownScan said f array levels x (scan_written f h) sends.codings bytes
-  known_scan said levels next x f h bytes is e written sends held =
-      let s = scan_written f h in
-      let shape = (is.shaped f e).0 in
-      record {
-        range = range;
-        shape = shape;
-        framed = framed-now said levels x f held e;
-        says = header-facts f h written shape.lossy;
-        exist = codings-good said f s sends.codings is.tables
-            (codings-found said f s sends.codings sends.legal.are_in_force);
-        legal = sends.legal;
-        written = sends.written;
-      }
-
   -- A whole scan is brought, up to the marker after it: what is held then, and what is found.
   pub record BringsScan (said : Said) (next : ℕ → Levels) (x : Progress) (h : ScanHeader) (bytes : List ℕ)
       : Type 0 where
@@ -280,7 +244,7 @@ module _ (array : Coefficients) (range : (index row column : ℕ) → Is8Bit (ar
       let s = scan_written f h in
       let shape = (is.shaped f e).0 in
       let codings = codings-found said f s w.codings w.legal.are_in_force in
-      let known = known_scan said levels next x f h bytes is e written w held in
+      let known = known_scan array range said levels next x f h bytes is e written w held in
       let b = scanned known in
       let r = (image-read array range).reads said levels next x f h bytes is e written w held in
       record {

@@ -30,18 +30,17 @@ use Rattle.jpeg_streams.specs.Scans.{Arrays}
 use Rattle.jpeg_streams.specs.ScanSegments.{after_restarts}
 use Rattle.jpeg_streams.proofs.ReachedIntervals as blocks
 use Rattle.jpeg_streams.proofs.ReachedIntervals.{Follows, Meets, interval-read, later-ending, reached-read}
-use Rattle.jpeg_streams.proofs.ReachedIntervals.{restart-follows}
+use Rattle.jpeg_streams.proofs.ReachedIntervals.{restart-follows, after_turn, next_reached}
 use Rattle.jpeg_streams.proofs.RowIntervals.{interval-rows-read, with_others}
+use Rattle.jpeg_streams.proofs.RowIntervals as row_intervals
 use Rattle.jpeg_evidence.specs.EarlyEnds.{BlocksEndEarly, EndsEarly, RowsEndEarly}
 use Rattle.jpeg_evidence.specs.EarlyEnds.BlocksEndEarly.{here, later}
 use Rattle.jpeg_evidence.specs.EarlyEnds.EndsEarly.{by_fault, by_marker}
 use Rattle.jpeg_evidence.specs.EarlyEnds.RowsEndEarly.{here_too, later_too}
 use Rattle.jpeg_evidence.proofs.FrontReaders.{FaultIn, TakesFront, bound-fault, err-same, fault-bind}
 use Rattle.jpeg_evidence.proofs.FrontReaders.FaultIn.{rule, short}
-use Rattle.jpeg_evidence.proofs.LongerBits.{after_turn, turn-front}
-use Rattle.jpeg_evidence.proofs.LongerScans.{next_reached}
+use Rattle.jpeg_evidence.proofs.LongerBits.{turn-front}
 use Rattle.jpeg_evidence.proofs.LongerRows.{Rows, after_row, row-front}
-use Rattle.jpeg_evidence.proofs.LongerRows as longer_rows
 
 -- ---- the ends of data
 
@@ -491,7 +490,7 @@ rows-have number rows (next ∷ more) bytes f h =
     (EndsEarly bytes (rows_reached rows (sealed (text_at bytes))).1) _ f
     (λ y. here_too number rows (next ∷ more) bytes y) (λ x e. rw (e, with_others) refl)
     (λ g e. rows-interval rows bytes g e) (λ x e. interval-rows-read rows bytes x e)
-    (λ q. (longer_rows.next_reached (scan_rows_reached (suc number) next more) r.0 q).1) (λ g. refl)
+    (λ q. (row_intervals.next_reached (scan_rows_reached (suc number) next more) r.0 q).1) (λ g. refl)
     (λ marker left b e i t o k.
     subst (λ (q : Outcome (List Rows × Option Marker)). ScanFault (ended q)
     (RowsEndEarly number rows (next ∷ more) bytes) f) (sym (rows-next number r.0 one others marker left b i t o))

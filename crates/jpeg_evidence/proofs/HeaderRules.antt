@@ -19,13 +19,12 @@ use Rattle.jpeg_segments.specs.ScanHeader.{blocks_by, index_of, is_band, scan_of
 use Rattle.jpeg_segments.specs.ScanHeaders.{AreChoices, IsChoice, IsScan, scan_written, ScanHeader, selectors_in}
 use Rattle.jpeg_segments.specs.WrittenSegments.{AreComponents, FrameHeader, IsComponent, IsFrameHeader}
 use Rattle.jpeg_streams.proofs.EncodedParts.{all-weaker}
+use Rattle.jpeg_streams.proofs.EncodedScripts.{blank}
+use Rattle.jpeg_streams.proofs.FittingFrames.{factor-bounds}
 use Rattle.jpeg_evidence.specs.HeaderRules.{AreDistinct, AreInOrder, blocks_of, KeepsBandRules, KeepsChoiceRules}
 use Rattle.jpeg_evidence.specs.HeaderRules.{KeepsComponentRules, KeepsFrameRules, KeepsScanRules}
 
 -- ---- frame headers
-
-factor-range : (n : ℕ) → is_factor n ≡ true → (1 ≤ n) × (n ≤ 4)
-factor-range n h = (grind (arith, nat_tests), grind (arith, nat_tests))
 
 range-factor : (n : ℕ) → 1 ≤ n → n ≤ 4 → is_factor n ≡ true
 range-factor n a b = grind (arith, nat_tests)
@@ -51,7 +50,7 @@ IsNotTaken front c = is_taken front c.identifier ≡ false
 
 component-kept : (number : ℕ) (front : List Factors) (c : Factors) → number ≤ 3 → IsComponent number front c
     → KeepsComponentRules number c
-component-kept number front c le is = search (rules, factor-range, destination-low, destination-zero)
+component-kept number front c le is = search (rules, factor-bounds, destination-low, destination-zero)
 
 kept-component : (number : ℕ) (front : List Factors) (c : Factors) → number ≤ 3 → IsNotTaken front c
     → KeepsComponentRules number c → IsComponent number front c
@@ -176,16 +175,6 @@ get-same (x ∷ cs) (suc i) d c e = let r = get-same cs i d c e in (let h = r.0 
 
 eqb-not : (a b : ℕ) → (a == b) ≡ false → a ≢ b
 eqb-not a b e f = let g : true ≡ false = sym (eq-eqb a b f) ∙ e in let n : ⊥ = cc in n
-
-abbrev blank : Component
-blank = record {
-  factors = record { identifier = 0; horizontal = 0; vertical = 0; quantization = 0 };
-  scale = 0;
-  width = 0;
-  height = 0;
-  blocks_wide = 0;
-  blocks_high = 0;
-}
 
 destination-few : (b : Bool) (d : ℕ) → d ≤ greatest_destination (Some b) → (d ≤ 3) × (b ≡ true → d ≤ 1)
 destination-few true d h = (omega arith, λ e. h)

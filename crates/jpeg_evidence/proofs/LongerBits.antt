@@ -11,24 +11,15 @@ use Rattle.jpeg_streams.specs.Brought.{reached_from}
 use Rattle.jpeg_streams.specs.InTurn.{Reached, turn_from, turns_from}
 use Rattle.jpeg_streams.specs.Order.{Spot}
 use Rattle.jpeg_streams.specs.WholeRows.{unread_from}
+use Rattle.jpeg_streams.proofs.ReachedIntervals.{After, after_turn}
 use Rattle.jpeg_evidence.specs.LongerStreams.{GoesOn}
 use Rattle.jpeg_evidence.proofs.FrontReaders.{Front, TakesFront, bind-front, block-front, fault-read, gives-front}
 use Rattle.jpeg_evidence.proofs.FrontReaders.{own-read}
 use Rattle.jpeg_evidence.proofs.FrontReaders.Front.{gave, failed}
 
-abbrev pub After : Type 0
-After = Reached × Result (List Bool) Fault
-
 pub turn-front : (p : Pass) (vias : List Via) (s : Spot) (old : Reached) → TakesFront (turn_from p vias s old)
 unfolding turn_from
 turn-front p vias s old = search (rules, bind-front, block-front, gives-front)
-
--- what is reached after the next block
-abbrev pub after_turn : Pass → List Via → List Spot → Reached → Result (Reached × Text) Fault → After
-after_turn p vias spots old o = elim o [
-  | Ok r ↦ reached_from p vias spots r.0 r.1
-  | Err fault ↦ (old, Err fault)
-]
 
 -- The first of these blocks, so many, can be read of the bits alone.
 pub record CanRead (p : Pass) (vias : List Via) (spots : List Spot) (old : Reached) (bits : List Bool) (count : ℕ)

@@ -16,7 +16,8 @@ use Rattle.jpeg_streams.specs.Order.{Spot}
 use Rattle.jpeg_streams.specs.Scans.{Arrays, block_at, put_block, via_at}
 use Rattle.jpeg_evidence.specs.LongerStreams.{Puts, PutsFirst, ReadsOn}
 use Rattle.jpeg_evidence.specs.LongerStreams.Puts.{finished, put}
-use Rattle.jpeg_evidence.proofs.LongerBits.{After, CanRead, Stops, after_turn, stops}
+use Rattle.jpeg_streams.proofs.ReachedIntervals.{After, after_turn}
+use Rattle.jpeg_evidence.proofs.LongerBits.{CanRead, Stops, stops}
 
 -- ---- blocks that are put
 

@@ -1,16 +1,16 @@
 -- Longer data of a lossless scan bring the rows of MCUs that their front brings, and more after them.
-use Rattle.std.proofs.Common.{rules, ◌≡◌, ℕ, suc, Bool, List, [], ◌∷◌, ◌++◌, length, drop, refl, sym, ap}
-use Rattle.std.proofs.Common.{◌∙◌, subst, Ok, Err, Result, Option, append_assoc}
-use Rattle.jpeg_bits.specs.Reading.{End, Fault, Outcome}
+use Rattle.std.proofs.Common.{rules, ◌≡◌, ℕ, suc, Bool, List, [], ◌∷◌, ◌++◌, length, drop, refl, sym, ap, ◌∙◌, subst}
+use Rattle.std.proofs.Common.{Ok, Err, Result, append_assoc}
+use Rattle.jpeg_bits.specs.Reading.{End, Fault}
 use Rattle.jpeg_bits.specs.Reading as outcomes
 use Rattle.jpeg_bits.specs.Entropy.{Broken, Text, text_at}
 use Rattle.jpeg_bits.specs.Codes.{Table}
 use Rattle.jpeg_bits.specs.Readers.{ReadsJust, each, text}
-use Rattle.jpeg_bits.specs.declared.marker.Marker.{Marker}
 use Rattle.jpeg_segments.proofs.Codecs.{bind-ok}
 use Rattle.jpeg_lossless.specs.Differences.{sample_difference}
 use Rattle.jpeg_lossless.specs.RowsReached.{rows_reached}
 use Rattle.jpeg_streams.specs.Brought.{after_interval, interval_rows_reached, scan_rows_reached}
+use Rattle.jpeg_streams.proofs.RowIntervals.{Scanned, next_reached}
 use Rattle.jpeg_evidence.specs.LongerStreams.{RowsGoOn}
 use Rattle.jpeg_evidence.proofs.FrontReaders.{Front, TakesFront, bind-front, each-front, fault-read, gives-front}
 use Rattle.jpeg_evidence.proofs.FrontReaders.{if-front, own-read, refused-front, signed-front, symbol-front}
@@ -129,16 +129,6 @@ interval-stays rows bytes more =
     text-stays (λ (r : Rows). r) (rows_reached rows) s.end bytes more s.whole
 
 -- ---- a scan
-
-abbrev Scanned : Type 0
-Scanned = List Rows × Outcome (Option Marker)
-
--- after an interval: the others, or its fault
-abbrev pub next_reached : (List ℕ → Scanned) → Rows → Result (List ℕ) Fault → Scanned
-next_reached reached rows o = elim o [
-  | Ok rest ↦ (rows ∷ (reached rest).0, (reached rest).1)
-  | Err fault ↦ (rows ∷ [], Err fault)
-]
 
 -- the first rows of an interval, and perhaps other intervals
 last-go : (rows all : Rows) (others : List Rows) → GoOn rows all → RowsGoOn (rows ∷ []) (all ∷ others)

@@ -16,17 +16,11 @@ use Rattle.jpeg_streams.specs.Brought.{reached_from, scan_reached, sealed}
 use Rattle.jpeg_streams.specs.InTurn.{at_start}
 use Rattle.jpeg_streams.specs.Order.{Spot}
 use Rattle.jpeg_streams.specs.Scans.{Arrays}
+use Rattle.jpeg_streams.proofs.ReachedIntervals.{Scanned, next_reached}
 use Rattle.jpeg_evidence.specs.LongerStreams.{Puts, PutsFirst, ReadsOn}
 use Rattle.jpeg_evidence.proofs.LongerData.{CanReadOf, IntervalGoes, Met, ReadsMost, StaysBrought, all-read}
 use Rattle.jpeg_evidence.proofs.LongerData.{interval-goes, interval-stays, puts-both, puts-of-more, puts-then, reaches}
 use Rattle.jpeg_evidence.proofs.LongerSegments.{Stays, after-stays}
-
-abbrev Scanned : Type 0
-Scanned = Arrays × Outcome (Option Marker)
-
--- after an interval: the others, or its fault
-abbrev pub next_reached : (Arrays → List ℕ → Scanned) → Arrays → Result (List ℕ) Fault → Scanned
-next_reached others arrays o = elim o [ Ok rest ↦ others arrays rest | Err fault ↦ (arrays, Err fault) ]
 
 -- these spots, and those of more intervals
 abbrev pub with_groups : List Spot → List (List Spot) → List Spot

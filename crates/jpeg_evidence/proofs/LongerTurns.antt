@@ -31,11 +31,12 @@ use Rattle.jpeg_streams.specs.ScanSegments.{pass_of, scan_turn, vias_from}
 use Rattle.jpeg_streams.specs.Segments.{Turn, frame_segment}
 use Rattle.jpeg_streams.specs.Stream.{end_segment, segment_at}
 use Rattle.jpeg_streams.proofs.Faultless.{Walked}
+use Rattle.jpeg_streams.proofs.ReachedIntervals.{next_reached}
 use Rattle.jpeg_evidence.specs.LongerStreams.{ComesBy, RowScanGoesOn, ScanGoesOn, after_rows, arrays_of}
 use Rattle.jpeg_evidence.specs.LongerStreams.ComesBy.{in_front, in_rows, in_scan}
 use Rattle.jpeg_evidence.proofs.LongerData.{StaysBrought, interval-stays}
 use Rattle.jpeg_evidence.proofs.LongerRows.{longer_rows_go_on, scan-rows-stay}
-use Rattle.jpeg_evidence.proofs.LongerScans.{last-stays, longer_data_read_on, next-stays, next_reached}
+use Rattle.jpeg_evidence.proofs.LongerScans.{last-stays, longer_data_read_on, next-stays}
 use Rattle.jpeg_evidence.proofs.LongerSegments.{Stays, app-stays, dht-stays, dqt-stays, dri-stays}
 use Rattle.jpeg_evidence.proofs.LongerSegments.{length-stays, marker-stays, skip-stays, sof-stays, sos-stays}
 use Rattle.jpeg_evidence.proofs.LongerSegments.{stays-after, stays-bind, stays-err, stays-if, stays-ok}

@@ -36,7 +36,7 @@ use Rattle.jpeg_streams.specs.Shown.{Shown, completed, fault_in, fault_shown, fr
 use Rattle.jpeg_streams.specs.Shown.{shown, shown_by, shown_of, shown_rest, with_plane_shown, with_samples_shown}
 use Rattle.jpeg_streams.specs.Stream.{meaning, rest_at, segment_at, segments_at, start_at, turn_at, walk}
 use Rattle.jpeg_streams.proofs.Apart.{spots-apart}
-use Rattle.jpeg_streams.proofs.CompletedPictures.{limited-at, within}
+use Rattle.jpeg_streams.proofs.CompletedPictures.{all-stay, limited-at, within}
 use Rattle.jpeg_streams.proofs.CountedScans.{scans-in-turn}
 use Rattle.jpeg_streams.proofs.Faultless.{IsTurn, Walked, arrays_of_scan, brought_on, codings-fit, framed-some}
 use Rattle.jpeg_streams.proofs.Faultless.{picture-at, planes_by_rows, rows_by, rows_of_codings, scan_of_codings}
@@ -384,16 +384,10 @@ unfolding with_samples_shown
 said-samples frame [] found = refl
 said-samples frame (c ∷ cs) found = said-samples frame cs (with_samples_shown frame found c)
 
-said-planes : (frame : Frame) (cs : List (ℕ × Component)) (found : Found)
-    → (fold (with_plane_shown frame) found cs).said ≡ found.said
-unfolding with_plane_shown
-said-planes frame [] found = refl
-said-planes frame (c ∷ cs) found = said-planes frame cs (with_plane_shown frame found c)
-
 said-by : (process : CodingProcess) (frame : Frame) (found : Found)
     → (fold (shown_by process frame) found (enumerate_from 0 frame.components)).said ≡ found.said
 said-by Lossless frame found = said-samples frame (enumerate_from 0 frame.components) found
-said-by process frame found = said-planes frame (enumerate_from 0 frame.components) found
+said-by process frame found = (all-stay frame frame.components 0 found).said
 
 completed-said : (found : Found) (frame : Frame) → (completed found frame).said ≡ found.said
 unfolding completed

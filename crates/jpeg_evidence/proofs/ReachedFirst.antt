@@ -1,74 +1,36 @@
 -- The first blocks of a scan whose data stand whole in some bytes can be read of these.
-use Rattle.std.proofs.Common.{◌≡◌, ℕ, suc, ◌+◌, ◌%◌, ◌≤◌, Bool, true, List, [], ◌∷◌, ◌++◌, map, take, drop, get_or, set}
-use Rattle.std.proofs.Common.{ℤ, pos, refl, sym, ap, ◌∙◌, subst, Ok, Err, Result, Some, append_assoc, take-append-drop}
+use Rattle.std.proofs.Common.{◌≡◌, ℕ, suc, ◌+◌, ◌%◌, ◌≤◌, Bool, true, List, [], ◌∷◌, ◌++◌, map, take, drop, refl, sym}
+use Rattle.std.proofs.Common.{ap, ◌∙◌, subst, Ok, Err, Result, Some, append_assoc, take-append-drop}
 use Rattle.std.specs.List.{AllByRecursion}
 use Rattle.std.proofs.lemmas.List.{take-map}
-use Rattle.std.proofs.lemmas.Simd.{map-map}
 use Rattle.jpeg_bits.specs.Reading.{Fault, End}
 use Rattle.jpeg_bits.specs.Reading as outcomes
 use Rattle.jpeg_bits.specs.Entropy.{Broken, Text, text_at}
 use Rattle.jpeg_bits.specs.Intervals.{first_group, other_groups}
-use Rattle.jpeg_bits.specs.Passes.{Block, Pass, Via, block_from, blocks_of, predictors_at_start}
-use Rattle.jpeg_bits.specs.Readers.{ReadsJust, text}
+use Rattle.jpeg_bits.specs.Passes.{Block, Pass, Via, predictors_at_start}
+use Rattle.jpeg_bits.specs.Readers.{text}
 use Rattle.jpeg_bits.specs.Written.{marker}
 use Rattle.jpeg_bits.specs.declared.marker.Marker.TheVariants.{RST}
-use Rattle.jpeg_bits.proofs.ReadIntervals.{all-map, all-take}
-use Rattle.jpeg_bits.proofs.WrittenBits.{takes-as, takes-bind, takes-gives, takes-map}
+use Rattle.jpeg_bits.proofs.ReadIntervals.{all-take}
 use Rattle.jpeg_bits.proofs.WrittenIntervals.{all-groups}
 use Rattle.jpeg_segments.proofs.Codecs.{err-ok, ok-same}
 use Rattle.jpeg_streams.specs.Brought.{after_interval, interval_reached}
 use Rattle.jpeg_streams.specs.InTurn.{AreApart, IsIn, Reached, at_start, turns_from}
 use Rattle.jpeg_streams.specs.Order.{Spot}
-use Rattle.jpeg_streams.specs.Scans.{Arrays, block_at, turns_of, via_at}
+use Rattle.jpeg_streams.specs.Scans.{Arrays, turns_of, via_at}
 use Rattle.jpeg_streams.proofs.CountedScans.{all_of, apart-back, apart-front, arrays_in, in-front, in-turn, put_in}
-use Rattle.jpeg_streams.proofs.SentBlocks.{after_pass, numbers_of, reads_of}
-use Rattle.jpeg_streams.proofs.WrittenBlocks.{IsReady, Predicts, next-range, predicts-set, takes-block}
-use Rattle.jpeg_streams.proofs.WrittenFrameScans.{IsReadyAt, all-in, start-predicts, turn_with}
+use Rattle.jpeg_streams.proofs.WrittenFrameScans.{IsReadyAt, all-in}
 use Rattle.jpeg_evidence.specs.FirstBlocks.{BeginsInterval, BeginsIntervals, WritesFirst}
 use Rattle.jpeg_evidence.specs.FirstBlocks.BeginsIntervals.{beyond, within}
-use Rattle.jpeg_evidence.specs.FirstBlocks.WritesFirst.{next_block, no_more}
 use Rattle.jpeg_evidence.proofs.LongerData.{CanReadOf, Met}
 use Rattle.jpeg_evidence.proofs.LongerScans.{CanReach, CanReachOf}
 use Rattle.jpeg_evidence.proofs.LongerScans.CanReach.{here, later}
 use Rattle.jpeg_evidence.proofs.StandingBlocks.{turns-length}
 use Rattle.jpeg_evidence.proofs.StuffedTexts.{stuffed-begins}
-use Rattle.jpeg_evidence.proofs.WrittenCuts.{after_blocks, groups-are, interval-written, restart-met, rst-marker}
-use Rattle.jpeg_evidence.proofs.WrittenCuts.{stays-ready}
+use Rattle.jpeg_evidence.proofs.WrittenCuts.{after_blocks, first-read, groups-are, interval-written, restart-met}
+use Rattle.jpeg_evidence.proofs.WrittenCuts.{rst-marker, stays-ready}
 
 -- ---- the blocks of an interval
-
--- The first blocks of an interval are read as all are.
-takes-first : (p : Pass) (turns : List (Via × Block × Block)) (predictors : List ℤ) (run : ℕ) (bits : List Bool)
-    → Predicts predictors → AllByRecursion (IsReady p) turns → WritesFirst p predictors run (numbers_of turns) bits
-    → ReadsJust (blocks_of p predictors run (reads_of turns)) bits (map (λ t. after_pass p t.1 t.2) turns)
-unfolding blocks_of
-takes-first p [] predictors run bits predict ready (no_more preds run') = takes-gives []
-takes-first p (t ∷ turns) predictors run bits predict ready
-    (next_block preds run' run_after via u turns' dc ac more next wd wa w) =
-    let good = ready.0 in
-    let before = predict.each t.0.component in
-    let after = next-range p t.0.dc t.2.dc (get_or predictors t.0.component (pos 0)) next dc good.suits.dc_range before
-    wd in
-    takes-as _ ((dc ++ ac) ++ more) (dc ++ (ac ++ more)) _ _ (append_assoc dc ac more) refl
-    (takes-bind (block_from p t.0.dc t.0.ac (get_or predictors t.0.component (pos 0)) run t.1) _ (dc ++ ac) more
-    (after_pass p t.1 t.2, next, run_after) _
-    (takes-block p t.0 t.1 t.2 (get_or predictors t.0.component (pos 0)) next run run_after dc ac good before wd wa)
-    (takes-map (blocks_of p (set predictors t.0.component next) run_after (reads_of turns))
-    (λ (l : List Block). after_pass p t.1 t.2 ∷ l) more _
-    (takes-first p turns (set predictors t.0.component next) run_after more
-    (predicts-set predictors t.0.component next predict after) ready.1 w)))
-
-first-read : (p : Pass) (vias : List Via) (spots : List Spot) (arrays : Arrays) (u : Spot → Block) (bits : List Bool)
-    → AllByRecursion (IsReadyAt p vias arrays u) spots
-    → WritesFirst p predictors_at_start 0 (turns_of vias spots u) bits
-    → ReadsJust (blocks_of p predictors_at_start 0 (turns_of vias spots (block_at arrays))) bits
-    (map (λ s. after_pass p (block_at arrays s) (u s)) spots)
-unfolding turns_of
-first-read p vias spots arrays u bits ready w =
-    rw (map-map, map-map) at (takes-first p (map (turn_with vias arrays u) spots) predictors_at_start 0 bits
-    start-predicts
-    (all-map (IsReadyAt p vias arrays u) (IsReady p) (turn_with vias arrays u) spots (λ s is. is.at) ready)
-    (rw (map-map) w))
 
 pub turns-take : (vias : List Via) (spots : List Spot) (u : Spot → Block) (n : ℕ)
     → take n (turns_of vias spots u) ≡ turns_of vias (take n spots) u

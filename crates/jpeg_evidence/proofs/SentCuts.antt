@@ -1,11 +1,10 @@
 -- The beginning of the data of a written scan has the coefficients that were sent, of all blocks whole in it.
-use Rattle.std.proofs.Common.{◌≡◌, ◌⊎◌, inl, inr, ◌*◌, ℕ, List, [], ◌∷◌, ◌++◌, length, refl, sym, ap, ◌∙◌, subst, Some}
+use Rattle.std.proofs.Common.{◌≡◌, ◌⊎◌, inl, inr, ◌*◌, ℕ, List, [], ◌++◌, length, refl, sym, ap, ◌∙◌, subst, Some}
 use Rattle.std.proofs.Common.{append_assoc}
 use Rattle.std.specs.List.{AllByRecursion}
 use Rattle.jpeg_bits.specs.Codes.{IsTable}
 use Rattle.jpeg_bits.specs.Passes.{Block, Pass, whole_pass, zero_block}
 use Rattle.jpeg_bits.specs.Written.{marker}
-use Rattle.jpeg_bits.proofs.Tables.{good-table}
 use Rattle.jpeg_segments.specs.Frame.{Frame}
 use Rattle.jpeg_streams.specs.Brought.{scan_reached}
 use Rattle.jpeg_streams.specs.InTurn.{AreArrays, Fits, IsIn}
@@ -15,11 +14,12 @@ use Rattle.jpeg_streams.specs.Scans.{Arrays, block_at}
 use Rattle.jpeg_streams.specs.ScanSegments.{Coding, components_of, vias_from}
 use Rattle.jpeg_streams.specs.WrittenScans.{Coefficients, IsComplete, WritesScan}
 use Rattle.jpeg_streams.proofs.Apart.{spots-apart, spots-inside}
+use Rattle.jpeg_streams.proofs.BroughtLevels.{all-good}
 use Rattle.jpeg_streams.proofs.CutLevels.{all-same, cut-after, suits-cut}
 use Rattle.jpeg_streams.proofs.WholeImages.{cut-whole}
 use Rattle.jpeg_streams.proofs.CountedScans.{in-front, reaches}
 use Rattle.jpeg_streams.proofs.SentBlocks.{Suits, after_pass}
-use Rattle.jpeg_streams.proofs.WrittenFrameScans.{HasGood, IsReadyAt, cut-nothing, suits-dc, via-good, whole-legal}
+use Rattle.jpeg_streams.proofs.WrittenFrameScans.{IsReadyAt, cut-nothing, suits-dc, via-good, whole-legal}
 use Rattle.jpeg_evidence.specs.LongerStreams.{HoldsSent, IsDcAlone, IsKeptBefore}
 use Rattle.jpeg_evidence.specs.FirstBlocks.{IsMost, StandWhole}
 use Rattle.jpeg_evidence.proofs.FirstWritten.{first_blocks_are_written}
@@ -35,16 +35,6 @@ suits-kept p l c b range (inl k) =
     subst (λ (x : Block). Suits p x (numbers_at p.al c)) (sym k.kept_is)
     (suits-cut p l c range (range.count ∙ sym k.sized) k.legal)
 suits-kept p l c b range (inr d) = suits-dc p b c d.first d.end d.low range
-
-all-good : (ks : List Coding) → AllByRecursion (λ k. IsTable k.dc × IsTable k.ac) ks → AllByRecursion HasGood ks
-all-good [] h = tt
-all-good (k ∷ ks) h = (
-  record {
-    dc = good-table k.dc h.0.0.counted h.0.0.exists;
-    ac = good-table k.ac h.0.1.counted h.0.1.exists;
-  },
-  all-good ks h.1,
-)
 
 -- a block that is kept is ready for the pass
 pub kept-ready : (p : Pass) (codings : List Coding) (levels : Spot → Levels) (sent : Spot → Block) (before : Arrays)

@@ -3,7 +3,7 @@ use Rattle.std.proofs.Common.{◌≡◌, ℕ, List, [], ◌++◌, true, Option, 
 use Rattle.std.proofs.Common.{refl, sym, ap, ◌∙◌, append_assoc, is_some}
 use Rattle.std.specs.Prelude.{slice_index_or}
 use Rattle.std.specs.List.{enumerate_from}
-use Rattle.jpeg_bits.specs.Reading.{Fault, Outcome, ◌>>=◌}
+use Rattle.jpeg_bits.specs.Reading.{Fault}
 use Rattle.jpeg_bits.specs.Written.{marker}
 use Rattle.jpeg_bits.specs.declared.marker.Marker.TheVariants.{EOI}
 use Rattle.jpeg_segments.specs.Checks.{gathered, needed}
@@ -22,15 +22,14 @@ use Rattle.jpeg_streams.specs.Levels.{Is8Bit, Levels, nothing_sent}
 use Rattle.jpeg_streams.specs.SaidSegments.{said_after}
 use Rattle.jpeg_streams.specs.Shown.{completed, fault_in, fault_shown, framed_or, picture_shown, planes_by, shown}
 use Rattle.jpeg_streams.specs.Shown.{shown_of, shown_rest}
-use Rattle.jpeg_streams.specs.Stream.{Told, start_at, told_of}
+use Rattle.jpeg_streams.specs.Stream.{start_at, told_of}
 use Rattle.jpeg_streams.specs.WrittenImages.{ClosesImage, MayStandInImage, WritesImage, WritesImageScan, WritesPart}
 use Rattle.jpeg_streams.specs.WrittenScans.{Coefficients}
 use Rattle.jpeg_streams.specs.WrittenStreams.{Writes, end, scan, segment}
 use Rattle.jpeg_streams.proofs.CompletedPictures.{completed-same, limited-at}
-use Rattle.jpeg_streams.proofs.ReadTurns.{bind-ok, marker-append, next-marker, ok-same, scan-tail, segment-tail}
-use Rattle.jpeg_streams.proofs.ReadTurns.{then-ok}
+use Rattle.jpeg_streams.proofs.ReadTurns.{bind-ok, marker-append, next-marker, scan-tail, segment-tail, then-ok}
 use Rattle.jpeg_streams.proofs.WalkedStreams.{beside}
-use Rattle.jpeg_streams.proofs.WrittenPictures.{ReadImage, bring, pictured}
+use Rattle.jpeg_streams.proofs.WrittenPictures.{ReadImage, bring, pictures-same}
 use Rattle.jpeg_streams.proofs.Faultless.{Walked}
 use Rattle.jpeg_evidence.proofs.CutHeld.{begins-end, end-brings, last_turn}
 use Rattle.jpeg_evidence.proofs.CutScans.{past-of}
@@ -121,20 +120,6 @@ whole-walked array range after rest final last w =
 
 -- ---- the picture, and no fault
 
-abbrev with_told : Said → List ℕ → Outcome (Told × List ℕ)
-with_told said picture = Ok ((told_of said, picture), [])
-
--- what was found has the picture of the array
-picture-found : (settings : Settings) (array : Coefficients) (final : Said) (last : ℕ → Levels)
-    (r : ReadImage array final last) (picture : List ℕ) → picture_of_array settings final array last ≡ Ok picture
-    → picture_of settings (beside bring final r.brought) ≡ Ok picture
-picture-found settings array final last r picture e =
-    let found = beside bring final r.brought in
-    let meant = pictured settings array final last [] (picture_of settings found >>= with_told final) (r, refl) in
-    let b = bind-ok (picture_of settings found) (with_told final) ((told_of final, picture), [])
-    (meant ∙ then-ok (picture_of_array settings final array last) _ picture _ e refl) in
-    b.1 ∙ ap (λ (y : (Told × List ℕ) × List ℕ). Ok y.0.1) (ok-same _ _ b.2)
-
 -- a picture within the limit
 within-limit : (settings : Settings) (said : Said) (frame : Frame) (pictures : Frame → Result (List ℕ) Fault)
     (picture : List ℕ) → said.frame ≡ Some frame → limited settings said pictures ≡ Ok picture
@@ -191,4 +176,4 @@ whole_images_are_shown_whole settings array image rest picture final last range 
     ap (λ (l : List ℕ). shown settings (l ++ rest)) w.starts
     ∙ ap (shown_of settings) walk.walked
     ∙ found-shown settings found walk.read.frame rest picture walk.read.framed
-    (picture-found settings array final last walk.read picture e)
+    (pictures-same settings array final last walk.read ∙ e)

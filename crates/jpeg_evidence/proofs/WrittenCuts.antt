@@ -1,6 +1,7 @@
 -- The data of a scan that were written are reached without a fault.
 use Rattle.std.proofs.Common.{◌≡◌, ◌+◌, ◌-◌, ◌%◌, ◌<◌, ℕ, suc, Bool, true, false, List, [], ◌∷◌, ◌++◌, length, map}
-use Rattle.std.proofs.Common.{refl, sym, ap, ap₂, ◌∙◌, subst, arith, Ok, Err, Result, Option, Some, append_assoc}
+use Rattle.std.proofs.Common.{refl, sym, ap, ap₂, ◌∙◌, subst, arith, Ok, Err, Result, Option, Some, append_assoc, ℤ}
+use Rattle.std.proofs.Common.{set}
 use Rattle.std.specs.Prelude.{nat_le}
 use Rattle.std.specs.List.{AllByRecursion}
 use Rattle.std.proofs.lemmas.Bool.{eq-eqb}
@@ -18,6 +19,7 @@ use Rattle.jpeg_bits.specs.Written.WritesIntervals.{last, another}
 use Rattle.jpeg_bits.specs.declared.marker.Marker.{Marker}
 use Rattle.jpeg_bits.specs.declared.marker.Marker.TheVariants.{EOI, RST}
 use Rattle.jpeg_bits.proofs.ReadIntervals.{all-map}
+use Rattle.jpeg_bits.proofs.WrittenBits.{takes-gives}
 use Rattle.jpeg_bits.proofs.WrittenIntervals.{all-groups, first-map, marker-append, others-map, reads-interval}
 use Rattle.jpeg_segments.proofs.Codecs.{bind-ok, err-ok, ok-same}
 use Rattle.jpeg_streams.specs.Brought.{after_interval, after_intervals, interval_end, interval_reached}
@@ -27,15 +29,17 @@ use Rattle.jpeg_streams.specs.Order.{Spot}
 use Rattle.jpeg_streams.specs.Scans.{Arrays, block_at, put_blocks, turns_of, via_at}
 use Rattle.jpeg_streams.specs.ScanSegments.{after_restarts}
 use Rattle.jpeg_streams.specs.WrittenData.{WritesBlocks}
+use Rattle.jpeg_streams.specs.WrittenData.WritesBlocks.{block, done}
 use Rattle.jpeg_streams.proofs.CountedScans.{all_of, apart-back, apart-between, apart-front, arrays_in, in-back}
 use Rattle.jpeg_streams.proofs.CountedScans.{in-front, in-turn, others-kept, put_in}
-use Rattle.jpeg_streams.proofs.SentBlocks.{Suits, after_pass}
-use Rattle.jpeg_streams.proofs.WrittenBlocks.{IsReady, takes-blocks}
+use Rattle.jpeg_streams.proofs.ReachedIntervals.{after_turn, next_reached}
+use Rattle.jpeg_streams.proofs.SentBlocks.{Suits, after_pass, numbers_of, reads_of}
+use Rattle.jpeg_streams.proofs.WrittenBlocks.{IsReady, Predicts, takes-next}
 use Rattle.jpeg_streams.proofs.WrittenFrameScans.{IsReadyAt, all-in, reads-arrays, start-predicts, turn_with}
+use Rattle.jpeg_evidence.specs.FirstBlocks.{WritesFirst}
+use Rattle.jpeg_evidence.specs.FirstBlocks.WritesFirst.{next_block, no_more}
 use Rattle.jpeg_evidence.proofs.LongerBlocks.{reached_are_read}
-use Rattle.jpeg_evidence.proofs.LongerBits.{after_turn}
 use Rattle.jpeg_evidence.proofs.LongerData.{Met}
-use Rattle.jpeg_evidence.proofs.LongerScans.{next_reached}
 use Rattle.jpeg_evidence.proofs.TakenBits.{none-is}
 
 -- ---- an interval
@@ -53,16 +57,36 @@ sealed_read p vias spots arrays t =
 abbrev pub after_blocks : Pass → (Spot → Block) → List Spot → Arrays → Arrays
 after_blocks p u spots arrays = put_blocks spots (map (λ s. after_pass p (block_at arrays s) (u s)) spots) arrays
 
-takes-blocks_at : (p : Pass) (vias : List Via) (spots : List Spot) (arrays : Arrays) (u : Spot → Block) (bits : List Bool)
+-- The first blocks of an interval are read as all are.
+takes-first : (p : Pass) (turns : List (Via × Block × Block)) (predictors : List ℤ) (run : ℕ) (bits : List Bool)
+    → Predicts predictors → AllByRecursion (IsReady p) turns → WritesFirst p predictors run (numbers_of turns) bits
+    → ReadsJust (blocks_of p predictors run (reads_of turns)) bits (map (λ t. after_pass p t.1 t.2) turns)
+unfolding blocks_of
+takes-first p [] predictors run bits predict ready (no_more preds run') = takes-gives []
+takes-first p (t ∷ turns) predictors run bits predict ready
+    (next_block preds run' after via u turns' dc ac more next wd wa w) =
+    takes-next p t turns predictors next run after dc ac more predict ready.0 wd wa
+    (λ range. takes-first p turns (set predictors t.0.component next) after more range ready.1 w)
+
+pub first-read : (p : Pass) (vias : List Via) (spots : List Spot) (arrays : Arrays) (u : Spot → Block) (bits : List Bool)
     → AllByRecursion (IsReadyAt p vias arrays u) spots
-    → WritesBlocks p predictors_at_start 0 (turns_of vias spots u) bits
+    → WritesFirst p predictors_at_start 0 (turns_of vias spots u) bits
     → ReadsJust (blocks_of p predictors_at_start 0 (turns_of vias spots (block_at arrays))) bits
     (map (λ s. after_pass p (block_at arrays s) (u s)) spots)
 unfolding turns_of
-takes-blocks_at p vias spots arrays u bits ready w =
-    rw (map-map, map-map) at (takes-blocks p (map (turn_with vias arrays u) spots) predictors_at_start 0 bits start-predicts
+first-read p vias spots arrays u bits ready w =
+    rw (map-map, map-map) at (takes-first p (map (turn_with vias arrays u) spots) predictors_at_start 0 bits
+    start-predicts
     (all-map (IsReadyAt p vias arrays u) (IsReady p) (turn_with vias arrays u) spots (λ s is. is.at) ready)
     (rw (map-map) w))
+
+-- all of them are the first
+all-first : (p : Pass) (predictors : List ℤ) (run : ℕ) (turns : List (Via × Block)) (bits : List Bool)
+    → WritesBlocks p predictors run turns bits → WritesFirst p predictors run turns bits
+all-first p predictors run [] bits (done preds) = no_more predictors 0
+all-first p predictors run (t ∷ turns) bits (block preds run' after via u more dc ac left next wd wa w) =
+    next_block predictors run after via u turns dc ac left next wd wa
+    (all-first p (set predictors via.component next) after turns left w)
 
 pub takes-sealed : (p : Pass) (vias : List Via) (spots : List Spot) (arrays : Arrays) (u : Spot → Block) (bits : List Bool)
     → AreApart spots → AllByRecursion (IsReadyAt p vias arrays u) spots
@@ -71,7 +95,9 @@ pub takes-sealed : (p : Pass) (vias : List Via) (spots : List Spot) (arrays : Ar
 takes-sealed p vias spots arrays u bits apart ready w = record {
   read = λ rest following e. ap (restored e)
       (in-turn p vias spots arrays predictors_at_start 0 (text (bits ++ rest) following (Broken End)) apart
-      ∙ ap (put_in spots arrays) ((takes-blocks_at p vias spots arrays u bits ready w).read rest following (Broken End)));
+      ∙ ap (put_in spots arrays)
+      ((first-read p vias spots arrays u bits ready (all-first p predictors_at_start 0 _ bits w)).read rest following
+      (Broken End)));
 }
 
 -- blocks that are all read are reached

@@ -109,6 +109,10 @@ at-all Q j [] x h k = absurd k
 at-all Q zero (y ∷ xs) x h k = subst Q k h.0
 at-all Q (suc j) (y ∷ xs) x h k = at-all Q j xs x h.1 k
 
+pub all-from : {A : Type 0} (Q : A → Type 0) (xs : List A) → ((j : ℕ) (x : A) → At j xs x → Q x) → AllByRecursion Q xs
+all-from Q [] each = tt
+all-from Q (x ∷ xs) each = (each 0 x refl, all-from Q xs (λ j y t. each (suc j) y t))
+
 -- ---- one component
 
 -- what a spot of a component that is alone tells

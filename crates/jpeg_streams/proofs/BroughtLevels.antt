@@ -23,10 +23,10 @@ use Rattle.jpeg_streams.specs.Order.{grid_of}
 use Rattle.jpeg_streams.specs.Scans.{Arrays, zero_arrays}
 use Rattle.jpeg_streams.specs.Rasters.{plane_by}
 use Rattle.jpeg_streams.specs.WrittenScans.{Coefficients, levels_of_one, levels_after, IsLegalScan, WritesScan}
-use Rattle.jpeg_streams.proofs.OwnSpots.{IsAbsent, AreApart, At, at-within, at-get, Fits}
-use Rattle.jpeg_streams.proofs.WrittenFrameScans.{HoldsOwn, HasGood, SlotReady, SpotsSuit, dc_alone, one_component}
-use Rattle.jpeg_streams.proofs.WrittenFrameScans.{ReadsScan, scan-is_read, cut-nothing}
-use Rattle.jpeg_streams.proofs.Apart.{at-one, at-all, get-at}
+use Rattle.jpeg_streams.proofs.OwnSpots.{IsAbsent, AreApart, At, at-below, at-within, at-get, Fits}
+use Rattle.jpeg_streams.proofs.WrittenFrameScans.{HoldsOwn, HasGood, SlotReady, SpotsSuit, dc_alone, none_read}
+use Rattle.jpeg_streams.proofs.WrittenFrameScans.{one_component, ReadsScan, scan-is_read, cut-nothing}
+use Rattle.jpeg_streams.proofs.Apart.{all-from, at-one, at-all, get-at}
 use Rattle.jpeg_bits.specs.Codes.{IsTable}
 use Rattle.jpeg_bits.proofs.Tables.{good-table}
 use Rattle.jpeg_bits.specs.declared.marker.Marker.{Marker}
@@ -393,6 +393,10 @@ pub record Shaped (f : Frame) : Type 0 where
   pub fits : (k : ℕ) (c : Component) → At k f.components c → Fits f c
   pub lossy : f.process ≢ Lossless
 
+-- blocks that are kept, finished indices and decided planes
+abbrev pub Progress : Type 0
+Progress = Arrays × List (List Bool) × List (Option (List ℕ))
+
 -- what is kept, finished and decided after some scans
 pub record Framed (w : Said) (f : Frame) (array : Coefficients) (levels : ℕ → Levels) (sc : Bool) (h : Arrays)
     (fi : List (List Bool)) (pl : List (Option (List ℕ))) : Type 0 where
@@ -420,9 +424,9 @@ pub zero-at : (components : List Component) (k : ℕ) (c : Component) → At k c
 unfolding zero_arrays
 zero-at components k c h = search (rules, at-get)
 
-pub zero-holds : (array : ℕ → ℕ → Block) (c : Component) → ((row column : ℕ) → Is8Bit (array row column))
+pub zero-holds : (array : ℕ → ℕ → Block) (c : Component) → ((row column : ℕ) → length (array row column).acs ≡ 63)
     → HoldsOwn (grid_of c) array nothing_sent (replicate (c.blocks_high * c.blocks_wide) zero_block)
-zero-holds array c range = search (rules, length-replicate, get-replicate, cut-nothing)
+zero-holds array c counts = search (rules, length-replicate, get-replicate, cut-nothing)
 
 -- before the first scan
 pub framed-start : (w : Said) (f : Frame) (array : Coefficients) (h : Arrays) (fi : List (List Bool))
@@ -435,7 +439,8 @@ framed-start w f array h fi pl range e g = record {
   kept = λ d. subst (AllKept f array (λ k. nothing_sent)) (sym (search rules))
       (record {
         count = length-map f.components _;
-        each = λ k c t. rw (sym (zero-at f.components k c t)) at (zero-holds (array k) c (range k));
+        each = λ k c t. rw (sym (zero-at f.components k c t)) at
+            (zero-holds (array k) c (λ row column. (range k row column).count));
       });
   fresh = λ d k n. refl;
 }
@@ -473,21 +478,17 @@ band-so f s (progressive e d a lt le) = record { rising = omega arith; within = 
 
 -- ---- a scan
 
-single : {A : Type 0} (xs : List A) → length xs ≡ 1 → (x : A) × (xs ≡ x ∷ [])
+pub single : {A : Type 0} (xs : List A) → length xs ≡ 1 → (x : A) × (xs ≡ x ∷ [])
 single [] h = absurd (omega arith)
 single (x ∷ []) h = (x, refl)
 single (x ∷ y ∷ xs) h = absurd (omega arith)
 
-some-first : {A : Type 0} (xs : List A) → 1 ≤ length xs → (x : A) × At 0 xs x
-some-first [] h = absurd (omega arith)
-some-first (x ∷ xs) h = (x, refl)
-
-all-good : (codings : List Coding) → AllByRecursion (λ c. IsTable c.dc × IsTable c.ac) codings
+pub all-good : (codings : List Coding) → AllByRecursion (λ c. IsTable c.dc × IsTable c.ac) codings
     → AllByRecursion HasGood codings
 all-good [] h = tt
 all-good (k ∷ codings) h = search (rules, good-table, all-good codings h.1)
 
-sequential-arrays : (found : Found) (f : Frame) → is_progressive f.process ≡ false
+pub sequential-arrays : (found : Found) (f : Frame) → is_progressive f.process ≡ false
     → arrays_before found f ≡ zero_arrays f.components
 unfolding arrays_before
 sequential-arrays found f e = rw (e, arrays_before) refl
@@ -497,17 +498,17 @@ pub kept-arrays : (w : Said) (h : Arrays) (fi : List (List Bool)) (pl : List (Op
 unfolding arrays_before
 kept-arrays w h fi pl f e = rw (e, arrays_before) refl
 
-blocks-after_is : (found : Found) (f : Frame) (codings : List Coding) (arrays : Arrays) →
-    is_progressive f.process ≡ true
+blocks-after_is : (found : Found) (f : Frame) (codings : List Coding) (arrays : Arrays)
+    → is_progressive f.process ≡ true
     → blocks_after found f codings arrays ≡ put_arrays codings arrays (arrays_before found f)
 blocks-after_is found f codings arrays e = rw (e, blocks_after) refl
 
 -- a coding is of a component of the frame, with its quantization table
-record CodingFacts (w : Said) (frame : Frame) (k : Coding) : Type 0 where
-  at : At k.index frame.components k.component
-  table : slice_index_or w.quantization k.component.factors.quantization None ≡ Some k.quantization
+pub record CodingFacts (w : Said) (frame : Frame) (k : Coding) : Type 0 where
+  pub at : At k.index frame.components k.component
+  pub table : slice_index_or w.quantization k.component.factors.quantization None ≡ Some k.quantization
 
-all-done : (w : Said) (f : Frame) (p : Pass) (array : Coefficients) (levels : ℕ → Levels)
+pub all-done : (w : Said) (f : Frame) (p : Pass) (array : Coefficients) (levels : ℕ → Levels)
     (codings : List Coding) (arrays : Arrays) → length arrays ≡ length codings
     → ((k : Coding) (j : ℕ) → At j codings k → HoldsOwn (grid_of k.component) (array k.index)
     (sent_after p (levels k.index)) (get_or arrays j [])) → AllByRecursion (CodingFacts w f) codings
@@ -520,24 +521,70 @@ all-done w f p array levels (k ∷ codings) (b ∷ arrays) n holds facts legal s
     table = facts.0.table;
     legal = legal.0;
     sized = sized k.index;
-    holds =
-        holds k 0 refl;
+    holds = holds k 0 refl;
   },
   all-done w f p array levels codings arrays (omega arith) (λ c j t. holds c (suc j) t) facts.1 legal.1 sized,
 )
 all-done w f p array levels codings arrays n holds facts legal sized = absurd (omega arith)
 
--- the components of the scan are ready, where their blocks are kept
-all-ready : (w : Said) (f : Frame) (p : Pass) (array : Coefficients) (levels : ℕ → Levels)
-    (before : Arrays) (codings : List Coding) → Shaped f
-    → ((k : Coding) → CodingFacts w f k → IsLegal p (levels k.index)
-    → HoldsOwn (grid_of k.component) (array k.index) (levels k.index) (get_or before k.index []))
-    → AllByRecursion (CodingFacts w f) codings → AllByRecursion
-    (λ c. IsLegal p (levels c.index)) codings → ((k : ℕ) → length (levels k).acs ≡ 63)
-    → AllByRecursion (SlotReady f p array levels before) codings
-all-ready w f p array levels before [] shape holds facts legal sized = tt
-all-ready w f p array levels before (k ∷ codings) shape holds facts legal sized =
-    search (rules, all-ready w f p array levels before codings shape holds facts.1 legal.1 sized)
+pub scan-apart : (w : Said) (f : Frame) (s : Scan) (codings : List Coding) → ScanFacts f s
+    → codings_of w f s ≡ Ok codings → AreApart (indices_of codings)
+scan-apart w f s codings says found =
+    subst AreApart (sym (codings-indices w f s codings says.dc_length says.ac_length found)) says.apart
+
+-- What is found after a scan of a frame.
+pub record AfterScan (w : Said) (f : Frame) (array : Coefficients) (next : ℕ → Levels) (found : Found) : Type 0 where
+  pub kept : Arrays
+  pub finished : List (List Bool)
+  pub planes : List (Option (List ℕ))
+  pub after : found ≡ reading w true kept finished planes
+  pub framed : Framed w f array next true kept finished planes
+
+-- A scan brings what the levels after it say, where its arrays hold the blocks at these levels.
+module _ (w : Said) (f : Frame) (array : Coefficients) (levels : ℕ → Levels) (sc : Bool) (x : Progress) (s : Scan)
+    (codings : List Coding) (arrays : Arrays) (shape : Shaped f)
+    (framed : Framed w f array levels sc x.0 x.1 x.2) (so : PassSo f s) (apart : AreApart (indices_of codings))
+    (done : AllDone w f (pass_of s) array levels codings arrays) where
+  abbrev before_scan : Found
+  before_scan = reading w sc x.0 x.1 x.2
+
+  abbrev levels_next : ℕ → Levels
+  levels_next = levels_after (pass_of s) (indices_of codings) levels
+
+  abbrev after_kept : Arrays
+  after_kept = blocks_after before_scan f codings arrays
+
+  brought : Brought w f (pass_of s) array levels codings arrays true after_kept x.1 x.2
+  brought = brings w f (pass_of s) array levels codings arrays true after_kept x.1 x.2 shape.few (band-so f s so)
+      apart done framed.marked
+
+  fresh-after : PassSo f s → is_progressive f.process ≡ false → (k : ℕ) → (levels_next k).dc ≡ None
+      → levels_next k ≡ nothing_sent
+  fresh-after (sequential e q) g k n = after-fresh (pass_of s) (indices_of codings) levels q (framed.fresh g) k n
+  fresh-after (progressive e d a lt le) g k n = absurd (true≢false (sym e ∙ g))
+
+  kept-now : is_progressive f.process ≡ true
+      → AllKept f array levels_next (arrays_before (reading w true after_kept brought.finished brought.planes) f)
+  kept-now e =
+      rw (sym (kept-arrays w after_kept brought.finished brought.planes f e
+      ∙ blocks-after_is before_scan f codings arrays e)) at
+      (blocks-after w f (pass_of s) array levels codings arrays (arrays_before before_scan f) apart done
+      (framed.kept e))
+
+  pub after-brings : AfterScan w f array levels_next (after_scan before_scan f s codings arrays)
+  unfolding after_scan
+  after-brings = record {
+    kept = after_kept;
+    finished = brought.finished;
+    planes = brought.planes;
+    after = brought.is;
+    framed = record {
+      marked = brought.marked;
+      sized = after-length (pass_of s) (indices_of codings) levels framed.sized;
+      kept = kept-now;
+      fresh = fresh-after so;
+    };
+  }
 
 -- what a scan was read as
 pub record Scanned (w : Said) (f : Frame) (array : Coefficients) (levels : ℕ → Levels) (sc : Bool) (h : Arrays)
@@ -554,100 +601,109 @@ pub record Scanned (w : Said) (f : Frame) (array : Coefficients) (levels : ℕ �
   pub framed : Framed w f array (levels_after (pass_of s) (indices_of codings) levels) true kept
       finished planes
 
-module _ (w : Said) (f : Frame) (array : Coefficients) (levels : ℕ → Levels) (sc : Bool) (h : Arrays)
-    (fi : List (List Bool)) (pl : List (Option (List ℕ))) (s : Scan)
-    (codings : List Coding) (bytes : List ℕ) (range : (nth row column : ℕ) → Is8Bit (array nth row
-    column))
-    (shape : Shaped f) (framed : Framed w f array levels sc h fi pl)
-    (rules : ScanFacts f s) (exist : AllByRecursion (λ c. IsTable c.dc × IsTable c.ac) codings)
-    (legal : IsLegalScan w f levels s codings)
-    (written : WritesScan f w.restart (pass_of s) codings array bytes) where
+-- What is known of a written scan of a frame, of which so much was said, sent and brought before it.
+pub record KnownScan (w : Said) (f : Frame) (array : Coefficients) (levels : ℕ → Levels) (sc : Bool) (x : Progress)
+    (s : Scan) (codings : List Coding) (bytes : List ℕ) : Type 0 where
+  pub range : (index row column : ℕ) → Is8Bit (array index row column)
+  pub shape : Shaped f
+  pub framed : Framed w f array levels sc x.0 x.1 x.2
+  pub says : ScanFacts f s
+  pub exist : AllByRecursion (λ c. IsTable c.dc × IsTable c.ac) codings
+  pub legal : IsLegalScan w f levels s codings
+  pub written : WritesScan f w.restart (pass_of s) codings array bytes
+
+module _ {w : Said} {f : Frame} {array : Coefficients} {levels : ℕ → Levels} {sc : Bool} {x : Progress} {s : Scan}
+    {codings : List Coding} {bytes : List ℕ} (known : KnownScan w f array levels sc x s codings bytes) where
   abbrev now : Found
-  now = reading w sc h fi pl
+  now = reading w sc x.0 x.1 x.2
+
+  abbrev p : Pass
+  p = pass_of s
 
   found_codings : codings_of w f s ≡ Ok codings
-  found_codings = codings-found w f s codings legal.are_in_force
+  found_codings = codings-found w f s codings known.legal.are_in_force
 
-  indices : indices_of codings ≡ s.components
-  indices = codings-indices w f s codings rules.dc_length rules.ac_length found_codings
+  pub count : length codings ≡ length s.components
+  count = sym (length-map codings (λ (c : Coding). c.index)) ∙ ap (λ (l : List ℕ). length l)
+      (codings-indices w f s codings known.says.dc_length known.says.ac_length found_codings)
 
-  count : length codings ≡ length s.components
-  count = sym (length-map codings _) ∙ ap length indices
-
-  facts : AllByRecursion (CodingFacts w f) codings
+  pub facts : AllByRecursion (CodingFacts w f) codings
   facts = codings-each (CodingFacts w f) w f s codings found_codings (λ index d a k is. record {
     at = get-at k.index f.components k.component is.component;
     table = is.quantization;
   })
 
-  apart : AreApart (indices_of codings)
-  apart = subst AreApart (sym indices) rules.apart
+  pub apart : AreApart (indices_of codings)
+  apart = scan-apart w f s codings known.says found_codings
 
-  so : PassSo f s
-  so = rules.so
+  pub stands : (k : Coding) (j : ℕ) → At j codings k → At k.index f.components k.component
+  stands k j t = (at-all (CodingFacts w f) j codings k facts t).at
 
-  low : (pass_of s).al ≤ 7
-  low = grind (arith, common_steps, some-first, count, at-all, legal)
+  pub is-legal : (k : Coding) (j : ℕ) → At j codings k → IsLegal p (levels k.index)
+  is-legal k j t = at-all (λ (c : Coding). IsLegal p (levels c.index)) j codings k known.legal.legal t
 
-  holds-now : PassSo f s → (k : Coding) → CodingFacts w f k → IsLegal (pass_of s) (levels k.index)
-      → HoldsOwn (grid_of k.component) (array k.index) (levels k.index) (get_or (arrays_before now f)
-      k.index [])
-  holds-now (sequential e q) k fact l =
-      let none : levels k.index ≡ nothing_sent = grind arith in
+  pub low : p.al ≤ 7
+  low =
+      let some = known.says.some in
+      let c = count in
+      let first = at-below 0 codings (omega arith) in
+      (is-legal first.0 0 first.1).low
+
+  -- nothing was sent of the components of a sequential scan
+  pub unsent : is_progressive f.process ≡ false → p ≡ whole_pass → (k : Coding) (j : ℕ) → At j codings k
+      → levels k.index ≡ nothing_sent
+  unsent e q k j t =
+      known.framed.fresh e k.index
+      ((is-legal k j t).dc_unsent (ap (λ (y : Pass). y.ss) q) (ap (λ (y : Pass). y.is_first) q))
+
+  pub holds-now : PassSo f s → (k : Coding) (j : ℕ) → At j codings k
+      → HoldsOwn (grid_of k.component) (array k.index) (levels k.index) (get_or (arrays_before now f) k.index [])
+  holds-now (sequential e q) k j t =
       rw (sequential-arrays now f e)
-      (rw none (rw (zero-at f.components k.index k.component fact.at)
-      (zero-holds (array k.index) k.component (range k.index))))
-  holds-now (progressive e d a lt le) k fact l = (framed.kept e).each k.index k.component fact.at
+      (rw (unsent e q k j t) (rw (zero-at f.components k.index k.component (stands k j t))
+      (zero-holds (array k.index) k.component (λ row column. (known.range k.index row column).count))))
+  holds-now (progressive e d a lt le) k j t = (known.framed.kept e).each k.index k.component (stands k j t)
 
-  suit-now : PassSo f s → SpotsSuit (pass_of s) (arrays_before now f) codings
+  -- no block is kept before a sequential scan
+  pub zeros-now : is_progressive f.process ≡ false → (nth i : ℕ)
+      → get_or (get_or (arrays_before now f) nth []) i zero_block ≡ zero_block
+  zeros-now e nth i =
+      ap (λ (a : Arrays). get_or (get_or a nth []) i zero_block) (sequential-arrays now f e)
+      ∙ zeros-everywhere f.components nth i
+
+  suit-now : PassSo f s → SpotsSuit p (arrays_before now f) codings
   unfolding pass_of
-  suit-now (sequential e q) = grind (arith, common_steps, sequential-arrays, zeros-everywhere)
+  suit-now (sequential e q) = none_read q (zeros-now e)
   suit-now (progressive e d (inl z) lt le) = dc_alone z (d z) low
   suit-now (progressive e d (inr one) lt le) = let k = single codings (count ∙ one) in one_component k.0 k.1
 
-  reads-now : ReadsScan f w.restart (pass_of s) codings array levels (arrays_before now f) bytes
-  reads-now = scan-is_read f w.restart (pass_of s) codings array levels (arrays_before now f) bytes range
-      (all-ready w f (pass_of s) array levels (arrays_before now f) codings shape
-      (holds-now so) facts legal.legal framed.sized)
-      (suit-now so) (all-good codings exist) written
+  -- the components of the scan are ready
+  ready : AllByRecursion (SlotReady f p array levels (arrays_before now f)) codings
+  ready = all-from (SlotReady f p array levels (arrays_before now f)) codings (λ j k t. record {
+    fits = known.shape.fits k.index k.component (stands k j t);
+    holds = holds-now known.says.so k j t;
+    legal = is-legal k j t;
+    sized = known.framed.sized k.index;
+  })
 
-  done : AllDone w f (pass_of s) array levels codings reads-now.arrays
-  done = grind (arith, common_steps, all-done, reads-now, facts, legal, framed)
-
-  abbrev after_kept : Arrays
-  after_kept = blocks_after now f codings reads-now.arrays
-
-  brought : Brought w f (pass_of s) array levels codings reads-now.arrays true after_kept fi pl
-  brought = search (rules, brings, band-so, apart, done, framed)
-
-  fresh-after : PassSo f s → is_progressive f.process ≡ false → (k : ℕ)
-      → (levels_after (pass_of s) (indices_of codings) levels k).dc ≡ None
-      → levels_after (pass_of s) (indices_of codings) levels k ≡ nothing_sent
-  fresh-after (sequential e q) g = grind (arith, common_steps, after-fresh, framed)
-  fresh-after (progressive e d a lt le) g = absurd (true≢false (sym e ∙ g))
-
-  kept-now : is_progressive f.process ≡ true
-      → AllKept f array (levels_after (pass_of s) (indices_of codings) levels)
-      (arrays_before (reading w true after_kept brought.finished brought.planes) f)
-  kept-now e = rw (sym (kept-arrays w after_kept brought.finished brought.planes f e ∙ blocks-after_is now f codings reads-now.arrays e)) at
-      (blocks-after w f (pass_of s) array levels codings reads-now.arrays (arrays_before now f)
-      apart done
-      (framed.kept e))
+  reads-now : ReadsScan f w.restart p codings array levels (arrays_before now f) bytes
+  reads-now = scan-is_read f w.restart p codings array levels (arrays_before now f) bytes known.range ready
+      (suit-now known.says.so) (all-good codings known.exist) known.written
 
   -- A written scan brings what the levels after it say.
-  pub scan-brings : Scanned w f array levels sc h fi pl s codings bytes
-  unfolding scan_arrays after_scan
-  scan-brings = record {
-    arrays = reads-now.arrays;
-    kept = after_kept;
-    finished = brought.finished;
-    planes = brought.planes;
-    read = reads-now.read;
-    after = brought.is;
-    framed = record {
-      marked = brought.marked;
-      sized = after-length (pass_of s) (indices_of codings) levels framed.sized;
-      kept = kept-now;
-      fresh = fresh-after so;
-    };
-  }
+  pub scan-brings : Scanned w f array levels sc x.0 x.1 x.2 s codings bytes
+  unfolding scan_arrays
+  scan-brings =
+      let done = all-done w f p array levels codings reads-now.arrays reads-now.count reads-now.holds facts
+      known.legal.legal known.framed.sized in
+      let a = after-brings w f array levels sc x s codings reads-now.arrays known.shape known.framed known.says.so
+      apart done in
+      record {
+        arrays = reads-now.arrays;
+        kept = a.kept;
+        finished = a.finished;
+        planes = a.planes;
+        read = reads-now.read;
+        after = a.after;
+        framed = a.framed;
+      }

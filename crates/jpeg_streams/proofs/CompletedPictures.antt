@@ -1,8 +1,8 @@
 -- Where each component of a picture is there, nothing is completed.
-use Rattle.std.proofs.Common.{◌≡◌, ◌⊎◌, inl, inr, ℕ, zero, suc, ◌+◌, ◌*◌, ◌<◌, ◌≤◌, ◌≢◌, Bool, true, false, List, []}
-use Rattle.std.proofs.Common.{◌∷◌, Option, Some, None, Result, Ok, Err, refl, sym, ap, ◌∙◌, arith, get_or, set}
-use Rattle.std.proofs.Common.{get_or-set_other, replicate}
-use Rattle.std.specs.Prelude.{◌&&◌, fold, length, nat_lt, slice_index_or, unwrap_or, if◌then◌else◌}
+use Rattle.std.proofs.Common.{◌≡◌, ◌⊎◌, inl, inr, ℕ, zero, suc, ◌+◌, ◌<◌, ◌≤◌, ◌≢◌, Bool, true, false, List, [], ◌∷◌}
+use Rattle.std.proofs.Common.{Option, Some, None, Result, Ok, refl, sym, ap, ◌∙◌, arith, get_or, set}
+use Rattle.std.proofs.Common.{get_or-set_other, length-set, replicate}
+use Rattle.std.specs.Prelude.{◌&&◌, fold, length, slice_index_or, unwrap_or, if◌then◌else◌}
 use Rattle.std.specs.List.{enumerate_from}
 use Rattle.std.proofs.lemmas.List.{set-get_or}
 use Rattle.jpeg_bits.specs.Reading.{Fault, Malformed, ◌>>=◌}
@@ -13,23 +13,24 @@ use Rattle.jpeg_segments.specs.Frame.{Component, Frame}
 use Rattle.jpeg_segments.proofs.Codecs.{err-ok, ok-same, bind-ok}
 use Rattle.jpeg_streams.specs.declared.settings.Settings.{Settings}
 use Rattle.jpeg_streams.specs.Found.{Found, Said}
-use Rattle.jpeg_streams.specs.FoundPictures.{blocks_picture, limited, picture_by_process, picture_of, plane_at_end}
+use Rattle.jpeg_streams.specs.FoundPictures.{blocks_picture, picture_by_process, picture_of, plane_at_end}
 use Rattle.jpeg_streams.specs.Rasters.{plane_by}
 use Rattle.jpeg_streams.specs.Scans.{Arrays, zero_of}
 use Rattle.jpeg_streams.specs.ScanSegments.{decided, is_progressive}
+pub use Rattle.jpeg_streams.proofs.LimitedPictures.{limited-at, within}
 use Rattle.jpeg_streams.specs.Shown.{completed, planes_by, shown_by, with_plane_shown, with_samples_shown}
 
 -- ---- a plane
 
 -- what the plane of a component goes by
-abbrev plane_of_parts : Said → Arrays → Frame → ℕ × Component → Option (List ℕ) → Result (List ℕ) Fault
+abbrev pub plane_of_parts : Said → Arrays → Frame → ℕ × Component → Option (List ℕ) → Result (List ℕ) Fault
 plane_of_parts said kept frame c (Some plane) = Ok plane
 plane_of_parts said kept frame c None =
     check (is_progressive frame.process && said.scanned) >>= (λ _.
     needed (slice_index_or said.quantization c.1.factors.quantization None) >>= (λ table.
     Ok (plane_by c.1 table (get_or kept c.0 []))))
 
-plane-goes : (found : Found) (frame : Frame) (c : ℕ × Component)
+pub plane-goes : (found : Found) (frame : Frame) (c : ℕ × Component)
     → plane_at_end found frame c ≡ plane_of_parts found.said found.kept frame c (slice_index_or found.planes c.0 None)
 unfolding plane_at_end
 plane-goes found frame c = go (slice_index_or found.planes c.0 None)
@@ -44,10 +45,11 @@ plane-goes found frame c = go (slice_index_or found.planes c.0 None)
     go None = refl
 
 -- what stays where planes are completed from an index on
-record Stays (old new : Found) (i : ℕ) : Type 0 where
-  said : new.said ≡ old.said
-  kept : new.kept ≡ old.kept
-  planes : (k : ℕ) → k < i → slice_index_or new.planes k None ≡ slice_index_or old.planes k None
+pub record Stays (old new : Found) (i : ℕ) : Type 0 where
+  pub said : new.said ≡ old.said
+  pub kept : new.kept ≡ old.kept
+  pub count : length new.planes ≡ length old.planes
+  pub planes : (k : ℕ) → k < i → slice_index_or new.planes k None ≡ slice_index_or old.planes k None
 
 plane-stays : (old new : Found) (i : ℕ) (frame : Frame) (k : ℕ) (c : Component) → Stays old new i → k < i
     → plane_at_end new frame (k, c) ≡ plane_at_end old frame (k, c)
@@ -109,12 +111,13 @@ one-own frame found i c y e =
         last t (get_or (set found.planes i (Some (plane_by c t (get_or found.kept i [])))) i None) s e
         (set-either found.planes i (Some (plane_by c t (get_or found.kept i []))) None)
 
-one-stays : (frame : Frame) (found : Found) (i : ℕ) (c : Component)
+pub one-stays : (frame : Frame) (found : Found) (i : ℕ) (c : Component)
     → Stays found (with_plane_shown frame found (i, c)) i
 unfolding with_plane_shown
 one-stays frame found i c = record {
   said = refl;
   kept = refl;
+  count = length-set found.planes i _;
   planes = λ k lt. get_or-set_other found.planes i k _ None (λ e. absurd (omega arith));
 }
 
@@ -122,14 +125,15 @@ stays-on : (a b c : Found) (i j : ℕ) → i ≤ j → Stays a b i → Stays b c
 stays-on a b c i j le p q = record {
   said = q.said ∙ p.said;
   kept = q.kept ∙ p.kept;
+  count = q.count ∙ p.count;
   planes = λ k lt. q.planes k (omega arith) ∙ p.planes k lt;
 }
 
-abbrev all_shown : Frame → Found → ℕ → List Component → Found
+abbrev pub all_shown : Frame → Found → ℕ → List Component → Found
 all_shown frame found i cs = fold (with_plane_shown frame) found (enumerate_from i cs)
 
-all-stay : (frame : Frame) (cs : List Component) (i : ℕ) (found : Found) → Stays found (all_shown frame found i cs) i
-all-stay frame [] i found = record { said = refl; kept = refl; planes = λ k lt. refl }
+pub all-stay : (frame : Frame) (cs : List Component) (i : ℕ) (found : Found) → Stays found (all_shown frame found i cs) i
+all-stay frame [] i found = record { said = refl; kept = refl; count = refl; planes = λ k lt. refl }
 all-stay frame (c ∷ cs) i found =
     stays-on found (with_plane_shown frame found (i, c)) _ i (i + 1) (omega arith) (one-stays frame found i c)
     (all-stay frame cs (i + 1) (with_plane_shown frame found (i, c)))
@@ -221,16 +225,6 @@ pictures-same Lossless settings found frame planes e =
       ap (λ (g : Found). g.said) s,
       ap (λ (g : Found). picture_by_process Lossless settings g frame) s,
     )
-
-abbrev pub within : Settings → Frame → Result (List ℕ) Fault → Result (List ℕ) Fault
-within settings frame x =
-    if nat_lt settings.limit (length frame.components * (frame.output_width * frame.output_height))
-    then Err Malformed else x
-
-pub limited-at : (settings : Settings) (said : Said) (frame : Frame) (picture : Frame → Result (List ℕ) Fault)
-    → said.frame ≡ Some frame → limited settings said picture ≡ within settings frame (picture frame)
-unfolding limited
-limited-at settings said frame picture e = rw e refl
 
 -- Where each component has its plane or its samples, the picture of what was found isn't changed by completing it.
 pub completed-same : (settings : Settings) (found : Found) (frame : Frame) (planes : List (List ℕ))

@@ -249,9 +249,6 @@ ready-onward : (frame : Frame) (now : Said) (n : ℕ) (b : Bool) → IsReady fra
     → IsReady frame (record now { restart = n; scanned = b })
 ready-onward frame now n b ready = record { framed = ready.framed; tabled = ready.tabled }
 
-ready-interval : (frame : Frame) (now : Said) (n : ℕ) → IsReady frame now → IsReady frame (record now { restart = n })
-ready-interval frame now n ready = record { framed = ready.framed; tabled = ready.tabled }
-
 component-there : (components : List Component) (index : ℕ) → index < length components
     → (c : Component) × (slice_get components index ≡ Some c)
 component-there [] index h = absurd (omega arith)
@@ -398,7 +395,7 @@ script-sent frame samples [] now sent good ready all whole = record {
 }
 script-sent frame samples (s ∷ script) now sent good ready all whole =
     let here = record now { restart = s.restart } in
-    let d = scan-sent frame samples here s good (ready-interval frame now s.restart ready) refl all.0 in
+    let d = scan-sent frame samples here s good (ready-onward frame now s.restart now.scanned ready) refl all.0 in
     let rest = script-sent frame samples script (record here { scanned = true }) (indices_in s.header ++ sent) good
     (ready-onward frame now s.restart true ready) all.1
     (λ index h. anywhere-onward sent s script index (whole index h)) in

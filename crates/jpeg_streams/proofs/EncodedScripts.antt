@@ -331,18 +331,9 @@ record Sends (frame : Frame) (script : List ScriptedScan) (array : Coefficients)
   are_last : AreAllLevels (sent_by frame sent script) last
   are_bytes : AreNamed frame.components → AreBytes bytes
 
-ready-onward : (frame : Frame) (w : Said) (n : ℕ) → IsReady frame w
-    → IsReady frame (record w { restart = n; scanned = true })
-ready-onward frame w n ready = record {
-  framed = ready.framed;
-  plain = ready.plain;
-  quantized = ready.quantized;
-  dc = ready.dc;
-  ac = ready.ac;
-}
-
-ready-interval : (frame : Frame) (w : Said) (n : ℕ) → IsReady frame w → IsReady frame (record w { restart = n })
-ready-interval frame w n ready = record {
+ready-onward : (frame : Frame) (w : Said) (n : ℕ) (b : Bool) → IsReady frame w
+    → IsReady frame (record w { restart = n; scanned = b })
+ready-onward frame w n b ready = record {
   framed = ready.framed;
   plain = ready.plain;
   quantized = ready.quantized;
@@ -385,14 +376,14 @@ script-sent frame array (s ∷ more) w sent levels range ready low is are legal 
     let now = record w { restart = s.restart } in
     let p = pass_in frame s.header in
     let after = levels_after p (indices_in s.header) levels in
-    let ks = scan-codings now frame sent levels s (ready-interval frame w s.restart ready) low are legal.0 in
+    let ks = scan-codings now frame sent levels s (ready-onward frame w s.restart w.scanned ready) low are legal.0 in
     let d = scan-sent now frame levels s.header ks.codings array range
     (record { are_in_force = have-codings now frame s.header ks.codings ready.plain ks.in_force; legal = ks.legal })
     ks.suffice in
     let sends : WritesImageScan array now levels frame s.header d.0 after =
     subst (λ (is : List ℕ). WritesImageScan array now levels frame s.header d.0 (levels_after p is levels)) ks.indices d.1 in
     let rest = script-sent frame array more (record now { scanned = true })
-    (sent_after_scan frame.process s.header sent) after range (ready-onward frame w s.restart ready) low
+    (sent_after_scan frame.process s.header sent) after range (ready-onward frame w s.restart true ready) low
     (λ e. refl) (scan-after frame s.header sent levels legal.0.is_scan.narrow are) legal.1 whole in
     record {
       bytes = scan_segments s d.0 rest.bytes;

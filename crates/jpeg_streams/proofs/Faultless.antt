@@ -107,6 +107,21 @@ scan-read found frame scan codings bytes m fits e =
     (sym (scans-in-turn p n vias spots arrays bytes (spots-apart frame (components_of codings) fits)))
     (intervals-read p vias 0 (first_group n spots) (other_groups n spots) arrays bytes m.0 m.1 e)
 
+-- the turn of a scan that finds this, and goes on at the marker after it
+scan-goes_on : (found new : Found) (o : Outcome Turn) (m : Option Marker × List ℕ) (marker : Option Marker)
+    (others : List ℕ) (f : GoesOnAt m.0 m.1 marker others) → o ≡ Ok (scan_turn found new f.passed, f.left)
+    → IsTurn o (scan_turn found new m.0) m.1
+scan-goes_on found new o m marker others f e = record {
+  now = scan_turn found new f.passed;
+  left = f.left;
+  read = e;
+  found = refl;
+  before = refl;
+  ended = refl;
+  after = λ h. absurd (let n : ⊥ = cc in n);
+  next = f.next;
+}
+
 -- the turn of a scan that is read
 read-turn : (found : Found) (frame : Frame) (scan : Scan) (codings : List Coding) (bytes : List ℕ) (arrays : Arrays)
     (m : Option Marker × List ℕ) → codings_of found.said frame scan ≡ Ok codings
@@ -114,16 +129,9 @@ read-turn : (found : Found) (frame : Frame) (scan : Scan) (codings : List Coding
     → IsTurn (blocks_scan found frame scan bytes)
     (scan_turn found (after_scan found frame scan codings arrays) m.0) m.1
 unfolding blocks_scan
-read-turn found frame scan codings bytes arrays m c r = record {
-  now = scan_turn found (after_scan found frame scan codings arrays) r.follows.passed;
-  left = r.follows.left;
-  read = rw (c, r.read, r.follows.restarts) refl;
-  found = refl;
-  before = refl;
-  ended = refl;
-  after = λ h. absurd (let n : ⊥ = cc in n);
-  next = r.follows.next;
-}
+read-turn found frame scan codings bytes arrays m c r =
+    scan-goes_on found (after_scan found frame scan codings arrays) (blocks_scan found frame scan bytes) m r.marker
+    r.others r.follows (rw (c, r.read, r.follows.restarts) refl)
 
 coded-turn : (found : Found) (frame : Frame) (scan : Scan) (codings : List Coding) (bytes : List ℕ)
     (x : Turn × List ℕ) → AllByRecursion (Fits frame) frame.components → codings_of found.said frame scan ≡ Ok codings
@@ -192,16 +200,9 @@ sampled-turn : (found : Found) (frame : Frame) (scan : Scan) (codings : List Los
     → IsTurn (lossless_scan found frame scan bytes)
     (scan_turn found (after_samples found codings planes) m.0) m.1
 unfolding lossless_scan
-sampled-turn found frame scan codings bytes planes m c r = record {
-  now = scan_turn found (after_samples found codings planes) r.follows.passed;
-  left = r.follows.left;
-  read = rw (c, r.read, r.follows.restarts) refl;
-  found = refl;
-  before = refl;
-  ended = refl;
-  after = λ h. absurd (let n : ⊥ = cc in n);
-  next = r.follows.next;
-}
+sampled-turn found frame scan codings bytes planes m c r =
+    scan-goes_on found (after_samples found codings planes) (lossless_scan found frame scan bytes) m r.marker r.others
+    r.follows (rw (c, r.read, r.follows.restarts) refl)
 
 coded-samples : (found : Found) (frame : Frame) (scan : Scan) (codings : List LosslessCoding) (bytes : List ℕ)
     (x : Turn × List ℕ) → found.said.frame ≡ Some frame → FoundFits found

@@ -1,6 +1,6 @@
 -- The components of the frame that was found fit it, and the samples that were found them, whatever turns are read.
-use Rattle.std.proofs.Common.{rules, ◌≡◌, ℕ, zero, suc, ◌+◌, ◌*◌, ◌/◌, ◌%◌, ◌≤◌, Bool, true, false, List, [], ◌∷◌, ◌++◌}
-use Rattle.std.proofs.Common.{Option, Some, None, Ok, Err, refl, sym, ap, ◌∙◌, map, replicate, subst, arith}
+use Rattle.std.proofs.Common.{rules, ◌≡◌, ℕ, zero, suc, ◌+◌, ◌*◌, ◌/◌, ◌%◌, ◌≤◌, Bool, true, false, List, [], ◌∷◌}
+use Rattle.std.proofs.Common.{◌++◌, Option, Some, None, Ok, Err, refl, sym, ◌∙◌, map, replicate, subst, arith}
 use Rattle.std.specs.Prelude.{◌&&◌, not, option_map, fold, zip, is_some, if◌then◌else◌, nat_le, ◌==◌, length}
 use Rattle.std.specs.List.{AllByRecursion}
 use Rattle.std.proofs.lemmas.Bool.{and_parts}
@@ -37,6 +37,7 @@ use Rattle.jpeg_streams.specs.Segments.{Turn, accepted, frame_segment, onward}
 use Rattle.jpeg_bits.specs.Passes.{Block}
 use Rattle.jpeg_streams.specs.Stream.{end_segment, segment_at, turn_at}
 use Rattle.jpeg_streams.proofs.FrameShapes.{accepted-few, frames-fit}
+pub use Rattle.jpeg_streams.proofs.ReadTurns.{needed-some}
 use Rattle.jpeg_streams.proofs.LosslessSizes.{IsMade, all-covered, frames-made}
 use Rattle.jpeg_streams.proofs.ScanSamples.{AreOwn, IsAt, codings-all, codings-at, parts-own, scan-whole, with-sampled}
 use Rattle.jpeg_streams.proofs.Soundness.{no-samples}
@@ -57,10 +58,10 @@ pub record FoundFits (found : Found) : Type 0 where
 
 -- ---- frame headers
 
-factor-bounds : (n : ℕ) → is_factor n ≡ true → (1 ≤ n) × (n ≤ 4)
+pub factor-bounds : (n : ℕ) → is_factor n ≡ true → (1 ≤ n) × (n ≤ 4)
 factor-bounds n e = grind (arith, common_steps, nat_tests)
 
-checked : (b : Bool) (u : Unit {0}) → check b ≡ Ok u → b ≡ true
+pub checked : (b : Bool) (u : Unit {0}) → check b ≡ Ok u → b ≡ true
 checked true u e = refl
 checked false u e = absurd (err-ok Malformed u e)
 
@@ -255,10 +256,6 @@ scans-fit DctSequential found frame scan bytes x is fits e =
 scans-fit DctProgressive found frame scan bytes x is fits e =
     kept-fits found x fits (blocks-keep found frame scan bytes x e)
 scans-fit Lossless found frame scan bytes x is fits e = samples-fit found frame scan bytes x is fits e
-
-pub needed-some : {A : Type 0} (o : Option A) (x : A) → needed o ≡ Ok x → o ≡ Some x
-needed-some None x e = absurd (err-ok Malformed x e)
-needed-some (Some y) x e = ap Some (ok-same y x e)
 
 scan-fits : (found : Found) (bytes : List ℕ) (x : Turn × List ℕ) → FoundFits found → scan_segment found bytes ≡ Ok x
     → FoundFits x.0.found

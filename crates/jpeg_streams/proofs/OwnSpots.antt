@@ -51,6 +51,11 @@ at-within j [] x h = absurd h
 at-within zero (y ∷ xs) x h = omega arith
 at-within (suc j) (y ∷ xs) x h = let r = at-within j xs x h in omega arith
 
+pub at-below : {A : Type 0} (k : ℕ) (xs : List A) → k < length xs → (x : A) × At k xs x
+at-below k [] lt = absurd (omega arith)
+at-below zero (x ∷ xs) lt = (x, refl)
+at-below (suc k) (x ∷ xs) lt = at-below k xs (omega arith)
+
 pub at-get : {A B : Type 0} (f : A → B) (d : B) (j : ℕ) (xs : List A) (x : A) → At j xs x → get_or (map f xs) j d ≡ f x
 at-get f d j [] x h = absurd h
 at-get f d zero (y ∷ xs) x h = ap f h

@@ -42,11 +42,11 @@ pub record AreRead (p : Pass) (vias : List Via) (spots : List Spot) (old : Reach
       (f : Ending) (ps : List (List ℕ))
       → turns_from p vias spots old (text bits ps f) ≡ Ok (new, text (drop taken bits) (drop taken ps) f)
 
-abbrev After : Type 0
+abbrev pub After : Type 0
 After = Reached × Result (List Bool) Fault
 
 -- what is reached after the next block
-abbrev after_turn : Pass → List Via → List Spot → Reached → Result (Reached × Text) Fault → After
+abbrev pub after_turn : Pass → List Via → List Spot → Reached → Result (Reached × Text) Fault → After
 after_turn p vias spots old o = elim o [
   | Ok r ↦ reached_from p vias spots r.0 r.1
   | Err fault ↦ (old, Err fault)
@@ -302,10 +302,11 @@ last-follows false k bytes m rest marker others e f = record {
       (ap (λ (q : Option Marker). (q, bytes)) (sym f.1.1) ∙ ok-same (k, bytes) (m, rest) e);
 }
 
-abbrev Scanned : Type 0
+abbrev pub Scanned : Type 0
 Scanned = Arrays × Outcome (Option Marker)
 
-abbrev next_reached : (Arrays → List ℕ → Scanned) → Arrays → Result (List ℕ) Fault → Scanned
+-- after an interval: the others, or its fault
+abbrev pub next_reached : (Arrays → List ℕ → Scanned) → Arrays → Result (List ℕ) Fault → Scanned
 next_reached others arrays o = elim o [ Ok rest ↦ others arrays rest | Err fault ↦ (arrays, Err fault) ]
 
 -- an interval after which its restart marker stands

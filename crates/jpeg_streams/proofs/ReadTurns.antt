@@ -232,6 +232,11 @@ pub coding-is : (w : Said) (frame : Frame) (p : Pass) (tables : Tables) (index d
 unfolding component_coding
 coding-is w frame p tables index d a k e = search (rules, bind-ok, ok-same, needed-some)
 
+pub gathered-more : {A B : Type 0} (f : A → Result B Fault) (x : A) (xs : List A) (y : B) (ys : List B) → f x ≡ Ok y
+    → gathered f xs ≡ Ok ys → gathered f (x ∷ xs) ≡ Ok (y ∷ ys)
+unfolding gathered
+gathered-more f x xs y ys e g = then-ok (f x) _ y _ e (then-ok (gathered f xs) _ ys _ g refl)
+
 -- what holds of each that is gathered
 pub gathered-each : {A B : Type 0} (P : B → Type 0) (f : A → Result B Fault) (xs : List A) (ys : List B)
     → gathered f xs ≡ Ok ys → ((x : A) (y : B) → f x ≡ Ok y → P y) → AllByRecursion P ys

@@ -65,10 +65,11 @@ interval-rows-read rows bytes x h =
 
 -- ---- intervals
 
-abbrev Scanned : Type 0
+abbrev pub Scanned : Type 0
 Scanned = Grids × Outcome (Option Marker)
 
-abbrev next_reached : (List ℕ → Scanned) → Grid → Result (List ℕ) Fault → Scanned
+-- after an interval: the others, or its fault
+abbrev pub next_reached : (List ℕ → Scanned) → Grid → Result (List ℕ) Fault → Scanned
 next_reached others new o = elim o [
   | Ok rest ↦ (new ∷ (others rest).0, (others rest).1)
   | Err fault ↦ (new ∷ [], Err fault)

@@ -145,6 +145,28 @@ takes-block p via old u predictor next run after dc ac good before wd wa =
     (map (scaled p.al) (band_of p u.acs), after)
     (search (rules, takes-band_part)))
 
+-- A block that was written is read before others that are read.
+pub takes-next : (p : Pass) (t : Via × Block × Block) (turns : List (Via × Block × Block)) (predictors : List ℤ)
+    (next : ℤ) (run after : ℕ) (dc ac more : List Bool) → Predicts predictors → IsReady p t
+    → WritesDc p t.0.dc t.2.dc (get_or predictors t.0.component (pos 0)) dc next
+    → WritesAc p t.0.ac (band_of p t.2.acs) run ac after
+    → (Predicts (set predictors t.0.component next)
+    → ReadsJust (blocks_of p (set predictors t.0.component next) after (reads_of turns)) more
+    (map (λ t. after_pass p t.1 t.2) turns))
+    → ReadsJust (blocks_of p predictors run (reads_of (t ∷ turns))) (dc ++ (ac ++ more))
+    (map (λ t. after_pass p t.1 t.2) (t ∷ turns))
+unfolding blocks_of
+takes-next p t turns predictors next run after dc ac more predict good wd wa others =
+    let old = get_or predictors t.0.component (pos 0) in
+    let before = predict.each t.0.component in
+    let range = next-range p t.0.dc t.2.dc old next dc good.suits.dc_range before wd in
+    takes-as _ ((dc ++ ac) ++ more) (dc ++ (ac ++ more)) _ _ (append_assoc dc ac more) refl
+    (takes-bind (block_from p t.0.dc t.0.ac old run t.1) _ (dc ++ ac) more (after_pass p t.1 t.2, next, after) _
+    (takes-block p t.0 t.1 t.2 old next run after dc ac good before wd wa)
+    (takes-map (blocks_of p (set predictors t.0.component next) after (reads_of turns))
+    (λ (l : List Block). after_pass p t.1 t.2 ∷ l) more _
+    (others (predicts-set predictors t.0.component next predict range))))
+
 -- The blocks of an interval that were written are read as the blocks after the pass.
 pub takes-blocks : (p : Pass) (turns : List (Via × Block × Block)) (predictors : List ℤ) (run : ℕ) (bits : List Bool)
     → Predicts predictors
@@ -153,16 +175,6 @@ pub takes-blocks : (p : Pass) (turns : List (Via × Block × Block)) (predictors
 unfolding blocks_of
 takes-blocks p [] predictors run bits predict ready (done preds) = takes-gives []
 takes-blocks p (t ∷ turns) predictors run bits predict ready
-    (block preds run' run_after via u turns' dc ac more next wd wa w) =
-    let good = ready.0 in
-    let before = predict.each t.0.component in
-    let after = next-range p t.0.dc t.2.dc
-    (get_or predictors t.0.component (pos 0)) next dc good.suits.dc_range before wd in
-    takes-as _ ((dc ++ ac) ++ more) (dc ++ (ac ++ more)) _ _ (append_assoc dc ac more) refl
-    (takes-bind (block_from p t.0.dc t.0.ac (get_or predictors t.0.component (pos 0)) run t.1) _ (dc ++ ac) more
-    (after_pass p t.1 t.2, next, run_after) _
-    (search (rules, takes-block))
-    (takes-map (blocks_of p (set predictors t.0.component next) run_after (reads_of turns))
-    (λ (l : List Block). after_pass p t.1 t.2 ∷ l) more _
-    (takes-blocks p turns (set predictors t.0.component next) run_after more
-    (predicts-set predictors t.0.component next predict after) ready.1 w)))
+    (block preds run' after via u turns' dc ac more next wd wa w) =
+    takes-next p t turns predictors next run after dc ac more predict ready.0 wd wa
+    (λ range. takes-blocks p turns (set predictors t.0.component next) after more range ready.1 w)

@@ -160,6 +160,12 @@ pub array-at : (before : Arrays) (codings : List Coding) (k : Coding) (j : ℕ) 
     → get_or (arrays_of before codings) j [] ≡ get_or before k.index []
 array-at before codings k j h = at-get (λ (c : Coding). get_or before c.index []) [] j codings k h
 
+pub zeros-in : (before : Arrays) (codings : List Coding) (slot index : ℕ)
+    → ((nth i : ℕ) → get_or (get_or before nth []) i zero_block ≡ zero_block)
+    → get_or (get_or (arrays_of before codings) slot []) index zero_block ≡ zero_block
+zeros-in before (k ∷ more) (suc slot) index z = zeros-in before more slot index z
+zeros-in before codings slot index z = search rules
+
 pub all-in : {A : Type 0} (Q : A → Type 0) (xs : List A) → ((x : A) → IsIn x xs → Q x) → AllByRecursion Q xs
 all-in Q [] h = tt
 all-in Q (x ∷ xs) h = (h x (inl refl), all-in Q xs (λ y t. h y (inr t)))
@@ -233,16 +239,10 @@ module _ (frame : Frame) (restart : ℕ) (p : Pass) (codings : List Coding) (arr
       rw (kept-own k s h own) (rw (sent-own k s h own)
       (suits-cut p (levels k.index) c here (here.count ∙ sym r.sized) r.legal))
 
-  zeros-at : (l : List Coding) (slot index : ℕ)
-      → ((nth i : ℕ) → get_or (get_or before nth []) i zero_block ≡ zero_block)
-      → get_or (get_or (arrays_of before l) slot []) index zero_block ≡ zero_block
-  zeros-at (k ∷ more) (suc slot) index z = zeros-at more slot index z
-  zeros-at l slot index z = search rules
-
   suits-at : SpotsSuit p before codings → (s : Spot) → IsIn s spots → Suits p (block_at scanned s) (u s)
   unfolding spots_of
   suits-at (none_read e z) s t =
-      rw e (rw (zeros-at codings s.slot s.index z) (suits-zero (w.sent s) (w.in_range s)))
+      rw e (rw (zeros-in before codings s.slot s.index z) (suits-zero (w.sent s) (w.in_range s)))
   suits-at (dc_alone e f low) s t = suits-dc p (block_at scanned s) (w.sent s) e f low (w.in_range s)
   suits-at (one_component k e) s t =
       let first : At 0 codings k = subst (λ (l : List Coding). At 0 l k) (sym e) refl in

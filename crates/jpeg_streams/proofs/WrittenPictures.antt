@@ -10,11 +10,12 @@ use Rattle.jpeg_bits.proofs.DefaultTables.{luminance-dc-codes, chrominance-dc-co
 use Rattle.jpeg_bits.proofs.DefaultTables.{chrominance-ac-codes}
 use Rattle.jpeg_segments.specs.Frame.{Frame, Component, ceiling}
 use Rattle.jpeg_segments.specs.ScanHeader.{Scan, Selector, is_band, scan_of}
-use Rattle.jpeg_streams.specs.Scans.{no_table, Arrays}
+use Rattle.jpeg_streams.specs.Scans.{no_table}
 use Rattle.jpeg_streams.specs.ScanSegments.{Coding, codings_of, needed_if, tables_of, pass_of, arrays_before}
 use Rattle.jpeg_streams.specs.ScanSegments.{is_progressive, scan_turn}
 use Rattle.jpeg_streams.specs.Found.{Said, Found, none_finished, nothing_found, nothing_said, Metadata}
-use Rattle.jpeg_streams.proofs.ReadTurns.{codings-each, needed-some, ok-same, same-frame, scan-by, then-ok}
+use Rattle.jpeg_streams.proofs.ReadTurns.{codings-each, gathered-more, needed-some, ok-same, same-frame, scan-by}
+use Rattle.jpeg_streams.proofs.ReadTurns.{then-ok}
 use Rattle.jpeg_streams.proofs.SaidTables.{HasTables, IsTableOrNone, table-there}
 use Rattle.jpeg_streams.proofs.WrittenFrameScans.{no-codes, HoldsOwn, in-all}
 use Rattle.std.proofs.lemmas.Grind.{common_steps}
@@ -24,8 +25,9 @@ use Rattle.jpeg_segments.specs.declared.frame.CodingProcess.TheVariants.{Lossles
 use Rattle.jpeg_segments.specs.ScanHeaders.{AreChoices, IsScan, ScanHeader, scan_written}
 use Rattle.jpeg_segments.proofs.Fields.{nibbles-high, nibbles-low}
 use Rattle.jpeg_streams.proofs.OwnSpots.{IsAbsent, AreApart, At, at-within, Fits, in-below}
+pub use Rattle.jpeg_streams.proofs.BroughtLevels.{Progress}
 use Rattle.jpeg_streams.proofs.BroughtLevels.{PassSo, ScanFacts, progressive-pass, Framed, framed-start, scan-brings}
-use Rattle.jpeg_streams.proofs.BroughtLevels.{Shaped, PlaneSo, is_level_0, is_whole, Made, kept-arrays}
+use Rattle.jpeg_streams.proofs.BroughtLevels.{KnownScan, Shaped, PlaneSo, is_level_0, is_whole, Made, kept-arrays}
 use Rattle.jpeg_bits.specs.Reading.{Outcome, Fault, ◌>>=◌}
 use Rattle.jpeg_bits.specs.Written.{marker}
 use Rattle.jpeg_pixels.specs.Pictures.{Source, sources_of, image_of}
@@ -123,10 +125,6 @@ header-facts f h is n = search (rules, length-map, nibbles-high, nibbles-low, al
 
 -- ---- what scans bring
 
--- blocks that are kept, finished indices and decided planes
-abbrev pub Progress : Type 0
-Progress = Arrays × List (List Bool) × List (Option (List ℕ))
-
 abbrev pub no_progress : Progress
 no_progress = ([], replicate 4 none_finished, replicate 4 None)
 
@@ -152,7 +150,7 @@ plane-kept : (w next : Said) (array : Coefficients) (l : Levels) (pl : List (Opt
     → PlaneSo w array l pl k c → PlaneSo next array l pl k c
 plane-kept w next array l pl k c e p = search rules
 
-framed-same : (w next : Said) (f : Frame) (array : Coefficients) (levels : ℕ → Levels) (x : Progress)
+pub framed-same : (w next : Said) (f : Frame) (array : Coefficients) (levels : ℕ → Levels) (x : Progress)
     → next.quantization ≡ w.quantization → Framed w f array levels true x.0 x.1 x.2
     → Framed next f array levels true x.0 x.1 x.2
 unfolding arrays_before
@@ -187,7 +185,8 @@ drawn-said said number h stands few =
     search (rules, all-shaped, plain-said, frame-lossy, accepted-sources)
 
 module _ (array : Coefficients) (range : (index row column : ℕ) → Is8Bit (array index row column)) where
-  framed-now : (said : Said) (levels : ℕ → Levels) (x : Progress) (f : Frame) → Holds array said levels x
+  -- what is kept, finished and decided before a scan
+  pub framed-now : (said : Said) (levels : ℕ → Levels) (x : Progress) (f : Frame) → Holds array said levels x
       → said.frame ≡ Some f → Framed said f array levels said.scanned x.0 x.1 x.2
   framed-now said levels x f held e = go said.scanned refl
     where
@@ -200,6 +199,25 @@ module _ (array : Coefficients) (range : (index row column : ℕ) → Is8Bit (ar
           let h = held.framed g in
           subst (λ (y : Frame). Framed said y array levels true x.0 x.1 x.2) (same-frame h.0 f said.frame h.1 e) h.2
 
+  -- what is known of a scan that stands next
+  abbrev pub known_scan : (said : Said) (levels next : ℕ → Levels) (x : Progress) (f : Frame) (h : ScanHeader)
+      (bytes : List ℕ) → IsSaid IsDrawn said → said.frame ≡ Some f → IsScan f h
+      → (sends : WritesImageScan array said levels f h bytes next) → Holds array said levels x
+      → KnownScan said f array levels said.scanned x (scan_written f h) sends.codings bytes
+  known_scan said levels next x f h bytes is e written sends held =
+      let s = scan_written f h in
+      let shape = (is.shaped f e).0 in
+      record {
+        range = range;
+        shape = shape;
+        framed = framed-now said levels x f held e;
+        says = header-facts f h written shape.lossy;
+        exist = codings-good said f s sends.codings is.tables
+            (codings-found said f s sends.codings sends.legal.are_in_force);
+        legal = sends.legal;
+        written = sends.written;
+      }
+
   scan-found : (said : Said) (levels next : ℕ → Levels) (x : Progress) (f : Frame) (h : ScanHeader) (bytes : List ℕ)
       → IsSaid IsDrawn said → said.frame ≡ Some f → IsScan f h → WritesImageScan array said levels f h bytes next
       → Holds array said levels x → FindsScan bring (Holds array) said next x h bytes
@@ -207,9 +225,7 @@ module _ (array : Coefficients) (range : (index row column : ℕ) → Is8Bit (ar
       let s = scan_written f h in
       let shape = (is.shaped f e).0 in
       let codings = codings-found said f s w.codings w.legal.are_in_force in
-      let b = scan-brings said f array levels said.scanned x.0 x.1 x.2 s w.codings bytes range shape
-      (framed-now said levels x f held e) (header-facts f h scan shape.lossy)
-      (codings-good said f s w.codings is.tables codings) w.legal w.written in
+      let b = scan-brings (known_scan said levels next x f h bytes is e scan w held) in
       record {
         brought = (b.kept, b.finished, b.planes);
         held = record {
@@ -335,21 +351,64 @@ pub record PlaneAtEnd (found : Found) (f : Frame) (array : Coefficients) (l : Le
   pub holds : HoldsOwn (grid_of c) (array k) l blocks
   pub is : plane_at_end found f (k, c) ≡ Ok (plane_by c table blocks)
 
-some-there : {A : Type 0} (o : Option A) → is_some o ≡ true → (x : A) × (o ≡ Some x)
+pub some-there : {A : Type 0} (o : Option A) → is_some o ≡ true → (x : A) × (o ≡ Some x)
 some-there None e = absurd (true≢false (sym e))
 some-there (Some x) e = (x, refl)
 
-end-decided : (found : Found) (f : Frame) (k : ℕ) (c : Component) (plane : List ℕ)
+pub end-decided : (found : Found) (f : Frame) (k : ℕ) (c : Component) (plane : List ℕ)
     → slice_index_or found.planes k None ≡ Some plane → plane_at_end found f (k, c) ≡ Ok plane
 unfolding plane_at_end
 end-decided found f k c plane e = rw (e, plane_at_end) refl
 
-end-kept : (found : Found) (f : Frame) (k : ℕ) (c : Component) (table : List ℕ)
+pub end-kept : (found : Found) (f : Frame) (k : ℕ) (c : Component) (table : List ℕ)
     → slice_index_or found.planes k None ≡ None → is_progressive f.process ≡ true → found.said.scanned ≡ true
     → slice_index_or found.said.quantization c.factors.quantization None ≡ Some table
     → plane_at_end found f (k, c) ≡ Ok (plane_by c table (get_or found.kept k []))
 unfolding plane_at_end
 end-kept found f k c table n p s t = search (rules, then-ok)
+
+-- a plane of a component, and another one that is the same inside it
+pub record OnePlane (our their : ℕ × Component → Result (List ℕ) Fault) (k : ℕ) (c : Component) : Type 0 where
+  pub plane : List ℕ
+  pub other : List ℕ
+  pub is : our (k, c) ≡ Ok plane
+  pub other_is : their (k, c) ≡ Ok other
+  pub same : SamePlane (c.blocks_wide * c.scale) c.width c.height plane other
+
+-- those of components, from an index on
+pub record BothPlanes (our their : ℕ × Component → Result (List ℕ) Fault) (index : ℕ) (components : List Component)
+    : Type 0 where
+  pub ours : List (List ℕ)
+  pub theirs : List (List ℕ)
+  pub ours_are : gathered our (enumerate_from index components) ≡ Ok ours
+  pub theirs_are : gathered their (enumerate_from index components) ≡ Ok theirs
+  pub alike : AllAlike components ours theirs
+
+planes-from : (our their : ℕ × Component → Result (List ℕ) Fault) (index : ℕ) (components : List Component)
+    → ((j : ℕ) (c : Component) → At j components c → OnePlane our their (index + j) c)
+    → BothPlanes our their index components
+unfolding gathered
+planes-from our their index [] each =
+    record { ours = []; theirs = []; ours_are = refl; theirs_are = refl; alike = tt }
+planes-from our their index (c ∷ more) each =
+    let start : index + 0 ≡ index = omega arith in
+    let one = subst (λ (n : ℕ). OnePlane our their n c) start (each 0 c refl) in
+    let others = planes-from our their (index + 1) more (λ j d t.
+    let next : index + suc j ≡ (index + 1) + j = omega arith in
+    subst (λ (n : ℕ). OnePlane our their n d) next (each (suc j) d t)) in
+    let cs = enumerate_from (index + 1) more in
+    record {
+      ours = one.plane ∷ others.ours;
+      theirs = one.other ∷ others.theirs;
+      ours_are = gathered-more our (index, c) cs one.plane others.ours one.is others.ours_are;
+      theirs_are = gathered-more their (index, c) cs one.other others.theirs one.other_is others.theirs_are;
+      alike = (one.same, others.alike);
+    }
+
+pub planes-of : (our their : ℕ × Component → Result (List ℕ) Fault) (components : List Component)
+    → ((k : ℕ) (c : Component) → At k components c → OnePlane our their k c) → BothPlanes our their 0 components
+planes-of our their components each = planes-from our their 0 components (λ j c t.
+    let start : j ≡ 0 + j = omega arith in subst (λ (n : ℕ). OnePlane our their n c) start (each j c t))
 
 module _ (array : Coefficients) (final : Said) (last : ℕ → Levels) (r : ReadImage array final last) where
   abbrev f : Frame
@@ -397,45 +456,17 @@ module _ (array : Coefficients) (final : Said) (last : ℕ → Levels) (r : Read
           absurd (true≢false (sym (complete-whole (last k) all) ∙ e))
 
   -- the planes at the end and those of the array
-  record BothPlanes (index : ℕ) (components : List Component) : Type 0 where
-    ours : List (List ℕ)
-    theirs : List (List ℕ)
-    ours_are : gathered (plane_at_end found f) (enumerate_from index components) ≡ Ok ours
-    theirs_are : gathered (array_plane final (as_sent array last)) (enumerate_from index components) ≡ Ok theirs
-    alike : AllAlike components ours theirs
-
-  planes-end : (index : ℕ) (components : List Component)
-      → ((j : ℕ) (c : Component) → At j components c → At (index + j) f.components c) → BothPlanes
-      index components
-  unfolding gathered
-  planes-end index [] within = grind (arith, common_steps)
-  planes-end index (c ∷ more) within =
-      let start : index + 0 ≡ index = omega arith in
-      let t : At index f.components c = grind arith in
-      let e = plane-end index c t in
-      let others = planes-end (index + 1) more
-      (λ j d u. let next : index + suc j ≡ (index + 1) + j = omega arith in
-      subst (λ (n : ℕ). At n f.components d) next (within (suc j) d u)) in
+  both-planes : BothPlanes (plane_at_end found f) (array_plane final (as_sent array last)) 0 f.components
+  both-planes = planes-of (plane_at_end found f) (array_plane final (as_sent array last)) f.components (λ k c t.
+      let e = plane-end k c t in
       record {
-        ours = plane_by c e.table e.blocks ∷ others.ours;
-        theirs = plane_of_blocks c e.table (as_sent array last index) ∷ others.theirs;
-        ours_are = then-ok (plane_at_end found f (index, c)) _ (plane_by c e.table e.blocks) _ e.is
-            (then-ok (gathered (plane_at_end found f) (enumerate_from (index + 1) more)) _ others.ours _
-            others.ours_are refl);
-        theirs_are = then-ok (array_plane final (as_sent array last) (index, c)) _
-            (plane_of_blocks c e.table (as_sent array last index)) _ (then-ok (needed _) _ e.table _
-            (ap needed e.is_table) refl)
-            (then-ok (gathered (array_plane final (as_sent array last)) (enumerate_from (index + 1) more)) _
-            others.theirs _ others.theirs_are refl);
-        alike = (
-          plane-same f c e.table (last index) (array index) e.blocks (scale-made f shape.made index c t)
-              (shape.fits index c t) e.holds,
-          others.alike,
-        );
-      }
-
-  both-planes : BothPlanes 0 f.components
-  both-planes = search (rules, planes-end)
+        plane = plane_by c e.table e.blocks;
+        other = plane_of_blocks c e.table (as_sent array last k);
+        is = e.is;
+        other_is = then-ok (needed _) _ e.table _ (ap needed e.is_table) refl;
+        same = plane-same f c e.table (last k) (array k) e.blocks (scale-made f shape.made k c t) (shape.fits k c t)
+            e.holds;
+      })
 
 -- ---- the picture
 
@@ -450,12 +481,12 @@ picture-by-same settings m f components ps qs e made alike = search (rules, imag
 
 -- ---- the meaning
 
-lossy-picture : (settings : Settings) (all : Found) (f : Frame) (p : CodingProcess) → p ≢ Lossless
+pub lossy-picture : (settings : Settings) (all : Found) (f : Frame) (p : CodingProcess) → p ≢ Lossless
     → picture_by_process p settings all f ≡ blocks_picture settings all f
 lossy-picture settings all f Lossless n = absurd (n refl)
 lossy-picture settings all f p n = refl
 
-pictures-same : (settings : Settings) (array : Coefficients) (final : Said) (last : ℕ → Levels)
+pub pictures-same : (settings : Settings) (array : Coefficients) (final : Said) (last : ℕ → Levels)
     → (r : ReadImage array final last)
     → picture_of settings (beside bring final r.brought) ≡ picture_of_array settings final array last
 unfolding picture_of picture_of_blocks blocks_picture
