@@ -9,7 +9,7 @@ use Rattle.jpeg_bits.specs.Stream.{Stream}
 use Rattle.jpeg_bits.specs.Entropy.{Text, Ahead, Takes, IsFilled, upcoming, upcoming_by, same_text}
 use Rattle.jpeg_bits.specs.Entropy.{advance, has_buffered}
 use Rattle.jpeg_bits.specs.Codes.{Table}
-use Rattle.jpeg_bits.specs.ShortCodes.{HoldsCodes, next_bits, short_code, symbol_in}
+use Rattle.jpeg_bits.specs.ShortCodes.{HoldsCodes, next_bits, short_code, symbol_in, unpacked_code}
 use Rattle.jpeg_bits.specs.Written.{low_bits}
 use Rattle.jpeg_bits.specs.Bands.{token_from, wrapped}
 use Rattle.jpeg_bits.specs.Passes.{Pass}
@@ -144,7 +144,7 @@ module _ (table : Table) (counted : length table.counts ≡ 16) (d : Ahead) (fil
 
 -- ---- how the table is filled
 
-module _ (table : Table) (codes : List (Option (ℕ × ℕ))) (counted : length table.counts ≡ 16)
+module _ (table : Table) (codes : List ℕ) (counted : length table.counts ≡ 16)
     (holds : HoldsCodes table.counts table.symbols codes) (b rest : ℕ) (lt : b < 2048)
     (small : (pair_of table (low_bits 11 b)).passed ≤ 64) (few : (pair_of table (low_bits 11 b)).bits ≤ 11)
     (is : rest ≡ b * 2 ^ (pair_of table (low_bits 11 b)).bits % 2048) where
@@ -152,7 +152,7 @@ module _ (table : Table) (codes : List (Option (ℕ × ℕ))) (counted : length 
   p = pair_of table (low_bits 11 b)
 
   -- the code after a pair
-  next-ends : (size : ℕ) → get_or codes (rest / 8) None ≡ Some (0, size) → p.bits + size ≤ 11
+  next-ends : (size : ℕ) → unpacked_code (get_or codes (rest / 8) 0) ≡ Some (0, size) → p.bits + size ≤ 11
       → EndsAfter table (low_bits 11 b) p.bits size
   next-ends size code within =
       let left : low_bits 11 rest ≡ drop p.bits (low_bits 11 b) ++ replicate p.bits false
@@ -177,11 +177,11 @@ module _ (table : Table) (codes : List (Option (ℕ × ℕ))) (counted : length 
       Alone size (subst (λ (n : ℕ). EndsAfter table (low_bits 11 b) n size) nothing e)
   with-end size false some e = Ended size small e
 
-  pub entry-filled : IsPairOf table (low_bits 11 b) (ended p (get_or codes (rest / 8) None))
+  pub entry-filled : IsPairOf table (low_bits 11 b) (ended p (unpacked_code (get_or codes (rest / 8) 0)))
   unfolding ended with_end
-  entry-filled = go (get_or codes (rest / 8) None) refl
+  entry-filled = go (unpacked_code (get_or codes (rest / 8) 0)) refl
     where
-      test : (c : ℕ × ℕ) → get_or codes (rest / 8) None ≡ Some c → (a : Bool)
+      test : (c : ℕ × ℕ) → unpacked_code (get_or codes (rest / 8) 0) ≡ Some c → (a : Bool)
           → ((c.0 == 0) && nat_le c.1 (11 - p.bits)) ≡ a
           → IsPairOf table (low_bits 11 b)
           (if a then (if p.bits == 0 then end_alone c.1 else after_values p c.1) else p)
@@ -191,6 +191,6 @@ module _ (table : Table) (codes : List (Option (ℕ × ℕ))) (counted : length 
           with-end size _ refl (next-ends size (code ∙ ap (λ (s : ℕ). Some (s, size)) zero_is) within)
       test c code false h = Values small
 
-      go : (o : Option (ℕ × ℕ)) → get_or codes (rest / 8) None ≡ o → IsPairOf table (low_bits 11 b) (ended p o)
+      go : (o : Option (ℕ × ℕ)) → unpacked_code (get_or codes (rest / 8) 0) ≡ o → IsPairOf table (low_bits 11 b) (ended p o)
       go None code = Values small
       go (Some c) code = test c code _ refl

@@ -5,6 +5,7 @@ pub(crate) mod ahead;
 pub(crate) mod bits;
 pub mod codes;
 mod default_tables;
+mod packed_codes;
 mod pairs;
 
 use crate::error::{Error, Result, take_refusal};

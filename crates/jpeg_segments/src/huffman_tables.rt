@@ -8,7 +8,7 @@ ghost use Rattle.jpeg_segments.specs.Parts.{symbols_at, codes_at, dht_onto};
 use jpeg_bits::error::{Error, Result, format_error_of};
 use jpeg_bits::huffman::{HuffmanTable, HuffmanTableClass};
 use jpeg_bits::source::Source;
-use jpeg_bits::source::reads::{read_bytes, read_exact, read_length, read_u8};
+use jpeg_bits::source::reads::{read_exact, read_length, read_u8};
 use std::alloc::{AllocError, Global};
 use std::io::Read;
 
@@ -50,8 +50,10 @@ fn read_table<R: Read + Drop>(
     ensures class { IfOk result (λ t. t.class ≡ class) }
     ensures counts { IfOk result (λ t. t.counts ≡ counts.now) }
 {
-    let symbols = read_bytes(alloc, source, count)?;
-    HuffmanTable::new(alloc, counts, &symbols, class)
+    let mut symbols = [0u8; 256];
+    let symbols = &mut symbols[..usize::from(count)];
+    read_exact(alloc, source, symbols)?;
+    HuffmanTable::new(alloc, counts, symbols, class)
 }
 
 /// Returns the refusal of a number of codes that a table doesn't have.

@@ -7,6 +7,7 @@ ghost use Rattle.jpeg_bits.specs.Codes.{code_lengths, code_in, HasCodes};
 ghost use Rattle.jpeg_bits.specs.Reading.{NamesFormat};
 ghost use Rattle.jpeg_bits.specs.ShortCodes.{short_value_by, HoldsCodes, HoldsRows, ArePassed};
 ghost use Rattle.jpeg_bits.specs.ShortCodes.{IsRun, named, no_row, packed, short_only};
+ghost use Rattle.jpeg_bits.specs.ShortCodes.{unpacked_code};
 ghost use Rattle.jpeg_bits.specs.ShortCodes.{HoldsWideValues, rest_of_code, rest_of_value};
 ghost use Rattle.jpeg_bits.specs.Pairs.{AreSmall};
 ghost use Rattle.jpeg_bits.specs.Skips.{HoldsSkips, IsSkip};
@@ -15,6 +16,7 @@ ghost use Rattle.jpeg_bits.specs.declared.huffman.codes.HuffmanTableClass.TheVar
 
 use crate::error::{Error, Result, format_error_of};
 use crate::huffman::bits::{extend, power_of_two};
+use crate::huffman::packed_codes::{packed_code, unpacked_code};
 use crate::huffman::pairs::{NO_PAIR, Pair, pairs_of};
 use std::alloc::{AllocError, Global};
 use std::marker::Model;
@@ -41,7 +43,9 @@ pub struct HuffmanTable {
     values: Vec<u8>,
     rows: [Row; 16],
     // The look-up tables are on the heap, since a table is moved; one without codes has none.
-    codes: Vec<Option<(u8, u8)>>,
+    // At the index of each 8 bits, the code of at most 8 bits that begins them: 256 times its
+    // length, and its symbol; 0 where none does.
+    codes: Vec<u16>,
     // The last number has two bytes, so that an entry has eight and is found without a product.
     // Empty until `fill_pairs` fills it.
     tokens: Vec<Option<(i16, u8, u16)>>,
@@ -211,9 +215,9 @@ impl HuffmanTable {
     }
 
     /// Fills the look-up table by which two values and the end of a block are read at once, where
-    /// `widen` has filled that of single ones, and the one of `decode_fast_ac`. It takes some microseconds, and 16 KB: it pays for
-    /// sequential scans of very many blocks. Nothing else changes, and a second call does nothing.
-    /// The only error is `AllocError`.
+    /// `widen` has filled that of single ones, and the one of `decode_fast_ac`. It takes some
+    /// microseconds, and 16 KB: it pays for sequential scans of very many blocks. Nothing else
+    /// changes, and a second call does nothing. The only error is `AllocError`.
     pub fn fill_pairs(&mut self, alloc: Global) -> std::result::Result<(), AllocError>
         ensures { self.new ≡ self.old }
     {
@@ -277,7 +281,7 @@ impl HuffmanTable {
         ensures counted { length self.now.counts ≡ 16 }
     {
         match self.codes.get((bits >> 8) as usize) {
-            Some(Some(code)) => Some(*code),
+            Some(code) if *code != 0 => Some(((*code % 256) as u8, (*code >> 8) as u8)),
             _ => self.long_symbol_of(bits),
         }
     }
@@ -325,7 +329,7 @@ impl HuffmanTable {
             return None;
         }
         match self.codes.get(byte as usize) {
-            Some(code) => short_value(*code, 8, u16::from(byte)),
+            Some(code) => short_value(unpacked_code(*code), 8, u16::from(byte)),
             None => None,
         }
     }
@@ -492,6 +496,7 @@ impl Codes<'_> {
         ensures code { result ≡ named self.now.values.now
             (code_in (code_lengths self.now.counts.now) (low_bits 16 bits)) }
         ensures length { IfSome result (λ c. c.1 ≤ 16) }
+        ensures some { IfSome result (λ c. 1 ≤ c.1) }
         ensures within { row.new ≤ 16 }
         ensures passed { ArePassed self.now.rows.now row.new bits }
     {
@@ -510,6 +515,7 @@ impl Codes<'_> {
 fn short_only(code: Option<(u8, u8)>) -> Option<(u8, u8)>
     ensures code { result ≡ short_only code }
     ensures few { IfSome result (λ c. c.1 ≤ 8) }
+    ensures some { IfSome code (λ c. 1 ≤ c.1) → IfSome result (λ c. 1 ≤ c.1) }
 {
     match code {
         Some((symbol, length)) if length <= 8 => Some((symbol, length)),
@@ -560,10 +566,7 @@ fn end_of_run(first: usize, rest: u8) -> usize
 }
 
 /// Returns the codes of at most 8 bits, by the 8 bits that they begin.
-fn short_codes(
-    alloc: Global,
-    codes: &Codes<'_>,
-) -> std::result::Result<Vec<Option<(u8, u8)>>, AllocError>
+fn short_codes(alloc: Global, codes: &Codes<'_>) -> std::result::Result<Vec<u16>, AllocError>
     requires counted { length codes.now.counts.now ≡ 16 }
     requires rows { HoldsRows codes.now.counts.now codes.now.rows.now }
     requires count { length (code_lengths codes.now.counts.now) ≡ length codes.now.values.now }
@@ -572,16 +575,14 @@ fn short_codes(
         v.items) }
     ensures length { IfOk result (λ v. length v.items ≡ 256) }
 {
-    let mut short = vec![in alloc; None; 256]?;
+    let mut short = vec![in alloc; 0u16; 256]?;
     let mut row = 0;
     let mut byte = 0;
     // After a longer code, or bits that begin none, no greater byte begins a short one.
     while byte < 256 && row < 8 {
         let code = short_only(codes.code_of(&mut row, (byte as u16) << 8));
         let end = end_of_run(byte, rest_of_code(code));
-        for at in byte..end {
-            short[at] = code;
-        }
+        short[byte..end].fill(packed_code(code));
         byte = end;
     }
     Ok(short)
@@ -627,17 +628,18 @@ fn short_value(code: Option<(u8, u8)>, count: u8, bits: u16) -> Option<(i16, u8,
 /// of class AC.
 fn short_values(
     alloc: Global,
-    codes: &[Option<(u8, u8)>],
+    codes: &[u16],
 ) -> std::result::Result<Vec<Option<(i16, u8, u16)>>, AllocError>
     requires length { length codes.now ≡ 256 }
-    requires few { (b : ℕ) → b < 256 → IfSome (slice_index_or codes.now b None) (λ c. c.1 ≤ 16) }
+    requires few { (b : ℕ) → b < 256
+        → IfSome (unpacked_code (slice_index_or codes.now b 0)) (λ c. c.1 ≤ 16) }
     ensures values { IfOk result (λ v. (b : ℕ) → b < 256 → slice_index_or v.items b None
-        ≡ short_value_by 8 AC (low_bits 8 b) (slice_index_or codes.now b None)) }
+        ≡ short_value_by 8 AC (low_bits 8 b) (unpacked_code (slice_index_or codes.now b 0))) }
     ensures length { IfOk result (λ v. length v.items ≡ 256) }
 {
     let mut tokens = vec![in alloc; None; 256]?;
     for byte in 0..256 {
-        tokens[byte] = short_value(codes[byte], 8, byte as u16);
+        tokens[byte] = short_value(unpacked_code(codes[byte]), 8, byte as u16);
     }
     Ok(tokens)
 }

@@ -5,6 +5,7 @@ ghost use Rattle.jpeg_bits.specs.Codes.{Table};
 ghost use Rattle.jpeg_bits.specs.ShortCodes.{HoldsCodes, HoldsWideValues};
 ghost use Rattle.jpeg_bits.specs.Pairs.{AreSmall, HoldsPairs, ended, pair_by, with_end};
 
+use crate::huffman::packed_codes::unpacked_code;
 use std::alloc::{AllocError, Global};
 
 /// The values that some bits begin with, one or two, and whether the end of the block follows; or
@@ -119,7 +120,7 @@ fn ended(pair: Pair, next: Option<(u8, u8)>) -> Pair
 /// with.
 pub(crate) fn pairs_of(
     alloc: Global,
-    codes: &[Option<(u8, u8)>],
+    codes: &[u16],
     values: &[(i16, u8, u8)],
 ) -> std::result::Result<Vec<Pair>, AllocError>
     requires codes { length codes.now ≡ 256 }
@@ -135,7 +136,7 @@ pub(crate) fn pairs_of(
         let after = values[(bits << value.2) % 2048];
         let pair = pair_of(value, after);
         let rest = (bits << pair.bits) % 2048;
-        pairs[bits] = ended(pair, codes[rest / 8]);
+        pairs[bits] = ended(pair, unpacked_code(codes[rest / 8]));
     }
     Ok(pairs)
 }

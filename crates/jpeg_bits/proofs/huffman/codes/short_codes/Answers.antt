@@ -1,21 +1,33 @@
 use Rattle.jpeg_bits.proofs.huffman.codes.short_codes.Goals as goal
-use Rattle.std.proofs.Common.{◌≡◌, ◌∙◌, ◌*◌, ◌%◌, ◌++◌, ℕ, List, Bool, ap, arith, replicate, false, None, inl, inr}
-use Rattle.std.proofs.Common.{get_or-set_other}
+use Rattle.std.proofs.Common.{◌≡◌, ◌∙◌, ◌*◌, ◌%◌, ◌++◌, ◌≤◌, length, ℕ, List, Bool, ap, arith, replicate, false, inl, inr, rules}
 use Rattle.std.proofs.lemmas.Bool.{cases_lt}
+use Rattle.std.proofs.lemmas.Grind.{common_steps}
 use Rattle.jpeg_bits.specs.Codes.{code_in, code_lengths}
 use Rattle.jpeg_bits.specs.Written.{low_bits}
-use Rattle.jpeg_bits.specs.ShortCodes.{named, short_code, short_only}
+use Rattle.jpeg_bits.specs.ShortCodes.{named, short_code, short_only, unpacked_code}
 use Rattle.jpeg_bits.proofs.CodeLemmas.{still-passed}
-use Rattle.jpeg_bits.proofs.ShortLemmas.{byte_padded, length_set, none-after, set_next, short-of-named, run-entry}
-use Rattle.std.proofs.lemmas.Grind.{common_steps}
+use Rattle.jpeg_bits.proofs.ShortLemmas.{byte_padded, none-after, run_after, run_before, run_inside, run-entry, short-of-named}
+use Rattle.jpeg_bits.proofs.ShortLemmas.{unpacked_none, zeros_hold}
 
-pub loop-at-preserved : goal.loop-at-preserved
-loop-at-preserved c =
+pub loop-byte-init : goal.loop-byte-init
+loop-byte-init c = record {
+  whole = search rules;
+  filled = search rules;
+  rest = λ b le. zeros_hold _ 256 b (c.in_ok-short.ensures.items_if_clones_equal (λ y e. e));
+  within = search rules;
+  passed = search rules;
+  few = search rules;
+}
+
+pub loop-byte-preserved : goal.loop-byte-preserved
+loop-byte-preserved c =
     let byte = c.loop-byte.byte in
-    let b = c.loop-at.at in
+    let end = c.end_of_run-end.result in
+    let xs = c.loop-byte.short.items in
     let t = c.args.codes.now in
     let lens = code_lengths t.counts.now in
-    let i = c.loop-at.invariant in
+    let i = c.loop-byte.invariant in
+    let v = c.packed_code.result in
     let whole : byte * 256 % 65536 ≡ byte * 256 = omega (arith, c.loop-byte-test.true) in
     let padded : low_bits 16 (byte * 256 % 65536) ≡ low_bits 8 byte ++ replicate 8 false = ap (low_bits 16) whole
     ∙ byte_padded byte in
@@ -24,20 +36,24 @@ loop-at-preserved c =
     ∙ short-of-named t.values.now (code_in lens (low_bits 8 byte ++ replicate 8 false)) in
     let run = rw c.rest_of_code.ensures.rest at c.end_of_run-end.ensures.run in
     let most = c.end_of_run-end.ensures.byte c.loop-byte-test.true c.rest_of_code.ensures.most in
-    let same = run-entry t.counts.now t.values.now byte c.end_of_run-end.result b c.short_only-code.result
-    c.requires.counted (omega (arith, c.loop-at.auto.at)) (omega (arith, c.loop-at-test.true))
-    c.short_only-code.ensures.few run entry in
+    let le : byte ≤ end = omega (arith, c.end_of_run-end.ensures.more) in
+    let few : end ≤ length xs = omega (arith, most, i.whole) in
     record {
-      whole = length_set c.loop-at.short.items b c.short_only-code.result 256 i.whole;
-      filled = set_next c.loop-at.short.items b c.short_only-code.result None
-          (λ (k : ℕ). short_code t.counts.now t.values.now (low_bits 8 k))
-          (omega (arith, i.whole, c.loop-at-test.true, most)) i.filled same;
-      rest = λ k le. get_or-set_other c.loop-at.short.items b k c.short_only-code.result None (omega arith)
-          ∙ i.rest k (omega arith);
+      whole = grind (arith, common_steps);
+      filled = λ b lt. elim (cases_lt b byte) [
+        | inl before ↦ ap unpacked_code (run_before xs _ byte end v le few (grind (arith, common_steps)) b before)
+            ∙ i.filled b before
+        | inr after ↦ ap unpacked_code (run_inside xs _ byte end v le few (grind (arith, common_steps)) b after lt)
+            ∙ c.packed_code.ensures
+            ∙ run-entry t.counts.now t.values.now byte end b c.short_only-code.result c.requires.counted after lt
+            c.short_only-code.ensures.few run entry
+      ];
+      rest = λ b from. run_after xs _ byte end v le few (grind (arith, common_steps)) b from ∙ i.rest b (omega (arith, le, from));
+      within = search rules;
+      passed = still-passed t.rows.now c.code_of.new.row (byte * 256 % 65536) (end * 256) (omega (arith, le))
+          c.code_of.ensures.passed;
+      few = most;
     }
-
-pub loop-byte-preserved : goal.loop-byte-preserved
-loop-byte-preserved c = grind (arith, common_steps, still-passed)
 
 pub returns-clause-codes : goal.returns-clause-codes
 returns-clause-codes c b lt =
@@ -46,7 +62,7 @@ returns-clause-codes c b lt =
     elim (cases_lt b l.byte) [
       | inl before ↦ l.invariant.filled b before
       | inr after ↦ elim c.loop-byte-test.branch [
-        | goal.then-loop-byte-test+else-row-lt8 w ↦ l.invariant.rest b after
+        | goal.then-loop-byte-test+else-row-lt8 w ↦ unpacked_none _ (l.invariant.rest b after)
             ∙ none-after t.counts.now t.values.now t.rows.now l.byte b l.row c.requires.counted c.requires.rows after lt
             (omega (arith, w.if-row-lt8.false)) l.invariant.passed
         | goal.else-loop-byte-test w ↦ absurd (omega (arith, w.loop-byte-test.false))

@@ -24,5 +24,5 @@ loop-bits-preserved c =
           (subst (λ (p : Pair). p.passed ≤ 64) is c.pair_of-pair.ensures.small)
           (subst (λ (p : Pair). p.bits ≤ 11) is c.pair_of-pair.ensures.most) (omega arith) in
           set-holds (λ (b : ℕ) (p : Pair). IsPairOf table (low_bits 11 b) p) l.pairs.items l.bits c.ended.result
-          no_pair within (l.invariant.filled table counted held holds) (rw (c.ended.ensures, is) entry);
+          no_pair within (l.invariant.filled table counted held holds) (rw (c.ended.ensures, c.unpacked_code.ensures, is) entry);
     }
