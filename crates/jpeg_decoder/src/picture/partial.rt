@@ -17,7 +17,7 @@ ghost use Rattle.jpeg_streams.specs.Sound.{HasDecodedFrame, IsDecodedFrame, IsSo
 ghost use Rattle.jpeg_streams.specs.States.{IsOfBytes};
 ghost use Rattle.jpeg_streams.specs.Stream.{told_of};
 ghost use Rattle.jpeg_streams.specs.WholeRows.{rows_of_found, whole_rows, whole_rows_rest};
-ghost use Rattle.jpeg_decoder.specs.Bytes.{AreLinesOf, IsWhole, frame_shape};
+ghost use Rattle.jpeg_decoder.specs.Bytes.{AreLinesOf, IsWhole, shape_of};
 ghost use Rattle.jpeg_decoder.specs.Reaching.{NamesFault, is_out_of_memory};
 ghost use Rattle.jpeg_decoder.specs.Scanning.{arrays_in};
 ghost use Rattle.jpeg_decoder.specs.Shows.{CountsRows, GivesUp, IsShown, ShowsJust, is_there};
@@ -264,7 +264,7 @@ fn show_found(
     ensures refused { IfErr result IsOfBytes }
     ensures framed { IfOk result (λ _. is_some state.now.said.frame ≡ true) }
     ensures lines { IfOk result (λ p. AreLinesOf
-        (option_map frame_shape state.now.said.frame) p.lines) }
+        (option_map (shape_of settings) state.now.said.frame) p.lines) }
 {
     let Some(frame) = state.said.frame.as_ref() else {
         if let Some(e) = fault {
@@ -316,9 +316,9 @@ fn show_rest<R: Read + Drop>(
     ensures stays { is_some state.old.said.frame ≡ true → state.new.said.frame
         ≡ state.old.said.frame }
     ensures lines { IfOk result (λ p. AreLinesOf
-        (option_map frame_shape state.new.said.frame) p.lines) }
+        (option_map (shape_of settings) state.new.said.frame) p.lines) }
     ensures size { IfOk result (λ p. IsWhole
-        (option_map frame_shape state.new.said.frame) (concat p.lines)) }
+        (option_map (shape_of settings) state.new.said.frame) (concat p.lines)) }
     ensures emptied { (state.new.kept ≡ []) × (state.new.planes ≡ replicate 4 None)
         × (state.new.samples ≡ replicate 4 None) }
 {
@@ -361,9 +361,9 @@ pub fn show<R: Read + Drop>(
     ensures stays { is_some state.old.said.frame ≡ true → state.new.said.frame
         ≡ state.old.said.frame }
     ensures lines { IfOk result (λ p. AreLinesOf
-        (option_map frame_shape state.new.said.frame) p.lines) }
+        (option_map (shape_of settings) state.new.said.frame) p.lines) }
     ensures size { IfOk result (λ p. IsWhole
-        (option_map frame_shape state.new.said.frame) (concat p.lines)) }
+        (option_map (shape_of settings) state.new.said.frame) (concat p.lines)) }
     ensures emptied { (state.new.kept ≡ []) × (state.new.planes ≡ replicate 4 None)
         × (state.new.samples ≡ replicate 4 None) }
 {

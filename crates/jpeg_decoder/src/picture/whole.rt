@@ -26,7 +26,7 @@ ghost use Rattle.jpeg_streams.specs.Reported.{IsOfTurns, told_by_turns, told_in_
 ghost use Rattle.jpeg_streams.specs.FoundPictures.{blocks_picture, picture_of, picture_by};
 ghost use Rattle.jpeg_streams.specs.FoundPictures.{plane_at_end, samples_picture};
 ghost use Rattle.jpeg_streams.specs.Found.{nothing_found};
-ghost use Rattle.jpeg_decoder.specs.Bytes.{AreLinesOf, HaveBytes, IsWhole, frame_shape};
+ghost use Rattle.jpeg_decoder.specs.Bytes.{AreLinesOf, HaveBytes, IsWhole, frame_shape, shape_of};
 
 use crate::picture::color_choice::choose_color_transform;
 use crate::picture::lines::Lines;
@@ -208,7 +208,8 @@ fn picture_by(
     ensures meant { let expected = picture_by settings state.now.said.metadata
         (frame_in frame.now) (frame_in frame.now).components (map (λ p. p.items) planes.items) in
         Returns expected (λ l. concat l) result }
-    ensures lines { IfOk result (λ l. AreLinesOf (Some (frame_shape (frame_in frame.now))) l) }
+    ensures lines { IfOk result (λ l.
+        AreLinesOf (Some (shape_of settings (frame_in frame.now))) l) }
 {
     let components = frame.components.as_slice();
     if components.len() == 1 {
@@ -262,7 +263,8 @@ fn joint_picture(
         (frame_in frame.now) (frame_in frame.now).components
         (joint_planes planes.shape planes.samples.items) in
         Returns expected (λ l. concat l) result }
-    ensures lines { IfOk result (λ l. AreLinesOf (Some (frame_shape (frame_in frame.now))) l) }
+    ensures lines { IfOk result (λ l.
+        AreLinesOf (Some (shape_of settings (frame_in frame.now))) l) }
 {
     let transform = transform_of(state, frame, settings);
     joint_lines(
@@ -289,7 +291,8 @@ fn blocks_picture(
     ensures meant { let expected = blocks_picture settings
         (with_decoded state.now decoded.old) (frame_in frame.now) in
         Returns expected (λ l. concat l) result }
-    ensures lines { IfOk result (λ l. AreLinesOf (Some (frame_shape (frame_in frame.now))) l) }
+    ensures lines { IfOk result (λ l.
+        AreLinesOf (Some (shape_of settings (frame_in frame.now))) l) }
 {
     if let Some(planes) = decoded.planes.take_joint(joint_shape_of(frame)) {
         return joint_picture(alloc, state, frame, planes, settings);
@@ -362,7 +365,8 @@ pub fn picture(
     requires sound { IsSound (with_decoded state.now decoded.old) }
     ensures meant { let expected = picture_of settings (with_decoded state.now decoded.old) in
         Returns expected (λ l. concat l) result }
-    ensures lines { IfOk result (λ l. AreLinesOf (option_map frame_shape state.now.said.frame) l) }
+    ensures lines { IfOk result (λ l. AreLinesOf
+        (option_map (shape_of settings) state.now.said.frame) l) }
 {
     let frame = needed(
         alloc,
@@ -430,9 +434,10 @@ pub fn read_rest<R: Read + Drop>(
     ensures stays { is_some state.old.said.frame ≡ true → state.new.said.frame
         ≡ state.old.said.frame }
     ensures frames { OnOk result (HasDecodedFrame state.new) }
-    ensures lines { IfOk result (λ l. AreLinesOf (option_map frame_shape state.new.said.frame) l) }
+    ensures lines { IfOk result (λ l. AreLinesOf
+        (option_map (shape_of settings) state.new.said.frame) l) }
     ensures size { IfOk result (λ l. IsWhole
-        (option_map frame_shape state.new.said.frame) (concat l)) }
+        (option_map (shape_of settings) state.new.said.frame) (concat l)) }
     ensures emptied { (state.new.kept ≡ []) × (state.new.planes ≡ replicate 4 None)
         × (state.new.samples ≡ replicate 4 None) }
 {
