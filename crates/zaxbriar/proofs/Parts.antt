@@ -21,8 +21,8 @@ use Rattle.jpeg_streams.specs.declared.progress.Progress.{Progress}
 use Rattle.jpeg_streams.specs.declared.progress.Progress.TheVariants.{HeaderRead}
 use Rattle.zaxbriar.proofs.Fails.{code-fails}
 use Rattle.zaxbriar.proofs.Told.{arranged-of}
-use Rattle.zaxbriar.specs.Faults.{IsFault, IsPart, StandsFor, fault_code, fault_told, rows_told, status_of}
-use Rattle.zaxbriar.specs.Features.{NamesFeature, feature_told}
+use Rattle.zaxbriar.specs.Faults.{IsFault, IsPart, StandsFor, fault_code, outcome_fault, outcome_rows, status_of}
+use Rattle.zaxbriar.specs.Features.{NamesFeature, outcome_feature}
 use Rattle.zaxbriar.specs.Lines.{Arranged, HasLines, described_picture}
 use Rattle.zaxbriar.specs.Meanings.{Describes, IsWithin, as_described, settings_of, size_wanted, uncounted}
 use Rattle.zaxbriar.specs.Partial.{BringsLines, HasRows, Reaches, ShowsFault, ShowsPart, TellsFault, complete_rows_by, shown_by, without_fault, without_rows}
@@ -160,7 +160,7 @@ telling picture feature fault text = record picture {
 
 pub whole-told : (outcome : Result ℕ Refusal) (o : Options) (bytes old new : List ℕ) (picture : Picture)
     (feature : Feature) (fault : ℕ) (text : List ℕ) (result : ℕ)
-    → result ≡ status_of outcome → feature ≡ feature_told outcome → fault ≡ fault_told outcome
+    → result ≡ status_of outcome → feature ≡ outcome_feature outcome → fault ≡ outcome_fault outcome
     → IfOk outcome (λ _. text ≡ replicate 112 0)
     → OnOk outcome (ShowsPart o bytes old new None picture) → result ≡ 0
     → ShowsPart o bytes old new None (telling picture feature fault text)
@@ -195,8 +195,8 @@ without-same o info precision samples old new picture feature fault text a =
     a.picture_is ∙ sym (ap (λ (p : Picture). without_fault (without_rows p)) a.picture_is)
 
 numbers : (e : Error) (n : ℕ) (f : Fault) → Names {Y = Unit {0}} e (Err f) → (e ≡ errors.OutOfMemory → ⊥)
-    → (picture : Picture) → picture.fault ≡ fault_told {X = ℕ} (Err (refusals.Part e n))
-    → NamesFeature picture (feature_told {X = ℕ} (Err (refusals.Part e n))) → TellsFault picture f
+    → (picture : Picture) → picture.fault ≡ outcome_fault {X = ℕ} (Err (refusals.Part e n))
+    → NamesFeature picture (outcome_feature {X = ℕ} (Err (refusals.Part e n))) → TellsFault picture f
 numbers (errors.Format t) rows f n m picture p q = grind (arith, common_steps)
 numbers (errors.Unsupported feature) rows f n m picture p q = grind (arith, common_steps)
 numbers (errors.Io e) rows f n m picture p q = grind (arith, common_steps)
@@ -205,7 +205,7 @@ numbers errors.OutOfMemory rows f n m picture p q = absurd (m refl)
 
 pub part-told : (outcome : Result ℕ Refusal) (o : Options) (bytes old new : List ℕ) (picture : Picture)
     (feature : Feature) (fault : ℕ) (text : List ℕ) (result : ℕ)
-    → result ≡ status_of outcome → feature ≡ feature_told outcome → fault ≡ fault_told outcome
+    → result ≡ status_of outcome → feature ≡ outcome_feature outcome → fault ≡ outcome_fault outcome
     → IfErr outcome (ShowsFault o bytes old new picture) → result ≡ 9
     → (f : Fault) × ShowsPart o bytes old new (Some f) (without_fault (telling picture feature fault text))
     × TellsFault (telling picture feature fault text) f
@@ -259,9 +259,9 @@ pub no-rows : (complete : ℕ) (r : Refusal) → (IsPart r → ⊥) → HasRows 
 no-rows complete r n = grind (arith, common_steps)
 
 pub told-rows : (outcome : Result ℕ Refusal) (complete result : ℕ) → result ≡ status_of outcome
-    → HasRows complete outcome → (result ≡ 0) ⊎ (result ≡ 9) → rows_told outcome ≡ complete
+    → HasRows complete outcome → (result ≡ 0) ⊎ (result ≡ 9) → outcome_rows outcome ≡ complete
 told-rows outcome complete result code h z = grind (arith, code-fails, is-part)
 
 pub none-told : (outcome : Result ℕ Refusal) (result : ℕ) → result ≡ status_of outcome → (result ≡ 0 → ⊥)
-    → (result ≡ 9 → ⊥) → rows_told outcome ≡ 0
+    → (result ≡ 9 → ⊥) → outcome_rows outcome ≡ 0
 none-told outcome result code a b = grind arith

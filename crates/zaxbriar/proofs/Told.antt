@@ -4,7 +4,7 @@ use Rattle.std.specs.Prelude.{IfErr, IfOk, OnOk, replicate}
 use Rattle.jpeg_bits.specs.Reading.{Fault}
 use Rattle.jpeg_streams.specs.declared.images.ImageInfo.{ImageInfo}
 use Rattle.zaxbriar.specs.Faults.{IsOwn, status_of}
-use Rattle.zaxbriar.specs.Features.{feature_told, numbered}
+use Rattle.zaxbriar.specs.Features.{outcome_feature, numbered}
 use Rattle.zaxbriar.specs.Layouts.{laid_out, layout_line}
 use Rattle.zaxbriar.specs.Lines.{Arranged, HasLines, described_picture}
 use Rattle.zaxbriar.specs.Meanings.{Describes, IsTooLarge, IsWithin, Shows, ShowsSamples, as_described, uncounted}
@@ -69,7 +69,7 @@ retold o info precision samples old new picture feature text none t a = record {
 
 pub shown : {X : Type 0} (outcome : Result X Refusal) (o : Options) (bytes old new : List ℕ) (picture : Picture)
     (feature : Feature) (text : List ℕ) (result : ℕ)
-    → result ≡ status_of outcome → feature ≡ feature_told outcome → IfOk outcome (λ _. text ≡ replicate 112 0)
+    → result ≡ status_of outcome → feature ≡ outcome_feature outcome → IfOk outcome (λ _. text ≡ replicate 112 0)
     → OnOk outcome (Shows o bytes old new picture) → result ≡ 0
     → Shows o bytes old new (ending picture feature text)
 shown (Ok x) o bytes old new picture feature text result code lacks none s z = record {
@@ -87,7 +87,7 @@ shown (Err r) o bytes old new picture feature text result code lacks none s z = 
 
 pub shown-samples : {X : Type 0} (outcome : Result X Refusal) (o : Options) (image : Result (List ℕ) Fault)
     (old new : List ℕ) (picture : Picture) (taken : ℕ) (feature : Feature) (text : List ℕ) (result : ℕ)
-    → result ≡ status_of outcome → feature ≡ feature_told outcome → IfOk outcome (λ _. text ≡ replicate 112 0)
+    → result ≡ status_of outcome → feature ≡ outcome_feature outcome → IfOk outcome (λ _. text ≡ replicate 112 0)
     → OnOk outcome (ShowsSamples o image old new picture × (picture.stream_bytes ≡ taken)) → result ≡ 0
     → ShowsSamples o image old new (ending picture feature text) × (picture.stream_bytes ≡ taken)
 shown-samples (Ok x) o image old new picture taken feature text result code lacks none s z = (
@@ -114,7 +114,7 @@ same part o bytes picture feature text none t d =
 
 pub described : {X : Type 0} (outcome : Result X Refusal) (part : Bool) (o : Options) (bytes : List ℕ)
     (picture : Picture) (feature : Feature) (text : List ℕ) (result : ℕ)
-    → result ≡ status_of outcome → feature ≡ feature_told outcome → IfOk outcome (λ _. text ≡ replicate 112 0)
+    → result ≡ status_of outcome → feature ≡ outcome_feature outcome → IfOk outcome (λ _. text ≡ replicate 112 0)
     → OnOk outcome (IsWithin part o bytes (uncounted picture)) → result ≡ 0
     → IsWithin part o bytes (uncounted (ending picture feature text))
 described (Ok x) part o bytes picture feature text result code lacks none d z =

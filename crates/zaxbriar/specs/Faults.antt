@@ -61,9 +61,9 @@ StandsFor error failed (Stream e) = (e ≡ error) × (IsGivenUp error failed →
 StandsFor error failed Reader = IsGivenUp error failed
 StandsFor error failed _ = ⊥
 
--- The number of an error, of a refusal, and of an outcome. A reader over memory is never given up, so that no
--- caller is told of one: its number is that of the only other refusal that the bytes and the
--- arguments have no part in.
+-- The number of an error, of a refusal, and of an outcome. A reader over memory is never given up,
+-- so that no caller gets its number, which is that of the only other refusal in which the bytes and
+-- the arguments have no part.
 abbrev pub error_code : Error → ℕ
 error_code (errors.Format text) = 1
 error_code (errors.Unsupported feature) = 2
@@ -91,15 +91,15 @@ reading_code (Err (Lacks feature)) = 2
 reading_code (Err End) = 3
 
 -- the number of the fault of which an outcome tells beside a part of the stream
-abbrev pub fault_told : {X : Type 0} → Result X Refusal → ℕ
-fault_told (Err (Part e rows)) = error_code e
-fault_told _ = 0
+abbrev pub outcome_fault : {X : Type 0} → Result X Refusal → ℕ
+outcome_fault (Err (Part e rows)) = error_code e
+outcome_fault _ = 0
 
 -- how many rows are complete of a picture that was written, or of a part of it
-abbrev pub rows_told : Result ℕ Refusal → ℕ
-rows_told (Ok rows) = rows
-rows_told (Err (Part e rows)) = rows
-rows_told _ = 0
+abbrev pub outcome_rows : Result ℕ Refusal → ℕ
+outcome_rows (Ok rows) = rows
+outcome_rows (Err (Part e rows)) = rows
+outcome_rows _ = 0
 
 -- Where a number is that of a fault, it is the fault of the bytes.
 abbrev pub IsNamed : {Y : Type 0} → ℕ → Result Y Fault → Type 0

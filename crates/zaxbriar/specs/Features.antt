@@ -42,9 +42,9 @@ feature_of (Stream (errors.Unsupported feature)) = feature_in feature
 feature_of (Part (errors.Unsupported feature) rows) = feature_in feature
 feature_of _ = numbered 0 0
 
-abbrev pub feature_told : {X : Type 0} → Result X Refusal → Feature
-feature_told (Ok x) = numbered 0 0
-feature_told (Err r) = feature_of r
+abbrev pub outcome_feature : {X : Type 0} → Result X Refusal → Feature
+outcome_feature (Ok x) = numbered 0 0
+outcome_feature (Err r) = feature_of r
 
 -- A picture names a feature.
 abbrev pub NamesFeature : Picture → Feature → Type 0

@@ -1,7 +1,7 @@
 //! What a call returns, and the text of a refusal.
 ghost use Rattle.std.specs.Prelude.{◌≡◌, IfOk, IfErr, replicate, slice_index};
-ghost use Rattle.zaxbriar.specs.Faults.{IsOwn, StandsFor, error_code, fault_code, fault_told};
-ghost use Rattle.zaxbriar.specs.Faults.{padded, rows_told, status_of};
+ghost use Rattle.zaxbriar.specs.Faults.{IsOwn, StandsFor, error_code, fault_code};
+ghost use Rattle.zaxbriar.specs.Faults.{outcome_fault, outcome_rows, padded, status_of};
 
 use jpeg_decoder::Decoder;
 use jpeg_decoder::error::Error;
@@ -101,8 +101,8 @@ pub fn code_of(refusal: &Refusal) -> u32
 }
 
 /// Returns the number of the fault of a stream of which a part was written, or 0.
-pub fn fault_told<T>(outcome: &std::result::Result<T, Refusal>) -> u8
-    ensures { result ≡ fault_told outcome.now }
+pub fn outcome_fault<T>(outcome: &std::result::Result<T, Refusal>) -> u8
+    ensures { result ≡ outcome_fault outcome.now }
 {
     match outcome {
         Err(Refusal::Part(error, _)) => error_code(error) as u8,
@@ -111,8 +111,8 @@ pub fn fault_told<T>(outcome: &std::result::Result<T, Refusal>) -> u8
 }
 
 /// Returns how many rows are complete of a picture that was written, or of a part of it, or 0.
-pub fn rows_told(outcome: &std::result::Result<u16, Refusal>) -> u16
-    ensures { result ≡ rows_told outcome.now }
+pub fn outcome_rows(outcome: &std::result::Result<u16, Refusal>) -> u16
+    ensures { result ≡ outcome_rows outcome.now }
 {
     match outcome {
         Ok(rows) => *rows,

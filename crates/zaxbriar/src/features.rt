@@ -1,6 +1,6 @@
 //! The features that streams ask for and that are refused by name.
 ghost use Rattle.std.specs.Prelude.{◌≡◌};
-ghost use Rattle.zaxbriar.specs.Features.{feature_in, feature_told, transform_code};
+ghost use Rattle.zaxbriar.specs.Features.{feature_in, outcome_feature, transform_code};
 
 use crate::answers::Refusal;
 use jpeg_decoder::error::Error;
@@ -51,8 +51,8 @@ fn feature_in(feature: &UnsupportedFeature) -> Feature
 }
 
 /// Returns the feature for which an outcome is a refusal, or for which a part was written, or none.
-pub fn feature_told<T>(outcome: &std::result::Result<T, Refusal>) -> Feature
-    ensures { result ≡ feature_told outcome.now }
+pub fn outcome_feature<T>(outcome: &std::result::Result<T, Refusal>) -> Feature
+    ensures { result ≡ outcome_feature outcome.now }
 {
     match outcome {
         Err(Refusal::Stream(Error::Unsupported(feature)))

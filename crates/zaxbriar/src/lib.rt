@@ -45,10 +45,12 @@ pub mod places;
 mod sampling;
 pub mod segments;
 
-use answers::{BAD_ARGUMENT, MALFORMED, NO_MEMORY, OK, TRUNCATED, answer, fault_told, rows_told};
+use answers::{
+    BAD_ARGUMENT, MALFORMED, NO_MEMORY, OK, TRUNCATED, answer, outcome_fault, outcome_rows,
+};
 use decode::decode_into;
 use description::read_info_from;
-use features::feature_told;
+use features::outcome_feature;
 use jpeg_decoder::SliceReader;
 use metadata::{kind_alone, read_metadata};
 use options::Options;
@@ -109,7 +111,7 @@ pub extern "C" fn zaxbriar_checked_read_info(
 {
     *picture = NO_PICTURE;
     let outcome = read_info_from(alloc, jpeg, options, picture);
-    let feature = feature_told(&outcome);
+    let feature = outcome_feature(&outcome);
     picture.feature = feature.number;
     picture.feature_argument = feature.argument;
     answer(alloc, outcome, &mut picture.text)
@@ -198,7 +200,7 @@ pub extern "C" fn zaxbriar_checked_decode(
 {
     *picture = NO_PICTURE;
     let outcome = decode_into(alloc, jpeg, options, pixels, picture, false);
-    let feature = feature_told(&outcome);
+    let feature = outcome_feature(&outcome);
     picture.feature = feature.number;
     picture.feature_argument = feature.argument;
     answer(alloc, outcome, &mut picture.text)
@@ -290,11 +292,11 @@ pub extern "C" fn zaxbriar_checked_decode_partial(
 {
     *picture = NO_PICTURE;
     let outcome = decode_into(alloc, jpeg, options, pixels, picture, true);
-    let feature = feature_told(&outcome);
+    let feature = outcome_feature(&outcome);
     picture.feature = feature.number;
     picture.feature_argument = feature.argument;
-    picture.fault = fault_told(&outcome);
-    picture.whole_rows = u32::from(rows_told(&outcome));
+    picture.fault = outcome_fault(&outcome);
+    picture.whole_rows = u32::from(outcome_rows(&outcome));
     answer(alloc, outcome, &mut picture.text)
 }
 

@@ -6,13 +6,13 @@ use Rattle.zaxbriar.proofs.zaxbriar_checked_decode.Goals as goal
 pub returns-clause-means : goal.returns-clause-means
 returns-clause-means c ok few =
     shown c.decode_into-outcome.result c.args.options.now c.args.jpeg.now _ _ c.decode_into-outcome.new.picture
-    c.feature_told-feature.result c.answer.new.text c.answer.result c.answer.ensures.code c.feature_told-feature.ensures
+    c.outcome_feature-feature.result c.answer.new.text c.answer.result c.answer.ensures.code c.outcome_feature-feature.ensures
     c.answer.ensures.text (c.decode_into-outcome.ensures.means refl few) ok
 
 pub returns-clause-images : goal.returns-clause-images
 returns-clause-images c ok few array image rest final last range w is =
     shown-samples c.decode_into-outcome.result c.args.options.now _ _ _ c.decode_into-outcome.new.picture _
-    c.feature_told-feature.result c.answer.new.text c.answer.result c.answer.ensures.code c.feature_told-feature.ensures
+    c.outcome_feature-feature.result c.answer.new.text c.answer.result c.answer.ensures.code c.outcome_feature-feature.ensures
     c.answer.ensures.text (c.decode_into-outcome.ensures.images refl few array image rest final last range w is) ok
 
 pub returns-clause-counts : goal.returns-clause-counts
