@@ -1,6 +1,6 @@
 -- Steps of the loop over the blocks of a scan.
 use Rattle.std.proofs.Common.{◌≡◌, ℕ, ◌+◌, ◌-◌, ◌%◌, ◌<◌, ◌==◌, ◌&&◌, nat_lt, Bool, true, false}
-use Rattle.std.proofs.Common.{List, ◌∷◌, Ok, Err, refl, ap, ◌∙◌, arith, []}
+use Rattle.std.proofs.Common.{List, ◌∷◌, Ok, Err, refl, ap, ◌∙◌, arith}
 use Rattle.std.proofs.lemmas.Bool.{lt-ltb, ne_eqb}
 use Rattle.jpeg_bits.specs.Reading.{Fault}
 use Rattle.jpeg_bits.specs.Entropy.{Text}
@@ -83,12 +83,6 @@ next_refused p vias s now t f e = ap (read_on (turn_then now)) e
 
 -- ---- the blocks that are left
 
-pub blocks_step : (p : Pass) (vias : List Via) (n : ℕ) (s : Spot) (spots : List Spot) (old new : Counted) (t u : Text)
-    → next_from p vias n s old t ≡ Ok (new, u)
-    → blocks_from p vias n (s ∷ spots) old t ≡ blocks_from p vias n spots new u
-unfolding blocks_from
-blocks_step p vias n s spots old new t u e = ap (read_on (blocks_from p vias n spots)) e
-
 pub blocks_refused : (p : Pass) (vias : List Via) (n : ℕ) (s : Spot) (spots : List Spot) (old : Counted) (t : Text)
     (f : Fault) → next_from p vias n s old t ≡ Err f → blocks_from p vias n (s ∷ spots) old t ≡ Err f
 unfolding blocks_from
@@ -100,10 +94,3 @@ pub blocks_begun : (p : Pass) (vias : List Via) (n : ℕ) (s : Spot) (spots : Li
     → blocks_from p vias n (s ∷ spots) old t ≡ read_on (blocks_from p vias n spots) (begun_turn p vias s now u)
 unfolding blocks_from
 blocks_begun p vias n s spots old now t u e = grind (arith, common_steps, next_begun)
-
-pub blocks_none : (p : Pass) (vias : List Via) (n : ℕ) (old : Counted) (t : Text)
-    → blocks_from p vias n [] old t ≡ Ok (old, t)
-unfolding blocks_from
-blocks_none p vias n old t = refl
-
-pub ruleset blocks_rules = (blocks_step, blocks_refused, blocks_none)

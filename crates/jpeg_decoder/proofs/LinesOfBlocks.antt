@@ -22,7 +22,7 @@ use Rattle.jpeg_segments.specs.FrameView.{component_in}
 use Rattle.jpeg_decoder.specs.declared.scan.coded.Coded.{Coded}
 use Rattle.jpeg_decoder.specs.Scanning.{arrays_in, blocks_in, components_in}
 use Rattle.jpeg_decoder.proofs.BlockArrays.{Held}
-use Rattle.jpeg_streams.specs.InTurn.{Counted, Reached, begun_from, blocks_from, next_from, turn_from, turns_from, scan_from}
+use Rattle.jpeg_streams.specs.InTurn.{Counted, Reached, begun_from, blocks_from, turn_from, turns_from, scan_from}
 use Rattle.jpeg_streams.specs.InTurn.{counted_at_start, AreArrays, Fits}
 use Rattle.jpeg_streams.specs.Scans.{Arrays, arrays_at}
 use Rattle.jpeg_streams.proofs.CountedScans.{blocks-append, frame-scans}
@@ -258,12 +258,6 @@ unfolding blocks_from
 rows-none p vias n g row high old t h =
     let e : high - row ≡ 0 = omega (arith, h) in
     ap (λ (k : ℕ). blocks_from p vias n (rows_spots g row k) old t) e
-
-pub rows-whole : (p : Pass) (vias : List Via) (n : ℕ) (g : Grid) (high : ℕ) (old : Counted) (t : Text)
-    → blocks_from p vias n (rows_spots g 0 high) old t ≡ blocks_from p vias n (rows_spots g 0 (high - 0)) old t
-rows-whole p vias n g high old t =
-    let e : high ≡ high - 0 = omega arith in
-    ap (λ (k : ℕ). blocks_from p vias n (rows_spots g 0 k) old t) e
 
 module _ (p : Pass) (vias : List Via) (n : ℕ) (g : Grid) (row high : ℕ) (whole : Reads Counted) (a b d : Ahead)
     (old cur new : Stream) (now : Counted)

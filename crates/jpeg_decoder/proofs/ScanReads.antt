@@ -1,6 +1,6 @@
 -- The steps of a scan that is read, and what they are to a segment of the stream.
 use Rattle.std.proofs.Common.{rules, ◌≡◌, ℕ, suc, true, false, List, length, Option, Some, None, Result}
-use Rattle.std.proofs.Common.{Ok, Err, ◌∙◌, ap, arith}
+use Rattle.std.proofs.Common.{Ok, Err, ◌∙◌, arith}
 use Rattle.jpeg_bits.specs.Stream.{Stream}
 use Rattle.jpeg_bits.specs.Reading.{Answers, Fault, Names, NamesFormat, Outcome, ◌>>=◌}
 use Rattle.jpeg_bits.specs.Passes.{Pass}
@@ -92,10 +92,6 @@ codings-read found frame scan p codings bytes e is = grind (arith, common_steps,
 abbrev pub HasRead : {Y : Type 0} → (List ℕ → Outcome Y) → Stream → Y → Stream → Type 0
 HasRead read old y new =
     (new.failed ≡ old.failed) × (old.known ≡ true → (new.known ≡ true) × (read old.bytes ≡ Ok (y, new.bytes)))
-
-by-samples : (p : CodingProcess) (found : Found) (frame : Frame) (scan : Scan) (bytes : List ℕ)
-    → p ≡ Lossless → read_by p found frame scan bytes ≡ samples_read found frame scan bytes
-by-samples p found frame scan bytes e = ap (λ (q : CodingProcess). read_by q found frame scan bytes) e
 
 pub is-dct : (p : CodingProcess) → (p ≡ Lossless → ⊥) → IsDct p
 is-dct p h = grind (arith, common_steps)

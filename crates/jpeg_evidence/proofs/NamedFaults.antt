@@ -33,7 +33,7 @@ use Rattle.jpeg_streams.specs.ScanSegments.{components_of, lossless_scan, pass_o
 use Rattle.jpeg_streams.specs.ScanSegments.{scan_segment, scan_turn, vias_from}
 use Rattle.jpeg_streams.specs.Segments.{Turn}
 use Rattle.jpeg_streams.specs.Shown.{Shown, completed, fault_in, fault_shown, framed_or, picture_shown, planes_by}
-use Rattle.jpeg_streams.specs.Shown.{shown, shown_by, shown_of, shown_rest, with_plane_shown, with_samples_shown}
+use Rattle.jpeg_streams.specs.Shown.{shown, shown_by, shown_of, shown_rest, with_samples_shown}
 use Rattle.jpeg_streams.specs.Stream.{meaning, rest_at, segment_at, segments_at, start_at, turn_at, walk}
 use Rattle.jpeg_streams.proofs.Apart.{spots-apart}
 use Rattle.jpeg_streams.proofs.CompletedPictures.{all-stay, limited-at, within}

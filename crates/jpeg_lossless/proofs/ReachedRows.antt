@@ -1,11 +1,10 @@
 -- Rows of MCUs as far as they can be read: what planes they give, and what is read where none is lacking.
-use Rattle.std.proofs.Common.{rules, ◌≡◌, inl, inr, ℕ, zero, suc, ◌+◌, ◌-◌, ◌*◌, ◌≤◌, Bool, true, List, [], ◌∷◌}
-use Rattle.std.proofs.Common.{length, take, drop, map, replicate, Result, Ok, Err, refl, sym, ap, ap₂, ◌∙◌, subst}
-use Rattle.std.proofs.Common.{arith, length-append, length-drop, length-take, Option, append-nil}
-use Rattle.std.proofs.Math.Nat.{mul_comm}
+use Rattle.std.proofs.Common.{rules, ◌≡◌, inl, inr, ℕ, ◌+◌, ◌-◌, ◌*◌, Bool, true, List, [], ◌∷◌}
+use Rattle.std.proofs.Common.{length, drop, replicate, Result, Ok, Err, refl, sym, ap, ap₂, ◌∙◌, subst}
+use Rattle.std.proofs.Common.{arith, length-drop, Option, append-nil}
 use Rattle.std.proofs.lemmas.Bool.{cases_lt}
-use Rattle.std.proofs.lemmas.List.{drop-drop, drop_all, length-map, length-replicate}
-use Rattle.std.specs.List.{AllByRecursion, concat}
+use Rattle.std.proofs.lemmas.List.{drop-drop, drop_all, length-replicate}
+use Rattle.std.specs.List.{AllByRecursion}
 use Rattle.jpeg_bits.specs.Reading.{End, Fault, Outcome}
 use Rattle.jpeg_bits.specs.Reading as outcomes
 use Rattle.jpeg_bits.specs.Codes.{Table}
@@ -21,11 +20,11 @@ use Rattle.jpeg_lossless.specs.Differences.{Part, differences, interval_rows, sa
 use Rattle.jpeg_lossless.specs.PlanesRead.{IsWithinMcus, cut_planes}
 use Rattle.jpeg_lossless.specs.Rows.{with_all_rows, with_mcu_rows}
 use Rattle.jpeg_lossless.specs.RowsReached.{rows_reached}
-use Rattle.jpeg_lossless.specs.Scans.{Way, lines_by_component, own_samples, planes_of, shifted}
+use Rattle.jpeg_lossless.specs.Scans.{Way, lines_by_component, planes_of}
 use Rattle.jpeg_lossless.proofs.LineSums.{Grid, Grids, AreLong}
 use Rattle.jpeg_lossless.proofs.WholeScans.{AreWhole, appended, appended-assoc, difference-takes, each-component}
 use Rattle.jpeg_lossless.proofs.WholeScans.{from-empty, joined, joined-append, length-appended, length-joined}
-use Rattle.jpeg_lossless.proofs.WholeScans.{lines-there, more-of, planes-cut, rows-each}
+use Rattle.jpeg_lossless.proofs.WholeScans.{lines-there, planes-cut, rows-each}
 
 -- ---- the planes of rows that were read
 
@@ -97,49 +96,6 @@ reached-long n [] t all = tt
 reached-long n (tables ∷ rows) t all =
     long-after n tables rows (differences tables t) all.0 (each-long sample_difference tables t)
     (λ u. reached-long n rows u all.1)
-
--- each plane has at most the samples of its component
-abbrev pub AreWithin : List Part → Grid → Type 0
-AreWithin [] [] = Unit {0}
-AreWithin [] (plane ∷ planes) = ⊥
-AreWithin (p ∷ parts) [] = ⊥
-AreWithin (p ∷ parts) (plane ∷ planes) = (length plane ≤ p.width * p.height) × AreWithin parts planes
-
-lines-short : (width high : ℕ) (lines : Grid) → length (concat (map (take width) (take high lines))) ≤ width * high
-lines-short width zero lines = omega arith
-lines-short width (suc high) [] = omega arith
-lines-short width (suc high) (l ∷ lines) =
-    let more : width * suc high ≡ width + width * high = mul_comm width (suc high) ∙ more-of high width
-    ∙ ap (λ (n : ℕ). width + n) (mul_comm high width) in
-    omega (
-      arith,
-      more,
-      length-take width l,
-      lines-short width high lines,
-      length-append (take width l) (concat (map (take width) (take high lines))),
-    )
-
-own-short : (point : ℕ) (p : Part) (lines : Grid) → length (own_samples point p lines) ≤ p.width * p.height
-own-short point p lines =
-    omega (
-      arith,
-      length-map (concat (map (take p.width) (take p.height lines))) (shifted point),
-      lines-short p.width p.height lines,
-    )
-
--- Each component has a plane, of at most its own samples.
-pub planes-short : (w : Way) (point from : ℕ) (parts : List Part) (by_interval : Grids)
-    → AreWithin parts (planes_of point parts (lines_by_component w from parts by_interval))
-unfolding planes_of lines_by_component
-planes-short w point from [] by_interval = tt
-planes-short w point from (p ∷ parts) by_interval =
-    (own-short point p _, planes-short w point (from + p.down * p.across) parts by_interval)
-
-pub planes-count : (parts : List Part) (planes : Grid) → AreWithin parts planes → length planes ≡ length parts
-planes-count [] [] h = refl
-planes-count [] (plane ∷ planes) h = absurd h
-planes-count (p ∷ parts) [] h = absurd h
-planes-count (p ∷ parts) (plane ∷ planes) h = ap suc (planes-count parts planes h.1)
 
 -- ---- rows that are all reached
 

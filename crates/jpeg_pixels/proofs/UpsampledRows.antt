@@ -1,6 +1,6 @@
 -- Rows of samples made wider, index by index, and samples at the ends of a component.
 use Rattle.std.proofs.Common.{◌≡◌, ℕ, ◌+◌, ◌-◌, ◌*◌, ◌/◌, ◌%◌, ◌<◌, ◌≤◌, List, length, get_or, set}
-use Rattle.std.proofs.Common.{get_or-set_other, get_or-set_same, length-set, ◌≢◌, arith, ap, subst}
+use Rattle.std.proofs.Common.{get_or-set_other, get_or-set_same, arith, ap, subst}
 use Rattle.std.proofs.Common.{cond, min, take, drop, ◌++◌, length-take, rules, ◌∙◌}
 use Rattle.std.specs.Prelude.{◌==◌}
 use Rattle.std.specs.Int.{div_ceil}

@@ -1,7 +1,7 @@
 -- Steps of the loop over quantization tables.
 use Rattle.std.proofs.lemmas.Grind.{common_steps}
 use Rattle.std.proofs.Common.{◌≡◌, ℕ, ◌-◌, ◌<◌, ◌≤◌, Bool, true, false, List, Ok, Result, Some, arith, length-set}
-use Rattle.std.proofs.Common.{refl, set, sym, subst}
+use Rattle.std.proofs.Common.{refl, set, subst}
 use Rattle.std.proofs.lemmas.Result.{err_from_is_err_and}
 use Rattle.jpeg_bits.proofs.Loops.{bind_at, bind_err}
 use Rattle.std.proofs.lemmas.Bool.Decides.{nat_tests}

@@ -1,7 +1,7 @@
 -- A lossless scan gives each of its components its samples: where it is read all of them, which hide those before it.
 use Rattle.std.proofs.Common.{rules, ◌≡◌, ℕ, zero, suc, ◌*◌, ◌-◌, ◌^◌, ◌≤◌, Bool, true, false, List, [], ◌∷◌, ◌++◌}
 use Rattle.std.proofs.Common.{length, map, take, Option, Some, None, Result, Ok, Err, refl}
-use Rattle.std.proofs.Common.{ap, ap₂, ◌∙◌, subst, arith, append-nil, drop, length-append, length-drop, slice_get}
+use Rattle.std.proofs.Common.{ap, ap₂, ◌∙◌, subst, arith, append-nil, length-append, slice_get}
 use Rattle.std.specs.Prelude.{slice_index_or, slice_set, unwrap_or, zip, if◌then◌else◌}
 use Rattle.std.specs.List.{AllByRecursion, concat, flat_map}
 use Rattle.std.proofs.Math.Nat.{add-mul, mul-le-mul_right, mul_comm}
@@ -24,7 +24,6 @@ use Rattle.jpeg_lossless.specs.SampleDifferences.{AreLines}
 use Rattle.jpeg_lossless.specs.Scans.{Way, is_of_rows, lines_by_component, planes_of, rows_of_interval}
 use Rattle.jpeg_lossless.specs.Scans.{samples_an_mcu, scan_at, scan_tables, shifted}
 use Rattle.jpeg_lossless.proofs.LineSums.{AreLong, Grid, Grids}
-use Rattle.jpeg_lossless.proofs.ReachedRows.{AreWithin, planes-short}
 use Rattle.jpeg_lossless.proofs.Sizes.{covered-within}
 use Rattle.jpeg_lossless.proofs.WholeScans.{HaveLines, all-whole, lines-there, tables_in}
 use Rattle.jpeg_streams.specs.Brought.{grey_samples, samples_over}
@@ -252,62 +251,3 @@ with-sampled cs (k ∷ codings) (plane ∷ planes) samples at own h =
     with-sampled cs codings planes (slice_set samples k.index (Some plane)) at.1 own.1
     (set-sampled cs samples k.index k.component plane own.0 at.0 h)
 with-sampled cs _ _ samples at own h = absurd own
-
--- ---- the samples of some rows
-
--- each plane has at most the samples of the component
-abbrev AreNoMore : List LosslessCoding → List (List ℕ) → Type 0
-AreNoMore [] [] = Unit {0}
-AreNoMore (k ∷ codings) (plane ∷ planes) =
-    (length plane ≤ k.component.width * k.component.height) × AreNoMore codings planes
-AreNoMore _ _ = ⊥
-
-several-within : (codings : List LosslessCoding) (planes : List (List ℕ))
-    → AreWithin (map (λ k. part_of k.component.factors.horizontal k.component.factors.vertical k) codings) planes
-    → AreNoMore codings planes
-several-within [] [] h = tt
-several-within [] (plane ∷ planes) h = absurd h
-several-within (k ∷ codings) [] h = absurd h
-several-within (k ∷ codings) (plane ∷ planes) h = (h.0, several-within codings planes h.1)
-
-parts-within : (codings : List LosslessCoding) (planes : List (List ℕ)) → AreWithin (parts_of codings) planes
-    → AreNoMore codings planes
-unfolding parts_of
-parts-within [] planes h = several-within [] planes h
-parts-within (k ∷ []) [] h = absurd h
-parts-within (k ∷ []) (plane ∷ []) h = (h.0, tt)
-parts-within (k ∷ []) (plane ∷ q ∷ planes) h = absurd h.1
-parts-within (k ∷ l ∷ codings) planes h = several-within (k ∷ l ∷ codings) planes h
-
--- Fewer samples, and after them those that were there, are as many as the component has.
-one-whole : (found : Found) (frame : Frame) (k : LosslessCoding) (plane : List ℕ)
-    → length plane ≤ k.component.width * k.component.height
-    → IsSampled k.component (slice_index_or found.samples k.index None)
-    → length (samples_over found frame (k, plane)) ≡ k.component.width * k.component.height
-one-whole found frame k plane le s =
-    let old = unwrap_or (slice_index_or found.samples k.index None) (grey_samples frame k.component) in
-    let before = held-long frame k.component (slice_index_or found.samples k.index None) s in
-    omega (arith, le, before, length-append plane (drop (length plane) old), length-drop (length plane) old)
-
-all-whole-over : (found : Found) (frame : Frame) (codings : List LosslessCoding) (planes : List (List ℕ))
-    → AllByRecursion (IsAt frame.components) codings → AreSampled frame.components found.samples
-    → AreNoMore codings planes → AreOwn codings (map (samples_over found frame) (zip codings planes))
-all-whole-over found frame [] [] at s h = tt
-all-whole-over found frame (k ∷ codings) (plane ∷ planes) at s h = (
-  one-whole found frame k plane h.0 (sampled-at frame.components found.samples k.index k.component s at.0),
-  all-whole-over found frame codings planes at.1 s h.1,
-)
-all-whole-over found frame _ _ at s h = absurd h
-
--- Some rows of MCUs of a lossless scan leave each component with as many samples as it has.
-pub rows-sampled : (found : Found) (frame : Frame) (codings : List LosslessCoding) (w : Way) (point : ℕ) (rows : Grids)
-    → w.parts ≡ parts_of codings → AllByRecursion (IsAt frame.components) codings
-    → AreSampled frame.components found.samples
-    → AreSampled frame.components (with_samples (map (λ k. k.index) codings) (map (samples_over found frame)
-    (zip codings (planes_of point w.parts (lines_by_component w 0 w.parts rows)))) found.samples)
-rows-sampled found frame codings w point rows parts at s =
-    let planes = planes_of point w.parts (lines_by_component w 0 w.parts rows) in
-    with-sampled frame.components codings (map (samples_over found frame) (zip codings planes)) found.samples at
-    (all-whole-over found frame codings planes at s
-    (parts-within codings planes (subst (λ (ps : List Part). AreWithin ps planes) parts
-    (planes-short w point 0 w.parts rows)))) s
