@@ -7,5 +7,5 @@ pub use crate::frame::{CodingProcess, Component, Dimensions, EntropyCoding, Fram
 pub use crate::frame_header::parse_sof;
 pub use crate::huffman_tables::{DefinedTables, parse_dht, read_huffman_tables};
 pub use crate::quantization::parse_dqt;
-pub use crate::scan_header::parse_sos;
+pub use crate::scan_header::{ScanHeader, parse_sos, read_scan_header};
 pub use jpeg_bits::scan::{Predictor, ScanInfo};

@@ -6,24 +6,86 @@ ghost use Rattle.jpeg_segments.specs.HuffmanTables.{greatest_destination};
 ghost use Rattle.jpeg_segments.specs.ScanHeader.{IsBandOf, IsRising, IsScanOf, IsSelectorOf};
 ghost use Rattle.jpeg_segments.specs.ScanHeader.{band_at, after_of, blocks_by, count_at, is_band};
 ghost use Rattle.jpeg_segments.specs.ScanHeader.{is_mcu, is_progressive_band, index_of};
-ghost use Rattle.jpeg_segments.specs.ScanHeader.{predictor_by, predictor_of, scan_of, selector_at};
+ghost use Rattle.jpeg_segments.specs.ScanHeader.{predictor_by, predictor_of, selector_at};
 ghost use Rattle.jpeg_segments.specs.ScanHeader.{selectors_from, sos_at};
 ghost use Rattle.jpeg_segments.specs.Parts.{HasBlocks, destinations_at};
 ghost use Rattle.jpeg_segments.specs.FrameView.{component_in, frame_in, scan_in, selector_of};
 
 use crate::frame::{CodingProcess, Component, FrameInfo};
 use crate::huffman_tables::{expected_destinations, greatest_destination};
+use arrayvec::ArrayVec;
 use jpeg_bits::error::{Error, Result, format_error, format_error_of};
 use jpeg_bits::huffman::HuffmanTableClass;
-use jpeg_bits::scan::{Predictor, ScanInfo};
+use jpeg_bits::scan::{MAX_COMPONENTS, Predictor, ScanInfo};
 use jpeg_bits::source::Source;
 use jpeg_bits::source::reads::{read_length, read_u8};
 use std::alloc::{AllocError, Global};
 use std::io::Read;
+use std::marker::Model;
+
+/// A scan header, as a scan is read by it: what `ScanInfo` has, with its lists in place, since a
+/// progressive stream has many scans.
+#[derive(Drop)]
+pub struct ScanHeader {
+    /// The components' indices in the frame, in the order of the scan.
+    pub components: ArrayVec<usize, MAX_COMPONENTS>,
+    /// The destinations of their DC tables.
+    pub dc_destinations: ArrayVec<usize, MAX_COMPONENTS>,
+    /// The destinations of their AC tables.
+    pub ac_destinations: ArrayVec<usize, MAX_COMPONENTS>,
+    /// The first coefficient that the scan codes, by its index in zigzag order.
+    pub first: u8,
+    /// The index after the last.
+    pub after: u8,
+    /// The predictor of a lossless scan.
+    pub predictor: Predictor,
+    /// The level at which the scan finds its coefficients, or 0 in a first scan.
+    pub high: u8,
+    /// The level at which the scan leaves its coefficients.
+    pub low: u8,
+    /// The point transform of a lossless scan.
+    pub point_transform: u8,
+}
+
+impl Model for ScanHeader {
+    ghost use Rattle.jpeg_segments.specs.ScanHeader.{Scan};
+
+    ghost Value = { Scan };
+
+    ghost view = { λ h. record {
+      components = h.components.items;
+      dc_destinations = h.dc_destinations.items;
+      ac_destinations = h.ac_destinations.items;
+      first = h.first;
+      after = h.after;
+      predictor = h.predictor;
+      high = h.high;
+      low = h.low;
+      point_transform = h.point_transform;
+    } };
+}
+
+impl ScanHeader {
+    /// Returns the same with its lists on the heap. The only error is `AllocError`.
+    pub fn to_info(&self, alloc: Global) -> std::result::Result<ScanInfo, AllocError>
+        ensures { IfOk result (λ s. scan_in s ≡ self.now) }
+    {
+        Ok(ScanInfo {
+            component_indices: self.components.to_vec(alloc)?,
+            dc_table_indices: self.dc_destinations.to_vec(alloc)?,
+            ac_table_indices: self.ac_destinations.to_vec(alloc)?,
+            spectral_selection: self.first..self.after,
+            predictor_selection: self.predictor,
+            successive_approximation_high: self.high,
+            successive_approximation_low: self.low,
+            point_transform: self.point_transform,
+        })
+    }
+}
 
 /// A component's index in the frame, the destinations of its tables, and the blocks that it has in
 /// an MCU.
-#[derive(Clone, Copy)]
+#[derive(Clone, Copy, Default)]
 struct Selector {
     component: usize,
     dc: usize,
@@ -178,7 +240,8 @@ fn read_selectors<R: Read + Drop>(
     source: &mut Source<R>,
     frame: &FrameInfo,
     count: u8,
-) -> Result<Vec<Selector>>
+) -> Result<ArrayVec<Selector, MAX_COMPONENTS>>
+    requires { count ≤ 4 }
     ensures answers { Answers (λ v. map selector_of v.items)
         (selectors_from (frame_in frame.now) count [] 0) source.old result source.new }
     ensures length { IfOk result (λ v. length v.items ≡ count) }
@@ -188,13 +251,13 @@ fn read_selectors<R: Read + Drop>(
     ensures rising { IfOk result (λ v.
         IsRising 0 (map (λ s. s.component) (map selector_of v.items))) }
 {
-    let mut selectors = Vec::with_capacity(alloc, usize::from(count))?;
+    let mut selectors = ArrayVec::new();
     let mut least = 0;
     let mut left = count;
     while left > 0 {
         let selector = read_selector(alloc, source, frame, least)?;
         least = selector.component + 1;
-        selectors.push(selector)?;
+        selectors.push(selector);
         left -= 1;
     }
     Ok(selectors)
@@ -389,40 +452,11 @@ fn after_of(process: CodingProcess, last: u8) -> u8
     }
 }
 
-/// The indices of components, and the destinations of their DC and AC tables.
-#[derive(Drop)]
-struct Indices {
-    components: Vec<usize>,
-    dc: Vec<usize>,
-    ac: Vec<usize>,
-}
-
-fn indices_of(alloc: Global, selectors: &[Selector]) -> std::result::Result<Indices, AllocError>
-    ensures components { IfOk result (λ p. p.components.items
-        ≡ map (λ s. s.component) (map selector_of selectors.now)) }
-    ensures dc { IfOk result (λ p. p.dc.items ≡ map (λ s. s.dc) (map selector_of selectors.now)) }
-    ensures ac { IfOk result (λ p. p.ac.items ≡ map (λ s. s.ac) (map selector_of selectors.now)) }
-{
-    let mut components = Vec::with_capacity(alloc, selectors.len())?;
-    let mut dc = Vec::with_capacity(alloc, selectors.len())?;
-    let mut ac = Vec::with_capacity(alloc, selectors.len())?;
-    for selector in selectors {
-        components.push(selector.component)?;
-        dc.push(selector.dc)?;
-        ac.push(selector.ac)?;
-    }
-    Ok(Indices { components, dc, ac })
-}
-
-#[tactic(auto, unfolding(crate::specs::ScanHeader::scan_of))]
-fn scan_of(
-    alloc: Global,
-    process: CodingProcess,
-    selectors: &[Selector],
-    band: Band,
-) -> std::result::Result<ScanInfo, AllocError>
-    requires { band.last ≤ 63 }
-    ensures { IfOk result (λ s. scan_in s ≡ record {
+/// Returns the header of a scan of these components, whose band is one of its process.
+fn header_of(process: CodingProcess, selectors: &[Selector], band: Band) -> ScanHeader
+    requires last { band.last ≤ 63 }
+    requires most { length selectors.now ≤ 4 }
+    ensures { result ≡ record {
       components = map (λ s. s.component) (map selector_of selectors.now);
       dc_destinations = map (λ s. s.dc) (map selector_of selectors.now);
       ac_destinations = map (λ s. s.ac) (map selector_of selectors.now);
@@ -432,19 +466,27 @@ fn scan_of(
       high = band.high;
       low = band.low;
       point_transform = band.low;
-    }) }
+    } }
 {
-    let Indices { components, dc, ac } = indices_of(alloc, selectors)?;
-    Ok(ScanInfo {
-        component_indices: components,
-        dc_table_indices: dc,
-        ac_table_indices: ac,
-        spectral_selection: band.first..after_of(process, band.last),
-        predictor_selection: predictor_of(process, band.first),
-        successive_approximation_high: band.high,
-        successive_approximation_low: band.low,
+    let mut components = ArrayVec::new();
+    let mut dc_destinations = ArrayVec::new();
+    let mut ac_destinations = ArrayVec::new();
+    for selector in selectors {
+        components.push(selector.component);
+        dc_destinations.push(selector.dc);
+        ac_destinations.push(selector.ac);
+    }
+    ScanHeader {
+        components,
+        dc_destinations,
+        ac_destinations,
+        first: band.first,
+        after: after_of(process, band.last),
+        predictor: predictor_of(process, band.first),
+        high: band.high,
+        low: band.low,
         point_transform: band.low,
-    })
+    }
 }
 
 /// Reads the coefficients and the levels; a level is below the precision.
@@ -454,15 +496,15 @@ fn read_band<R: Read + Drop>(
     source: &mut Source<R>,
     frame: &FrameInfo,
     selectors: &[Selector],
-) -> Result<ScanInfo>
+) -> Result<ScanHeader>
     requires some { 1 ≤ length selectors.now }
     requires most { length selectors.now ≤ 4 }
     requires indices { All (IsSelectorOf (frame_in frame.now)) (map selector_of selectors.now) }
     requires rising { IsRising 0 (map (λ s. s.component) (map selector_of selectors.now)) }
     requires mcu { is_mcu (frame_in frame.now) (map selector_of selectors.now) ≡ true }
-    ensures answers { Answers scan_in (band_at (frame_in frame.now) (map selector_of selectors.now))
-        source.old result source.new }
-    ensures scan { IfOk result (λ s. IsScanOf (frame_in frame.now) (scan_in s)) }
+    ensures answers { Answers (λ h. h) (band_at (frame_in frame.now) (map selector_of
+        selectors.now)) source.old result source.new }
+    ensures scan { IfOk result (λ h. IsScanOf (frame_in frame.now) h) }
 {
     let first = read_u8(alloc, source)?;
     let last = read_u8(alloc, source)?;
@@ -482,7 +524,29 @@ fn read_band<R: Read + Drop>(
     if !is_band(frame.coding_process, selectors.len(), band) {
         return Err(band_error(alloc, frame.coding_process, selectors.len(), band));
     }
-    Ok(scan_of(alloc, frame.coding_process, selectors, band)?)
+    Ok(header_of(frame.coding_process, selectors, band))
+}
+
+/// Reads a scan header as `parse_sos` does, with the same errors, and returns it with its lists in
+/// place.
+#[tactic(auto, using(crate::proofs::Rules::mcus), unfolding(crate::specs::ScanHeader::sos_at))]
+pub fn read_scan_header<R: Read + Drop>(
+    alloc: Global,
+    source: &mut Source<R>,
+    frame: &FrameInfo,
+) -> Result<ScanHeader>
+    ensures answers { Answers (λ h. h) (sos_at (frame_in frame.now)) source.old result source.new }
+    ensures scan { IfOk result (λ h. IsScanOf (frame_in frame.now) h) }
+{
+    let count = read_count(alloc, source)?;
+    let selectors = read_selectors(alloc, source, frame, count)?;
+    if !is_mcu(&selectors) {
+        let blocks = total(&selectors);
+        return Err(format_error_of(format!(in alloc;
+            "{blocks} blocks in an MCU, expected at most 10"
+        )));
+    }
+    read_band(alloc, source, frame, &selectors)
 }
 
 /// Reads a scan header of a frame (T.81, B.2.3): the indices of its components in the frame and the
@@ -492,7 +556,6 @@ fn read_band<R: Read + Drop>(
 ///
 /// Errors: `Format` if the header breaks a rule, names a component that the frame does not have, or
 /// names components out of the frame's order; `Io` if the bytes end or a read fails; `OutOfMemory`.
-#[tactic(auto, using(crate::proofs::Rules::mcus), unfolding(crate::specs::ScanHeader::sos_at))]
 pub fn parse_sos<R: Read + Drop>(
     alloc: Global,
     reader: &mut Source<R>,
@@ -501,13 +564,5 @@ pub fn parse_sos<R: Read + Drop>(
     ensures answers { Answers scan_in (sos_at (frame_in frame.now)) reader.old result reader.new }
     ensures scan { IfOk result (λ s. IsScanOf (frame_in frame.now) (scan_in s)) }
 {
-    let count = read_count(alloc, reader)?;
-    let selectors = read_selectors(alloc, reader, frame, count)?;
-    if !is_mcu(&selectors) {
-        let blocks = total(&selectors);
-        return Err(format_error_of(format!(in alloc;
-            "{blocks} blocks in an MCU, expected at most 10"
-        )));
-    }
-    read_band(alloc, reader, frame, &selectors)
+    Ok(read_scan_header(alloc, reader, frame)?.to_info(alloc)?)
 }

@@ -9,7 +9,7 @@ pub returns-clause-scan : goal.returns-clause-scan
 unfolding scan_of
 returns-clause-scan g c =
     let count = length-map c.args.selectors.now selector_of in
-    rw c.in_ok-scan_of.ensures (is-scan (frame_in c.args.frame.now) (map selector_of c.args.selectors.now)
+    rw c.header_of.ensures (is-scan (frame_in c.args.frame.now) (map selector_of c.args.selectors.now)
     _ _ c.in_ok-levels.levels (rw count c.requires.some) (rw count c.requires.most) c.requires.indices
     c.requires.rising c.requires.mcu (rw count (sym c.is_band.ensures.value ∙ c.if-not-is_band.false))
     (omega (arith, c.if-band-frame.false)))

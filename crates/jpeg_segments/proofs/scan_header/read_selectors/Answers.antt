@@ -1,5 +1,6 @@
 use Rattle.std.proofs.lemmas.Grind.{common_steps}
-use Rattle.std.proofs.Common.{◌≡◌, ◌+◌, ◌++◌, ◌∷◌, [], List, Vec, Global, length, length-append, map, ap, ◌∙◌, arith}
+use Rattle.arrayvec.specs.ArrayVec.{ArrayVec}
+use Rattle.std.proofs.Common.{◌≡◌, ◌+◌, ◌++◌, ◌∷◌, [], List, length, length-append, map, ap, ◌∙◌, arith}
 use Rattle.std.proofs.Common.{rules}
 use Rattle.std.proofs.lemmas.List.{map-append}
 use Rattle.std.proofs.lemmas.List.Elements.{All-push}
@@ -12,7 +13,7 @@ use Rattle.jpeg_segments.specs.Parts.{HasBlocks}
 use Rattle.jpeg_segments.proofs.ScanLemmas.{rises-all, rises-more, selectors_from-more}
 use Rattle.jpeg_segments.proofs.scan_header.read_selectors.Goals as goal
 
-abbrev all_of : Vec Read Global → List Selector
+abbrev all_of : ArrayVec Read → List Selector
 all_of v = map selector_of v.items
 
 pub loop-left-preserved : goal.loop-left-preserved
@@ -22,7 +23,7 @@ loop-left-preserved g c =
     let least = c.loop-left.least in
     let front = all_of c.loop-left.selectors in
     let one = c.in_ok-selector.selector in
-    let pushed : c.push.new.self.items ≡ c.loop-left.selectors.items ++ one ∷ [] = c.in_ok-push.ensures.items in
+    let pushed : c.push.new.self.items ≡ c.loop-left.selectors.items ++ one ∷ [] = c.push.ensures.items in
     let e : all_of c.push.new.self ≡ front ++ selector_of one ∷ [] = search (rules, map-append) in
     let longer : length c.push.new.self.items ≡ length c.loop-left.selectors.items + 1 = ap length pushed
     ∙ length-append c.loop-left.selectors.items (one ∷ []) in
