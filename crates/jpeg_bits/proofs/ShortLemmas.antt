@@ -8,7 +8,7 @@ use Rattle.std.proofs.Common.{Result, Err, is_ok, subst, ◌⊎◌, nat_lt, nat_
 use Rattle.std.specs.Option.{option_map}
 use Rattle.std.proofs.Math.Seq.{drop-nil}
 use Rattle.std.proofs.lemmas.List.{take-take, take-append-le, take_all, take-replicate}
-use Rattle.std.proofs.lemmas.List.{drop-replicate, drop-take, drop-drop, get_or-drop, get_or-replicate, get_or_past}
+use Rattle.std.proofs.lemmas.List.{drop-replicate, drop-take, drop-drop, get_or-drop}
 use Rattle.std.proofs.lemmas.List.{length-replicate}
 use Rattle.std.proofs.lemmas.Bool.{cases_lt, false≢true}
 use Rattle.std.proofs.lemmas.Bool.Decides.{nat_tests}
@@ -22,7 +22,7 @@ use Rattle.jpeg_bits.specs.Codes.{short_token, after_code, short_code_by, short_
 use Rattle.jpeg_bits.specs.Codes.{short_value, fast_from, symbol_from, code_from}
 use Rattle.jpeg_bits.specs.ShortCodes.{named, symbol_in, short_only, short_code, short_value_by, short_value_of}
 use Rattle.jpeg_bits.specs.ShortCodes.{next_bits, packed, ArePassed, HoldsRows, IsRun, rest_of_code, rest_of_value}
-use Rattle.jpeg_bits.specs.ShortCodes.{HoldsCodes, unpacked_code}
+use Rattle.jpeg_bits.specs.ShortCodes.{unpacked_code}
 use Rattle.jpeg_bits.specs.declared.huffman.codes.HuffmanTableClass.{HuffmanTableClass}
 use Rattle.jpeg_bits.specs.declared.huffman.codes.Row.{Row}
 use Rattle.jpeg_bits.specs.declared.huffman.ahead.DataEnd.{DataEnd}
@@ -366,21 +366,6 @@ pub unpacked_some : (n k : ℕ) → n ≡ k → (k ≡ 0 → ⊥) → unpacked_c
 unfolding unpacked_code
 unpacked_some n k e some = grind (arith, nat_tests)
 
--- where no short code stands, the bits begin no value
-pub none_valued : (table : Table) (codes : List ℕ) (b : ℕ) → HoldsCodes table.counts table.symbols codes → b < 256
-    → get_or codes b 0 ≡ 0 → None ≡ short_value_of 8 table (low_bits 8 b)
-none_valued table codes b holds lt none =
-    let code = code_in (code_lengths table.counts) (low_bits 8 b ++ replicate 8 false) in
-    ap (short_value_by 8 table.class (low_bits 8 b)) (sym (sym (holds b lt) ∙ unpacked_none _ none))
-    ∙ short_enough 8 table.class (low_bits 8 b) table.symbols code
-
--- an element of zeros
-pub zeros_hold : (xs : List ℕ) (n k : ℕ) → xs ≡ replicate n 0 → get_or xs k 0 ≡ 0
-zeros_hold xs n k e = elim (cases_lt k n) [
-  | inl lt ↦ ap (λ (l : List ℕ). get_or l k 0) e ∙ get_or-replicate n k 0 0 lt
-  | inr le ↦ get_or_past xs k 0 (omega (arith, le, ap length e, length-replicate {A = ℕ} n 0))
-]
-
 -- elements that are equal, in place of those from `at` on
 module _ (xs whole : List ℕ) (at end v : ℕ) (le : at ≤ end) (few : end ≤ length xs)
     (is : whole ≡ take at xs ++ (replicate (end - at) v ++ drop (end - at) (drop at xs))) where
@@ -389,9 +374,6 @@ module _ (xs whole : List ℕ) (at end v : ℕ) (le : at ≤ end) (few : end ≤
 
   pub run_inside : (k : ℕ) → at ≤ k → k < end → get_or whole k 0 ≡ v
   run_inside k from to = grind (arith, common_steps)
-
-  pub run_after : (k : ℕ) → end ≤ k → get_or whole k 0 ≡ get_or xs k 0
-  run_after k from = grind (arith, common_steps)
 
 -- no code of at most 8 bits begins the bits once their rows are passed
 pub none-after : (counts symbols : List ℕ) (rows : List Row) (byte b n : ℕ) → length counts ≡ 16

@@ -44,6 +44,17 @@ pub record Table : Type 0 where
   pub counts : List ℕ
   pub symbols : List ℕ
 
+-- how many codes have each length, and their symbols in the order of the codes
+pub record CodeList : Type 0 where
+  pub counts : List ℕ
+  pub symbols : List ℕ
+
+-- the table of a class that has these codes, or none
+abbrev pub table_of : HuffmanTableClass → Option CodeList → Table
+table_of class None = record { class = class; counts = replicate 16 0; symbols = [] }
+table_of class (Some codes) =
+    record { class = class; counts = codes.counts; symbols = codes.symbols }
+
 -- a table of 16 counts whose codes exist
 pub record IsTable (table : Table) : Type 0 where
   pub counted : length table.counts ≡ 16

@@ -50,14 +50,16 @@ short_value_of n table bits = short_value_by n table.class bits
 abbrev pub next_bits : ℕ → List Bool → List Bool
 next_bits n bits = take n (bits ++ replicate n false)
 
--- a code that is packed into a number: 256 times its length and its symbol, and 0 where there is none
+-- a code that is packed into a number: 256 times its length and its symbol, and 0 where there is
+-- none
 unfoldable pub unpacked_code : ℕ → Option (ℕ × ℕ)
 unpacked_code n = if n == 0 then None else Some (n % 256, n / 256)
 
 -- at the index of each 8 bits stands the code that begins them
 abbrev pub HoldsCodes : List ℕ → List ℕ → List ℕ → Type 0
 HoldsCodes counts symbols codes =
-    (b : ℕ) → b < 256 → unpacked_code (slice_index_or codes b 0) ≡ short_code counts symbols (low_bits 8 b)
+    (b : ℕ) → b < 256
+    → unpacked_code (slice_index_or codes b 0) ≡ short_code counts symbols (low_bits 8 b)
 
 -- the values that 8 bits begin with, at the index of each, where the table is filled
 abbrev pub HoldsValues : Table → List (Option (ℤ × ℕ × ℕ)) → Type 0

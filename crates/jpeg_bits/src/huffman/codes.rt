@@ -39,13 +39,8 @@ pub enum HuffmanTableClass {
 #[derive(Drop)]
 pub struct HuffmanTable {
     class: HuffmanTableClass,
-    counts: [u8; 16],
-    values: Vec<u8>,
-    rows: [Row; 16],
-    // The look-up tables are on the heap, since a table is moved; one without codes has none.
-    // At the index of each 8 bits, the code of at most 8 bits that begins them: 256 times its
-    // length, and its symbol; 0 where none does.
-    codes: Vec<u16>,
+    // On the heap, since a table is moved. A table without codes allocates nothing.
+    codes: Option<Box<CodeTables>>,
     // The last number has two bytes, so that an entry has eight and is found without a product.
     // Empty until `fill_pairs` fills it.
     tokens: Vec<Option<(i16, u8, u16)>>,
@@ -63,48 +58,81 @@ pub struct HuffmanTable {
     pairs: Vec<Pair>,
 }
 
+/// The codes of a table, in one allocation of less than 1,032 bytes: larger ones aren't in the
+/// cache of glibc's `malloc`.
+#[derive(Drop)]
+struct CodeTables {
+    counts: [u8; 16],
+    // The first `count` are symbols of codes.
+    symbols: [u8; 256],
+    count: usize,
+    rows: [Row; 16],
+    // At the index of each 8 bits, the code of at most 8 bits that begins them: 256 times its
+    // length, and its symbol; 0 where none does.
+    short: [u16; 256],
+}
+
 /// The codes of one length: the value after the greatest, the value of the first, and the index of
 /// its symbol.
 #[derive(Clone, Copy)]
 struct Row {
     end: u32,
     first: u32,
-    index: usize,
+    index: u16,
 }
 
+/// No codes.
+const NO_ROW: Row = Row {
+    end: 0,
+    first: 0,
+    index: 0,
+};
+
 impl Model for HuffmanTable {
-    ghost use Rattle.std.specs.Prelude.{◌≡◌, ◌≤◌, length};
-    ghost use Rattle.jpeg_bits.specs.Codes.{Table, code_lengths};
-    ghost use Rattle.jpeg_bits.specs.ShortCodes.{HoldsRows, HoldsCodes, HoldsValues};
-    ghost use Rattle.jpeg_bits.specs.ShortCodes.{HoldsWideValues};
+    ghost use Rattle.std.specs.Prelude.{◌≡◌, length};
+    ghost use Rattle.std.specs.Option.{option_map};
+    ghost use Rattle.jpeg_bits.specs.Codes.{Table, table_of};
+    ghost use Rattle.jpeg_bits.specs.ShortCodes.{HoldsValues, HoldsWideValues};
     ghost use Rattle.jpeg_bits.specs.Skips.{HoldsSkips};
     ghost use Rattle.jpeg_bits.specs.Pairs.{AreSmall, HoldsPairs};
 
     ghost Value = { Table };
 
-    ghost view = { λ t. record { class = t.class; counts = t.counts; symbols = t.values.items } };
+    ghost view = { λ t. table_of t.class (option_map (λ b. b.value) t.codes) };
+
+    ghost invariant = { λ t.
+        let table = table_of t.class (option_map (λ b. b.value) t.codes) in
+        (length table.counts ≡ 16)
+        × HoldsValues table t.tokens.items
+        × HoldsWideValues table t.wide_tokens.items
+        × AreSmall t.wide_tokens.items
+        × HoldsSkips table t.skips.items
+        × HoldsPairs table t.pairs.items };
+}
+
+impl Model for CodeTables {
+    ghost use Rattle.std.specs.Prelude.{◌≡◌, ◌≤◌, length, take};
+    ghost use Rattle.jpeg_bits.specs.Codes.{CodeList, code_lengths};
+    ghost use Rattle.jpeg_bits.specs.ShortCodes.{HoldsRows, HoldsCodes};
+
+    ghost Value = { CodeList };
+
+    ghost view = { λ t. record { counts = t.counts; symbols = take t.count t.symbols } };
 
     ghost invariant = { λ t. (length t.counts ≡ 16)
-        × (length (code_lengths t.counts) ≡ length t.values.items)
+        × (length (code_lengths t.counts) ≡ t.count)
         × HoldsRows t.counts t.rows
-        × HoldsCodes t.counts t.values.items t.codes.items
-        × HoldsValues (record { class = t.class; counts = t.counts; symbols = t.values.items })
-        t.tokens.items
-        × HoldsWideValues (record { class = t.class; counts = t.counts; symbols = t.values.items })
-        t.wide_tokens.items
-        × AreSmall t.wide_tokens.items
-        × HoldsSkips (record { class = t.class; counts = t.counts; symbols = t.values.items })
-        t.skips.items
-        × HoldsPairs (record { class = t.class; counts = t.counts; symbols = t.values.items })
-        t.pairs.items
-        × (length t.values.items ≤ 256) };
+        × HoldsCodes t.counts (take t.count t.symbols) t.short
+        × (length t.short ≡ 256)
+        × (length t.symbols ≡ 256)
+        × (t.count ≤ 256) };
 }
 
 impl HuffmanTable {
     ghost use Rattle.std.specs.Prelude.{◌≡◌, ◌+◌, ◌≤◌, ◌<◌, [], IfOk, IfErr, IfSome, length};
     ghost use Rattle.std.specs.Prelude.{replicate, sum, ◌/◌, None, Some};
     ghost use Rattle.jpeg_bits.specs.Codes.{code_lengths, HasCodes, RefusesCodes};
-    ghost use Rattle.jpeg_bits.specs.ShortCodes.{symbol_in, short_code, short_value_of};
+    ghost use Rattle.jpeg_bits.specs.ShortCodes.{symbol_in, short_value_of};
     ghost use Rattle.jpeg_bits.specs.Written.{low_bits};
     ghost use Rattle.jpeg_bits.specs.Skips.{HoldsSkips, IsSkip};
     ghost use Rattle.jpeg_bits.specs.Pairs.{IsPairOf, IsWithinPassed};
@@ -130,19 +158,12 @@ impl HuffmanTable {
         if !has_codes(bits) {
             return Err(codes_error(alloc, bits));
         }
-        let rows = rows_of(bits);
-        let codes = Codes {
-            counts: bits,
-            rows: &rows,
-            values,
-        };
-        let short = short_codes(alloc, &codes)?;
+        // They are filled where they stay: arrays that are returned are copied.
+        let mut codes = Box::new(alloc, CodeTables::empty())?;
+        codes.fill(bits, values);
         Ok(HuffmanTable {
             class,
-            counts: *bits,
-            values: Vec::from_slice(alloc, values)?,
-            rows,
-            codes: short,
+            codes: Some(codes),
             tokens: Vec::new(alloc),
             wide_tokens: Vec::new(alloc),
             skips: Vec::new(alloc),
@@ -155,13 +176,9 @@ impl HuffmanTable {
     pub fn without_codes(alloc: Global, class: HuffmanTableClass) -> HuffmanTable
         ensures { result ≡ record { class = class; counts = replicate 16 0; symbols = [] } }
     {
-        let counts = [0; 16];
         HuffmanTable {
             class,
-            counts,
-            values: Vec::new(alloc),
-            rows: rows_of(&counts),
-            codes: Vec::new(alloc),
+            codes: None,
             tokens: Vec::new(alloc),
             wide_tokens: Vec::new(alloc),
             skips: Vec::new(alloc),
@@ -175,16 +192,12 @@ impl HuffmanTable {
     pub fn widen(&mut self, alloc: Global) -> std::result::Result<(), AllocError>
         ensures { self.new ≡ self.old }
     {
-        let is_filled = !self.wide_tokens.is_empty();
-        if is_filled || self.class == HuffmanTableClass::DC || self.codes.len() != 256 {
+        if self.class == HuffmanTableClass::DC || !self.wide_tokens.is_empty() {
             return Ok(());
         }
-        let codes = Codes {
-            counts: &self.counts,
-            rows: &self.rows,
-            values: &self.values,
-        };
-        self.wide_tokens = wide_values(alloc, &codes)?;
+        if let Some(codes) = &self.codes {
+            self.wide_tokens = codes.wide_values(alloc)?;
+        }
         Ok(())
     }
 
@@ -206,11 +219,12 @@ impl HuffmanTable {
     fn fill_tokens(&mut self, alloc: Global) -> std::result::Result<(), AllocError>
         ensures { self.new ≡ self.old }
     {
-        if self.class == HuffmanTableClass::DC || self.codes.len() != 256 {
+        if self.class == HuffmanTableClass::DC {
             return Ok(());
         }
-        let tokens = short_values(alloc, &self.codes)?;
-        self.tokens = tokens;
+        if let Some(codes) = &self.codes {
+            self.tokens = codes.short_values(alloc)?;
+        }
         Ok(())
     }
 
@@ -221,8 +235,11 @@ impl HuffmanTable {
     pub fn fill_pairs(&mut self, alloc: Global) -> std::result::Result<(), AllocError>
         ensures { self.new ≡ self.old }
     {
-        if self.pairs.is_empty() && self.codes.len() == 256 && self.wide_tokens.len() == 2048 {
-            self.pairs = pairs_of(alloc, &self.codes, &self.wide_tokens)?;
+        if !self.pairs.is_empty() || self.wide_tokens.len() != 2048 {
+            return Ok(());
+        }
+        if let Some(codes) = &self.codes {
+            self.pairs = pairs_of(alloc, codes.short(), &self.wide_tokens)?;
             self.fill_tokens(alloc)?;
         }
         Ok(())
@@ -280,29 +297,10 @@ impl HuffmanTable {
         ensures within { IfSome result (λ c. c.1 ≤ 16) }
         ensures counted { length self.now.counts ≡ 16 }
     {
-        match self.codes.get((bits >> 8) as usize) {
-            Some(code) if *code != 0 => Some(((*code % 256) as u8, (*code >> 8) as u8)),
-            _ => self.long_symbol_of(bits),
+        match &self.codes {
+            Some(codes) => codes.symbol_of(bits),
+            None => None,
         }
-    }
-
-    /// Returns what `symbol_of` does, if no code of at most 8 bits begins the bits.
-    #[inline(never)]
-    #[tactic(auto, using(crate::proofs::Rules::rows))]
-    fn long_symbol_of(&self, bits: u16) -> Option<(u8, u8)>
-        requires { short_code self.now.counts self.now.symbols (low_bits 8 (bits / 256)) ≡ None }
-        ensures symbol { result ≡ symbol_in self.now (low_bits 16 bits) }
-        ensures within { IfSome result (λ c. c.1 ≤ 16) }
-    {
-        for i in 8..16 {
-            let row = self.rows[i];
-            let number = u32::from(bits >> (15 - i));
-            if number < row.end {
-                let index = row.index + (number - row.first) as usize;
-                return Some((self.values[index], (i + 1) as u8));
-            }
-        }
-        None
     }
 
     /// Returns the value and the run that 8 bits begin with, and how many bits they take, if they
@@ -328,8 +326,8 @@ impl HuffmanTable {
         if self.class == HuffmanTableClass::DC {
             return None;
         }
-        match self.codes.get(byte as usize) {
-            Some(code) => short_value(unpacked_code(*code), 8, u16::from(byte)),
+        match &self.codes {
+            Some(codes) => codes.short_value_of(byte),
             None => None,
         }
     }
@@ -376,6 +374,131 @@ impl HuffmanTable {
     }
 }
 
+impl CodeTables {
+    ghost use Rattle.std.specs.Prelude.{◌≡◌, ◌≤◌, ◌/◌, [], IfOk, IfSome, None, length, replicate};
+    ghost use Rattle.jpeg_bits.specs.Codes.{code_lengths, table_of};
+    ghost use Rattle.jpeg_bits.specs.ShortCodes.{HoldsCodes, HoldsValues, HoldsWideValues};
+    ghost use Rattle.jpeg_bits.specs.ShortCodes.{short_code, short_value_of, symbol_in};
+    ghost use Rattle.jpeg_bits.specs.Written.{low_bits};
+
+    /// Returns tables without codes, which `fill` fills.
+    #[inline(always)]
+    fn empty() -> CodeTables
+        ensures { result ≡ record { counts = replicate 16 0; symbols = [] } }
+    {
+        CodeTables {
+            counts: [0; 16],
+            symbols: [0; 256],
+            count: 0,
+            rows: [NO_ROW; 16],
+            short: [0; 256],
+        }
+    }
+
+    /// Fills the tables with `counts[i]` codes of length i + 1 and with their symbols.
+    fn fill(&mut self, counts: &[u8; 16], symbols: &[u8])
+        requires count { length (code_lengths counts.now) ≡ length symbols.now }
+        requires most { length symbols.now ≤ 256 }
+        ensures { self.new ≡ record { counts = counts.now; symbols = symbols.now } }
+    {
+        self.counts = *counts;
+        self.count = symbols.len();
+        self.symbols[..symbols.len()].copy_from_slice(symbols);
+        fill_rows(&mut self.rows, counts);
+        let codes = Codes {
+            counts,
+            rows: &self.rows,
+            values: symbols,
+        };
+        fill_short(&mut self.short, &codes);
+    }
+
+    /// Returns the symbols in the order of the codes.
+    #[inline(always)]
+    fn symbols(&self) -> &[u8]
+        ensures symbols { result.now ≡ self.now.symbols }
+        ensures count { length (code_lengths self.now.counts) ≡ length result.now }
+        ensures most { length result.now ≤ 256 }
+    {
+        &self.symbols[..self.count]
+    }
+
+    /// Returns the codes of at most 8 bits, packed, by the 8 bits that they begin.
+    fn short(&self) -> &[u16; 256]
+        ensures codes { HoldsCodes self.now.counts self.now.symbols result.now }
+        ensures length { length result.now ≡ 256 }
+    {
+        &self.short
+    }
+
+    /// Returns the symbol and the length of the code that begins 16 bits.
+    #[inline(always)]
+    fn symbol_of(&self, bits: u16) -> Option<(u8, u8)>
+        ensures symbol { result ≡ symbol_in (table_of AC (Some self.now)) (low_bits 16 bits) }
+        ensures within { IfSome result (λ c. c.1 ≤ 16) }
+    {
+        let code = self.short[(bits >> 8) as usize];
+        if code == 0 {
+            return self.long_symbol_of(bits);
+        }
+        Some(((code % 256) as u8, (code >> 8) as u8))
+    }
+
+    /// Returns what `symbol_of` does, if no code of at most 8 bits begins the bits.
+    #[inline(never)]
+    #[tactic(auto, using(crate::proofs::Rules::rows))]
+    fn long_symbol_of(&self, bits: u16) -> Option<(u8, u8)>
+        requires { short_code self.now.counts self.now.symbols (low_bits 8 (bits / 256)) ≡ None }
+        ensures symbol { result ≡ symbol_in (table_of AC (Some self.now)) (low_bits 16 bits) }
+        ensures within { IfSome result (λ c. c.1 ≤ 16) }
+    {
+        for i in 8..16 {
+            let row = self.rows[i];
+            let number = u32::from(bits >> (15 - i));
+            if number < row.end {
+                let index = usize::from(row.index) + (number - row.first) as usize;
+                return Some((self.symbols()[index], (i + 1) as u8));
+            }
+        }
+        None
+    }
+
+    /// Returns the value and the run of class AC that 8 bits begin with, and how many bits they
+    /// take, if they take at most 8.
+    fn short_value_of(&self, byte: u8) -> Option<(i16, u8, u16)>
+        ensures value { result
+            ≡ short_value_of 8 (table_of AC (Some self.now)) (low_bits 8 byte) }
+        ensures within { IfSome result (λ t. t.2 ≤ 8) }
+    {
+        short_value(unpacked_code(self.short[byte as usize]), 8, u16::from(byte))
+    }
+
+    /// Returns the values of class AC of at most 8 bits with their codes, by the 8 bits that they
+    /// begin.
+    fn short_values(
+        &self,
+        alloc: Global,
+    ) -> std::result::Result<Vec<Option<(i16, u8, u16)>>, AllocError>
+        ensures { IfOk result (λ v. HoldsValues (table_of AC (Some self.now)) v.items) }
+    {
+        short_values(alloc, &self.short)
+    }
+
+    /// Returns the values of class AC of at most 11 bits with their codes, by the 11 bits that they
+    /// begin.
+    fn wide_values(&self, alloc: Global) -> std::result::Result<Vec<(i16, u8, u8)>, AllocError>
+        ensures values { IfOk result (λ v. HoldsWideValues (table_of AC (Some self.now)) v.items) }
+        ensures small { IfOk result (λ v. AreSmall v.items) }
+    {
+        let codes = Codes {
+            counts: &self.counts,
+            rows: &self.rows,
+            values: self.symbols(),
+        };
+        wide_values(alloc, &codes)
+    }
+}
+
 /// Returns whether the token of a code stands for coefficients: some zeros and a value, or sixteen
 /// zeros.
 fn has_room(run: u8, size: u8) -> bool
@@ -395,26 +518,19 @@ fn bits_after(bits: u16, used: u8) -> u16
     ((u32::from(bits) << (4 + used)) % 65536) as u16
 }
 
-/// Returns the codes of each length.
-fn rows_of(counts: &[u8; 16]) -> [Row; 16]
-    ensures { HoldsRows counts.now result }
+/// Fills rows with the codes of each length.
+fn fill_rows(rows: &mut [Row; 16], counts: &[u8; 16])
+    ensures { HoldsRows counts.now rows.new }
 {
-    let none = Row {
-        end: 0,
-        first: 0,
-        index: 0,
-    };
-    let mut rows = [none; 16];
     let mut end = 0u32;
-    let mut index = 0usize;
+    let mut index = 0u16;
     for i in 0..16 {
         let count = u32::from(counts[i]);
         let first = 2 * end;
         end = first + count;
         rows[i] = Row { end, first, index };
-        index += count as usize;
+        index += count as u16;
     }
-    rows
 }
 
 /// Returns whether each code fits its length.
@@ -506,7 +622,7 @@ impl Codes<'_> {
             return None;
         }
         let Row { first, index, .. } = self.rows[i];
-        let index = index + (u32::from(bits >> (15 - i)) - first) as usize;
+        let index = usize::from(index) + (u32::from(bits >> (15 - i)) - first) as usize;
         Some((self.values[index], (i + 1) as u8))
     }
 }
@@ -565,17 +681,15 @@ fn end_of_run(first: usize, rest: u8) -> usize
     ((first >> rest) + 1) << rest
 }
 
-/// Returns the codes of at most 8 bits, by the 8 bits that they begin.
-fn short_codes(alloc: Global, codes: &Codes<'_>) -> std::result::Result<Vec<u16>, AllocError>
+/// Fills a look-up table with the codes of at most 8 bits, by the 8 bits that they begin.
+fn fill_short(short: &mut [u16; 256], codes: &Codes<'_>)
     requires counted { length codes.now.counts.now ≡ 16 }
     requires rows { HoldsRows codes.now.counts.now codes.now.rows.now }
     requires count { length (code_lengths codes.now.counts.now) ≡ length codes.now.values.now }
     requires most { length codes.now.values.now ≤ 256 }
-    ensures codes { IfOk result (λ v. HoldsCodes codes.now.counts.now codes.now.values.now
-        v.items) }
-    ensures length { IfOk result (λ v. length v.items ≡ 256) }
+    ensures codes { HoldsCodes codes.now.counts.now codes.now.values.now short.new }
+    ensures length { length short.new ≡ 256 }
 {
-    let mut short = vec![in alloc; 0u16; 256]?;
     let mut row = 0;
     let mut byte = 0;
     // After a longer code, or bits that begin none, no greater byte begins a short one.
@@ -585,7 +699,7 @@ fn short_codes(alloc: Global, codes: &Codes<'_>) -> std::result::Result<Vec<u16>
         short[byte..end].fill(packed_code(code));
         byte = end;
     }
-    Ok(short)
+    short[byte..].fill(0);
 }
 
 /// Returns the value of `size` bits after the first `length` of `count`.

@@ -1,4 +1,4 @@
-use Rattle.jpeg_bits.proofs.huffman.codes.HuffmanTable.long_symbol_of.Given as goal
+use Rattle.jpeg_bits.proofs.huffman.codes.CodeTables.long_symbol_of.Given as goal
 use Rattle.std.proofs.Common.{◌≤◌, ◌/◌, ◌^◌, ◌-◌}
 use Rattle.jpeg_bits.specs.ShortCodes.{value_after}
 use Rattle.jpeg_bits.proofs.CodeLemmas.{NoneYet}

@@ -1,19 +1,18 @@
-use Rattle.jpeg_bits.proofs.huffman.codes.short_codes.Goals as goal
-use Rattle.std.proofs.Common.{◌≡◌, ◌∙◌, ◌*◌, ◌%◌, ◌++◌, ◌≤◌, length, ℕ, List, Bool, ap, arith, replicate, false, inl, inr, rules}
+use Rattle.jpeg_bits.proofs.huffman.codes.fill_short.Goals as goal
+use Rattle.std.proofs.Common.{◌≡◌, ◌∙◌, ◌*◌, ◌%◌, ◌++◌, ◌≤◌, length, List, Bool, ap, arith, replicate, false, inl, inr, rules}
 use Rattle.std.proofs.lemmas.Bool.{cases_lt}
 use Rattle.std.proofs.lemmas.Grind.{common_steps}
 use Rattle.jpeg_bits.specs.Codes.{code_in, code_lengths}
 use Rattle.jpeg_bits.specs.Written.{low_bits}
-use Rattle.jpeg_bits.specs.ShortCodes.{named, short_code, short_only, unpacked_code}
+use Rattle.jpeg_bits.specs.ShortCodes.{named, short_only, unpacked_code}
 use Rattle.jpeg_bits.proofs.CodeLemmas.{still-passed}
-use Rattle.jpeg_bits.proofs.ShortLemmas.{byte_padded, none-after, run_after, run_before, run_inside, run-entry, short-of-named}
-use Rattle.jpeg_bits.proofs.ShortLemmas.{unpacked_none, zeros_hold}
+use Rattle.jpeg_bits.proofs.ShortLemmas.{byte_padded, none-after, run_before, run_inside, run-entry, short-of-named}
+use Rattle.jpeg_bits.proofs.ShortLemmas.{unpacked_none}
 
 pub loop-byte-init : goal.loop-byte-init
 loop-byte-init c = record {
-  whole = search rules;
+  whole = c.told-short;
   filled = search rules;
-  rest = λ b le. zeros_hold _ 256 b (c.in_ok-short.ensures.items_if_clones_equal (λ y e. e));
   within = search rules;
   passed = search rules;
   few = search rules;
@@ -23,7 +22,7 @@ pub loop-byte-preserved : goal.loop-byte-preserved
 loop-byte-preserved c =
     let byte = c.loop-byte.byte in
     let end = c.end_of_run-end.result in
-    let xs = c.loop-byte.short.items in
+    let xs = c.loop-byte.short in
     let t = c.args.codes.now in
     let lens = code_lengths t.counts.now in
     let i = c.loop-byte.invariant in
@@ -48,7 +47,6 @@ loop-byte-preserved c =
             ∙ run-entry t.counts.now t.values.now byte end b c.short_only-code.result c.requires.counted after lt
             c.short_only-code.ensures.few run entry
       ];
-      rest = λ b from. run_after xs _ byte end v le few (grind (arith, common_steps)) b from ∙ i.rest b (omega (arith, le, from));
       within = search rules;
       passed = still-passed t.rows.now c.code_of.new.row (byte * 256 % 65536) (end * 256) (omega (arith, le))
           c.code_of.ensures.passed;
@@ -59,12 +57,14 @@ pub returns-clause-codes : goal.returns-clause-codes
 returns-clause-codes c b lt =
     let l = c.loop-byte in
     let t = c.args.codes.now in
+    let few : 256 ≤ length l.short = omega (arith, l.invariant.whole) in
     elim (cases_lt b l.byte) [
-      | inl before ↦ l.invariant.filled b before
-      | inr after ↦ elim c.loop-byte-test.branch [
-        | goal.then-loop-byte-test+else-row-lt8 w ↦ unpacked_none _ (l.invariant.rest b after)
-            ∙ none-after t.counts.now t.values.now t.rows.now l.byte b l.row c.requires.counted c.requires.rows after lt
-            (omega (arith, w.if-row-lt8.false)) l.invariant.passed
-        | goal.else-loop-byte-test w ↦ absurd (omega (arith, w.loop-byte-test.false))
-      ]
+      | inl before ↦ ap unpacked_code (run_before l.short _ l.byte 256 0 l.invariant.few few
+          (grind (arith, common_steps)) b before) ∙ l.invariant.filled b before
+      | inr after ↦ unpacked_none _ (run_inside l.short _ l.byte 256 0 l.invariant.few few
+          (grind (arith, common_steps)) b after lt) ∙ elim c.loop-byte-test.branch [
+            | goal.then-loop-byte-test+else-row-lt8 w ↦ none-after t.counts.now t.values.now t.rows.now l.byte b l.row
+                c.requires.counted c.requires.rows after lt w.if-row-lt8.false l.invariant.passed
+            | goal.else-loop-byte-test w ↦ absurd (omega (arith, after, lt, w.loop-byte-test.false))
+          ]
     ]

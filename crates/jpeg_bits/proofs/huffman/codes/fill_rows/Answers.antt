@@ -1,4 +1,4 @@
-use Rattle.jpeg_bits.proofs.huffman.codes.rows_of.Goals as goal
+use Rattle.jpeg_bits.proofs.huffman.codes.fill_rows.Goals as goal
 use Rattle.std.proofs.Common.{◌≡◌, ◌+◌, ◌*◌, ◌^◌, ◌<◌, get_or, length, arith, ap, ℕ}
 use Rattle.jpeg_bits.specs.ShortCodes.{row_at, no_row, value_after}
 use Rattle.jpeg_bits.specs.declared.huffman.codes.Row.{Row}

@@ -1,6 +1,6 @@
 use Rattle.std.proofs.Common.{◌≡◌, ℕ, ◌+◌, ◌*◌, ◌^◌, ◌<◌, ◌≤◌, length, take, sum, slice_index_or}
 use Rattle.jpeg_bits.specs.ShortCodes.{value_after, row_at, no_row}
-use Rattle.jpeg_bits.proofs.huffman.codes.rows_of.Given as goal
+use Rattle.jpeg_bits.proofs.huffman.codes.fill_rows.Given as goal
 
 abbrev pub invariant-loop-i : goal.invariant-loop-i
 invariant-loop-i l = record {
