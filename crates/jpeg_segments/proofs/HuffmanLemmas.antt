@@ -1,16 +1,21 @@
 -- Steps of the parser of Huffman tables.
-use Rattle.std.proofs.Common.{◌≡◌, ℕ, ◌-◌, ◌<◌, ◌≤◌, List, Result, Ok, Err, arith, eqb}
+use Rattle.std.proofs.Common.{◌≡◌, ℕ, ◌-◌, ◌<◌, ◌≤◌, List, Option, Some, Result, Ok, Err, ap, arith}
+use Rattle.std.proofs.Common.{eqb, refl, true}
+use Rattle.std.proofs.lemmas.List.Recursion.{and_set}
+use Rattle.std.proofs.lemmas.Result.{err_from_is_err_and}
 use Rattle.std.proofs.lemmas.Bool.Decides.{nat_tests}
-use Rattle.std.specs.Prelude.{if◌then◌else◌, sum, IfOk, IfErr}
+use Rattle.std.specs.Prelude.{if◌then◌else◌, slice_set, sum, IfOk, IfErr}
 use Rattle.jpeg_bits.specs.Stream.{Stream}
 use Rattle.jpeg_bits.specs.Reading.{Fault, Malformed, Answers, Names, NamesFormat, ◌>>=◌, times, next_byte}
-use Rattle.jpeg_bits.specs.Codes.{Table, HasCodes, RefusesCodes, codes_exist, code_lengths}
+use Rattle.jpeg_bits.specs.Codes.{Table, HasCodes, RefusesCodes, codes_exist, code_lengths, is_ac}
 use Rattle.jpeg_bits.specs.declared.huffman.codes.HuffmanTableClass.{HuffmanTableClass}
+use Rattle.jpeg_bits.specs.declared.huffman.codes.HuffmanTableClass.TheVariants.{AC}
 use Rattle.jpeg_bits.specs.declared.error.Error.{Error}
-use Rattle.jpeg_bits.proofs.Loops.{still_known}
+use Rattle.jpeg_bits.proofs.Loops.{bind_at, bind_err, still_known}
 use Rattle.jpeg_bits.proofs.Tables.{exist-tested, tested-exist}
-use Rattle.jpeg_segments.specs.HuffmanTables.{Tables, DefinedTable, size_of, with_table, tables_from, defined_codes_at}
-use Rattle.jpeg_segments.specs.Parts.{symbols_at}
+use Rattle.jpeg_segments.specs.HuffmanTables.{Tables, all_ac, is_ac_or_none, tables_from}
+use Rattle.jpeg_segments.specs.Parts.{placed_at, symbols_at}
+use Rattle.jpeg_segments.proofs.PartsOfSegments.{placed_of_parts}
 use Rattle.std.proofs.lemmas.Grind.{common_steps}
 use Rattle.jpeg_bits.proofs.BufferedBits.{may_fail_format}
 
@@ -31,13 +36,21 @@ table-found class counts old mid symbols r h1 h2 h3 h4 =
     grind (arith, nat_tests, exist-tested, refused-names, may_fail_format, still_known)
 
 pub tables_from-more : (most greatest left : ℕ) (tables : Tables) (bytes : List ℕ) → 17 < left → left ≤ most
-    → tables_from most greatest left tables bytes ≡ (defined_codes_at greatest left bytes
-    >>= λ (t : DefinedTable × List ℕ). tables_from (most - 1) greatest (left - size_of t.0)
-    (with_table tables t.0) t.1)
+    → tables_from most greatest left tables bytes ≡ (placed_at greatest left tables bytes
+    >>= λ (t : (ℕ × Tables) × List ℕ). tables_from (most - 1) greatest (left - t.0.0) t.0.1 t.1)
 unfolding tables_from
-tables_from-more most greatest left tables bytes h1 h2 = grind (arith, nat_tests)
+tables_from-more most greatest left tables bytes h1 h2 = grind (arith, nat_tests, placed_of_parts)
 
 pub tables_from-rest : (most greatest left : ℕ) (tables : Tables) (bytes : List ℕ) → left ≤ 17
     → tables_from most greatest left tables bytes ≡ (if eqb left 0 then Ok (tables, bytes) else Err Malformed)
 unfolding tables_from
 tables_from-rest most greatest left tables bytes h1 = grind (arith, nat_tests)
+
+-- a table of class AC among such tables
+pub all_ac_set : (tables : List (Option Table)) (destination : ℕ) (t : Table) → t.class ≡ AC → all_ac tables ≡ true
+    → all_ac (slice_set tables destination (Some t)) ≡ true
+all_ac_set tables destination t is = and_set (λ (xs : List (Option Table)). all_ac xs) is_ac_or_none refl (λ x xs. refl)
+    tables destination (Some t) (ap is_ac is)
+
+-- for the function that reads the tables of a segment
+pub ruleset huffman_steps = (err_from_is_err_and, common_steps, bind_at, bind_err, tables_from-more, tables_from-rest)

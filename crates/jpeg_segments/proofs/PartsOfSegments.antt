@@ -9,8 +9,9 @@ use Rattle.jpeg_bits.specs.Reading.{Malformed, ◌>>=◌, next_byte}
 use Rattle.jpeg_segments.specs.Checks.{needed}
 use Rattle.jpeg_segments.specs.Frame.{Factors, Frame, components_from, factors_at, frame_of, is_lossless_number}
 use Rattle.jpeg_segments.specs.Frame.{is_taken, sof_at}
-use Rattle.jpeg_segments.specs.HuffmanTables.{class_of, defined_codes_at}
-use Rattle.jpeg_segments.specs.Parts.{codes_at, destinations_at, head_at, parameters_at, symbols_at, table_at}
+use Rattle.jpeg_segments.specs.HuffmanTables.{Tables, defined_codes_at, size_of, with_table}
+use Rattle.jpeg_segments.specs.Parts.{destinations_at, head_at, parameters_at, place_at, placed_at, symbols_at}
+use Rattle.jpeg_segments.specs.Parts.{table_at}
 use Rattle.jpeg_segments.specs.Quantization.{defined_table_at, table_size}
 use Rattle.jpeg_segments.specs.ScanHeader.{index_of, selector_at}
 
@@ -28,14 +29,11 @@ pub sof_of_parts : (number : ℕ) (bytes : List ℕ) → sof_at number bytes ≡
 unfolding sof_at head_at
 sof_of_parts number bytes = grind (arith, nat_tests)
 
-pub codes_of_parts : (greatest left : ℕ) (bytes : List ℕ) → defined_codes_at greatest left bytes ≡ (do
-  b ← next_byte bytes
-  if nat_lt 1 (b.0 / 16) then Err Malformed else (
-      if nat_lt greatest (b.0 % 16) then Err Malformed else (do
-        t ← codes_at left (class_of (b.0 / 16)) b.1
-        Ok (record { destination = b.0 % 16; table = t.0 }, t.1))))
-unfolding defined_codes_at codes_at symbols_at
-codes_of_parts greatest left bytes = grind (arith, nat_tests)
+pub placed_of_parts : (greatest left : ℕ) (tables : Tables) (bytes : List ℕ) → placed_at greatest left tables bytes ≡ (do
+  t ← defined_codes_at greatest left bytes
+  Ok ((size_of t.0, with_table tables t.0), t.1))
+unfolding defined_codes_at placed_at place_at symbols_at
+placed_of_parts greatest left tables bytes = grind (arith, nat_tests)
 
 none-zero : (vs : List ℕ) → list_all (λ v. nat_lt 0 v) vs ≡ not (list_any (λ v. v == 0) vs)
 none-zero [] = refl
@@ -65,7 +63,6 @@ pub ruleset parts = (
   common_steps,
   factors_of_parts,
   sof_of_parts,
-  codes_of_parts,
   table_of_parts,
   selector_of_parts,
 )

@@ -2,6 +2,7 @@
 use Rattle.std.specs.Prelude.{⊤}
 use Rattle.jpeg_segments.specs.Quantization.{dqt_at, value_at}
 use Rattle.jpeg_segments.proofs.FrameLemmas.{frame_rules}
+use Rattle.jpeg_segments.proofs.HuffmanLemmas.{all_ac_set, huffman_steps}
 use Rattle.jpeg_segments.proofs.PartsOfSegments.{parts}
 use Rattle.jpeg_segments.proofs.QuantizationLemmas.{table_steps, value_widths}
 use Rattle.jpeg_segments.proofs.ScaleLemmas.{frames_are_sized}
@@ -11,6 +12,11 @@ use Rattle.jpeg_segments.proofs.ScanLemmas.{mcu_of_blocks}
 pub ruleset frames = (frame_rules)
 
 pub ruleset sized_frames = (frames_are_sized, parts)
+
+-- Huffman tables
+pub ruleset huffman = (huffman_steps)
+
+pub ruleset classes = (all_ac_set)
 
 -- the MCU of a scan
 pub ruleset mcus = (mcu_of_blocks)

@@ -10,7 +10,8 @@ use Rattle.jpeg_segments.specs.declared.scan_header.Selector.{Selector as Read}
 use Rattle.jpeg_segments.specs.Application.{Application, application_by}
 use Rattle.jpeg_segments.specs.Frame.{Factors, Frame, is_count, is_destination, is_factor}
 use Rattle.jpeg_segments.specs.Frame.{is_precision, size_at}
-use Rattle.jpeg_segments.specs.HuffmanTables.{Tables, greatest_destination, tables_from}
+use Rattle.jpeg_segments.specs.HuffmanTables.{DefinedTable, Tables, class_of}
+use Rattle.jpeg_segments.specs.HuffmanTables.{greatest_destination, tables_from, with_table}
 use Rattle.jpeg_segments.specs.Quantization.{value_at}
 use Rattle.jpeg_segments.specs.ScanHeader.{Selector, blocks_by}
 
@@ -87,15 +88,26 @@ symbols_at class counts bytes = do
       then Ok (record { class = class; counts = counts; symbols = symbols.0 }, symbols.1)
       else Err Malformed
 
--- The counts and the values, of which there are 1 to 256, and no more than bytes of the segment are
--- left.
-unfoldable pub codes_at : ℕ → HuffmanTableClass → List ℕ → Outcome Table
-codes_at left class bytes = do
-  counts ← times 16 next_byte bytes
+-- the class of a table and its destination
+unfoldable pub place_at : ℕ → List ℕ → Outcome (HuffmanTableClass × ℕ)
+place_at greatest bytes = do
+  b ← next_byte bytes
+  if nat_lt 1 (b.0 / 16) then Err Malformed else (
+      if nat_lt greatest (b.0 % 16) then Err Malformed
+      else Ok ((class_of (b.0 / 16), b.0 % 16), b.1))
+
+-- The size of the next table, and the tables with it. It has 1 to 256 codes, and no more than bytes
+-- of the segment are left.
+unfoldable pub placed_at : ℕ → ℕ → Tables → List ℕ → Outcome (ℕ × Tables)
+placed_at greatest left tables bytes = do
+  place ← place_at greatest bytes
+  counts ← times 16 next_byte place.1
   if sum counts.0 == 0 then Err Malformed else (if nat_lt 256 (sum counts.0) then Err Malformed
       else (
-      if nat_lt left (17 + sum counts.0) then Err Malformed
-      else symbols_at class counts.0 counts.1))
+      if nat_lt left (17 + sum counts.0) then Err Malformed else (do
+        t ← symbols_at place.0.0 counts.0 counts.1
+        let placed : DefinedTable = record { destination = place.0.1; table = t.0 } in
+            Ok ((17 + sum counts.0, with_table tables placed), t.1))))
 
 -- the tables of a segment, each in place of the one that was in its destination
 unfoldable pub dht_onto : Option Bool → Tables → List ℕ → Outcome Tables

@@ -1,9 +1,8 @@
 //! Huffman tables.
 ghost use Rattle.std.specs.Prelude.{◌≡◌, ◌≤◌, ◌<◌, ◌+◌, true, None, replicate, length, sum, IfOk};
 ghost use Rattle.jpeg_bits.specs.Reading.{Answers, NamesFormat, times, next_byte};
-ghost use Rattle.jpeg_segments.specs.HuffmanTables.{all_ac, defined_codes_at, dht_at};
-ghost use Rattle.jpeg_segments.specs.HuffmanTables.{greatest_destination, with_table};
-ghost use Rattle.jpeg_segments.specs.Parts.{symbols_at, codes_at, dht_onto};
+ghost use Rattle.jpeg_segments.specs.HuffmanTables.{all_ac, dht_at, greatest_destination};
+ghost use Rattle.jpeg_segments.specs.Parts.{dht_onto, place_at, placed_at, symbols_at};
 
 use jpeg_bits::error::{Error, Result, format_error_of};
 use jpeg_bits::huffman::{HuffmanTable, HuffmanTableClass};
@@ -48,7 +47,6 @@ fn read_table<R: Read + Drop>(
     requires most { count ≤ 256 }
     ensures answers { Answers (λ t. t) (symbols_at class counts.now) source.old result source.new }
     ensures class { IfOk result (λ t. t.class ≡ class) }
-    ensures counts { IfOk result (λ t. t.counts ≡ counts.now) }
 {
     let mut symbols = [0u8; 256];
     let symbols = &mut symbols[..usize::from(count)];
@@ -56,72 +54,20 @@ fn read_table<R: Read + Drop>(
     HuffmanTable::new(alloc, counts, symbols, class)
 }
 
-/// Returns the refusal of a number of codes that a table doesn't have.
-#[cold]
-#[inline(never)]
-fn count_error(alloc: Global, class: HuffmanTableClass, destination: u8, count: u16) -> Error
-    ensures { NamesFormat result }
-{
-    format_error_of(format!(in alloc;
-        "{count} codes of {class:?} table {destination}, expected 1 to 256"
-    ))
-}
-
-/// Reads the next table of this class for this destination, with `left` bytes left in the segment:
-/// how many bytes it takes with the byte of its class, and the table.
-#[tactic(auto, unfolding(crate::specs::Parts::codes_at))]
-fn read_codes<R: Read + Drop>(
-    alloc: Global,
-    source: &mut Source<R>,
-    left: u16,
+/// Where a table is put: its class and its destination.
+#[derive(Clone, Copy)]
+struct Place {
     class: HuffmanTableClass,
     destination: u8,
-) -> Result<(u16, HuffmanTable)>
-    ensures answers { Answers (λ t. t.1) (codes_at left class) source.old result source.new }
-    ensures class { IfOk result (λ t. t.1.class ≡ class) }
-    ensures size { IfOk result (λ t. (t.0 ≡ 17 + sum t.1.counts) × (t.0 ≤ left)) }
-{
-    let counts = read_counts(alloc, source)?;
-    let count = total(&counts);
-    if count == 0 {
-        return Err(count_error(alloc, class, destination, count));
-    }
-    if count > 256 {
-        return Err(count_error(alloc, class, destination, count));
-    }
-    let size = 17 + count;
-    if left < size {
-        return Err(format_error_of(format!(in alloc;
-            "{left} bytes left in DHT for {class:?} table {destination}, expected {size}"
-        )));
-    }
-    let table = read_table(alloc, source, class, &counts, count)?;
-    Ok((size, table))
 }
 
-/// A table that is read: its class, its destination, and how many bytes of the segment it takes.
-#[derive(Drop)]
-struct DefinedTable {
-    class: HuffmanTableClass,
-    destination: usize,
-    size: u16,
-    table: HuffmanTable,
-}
-
-/// Reads the next table, with `left` bytes left in the segment.
-#[tactic(auto, using(crate::proofs::PartsOfSegments::parts))]
-fn read_defined_table<R: Read + Drop>(
-    alloc: Global,
-    source: &mut Source<R>,
-    greatest: u8,
-    left: u16,
-) -> Result<DefinedTable>
+/// Reads where the next table is put.
+#[tactic(auto, unfolding(crate::specs::Parts::place_at))]
+fn read_place<R: Read + Drop>(alloc: Global, source: &mut Source<R>, greatest: u8) -> Result<Place>
     requires { greatest ≤ 3 }
-    ensures answers { Answers (λ t. record { destination = t.destination; table = t.table })
-        (defined_codes_at greatest left) source.old result source.new }
-    ensures destination { IfOk result (λ t. t.destination ≤ 3) }
-    ensures class { IfOk result (λ t. t.table.class ≡ t.class) }
-    ensures size { IfOk result (λ t. (t.size ≡ 17 + sum t.table.counts) × (t.size ≤ left)) }
+    ensures answers { Answers (λ p. (p.class, p.destination)) (place_at greatest)
+        source.old result source.new }
+    ensures destination { IfOk result (λ p. p.destination ≤ 3) }
 {
     let byte = read_u8(alloc, source)?;
     let class = match byte / 16 {
@@ -140,13 +86,63 @@ fn read_defined_table<R: Read + Drop>(
             "{class:?} table destination {destination}, expected {expected}"
         )));
     }
-    let (size, table) = read_codes(alloc, source, left, class, destination)?;
-    Ok(DefinedTable {
-        class,
-        destination: usize::from(destination),
-        size,
-        table,
-    })
+    Ok(Place { class, destination })
+}
+
+/// Returns the refusal of a number of codes that a table doesn't have, or for whose symbols too few
+/// bytes are left.
+#[cold]
+#[inline(never)]
+fn count_error(alloc: Global, place: Place, count: u16, left: u16) -> Error
+    ensures { NamesFormat result }
+{
+    let Place { class, destination } = place;
+    if count == 0 || count > 256 {
+        return format_error_of(format!(in alloc;
+            "{count} codes of {class:?} table {destination}, expected 1 to 256"
+        ));
+    }
+    let size = 17 + count;
+    format_error_of(format!(in alloc;
+        "{left} bytes left in DHT for {class:?} table {destination}, expected {size}"
+    ))
+}
+
+/// Reads the next table, with `left` bytes left in the segment, and puts it in its destination.
+/// Returns how many bytes it takes.
+#[tactic(auto, unfolding(crate::specs::Parts::placed_at), using(crate::proofs::Rules::classes))]
+fn read_defined_table<R: Read + Drop>(
+    alloc: Global,
+    source: &mut Source<R>,
+    greatest: u8,
+    left: u16,
+    dc: &mut [Option<HuffmanTable>],
+    ac: &mut [Option<HuffmanTable>],
+) -> Result<u16>
+    requires greatest { greatest ≤ 3 }
+    requires dc { length dc.old ≡ 4 }
+    requires ac { length ac.old ≡ 4 }
+    ensures answers { Answers (λ n. (n, record { dc = dc.new; ac = ac.new }))
+        (placed_at greatest left (record { dc = dc.old; ac = ac.old }))
+        source.old result source.new }
+    ensures size { IfOk result (λ n. (1 ≤ n) × (n ≤ left)) }
+    ensures dc { length dc.new ≡ 4 }
+    ensures ac { length ac.new ≡ 4 }
+    ensures classes { all_ac ac.old ≡ true → all_ac ac.new ≡ true }
+{
+    let place = read_place(alloc, source, greatest)?;
+    let counts = read_counts(alloc, source)?;
+    let count = total(&counts);
+    if count == 0 || count > 256 || left < 17 + count {
+        return Err(count_error(alloc, place, count, left));
+    }
+    let table = read_table(alloc, source, place.class, &counts, count)?;
+    let destination = usize::from(place.destination);
+    match place.class {
+        HuffmanTableClass::DC => dc[destination] = Some(table),
+        HuffmanTableClass::AC => ac[destination] = Some(table),
+    }
+    Ok(17 + count)
 }
 
 /// Returns four destinations with no table.
@@ -154,31 +150,6 @@ fn no_tables(alloc: Global) -> std::result::Result<Vec<Option<HuffmanTable>>, Al
     ensures { IfOk result (λ v. v.items ≡ replicate 4 None) }
 {
     Ok(vec![in alloc; None, None, None, None]?)
-}
-
-/// Puts a table that was read in its destination of its class.
-fn put_table(dc: &mut [Option<HuffmanTable>], ac: &mut [Option<HuffmanTable>], placed: DefinedTable)
-    requires dc { length dc.old ≡ 4 }
-    requires ac { length ac.old ≡ 4 }
-    requires destination { placed.destination ≤ 3 }
-    requires class { placed.table.class ≡ placed.class }
-    ensures tables { record { dc = dc.new; ac = ac.new }
-        ≡ with_table (record { dc = dc.old; ac = ac.old })
-        (record { destination = placed.destination; table = placed.table }) }
-    ensures dc { length dc.new ≡ 4 }
-    ensures ac { length ac.new ≡ 4 }
-    ensures classes { all_ac ac.old ≡ true → all_ac ac.new ≡ true }
-{
-    let DefinedTable {
-        class,
-        destination,
-        table,
-        ..
-    } = placed;
-    match class {
-        HuffmanTableClass::DC => dc[destination] = Some(table),
-        HuffmanTableClass::AC => ac[destination] = Some(table),
-    }
 }
 
 /// Returns the greatest destination that a table may have.
@@ -204,7 +175,7 @@ pub(crate) fn expected_destinations(greatest: u8) -> &'static str {
 /// Reads the tables of a segment as `parse_dht` does, and puts each in its destination among those
 /// in force: four of each class. The errors are those of `parse_dht`; some tables may then have
 /// been replaced.
-#[tactic(auto, unfolding(crate::specs::Parts::dht_onto))]
+#[tactic(auto, unfolding(crate::specs::Parts::dht_onto), using(crate::proofs::Rules::huffman))]
 pub fn read_huffman_tables<R: Read + Drop>(
     alloc: Global,
     reader: &mut Source<R>,
@@ -223,9 +194,7 @@ pub fn read_huffman_tables<R: Read + Drop>(
     let mut left = read_length(alloc, reader)?;
     let greatest = greatest_destination(is_baseline);
     while left > 17 {
-        let placed = read_defined_table(alloc, reader, greatest, left)?;
-        left -= placed.size;
-        put_table(dc, ac, placed);
+        left -= read_defined_table(alloc, reader, greatest, left, dc, ac)?;
     }
     if left > 0 {
         return Err(format_error_of(format!(in alloc;
