@@ -64,7 +64,8 @@ bits_of_bytes [] = []
 bits_of_bytes (b ∷ bytes) = bits_of b ++ bits_of_bytes bytes
 
 -- the bits of some things, one after the other
-pub data WritesEach {A : Type 0} (writes : A → List Bool → Type 0) : List A → List Bool → Type 0 where
+pub data WritesEach {A : Type 0} (writes : A → List Bool → Type 0)
+    : List A → List Bool → Type 0 where
   none : WritesEach writes [] []
   one : (x : A) (xs : List A) (bits more : List Bool)
       → writes x bits → WritesEach writes xs more → WritesEach writes (x ∷ xs) (bits ++ more)

@@ -1,5 +1,5 @@
--- What a call does that decodes what its decoder has left: `decode`, `decode_lines`, and `decode_into`
--- where there is room for the picture.
+-- What a call does that decodes what its decoder has left: `decode`, `decode_lines`, and
+-- `decode_into` where there is room for the picture.
 use Rattle.std.specs.Prelude.{◌≡◌, ℕ, List, [], Result, replicate, None, true, false}
 use Rattle.jpeg_bits.specs.Reading.{Answers}
 use Rattle.jpeg_bits.specs.declared.error.Error.{Error}

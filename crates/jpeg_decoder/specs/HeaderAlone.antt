@@ -15,7 +15,8 @@ RefusesAfter (Err e) result = result ≡ Err e
 
 -- A call did as `read_info` does, whose clauses these are, and then refused: by the fault of the
 -- header, or else as `Internal`.
-pub record ReadsHeaderAlone {X : Type 0} (old : Decoding) (result : Result X Error) (new : Decoding) : Type 0 where
+pub record ReadsHeaderAlone {X : Type 0} (old : Decoding) (result : Result X Error)
+    (new : Decoding) : Type 0 where
   pub header : Result (Unit {0}) Error
   pub refuses : RefusesAfter header result
   pub stage : MovesToHeader old.stage new.stage header

@@ -1,7 +1,8 @@
 -- Streams of a writer that are cut: what stands whole in front of the cut, and what is brought of
 -- the scan in whose data the cut is.
 use Rattle.std.specs.Prelude.{◌≡◌, ℕ, ◌/◌, ◌%◌, true, List, [], ◌∷◌, ◌++◌, length, get_or}
-use Rattle.std.specs.Prelude.{slice_get, Some, None, Result, Ok, replicate, slice_index_or, unwrap_or}
+use Rattle.std.specs.Prelude.{slice_get, Some, None, Result, Ok, replicate, slice_index_or}
+use Rattle.std.specs.Prelude.{unwrap_or}
 use Rattle.std.specs.List.{enumerate_from}
 use Rattle.jpeg_bits.specs.Passes.{zero_block}
 use Rattle.jpeg_bits.specs.Reading.{Fault, ◌>>=◌}

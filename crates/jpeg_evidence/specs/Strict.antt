@@ -101,7 +101,8 @@ pub record HasByteSymbols (table : Table) : Type 0 where
   pub each : (i : ℕ) → slice_index table.symbols i < 256
 
 -- A band of these coefficients at level al, the run after it, and bits that are written for them.
-pub record IsBand (table : Table) (al : ℕ) (band : List ℤ) (run : ℕ) (own : List Bool) : Type 0 where
+pub record IsBand (table : Table) (al : ℕ) (band : List ℤ) (run : ℕ) (own : List Bool)
+    : Type 0 where
   pub numbers : List ℤ
   pub are : map (λ u. u *ℤ pos (2 ^ al)) numbers ≡ band
   pub written : WritesBand table numbers own run
@@ -118,12 +119,14 @@ pub data PiecesFit (table : Table) (al : ℕ) : List ℤ → List Bool → Type 
   new : (r sign : ℕ) (z : ℤ) (rest front : List ℤ) (bits one two more : List Bool)
       → symbol_from table (alone bits) ≡ Ok (16 * r + 1, alone one) → r < count_zeros (z ∷ rest)
       → bits_from 1 (alone one) ≡ Ok (sign, alone two)
-      → corrected al (take (through_zero r (z ∷ rest)) (z ∷ rest)) (alone two) ≡ Ok (front, alone more)
+      → corrected al (take (through_zero r (z ∷ rest)) (z ∷ rest)) (alone two)
+      ≡ Ok (front, alone more)
       → PiecesFit table al (drop (through_zero r (z ∷ rest)) (z ∷ rest)) more
       → PiecesFit table al (z ∷ rest) bits
   zeros : (z : ℤ) (rest front : List ℤ) (bits one more : List Bool)
       → symbol_from table (alone bits) ≡ Ok (16 * 15 + 0, alone one) → 15 < count_zeros (z ∷ rest)
-      → corrected al (take (through_zero 15 (z ∷ rest)) (z ∷ rest)) (alone one) ≡ Ok (front, alone more)
+      → corrected al (take (through_zero 15 (z ∷ rest)) (z ∷ rest)) (alone one)
+      ≡ Ok (front, alone more)
       → PiecesFit table al (drop (through_zero 15 (z ∷ rest)) (z ∷ rest)) more
       → PiecesFit table al (z ∷ rest) bits
   last : (r : ℕ) (z : ℤ) (rest : List ℤ) (bits one : List Bool)
@@ -141,8 +144,8 @@ pub record HasTables (p : Pass) (via : Via) : Type 0 where
 -- A block that these bits begin with fits. In a first pass none of its band was sent before, DC
 -- that is read has its number in 16 bits, and the tokens of the band fit it. In a refinement what
 -- is kept was sent at the level above, and the pieces of the band fit it.
-pub record BlockFits (p : Pass) (via : Via) (predictor : ℤ) (run : ℕ) (old : Block) (bits : List Bool)
-    : Type 0 where
+pub record BlockFits (p : Pass) (via : Via) (predictor : ℤ) (run : ℕ) (old : Block)
+    (bits : List Bool) : Type 0 where
   pub unsent : p.is_first ≡ true → band_of p old.acs ≡ no_numbers (length (band_of p old.acs))
   pub dc_fits : p.ss ≡ 0 → p.is_first ≡ true → (d : ℤ) (more : List Bool)
       → difference via.dc (alone bits) ≡ Ok (d, alone more)
@@ -159,8 +162,8 @@ pub record BlockFits (p : Pass) (via : Via) (predictor : ℤ) (run : ℕ) (old :
 
 -- A block that was read, the next predictor and the run after the block, and bits that are written
 -- for the block's numbers at the level of the pass: those of DC and those of the band.
-pub record IsBlock (p : Pass) (via : Via) (predictor : ℤ) (run : ℕ) (r : Block × ℤ × ℕ) (own : List Bool)
-    : Type 0 where
+pub record IsBlock (p : Pass) (via : Via) (predictor : ℤ) (run : ℕ) (r : Block × ℤ × ℕ)
+    (own : List Bool) : Type 0 where
   pub dc : List Bool
   pub ac : List Bool
   pub writes_dc : WritesDc p via.dc (numbers_at p.al r.0).dc predictor dc r.1
@@ -173,8 +176,8 @@ pub record IsBlock (p : Pass) (via : Via) (predictor : ℤ) (run : ℕ) (r : Blo
 -- components and the run that reaches them. No run goes beyond the last.
 pub data BlocksFit (p : Pass) : List ℤ → ℕ → List (Via × Block) → List Bool → Type 0 where
   finished : (predictors : List ℤ) (bits : List Bool) → BlocksFit p predictors 0 [] bits
-  next : (predictors : List ℤ) (run : ℕ) (t : Via × Block) (turns : List (Via × Block)) (bits more : List Bool)
-      (r : Block × ℤ × ℕ)
+  next : (predictors : List ℤ) (run : ℕ) (t : Via × Block) (turns : List (Via × Block))
+      (bits more : List Bool) (r : Block × ℤ × ℕ)
       → block_from p t.0.dc t.0.ac (get_or predictors t.0.component (pos 0)) run t.1 (alone bits)
       ≡ Ok (r, alone more)
       → HasTables p t.0 → BlockFits p t.0 (get_or predictors t.0.component (pos 0)) run t.1 bits
@@ -191,8 +194,8 @@ numbers_read p (t ∷ turns) (b ∷ blocks) = (t.0, numbers_at p.al b) ∷ numbe
 -- ---- an interval
 
 -- Bytes that begin with an interval that is written, up to a marker, and go on with the rest.
-pub record IsInterval (p : Pass) (turns : List (Via × Block)) (bytes : List ℕ) (m : Marker) (rest : List ℕ)
-    : Type 0 where
+pub record IsInterval (p : Pass) (turns : List (Via × Block)) (bytes : List ℕ) (m : Marker)
+    (rest : List ℕ) : Type 0 where
   pub front : List ℕ
   pub fill : ℕ
   pub code : ℕ
@@ -202,7 +205,8 @@ pub record IsInterval (p : Pass) (turns : List (Via × Block)) (bytes : List ℕ
 
 -- A DC coefficient u at level al in its first scan: what is read, which goes round at 16 bits, and
 -- bits that are written for its difference from the predictor.
-pub record IsDc (table : Table) (al : ℕ) (predictor : ℤ) (y : ℤ × ℤ) (own : List Bool) : Type 0 where
+pub record IsDc (table : Table) (al : ℕ) (predictor : ℤ) (y : ℤ × ℤ) (own : List Bool)
+    : Type 0 where
   pub u : ℤ
   pub written : WritesDifference table (u -ℤ predictor) own
   pub next : y.1 ≡ wrapped u
@@ -212,8 +216,8 @@ pub record IsDc (table : Table) (al : ℕ) (predictor : ℤ) (y : ℤ × ℤ) (o
 
 -- Bytes that begin with intervals that are written, from number k on, up to a marker, and go on
 -- with the rest.
-pub record IsIntervals (p : Pass) (k : ℕ) (turns : List (Via × Block)) (more : List (List (Via × Block)))
-    (bytes : List ℕ) (m : Marker) (rest : List ℕ) : Type 0 where
+pub record IsIntervals (p : Pass) (k : ℕ) (turns : List (Via × Block))
+    (more : List (List (Via × Block))) (bytes : List ℕ) (m : Marker) (rest : List ℕ) : Type 0 where
   pub front : List ℕ
   pub fill : ℕ
   pub code : ℕ
@@ -224,21 +228,24 @@ pub record IsIntervals (p : Pass) (k : ℕ) (turns : List (Via × Block)) (more 
 -- ---- what is read of a scan
 
 -- An interval whose blocks fit its bits, up to a marker, and leave at most 7 of them.
-pub record IntervalFits (p : Pass) (turns : List (Via × Block)) (bytes : List ℕ) (m : Marker) (rest : List ℕ)
-    : Type 0 where
+pub record IntervalFits (p : Pass) (turns : List (Via × Block)) (bytes : List ℕ) (m : Marker)
+    (rest : List ℕ) : Type 0 where
   pub blocks : List Block
   pub left : List Bool
   pub ends : (text_at bytes).ending ≡ Found m rest
   pub fit : BlocksFit p predictors_at_start 0 turns (text_at bytes).bits
-  pub are_read : blocks_of p predictors_at_start 0 turns (alone (text_at bytes).bits) ≡ Ok (blocks, alone left)
+  pub are_read : blocks_of p predictors_at_start 0 turns (alone (text_at bytes).bits)
+      ≡ Ok (blocks, alone left)
   pub is_short : length left ≤ 7
 
 -- The intervals of a scan fit, one after the other.
-pub data IntervalsFit (p : Pass) : List (Via × Block) → List (List (Via × Block)) → List ℕ → Type 0 where
+pub data IntervalsFit (p : Pass)
+    : List (Via × Block) → List (List (Via × Block)) → List ℕ → Type 0 where
   last : (turns : List (Via × Block)) (bytes rest : List ℕ) (m : Marker)
       → IntervalFits p turns bytes m rest → IntervalsFit p turns [] bytes
-  another : (turns following : List (Via × Block)) (more : List (List (Via × Block))) (bytes rest : List ℕ)
-      (m : Marker) → IntervalFits p turns bytes m rest → IntervalsFit p following more rest
+  another : (turns following : List (Via × Block)) (more : List (List (Via × Block)))
+      (bytes rest : List ℕ) (m : Marker)
+      → IntervalFits p turns bytes m rest → IntervalsFit p following more rest
       → IntervalsFit p turns (following ∷ more) bytes
 
 -- What a writer codes of the intervals after the first, where these blocks were read of all.

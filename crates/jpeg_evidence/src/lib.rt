@@ -27,7 +27,8 @@ ghost use Rattle.jpeg_segments.specs.Frame.{is_precision, process_of};
 ghost use Rattle.jpeg_segments.specs.HuffmanTables.{greatest_destination};
 ghost use Rattle.jpeg_segments.specs.Quantization.{value_at};
 ghost use Rattle.jpeg_segments.specs.Scales.{scale_for};
-ghost use Rattle.jpeg_segments.specs.ScanHeader.{band_at, is_progressive_band, predictor_by, scan_of};
+ghost use Rattle.jpeg_segments.specs.ScanHeader.{band_at, is_progressive_band, predictor_by};
+ghost use Rattle.jpeg_segments.specs.ScanHeader.{scan_of};
 ghost use Rattle.jpeg_segments.specs.declared.application.AdobeColorTransform.TheVariants as adobe;
 ghost use Rattle.jpeg_segments.specs.declared.frame.CodingProcess.TheVariants as processes;
 ghost use Rattle.jpeg_segments.specs.declared.frame.EntropyCoding.TheVariants as codings;
@@ -185,8 +186,8 @@ pub fn headers_are_of_tables()
         ≡ false ∷ true ∷ false ∷ true ∷ true ∷ false ∷ [] }
 
     // Destinations of Huffman tables, and values of 16 bits in quantization tables.
-    ensures destinations { map (λ is_baseline. greatest_destination (Some is_baseline)) (true ∷ false ∷ [])
-        ≡ 1 ∷ 3 ∷ [] }
+    ensures destinations { map (λ is_baseline. greatest_destination (Some is_baseline))
+        (true ∷ false ∷ []) ≡ 1 ∷ 3 ∷ [] }
     ensures wide { value_at true (1 ∷ 2 ∷ []) ≡ Ok (258, []) }
 
     // Predictors by their numbers, and progressive scans by the number of their components, their

@@ -1,6 +1,7 @@
 //! What is read of entropy-coded data was written: the writer's relation is no narrower than what
 //! is read of data that end where their blocks do.
-ghost use Rattle.std.specs.Prelude.{◌≡◌, ◌≤◌, ◌%◌, ◌∷◌, [], ℕ, ℤ, suc, Bool, List, Ok, Some, length};
+ghost use Rattle.std.specs.Prelude.{◌≡◌, ◌≤◌, ◌%◌, ◌∷◌, [], ℕ, ℤ, suc, Bool, List, Ok, Some};
+ghost use Rattle.std.specs.Prelude.{length};
 ghost use Rattle.jpeg_bits.specs.Bands.{Band, difference, first_ac, first_dc, token_from};
 ghost use Rattle.jpeg_bits.specs.Codes.{IsTable, Table, symbol_from};
 ghost use Rattle.jpeg_bits.specs.Entropy.{Found, Text, bits_from, text_at};
@@ -16,8 +17,8 @@ ghost use Rattle.jpeg_streams.specs.WrittenData.{WritesBlocks, WritesDifference,
 ghost use Rattle.jpeg_evidence.specs.Strict.{BlockFits, BlocksFit, HasByteSymbols, HasTables};
 ghost use Rattle.jpeg_evidence.specs.Strict.{IsBand};
 ghost use Rattle.jpeg_evidence.specs.Strict.{IsBlock, IsCut, IsData, IsDc, IsInterval, IsIntervals};
-ghost use Rattle.jpeg_evidence.specs.Strict.{IntervalFits, IntervalsFit, IsNumber, IsToken, IsValue};
-ghost use Rattle.jpeg_evidence.specs.Strict.{TokensFit, alone, numbers_read, others_read};
+ghost use Rattle.jpeg_evidence.specs.Strict.{IntervalFits, IntervalsFit, IsNumber, IsToken};
+ghost use Rattle.jpeg_evidence.specs.Strict.{IsValue, TokensFit, alone, numbers_read, others_read};
 
 /// What is read of bits that nothing follows was written (T.81, C.2 and F.1.2): the bits that were
 /// taken are those of the number, of a code for the symbol, of the value, and of the DC difference.

@@ -26,7 +26,9 @@ sixteen f = map f (range_with_len 0 16)
 
 -- eight of each of two functions, by turns
 abbrev pub paired : (ℕ → ℤ) → (ℕ → ℤ) → List ℤ
-paired f g = f 0 ∷ g 0 ∷ f 1 ∷ g 1 ∷ f 2 ∷ g 2 ∷ f 3 ∷ g 3 ∷ f 4 ∷ g 4 ∷ f 5 ∷ g 5 ∷ f 6 ∷ g 6 ∷ f 7 ∷ g 7 ∷ []
+paired f g =
+    f 0 ∷ g 0 ∷ f 1 ∷ g 1 ∷ f 2 ∷ g 2 ∷ f 3 ∷ g 3
+    ∷ f 4 ∷ g 4 ∷ f 5 ∷ g 5 ∷ f 6 ∷ g 6 ∷ f 7 ∷ g 7 ∷ []
 
 -- in the pairs of each j stand f k j and f (k + 4) j
 pub record HasPairs (pairs : Pairs) (f : ℕ → ℕ → ℤ) : Type 0 where
@@ -37,14 +39,18 @@ pub record HasPairs (pairs : Pairs) (f : ℕ → ℕ → ℤ) : Type 0 where
 
 -- four of each of two functions, and then the next four of each
 abbrev pub halves : {A : Type 0} → (ℕ → A) → (ℕ → A) → List A
-halves f g = f 0 ∷ f 1 ∷ f 2 ∷ f 3 ∷ g 0 ∷ g 1 ∷ g 2 ∷ g 3 ∷ f 4 ∷ f 5 ∷ f 6 ∷ f 7 ∷ g 4 ∷ g 5 ∷ g 6 ∷ g 7 ∷ []
+halves f g =
+    f 0 ∷ f 1 ∷ f 2 ∷ f 3 ∷ g 0 ∷ g 1 ∷ g 2 ∷ g 3
+    ∷ f 4 ∷ f 5 ∷ f 6 ∷ f 7 ∷ g 4 ∷ g 5 ∷ g 6 ∷ g 7 ∷ []
 
 -- eight fours: of each j, what the first four rows have there
 abbrev pub fours : (ℕ → ℕ → ℕ) → List ℕ
 fours f =
-    f 0 0 ∷ f 1 0 ∷ f 2 0 ∷ f 3 0 ∷ f 0 1 ∷ f 1 1 ∷ f 2 1 ∷ f 3 1 ∷ f 0 2 ∷ f 1 2 ∷ f 2 2 ∷ f 3 2 ∷ f 0 3 ∷ f 1 3
-    ∷ f 2 3 ∷ f 3 3 ∷ f 0 4 ∷ f 1 4 ∷ f 2 4 ∷ f 3 4 ∷ f 0 5 ∷ f 1 5 ∷ f 2 5 ∷ f 3 5 ∷ f 0 6 ∷ f 1 6 ∷ f 2 6 ∷ f 3 6
-    ∷ f 0 7 ∷ f 1 7 ∷ f 2 7 ∷ f 3 7 ∷ []
+    f 0 0 ∷ f 1 0 ∷ f 2 0 ∷ f 3 0 ∷ f 0 1 ∷ f 1 1 ∷ f 2 1 ∷ f 3 1
+    ∷ f 0 2 ∷ f 1 2 ∷ f 2 2 ∷ f 3 2 ∷ f 0 3 ∷ f 1 3 ∷ f 2 3 ∷ f 3 3
+    ∷ f 0 4 ∷ f 1 4 ∷ f 2 4 ∷ f 3 4 ∷ f 0 5 ∷ f 1 5 ∷ f 2 5 ∷ f 3 5
+    ∷ f 0 6 ∷ f 1 6 ∷ f 2 6 ∷ f 3 6 ∷ f 0 7 ∷ f 1 7 ∷ f 2 7 ∷ f 3 7
+    ∷ []
 
 -- a number that may be a limit of coefficients
 abbrev pub IsLimit : ℤ → Type 0
@@ -65,7 +71,8 @@ pub record IsShortTable (table : ShortTable) (quantization : List ℕ) : Type 0 
 -- No product of a coefficient and its quantization value is above 1095 in magnitude.
 pub record HasShortProducts (coefficients : List ℤ) (quantization : List ℕ) : Type 0 where
   pub are : (k : ℕ) → k < 64
-      → unsigned_abs (slice_index_or coefficients k (pos 0)) ≤ 1095 / max (slice_index quantization k) 1
+      → unsigned_abs (slice_index_or coefficients k (pos 0))
+      ≤ 1095 / max (slice_index quantization k) 1
 
 -- a sample before it is clamped, of the values of the columns at its row
 unfoldable pub line_value : (ℕ → ℕ → ℤ) → ℕ → ℕ → ℤ

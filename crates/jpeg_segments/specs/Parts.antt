@@ -69,8 +69,8 @@ destinations_at frame index bytes = do
   destinations ← next_byte bytes
   if nat_lt (greatest_destination (Some frame.is_baseline)) (destinations.0 / 16) then Err Malformed
       else (
-      if nat_lt (greatest_destination (Some frame.is_baseline)) (destinations.0 % 16) then Err Malformed
-      else
+      if nat_lt (greatest_destination (Some frame.is_baseline)) (destinations.0 % 16)
+      then Err Malformed else
       Ok (
         record { component = index; dc = destinations.0 / 16; ac = destinations.0 % 16 },
         destinations.1,

@@ -129,7 +129,8 @@ fn put_line(picture: &mut Decoded, lines: Lines, y: usize, row: &mut [u8], line:
 /// line as it is stored, unless lines stay as they are.
 pub fn put_lines(picture: &mut Decoded, lines: Lines, row: &mut [u8], pixels: &mut [u8])
     requires count { length picture.old ≡ lines.height }
-    requires stored { AllByRecursion (λ line. length line ≡ lines.width * lines.stored) picture.old }
+    requires stored { AllByRecursion (λ line. length line ≡ lines.width * lines.stored)
+        picture.old }
     requires row { is_stored lines.conversion ≡ false
         → length row.old ≡ lines.width * lines.stored }
     requires room { (y : ℕ) → y < lines.height

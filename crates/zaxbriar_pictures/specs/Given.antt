@@ -1,4 +1,5 @@
--- What is given of a stream: the whole of its picture, or what it has brought up to its first fault.
+-- What is given of a stream: the whole of its picture, or what it has brought up to its first
+-- fault.
 use Rattle.std.specs.Prelude.{◌≡◌, ℕ, List, Result, Ok, Err, Option, None, option_map, IsSomeAnd}
 use Rattle.std.specs.Io.KnownBytes.{Appends}
 use Rattle.jpeg_bits.specs.Reading.{Fault, ◌>>=◌}

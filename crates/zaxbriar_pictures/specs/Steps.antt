@@ -36,8 +36,8 @@ pub record ReadsForRequest (request : Request) (choice : Choice) (old new : Deco
       × (new.found ≡ with_said (scaled_to choice.scale) header)
       × IsChoice request header choice)
 
--- A decoder of known bytes, which had read their header, has given what the rest gives: samples, and
--- an error for the fault.
+-- A decoder of known bytes, which had read their header, has given what the rest gives: samples,
+-- and an error for the fault.
 abbrev pub GivesRest : Extent → Decoding → Decoding → List ℕ → Option Error → Type 0
 GivesRest extent old new samples fault = old.source.known ≡ true → (s : Shown)
     × (given_rest extent old.found old.source.bytes ≡ Ok s) × (samples ≡ s.picture)

@@ -250,7 +250,8 @@ fn choose<R: Read + Drop>(
     requires fresh { decoder.old.stage ≡ Fresh }
     requires plain { decoder.old.settings ≡ default_settings }
     ensures reads { IfOk result (λ choice. ReadsForRequest request choice decoder.old decoder.new) }
-    ensures asked { (scale : _) → request ≡ At scale → IfOk result (λ choice. choice.scale ≡ scale) }
+    ensures asked { (scale : _) → request ≡ At scale
+        → IfOk result (λ choice. choice.scale ≡ scale) }
     ensures orientation { IfOk result (λ choice. (1 ≤ choice.orientation)
         × (choice.orientation ≤ 8)) }
     ensures limited { IfOk result (λ _. decoder.old.source.known ≡ true
@@ -275,8 +276,8 @@ fn choose<R: Read + Drop>(
     })
 }
 
-/// Decodes as much as is wanted of the stream that the reader gives, at the scale for the request. A
-/// picture above the limits is refused by its header. A read that fails is an error.
+/// Decodes as much as is wanted of the stream that the reader gives, at the scale for the request.
+/// A picture above the limits is refused by its header. A read that fails is an error.
 pub fn read_picture<R: Read + Drop>(
     alloc: Global,
     reader: R,
@@ -348,8 +349,8 @@ fn write_lines_of<W: Write>(
     write_picture(alloc, picture, writer)
 }
 
-/// Decodes as much as is wanted of the picture of a decoder, at the scale that was set, writes it as
-/// a file, and returns how much of it is complete.
+/// Decodes as much as is wanted of the picture of a decoder, at the scale that was set, writes it
+/// as a file, and returns how much of it is complete.
 fn write_decoded<R: Read + Drop, W: Write>(
     alloc: Global,
     decoder: &mut Decoder<R>,

@@ -62,8 +62,8 @@ pub fn first_interval(alloc: Global, left: u64) -> Interval
     }
 }
 
-/// Begins the next restart interval, of `n` blocks, where no block is left of this one. A refusal is
-/// stored in the interval's, and false is returned.
+/// Begins the next restart interval, of `n` blocks, where no block is left of this one. A refusal
+/// is stored in the interval's, and false is returned.
 #[inline(always)]
 #[tactic(auto, using(crate::proofs::BlockSteps::begun_rules))]
 pub fn begin<R: Read + Drop>(interval: &mut Interval, source: &mut Source<R>, n: u64) -> bool

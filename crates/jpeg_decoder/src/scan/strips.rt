@@ -120,8 +120,8 @@ pub fn append_rows(
     Ok(())
 }
 
-/// Appends the samples of a row of a component's blocks to its plane. Blocks that are missing at its
-/// end are zeros.
+/// Appends the samples of a row of a component's blocks to its plane. Blocks that are missing at
+/// its end are zeros.
 fn append_row(
     alloc: Global,
     plane: &mut Vec<u8>,
@@ -145,8 +145,8 @@ fn append_row(
     append_strip(plane, component.dct_scale, &blocks, table)
 }
 
-/// Appends the samples of all of a component's blocks to its plane, row by row. The first blocks are
-/// given; the others are zeros, which take memory for one row.
+/// Appends the samples of all of a component's blocks to its plane, row by row. The first blocks
+/// are given; the others are zeros, which take memory for one row.
 pub fn append_stored(
     alloc: Global,
     plane: &mut Vec<u8>,
