@@ -27,7 +27,7 @@ use Rattle.jpeg_segments.specs.Checks.{needed}
 use Rattle.jpeg_streams.specs.Sound.{ArePlanes, IsSound}
 use Rattle.std.proofs.lemmas.Grind.{common_steps}
 use Rattle.std.proofs.lemmas.Result.{err_from_is_err_and}
-use Rattle.std.specs.Prelude.{IsErrAnd}
+use Rattle.std.specs.Prelude.{IsErr, IsErrAnd}
 
 -- ---- calls on a source
 
@@ -225,6 +225,11 @@ pub blocks-sound : (found next : Found) (frame : Frame) → IsSound found → fo
     → (ArePlanes frame.components found.planes → ArePlanes frame.components next.planes)
     → next.samples ≡ found.samples → IsSound next
 blocks-sound found next frame sound e stays kept planes samples = grind (arith, common_steps, none-some)
+
+-- A refusal that leaves what was said is a step.
+pub refused-steps : (old next : Found) (result : Result Step Error) → IsErr result → next.said ≡ old.said
+    → IsStep old result next
+refused-steps old next result refused stays = grind (arith, common_steps)
 
 -- A scan is a step, which keeps the frame.
 pub scan-steps : (old next : Found) (frame : Frame) (step : Step) → old.said.frame ≡ Some frame → next.said.frame ≡ old.said.frame

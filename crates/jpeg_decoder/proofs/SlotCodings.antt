@@ -11,13 +11,12 @@ use Rattle.jpeg_bits.specs.Codes.{Table, is_ac}
 use Rattle.jpeg_bits.specs.DefaultTables.{with_defaults}
 use Rattle.jpeg_bits.specs.declared.huffman.codes.HuffmanTableClass.{HuffmanTableClass}
 use Rattle.jpeg_bits.specs.declared.huffman.codes.HuffmanTableClass.TheVariants as classes
-use Rattle.std.proofs.lemmas.Grind.{get_or_default_zero, common_steps}
+use Rattle.std.proofs.lemmas.Grind.{common_steps}
 use Rattle.jpeg_bits.specs.declared.error.Error.{Error}
-use Rattle.jpeg_bits.specs.declared.scan.ScanInfo.{ScanInfo}
 use Rattle.jpeg_segments.specs.declared.frame.Component as declared
 use Rattle.jpeg_segments.specs.declared.frame.FrameInfo.{FrameInfo}
 use Rattle.jpeg_segments.specs.Frame.{Component}
-use Rattle.jpeg_segments.specs.FrameView.{component_in, frame_in, scan_in}
+use Rattle.jpeg_segments.specs.FrameView.{component_in, frame_in}
 use Rattle.jpeg_segments.specs.ScanHeader.{Scan}
 use Rattle.jpeg_segments.specs.HuffmanTables.{all_ac, is_ac_or_none}
 use Rattle.jpeg_decoder.specs.declared.scan.codings.Spare.{Spare}
@@ -103,39 +102,37 @@ component-at : {A : Type 0} (f : A → Component) (xs : List A) (i : ℕ) (d : A
 component-at f xs i d h = slice_get-map f xs i ∙ ap (option_map f) (slice_get-get_or xs i d h)
 
 -- what the tables in force give of the component in a slot
-abbrev pub coded_by : Said → ScanInfo → ℕ → ℕ → declared.Component → Result Coding Fault
-coded_by said header slot index c = do
+abbrev pub coded_by : Said → Scan → ℕ → ℕ → declared.Component → Result Coding Fault
+coded_by said scan slot index c = do
   q ← needed (get_or said.quantization c.quantization_table_index None)
-  dc ← dc_of said (scan_in header) slot
-  ac ← ac_of said (scan_in header) slot
+  dc ← dc_of said scan slot
+  ac ← ac_of said scan slot
   Ok (record { index = index; component = component_in c; quantization = q; dc = dc; ac = ac })
 
-pub slot-coded : (said : Said) (frame : FrameInfo) (header : ScanInfo) (slot index : ℕ) (c : declared.Component)
-    → slot < length header.component_indices.items → index ≡ get_or header.component_indices.items slot index
-    → index < length frame.components.items → c ≡ get_or frame.components.items index c
-    → coding_in_slot said (frame_in frame) (scan_in header) slot ≡ coded_by said header slot index c
+pub slot-coded : (said : Said) (frame : FrameInfo) (scan : Scan) (slot index : ℕ) (c : declared.Component)
+    → index ≡ get_or scan.components slot 0 → index < length frame.components.items
+    → c ≡ get_or frame.components.items index c
+    → coding_in_slot said (frame_in frame) scan slot ≡ coded_by said scan slot index c
 unfolding component_coding
-slot-coded said frame header slot index c h p l e =
-    search (rules, arith, get_or_default_zero, component-at)
+slot-coded said frame scan slot index c p l e = search (rules, arith, component-at)
 
 -- the tables as the code looks them up
-pub dc-read : (said : Said) (header : ScanInfo) (spare : Spare) (slot destination : ℕ) (o : Option Table)
-    → IsSpareOf said (scan_in header) spare → length said.huffman.dc ≡ 4
-    → slot < length header.dc_table_indices.items → destination ≡ get_or header.dc_table_indices.items slot destination
+pub dc-read : (said : Said) (scan : Scan) (spare : Spare) (slot destination : ℕ) (o : Option Table)
+    → IsSpareOf said scan spare → length said.huffman.dc ≡ 4
+    → destination ≡ get_or scan.dc_destinations slot 0
     → o ≡ in_force said.huffman.dc spare.dc.items destination
-    → dc_of said (scan_in header) slot ≡ table_if (header.spectral_selection.start == 0) (no_table classes.DC) o
+    → dc_of said scan slot ≡ table_if (scan.first == 0) (no_table classes.DC) o
 unfolding pass_of tables_of
-dc-read said header spare slot destination o s l h p e =
-    grind (arith, common_steps, forced-by, needed-either, get_or_default_zero)
+dc-read said scan spare slot destination o s l p e = grind (arith, common_steps, forced-by, needed-either)
 
-pub ac-read : (said : Said) (header : ScanInfo) (spare : Spare) (slot destination : ℕ) (o : Option Table)
-    → IsSpareOf said (scan_in header) spare → length said.huffman.ac ≡ 4
-    → slot < length header.ac_table_indices.items → destination ≡ get_or header.ac_table_indices.items slot destination
+pub ac-read : (said : Said) (scan : Scan) (spare : Spare) (slot destination : ℕ) (o : Option Table)
+    → IsSpareOf said scan spare → length said.huffman.ac ≡ 4
+    → destination ≡ get_or scan.ac_destinations slot 0
     → o ≡ in_force said.huffman.ac spare.ac.items destination
-    → ac_of said (scan_in header) slot ≡ table_if (nat_lt 1 header.spectral_selection.end) (no_table classes.AC) o
+    → ac_of said scan slot ≡ table_if (nat_lt 1 scan.after) (no_table classes.AC) o
 unfolding pass_of tables_of
-ac-read said header spare slot destination o s l h p e =
-    grind (arith, common_steps, forced-by, needed-either, nat_tests, get_or_default_zero)
+ac-read said scan spare slot destination o s l p e =
+    grind (arith, common_steps, forced-by, needed-either, nat_tests)
 
 -- a step that is refused
 pub refused-through : {Y Z : Type 0} (e : Error) (o : Result Y Fault) (whole : Result Z Fault) → IsRefusal e × Names e o

@@ -3,7 +3,7 @@
 use Rattle.std.specs.Prelude.{◌≡◌, ◌<◌, ◌≤◌, All, ℕ, suc, ◌&&◌, not, is_some, slice_set, ◌*◌}
 use Rattle.std.specs.Prelude.{◌/◌, min, List, [], ◌∷◌, map, set, length, replicate, get_or, Bool}
 use Rattle.std.specs.Prelude.{true, false, Option, slice_get, slice_index_or, Some, None, Result}
-use Rattle.std.specs.Prelude.{Ok, if◌then◌else◌, IfOk, MatchResult, OnErr, OnOk, ◌==◌, nat_lt}
+use Rattle.std.specs.Prelude.{Ok, if◌then◌else◌, IfOk, MatchResult, OnErr, OnOk}
 use Rattle.jpeg_bits.specs.Reading.{Names, Outcome, Fault, ◌>>=◌}
 use Rattle.jpeg_bits.specs.Codes.{Table}
 use Rattle.jpeg_bits.specs.DefaultTables.{luminance_dc, chrominance_dc, luminance_ac}
@@ -118,13 +118,13 @@ coding_in_slot said frame scan slot =
     (get_or scan.components slot 0)
     (get_or scan.dc_destinations slot 0) (get_or scan.ac_destinations slot 0)
 
--- The spare tables of a scan: the default ones by what was said, and one without codes in place of
--- those of a class that it doesn't need.
+-- The spare tables of a scan: the default ones by what was said, and one without codes of each
+-- class, in place of those that it doesn't need.
 pub record IsSpareOf (said : Said) (scan : headers.Scan) (spare : Spare) : Type 0 where
   pub dc : spare.dc.items ≡ default_dc said.metadata.avi1 scan.dc_destinations
   pub ac : spare.ac.items ≡ default_ac said.metadata.avi1 scan.ac_destinations
-  pub no_dc : (scan.first == 0) ≡ false → spare.no_dc.items ≡ no_table classes.DC ∷ []
-  pub no_ac : nat_lt 1 scan.after ≡ false → spare.no_ac.items ≡ no_table classes.AC ∷ []
+  pub no_dc : spare.no_dc ≡ no_table classes.DC
+  pub no_ac : spare.no_ac ≡ no_table classes.AC
 
 -- ---- blocks and planes
 

@@ -1,14 +1,11 @@
 //! The components of a scan, and the tables that they are coded by (T.81, B.2.3).
-ghost use Rattle.std.specs.Prelude.{◌≡◌, ◌<◌, ◌≤◌, Ok, IfOk, IfErr, length, map};
-ghost use Rattle.std.specs.Prelude.{◌==◌, ◌∷◌, [], false, nat_lt};
+ghost use Rattle.std.specs.Prelude.{◌≡◌, ◌<◌, ◌≤◌, ◌==◌, IfOk, IfErr, length, map, nat_lt};
 ghost use Rattle.std.specs.List.{AllByRecursion};
 ghost use Rattle.std.specs.Option.{option_copied};
-ghost use Rattle.jpeg_bits.specs.Reading.{Names};
 ghost use Rattle.jpeg_bits.specs.BlockView.{pass_in};
-ghost use Rattle.jpeg_bits.specs.Codes.{Table};
 ghost use Rattle.jpeg_bits.specs.declared.error.Error.TheVariants.{OutOfMemory};
 ghost use Rattle.jpeg_bits.specs.declared.huffman.codes.HuffmanTableClass.TheVariants.{DC, AC};
-ghost use Rattle.jpeg_segments.specs.FrameView.{frame_in, scan_in};
+ghost use Rattle.jpeg_segments.specs.FrameView.{frame_in};
 ghost use Rattle.jpeg_segments.specs.ScanHeader.{IsScanOf};
 ghost use Rattle.jpeg_streams.specs.Scans.{no_table};
 ghost use Rattle.jpeg_decoder.specs.Steps.{Returns, IsSpareOf, coding_in};
@@ -23,32 +20,30 @@ use jpeg_bits::blocks::Pass;
 use jpeg_bits::error::Result;
 use jpeg_bits::huffman::codes::HuffmanTableClass;
 use jpeg_bits::huffman::{HuffmanTable, fill_default_mjpeg_tables};
-use jpeg_bits::scan::ScanInfo;
-use jpeg_segments::parser::FrameInfo;
+use jpeg_segments::parser::{FrameInfo, ScanHeader};
 use std::alloc::{AllocError, Global};
 
 /// The tables that stand in if a scan names a destination that is unset: the default ones of MJPEG
-/// frames by their destinations, and a table without codes of a class that the scan doesn't need.
+/// frames by their destinations, and one without codes of each class, where the scan needs none.
 #[derive(Drop)]
 pub struct Spare {
     dc: Vec<Option<HuffmanTable>>,
     ac: Vec<Option<HuffmanTable>>,
-    // one table each, or none: a table takes as much room as all the rest
-    no_dc: Vec<HuffmanTable>,
-    no_ac: Vec<HuffmanTable>,
+    no_dc: HuffmanTable,
+    no_ac: HuffmanTable,
 }
 
 /// Returns what a scan codes.
 #[tactic(auto, unfolding(jpeg_streams::specs::ScanSegments::pass_of))]
-pub fn pass_of(header: &ScanInfo) -> Pass
-    requires { 1 ≤ (scan_in header.now).after }
-    ensures { pass_in result ≡ pass_of (scan_in header.now) }
+pub fn pass_of(header: &ScanHeader) -> Pass
+    requires { 1 ≤ header.now.after }
+    ensures { pass_in result ≡ pass_of header.now }
 {
     Pass {
-        is_first: header.successive_approximation_high == 0,
-        ss: header.spectral_selection.start,
-        se: header.spectral_selection.end - 1,
-        al: header.successive_approximation_low,
+        is_first: header.high == 0,
+        ss: header.first,
+        se: header.after - 1,
+        al: header.low,
     }
 }
 
@@ -161,61 +156,43 @@ pub fn widen_tables(alloc: Global, state: &mut State) -> std::result::Result<(),
 }
 
 /// Returns whether a scan codes DC coefficients.
-fn has_dc(header: &ScanInfo) -> bool
-    ensures { result ≡ ((scan_in header.now).first == 0) }
+fn has_dc(header: &ScanHeader) -> bool
+    ensures { result ≡ (header.now.first == 0) }
 {
-    header.spectral_selection.start == 0
+    header.first == 0
 }
 
 /// Returns whether a scan codes AC coefficients.
-fn has_ac(header: &ScanInfo) -> bool
-    ensures { result ≡ nat_lt 1 (scan_in header.now).after }
+fn has_ac(header: &ScanHeader) -> bool
+    ensures { result ≡ nat_lt 1 header.now.after }
 {
-    header.spectral_selection.end > 1
-}
-
-/// Returns a table without codes in place of one that isn't needed.
-fn table_unless(
-    alloc: Global,
-    is_needed: bool,
-    class: HuffmanTableClass,
-) -> std::result::Result<Vec<HuffmanTable>, AllocError>
-    ensures { is_needed ≡ false → IfOk result (λ v. v.items ≡ no_table class ∷ []) }
-{
-    let mut tables = Vec::new(alloc);
-    if !is_needed {
-        tables.push(HuffmanTable::without_codes(alloc, class))?;
-    }
-    Ok(tables)
+    header.after > 1
 }
 
 /// Returns the spare tables of a scan; the default ones if a frame of an MJPEG stream was named.
 pub fn spare_tables(
     alloc: Global,
-    header: &ScanInfo,
+    header: &ScanHeader,
     frame: &FrameInfo,
     is_mjpeg: bool,
 ) -> Result<Spare>
-    ensures dc { IfOk result
-        (λ s. s.dc.items ≡ default_dc is_mjpeg (scan_in header.now).dc_destinations) }
-    ensures ac { IfOk result
-        (λ s. s.ac.items ≡ default_ac is_mjpeg (scan_in header.now).ac_destinations) }
-    ensures no_dc { ((scan_in header.now).first == 0) ≡ false
-        → IfOk result (λ s. s.no_dc.items ≡ no_table DC ∷ []) }
-    ensures no_ac { nat_lt 1 (scan_in header.now).after ≡ false
-        → IfOk result (λ s. s.no_ac.items ≡ no_table AC ∷ []) }
+    ensures dc { IfOk result (λ s. s.dc.items ≡ default_dc is_mjpeg header.now.dc_destinations) }
+    ensures ac { IfOk result (λ s. s.ac.items ≡ default_ac is_mjpeg header.now.ac_destinations) }
+    ensures no_dc { IfOk result (λ s. s.no_dc ≡ no_table DC) }
+    ensures no_ac { IfOk result (λ s. s.no_ac ≡ no_table AC) }
     ensures err { IfErr result (λ e. e ≡ OutOfMemory) }
 {
     let mut spare = Spare {
         dc: Vec::new(alloc),
         ac: Vec::new(alloc),
-        no_dc: table_unless(alloc, has_dc(header), HuffmanTableClass::DC)?,
-        no_ac: table_unless(alloc, has_ac(header), HuffmanTableClass::AC)?,
+        no_dc: HuffmanTable::without_codes(alloc, HuffmanTableClass::DC),
+        no_ac: HuffmanTable::without_codes(alloc, HuffmanTableClass::AC),
     };
     if is_mjpeg {
         spare.dc = vec![in alloc; None, None, None, None]?;
         spare.ac = vec![in alloc; None, None, None, None]?;
-        fill_default_mjpeg_tables(alloc, header, &mut spare.dc, &mut spare.ac)?;
+        let info = header.to_info(alloc)?;
+        fill_default_mjpeg_tables(alloc, &info, &mut spare.dc, &mut spare.ac)?;
         if is_large(frame) {
             widen_all(alloc, &mut spare.ac, frame)?;
         }
@@ -242,17 +219,16 @@ fn needed_table<'a>(
     alloc: Global,
     is_needed: bool,
     table: Option<&'a HuffmanTable>,
-    none: &'a [HuffmanTable],
+    none: &'a HuffmanTable,
     missing: Missing,
 ) -> Result<&'a HuffmanTable>
-    requires { is_needed ≡ false → 0 < length none.now }
-    ensures { (other : Table) → (is_needed ≡ false → none.now ≡ other ∷ [])
-        → Returns (table_if is_needed other (option_copied table.entry)) (λ t. t.now) result }
+    ensures { Returns (table_if is_needed none.now (option_copied table.entry)) (λ t. t.now)
+        result }
 {
     if is_needed {
         needed(alloc, table, missing)
     } else {
-        Ok(&none[0])
+        Ok(none)
     }
 }
 
@@ -262,18 +238,18 @@ fn coding_of<'a>(
     said: &'a Said,
     spare: &'a Spare,
     frame: &'a FrameInfo,
-    header: &ScanInfo,
+    header: &ScanHeader,
     slot: usize,
 ) -> Result<Coded<'a>>
-    requires slot { slot < length (scan_in header.now).components }
-    requires legal { IsScanOf (frame_in frame.now) (scan_in header.now) }
+    requires slot { slot < length header.now.components }
+    requires legal { IsScanOf (frame_in frame.now) header.now }
     requires scales { AllByRecursion HasScale (frame_in frame.now).components }
-    requires spare { IsSpareOf said.now (scan_in header.now) spare.now }
+    requires spare { IsSpareOf said.now header.now spare.now }
     ensures coding { let frame = frame_in frame.now in
-        let scan = scan_in header.now in
+        let scan = header.now in
         Returns (coding_in_slot said.now frame scan slot) (λ c. coding_in c) result }
 {
-    let index = header.component_indices[slot];
+    let index = header.components[slot];
     let component = frame.components.get(index);
     let component = needed(alloc, component, Missing::Component(index))?;
     let identifier = component.identifier;
@@ -281,11 +257,11 @@ fn coding_of<'a>(
     let missing = Missing::Table("quantization", destination, identifier);
     let quantization = table_at(&said.quantization, destination);
     let quantization = needed(alloc, quantization, missing)?;
-    let dc_destination = header.dc_table_indices[slot];
+    let dc_destination = header.dc_destinations[slot];
     let missing = Missing::Table("DC", dc_destination, identifier);
     let dc = table_in_force(&said.dc_tables, &spare.dc, dc_destination);
     let dc = needed_table(alloc, has_dc(header), dc, &spare.no_dc, missing)?;
-    let ac_destination = header.ac_table_indices[slot];
+    let ac_destination = header.ac_destinations[slot];
     let missing = Missing::Table("AC", ac_destination, identifier);
     let ac = table_in_force(&said.ac_tables, &spare.ac, ac_destination);
     let ac = needed_table(alloc, has_ac(header), ac, &spare.no_ac, missing)?;
@@ -306,18 +282,18 @@ pub fn codings_of<'a>(
     said: &'a Said,
     spare: &'a Spare,
     frame: &'a FrameInfo,
-    header: &ScanInfo,
+    header: &ScanHeader,
 ) -> Result<Vec<Coded<'a>>>
-    requires legal { IsScanOf (frame_in frame.now) (scan_in header.now) }
+    requires legal { IsScanOf (frame_in frame.now) header.now }
     requires scales { AllByRecursion HasScale (frame_in frame.now).components }
-    requires spare { IsSpareOf said.now (scan_in header.now) spare.now }
+    requires spare { IsSpareOf said.now header.now spare.now }
     ensures codings { let frame = frame_in frame.now in
-        let scan = scan_in header.now in
+        let scan = header.now in
         Returns (codings_of said.now frame scan) (λ v. map coding_in v.items) result }
-    ensures count { IfOk result (λ v. length v.items ≡ length (scan_in header.now).components) }
+    ensures count { IfOk result (λ v. length v.items ≡ length header.now.components) }
 {
-    let mut codings = Vec::with_capacity(alloc, header.component_indices.len())?;
-    for slot in 0..header.component_indices.len() {
+    let mut codings = Vec::with_capacity(alloc, header.components.len())?;
+    for slot in 0..header.components.len() {
         codings.push(coding_of(alloc, said, spare, frame, header, slot)?)?;
     }
     Ok(codings)

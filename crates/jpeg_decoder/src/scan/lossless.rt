@@ -3,7 +3,7 @@ ghost use Rattle.std.specs.Prelude.{◌≡◌, ◌<◌, ◌==◌, All, IfErr, If
 ghost use Rattle.std.specs.Prelude.{length, map};
 ghost use Rattle.jpeg_bits.specs.Reading.{Answers, Names};
 ghost use Rattle.jpeg_segments.specs.Frame.{AllHaveSampling};
-ghost use Rattle.jpeg_segments.specs.FrameView.{component_in, frame_in, scan_in};
+ghost use Rattle.jpeg_segments.specs.FrameView.{component_in, frame_in};
 ghost use Rattle.jpeg_segments.specs.ScanHeader.{IsScanOf};
 ghost use Rattle.jpeg_segments.specs.declared.frame.CodingProcess.TheVariants.{Lossless};
 ghost use Rattle.jpeg_streams.specs.LosslessScans.{tables_in};
@@ -22,17 +22,16 @@ use crate::stream::tables::{Missing, needed, table_at};
 use jpeg_bits::error::{Result, format_error_of};
 use jpeg_bits::huffman::HuffmanTable;
 use jpeg_bits::marker::Marker;
-use jpeg_bits::scan::ScanInfo;
 use jpeg_bits::source::Source;
 use jpeg_lossless::scan::{Coding, Part, read_scan, rows_of_interval};
-use jpeg_segments::parser::{Component, FrameInfo};
+use jpeg_segments::parser::{Component, FrameInfo, ScanHeader};
 use jpeg_segments::sizes::{ceiling, greatest_of};
 use std::alloc::{AllocError, Global};
 use std::io::Read;
 
 /// Returns the identifier of the component in a slot of a scan, or 0 if there is none.
-fn identifier_of(frame: &FrameInfo, header: &ScanInfo, slot: usize) -> u8 {
-    let index = header.component_indices.get(slot).copied();
+fn identifier_of(frame: &FrameInfo, header: &ScanHeader, slot: usize) -> u8 {
+    let index = header.components.get(slot).copied();
     let component = index.and_then(|index| frame.components.get(index));
     component.map_or(0, |component| component.identifier)
 }
@@ -43,14 +42,14 @@ fn tables_of<'a>(
     alloc: Global,
     said: &'a Said,
     frame: &FrameInfo,
-    header: &ScanInfo,
+    header: &ScanHeader,
 ) -> Result<Vec<&'a HuffmanTable>>
-    ensures { let expected = tables_in said.now.huffman.dc (scan_in header.now).dc_destinations in
+    ensures { let expected = tables_in said.now.huffman.dc header.now.dc_destinations in
         Returns expected (λ v. map (λ t. t.now) v.items) result }
 {
-    let mut tables = Vec::with_capacity(alloc, header.dc_table_indices.len())?;
-    for slot in 0..header.dc_table_indices.len() {
-        let destination = header.dc_table_indices[slot];
+    let mut tables = Vec::with_capacity(alloc, header.dc_destinations.len())?;
+    for slot in 0..header.dc_destinations.len() {
+        let destination = header.dc_destinations[slot];
         let identifier = identifier_of(frame, header, slot);
         let missing = Missing::Table("DC", destination, identifier);
         let table = table_at(&said.dc_tables, destination);
@@ -122,24 +121,24 @@ fn mcus_of(frame: &FrameInfo, indices: &[usize]) -> (u16, u16)
 }
 
 /// Returns how a scan of a frame is coded.
-fn coding_of(frame: &FrameInfo, header: &ScanInfo, restart_interval: u16) -> Coding
-    requires legal { IsScanOf (frame_in frame.now) (scan_in header.now) }
+fn coding_of(frame: &FrameInfo, header: &ScanHeader, restart_interval: u16) -> Coding
+    requires legal { IsScanOf (frame_in frame.now) header.now }
     requires sampling { AllHaveSampling (frame_in frame.now).components }
     ensures { result ≡ record {
-      wide = mcus_wide (frame_in frame.now) (scan_in header.now).components;
-      high = mcus_high (frame_in frame.now) (scan_in header.now).components;
+      wide = mcus_wide (frame_in frame.now) header.now.components;
+      high = mcus_high (frame_in frame.now) header.now.components;
       precision = frame.now.precision;
-      predictor = header.now.predictor_selection;
+      predictor = header.now.predictor;
       point_transform = header.now.point_transform;
       restart_interval = restart_interval;
     } }
 {
-    let (wide, high) = mcus_of(frame, &header.component_indices);
+    let (wide, high) = mcus_of(frame, &header.components);
     Coding {
         wide,
         high,
         precision: frame.precision,
-        predictor: header.predictor_selection,
+        predictor: header.predictor,
         point_transform: header.point_transform,
         restart_interval,
     }
@@ -153,25 +152,25 @@ pub fn read_lossless_scan<R: Read + Drop>(
     source: &mut Source<R>,
     said: &Said,
     frame: &FrameInfo,
-    header: &ScanInfo,
+    header: &ScanHeader,
     decoded: &mut Decoded,
 ) -> Result<Option<Marker>>
     requires sound { IsSound (found_of said.now decoded.old) }
     requires frame { said.now.frame ≡ Some (frame_in frame.now) }
     requires process { (frame_in frame.now).process ≡ Lossless }
-    requires legal { IsScanOf (frame_in frame.now) (scan_in header.now) }
+    requires legal { IsScanOf (frame_in frame.now) header.now }
     ensures reads { Answers (λ m. (once_scanned (found_of said.now decoded.new), m))
-        (samples_read (found_of said.now decoded.old) (frame_in frame.now)
-        (scan_in header.now)) source.old result source.new }
+        (samples_read (found_of said.now decoded.old) (frame_in frame.now) header.now)
+        source.old result source.new }
     ensures sound { OnOk result (IsSound (once_scanned (found_of said.now decoded.new))) }
     ensures stays { OnErr result (decoded.new ≡ decoded.old) }
 {
     let tables = tables_of(alloc, said, frame, header)?;
-    let parts = parts_of(alloc, frame, &header.component_indices, &tables)?;
+    let parts = parts_of(alloc, frame, &header.components, &tables)?;
     let coding = coding_of(frame, header, said.restart_interval);
     let (mut planes, met) = read_scan(alloc, source, coding, &parts)?;
     let met = pass_restarts(alloc, source, met)?;
-    decoded.put_samples(alloc, &header.component_indices, &mut planes);
+    decoded.put_samples(alloc, &header.components, &mut planes);
     Ok(met)
 }
 
@@ -183,7 +182,7 @@ pub struct SampleScan<'a> {
     /// The frame.
     pub frame: &'a FrameInfo,
     /// The header of the scan.
-    pub header: &'a ScanInfo,
+    pub header: &'a ScanHeader,
     /// How the scan is coded.
     pub coding: Coding,
     /// What the scan has of its components.
@@ -198,19 +197,19 @@ pub fn sample_scan_of<'a>(
     alloc: Global,
     said: &'a Said,
     frame: &'a FrameInfo,
-    header: &'a ScanInfo,
+    header: &'a ScanHeader,
 ) -> Result<SampleScan<'a>>
     requires frame { IsDecodedFrame (frame_in frame.now) }
     requires process { (frame_in frame.now).process ≡ Lossless }
-    requires legal { IsScanOf (frame_in frame.now) (scan_in header.now) }
+    requires legal { IsScanOf (frame_in frame.now) header.now }
     ensures given { IfOk result (λ s. (s.said.now ≡ said.now) × (s.frame.now ≡ frame.now)
         × (s.header.now ≡ header.now)) }
-    ensures scan { IfOk result (IsSampleScan said.now (frame_in frame.now) (scan_in header.now)) }
+    ensures scan { IfOk result (IsSampleScan said.now (frame_in frame.now) header.now) }
     ensures refused { IfErr result (λ e. IsRefusal e × Names e
-        (sample_codings said.now (frame_in frame.now) (scan_in header.now))) }
+        (sample_codings said.now (frame_in frame.now) header.now)) }
 {
     let tables = tables_of(alloc, said, frame, header)?;
-    let parts = parts_of(alloc, frame, &header.component_indices, &tables)?;
+    let parts = parts_of(alloc, frame, &header.components, &tables)?;
     let coding = coding_of(frame, header, said.restart_interval);
     let Some(rows) = rows_of_interval(coding) else {
         return Err(format_error_of(format!(in alloc;

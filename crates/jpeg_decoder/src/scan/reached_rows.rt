@@ -10,7 +10,7 @@ ghost use Rattle.jpeg_lossless.specs.Codings.{part_in, way_by};
 ghost use Rattle.jpeg_lossless.specs.Rows.{with_mcu_rows};
 ghost use Rattle.jpeg_lossless.specs.RowsReached.{rows_reached};
 ghost use Rattle.jpeg_lossless.specs.Scans.{scan_tables};
-ghost use Rattle.jpeg_segments.specs.FrameView.{frame_in, scan_in};
+ghost use Rattle.jpeg_segments.specs.FrameView.{frame_in};
 ghost use Rattle.jpeg_segments.specs.ScanHeader.{IsScanOf};
 ghost use Rattle.jpeg_segments.specs.declared.frame.CodingProcess.TheVariants.{Lossless};
 ghost use Rattle.jpeg_streams.specs.LosslessScans.{LosslessCoding};
@@ -146,25 +146,25 @@ pub fn reach_samples<R: Read + Drop>(
     requires sound { IsSound (found_of scan.now.said.now decoded.old) }
     requires frame { scan.now.said.now.frame ≡ Some (frame_in scan.now.frame.now) }
     requires process { (frame_in scan.now.frame.now).process ≡ Lossless }
-    requires legal { IsScanOf (frame_in scan.now.frame.now) (scan_in scan.now.header.now) }
+    requires legal { IsScanOf (frame_in scan.now.frame.now) scan.now.header.now }
     requires scan { IsSampleScan scan.now.said.now (frame_in scan.now.frame.now)
-        (scan_in scan.now.header.now) scan.now }
+        scan.now.header.now scan.now }
     ensures found { (codings : List LosslessCoding) → sample_codings scan.now.said.now
-        (frame_in scan.now.frame.now) (scan_in scan.now.header.now) ≡ Ok codings
+        (frame_in scan.now.frame.now) scan.now.header.now ≡ Ok codings
         → OnTold source.old source.new result (once_scanned (found_of scan.now.said.now decoded.new)
         ≡ (samples_reached (found_of scan.now.said.now decoded.old) (frame_in scan.now.frame.now)
-        (scan_in scan.now.header.now) codings source.old.bytes).0) }
+        scan.now.header.now codings source.old.bytes).0) }
     ensures rows { (codings : List LosslessCoding) → sample_codings scan.now.said.now
-        (frame_in scan.now.frame.now) (scan_in scan.now.header.now) ≡ Ok codings
+        (frame_in scan.now.frame.now) scan.now.header.now ≡ Ok codings
         → OnTold source.old source.new result (decoded.new.rows
         ≡ rows_of_planes (frame_in scan.now.frame.now) codings (planes_brought
         (found_of scan.now.said.now decoded.old) (frame_in scan.now.frame.now)
-        (scan_in scan.now.header.now) codings source.old.bytes).0) }
+        scan.now.header.now codings source.old.bytes).0) }
     ensures answers { (codings : List LosslessCoding) → sample_codings scan.now.said.now
-        (frame_in scan.now.frame.now) (scan_in scan.now.header.now) ≡ Ok codings
+        (frame_in scan.now.frame.now) scan.now.header.now ≡ Ok codings
         → UnlessRefused result (Answers (λ m. m) (λ bytes. (samples_reached
         (found_of scan.now.said.now decoded.old) (frame_in scan.now.frame.now)
-        (scan_in scan.now.header.now) codings bytes).1) source.old result source.new) }
+        scan.now.header.now codings bytes).1) source.old result source.new) }
     ensures sound { UnlessRefused result
         (IsSound (once_scanned (found_of scan.now.said.now decoded.new))) }
 {
@@ -172,7 +172,8 @@ pub fn reach_samples<R: Read + Drop>(
     let mut rows = LosslessScan::new(alloc, &coding)?;
     let met = reach_intervals(alloc, source, &coding, &mut rows, scan.rows);
     let mut planes = rows.finish(&coding);
-    let indices = scan.header.component_indices.as_slice();
+    let header = scan.header;
+    let indices = header.components.as_slice();
     let whole = rows_of_planes(scan.frame, indices, &planes);
     complete_all(scan.frame, indices, &decoded.samples, &mut planes)?;
     decoded.put_samples(alloc, indices, &mut planes);

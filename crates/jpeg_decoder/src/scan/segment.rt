@@ -23,7 +23,7 @@ use crate::stream::tables::{Missing, needed};
 use jpeg_bits::error::{Error, Result, UnsupportedFeature, format_error};
 use jpeg_bits::marker::Marker;
 use jpeg_bits::source::Source;
-use jpeg_segments::parser::{CodingProcess, parse_sos};
+use jpeg_segments::parser::{CodingProcess, read_scan_header};
 use jpeg_streams::before::Before;
 use std::alloc::Global;
 use std::io::Read;
@@ -93,7 +93,7 @@ pub fn reach_scan<R: Read + Drop>(
     widen_tables(alloc, state)?;
     let said = &state.said;
     let frame = needed(alloc, said.frame.as_ref(), Missing::Frame(Marker::SOS))?;
-    let header = parse_sos(alloc, source, frame)?;
+    let header = read_scan_header(alloc, source, frame)?;
     if frame.coding_process == CodingProcess::Lossless {
         let scan = sample_scan_of(alloc, said, frame, &header)?;
         let reached = reach_samples(alloc, source, &scan, &mut state.decoded);
@@ -134,7 +134,7 @@ pub fn read_scan<R: Read + Drop>(
     widen_tables(alloc, state)?;
     let said = &state.said;
     let frame = needed(alloc, said.frame.as_ref(), Missing::Frame(Marker::SOS))?;
-    let header = parse_sos(alloc, source, frame)?;
+    let header = read_scan_header(alloc, source, frame)?;
     if frame.coding_process == CodingProcess::Lossless {
         let met = read_lossless_scan(alloc, source, said, frame, &header, &mut state.decoded)?;
         return Ok(state.end_scan(met));

@@ -6,11 +6,11 @@ use Rattle.jpeg_lossless.specs.Codings.{part_in}
 use Rattle.std.proofs.lemmas.Result.{err_from_is_err_and}
 use Rattle.jpeg_bits.specs.Reading.{Fault}
 use Rattle.jpeg_decoder.proofs.LosslessReads.{samples-read, AreCodings, HasMcus, codings-by-tables}
-use Rattle.jpeg_decoder.proofs.LosslessReads.{coding_found, codings-count, codings-lacking, four-indices}
+use Rattle.jpeg_decoder.proofs.LosslessReads.{coding_found, codings-count, codings-lacking, components-seen, four-indices}
 use Rattle.jpeg_decoder.proofs.LosslessReads.{has-mcus, parts-count, put-made, samples-end}
 use Rattle.jpeg_decoder.proofs.LosslessReads.{samples-fail, samples-lacking, samples-sound}
 use Rattle.jpeg_decoder.proofs.LosslessReads.{scan-sampled}
-use Rattle.jpeg_segments.specs.FrameView.{frame_in, scan_in}
+use Rattle.jpeg_segments.specs.FrameView.{frame_in}
 use Rattle.jpeg_streams.specs.Found.{Found, Said}
 use Rattle.jpeg_streams.specs.LosslessScans.{with_samples}
 use Rattle.jpeg_decoder.specs.LosslessParts.{mcus_high, mcus_wide, parts_at}
@@ -25,7 +25,7 @@ use Rattle.jpeg_decoder.proofs.scan.lossless.read_lossless_scan.Goals as goal
 use Rattle.std.proofs.lemmas.Grind.{common_steps}
 
 -- the components of the scan, with their tables
-coded : (g : given.Over) (c : After-deref-2 g) → let scan = scan_in c.args.header.now in
+coded : (g : given.Over) (c : After-deref-2 g) → let scan = c.args.header.now in
     AreCodings c.args.said.now.huffman.dc (frame_in c.args.frame.now) scan.components
     scan.dc_destinations
     (map (λ t. t.now) c.in_ok-tables.tables.items)
@@ -33,7 +33,7 @@ coded g c = grind (arith, common_steps, codings-by-tables, recursion_from_All)
 
 -- their parts
 made : (g : given.Over) (c : After-deref-3 g)
-    → let indices = (scan_in c.args.header.now).components in map part_in c.deref-3.result.now
+    → let indices = c.args.header.now.components in map part_in c.deref-3.result.now
     ≡ parts_at (length indices == 1)
     (frame_in c.args.frame.now).components indices (map (λ t. t.now) c.in_ok-tables.tables.items)
 made g c = grind (arith, common_steps)
@@ -41,14 +41,14 @@ made g c = grind (arith, common_steps)
 -- how it is coded
 scanned : (g : given.Over) (c : After-deref-3 g) → c.coding_of-coding.result
     ≡ coding_found (found_of c.args.said.now c.args.decoded.now) (frame_in c.args.frame.now)
-    (scan_in c.args.header.now)
+    c.args.header.now
 scanned g c = c.coding_of-coding.ensures ∙ ap (λ (s : Said). coding_found (found_of s c.args.decoded.now)
-    (frame_in c.args.frame.now) (scan_in c.args.header.now)) c.said.view_is
+    (frame_in c.args.frame.now) c.args.header.now) c.said.view_is
 
 -- their MCUs
 mcus : (g : given.Over) (c : After-deref-2 g)
     → let frame = frame_in c.args.frame.now in
-    let indices = (scan_in c.args.header.now).components in
+    let indices = c.args.header.now.components in
     HasMcus (mcus_wide frame indices) (mcus_high frame indices) (parts_at (length indices == 1)
     frame.components indices
     (map (λ t. t.now) c.in_ok-tables.tables.items))
@@ -61,7 +61,7 @@ placed : (g : given.Over) (c : After-put_samples g)
     → let found = found_of c.args.said.now c.args.decoded.now in
     ◌≡◌ {A = Found} (once_scanned (found_of c.args.said.now c.put_samples.new.self))
     (record (once_scanned found) {
-      samples = with_samples (scan_in c.args.header.now).components (map (λ v. v.items) c.in_ok-planes.planes.items) found.samples;
+      samples = with_samples c.args.header.now.components (map (λ v. v.items) c.in_ok-planes.planes.items) found.samples;
     })
 placed g c = grind (arith, common_steps, put-made)
 
@@ -69,7 +69,7 @@ pub returns-in_err-tables-clause-reads : goal.returns-in_err-tables-clause-reads
 returns-in_err-tables-clause-reads g c =
     let found = found_of c.args.said.now c.args.decoded.now in
     let frame = frame_in c.args.frame.now in
-    let header = scan_in c.args.header.now in
+    let header = c.args.header.now in
     let within = recursion_from_All (λ index. index < length frame.components) header.components
     c.requires.legal.components in
     let lacking = λ (f : Fault). codings-lacking found.said.huffman.dc frame header.components header.dc_destinations f
@@ -129,7 +129,7 @@ put_samples-requires-clause-count g c =
 pub put_samples-requires-clause-indices : goal.put_samples-requires-clause-indices
 put_samples-requires-clause-indices g c =
     let frame = frame_in c.args.frame.now in
-    rw c.deref-4.ensures.value (four-indices frame c.args.header.now.component_indices.items
+    rw (c.deref-4.ensures.0 ∙ components-seen c.header.view_is) (four-indices frame c.args.header.now.components
     (c.requires.sound.frames frame c.requires.frame) c.requires.legal.components)
 
 pub returns-in_err-met-clause-reads : goal.returns-in_err-met-clause-reads
@@ -163,7 +163,7 @@ pub returns-clause-sound : goal.returns-clause-sound
 returns-clause-sound g c =
     let found = found_of c.args.said.now c.args.decoded.now in
     let frame = frame_in c.args.frame.now in
-    let header = scan_in c.args.header.now in
+    let header = c.args.header.now in
     let at = goal.at.returns-clause-sound g c in
     let planes = map (λ v. v.items) c.in_ok-planes.planes.items in
     let whole = rw (made g at.After-deref-3) at c.in_ok-planes.ensures.whole in

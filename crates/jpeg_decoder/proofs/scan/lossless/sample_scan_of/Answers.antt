@@ -4,7 +4,7 @@ use Rattle.std.proofs.lemmas.List.{length-map}
 use Rattle.std.proofs.lemmas.List.Elements.{recursion_from_All}
 use Rattle.std.proofs.lemmas.Result.{err_from_is_err_and}
 use Rattle.jpeg_bits.specs.Reading.{Fault}
-use Rattle.jpeg_segments.specs.FrameView.{frame_in, scan_in}
+use Rattle.jpeg_segments.specs.FrameView.{frame_in}
 use Rattle.jpeg_lossless.specs.Scans.{is_of_rows}
 use Rattle.jpeg_lossless.specs.declared.scan.Coding.{Coding}
 use Rattle.jpeg_streams.specs.Found.{Said}
@@ -17,14 +17,14 @@ use Rattle.jpeg_decoder.proofs.scan.lossless.sample_scan_of.Goals.{After-deref-2
 use Rattle.jpeg_decoder.proofs.scan.lossless.sample_scan_of.Goals as goal
 
 -- the components of the scan, with their tables
-coded : (c : After-deref-2) → let scan = scan_in c.args.header.now in
+coded : (c : After-deref-2) → let scan = c.args.header.now in
     AreCodings c.args.said.now.huffman.dc (frame_in c.args.frame.now) scan.components
     scan.dc_destinations (map (λ t. t.now) c.in_ok-tables.tables.items)
 coded c = grind (arith, common_steps, codings-by-tables, recursion_from_All)
 
 -- their MCUs
 mcus : (c : After-deref-2) → let frame = frame_in c.args.frame.now in
-    let indices = (scan_in c.args.header.now).components in
+    let indices = c.args.header.now.components in
     HasMcus (mcus_wide frame indices) (mcus_high frame indices) (parts_at (length indices == 1)
     frame.components indices (map (λ t. t.now) c.in_ok-tables.tables.items))
 mcus c = has-mcus _ _ _ _ _ (coded c) c.requires.frame c.requires.process
@@ -32,7 +32,7 @@ mcus c = has-mcus _ _ _ _ _ (coded c) c.requires.frame c.requires.process
 pub returns-in_err-tables-clause-refused : goal.returns-in_err-tables-clause-refused
 returns-in_err-tables-clause-refused c =
     let frame = frame_in c.args.frame.now in
-    let scan = scan_in c.args.header.now in
+    let scan = c.args.header.now in
     let within = recursion_from_All (λ index. index < length frame.components) scan.components
     c.requires.legal.components in
     let lacking = λ (f : Fault). no-codings c.args.said.now frame scan f within c.requires.legal.dc_length in
@@ -57,9 +57,9 @@ rows_of_interval-requires-clause-high c =
 pub returns-in_default-clause-refused : goal.returns-in_default-clause-refused
 returns-in_default-clause-refused c =
     let frame = frame_in c.args.frame.now in
-    let indices = (scan_in c.args.header.now).components in
+    let indices = c.args.header.now.components in
     format-refuses c.format_error_of.result _ c.format_error_of.ensures
-    (broken-codings c.args.said.now (frame_in c.args.frame.now) (scan_in c.args.header.now) _
+    (broken-codings c.args.said.now (frame_in c.args.frame.now) c.args.header.now _
     (coded (goal.at.returns-in_default-clause-refused c).After-deref-2)
     (ap (λ (s : Said). is_of_rows (mcus_wide frame indices) (mcus_high frame indices) s.restart) (sym c.said.view_is)
     ∙ ap (λ (k : Coding). is_of_rows k.wide k.high k.restart_interval) (sym c.coding_of-coding.ensures)

@@ -1,6 +1,6 @@
 use Rattle.std.proofs.Common.{◌≡◌, ◌∙◌, ap, sym, arith, length, map, replicate, List, [], ℕ}
 use Rattle.std.proofs.lemmas.List.{length-map}
-use Rattle.jpeg_segments.specs.FrameView.{frame_in, scan_in}
+use Rattle.jpeg_segments.specs.FrameView.{frame_in}
 use Rattle.jpeg_segments.proofs.ScaleLemmas.{sized_frames_have_factors}
 use Rattle.jpeg_lossless.specs.Codings.{part_in, way_by}
 use Rattle.jpeg_lossless.specs.PlanesRead.{cut_planes}
@@ -12,7 +12,7 @@ use Rattle.jpeg_streams.specs.WholeRows.{rows_of_planes}
 use Rattle.jpeg_streams.proofs.Soundness.{decoded-precision, decoded-sized}
 use Rattle.jpeg_decoder.specs.Reaching.{planes_over, planes_reached, samples_reached}
 use Rattle.jpeg_decoder.specs.Seen.{found_of}
-use Rattle.jpeg_decoder.proofs.LosslessReads.{HasMcus, codings-count, four-indices, parts-count, put-made}
+use Rattle.jpeg_decoder.proofs.LosslessReads.{HasMcus, codings-count, components-seen, four-indices, parts-count, put-made}
 use Rattle.jpeg_decoder.proofs.ReachedData.{answers-by, on-told, unless}
 use Rattle.jpeg_decoder.proofs.SampleScans.{Reads, put_over, reads-components, reads-cut, reads-found}
 use Rattle.jpeg_decoder.proofs.SampleScans.{reads-marker, reads-sound, scan-coded, scan-mcus, scan-rows}
@@ -25,7 +25,7 @@ mcus : (g : given.Over) (c : After-deref g) → let s = c.args.scan.now in
     HasMcus s.coding.wide s.coding.high (map part_in s.parts.items)
 mcus g c =
     let s = c.args.scan.now in
-    scan-mcus s.said.now (frame_in s.frame.now) (scan_in s.header.now) s c.requires.scan c.requires.legal
+    scan-mcus s.said.now (frame_in s.frame.now) s.header.now s c.requires.scan c.requires.legal
     (c.requires.sound.frames (frame_in s.frame.now) c.requires.frame) c.requires.process
 
 pub new-requires-clause-wide : goal.new-requires-clause-wide
@@ -50,12 +50,12 @@ new-requires-clause-covered g c =
 pub reach_intervals-met-requires-clause-rows : goal.reach_intervals-met-requires-clause-rows
 reach_intervals-met-requires-clause-rows g c =
     let s = c.args.scan.now in
-    scan-rows s.said.now (frame_in s.frame.now) (scan_in s.header.now) s c.requires.scan
+    scan-rows s.said.now (frame_in s.frame.now) s.header.now s c.requires.scan
     (mcus g (goal.at.reach_intervals-met-requires-clause-rows g c).After-deref).some_high
 
 -- how the rows are read
 reads : (g : given.Over) (c : In_ok-rows g) → let s = c.args.scan.now in
-    Reads (found_of s.said.now c.args.decoded.now) (frame_in s.frame.now) (scan_in s.header.now) s
+    Reads (found_of s.said.now c.args.decoded.now) (frame_in s.frame.now) s.header.now s
     c.in_ok-coding.coding.scan (map part_in c.in_ok-coding.coding.parts.now)
     (map (λ v. v.items) c.in_ok-rows.rows.planes.items)
 reads g c = record {
@@ -72,12 +72,12 @@ reads g c = record {
 
 -- as many planes as components
 counted : (g : given.Over) (c : In_ok-rows g) → let s = c.args.scan.now in
-    length c.in_ok-coding.coding.parts.now ≡ length (scan_in s.header.now).components
+    length c.in_ok-coding.coding.parts.now ≡ length s.header.now.components
 counted g c =
     let s = c.args.scan.now in
     let i = c.requires.scan in
     let frame = frame_in s.frame.now in
-    let scan = scan_in s.header.now in
+    let scan = s.header.now in
     let a = scan-coded s.said.now frame scan s i c.requires.legal in
     sym (length-map c.in_ok-coding.coding.parts.now part_in)
     ∙ ap (λ l. length l) ((reads g c).parts_are ∙ i.parts)
@@ -93,13 +93,13 @@ pub complete_all-requires-clause-count : goal.complete_all-requires-clause-count
 complete_all-requires-clause-count g c =
     c.finish-planes.ensures.count ∙ c.reach_intervals-met.ensures.count ∙ c.in_ok-rows.ensures.count
     ∙ counted g (goal.at.complete_all-requires-clause-count g c).In_ok-rows
-    ∙ ap (λ l. length l) (sym c.as_slice-indices.ensures.value)
+    ∙ ap (λ l. length l) (sym (c.as_slice-indices.ensures.value ∙ components-seen c.header.view_is))
 
 pub complete_all-requires-clause-indices : goal.complete_all-requires-clause-indices
 complete_all-requires-clause-indices g c =
     let s = c.args.scan.now in
     let frame = frame_in s.frame.now in
-    rw c.as_slice-indices.ensures.value (four-indices frame (scan_in s.header.now).components
+    rw (c.as_slice-indices.ensures.value ∙ components-seen c.header.view_is) (four-indices frame s.header.now.components
     (c.requires.sound.frames frame c.requires.frame) c.requires.legal.components)
 
 pub put_samples-requires-clause-count : goal.put_samples-requires-clause-count
@@ -107,13 +107,13 @@ put_samples-requires-clause-count g c =
     c.in_ok-complete_all.ensures.count
     ∙ c.finish-planes.ensures.count ∙ c.reach_intervals-met.ensures.count ∙ c.in_ok-rows.ensures.count
     ∙ counted g (goal.at.put_samples-requires-clause-count g c).In_ok-rows
-    ∙ ap (λ l. length l) (sym c.as_slice-indices.ensures.value)
+    ∙ ap (λ l. length l) (sym (c.as_slice-indices.ensures.value ∙ components-seen c.header.view_is))
 
 pub put_samples-requires-clause-indices : goal.put_samples-requires-clause-indices
 put_samples-requires-clause-indices g c =
     let s = c.args.scan.now in
     let frame = frame_in s.frame.now in
-    rw c.as_slice-indices.ensures.value (four-indices frame (scan_in s.header.now).components
+    rw (c.as_slice-indices.ensures.value ∙ components-seen c.header.view_is) (four-indices frame s.header.now.components
     (c.requires.sound.frames frame c.requires.frame) c.requires.legal.components)
 
 -- what is found then
@@ -121,14 +121,14 @@ placed : (g : given.Over) (c : After-put_samples g) → let s = c.args.scan.now 
     let found = found_of s.said.now c.args.decoded.now in
     let parts = map part_in c.in_ok-coding.coding.parts.now in
     ◌≡◌ {A = Found} (once_scanned (found_of s.said.now c.put_samples.new.self))
-    (put_over found (frame_in s.frame.now) (scan_in s.header.now).components
+    (put_over found (frame_in s.frame.now) s.header.now.components
     (cut_planes c.in_ok-coding.coding.scan.point_transform parts
     (map (λ v. v.items) c.reach_intervals-met.new.rows.planes.items)))
 placed g c =
     let s = c.args.scan.now in
     let found = found_of s.said.now c.args.decoded.now in
     let frame = frame_in s.frame.now in
-    let indices = c.as_slice-indices.ensures.value in
+    let indices = c.as_slice-indices.ensures.value ∙ components-seen c.header.view_is in
     put-made found c.args.decoded.now c.put_samples.new.self _ c.put_samples.ensures.kept c.put_samples.ensures.finished
     c.put_samples.ensures.planes
     (c.put_samples.ensures.samples
@@ -144,7 +144,7 @@ returns-clause-found g c codings h =
     let s = c.args.scan.now in
     let at = goal.at.returns-clause-found g c in
     on-told c.args.source.now c.reach_intervals-met.new.source c.reach_intervals-met.result
-    (λ is. reads-found (found_of s.said.now c.args.decoded.now) (frame_in s.frame.now) (scan_in s.header.now) s
+    (λ is. reads-found (found_of s.said.now c.args.decoded.now) (frame_in s.frame.now) s.header.now s
     c.in_ok-coding.coding.scan (map part_in c.in_ok-coding.coding.parts.now)
     (map (λ v. v.items) c.in_ok-rows.rows.planes.items)
     (map (λ v. v.items) c.reach_intervals-met.new.rows.planes.items) codings c.args.source.now.bytes _
@@ -156,7 +156,7 @@ returns-clause-rows g c codings h =
     let s = c.args.scan.now in
     let found = found_of s.said.now c.args.decoded.now in
     let frame = frame_in s.frame.now in
-    let scan = scan_in s.header.now in
+    let scan = s.header.now in
     let k = c.in_ok-coding.coding.scan in
     let parts = map part_in c.in_ok-coding.coding.parts.now in
     let empty = map (λ v. v.items) c.in_ok-rows.rows.planes.items in
@@ -164,7 +164,7 @@ returns-clause-rows g c codings h =
     let r = reads g (goal.at.returns-clause-rows g c).In_ok-rows in
     on-told c.args.source.now c.reach_intervals-met.new.source c.reach_intervals-met.result
     (λ is. c.rows_of_planes-whole.ensures codings
-    (rw c.as_slice-indices.ensures.value (reads-components found frame scan s k parts empty codings r h))
+    (rw (c.as_slice-indices.ensures.value ∙ components-seen c.header.view_is) (reads-components found frame scan s k parts empty codings r h))
     ∙ ap (λ planes. rows_of_planes frame codings planes) (ap (map (λ v. v.items)) c.deref-2.ensures.value
     ∙ c.finish-planes.ensures.planes
     ∙ reads-cut found frame scan s k parts empty read codings c.args.source.now.bytes r h is))
@@ -179,9 +179,9 @@ returns-clause-answers g c codings h =
     let empty = map (λ v. v.items) c.in_ok-rows.rows.planes.items in
     unless c.reach_intervals-met.result
     (answers-by (λ m. m) (λ bytes. (planes_reached (way_by k parts) s.rows k.high empty bytes).1)
-    (λ bytes. (samples_reached found (frame_in s.frame.now) (scan_in s.header.now) codings bytes).1)
+    (λ bytes. (samples_reached found (frame_in s.frame.now) s.header.now codings bytes).1)
     c.args.source.now c.reach_intervals-met.new.source c.reach_intervals-met.result
-    (reads-marker (found_of s.said.now c.args.decoded.now) (frame_in s.frame.now) (scan_in s.header.now) s
+    (reads-marker (found_of s.said.now c.args.decoded.now) (frame_in s.frame.now) s.header.now s
     c.in_ok-coding.coding.scan (map part_in c.in_ok-coding.coding.parts.now)
     (map (λ v. v.items) c.in_ok-rows.rows.planes.items) codings c.args.source.now.bytes
     (reads g (goal.at.returns-clause-answers g c).In_ok-rows) h)
@@ -194,7 +194,7 @@ returns-clause-sound g c =
     let planes = c.reach_intervals-met.new.rows.planes.items in
     let parts = c.in_ok-coding.coding.parts.now in
     unless c.reach_intervals-met.result
-    (reads-sound (found_of s.said.now c.args.decoded.now) (frame_in s.frame.now) (scan_in s.header.now) s
+    (reads-sound (found_of s.said.now c.args.decoded.now) (frame_in s.frame.now) s.header.now s
     c.in_ok-coding.coding.scan (map part_in parts) (map (λ v. v.items) c.in_ok-rows.rows.planes.items)
     (map (λ v. v.items) planes) _ (reads g at.In_ok-rows)
     (length-map planes (λ v. v.items) ∙ c.reach_intervals-met.ensures.count ∙ c.in_ok-rows.ensures.count

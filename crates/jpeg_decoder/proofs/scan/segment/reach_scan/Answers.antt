@@ -3,7 +3,7 @@ use Rattle.std.proofs.Common.{sym, true, false, ℕ}
 use Rattle.jpeg_streams.specs.ScanSegments.{once_scanned}
 use Rattle.jpeg_bits.specs.Reading.{Answers}
 use Rattle.jpeg_streams.specs.Brought.{planes_brought, scan_brought}
-use Rattle.jpeg_segments.specs.FrameView.{frame_in, scan_in}
+use Rattle.jpeg_segments.specs.FrameView.{frame_in}
 use Rattle.jpeg_streams.specs.Found.{Found, Said}
 use Rattle.jpeg_streams.specs.LosslessScans.{LosslessCoding}
 use Rattle.jpeg_streams.specs.States.{OnTold, OnToldRefusal}
@@ -54,22 +54,22 @@ pub returns-in_err-header-clause-reads : goal.returns-in_err-header-clause-reads
 returns-in_err-header-clause-reads g c =
     none-reads _ _ _ _ _ _ _ c.from_residual-in_err-header.ensures.1
     (c.state.view_is ∙ c.widen_tables.ensures)
-    (no-header scan_in _ (frame_in c.in_ok-frame.frame.now) _ c.parse_sos.new.reader _ (search rules)
+    (no-header (λ h. h) _ (frame_in c.in_ok-frame.frame.now) _ c.read_scan_header.new.source _ (search rules)
     c.in_err-header.ensures.answers)
 
 pub returns-in_err-header-clause-found : goal.returns-in_err-header-clause-found
 returns-in_err-header-clause-found g c =
-    none-stays _ _ _ c.args.source.now c.parse_sos.new.reader _ _
+    none-stays _ _ _ c.args.source.now c.read_scan_header.new.source _ _
     c.from_residual-in_err-header.ensures.1
     (c.state.view_is ∙ c.widen_tables.ensures) (sym c.state.view_is)
-    (no-header scan_in _ (frame_in c.in_ok-frame.frame.now) _ c.parse_sos.new.reader _ (search rules)
+    (no-header (λ h. h) _ (frame_in c.in_ok-frame.frame.now) _ c.read_scan_header.new.source _ (search rules)
     c.in_err-header.ensures.answers)
 
 pub returns-in_err-header-clause-rows : goal.returns-in_err-header-clause-rows
 returns-in_err-header-clause-rows g c =
-    none-counted _ _ c.args.rows.now c.args.source.now c.parse_sos.new.reader _ _
+    none-counted _ _ c.args.rows.now c.args.source.now c.read_scan_header.new.source _ _
     c.from_residual-in_err-header.ensures.1 (c.state.view_is ∙ c.widen_tables.ensures) c.requires.rows
-    (no-header scan_in _ (frame_in c.in_ok-frame.frame.now) _ c.parse_sos.new.reader _ (search rules)
+    (no-header (λ h. h) _ (frame_in c.in_ok-frame.frame.now) _ c.read_scan_header.new.source _ (search rules)
     c.in_err-header.ensures.answers)
 
 pub returns-in_err-scan-clause-reads : goal.returns-in_err-scan-clause-reads
@@ -77,30 +77,30 @@ returns-in_err-scan-clause-reads g c =
     none-reads _ _ _ _ _ _ _ c.from_residual-in_err-scan.ensures.1
     (c.state.view_is ∙ c.widen_tables.ensures)
     (no-samples _ (frame_in c.in_ok-frame.frame.now)
-    (scan_in c.in_ok-header.header) _ _ _ (search rules) (search rules) c.in_ok-header.ensures.answers
+    c.in_ok-header.header _ _ _ (search rules) (search rules) c.in_ok-header.ensures.answers
     c.in_err-scan.ensures.refused.0 c.in_err-scan.ensures.refused.1)
 
 pub returns-in_err-scan-clause-found : goal.returns-in_err-scan-clause-found
 returns-in_err-scan-clause-found g c =
-    none-stays _ _ _ c.args.source.now c.parse_sos.new.reader _ _
+    none-stays _ _ _ c.args.source.now c.read_scan_header.new.source _ _
     c.from_residual-in_err-scan.ensures.1
     (c.state.view_is ∙ c.widen_tables.ensures) (sym c.state.view_is)
     (no-samples _ (frame_in c.in_ok-frame.frame.now)
-    (scan_in c.in_ok-header.header) _ _ _ (search rules) (search rules) c.in_ok-header.ensures.answers
+    c.in_ok-header.header _ _ _ (search rules) (search rules) c.in_ok-header.ensures.answers
     c.in_err-scan.ensures.refused.0 c.in_err-scan.ensures.refused.1)
 
 pub returns-in_err-scan-clause-rows : goal.returns-in_err-scan-clause-rows
 returns-in_err-scan-clause-rows g c =
-    none-counted _ _ c.args.rows.now c.args.source.now c.parse_sos.new.reader _ _
+    none-counted _ _ c.args.rows.now c.args.source.now c.read_scan_header.new.source _ _
     c.from_residual-in_err-scan.ensures.1 (c.state.view_is ∙ c.widen_tables.ensures) c.requires.rows
     (no-samples _ (frame_in c.in_ok-frame.frame.now)
-    (scan_in c.in_ok-header.header) _ _ _ (search rules) (search rules) c.in_ok-header.ensures.answers
+    c.in_ok-header.header _ _ _ (search rules) (search rules) c.in_ok-header.ensures.answers
     c.in_err-scan.ensures.refused.0 c.in_err-scan.ensures.refused.1)
 
 -- what is found after the data of a lossless scan, and the marker after them
 brings : (g : given.Over) (c : After-reach_samples-reached g)
     → let now = found_of c.state.inside.said c.state.inside.decoded in
-    let cur = c.parse_sos.new.reader in
+    let cur = c.read_scan_header.new.source in
     let new = c.reach_samples-reached.new.source in
     let r = c.reach_samples-reached.result in
     (d : Data) × BeginsData now d c.args.source.now cur
@@ -108,11 +108,11 @@ brings : (g : given.Over) (c : After-reach_samples-reached g)
     × UnlessRefused r (Answers (λ (m : Option Marker). m) (λ bytes. (d bytes).1) cur r new)
 brings g c =
     let now = found_of c.state.inside.said c.state.inside.decoded in
-    let cur = c.parse_sos.new.reader in
+    let cur = c.read_scan_header.new.source in
     let new = c.reach_samples-reached.new.source in
     let r = c.reach_samples-reached.result in
     let frame = frame_in c.in_ok-frame.frame.now in
-    let scan = scan_in c.in_ok-header.header in
+    let scan = c.in_ok-header.header in
     let given = c.in_ok-scan.ensures.given in
     let codings = scan-codings now.said frame scan c.in_ok-scan.scan c.in_ok-scan.ensures.scan
     c.in_ok-header.ensures.scan in (
@@ -120,14 +120,14 @@ brings g c =
       samples-begin now frame scan codings.0 c.args.source.now cur (search rules) (search rules)
           c.in_ok-header.ensures.answers codings.1,
       moved given.0 given.1 given.2 (λ s f h. (l : List LosslessCoding)
-          → sample_codings s (frame_in f) (scan_in h) ≡ Ok l
+          → sample_codings s (frame_in f) h ≡ Ok l
           → OnTold cur new r (once_scanned (found_of s c.reach_samples-reached.new.decoded)
-          ≡ (samples_reached (found_of s c.state.inside.decoded) (frame_in f) (scan_in h) l cur.bytes).0))
+          ≡ (samples_reached (found_of s c.state.inside.decoded) (frame_in f) h l cur.bytes).0))
           c.reach_samples-reached.ensures.found codings.0 codings.1,
       moved given.0 given.1 given.2 (λ s f h. (l : List LosslessCoding)
-          → sample_codings s (frame_in f) (scan_in h) ≡ Ok l
+          → sample_codings s (frame_in f) h ≡ Ok l
           → UnlessRefused r (Answers (λ (m : Option Marker). m) (λ bytes. (samples_reached
-          (found_of s c.state.inside.decoded) (frame_in f) (scan_in h) l bytes).1) cur r new))
+          (found_of s c.state.inside.decoded) (frame_in f) h l bytes).1) cur r new))
           c.reach_samples-reached.ensures.answers codings.0 codings.1,
     )
 
@@ -140,7 +140,7 @@ returns-then-eq-clause-reads g c =
     let b = brings g (goal.at.returns-then-eq-clause-reads g c).After-reach_samples-reached in
     subst (λ (f : Found). UnlessRefused c.end_reached.result (Answers v (λ bytes. (scan_brought f bytes).1)
     c.args.source.now c.end_reached.result new)) (c.state.view_is ∙ c.widen_tables.ensures)
-    (ended-reads v now prev b.0 c.args.source.now c.parse_sos.new.reader new c.reach_samples-reached.result
+    (ended-reads v now prev b.0 c.args.source.now c.read_scan_header.new.source new c.reach_samples-reached.result
     c.end_reached.result b.1 refl b.2 b.3 c.end_reached.ensures.step)
 
 pub returns-then-eq-clause-found : goal.returns-then-eq-clause-found
@@ -154,23 +154,23 @@ returns-then-eq-clause-found g c =
     (f ≡ (scan_brought c.args.state.now c.args.source.now.bytes).0)) (sym c.end_reached.ensures.found)
     (subst (λ (f : Found). OnToldRefusal c.args.source.now new c.end_reached.result
     (once_scanned prev ≡ (scan_brought f c.args.source.now.bytes).0)) (c.state.view_is ∙ c.widen_tables.ensures)
-    (ended-found v now prev b.0 c.args.source.now c.parse_sos.new.reader new c.reach_samples-reached.result
+    (ended-found v now prev b.0 c.args.source.now c.read_scan_header.new.source new c.reach_samples-reached.result
     c.end_reached.result b.1 b.2 c.end_reached.ensures.step))
 
 -- the complete rows after the data of a lossless scan
 counted : (g : given.Over) (c : After-reach_samples-reached g)
     → let now = found_of c.state.inside.said c.state.inside.decoded in
-    let cur = c.parse_sos.new.reader in
+    let cur = c.read_scan_header.new.source in
     (expected : Option ℕ) × Counts now c.args.source.now cur expected
     × OnTold cur c.reach_samples-reached.new.source c.reach_samples-reached.result
     (c.reach_samples-reached.new.decoded.rows ≡ expected)
 counted g c =
     let now = found_of c.state.inside.said c.state.inside.decoded in
-    let cur = c.parse_sos.new.reader in
+    let cur = c.read_scan_header.new.source in
     let new = c.reach_samples-reached.new.source in
     let r = c.reach_samples-reached.result in
     let frame = frame_in c.in_ok-frame.frame.now in
-    let scan = scan_in c.in_ok-header.header in
+    let scan = c.in_ok-header.header in
     let given = c.in_ok-scan.ensures.given in
     let codings = scan-codings now.said frame scan c.in_ok-scan.scan c.in_ok-scan.ensures.scan
     c.in_ok-header.ensures.scan in (
@@ -178,10 +178,10 @@ counted g c =
       samples-count now frame scan codings.0 c.args.source.now cur (search rules) (search rules)
           c.in_ok-header.ensures.answers codings.1,
       moved given.0 given.1 given.2 (λ s f h. (l : List LosslessCoding)
-          → sample_codings s (frame_in f) (scan_in h) ≡ Ok l
+          → sample_codings s (frame_in f) h ≡ Ok l
           → OnTold cur new r (c.reach_samples-reached.new.decoded.rows
           ≡ rows_of_planes (frame_in f) l (planes_brought (found_of s c.state.inside.decoded) (frame_in f)
-          (scan_in h) l cur.bytes).0)) c.reach_samples-reached.ensures.rows codings.0 codings.1,
+          h l cur.bytes).0)) c.reach_samples-reached.ensures.rows codings.0 codings.1,
     )
 
 pub returns-then-eq-clause-rows : goal.returns-then-eq-clause-rows
@@ -193,7 +193,7 @@ returns-then-eq-clause-rows g c =
     let b = counted g (goal.at.returns-then-eq-clause-rows g c).After-reach_samples-reached in
     subst (λ (f : Found). OnToldRefusal c.args.source.now new c.end_reached.result
     (c.end_reached.new.rows ≡ rows_of_scan f c.args.source.now.bytes)) (c.state.view_is ∙ c.widen_tables.ensures)
-    (ended-rows v now prev c.args.source.now c.parse_sos.new.reader new c.reach_samples-reached.new.decoded.rows
+    (ended-rows v now prev c.args.source.now c.read_scan_header.new.source new c.reach_samples-reached.new.decoded.rows
     c.end_reached.new.rows c.args.rows.now b.0 c.reach_samples-reached.result c.end_reached.result b.1 b.2
     c.end_reached.ensures.rows c.end_reached.ensures.step)
 
@@ -216,35 +216,35 @@ returns-in_err-components-clause-reads g c =
     none-reads _ _ _ _ _ _ _ c.from_residual-in_err-components.ensures.1
     (c.state.view_is ∙ c.widen_tables.ensures)
     (no-codings _ (frame_in c.in_ok-frame.frame.now)
-    (scan_in c.in_ok-header.header) _ _ _ (search rules) (search rules) c.in_ok-header.ensures.answers
+    c.in_ok-header.header _ _ _ (search rules) (search rules) c.in_ok-header.ensures.answers
     c.in_err-components.ensures.codings.0 c.in_err-components.ensures.codings.1)
 
 pub returns-in_err-components-clause-found : goal.returns-in_err-components-clause-found
 returns-in_err-components-clause-found g c =
-    none-stays _ _ _ c.args.source.now c.parse_sos.new.reader _ _
+    none-stays _ _ _ c.args.source.now c.read_scan_header.new.source _ _
     c.from_residual-in_err-components.ensures.1
     (c.state.view_is ∙ c.widen_tables.ensures) (sym c.state.view_is)
     (no-codings _ (frame_in c.in_ok-frame.frame.now)
-    (scan_in c.in_ok-header.header) _ _ _ (search rules) (search rules) c.in_ok-header.ensures.answers
+    c.in_ok-header.header _ _ _ (search rules) (search rules) c.in_ok-header.ensures.answers
     c.in_err-components.ensures.codings.0 c.in_err-components.ensures.codings.1)
 
 pub returns-in_err-components-clause-rows : goal.returns-in_err-components-clause-rows
 returns-in_err-components-clause-rows g c =
-    none-counted _ _ c.args.rows.now c.args.source.now c.parse_sos.new.reader _ _
+    none-counted _ _ c.args.rows.now c.args.source.now c.read_scan_header.new.source _ _
     c.from_residual-in_err-components.ensures.1 (c.state.view_is ∙ c.widen_tables.ensures) c.requires.rows
     (no-codings _ (frame_in c.in_ok-frame.frame.now)
-    (scan_in c.in_ok-header.header) _ _ _ (search rules) (search rules) c.in_ok-header.ensures.answers
+    c.in_ok-header.header _ _ _ (search rules) (search rules) c.in_ok-header.ensures.answers
     c.in_err-components.ensures.codings.0 c.in_err-components.ensures.codings.1)
 
 pub pass_of-requires : goal.pass_of-requires
 pass_of-requires g c =
-    some-after (frame_in c.in_ok-frame.frame.now).process (scan_in c.in_ok-header.header)
+    some-after (frame_in c.in_ok-frame.frame.now).process c.in_ok-header.header
     (is-dct _ (search rules)) c.in_ok-header.ensures.scan.coded
 
 pub invariant_of-scan : goal.invariant_of-scan
 invariant_of-scan g c =
     record {
-      legal = legal-pass (frame_in c.in_ok-frame.frame.now).process (scan_in c.in_ok-header.header) _
+      legal = legal-pass (frame_in c.in_ok-frame.frame.now).process c.in_ok-header.header _
           (is-dct _ (search rules)) c.in_ok-header.ensures.scan.coded c.pass_of.ensures;
       few = omega (arith, c.in_ok-components.ensures.count, c.in_ok-header.ensures.scan.most);
       dc_alone = λ e. absurd (true-false e);
@@ -255,7 +255,7 @@ reach-reached-requires-clause-ready g c =
     let now = found_of c.state.inside.said c.state.inside.decoded in
     let frame = frame_in c.in_ok-frame.frame.now in
     let framed : now.said.frame ≡ Some frame = search rules in
-    ready now frame (scan_in c.in_ok-header.header) _
+    ready now frame c.in_ok-header.header _
     (c.requires.sound.frames frame (ap (λ (f : Found). f.said.frame)
     (sym (c.state.view_is ∙ c.widen_tables.ensures)) ∙ framed))
     c.in_ok-header.ensures.scan c.in_ok-components.ensures.codings c.in_ok-components.ensures.count
@@ -276,13 +276,13 @@ returns-clause-reads g c =
     let now = found_of c.state.inside.said c.state.inside.decoded in
     let prev = with_decoded now c.reach-reached.new.self in
     let frame = frame_in c.in_ok-frame.frame.now in
-    let scan = scan_in c.in_ok-header.header in
+    let scan = c.in_ok-header.header in
     let v = λ (s : Step). turn_of c.end_reached-2.new.state s in
     subst (λ (f : Found). UnlessRefused c.end_reached-2.result (Answers v (λ bytes. (scan_brought f bytes).1)
     c.args.source.now c.end_reached-2.result c.reach-reached.new.source)) (c.state.view_is ∙ c.widen_tables.ensures)
-    (ended-reads v now prev _ c.args.source.now c.parse_sos.new.reader c.reach-reached.new.source
+    (ended-reads v now prev _ c.args.source.now c.read_scan_header.new.source c.reach-reached.new.source
     c.reach-reached.result c.end_reached-2.result
-    (blocks-begin now frame scan _ _ c.args.source.now c.parse_sos.new.reader (search rules) (search rules)
+    (blocks-begin now frame scan _ _ c.args.source.now c.read_scan_header.new.source (search rules) (search rules)
     c.in_ok-header.ensures.answers c.in_ok-components.ensures.codings c.pass_of.ensures)
     refl (c.reach-reached.ensures.found now (before-said c.said.inside _ _ c.said.view_is refl))
     (c.reach-reached.ensures.data now (before-said c.said.inside _ _ c.said.view_is refl))
@@ -293,15 +293,15 @@ returns-clause-found g c =
     let now = found_of c.state.inside.said c.state.inside.decoded in
     let prev = with_decoded now c.reach-reached.new.self in
     let frame = frame_in c.in_ok-frame.frame.now in
-    let scan = scan_in c.in_ok-header.header in
+    let scan = c.in_ok-header.header in
     let v = λ (s : Step). turn_of c.end_reached-2.new.state s in
     subst (λ (f : Found). OnToldRefusal c.args.source.now c.reach-reached.new.source c.end_reached-2.result
     (f ≡ (scan_brought c.args.state.now c.args.source.now.bytes).0)) (sym c.end_reached-2.ensures.found)
     (subst (λ (f : Found). OnToldRefusal c.args.source.now c.reach-reached.new.source c.end_reached-2.result
     (once_scanned prev ≡ (scan_brought f c.args.source.now.bytes).0)) (c.state.view_is ∙ c.widen_tables.ensures)
-    (ended-found v now prev _ c.args.source.now c.parse_sos.new.reader c.reach-reached.new.source
+    (ended-found v now prev _ c.args.source.now c.read_scan_header.new.source c.reach-reached.new.source
     c.reach-reached.result c.end_reached-2.result
-    (blocks-begin now frame scan _ _ c.args.source.now c.parse_sos.new.reader (search rules) (search rules)
+    (blocks-begin now frame scan _ _ c.args.source.now c.read_scan_header.new.source (search rules) (search rules)
     c.in_ok-header.ensures.answers c.in_ok-components.ensures.codings c.pass_of.ensures)
     (c.reach-reached.ensures.found now (before-said c.said.inside _ _ c.said.view_is refl))
     c.end_reached-2.ensures.step))
@@ -311,14 +311,14 @@ returns-clause-rows g c =
     let now = found_of c.state.inside.said c.state.inside.decoded in
     let prev = with_decoded now c.reach-reached.new.self in
     let frame = frame_in c.in_ok-frame.frame.now in
-    let scan = scan_in c.in_ok-header.header in
+    let scan = c.in_ok-header.header in
     let v = λ (s : Step). turn_of c.end_reached-2.new.state s in
     subst (λ (f : Found). OnToldRefusal c.args.source.now c.reach-reached.new.source c.end_reached-2.result
     (c.end_reached-2.new.rows ≡ rows_of_scan f c.args.source.now.bytes)) (c.state.view_is ∙ c.widen_tables.ensures)
-    (ended-rows v now prev c.args.source.now c.parse_sos.new.reader c.reach-reached.new.source
+    (ended-rows v now prev c.args.source.now c.read_scan_header.new.source c.reach-reached.new.source
     c.reach-reached.new.self.rows c.end_reached-2.new.rows c.args.rows.now _ c.reach-reached.result
     c.end_reached-2.result
-    (blocks-count now frame scan _ _ c.args.source.now c.parse_sos.new.reader (search rules) (search rules)
+    (blocks-count now frame scan _ _ c.args.source.now c.read_scan_header.new.source (search rules) (search rules)
     c.in_ok-header.ensures.answers c.in_ok-components.ensures.codings c.pass_of.ensures)
     (c.reach-reached.ensures.rows now (before-said c.said.inside _ _ c.said.view_is refl))
     c.end_reached-2.ensures.rows

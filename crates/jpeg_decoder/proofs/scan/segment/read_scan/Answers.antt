@@ -3,7 +3,7 @@ use Rattle.std.proofs.Common.{sym, true, ℕ}
 use Rattle.std.specs.declared.alloc.Global.{Global}
 use Rattle.std.specs.declared.vec.Vec.{Vec}
 use Rattle.jpeg_streams.specs.ScanSegments.{once_scanned}
-use Rattle.jpeg_segments.specs.FrameView.{frame_in, scan_in}
+use Rattle.jpeg_segments.specs.FrameView.{frame_in}
 use Rattle.jpeg_streams.specs.Found.{Found}
 use Rattle.jpeg_streams.specs.Segments.{Turn}
 use Rattle.jpeg_streams.specs.InTurn.{AreArrays}
@@ -16,7 +16,7 @@ use Rattle.jpeg_decoder.proofs.ReadableScans.{some-after}
 use Rattle.jpeg_decoder.proofs.ScanData.{before-as}
 use Rattle.jpeg_decoder.proofs.ScanReads.{blocks-sound, codings-refused, data-refused}
 use Rattle.jpeg_decoder.proofs.ScanReads.{frame-refused, header-refused, is-dct, samples-met}
-use Rattle.jpeg_decoder.proofs.ScanReads.{scan-ends, scan-steps, segment-ends, segment-refused}
+use Rattle.jpeg_decoder.proofs.ScanReads.{refused-steps, scan-ends, scan-steps, segment-ends, segment-refused}
 use Rattle.jpeg_decoder.proofs.scan.segment.read_scan.Goals as goal
 
 pub returns-in_err-frame-clause-reads : goal.returns-in_err-frame-clause-reads
@@ -29,7 +29,7 @@ pub returns-in_err-header-clause-reads : goal.returns-in_err-header-clause-reads
 returns-in_err-header-clause-reads g c =
     segment-refused _ _ _ _ _ _ _ c.from_residual-in_err-header.ensures.1
     (c.state.view_is ∙ c.widen_tables.ensures)
-    (header-refused scan_in _ (frame_in c.in_ok-frame.frame.now) _ c.parse_sos.new.reader _ (search rules)
+    (header-refused (λ h. h) _ (frame_in c.in_ok-frame.frame.now) _ c.read_scan_header.new.source _ (search rules)
     c.in_err-header.ensures.answers)
 
 pub returns-in_err-met-clause-reads : goal.returns-in_err-met-clause-reads
@@ -59,18 +59,18 @@ returns-in_err-components-clause-reads g c =
     segment-refused _ _ _ _ _ _ _ c.from_residual-in_err-components.ensures.1
     (c.state.view_is ∙ c.widen_tables.ensures)
     (codings-refused _ (frame_in c.in_ok-frame.frame.now)
-    (scan_in c.in_ok-header.header) _ _ _ (search rules) (search rules) c.in_ok-header.ensures.answers
+    c.in_ok-header.header _ _ _ (search rules) (search rules) c.in_ok-header.ensures.answers
     c.in_err-components.ensures.codings.0 c.in_err-components.ensures.codings.1)
 
 pub pass_of-pass-requires : goal.pass_of-pass-requires
 pass_of-pass-requires g c =
-    some-after (frame_in c.in_ok-frame.frame.now).process (scan_in c.in_ok-header.header)
+    some-after (frame_in c.in_ok-frame.frame.now).process c.in_ok-header.header
     (is-dct _ (search rules)) c.in_ok-header.ensures.scan.coded
 
 pub invariant_of-scan : goal.invariant_of-scan
 invariant_of-scan g c =
     record {
-      legal = legal-pass (frame_in c.in_ok-frame.frame.now).process (scan_in c.in_ok-header.header) _ (is-dct _ (search rules))
+      legal = legal-pass (frame_in c.in_ok-frame.frame.now).process c.in_ok-header.header _ (is-dct _ (search rules))
           c.in_ok-header.ensures.scan.coded c.pass_of-pass.ensures;
       few = omega (arith, c.in_ok-components.ensures.count, c.in_ok-header.ensures.scan.most);
       dc_alone = rw (sym c.deref.ensures.value) c.wants_ac.ensures.dc_alone;
@@ -81,7 +81,7 @@ read-requires-clause-ready g c =
     let now = found_of c.state.inside.said c.state.inside.decoded in
     let frame = frame_in c.in_ok-frame.frame.now in
     let framed : now.said.frame ≡ Some frame = search rules in
-    ready now frame (scan_in c.in_ok-header.header) _
+    ready now frame c.in_ok-header.header _
     (c.requires.sound.frames frame (ap (λ (f : Found). f.said.frame)
     (sym (c.state.view_is ∙ c.widen_tables.ensures)) ∙ framed))
     c.in_ok-header.ensures.scan c.in_ok-components.ensures.codings c.in_ok-components.ensures.count
@@ -102,18 +102,28 @@ returns-in_err-reached-clause-reads g c =
     segment-refused _ _ _ _ _ _ _ c.from_residual-in_err-reached.ensures.1
     (c.state.view_is ∙ c.widen_tables.ensures)
     (data-refused (once_scanned (found_of c.state.inside.said c.read.new.self)) _
-    (frame_in c.in_ok-frame.frame.now) (scan_in c.in_ok-header.header) _ _ _ _ c.read.new.source _ (search rules)
+    (frame_in c.in_ok-frame.frame.now) c.in_ok-header.header _ _ _ _ c.read.new.source _ (search rules)
     (search rules) c.in_ok-header.ensures.answers
     c.in_ok-components.ensures.codings c.pass_of-pass.ensures
     (c.in_err-reached.ensures.data (found_of c.state.inside.said c.state.inside.decoded)
     (before-said c.said.inside _ _ c.said.view_is refl)))
+
+pub returns-in_err-reached-clause-steps : goal.returns-in_err-reached-clause-steps
+returns-in_err-reached-clause-steps g c =
+    refused-steps _ _ _ c.from_residual-in_err-reached.ensures.0
+    (ap (λ (f : Found). f.said) (c.state.view_is ∙ c.widen_tables.ensures))
+
+pub returns-in_err-met-2-clause-steps : goal.returns-in_err-met-2-clause-steps
+returns-in_err-met-2-clause-steps g c =
+    refused-steps _ _ _ c.from_residual-in_err-met-2.ensures.0
+    (ap (λ (f : Found). f.said) (c.state.view_is ∙ c.widen_tables.ensures))
 
 pub returns-in_err-met-2-clause-reads : goal.returns-in_err-met-2-clause-reads
 returns-in_err-met-2-clause-reads g c =
     segment-refused _ _ _ _ _ _ _ c.from_residual-in_err-met-2.ensures.1
     (c.state.view_is ∙ c.widen_tables.ensures)
     (scan-ends (once_scanned (found_of c.state.inside.said c.read.new.self)) _ _
-    (frame_in c.in_ok-frame.frame.now) (scan_in c.in_ok-header.header) _ _ _ _ _ c.pass_restarts.new.source
+    (frame_in c.in_ok-frame.frame.now) c.in_ok-header.header _ _ _ _ _ c.pass_restarts.new.source
     (Err c.in_err-met-2.field-0.0) (search rules) (search rules) c.in_ok-header.ensures.answers c.in_ok-components.ensures.codings c.pass_of-pass.ensures
     (c.in_ok-reached.ensures.data (found_of c.state.inside.said c.state.inside.decoded)
     (before-said c.said.inside _ _ c.said.view_is refl))
@@ -124,7 +134,7 @@ returns-clause-reads g c =
     segment-ends _ _ _ _ _ _ _ (c.state.view_is ∙ c.widen_tables.ensures)
     c.end_scan-2.ensures
     (scan-ends (once_scanned (found_of c.state.inside.said c.read.new.self)) _ _
-    (frame_in c.in_ok-frame.frame.now) (scan_in c.in_ok-header.header) _ _ _ _ _ _
+    (frame_in c.in_ok-frame.frame.now) c.in_ok-header.header _ _ _ _ _ _
     (Ok c.in_ok-met-2.met) (search rules) (search rules) c.in_ok-header.ensures.answers c.in_ok-components.ensures.codings c.pass_of-pass.ensures
     (c.in_ok-reached.ensures.data (found_of c.state.inside.said c.state.inside.decoded)
     (before-said c.said.inside _ _ c.said.view_is refl))
