@@ -1,12 +1,12 @@
 -- Planes in one room, as it grows by a row of MCUs: each plane has its strip.
 use Rattle.std.proofs.Common.{rules, ◌≡◌, ℕ, zero, suc, ◌+◌, ◌-◌, ◌*◌, ◌/◌, ◌%◌, ◌<◌, ◌≤◌, List, [], ◌∷◌}
-use Rattle.std.proofs.Common.{◌++◌, length, map, get_or, arith, refl, sym, ap, ap₂, ◌∙◌}
+use Rattle.std.proofs.Common.{◌++◌, length, map, get_or, arith, refl, subst, sym, ap, ap₂, ◌∙◌}
 use Rattle.std.proofs.Common.{length-append, mul_assoc, mul_comm, add-mul}
 use Rattle.std.proofs.Math.Logic.{⊎_elim}
 use Rattle.std.proofs.Math.Nat.{add-div_right, mul-div_cancel, zero-div}
 use Rattle.std.proofs.lemmas.Bool.{cases_lt}
 use Rattle.std.proofs.lemmas.List.{ext_get_or, get_or_append_left, get_or-append_right}
-use Rattle.std.proofs.lemmas.List.{get_or-append-add, get_or-map, length-map}
+use Rattle.std.proofs.lemmas.List.{get_or-append-add, get_or-map}
 use Rattle.std.proofs.lemmas.List.FromFn.{get_or-map-range_with_len, length-map-range_with_len}
 use Rattle.std.proofs.lemmas.Nat.{div-mul-add, div_below, mod_below, mod-mul-add, mul-add-lt}
 use Rattle.std.proofs.lemmas.Grind.{common_steps}
@@ -15,7 +15,6 @@ use Rattle.std.specs.List.{AllByRecursion, concat, range_with_len}
 use Rattle.std.specs.declared.alloc.Global.{Global}
 use Rattle.std.specs.declared.vec.Vec.{Vec}
 use Rattle.jpeg_segments.specs.Frame.{Component, Frame}
-use Rattle.jpeg_segments.specs.FrameView.{component_in}
 use Rattle.jpeg_pixels.specs.JointPlanes.{IsShapeOf, joint_plane, joint_planes, joint_row_size}
 use Rattle.jpeg_pixels.specs.JointPlanes.{strip_size}
 use Rattle.jpeg_pixels.specs.declared.joint_planes.JointPlanes.{JointPlanes}
@@ -23,14 +22,12 @@ use Rattle.jpeg_pixels.specs.declared.joint_planes.JointShape.{JointShape}
 use Rattle.jpeg_lossless.specs.Positions.{AreEven}
 use Rattle.jpeg_streams.specs.InTurn.{Fits}
 use Rattle.jpeg_streams.specs.Scans.{Arrays}
-use Rattle.jpeg_streams.specs.ScanSegments.{Coding}
+use Rattle.jpeg_streams.specs.ScanSegments.{Coding, components_of}
 use Rattle.jpeg_streams.proofs.Apart.{at-all, get-at}
 use Rattle.jpeg_decoder.specs.GrowingView.{IsJointOf, IsOfShape}
 use Rattle.jpeg_decoder.specs.PlanesView.{IsFullJoint}
-use Rattle.jpeg_decoder.specs.Scanning.{components_in}
-use Rattle.jpeg_decoder.specs.Steps.{IsCodingOf, coding_in}
+use Rattle.jpeg_decoder.specs.Steps.{IsCodingOf}
 use Rattle.jpeg_decoder.specs.Strips.{no_samples, strips_of, with_strips}
-use Rattle.jpeg_decoder.specs.declared.scan.coded.Coded.{Coded}
 use Rattle.jpeg_decoder.proofs.ReadLists.{at-flat, even-at, flat-length}
 use Rattle.jpeg_decoder.proofs.StripRows.{strips-at, strips-length, strips_of-length}
 use Rattle.jpeg_decoder.proofs.StripSteps.{length-samples}
@@ -163,33 +160,36 @@ strips-even shape (c ∷ codings) (blocks ∷ arrays) h =
 strips-even shape _ _ h = tt
 
 -- the components of a scan have strips of the shape of those of its frame
-shaped : (frame : Frame) (shape : JointShape) (cs : List Coded) → shape.rows ≡ frame.mcus_high
+shaped : (frame : Frame) (shape : JointShape) (cs : List Coding) → shape.rows ≡ frame.mcus_high
     → AllByRecursion (λ c. c.factors.vertical * c.scale ≡ shape.lines) frame.components
     → AllByRecursion (λ c. c.blocks_wide * c.scale ≡ shape.stride) frame.components
-    → AllByRecursion (Fits frame) (components_in cs) → AllByRecursion (IsCodingOf frame)
-    (map coding_in cs) → AllByRecursion (IsOfShape shape) (map coding_in cs)
+    → AllByRecursion (Fits frame) (components_of cs) → AllByRecursion (IsCodingOf frame)
+    cs → AllByRecursion (IsOfShape shape) cs
 shaped frame shape [] rows lines strides fits of = tt
 shaped frame shape (c ∷ cs) rows lines strides fits of =
-    let k = component_in c.component.now in
+    let k = c.component in
     let at = get-at c.index frame.components k of.0 in
     search (rules, at-all, shaped frame shape cs rows lines strides fits.1 of.1)
 
 -- before the first row
-module _ (frame : Frame) (cs : List Coded) (seen : List Component) (joint : JointPlanes)
+module _ (frame : Frame) (cs : List Coding) (seen : List Component) (joint : JointPlanes)
     (shape : JointShape) (width height : ℕ) (shape-is : joint.shape ≡ shape)
     (none : joint.samples.items ≡ []) (seen-is : seen ≡ frame.components)
     (is : IsShapeOf seen width height shape) (count : length cs ≡ length seen) where
-  same : shape.count ≡ length (map coding_in cs)
-  same = is.count ∙ sym count ∙ sym (length-map cs coding_in)
+  same : shape.count ≡ length cs
+  same = is.count ∙ sym count
 
-  pub none-started : joint_planes joint.shape joint.samples.items ≡ no_samples (map coding_in cs)
+  pub none-started : joint_planes joint.shape joint.samples.items ≡ no_samples cs
   none-started = grind (arith, common_steps, none-joint, same)
 
   pub joint-started : shape.rows ≡ frame.mcus_high
       → AllByRecursion (λ c. c.factors.vertical * c.scale ≡ shape.lines) seen
-      → AllByRecursion (Fits frame) (components_in cs) → AllByRecursion (IsCodingOf frame)
-      (map coding_in cs) → IsJointOf (map coding_in cs) joint
-  joint-started rows lines fits of = grind (arith, common_steps, zero-div, same, shaped)
+      → AllByRecursion (Fits frame) (components_of cs) → AllByRecursion (IsCodingOf frame)
+      cs → IsJointOf cs joint
+  joint-started rows lines fits of =
+      let each = shaped frame shape cs rows (subst (AllByRecursion (λ c. c.factors.vertical * c.scale ≡ shape.lines))
+      seen-is lines) (subst (AllByRecursion (λ c. c.blocks_wide * c.scale ≡ shape.stride)) seen-is is.alike.strides) fits of in
+      grind (arith, common_steps, zero-div, same, each)
 
 pub some-planes : (codings : List Coding) (joint : JointPlanes) → IsJointOf codings joint
     → 0 < length (joint_planes joint.shape joint.samples.items)
@@ -227,10 +227,10 @@ module _ (codings : List Coding) (arrays : Arrays) (joint : JointPlanes)
   room-kept new e = search (rules, length-append, flat-length, even, strips-count, whole-rows)
 
 -- after all rows
-pub room-full : (cs : List Coded) (joint : JointPlanes) → IsJointOf (map coding_in cs) joint
+pub room-full : (cs : List Coding) (joint : JointPlanes) → IsJointOf cs joint
     → map length (joint_planes joint.shape joint.samples.items)
     ≡ map (λ (c : Component). c.blocks_high * c.scale * (c.blocks_wide * c.scale))
-    (components_in cs) → IsFullJoint joint
+    (components_of cs) → IsFullJoint joint
 room-full [] joint is sizes = absurd (let some = is.some in omega (arith, some, is.count))
 room-full (c ∷ cs) joint is sizes =
     let shape = joint.shape in

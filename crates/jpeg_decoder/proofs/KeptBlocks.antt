@@ -1,5 +1,5 @@
 -- Blocks that are kept, as they are read and put back.
-use Rattle.std.proofs.Common.{rules, ◌≡◌, ℕ, zero, suc, ◌+◌, ◌<◌, List, ◌∷◌, length, get_or, set, ℤ}
+use Rattle.std.proofs.Common.{rules, ◌≡◌, ℕ, zero, suc, ◌+◌, ◌<◌, List, ◌∷◌, length, get_or, map, set, ℤ}
 use Rattle.std.proofs.Common.{pos, Ok, Err, refl, sym, ap, ◌∙◌, subst, arith, Bool, Result, []}
 use Rattle.std.proofs.lemmas.List.{get_or-map, length-set, map-set}
 use Rattle.jpeg_bits.specs.Reading.{Fault}
@@ -8,17 +8,21 @@ use Rattle.jpeg_bits.specs.Stream.{Stream}
 use Rattle.jpeg_bits.proofs.BandLoop.{Leaves}
 use Rattle.jpeg_bits.specs.Readers.{Reads, gives, read_on}
 use Rattle.jpeg_bits.specs.Passes.{Pass, Via, Block, block_from, zero_block}
+use Rattle.jpeg_bits.specs.Codes.{Table}
 use Rattle.jpeg_streams.specs.Order.{Spot}
 use Rattle.jpeg_streams.specs.Scans.{Arrays, block_at, put_block, via_at}
+use Rattle.jpeg_streams.specs.ScanSegments.{Coding, vias_from}
 use Rattle.jpeg_streams.specs.InTurn.{Counted, Reached, blocks_from, turn_from}
 use Rattle.jpeg_decoder.specs.declared.scan.blocks.Interval.{Interval}
-use Rattle.jpeg_decoder.specs.declared.scan.coded.Coded.{Coded}
 use Rattle.jpeg_bits.specs.BlockView.{to_block}
 use Rattle.jpeg_bits.specs.Skips.{kept, kept_turn}
-use Rattle.jpeg_decoder.specs.Scanning.{IsSpotOf, IsStored, vias_in, arrays_in, blocks_in, sizes_of}
-use Rattle.jpeg_decoder.specs.Scanning.{counted, kept_blocks}
+use Rattle.jpeg_decoder.specs.Scanning.{IsSpotOf, IsStored, arrays_in, blocks_in, sizes_of}
+use Rattle.jpeg_decoder.specs.Scanning.{counted, kept_blocks, via_by}
+use Rattle.jpeg_decoder.specs.Steps.{coding_in}
+use Rattle.jpeg_decoder.specs.declared.scan.coded.Coded.{Coded}
 use Rattle.jpeg_decoder.proofs.BlockArrays.{Held, block-set, block-there, seen-count, sizes-long, sizes-put}
 use Rattle.jpeg_decoder.proofs.BlockArrays.{with_block}
+use Rattle.jpeg_decoder.proofs.PlacedCodings.{coding-at, seen-long}
 use Rattle.jpeg_decoder.proofs.KeptScans.{kept_reached, kept_read, put-kept}
 use Rattle.std.proofs.lemmas.Grind.{common_steps}
 
@@ -63,19 +67,23 @@ reached-alike keeps p vias n spots i old new start source now whole e h =
     subst (λ (a : Arrays). Leaves whole start source (kept_blocks keeps (blocks_from p vias n spots
     (counted i a))) i.decoder now) (sym e) h
 
-abbrev pub via_of : ℕ → Coded → Via
-via_of slot c = record { component = slot; dc = c.dc.now; ac = c.ac.now }
-
-via-from : (cs : List Coded) (from slot : ℕ) (c : Coded) (d : Via) → slot < length cs → c ≡ get_or cs slot c
-    → get_or (vias_in from cs) slot d ≡ via_of (from + slot) c
-unfolding vias_in
+via-from : (codings : List Coding) (from slot : ℕ) (c : Coding) (d : Via) → slot < length codings
+    → c ≡ get_or codings slot c → get_or (vias_from from codings) slot d ≡ via_by (from + slot) c.dc c.ac
+unfolding vias_from
 via-from [] from slot c d h e = absurd (omega arith)
-via-from (x ∷ cs) from zero c d h e = grind (arith, common_steps)
-via-from (x ∷ cs) from (suc slot) c d h e = search (rules, arith, via-from cs (from + 1) slot c d (omega arith) e)
+via-from (x ∷ codings) from zero c d h e = grind (arith, common_steps)
+via-from (x ∷ codings) from (suc slot) c d h e =
+    search (rules, arith, via-from codings (from + 1) slot c d (omega arith) e)
 
-via-is : (cs : List Coded) (slot : ℕ) (c : Coded) → slot < length cs → c ≡ get_or cs slot c
-    → via_at (vias_in 0 cs) slot ≡ via_of slot c
-via-is cs slot c h e = grind (arith, common_steps, via-from)
+-- the way of the component in a slot of a scan
+pub via-is : (codings : List Coding) (seen : List Coded) (slot : ℕ) (c : Coded) → map coding_in seen ≡ codings
+    → slot < length codings → c ≡ get_or seen slot c
+    → via_at (vias_from 0 codings) slot ≡ via_by slot c.dc.now c.ac.now
+via-is codings seen slot c same h is =
+    let z : 0 + slot ≡ slot = omega arith in
+    via-from codings 0 slot (coding_in c) _ h
+    (sym (coding-at seen codings slot c same (omega (arith, seen-long seen codings same)) is))
+    ∙ ap (λ (k : ℕ). via_by k c.dc.now c.ac.now) z
 
 abbrev put_turn : ℕ → ℕ → ℕ → Reached → Block × ℤ × ℕ → Reads Reached
 put_turn component slot index old r = gives (record {
@@ -107,9 +115,9 @@ put-as-kept keeps slot index old b next more (Ok r) u e =
     let same = put-kept keeps (spot slot index) old.arrays r.0.0 b (grind arith) in grind arith
 put-as-kept keeps slot index old b next more (Err f) u e = cc
 
-module _ (p : Pass) (cs : List Coded) (slot index : ℕ) (c : Coded) (vs : List Held) (v : Held) (x : List ℤ)
+module _ (p : Pass) (vias : List Via) (slots slot index : ℕ) (dc ac : Table) (vs : List Held) (v : Held) (x : List ℤ)
     (predictors : List ℤ) (run : ℕ) (z : ℤ)
-    (of : IsSpotOf (length cs) (sizes_of vs) (spot slot index)) (is : c ≡ get_or cs slot c)
+    (of : IsSpotOf slots (sizes_of vs) (spot slot index)) (is : via_at vias slot ≡ via_by slot dc ac)
     (array : v ≡ get_or vs slot v) (within : index < length v.blocks.items) (block : x ≡ get_or v.blocks.items index x)
     (predictor : z ≡ get_or predictors slot (pos 0)) where
   inside : slot < length vs
@@ -118,18 +126,18 @@ module _ (p : Pass) (cs : List Coded) (slot index : ℕ) (c : Coded) (vs : List 
   abbrev old : Reached
   old = record { arrays = arrays_in vs; predictors = predictors; run = run }
 
-  turn-is : (t : Text) → turn_from p (vias_in 0 cs) (spot slot index) old t ≡ read_on (put_turn slot slot index old)
-      (block_from p c.dc.now c.ac.now z run (to_block x) t)
-  turn-is t = rw (turn-whole, via-is cs slot c of.slot is, block-kept vs slot index v x inside array within block, ← predictor)
+  turn-is : (t : Text) → turn_from p vias (spot slot index) old t ≡ read_on (put_turn slot slot index old)
+      (block_from p dc ac z run (to_block x) t)
+  turn-is t = rw (turn-whole, is, block-kept vs slot index v x inside array within block, ← predictor)
 
-  pub turn-refused : (t : Text) (f : Fault) → block_from p c.dc.now c.ac.now z run (to_block x) t ≡ Err f
-      → turn_from p (vias_in 0 cs) (spot slot index) old t ≡ Err f
+  pub turn-refused : (t : Text) (f : Fault) → block_from p dc ac z run (to_block x) t ≡ Err f
+      → turn_from p vias (spot slot index) old t ≡ Err f
   turn-refused t f e = turn-is t ∙ ap (read_on (put_turn slot slot index old)) e
 
   pub turn-kept : (keeps : Bool) (y : List ℤ) (next : ℤ) (more : ℕ) (t u : Text)
-      → read_on (kept_turn keeps) (block_from p c.dc.now c.ac.now z run (to_block x) t)
+      → read_on (kept_turn keeps) (block_from p dc ac z run (to_block x) t)
       ≡ Ok ((kept keeps (to_block y), next, more), u)
-      → read_on (kept_read keeps) (turn_from p (vias_in 0 cs) (spot slot index) old t)
+      → read_on (kept_read keeps) (turn_from p vias (spot slot index) old t)
       ≡ Ok (
         kept_reached keeps (record {
           arrays = arrays_in (set vs slot (with_block v index y));

@@ -1,9 +1,9 @@
 -- Strips of which what is kept of the blocks is enough: where a block gives one sample, it is of DC alone.
 use Rattle.std.proofs.lemmas.Grind.{common_steps}
-use Rattle.std.proofs.Common.{◌≡◌, ℕ, suc, ◌+◌, ◌-◌, ◌<◌, ◌++◌, Bool, true, false, List, ◌∷◌, map}
+use Rattle.std.proofs.Common.{◌≡◌, ℕ, ◌+◌, ◌-◌, ◌<◌, ◌++◌, Bool, true, false, List, ◌∷◌, map}
 use Rattle.std.proofs.Common.{length, get_or, drop, Result, Ok, Err, refl, sym, ap, ap₂, ◌∙◌, arith}
 use Rattle.std.proofs.Common.{[]}
-use Rattle.std.specs.List.{AllByRecursion, All, range_with_len}
+use Rattle.std.specs.List.{AllByRecursion, range_with_len}
 use Rattle.jpeg_bits.specs.Reading.{Fault}
 use Rattle.jpeg_bits.specs.Entropy.{Text}
 use Rattle.jpeg_bits.specs.Readers.{read_on}
@@ -20,9 +20,7 @@ use Rattle.jpeg_streams.specs.Rasters.{ordered}
 use Rattle.jpeg_streams.specs.Scans.{Arrays}
 use Rattle.jpeg_streams.specs.ScanSegments.{Coding, components_of}
 use Rattle.jpeg_streams.proofs.Apart.{map-same}
-use Rattle.jpeg_decoder.specs.declared.scan.coded.Coded.{Coded}
 use Rattle.jpeg_decoder.specs.Scanning.{kept_after, kept_arrays, kept_counted}
-use Rattle.jpeg_decoder.specs.Steps.{coding_in}
 use Rattle.jpeg_decoder.specs.Strips.{samples_of, strips_from, with_strips}
 use Rattle.std.proofs.Math.ListN.{get_or-map}
 use Rattle.jpeg_decoder.proofs.StripSteps.{strips_step}
@@ -92,8 +90,3 @@ strips_kept keeps p vias n codings f spots k high planes zeros old new t u all h
         strips_step p vias n codings f spots k high planes zeros old x.0 t x.1 h e is was
         ∙ grind arith
     go (Err fault) was r = absurd (let n : ⊥ = cc in n)
-
-pub one-a-side : (cs : List Coded) → All (λ c. c.component.now.dct_scale ≡ 1) cs
-    → AllByRecursion (λ c. c.component.scale ≡ 1) (map coding_in cs)
-one-a-side [] h = tt
-one-a-side (c ∷ cs) h = (h 0 c (omega arith), one-a-side cs (λ k d lt. h (suc k) d (omega arith)))

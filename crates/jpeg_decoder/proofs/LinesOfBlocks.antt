@@ -18,13 +18,12 @@ use Rattle.jpeg_bits.specs.Passes.{Pass, Via}
 use Rattle.jpeg_streams.specs.declared.grids.Grid.{Grid}
 use Rattle.jpeg_streams.specs.Order.{Spot, own_spots, grid_of, mcu_size, spots_of}
 use Rattle.jpeg_segments.specs.Frame.{Frame, Component}
-use Rattle.jpeg_segments.specs.FrameView.{component_in}
-use Rattle.jpeg_decoder.specs.declared.scan.coded.Coded.{Coded}
-use Rattle.jpeg_decoder.specs.Scanning.{arrays_in, blocks_in, components_in}
+use Rattle.jpeg_decoder.specs.Scanning.{arrays_in, blocks_in}
 use Rattle.jpeg_decoder.proofs.BlockArrays.{Held}
 use Rattle.jpeg_streams.specs.InTurn.{Counted, Reached, begun_from, blocks_from, turn_from, turns_from, scan_from}
 use Rattle.jpeg_streams.specs.InTurn.{counted_at_start, AreArrays, Fits}
 use Rattle.jpeg_streams.specs.Scans.{Arrays, arrays_at}
+use Rattle.jpeg_streams.specs.ScanSegments.{Coding, components_of}
 use Rattle.jpeg_streams.proofs.CountedScans.{blocks-append, frame-scans}
 use Rattle.jpeg_decoder.specs.Walk.{line_spots, rows_spots}
 use Rattle.jpeg_decoder.proofs.BlockSteps.{begun_none, begun_within, begun_turn, blocks_begun, blocks_refused}
@@ -305,24 +304,23 @@ scan-ended p vias n spots arrays next d old mid new (Err e) q h = grind arith
 
 -- ---- a component that is alone
 
-pub one-there : (cs : List Coded) (vs : List Held) → length cs ≡ 1 → AreArrays (components_in cs) (arrays_in vs)
+pub one-there : (cs : List Coding) (vs : List Held) → length cs ≡ 1 → AreArrays (components_of cs) (arrays_in vs)
     → 0 < length vs
 unfolding AreArrays
 one-there [] vs h a = absurd (omega (arith, h))
 one-there (c ∷ cs) [] h a = absurd a
 one-there (c ∷ cs) (v ∷ vs) h a = omega arith
 
-pub one-long : (cs : List Coded) (vs : List Held) (c : Coded) (v : Held) → length cs ≡ 1
-    → AreArrays (components_in cs) (arrays_in vs) → c ≡ get_or cs 0 c → v ≡ get_or vs 0 v
-    → length (blocks_in v) ≡ (grid_of (component_in c.component.now)).high
-    * (grid_of (component_in c.component.now)).wide
+pub one-long : (cs : List Coding) (vs : List Held) (c : Component) (v : Held) → length cs ≡ 1
+    → AreArrays (components_of cs) (arrays_in vs) → c ≡ get_or (components_of cs) 0 c → v ≡ get_or vs 0 v
+    → length (blocks_in v) ≡ (grid_of c).high * (grid_of c).wide
 unfolding AreArrays
 one-long [] vs c v h a e f = absurd (omega (arith, h))
 one-long (x ∷ cs) [] c v h a e f = absurd a
 one-long (x ∷ cs) (w ∷ vs) c v h a e f =
     ap (λ (y : Held). length (blocks_in y)) f
     ∙ a.0
-    ∙ ap (λ (y : Coded). (component_in y.component.now).blocks_high * (component_in y.component.now).blocks_wide) (sym e)
+    ∙ ap (λ (y : Component). y.blocks_high * y.blocks_wide) (sym e)
 
 Answers-same : {X Y : Type 0} (view : X → Y) (f g : List ℕ → Outcome Y) (old new : Stream) (r : Result X Error)
     → ((bytes : List ℕ) → g bytes ≡ f bytes) → Answers view f old r new → Answers view g old r new
@@ -341,21 +339,21 @@ one-scans frame c p vias n arrays bytes fits sized =
     ∙ ap (λ (l : List Spot). scan_from p vias n l arrays bytes) (own-rows (grid_of c))
 
 -- its scan, in the array that is the first of all
-pub one-scan : (frame : Frame) (cs : List Coded) (vs : List Held) (c : Coded) (v w : Held) (p : Pass) (vias : List Via)
+pub one-scan : (frame : Frame) (cs : List Coding) (vs : List Held) (c : Component) (v w : Held) (p : Pass) (vias : List Via)
     (n : ℕ) (old new : Stream) (r : Result (Option Marker) Error)
-    → length cs ≡ 1 → AllByRecursion (Fits frame) (components_in cs) → AreArrays (components_in cs) (arrays_in vs)
-    → c ≡ get_or cs 0 c → v ≡ get_or vs 0 v
+    → length cs ≡ 1 → AllByRecursion (Fits frame) (components_of cs) → AreArrays (components_of cs) (arrays_in vs)
+    → c ≡ get_or (components_of cs) 0 c → v ≡ get_or vs 0 v
     → ((others : Arrays) → Answers (λ (m : Option Marker). (blocks_in w ∷ others, m)) (scan_from p vias n
-    (rows_spots (grid_of (component_in c.component.now)) 0 (grid_of (component_in c.component.now)).own_high)
+    (rows_spots (grid_of c) 0 (grid_of c).own_high)
     (blocks_in v ∷ others)) old r new)
-    → Answers (λ (m : Option Marker). (arrays_in (set vs 0 w), m)) (arrays_at p (n * mcu_size (components_in cs)) vias
-    (spots_of frame (components_in cs)) (arrays_in vs)) old r new
+    → Answers (λ (m : Option Marker). (arrays_in (set vs 0 w), m)) (arrays_at p (n * mcu_size (components_of cs)) vias
+    (spots_of frame (components_of cs)) (arrays_in vs)) old r new
 unfolding AreArrays
 one-scan frame [] vs c v w p vias n old new r h fits sized e f q = absurd (omega (arith, h))
 one-scan frame (x ∷ y ∷ cs) vs c v w p vias n old new r h fits sized e f q = absurd (omega (arith, h))
 one-scan frame (x ∷ []) [] c v w p vias n old new r h fits sized e f q = absurd sized
 one-scan frame (x ∷ []) (u ∷ vs) c v w p vias n old new r h fits sized e f q =
-    let k = component_in x.component.now in
+    let k = x.component in
     Answers-same (λ (m : Option Marker). (blocks_in w ∷ arrays_in vs, m))
     (scan_from p vias n (rows_spots (grid_of k) 0 (grid_of k).own_high) (blocks_in u ∷ arrays_in vs))
     (arrays_at p (n * mcu_size (k ∷ [])) vias (spots_of frame (k ∷ [])) (blocks_in u ∷ arrays_in vs)) old new r

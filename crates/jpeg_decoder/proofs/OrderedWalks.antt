@@ -11,7 +11,8 @@ use Rattle.jpeg_streams.specs.Order.{Spot, part_spot, part_spots, mcu_spots, all
 use Rattle.jpeg_segments.specs.FrameView.{component_in}
 use Rattle.jpeg_decoder.specs.declared.scan.coded.Coded.{Coded}
 use Rattle.jpeg_decoder.specs.declared.scan.spots.Member.{Member}
-use Rattle.jpeg_decoder.specs.Scanning.{components_in}
+use Rattle.jpeg_decoder.specs.Steps.{coding_in}
+use Rattle.jpeg_streams.specs.ScanSegments.{components_of}
 use Rattle.jpeg_decoder.specs.Walk.{spot_at, mcu_at, spots_at, raster, positions_of, member_of}
 use Rattle.jpeg_decoder.specs.Walk.{line_members, part_members, members_from, own_member}
 use Rattle.std.proofs.lemmas.Grind.{common_steps}
@@ -106,7 +107,7 @@ pub ruleset line_rules = (more_members, no_members)
 pub ruleset part_rules = (more_lines, no_lines)
 
 abbrev pub slots_left : ℕ → List Coded → List Member
-slots_left slot cs = members_from slot (components_in (drop slot cs))
+slots_left slot cs = members_from slot (components_of (map coding_in (drop slot cs)))
 
 pub slot_next : (xs : List Member) (slot : ℕ) (cs : List Coded) (c : Coded) → slot < length cs → c ≡ get_or cs slot c
     → (xs ++ part_members slot (component_in c.component.now)) ++ slots_left (slot + 1) cs ≡ xs ++ slots_left slot cs

@@ -16,15 +16,12 @@ use Rattle.jpeg_bits.specs.Passes.{Pass, Via, Block, block_from, zero_block}
 use Rattle.jpeg_bits.specs.BlockView.{to_block}
 use Rattle.jpeg_bits.specs.BlockLines.{Line, blocks_at}
 use Rattle.jpeg_bits.proofs.DcAlone.{Takes-map}
-use Rattle.jpeg_streams.specs.Scans.{Arrays}
+use Rattle.jpeg_streams.specs.Scans.{Arrays, via_at}
 use Rattle.jpeg_streams.specs.InTurn.{Reached, turn_from, turns_from}
-use Rattle.jpeg_decoder.specs.declared.scan.coded.Coded.{Coded}
-use Rattle.jpeg_decoder.specs.Scanning.{blocks_in, vias_in}
+use Rattle.jpeg_decoder.specs.Scanning.{blocks_in, via_by}
+use Rattle.jpeg_streams.specs.ScanSegments.{Coding, vias_from}
 use Rattle.jpeg_decoder.specs.Walk.{line_spots}
 use Rattle.jpeg_decoder.proofs.BlockArrays.{Held, seen-count, seen-is}
-
-abbrev via_of : Table → Table → Via
-via_of dc ac = record { component = 0; dc = dc; ac = ac }
 
 -- what is reached, where a part of an array is a line
 abbrev held_in : List Block → List Block → Arrays → List ℤ → Line → Reached
@@ -53,7 +50,7 @@ put_turn whole others zs i r =
 
 turn-whole : (p : Pass) (dc ac : Table) (vias : List Via) (whole : List Block) (others : Arrays) (z : ℤ) (zs : List ℤ)
     (run i : ℕ) (t : Text)
-    → turn_from p (via_of dc ac ∷ vias) (record { slot = 0; index = i })
+    → turn_from p (via_by 0 dc ac ∷ vias) (record { slot = 0; index = i })
     (record { arrays = whole ∷ others; predictors = z ∷ zs; run = run }) t
     ≡ read_on (put_turn whole others zs i) (block_from p dc ac z run (get_or whole i zero_block) t)
 unfolding turn_from
@@ -73,7 +70,7 @@ both-put front back others zs k line h (Err f) = refl
 
 part-turn : (p : Pass) (dc ac : Table) (vias : List Via) (front back : List Block) (others : Arrays) (zs : List ℤ)
     (k : ℕ) (line : List Block) (z : ℤ) (run : ℕ) (t : Text) → k < length line
-    → turn_from p (via_of dc ac ∷ vias) (record { slot = 0; index = length front + k })
+    → turn_from p (via_by 0 dc ac ∷ vias) (record { slot = 0; index = length front + k })
     (held_in front back others zs (line, z, run)) t
     ≡ read_on (put_line front back others zs k line) (block_from p dc ac z run (get_or line k zero_block) t)
 part-turn p dc ac vias front back others zs k line z run t h =
@@ -88,12 +85,12 @@ put_all front back others zs m = gives (held_in front back others zs m)
 part-more : (p : Pass) (dc ac : Table) (vias : List Via) (front back : List Block) (others : Arrays) (zs : List ℤ)
     (k n : ℕ) (line : List Block)
     → ((r : Block × ℤ × ℕ) (u : Text)
-    → turns_from p (via_of dc ac ∷ vias) (line_spots (length front + k + 1) n)
+    → turns_from p (via_by 0 dc ac ∷ vias) (line_spots (length front + k + 1) n)
     (held_in front back others zs (set line k r.0, r.1, r.2)) u
     ≡ read_on (put_all front back others zs)
     (blocks_at p dc ac (range_with_len (k + 1) n) (set line k r.0, r.1, r.2) u))
     → (o : Result ((Block × ℤ × ℕ) × Text) Fault)
-    → read_on (turns_from p (via_of dc ac ∷ vias) (line_spots (length front + k + 1) n))
+    → read_on (turns_from p (via_by 0 dc ac ∷ vias) (line_spots (length front + k + 1) n))
     (read_on (put_line front back others zs k line) o)
     ≡ read_on (put_all front back others zs)
     (read_on (λ (r : Block × ℤ × ℕ). blocks_at p dc ac (range_with_len (k + 1) n) (set line k r.0, r.1, r.2)) o)
@@ -102,18 +99,18 @@ part-more p dc ac vias front back others zs k n line ih (Err f) = refl
 
 part-turns : (p : Pass) (dc ac : Table) (vias : List Via) (front back : List Block) (others : Arrays) (zs : List ℤ)
     (n k : ℕ) (line : List Block) (z : ℤ) (run : ℕ) (t : Text) → k + n ≤ length line
-    → turns_from p (via_of dc ac ∷ vias) (line_spots (length front + k) n)
+    → turns_from p (via_by 0 dc ac ∷ vias) (line_spots (length front + k) n)
     (held_in front back others zs (line, z, run)) t
     ≡ read_on (put_all front back others zs) (blocks_at p dc ac (range_with_len k n) (line, z, run) t)
 unfolding turns_from blocks_at
 part-turns p dc ac vias front back others zs zero k line z run t h = refl
 part-turns p dc ac vias front back others zs (suc n) k line z run t h =
-    ap (read_on (turns_from p (via_of dc ac ∷ vias) (line_spots (length front + k + 1) n)))
+    ap (read_on (turns_from p (via_by 0 dc ac ∷ vias) (line_spots (length front + k + 1) n)))
     (part-turn p dc ac vias front back others zs k line z run t (omega (arith, h)))
     ∙ part-more p dc ac vias front back others zs k n line
     (λ r u.
     let e : length front + k + 1 ≡ length front + (k + 1) = omega arith in
-    ap (λ (i : ℕ). turns_from p (via_of dc ac ∷ vias) (line_spots i n)
+    ap (λ (i : ℕ). turns_from p (via_by 0 dc ac ∷ vias) (line_spots i n)
     (held_in front back others zs (set line k r.0, r.1, r.2)) u) e
     ∙ part-turns p dc ac vias front back others zs n (k + 1) (set line k r.0) r.1 r.2 u
     (omega (arith, h, length-set line k r.0)))
@@ -138,11 +135,11 @@ blocks-are v f s g e =
     ∙ append_assoc (map to_block f) (map to_block s ++ map to_block g) zeros
     ∙ ap (λ (l : List Block). map to_block f ++ l) (append_assoc (map to_block s) (map to_block g) zeros)
 
-module _ (p : Pass) (cs : List Coded) (c : Coded) (v w : Held) (others : Arrays) (preds : List ℤ)
+module _ (p : Pass) (codings : List Coding) (dc ac : Table) (v w : Held) (others : Arrays) (preds : List ℤ)
     (run more : ℕ) (f s n g : List (List ℤ)) (a b : Ahead) (old new : Stream) (r : Result (Unit {0}) Error)
-    (alone : length cs ≡ 1) (is : c ≡ get_or cs 0 c) (four : length preds ≡ 4) (from : v.blocks.items ≡ f ++ (s ++ g))
+    (alone : length codings ≡ 1) (is : via_at (vias_from 0 codings) 0 ≡ via_by 0 dc ac) (four : length preds ≡ 4) (from : v.blocks.items ≡ f ++ (s ++ g))
     (put : w.blocks.items ≡ f ++ (n ++ g)) (long : length n ≡ length s) (count : w.count ≡ v.count)
-    (read : (z : ℤ) → Takes (λ (u : Unit {0}). (map to_block n, z, more)) (blocks_at p c.dc.now c.ac.now
+    (read : (z : ℤ) → Takes (λ (u : Unit {0}). (map to_block n, z, more)) (blocks_at p dc ac
     (range_with_len 0 (length s)) (map to_block s, z, run)) a old r b new) where
   abbrev back : List Block
   back = map to_block g ++ replicate (v.count - length (f ++ (s ++ g))) zero_block
@@ -156,14 +153,14 @@ module _ (p : Pass) (cs : List Coded) (c : Coded) (v w : Held) (others : Arrays)
       (let e : w.count - length (f ++ (n ++ g)) ≡ v.count - length (f ++ (s ++ g)) = omega (arith, count, same-long) in e)
 
   abbrev via : Via
-  via = via_of c.dc.now c.ac.now
+  via = via_by 0 dc ac
 
-  vias-are : vias_in 0 cs ≡ via ∷ []
-  unfolding vias_in
-  vias-are = go cs alone is
+  vias-are : vias_from 0 codings ≡ via ∷ []
+  unfolding vias_from
+  vias-are = go codings alone is
     where
-      go : (l : List Coded) → length l ≡ 1 → c ≡ get_or l 0 c → vias_in 0 l ≡ via ∷ []
-      go (x ∷ []) h e = ap (λ (d : Coded). via_of d.dc.now d.ac.now ∷ []) (sym e)
+      go : (l : List Coding) → length l ≡ 1 → via_at (vias_from 0 l) 0 ≡ via → vias_from 0 l ≡ via ∷ []
+      go (x ∷ []) h e = ap (λ (v : Via). v ∷ []) e
       go [] h e = absurd (omega (arith, h))
       go (x ∷ y ∷ l) h e = absurd (omega (arith, h))
 
@@ -176,14 +173,14 @@ module _ (p : Pass) (cs : List Coded) (c : Coded) (v w : Held) (others : Arrays)
       let few : 0 + length s ≤ length (map to_block s) = omega (arith, length-map s to_block) in
       Takes-same (λ (u : Unit {0}). held_in (map to_block f) back others zs (map to_block n, z, more))
       (λ (t : Text). read_on (put_all (map to_block f) back others zs)
-      (blocks_at p c.dc.now c.ac.now (range_with_len 0 (length s)) (map to_block s, z, run) t))
+      (blocks_at p dc ac (range_with_len 0 (length s)) (map to_block s, z, run) t))
       (turns_from p (via ∷ []) (line_spots (length f) (length s))
       (held_in (map to_block f) back others zs (map to_block s, z, run))) a b old new r
       (λ t. ap (λ (i : ℕ). turns_from p (via ∷ []) (line_spots i (length s))
       (held_in (map to_block f) back others zs (map to_block s, z, run)) t) from-f
-      ∙ part-turns p c.dc.now c.ac.now [] (map to_block f) back others zs (length s) 0 (map to_block s) z run t few)
+      ∙ part-turns p dc ac [] (map to_block f) back others zs (length s) 0 (map to_block s) z run t few)
       (Takes-map (held_in (map to_block f) back others zs) (λ (u : Unit {0}). (map to_block n, z, more))
-      (blocks_at p c.dc.now c.ac.now (range_with_len 0 (length s)) (map to_block s, z, run)) a b old new r (read z))
+      (blocks_at p dc ac (range_with_len 0 (length s)) (map to_block s, z, run)) a b old new r (read z))
 
   by-all : (l : List ℤ) → length l ≡ 4
       → Takes (λ (u : Unit {0}). record {
@@ -199,7 +196,7 @@ module _ (p : Pass) (cs : List Coded) (c : Coded) (v w : Held) (others : Arrays)
   by-all [] h = absurd (omega (arith, h))
 
   pub part-read : Takes (λ (u : Unit {0}). record { arrays = blocks_in w ∷ others; predictors = preds; run = more })
-      (turns_from p (vias_in 0 cs) (line_spots (length f) (length s))
+      (turns_from p (vias_from 0 codings) (line_spots (length f) (length s))
       (record { arrays = blocks_in v ∷ others; predictors = preds; run = run })) a old r b new
   part-read = rw (put-are, blocks-are v f s g from, vias-are) (by-all preds four)
 
@@ -244,21 +241,22 @@ module _ (v : Held) (xs n : List (List ℤ)) (first k : ℕ) (is : xs ≡ v.bloc
       = ap (λ (l : List (List ℤ)). length l) put-items ∙ put-long in
       omega (arith, items, seen-count v, seen-count (with_part v xs first k n))
 
-  pub part-of-array : (p : Pass) (cs : List Coded) (c : Coded) (others : Arrays) (preds : List ℤ) (run more : ℕ)
-      (a b : Ahead) (old new : Stream) (r : Result (Unit {0}) Error) → length cs ≡ 1 → c ≡ get_or cs 0 c
+  pub part-of-array : (p : Pass) (codings : List Coding) (dc ac : Table) (others : Arrays) (preds : List ℤ) (run more : ℕ)
+      (a b : Ahead) (old new : Stream) (r : Result (Unit {0}) Error) → length codings ≡ 1
+      → via_at (vias_from 0 codings) 0 ≡ via_by 0 dc ac
       → length preds ≡ 4 → first + k ≤ length xs
-      → ((z : ℤ) → Takes (λ (u : Unit {0}). (map to_block n, z, more)) (blocks_at p c.dc.now c.ac.now
+      → ((z : ℤ) → Takes (λ (u : Unit {0}). (map to_block n, z, more)) (blocks_at p dc ac
       (range_with_len 0 (length (take k (drop first xs)))) (map to_block (take k (drop first xs)), z, run)) a old r b new)
       → Takes (λ (u : Unit {0}). record {
         arrays = blocks_in (with_part v xs first k n) ∷ others;
         predictors = preds;
         run = more;
-      }) (turns_from p (vias_in 0 cs) (line_spots first k)
+      }) (turns_from p (vias_from 0 codings) (line_spots first k)
       (record { arrays = blocks_in v ∷ others; predictors = preds; run = run })) a old r b new
-  part-of-array p cs c others preds run more a b old new r alone at four within read =
+  part-of-array p codings dc ac others preds run more a b old new r alone at four within read =
       let front : length (take first xs) ≡ first = omega (arith, within, length-take first xs) in
       let part : length (take k (drop first xs)) ≡ k
       = omega (arith, within, length-take k (drop first xs), length-drop first xs) in
-      rw (front, part) at (part-read p cs c v (with_part v xs first k n) others preds run more (take first xs)
+      rw (front, part) at (part-read p codings dc ac v (with_part v xs first k n) others preds run more (take first xs)
       (take k (drop first xs)) n (drop k (drop first xs)) a b old new r alone at four
       (sym is ∙ parts-of xs first k) put-items long refl read)

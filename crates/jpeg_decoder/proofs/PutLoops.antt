@@ -6,12 +6,12 @@ use Rattle.std.specs.declared.alloc.Global.{Global}
 use Rattle.std.specs.declared.vec.Vec.{Vec}
 use Rattle.jpeg_bits.specs.Passes.{Pass, Block}
 use Rattle.jpeg_decoder.specs.declared.scan.coded.Coded.{Coded}
-use Rattle.jpeg_decoder.specs.Scanning.{arrays_in, blocks_in, components_in}
+use Rattle.jpeg_decoder.specs.Scanning.{arrays_in, blocks_in}
 use Rattle.jpeg_decoder.proofs.BlockArrays.{Held}
 use Rattle.jpeg_decoder.specs.Steps.{coding_in, with_its_plane, with_planes, decided_planes}
 use Rattle.jpeg_streams.specs.Rasters.{plane_by}
 use Rattle.jpeg_streams.specs.ScanSegments.{put_arrays, with_arrays, with_blocks, with_plane}
-use Rattle.jpeg_streams.specs.ScanSegments.{Coding}
+use Rattle.jpeg_streams.specs.ScanSegments.{Coding, components_of}
 use Rattle.jpeg_streams.specs.Found.{Found}
 use Rattle.jpeg_streams.specs.InTurn.{AreArrays}
 use Rattle.std.proofs.lemmas.Grind.{common_steps}
@@ -75,7 +75,7 @@ arrays-step p cs i d arrays blocks before after h k is made =
 
 -- each component has its blocks
 pub sized-at : (cs : List Coded) (vs : List Held) (i : ℕ) (d : Coded) (v : Held)
-    → AreArrays (components_in cs) (arrays_in vs) → i < length cs
+    → AreArrays (components_of (map coding_in cs)) (arrays_in vs) → i < length cs
     → (i < length vs) × (length (blocks_in (get_or vs i v)) ≡ (coding_in (get_or cs i d)).component.blocks_high
     * (coding_in (get_or cs i d)).component.blocks_wide)
 unfolding AreArrays
@@ -85,7 +85,7 @@ sized-at (c ∷ cs) (x ∷ vs) zero d v a h = (omega arith, a.0)
 sized-at (c ∷ cs) (x ∷ vs) (suc i) d v a h =
     let r = sized-at cs vs i d v a.1 (omega arith) in (omega (arith, r.0), r.1)
 
-pub long-at : (cs : List Coded) (vs : List Held) (i : ℕ) → AreArrays (components_in cs) (arrays_in vs) → i < length cs
+pub long-at : (cs : List Coded) (vs : List Held) (i : ℕ) → AreArrays (components_of (map coding_in cs)) (arrays_in vs) → i < length cs
     → i < length vs
 unfolding AreArrays
 long-at [] vs i a h = absurd (omega arith)

@@ -1,14 +1,13 @@
 -- A scan of blocks as far as it goes: what is found after it, by what is reached of its blocks; and
 -- the blocks that are taken for a scan, and put back.
-use Rattle.std.proofs.Common.{◌≡◌, ◌*◌, ◌∙◌, Bool, true, false, ℕ, List, length, map, Option, Result, Ok, Err}
-use Rattle.std.proofs.Common.{refl, sym, ap, arith}
+use Rattle.std.proofs.Common.{◌≡◌, ◌*◌, Bool, true, false, ℕ, List, length, map, Option, Result, Ok, Err}
+use Rattle.std.proofs.Common.{refl, ap, arith}
 use Rattle.std.specs.Prelude.{option_map}
 use Rattle.std.specs.List.{AllByRecursion}
 use Rattle.std.proofs.lemmas.Grind.{common_steps}
 use Rattle.std.proofs.lemmas.List.{length-map}
 use Rattle.jpeg_bits.specs.Stream.{Stream}
 use Rattle.jpeg_bits.specs.Passes.{Pass}
-use Rattle.jpeg_bits.specs.BlockView.{pass_in}
 use Rattle.jpeg_bits.specs.Reading.{Answers, Outcome}
 use Rattle.jpeg_bits.specs.declared.error.Error.{Error}
 use Rattle.jpeg_bits.specs.declared.error.Error.TheVariants as errors
@@ -26,17 +25,15 @@ use Rattle.jpeg_streams.specs.WholeRows.{rows_above, rows_of_codings, unread_of_
 use Rattle.jpeg_streams.proofs.Apart.{zeros-sized}
 use Rattle.jpeg_streams.proofs.McuRows.{arrays-sized, kept-sized}
 use Rattle.jpeg_decoder.specs.declared.scan.coded.Coded.{Coded}
-use Rattle.jpeg_decoder.specs.declared.scan.coded.Scan.{Scan}
 use Rattle.jpeg_decoder.specs.declared.scan.decoded.Decoded.{Decoded}
 use Rattle.jpeg_decoder.specs.PlanesView.{planes_in}
 use Rattle.jpeg_decoder.specs.Reaching.{data_reached, kept_after, UnlessRefused}
-use Rattle.jpeg_decoder.specs.Scanning.{arrays_in, components_in, sizes_of, vias_in}
+use Rattle.jpeg_decoder.specs.Scanning.{arrays_in, scan_components, scan_vias, sizes_of, BlockScan}
 use Rattle.jpeg_decoder.specs.Steps.{blocks_at, blocks_before, coding_in, with_decoded, without_blocks}
 use Rattle.jpeg_decoder.specs.Steps.{AreRising, IsCodingOf}
 use Rattle.jpeg_decoder.proofs.BlockArrays.{Held}
-use Rattle.jpeg_decoder.proofs.PlacedCodings.{coded-components, coded-indices}
+use Rattle.jpeg_decoder.proofs.PlacedCodings.{coded-indices}
 use Rattle.jpeg_decoder.proofs.ScanData.{arrays-by-sizes, kept-kept, of-frame, rising-codings, same-found}
-use Rattle.jpeg_decoder.proofs.ScanData.{vias-same}
 use Rattle.jpeg_decoder.proofs.TakenBlocks.{put-back}
 
 -- ---- calls that ran out of memory, or not
@@ -78,48 +75,40 @@ reached_at f frame p codings bytes =
     scan_reached p (f.said.restart * mcu_size (components_of codings)) (vias_from 0 codings)
     (spots_of frame (components_of codings)) (blocks_at codings (arrays_before f frame)) bytes
 
--- the blocks are reached as the code reaches them
-pub reached-as : (f : Found) (frame : Frame) (scan : Scan) (arrays : Arrays) (bytes : List ℕ)
-    → scan.restart_interval ≡ f.said.restart
-    → arrays ≡ blocks_at (map coding_in scan.components.items) (arrays_before f frame)
-    → scan_reached (pass_in scan.pass) (scan.restart_interval * mcu_size (components_in scan.components.items))
-    (vias_in 0 scan.components.items) (spots_of frame (components_in scan.components.items)) arrays bytes
-    ≡ reached_at f frame (pass_in scan.pass) (map coding_in scan.components.items) bytes
-reached-as f frame scan arrays bytes n is = grind (arith, common_steps, vias-same, coded-components)
+-- what the code reaches of the blocks of a scan
+abbrev reached_by : BlockScan → Frame → Arrays → List ℕ → Arrays × Outcome (Option Marker)
+reached_by scan frame arrays bytes =
+    scan_reached scan.pass (scan.restart_interval * mcu_size (scan_components scan)) (scan_vias scan)
+    (spots_of frame (scan_components scan)) arrays bytes
 
-data-marker : (f : Found) (frame : Frame) (p : Pass) (codings : List Coding) (bytes : List ℕ)
-    → (data_reached f frame p codings bytes).1 ≡ (reached_at f frame p codings bytes).1
-unfolding data_reached
-data-marker f frame p codings bytes = refl
+pub reached-as : (f : Found) (frame : Frame) (scan : BlockScan) (arrays : Arrays) (bytes : List ℕ)
+    → scan.restart_interval ≡ f.said.restart → arrays ≡ blocks_at scan.codings (arrays_before f frame)
+    → reached_by scan frame arrays bytes ≡ reached_at f frame scan.pass scan.codings bytes
+reached-as f frame scan arrays bytes n is = grind (arith, common_steps)
 
 -- the marker after the scan, or the fault, as the code reads it
-pub reached-answers : (f : Found) (frame : Frame) (scan : Scan) (arrays : Arrays) (old new : Stream)
+pub reached-answers : (f : Found) (frame : Frame) (scan : BlockScan) (arrays : Arrays) (old new : Stream)
     (r : Result (Option Marker) Error) → scan.restart_interval ≡ f.said.restart
-    → arrays ≡ blocks_at (map coding_in scan.components.items) (arrays_before f frame)
-    → Answers (λ (m : Option Marker). m) (λ bytes. (scan_reached (pass_in scan.pass)
-    (scan.restart_interval * mcu_size (components_in scan.components.items)) (vias_in 0 scan.components.items)
-    (spots_of frame (components_in scan.components.items)) arrays bytes).1) old r new
-    → UnlessRefused r (Answers (λ (m : Option Marker). m) (λ bytes. (data_reached f frame (pass_in scan.pass)
-    (map coding_in scan.components.items) bytes).1) old r new)
+    → arrays ≡ blocks_at scan.codings (arrays_before f frame)
+    → Answers (λ (m : Option Marker). m) (λ bytes. (reached_by scan frame arrays bytes).1) old r new
+    → UnlessRefused r (Answers (λ (m : Option Marker). m)
+    (λ bytes. (data_reached f frame scan.pass scan.codings bytes).1) old r new)
+unfolding data_reached
 reached-answers f frame scan arrays old new r n is h =
-    let same = reached-as f frame scan arrays old.bytes n is in
-    let marker = data-marker f frame (pass_in scan.pass) (map coding_in scan.components.items) old.bytes in
-    unless r (answers-by (λ (m : Option Marker). m) (λ bytes. (scan_reached (pass_in scan.pass)
-    (scan.restart_interval * mcu_size (components_in scan.components.items)) (vias_in 0 scan.components.items)
-    (spots_of frame (components_in scan.components.items)) arrays bytes).1)
-    (λ bytes. (data_reached f frame (pass_in scan.pass) (map coding_in scan.components.items) bytes).1) old new r
-    (ap (λ (r : Arrays × Outcome (Option Marker)). r.1) same ∙ sym marker) h)
+    unless r (answers-by (λ (m : Option Marker). m) (λ bytes. (reached_by scan frame arrays bytes).1)
+    (λ bytes. (data_reached f frame scan.pass scan.codings bytes).1) old new r
+    (ap (λ (r : Arrays × Outcome (Option Marker)). r.1) (reached-as f frame scan arrays old.bytes n is)) h)
 
 -- the complete rows of the picture, as the code counts them
-pub rows-as : (f : Found) (frame : Frame) (scan : Scan) (arrays : Arrays) (bytes : List ℕ)
+pub rows-as : (f : Found) (frame : Frame) (scan : BlockScan) (arrays : Arrays) (bytes : List ℕ)
     → scan.restart_interval ≡ f.said.restart
-    → arrays ≡ blocks_at (map coding_in scan.components.items) (arrays_before f frame)
-    → option_map (rows_above frame (components_in scan.components.items)) (unread_of_scan (pass_in scan.pass)
-    (scan.restart_interval * mcu_size (components_in scan.components.items)) (vias_in 0 scan.components.items)
-    (spots_of frame (components_in scan.components.items)) arrays bytes)
-    ≡ rows_of_codings f frame (pass_in scan.pass) (map coding_in scan.components.items) bytes
+    → arrays ≡ blocks_at scan.codings (arrays_before f frame)
+    → option_map (rows_above frame (scan_components scan)) (unread_of_scan scan.pass
+    (scan.restart_interval * mcu_size (scan_components scan)) (scan_vias scan)
+    (spots_of frame (scan_components scan)) arrays bytes)
+    ≡ rows_of_codings f frame scan.pass scan.codings bytes
 unfolding rows_of_codings
-rows-as f frame scan arrays bytes n is = grind (arith, common_steps, vias-same, coded-components)
+rows-as f frame scan arrays bytes n is = grind (arith, common_steps)
 
 data-found : (f : Found) (frame : Frame) (p : Pass) (codings : List Coding) (bytes : List ℕ)
     → (data_reached f frame p codings bytes).0 ≡ with_arrays p codings (reached_at f frame p codings bytes).0
@@ -149,46 +138,46 @@ reached-found f frame p codings arrays bytes one two kept added fin pl sa h is =
 -- ---- the blocks that are taken, and put back
 
 -- the blocks that are taken are those of the components
-pub taken-sized : (frame : Frame) (cs seen : List Coded) (kept taken : List Held) (before : Arrays)
-    → seen ≡ cs → arrays_in kept ≡ before → arrays_in taken ≡ blocks_at (map coding_in seen)
-    (arrays_in kept) → AllByRecursion (IsCodingOf frame) (map coding_in cs)
-    → AreArrays frame.components before → (arrays_in taken ≡ blocks_at (map coding_in cs) before)
-    × AreArrays (components_in cs) (arrays_in taken)
-taken-sized frame cs seen kept taken before d e t of h =
-    grind (arith, common_steps, taken, coded-components, arrays-sized, of-frame)
+pub taken-sized : (frame : Frame) (codings : List Coding) (seen : List Coded) (kept taken : List Held) (before : Arrays)
+    → map coding_in seen ≡ codings → arrays_in kept ≡ before → arrays_in taken ≡ blocks_at (map coding_in seen)
+    (arrays_in kept) → AllByRecursion (IsCodingOf frame) codings
+    → AreArrays frame.components before → (arrays_in taken ≡ blocks_at codings before)
+    × AreArrays (components_of codings) (arrays_in taken)
+taken-sized frame codings seen kept taken before d e t of h =
+    grind (arith, common_steps, taken, arrays-sized, of-frame)
 
 -- the blocks that are kept afterwards
-pub put-all : (frame : Frame) (cs seen again : List Coded) (kept left taken arrays put : List Held) (before : Arrays)
-    → seen ≡ cs → again ≡ cs → arrays_in kept ≡ before
+pub put-all : (frame : Frame) (codings : List Coding) (seen : List Coded) (kept left taken arrays put : List Held) (before : Arrays)
+    → map coding_in seen ≡ codings → arrays_in kept ≡ before
     → arrays_in taken ≡ blocks_at (map coding_in seen) (arrays_in kept)
     → arrays_in left ≡ without_blocks (map coding_in seen) (arrays_in kept) → sizes_of arrays ≡ sizes_of taken
-    → arrays_in put ≡ put_arrays (map coding_in again) (arrays_in arrays) (arrays_in left)
-    → AllByRecursion (IsCodingOf frame) (map coding_in cs) → AreRising (map coding_in cs)
+    → arrays_in put ≡ put_arrays (map coding_in seen) (arrays_in arrays) (arrays_in left)
+    → AllByRecursion (IsCodingOf frame) codings → AreRising codings
     → AreArrays frame.components before
-    → (arrays_in put ≡ put_arrays (map coding_in cs) (arrays_in arrays) before)
+    → (arrays_in put ≡ put_arrays codings (arrays_in arrays) before)
     × AreArrays frame.components (arrays_in put)
-put-all frame cs seen again kept left taken arrays put before d a k t l s h of rising whole =
-    let sized = taken-sized frame cs seen kept taken before d k t of whole in
-    let long : length arrays ≡ length cs = grind (arith, common_steps, length-map) in
-    let is : arrays_in put ≡ put_arrays (map coding_in cs) (arrays_in arrays) before
+put-all frame codings seen kept left taken arrays put before d k t l s h of rising whole =
+    let sized = taken-sized frame codings seen kept taken before d k t of whole in
+    let long : length arrays ≡ length codings = grind (arith, common_steps, length-map) in
+    let is : arrays_in put ≡ put_arrays codings (arrays_in arrays) before
     = grind (arith, common_steps, put-back, coded-indices, rising-codings, length-map) in
-    grind (arith, common_steps, arrays-by-sizes, kept-sized, of-frame, coded-components)
+    grind (arith, common_steps, arrays-by-sizes, kept-sized, of-frame)
 
 -- those of a progressive frame; of a sequential one none
-pub kept-all : (is_kept : Bool) (frame : Frame) (cs seen again : List Coded)
+pub kept-all : (is_kept : Bool) (frame : Frame) (codings : List Coding) (seen : List Coded)
     (kept left taken arrays put : List Held) (before : Arrays)
-    → seen ≡ cs → again ≡ cs → arrays_in kept ≡ before
+    → map coding_in seen ≡ codings → arrays_in kept ≡ before
     → arrays_in taken ≡ blocks_at (map coding_in seen) (arrays_in kept)
     → arrays_in left ≡ without_blocks (map coding_in seen) (arrays_in kept) → sizes_of arrays ≡ sizes_of taken
-    → arrays_in put ≡ kept_after is_kept (map coding_in again) (arrays_in arrays) (arrays_in left)
-    → AllByRecursion (IsCodingOf frame) (map coding_in cs) → AreRising (map coding_in cs)
+    → arrays_in put ≡ kept_after is_kept (map coding_in seen) (arrays_in arrays) (arrays_in left)
+    → AllByRecursion (IsCodingOf frame) codings → AreRising codings
     → AreArrays frame.components before
-    → (arrays_in put ≡ kept_after is_kept (map coding_in cs) (arrays_in arrays) before)
+    → (arrays_in put ≡ kept_after is_kept codings (arrays_in arrays) before)
     × (is_kept ≡ true → AreArrays frame.components (arrays_in put))
-kept-all true frame cs seen again kept left taken arrays put before d a k t l s h of rising whole =
-    let all = put-all frame cs seen again kept left taken arrays put before d a k t l s h of rising whole in
+kept-all true frame codings seen kept left taken arrays put before d k t l s h of rising whole =
+    let all = put-all frame codings seen kept left taken arrays put before d k t l s h of rising whole in
     (all.0, λ _. all.1)
-kept-all false frame cs seen again kept left taken arrays put before d a k t l s h of rising whole =
+kept-all false frame codings seen kept left taken arrays put before d k t l s h of rising whole =
     (h, λ e. absurd (false-true e))
   where
     false-true : false ≡ true → ⊥

@@ -1,27 +1,23 @@
 -- Scans that are ready to be read, by what was found before them.
 use Rattle.std.proofs.lemmas.Grind.{common_steps}
-use Rattle.std.proofs.Common.{◌≡◌, ◌≤◌, ◌<◌, ◌+◌, ℕ, true, List, [], ◌∷◌, length, map, Ok, sym}
+use Rattle.std.proofs.Common.{◌≡◌, ◌≤◌, ◌+◌, ℕ, true, List, [], ◌∷◌, length, map, Ok, sym}
 use Rattle.std.proofs.Common.{subst, arith, ap, ◌∙◌}
 use Rattle.std.specs.List.{AllByRecursion}
-use Rattle.std.proofs.lemmas.List.Elements.{All-from_recursion, recursion_from_All}
 use Rattle.jpeg_bits.specs.BlockView.{IsPass}
 use Rattle.jpeg_bits.specs.Passes.{Pass}
 use Rattle.jpeg_segments.specs.declared.frame.CodingProcess.{CodingProcess}
 use Rattle.jpeg_segments.specs.Frame.{Frame, Component}
-use Rattle.jpeg_segments.specs.FrameView.{component_in}
 use Rattle.jpeg_segments.specs.Scales.{component_at, frame_at, is_scale}
 use Rattle.jpeg_segments.specs.ScanHeader as headers
 use Rattle.jpeg_segments.specs.ScanHeader.{IsBandOf, IsRising, IsScanOf}
-use Rattle.jpeg_decoder.specs.declared.scan.coded.Coded.{Coded}
-use Rattle.jpeg_decoder.specs.declared.scan.coded.Scan.{Scan}
 use Rattle.jpeg_decoder.specs.declared.stream.state.Said.TheInside.{Inside}
 use Rattle.jpeg_streams.specs.InTurn.{Fits}
-use Rattle.jpeg_decoder.specs.Scanning.{components_in}
+use Rattle.jpeg_decoder.specs.Scanning.{BlockScan}
 use Rattle.jpeg_streams.specs.Sound.{IsDecodedFrame}
-use Rattle.jpeg_streams.specs.ScanSegments.{codings_of, Coding, pass_of}
+use Rattle.jpeg_streams.specs.ScanSegments.{codings_of, components_of, Coding, pass_of}
 use Rattle.jpeg_streams.specs.Found.{Found, Said}
-use Rattle.jpeg_decoder.specs.Steps.{AreRising, HasIndex, HasScale, IsCodingOf, IsDct, IsReadable}
-use Rattle.jpeg_decoder.specs.Steps.{coding_in, IsBefore}
+use Rattle.jpeg_decoder.specs.Steps.{AreRising, HasScale, IsCodingOf, IsDct, IsReadable}
+use Rattle.jpeg_decoder.specs.Steps.{IsBefore}
 use Rattle.jpeg_decoder.specs.Seen.{said_of}
 use Rattle.jpeg_streams.proofs.LosslessSizes.{all-at}
 use Rattle.jpeg_streams.proofs.ReadTurns.{codings-each, codings-indices}
@@ -32,7 +28,7 @@ use Rattle.jpeg_streams.proofs.Soundness.{count-few, decoded-count, decoded-fits
 pub scanned-before : (s : Inside) (said : Said) → said_of s ≡ said → said.scanned ≡ s.scanned
 scanned-before s said is = ap (λ (said : Said). said.scanned) (sym is)
 
-pub before-said : (s : Inside) (scan : Scan) (found : Found) → said_of s ≡ found.said
+pub before-said : (s : Inside) (scan : BlockScan) (found : Found) → said_of s ≡ found.said
     → scan.restart_interval ≡ s.restart_interval → IsBefore s.scanned scan found
 before-said s scan found is e = record {
   scanned = scanned-before s found.said is;
@@ -68,24 +64,17 @@ pub decoded-scales : (f : Frame) → IsDecodedFrame f → AllByRecursion HasScal
 unfolding frame_at
 decoded-scales f p = grind (arith, common_steps, scales-at)
 
+-- it has four components at most
+pub decoded-few : (f : Frame) → IsDecodedFrame f → length f.components ≤ 4
+decoded-few f p = (count-few (length f.components) (decoded-count f p)).1
+
 -- ---- the components of a scan
 
 -- what each component of a frame has, those of its scans have
-each-at : (Q : Component → Type 0) (frame : Frame) (cs : List Coded)
-    → AllByRecursion Q frame.components → AllByRecursion (IsCodingOf frame) (map coding_in cs)
-    → AllByRecursion (λ c. Q (component_in c.component.now)) cs
+each-at : (Q : Component → Type 0) (frame : Frame) (codings : List Coding) → AllByRecursion Q frame.components
+    → AllByRecursion (IsCodingOf frame) codings → AllByRecursion Q (components_of codings)
 each-at Q frame [] h are = tt
-each-at Q frame (c ∷ cs) h are = grind (arith, common_steps, all-at, each-at Q frame cs h are.1)
-
-fits-at : (frame : Frame) (cs : List Coded) → AllByRecursion (λ c. Fits frame (component_in c.component.now)) cs
-    → AllByRecursion (Fits frame) (components_in cs)
-fits-at frame [] h = tt
-fits-at frame (c ∷ cs) h = (h.0, fits-at frame cs h.1)
-
-indices-at : (n : ℕ) (cs : List Coded) → n ≤ 4 → AllByRecursion (λ index. index < n)
-    (map (λ (c : Coding). c.index) (map coding_in cs)) → AllByRecursion HasIndex cs
-indices-at n [] most h = tt
-indices-at n (c ∷ cs) most h = grind (arith, common_steps, indices-at n cs most h.1)
+each-at Q frame (c ∷ codings) h are = grind (arith, common_steps, all-at, each-at Q frame codings h are.1)
 
 rising-at : (codings : List Coding) (least : ℕ)
     → IsRising least (map (λ (c : Coding). c.index) codings) → AreRising codings
@@ -101,25 +90,19 @@ rising-at _ least h = tt
 -- ---- a scan
 
 -- A scan with the tables in force for its header is ready to be read.
-pub ready : (found : Found) (frame : Frame) (header : headers.Scan) (scan : Scan)
+pub ready : (found : Found) (frame : Frame) (header : headers.Scan) (scan : BlockScan)
     → IsDecodedFrame frame → IsScanOf frame header
-    → codings_of found.said frame header ≡ Ok (map coding_in scan.components.items)
-    → length scan.components.items ≡ length header.components → IsReadable frame scan
+    → codings_of found.said frame header ≡ Ok scan.codings
+    → length scan.codings ≡ length header.components → IsReadable frame scan
 ready found frame header scan decoded legal codings count =
-    let cs = scan.components.items in
-    let indices = codings-indices found.said frame header (map coding_in cs) legal.dc_length legal.ac_length codings in
-    let are = codings-each (IsCodingOf frame) found.said frame header (map coding_in cs) codings
+    let cs = scan.codings in
+    let indices = codings-indices found.said frame header cs legal.dc_length legal.ac_length codings in
+    let are = codings-each (IsCodingOf frame) found.said frame header cs codings
     (λ index d a k is. is.component) in
-    let few = (count-few (length frame.components) (decoded-count frame decoded)).1 in
     record {
       some = subst (λ (n : ℕ). 1 ≤ n) (sym count) legal.some;
-      indices =
-          All-from_recursion HasIndex cs (indices-at (length frame.components) cs few
-          (subst (AllByRecursion (λ index. index < length frame.components)) (sym indices)
-          (recursion_from_All (λ index. index < length frame.components) header.components
-          legal.components)));
-      fits = fits-at frame cs (each-at (Fits frame) frame cs (decoded-fits frame decoded) are);
+      fits = each-at (Fits frame) frame cs (decoded-fits frame decoded) are;
       of_frame = are;
-      rising = rising-at (map coding_in cs) 0 (subst (IsRising 0) (sym indices) legal.rising);
+      rising = rising-at cs 0 (subst (IsRising 0) (sym indices) legal.rising);
       sampling = sized_frames_have_factors frame (decoded-sized frame decoded);
     }

@@ -1,6 +1,6 @@
 -- The blocks of a row of MCUs, as they are cleared and as their samples are appended.
 use Rattle.std.proofs.Common.{rules, ◌≡◌, ℕ, ◌+◌, ◌*◌, ◌<◌, ◌≤◌, List, [], ◌++◌}
-use Rattle.std.proofs.Common.{map, length, get_or, set, replicate, pos, sym, ap, ◌∙◌, arith}
+use Rattle.std.proofs.Common.{refl, map, length, get_or, set, replicate, pos, sym, ap, ◌∙◌, arith}
 use Rattle.std.proofs.Common.{take, append_assoc, append-nil}
 use Rattle.std.proofs.lemmas.Grind.{common_steps}
 use Rattle.std.proofs.lemmas.List.{length-map, map-set, length-replicate, get_or-map, take_all}
@@ -21,6 +21,7 @@ use Rattle.jpeg_decoder.specs.declared.scan.coded.Coded.{Coded}
 use Rattle.jpeg_decoder.proofs.BlockArrays.{Held, cleared, full-count, full-there, sizes-long, sizes-put, size-at}
 use Rattle.jpeg_streams.proofs.InPlace.{patched, patched-next, patched-at, patched-all}
 use Rattle.jpeg_streams.proofs.InPlace.{patched-length}
+use Rattle.jpeg_decoder.proofs.PlacedCodings.{coding-at}
 use Rattle.jpeg_decoder.proofs.StripRows.{strip-of, strips-at, strips-length, strips-none}
 use Rattle.jpeg_decoder.proofs.StripRows.{strips_of-length}
 
@@ -46,16 +47,17 @@ cleared-next old items i v w h sizes arrays is count new =
 
 -- ---- the tables of the components
 
-pub tables-long : (cs : List Coded) (tables : List (List ℕ)) → tables ≡ tables_of cs → length tables ≡ length cs
-tables-long cs tables e = ap (λ (t : List (List ℕ)). length t) e ∙ length-map cs _
+pub tables-long : (cs : List Coded) (tables : List (List ℕ)) → tables ≡ tables_of (map coding_in cs) → length tables ≡ length cs
+tables-long cs tables e = ap (λ (t : List (List ℕ)). length t) e ∙ length-map (map coding_in cs) _ ∙ length-map cs coding_in
 
-pub table-here : (cs : List Coded) (tables : List (List ℕ)) (slot : ℕ) (c : Coded) (t : List ℕ) → tables ≡ tables_of cs
-    → slot < length cs → c ≡ get_or cs slot c → t ≡ get_or tables slot t
+pub table-here : (cs : List Coded) (tables : List (List ℕ)) (slot : ℕ) (c : Coded) (t : List ℕ)
+    → tables ≡ tables_of (map coding_in cs) → slot < length cs → c ≡ get_or cs slot c → t ≡ get_or tables slot t
     → t ≡ values_in_block_order c.quantization.now
 table-here cs tables slot c t e h is at =
     at ∙ ap (λ (l : List (List ℕ)). get_or l slot t) e
-    ∙ get_or-map (λ (d : Coded). values_in_block_order d.quantization.now) cs slot c t h
-    ∙ ap (λ (d : Coded). values_in_block_order d.quantization.now) (sym is)
+    ∙ get_or-map (λ (d : Coding). values_in_block_order d.quantization) (map coding_in cs) slot (coding_in c) t
+    (omega (arith, length-map cs coding_in))
+    ∙ ap (λ (d : Coding). values_in_block_order d.quantization) (coding-at cs (map coding_in cs) slot c refl h is)
 
 -- ---- samples that are appended
 
@@ -63,7 +65,7 @@ pub no-strips : (cs : List Coded) (old : List Held) (start : List Plane) → len
     → plane_lists start ≡ with_strips (map coding_in cs) (arrays_in old) (plane_lists start)
 no-strips cs old start e = grind (arith, common_steps, strips-none)
 
-module _ (cs : List Coded) (old : List Held) (sizes : sizes_of old ≡ row_sizes cs) where
+module _ (cs : List Coded) (old : List Held) (sizes : sizes_of old ≡ row_sizes (map coding_in cs)) where
   abbrev codings : List Coding
   codings = map coding_in cs
 
@@ -84,13 +86,19 @@ module _ (cs : List Coded) (old : List Held) (sizes : sizes_of old ≡ row_sizes
 
   -- the next component's blocks are those of a row of MCUs
   pub row-size : (slot : ℕ) (c : Coded) (v : Held) → slot < length cs → c ≡ get_or cs slot c
-      → v ≡ get_or old slot v → IsFull v → length v.blocks.items ≡ down_in c * wide_in c
-  row-size slot c v h is kept full = full-count v full ∙ search (rules, size-at, sizes-long, old-long, get_or-map)
+      → v ≡ get_or old slot v → IsFull v → length v.blocks.items ≡ down_in (coding_in c) * wide_in (coding_in c)
+  row-size slot c v h is kept full =
+      let inside : slot < length codings = omega (arith, length-map cs coding_in) in
+      full-count v full
+      ∙ sym (size-at old slot v (omega (arith, sizes-long old, old-long)) kept)
+      ∙ ap (λ (l : List ℕ). get_or l slot 0) sizes
+      ∙ get_or-map (λ (d : Coding). down_in d * wide_in d) codings slot (coding_in c) 0 inside
+      ∙ ap (λ (d : Coding). down_in d * wide_in d) (coding-at cs codings slot c refl h is)
 
   -- and these are its samples
   strip-here : (slot : ℕ) (c : Coded) (v : Held) → slot < length cs → c ≡ get_or cs slot c
       → v ≡ get_or old slot v
-      → get_or strips slot [] ≡ samples_of (down_in c) (coding_in c) (blocks_in v)
+      → get_or strips slot [] ≡ samples_of (down_in (coding_in c)) (coding_in c) (blocks_in v)
   strip-here slot c v h is kept =
       let strip = strip-of codings (arrays_in old) slot (coding_in c) arrays-long
       (omega (arith, length-map cs coding_in)) in
@@ -99,7 +107,7 @@ module _ (cs : List Coded) (old : List Held) (sizes : sizes_of old ≡ row_sizes
   -- the strips so far, in one room
   pub room-next : (slot : ℕ) (c : Coded) (v : Held) (start samples new : List ℕ) → slot < length cs
       → c ≡ get_or cs slot c → v ≡ get_or old slot v → samples ≡ start ++ concat (take slot strips)
-      → new ≡ samples ++ samples_of (down_in c) (coding_in c) (map to_block v.blocks.items) → IsFull v
+      → new ≡ samples ++ samples_of (down_in (coding_in c)) (coding_in c) (map to_block v.blocks.items) → IsFull v
       → new ≡ start ++ concat (take (slot + 1) strips)
   room-next slot c v start samples new h is kept inv more full =
       let here = strip-here slot c v h is kept in
@@ -110,7 +118,7 @@ module _ (cs : List Coded) (old : List Held) (sizes : sizes_of old ≡ row_sizes
   room-all slot start samples h inv = grind (arith, common_steps, take_all, strips-long)
 
 module _ (cs : List Coded) (old : List Held) (start : List Plane) (sizes : sizes_of old
-    ≡ row_sizes cs) (long : length start ≡ length cs) where
+    ≡ row_sizes (map coding_in cs)) (long : length start ≡ length cs) where
   abbrev all : List (List ℕ)
   all = with_strips (map coding_in cs) (arrays_in old) (plane_lists start)
 
@@ -127,7 +135,7 @@ module _ (cs : List Coded) (old : List Held) (start : List Plane) (sizes : sizes
   pub planes-next : (planes : List Plane) (slot : ℕ) (c : Coded) (v : Held) (p q : Plane)
       → slot < length cs → c ≡ get_or cs slot c → v ≡ get_or old slot v → plane_lists planes
       ≡ patched slot all (plane_lists start) → p ≡ get_or planes slot p → q.items ≡ p.items
-      ++ samples_of (down_in c) (coding_in c) (map to_block v.blocks.items) → IsFull v
+      ++ samples_of (down_in (coding_in c)) (coding_in c) (map to_block v.blocks.items) → IsFull v
       → plane_lists (set planes slot q) ≡ patched (slot + 1) all (plane_lists start)
   planes-next planes slot c v p q h is kept inv at new full =
       let inside : slot < length (map coding_in cs) = omega (arith, length-map cs coding_in) in

@@ -7,11 +7,11 @@ use Rattle.std.proofs.lemmas.Nat.{le-div}
 use Rattle.std.proofs.lemmas.Option.{slice_get-map, slice_get_read}
 use Rattle.std.proofs.Math.Nat.{div-zero, min-eq_left}
 use Rattle.jpeg_segments.specs.Frame.{Component, Frame, most_down}
-use Rattle.jpeg_segments.specs.FrameView.{component_in}
 use Rattle.jpeg_segments.proofs.FrameLemmas.{greatest-some}
 use Rattle.jpeg_streams.specs.WholeRows.{rows_above_line, rows_of_lines}
 use Rattle.jpeg_decoder.specs.declared.scan.coded.Coded.{Coded}
-use Rattle.jpeg_decoder.specs.Scanning.{components_in}
+use Rattle.jpeg_streams.specs.ScanSegments.{Coding, components_of}
+use Rattle.jpeg_decoder.specs.Steps.{coding_in}
 
 -- A number of lines that is cut off makes as many rows as the height, where that is small enough.
 cut-off : (x m g f h : ℕ) → 1 ≤ g → 0 < f → h * f ≤ m → m < x → min h (min x m * g / f) ≡ min h (x * g / f)
@@ -57,11 +57,11 @@ above-line frame (a ∷ b ∷ more) c line n alone others =
     ap (λ (n : ℕ). rows_of_lines frame c (n * c.scale)) (others (ne_eqb (length (a ∷ b ∷ more)) 1 (omega arith)))
 
 -- the component of a slot
-pub slot-component : (cs seen : List Coded) (slot : ℕ) (c : Coded) → seen ≡ cs → slot < length seen
-    → c ≡ get_or seen slot c
-    → slice_get (components_in cs) slot ≡ Some (component_in c.component.now)
-slot-component cs seen slot c same within is =
-    let view = λ (c : Coded). component_in c.component.now in
-    sym (ap (λ (l : List Coded). slice_get (components_in l) slot) same)
-    ∙ slice_get-map view seen slot
-    ∙ ap (λ (o : _). option_map view o) (slice_get_read seen (length seen) slot c refl within is)
+pub slot-component : (codings : List Coding) (seen : List Coded) (slot : ℕ) (c : Coded) → map coding_in seen ≡ codings
+    → slot < length seen → c ≡ get_or seen slot c → slice_get (components_of codings) slot ≡ Some (coding_in c).component
+slot-component codings seen slot c same within is =
+    sym (ap (λ (l : List Coding). slice_get (components_of l) slot) same)
+    ∙ slice_get-map (λ (c : Coding). c.component) (map coding_in seen) slot
+    ∙ ap (option_map (λ (c : Coding). c.component)) (slice_get-map coding_in seen slot)
+    ∙ ap (λ (o : _). option_map (λ (c : Coding). c.component) (option_map coding_in o))
+    (slice_get_read seen (length seen) slot c refl within is)

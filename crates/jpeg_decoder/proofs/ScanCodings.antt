@@ -1,18 +1,17 @@
 -- The codings of a scan, slot after slot.
 use Rattle.std.proofs.Common.{◌≡◌, ◌<◌, ◌≤◌, ◌+◌, ℕ, List, [], ◌∷◌, ◌++◌, Result, Ok, Err, refl}
-use Rattle.std.proofs.Common.{length, get_or, map, drop, arith, rules}
+use Rattle.std.proofs.Common.{length, get_or, drop, arith, rules}
 use Rattle.std.specs.Prelude.{zip}
-use Rattle.std.proofs.lemmas.List.{map-append, append-nil, append_assoc, drop_all, drop_more}
+use Rattle.std.proofs.lemmas.List.{append-nil, append_assoc, drop_all, drop_more}
 use Rattle.std.proofs.lemmas.Slice.Zip.{get_or-zip, length-zip}
 use Rattle.jpeg_bits.specs.Reading.{Fault, ◌>>=◌}
 use Rattle.jpeg_segments.specs.Frame.{Frame}
 use Rattle.jpeg_segments.specs.Checks.{gathered}
-use Rattle.jpeg_segments.specs.ScanHeader.{Scan}
-use Rattle.jpeg_decoder.specs.declared.scan.coded.Coded.{Coded}
+use Rattle.jpeg_segments.specs.ScanHeader.{IsScanOf, Scan}
 use Rattle.jpeg_streams.specs.ScanSegments.{codings_of, component_coding, Coding, tables_of}
 use Rattle.jpeg_streams.specs.ScanSegments.{pass_of}
 use Rattle.jpeg_streams.specs.Found.{Said}
-use Rattle.jpeg_decoder.specs.Steps.{coding_in, coding_in_slot}
+use Rattle.jpeg_decoder.specs.Steps.{coding_in_slot}
 use Rattle.std.proofs.lemmas.Grind.{common_steps}
 
 -- codings after those in front
@@ -49,25 +48,35 @@ one-more said frame scan slot h d a =
     rw (drop_more {X = ℕ × (ℕ × ℕ)} (named scan) slot (0, (0, 0)) all, at) refl
 
 -- a slot more
-pub codings-more : (said : Said) (frame : Frame) (scan : Scan) (slot : ℕ) (xs : List Coded)
-    (c : Coded) → slot < length scan.components → length scan.dc_destinations
-    ≡ length scan.components → length scan.ac_destinations ≡ length scan.components
-    → codings_of said frame scan ≡ front (map coding_in xs) (codings_left said frame scan slot)
-    → coding_in_slot said frame scan slot ≡ Ok (coding_in c) → codings_of said frame scan
-    ≡ front (map coding_in (xs ++ c ∷ [])) (codings_left said frame scan (slot + 1))
-codings-more said frame scan slot xs c h d a w e = grind (arith, common_steps, one-more, append_assoc, map-append)
+pub codings-more : (said : Said) (frame : Frame) (scan : Scan) (slot : ℕ) (xs : List Coding)
+    (c : Coding) → slot < length scan.components → IsScanOf frame scan
+    → codings_of said frame scan ≡ front xs (codings_left said frame scan slot)
+    → coding_in_slot said frame scan slot ≡ Ok c → codings_of said frame scan
+    ≡ front (xs ++ c ∷ []) (codings_left said frame scan (slot + 1))
+codings-more said frame scan slot xs c h legal w e =
+    grind (arith, common_steps, one-more, append_assoc, legal.dc_length, legal.ac_length)
+
+-- before the first slot
+pub codings-none : (said : Said) (frame : Frame) (scan : Scan)
+    → codings_of said frame scan ≡ front [] (codings_left said frame scan 0)
+unfolding codings_of
+codings-none said frame scan = alone (codings_left said frame scan 0)
+  where
+    alone : (o : Result (List Coding) Fault) → o ≡ front [] o
+    alone (Ok ys) = refl
+    alone (Err f) = refl
 
 -- a slot that is refused
-pub codings-fail : (said : Said) (frame : Frame) (scan : Scan) (slot : ℕ) (xs : List Coded)
-    (f : Fault) → slot < length scan.components → length scan.dc_destinations
-    ≡ length scan.components → length scan.ac_destinations ≡ length scan.components
-    → codings_of said frame scan ≡ front (map coding_in xs) (codings_left said frame scan slot)
+pub codings-fail : (said : Said) (frame : Frame) (scan : Scan) (slot : ℕ) (xs : List Coding)
+    (f : Fault) → slot < length scan.components → IsScanOf frame scan
+    → codings_of said frame scan ≡ front xs (codings_left said frame scan slot)
     → coding_in_slot said frame scan slot ≡ Err f → codings_of said frame scan ≡ Err f
-codings-fail said frame scan slot xs f h d a w e = grind (arith, common_steps, one-more)
+codings-fail said frame scan slot xs f h legal w e =
+    grind (arith, common_steps, one-more, legal.dc_length, legal.ac_length)
 
 -- all slots
-pub codings-all : (said : Said) (frame : Frame) (scan : Scan) (slot : ℕ) (xs : List Coded)
-    → length scan.components ≤ slot → codings_of said frame scan ≡ front (map coding_in xs)
-    (codings_left said frame scan slot) → codings_of said frame scan ≡ Ok (map coding_in xs)
+pub codings-all : (said : Said) (frame : Frame) (scan : Scan) (slot : ℕ) (xs : List Coding)
+    → length scan.components ≤ slot → codings_of said frame scan ≡ front xs
+    (codings_left said frame scan slot) → codings_of said frame scan ≡ Ok xs
 unfolding gathered
 codings-all said frame scan slot xs h w = grind (arith, common_steps, length-zip, drop_all, append-nil)

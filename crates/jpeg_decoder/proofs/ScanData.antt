@@ -1,5 +1,5 @@
 -- The data of a scan, of what is read of its blocks, and the planes that it decides.
-use Rattle.std.proofs.Common.{◌≡◌, ◌<◌, Bool, ℕ, zero, suc, ◌+◌, ◌*◌, true, false, Option, None, Result}
+use Rattle.std.proofs.Common.{◌≡◌, ◌<◌, Bool, ℕ, zero, suc, ◌*◌, true, false, Option, None, Result}
 use Rattle.std.proofs.Common.{Ok, Err, List, [], ◌∷◌, refl, sym, ap, subst, ◌∙◌, length, get_or}
 use Rattle.std.proofs.Common.{set, map, drop, arith, rules}
 use Rattle.std.proofs.Math.Logic.{inl, inr}
@@ -18,7 +18,7 @@ use Rattle.jpeg_decoder.specs.declared.scan.decoded.Decoded.{Decoded}
 use Rattle.jpeg_streams.specs.InTurn.{AreApart, AreArrays, IsIn}
 use Rattle.jpeg_streams.specs.Order.{spots_of, mcu_size}
 use Rattle.jpeg_streams.specs.Scans.{Arrays, zero_arrays, arrays_at}
-use Rattle.jpeg_decoder.specs.Scanning.{vias_in, arrays_in, sizes_of, components_in}
+use Rattle.jpeg_decoder.specs.Scanning.{arrays_in, sizes_of}
 use Rattle.jpeg_decoder.specs.PlanesView.{planes_in}
 use Rattle.jpeg_streams.specs.Sound.{IsPlaneOf, ArePlanes}
 use Rattle.jpeg_decoder.specs.Steps.{blocks_at, blocks_before, coding_in, decided_planes, scan_data}
@@ -33,18 +33,12 @@ use Rattle.jpeg_decoder.specs.Strips.{planes_by, planes_at}
 use Rattle.jpeg_streams.proofs.Apart.{At, zeros-sized, get-at}
 use Rattle.jpeg_streams.proofs.BroughtLevels.{sequential-arrays}
 use Rattle.jpeg_decoder.proofs.BlocksBefore.{plane_by-length}
-use Rattle.jpeg_decoder.proofs.PlacedCodings.{coded-components}
 use Rattle.jpeg_decoder.proofs.BlockArrays.{Held}
 use Rattle.jpeg_decoder.proofs.PutLoops.{blocks-are}
 use Rattle.jpeg_streams.proofs.McuRows.{IsOf, zeros-of}
 use Rattle.std.proofs.lemmas.Grind.{common_steps}
 
 -- ---- the scan's components
-
-pub vias-same : (slot : ℕ) (cs : List Coded) → vias_from slot (map coding_in cs) ≡ vias_in slot cs
-unfolding vias_from vias_in
-vias-same slot [] = refl
-vias-same slot (c ∷ cs) = grind (arith, common_steps, vias-same (slot + 1) cs)
 
 pub of-frame : (frame : Frame) (codings : List Coding) → AllByRecursion (IsCodingOf frame) codings
     → AllByRecursion (IsOf frame) codings
@@ -256,13 +250,6 @@ held-long [] vs a index c at = absurd at
 held-long (x ∷ components) [] a index c at = absurd a
 held-long (x ∷ components) (v ∷ vs) a zero c at = omega arith
 held-long (x ∷ components) (v ∷ vs) a (suc index) c at = let r = held-long components vs a.1 index c at in omega arith
-
--- the blocks are read as the code reads them
-pub read-as : (f : Found) (frame : Frame) (p : Pass) (cs : List Coded) (n : ℕ) (arrays : Arrays) (bytes : List ℕ)
-    → n ≡ f.said.restart
-    → read_at f frame p (map coding_in cs) arrays bytes ≡ arrays_at p (n * mcu_size (components_in cs)) (vias_in 0 cs)
-    (spots_of frame (components_in cs)) arrays bytes
-read-as f frame p cs n arrays bytes e = grind (arith, common_steps, vias-same, coded-components)
 
 -- the indices of a scan's components are indices of the arrays
 pub coded-within-kept : (frame : Frame) (cs : List Coded) (kept : List Held) (n : ℕ) → n ≡ length kept

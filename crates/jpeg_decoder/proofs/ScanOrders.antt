@@ -1,8 +1,7 @@
 -- The order of a scan is that of its blocks.
 use Rattle.std.proofs.Common.{◌≡◌, ℕ, zero, suc, ◌+◌, ◌*◌, ◌<◌, List, [], ◌∷◌, map, length, get_or}
-use Rattle.std.proofs.Common.{refl, subst, ap, ap₂, ◌∙◌, arith, add-mul, length-append, rules}
+use Rattle.std.proofs.Common.{refl, subst, ap, ap₂, ◌∙◌, arith, add-mul, length-append}
 use Rattle.std.proofs.Math.Nat.{mul_comm}
-use Rattle.std.proofs.lemmas.List.{length-map}
 use Rattle.std.proofs.lemmas.List.FromFn.{length-map-range_with_len}
 use Rattle.std.proofs.lemmas.List.Sums.{sum_by-cons}
 use Rattle.std.specs.Prelude.{sum_by}
@@ -12,10 +11,8 @@ use Rattle.jpeg_streams.specs.Order.{Spot, grid_of, mcu_size, own_spots, spots_o
 use Rattle.jpeg_streams.specs.InTurn.{Fits}
 use Rattle.jpeg_streams.specs.McuRows.{mcu_row, rows_of}
 use Rattle.jpeg_streams.proofs.CountedScans.{some-product}
-use Rattle.jpeg_segments.specs.FrameView.{component_in}
-use Rattle.jpeg_decoder.specs.declared.scan.coded.Coded.{Coded}
 use Rattle.jpeg_decoder.specs.declared.scan.order.ScanOrder.{ScanOrder}
-use Rattle.jpeg_decoder.specs.Scanning.{components_in}
+use Rattle.jpeg_streams.specs.ScanSegments.{Coding, components_of}
 use Rattle.jpeg_decoder.specs.declared.scan.spots.Member.{Member}
 use Rattle.jpeg_decoder.specs.Walk.{IsOrderOf, walks_of_rows, spots_at, raster, members_from}
 use Rattle.jpeg_decoder.specs.Walk.{line_members, own_member}
@@ -50,13 +47,6 @@ several-order frame (c ∷ d ∷ more) n o h fits members wide high lines rows i
     grind (arith, common_steps, length-members, all_walked, sum_by-cons, some-product)
 several-order frame _ n o h fits members wide high lines rows interval = absurd (omega arith)
 
-pub several-of : (frame : Frame) (cs : List Coded) (n : ℕ) (o : ScanOrder) → 1 < length cs
-    → AllByRecursion (Fits frame) (components_in cs) → o.members.items ≡ members_from 0 (components_in cs)
-    → o.wide ≡ frame.mcus_wide → o.high ≡ frame.mcus_high → o.lines ≡ 1 → o.rows ≡ frame.mcus_high
-    → o.interval ≡ n * length o.members.items → IsOrderOf frame (components_in cs) n o
-several-of frame cs n o several fits members wide high lines rows interval =
-    search (rules, length-map, several-order)
-
 -- ---- a component that is alone
 
 pub alone-order : (frame : Frame) (c : Component) (n : ℕ) (o : ScanOrder)
@@ -77,15 +67,15 @@ alone-order frame c n o members wide high lines rows interval =
       each = grind (arith, common_steps);
     }
 
-pub alone-of : (frame : Frame) (cs : List Coded) (c : Coded) (n : ℕ) (o : ScanOrder) → length cs ≡ 1
-    → c ≡ get_or cs 0 c → o.members.items ≡ own_member (grid_of (component_in c.component.now)) ∷ []
-    → o.wide ≡ (grid_of (component_in c.component.now)).own_wide
-    → o.high ≡ (grid_of (component_in c.component.now)).own_high
-    → o.lines ≡ (component_in c.component.now).factors.vertical → o.rows ≡ frame.mcus_high → o.interval ≡ n
-    → IsOrderOf frame (components_in cs) n o
+pub alone-of : (frame : Frame) (cs : List Coding) (c : Component) (n : ℕ) (o : ScanOrder) → length cs ≡ 1
+    → c ≡ get_or (components_of cs) 0 c → o.members.items ≡ own_member (grid_of c) ∷ []
+    → o.wide ≡ (grid_of c).own_wide
+    → o.high ≡ (grid_of c).own_high
+    → o.lines ≡ c.factors.vertical → o.rows ≡ frame.mcus_high → o.interval ≡ n
+    → IsOrderOf frame (components_of cs) n o
 alone-of frame (x ∷ []) c n o one is members wide high lines rows interval =
-    subst (λ (y : Coded). IsOrderOf frame (component_in y.component.now ∷ []) n o) is
-    (alone-order frame (component_in c.component.now) n o members wide high lines rows interval)
+    subst (λ (y : Component). IsOrderOf frame (y ∷ []) n o) is
+    (alone-order frame c n o members wide high lines rows interval)
 alone-of frame _ c n o one is members wide high lines rows interval = absurd (omega arith)
 
 -- ---- the rows

@@ -1,5 +1,5 @@
 -- A sequential scan after its rows of MCUs: what was read, and the refusals.
-use Rattle.std.proofs.Common.{rules, ◌≡◌, ℕ, ◌≤◌, List, [], ◌∷◌, map, length, Option, Result, Ok}
+use Rattle.std.proofs.Common.{rules, ◌≡◌, ℕ, ◌≤◌, List, [], ◌∷◌, length, Option, Result, Ok}
 use Rattle.std.proofs.Common.{Err, arith}
 use Rattle.std.specs.List.{AllByRecursion}
 use Rattle.jpeg_bits.specs.Stream.{Stream}
@@ -10,17 +10,13 @@ use Rattle.jpeg_bits.specs.declared.error.Error.{Error}
 use Rattle.jpeg_bits.specs.declared.marker.Marker.{Marker}
 use Rattle.jpeg_bits.specs.Passes.{Pass, Via}
 use Rattle.jpeg_segments.specs.Frame.{Frame}
-use Rattle.jpeg_decoder.specs.declared.scan.coded.Coded.{Coded}
 use Rattle.jpeg_streams.specs.InTurn.{Fits, counted_at_start}
-use Rattle.jpeg_decoder.specs.Scanning.{components_in}
-use Rattle.jpeg_decoder.specs.Steps.{coding_in}
-use Rattle.jpeg_streams.specs.ScanSegments.{Coding}
+use Rattle.jpeg_streams.specs.ScanSegments.{Coding, components_of}
 use Rattle.jpeg_decoder.specs.Strips.{no_samples, strips_from, planes_at, planes_by_rows}
 use Rattle.jpeg_decoder.proofs.ByStrips.{planes-by-rows}
 use Rattle.jpeg_decoder.specs.declared.scan.order.ScanOrder.{ScanOrder}
 use Rattle.jpeg_decoder.specs.Walk.{IsOrderOf, walks_of_rows}
 use Rattle.jpeg_decoder.proofs.ScanOrders.{rows-walked}
-use Rattle.jpeg_decoder.proofs.PlacedCodings.{coded-components}
 use Rattle.std.proofs.lemmas.Grind.{common_steps}
 
 abbrev pub Planes : Type 0
@@ -33,11 +29,8 @@ unfoldable pub ended : Result (Planes × Text) Fault → Outcome (Planes × Opti
 ended o = reading.◌>>=◌ o (λ (r : Planes × Text). marked r.0 (marker_from r.1))
 
 -- A scan of these components of a frame in this order, after the planes in `start`.
-module _ (frame : Frame) (cs : List Coded) (p : Pass) (vias : List Via) (n : ℕ) (o : ScanOrder)
-    (is : IsOrderOf frame (components_in cs) n o) (start : Planes) (old : Stream) where
-  abbrev codings : List Coding
-  codings = map coding_in cs
-
+module _ (frame : Frame) (codings : List Coding) (p : Pass) (vias : List Via) (n : ℕ) (o : ScanOrder)
+    (is : IsOrderOf frame (components_of codings) n o) (start : Planes) (old : Stream) where
   abbrev by_rows : List ℕ → Outcome (Planes × Option Marker)
   by_rows = planes_by_rows p vias n frame codings start
 
@@ -46,7 +39,7 @@ module _ (frame : Frame) (cs : List Coded) (p : Pass) (vias : List Via) (n : ℕ
 
   whole-is : (bytes : List ℕ) → by_rows bytes ≡ ended (whole (upcoming fresh bytes))
   unfolding planes_by_rows ended
-  whole-is bytes = search (rules, coded-components, rows-walked)
+  whole-is bytes = search (rules, rows-walked)
 
   -- a refusal in the rows
   pub rows-refused : {X Y : Type 0} (v : X → Planes) (view : Y → Planes
@@ -63,9 +56,8 @@ module _ (frame : Frame) (cs : List Coded) (p : Pass) (vias : List Via) (n : ℕ
   scan-ended v b cur new u (Err e) q m = search (rules, whole-is)
   scan-ended v b cur new u (Ok met) q m = search (rules, whole-is)
 
-pub scan-by-rows : (frame : Frame) (cs : List Coded) (p : Pass) (n : ℕ) (vias : List Via) (bytes : List ℕ)
-    → 1 ≤ length cs → AllByRecursion (Fits frame) (components_in cs)
-    → planes_at p n vias frame (map coding_in cs) bytes
-    ≡ planes_by_rows p vias n frame (map coding_in cs) (no_samples (map coding_in cs)) bytes
+pub scan-by-rows : (frame : Frame) (codings : List Coding) (p : Pass) (n : ℕ) (vias : List Via) (bytes : List ℕ)
+    → 1 ≤ length codings → AllByRecursion (Fits frame) (components_of codings)
+    → planes_at p n vias frame codings bytes ≡ planes_by_rows p vias n frame codings (no_samples codings) bytes
 scan-by-rows frame [] p n vias bytes h fits = absurd (omega arith)
-scan-by-rows frame (c ∷ cs) p n vias bytes h fits = grind (arith, common_steps, planes-by-rows, coded-components)
+scan-by-rows frame (c ∷ codings) p n vias bytes h fits = grind (arith, common_steps, planes-by-rows)

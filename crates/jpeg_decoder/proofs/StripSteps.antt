@@ -11,13 +11,11 @@ use Rattle.jpeg_bits.specs.Entropy.{Text}
 use Rattle.jpeg_bits.specs.Readers.{Reads, read_on}
 use Rattle.jpeg_bits.specs.Passes.{Pass, Via, Block}
 use Rattle.jpeg_segments.specs.Frame.{Frame, Component}
-use Rattle.jpeg_decoder.specs.declared.scan.coded.Coded.{Coded}
 use Rattle.jpeg_streams.specs.Order.{Spot}
 use Rattle.jpeg_streams.specs.Scans.{Arrays}
 use Rattle.jpeg_streams.specs.InTurn.{Counted, Fits, blocks_from}
 use Rattle.jpeg_streams.specs.McuRows.{zero_rows, on_arrays}
-use Rattle.jpeg_decoder.specs.Scanning.{components_in, arrays_in, sizes_of, down_in}
-use Rattle.jpeg_decoder.specs.Steps.{coding_in}
+use Rattle.jpeg_decoder.specs.Scanning.{arrays_in, sizes_of, down_in}
 use Rattle.jpeg_streams.specs.ScanSegments.{Coding, components_of}
 use Rattle.jpeg_decoder.specs.Strips.{row_sizes, strip_samples, samples_of, zeros_of, with_strips}
 use Rattle.jpeg_decoder.specs.Strips.{strips_from}
@@ -80,7 +78,7 @@ pub strips_none : (p : Pass) (vias : List Via) (n : ℕ) (codings : List Coding)
 unfolding strips_from
 strips_none p vias n codings f k high planes old t h = grind (arith, common_steps)
 
-pub zeros-are : (cs : List Coded) → zeros_of (row_sizes cs) ≡ zero_rows 1 (components_of (map coding_in cs))
+pub zeros-are : (cs : List Coding) → zeros_of (row_sizes cs) ≡ zero_rows 1 (components_of cs)
 unfolding zero_rows
 zeros-are [] = refl
 zeros-are (c ∷ cs) = grind (arith, common_steps, zeros-are cs)
@@ -99,20 +97,20 @@ one-row-more a s r d = grind (arith, common_steps, add-mul, mul-add)
 abbrev pub lengths : List (List ℕ) → List ℕ
 lengths planes = map (λ (l : List ℕ). length l) planes
 
-pub lengths-none : (cs : List Coded) (planes : List (List ℕ)) → planes ≡ map (λ (c : Coding). []) (map coding_in cs)
-    → lengths planes ≡ map (λ (c : Coded). strip_samples (0 * down_in c) c) cs
+pub lengths-none : (cs : List Coding) (planes : List (List ℕ)) → planes ≡ map (λ (c : Coding). []) cs
+    → lengths planes ≡ map (λ (c : Coding). strip_samples (0 * down_in c) c) cs
 lengths-none cs planes e = ap lengths e ∙ go cs
   where
-    go : (cs : List Coded) → lengths (map (λ (c : Coding). []) (map coding_in cs))
-        ≡ map (λ (c : Coded). strip_samples (0 * down_in c) c) cs
+    go : (cs : List Coding) → lengths (map (λ (c : Coding). []) cs)
+        ≡ map (λ (c : Coding). strip_samples (0 * down_in c) c) cs
     go [] = refl
     go (c ∷ cs) = grind (arith, common_steps, go cs)
 
-pub lengths-next : (cs : List Coded) (arrays : Arrays) (planes : List (List ℕ)) (row : ℕ)
-    → length arrays ≡ length (map coding_in cs)
-    → lengths planes ≡ map (λ (c : Coded). strip_samples (row * down_in c) c) cs
-    → lengths (with_strips (map coding_in cs) arrays planes)
-    ≡ map (λ (c : Coded). strip_samples ((row + 1) * down_in c) c) cs
+pub lengths-next : (cs : List Coding) (arrays : Arrays) (planes : List (List ℕ)) (row : ℕ)
+    → length arrays ≡ length cs
+    → lengths planes ≡ map (λ (c : Coding). strip_samples (row * down_in c) c) cs
+    → lengths (with_strips cs arrays planes)
+    ≡ map (λ (c : Coding). strip_samples ((row + 1) * down_in c) c) cs
 unfolding with_strips
 lengths-next [] [] [] row e h = refl
 lengths-next (c ∷ cs) (a ∷ arrays) (p ∷ planes) row e h =
@@ -121,13 +119,13 @@ lengths-next (c ∷ cs) (a ∷ arrays) (p ∷ planes) row e h =
     grind (arith, common_steps, length-append, length-samples, one-row-more, more)
 lengths-next _ _ _ row e h = absurd (let n = ap (λ (l : List ℕ). length l) h in omega arith)
 
-pub row-count : (cs : List Coded) (vs : List Held) → sizes_of vs ≡ row_sizes cs
-    → length (arrays_in vs) ≡ length (map coding_in cs)
+pub row-count : (cs : List Coding) (vs : List Held) → sizes_of vs ≡ row_sizes cs
+    → length (arrays_in vs) ≡ length cs
 row-count cs vs sizes = grind (arith, common_steps, length-map, sizes-long)
 
 -- a plane of all rows of MCUs has the samples of all blocks
-pub lengths-all : (frame : Frame) (cs : List Coded) → AllByRecursion (Fits frame) (components_in cs)
-    → map (λ (c : Coded). strip_samples (frame.mcus_high * down_in c) c) cs
-    ≡ map (λ (c : Component). c.blocks_high * c.scale * (c.blocks_wide * c.scale)) (components_in cs)
+pub lengths-all : (frame : Frame) (cs : List Coding) → AllByRecursion (Fits frame) (components_of cs)
+    → map (λ (c : Coding). strip_samples (frame.mcus_high * down_in c) c) cs
+    ≡ map (λ (c : Component). c.blocks_high * c.scale * (c.blocks_wide * c.scale)) (components_of cs)
 lengths-all frame [] fits = refl
 lengths-all frame (c ∷ cs) fits = grind (arith, common_steps, mul_comm, lengths-all frame cs fits.1)

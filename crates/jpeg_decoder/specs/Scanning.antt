@@ -1,8 +1,8 @@
 -- What a caller sees of a scan, of what is kept of it, and of the state of an interval.
-use Rattle.std.specs.Prelude.{◌≡◌, ◌<◌, ℕ, ◌+◌, ◌-◌, List, [], ◌∷◌, ◌++◌, map, length, get_or}
-use Rattle.std.specs.Prelude.{replicate, Bool, true, false, ℤ, pos}
+use Rattle.std.specs.Prelude.{◌≡◌, ◌<◌, ℕ, ◌+◌, ◌-◌, List, ◌++◌, map, length, get_or}
+use Rattle.std.specs.Prelude.{replicate, Bool, true, false, ℤ, pos, All}
+use Rattle.jpeg_bits.specs.Codes.{Table}
 use Rattle.jpeg_segments.specs.Frame.{Component}
-use Rattle.jpeg_segments.specs.FrameView.{component_in}
 use Rattle.jpeg_bits.specs.Passes.{Pass, Via, Block, zero_block}
 use Rattle.jpeg_streams.specs.Scans.{Arrays}
 use Rattle.jpeg_streams.specs.InTurn.{Reached, Counted}
@@ -10,30 +10,40 @@ use Rattle.jpeg_streams.specs.McuRows.{on_arrays}
 use Rattle.jpeg_bits.specs.Readers.{Reads, ◌>>=◌, gives}
 use Rattle.jpeg_bits.specs.Skips.{dc_alone}
 use Rattle.jpeg_decoder.specs.declared.scan.block_array.BlockArray.{BlockArray}
-use Rattle.jpeg_decoder.specs.declared.scan.coded.Coded.{Coded}
 use Rattle.jpeg_decoder.specs.declared.scan.blocks.Interval.{Interval}
-use Rattle.jpeg_decoder.specs.declared.scan.coded.Scan.{Scan}
 use Rattle.jpeg_streams.specs.Order.{Spot}
-use Rattle.jpeg_bits.specs.BlockView.{to_block, pass_in}
+use Rattle.jpeg_bits.specs.BlockView.{IsPass, to_block}
+use Rattle.jpeg_streams.specs.ScanSegments.{Coding, components_of, vias_from}
 
--- the ways of a scan's slots, from one on
-unfoldable pub vias_in : ℕ → List Coded → List Via
-vias_in slot [] = []
-vias_in slot (c ∷ more) = record { component = slot; dc = c.dc.now; ac = c.ac.now } ∷ vias_in
-    (slot + 1) more
+-- A scan of blocks, as it is read: what it codes, how many MCUs a restart interval has, its
+-- components with their tables, and whether the AC coefficients of its blocks are kept.
+pub record BlockScan : Type 0 where
+  pub pass : Pass
+  pub restart_interval : ℕ
+  pub codings : List Coding
+  pub keeps_ac : Bool
 
-abbrev pub components_in : List Coded → List Component
-components_in cs = map (λ c. component_in c.component.now) cs
+abbrev pub block_scan : Pass → ℕ → List Coding → Bool → BlockScan
+block_scan p n codings keeps =
+    record { pass = p; restart_interval = n; codings = codings; keeps_ac = keeps }
 
--- what a scan codes, and the ways and the components of its slots
-abbrev pub scan_pass : Scan → Pass
-scan_pass s = pass_in s.pass
+-- It codes what a pass may. Where it doesn't keep the AC coefficients, it is a first pass, and a
+-- block gives one sample, which is of DC alone.
+pub record IsBlockScan (s : BlockScan) : Type 0 where
+  pub legal : IsPass s.pass
+  pub dc_alone : s.keeps_ac ≡ false → (s.pass.is_first ≡ true)
+      × All (λ c. c.component.scale ≡ 1) s.codings
 
-abbrev pub scan_vias : Scan → List Via
-scan_vias s = vias_in 0 s.components.items
+-- the way of the component in a slot, by its tables
+abbrev pub via_by : ℕ → Table → Table → Via
+via_by slot dc ac = record { component = slot; dc = dc; ac = ac }
 
-abbrev pub scan_components : Scan → List Component
-scan_components s = components_in s.components.items
+-- the ways and the components of its slots
+abbrev pub scan_vias : BlockScan → List Via
+scan_vias s = vias_from 0 s.codings
+
+abbrev pub scan_components : BlockScan → List Component
+scan_components s = components_of s.codings
 
 -- the blocks of a component: those that are stored, and zeros
 unfoldable pub blocks_in : BlockArray → List Block
@@ -93,8 +103,8 @@ pub record IsSpotOf (slots : ℕ) (sizes : List ℕ) (s : Spot) : Type 0 where
 
 -- ---- how many blocks a component has in a line, and how many lines in an MCU
 
-abbrev pub wide_in : Coded → ℕ
-wide_in c = c.component.now.block_size.width
+abbrev pub wide_in : Coding → ℕ
+wide_in c = c.component.blocks_wide
 
-abbrev pub down_in : Coded → ℕ
-down_in c = c.component.now.vertical_sampling_factor
+abbrev pub down_in : Coding → ℕ
+down_in c = c.component.factors.vertical

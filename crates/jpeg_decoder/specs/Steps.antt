@@ -1,6 +1,6 @@
 -- What the decoder's own clauses need beside the meaning of a stream: what a caller sees after a
 -- segment, the marker after a scan, and the components of a scan with their tables.
-use Rattle.std.specs.Prelude.{◌≡◌, ◌<◌, ◌≤◌, All, ℕ, suc, ◌&&◌, not, is_some, slice_set, ◌*◌}
+use Rattle.std.specs.Prelude.{◌≡◌, ◌<◌, ◌≤◌, ℕ, suc, ◌&&◌, not, is_some, slice_set, ◌*◌}
 use Rattle.std.specs.Prelude.{◌/◌, min, List, [], ◌∷◌, map, set, length, replicate, get_or, Bool}
 use Rattle.std.specs.Prelude.{true, false, Option, slice_get, slice_index_or, Some, None, Result}
 use Rattle.std.specs.Prelude.{Ok, if◌then◌else◌, IfOk, MatchResult, OnErr, OnOk}
@@ -16,15 +16,13 @@ use Rattle.jpeg_segments.specs.Frame.{AllHaveSampling, Frame, Component}
 use Rattle.jpeg_pixels.specs.Planes.{cropped}
 use Rattle.jpeg_segments.specs.Scales.{is_scale}
 use Rattle.jpeg_streams.specs.Scans.{Arrays, arrays_at, no_table, zero_arrays}
-use Rattle.jpeg_decoder.specs.Scanning.{arrays_in, components_in}
+use Rattle.jpeg_decoder.specs.Scanning.{arrays_in, scan_components, BlockScan}
 use Rattle.jpeg_streams.specs.Order.{spots_of, mcu_size}
 use Rattle.jpeg_decoder.specs.declared.scan.decoded.Decoded.{Decoded}
-use Rattle.jpeg_bits.specs.BlockView.{pass_in}
 use Rattle.jpeg_bits.specs.Passes.{Pass, whole_pass}
 use Rattle.std.specs.List.{list_all, AllByRecursion}
 use Rattle.jpeg_segments.specs.FrameView.{component_in}
 use Rattle.jpeg_segments.specs.ScanHeader as headers
-use Rattle.jpeg_decoder.specs.declared.scan.coded.Scan.{Scan}
 use Rattle.jpeg_streams.specs.InTurn.{Fits}
 use Rattle.jpeg_decoder.specs.declared.stream.state.Step.{Step}
 use Rattle.jpeg_decoder.specs.declared.scan.coded.Coded.{Coded}
@@ -190,10 +188,6 @@ scan_data found frame p codings bytes = do
     r.1,
   )
 
--- the index of a component in its frame
-abbrev pub HasIndex : Coded → Type 0
-HasIndex c = c.index < 4
-
 -- each index is above the one before
 abbrev pub AreRising : List Coding → Type 0
 AreRising [] = Unit {0}
@@ -205,29 +199,28 @@ abbrev pub IsCodingOf : Frame → Coding → Type 0
 IsCodingOf frame c = slice_get frame.components c.index ≡ Some c.component
 
 -- What was found before a scan: whether another was read, and the restart interval in force.
-pub record IsBefore (was : Bool) (scan : Scan) (found : Found) : Type 0 where
+pub record IsBefore (was : Bool) (scan : BlockScan) (found : Found) : Type 0 where
   pub scanned : found.said.scanned ≡ was
   pub restart : scan.restart_interval ≡ found.said.restart
 
 -- What a scan of a frame needs to be read.
-pub record IsReadable (frame : Frame) (scan : Scan) : Type 0 where
-  pub some : 1 ≤ length scan.components.items
-  pub indices : All HasIndex scan.components.items
-  pub fits : AllByRecursion (Fits frame) (components_in scan.components.items)
-  pub of_frame : AllByRecursion (IsCodingOf frame) (map coding_in scan.components.items)
-  pub rising : AreRising (map coding_in scan.components.items)
+pub record IsReadable (frame : Frame) (scan : BlockScan) : Type 0 where
+  pub some : 1 ≤ length scan.codings
+  pub fits : AllByRecursion (Fits frame) (scan_components scan)
+  pub of_frame : AllByRecursion (IsCodingOf frame) scan.codings
+  pub rising : AreRising scan.codings
   pub sampling : AllHaveSampling frame.components
 
 -- the components of a scan are those of the frame in their order
-abbrev pub IsInOrder : List Coded → Type 0
-IsInOrder codings = (slot : ℕ) (d : Coded) → slot < length codings
+abbrev pub IsInOrder : List Coding → Type 0
+IsInOrder codings = (slot : ℕ) (d : Coding) → slot < length codings
     → (get_or codings slot d).index ≡ slot
 
 -- No plane is decided, and a scan codes all coefficients of the components of its frame.
-pub record IsFirst (planes : List (Option (List ℕ))) (scan : Scan) : Type 0 where
+pub record IsFirst (planes : List (Option (List ℕ))) (scan : BlockScan) : Type 0 where
   pub none : planes ≡ replicate 4 None
-  pub whole : pass_in scan.pass ≡ whole_pass
-  pub in_order : IsInOrder scan.components.items
+  pub whole : scan.pass ≡ whole_pass
+  pub in_order : IsInOrder scan.codings
 
 -- those of the frame that are left
 unfoldable pub without_blocks : List Coding → Arrays → Arrays

@@ -18,7 +18,6 @@ use Rattle.jpeg_streams.specs.Rasters.{in_raster, plane_by}
 use Rattle.jpeg_streams.specs.InTurn.{Counted, blocks_from, counted_at_start}
 use Rattle.jpeg_streams.specs.McuRows.{zero_rows, rows_of, on_arrays}
 use Rattle.jpeg_streams.specs.ScanSegments.{components_of, Coding}
-use Rattle.jpeg_decoder.specs.declared.scan.coded.Coded.{Coded}
 use Rattle.jpeg_decoder.specs.Scanning.{down_in, wide_in}
 
 -- the planes of a scan's components by their blocks
@@ -77,8 +76,8 @@ planes_by_rows p vias n frame codings start bytes =
     reading.◌>>=◌ (marker_from r.1) (λ m. Ok ((r.0, m.0), m.1)))
 
 -- the quantization tables of a scan's components, in block order
-abbrev pub tables_of : List Coded → List (List ℕ)
-tables_of cs = map (λ c. values_in_block_order c.quantization.now) cs
+abbrev pub tables_of : List Coding → List (List ℕ)
+tables_of codings = map (λ c. values_in_block_order c.quantization) codings
 
 -- a plane without samples for each component
 abbrev pub no_samples : List Coding → List (List ℕ)
@@ -90,13 +89,13 @@ abbrev pub plane_lists : List (Vec ℕ Global) → List (List ℕ)
 plane_lists planes = map (λ v. v.items) planes
 
 -- how many blocks each component has in a row of MCUs
-abbrev pub row_sizes : List Coded → List ℕ
-row_sizes cs = map (λ c. down_in c * wide_in c) cs
+abbrev pub row_sizes : List Coding → List ℕ
+row_sizes codings = map (λ c. down_in c * wide_in c) codings
 
 -- blocks of zeros, by their number for each component
 abbrev pub zeros_of : List ℕ → Arrays
 zeros_of sizes = map (λ n. replicate n zero_block) sizes
 
 -- the number of samples of a component's blocks that are `high` blocks high
-abbrev pub strip_samples : ℕ → Coded → ℕ
-strip_samples high c = c.component.now.dct_scale * wide_in c * (c.component.now.dct_scale * high)
+abbrev pub strip_samples : ℕ → Coding → ℕ
+strip_samples high c = c.component.scale * wide_in c * (c.component.scale * high)

@@ -8,7 +8,7 @@ ghost use Rattle.jpeg_bits.specs.Passes.{predictors_at_start};
 ghost use Rattle.jpeg_streams.specs.InTurn.{begun_from, blocks_from};
 ghost use Rattle.jpeg_streams.specs.Scans.{Arrays};
 ghost use Rattle.jpeg_decoder.specs.Scanning.{IsKeptBlock, IsSpotOf, IsStored};
-ghost use Rattle.jpeg_decoder.specs.Scanning.{scan_pass, scan_vias};
+ghost use Rattle.jpeg_decoder.specs.Scanning.{scan_vias};
 ghost use Rattle.jpeg_decoder.specs.Scanning.{arrays_in, sizes_of, reached, counted};
 ghost use Rattle.jpeg_decoder.specs.Scanning.{kept_blocks, kept_counted};
 
@@ -16,7 +16,7 @@ use crate::scan::block_array::BlockArray;
 use crate::scan::coded::Scan;
 use crate::scan::restarts::read_restart;
 use crate::scan::spots::{Spot, Spots};
-use jpeg_bits::blocks::{BlockCoding, Carried, take_block};
+use jpeg_bits::blocks::{Carried, take_block};
 use jpeg_bits::error::{Error, Result, take_refusal};
 use jpeg_bits::huffman::HuffmanDecoder;
 use jpeg_bits::source::Source;
@@ -115,12 +115,12 @@ pub fn read_spots<R: Read + Drop>(
     n: u64,
     spots: &mut Spots<'_>,
 ) -> Result<()>
-    requires spots { AllByRecursion (IsSpotOf (length scan.now.components.items)
+    requires spots { AllByRecursion (IsSpotOf (length scan.now.codings)
         (sizes_of arrays.now.items)) spots.old }
     ensures sizes { sizes_of arrays.new.items ≡ sizes_of arrays.old.items }
     ensures blocks { Takes (λ _. kept_counted scan.now.keeps_ac
         (counted interval.new (arrays_in arrays.new.items)))
-        (kept_blocks scan.now.keeps_ac (blocks_from (scan_pass scan.now) (scan_vias scan.now) n
+        (kept_blocks scan.now.keeps_ac (blocks_from scan.now.pass (scan_vias scan.now) n
         spots.old (counted interval.old (arrays_in arrays.old.items))))
         interval.old.decoder source.old result interval.new.decoder source.new }
 {
@@ -129,14 +129,7 @@ pub fn read_spots<R: Read + Drop>(
         if !begin(interval, source, n) {
             return Err(take_refusal(&mut interval.refusal));
         }
-        let coded = &scan.components[spot.slot];
-        let coding = BlockCoding {
-            pass: scan.pass,
-            slot: spot.slot,
-            dc_table: coded.dc,
-            ac_table: coded.ac,
-            keeps_ac: scan.keeps_ac,
-        };
+        let coding = scan.coding(spot.slot);
         if !take_block(
             &mut interval.decoder,
             source,

@@ -1,5 +1,5 @@
 //! The components of a scan, and the tables that they are coded by (T.81, B.2.3).
-ghost use Rattle.std.specs.Prelude.{◌≡◌, ◌<◌, ◌≤◌, ◌==◌, IfOk, IfErr, length, map, nat_lt};
+ghost use Rattle.std.specs.Prelude.{◌≡◌, ◌<◌, ◌≤◌, ◌==◌, IfOk, IfErr, length, nat_lt};
 ghost use Rattle.std.specs.List.{AllByRecursion};
 ghost use Rattle.std.specs.Option.{option_copied};
 ghost use Rattle.jpeg_bits.specs.BlockView.{pass_in};
@@ -13,7 +13,7 @@ ghost use Rattle.jpeg_decoder.specs.Steps.{coding_in_slot, default_dc, default_a
 ghost use Rattle.jpeg_decoder.specs.Steps.{HasScale, table_if};
 ghost use Rattle.jpeg_streams.specs.ScanSegments.{codings_of, pass_of};
 
-use crate::scan::coded::{Coded, is_progressive};
+use crate::scan::coded::{Coded, Codings, is_progressive};
 use crate::stream::state::{Said, State};
 use crate::stream::tables::{Missing, needed, table_at};
 use jpeg_bits::blocks::Pass;
@@ -244,6 +244,7 @@ fn coding_of<'a>(
     requires slot { slot < length header.now.components }
     requires legal { IsScanOf (frame_in frame.now) header.now }
     requires scales { AllByRecursion HasScale (frame_in frame.now).components }
+    requires few { length (frame_in frame.now).components ≤ 4 }
     requires spare { IsSpareOf said.now header.now spare.now }
     ensures coding { let frame = frame_in frame.now in
         let scan = header.now in
@@ -283,18 +284,21 @@ pub fn codings_of<'a>(
     spare: &'a Spare,
     frame: &'a FrameInfo,
     header: &ScanHeader,
-) -> Result<Vec<Coded<'a>>>
+) -> Result<Codings<'a>>
     requires legal { IsScanOf (frame_in frame.now) header.now }
     requires scales { AllByRecursion HasScale (frame_in frame.now).components }
+    requires few { length (frame_in frame.now).components ≤ 4 }
     requires spare { IsSpareOf said.now header.now spare.now }
     ensures codings { let frame = frame_in frame.now in
         let scan = header.now in
-        Returns (codings_of said.now frame scan) (λ v. map coding_in v.items) result }
-    ensures count { IfOk result (λ v. length v.items ≡ length header.now.components) }
+        Returns (codings_of said.now frame scan) (λ codings. codings) result }
+    ensures count { IfOk result (λ c. length c ≡ length header.now.components) }
 {
-    let mut codings = Vec::with_capacity(alloc, header.components.len())?;
-    for slot in 0..header.components.len() {
-        codings.push(coding_of(alloc, said, spare, frame, header, slot)?)?;
+    let first = coding_of(alloc, said, spare, frame, header, 0)?;
+    let mut codings = Codings::new(first);
+    for slot in 1..header.components.len() {
+        let coded = coding_of(alloc, said, spare, frame, header, slot)?;
+        codings.push(coded);
     }
     Ok(codings)
 }

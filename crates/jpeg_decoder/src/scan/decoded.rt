@@ -8,7 +8,7 @@ ghost use Rattle.jpeg_pixels.specs.Scaled.{IsScale};
 ghost use Rattle.jpeg_segments.specs.FrameView.{component_in, frame_in};
 ghost use Rattle.jpeg_bits.specs.Reading.{Answers};
 ghost use Rattle.jpeg_streams.specs.InTurn.{AreApart};
-ghost use Rattle.jpeg_decoder.specs.Scanning.{arrays_in, blocks_in, components_in};
+ghost use Rattle.jpeg_decoder.specs.Scanning.{arrays_in, blocks_in};
 ghost use Rattle.jpeg_streams.specs.Scans.{zero_arrays, zero_of};
 ghost use Rattle.jpeg_decoder.specs.PlanesView.{planes_in};
 ghost use Rattle.jpeg_streams.specs.Rasters.{plane_by};
@@ -66,7 +66,8 @@ fn finish(pass: Pass, marks: &mut [bool; 64])
 
 /// Returns whether a scan has this many components, those of the frame in their order.
 fn are_in_order(codings: &[Coded<'_>], count: usize) -> bool
-    ensures { result ≡ true → (length codings.now ≡ count) × IsInOrder codings.now }
+    ensures { result ≡ true → (length codings.now ≡ count)
+        × IsInOrder (map coding_in codings.now) }
 {
     for slot in 0..codings.len() {
         if codings[slot].index != slot {
@@ -216,9 +217,9 @@ impl Decoded {
     ghost use Rattle.jpeg_streams.specs.InTurn.{AreArrays};
     ghost use Rattle.jpeg_streams.specs.LosslessScans.{with_samples};
     ghost use Rattle.jpeg_streams.specs.Sound.{ArePlanes};
-    ghost use Rattle.jpeg_decoder.specs.Scanning.{arrays_in, blocks_in, components_in};
+    ghost use Rattle.jpeg_decoder.specs.Scanning.{arrays_in, blocks_in, scan_components};
     ghost use Rattle.jpeg_decoder.specs.PlanesView.{planes_in};
-    ghost use Rattle.jpeg_decoder.specs.Steps.{blocks_before, coding_in, HasIndex, IsBefore};
+    ghost use Rattle.jpeg_decoder.specs.Steps.{blocks_before, coding_in, IsBefore};
     ghost use Rattle.jpeg_decoder.specs.Steps.{IsReadable, is_wanted};
     ghost use Rattle.jpeg_decoder.specs.Steps.{marks_after, scan_data, with_decoded};
     ghost use Rattle.jpeg_decoder.specs.Steps.{with_its_plane, with_planes};
@@ -315,7 +316,6 @@ impl Decoded {
         array: &BlockArray,
     ) -> std::result::Result<(), AllocError>
         requires pass { IsPass (pass_in pass) }
-        requires index { coded.now.index < 4 }
         requires blocks { let c = component_in coded.now.component.now in
             length (blocks_in array.now) ≡ c.blocks_high * c.blocks_wide }
         ensures kept { OnOk result (self.new.kept ≡ self.old.kept) }
@@ -335,18 +335,19 @@ impl Decoded {
 
     /// Adds the planes of a scan's components.
     fn add_planes(&mut self, scan: &Scan<'_>, planes: &mut Vec<Vec<u8>>, alloc: Global)
-        requires indices { All HasIndex scan.now.components.items }
-        requires count { length planes.old.items ≡ length scan.now.components.items }
+        requires count { length planes.old.items ≡ length scan.now.codings }
         ensures kept { self.new.kept ≡ self.old.kept }
         ensures samples { self.new.samples ≡ self.old.samples }
         ensures planes { (base : Found) → with_decoded base self.new
-            ≡ with_planes (pass_in scan.now.pass) (map coding_in scan.now.components.items)
+            ≡ with_planes scan.now.pass scan.now.codings
             (map (λ v. v.items) planes.old.items) (with_decoded base self.old) }
     {
+        let codings = scan.components();
         let mut slot = 0;
-        while slot < scan.components.len() {
+        while slot < codings.len() {
             let plane = std::mem::replace(&mut planes[slot], Vec::new(alloc));
-            self.add_plane(scan.pass, scan.components[slot].index, plane);
+            let coded = &codings[slot];
+            self.add_plane(scan.pass(), coded.index, plane);
             slot += 1;
         }
     }
@@ -359,27 +360,23 @@ impl Decoded {
         frame: &FrameInfo,
         scan: &Scan<'_>,
     ) -> std::result::Result<GrowingPlanes, AllocError>
-        requires fits { AllByRecursion (Fits (frame_in frame.now))
-            (components_in scan.now.components.items) }
-        requires of_frame { AllByRecursion (IsCodingOf (frame_in frame.now))
-            (map coding_in scan.now.components.items) }
+        requires fits { AllByRecursion (Fits (frame_in frame.now)) (scan_components scan.now) }
+        requires of_frame { AllByRecursion (IsCodingOf (frame_in frame.now)) scan.now.codings }
         requires sampling { AllHaveSampling (frame_in frame.now).components }
-        ensures none { IfOk result (λ planes.
-            growing_in planes ≡ no_samples (map coding_in scan.now.components.items)) }
-        ensures growing { IfOk result
-            (GrowsFor (map coding_in scan.now.components.items)) }
+        ensures none { IfOk result (λ planes. growing_in planes ≡ no_samples scan.now.codings) }
+        ensures growing { IfOk result (GrowsFor scan.now.codings) }
         ensures first { IfOk result
             (λ planes. is_joint planes ≡ true → IsFirst self.now.planes scan.now) }
     {
         let components = frame.components.as_slice();
-        let is_first = self.planes.are_none() && is_whole(scan.pass);
-        if is_first && are_in_order(&scan.components, components.len()) {
+        let is_first = self.planes.are_none() && is_whole(scan.pass());
+        if is_first && are_in_order(scan.components(), components.len()) {
             let rows = frame.mcu_size.height;
             if let Some(shape) = joint_shape(components, frame.output_size, rows) {
                 return Ok(GrowingPlanes::Joint(JointPlanes::new(alloc, shape)?));
             }
         }
-        let planes = empty_planes(alloc, &scan.components)?;
+        let planes = empty_planes(alloc, scan.components())?;
         Ok(GrowingPlanes::Own(planes))
     }
 
@@ -387,15 +384,16 @@ impl Decoded {
     fn add_joint(&mut self, scan: &Scan<'_>, joint: JointPlanes)
         requires first { IsFirst self.old.planes scan.now }
         requires full { IsFullJoint joint }
-        requires count { joint.shape.count ≡ length scan.now.components.items }
+        requires count { joint.shape.count ≡ length scan.now.codings }
         ensures kept { self.new.kept ≡ self.old.kept }
         ensures samples { self.new.samples ≡ self.old.samples }
         ensures planes { (base : Found) → with_decoded base self.new
-            ≡ with_planes (pass_in scan.now.pass) (map coding_in scan.now.components.items)
+            ≡ with_planes scan.now.pass scan.now.codings
             (joint_planes joint.shape joint.samples.items) (with_decoded base self.old) }
     {
-        for coded in &scan.components {
-            finish(scan.pass, &mut self.finished[coded.index]);
+        let codings = scan.components();
+        for coded in codings {
+            finish(scan.pass(), &mut self.finished[coded.index]);
         }
         self.planes.put_joint(joint);
     }
@@ -403,17 +401,16 @@ impl Decoded {
     /// Adds the planes of a scan of a sequential frame.
     #[tactic(auto, using(crate::proofs::JointStrips::full_rules))]
     fn add_grown(&mut self, scan: &Scan<'_>, planes: GrowingPlanes, alloc: Global)
-        requires indices { All HasIndex scan.now.components.items }
-        requires grown { GrowsFor (map coding_in scan.now.components.items) planes }
+        requires grown { GrowsFor scan.now.codings planes }
         requires sizes { map length (growing_in planes)
             ≡ map (λ c. c.blocks_high * c.scale * (c.blocks_wide * c.scale))
-            (components_in scan.now.components.items) }
+            (scan_components scan.now) }
         requires first { is_joint planes ≡ true → IsFirst self.old.planes scan.now }
         ensures kept { self.new.kept ≡ self.old.kept }
         ensures samples { self.new.samples ≡ self.old.samples }
         ensures planes { (base : Found) → with_decoded base self.new
-            ≡ with_planes (pass_in scan.now.pass) (map coding_in scan.now.components.items)
-            (growing_in planes) (with_decoded base self.old) }
+            ≡ with_planes scan.now.pass scan.now.codings (growing_in planes)
+            (with_decoded base self.old) }
     {
         match planes {
             GrowingPlanes::Own(mut planes) => self.add_planes(scan, &mut planes, alloc),
@@ -428,19 +425,17 @@ impl Decoded {
         scan: &Scan<'_>,
         arrays: &Vec<BlockArray>,
     ) -> std::result::Result<(), AllocError>
-        requires indices { All HasIndex scan.now.components.items }
-        requires blocks { AreArrays (components_in scan.now.components.items)
-            (arrays_in arrays.now.items) }
+        requires blocks { AreArrays (scan_components scan.now) (arrays_in arrays.now.items) }
         ensures kept { OnOk result (self.new.kept ≡ self.old.kept) }
         ensures samples { OnOk result (self.new.samples ≡ self.old.samples) }
         ensures planes { OnOk result ((base : Found) → with_decoded base self.new
-            ≡ with_arrays (pass_in scan.now.pass) (map coding_in scan.now.components.items)
+            ≡ with_arrays scan.now.pass scan.now.codings
             (arrays_in arrays.now.items) (with_decoded base self.old)) }
     {
+        let codings = scan.components();
         let mut slot = 0;
-        while slot < scan.components.len() {
-            let coded = &scan.components[slot];
-            self.add_blocks(alloc, scan.pass, coded, &arrays[slot])?;
+        while slot < codings.len() {
+            self.add_blocks(alloc, scan.pass(), &codings[slot], &arrays[slot])?;
             slot += 1;
         }
         Ok(())
@@ -484,7 +479,7 @@ impl Decoded {
         ensures data { (base : Found) → IsBefore scanned scan.now base
             → Answers (λ m. (once_scanned (with_decoded base self.new), m))
             (scan_data (with_decoded base self.old) (frame_in frame.now)
-            (pass_in scan.now.pass) (map coding_in scan.now.components.items))
+            scan.now.pass scan.now.codings)
             source.old result source.new }
         ensures kept { OnOk result (AreArrays (frame_in frame.now).components
             (arrays_in self.new.kept.items)) }
@@ -492,19 +487,19 @@ impl Decoded {
             → OnOk result (ArePlanes (frame_in frame.now).components self.new.planes) }
         ensures samples { OnOk result (self.new.samples ≡ self.old.samples) }
     {
+        let codings = scan.components();
         self.keep(alloc, scanned, frame)?;
-        let mut arrays = take_blocks(alloc, &scan.components, &mut self.kept)?;
+        let mut arrays = take_blocks(alloc, codings, &mut self.kept)?;
         let met = read_blocks(alloc, source, scan, &mut arrays, frame)?;
         self.add_arrays(alloc, scan, &arrays)?;
-        put_blocks(alloc, &scan.components, &mut arrays, &mut self.kept);
+        put_blocks(alloc, codings, &mut arrays, &mut self.kept);
         Ok(met)
     }
 
     /// Returns whether the planes of all components of a scan are decided.
     fn are_decided(&self, codings: &[Coded<'_>]) -> bool
-        requires indices { All HasIndex codings.now }
         ensures { result ≡ true → All (λ c. is_some (slice_index_or self.now.planes
-            c.index None) ≡ true) codings.now }
+            c.index None) ≡ true) (map coding_in codings.now) }
     {
         for coded in codings {
             if !self.planes.has(coded.index) {
@@ -516,18 +511,18 @@ impl Decoded {
 
     /// Marks the coefficients that a scan finishes of components whose planes are decided.
     fn mark_again(&mut self, scan: &Scan<'_>)
-        requires indices { All HasIndex scan.now.components.items }
         requires decided { All (λ c. is_some (slice_index_or self.old.planes c.index None) ≡ true)
-            scan.now.components.items }
+            scan.now.codings }
         ensures kept { self.new.kept ≡ self.old.kept }
         ensures samples { self.new.samples ≡ self.old.samples }
         ensures decided { self.new.planes ≡ self.old.planes }
         ensures planes { (base : Found) → with_decoded base self.new
-            ≡ with_planes (pass_in scan.now.pass) (map coding_in scan.now.components.items)
-            (no_samples (map coding_in scan.now.components.items)) (with_decoded base self.old) }
+            ≡ with_planes scan.now.pass scan.now.codings (no_samples scan.now.codings)
+            (with_decoded base self.old) }
     {
-        for coded in &scan.components {
-            finish(scan.pass, &mut self.finished[coded.index]);
+        let codings = scan.components();
+        for coded in codings {
+            finish(scan.pass(), &mut self.finished[coded.index]);
         }
     }
 
@@ -547,11 +542,11 @@ impl Decoded {
         requires process { is_progressive (frame_in frame.now).process ≡ false }
         requires ready { IsReadable (frame_in frame.now) scan.now }
         requires decided { All (λ c. is_some (slice_index_or self.now.planes
-            c.index None) ≡ true) scan.now.components.items }
+            c.index None) ≡ true) scan.now.codings }
         ensures data { (base : Found) → IsBefore scanned scan.now base
             → Answers (λ m. (once_scanned (with_decoded base self.new), m))
             (scan_data (with_decoded base self.old) (frame_in frame.now)
-            (pass_in scan.now.pass) (map coding_in scan.now.components.items))
+            scan.now.pass scan.now.codings)
             source.old result source.new }
         ensures planes { OnOk result (self.new.planes ≡ self.old.planes) }
         ensures samples { OnOk result (self.new.samples ≡ self.old.samples) }
@@ -589,31 +584,32 @@ impl Decoded {
         ensures found { (base : Found) → IsBefore scanned scan.now base
             → OnTold source.old source.new result (once_scanned (with_decoded base self.new)
             ≡ (data_reached (with_decoded base self.old) (frame_in frame.now)
-            (pass_in scan.now.pass) (map coding_in scan.now.components.items)
+            scan.now.pass scan.now.codings
             source.old.bytes).0) }
         ensures rows { (base : Found) → IsBefore scanned scan.now base
             → OnTold source.old source.new result (self.new.rows ≡ rows_of_codings
-            (with_decoded base self.old) (frame_in frame.now) (pass_in scan.now.pass)
-            (map coding_in scan.now.components.items) source.old.bytes) }
+            (with_decoded base self.old) (frame_in frame.now) scan.now.pass scan.now.codings
+            source.old.bytes) }
         ensures data { (base : Found) → IsBefore scanned scan.now base
             → UnlessRefused result (Answers (λ m. m) (λ bytes. (data_reached
-            (with_decoded base self.old) (frame_in frame.now) (pass_in scan.now.pass)
-            (map coding_in scan.now.components.items) bytes).1) source.old result source.new) }
+            (with_decoded base self.old) (frame_in frame.now) scan.now.pass scan.now.codings
+            bytes).1) source.old result source.new) }
         ensures kept { UnlessRefused result (AreArrays (frame_in frame.now).components
             (blocks_before true self.new (frame_in frame.now))) }
         ensures planes { ArePlanes (frame_in frame.now).components self.old.planes
             → UnlessRefused result (ArePlanes (frame_in frame.now).components self.new.planes) }
         ensures samples { UnlessRefused result (self.new.samples ≡ self.old.samples) }
     {
+        let codings = scan.components();
         self.keep(alloc, scanned, frame)?;
-        let mut arrays = take_blocks(alloc, &scan.components, &mut self.kept)?;
+        let mut arrays = take_blocks(alloc, codings, &mut self.kept)?;
         let mut unread = None;
         let met = reach_blocks(alloc, source, scan, &mut arrays, frame, &mut unread);
         if is_out_of_memory(&met) {
             return met;
         }
         self.add_arrays(alloc, scan, &arrays)?;
-        keep_blocks(alloc, frame, &scan.components, &mut arrays, &mut self.kept);
+        keep_blocks(alloc, frame, codings, &mut arrays, &mut self.kept);
         self.rows = rows_above_unread(frame, scan, unread);
         met
     }
@@ -635,7 +631,7 @@ impl Decoded {
         ensures data { (base : Found) → IsBefore scanned scan.now base
             → Answers (λ m. (once_scanned (with_decoded base self.new), m))
             (scan_data (with_decoded base self.old) (frame_in frame.now)
-            (pass_in scan.now.pass) (map coding_in scan.now.components.items))
+            scan.now.pass scan.now.codings)
             source.old result source.new }
         ensures kept { OnOk result (AreArrays (frame_in frame.now).components
             (blocks_before true self.new (frame_in frame.now))) }
@@ -646,7 +642,7 @@ impl Decoded {
         if is_progressive(frame.coding_process) {
             return self.read_kept(alloc, source, scanned, frame, scan);
         }
-        if self.are_decided(&scan.components) {
+        if self.are_decided(scan.components()) {
             return self.read_again(alloc, source, scanned, frame, scan);
         }
         let mut planes = self.start_planes(alloc, frame, scan)?;

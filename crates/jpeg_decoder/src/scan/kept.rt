@@ -10,7 +10,7 @@ ghost use Rattle.jpeg_segments.specs.FrameView.{frame_in};
 ghost use Rattle.jpeg_streams.specs.InTurn.{blocks_from, scan_from, turns_from, Fits, AreArrays};
 ghost use Rattle.jpeg_streams.specs.Order.{spots_of, mcu_size};
 ghost use Rattle.jpeg_streams.specs.Scans.{Arrays, arrays_at};
-ghost use Rattle.jpeg_decoder.specs.Scanning.{IsSpotOf, scan_pass, scan_vias, scan_components};
+ghost use Rattle.jpeg_decoder.specs.Scanning.{IsSpotOf, scan_vias, scan_components};
 ghost use Rattle.jpeg_decoder.specs.Scanning.{arrays_in, blocks_in, sizes_of, counted, reached};
 ghost use Rattle.jpeg_decoder.specs.Walk.{line_spots, rows_spots};
 
@@ -19,7 +19,6 @@ use crate::scan::blocks::{Interval, begin, first_interval, read_spots};
 use crate::scan::coded::Scan;
 use crate::scan::order::ScanOrder;
 use crate::scan::spots::Spots;
-use jpeg_bits::blocks::BlockCoding;
 use jpeg_bits::blocks::bands::take_bands;
 use jpeg_bits::error::{Error, Result, take_refusal};
 use jpeg_bits::marker::Marker;
@@ -39,7 +38,7 @@ fn read_part<R: Read + Drop>(
     first: usize,
     end: usize,
 ) -> Result<()>
-    requires alone { length scan.now.components.items ≡ 1 }
+    requires alone { length scan.now.codings ≡ 1 }
     requires four { length interval.old.carried.predictors ≡ 4 }
     requires bands { 0 < scan.now.pass.ss }
     requires some { first < end }
@@ -50,18 +49,11 @@ fn read_part<R: Read + Drop>(
     ensures number { interval.new.number ≡ interval.old.number }
     ensures blocks { (others : Arrays) →
         Takes (λ _. reached interval.new (blocks_in array.new ∷ others))
-        (turns_from (scan_pass scan.now) (scan_vias scan.now) (line_spots first (end - first))
+        (turns_from scan.now.pass (scan_vias scan.now) (line_spots first (end - first))
         (reached interval.old (blocks_in array.old ∷ others)))
         interval.old.decoder source.old result interval.new.decoder source.new }
 {
-    let coded = &scan.components[0];
-    let coding = BlockCoding {
-        pass: scan.pass,
-        slot: 0,
-        dc_table: coded.dc,
-        ac_table: coded.ac,
-        keeps_ac: scan.keeps_ac,
-    };
+    let coding = scan.coding(0);
     array.reach(end - 1)?;
     if !take_bands(
         &mut interval.decoder,
@@ -100,7 +92,7 @@ fn read_line<R: Read + Drop>(
     first: u32,
     wide: u16,
 ) -> Result<()>
-    requires alone { length scan.now.components.items ≡ 1 }
+    requires alone { length scan.now.codings ≡ 1 }
     requires four { length interval.old.carried.predictors ≡ 4 }
     requires bands { 0 < scan.now.pass.ss }
     requires within { first + wide ≤ length (blocks_in array.old) }
@@ -108,11 +100,11 @@ fn read_line<R: Read + Drop>(
     ensures four { OnOk result (length interval.new.carried.predictors ≡ 4) }
     ensures blocks { (others : Arrays) →
         Takes (λ _. counted interval.new (blocks_in array.new ∷ others))
-        (blocks_from (scan_pass scan.now) (scan_vias scan.now) scan.now.restart_interval
+        (blocks_from scan.now.pass (scan_vias scan.now) scan.now.restart_interval
         (line_spots first wide) (counted interval.old (blocks_in array.old ∷ others)))
         interval.old.decoder source.old result interval.new.decoder source.new }
 {
-    let n = u64::from(scan.restart_interval);
+    let n = u64::from(scan.restart_interval());
     let end = first as usize + usize::from(wide);
     let mut at = first as usize;
     while at < end {
@@ -135,7 +127,7 @@ fn read_lines<R: Read + Drop>(
     array: &mut BlockArray,
     grid: Grid,
 ) -> Result<()>
-    requires alone { length scan.now.components.items ≡ 1 }
+    requires alone { length scan.now.codings ≡ 1 }
     requires four { length interval.old.carried.predictors ≡ 4 }
     requires bands { 0 < scan.now.pass.ss }
     requires wide { grid.own_wide ≤ grid.wide }
@@ -145,7 +137,7 @@ fn read_lines<R: Read + Drop>(
     ensures four { OnOk result (length interval.new.carried.predictors ≡ 4) }
     ensures blocks { (others : Arrays) →
         Takes (λ _. counted interval.new (blocks_in array.new ∷ others))
-        (blocks_from (scan_pass scan.now) (scan_vias scan.now) scan.now.restart_interval
+        (blocks_from scan.now.pass (scan_vias scan.now) scan.now.restart_interval
         (rows_spots grid 0 grid.own_high) (counted interval.old (blocks_in array.old ∷ others)))
         interval.old.decoder source.old result interval.new.decoder source.new }
 {
@@ -167,18 +159,18 @@ fn read_bands<R: Read + Drop>(
     array: &mut BlockArray,
     grid: Grid,
 ) -> Result<Option<Marker>>
-    requires alone { length scan.now.components.items ≡ 1 }
+    requires alone { length scan.now.codings ≡ 1 }
     requires bands { 0 < scan.now.pass.ss }
     requires wide { grid.own_wide ≤ grid.wide }
     requires high { grid.own_high ≤ grid.high }
     requires within { grid.high * grid.wide ≤ length (blocks_in array.old) }
     ensures size { length (blocks_in array.new) ≡ length (blocks_in array.old) }
     ensures scan { (others : Arrays) → Answers (λ m. (blocks_in array.new ∷ others, m))
-        (scan_from (scan_pass scan.now) (scan_vias scan.now) scan.now.restart_interval
+        (scan_from scan.now.pass (scan_vias scan.now) scan.now.restart_interval
         (rows_spots grid 0 grid.own_high) (blocks_in array.old ∷ others))
         source.old result source.new }
 {
-    let mut interval = first_interval(alloc, u64::from(scan.restart_interval));
+    let mut interval = first_interval(alloc, u64::from(scan.restart_interval()));
     read_lines(&mut interval, source, scan, array, grid)?;
     interval.decoder.take_marker(source)
 }
@@ -195,11 +187,11 @@ fn read_intervals<R: Read + Drop>(
     spots: &mut Spots<'_>,
 ) -> Result<Option<Marker>>
     requires keeps { scan.now.keeps_ac ≡ true }
-    requires spots { AllByRecursion (IsSpotOf (length scan.now.components.items)
+    requires spots { AllByRecursion (IsSpotOf (length scan.now.codings)
         (sizes_of arrays.now.items)) spots.old }
     ensures sizes { sizes_of arrays.new.items ≡ sizes_of arrays.old.items }
     ensures scan { Answers (λ m. (arrays_in arrays.new.items, m))
-        (scan_from (scan_pass scan.now) (scan_vias scan.now) n spots.old
+        (scan_from scan.now.pass (scan_vias scan.now) n spots.old
         (arrays_in arrays.old.items))
         source.old result source.new }
 {
@@ -221,19 +213,20 @@ pub fn read_blocks<R: Read + Drop>(
     frame: &FrameInfo,
 ) -> Result<Option<Marker>>
     requires keeps { scan.now.keeps_ac ≡ true }
-    requires some { 1 ≤ length scan.now.components.items }
+    requires some { 1 ≤ length scan.now.codings }
     requires fits { AllByRecursion (Fits (frame_in frame.now)) (scan_components scan.now) }
     requires arrays { AreArrays (scan_components scan.now) (arrays_in arrays.now.items) }
     ensures sizes { sizes_of arrays.new.items ≡ sizes_of arrays.old.items }
     ensures scan { Answers (λ m. (arrays_in arrays.new.items, m))
-        (arrays_at (scan_pass scan.now)
+        (arrays_at scan.now.pass
         (scan.now.restart_interval * mcu_size (scan_components scan.now))
         (scan_vias scan.now) (spots_of (frame_in frame.now) (scan_components scan.now))
         (arrays_in arrays.old.items))
         source.old result source.new }
 {
-    if scan.pass.ss > 0 && scan.components.len() == 1 {
-        let grid = grid_of(scan.components[0].component);
+    let codings = scan.components();
+    if scan.pass().ss > 0 && codings.len() == 1 {
+        let grid = grid_of(scan.component(0));
         return read_bands(alloc, source, scan, &mut arrays[0], grid);
     }
     let order = ScanOrder::new(alloc, scan, frame)?;

@@ -7,7 +7,7 @@ ghost use Rattle.jpeg_bits.specs.Passes.{whole_pass};
 ghost use Rattle.jpeg_streams.specs.InTurn.{begun_from, blocks_from};
 ghost use Rattle.jpeg_streams.specs.Scans.{Arrays};
 ghost use Rattle.jpeg_decoder.specs.Scanning.{IsSpotOf};
-ghost use Rattle.jpeg_decoder.specs.Scanning.{scan_pass, scan_vias};
+ghost use Rattle.jpeg_decoder.specs.Scanning.{scan_vias};
 ghost use Rattle.jpeg_decoder.specs.Scanning.{arrays_in, sizes_of, counted};
 ghost use Rattle.jpeg_decoder.specs.Scanning.{kept_blocks, kept_counted};
 
@@ -15,7 +15,7 @@ use crate::scan::block_array::BlockArray;
 use crate::scan::blocks::{Interval, begin, reach, read_spots};
 use crate::scan::coded::{Scan, is_whole};
 use crate::scan::spots::Spots;
-use jpeg_bits::blocks::{BlockCoding, Carried, Pass, take_inlined_block};
+use jpeg_bits::blocks::{Carried, Pass, take_inlined_block};
 use jpeg_bits::error::{Result, take_refusal};
 use jpeg_bits::huffman::HuffmanDecoder;
 use jpeg_bits::source::Source;
@@ -77,13 +77,13 @@ fn read_whole<R: Read + Drop>(
     n: u64,
     spots: &mut Spots<'_>,
 ) -> Result<()>
-    requires whole { scan_pass scan.now ≡ whole_pass }
-    requires spots { AllByRecursion (IsSpotOf (length scan.now.components.items)
+    requires whole { scan.now.pass ≡ whole_pass }
+    requires spots { AllByRecursion (IsSpotOf (length scan.now.codings)
         (sizes_of arrays.now.items)) spots.old }
     ensures sizes { sizes_of arrays.new.items ≡ sizes_of arrays.old.items }
     ensures blocks { Takes (λ _. kept_counted scan.now.keeps_ac
         (counted interval.new (arrays_in arrays.new.items)))
-        (kept_blocks scan.now.keeps_ac (blocks_from (scan_pass scan.now) (scan_vias scan.now) n
+        (kept_blocks scan.now.keeps_ac (blocks_from scan.now.pass (scan_vias scan.now) n
         spots.old (counted interval.old (arrays_in arrays.old.items))))
         interval.old.decoder source.old result interval.new.decoder source.new }
 {
@@ -95,14 +95,8 @@ fn read_whole<R: Read + Drop>(
         if !begin_by(&mut decoder, &mut carried, &mut left, interval, source, n) {
             return Err(take_refusal(&mut interval.refusal));
         }
-        let coded = &scan.components[spot.slot];
-        let coding = BlockCoding {
-            pass: WHOLE,
-            slot: spot.slot,
-            dc_table: coded.dc,
-            ac_table: coded.ac,
-            keeps_ac: scan.keeps_ac,
-        };
+        let mut coding = scan.coding(spot.slot);
+        coding.pass = WHOLE;
         if !take_inlined_block(
             &mut decoder,
             source,
@@ -132,16 +126,16 @@ pub fn read_mcus<R: Read + Drop>(
     n: u64,
     spots: &mut Spots<'_>,
 ) -> Result<()>
-    requires spots { AllByRecursion (IsSpotOf (length scan.now.components.items)
+    requires spots { AllByRecursion (IsSpotOf (length scan.now.codings)
         (sizes_of arrays.now.items)) spots.old }
     ensures sizes { sizes_of arrays.new.items ≡ sizes_of arrays.old.items }
     ensures blocks { Takes (λ _. kept_counted scan.now.keeps_ac
         (counted interval.new (arrays_in arrays.new.items)))
-        (kept_blocks scan.now.keeps_ac (blocks_from (scan_pass scan.now) (scan_vias scan.now) n
+        (kept_blocks scan.now.keeps_ac (blocks_from scan.now.pass (scan_vias scan.now) n
         spots.old (counted interval.old (arrays_in arrays.old.items))))
         interval.old.decoder source.old result interval.new.decoder source.new }
 {
-    if scan.keeps_ac && is_whole(scan.pass) {
+    if scan.keeps_ac() && is_whole(scan.pass()) {
         return read_whole(interval, source, scan, arrays, n, spots);
     }
     read_spots(interval, source, scan, arrays, n, spots)

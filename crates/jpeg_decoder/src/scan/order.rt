@@ -1,8 +1,9 @@
 //! The order in which a scan codes its blocks (T.81, A.2.2 and A.2.3).
-ghost use Rattle.std.specs.Prelude.{IfOk, OnOk, ◌++◌, length};
+ghost use Rattle.std.specs.Prelude.{IfOk, OnOk, ◌++◌, length, map};
 ghost use Rattle.std.specs.Prelude.{◌≡◌, ◌≤◌, ◌+◌};
 ghost use Rattle.jpeg_segments.specs.FrameView.{component_in};
-ghost use Rattle.jpeg_decoder.specs.Scanning.{components_in};
+ghost use Rattle.jpeg_streams.specs.ScanSegments.{components_of};
+ghost use Rattle.jpeg_decoder.specs.Steps.{coding_in};
 ghost use Rattle.jpeg_decoder.specs.Walk.{line_members, part_members, member_of, members_from};
 
 use crate::scan::coded::{Coded, Scan};
@@ -81,7 +82,8 @@ fn add_part(members: &mut Vec<Member>, slot: u8, component: &Component) -> Resul
 #[tactic(auto, using(crate::proofs::OrderedWalks::slot_rules))]
 fn members_of(alloc: Global, components: &[Coded<'_>]) -> Result<Vec<Member>, AllocError>
     requires { length components.now ≤ 4 }
-    ensures items { IfOk result (λ m. m.items ≡ members_from 0 (components_in components.now)) }
+    ensures items { let codings = map coding_in components.now in
+        IfOk result (λ m. m.items ≡ members_from 0 (components_of codings)) }
     ensures few { IfOk result (λ m. length m.items ≤ 260100) }
 {
     let mut members = Vec::new(alloc);
@@ -103,13 +105,13 @@ impl ScanOrder {
 
     /// Makes the order of the blocks of several components.
     fn several(alloc: Global, scan: &Scan<'_>, frame: &FrameInfo) -> Result<ScanOrder, AllocError>
-        requires several { 1 < length scan.now.components.items }
+        requires several { 1 < length scan.now.codings }
         requires fits { AllByRecursion (Fits (frame_in frame.now)) (scan_components scan.now) }
         ensures { IfOk result
             (IsOrderOf (frame_in frame.now) (scan_components scan.now) scan.now.restart_interval) }
     {
-        let members = members_of(alloc, &scan.components)?;
-        let interval = u64::from(scan.restart_interval) * members.len() as u64;
+        let members = members_of(alloc, scan.components())?;
+        let interval = u64::from(scan.restart_interval()) * members.len() as u64;
         Ok(ScanOrder {
             members,
             wide: frame.mcu_size.width,
@@ -122,12 +124,12 @@ impl ScanOrder {
 
     /// Makes the order of the blocks of a component that is alone.
     fn alone(alloc: Global, scan: &Scan<'_>, frame: &FrameInfo) -> Result<ScanOrder, AllocError>
-        requires one { length scan.now.components.items ≡ 1 }
+        requires one { length scan.now.codings ≡ 1 }
         requires fits { AllByRecursion (Fits (frame_in frame.now)) (scan_components scan.now) }
         ensures { IfOk result
             (IsOrderOf (frame_in frame.now) (scan_components scan.now) scan.now.restart_interval) }
     {
-        let component = scan.components[0].component;
+        let component = scan.component(0);
         let grid = grid_of(component);
         let mut members = Vec::new(alloc);
         members.push(Member {
@@ -142,18 +144,18 @@ impl ScanOrder {
             high: grid.own_high,
             lines: component.vertical_sampling_factor,
             rows: frame.mcu_size.height,
-            interval: u64::from(scan.restart_interval),
+            interval: u64::from(scan.restart_interval()),
         })
     }
 
     /// Makes the order of the blocks of a scan of a frame. The error is out of memory.
     pub fn new(alloc: Global, scan: &Scan<'_>, frame: &FrameInfo) -> Result<ScanOrder, AllocError>
-        requires some { 1 ≤ length scan.now.components.items }
+        requires some { 1 ≤ length scan.now.codings }
         requires fits { AllByRecursion (Fits (frame_in frame.now)) (scan_components scan.now) }
         ensures { IfOk result
             (IsOrderOf (frame_in frame.now) (scan_components scan.now) scan.now.restart_interval) }
     {
-        if scan.components.len() > 1 {
+        if scan.components().len() > 1 {
             return ScanOrder::several(alloc, scan, frame);
         }
         ScanOrder::alone(alloc, scan, frame)

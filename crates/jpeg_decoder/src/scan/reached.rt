@@ -19,7 +19,7 @@ ghost use Rattle.jpeg_streams.specs.WholeRows.{or_first, unread_from, unread_of_
 ghost use Rattle.jpeg_decoder.specs.Reaching.{after_group, IsAhead, TellsBits, TellsLeft};
 ghost use Rattle.jpeg_decoder.specs.Reaching.{UnlessRefused};
 ghost use Rattle.jpeg_decoder.specs.Scanning.{arrays_in, sizes_of, IsSpotOf};
-ghost use Rattle.jpeg_decoder.specs.Scanning.{scan_components, scan_pass, scan_vias};
+ghost use Rattle.jpeg_decoder.specs.Scanning.{scan_components, scan_vias};
 ghost use Rattle.jpeg_decoder.specs.Walk.{spot_of};
 
 use crate::scan::block_array::BlockArray;
@@ -30,7 +30,7 @@ use crate::scan::order::ScanOrder;
 use crate::scan::refusals::{interval_end, is_near_end, refusal_in_memory};
 use crate::scan::restarts::{is_numbered, pass_restarts};
 use crate::scan::spots::{Spot, Spots};
-use jpeg_bits::blocks::{BlockCoding, Carried, take_block};
+use jpeg_bits::blocks::{Carried, take_block};
 use jpeg_bits::error::{Result, take_refusal};
 use jpeg_bits::huffman::HuffmanDecoder;
 use jpeg_bits::marker::{Marker, restart_error};
@@ -52,20 +52,20 @@ fn reach_group<R: Read + Drop>(
     spots: &mut Spots<'_>,
 ) -> Result<()>
     requires keeps { scan.now.keeps_ac ≡ true }
-    requires spots { AllByRecursion (IsSpotOf (length scan.now.components.items)
+    requires spots { AllByRecursion (IsSpotOf (length scan.now.codings)
         (sizes_of arrays.now.items)) spots.old }
     requires known { source.old.known ≡ true }
     requires ahead { IsAhead (upcoming decoder.old source.old.bytes) }
     ensures sizes { sizes_of arrays.new.items ≡ sizes_of arrays.old.items }
     ensures left { OnOk result (spots.new ≡ after_group n spots.old) }
     ensures arrays { UnlessRefused result (arrays_in arrays.new.items
-        ≡ (reached_from (scan_pass scan.now) (scan_vias scan.now) (first_group n spots.old)
+        ≡ (reached_from scan.now.pass (scan_vias scan.now) (first_group n spots.old)
         (at_start (arrays_in arrays.old.items)) (upcoming decoder.old source.old.bytes)).0.arrays) }
     ensures unread { UnlessRefused result (slice_get spots.new 0 ≡ or_first (unread_from
-        (scan_pass scan.now) (scan_vias scan.now) (first_group n spots.old)
+        scan.now.pass (scan_vias scan.now) (first_group n spots.old)
         (at_start (arrays_in arrays.old.items)) (upcoming decoder.old source.old.bytes))
         (after_group n spots.old)) }
-    ensures told { TellsBits (reached_from (scan_pass scan.now) (scan_vias scan.now)
+    ensures told { TellsBits (reached_from scan.now.pass (scan_vias scan.now)
         (first_group n spots.old) (at_start (arrays_in arrays.old.items))
         (upcoming decoder.old source.old.bytes)).1 result
         (upcoming decoder.new source.new.bytes).bits }
@@ -80,14 +80,7 @@ fn reach_group<R: Read + Drop>(
             return Ok(());
         };
         reach(arrays, spot)?;
-        let coded = &scan.components[spot.slot];
-        let coding = BlockCoding {
-            pass: scan.pass,
-            slot: spot.slot,
-            dc_table: coded.dc,
-            ac_table: coded.ac,
-            keeps_ac: scan.keeps_ac,
-        };
+        let coding = scan.coding(spot.slot);
         let block = &mut arrays[spot.slot].blocks[spot.index];
         let before = *block;
         if !take_block(decoder, source, &coding, &mut carried, block, &mut refusal) {
@@ -112,17 +105,17 @@ fn reach_spots(
     spots: &mut Spots<'_>,
 ) -> Result<bool>
     requires keeps { scan.now.keeps_ac ≡ true }
-    requires spots { AllByRecursion (IsSpotOf (length scan.now.components.items)
+    requires spots { AllByRecursion (IsSpotOf (length scan.now.codings)
         (sizes_of arrays.now.items)) spots.old }
     ensures sizes { sizes_of arrays.new.items ≡ sizes_of arrays.old.items }
     ensures left { OnOk result (spots.new ≡ after_group n spots.old) }
     ensures arrays { UnlessRefused result (arrays_in arrays.new.items
-        ≡ (reached_from (scan_pass scan.now) (scan_vias scan.now) (first_group n spots.old)
+        ≡ (reached_from scan.now.pass (scan_vias scan.now) (first_group n spots.old)
         (at_start (arrays_in arrays.old.items)) (text_at bytes.now)).0.arrays) }
     ensures unread { UnlessRefused result (slice_get spots.new 0 ≡ or_first (unread_from
-        (scan_pass scan.now) (scan_vias scan.now) (first_group n spots.old)
+        scan.now.pass (scan_vias scan.now) (first_group n spots.old)
         (at_start (arrays_in arrays.old.items)) (text_at bytes.now)) (after_group n spots.old)) }
-    ensures told { TellsLeft (reached_from (scan_pass scan.now) (scan_vias scan.now)
+    ensures told { TellsLeft (reached_from scan.now.pass (scan_vias scan.now)
         (first_group n spots.old) (at_start (arrays_in arrays.old.items)) (text_at bytes.now)).1
         result }
 {
@@ -143,19 +136,19 @@ fn reach_interval<R: Read + Drop>(
     spots: &mut Spots<'_>,
 ) -> Result<(bool, Marker)>
     requires keeps { scan.now.keeps_ac ≡ true }
-    requires spots { AllByRecursion (IsSpotOf (length scan.now.components.items)
+    requires spots { AllByRecursion (IsSpotOf (length scan.now.codings)
         (sizes_of arrays.now.items)) spots.old }
     ensures sizes { sizes_of arrays.new.items ≡ sizes_of arrays.old.items }
     ensures left { OnOk result (spots.new ≡ after_group n spots.old) }
     ensures arrays { OnTold source.old source.new result (arrays_in arrays.new.items
-        ≡ (interval_reached (scan_pass scan.now) (scan_vias scan.now) (first_group n spots.old)
+        ≡ (interval_reached scan.now.pass (scan_vias scan.now) (first_group n spots.old)
         (arrays_in arrays.old.items) source.old.bytes).0) }
     ensures unread { OnTold source.old source.new result (slice_get spots.new 0 ≡ or_first
-        (unread_from (scan_pass scan.now) (scan_vias scan.now) (first_group n spots.old)
+        (unread_from scan.now.pass (scan_vias scan.now) (first_group n spots.old)
         (at_start (arrays_in arrays.old.items)) (sealed (text_at source.old.bytes)))
         (after_group n spots.old)) }
     ensures answers { Answers (λ r. (r.0, Some r.1)) (λ bytes. (interval_reached
-        (scan_pass scan.now) (scan_vias scan.now) (first_group n spots.old)
+        scan.now.pass (scan_vias scan.now) (first_group n spots.old)
         (arrays_in arrays.old.items) bytes).1) source.old result source.new }
 {
     let mut data = Vec::new(alloc);
@@ -176,16 +169,16 @@ fn reach_intervals<R: Read + Drop>(
     spots: &mut Spots<'_>,
 ) -> Result<Option<Marker>>
     requires keeps { scan.now.keeps_ac ≡ true }
-    requires spots { AllByRecursion (IsSpotOf (length scan.now.components.items)
+    requires spots { AllByRecursion (IsSpotOf (length scan.now.codings)
         (sizes_of arrays.now.items)) spots.old }
     ensures sizes { sizes_of arrays.new.items ≡ sizes_of arrays.old.items }
     ensures arrays { OnTold source.old source.new result (arrays_in arrays.new.items
-        ≡ (scan_reached (scan_pass scan.now) n (scan_vias scan.now) spots.old
+        ≡ (scan_reached scan.now.pass n (scan_vias scan.now) spots.old
         (arrays_in arrays.old.items) source.old.bytes).0) }
     ensures unread { OnTold source.old source.new result (slice_get spots.new 0
-        ≡ unread_of_scan (scan_pass scan.now) n (scan_vias scan.now) spots.old
+        ≡ unread_of_scan scan.now.pass n (scan_vias scan.now) spots.old
         (arrays_in arrays.old.items) source.old.bytes) }
-    ensures answers { Answers (λ m. m) (λ bytes. (scan_reached (scan_pass scan.now) n
+    ensures answers { Answers (λ m. m) (λ bytes. (scan_reached scan.now.pass n
         (scan_vias scan.now) spots.old (arrays_in arrays.old.items) bytes).1) source.old result
         source.new }
 {
@@ -219,21 +212,21 @@ pub fn reach_blocks<R: Read + Drop>(
     unread: &mut Option<Spot>,
 ) -> Result<Option<Marker>>
     requires keeps { scan.now.keeps_ac ≡ true }
-    requires some { 1 ≤ length scan.now.components.items }
+    requires some { 1 ≤ length scan.now.codings }
     requires fits { AllByRecursion (Fits (frame_in frame.now)) (scan_components scan.now) }
     requires arrays { AreArrays (scan_components scan.now) (arrays_in arrays.now.items) }
     ensures sizes { sizes_of arrays.new.items ≡ sizes_of arrays.old.items }
     ensures arrays { OnTold source.old source.new result (arrays_in arrays.new.items
-        ≡ (scan_reached (scan_pass scan.now)
+        ≡ (scan_reached scan.now.pass
         (scan.now.restart_interval * mcu_size (scan_components scan.now)) (scan_vias scan.now)
         (spots_of (frame_in frame.now) (scan_components scan.now)) (arrays_in arrays.old.items)
         source.old.bytes).0) }
     ensures unread { OnTold source.old source.new result (option_map spot_of unread.new
-        ≡ unread_of_scan (scan_pass scan.now)
+        ≡ unread_of_scan scan.now.pass
         (scan.now.restart_interval * mcu_size (scan_components scan.now)) (scan_vias scan.now)
         (spots_of (frame_in frame.now) (scan_components scan.now)) (arrays_in arrays.old.items)
         source.old.bytes) }
-    ensures answers { Answers (λ m. m) (λ bytes. (scan_reached (scan_pass scan.now)
+    ensures answers { Answers (λ m. m) (λ bytes. (scan_reached scan.now.pass
         (scan.now.restart_interval * mcu_size (scan_components scan.now)) (scan_vias scan.now)
         (spots_of (frame_in frame.now) (scan_components scan.now)) (arrays_in arrays.old.items)
         bytes).1) source.old result source.new }

@@ -4,8 +4,7 @@ ghost use Rattle.std.specs.List.{AllByRecursion};
 ghost use Rattle.jpeg_bits.specs.Reading.{Answers};
 ghost use Rattle.jpeg_segments.specs.FrameView.{frame_in};
 ghost use Rattle.jpeg_streams.specs.InTurn.{Fits};
-ghost use Rattle.jpeg_decoder.specs.Scanning.{scan_pass, scan_vias, scan_components};
-ghost use Rattle.jpeg_decoder.specs.Steps.{coding_in};
+ghost use Rattle.jpeg_decoder.specs.Scanning.{scan_vias, scan_components};
 ghost use Rattle.jpeg_decoder.specs.Strips.{no_samples, planes_by_rows};
 ghost use Rattle.jpeg_decoder.specs.GrowingView.{GrowsFor, growing_in, is_joint};
 
@@ -39,26 +38,26 @@ pub fn read_planes<R: Read + Drop>(
     frame: &FrameInfo,
     planes: &mut GrowingPlanes,
 ) -> Result<Option<Marker>>
-    requires some { 1 ≤ length scan.now.components.items }
+    requires some { 1 ≤ length scan.now.codings }
     requires fits { AllByRecursion (Fits (frame_in frame.now)) (scan_components scan.now) }
-    requires planes { GrowsFor (map coding_in scan.now.components.items) planes.old }
-    ensures growing { OnOk result
-        (GrowsFor (map coding_in scan.now.components.items) planes.new) }
+    requires planes { GrowsFor scan.now.codings planes.old }
+    ensures growing { OnOk result (GrowsFor scan.now.codings planes.new) }
     ensures kind { OnOk result (is_joint planes.new ≡ is_joint planes.old) }
-    ensures sizes { growing_in planes.old ≡ no_samples (map coding_in scan.now.components.items)
+    ensures sizes { growing_in planes.old ≡ no_samples scan.now.codings
         → OnOk result (map length (growing_in planes.new)
         ≡ map (λ c. c.blocks_high * c.scale * (c.blocks_wide * c.scale))
         (scan_components scan.now)) }
     ensures planes { Answers (λ m. (growing_in planes.new, m))
-        (planes_by_rows (scan_pass scan.now) (scan_vias scan.now) scan.now.restart_interval
-        (frame_in frame.now) (map coding_in scan.now.components.items)
+        (planes_by_rows scan.now.pass (scan_vias scan.now) scan.now.restart_interval
+        (frame_in frame.now) scan.now.codings
         (growing_in planes.old))
         source.old result source.new }
 {
     let order = ScanOrder::new(alloc, scan, frame)?;
     let mut interval = first_interval(alloc, order.interval);
-    let mut rows = row_buffers(alloc, &scan.components)?;
-    let tables = tables_for(alloc, &scan.components, planes)?;
+    let codings = scan.components();
+    let mut rows = row_buffers(alloc, codings)?;
+    let tables = tables_for(alloc, codings, planes)?;
     for row in 0..order.rows {
         clear_rows(&mut rows);
         let mut spots = order.row(row);
@@ -71,7 +70,7 @@ pub fn read_planes<R: Read + Drop>(
             &mut spots,
         )?;
         fill_all(&mut rows)?;
-        append_strips(planes, &scan.components, &tables, &rows)?;
+        append_strips(planes, codings, &tables, &rows)?;
     }
     interval.decoder.take_marker(source)
 }

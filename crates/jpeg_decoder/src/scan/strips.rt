@@ -24,7 +24,7 @@ use std::alloc::{AllocError, Global};
 /// Returns room for the blocks of a row of MCUs: for each component of a scan, as many as it has
 /// in one.
 pub fn row_buffers(alloc: Global, codings: &[Coded<'_>]) -> Result<Vec<BlockArray>, AllocError>
-    ensures { IfOk result (λ v. sizes_of v.items ≡ row_sizes codings.now) }
+    ensures { IfOk result (λ v. sizes_of v.items ≡ row_sizes (map coding_in codings.now)) }
 {
     let mut rows = Vec::with_capacity(alloc, codings.len())?;
     for coded in codings {
@@ -86,7 +86,7 @@ pub fn sample_table(quantization: &[u16; 64]) -> SampleTable
 
 /// Makes the tables of a scan's components.
 fn sample_tables(alloc: Global, codings: &[Coded<'_>]) -> Result<Vec<SampleTable>, AllocError>
-    ensures { IfOk result (λ v. v.items ≡ tables_of codings.now) }
+    ensures { IfOk result (λ v. v.items ≡ tables_of (map coding_in codings.now)) }
 {
     let mut tables = Vec::with_capacity(alloc, codings.len())?;
     for coded in codings {
@@ -198,8 +198,8 @@ pub fn tables_for(
     codings: &[Coded<'_>],
     planes: &GrowingPlanes,
 ) -> Result<Vec<SampleTable>, AllocError>
-    ensures { IfOk result
-        (λ v. 0 < length (growing_in planes.now) → v.items ≡ tables_of codings.now) }
+    ensures { IfOk result (λ v. 0 < length (growing_in planes.now)
+        → v.items ≡ tables_of (map coding_in codings.now)) }
 {
     if are_none(planes) {
         return Ok(Vec::new(alloc));
@@ -215,8 +215,8 @@ fn append_to_each(
     rows: &[BlockArray],
 ) -> Result<(), AllocError>
     requires planes { 0 < length planes.old → length planes.old ≡ length codings.now }
-    requires tables { 0 < length planes.old → tables.now ≡ tables_of codings.now }
-    requires sizes { sizes_of rows.now ≡ row_sizes codings.now }
+    requires tables { 0 < length planes.old → tables.now ≡ tables_of (map coding_in codings.now) }
+    requires sizes { sizes_of rows.now ≡ row_sizes (map coding_in codings.now) }
     requires full { All IsFull rows.now }
     ensures { OnOk result (plane_lists planes.new
         ≡ with_strips (map coding_in codings.now) (arrays_in rows.now) (plane_lists planes.old)) }
@@ -246,8 +246,8 @@ fn append_to_room(
     tables: &[SampleTable],
     rows: &[BlockArray],
 ) -> Result<(), AllocError>
-    requires tables { tables.now ≡ tables_of codings.now }
-    requires sizes { sizes_of rows.now ≡ row_sizes codings.now }
+    requires tables { tables.now ≡ tables_of (map coding_in codings.now) }
+    requires sizes { sizes_of rows.now ≡ row_sizes (map coding_in codings.now) }
     requires full { All IsFull rows.now }
     ensures { OnOk result (samples.new.items ≡ samples.old.items
         ++ concat (strips_of (map coding_in codings.now) (arrays_in rows.now))) }
@@ -270,8 +270,9 @@ pub fn append_strips(
     rows: &[BlockArray],
 ) -> Result<(), AllocError>
     requires planes { GrowsFor (map coding_in codings.now) planes.old }
-    requires tables { 0 < length (growing_in planes.old) → tables.now ≡ tables_of codings.now }
-    requires sizes { sizes_of rows.now ≡ row_sizes codings.now }
+    requires tables { 0 < length (growing_in planes.old)
+        → tables.now ≡ tables_of (map coding_in codings.now) }
+    requires sizes { sizes_of rows.now ≡ row_sizes (map coding_in codings.now) }
     requires full { All IsFull rows.now }
     ensures strips { OnOk result (growing_in planes.new
         ≡ with_strips (map coding_in codings.now) (arrays_in rows.now) (growing_in planes.old)) }

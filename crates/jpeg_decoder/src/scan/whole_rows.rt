@@ -64,12 +64,13 @@ fn rows_above(frame: &FrameInfo, scan: &Scan<'_>, spot: Spot) -> u16
     requires { AllHaveSampling (frame_in frame.now).components }
     ensures { result ≡ rows_above (frame_in frame.now) (scan_components scan.now) (spot_of spot) }
 {
-    let Some(coded) = scan.components.get(spot.slot) else {
+    let codings = scan.components();
+    let Some(coded) = codings.get(spot.slot) else {
         return 0;
     };
     let component = coded.component;
     let line = lines_before(spot.index, component.block_size.width);
-    let is_alone = scan.components.len() == 1;
+    let is_alone = codings.len() == 1;
     let lines = lines_above(line, component.vertical_sampling_factor, is_alone);
     rows_of_lines(frame, component, lines, component.dct_scale)
 }

@@ -1,7 +1,8 @@
 use Rattle.std.proofs.lemmas.Grind.{common_steps}
-use Rattle.std.proofs.Common.{◌≡◌, ◌==◌, get_or, arith, refl, rules}
+use Rattle.std.proofs.Common.{◌≡◌, ◌==◌, ◌<◌, get_or, length, arith, refl, rules}
+use Rattle.std.proofs.lemmas.List.{length-map}
 use Rattle.std.specs.Option.{option_copied}
-use Rattle.jpeg_segments.specs.FrameView.{frame_in}
+use Rattle.jpeg_segments.specs.FrameView.{component_in, frame_in}
 use Rattle.jpeg_segments.specs.ScanHeader.{Scan}
 use Rattle.jpeg_streams.specs.Found.{Said}
 use Rattle.jpeg_decoder.specs.Steps.{coding_in_slot, table_if, IsSpareOf}
@@ -81,9 +82,13 @@ invariant_of-result c =
     let forced = rw c.deref-6.ensures.value at (rw c.table_in_force-ac.ensures at given) in
     let component = c.in_ok-component.component.now in
     let index = get_or c.args.header.now.components c.args.slot 0 in
-    let at : component ≡ get_or c.args.frame.now.components.items index component = search rules in
+    let items = c.args.frame.now.components.items in
+    let at : component ≡ get_or items index component = search rules in
+    let inside : index < length items = search rules in
+    let few : index < 4 = omega (arith, inside, c.requires.few, length-map items component_in) in
     record {
+      within = search (rules, few);
       class = class-in-force (said_of c.said.inside) c.args.header.now c.args.spare.now _
           _ _ (spare c.said.view_is c.requires.spare) c.said.invariant forced;
-      scale = scale-at c.args.frame.now.components.items index component (search rules) at c.requires.scales;
+      scale = scale-at items index component inside at c.requires.scales;
     }

@@ -1,10 +1,9 @@
 use Rattle.std.proofs.Common.{◌≤◌, ◌<◌, ◌+◌, ◌-◌, ◌∷◌, ℕ, ℤ, List, length, ap, refl, ◌∙◌, arith}
 use Rattle.std.proofs.lemmas.Result.{err_from_is_err_and}
-use Rattle.jpeg_bits.specs.BlockView.{pass_in}
 use Rattle.jpeg_bits.specs.Readers.{Reads}
 use Rattle.jpeg_streams.specs.InTurn.{Counted, blocks_from}
 use Rattle.jpeg_streams.specs.Scans.{Arrays}
-use Rattle.jpeg_decoder.specs.Scanning.{blocks_in, counted, reached, vias_in}
+use Rattle.jpeg_decoder.specs.Scanning.{blocks_in, counted, reached, scan_vias}
 use Rattle.jpeg_decoder.specs.Walk.{line_spots}
 use Rattle.jpeg_decoder.proofs.LinesOfBlocks.{line-begins, line-ends, line-goes, line-stops, line-unbegins}
 use Rattle.jpeg_decoder.proofs.scan.kept.read_line.Goals as goal
@@ -12,9 +11,10 @@ use Rattle.jpeg_decoder.proofs.scan.kept.read_line.Goals as goal
 pub returns-then-not-begin-clause-blocks : goal.returns-then-not-begin-clause-blocks
 returns-then-not-begin-clause-blocks g c others =
     let a = c.args in
-    let p = pass_in a.scan.now.pass in
-    let vias = vias_in 0 a.scan.now.components.items in
+    let p = a.scan.now.pass in
+    let vias = scan_vias a.scan.now in
     let n = a.scan.now.restart_interval in
+    let is = c.from-n.ensures ∙ c.restart_interval.ensures in
     let l = c.loop-at in
     let held : Arrays = blocks_in l.array ∷ others in
     let some : 0 < a.first + a.wide - l.at = omega (arith, c.loop-at-test.true) in
@@ -22,15 +22,16 @@ returns-then-not-begin-clause-blocks g c others =
     (blocks_from p vias n (line_spots a.first a.wide) (counted a.interval.now (blocks_in a.array.now ∷ others)))
     a.interval.now.decoder l.interval.decoder c.begin.new.interval.decoder a.source.now l.source c.begin.new.source
     (counted l.interval held) (l.invariant.blocks others) (λ (u : Unit {0}). counted l.interval held)
-    (λ (u : Unit {0}). counted c.begin.new.interval held) _ some (rw c.from-n.ensures at (c.if-not-begin.ensures.begun held)))
+    (λ (u : Unit {0}). counted c.begin.new.interval held) _ some (rw is at (c.if-not-begin.ensures.begun held)))
 
 pub returns-in_err-read_part-clause-blocks : goal.returns-in_err-read_part-clause-blocks
 returns-in_err-read_part-clause-blocks g c others =
     let e = err_from_is_err_and c.from_residual.result c.from_residual.ensures.1 in
     let a = c.args in
-    let p = pass_in a.scan.now.pass in
-    let vias = vias_in 0 a.scan.now.components.items in
+    let p = a.scan.now.pass in
+    let vias = scan_vias a.scan.now in
     let n = a.scan.now.restart_interval in
+    let is = c.from-n.ensures ∙ c.restart_interval.ensures in
     let l = c.loop-at in
     let room : ℕ = a.first + a.wide - l.at in
     let i = c.begin.new.interval in
@@ -43,19 +44,20 @@ returns-in_err-read_part-clause-blocks g c others =
     (counted a.interval.now (blocks_in a.array.now ∷ others)) in
     let begun = line-begins p vias n l.at room whole a.interval.now.decoder l.interval.decoder i.decoder a.source.now
     l.source c.begin.new.source (counted l.interval held) (l.invariant.blocks others) (counted i held) some
-    (λ h. c.if-not-begin.ensures.some refl (omega (arith, h, c.from-n.ensures)))
-    (rw c.from-n.ensures at (c.if-not-begin.ensures.begun held)) in
+    (λ h. c.if-not-begin.ensures.some refl (omega (arith, h, is)))
+    (rw is at (c.if-not-begin.ensures.begun held)) in
     rw (e.1, e.2) (line-stops p vias n l.at room whole a.interval.now.decoder i.decoder new.interval.decoder a.source.now
     c.begin.new.source new.source (counted i held) begun (λ (u : Unit {0}). counted i held)
     (λ (u : Unit {0}). reached new.interval (blocks_in new.array ∷ others)) _ k (a.first + a.wide) fits refl
-    (λ h. c.part_size.ensures.left (omega (arith, h, c.from-n.ensures))) (c.in_err-read_part.ensures.blocks others))
+    (λ h. c.part_size.ensures.left (omega (arith, h, is))) (c.in_err-read_part.ensures.blocks others))
 
 pub loop-at-preserved : goal.loop-at-preserved
 loop-at-preserved g c =
     let a = c.args in
-    let p = pass_in a.scan.now.pass in
-    let vias = vias_in 0 a.scan.now.components.items in
+    let p = a.scan.now.pass in
+    let vias = scan_vias a.scan.now in
     let n = a.scan.now.restart_interval in
+    let is = c.from-n.ensures ∙ c.restart_interval.ensures in
     let l = c.loop-at in
     let room : ℕ = a.first + a.wide - l.at in
     let i = c.begin.new.interval in
@@ -75,12 +77,12 @@ loop-at-preserved g c =
           (counted a.interval.now (blocks_in a.array.now ∷ others)) in
           let begun = line-begins p vias n l.at room whole a.interval.now.decoder l.interval.decoder i.decoder
           a.source.now l.source c.begin.new.source (counted l.interval held) (l.invariant.blocks others)
-          (counted i held) some (λ h. c.if-not-begin.ensures.some refl (omega (arith, h, c.from-n.ensures)))
-          (rw c.from-n.ensures at (c.if-not-begin.ensures.begun held)) in
+          (counted i held) some (λ h. c.if-not-begin.ensures.some refl (omega (arith, h, is)))
+          (rw is at (c.if-not-begin.ensures.begun held)) in
           line-goes p vias n l.at room whole a.interval.now.decoder i.decoder new.interval.decoder a.source.now
           c.begin.new.source new.source (counted i held) begun k (a.first + a.wide) c.saturating_sub-interval.result
           new.interval.number (reached new.interval (blocks_in new.array ∷ others)) fits refl
-          (λ h. c.part_size.ensures.left (omega (arith, h, c.from-n.ensures)))
+          (λ h. c.part_size.ensures.left (omega (arith, h, is)))
           (c.saturating_sub-interval.ensures ∙ ap (λ (m : ℕ). m - (l.at + k - l.at)) c.in_ok-read_part.ensures.left)
           c.in_ok-read_part.ensures.number (c.in_ok-read_part.ensures.blocks others);
     }
@@ -88,8 +90,8 @@ loop-at-preserved g c =
 pub returns-clause-blocks : goal.returns-clause-blocks
 returns-clause-blocks g c others =
     let a = c.args in
-    let p = pass_in a.scan.now.pass in
-    let vias = vias_in 0 a.scan.now.components.items in
+    let p = a.scan.now.pass in
+    let vias = scan_vias a.scan.now in
     let n = a.scan.now.restart_interval in
     let l = c.loop-at in
     line-ends p vias n l.at (a.first + a.wide - l.at)

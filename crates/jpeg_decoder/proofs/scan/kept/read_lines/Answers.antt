@@ -1,9 +1,8 @@
 use Rattle.std.proofs.Common.{◌∷◌, ◌∙◌, arith}
 use Rattle.std.proofs.lemmas.Result.{err_from_is_err_and}
-use Rattle.jpeg_bits.specs.BlockView.{pass_in}
 use Rattle.jpeg_bits.specs.Readers.{Reads}
 use Rattle.jpeg_streams.specs.InTurn.{Counted, blocks_from}
-use Rattle.jpeg_decoder.specs.Scanning.{blocks_in, counted, vias_in}
+use Rattle.jpeg_decoder.specs.Scanning.{blocks_in, counted, scan_vias}
 use Rattle.jpeg_decoder.specs.Walk.{rows_spots}
 use Rattle.jpeg_decoder.proofs.LinesOfBlocks.{rows-end, rows-go, rows-stop}
 use Rattle.jpeg_decoder.proofs.scan.kept.read_lines.Goals as goal
@@ -12,8 +11,8 @@ pub returns-in_err-read_line-clause-blocks : goal.returns-in_err-read_line-claus
 returns-in_err-read_line-clause-blocks g c others =
     let e = err_from_is_err_and c.from_residual.result c.from_residual.ensures.1 in
     let a = c.args in
-    let p = pass_in a.scan.now.pass in
-    let vias = vias_in 0 a.scan.now.components.items in
+    let p = a.scan.now.pass in
+    let vias = scan_vias a.scan.now in
     let n = a.scan.now.restart_interval in
     let l = c.loop-row in
     let new = c.read_line.new in
@@ -28,8 +27,8 @@ returns-in_err-read_line-clause-blocks g c others =
 pub loop-row-preserved : goal.loop-row-preserved
 loop-row-preserved g c =
     let a = c.args in
-    let p = pass_in a.scan.now.pass in
-    let vias = vias_in 0 a.scan.now.components.items in
+    let p = a.scan.now.pass in
+    let vias = scan_vias a.scan.now in
     let n = a.scan.now.restart_interval in
     let l = c.loop-row in
     let new = c.read_line.new in
@@ -49,8 +48,8 @@ loop-row-preserved g c =
 pub returns-clause-blocks : goal.returns-clause-blocks
 returns-clause-blocks g c others =
     let a = c.args in
-    let p = pass_in a.scan.now.pass in
-    let vias = vias_in 0 a.scan.now.components.items in
+    let p = a.scan.now.pass in
+    let vias = scan_vias a.scan.now in
     let n = a.scan.now.restart_interval in
     let l = c.loop-row in
     rows-end p vias n a.grid l.row a.grid.own_high

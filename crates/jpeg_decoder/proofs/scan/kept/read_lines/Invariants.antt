@@ -1,9 +1,8 @@
 use Rattle.std.proofs.Common.{◌≡◌, ◌≤◌, ◌-◌, ◌∷◌, length}
 use Rattle.jpeg_bits.proofs.BandLoop.{Leaves}
-use Rattle.jpeg_bits.specs.BlockView.{pass_in}
 use Rattle.jpeg_streams.specs.InTurn.{blocks_from}
 use Rattle.jpeg_streams.specs.Scans.{Arrays}
-use Rattle.jpeg_decoder.specs.Scanning.{blocks_in, counted, vias_in}
+use Rattle.jpeg_decoder.specs.Scanning.{blocks_in, counted, scan_vias}
 use Rattle.jpeg_decoder.specs.Walk.{rows_spots}
 use Rattle.jpeg_decoder.proofs.scan.kept.read_lines.Given as goal
 
@@ -12,11 +11,11 @@ invariant-loop-row g l = record {
   most : l.row ≤ l.fn.grid.own_high;
   four : length l.interval.carried.predictors ≡ 4;
   size : length (blocks_in l.array) ≡ length (blocks_in l.fn.array);
-  blocks : (others : Arrays) → Leaves (blocks_from (pass_in l.fn.scan.pass)
-      (vias_in 0 l.fn.scan.components.items) l.fn.scan.restart_interval
+  blocks : (others : Arrays) → Leaves (blocks_from l.fn.scan.pass
+      (scan_vias l.fn.scan) l.fn.scan.restart_interval
       (rows_spots l.fn.grid 0 l.fn.grid.own_high) (counted l.fn.interval (blocks_in l.fn.array ∷ others)))
       l.fn.interval.decoder l.fn.source
-      (blocks_from (pass_in l.fn.scan.pass) (vias_in 0 l.fn.scan.components.items) l.fn.scan.restart_interval
+      (blocks_from l.fn.scan.pass (scan_vias l.fn.scan) l.fn.scan.restart_interval
       (rows_spots l.fn.grid l.row (l.fn.grid.own_high - l.row)) (counted l.interval (blocks_in l.array ∷ others)))
       l.interval.decoder l.source;
 }

@@ -1,6 +1,5 @@
 use Rattle.std.proofs.Common.{◌≤◌, ◌+◌, ◌-◌, Ok, Err, List, ℤ, length, ap, ◌∙◌, arith}
 use Rattle.jpeg_bits.specs.Passes.{Block}
-use Rattle.jpeg_bits.specs.BlockView.{pass_in}
 use Rattle.jpeg_bits.specs.Refusals.{kept_refusal}
 use Rattle.jpeg_decoder.proofs.PartTurns.{part-of-array, part-size}
 use Rattle.jpeg_decoder.proofs.scan.kept.read_part.Goals as goal
@@ -17,6 +16,8 @@ returns-then-not-take_bands-clause-blocks g c others =
     let a = c.args in
     let i = a.interval.now in
     let new = c.take_bands.new in
+    let coding = c.coding-coding in
+    let read = rw coding.ensures.pass at c.if-not-take_bands.ensures.blocks in
     let stored : a.first + (a.end - a.first) ≤ length c.deref_mut.result.now
     = omega (
       arith,
@@ -26,9 +27,9 @@ returns-then-not-take_bands-clause-blocks g c others =
     ) in
     rw c.take_refusal.ensures (rw c.in_ok-reach.ensures.blocks at (part-of-array c.reach.new.self c.deref_mut.result.now
     c.take_bands.new.blocks a.first (a.end - a.first) c.deref_mut.ensures.value c.take_bands.auto.blocks
-    (pass_in a.scan.now.pass) a.scan.now.components.items c.index-coded.result.now others i.carried.predictors
+    a.scan.now.pass a.scan.now.codings coding.result.dc_table.now coding.result.ac_table.now others i.carried.predictors
     i.carried.run new.run i.decoder new.decoder a.source.now new.source (Err (kept_refusal new.refusal)) c.requires.alone
-    c.index-coded.ensures c.requires.four stored c.if-not-take_bands.ensures.blocks))
+    coding.ensures.tables c.requires.four stored read))
 
 pub returns-clause-size : goal.returns-clause-size
 returns-clause-size g c =
@@ -42,6 +43,8 @@ returns-clause-blocks g c others =
     let a = c.args in
     let i = a.interval.now in
     let new = c.take_bands.new in
+    let coding = c.coding-coding in
+    let read = rw coding.ensures.pass at c.if-not-take_bands.ensures.blocks in
     let stored : a.first + (a.end - a.first) ≤ length c.deref_mut.result.now
     = omega (
       arith,
@@ -51,6 +54,6 @@ returns-clause-blocks g c others =
     ) in
     rw c.in_ok-reach.ensures.blocks at (part-of-array c.reach.new.self c.deref_mut.result.now
     c.take_bands.new.blocks a.first (a.end - a.first) c.deref_mut.ensures.value c.take_bands.auto.blocks
-    (pass_in a.scan.now.pass) a.scan.now.components.items c.index-coded.result.now others i.carried.predictors
+    a.scan.now.pass a.scan.now.codings coding.result.dc_table.now coding.result.ac_table.now others i.carried.predictors
     i.carried.run new.run i.decoder new.decoder a.source.now new.source (Ok tt) c.requires.alone
-    c.index-coded.ensures c.requires.four stored c.if-not-take_bands.ensures.blocks)
+    coding.ensures.tables c.requires.four stored read)

@@ -1,21 +1,20 @@
 use Rattle.std.proofs.Common.{◌≡◌, length}
 use Rattle.std.specs.List.{AllByRecursion}
 use Rattle.jpeg_bits.proofs.BandLoop.{Leaves}
-use Rattle.jpeg_bits.specs.BlockView.{pass_in}
 use Rattle.jpeg_bits.specs.Passes.{whole_pass}
 use Rattle.jpeg_streams.specs.InTurn.{blocks_from}
-use Rattle.jpeg_decoder.specs.Scanning.{vias_in, arrays_in, counted, kept_blocks, sizes_of, IsSpotOf}
+use Rattle.jpeg_decoder.specs.Scanning.{scan_vias, arrays_in, counted, kept_blocks, sizes_of, IsSpotOf}
 use Rattle.jpeg_decoder.proofs.scan.mcus.read_whole.Given as goal
 
 abbrev pub invariant-loop-spot : goal.invariant-loop-spot
 invariant-loop-spot g l = record {
   sizes : sizes_of l.arrays.items ≡ sizes_of l.fn.arrays.items;
-  spots : AllByRecursion (IsSpotOf (length l.fn.scan.components.items) (sizes_of l.fn.arrays.items)) l.spots;
-  blocks : Leaves (kept_blocks l.fn.scan.keeps_ac (blocks_from (pass_in l.fn.scan.pass)
-      (vias_in 0 l.fn.scan.components.items) l.fn.n l.fn.spots
+  spots : AllByRecursion (IsSpotOf (length l.fn.scan.codings) (sizes_of l.fn.arrays.items)) l.spots;
+  blocks : Leaves (kept_blocks l.fn.scan.keeps_ac (blocks_from l.fn.scan.pass
+      (scan_vias l.fn.scan) l.fn.n l.fn.spots
       (counted l.fn.interval (arrays_in l.fn.arrays.items))))
       l.fn.interval.decoder l.fn.source
-      (kept_blocks l.fn.scan.keeps_ac (blocks_from whole_pass (vias_in 0 l.fn.scan.components.items)
+      (kept_blocks l.fn.scan.keeps_ac (blocks_from whole_pass (scan_vias l.fn.scan)
       l.fn.n l.spots (counted (record l.interval { carried = l.carried; left = l.left }) (arrays_in l.arrays.items))))
       l.decoder l.source;
 }

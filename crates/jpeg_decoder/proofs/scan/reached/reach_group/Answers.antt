@@ -3,7 +3,7 @@ use Rattle.std.proofs.Common.{drop, length, arith}
 use Rattle.std.specs.List.{AllByRecursion}
 use Rattle.std.proofs.lemmas.Grind.{common_steps}
 use Rattle.jpeg_bits.proofs.Loops.{Names-through}
-use Rattle.jpeg_bits.specs.BlockView.{pass_in, predictor_at, to_block}
+use Rattle.jpeg_bits.specs.BlockView.{predictor_at, to_block}
 use Rattle.jpeg_bits.specs.Entropy.{Text, upcoming}
 use Rattle.jpeg_bits.specs.Intervals.{first_group}
 use Rattle.jpeg_bits.specs.Passes.{Block, block_from}
@@ -12,7 +12,7 @@ use Rattle.jpeg_bits.specs.Refusals.{kept_refusal}
 use Rattle.jpeg_bits.specs.Skips.{kept_from}
 use Rattle.jpeg_streams.specs.InTurn.{at_start}
 use Rattle.jpeg_decoder.specs.Reaching.{after_group}
-use Rattle.jpeg_decoder.specs.Scanning.{IsSpotOf, arrays_in, sizes_of, vias_in}
+use Rattle.jpeg_decoder.specs.Scanning.{IsSpotOf, arrays_in, sizes_of, scan_vias}
 use Rattle.jpeg_decoder.proofs.KeptBlocks.{sizes-set, spot, stored-there, turn-kept, turn-refused}
 use Rattle.jpeg_decoder.proofs.KeptScans.{turn-kept-refused}
 use Rattle.jpeg_decoder.proofs.ReachedBlocks.{after-some, ahead-next, after_left, carried_on, first-end, first-none}
@@ -28,7 +28,7 @@ pub returns-in_default-clause-arrays : goal.returns-in_default-clause-arrays
 returns-in_default-clause-arrays g c =
     let l = c.loop-carried in
     sym (ap (λ x. x.0.0.arrays) (l.invariant.reached
-    ∙ group-none (pass_in c.args.scan.now.pass) (vias_in 0 c.args.scan.now.components.items)
+    ∙ group-none c.args.scan.now.pass (scan_vias c.args.scan.now)
     (first_left c.args.n l.left l.spots) (carried_on l.carried (arrays_in l.arrays.items))
     (upcoming l.decoder l.source.bytes) (first-end c.args.n l.left l.spots c.in_default.ensures.first.0)))
 
@@ -38,7 +38,7 @@ returns-in_default-clause-unread g c =
     let e = c.in_default.ensures.first.0 in
     unread-none _ (after_group c.args.n c.args.spots.now) c.first.new.self
     (ap (λ x. x.1) (l.invariant.reached
-    ∙ group-none (pass_in c.args.scan.now.pass) (vias_in 0 c.args.scan.now.components.items)
+    ∙ group-none c.args.scan.now.pass (scan_vias c.args.scan.now)
     (first_left c.args.n l.left l.spots) (carried_on l.carried (arrays_in l.arrays.items))
     (upcoming l.decoder l.source.bytes) (first-end c.args.n l.left l.spots e)))
     (let is : c.first.new.self ≡ after_group c.args.n c.args.spots.now = grind (arith, common_steps) in sym is)
@@ -47,7 +47,7 @@ pub returns-in_default-clause-told : goal.returns-in_default-clause-told
 returns-in_default-clause-told g c =
     let l = c.loop-carried in
     ap (λ x. x.0.1) (l.invariant.reached
-    ∙ group-none (pass_in c.args.scan.now.pass) (vias_in 0 c.args.scan.now.components.items)
+    ∙ group-none c.args.scan.now.pass (scan_vias c.args.scan.now)
     (first_left c.args.n l.left l.spots) (carried_on l.carried (arrays_in l.arrays.items))
     (upcoming l.decoder l.source.bytes) (first-end c.args.n l.left l.spots c.in_default.ensures.first.0))
 
@@ -60,32 +60,33 @@ returns-then-not-take_block-clause-sizes g c =
 -- the fault of a block that is refused, and what is read by then
 refused : (g : Over) (c : After-refusal_in_memory g) → (o : Result ((Block × ℤ × ℕ) × Text) Fault)
     × Names c.refusal_in_memory.result o × ((f : Fault) → o ≡ Err f
-    → ◌≡◌ {A = Read} (read_from (pass_in c.args.scan.now.pass) (vias_in 0 c.args.scan.now.components.items)
+    → ◌≡◌ {A = Read} (read_from c.args.scan.now.pass (scan_vias c.args.scan.now)
     (first_group c.args.n c.args.spots.now) (at_start (arrays_in c.args.arrays.now.items))
     (upcoming c.args.decoder.now c.args.source.now.bytes)) (
       (carried_on c.loop-carried.carried (arrays_in c.reach.new.arrays.items), Err f),
       Some (spot c.in-Some.spot.slot c.in-Some.spot.index),
     ))
 refused g c =
-    let p = pass_in c.args.scan.now.pass in
-    let cs = c.args.scan.now.components.items in
-    let vias = vias_in 0 cs in
+    let p = c.args.scan.now.pass in
+    let vias = scan_vias c.args.scan.now in
     let n = c.args.n in
     let l = c.loop-carried in
     let slot = c.in-Some.spot.slot in
     let index = c.in-Some.spot.index in
     let vs = c.reach.new.arrays.items in
     let first = predictor_at slot l.carried in
-    let coded = c.index-coded.result.now in
-    let of : AllByRecursion (IsSpotOf (length cs) (sizes_of vs)) (spot slot index ∷ drop 1 l.spots) = search rules in
+    let coding = c.coding-coding in
+    let dc = coding.result.dc_table.now in
+    let ac = coding.result.ac_table.now in
+    let of : AllByRecursion (IsSpotOf (length c.args.scan.now.codings) (sizes_of vs)) (spot slot index ∷ drop 1 l.spots) = search rules in
     let goes : n ≡ 0 ⊎ 0 < l.left = elim c.if-n-eq0.branch [
       | then-n-eq0 w ↦ inl w.if-n-eq0.true
       | else-n-eq0+then-left-gt0 w ↦ inr w.if-left-gt0.true
     ] in
     let keeps = c.args.scan.now.keeps_ac in
-    let o = kept_from keeps (block_from p coded.dc.now coded.ac.now first l.carried.run
+    let o = kept_from keeps (block_from p dc ac first l.carried.run
     (to_block c.index_mut-block.result.now)) (upcoming l.decoder l.source.bytes) in
-    let t = c.if-not-take_block.ensures.block in (
+    let t = rw (coding.ensures.pass, coding.ensures.slot, coding.ensures.keeps) at c.if-not-take_block.ensures.block in (
       o,
       names-in-memory c.refusal_in_memory.result (kept_refusal c.take_block.new.refusal)
           c.take_block.new.source.failed c.take_block.new.source.known o
@@ -96,8 +97,8 @@ refused g c =
           ∙ group-refused p vias n l.left l.spots (drop 1 l.spots) (spot slot index) l.carried
           (arrays_in l.arrays.items) (arrays_in vs) (upcoming l.decoder l.source.bytes) f c.in-Some.ensures.first
           c.in_ok-reach.ensures.arrays goes
-          (turn-refused p cs slot index coded vs c.index_mut.result.now c.index_mut-block.result.now
-          l.carried.predictors l.carried.run first of.0 c.index-coded.ensures c.index_mut.ensures.value
+          (turn-refused p vias _ slot index dc ac vs c.index_mut.result.now c.index_mut-block.result.now
+          l.carried.predictors l.carried.run first of.0 coding.ensures.tables c.index_mut.ensures.value
           (stored-there vs slot index c.index_mut.result.now c.index_mut.ensures.value c.in_ok-reach.ensures.stored)
           c.index_mut-block.ensures.value refl (upcoming l.decoder l.source.bytes) f (turn-kept-refused keeps _ f h)),
     )
@@ -125,28 +126,28 @@ returns-then-not-take_block-clause-told g c =
 
 pub loop-carried-preserved : goal.loop-carried-preserved
 loop-carried-preserved g c =
-    let p = pass_in c.args.scan.now.pass in
-    let cs = c.args.scan.now.components.items in
-    let vias = vias_in 0 cs in
+    let p = c.args.scan.now.pass in
+    let vias = scan_vias c.args.scan.now in
     let n = c.args.n in
     let l = c.loop-carried in
     let slot = c.in-Some.spot.slot in
     let index = c.in-Some.spot.index in
     let vs = c.reach.new.arrays.items in
     let first = predictor_at slot l.carried in
-    let coded = c.index-coded.result.now in
-    let of : AllByRecursion (IsSpotOf (length cs) (sizes_of vs)) (spot slot index ∷ drop 1 l.spots) = search rules in
+    let coding = c.coding-coding in
+    let of : AllByRecursion (IsSpotOf (length c.args.scan.now.codings) (sizes_of vs)) (spot slot index ∷ drop 1 l.spots) = search rules in
     let goes : n ≡ 0 ⊎ 0 < l.left = elim c.if-n-eq0.branch [
       | then-n-eq0 w ↦ inl w.if-n-eq0.true
       | else-n-eq0+then-left-gt0 w ↦ inr w.if-left-gt0.true
     ] in
     let keeps = c.args.scan.now.keeps_ac in
-    let t = c.if-not-take_block.ensures.block.1 l.invariant.known in
+    let read = rw (coding.ensures.pass, coding.ensures.slot, coding.ensures.keeps) at c.if-not-take_block.ensures.block in
+    let t = read.1 l.invariant.known in
     let next = taken-left l.spots c.first.new.self c.next.new.self c.next.result c.in-Some.ensures.same
     c.next.ensures in
     let turn = turn-read keeps _ _ _ c.requires.keeps
-    (turn-kept p cs slot index coded vs c.index_mut.result.now c.index_mut-block.result.now l.carried.predictors
-    l.carried.run first of.0 c.index-coded.ensures c.index_mut.ensures.value
+    (turn-kept p vias _ slot index _ _ vs c.index_mut.result.now c.index_mut-block.result.now l.carried.predictors
+    l.carried.run first of.0 coding.ensures.tables c.index_mut.ensures.value
     (stored-there vs slot index c.index_mut.result.now c.index_mut.ensures.value c.in_ok-reach.ensures.stored)
     c.index_mut-block.ensures.value refl keeps c.take_block.new.block
     (predictor_at slot c.take_block.new.carried) c.take_block.new.carried.run _ _ t.1) in
@@ -159,7 +160,7 @@ loop-carried-preserved g c =
       left = rw (c.saturating_sub-left.ensures, next) (l.invariant.left
           ∙ ap (after_left n l.left) c.in-Some.ensures.first
           ∙ after-some n l.left (spot slot index) (drop 1 l.spots) goes);
-      reached = rw (c.if-not-take_block.ensures.others, c.saturating_sub-left.ensures, next) (l.invariant.reached
+      reached = rw (c.if-not-take_block.ensures.others, coding.ensures.slot, c.saturating_sub-left.ensures, next) (l.invariant.reached
           ∙ group-next p vias n l.left l.spots (drop 1 l.spots) (spot slot index) l.carried (arrays_in l.arrays.items)
           (arrays_in vs) (upcoming l.decoder l.source.bytes) _ _ c.in-Some.ensures.first
           c.in_ok-reach.ensures.arrays goes turn);
@@ -169,7 +170,7 @@ pub returns-clause-arrays : goal.returns-clause-arrays
 returns-clause-arrays g c =
     let l = c.loop-carried in
     sym (ap (λ x. x.0.0.arrays) (l.invariant.reached
-    ∙ group-none (pass_in c.args.scan.now.pass) (vias_in 0 c.args.scan.now.components.items)
+    ∙ group-none c.args.scan.now.pass (scan_vias c.args.scan.now)
     (first_left c.args.n l.left l.spots) (carried_on l.carried (arrays_in l.arrays.items))
     (upcoming l.decoder l.source.bytes) (first-none c.args.n l.left l.spots (omega arith) (omega arith))))
 
@@ -178,7 +179,7 @@ returns-clause-unread g c =
     let l = c.loop-carried in
     unread-none _ (after_group c.args.n c.args.spots.now) l.spots
     (ap (λ x. x.1) (l.invariant.reached
-    ∙ group-none (pass_in c.args.scan.now.pass) (vias_in 0 c.args.scan.now.components.items)
+    ∙ group-none c.args.scan.now.pass (scan_vias c.args.scan.now)
     (first_left c.args.n l.left l.spots) (carried_on l.carried (arrays_in l.arrays.items))
     (upcoming l.decoder l.source.bytes) (first-none c.args.n l.left l.spots (omega arith) (omega arith))))
     (let is : l.spots ≡ after_group c.args.n c.args.spots.now = grind (arith, common_steps) in sym is)
@@ -187,6 +188,6 @@ pub returns-clause-told : goal.returns-clause-told
 returns-clause-told g c =
     let l = c.loop-carried in
     ap (λ x. x.0.1) (l.invariant.reached
-    ∙ group-none (pass_in c.args.scan.now.pass) (vias_in 0 c.args.scan.now.components.items)
+    ∙ group-none c.args.scan.now.pass (scan_vias c.args.scan.now)
     (first_left c.args.n l.left l.spots) (carried_on l.carried (arrays_in l.arrays.items))
     (upcoming l.decoder l.source.bytes) (first-none c.args.n l.left l.spots (omega arith) (omega arith)))

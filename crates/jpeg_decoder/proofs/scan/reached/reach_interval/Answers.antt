@@ -3,7 +3,7 @@ use Rattle.jpeg_bits.specs.Intervals.{first_group}
 use Rattle.jpeg_streams.specs.Order.{Spot}
 use Rattle.jpeg_streams.specs.WholeRows.{or_first}
 use Rattle.jpeg_decoder.specs.Reaching.{after_group, IsIntervalEnd}
-use Rattle.jpeg_decoder.specs.Scanning.{arrays_in, scan_pass, scan_vias}
+use Rattle.jpeg_decoder.specs.Scanning.{arrays_in, scan_vias}
 use Rattle.jpeg_decoder.proofs.ReachedIntervals.{end-answers, end-found, end-reached, interval-arrays}
 use Rattle.jpeg_decoder.proofs.ReachedIntervals.{interval-outcome, interval-unread, outcome_of, read_of}
 use Rattle.jpeg_decoder.proofs.scan.reached.reach_interval.Goals as goal
@@ -16,7 +16,7 @@ returns-clause-left g c =
 pub returns-clause-arrays : goal.returns-clause-arrays
 returns-clause-arrays g c =
     let a = c.args in
-    let p = scan_pass a.scan.now in
+    let p = a.scan.now.pass in
     let vias = scan_vias a.scan.now in
     let spots = first_group a.n a.spots.now in
     let arrays = arrays_in a.arrays.now.items in
@@ -33,7 +33,7 @@ returns-clause-arrays g c =
 pub returns-clause-unread : goal.returns-clause-unread
 returns-clause-unread g c =
     let a = c.args in
-    let p = scan_pass a.scan.now in
+    let p = a.scan.now.pass in
     let vias = scan_vias a.scan.now in
     let spots = first_group a.n a.spots.now in
     let arrays = arrays_in a.arrays.now.items in
@@ -51,7 +51,7 @@ returns-clause-unread g c =
 pub returns-clause-answers : goal.returns-clause-answers
 returns-clause-answers g c =
     let a = c.args in
-    let p = scan_pass a.scan.now in
+    let p = a.scan.now.pass in
     let vias = scan_vias a.scan.now in
     let spots = first_group a.n a.spots.now in
     let arrays = arrays_in a.arrays.now.items in

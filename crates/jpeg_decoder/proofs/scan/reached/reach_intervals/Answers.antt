@@ -2,7 +2,7 @@ use Rattle.std.proofs.Common.{rules, ◌≡◌, ◌∙◌, ◌+◌, ◌<◌, ◌
 use Rattle.std.proofs.lemmas.Result.{err_from_is_err_and}
 use Rattle.std.specs.List.{AllByRecursion}
 use Rattle.jpeg_bits.specs.Intervals.{is_restart}
-use Rattle.jpeg_decoder.specs.Scanning.{arrays_in, scan_pass, scan_vias, sizes_of, IsSpotOf}
+use Rattle.jpeg_decoder.specs.Scanning.{arrays_in, scan_vias, sizes_of, IsSpotOf}
 use Rattle.jpeg_decoder.proofs.GroupedScans.{after-all, blocks_loop, first-refused-answers}
 use Rattle.jpeg_decoder.proofs.GroupedScans.{first-refused-state, next-refused-answers, next-refused-state}
 use Rattle.jpeg_decoder.proofs.GroupedScans.{passed-answers, runs-first, runs-next, whole_of}
@@ -13,7 +13,7 @@ use Rattle.jpeg_decoder.proofs.scan.reached.reach_intervals.Goals as goal
 pub returns-in_err-end-clause-arrays : goal.returns-in_err-end-clause-arrays
 returns-in_err-end-clause-arrays g c =
     let a = c.args in
-    let s = blocks_loop (scan_pass a.scan.now) (scan_vias a.scan.now) in
+    let s = blocks_loop a.scan.now.pass (scan_vias a.scan.now) in
     let p = err_from_is_err_and c.from_residual.result c.from_residual.ensures.1 in
     rw (p.1, p.2) (
     first-refused-state s a.n a.spots.now (arrays_in a.arrays.now.items)
@@ -26,7 +26,7 @@ returns-in_err-end-clause-unread g c =
     let a = c.args in
     let p = err_from_is_err_and c.from_residual.result c.from_residual.ensures.1 in
     rw (p.1, p.2) (
-    first-refused (scan_pass a.scan.now) (scan_vias a.scan.now) a.n a.spots.now (arrays_in a.arrays.now.items)
+    first-refused a.scan.now.pass (scan_vias a.scan.now) a.n a.spots.now (arrays_in a.arrays.now.items)
     a.source.now c.reach_interval.new.source c.in_err-end.field-0.0 _ c.in_err-end.ensures.answers
     c.in_err-end.ensures.unread
     )
@@ -34,7 +34,7 @@ returns-in_err-end-clause-unread g c =
 pub returns-in_err-end-clause-answers : goal.returns-in_err-end-clause-answers
 returns-in_err-end-clause-answers g c =
     let a = c.args in
-    let s = blocks_loop (scan_pass a.scan.now) (scan_vias a.scan.now) in
+    let s = blocks_loop a.scan.now.pass (scan_vias a.scan.now) in
     let p = err_from_is_err_and c.from_residual.result c.from_residual.ensures.1 in
     rw (p.1, p.2) (
     first-refused-answers s a.n a.spots.now (arrays_in a.arrays.now.items)
@@ -44,21 +44,21 @@ returns-in_err-end-clause-answers g c =
 pub loop-end-init : goal.loop-end-init
 loop-end-init g c =
     let a = c.args in
-    let s = blocks_loop (scan_pass a.scan.now) (scan_vias a.scan.now) in
+    let s = blocks_loop a.scan.now.pass (scan_vias a.scan.now) in
     let is = c.in_ok-end.ensures.left in
     record {
       sizes = c.in_ok-end.ensures.sizes;
       spots =
-          subst (AllByRecursion (IsSpotOf (length a.scan.now.components.items) (sizes_of a.arrays.now.items)))
+          subst (AllByRecursion (IsSpotOf (length a.scan.now.codings) (sizes_of a.arrays.now.items)))
           (sym is)
-          (after-all (IsSpotOf (length a.scan.now.components.items) (sizes_of a.arrays.now.items)) a.n a.spots.now
+          (after-all (IsSpotOf (length a.scan.now.codings) (sizes_of a.arrays.now.items)) a.n a.spots.now
           c.requires.spots);
       runs =
           runs-first s a.n a.spots.now c.reach_interval.new.spots
           (arrays_in a.arrays.now.items) (arrays_in c.reach_interval.new.arrays.items) a.source.now
           c.reach_interval.new.source c.in_ok-end.end is c.in_ok-end.ensures.arrays c.in_ok-end.ensures.answers;
       unread =
-          lacks-first (scan_pass a.scan.now) (scan_vias a.scan.now) a.n a.spots.now c.reach_interval.new.spots
+          lacks-first a.scan.now.pass (scan_vias a.scan.now) a.n a.spots.now c.reach_interval.new.spots
           (arrays_in a.arrays.now.items) (arrays_in c.reach_interval.new.arrays.items) a.source.now
           c.reach_interval.new.source c.in_ok-end.end is c.in_ok-end.ensures.arrays c.in_ok-end.ensures.unread
           c.in_ok-end.ensures.answers;
@@ -67,7 +67,7 @@ loop-end-init g c =
 pub returns-in_err-end-2-clause-arrays : goal.returns-in_err-end-2-clause-arrays
 returns-in_err-end-2-clause-arrays g c =
     let a = c.args in
-    let s = blocks_loop (scan_pass a.scan.now) (scan_vias a.scan.now) in
+    let s = blocks_loop a.scan.now.pass (scan_vias a.scan.now) in
     let whole = whole_of s a.n a.spots.now (arrays_in a.arrays.now.items) in
     let l = c.loop-end in
     let some : 0 < length l.spots = search rules in
@@ -91,8 +91,8 @@ returns-in_err-end-2-clause-unread g c =
     let restart : is_restart l.number (Some l.end.1) ≡ true = search rules in
     let p = err_from_is_err_and c.from_residual-in_err-end-2.result c.from_residual-in_err-end-2.ensures.1 in
     rw (p.1, p.2) (
-    next-refused (whole_by (scan_pass a.scan.now) vias a.n a.spots.now (arrays_in a.arrays.now.items))
-    (scan_pass a.scan.now) vias a.n l.number l.spots (arrays_in l.arrays.items) a.source.now l.source
+    next-refused (whole_by a.scan.now.pass vias a.n a.spots.now (arrays_in a.arrays.now.items))
+    a.scan.now.pass vias a.n l.number l.spots (arrays_in l.arrays.items) a.source.now l.source
     c.reach_interval-in-loop-end.new.source l.end c.in_err-end-2.field-0.0 _ some near restart l.invariant.unread
     c.in_err-end-2.ensures.answers c.in_err-end-2.ensures.unread
     )
@@ -100,7 +100,7 @@ returns-in_err-end-2-clause-unread g c =
 pub returns-in_err-end-2-clause-answers : goal.returns-in_err-end-2-clause-answers
 returns-in_err-end-2-clause-answers g c =
     let a = c.args in
-    let s = blocks_loop (scan_pass a.scan.now) (scan_vias a.scan.now) in
+    let s = blocks_loop a.scan.now.pass (scan_vias a.scan.now) in
     let whole = whole_of s a.n a.spots.now (arrays_in a.arrays.now.items) in
     let l = c.loop-end in
     let some : 0 < length l.spots = search rules in
@@ -116,13 +116,13 @@ returns-in_err-end-2-clause-answers g c =
 pub loop-end-preserved : goal.loop-end-preserved
 loop-end-preserved g c =
     let a = c.args in
-    let s = blocks_loop (scan_pass a.scan.now) (scan_vias a.scan.now) in
+    let s = blocks_loop a.scan.now.pass (scan_vias a.scan.now) in
     let whole = whole_of s a.n a.spots.now (arrays_in a.arrays.now.items) in
     let l = c.loop-end in
     let some : 0 < length l.spots = search rules in
     let near : l.end.0 ≡ true = search rules in
     let restart : is_restart l.number (Some l.end.1) ≡ true = search rules in
-    let p = scan_pass a.scan.now in
+    let p = a.scan.now.pass in
     let vias = scan_vias a.scan.now in
     let is = c.in_ok-end-2.ensures.left in
     let next : ℕ = (l.number + 1) % 256 % 8 in
@@ -130,9 +130,9 @@ loop-end-preserved g c =
     record {
       sizes = c.in_ok-end-2.ensures.sizes ∙ l.invariant.sizes;
       spots =
-          subst (AllByRecursion (IsSpotOf (length a.scan.now.components.items) (sizes_of a.arrays.now.items)))
+          subst (AllByRecursion (IsSpotOf (length a.scan.now.codings) (sizes_of a.arrays.now.items)))
           (sym is)
-          (after-all (IsSpotOf (length a.scan.now.components.items) (sizes_of a.arrays.now.items)) a.n l.spots
+          (after-all (IsSpotOf (length a.scan.now.codings) (sizes_of a.arrays.now.items)) a.n l.spots
           l.invariant.spots);
       runs =
           runs-next whole s a.n l.number next l.spots
@@ -151,7 +151,7 @@ loop-end-preserved g c =
 pub returns-then-end-clause-answers : goal.returns-then-end-clause-answers
 returns-then-end-clause-answers g c =
     let a = c.args in
-    let s = blocks_loop (scan_pass a.scan.now) (scan_vias a.scan.now) in
+    let s = blocks_loop a.scan.now.pass (scan_vias a.scan.now) in
     let whole = whole_of s a.n a.spots.now (arrays_in a.arrays.now.items) in
     let l = c.loop-end in
     let none : l.spots ≡ [] = search rules in
@@ -166,6 +166,6 @@ returns-then-end-clause-unread g c =
     let vias = scan_vias a.scan.now in
     let none : l.spots ≡ [] = search rules in
     told-any _ a.source.now c.pass_restarts.new.source c.pass_restarts.result
-    (last-lacks (whole_by (scan_pass a.scan.now) vias a.n a.spots.now (arrays_in a.arrays.now.items))
-    (scan_pass a.scan.now) vias a.n l.number l.spots (arrays_in l.arrays.items) a.source.now l.source l.end
+    (last-lacks (whole_by a.scan.now.pass vias a.n a.spots.now (arrays_in a.arrays.now.items))
+    a.scan.now.pass vias a.n l.number l.spots (arrays_in l.arrays.items) a.source.now l.source l.end
     l.invariant.unread none)

@@ -1,7 +1,6 @@
 use Rattle.std.proofs.Common.{◌≡◌, length}
 use Rattle.std.specs.List.{AllByRecursion}
-use Rattle.jpeg_bits.specs.BlockView.{pass_in}
-use Rattle.jpeg_decoder.specs.Scanning.{vias_in, arrays_in, sizes_of, IsSpotOf}
+use Rattle.jpeg_decoder.specs.Scanning.{scan_vias, arrays_in, sizes_of, IsSpotOf}
 use Rattle.jpeg_decoder.proofs.GroupedScans.{Runs, blocks_loop, whole_of}
 use Rattle.jpeg_decoder.proofs.UnreadIntervals.{Lacks, whole_by}
 use Rattle.jpeg_decoder.proofs.scan.reached.reach_intervals.Given as goal
@@ -9,13 +8,13 @@ use Rattle.jpeg_decoder.proofs.scan.reached.reach_intervals.Given as goal
 abbrev pub invariant-loop-end : goal.invariant-loop-end
 invariant-loop-end g l = record {
   sizes : sizes_of l.arrays.items ≡ sizes_of l.fn.arrays.items;
-  spots : AllByRecursion (IsSpotOf (length l.fn.scan.components.items) (sizes_of l.fn.arrays.items)) l.spots;
-  runs : Runs (whole_of (blocks_loop (pass_in l.fn.scan.pass) (vias_in 0 l.fn.scan.components.items)) l.fn.n
+  spots : AllByRecursion (IsSpotOf (length l.fn.scan.codings) (sizes_of l.fn.arrays.items)) l.spots;
+  runs : Runs (whole_of (blocks_loop l.fn.scan.pass (scan_vias l.fn.scan)) l.fn.n
       l.fn.spots (arrays_in l.fn.arrays.items))
-      (blocks_loop (pass_in l.fn.scan.pass) (vias_in 0 l.fn.scan.components.items)) l.fn.n l.fn.source
+      (blocks_loop l.fn.scan.pass (scan_vias l.fn.scan)) l.fn.n l.fn.source
       l.number l.end l.spots (arrays_in l.arrays.items) l.source;
-  unread : Lacks (whole_by (pass_in l.fn.scan.pass) (vias_in 0 l.fn.scan.components.items) l.fn.n l.fn.spots
-      (arrays_in l.fn.arrays.items)) (pass_in l.fn.scan.pass) (vias_in 0 l.fn.scan.components.items) l.fn.n
+  unread : Lacks (whole_by l.fn.scan.pass (scan_vias l.fn.scan) l.fn.n l.fn.spots
+      (arrays_in l.fn.arrays.items)) l.fn.scan.pass (scan_vias l.fn.scan) l.fn.n
       l.fn.source l.number l.end l.spots (arrays_in l.arrays.items) l.source;
 }
 

@@ -1,14 +1,13 @@
 use Rattle.std.proofs.Common.{◌≡◌, ◌∙◌, ap, sym, subst}
 use Rattle.std.proofs.lemmas.Result.{err_from_is_err_and}
 use Rattle.std.specs.Prelude.{slice_get}
-use Rattle.jpeg_bits.specs.BlockView.{pass_in}
 use Rattle.jpeg_bits.specs.Intervals.{first_group}
 use Rattle.jpeg_bits.specs.Reading.{Names}
 use Rattle.jpeg_streams.specs.InTurn.{at_start}
 use Rattle.jpeg_streams.specs.States.{IfRefused}
 use Rattle.jpeg_streams.specs.WholeRows.{or_first}
 use Rattle.jpeg_decoder.specs.Reaching.{after_group}
-use Rattle.jpeg_decoder.specs.Scanning.{arrays_in, vias_in}
+use Rattle.jpeg_decoder.specs.Scanning.{arrays_in, scan_vias}
 use Rattle.jpeg_decoder.proofs.LosslessReads.{on-ok}
 use Rattle.jpeg_decoder.proofs.ReachedBlocks.{ahead-fresh, near-tells, start-alike}
 use Rattle.jpeg_decoder.proofs.ReachedData.{unless}
@@ -19,7 +18,7 @@ reach_group-requires-clause-ahead c = rw c.new-decoder.ensures (ahead-fresh c.ne
 
 pub returns-in_err-reach_group-clause-arrays : goal.returns-in_err-reach_group-clause-arrays
 returns-in_err-reach_group-clause-arrays c =
-    let same = start-alike (pass_in c.args.scan.now.pass) (vias_in 0 c.args.scan.now.components.items)
+    let same = start-alike c.args.scan.now.pass (scan_vias c.args.scan.now)
     (first_group c.args.n c.args.spots.now) (at_start (arrays_in c.args.arrays.now.items)) c.new-decoder.result
     c.new-source.result.bytes c.args.bytes.now c.new-decoder.ensures
     (ap (λ s. s.bytes) c.new-source.ensures ∙ c.new.ensures) in
@@ -29,7 +28,7 @@ returns-in_err-reach_group-clause-arrays c =
 
 pub returns-in_err-reach_group-clause-unread : goal.returns-in_err-reach_group-clause-unread
 returns-in_err-reach_group-clause-unread c =
-    let same = start-alike (pass_in c.args.scan.now.pass) (vias_in 0 c.args.scan.now.components.items)
+    let same = start-alike c.args.scan.now.pass (scan_vias c.args.scan.now)
     (first_group c.args.n c.args.spots.now) (at_start (arrays_in c.args.arrays.now.items)) c.new-decoder.result
     c.new-source.result.bytes c.args.bytes.now c.new-decoder.ensures
     (ap (λ s. s.bytes) c.new-source.ensures ∙ c.new.ensures) in
@@ -40,7 +39,7 @@ returns-in_err-reach_group-clause-unread c =
 
 pub returns-in_err-reach_group-clause-told : goal.returns-in_err-reach_group-clause-told
 returns-in_err-reach_group-clause-told c =
-    let same = start-alike (pass_in c.args.scan.now.pass) (vias_in 0 c.args.scan.now.components.items)
+    let same = start-alike c.args.scan.now.pass (scan_vias c.args.scan.now)
     (first_group c.args.n c.args.spots.now) (at_start (arrays_in c.args.arrays.now.items)) c.new-decoder.result
     c.new-source.result.bytes c.args.bytes.now c.new-decoder.ensures
     (ap (λ s. s.bytes) c.new-source.ensures ∙ c.new.ensures) in
@@ -52,7 +51,7 @@ returns-clause-left c = on-ok c.is_near_end.result c.in_ok-reach_group.ensures.l
 
 pub returns-clause-arrays : goal.returns-clause-arrays
 returns-clause-arrays c =
-    let same = start-alike (pass_in c.args.scan.now.pass) (vias_in 0 c.args.scan.now.components.items)
+    let same = start-alike c.args.scan.now.pass (scan_vias c.args.scan.now)
     (first_group c.args.n c.args.spots.now) (at_start (arrays_in c.args.arrays.now.items)) c.new-decoder.result
     c.new-source.result.bytes c.args.bytes.now c.new-decoder.ensures
     (ap (λ s. s.bytes) c.new-source.ensures ∙ c.new.ensures) in
@@ -60,7 +59,7 @@ returns-clause-arrays c =
 
 pub returns-clause-unread : goal.returns-clause-unread
 returns-clause-unread c =
-    let same = start-alike (pass_in c.args.scan.now.pass) (vias_in 0 c.args.scan.now.components.items)
+    let same = start-alike c.args.scan.now.pass (scan_vias c.args.scan.now)
     (first_group c.args.n c.args.spots.now) (at_start (arrays_in c.args.arrays.now.items)) c.new-decoder.result
     c.new-source.result.bytes c.args.bytes.now c.new-decoder.ensures
     (ap (λ s. s.bytes) c.new-source.ensures ∙ c.new.ensures) in
@@ -69,7 +68,7 @@ returns-clause-unread c =
 
 pub returns-clause-told : goal.returns-clause-told
 returns-clause-told c =
-    let same = start-alike (pass_in c.args.scan.now.pass) (vias_in 0 c.args.scan.now.components.items)
+    let same = start-alike c.args.scan.now.pass (scan_vias c.args.scan.now)
     (first_group c.args.n c.args.spots.now) (at_start (arrays_in c.args.arrays.now.items)) c.new-decoder.result
     c.new-source.result.bytes c.args.bytes.now c.new-decoder.ensures
     (ap (λ s. s.bytes) c.new-source.ensures ∙ c.new.ensures) in

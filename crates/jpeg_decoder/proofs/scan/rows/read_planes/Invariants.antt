@@ -1,11 +1,9 @@
 use Rattle.std.proofs.Common.{◌≡◌, ◌<◌, ◌*◌, ◌-◌, [], length, map}
 use Rattle.std.specs.List.{AllByRecursion, range_with_len}
 use Rattle.jpeg_bits.proofs.BandLoop.{Leaves}
-use Rattle.jpeg_bits.specs.BlockView.{pass_in}
 use Rattle.jpeg_bits.specs.Entropy.{fresh}
 use Rattle.jpeg_streams.specs.InTurn.{counted_at_start}
-use Rattle.jpeg_decoder.specs.Scanning.{IsSpotOf, counted, down_in, sizes_of, vias_in}
-use Rattle.jpeg_decoder.specs.Steps.{coding_in}
+use Rattle.jpeg_decoder.specs.Scanning.{IsSpotOf, counted, down_in, sizes_of, scan_vias}
 use Rattle.jpeg_decoder.specs.GrowingView.{GrowsFor, growing_in, is_joint}
 use Rattle.jpeg_decoder.specs.Strips.{no_samples, row_sizes, strip_samples, strips_from}
 use Rattle.jpeg_decoder.specs.Walk.{walk_of_row, walks_of_rows}
@@ -13,22 +11,22 @@ use Rattle.jpeg_decoder.proofs.scan.rows.read_planes.Given as goal
 
 abbrev pub invariant-loop-row : goal.invariant-loop-row
 invariant-loop-row g l = record {
-  sizes : sizes_of l.rows.items ≡ row_sizes l.fn.scan.components.items;
-  spots : AllByRecursion (AllByRecursion (IsSpotOf (length l.fn.scan.components.items)
-      (row_sizes l.fn.scan.components.items)))
+  sizes : sizes_of l.rows.items ≡ row_sizes l.fn.scan.codings;
+  spots : AllByRecursion (AllByRecursion (IsSpotOf (length l.fn.scan.codings)
+      (row_sizes l.fn.scan.codings)))
       (map (walk_of_row l.order) (range_with_len l.row (l.order.rows - l.row)));
-  growing : GrowsFor (map coding_in l.fn.scan.components.items) l.planes;
+  growing : GrowsFor l.fn.scan.codings l.planes;
   kind : is_joint l.planes ≡ is_joint l.fn.planes;
   some : 0 < length (growing_in l.planes) → 0 < length (growing_in l.fn.planes);
-  lengths : growing_in l.fn.planes ≡ no_samples (map coding_in l.fn.scan.components.items)
+  lengths : growing_in l.fn.planes ≡ no_samples l.fn.scan.codings
       → map length (growing_in l.planes)
-      ≡ map (λ c. strip_samples (l.row * down_in c) c) l.fn.scan.components.items;
-  strips : Leaves (strips_from (pass_in l.fn.scan.pass)
-      (vias_in 0 l.fn.scan.components.items) l.order.interval (map coding_in l.fn.scan.components.items)
+      ≡ map (λ c. strip_samples (l.row * down_in c) c) l.fn.scan.codings;
+  strips : Leaves (strips_from l.fn.scan.pass
+      (scan_vias l.fn.scan) l.order.interval l.fn.scan.codings
       (walks_of_rows l.order) (growing_in l.fn.planes) (counted_at_start l.order.interval []))
       fresh l.fn.source
-      (strips_from (pass_in l.fn.scan.pass) (vias_in 0 l.fn.scan.components.items) l.order.interval
-      (map coding_in l.fn.scan.components.items)
+      (strips_from l.fn.scan.pass (scan_vias l.fn.scan) l.order.interval
+      l.fn.scan.codings
       (map (walk_of_row l.order) (range_with_len l.row (l.order.rows - l.row)))
       (growing_in l.planes) (counted l.interval []))
       l.interval.decoder l.source;

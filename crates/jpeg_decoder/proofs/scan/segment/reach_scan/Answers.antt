@@ -1,4 +1,4 @@
-use Rattle.std.proofs.Common.{◌≡◌, ◌∙◌, ap, arith, List, Ok, Option, refl, rules, Some, subst}
+use Rattle.std.proofs.Common.{◌≡◌, ◌∙◌, ap, List, Ok, Option, refl, rules, Some, subst}
 use Rattle.std.proofs.Common.{sym, true, false, ℕ}
 use Rattle.jpeg_streams.specs.ScanSegments.{once_scanned}
 use Rattle.jpeg_bits.specs.Reading.{Answers}
@@ -19,7 +19,7 @@ use Rattle.jpeg_decoder.proofs.ReachedScans.{blocks-count, ended-rows, ended-who
 use Rattle.jpeg_decoder.proofs.ReachedScans.{blocks-begin, decoded-sound, ended-found, ended-reads, ended-steps}
 use Rattle.jpeg_decoder.proofs.ReachedScans.{ended-unless, no-codings, no-frame, no-header, no-samples, none-reads}
 use Rattle.jpeg_decoder.proofs.ReachedScans.{moved, none-stays, samples-begin, BeginsData, Data}
-use Rattle.jpeg_decoder.proofs.ReadableScans.{before-said, decoded-scales, legal-pass, ready, scanned-before}
+use Rattle.jpeg_decoder.proofs.ReadableScans.{before-said, decoded-few, decoded-scales, legal-pass, ready, scanned-before}
 use Rattle.jpeg_decoder.proofs.ReadableScans.{some-after}
 use Rattle.jpeg_decoder.proofs.ScanData.{before-as}
 use Rattle.jpeg_decoder.proofs.ScanReads.{is-dct}
@@ -211,6 +211,13 @@ codings_of-requires-clause-scales g c =
     decoded-scales frame (c.requires.sound.frames frame (ap (λ (f : Found). f.said.frame)
     (sym (c.state.view_is ∙ c.widen_tables.ensures)) ∙ framed))
 
+pub codings_of-requires-clause-few : goal.codings_of-requires-clause-few
+codings_of-requires-clause-few g c =
+    let frame = frame_in c.in_ok-frame.frame.now in
+    let framed : (found_of c.state.inside.said c.state.inside.decoded).said.frame ≡ Some frame = search rules in
+    decoded-few frame (c.requires.sound.frames frame (ap (λ (f : Found). f.said.frame)
+    (sym (c.state.view_is ∙ c.widen_tables.ensures)) ∙ framed))
+
 pub returns-in_err-components-clause-reads : goal.returns-in_err-components-clause-reads
 returns-in_err-components-clause-reads g c =
     none-reads _ _ _ _ _ _ _ c.from_residual-in_err-components.ensures.1
@@ -246,7 +253,6 @@ invariant_of-scan g c =
     record {
       legal = legal-pass (frame_in c.in_ok-frame.frame.now).process c.in_ok-header.header _
           (is-dct _ (search rules)) c.in_ok-header.ensures.scan.coded c.pass_of.ensures;
-      few = omega (arith, c.in_ok-components.ensures.count, c.in_ok-header.ensures.scan.most);
       dc_alone = λ e. absurd (true-false e);
     }
 

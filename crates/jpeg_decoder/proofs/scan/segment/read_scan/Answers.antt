@@ -1,4 +1,4 @@
-use Rattle.std.proofs.Common.{◌≡◌, ◌∙◌, ap, arith, Err, List, Ok, Option, refl, rules, Some, subst}
+use Rattle.std.proofs.Common.{◌≡◌, ◌∙◌, ap, Err, List, Ok, Option, refl, rules, Some, subst}
 use Rattle.std.proofs.Common.{sym, true, ℕ}
 use Rattle.std.specs.declared.alloc.Global.{Global}
 use Rattle.std.specs.declared.vec.Vec.{Vec}
@@ -11,7 +11,7 @@ use Rattle.jpeg_streams.specs.Sound.{IsSound}
 use Rattle.jpeg_decoder.specs.Seen.{found_of}
 use Rattle.jpeg_decoder.specs.PlanesView.{planes_in}
 use Rattle.jpeg_decoder.specs.Steps.{IsStep, with_decoded}
-use Rattle.jpeg_decoder.proofs.ReadableScans.{before-said, decoded-scales, legal-pass, ready, scanned-before}
+use Rattle.jpeg_decoder.proofs.ReadableScans.{before-said, decoded-few, decoded-scales, legal-pass, ready, scanned-before}
 use Rattle.jpeg_decoder.proofs.ReadableScans.{some-after}
 use Rattle.jpeg_decoder.proofs.ScanData.{before-as}
 use Rattle.jpeg_decoder.proofs.ScanReads.{blocks-sound, codings-refused, data-refused}
@@ -54,6 +54,13 @@ codings_of-requires-clause-scales g c =
     decoded-scales frame (c.requires.sound.frames frame (ap (λ (f : Found). f.said.frame)
     (sym (c.state.view_is ∙ c.widen_tables.ensures)) ∙ framed))
 
+pub codings_of-requires-clause-few : goal.codings_of-requires-clause-few
+codings_of-requires-clause-few g c =
+    let frame = frame_in c.in_ok-frame.frame.now in
+    let framed : (found_of c.state.inside.said c.state.inside.decoded).said.frame ≡ Some frame = search rules in
+    decoded-few frame (c.requires.sound.frames frame (ap (λ (f : Found). f.said.frame)
+    (sym (c.state.view_is ∙ c.widen_tables.ensures)) ∙ framed))
+
 pub returns-in_err-components-clause-reads : goal.returns-in_err-components-clause-reads
 returns-in_err-components-clause-reads g c =
     segment-refused _ _ _ _ _ _ _ c.from_residual-in_err-components.ensures.1
@@ -72,8 +79,7 @@ invariant_of-scan g c =
     record {
       legal = legal-pass (frame_in c.in_ok-frame.frame.now).process c.in_ok-header.header _ (is-dct _ (search rules))
           c.in_ok-header.ensures.scan.coded c.pass_of-pass.ensures;
-      few = omega (arith, c.in_ok-components.ensures.count, c.in_ok-header.ensures.scan.most);
-      dc_alone = rw (sym c.deref.ensures.value) c.wants_ac.ensures.dc_alone;
+      dc_alone = c.wants_ac.ensures.dc_alone;
     }
 
 pub read-requires-clause-ready : goal.read-requires-clause-ready

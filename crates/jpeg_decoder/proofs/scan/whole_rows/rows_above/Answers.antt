@@ -1,8 +1,10 @@
-use Rattle.std.proofs.Common.{rules, ◌≡◌, ◌∙◌, ◌*◌, ◌==◌, ◌/◌, ap, sym, length, min, ℕ, Some}
+use Rattle.std.proofs.Common.{List, ◌≡◌, ◌∙◌, ◌*◌, ◌==◌, ◌/◌, ap, sym, length, min, ℕ, Some}
 use Rattle.std.specs.Prelude.{slice_get}
 use Rattle.std.proofs.lemmas.List.{length-map}
 use Rattle.jpeg_segments.specs.FrameView.{component_in, frame_in}
 use Rattle.jpeg_decoder.specs.Scanning.{scan_components}
+use Rattle.jpeg_decoder.specs.Steps.{coding_in}
+use Rattle.jpeg_streams.specs.ScanSegments.{Coding}
 use Rattle.jpeg_decoder.proofs.RowsAbove.{above-line, slot-component}
 use Rattle.jpeg_decoder.proofs.scan.whole_rows.rows_above.Goals as goal
 
@@ -14,12 +16,13 @@ returns c =
     let part = component_in coded.component.now in
     let n = c.lines_above-lines.result in
     let found = c.in-Some.ensures.lookup in
-    let long : length c.args.scan.now.components.items ≡ c.len-is_alone.result = search rules in
-    let count : length cs ≡ c.len-is_alone.result =
-    length-map c.args.scan.now.components.items (λ c. component_in c.component.now) ∙ long in
+    let seen = c.components-codings.result.now in
+    let same = c.components-codings.ensures.codings in
+    let count : length cs ≡ length seen =
+    length-map c.args.scan.now.codings (λ (k : Coding). k.component)
+    ∙ sym (ap (λ (l : List Coding). length l) same) ∙ length-map seen coding_in in
     let component : slice_get cs c.args.spot.slot ≡ Some part =
-    slot-component c.args.scan.now.components.items c.deref.result.now c.args.spot.slot coded c.deref.ensures.value
-    found.3.0 found.1 in
+    slot-component c.args.scan.now.codings seen c.args.spot.slot coded same found.3.0 found.1 in
     let line = c.args.spot.index / part.blocks_wide in
     rw component (
     c.rows_of_lines.ensures

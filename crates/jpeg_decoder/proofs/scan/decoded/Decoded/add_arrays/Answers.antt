@@ -1,5 +1,4 @@
 use Rattle.std.proofs.Common.{◌≡◌, ◌∙◌, arith, rules, length, get_or, ◌<◌}
-use Rattle.jpeg_bits.specs.BlockView.{pass_in}
 use Rattle.jpeg_decoder.specs.Steps.{with_decoded}
 use Rattle.jpeg_decoder.proofs.PutLoops.{arrays-step, none-left, sized-at, long-at}
 use Rattle.jpeg_streams.specs.ScanSegments.{with_arrays}
@@ -15,11 +14,11 @@ add_blocks-requires-clause-blocks c = grind (arith, common_steps, sized-at)
 pub loop-slot-preserved : goal.loop-slot-preserved
 loop-slot-preserved c =
     let l = c.loop-slot in
-    let cs = c.args.scan.now.components.items in
-    let coded = c.index-coded.result.now in
+    let cs = c.components-codings.result.now in
+    let coded = c.index-codings-slot.result in
     let is : coded ≡ get_or cs l.slot coded = search rules in
     let h : l.slot < length cs = search rules in
-    let p = pass_in c.args.scan.now.pass in
+    let p = c.args.scan.now.pass in
     record {
       within = search rules;
       kept = search rules;
@@ -27,7 +26,7 @@ loop-slot-preserved c =
       added = λ base.
           arrays-step p cs l.slot coded c.args.arrays.now.items c.index.result.now (with_decoded base l.self)
           (with_decoded base c.add_blocks.new.self) h
-          (long-at cs c.args.arrays.now.items l.slot c.requires.blocks h) (search rules)
+          (long-at cs c.args.arrays.now.items l.slot (grind (arith, common_steps)) h) (search rules)
           (grind (arith, common_steps, c.in_ok-add_blocks.ensures.plane base))
           ∙ l.invariant.added base;
     }

@@ -1,5 +1,4 @@
 use Rattle.std.proofs.Common.{◌≡◌, ◌≤◌, ◌-◌, drop, length, map}
-use Rattle.jpeg_bits.specs.BlockView.{pass_in}
 use Rattle.jpeg_decoder.specs.Steps.{coding_in, with_decoded}
 use Rattle.jpeg_decoder.specs.Scanning.{arrays_in}
 use Rattle.jpeg_streams.specs.ScanSegments.{with_arrays}
@@ -8,15 +7,15 @@ use Rattle.jpeg_decoder.proofs.scan.decoded.Decoded.add_arrays.Given as goal
 
 abbrev pub invariant-loop-slot : goal.invariant-loop-slot
 invariant-loop-slot l = record {
-  within : l.slot ≤ length l.scan.components.items;
+  within : l.slot ≤ length l.codings;
   kept : l.self.kept ≡ l.fn.self.kept;
   samples : l.self.samples ≡ l.fn.self.samples;
   added : (base : Found) →
-      with_arrays (pass_in l.scan.pass) (drop l.slot (map coding_in l.scan.components.items))
+      with_arrays l.scan.pass (drop l.slot (map coding_in l.codings))
       (drop l.slot (arrays_in l.arrays.items)) (with_decoded base l.self)
-      ≡ with_arrays (pass_in l.scan.pass) (map coding_in l.scan.components.items) (arrays_in l.arrays.items)
+      ≡ with_arrays l.scan.pass l.scan.codings (arrays_in l.arrays.items)
       (with_decoded base l.fn.self);
 }
 
 abbrev pub decreases-loop-slot : goal.decreases-loop-slot
-decreases-loop-slot l = length l.scan.components.items - l.slot
+decreases-loop-slot l = length l.codings - l.slot

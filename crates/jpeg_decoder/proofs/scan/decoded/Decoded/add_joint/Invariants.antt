@@ -1,5 +1,4 @@
 use Rattle.std.proofs.Common.{◌≡◌, drop, map, None, replicate, take}
-use Rattle.jpeg_bits.specs.BlockView.{pass_in}
 use Rattle.jpeg_pixels.specs.JointPlanes.{joint_planes}
 use Rattle.jpeg_streams.specs.Found.{Found}
 use Rattle.jpeg_decoder.specs.PlanesView.{or_joint}
@@ -8,8 +7,8 @@ use Rattle.jpeg_decoder.proofs.scan.decoded.Decoded.add_joint.Given as goal
 
 abbrev pub invariant-loop-coded : goal.invariant-loop-coded
 invariant-loop-coded l =
-    let p = pass_in l.scan.pass in
-    let codings = map coding_in l.scan.components.items in
+    let p = l.scan.pass in
+    let codings = map coding_in l.codings in
     let all = joint_planes l.joint.shape l.joint.samples.items in
     record {
       kept : l.self.kept ≡ l.fn.self.kept;
@@ -20,5 +19,5 @@ invariant-loop-coded l =
           (record (with_decoded base l.self) {
             planes = or_joint (replicate 4 None) (take l.coded-index all);
           })
-          ≡ with_planes p codings all (with_decoded base l.fn.self);
+          ≡ with_planes p l.scan.codings all (with_decoded base l.fn.self);
     }

@@ -1,9 +1,8 @@
-use Rattle.std.proofs.Common.{◌≡◌, ◌∙◌, ap, arith, map, length, refl, sym, true}
+use Rattle.std.proofs.Common.{◌≡◌, ◌∙◌, ap, arith, length, refl, sym, true}
 use Rattle.std.specs.declared.alloc.Global.{Global}
 use Rattle.std.specs.declared.vec.Vec.{Vec}
 use Rattle.std.proofs.lemmas.Grind.{common_steps}
 use Rattle.std.specs.Prelude.{option_map}
-use Rattle.jpeg_bits.specs.BlockView.{pass_in}
 use Rattle.jpeg_segments.specs.FrameView.{frame_in}
 use Rattle.jpeg_streams.specs.Found.{Found, nothing_found}
 use Rattle.jpeg_streams.specs.InTurn.{AreArrays}
@@ -11,8 +10,8 @@ use Rattle.jpeg_streams.specs.ScanSegments.{arrays_before, is_progressive}
 use Rattle.jpeg_streams.specs.WholeRows.{rows_above}
 use Rattle.jpeg_decoder.specs.PlanesView.{planes_in}
 use Rattle.jpeg_decoder.specs.Reaching.{kept_after}
-use Rattle.jpeg_decoder.specs.Scanning.{arrays_in, components_in}
-use Rattle.jpeg_decoder.specs.Steps.{blocks_at, blocks_before, coding_in, with_decoded, IsBefore}
+use Rattle.jpeg_decoder.specs.Scanning.{arrays_in, scan_components}
+use Rattle.jpeg_decoder.specs.Steps.{blocks_at, blocks_before, with_decoded, IsBefore}
 use Rattle.jpeg_decoder.proofs.BlockArrays.{Held}
 use Rattle.jpeg_decoder.proofs.ReachedData.{kept-all, on-told, reached-answers, reached-as}
 use Rattle.jpeg_decoder.proofs.ReachedData.{reached-found, rows-as, taken-sized, unless, whole-after}
@@ -24,57 +23,59 @@ use Rattle.jpeg_decoder.proofs.scan.decoded.Decoded.reach.Goals as goal
 
 pub take_blocks-requires-clause-within : goal.take_blocks-requires-clause-within
 take_blocks-requires-clause-within g c =
-    coded-within-kept (frame_in c.args.frame.now) c.deref.result.now c.keep.new.self.kept.items _ refl
+    coded-within-kept (frame_in c.args.frame.now) c.components-codings.result.now c.keep.new.self.kept.items _ refl
     (grind (arith, common_steps)) (grind (arith, common_steps))
 
 pub take_blocks-requires-clause-apart : goal.take_blocks-requires-clause-apart
 take_blocks-requires-clause-apart g c = grind (arith, common_steps, rising-codings)
 
-taken : (g : given.Over) (c : In_ok-arrays g) → let cs = c.args.scan.now.components.items in
-    (arrays_in c.in_ok-arrays.arrays.items ≡ blocks_at (map coding_in cs)
+taken : (g : given.Over) (c : In_ok-arrays g) → let cs = c.args.scan.now.codings in
+    (arrays_in c.in_ok-arrays.arrays.items ≡ blocks_at cs
     (blocks_before c.args.scanned c.args.self.now (frame_in c.args.frame.now)))
-    × AreArrays (components_in cs) (arrays_in c.in_ok-arrays.arrays.items)
+    × AreArrays (scan_components c.args.scan.now) (arrays_in c.in_ok-arrays.arrays.items)
 taken g c =
-    taken-sized (frame_in c.args.frame.now) c.args.scan.now.components.items c.deref.result.now
-    c.keep.new.self.kept.items c.in_ok-arrays.arrays.items _ c.deref.ensures.value
+    taken-sized (frame_in c.args.frame.now) c.args.scan.now.codings c.components-codings.result.now
+    c.keep.new.self.kept.items c.in_ok-arrays.arrays.items _ c.components-codings.ensures.codings
     c.in_ok-keep.ensures.kept
     c.in_ok-arrays.ensures.taken c.requires.ready.of_frame c.requires.kept
 
 taken-by : (g : given.Over) (c : In_ok-arrays g) (base : Found) → IsBefore c.args.scanned c.args.scan.now base
-    → arrays_in c.in_ok-arrays.arrays.items ≡ blocks_at (map coding_in c.args.scan.now.components.items)
+    → arrays_in c.in_ok-arrays.arrays.items ≡ blocks_at c.args.scan.now.codings
     (arrays_before (with_decoded base c.args.self.now) (frame_in c.args.frame.now))
 taken-by g c base b =
     (taken g c).0
-    ∙ sym (ap (blocks_at (map coding_in c.args.scan.now.components.items))
+    ∙ sym (ap (blocks_at c.args.scan.now.codings)
     (before-as base c.args.self.now (frame_in c.args.frame.now) _ b.scanned))
 
 pub reach_blocks-met-requires-clause-arrays : goal.reach_blocks-met-requires-clause-arrays
 reach_blocks-met-requires-clause-arrays g c =
     (taken g (goal.at.reach_blocks-met-requires-clause-arrays g c).In_ok-arrays).1
 
-pub add_arrays-requires-clause-blocks : goal.add_arrays-requires-clause-blocks
-add_arrays-requires-clause-blocks g c =
-    arrays-by-sizes (components_in c.args.scan.now.components.items) c.in_ok-arrays.arrays.items
-    c.reach_blocks-met.new.arrays.items (taken g (goal.at.add_arrays-requires-clause-blocks g c).In_ok-arrays).1
-    c.reach_blocks-met.ensures.sizes
+pub add_arrays-requires : goal.add_arrays-requires
+add_arrays-requires g c =
+    record {
+      blocks = arrays-by-sizes (scan_components c.args.scan.now) c.in_ok-arrays.arrays.items
+          c.reach_blocks-met.new.arrays.items (taken g (goal.at.add_arrays-requires g c).In_ok-arrays).1
+          c.reach_blocks-met.ensures.sizes;
+    }
 
 pub keep_blocks-requires-clause-indices : goal.keep_blocks-requires-clause-indices
 keep_blocks-requires-clause-indices g c =
     let kept = ap (λ (v : Vec Held Global). length v.items) c.in_ok-add_arrays.ensures.kept in
-    coded-within-kept (frame_in c.args.frame.now) c.deref-2.result.now c.keep.new.self.kept.items _
+    coded-within-kept (frame_in c.args.frame.now) c.components-codings.result.now c.keep.new.self.kept.items _
     (kept ∙ c.in_ok-arrays.ensures.length) (grind (arith, common_steps)) (grind (arith, common_steps))
 
-held : (g : given.Over) (c : After-keep_blocks g) → let cs = c.args.scan.now.components.items in
+held : (g : given.Over) (c : After-keep_blocks g) → let cs = c.args.scan.now.codings in
     let is_kept = is_progressive (frame_in c.args.frame.now).process in
-    (arrays_in c.keep_blocks.new.kept.items ≡ kept_after is_kept (map coding_in cs)
+    (arrays_in c.keep_blocks.new.kept.items ≡ kept_after is_kept cs
     (arrays_in c.reach_blocks-met.new.arrays.items)
     (blocks_before c.args.scanned c.args.self.now (frame_in c.args.frame.now)))
     × (is_kept ≡ true → AreArrays (frame_in c.args.frame.now).components (arrays_in c.keep_blocks.new.kept.items))
 held g c =
     kept-all (is_progressive (frame_in c.args.frame.now).process) (frame_in c.args.frame.now)
-    c.args.scan.now.components.items c.deref.result.now c.deref-2.result.now c.keep.new.self.kept.items
+    c.args.scan.now.codings c.components-codings.result.now c.keep.new.self.kept.items
     c.add_arrays.new.self.kept.items c.in_ok-arrays.arrays.items c.reach_blocks-met.new.arrays.items
-    c.keep_blocks.new.kept.items _ c.deref.ensures.value c.deref-2.ensures.value c.in_ok-keep.ensures.kept
+    c.keep_blocks.new.kept.items _ c.components-codings.ensures.codings c.in_ok-keep.ensures.kept
     c.in_ok-arrays.ensures.taken
     (ap (λ (v : Vec Held Global). arrays_in v.items) c.in_ok-add_arrays.ensures.kept ∙ c.in_ok-arrays.ensures.left)
     c.reach_blocks-met.ensures.sizes c.keep_blocks.ensures
@@ -82,12 +83,12 @@ held g c =
 
 held-by : (g : given.Over) (c : After-keep_blocks g) (base : Found) → IsBefore c.args.scanned c.args.scan.now base
     → arrays_in c.keep_blocks.new.kept.items ≡ kept_after (is_progressive (frame_in c.args.frame.now).process)
-    (map coding_in c.args.scan.now.components.items) (arrays_in c.reach_blocks-met.new.arrays.items)
+    c.args.scan.now.codings (arrays_in c.reach_blocks-met.new.arrays.items)
     (arrays_before (with_decoded base c.args.self.now) (frame_in c.args.frame.now))
 held-by g c base b =
     (held g c).0
     ∙ sym (ap (kept_after (is_progressive (frame_in c.args.frame.now).process)
-    (map coding_in c.args.scan.now.components.items) (arrays_in c.reach_blocks-met.new.arrays.items))
+    c.args.scan.now.codings (arrays_in c.reach_blocks-met.new.arrays.items))
     (before-as base c.args.self.now (frame_in c.args.frame.now) _ b.scanned))
 
 pub returns-clause-found : goal.returns-clause-found
@@ -98,7 +99,7 @@ returns-clause-found g c base b =
     let same = reached-as f frame c.args.scan.now _ c.args.source.now.bytes b.restart
     (taken-by g at.In_ok-arrays base b) in
     on-told c.args.source.now c.reach_blocks-met.new.source c.reach_blocks-met.result
-    (λ is. reached-found f frame (pass_in c.args.scan.now.pass) (map coding_in c.args.scan.now.components.items)
+    (λ is. reached-found f frame c.args.scan.now.pass c.args.scan.now.codings
     (arrays_in c.reach_blocks-met.new.arrays.items) c.args.source.now.bytes
     (record c.keep.new.self { kept = c.take_blocks.new.kept }) c.add_arrays.new.self
     (arrays_in c.keep_blocks.new.kept.items) c.in_ok-add_arrays.ensures.planes c.in_ok-keep.ensures.finished
@@ -109,7 +110,7 @@ returns-clause-found g c base b =
 pub returns-clause-rows : goal.returns-clause-rows
 returns-clause-rows g c base b =
     let frame = frame_in c.args.frame.now in
-    let above = rows_above frame (components_in c.args.scan.now.components.items) in
+    let above = rows_above frame (scan_components c.args.scan.now) in
     on-told c.args.source.now c.reach_blocks-met.new.source c.reach_blocks-met.result
     (λ is. c.rows_above_unread-self.ensures ∙ ap (option_map above) is
     ∙ rows-as (with_decoded base c.args.self.now) frame c.args.scan.now _ c.args.source.now.bytes b.restart
@@ -132,9 +133,9 @@ pub returns-clause-planes : goal.returns-clause-planes
 returns-clause-planes g c h =
     let base = nothing_found in
     let one = with_decoded base (record c.keep.new.self { kept = c.take_blocks.new.kept }) in
-    let codings = map coding_in c.args.scan.now.components.items in
+    let codings = c.args.scan.now.codings in
     unless c.reach_blocks-met.result
     (rw (ap (λ (x : Found). x.planes) (c.in_ok-add_arrays.ensures.planes base))
-    (arrays-whole (frame_in c.args.frame.now) (pass_in c.args.scan.now.pass) codings
+    (arrays-whole (frame_in c.args.frame.now) c.args.scan.now.pass codings
     (arrays_in c.reach_blocks-met.new.arrays.items) one (of-frame _ codings c.requires.ready.of_frame)
     (grind (arith, common_steps))))

@@ -1,11 +1,9 @@
 use Rattle.std.proofs.Common.{ap, sym, refl, map, arith}
 use Rattle.std.proofs.lemmas.Result.{err_from_is_err_and}
-use Rattle.jpeg_bits.specs.BlockView.{pass_in}
 use Rattle.jpeg_segments.specs.FrameView.{frame_in}
-use Rattle.jpeg_decoder.specs.Steps.{coding_in, with_decoded}
+use Rattle.jpeg_decoder.specs.Steps.{with_decoded}
 use Rattle.jpeg_streams.specs.Found.{Found, nothing_found}
 use Rattle.jpeg_decoder.specs.GrowingView.{growing_in}
-use Rattle.jpeg_decoder.proofs.PlacedCodings.{coded-components}
 use Rattle.jpeg_decoder.proofs.ScanData.{kept-afterwards, none-kept, of-frame, planes-whole}
 use Rattle.jpeg_decoder.proofs.SequentialScans.{read-data, read-refused}
 use Rattle.jpeg_decoder.proofs.scan.decoded.Decoded.read.Goals as goal
@@ -29,12 +27,11 @@ returns-clause-data g c base b =
 pub returns-clause-planes : goal.returns-clause-planes
 returns-clause-planes g c h =
     let base = nothing_found in
-    let codings = map coding_in c.args.scan.now.components.items in
+    let codings = c.args.scan.now.codings in
     rw (ap (λ (x : Found). x.planes) (c.add_grown.ensures.planes base))
-    (planes-whole (frame_in c.args.frame.now) (pass_in c.args.scan.now.pass) codings (growing_in c.read_planes.new.planes)
+    (planes-whole (frame_in c.args.frame.now) c.args.scan.now.pass codings (growing_in c.read_planes.new.planes)
     (with_decoded base (record c.args.self.now { kept = c.new.result })) (of-frame _ codings c.requires.ready.of_frame)
-    (rw (coded-components c.args.scan.now.components.items)
-    (c.in_ok-reached.ensures.sizes c.in_ok-planes.ensures.none)) h)
+    (c.in_ok-reached.ensures.sizes c.in_ok-planes.ensures.none) h)
 
 pub returns-then-is_progressive-clause-kept : goal.returns-then-is_progressive-clause-kept
 returns-then-is_progressive-clause-kept g c = grind (arith, common_steps, kept-afterwards)

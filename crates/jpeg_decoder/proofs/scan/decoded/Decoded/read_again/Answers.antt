@@ -4,7 +4,8 @@ use Rattle.std.proofs.lemmas.Grind.{common_steps}
 use Rattle.jpeg_segments.specs.FrameView.{frame_in}
 use Rattle.jpeg_decoder.specs.GrowingView.{growing_in}
 use Rattle.jpeg_decoder.proofs.SequentialScans.{again-data, again-refused-data}
-use Rattle.jpeg_decoder.proofs.SequentialScans.{are-decided}
+use Rattle.std.proofs.lemmas.List.Elements.{recursion_from_All}
+use Rattle.jpeg_decoder.proofs.DecidedScans.{IsDecided}
 use Rattle.jpeg_decoder.proofs.scan.decoded.Decoded.read_again.Goals as goal
 
 pub returns-in_err-reached-clause-data : goal.returns-in_err-reached-clause-data
@@ -21,5 +22,5 @@ returns-clause-data g c base b =
     c.in_ok-reached.reached c.read_planes.new.source.bytes
     (record c.args.self.now { kept = c.new-2.result }) c.mark_again.new.self refl refl refl
     (ap (map _) c.new-2.ensures.items) (growing_in c.read_planes.new.planes)
-    (are-decided c.args.scan.now.components.items _ c.requires.decided) in
+    (recursion_from_All (IsDecided c.args.self.now.planes) c.args.scan.now.codings c.requires.decided) in
     grind (arith, common_steps, more)

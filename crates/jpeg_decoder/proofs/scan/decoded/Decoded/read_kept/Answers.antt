@@ -1,25 +1,18 @@
-use Rattle.std.proofs.Common.{◌≡◌, ◌∙◌, ◌*◌, ap, List, map, length, ℕ, Option, refl, sym, arith}
+use Rattle.std.proofs.Common.{◌≡◌, ◌∙◌, ap, length, refl, sym, arith}
 use Rattle.std.specs.declared.alloc.Global.{Global}
 use Rattle.std.specs.declared.vec.Vec.{Vec}
 use Rattle.std.proofs.lemmas.Result.{err_from_is_err_and}
-use Rattle.jpeg_bits.specs.declared.marker.Marker.{Marker}
-use Rattle.jpeg_bits.specs.BlockView.{pass_in}
-use Rattle.jpeg_bits.specs.Reading.{Outcome}
-use Rattle.jpeg_decoder.specs.declared.scan.coded.Scan.{Scan}
-use Rattle.jpeg_segments.specs.Frame.{Frame}
 use Rattle.jpeg_segments.specs.FrameView.{frame_in}
 use Rattle.jpeg_streams.specs.InTurn.{AreArrays}
-use Rattle.jpeg_streams.specs.Order.{spots_of, mcu_size}
-use Rattle.jpeg_streams.specs.Scans.{Arrays, arrays_at}
-use Rattle.jpeg_decoder.specs.Scanning.{arrays_in, components_in, vias_in}
-use Rattle.jpeg_decoder.specs.Steps.{blocks_at, blocks_before, coding_in, with_decoded}
+use Rattle.jpeg_decoder.specs.Scanning.{arrays_in, scan_components}
+use Rattle.jpeg_decoder.specs.Steps.{blocks_at, blocks_before, with_decoded}
 use Rattle.jpeg_decoder.specs.Steps.{IsBefore}
 use Rattle.jpeg_streams.specs.ScanSegments.{put_arrays, arrays_before}
 use Rattle.jpeg_streams.specs.Found.{Found, nothing_found}
 use Rattle.jpeg_decoder.proofs.BlockArrays.{Held}
 use Rattle.jpeg_decoder.proofs.ReachedData.{put-all, taken-sized}
-use Rattle.jpeg_decoder.proofs.ScanData.{read_at, of-frame, arrays-by-sizes, coded-within-kept}
-use Rattle.jpeg_decoder.proofs.ScanData.{read-as, rising-codings, data-kept, data-kept-refused}
+use Rattle.jpeg_decoder.proofs.ScanData.{of-frame, arrays-by-sizes, coded-within-kept}
+use Rattle.jpeg_decoder.proofs.ScanData.{rising-codings, data-kept, data-kept-refused}
 use Rattle.jpeg_decoder.proofs.ScanData.{arrays-whole, before-as}
 use Rattle.jpeg_decoder.proofs.scan.decoded.Decoded.read_kept.Given as given
 use Rattle.jpeg_decoder.proofs.scan.decoded.Decoded.read_kept.Goals.{After-put_blocks, In_ok-arrays}
@@ -28,86 +21,74 @@ use Rattle.std.proofs.lemmas.Grind.{common_steps}
 
 pub take_blocks-requires-clause-within : goal.take_blocks-requires-clause-within
 take_blocks-requires-clause-within g c =
-    coded-within-kept (frame_in c.args.frame.now) c.deref.result.now c.keep.new.self.kept.items _ refl
+    coded-within-kept (frame_in c.args.frame.now) c.components-codings.result.now c.keep.new.self.kept.items _ refl
     (grind (arith, common_steps)) (grind (arith, common_steps))
 
 pub take_blocks-requires-clause-apart : goal.take_blocks-requires-clause-apart
 take_blocks-requires-clause-apart g c = grind (arith, common_steps, rising-codings)
 
-taken : (g : given.Over) (c : In_ok-arrays g) → let cs = c.args.scan.now.components.items in
-    (arrays_in c.in_ok-arrays.arrays.items ≡ blocks_at (map coding_in cs)
+taken : (g : given.Over) (c : In_ok-arrays g) → let cs = c.args.scan.now.codings in
+    (arrays_in c.in_ok-arrays.arrays.items ≡ blocks_at cs
     (blocks_before c.args.scanned c.args.self.now (frame_in c.args.frame.now)))
-    × AreArrays (components_in cs) (arrays_in c.in_ok-arrays.arrays.items)
+    × AreArrays (scan_components c.args.scan.now) (arrays_in c.in_ok-arrays.arrays.items)
 taken g c =
-    taken-sized (frame_in c.args.frame.now) c.args.scan.now.components.items c.deref.result.now
-    c.keep.new.self.kept.items c.in_ok-arrays.arrays.items _ c.deref.ensures.value
+    taken-sized (frame_in c.args.frame.now) c.args.scan.now.codings c.components-codings.result.now
+    c.keep.new.self.kept.items c.in_ok-arrays.arrays.items _ c.components-codings.ensures.codings
     c.in_ok-keep.ensures.kept
     c.in_ok-arrays.ensures.taken c.requires.ready.of_frame c.requires.kept
 
 taken-by : (g : given.Over) (c : In_ok-arrays g) (base : Found) → IsBefore c.args.scanned c.args.scan.now base
-    → arrays_in c.in_ok-arrays.arrays.items ≡ blocks_at (map coding_in c.args.scan.now.components.items)
+    → arrays_in c.in_ok-arrays.arrays.items ≡ blocks_at c.args.scan.now.codings
     (arrays_before (with_decoded base c.args.self.now) (frame_in c.args.frame.now))
 taken-by g c base b =
     (taken g c).0
-    ∙ sym (ap (blocks_at (map coding_in c.args.scan.now.components.items))
+    ∙ sym (ap (blocks_at c.args.scan.now.codings)
     (before-as base c.args.self.now (frame_in c.args.frame.now) _ b.scanned))
 
 pub read_blocks-requires-clause-arrays : goal.read_blocks-requires-clause-arrays
 read_blocks-requires-clause-arrays g c = (taken g (goal.at.read_blocks-requires-clause-arrays g c).In_ok-arrays).1
 
-abbrev blocks_read : Frame → Scan → Arrays → List ℕ → Outcome (Arrays × Option Marker)
-blocks_read frame scan arrays =
-    arrays_at (pass_in scan.pass) (scan.restart_interval * mcu_size (components_in scan.components.items))
-    (vias_in 0 scan.components.items) (spots_of frame (components_in scan.components.items)) arrays
-
--- what is read of the blocks that are taken
-kept-as : (f : Found) (frame : Frame) (scan : Scan) (arrays : Arrays) (bytes : List ℕ)
-    → scan.restart_interval ≡ f.said.restart
-    → arrays ≡ blocks_at (map coding_in scan.components.items) (arrays_before f frame)
-    → read_at f frame (pass_in scan.pass) (map coding_in scan.components.items)
-    (blocks_at (map coding_in scan.components.items) (arrays_before f frame)) bytes
-    ≡ blocks_read frame scan arrays bytes
-kept-as f frame scan arrays bytes n is = grind (arith, common_steps, read-as)
-
 pub returns-in_err-met-clause-data : goal.returns-in_err-met-clause-data
 returns-in_err-met-clause-data g c base b =
     let f = with_decoded base c.args.self.now in
-    let is = kept-as f (frame_in c.args.frame.now) c.args.scan.now _ c.args.source.now.bytes b.restart
-    (taken-by g (goal.at.returns-in_err-met-clause-data g c).In_ok-arrays base b) in
-    let more = data-kept-refused f (frame_in c.args.frame.now) (pass_in c.args.scan.now.pass)
-    (map coding_in c.args.scan.now.components.items) c.args.source.now.bytes in
+    let restart = b.restart in
+    let is = taken-by g (goal.at.returns-in_err-met-clause-data g c).In_ok-arrays base b in
+    let more = data-kept-refused f (frame_in c.args.frame.now) c.args.scan.now.pass
+    c.args.scan.now.codings c.args.source.now.bytes in
     grind (arith, common_steps, err_from_is_err_and, more)
 
-pub add_arrays-requires-clause-blocks : goal.add_arrays-requires-clause-blocks
-add_arrays-requires-clause-blocks g c =
-    arrays-by-sizes (components_in c.args.scan.now.components.items) c.in_ok-arrays.arrays.items
-    c.read_blocks.new.arrays.items (taken g (goal.at.add_arrays-requires-clause-blocks g c).In_ok-arrays).1
-    c.in_ok-met.ensures.sizes
+pub add_arrays-requires : goal.add_arrays-requires
+add_arrays-requires g c =
+    record {
+      blocks = arrays-by-sizes (scan_components c.args.scan.now) c.in_ok-arrays.arrays.items
+          c.read_blocks.new.arrays.items (taken g (goal.at.add_arrays-requires g c).In_ok-arrays).1
+          c.in_ok-met.ensures.sizes;
+    }
 
 pub put_blocks-requires-clause-indices : goal.put_blocks-requires-clause-indices
 put_blocks-requires-clause-indices g c =
     let kept = ap (λ (v : Vec Held Global). length v.items) c.in_ok-add_arrays.ensures.kept in
-    coded-within-kept (frame_in c.args.frame.now) c.deref-2.result.now c.keep.new.self.kept.items _
+    coded-within-kept (frame_in c.args.frame.now) c.components-codings.result.now c.keep.new.self.kept.items _
     (kept ∙ c.in_ok-arrays.ensures.length) (grind (arith, common_steps)) (grind (arith, common_steps))
 
-held : (g : given.Over) (c : After-put_blocks g) → let cs = c.args.scan.now.components.items in
-    (arrays_in c.put_blocks.new.kept.items ≡ put_arrays (map coding_in cs) (arrays_in c.read_blocks.new.arrays.items)
+held : (g : given.Over) (c : After-put_blocks g) → let cs = c.args.scan.now.codings in
+    (arrays_in c.put_blocks.new.kept.items ≡ put_arrays cs (arrays_in c.read_blocks.new.arrays.items)
     (blocks_before c.args.scanned c.args.self.now (frame_in c.args.frame.now)))
     × AreArrays (frame_in c.args.frame.now).components (arrays_in c.put_blocks.new.kept.items)
 held g c =
-    put-all (frame_in c.args.frame.now) c.args.scan.now.components.items c.deref.result.now c.deref-2.result.now
+    put-all (frame_in c.args.frame.now) c.args.scan.now.codings c.components-codings.result.now
     c.keep.new.self.kept.items c.add_arrays.new.self.kept.items c.in_ok-arrays.arrays.items
-    c.read_blocks.new.arrays.items c.put_blocks.new.kept.items _ c.deref.ensures.value c.deref-2.ensures.value
+    c.read_blocks.new.arrays.items c.put_blocks.new.kept.items _ c.components-codings.ensures.codings
     c.in_ok-keep.ensures.kept c.in_ok-arrays.ensures.taken
     (ap (λ (v : Vec Held Global). arrays_in v.items) c.in_ok-add_arrays.ensures.kept ∙ c.in_ok-arrays.ensures.left)
     c.in_ok-met.ensures.sizes c.put_blocks.ensures c.requires.ready.of_frame c.requires.ready.rising c.requires.kept
 
 held-by : (g : given.Over) (c : After-put_blocks g) (base : Found) → IsBefore c.args.scanned c.args.scan.now base
-    → arrays_in c.put_blocks.new.kept.items ≡ put_arrays (map coding_in c.args.scan.now.components.items)
+    → arrays_in c.put_blocks.new.kept.items ≡ put_arrays c.args.scan.now.codings
     (arrays_in c.read_blocks.new.arrays.items)
     (arrays_before (with_decoded base c.args.self.now) (frame_in c.args.frame.now))
 held-by g c base b =
-    let cs = map coding_in c.args.scan.now.components.items in
+    let cs = c.args.scan.now.codings in
     (held g c).0
     ∙ sym (ap (put_arrays cs (arrays_in c.read_blocks.new.arrays.items))
     (before-as base c.args.self.now (frame_in c.args.frame.now) _ b.scanned))
@@ -116,11 +97,11 @@ pub returns-clause-data : goal.returns-clause-data
 returns-clause-data g c base b =
     let f = with_decoded base c.args.self.now in
     let at = goal.at.returns-clause-data g c in
-    let is = kept-as f (frame_in c.args.frame.now) c.args.scan.now _ c.args.source.now.bytes b.restart
-    (taken-by g at.In_ok-arrays base b) in
+    let restart = b.restart in
+    let is = taken-by g at.In_ok-arrays base b in
     let put = held-by g at.After-put_blocks base b in
-    let more = data-kept f (frame_in c.args.frame.now) (pass_in c.args.scan.now.pass)
-    (map coding_in c.args.scan.now.components.items) (arrays_in c.read_blocks.new.arrays.items)
+    let more = data-kept f (frame_in c.args.frame.now) c.args.scan.now.pass
+    c.args.scan.now.codings (arrays_in c.read_blocks.new.arrays.items)
     c.in_ok-met.met c.args.source.now.bytes c.read_blocks.new.source.bytes
     (record c.keep.new.self { kept = c.take_blocks.new.kept }) c.add_arrays.new.self
     (arrays_in c.put_blocks.new.kept.items) c.requires.process in
@@ -133,8 +114,8 @@ pub returns-clause-planes : goal.returns-clause-planes
 returns-clause-planes g c h =
     let base = nothing_found in
     let one = with_decoded base (record c.keep.new.self { kept = c.take_blocks.new.kept }) in
-    let codings = map coding_in c.args.scan.now.components.items in
+    let codings = c.args.scan.now.codings in
     rw (ap (λ (x : Found). x.planes) (c.in_ok-add_arrays.ensures.planes base))
-    (arrays-whole (frame_in c.args.frame.now) (pass_in c.args.scan.now.pass) codings
+    (arrays-whole (frame_in c.args.frame.now) c.args.scan.now.pass codings
     (arrays_in c.read_blocks.new.arrays.items) one (of-frame _ codings c.requires.ready.of_frame)
     (grind (arith, common_steps)))

@@ -8,9 +8,9 @@ use Rattle.jpeg_decoder.proofs.scan.order.ScanOrder.alone.Goals as goal
 pub returns : goal.returns
 returns c =
     let grid = c.grid_of-grid.ensures in
-    alone-of (frame_in c.args.frame.now) c.args.scan.now.components.items c.index.result.now
-    c.args.scan.now.restart_interval _ c.requires.one c.index.ensures
+    alone-of (frame_in c.args.frame.now) c.args.scan.now.codings _ c.args.scan.now.restart_interval _ c.requires.one
+    c.component-component.ensures.component
     (c.in_ok-push.ensures.items
     ∙ ap₂ (λ (xs : List Member) (d : ℕ). xs ++ record { slot = 0; first = 0; across = 1; down = d } ∷ [])
     c.new-members.ensures.items (c.from.ensures ∙ ap (λ (g : Grid). g.wide) grid))
-    (ap (λ (g : Grid). g.own_wide) grid) (ap (λ (g : Grid). g.own_high) grid) refl refl c.from-2.ensures
+    (ap (λ (g : Grid). g.own_wide) grid) (ap (λ (g : Grid). g.own_high) grid) refl refl (c.from-2.ensures ∙ c.restart_interval.ensures)
