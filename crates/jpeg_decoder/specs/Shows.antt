@@ -38,8 +38,8 @@ ShowsJust expected bytes_of fault_of old result new told = old.known ≡ true �
     → IsShown (expected old.bytes) bytes_of fault_of result told
 
 -- Where the bytes of a source were known before a call and aren't after it, the reader was given
--- up. The fault of an Ok says so. After an error a read has failed, or the error says that reads were
--- interrupted without end, or memory ran out.
+-- up. The fault of an Ok says so. After an error a read has failed, or the error says that reads
+-- were interrupted without end, or memory ran out.
 abbrev pub GivesUp : {X : Type 0} → (X → Option Error) → Stream → Result X Error → Stream → Type 0
 GivesUp fault_of old (Ok x) new = old.known ≡ true → new.known ≡ false
     → IsSomeAnd (fault_of x) (λ e. IsGivenUp e new.failed)

@@ -39,10 +39,10 @@ pub fn faultless_streams_have_all_rows()
 
 /// The fault that `decode_partial` names is that of `decode`, unless the data of a scan end early.
 /// They may end with a marker: then `decode` takes zeros for the bits that are lacking, and here
-/// the data are malformed. Or they end without one, after more than 56 bits that no block needs, where
-/// `decode` doesn't look: if the bytes end there and a restart is due, it calls the data malformed,
-/// and if FF and a byte that makes no marker with it stand there, it goes on. Where `decode` has a
-/// fault, one is named.
+/// the data are malformed. Or they end without one, after more than 56 bits that no block needs,
+/// where `decode` doesn't look: if the bytes end there and a restart is due, it calls the data
+/// malformed, and if FF and a byte that makes no marker with it stand there, it goes on. Where
+/// `decode` has a fault, one is named.
 pub fn faults_are_the_meanings()
     ensures named { (settings : Settings) (bytes : List ℕ) (s : Shown) (f : Fault)
         → shown settings bytes ≡ Ok s → s.fault ≡ Some f → (meaning settings bytes ≡ Err f)
