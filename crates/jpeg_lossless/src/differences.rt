@@ -1,5 +1,6 @@
 //! The differences of a lossless scan (T.81, H.1.2.2), read from its entropy-coded bits.
-ghost use Rattle.std.specs.Prelude.{◌≡◌, ◌+◌, ◌*◌, map, length, OnOk, is_some, true, false};
+ghost use Rattle.std.specs.Prelude.{◌≡◌, ◌+◌, ◌*◌, ◌≤◌, map, length, take, OnOk, is_some, true};
+ghost use Rattle.std.specs.Prelude.{false};
 ghost use Rattle.jpeg_bits.specs.Entropy.{Takes};
 ghost use Rattle.jpeg_bits.specs.Refusals.{answer_of, outcome_of, IsRefused};
 ghost use Rattle.jpeg_lossless.specs.Differences.{sample_difference, differences, row_tables, onto};
@@ -45,8 +46,8 @@ fn take_difference<R: Read + Drop>(
     }
 }
 
-/// Appends the differences of an MCU to those of a row. On an error stores it in `refusal` and
-/// returns false.
+/// Puts the differences of an MCU into a row, from index `at` on. On an error stores it in
+/// `refusal` and returns false.
 #[inline(always)]
 #[tactic(auto, using(crate::proofs::DifferenceLoops::row_rules))]
 fn take_mcu<R: Read + Drop>(
@@ -54,13 +55,14 @@ fn take_mcu<R: Read + Drop>(
     decoder: &mut HuffmanDecoder,
     source: &mut Source<R>,
     tables: &[&HuffmanTable],
-    row: &mut Vec<u16>,
+    row: &mut [u16],
+    at: usize,
     refusal: &mut Option<Error>,
 ) -> bool
-    ensures long { OnOk (outcome_of result refusal.new)
-        (length row.new.items ≡ length row.old.items + length tables.now) }
-    ensures reads { Takes (λ _. row.new.items)
-        (onto row.old.items (differences (map (λ t. t.now) tables.now)))
+    requires room { at + length tables.now ≤ length row.old }
+    ensures long { length row.new ≡ length row.old }
+    ensures reads { Takes (λ _. take (at + length tables.now) row.new)
+        (onto (take at row.old) (differences (map (λ t. t.now) tables.now)))
         decoder.old source.old (outcome_of result refusal.new) decoder.new source.new }
     ensures refused { result ≡ false → is_some refusal.new ≡ true }
 {
@@ -68,10 +70,39 @@ fn take_mcu<R: Read + Drop>(
         let Some(difference) = take_difference(alloc, decoder, source, tables[i], refusal) else {
             return false;
         };
-        if let Err(e) = row.push(difference) {
-            *refusal = Some(Error::from(e));
+        row[at + i] = difference;
+    }
+    true
+}
+
+/// Fills a row with the differences of its `count` MCUs, each of which has one for each of the
+/// tables. On an error stores it in `refusal` and returns false.
+#[inline(always)]
+#[tactic(auto, using(crate::proofs::DifferenceLoops::row_rules))]
+fn take_mcus<R: Read + Drop>(
+    alloc: Global,
+    decoder: &mut HuffmanDecoder,
+    source: &mut Source<R>,
+    tables: &[&HuffmanTable],
+    count: usize,
+    row: &mut [u16],
+    refusal: &mut Option<Error>,
+) -> bool
+    requires room { length row.old ≡ count * length tables.now }
+    ensures long { length row.new ≡ length row.old }
+    ensures reads { Takes (λ _. row.new)
+        (differences (row_tables count (map (λ t. t.now) tables.now)))
+        decoder.old source.old (outcome_of result refusal.new) decoder.new source.new }
+    ensures refused { result ≡ false → is_some refusal.new ≡ true }
+{
+    let mut at = 0;
+    let mut left = count;
+    while left > 0 {
+        if !take_mcu(alloc, decoder, source, tables, row, at, refusal) {
             return false;
         }
+        at += tables.len();
+        left -= 1;
     }
     true
 }
@@ -92,18 +123,42 @@ pub(crate) fn read_row<R: Read + Drop>(
         (differences (row_tables count (map (λ t. t.now) tables.now)))
         decoder.old source.old result decoder.new source.new }
 {
-    row.clear();
+    let Some(long) = count.checked_mul(tables.len()) else {
+        return Err(Error::OutOfMemory);
+    };
+    row.resize(long, 0)?;
     // The buffered bits of a local decoder stay in registers while the row is read.
     let mut buffered = decoder.copied();
     let mut refusal = None;
-    let mut left = count;
-    while left > 0 {
-        if !take_mcu(alloc, &mut buffered, source, tables, row, &mut refusal) {
-            *decoder = buffered;
-            return Err(take_refusal(&mut refusal));
-        }
-        left -= 1;
-    }
+    // A loop of its own for as many tables as nearly all pictures have.
+    let is_read = if tables.len() == 1 {
+        let one = [tables[0]];
+        take_mcus(alloc, &mut buffered, source, &one, count, row, &mut refusal)
+    } else if tables.len() == 3 {
+        let three = [tables[0], tables[1], tables[2]];
+        take_mcus(
+            alloc,
+            &mut buffered,
+            source,
+            &three,
+            count,
+            row,
+            &mut refusal,
+        )
+    } else {
+        take_mcus(
+            alloc,
+            &mut buffered,
+            source,
+            tables,
+            count,
+            row,
+            &mut refusal,
+        )
+    };
     *decoder = buffered;
+    if !is_read {
+        return Err(take_refusal(&mut refusal));
+    }
     Ok(())
 }
