@@ -11,6 +11,7 @@ pub mod WrittenIntervals
 pub mod Reservoirs
 pub mod ShortLemmas
 pub mod WideTokens
+pub mod ShortDifferences
 pub mod PairEntries
 pub mod Tables
 pub mod TakenTexts

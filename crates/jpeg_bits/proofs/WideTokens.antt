@@ -67,7 +67,7 @@ pub buffered-then : (n s : ℕ) (t : Text) → has_bits (n + s) t.bits t.ending 
 buffered-then n s t h = grind (arith, common_steps, nat_tests, false≢true, length-drop)
 
 -- a code that is seen in some bits is that of a text whose bits agree with them so far
-seen-code : (table : Table) (n symbol size : ℕ) (u : Text) (o p : Option (ℕ × ℕ))
+pub seen-code : (table : Table) (n symbol size : ℕ) (u : Text) (o p : Option (ℕ × ℕ))
     → named table.symbols o ≡ Some (symbol, size) → at_most n o ≡ at_most n p → size ≤ n
     → has_bits size u.bits u.ending ≡ Ok tt → code_by table u p ≡ Ok ((size, symbol), advance size u)
 seen-code table n symbol size u o p is same le buffered = grind (arith, common_steps, nat_tests, false≢true)
@@ -98,7 +98,7 @@ module _ (table : Table) (counted : length table.counts ≡ 16) (most : ℕ) (fe
       (buffered-then used size t buffered))
 
 -- a signed number of bits that can be taken
-signed-seen : (s : ℕ) (t : Text) → has_bits s t.bits t.ending ≡ Ok tt
+pub signed-seen : (s : ℕ) (t : Text) → has_bits s t.bits t.ending ≡ Ok tt
     → signed_from s t ≡ Ok (extended (number_of (take s (t.bits ++ replicate s false))) s, advance s t)
 unfolding signed_from bits_from
 signed-seen s t buffered = rw buffered refl

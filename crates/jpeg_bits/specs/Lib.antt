@@ -22,6 +22,7 @@ pub mod Refusals
 pub mod Reservoir
 pub mod ShortCodes
 pub mod Skips
+pub mod ShortDifferences
 pub mod Pairs
 pub mod Lookups
 pub mod Pieces

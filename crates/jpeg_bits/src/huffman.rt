@@ -44,6 +44,7 @@ impl HuffmanDecoder {
     ghost use Rattle.jpeg_bits.specs.Codes.{symbol_from, fast_from};
     ghost use Rattle.jpeg_bits.specs.Reading.{Answers};
     ghost use Rattle.jpeg_bits.specs.Readers.{signed_from};
+    ghost use Rattle.jpeg_bits.specs.ShortDifferences.{TakesShort};
     ghost use Rattle.jpeg_bits.specs.Entropy.{Takes, fresh, bits_from, marker_from, upcoming};
 
     /// Returns a decoder with no buffered bits.
@@ -183,6 +184,23 @@ impl HuffmanDecoder {
         ensures refused { IsRefused result refusal.new }
     {
         self.buffered.take_signed(source, count, refusal)
+    }
+
+    /// Reads the next difference, if `table` has a look-up table of differences (see
+    /// `HuffmanTable::fill_differences`) that has it, or else returns `Some(None)` and takes no bit.
+    /// Stores a refusal in `refusal` and returns none.
+    #[inline(always)]
+    pub fn take_short_difference<R: Read + Drop>(
+        &mut self,
+        source: &mut Source<R>,
+        table: &HuffmanTable,
+        refusal: &mut Option<Error>,
+    ) -> Option<Option<i16>>
+        ensures difference { TakesShort table.now self.old source.old result refusal.new self.new
+            source.new }
+        ensures refused { IsRefused result refusal.new }
+    {
+        self.buffered.take_short_difference(source, table, refusal)
     }
 
     /// Like `decode`, but stores a refusal in `refusal` and returns none: a call without an `Error`

@@ -27,6 +27,13 @@ fn take_difference<R: Read + Drop>(
         decoder.old source.old (answer_of result refusal.new) decoder.new source.new }
     ensures refused { IsRefused result refusal.new }
 {
+    // Nearly all differences have at most 12 bits with their codes: one look-up tells them.
+    let Some(short) = decoder.take_short_difference(source, table, refusal) else {
+        return None;
+    };
+    if let Some(difference) = short {
+        return Some(difference.cast_unsigned());
+    }
     let Some(category) = decoder.take_symbol(source, table, refusal) else {
         return None;
     };

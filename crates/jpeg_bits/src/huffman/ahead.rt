@@ -147,6 +147,7 @@ impl BufferedBits {
     ghost use Rattle.jpeg_bits.specs.ShortCodes.{symbol_in, short_value_of, next_bits};
     ghost use Rattle.jpeg_bits.specs.Skips.{IsSkip};
     ghost use Rattle.jpeg_bits.specs.Pairs.{IsPairOf, IsWithinPassed};
+    ghost use Rattle.jpeg_bits.specs.ShortDifferences.{IsShortDifference, TakesShort};
     ghost use Rattle.jpeg_bits.specs.Reading.{Names, Gives};
     ghost use Rattle.jpeg_bits.specs.Readers.{signed_from};
     ghost use Rattle.jpeg_bits.specs.Refusals.{outcome_of, answer_of, IsRefused};
@@ -475,6 +476,41 @@ impl BufferedBits {
         ensures { IsSkip table.now (next_bits 12 self.now.bits) result }
     {
         table.skip_of(self.bits.front_16())
+    }
+
+    /// Returns the difference that the buffered bits begin with, and how many bits it takes with its
+    /// code, or no bits.
+    #[inline(always)]
+    #[tactic(auto, using(crate::proofs::WideTokens::twelve_front))]
+    pub(crate) fn short_difference(&self, table: &HuffmanTable) -> (i16, u8)
+        ensures { IsShortDifference table.now (next_bits 12 self.now.bits) result }
+    {
+        table.difference_of(self.bits.front_16())
+    }
+
+    /// Reads the next difference, if the look-up table of `table` has it, or else returns
+    /// `Some(None)` and takes no bit. A refusal is stored in `refusal`, and none is returned.
+    #[inline(always)]
+    pub(crate) fn take_short_difference<R: Read + Drop>(
+        &mut self,
+        source: &mut Source<R>,
+        table: &HuffmanTable,
+        refusal: &mut Option<Error>,
+    ) -> Option<Option<i16>>
+        ensures difference { TakesShort table.now self.old source.old result refusal.new self.new
+            source.new }
+        ensures refused { IsRefused result refusal.new }
+    {
+        if !self.fill(source, 16, refusal) {
+            return None;
+        }
+        let (value, bits) = self.short_difference(table);
+        let count = usize::from(bits);
+        if count == 0 || !self.has(count) {
+            return Some(None);
+        }
+        self.skip(count);
+        Some(Some(value))
     }
 
     /// Returns the values that the buffered bits begin with, one or two, and the end of the block

@@ -56,6 +56,9 @@ pub struct HuffmanTable {
     // The values that 11 bits begin with, one or two, and the end of the block after them, which a
     // first pass reads at once. Empty until `fill_pairs` fills it from those of single values.
     pairs: Vec<Pair>,
+    // The differences that 12 bits begin with, as lossless scans have them: the value, and how many
+    // bits it takes with its code, or none. Empty until `fill_differences` fills it.
+    differences: Vec<(i16, u8)>,
 }
 
 /// The codes of a table, in one allocation of less than 1,032 bytes: larger ones aren't in the
@@ -95,6 +98,7 @@ impl Model for HuffmanTable {
     ghost use Rattle.jpeg_bits.specs.ShortCodes.{HoldsValues, HoldsWideValues};
     ghost use Rattle.jpeg_bits.specs.Skips.{HoldsSkips};
     ghost use Rattle.jpeg_bits.specs.Pairs.{AreSmall, HoldsPairs};
+    ghost use Rattle.jpeg_bits.specs.ShortDifferences.{HoldsDifferences};
 
     ghost Value = { Table };
 
@@ -107,7 +111,8 @@ impl Model for HuffmanTable {
         × HoldsWideValues table t.wide_tokens.items
         × AreSmall t.wide_tokens.items
         × HoldsSkips table t.skips.items
-        × HoldsPairs table t.pairs.items };
+        × HoldsPairs table t.pairs.items
+        × HoldsDifferences table t.differences.items };
 }
 
 impl Model for CodeTables {
@@ -136,6 +141,7 @@ impl HuffmanTable {
     ghost use Rattle.jpeg_bits.specs.Written.{low_bits};
     ghost use Rattle.jpeg_bits.specs.Skips.{HoldsSkips, IsSkip};
     ghost use Rattle.jpeg_bits.specs.Pairs.{IsPairOf, IsWithinPassed};
+    ghost use Rattle.jpeg_bits.specs.ShortDifferences.{HoldsDifferences, IsShortDifference};
 
     /// Returns the table of `bits[i]` codes of length i + 1 and of their symbols, `values`, 1 to
     /// 256 of them. The code of all ones is accepted. The error is `Format` if a code doesn't fit
@@ -168,6 +174,7 @@ impl HuffmanTable {
             wide_tokens: Vec::new(alloc),
             skips: Vec::new(alloc),
             pairs: Vec::new(alloc),
+            differences: Vec::new(alloc),
         })
     }
 
@@ -183,6 +190,7 @@ impl HuffmanTable {
             wide_tokens: Vec::new(alloc),
             skips: Vec::new(alloc),
             pairs: Vec::new(alloc),
+            differences: Vec::new(alloc),
         }
     }
 
@@ -288,6 +296,61 @@ impl HuffmanTable {
             return (0, 63, false);
         }
         (used, passed, false)
+    }
+
+    /// Fills the look-up table by which the differences of lossless scans are read at once. It takes
+    /// some tens of microseconds: it pays for scans of many samples. Nothing else changes, and a
+    /// second call does nothing. The only error is `AllocError`.
+    pub fn fill_differences(&mut self, alloc: Global) -> std::result::Result<(), AllocError>
+        ensures { self.new ≡ self.old }
+    {
+        if self.differences.is_empty() {
+            self.differences = self.differences(alloc)?;
+        }
+        Ok(())
+    }
+
+    /// Returns the differences that 12 bits begin with, at the index of each.
+    fn differences(&self, alloc: Global) -> std::result::Result<Vec<(i16, u8)>, AllocError>
+        ensures { IfOk result (λ v. HoldsDifferences self.now v.items) }
+    {
+        let mut differences = vec![in alloc; (0, 0); 4096]?;
+        for bits in 0..4096 {
+            differences[bits] = self.difference_in(bits as u16);
+        }
+        Ok(differences)
+    }
+
+    /// Returns the difference that 12 bits begin with, and how many bits it takes with its code, or
+    /// no bits.
+    #[tactic(auto, using(crate::proofs::ShortDifferences::short_none))]
+    fn difference_in(&self, bits: u16) -> (i16, u8)
+        requires { bits < 4096 }
+        ensures { IsShortDifference self.now (low_bits 12 bits) result }
+    {
+        let Some((symbol, length)) = self.symbol_of(bits_after(bits, 0)) else {
+            return (0, 0);
+        };
+        if symbol > 11 || length + symbol > 12 {
+            return (0, 0);
+        }
+        if symbol == 0 {
+            return (0, length);
+        }
+        (value_in(12, bits, length, symbol), length + symbol)
+    }
+
+    /// Returns the difference that the first 12 of 16 bits begin with, as `difference_in` does, if
+    /// the table for them is filled.
+    #[inline(always)]
+    #[tactic(auto, using(crate::proofs::ShortDifferences::short_none))]
+    pub(crate) fn difference_of(&self, bits: u16) -> (i16, u8)
+        ensures { IsShortDifference self.now (low_bits 12 (bits / 16)) result }
+    {
+        match self.differences.get((bits >> 4) as usize) {
+            Some(difference) => *difference,
+            None => (0, 0),
+        }
     }
 
     /// Returns the symbol and the length of the code that begins 16 bits.

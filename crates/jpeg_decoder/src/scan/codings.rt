@@ -20,7 +20,7 @@ use jpeg_bits::blocks::Pass;
 use jpeg_bits::error::Result;
 use jpeg_bits::huffman::codes::HuffmanTableClass;
 use jpeg_bits::huffman::{HuffmanTable, fill_default_mjpeg_tables};
-use jpeg_segments::parser::{FrameInfo, ScanHeader};
+use jpeg_segments::parser::{CodingProcess, FrameInfo, ScanHeader};
 use std::alloc::{AllocError, Global};
 
 /// The tables that stand in if a scan names a destination that is unset: the default ones of MJPEG
@@ -54,10 +54,16 @@ const WIDE_PIXELS: u32 = 1 << 12;
 /// The same for a progressive frame, whose scans read few tokens with each table.
 const WIDE_PROGRESSIVE_PIXELS: u32 = 1 << 14;
 
-/// Returns whether a frame has enough pixels for the look-up tables of AC values to pay.
+/// The same for the look-up tables of the differences of a lossless frame: they have 4,096 entries.
+const DIFFERENCE_PIXELS: u32 = 1 << 14;
+
+/// Returns whether a frame has enough pixels for the look-up tables of AC values, or of
+/// differences, to pay.
 fn is_large(frame: &FrameInfo) -> bool {
     let least = if is_progressive(frame.coding_process) {
         WIDE_PROGRESSIVE_PIXELS
+    } else if frame.coding_process == CodingProcess::Lossless {
+        DIFFERENCE_PIXELS
     } else {
         WIDE_PIXELS
     };
@@ -141,7 +147,23 @@ fn widen_all(
     Ok(())
 }
 
-/// Fills the look-up tables of AC values if the frame has enough samples for them to pay.
+/// Fills the look-up tables of the differences of lossless scans.
+fn fill_differences(
+    alloc: Global,
+    tables: &mut [Option<HuffmanTable>],
+) -> std::result::Result<(), AllocError>
+    ensures { tables.new ≡ tables.old }
+{
+    for destination in 0..tables.len() {
+        if let Some(table) = &mut tables[destination] {
+            table.fill_differences(alloc)?;
+        }
+    }
+    Ok(())
+}
+
+/// Fills the look-up tables of AC values, or of the differences of a lossless frame, if the frame
+/// has enough samples for them to pay.
 pub fn widen_tables(alloc: Global, state: &mut State) -> std::result::Result<(), AllocError>
     ensures { state.new ≡ state.old }
 {
@@ -151,6 +173,9 @@ pub fn widen_tables(alloc: Global, state: &mut State) -> std::result::Result<(),
     };
     if !is_large(frame) {
         return Ok(());
+    }
+    if frame.coding_process == CodingProcess::Lossless {
+        return fill_differences(alloc, &mut said.dc_tables);
     }
     widen_all(alloc, &mut said.ac_tables, frame)
 }
