@@ -5,6 +5,7 @@ ghost use Rattle.zaxbriar.specs.Layouts.{TakesStored, bytes_of, colour_of, conve
 ghost use Rattle.zaxbriar.specs.Layouts.{converted_bytes, greatest, is_stored, layout_bytes};
 ghost use Rattle.zaxbriar.specs.Layouts.{layout_line, layout_numbered, level, light, luma};
 ghost use Rattle.zaxbriar.specs.Layouts.{pixel_bytes, sample_at};
+ghost use Rattle.jpeg_streams.specs.declared.images.PixelFormat.TheVariants.{L8, RGB24, CMYK32};
 ghost use Rattle.zaxbriar.specs.declared.layouts.Conversion.TheVariants.{InColour};
 
 use jpeg_decoder::PixelFormat;
@@ -255,8 +256,9 @@ fn put_pixels(
     }
 }
 
-/// Writes each pixel of a row as its colour in a layout, by a loop for each layout.
-#[inline(always)]
+/// Writes each pixel of a row as its colour in a layout, by a loop for each layout. Formats of 8
+/// bits have functions of their own: the compiler doesn't inline a function of so many loops,
+/// whatever its hint says.
 fn put_in_layout(
     row: &[u8],
     format: PixelFormat,
@@ -280,6 +282,54 @@ fn put_in_layout(
     }
 }
 
+/// Writes pixels of grey, of 8 bits a sample, in a layout, by a loop for each.
+fn put_grey(row: &[u8], layout: Layout, width: usize, line: &mut [u8])
+    requires whole { length row.now ≡ width * pixel_bytes L8 8 }
+    requires room { length line.old ≡ width * layout_bytes layout }
+    ensures { line.new ≡ layout_line (InColour L8 8 layout) (pixel_bytes L8 8) width row.now }
+{
+    match layout {
+        Layout::Grey => put_pixels(row, PixelFormat::L8, 8, Layout::Grey, width, line),
+        Layout::Rgb => put_pixels(row, PixelFormat::L8, 8, Layout::Rgb, width, line),
+        Layout::Rgba => put_pixels(row, PixelFormat::L8, 8, Layout::Rgba, width, line),
+        Layout::Bgra => put_pixels(row, PixelFormat::L8, 8, Layout::Bgra, width, line),
+        Layout::Bgr => put_pixels(row, PixelFormat::L8, 8, Layout::Bgr, width, line),
+        Layout::Xrgb => put_pixels(row, PixelFormat::L8, 8, Layout::Xrgb, width, line),
+    }
+}
+
+/// Writes pixels of red, green and blue, of 8 bits a sample, in a layout, by a loop for each.
+fn put_rgb(row: &[u8], layout: Layout, width: usize, line: &mut [u8])
+    requires whole { length row.now ≡ width * pixel_bytes RGB24 8 }
+    requires room { length line.old ≡ width * layout_bytes layout }
+    ensures { line.new ≡ layout_line (InColour RGB24 8 layout) (pixel_bytes RGB24 8) width row.now }
+{
+    match layout {
+        Layout::Grey => put_pixels(row, PixelFormat::RGB24, 8, Layout::Grey, width, line),
+        Layout::Rgb => put_pixels(row, PixelFormat::RGB24, 8, Layout::Rgb, width, line),
+        Layout::Rgba => put_pixels(row, PixelFormat::RGB24, 8, Layout::Rgba, width, line),
+        Layout::Bgra => put_pixels(row, PixelFormat::RGB24, 8, Layout::Bgra, width, line),
+        Layout::Bgr => put_pixels(row, PixelFormat::RGB24, 8, Layout::Bgr, width, line),
+        Layout::Xrgb => put_pixels(row, PixelFormat::RGB24, 8, Layout::Xrgb, width, line),
+    }
+}
+
+/// Writes pixels of ink, of 8 bits a sample, in a layout, by a loop for each.
+fn put_cmyk(row: &[u8], layout: Layout, width: usize, line: &mut [u8])
+    requires whole { length row.now ≡ width * pixel_bytes CMYK32 8 }
+    requires room { length line.old ≡ width * layout_bytes layout }
+    ensures { line.new ≡ layout_line (InColour CMYK32 8 layout) (pixel_bytes CMYK32 8) width row.now }
+{
+    match layout {
+        Layout::Grey => put_pixels(row, PixelFormat::CMYK32, 8, Layout::Grey, width, line),
+        Layout::Rgb => put_pixels(row, PixelFormat::CMYK32, 8, Layout::Rgb, width, line),
+        Layout::Rgba => put_pixels(row, PixelFormat::CMYK32, 8, Layout::Rgba, width, line),
+        Layout::Bgra => put_pixels(row, PixelFormat::CMYK32, 8, Layout::Bgra, width, line),
+        Layout::Bgr => put_pixels(row, PixelFormat::CMYK32, 8, Layout::Bgr, width, line),
+        Layout::Xrgb => put_pixels(row, PixelFormat::CMYK32, 8, Layout::Xrgb, width, line),
+    }
+}
+
 /// Writes each pixel of a row as its colour in a layout, by a loop for each format of 8 bits.
 fn put_in_colour(
     row: &[u8],
@@ -295,9 +345,9 @@ fn put_in_colour(
         (pixel_bytes format precision) width row.now }
 {
     match (format, precision) {
-        (PixelFormat::L8, 8) => put_in_layout(row, PixelFormat::L8, 8, layout, width, line),
-        (PixelFormat::RGB24, 8) => put_in_layout(row, PixelFormat::RGB24, 8, layout, width, line),
-        (PixelFormat::CMYK32, 8) => put_in_layout(row, PixelFormat::CMYK32, 8, layout, width, line),
+        (PixelFormat::L8, 8) => put_grey(row, layout, width, line),
+        (PixelFormat::RGB24, 8) => put_rgb(row, layout, width, line),
+        (PixelFormat::CMYK32, 8) => put_cmyk(row, layout, width, line),
         _ => put_in_layout(row, format, precision, layout, width, line),
     }
 }
