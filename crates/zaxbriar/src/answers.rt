@@ -1,6 +1,6 @@
 //! What a call returns, and the text of a refusal.
-ghost use Rattle.std.specs.Prelude.{◌≡◌, IfOk, IfErr, replicate, slice_index};
-ghost use Rattle.zaxbriar.specs.Faults.{IsOwn, StandsFor, error_code, fault_code};
+ghost use Rattle.std.specs.Prelude.{◌≡◌, ◌≤◌, IfOk, IfErr, IsErrAnd, replicate, slice_index};
+ghost use Rattle.zaxbriar.specs.Faults.{IsOwn, IsPart, StandsFor, error_code, fault_code};
 ghost use Rattle.zaxbriar.specs.Faults.{outcome_fault, outcome_rows, padded, status_of};
 
 use jpeg_decoder::Decoder;
@@ -88,7 +88,11 @@ fn error_code(error: &Error) -> u32
 
 /// Returns the number of a refusal.
 pub fn code_of(refusal: &Refusal) -> u32
-    ensures { result ≡ fault_code refusal.now }
+    ensures number { result ≡ fault_code refusal.now }
+    ensures most { result ≤ 9 }
+    ensures some { result ≡ 0 → ⊥ }
+    ensures data { result ≡ 7 → ⊥ }
+    ensures part { result ≡ 9 → IsPart refusal.now }
 {
     match refusal {
         Refusal::Stream(error) => error_code(error),
@@ -158,6 +162,9 @@ pub fn answer<T: Drop>(
     ensures text { IfOk outcome (λ _. text.new ≡ replicate 112 0) }
     ensures ended { slice_index text.new 111 ≡ 0 }
     ensures said { IfErr outcome (λ r. IsOwn r → slice_index text.new 0 ≡ 0 → ⊥) }
+    ensures most { result ≤ 9 }
+    ensures data { result ≡ 7 → ⊥ }
+    ensures part { result ≡ 9 → IsErrAnd outcome IsPart }
 {
     match outcome {
         Ok(_) => {

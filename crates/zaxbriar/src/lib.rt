@@ -85,6 +85,10 @@ pub extern "C" fn zaxbriar_checked_read_info(
     ensures limited { length jpeg.now < 2 ^ 64 → (size : Picture)
         → IsTooLarge false options.now jpeg.now size → IsOfCallNumber result }
 
+    // There is no other result than OK, MALFORMED, UNSUPPORTED, TRUNCATED, NO_MEMORY, NO_ROOM,
+    // BAD_ARGUMENT and TOO_LARGE.
+    ensures numbered { (result ≤ 8) × (result ≡ 7 → ⊥) }
+
     // No rows are counted, whatever is returned.
     ensures rowless { picture.new.whole_rows ≡ 0 }
 
@@ -150,6 +154,10 @@ pub extern "C" fn zaxbriar_checked_decode(
         → CountsRead (header_at jpeg.now) jpeg.now picture.new.stream_bytes }
     ensures unread { are_known options.now ≡ false → picture.new.stream_bytes ≡ 0 }
     ensures most { picture.new.stream_bytes ≤ length jpeg.now }
+
+    // There is no other result than OK, MALFORMED, UNSUPPORTED, TRUNCATED, NO_MEMORY, NO_ROOM,
+    // BAD_ARGUMENT and TOO_LARGE.
+    ensures numbered { (result ≤ 8) × (result ≡ 7 → ⊥) }
 
     // No rows are counted, whatever is returned.
     ensures rowless { picture.new.whole_rows ≡ 0 }
@@ -234,6 +242,9 @@ pub extern "C" fn zaxbriar_checked_decode_partial(
     ensures rows { (result ≡ 0) ⊎ (result ≡ 9) → length jpeg.now < 2 ^ 64
         → picture.new.whole_rows ≡ complete_rows_by options.now jpeg.now }
     ensures rowless { (result ≡ 0 → ⊥) → (result ≡ 9 → ⊥) → picture.new.whole_rows ≡ 0 }
+
+    // There is no other result than these, NO_MEMORY, NO_ROOM, BAD_ARGUMENT, TOO_LARGE and PARTIAL.
+    ensures numbered { (result ≤ 9) × (result ≡ 7 → ⊥) }
 
     // MALFORMED, UNSUPPORTED and TRUNCATED name the fault for which nothing is shown: that of a
     // stream without an accepted frame header, or a transform that doesn't fit the picture. After
@@ -326,6 +337,10 @@ pub extern "C" fn zaxbriar_checked_metadata(
     // A kind that doesn't exist is refused, whatever the bytes are, and no other is.
     ensures known { IsNoKind kind → result ≡ 6 }
     ensures wrong { result ≡ 6 → IsNoKind kind }
+
+    // There is no other result than OK, MALFORMED, UNSUPPORTED, TRUNCATED, NO_MEMORY, NO_ROOM,
+    // BAD_ARGUMENT and NO_DATA.
+    ensures numbered { result ≤ 7 }
 
     // MALFORMED, UNSUPPORTED and TRUNCATED name the fault of the header, or of the image.
     ensures malformed { length jpeg.now < 2 ^ 64 → result ≡ 1

@@ -1,5 +1,5 @@
 //! The metadata of a header or of a whole image.
-ghost use Rattle.std.specs.Prelude.{◌≡◌, ◌<◌, ℕ, suc, List, length, None, true, false, not};
+ghost use Rattle.std.specs.Prelude.{◌≡◌, ◌<◌, ◌≤◌, ℕ, suc, List, length, None, true, false, not};
 ghost use Rattle.std.specs.Prelude.{IfErr, IfOk, IsOk, OnErr, OnOk};
 ghost use Rattle.std.specs.Option.{option_copied};
 ghost use Rattle.jpeg_bits.specs.Reading.{IsGivenUp, Names};
@@ -45,6 +45,7 @@ fn copy_data(found: Option<&[u8]>, buffer: &mut [u8], count: &mut u64) -> u32
         → IsCopied (option_copied found.entry) buffer.old buffer.new count.new }
     ensures none { result ≡ 7 → option_copied found.entry ≡ None }
     ensures own { result < 4 → result ≡ 0 }
+    ensures most { result ≤ 7 }
     ensures known { result ≡ 6 → ⊥ }
     ensures room { result ≡ 5
         → IsLonger (option_copied found.entry) (length buffer.old) count.new }
@@ -80,6 +81,7 @@ fn copy_profile<R: Read + Drop>(
         count.new) }
     ensures own { IfOk result (λ code. code < 4 → code ≡ 0) }
     ensures known { IfOk result (λ code. code ≡ 6 → ⊥) }
+    ensures most { IfOk result (λ code. code ≤ 7) }
     ensures kept { IfOk result (λ code. (code ≡ 0 → ⊥) → buffer.new ≡ buffer.old) }
     ensures failed { OnErr result (buffer.new ≡ buffer.old) }
 {
@@ -106,6 +108,7 @@ fn copy_kind<R: Read + Drop>(
         count.new) }
     ensures own { IfOk result (λ code. code < 4 → code ≡ 0) }
     ensures known { IfOk result (λ code. 0 < kind → kind < 4 → code ≡ 6 → ⊥) }
+    ensures most { IfOk result (λ code. code ≤ 7) }
     ensures kept { IfOk result (λ code. (code ≡ 0 → ⊥) → buffer.new ≡ buffer.old) }
     ensures failed { OnErr result (buffer.new ≡ buffer.old) }
 {
@@ -154,6 +157,7 @@ fn read_told<R: Read + Drop>(decoder: &mut Decoder<R>, whole: bool) -> std::resu
     ensures whole { decoder.old.source.known ≡ true
         → IfOk result (λ code. code ≡ 7 → IsOk (end_at whole decoder.old.source.bytes)) }
     ensures fails { IfOk result (λ code. (code ≡ 0 → ⊥) × (code ≡ 5 → ⊥) × (code ≡ 6 → ⊥)) }
+    ensures most { IfOk result (λ code. code ≤ 7) }
     ensures other { IfErr result (λ code. code ≡ 4) }
 {
     let Err(error) = read_through(decoder, whole) else {
@@ -187,6 +191,7 @@ pub fn read_metadata<R: Read + Drop>(
     ensures named { (bytes : List ℕ) → Tells (R.remaining reader) bytes
         → IfOk result (λ code. IsNamed code (end_at (is_whole kind) bytes)) }
     ensures known { IfOk result (λ code. code ≡ 6 → IsNoKind kind) }
+    ensures most { IfOk result (λ code. code ≤ 7) }
     ensures kept { IfOk result (λ code. (code ≡ 0 → ⊥) → buffer.new ≡ buffer.old) }
     ensures failed { OnErr result (buffer.new ≡ buffer.old) }
 {
