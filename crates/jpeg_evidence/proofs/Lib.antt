@@ -46,5 +46,6 @@ pub mod CutRows
 pub mod CutHeld
 pub mod CutSplits
 pub mod CutShown
+pub mod CutTaken
 pub mod WholeShown
 pub mod AllRows

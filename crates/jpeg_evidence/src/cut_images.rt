@@ -7,7 +7,7 @@ ghost use Rattle.jpeg_segments.specs.Frame.{Frame};
 ghost use Rattle.jpeg_segments.specs.ScanHeaders.{IsScan, ScanHeader, scan_payload, scan_written};
 ghost use Rattle.jpeg_segments.specs.WrittenSegments.{Segment, marker_code, payload_of};
 ghost use Rattle.jpeg_segments.specs.WrittenSegments.{with_length};
-ghost use Rattle.jpeg_streams.specs.ArrayPictures.{picture_of_array};
+ghost use Rattle.jpeg_streams.specs.ArrayPictures.{TakesPicture, picture_of_array};
 ghost use Rattle.jpeg_streams.specs.Brought.{all_brought};
 ghost use Rattle.jpeg_streams.specs.Found.{Said, nothing_found};
 ghost use Rattle.jpeg_streams.specs.Levels.{Is8Bit, Levels};
@@ -95,6 +95,20 @@ pub fn cut_images_show_what_was_sent()
         → (part : List ℕ) × (front ≡ 255 ∷ 216 ∷ part) × (said : Said) × (blocks : Coefficients)
         × HoldsCut array blocks part said (whole_rows front) × (s.told ≡ told_of said)
         × (picture_held settings said blocks ≡ Ok s.picture) }
+{}
+
+/// Each beginning of such a stream that has its SOI holds blocks of the image, and the picture of
+/// these is shown, if the settings take the picture of what its whole segments say: there is a
+/// frame, its picture is within the limit, and its components can have the colour transform.
+pub fn cut_images_are_shown()
+    ensures { (settings : Settings) (array : Coefficients) (image part more : List ℕ)
+        (final : Said) (last : ℕ → Levels)
+        → ((index row column : ℕ) → Is8Bit (array index row column))
+        → WritesImage array image final last → image ≡ (255 ∷ 216 ∷ part) ++ more
+        → (said : Said) × (blocks : Coefficients)
+        × HoldsCut array blocks part said (whole_rows (255 ∷ 216 ∷ part))
+        × (TakesPicture settings said → (s : Shown) × (shown settings (255 ∷ 216 ∷ part) ≡ Ok s)
+        × (s.told ≡ told_of said) × (picture_held settings said blocks ≡ Ok s.picture)) }
 {}
 
 /// A stream that a writer emits whole for the coefficients of an image is never taken for one that
