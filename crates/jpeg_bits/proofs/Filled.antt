@@ -1,7 +1,7 @@
 -- A buffer that is filled from the front by reads.
 use Rattle.jpeg_bits.specs.declared.error.Error.TheVariants as errors
 use Rattle.std.proofs.Common.{◌≡◌, ℕ, ◌<◌, ◌≤◌, ◌^◌, Bool, true, false, not, ◌&&◌, List, ◌++◌, length, take, ◌∙◌}
-use Rattle.std.proofs.Common.{Option, Ok, arith, length-append, ltb, zero, suc, ◌+◌, ◌-◌, [], ◌∷◌, Err, refl, sym, ap}
+use Rattle.std.proofs.Common.{Option, Result, Ok, arith, length-append, ltb, zero, suc, ◌+◌, ◌-◌, [], ◌∷◌, Err, refl, sym, ap}
 use Rattle.std.proofs.Common.{append_assoc, length-take, length-take-le}
 use Rattle.std.specs.Io.KnownBytes.{Keeps, Consumes, IsAtEnd}
 use Rattle.std.proofs.lemmas.Bool.{false≢true}
@@ -12,13 +12,9 @@ use Rattle.std.proofs.Math.Seq.{take-append-add}
 use borrow.Rule.Slice.PartMut.{put_mid}
 use Rattle.jpeg_bits.specs.declared.error.Error.{Error}
 use Rattle.jpeg_bits.proofs.Loops.{bind_at, bind_err}
-
--- known bytes stay as they were
-abbrev pub Rests : Stream → Stream → Type 0
-Rests old new = (new.failed ≡ old.failed) × (old.known ≡ true → (new.known ≡ true) × (new.bytes ≡ old.bytes))
-
-pub rests_trans : (a b c : Stream) → Rests a b → Rests b c → Rests a c
-rests_trans a b c p q = (q.0 ∙ p.0, λ k. ((q.1 (p.1 k).0).0, (q.1 (p.1 k).0).1 ∙ (p.1 k).1))
+use Rattle.jpeg_bits.specs.Turns.{AnswersLater, IsAnswered, read_fails, read_answers}
+use Rattle.std.specs.declared.io.Error.{Error as IoError}
+use Rattle.std.proofs.KnownBytes.{Keeps-trans}
 
 -- both conjuncts of a flag that is true
 pub known_parts : (e f t : Bool) → not e && (not f && t) ≡ true → (e ≡ false) × (f ≡ false) × (t ≡ true)
@@ -26,10 +22,6 @@ known_parts e f t h = grind (arith, false≢true)
 
 pub known_from : (e f t : Bool) → e ≡ false → f ≡ false → t ≡ true → not e && (not f && t) ≡ true
 known_from e f t p q r = rw (p, q) r
-
--- an interrupted read
-pub rests_keeps : (a b : Option (List ℕ)) (f e : Bool) → Keeps a b → Rests (stream_of a f e) (stream_of b f e)
-rests_keeps a b f e h = grind (arith, known_parts, false≢true)
 
 shorter : (xs ys zs : List ℕ) → xs ≡ ys ++ zs → ltb (length xs) (2 ^ 64) ≡ true → ltb (length zs) (2 ^ 64) ≡ true
 shorter xs ys zs e h = grind (arith, length-append)
@@ -40,10 +32,22 @@ pub reads_some : (a b : Option (List ℕ)) (f e : Bool) (n : ℕ) (buffer : List
     → ReadsSome (stream_of a f e) (Ok n) buffer (stream_of b f e)
 reads_some a b f e n buffer le h end = grind (arith, known_parts, false≢true, known_from, shorter)
 
--- after some interrupted reads
-pub reads_after : (a b c : Stream) (n : ℕ) (buffer : List ℕ) → Rests a b → ReadsSome b (Ok n) buffer c
-    → ReadsSome a (Ok n) buffer c
-reads_after a b c n buffer p q = grind arith
+-- what follows reads that changed nothing
+consumes-after : (a b c : Option (List ℕ)) (bytes : List ℕ) → Keeps a b → Consumes b c bytes → Consumes a c bytes
+consumes-after a b c bytes kept consumes = grind (arith, false≢true)
+
+pub answers-after : {S : Type 0} (remaining : S → Option (List ℕ)) (s m t : S) (answer : Result ℕ IoError)
+    (buffer : List ℕ) → Keeps (remaining s) (remaining m) → read_answers remaining m answer buffer t
+    → read_answers remaining s answer buffer t
+answers-after remaining s m t (Ok n) buffer kept h =
+    (h.0, (consumes-after (remaining s) (remaining m) (remaining t) (take n buffer) kept h.1.0, h.1.1))
+answers-after remaining s m t (Err e) buffer kept h =
+    (h.0, Keeps-trans (remaining s) (remaining m) (remaining t) kept h.1)
+
+-- an error that is passed on
+pub answered-later : {S : Type 0} (answers : S → Result ℕ IoError → List ℕ → S → Type 0) (s t : S) (e : IoError)
+    (buffer : List ℕ) → AnswersLater answers s (Err e) buffer t → IsAnswered (read_fails answers) e
+answered-later answers s t e buffer h = (h.1, t, (buffer, h.3))
 
 -- ---- a buffer that is filled from the front by reads
 

@@ -11,7 +11,8 @@ use Rattle.std.proofs.lemmas.List.{get_or_default}
 use Rattle.jpeg_bits.proofs.PieceWalks.{at-start, at-end, clear_from, set_after, marks-later, gap-some}
 use Rattle.jpeg_bits.proofs.CodeLemmas.{first_le, index_within, row_found, row_missed, above_more, none_found}
 use Rattle.jpeg_bits.proofs.Filled.{skip-refused as bytes-refused, skip-goes, skip-none, filled-err, filled-room}
-use Rattle.jpeg_bits.proofs.Filled.{filled-all, rests_trans, rests_keeps, reads_some, reads_after}
+use Rattle.jpeg_bits.proofs.Filled.{filled-all, reads_some, answers-after, answered-later}
+use Rattle.std.proofs.KnownBytes.{Keeps-refl, Keeps-trans}
 use Rattle.jpeg_bits.proofs.Reservoirs.{front_number, front_below}
 use Rattle.jpeg_bits.proofs.WideTokens.{none_left, skip-refused, skip-overlong, skip-all}
 use Rattle.jpeg_bits.proofs.ZigzagIndices.{kept-same}
@@ -56,8 +57,8 @@ pub ruleset codes = (exist-tested, tested-exist, good-table, takes-symbol)
 -- the laws of markers
 pub ruleset markers = (is-found, only-found, none-found, none-there)
 
--- what a read leaves
-pub ruleset rests = (rests_trans, rests_keeps, reads_after, reads_some)
+-- reads that are repeated
+pub ruleset later = (reads_some, answers-after, answered-later, Keeps-refl, Keeps-trans)
 
 -- the default tables
 pub ruleset luminance = (luminance-dc-codes, luminance-ac-codes)

@@ -18,6 +18,7 @@ pub mod NextMarker
 -- what a caller sees of a block
 pub mod BlockView
 -- the code's own words: the clauses of `Decoder`, `run` and `report` reach none of these
+pub mod Turns
 pub mod Refusals
 pub mod Reservoir
 pub mod ShortCodes
