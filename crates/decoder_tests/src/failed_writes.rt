@@ -2,7 +2,7 @@
 //! what was taken is a beginning.
 
 use jpeg_decoder::Error;
-use jpeg_decoder::run::run;
+use jpeg_decoder::run::{report, run};
 use std::alloc::Global;
 use std::io::ErrorKind;
 use test_streams::named::SMALLEST_GREY;
@@ -11,6 +11,12 @@ use test_streams::streams::{ROOM, bytes_in};
 
 /// What `run` writes of the smallest grey stream.
 const OUTPUT: &str = "38 20 38 20 4C38 0A 81*64";
+
+/// What `report` writes of a refusal for lack of memory.
+const LINE: &str = "jpegraw: out of memory\n";
+
+/// More writes than `LINE` has bytes.
+const MOST_WRITES: usize = 30;
 
 /// How many bytes a write takes at most, and how many writes the line and the picture then take.
 const WRITES: [(usize, usize); 3] = [(1, 71), (5, 15), (1000, 2)];
@@ -86,6 +92,40 @@ fn is_written(alloc: Global, piece: usize, writes: usize) -> bool {
     ) {
         (Ok(bytes), Ok(output)) => fares(alloc, &Stream { bytes, output }, piece, writes),
         _ => false,
+    }
+}
+
+/// Returns whether `report` returns 1 and writes nothing after the write of this number, from 0,
+/// which goes wrong: a beginning of the line, or all of it if that takes fewer writes.
+fn ends_line(alloc: Global, piece: usize, call: usize, trouble: Trouble) -> bool {
+    let mut taken = Vec::new(alloc);
+    let mut writer = Writer::new(&mut taken, piece, call, trouble);
+    let status = report(alloc, &Err(Error::OutOfMemory), &mut writer);
+    let calls = writer.call;
+    let is_whole = taken.as_slice() == LINE.as_bytes();
+    let is_cut = calls.checked_sub(1) == Some(call) && LINE.as_bytes().starts_with(&taken);
+    status == 1 && is_whole != is_cut
+}
+
+/// Returns whether it is so, in whatever way the write goes wrong.
+fn ends_each_line(alloc: Global, piece: usize, call: usize) -> bool {
+    for kind in FAILURES {
+        if !ends_line(alloc, piece, call, Trouble::FailsBy(kind)) {
+            return false;
+        }
+    }
+    ends_line(alloc, piece, call, Trouble::TakesNothing)
+}
+
+#[test]
+fn each_write_of_a_refusal_fails(rt: HostRuntime) {
+    for (piece, _) in WRITES {
+        for call in 0..MOST_WRITES {
+            assert!(rt;
+                ends_each_line(rt.alloc(), piece, call),
+                "{piece} bytes a write, {call}"
+            );
+        }
     }
 }
 

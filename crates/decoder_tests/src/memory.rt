@@ -1,17 +1,46 @@
 //! Calls that run out of memory: each returns `OutOfMemory` and nothing else, and what was read
 //! before is reported. `./memory` at the top of the repository refuses each allocation of these
-//! tests in turn. Nothing here allocates but the calls themselves and a writer, which then returns
-//! an error of its own.
+//! tests in turn, and is told where a call begins and how it ends: a call in which an allocation
+//! was refused has to return `OutOfMemory`, and no other call may. Nothing here allocates but the
+//! calls themselves, what tells of them, and a writer, which then returns an error of its own.
 
 use crate::decoders::{FIRSTS, First, begin, has_failed};
 use crate::streams::{COUNT, Stream, Written, stream_of};
 use jpeg_decoder::run::run;
 use jpeg_decoder::{Decoder, Error};
-use std::alloc::Global;
-use std::io::ErrorKind;
+use std::alloc::{AllocError, Global};
 use test_streams::readers::{Counted, Counts, Reader, Trouble, Writer};
 use test_streams::states::is_finished;
 use test_streams::streams::ROOM;
+
+/// The rooms by whose sizes `./memory` knows that a call begins, that it ended with an answer, and
+/// that it ran out of memory. It refuses none of them, and doesn't count them.
+const BEGINS: usize = 1_000_003;
+
+const ANSWERS: usize = 1_000_033;
+
+const HAS_NO_MEMORY: usize = 1_000_037;
+
+/// Allocates a room and returns it: the compiler would leave out one that isn't.
+#[inline(never)]
+fn room(alloc: Global, size: usize) -> Result<Vec<u8>, AllocError> {
+    Vec::with_capacity(alloc, size)
+}
+
+/// Tells `./memory` that a call begins.
+fn begin_call(alloc: Global) {
+    let _room = room(alloc, BEGINS);
+}
+
+/// Tells `./memory` how a call has ended, and returns its answer.
+fn end_call<T: Drop>(alloc: Global, answer: Result<T, Error>) -> Result<T, Error> {
+    let size = match &answer {
+        Err(Error::OutOfMemory) => HAS_NO_MEMORY,
+        _ => ANSWERS,
+    };
+    let _room = room(alloc, size);
+    answer
+}
 
 /// What is wanted of a decoder: its picture after a first call, or what there is of it.
 #[derive(Clone, Copy)]
@@ -23,6 +52,7 @@ enum Wanted {
 /// A decoder's stream, and how much of it was read.
 #[derive(Clone, Copy)]
 struct Reading<'a> {
+    alloc: Global,
     stream: &'a Written<'a>,
     counts: &'a Counts,
 }
@@ -48,7 +78,8 @@ impl Reading<'_> {
 
     /// Returns whether a decoder returns the picture, or has failed.
     fn decodes(&self, decoder: &mut Decoder<Counted<'_>>) -> bool {
-        match decoder.decode() {
+        begin_call(self.alloc);
+        match end_call(self.alloc, decoder.decode()) {
             Ok(pixels) => {
                 pixels.as_slice() == self.stream.picture
                     && self.is_reported(decoder)
@@ -60,7 +91,8 @@ impl Reading<'_> {
 
     /// Returns whether a decoder shows the picture of a stream without a fault, or has failed.
     fn shows(&self, decoder: &mut Decoder<Counted<'_>>) -> bool {
-        match decoder.decode_partial() {
+        begin_call(self.alloc);
+        match end_call(self.alloc, decoder.decode_partial()) {
             Ok(shown) => {
                 (shown.fault.is_some() || shown.pixels.as_slice() == self.stream.picture)
                     && self.is_reported(decoder)
@@ -72,7 +104,8 @@ impl Reading<'_> {
 
     /// Returns whether a decoder returns the picture after a first call, or has failed.
     fn decodes_after(&self, decoder: &mut Decoder<Counted<'_>>, first: First) -> bool {
-        match begin(decoder, first) {
+        begin_call(self.alloc);
+        match end_call(self.alloc, begin(decoder, first)) {
             Ok(()) => self.is_reported(decoder) && self.decodes(decoder),
             Err(error) => self.is_failed(decoder, &error),
         }
@@ -92,24 +125,28 @@ fn answers(alloc: Global, stream: &Written<'_>, wanted: Wanted) -> bool {
     let counts = Counts::new();
     let reader = Reader::new(stream.bytes, usize::MAX, usize::MAX, Trouble::Fails);
     let reading = Reading {
+        alloc,
         stream,
         counts: &counts,
     };
-    match Decoder::new(alloc, Counted::new(reader, &counts)) {
+    begin_call(alloc);
+    match end_call(alloc, Decoder::new(alloc, Counted::new(reader, &counts))) {
         Ok(mut decoder) => reading.answers(&mut decoder, wanted),
         Err(error) => matches!(error, Error::OutOfMemory),
     }
 }
 
-/// Returns whether `run` writes what it is to, or runs out of memory and writes nothing.
+/// Returns whether `run` writes what it is to, or runs out of memory and writes nothing. The writer
+/// has room for all of it.
 fn runs(alloc: Global, stream: &Written<'_>) -> bool {
-    let mut output = Vec::new(alloc);
+    let Ok(mut output) = Vec::with_capacity(alloc, ROOM) else {
+        return true;
+    };
     let mut writer = Writer::new(&mut output, usize::MAX, usize::MAX, Trouble::Fails);
-    match run(alloc, stream.bytes, &mut writer) {
+    begin_call(alloc);
+    match end_call(alloc, run(alloc, stream.bytes, &mut writer)) {
         Ok(()) => stream.is_output(&output),
         Err(Error::OutOfMemory) => output.is_empty(),
-        // The writer's own refusal.
-        Err(Error::Io(error)) => error.kind() == ErrorKind::OutOfMemory,
         Err(_) => false,
     }
 }
