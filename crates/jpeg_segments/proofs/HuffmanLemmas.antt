@@ -14,8 +14,8 @@ use Rattle.jpeg_bits.specs.declared.error.Error.{Error}
 use Rattle.jpeg_bits.proofs.Loops.{bind_at, bind_err, still_known}
 use Rattle.jpeg_bits.proofs.Tables.{exist-tested, tested-exist}
 use Rattle.jpeg_segments.specs.HuffmanTables.{Tables, all_ac, is_ac_or_none, tables_from}
-use Rattle.jpeg_segments.specs.Parts.{placed_at, symbols_at}
-use Rattle.jpeg_segments.proofs.PartsOfSegments.{placed_of_parts}
+use Rattle.jpeg_segments.specs.Parts.{symbols_at, table_in_destination_at}
+use Rattle.jpeg_segments.proofs.PartsOfSegments.{table_in_destination_of_parts}
 use Rattle.std.proofs.lemmas.Grind.{common_steps}
 use Rattle.jpeg_bits.proofs.BufferedBits.{may_fail_format}
 
@@ -36,10 +36,10 @@ table-found class counts old mid symbols r h1 h2 h3 h4 =
     grind (arith, nat_tests, exist-tested, refused-names, may_fail_format, still_known)
 
 pub tables_from-more : (most greatest left : ℕ) (tables : Tables) (bytes : List ℕ) → 17 < left → left ≤ most
-    → tables_from most greatest left tables bytes ≡ (placed_at greatest left tables bytes
+    → tables_from most greatest left tables bytes ≡ (table_in_destination_at greatest left tables bytes
     >>= λ (t : (ℕ × Tables) × List ℕ). tables_from (most - 1) greatest (left - t.0.0) t.0.1 t.1)
 unfolding tables_from
-tables_from-more most greatest left tables bytes h1 h2 = grind (arith, nat_tests, placed_of_parts)
+tables_from-more most greatest left tables bytes h1 h2 = grind (arith, nat_tests, table_in_destination_of_parts)
 
 pub tables_from-rest : (most greatest left : ℕ) (tables : Tables) (bytes : List ℕ) → left ≤ 17
     → tables_from most greatest left tables bytes ≡ (if eqb left 0 then Ok (tables, bytes) else Err Malformed)

@@ -10,8 +10,8 @@ use Rattle.jpeg_segments.specs.Checks.{needed}
 use Rattle.jpeg_segments.specs.Frame.{Factors, Frame, components_from, factors_at, frame_of, is_lossless_number}
 use Rattle.jpeg_segments.specs.Frame.{is_taken, sof_at}
 use Rattle.jpeg_segments.specs.HuffmanTables.{Tables, defined_codes_at, size_of, with_table}
-use Rattle.jpeg_segments.specs.Parts.{destinations_at, head_at, parameters_at, place_at, placed_at, symbols_at}
-use Rattle.jpeg_segments.specs.Parts.{table_at}
+use Rattle.jpeg_segments.specs.Parts.{destinations_at, head_at, parameters_at, symbols_at, table_at}
+use Rattle.jpeg_segments.specs.Parts.{table_destination_at, table_in_destination_at}
 use Rattle.jpeg_segments.specs.Quantization.{defined_table_at, table_size}
 use Rattle.jpeg_segments.specs.ScanHeader.{index_of, selector_at}
 
@@ -29,11 +29,12 @@ pub sof_of_parts : (number : ℕ) (bytes : List ℕ) → sof_at number bytes ≡
 unfolding sof_at head_at
 sof_of_parts number bytes = grind (arith, nat_tests)
 
-pub placed_of_parts : (greatest left : ℕ) (tables : Tables) (bytes : List ℕ) → placed_at greatest left tables bytes ≡ (do
-  t ← defined_codes_at greatest left bytes
-  Ok ((size_of t.0, with_table tables t.0), t.1))
-unfolding defined_codes_at placed_at place_at symbols_at
-placed_of_parts greatest left tables bytes = grind (arith, nat_tests)
+pub table_in_destination_of_parts : (greatest left : ℕ) (tables : Tables) (bytes : List ℕ)
+    → table_in_destination_at greatest left tables bytes ≡ (do
+      t ← defined_codes_at greatest left bytes
+      Ok ((size_of t.0, with_table tables t.0), t.1))
+unfolding defined_codes_at table_in_destination_at table_destination_at symbols_at
+table_in_destination_of_parts greatest left tables bytes = grind (arith, nat_tests)
 
 none-zero : (vs : List ℕ) → list_all (λ v. nat_lt 0 v) vs ≡ not (list_any (λ v. v == 0) vs)
 none-zero [] = refl

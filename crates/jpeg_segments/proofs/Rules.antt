@@ -1,5 +1,6 @@
 -- Lemmas that the proofs of functions use, and definitions that they unfold, by what they are about.
 use Rattle.std.specs.Prelude.{⊤}
+use Rattle.jpeg_segments.specs.Parts.{table_in_destination_at}
 use Rattle.jpeg_segments.specs.Quantization.{dqt_at, value_at}
 use Rattle.jpeg_segments.proofs.FrameLemmas.{frame_rules}
 use Rattle.jpeg_segments.proofs.HuffmanLemmas.{all_ac_set, huffman_steps}
@@ -17,6 +18,10 @@ pub ruleset sized_frames = (frames_are_sized, parts)
 pub ruleset huffman = (huffman_steps)
 
 pub ruleset classes = (all_ac_set)
+
+unfoldable pub destinations : ⊤
+unfolding table_in_destination_at
+destinations = tt
 
 -- the MCU of a scan
 pub ruleset mcus = (mcu_of_blocks)

@@ -89,25 +89,25 @@ symbols_at class counts bytes = do
       else Err Malformed
 
 -- the class of a table and its destination
-unfoldable pub place_at : ℕ → List ℕ → Outcome (HuffmanTableClass × ℕ)
-place_at greatest bytes = do
+unfoldable pub table_destination_at : ℕ → List ℕ → Outcome (HuffmanTableClass × ℕ)
+table_destination_at greatest bytes = do
   b ← next_byte bytes
   if nat_lt 1 (b.0 / 16) then Err Malformed else (
       if nat_lt greatest (b.0 % 16) then Err Malformed
       else Ok ((class_of (b.0 / 16), b.0 % 16), b.1))
 
--- The size of the next table, and the tables with it. It has 1 to 256 codes, and no more than bytes
--- of the segment are left.
-unfoldable pub placed_at : ℕ → ℕ → Tables → List ℕ → Outcome (ℕ × Tables)
-placed_at greatest left tables bytes = do
-  place ← place_at greatest bytes
-  counts ← times 16 next_byte place.1
+-- The size of the next table, and the tables with it in its destination. It has 1 to 256 codes, and
+-- no more than bytes of the segment are left.
+unfoldable pub table_in_destination_at : ℕ → ℕ → Tables → List ℕ → Outcome (ℕ × Tables)
+table_in_destination_at greatest left tables bytes = do
+  destination ← table_destination_at greatest bytes
+  counts ← times 16 next_byte destination.1
   if sum counts.0 == 0 then Err Malformed else (if nat_lt 256 (sum counts.0) then Err Malformed
       else (
       if nat_lt left (17 + sum counts.0) then Err Malformed else (do
-        t ← symbols_at place.0.0 counts.0 counts.1
-        let placed : DefinedTable = record { destination = place.0.1; table = t.0 } in
-            Ok ((17 + sum counts.0, with_table tables placed), t.1))))
+        t ← symbols_at destination.0.0 counts.0 counts.1
+        let defined : DefinedTable = record { destination = destination.0.1; table = t.0 } in
+            Ok ((17 + sum counts.0, with_table tables defined), t.1))))
 
 -- the tables of a segment, each in place of the one that was in its destination
 unfoldable pub dht_onto : Option Bool → Tables → List ℕ → Outcome Tables

@@ -2,7 +2,8 @@
 ghost use Rattle.std.specs.Prelude.{◌≡◌, ◌≤◌, ◌<◌, ◌+◌, true, None, replicate, length, sum, IfOk};
 ghost use Rattle.jpeg_bits.specs.Reading.{Answers, NamesFormat, times, next_byte};
 ghost use Rattle.jpeg_segments.specs.HuffmanTables.{all_ac, dht_at, greatest_destination};
-ghost use Rattle.jpeg_segments.specs.Parts.{dht_onto, place_at, placed_at, symbols_at};
+ghost use Rattle.jpeg_segments.specs.Parts.{dht_onto, symbols_at, table_destination_at};
+ghost use Rattle.jpeg_segments.specs.Parts.{table_in_destination_at};
 
 use jpeg_bits::error::{Error, Result, format_error_of};
 use jpeg_bits::huffman::{HuffmanTable, HuffmanTableClass};
@@ -54,20 +55,24 @@ fn read_table<R: Read + Drop>(
     HuffmanTable::new(alloc, counts, symbols, class)
 }
 
-/// Where a table is put: its class and its destination.
+/// The destination of a table: its class, and its index among the four of that class.
 #[derive(Clone, Copy)]
-struct Place {
+struct TableDestination {
     class: HuffmanTableClass,
-    destination: u8,
+    index: u8,
 }
 
-/// Reads where the next table is put.
-#[tactic(auto, unfolding(crate::specs::Parts::place_at))]
-fn read_place<R: Read + Drop>(alloc: Global, source: &mut Source<R>, greatest: u8) -> Result<Place>
+/// Reads the class and the destination of the next table.
+#[tactic(auto, unfolding(crate::specs::Parts::table_destination_at))]
+fn read_table_destination<R: Read + Drop>(
+    alloc: Global,
+    source: &mut Source<R>,
+    greatest: u8,
+) -> Result<TableDestination>
     requires { greatest ≤ 3 }
-    ensures answers { Answers (λ p. (p.class, p.destination)) (place_at greatest)
+    ensures answers { Answers (λ d. (d.class, d.index)) (table_destination_at greatest)
         source.old result source.new }
-    ensures destination { IfOk result (λ p. p.destination ≤ 3) }
+    ensures index { IfOk result (λ d. d.index ≤ 3) }
 {
     let byte = read_u8(alloc, source)?;
     let class = match byte / 16 {
@@ -79,38 +84,38 @@ fn read_place<R: Read + Drop>(alloc: Global, source: &mut Source<R>, greatest: u
             )));
         }
     };
-    let destination = byte % 16;
-    if destination > greatest {
+    let index = byte % 16;
+    if index > greatest {
         let expected = expected_destinations(greatest);
         return Err(format_error_of(format!(in alloc;
-            "{class:?} table destination {destination}, expected {expected}"
+            "{class:?} table destination {index}, expected {expected}"
         )));
     }
-    Ok(Place { class, destination })
+    Ok(TableDestination { class, index })
 }
 
 /// Returns the refusal of a number of codes that a table doesn't have, or for whose symbols too few
 /// bytes are left.
 #[cold]
 #[inline(never)]
-fn count_error(alloc: Global, place: Place, count: u16, left: u16) -> Error
+fn count_error(alloc: Global, destination: TableDestination, count: u16, left: u16) -> Error
     ensures { NamesFormat result }
 {
-    let Place { class, destination } = place;
+    let TableDestination { class, index } = destination;
     if count == 0 || count > 256 {
         return format_error_of(format!(in alloc;
-            "{count} codes of {class:?} table {destination}, expected 1 to 256"
+            "{count} codes of {class:?} table {index}, expected 1 to 256"
         ));
     }
     let size = 17 + count;
     format_error_of(format!(in alloc;
-        "{left} bytes left in DHT for {class:?} table {destination}, expected {size}"
+        "{left} bytes left in DHT for {class:?} table {index}, expected {size}"
     ))
 }
 
 /// Reads the next table, with `left` bytes left in the segment, and puts it in its destination.
 /// Returns how many bytes it takes.
-#[tactic(auto, unfolding(crate::specs::Parts::placed_at), using(crate::proofs::Rules::classes))]
+#[tactic(auto, unfolding(crate::proofs::Rules::destinations), using(crate::proofs::Rules::classes))]
 fn read_defined_table<R: Read + Drop>(
     alloc: Global,
     source: &mut Source<R>,
@@ -123,24 +128,24 @@ fn read_defined_table<R: Read + Drop>(
     requires dc { length dc.old ≡ 4 }
     requires ac { length ac.old ≡ 4 }
     ensures answers { Answers (λ n. (n, record { dc = dc.new; ac = ac.new }))
-        (placed_at greatest left (record { dc = dc.old; ac = ac.old }))
+        (table_in_destination_at greatest left (record { dc = dc.old; ac = ac.old }))
         source.old result source.new }
     ensures size { IfOk result (λ n. (1 ≤ n) × (n ≤ left)) }
     ensures dc { length dc.new ≡ 4 }
     ensures ac { length ac.new ≡ 4 }
     ensures classes { all_ac ac.old ≡ true → all_ac ac.new ≡ true }
 {
-    let place = read_place(alloc, source, greatest)?;
+    let destination = read_table_destination(alloc, source, greatest)?;
     let counts = read_counts(alloc, source)?;
     let count = total(&counts);
     if count == 0 || count > 256 || left < 17 + count {
-        return Err(count_error(alloc, place, count, left));
+        return Err(count_error(alloc, destination, count, left));
     }
-    let table = read_table(alloc, source, place.class, &counts, count)?;
-    let destination = usize::from(place.destination);
-    match place.class {
-        HuffmanTableClass::DC => dc[destination] = Some(table),
-        HuffmanTableClass::AC => ac[destination] = Some(table),
+    let table = read_table(alloc, source, destination.class, &counts, count)?;
+    let index = usize::from(destination.index);
+    match destination.class {
+        HuffmanTableClass::DC => dc[index] = Some(table),
+        HuffmanTableClass::AC => ac[index] = Some(table),
     }
     Ok(17 + count)
 }
