@@ -414,10 +414,6 @@ four-indices frame indices decoded h =
     (decoded-count frame decoded)).1
     (recursion_from_All (λ index. index < length frame.components) indices h))
 
--- The components of a scan, by the fields of its header.
-pub components-seen : {seen scan : Scan} → seen ≡ scan → seen.components ≡ scan.components
-components-seen is = ap (λ (s : Scan). s.components) is
-
 -- ---- the picture
 
 pub picture-lacks : (found : Found) (frame : Frame) (e : Error)

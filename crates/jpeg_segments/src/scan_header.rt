@@ -13,7 +13,6 @@ ghost use Rattle.jpeg_segments.specs.FrameView.{component_in, frame_in, scan_in,
 
 use crate::frame::{CodingProcess, Component, FrameInfo};
 use crate::huffman_tables::{expected_destinations, greatest_destination};
-use arrayvec::ArrayVec;
 use jpeg_bits::error::{Error, Result, format_error, format_error_of};
 use jpeg_bits::huffman::HuffmanTableClass;
 use jpeg_bits::scan::{MAX_COMPONENTS, Predictor, ScanInfo};
@@ -23,16 +22,15 @@ use std::alloc::{AllocError, Global};
 use std::io::Read;
 use std::marker::Model;
 
-/// A scan header, as a scan is read by it: what `ScanInfo` has, with its lists in place, since a
-/// progressive stream has many scans.
+/// A scan header: what `ScanInfo` has, with its lists stored inline, since a progressive stream has
+/// many scans.
 #[derive(Drop)]
 pub struct ScanHeader {
-    /// The components' indices in the frame, in the order of the scan.
-    pub components: ArrayVec<usize, MAX_COMPONENTS>,
-    /// The destinations of their DC tables.
-    pub dc_destinations: ArrayVec<usize, MAX_COMPONENTS>,
-    /// The destinations of their AC tables.
-    pub ac_destinations: ArrayVec<usize, MAX_COMPONENTS>,
+    // the lists have `count` elements; the places after them are unused
+    count: usize,
+    components: [usize; MAX_COMPONENTS],
+    dc_destinations: [usize; MAX_COMPONENTS],
+    ac_destinations: [usize; MAX_COMPONENTS],
     /// The first coefficient that the scan codes, by its index in zigzag order.
     pub first: u8,
     /// The index after the last.
@@ -48,14 +46,15 @@ pub struct ScanHeader {
 }
 
 impl Model for ScanHeader {
+    ghost use Rattle.std.specs.Prelude.{◌≡◌, ◌≤◌, length, take};
     ghost use Rattle.jpeg_segments.specs.ScanHeader.{Scan};
 
     ghost Value = { Scan };
 
     ghost view = { λ h. record {
-      components = h.components.items;
-      dc_destinations = h.dc_destinations.items;
-      ac_destinations = h.ac_destinations.items;
+      components = take h.count h.components;
+      dc_destinations = take h.count h.dc_destinations;
+      ac_destinations = take h.count h.ac_destinations;
       first = h.first;
       after = h.after;
       predictor = h.predictor;
@@ -63,17 +62,41 @@ impl Model for ScanHeader {
       low = h.low;
       point_transform = h.point_transform;
     } };
+
+    ghost invariant = { λ h. (h.count ≤ 4) × (length h.components ≡ 4)
+        × (length h.dc_destinations ≡ 4) × (length h.ac_destinations ≡ 4) };
 }
 
 impl ScanHeader {
-    /// Returns the same with its lists on the heap. The only error is `AllocError`.
+    /// Returns the indices of the scan's components in the frame, in the order of the scan.
+    pub fn components(&self) -> &[usize]
+        ensures { result.now ≡ self.now.components }
+    {
+        &self.components[..self.count]
+    }
+
+    /// Returns the destinations of the components' DC tables.
+    pub fn dc_destinations(&self) -> &[usize]
+        ensures { result.now ≡ self.now.dc_destinations }
+    {
+        &self.dc_destinations[..self.count]
+    }
+
+    /// Returns the destinations of the components' AC tables.
+    pub fn ac_destinations(&self) -> &[usize]
+        ensures { result.now ≡ self.now.ac_destinations }
+    {
+        &self.ac_destinations[..self.count]
+    }
+
+    /// Converts the header into a `ScanInfo`. The only error is `AllocError`.
     pub fn to_info(&self, alloc: Global) -> std::result::Result<ScanInfo, AllocError>
         ensures { IfOk result (λ s. scan_in s ≡ self.now) }
     {
         Ok(ScanInfo {
-            component_indices: self.components.to_vec(alloc)?,
-            dc_table_indices: self.dc_destinations.to_vec(alloc)?,
-            ac_table_indices: self.ac_destinations.to_vec(alloc)?,
+            component_indices: self.components().to_vec(alloc)?,
+            dc_table_indices: self.dc_destinations().to_vec(alloc)?,
+            ac_table_indices: self.ac_destinations().to_vec(alloc)?,
             spectral_selection: self.first..self.after,
             predictor_selection: self.predictor,
             successive_approximation_high: self.high,
@@ -234,33 +257,30 @@ fn read_selector<R: Read + Drop>(
     }
 }
 
-/// Reads `count` components.
+/// Reads as many components as the slice has elements.
 fn read_selectors<R: Read + Drop>(
     alloc: Global,
     source: &mut Source<R>,
     frame: &FrameInfo,
-    count: u8,
-) -> Result<ArrayVec<Selector, MAX_COMPONENTS>>
-    requires { count ≤ 4 }
-    ensures answers { Answers (λ v. map selector_of v.items)
-        (selectors_from (frame_in frame.now) count [] 0) source.old result source.new }
-    ensures length { IfOk result (λ v. length v.items ≡ count) }
-    ensures indices { IfOk result (λ v. All (IsSelectorOf (frame_in frame.now))
-        (map selector_of v.items)) }
-    ensures blocks { IfOk result (λ v. All (HasBlocks (frame_in frame.now)) v.items) }
-    ensures rising { IfOk result (λ v.
-        IsRising 0 (map (λ s. s.component) (map selector_of v.items))) }
+    selectors: &mut [Selector],
+) -> Result<()>
+    ensures answers { Answers (λ _. map selector_of selectors.new)
+        (selectors_from (frame_in frame.now) (length selectors.old) [] 0)
+        source.old result source.new }
+    ensures length { length selectors.new ≡ length selectors.old }
+    ensures indices { IfOk result (λ _. All (IsSelectorOf (frame_in frame.now))
+        (map selector_of selectors.new)) }
+    ensures blocks { IfOk result (λ _. All (HasBlocks (frame_in frame.now)) selectors.new) }
+    ensures rising { IfOk result (λ _.
+        IsRising 0 (map (λ s. s.component) (map selector_of selectors.new))) }
 {
-    let mut selectors = ArrayVec::new();
     let mut least = 0;
-    let mut left = count;
-    while left > 0 {
+    for i in 0..selectors.len() {
         let selector = read_selector(alloc, source, frame, least)?;
         least = selector.component + 1;
-        selectors.push(selector);
-        left -= 1;
+        selectors[i] = selector;
     }
-    Ok(selectors)
+    Ok(())
 }
 
 /// Returns the number of blocks of an MCU.
@@ -468,15 +488,17 @@ fn header_of(process: CodingProcess, selectors: &[Selector], band: Band) -> Scan
       point_transform = band.low;
     } }
 {
-    let mut components = ArrayVec::new();
-    let mut dc_destinations = ArrayVec::new();
-    let mut ac_destinations = ArrayVec::new();
-    for selector in selectors {
-        components.push(selector.component);
-        dc_destinations.push(selector.dc);
-        ac_destinations.push(selector.ac);
+    let mut components = [0; MAX_COMPONENTS];
+    let mut dc_destinations = [0; MAX_COMPONENTS];
+    let mut ac_destinations = [0; MAX_COMPONENTS];
+    for i in 0..selectors.len() {
+        let selector = selectors[i];
+        components[i] = selector.component;
+        dc_destinations[i] = selector.dc;
+        ac_destinations[i] = selector.ac;
     }
     ScanHeader {
+        count: selectors.len(),
         components,
         dc_destinations,
         ac_destinations,
@@ -527,8 +549,8 @@ fn read_band<R: Read + Drop>(
     Ok(header_of(frame.coding_process, selectors, band))
 }
 
-/// Reads a scan header as `parse_sos` does, with the same errors, and returns it with its lists in
-/// place.
+/// Reads a scan header as `parse_sos` does, with the same errors, and returns it with its lists
+/// stored inline.
 #[tactic(auto, using(crate::proofs::Rules::mcus), unfolding(crate::specs::ScanHeader::sos_at))]
 pub fn read_scan_header<R: Read + Drop>(
     alloc: Global,
@@ -538,15 +560,17 @@ pub fn read_scan_header<R: Read + Drop>(
     ensures answers { Answers (λ h. h) (sos_at (frame_in frame.now)) source.old result source.new }
     ensures scan { IfOk result (λ h. IsScanOf (frame_in frame.now) h) }
 {
-    let count = read_count(alloc, source)?;
-    let selectors = read_selectors(alloc, source, frame, count)?;
-    if !is_mcu(&selectors) {
-        let blocks = total(&selectors);
+    let count = usize::from(read_count(alloc, source)?);
+    let mut selectors = [Selector::default(); MAX_COMPONENTS];
+    let selectors = &mut selectors[..count];
+    read_selectors(alloc, source, frame, selectors)?;
+    if !is_mcu(selectors) {
+        let blocks = total(selectors);
         return Err(format_error_of(format!(in alloc;
             "{blocks} blocks in an MCU, expected at most 10"
         )));
     }
-    read_band(alloc, source, frame, &selectors)
+    read_band(alloc, source, frame, selectors)
 }
 
 /// Reads a scan header of a frame (T.81, B.2.3): the indices of its components in the frame and the

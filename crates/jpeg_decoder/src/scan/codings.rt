@@ -275,7 +275,7 @@ fn coding_of<'a>(
         let scan = header.now in
         Returns (coding_in_slot said.now frame scan slot) (λ c. coding_in c) result }
 {
-    let index = header.components[slot];
+    let index = header.components()[slot];
     let component = frame.components.get(index);
     let component = needed(alloc, component, Missing::Component(index))?;
     let identifier = component.identifier;
@@ -283,11 +283,11 @@ fn coding_of<'a>(
     let missing = Missing::Table("quantization", destination, identifier);
     let quantization = table_at(&said.quantization, destination);
     let quantization = needed(alloc, quantization, missing)?;
-    let dc_destination = header.dc_destinations[slot];
+    let dc_destination = header.dc_destinations()[slot];
     let missing = Missing::Table("DC", dc_destination, identifier);
     let dc = table_in_force(&said.dc_tables, &spare.dc, dc_destination);
     let dc = needed_table(alloc, has_dc(header), dc, &spare.no_dc, missing)?;
-    let ac_destination = header.ac_destinations[slot];
+    let ac_destination = header.ac_destinations()[slot];
     let missing = Missing::Table("AC", ac_destination, identifier);
     let ac = table_in_force(&said.ac_tables, &spare.ac, ac_destination);
     let ac = needed_table(alloc, has_ac(header), ac, &spare.no_ac, missing)?;
@@ -321,7 +321,7 @@ pub fn codings_of<'a>(
 {
     let first = coding_of(alloc, said, spare, frame, header, 0)?;
     let mut codings = Codings::new(first);
-    for slot in 1..header.components.len() {
+    for slot in 1..header.components().len() {
         let coded = coding_of(alloc, said, spare, frame, header, slot)?;
         codings.push(coded);
     }

@@ -31,7 +31,7 @@ use std::io::Read;
 
 /// Returns the identifier of the component in a slot of a scan, or 0 if there is none.
 fn identifier_of(frame: &FrameInfo, header: &ScanHeader, slot: usize) -> u8 {
-    let index = header.components.get(slot).copied();
+    let index = header.components().get(slot).copied();
     let component = index.and_then(|index| frame.components.get(index));
     component.map_or(0, |component| component.identifier)
 }
@@ -47,9 +47,10 @@ fn tables_of<'a>(
     ensures { let expected = tables_in said.now.huffman.dc header.now.dc_destinations in
         Returns expected (λ v. map (λ t. t.now) v.items) result }
 {
-    let mut tables = Vec::with_capacity(alloc, header.dc_destinations.len())?;
-    for slot in 0..header.dc_destinations.len() {
-        let destination = header.dc_destinations[slot];
+    let destinations = header.dc_destinations();
+    let mut tables = Vec::with_capacity(alloc, destinations.len())?;
+    for slot in 0..destinations.len() {
+        let destination = destinations[slot];
         let identifier = identifier_of(frame, header, slot);
         let missing = Missing::Table("DC", destination, identifier);
         let table = table_at(&said.dc_tables, destination);
@@ -133,7 +134,7 @@ fn coding_of(frame: &FrameInfo, header: &ScanHeader, restart_interval: u16) -> C
       restart_interval = restart_interval;
     } }
 {
-    let (wide, high) = mcus_of(frame, &header.components);
+    let (wide, high) = mcus_of(frame, header.components());
     Coding {
         wide,
         high,
@@ -166,11 +167,11 @@ pub fn read_lossless_scan<R: Read + Drop>(
     ensures stays { OnErr result (decoded.new ≡ decoded.old) }
 {
     let tables = tables_of(alloc, said, frame, header)?;
-    let parts = parts_of(alloc, frame, &header.components, &tables)?;
+    let parts = parts_of(alloc, frame, header.components(), &tables)?;
     let coding = coding_of(frame, header, said.restart_interval);
     let (mut planes, met) = read_scan(alloc, source, coding, &parts)?;
     let met = pass_restarts(alloc, source, met)?;
-    decoded.put_samples(alloc, &header.components, &mut planes);
+    decoded.put_samples(alloc, header.components(), &mut planes);
     Ok(met)
 }
 
@@ -209,7 +210,7 @@ pub fn sample_scan_of<'a>(
         (sample_codings said.now (frame_in frame.now) header.now)) }
 {
     let tables = tables_of(alloc, said, frame, header)?;
-    let parts = parts_of(alloc, frame, &header.components, &tables)?;
+    let parts = parts_of(alloc, frame, header.components(), &tables)?;
     let coding = coding_of(frame, header, said.restart_interval);
     let Some(rows) = rows_of_interval(coding) else {
         return Err(format_error_of(format!(in alloc;

@@ -173,7 +173,7 @@ pub fn reach_samples<R: Read + Drop>(
     let met = reach_intervals(alloc, source, &coding, &mut rows, scan.rows);
     let mut planes = rows.finish(&coding);
     let header = scan.header;
-    let indices = header.components.as_slice();
+    let indices = header.components();
     let whole = rows_of_planes(scan.frame, indices, &planes);
     complete_all(scan.frame, indices, &decoded.samples, &mut planes)?;
     decoded.put_samples(alloc, indices, &mut planes);

@@ -37,13 +37,13 @@ has-dc : (c : After-table_in_force-dc) → dc_of (said_of c.said.inside) c.args.
     ≡ table_if (c.args.header.now.first == 0) (no_table classes.DC) (option_copied c.table_in_force-dc.result)
 has-dc c = dc-read (said_of c.said.inside) c.args.header.now c.args.spare.now c.args.slot _ _
     (spare c.said.view_is c.requires.spare) (omega arith) (search rules)
-    (rw c.deref-4.ensures.value at c.table_in_force-dc.ensures)
+    (rw c.deref-2.ensures.value at c.table_in_force-dc.ensures)
 
 has-ac : (c : After-table_in_force-ac) → ac_of (said_of c.said.inside) c.args.header.now c.args.slot
     ≡ table_if (nat_lt 1 c.args.header.now.after) (no_table classes.AC) (option_copied c.table_in_force-ac.result)
 has-ac c = ac-read (said_of c.said.inside) c.args.header.now c.args.spare.now c.args.slot _ _
     (spare c.said.view_is c.requires.spare) (omega arith) (search rules)
-    (rw c.deref-6.ensures.value at c.table_in_force-ac.ensures)
+    (rw c.deref-3.ensures.value at c.table_in_force-ac.ensures)
 
 pub returns-in_err-quantization : goal.returns-in_err-quantization
 returns-in_err-quantization c =
@@ -79,7 +79,7 @@ returns c =
 pub invariant_of-result : goal.invariant_of-result
 invariant_of-result c =
     let given = rw c.requires.spare.no_ac at c.in_ok-ac.ensures in
-    let forced = rw c.deref-6.ensures.value at (rw c.table_in_force-ac.ensures at given) in
+    let forced = rw c.deref-3.ensures.value at (rw c.table_in_force-ac.ensures at given) in
     let component = c.in_ok-component.component.now in
     let index = get_or c.args.header.now.components c.args.slot 0 in
     let items = c.args.frame.now.components.items in

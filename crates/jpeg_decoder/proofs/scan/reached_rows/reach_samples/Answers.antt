@@ -12,7 +12,7 @@ use Rattle.jpeg_streams.specs.WholeRows.{rows_of_planes}
 use Rattle.jpeg_streams.proofs.Soundness.{decoded-precision, decoded-sized}
 use Rattle.jpeg_decoder.specs.Reaching.{planes_over, planes_reached, samples_reached}
 use Rattle.jpeg_decoder.specs.Seen.{found_of}
-use Rattle.jpeg_decoder.proofs.LosslessReads.{HasMcus, codings-count, components-seen, four-indices, parts-count, put-made}
+use Rattle.jpeg_decoder.proofs.LosslessReads.{HasMcus, codings-count, four-indices, parts-count, put-made}
 use Rattle.jpeg_decoder.proofs.ReachedData.{answers-by, on-told, unless}
 use Rattle.jpeg_decoder.proofs.SampleScans.{Reads, put_over, reads-components, reads-cut, reads-found}
 use Rattle.jpeg_decoder.proofs.SampleScans.{reads-marker, reads-sound, scan-coded, scan-mcus, scan-rows}
@@ -93,13 +93,13 @@ pub complete_all-requires-clause-count : goal.complete_all-requires-clause-count
 complete_all-requires-clause-count g c =
     c.finish-planes.ensures.count ∙ c.reach_intervals-met.ensures.count ∙ c.in_ok-rows.ensures.count
     ∙ counted g (goal.at.complete_all-requires-clause-count g c).In_ok-rows
-    ∙ ap (λ l. length l) (sym (c.as_slice-indices.ensures.value ∙ components-seen c.header.view_is))
+    ∙ ap (λ l. length l) (sym c.components-indices.ensures)
 
 pub complete_all-requires-clause-indices : goal.complete_all-requires-clause-indices
 complete_all-requires-clause-indices g c =
     let s = c.args.scan.now in
     let frame = frame_in s.frame.now in
-    rw (c.as_slice-indices.ensures.value ∙ components-seen c.header.view_is) (four-indices frame s.header.now.components
+    rw c.components-indices.ensures (four-indices frame s.header.now.components
     (c.requires.sound.frames frame c.requires.frame) c.requires.legal.components)
 
 pub put_samples-requires-clause-count : goal.put_samples-requires-clause-count
@@ -107,13 +107,13 @@ put_samples-requires-clause-count g c =
     c.in_ok-complete_all.ensures.count
     ∙ c.finish-planes.ensures.count ∙ c.reach_intervals-met.ensures.count ∙ c.in_ok-rows.ensures.count
     ∙ counted g (goal.at.put_samples-requires-clause-count g c).In_ok-rows
-    ∙ ap (λ l. length l) (sym (c.as_slice-indices.ensures.value ∙ components-seen c.header.view_is))
+    ∙ ap (λ l. length l) (sym c.components-indices.ensures)
 
 pub put_samples-requires-clause-indices : goal.put_samples-requires-clause-indices
 put_samples-requires-clause-indices g c =
     let s = c.args.scan.now in
     let frame = frame_in s.frame.now in
-    rw (c.as_slice-indices.ensures.value ∙ components-seen c.header.view_is) (four-indices frame s.header.now.components
+    rw c.components-indices.ensures (four-indices frame s.header.now.components
     (c.requires.sound.frames frame c.requires.frame) c.requires.legal.components)
 
 -- what is found then
@@ -128,13 +128,13 @@ placed g c =
     let s = c.args.scan.now in
     let found = found_of s.said.now c.args.decoded.now in
     let frame = frame_in s.frame.now in
-    let indices = c.as_slice-indices.ensures.value ∙ components-seen c.header.view_is in
+    let indices = c.components-indices.ensures in
     put-made found c.args.decoded.now c.put_samples.new.self _ c.put_samples.ensures.kept c.put_samples.ensures.finished
     c.put_samples.ensures.planes
     (c.put_samples.ensures.samples
-    ∙ ap (λ (p : List (List ℕ)). with_samples c.as_slice-indices.result.now p found.samples)
+    ∙ ap (λ (p : List (List ℕ)). with_samples c.components-indices.result.now p found.samples)
     (c.in_ok-complete_all.ensures.planes
-    ∙ ap (planes_over frame found.samples c.as_slice-indices.result.now) c.finish-planes.ensures.planes)
+    ∙ ap (planes_over frame found.samples c.components-indices.result.now) c.finish-planes.ensures.planes)
     ∙ ap (λ (l : List ℕ). with_samples l (planes_over frame found.samples l (cut_planes
     c.in_ok-coding.coding.scan.point_transform (map part_in c.in_ok-coding.coding.parts.now)
     (map (λ v. v.items) c.reach_intervals-met.new.rows.planes.items))) found.samples) indices)
@@ -164,7 +164,7 @@ returns-clause-rows g c codings h =
     let r = reads g (goal.at.returns-clause-rows g c).In_ok-rows in
     on-told c.args.source.now c.reach_intervals-met.new.source c.reach_intervals-met.result
     (λ is. c.rows_of_planes-whole.ensures codings
-    (rw (c.as_slice-indices.ensures.value ∙ components-seen c.header.view_is) (reads-components found frame scan s k parts empty codings r h))
+    (rw c.components-indices.ensures (reads-components found frame scan s k parts empty codings r h))
     ∙ ap (λ planes. rows_of_planes frame codings planes) (ap (map (λ v. v.items)) c.deref-2.ensures.value
     ∙ c.finish-planes.ensures.planes
     ∙ reads-cut found frame scan s k parts empty read codings c.args.source.now.bytes r h is))
