@@ -14,7 +14,7 @@ use Rattle.std.proofs.lemmas.Bool.{cases_lt, false≢true}
 use Rattle.std.proofs.lemmas.Bool.Decides.{nat_tests}
 use Rattle.jpeg_bits.specs.Reading.{◌>>=◌, Fault, ◌>>=◌ as ◌>>r=◌, Names, NamesFormat}
 use Rattle.jpeg_bits.specs.Entropy.{number_of, extended, upcoming_by, has_buffered, IsFilled}
-use Rattle.jpeg_bits.specs.Entropy.{text_at, Ahead, Takes, upcoming}
+use Rattle.jpeg_bits.specs.Entropy.{text_at, Text, Ahead, Takes, upcoming}
 use Rattle.jpeg_bits.specs.Readers.{read_on, signed_from}
 use Rattle.jpeg_bits.specs.Written.{low_bits}
 use Rattle.jpeg_bits.specs.Codes.{Table, code_in, code_lengths, code_value, begins, next_16, is_ac}
@@ -24,6 +24,7 @@ use Rattle.jpeg_bits.specs.ShortCodes.{named, symbol_in, short_only, short_code,
 use Rattle.jpeg_bits.specs.ShortCodes.{next_bits, packed, ArePassed, HoldsRows, IsRun, rest_of_code, rest_of_value}
 use Rattle.jpeg_bits.specs.ShortCodes.{unpacked_code}
 use Rattle.jpeg_bits.specs.declared.huffman.codes.HuffmanTableClass.{HuffmanTableClass}
+use Rattle.jpeg_bits.specs.declared.huffman.codes.HuffmanTableClass.TheVariants.{DC}
 use Rattle.jpeg_bits.specs.declared.huffman.codes.Row.{Row}
 use Rattle.jpeg_bits.specs.declared.huffman.ahead.DataEnd.{DataEnd}
 use Rattle.std.proofs.Math.Nat.{mod-lt, div-mul-le_self, div-eq_of_lt-le, mul-le-mul_right}
@@ -629,3 +630,17 @@ pub fast-not : (table : Table) (b : Ahead) (bytes : List ℕ) → length table.c
     → fast_from table (upcoming b bytes) ≡ Ok (None, upcoming b bytes)
 unfolding upcoming
 fast-not table b bytes counted h e = fast-none table b.bits b.met bytes h counted e
+
+-- ---- a table of class DC has no short values
+
+fast-dc : (table : Table) (t : Text) → table.class ≡ DC → fast_from table t ≡ Ok (None, t)
+unfolding fast_from short_code_from
+fast-dc table t dc = go (code_in (code_lengths table.counts) (next_16 t.bits))
+  where
+    go : (o : Option (ℕ × ℕ)) → read_on short_value (short_code_by table t o) ≡ Ok (None, t)
+    go None = refl
+    go (Some c) = rw dc refl
+
+pub fast_unread : (table : Table) (a : Ahead) (source : Stream) → table.class ≡ DC
+    → Takes (λ (v : Option (ℤ × ℕ)). v) (fast_from table) a source (Ok None) a source
+fast_unread table a source dc = (refl, λ known. (known, fast-dc table (upcoming a source.bytes) dc))

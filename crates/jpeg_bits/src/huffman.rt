@@ -39,7 +39,8 @@ impl Model for HuffmanDecoder {
 }
 
 impl HuffmanDecoder {
-    ghost use Rattle.std.specs.Prelude.{◌≡◌, ◌≤◌, ◌<◌, ◌^◌, [], None, OnOk, IfOk};
+    ghost use Rattle.std.specs.Prelude.{◌≡◌, ◌≤◌, ◌<◌, ◌^◌, [], None, Ok, OnOk, IfOk};
+    ghost use Rattle.jpeg_bits.specs.declared.huffman.codes.HuffmanTableClass.TheVariants.{DC};
     ghost use Rattle.jpeg_bits.specs.Refusals.{answer_of, IsRefused};
     ghost use Rattle.jpeg_bits.specs.Codes.{symbol_from, fast_from};
     ghost use Rattle.jpeg_bits.specs.Reading.{Answers};
@@ -134,16 +135,23 @@ impl HuffmanDecoder {
 
     /// Reads the value and the run of zeros before it, if a code of a table of class AC and the
     /// value after it take at most 8 bits together (T.81, F.2.2.2), all of which are taken.
-    /// Otherwise returns none and takes no bit. The errors are those of `get_bits`.
+    /// Otherwise returns none and takes no bit; for a table of class DC it doesn't read the source
+    /// either. The errors are those of `get_bits`.
     #[inline(always)]
+    #[tactic(auto, using(crate::proofs::ShortLemmas::fast_unread))]
     pub fn decode_fast_ac<R: Read + Drop>(
         &mut self,
         source: &mut Source<R>,
         table: &HuffmanTable,
     ) -> Result<Option<(i16, u8)>>
-        ensures { Takes (λ v. v) (fast_from table.now) self.old source.old result self.new
+        ensures value { Takes (λ v. v) (fast_from table.now) self.old source.old result self.new
             source.new }
+        ensures unread { table.now.class ≡ DC
+            → (self.new ≡ self.old) × (source.new ≡ source.old) × (result ≡ Ok None) }
     {
+        if table.is_dc() {
+            return Ok(None);
+        }
         match self
             .buffered
             .take_short_value(source, table, &mut self.refusal)

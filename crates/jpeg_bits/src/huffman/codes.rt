@@ -12,7 +12,7 @@ ghost use Rattle.jpeg_bits.specs.ShortCodes.{HoldsWideValues, rest_of_code, rest
 ghost use Rattle.jpeg_bits.specs.Pairs.{AreSmall};
 ghost use Rattle.jpeg_bits.specs.Skips.{HoldsSkips, IsSkip};
 ghost use Rattle.jpeg_bits.specs.Written.{low_bits};
-ghost use Rattle.jpeg_bits.specs.declared.huffman.codes.HuffmanTableClass.TheVariants.{AC};
+ghost use Rattle.jpeg_bits.specs.declared.huffman.codes.HuffmanTableClass.TheVariants.{AC, DC};
 
 use crate::error::{Error, Result, format_error_of};
 use crate::huffman::bits::{extend, power_of_two};
@@ -351,6 +351,14 @@ impl HuffmanTable {
             Some(difference) => *difference,
             None => (0, 0),
         }
+    }
+
+    /// Returns whether the table is of class DC.
+    #[inline(always)]
+    pub(crate) fn is_dc(&self) -> bool
+        ensures { IsTrue result ↔ (self.now.class ≡ DC) }
+    {
+        self.class == HuffmanTableClass::DC
     }
 
     /// Returns the symbol and the length of the code that begins 16 bits.
