@@ -22,7 +22,7 @@ use Rattle.jpeg_bits.specs.Codes.{short_token, after_code, short_code_by, short_
 use Rattle.jpeg_bits.specs.Codes.{short_value, fast_from, symbol_from, code_from}
 use Rattle.jpeg_bits.specs.ShortCodes.{named, symbol_in, short_only, short_code, short_value_by, short_value_of}
 use Rattle.jpeg_bits.specs.ShortCodes.{next_bits, packed, ArePassed, HoldsRows, IsRun, rest_of_code, rest_of_value}
-use Rattle.jpeg_bits.specs.ShortCodes.{unpacked_code}
+use Rattle.jpeg_bits.specs.ShortCodes.{unpacked_code, HoldsValues}
 use Rattle.jpeg_bits.specs.declared.huffman.codes.HuffmanTableClass.{HuffmanTableClass}
 use Rattle.jpeg_bits.specs.declared.huffman.codes.HuffmanTableClass.TheVariants.{DC}
 use Rattle.jpeg_bits.specs.declared.huffman.codes.Row.{Row}
@@ -644,3 +644,14 @@ fast-dc table t dc = go (code_in (code_lengths table.counts) (next_16 t.bits))
 pub fast_unread : (table : Table) (a : Ahead) (source : Stream) → table.class ≡ DC
     → Takes (λ (v : Option (ℤ × ℕ)). v) (fast_from table) a source (Ok None) a source
 fast_unread table a source dc = (refl, λ known. (known, fast-dc table (upcoming a source.bytes) dc))
+
+-- ---- the look-up table of values
+
+-- the value at an index that it has
+pub value_at : (table : Table) (values : List (Option (ℤ × ℕ × ℕ))) (b : ℕ) → HoldsValues table values
+    → b < length values → get_or values b None ≡ short_value_of 8 table (low_bits 8 b)
+value_at table values b (inl none) lt = absurd (below_none b (subst (λ (l : List (Option (ℤ × ℕ × ℕ))). b < length l) none lt))
+  where
+    below_none : (b : ℕ) → b < 0 → ⊥
+    below_none b h = omega (arith, h)
+value_at table values b (inr held) lt = held.1 b (subst (λ (n : ℕ). b < n) held.0 lt)

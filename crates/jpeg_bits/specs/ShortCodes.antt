@@ -2,7 +2,7 @@
 use Rattle.std.specs.Prelude.{◌≡◌, ℕ, ℤ, pos, ◌+◌, ◌-◌, ◌*◌, ◌/◌, ◌%◌, ◌^◌, ◌<◌, ◌≤◌, ◌==◌, List}
 use Rattle.std.specs.Prelude.{take, drop, length, replicate, Bool, false, Option, Some, None}
 use Rattle.std.specs.Prelude.{if◌then◌else◌, slice_index, slice_index_or, sum, fold, ◌&&◌, nat_lt}
-use Rattle.std.specs.Prelude.{nat_le, ◌++◌}
+use Rattle.std.specs.Prelude.{nat_le, ◌++◌, ◌⊎◌, []}
 use Rattle.std.specs.Option.{option_map}
 use Rattle.jpeg_bits.specs.Entropy.{number_of, extended}
 use Rattle.jpeg_bits.specs.Written.{low_bits}
@@ -61,10 +61,15 @@ HoldsCodes counts symbols codes =
     (b : ℕ) → b < 256
     → unpacked_code (slice_index_or codes b 0) ≡ short_code counts symbols (low_bits 8 b)
 
--- the values that 8 bits begin with, at the index of each, where the table is filled
+-- the value that each 8 bits begin with, at their index
+abbrev pub HasValues : Table → List (Option (ℤ × ℕ × ℕ)) → Type 0
+HasValues table values =
+    (length values ≡ 256)
+    × ((b : ℕ) → b < 256 → slice_index_or values b None ≡ short_value_of 8 table (low_bits 8 b))
+
+-- all of these values, or none where the table isn't filled
 abbrev pub HoldsValues : Table → List (Option (ℤ × ℕ × ℕ)) → Type 0
-HoldsValues table values = (b : ℕ) → b < length values
-    → slice_index_or values b None ≡ short_value_of 8 table (low_bits 8 b)
+HoldsValues table values = (values ≡ []) ⊎ HasValues table values
 
 -- a value, and no bits where there is none
 abbrev pub packed : Option (ℤ × ℕ × ℕ) → ℤ × ℕ × ℕ

@@ -1,6 +1,6 @@
 -- Differences that some bits begin with, which are then read at once (T.81, F.2.2.1 and H.1.2.2).
-use Rattle.std.specs.Prelude.{◌≡◌, ℕ, ℤ, pos, ◌<◌, ◌≤◌, List, length, Bool, Option, Some, None, Ok, Err}
-use Rattle.std.specs.Prelude.{slice_index_or}
+use Rattle.std.specs.Prelude.{◌≡◌, ℕ, ℤ, pos, ◌<◌, ◌≤◌, List, length, Bool, Option, Some, None}
+use Rattle.std.specs.Prelude.{Ok, Err, slice_index_or}
 use Rattle.jpeg_bits.specs.Entropy.{Text, Ahead, Takes, advance, same_text}
 use Rattle.jpeg_bits.specs.Stream.{Stream}
 use Rattle.jpeg_bits.specs.Refusals.{kept_refusal}

@@ -195,8 +195,8 @@ impl HuffmanDecoder {
     }
 
     /// Reads the next difference, if `table` has a look-up table of differences (see
-    /// `HuffmanTable::fill_differences`) that has it, or else returns `Some(None)` and takes no bit.
-    /// Stores a refusal in `refusal` and returns none.
+    /// `HuffmanTable::fill_differences`) that has it, or else returns `Some(None)` and takes no
+    /// bit. Stores a refusal in `refusal` and returns none.
     #[inline(always)]
     pub fn take_short_difference<R: Read + Drop>(
         &mut self,

@@ -52,7 +52,7 @@ fn read_table<R: Read + Drop>(
     let mut symbols = [0u8; 256];
     let symbols = &mut symbols[..usize::from(count)];
     read_exact(alloc, source, symbols)?;
-    HuffmanTable::new(alloc, counts, symbols, class)
+    HuffmanTable::unfilled(alloc, counts, symbols, class)
 }
 
 /// The destination of a table: its class, and its index among the four of that class.
@@ -150,6 +150,21 @@ fn read_defined_table<R: Read + Drop>(
     Ok(17 + count)
 }
 
+/// Fills the look-up table of values of each table.
+fn fill_values(
+    alloc: Global,
+    tables: &mut [Option<HuffmanTable>],
+) -> std::result::Result<(), AllocError>
+    ensures { tables.new ≡ tables.old }
+{
+    for destination in 0..tables.len() {
+        if let Some(table) = &mut tables[destination] {
+            table.fill_values(alloc)?;
+        }
+    }
+    Ok(())
+}
+
 /// Returns four destinations with no table.
 fn no_tables(alloc: Global) -> std::result::Result<Vec<Option<HuffmanTable>>, AllocError>
     ensures { IfOk result (λ v. v.items ≡ replicate 4 None) }
@@ -178,8 +193,9 @@ pub(crate) fn expected_destinations(greatest: u8) -> &'static str {
 }
 
 /// Reads the tables of a segment as `parse_dht` does, and puts each in its destination among those
-/// in force: four of each class. The errors are those of `parse_dht`; some tables may then have
-/// been replaced.
+/// in force: four of each class. Their look-up tables of values stay empty, until
+/// `HuffmanTable::fill_values` or `HuffmanTable::widen` fills one. The errors are those of
+/// `parse_dht`; some tables may then have been replaced.
 #[tactic(auto, unfolding(crate::specs::Parts::dht_onto), using(crate::proofs::Rules::huffman))]
 pub fn read_huffman_tables<R: Read + Drop>(
     alloc: Global,
@@ -230,5 +246,6 @@ pub fn parse_dht<R: Read + Drop>(
     let mut dc = no_tables(alloc)?;
     let mut ac = no_tables(alloc)?;
     read_huffman_tables(alloc, reader, is_baseline, &mut dc, &mut ac)?;
+    fill_values(alloc, &mut ac)?;
     Ok((dc, ac))
 }

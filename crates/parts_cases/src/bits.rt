@@ -60,7 +60,7 @@ pub fn table_of(
     Ok(HuffmanTable::new(alloc, &codes.counts, symbols, class))
 }
 
-/// Fills the look-up tables of values.
+/// Fills the look-up tables by which large pictures are decoded.
 fn widen(alloc: Global, table: &mut HuffmanTable) -> Result<(), AllocError>
     ensures { table.new ≡ table.old }
 {
@@ -105,13 +105,10 @@ fn define(state: &mut State<'_>, text: &str) -> anyhow::Result<String> {
     let (class, text) = first_word(text);
     let class = class_of(class)?;
     state.codes = codes_of(state.alloc, text)?;
-    let mut table = match table_of(state.alloc, &state.codes, class)? {
+    let table = match table_of(state.alloc, &state.codes, class)? {
         Ok(table) => table,
         Err(error) => return Ok(refusal(state.alloc, &error)?),
     };
-    if state.is_wide {
-        widen(state.alloc, &mut table)?;
-    }
     match class {
         HuffmanTableClass::DC => put(&mut state.tables.0, table),
         HuffmanTableClass::AC => put(&mut state.tables.1, table),
@@ -178,14 +175,6 @@ fn scan_of(alloc: Global, dc: Vec<usize>, ac: Vec<usize>) -> ScanInfo {
     }
 }
 
-/// Fills the look-up tables of values of each table.
-fn widen_all(alloc: Global, tables: &mut [Option<HuffmanTable>]) -> Result<(), AllocError> {
-    for table in tables.iter_mut().flatten() {
-        widen(alloc, table)?;
-    }
-    Ok(())
-}
-
 /// Fills in the default tables that a scan names by words `DC: AC`.
 fn fill_defaults(state: &mut State<'_>, text: &str) -> anyhow::Result<String> {
     let alloc = state.alloc;
@@ -196,9 +185,6 @@ fn fill_defaults(state: &mut State<'_>, text: &str) -> anyhow::Result<String> {
         bail!("expected two destinations");
     }
     fill_default_mjpeg_tables(alloc, &scan, dc, ac)?;
-    if state.is_wide {
-        widen_all(alloc, ac)?;
-    }
     Ok(text_of_tables(alloc, &state.tables)?)
 }
 
@@ -223,7 +209,7 @@ fn pass_of(alloc: Global, text: &str) -> anyhow::Result<Pass>
     })
 }
 
-/// Returns the table of codes of the class AC.
+/// Returns the table of codes of the class AC; if `is_wide`, as blocks of large pictures are read.
 fn last_table(alloc: Global, codes: &Codes, is_wide: bool) -> anyhow::Result<HuffmanTable>
     ensures { IfOk result (λ table. table.class ≡ AC) }
 {

@@ -318,7 +318,8 @@ fn put_rgb(row: &[u8], layout: Layout, width: usize, line: &mut [u8])
 fn put_cmyk(row: &[u8], layout: Layout, width: usize, line: &mut [u8])
     requires whole { length row.now ≡ width * pixel_bytes CMYK32 8 }
     requires room { length line.old ≡ width * layout_bytes layout }
-    ensures { line.new ≡ layout_line (InColour CMYK32 8 layout) (pixel_bytes CMYK32 8) width row.now }
+    ensures { line.new ≡ layout_line (InColour CMYK32 8 layout) (pixel_bytes CMYK32 8) width
+        row.now }
 {
     match layout {
         Layout::Grey => put_pixels(row, PixelFormat::CMYK32, 8, Layout::Grey, width, line),

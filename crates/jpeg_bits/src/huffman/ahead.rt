@@ -478,8 +478,8 @@ impl BufferedBits {
         table.skip_of(self.bits.front_16())
     }
 
-    /// Returns the difference that the buffered bits begin with, and how many bits it takes with its
-    /// code, or no bits.
+    /// Returns the difference that the buffered bits begin with, and how many bits it takes with
+    /// its code, or no bits.
     #[inline(always)]
     #[tactic(auto, using(crate::proofs::WideTokens::twelve_front))]
     pub(crate) fn short_difference(&self, table: &HuffmanTable) -> (i16, u8)

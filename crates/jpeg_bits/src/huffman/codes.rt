@@ -33,16 +33,18 @@ pub enum HuffmanTableClass {
 /// The codes of some symbols (T.81, C.2): how many codes have each length, and the symbols in the
 /// order of the codes.
 ///
-/// Look-up tables tell which code of at most 8 bits begins any 8 bits; in a table of class AC after
-/// `widen`, which value and which run any 8 and any 11 bits begin with; and after `fill_pairs`,
-/// which two values.
+/// Look-up tables tell which code of at most 8 bits begins any 8 bits; in a table of class AC,
+/// which value and which run any 8 bits begin with, and after `widen` any 11 bits; and after
+/// `fill_pairs`, which two values.
 #[derive(Drop)]
 pub struct HuffmanTable {
     class: HuffmanTableClass,
     // On the heap, since a table is moved. A table without codes allocates nothing.
     codes: Option<Box<CodeTables>>,
-    // The last number has two bytes, so that an entry has eight and is found without a product.
-    // Empty until `fill_pairs` fills it.
+    // At the index of each 8 bits, the value that they begin with, the zeros before it, and how
+    // many bits it takes with its code. The last number has two bytes, so that an entry has eight
+    // and is found without a product. Empty in a table of class DC, and until `fill_values` fills
+    // it.
     tokens: Vec<Option<(i16, u8, u16)>>,
     // Most values of a first pass have at most 11 bits with their codes, and a table by 12 bits
     // would leave too little of the first-level cache to the rest. For its sake an entry is packed
@@ -146,8 +148,29 @@ impl HuffmanTable {
     /// Returns the table of `bits[i]` codes of length i + 1 and of their symbols, `values`, 1 to
     /// 256 of them. The code of all ones is accepted. The error is `Format` if a code doesn't fit
     /// its length, and `OutOfMemory` if memory runs out.
-    #[tactic(auto, using(crate::proofs::CodeLemmas::lengths_length))]
     pub fn new(
+        alloc: Global,
+        bits: &[u8; 16],
+        values: &[u8],
+        class: HuffmanTableClass,
+    ) -> Result<HuffmanTable>
+        requires count { sum bits.now ≡ length values.now }
+        requires some { 1 ≤ length values.now }
+        requires most { length values.now ≤ 256 }
+        ensures table { IfOk result (λ t. t ≡ record
+            { class = class; counts = bits.now; symbols = values.now }) }
+        ensures codes { IfOk result (λ t. HasCodes (code_lengths bits.now)) }
+        ensures refused { IfErr result (λ e. RefusesCodes e (code_lengths bits.now)) }
+    {
+        let mut table = HuffmanTable::unfilled(alloc, bits, values, class)?;
+        table.fill_values(alloc)?;
+        Ok(table)
+    }
+
+    /// Returns what `new` does, without its look-up table of values, which `fill_values` fills: a
+    /// scan of few blocks has fewer values than it has entries.
+    #[tactic(auto, using(crate::proofs::CodeLemmas::lengths_length))]
+    pub fn unfilled(
         alloc: Global,
         bits: &[u8; 16],
         values: &[u8],
@@ -194,9 +217,24 @@ impl HuffmanTable {
         }
     }
 
-    /// Fills the look-up table of values of a table of class AC, which takes some microseconds: it
-    /// pays for scans of many blocks. Nothing else changes, and a second call does nothing. The
-    /// only error is `AllocError`.
+    /// Fills the look-up table of values of at most 8 bits of a table of class AC, by which
+    /// `decode_fast_ac` answers at once: `new` has filled it, and `unfilled` hasn't. Nothing else
+    /// changes, and a second call does nothing. The only error is `AllocError`.
+    pub fn fill_values(&mut self, alloc: Global) -> std::result::Result<(), AllocError>
+        ensures { self.new ≡ self.old }
+    {
+        if self.class == HuffmanTableClass::DC || !self.tokens.is_empty() {
+            return Ok(());
+        }
+        if let Some(codes) = &self.codes {
+            self.tokens = codes.short_values(alloc)?;
+        }
+        Ok(())
+    }
+
+    /// Fills the look-up table of values of at most 11 bits of a table of class AC, which takes
+    /// some microseconds: it pays for scans of many blocks. Nothing else changes, and a second call
+    /// does nothing. The only error is `AllocError`.
     pub fn widen(&mut self, alloc: Global) -> std::result::Result<(), AllocError>
         ensures { self.new ≡ self.old }
     {
@@ -222,24 +260,10 @@ impl HuffmanTable {
         Ok(())
     }
 
-    /// Fills the look-up table of `decode_fast_ac`. The decoder never asks for it: a small picture
-    /// doesn't wait for it.
-    fn fill_tokens(&mut self, alloc: Global) -> std::result::Result<(), AllocError>
-        ensures { self.new ≡ self.old }
-    {
-        if self.class == HuffmanTableClass::DC {
-            return Ok(());
-        }
-        if let Some(codes) = &self.codes {
-            self.tokens = codes.short_values(alloc)?;
-        }
-        Ok(())
-    }
-
     /// Fills the look-up table by which two values and the end of a block are read at once, where
-    /// `widen` has filled that of single ones, and the one of `decode_fast_ac`. It takes some
-    /// microseconds, and 16 KB: it pays for sequential scans of very many blocks. Nothing else
-    /// changes, and a second call does nothing. The only error is `AllocError`.
+    /// `widen` has filled that of single ones. It takes some microseconds, and 16 KB: it pays for
+    /// sequential scans of very many blocks. Nothing else changes, and a second call does nothing.
+    /// The only error is `AllocError`.
     pub fn fill_pairs(&mut self, alloc: Global) -> std::result::Result<(), AllocError>
         ensures { self.new ≡ self.old }
     {
@@ -248,7 +272,6 @@ impl HuffmanTable {
         }
         if let Some(codes) = &self.codes {
             self.pairs = pairs_of(alloc, codes.short(), &self.wide_tokens)?;
-            self.fill_tokens(alloc)?;
         }
         Ok(())
     }
@@ -298,9 +321,9 @@ impl HuffmanTable {
         (used, passed, false)
     }
 
-    /// Fills the look-up table by which the differences of lossless scans are read at once. It takes
-    /// some tens of microseconds: it pays for scans of many samples. Nothing else changes, and a
-    /// second call does nothing. The only error is `AllocError`.
+    /// Fills the look-up table by which the differences of lossless scans are read at once. It
+    /// takes some tens of microseconds: it pays for scans of many samples. Nothing else changes,
+    /// and a second call does nothing. The only error is `AllocError`.
     pub fn fill_differences(&mut self, alloc: Global) -> std::result::Result<(), AllocError>
         ensures { self.new ≡ self.old }
     {
@@ -377,6 +400,7 @@ impl HuffmanTable {
     /// Returns the value and the run that 8 bits begin with, and how many bits they take, if they
     /// take at most 8.
     #[inline(always)]
+    #[tactic(auto, using(crate::proofs::ShortLemmas::value_at))]
     pub(crate) fn short_value_of(&self, byte: u8) -> Option<(i16, u8, u16)>
         ensures value { result ≡ short_value_of 8 self.now (low_bits 8 byte) }
         ensures within { IfSome result (λ t. t.2 ≤ 8) }
@@ -448,7 +472,7 @@ impl HuffmanTable {
 impl CodeTables {
     ghost use Rattle.std.specs.Prelude.{◌≡◌, ◌≤◌, ◌/◌, [], IfOk, IfSome, None, length, replicate};
     ghost use Rattle.jpeg_bits.specs.Codes.{code_lengths, table_of};
-    ghost use Rattle.jpeg_bits.specs.ShortCodes.{HoldsCodes, HoldsValues, HoldsWideValues};
+    ghost use Rattle.jpeg_bits.specs.ShortCodes.{HasValues, HoldsCodes, HoldsWideValues};
     ghost use Rattle.jpeg_bits.specs.ShortCodes.{short_code, short_value_of, symbol_in};
     ghost use Rattle.jpeg_bits.specs.Written.{low_bits};
 
@@ -550,7 +574,7 @@ impl CodeTables {
         &self,
         alloc: Global,
     ) -> std::result::Result<Vec<Option<(i16, u8, u16)>>, AllocError>
-        ensures { IfOk result (λ v. HoldsValues (table_of AC (Some self.now)) v.items) }
+        ensures { IfOk result (λ v. HasValues (table_of AC (Some self.now)) v.items) }
     {
         short_values(alloc, &self.short)
     }

@@ -22,5 +22,5 @@ returns-clause-answers g c =
     ) in
     let answers = subst (λ (k : ℕ). Answers (λ (v : List ℕ). v) (times k next_byte) old (Ok symbols) mid) n
     c.in_ok-read_exact.ensures.answers in
-    table-found c.args.class c.args.counts.now old mid symbols c.new.result answers c.new.ensures.table
-    c.new.ensures.codes c.new.ensures.refused
+    table-found c.args.class c.args.counts.now old mid symbols c.unfilled.result answers c.unfilled.ensures.table
+    c.unfilled.ensures.codes c.unfilled.ensures.refused
