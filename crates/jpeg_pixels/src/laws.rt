@@ -1,7 +1,8 @@
 //! What the definitions of samples mean in plain words, each a theorem on a function with no body.
 ghost use Rattle.std.specs.Prelude.{◌≡◌, ℕ, ◌+◌, ◌-◌, ◌*◌, ◌/◌, ◌<◌, ◌≤◌, All, Ok, true};
 ghost use Rattle.std.specs.Prelude.{List, [], ◌∷◌, ◌++◌, map, replicate, slice_index};
-ghost use Rattle.std.specs.Prelude.{ℤ, pos, neg_ℤ, ◌+ℤ◌, ◌*ℤ◌, ◌≤ℤ◌, ◌<ℤ◌, unsigned_abs};
+ghost use Rattle.std.specs.Prelude.{ℤ, pos, neg_ℤ, ◌+ℤ◌, ◌-ℤ◌, ◌*ℤ◌, ◌≤ℤ◌, ◌<ℤ◌, unsigned_abs};
+ghost use Rattle.std.specs.Prelude.{FitsSigned};
 ghost use Rattle.std.specs.List.{range_with_len};
 ghost use Rattle.std.specs.Int.{int_shr, int_wrap, w32};
 ghost use Rattle.jpeg_segments.specs.Frame.{Factors, IsInRange, frame_of};
@@ -10,7 +11,7 @@ ghost use Rattle.jpeg_pixels.specs.Samples.{HasFirstOnly, clamped, column_value,
 ghost use Rattle.jpeg_pixels.specs.Samples.{is_flat_column, sample, transformed};
 ghost use Rattle.jpeg_pixels.specs.Scaled.{sample_of_1, sample_of_2, sample_of_4};
 ghost use Rattle.jpeg_pixels.specs.Planes.{plane_of, strip_of};
-ghost use Rattle.jpeg_pixels.specs.Colour.{colour_of, line_bytes};
+ghost use Rattle.jpeg_pixels.specs.Colour.{centred_of, colour_of, line_bytes, luma_of};
 ghost use Rattle.jpeg_pixels.specs.declared.color_convert.ColorConvert.TheVariants.{None, Rgb};
 ghost use Rattle.jpeg_pixels.specs.declared.color_convert.ColorConvert.TheVariants.{YCbCr, Cmyk};
 ghost use Rattle.jpeg_pixels.specs.declared.color_convert.ColorConvert.TheVariants.{Ycck};
@@ -220,4 +221,21 @@ pub fn known_rows()
     ensures four_times { map (λ x. upsampled (Generic 4 1) (λ i j. slice_index (10 ∷ 20 ∷ []) i) 2 1
         x 0) (range_with_len 0 8) ≡
         10 ∷ 10 ∷ 10 ∷ 10 ∷ 20 ∷ 20 ∷ 20 ∷ 20 ∷ [] }
+{}
+
+/// No sum of a colour leaves 32 bits: neither those that its definition adds up, term by term, nor
+/// the products in them.
+pub fn color_sums_fit()
+    ensures brightness { (y : ℕ) → y < 256 → FitsSigned w32 (luma_of y) }
+    ensures products { (c : ℕ) → c < 256 → FitsSigned w32 (pos 1470104 *ℤ centred_of c)
+        × FitsSigned w32 (pos 360857 *ℤ centred_of c) × FitsSigned w32 (pos 748830 *ℤ centred_of c)
+        × FitsSigned w32 (pos 1858077 *ℤ centred_of c) }
+    ensures red { (y cr : ℕ) → y < 256 → cr < 256
+        → FitsSigned w32 (luma_of y +ℤ pos 1470104 *ℤ centred_of cr) }
+    ensures green_by_cb { (y cb : ℕ) → y < 256 → cb < 256
+        → FitsSigned w32 (luma_of y -ℤ pos 360857 *ℤ centred_of cb) }
+    ensures green { (y cb cr : ℕ) → y < 256 → cb < 256 → cr < 256 → FitsSigned w32
+        (luma_of y -ℤ pos 360857 *ℤ centred_of cb -ℤ pos 748830 *ℤ centred_of cr) }
+    ensures blue { (y cb : ℕ) → y < 256 → cb < 256
+        → FitsSigned w32 (luma_of y +ℤ pos 1858077 *ℤ centred_of cb) }
 {}
