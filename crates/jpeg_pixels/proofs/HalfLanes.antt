@@ -3,7 +3,7 @@ use Rattle.std.proofs.Common.{◌≡◌, ℕ, ◌+◌, ◌%◌, ◌<◌, List, [
 use Rattle.std.proofs.Common.{arith, ap, ◌∙◌, refl, get_or, ◌++◌, cond, replicate, to_z, map}
 use Rattle.std.proofs.Common.{negsuc, sym, subst, min, unsigned_abs, of_z, FitsSigned}
 use Rattle.std.proofs.lemmas.Int.{to_z-of_z, ints, int_wrap-add_left, int_wrap-add_right, int_wrap-sub_right}
-use Rattle.std.specs.Int.{w8, w32, int_wrap, int_shr}
+use Rattle.std.specs.Int.{Width, w8, w32, int_wrap, int_shr}
 use mir.Val.{Fits}
 use lib.Dec.{T}
 use lib.Signed.{non_neg}
@@ -300,10 +300,11 @@ pub byte_is : (z : ℤ) → byte_kept z ≡ pos (clamped z)
 byte_is (pos n) = byte_pos n
 byte_is (negsuc n) = refl
 
-pub byte_fits : (z : ℤ) → FitsSigned w32 (byte_kept z)
-    → T (non_neg (to_z w32 (of_z w32 (byte_kept z)))) × Fits w8 (unsigned_abs (to_z w32 (of_z w32 (byte_kept z))))
-byte_fits z f = subst (λ w. T (non_neg w) × Fits w8 (unsigned_abs w))
-    (sym (to_z-of_z w32 (byte_kept z) f ∙ byte_is z)) (tt, record { fits = clamped_small z })
+pub byte_fits : {w : Width} (z : ℤ) → FitsSigned w (byte_kept z)
+    → T (non_neg (to_z w (of_z w (byte_kept z)))) × Fits w8 (unsigned_abs (to_z w (of_z w (byte_kept z))))
+byte_fits {w} z f = subst (λ v. T (non_neg v) × Fits w8 (unsigned_abs v))
+    (sym (to_z-of_z w (byte_kept z) f ∙ byte_is z)) (tt, record { fits = clamped_small z })
 
-pub byte_read : (z : ℤ) → FitsSigned w32 (byte_kept z) → unsigned_abs (to_z w32 (of_z w32 (byte_kept z))) ≡ clamped z
-byte_read z f = ap unsigned_abs (to_z-of_z w32 (byte_kept z) f ∙ byte_is z)
+pub byte_read : {w : Width} (z : ℤ) → FitsSigned w (byte_kept z)
+    → unsigned_abs (to_z w (of_z w (byte_kept z))) ≡ clamped z
+byte_read {w} z f = ap unsigned_abs (to_z-of_z w (byte_kept z) f ∙ byte_is z)

@@ -8,6 +8,7 @@ pub mod Fours
 pub mod HalfLanes
 pub mod RuleRatios
 pub mod FrameCovers
+pub mod ColourLanes
 pub mod ComponentLines
 pub mod GivenRows
 pub mod Growing

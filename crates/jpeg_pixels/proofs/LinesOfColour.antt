@@ -122,7 +122,7 @@ abbrev difference : ℕ → ℕ → ℤ
 difference factor c = int_shr (pos 524288 +ℤ pos factor *ℤ centred_of c) 20
 
 -- the same by a factor of 16 bits, in units of 1 / 2^14
-abbrev short_difference : ℕ → ℕ → ℤ
+abbrev pub short_difference : ℕ → ℕ → ℤ
 short_difference factor c = int_shr (int_shr (pos 8 *ℤ centred_of c *ℤ pos factor) 16 +ℤ pos 1) 1
 
 -- whether the two factors give the same at a byte

@@ -80,7 +80,7 @@ unfolding lanes
 signed_lanes s = signed_read s
 
 -- the same numbers by other words
-signed_same : {w : Width} {n : ℕ} {v : List ℕ} {f g : ℕ → ℤ} → IsSigned w n v f → ((j : ℕ) → f j ≡ g j)
+pub signed_same : {w : Width} {n : ℕ} {v : List ℕ} {f g : ℕ → ℤ} → IsSigned w n v f → ((j : ℕ) → f j ≡ g j)
     → IsSigned w n v g
 signed_same {w} {n} {v} {f} {g} s e = record {
   is = s.is ∙ (λ i. map (λ j. of_z w (e j i)) (range_with_len 0 n));
@@ -121,13 +121,13 @@ signed_chosen {w} {n} {a} {b} {x} {y} {f} {g} {p} {q} sa sb sx sy =
     cond (lt_z (to_z-of_z w (f j) (sa.fits j) i) (to_z-of_z w (g j) (sb.fits j) i)) (p j) (q j))
 
 -- a shift to the right
-pub signed_shr : {n : ℕ} {v : List ℕ} {f : ℕ → ℤ} (s : ℕ) → IsSigned w32 n v f
-    → IsSigned w32 n (zip2 (λ a b. of_z w32 (int_shr (to_z w32 a) b)) v (replicate n s)) (λ j. int_shr (f j) s)
-signed_shr {n} {v} {f} s a = record {
-  is = zip2_of_maps _ (λ j. of_z w32 (f j)) (λ _. s) (range_with_len 0 n) a.is
+pub signed_shr : {w : Width} {n : ℕ} {v : List ℕ} {f : ℕ → ℤ} (s : ℕ) → IsSigned w n v f
+    → IsSigned w n (zip2 (λ a b. of_z w (int_shr (to_z w a) b)) v (replicate n s)) (λ j. int_shr (f j) s)
+signed_shr {w} {n} {v} {f} s a = record {
+  is = zip2_of_maps _ (λ j. of_z w (f j)) (λ _. s) (range_with_len 0 n) a.is
       (splat_is_map (range_with_len 0 n) n s (length-range_with_len 0 n))
-      ∙ (λ i. map (λ j. of_z w32 (int_shr (to_z-of_z w32 (f j) (a.fits j) i) s)) (range_with_len 0 n));
-  fits = λ j. shifted_fits (f j) s (a.fits j);
+      ∙ (λ i. map (λ j. of_z w (int_shr (to_z-of_z w (f j) (a.fits j) i) s)) (range_with_len 0 n));
+  fits = λ j. shifted_fits w (f j) s (a.fits j);
 }
 
 -- what wrapping computes of two numbers in each lane

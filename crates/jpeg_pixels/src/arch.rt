@@ -1,4 +1,4 @@
-//! The inverse transform of a block in lanes, and the colours of a line in chunks of eight pixels.
+//! The inverse transform of a block, and the colours of a line, in lanes.
 ghost use Rattle.std.specs.Prelude.{◌≡◌, ℕ, ◌+◌, ◌*◌, ◌<◌, ◌≤◌, pos, neg_ℤ, ◌+ℤ◌, ◌-ℤ◌, ◌*ℤ◌};
 ghost use Rattle.std.specs.Prelude.{length, slice_index_or, [], ◌∷◌, map, ⊤, slice_index};
 ghost use Rattle.std.specs.Prelude.{if◌then◌else◌, ◌%◌, ◌/◌, ◌==◌, IsTrue, ◌↔◌};
@@ -10,9 +10,11 @@ ghost use Rattle.jpeg_pixels.specs.Lanes.{lanes, lane, lane_is_zero};
 ghost use Rattle.jpeg_pixels.specs.Blocks.{WritesBlock};
 ghost use Rattle.jpeg_pixels.specs.LaneRows.{lane_at, HasNumbers, HasZeros, IsInCorner, IsTurned};
 
-pub use crate::color_rows::color_convert_line_ycbcr;
+pub(crate) mod ycbcr;
+
 use crate::fixed_point::{COLUMN_BIAS, ROW_BIAS, sample_of};
 use std::simd::prelude::*;
+pub use ycbcr::color_convert_line_ycbcr;
 
 /// Eight rows of eight lanes.
 #[derive(Clone, Copy)]

@@ -8,6 +8,7 @@ mod fixed_point;
 mod growing_plane;
 mod half_block;
 pub mod idct;
+mod interleave;
 pub mod joint_planes;
 pub mod laws;
 pub mod lines;

@@ -1,6 +1,6 @@
 use Rattle.std.proofs.Common.{◌≡◌, ℕ, ◌<◌, ◌≤◌, ◌+◌, ◌*◌, slice_index}
 use Rattle.jpeg_pixels.specs.Colour.{red_of, green_of, blue_of}
-use Rattle.jpeg_pixels.proofs.color_rows.color_convert_line_ycbcr.Given as goal
+use Rattle.jpeg_pixels.proofs.arch.ycbcr.color_convert_line_ycbcr.Given as goal
 
 abbrev pub invariant-loop-piece : goal.invariant-loop-piece
 invariant-loop-piece l = record {

@@ -1,6 +1,6 @@
 use Rattle.std.proofs.Common.{◌-◌, ◌*◌, ◌/◌, ◌%◌, length, arith, ◌∙◌}
 use Rattle.std.proofs.lemmas.Bool.{cases_lt}
-use Rattle.jpeg_pixels.proofs.color_rows.color_convert_line_ycbcr.Goals as goal
+use Rattle.jpeg_pixels.proofs.arch.ycbcr.color_convert_line_ycbcr.Goals as goal
 
 pub loop-piece-preserved : goal.loop-piece-preserved
 loop-piece-preserved c =

@@ -1,5 +1,5 @@
 use Rattle.std.proofs.Common.{◌≡◌, ℕ, ◌<◌, ◌+◌, ◌*◌, slice_index}
-use Rattle.jpeg_pixels.proofs.color_rows.interleave_four.Given as goal
+use Rattle.jpeg_pixels.proofs.interleave.interleave_four.Given as goal
 
 abbrev pub invariant-loop-x : goal.invariant-loop-x
 invariant-loop-x l = record {
