@@ -15,7 +15,6 @@ lines_kept s =
     (layers_kept s)) (range_with_len 0 s.height)
 
 pub record AreKept (s : Inside) : Type 0 where
-  pub most : length s.planes.items ≤ 4
   pub across : 1 ≤ s.picture.horizontal
   pub down : 1 ≤ s.picture.vertical
   pub count : length s.samplings.items ≡ length s.planes.items

@@ -1,5 +1,5 @@
 //! The bytes of the pixels of a lossless picture.
-ghost use Rattle.std.specs.Prelude.{◌≡◌, ◌≤◌, ◌<◌, ◌+◌, ◌*◌, ◌^◌, map, length, ◌∷◌, []};
+ghost use Rattle.std.specs.Prelude.{◌≡◌, ◌≤◌, ◌<◌, ◌+◌, ◌*◌, ◌^◌, map, length, ◌∷◌, [], IfSome};
 ghost use Rattle.jpeg_lossless.specs.Pictures.{sample_bytes, sample_size};
 ghost use Rattle.jpeg_lossless.specs.Pictures.{AreLong, bytes_at, line_from};
 
@@ -93,7 +93,6 @@ pub(crate) fn write_pixels(
     precision: u8,
     line: &mut [u8],
 )
-    requires most { length planes.now ≤ 4 }
     requires fits { from + width < 2 ^ 64 }
     requires long { AreLong (from + width) (map (λ v. v.items) planes.now) }
     requires room { length line.old ≡ width * (length planes.now * sample_size precision) }
@@ -116,11 +115,10 @@ pub(crate) fn write_pixels(
     }
 }
 
-/// Returns how many bytes a line of a picture of `count` components has.
-pub(crate) fn size_of_line(count: usize, width: u16, precision: u8) -> usize
-    requires { count ≤ 4 }
-    ensures size { result ≡ width * (count * sample_size precision) }
-    ensures most { result < 2 ^ 19 }
+/// Returns how many bytes a line of a picture of `count` components has, if a `usize` can hold it.
+pub(crate) fn size_of_line(count: usize, width: u16, precision: u8) -> Option<usize>
+    ensures { IfSome result (λ n. n ≡ width * (count * sample_size precision)) }
 {
-    usize::from(width) * (count * sample_size(precision))
+    let pixel = count.checked_mul(sample_size(precision))?;
+    usize::from(width).checked_mul(pixel)
 }

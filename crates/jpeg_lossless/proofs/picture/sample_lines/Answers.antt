@@ -57,7 +57,6 @@ kept c =
     let are = are c in
     let of = of c in
     record {
-      most = c.requires.most;
       across = g.ensures.some_horizontal;
       down = g.ensures.some_vertical;
       count = ap (λ (l : List Sampling). length l) are ∙ length-map cs sampling_in ∙ sym (length-map cs component_in)

@@ -1,4 +1,3 @@
-use Rattle.std.proofs.Common.{arith}
 use Rattle.jpeg_segments.specs.FrameView.{frame_in}
 use Rattle.jpeg_decoder.proofs.LosslessReads.{samples-whole}
 use Rattle.jpeg_decoder.proofs.PictureSizes.{if-sample_lines}
@@ -14,7 +13,6 @@ sample_lines-requires c =
     let frame = frame_in c.args.frame.now in
     let decoded = c.requires.sound.frames frame c.requires.frame in
     record {
-      most = omega (arith, decoded-few frame decoded, c.in_ok-planes.ensures.count);
       whole = samples-whole _ _ _ (c.requires.sound.samples frame c.requires.frame) c.in_ok-planes.ensures.planes;
       sampling = decoded-factors frame decoded;
       reaches = all-reach frame frame.components (decoded-made frame decoded c.requires.process);

@@ -12,15 +12,15 @@ within : (c : After-deref_mut) → c.loop-row.row < length c.args.self
 within c = omega (arith, c.loop-row-test.true, c.from-height.ensures, lines_count c.self.inside c.args.self c.self.view_is)
 
 -- a line has the size that was computed
-sized : (c : After-deref_mut) → length (slice_index_or c.loop-row.self c.loop-row.row []) ≡ c.size_of_line-size.result
+sized : (c : After-deref_mut) → length (slice_index_or c.loop-row.self c.loop-row.row []) ≡ c.in-Some.size
 sized c = rw c.loop-row.invariant.same (search (rules, size_at, within c))
 
 begun : (c : After-deref_mut) → c.loop-row.picture.len ≡ length c.loop-row.picture.items
 begun c = search rules
 
-long : (c : After-deref_mut) → length c.deref_mut.result.now ≡ c.len-start.result + c.size_of_line-size.result
+long : (c : After-deref_mut) → length c.deref_mut.result.now ≡ c.len-start.result + c.in-Some.size
 long c = grown_long c.loop-row.picture.items c.resize.new.self.items c.deref_mut.result.now c.loop-row.picture.len
-    c.len-start.result c.size_of_line-size.result (begun c) c.len-start.ensures c.in_ok-resize.ensures.items
+    c.len-start.result c.in-Some.size (begun c) c.len-start.ensures c.in_ok-resize.ensures.items
     c.deref_mut.ensures.value
 
 pub write_line-requires-clause-row : goal.write_line-requires-clause-row
@@ -30,14 +30,14 @@ write_line-requires-clause-row c =
 pub write_line-requires-clause-room : goal.write_line-requires-clause-room
 write_line-requires-clause-room c =
     let at = goal.at.write_line-requires-clause-room c in
-    rest_long c.deref_mut.result.now c.len-start.result c.size_of_line-size.result (long at.After-deref_mut)
+    rest_long c.deref_mut.result.now c.len-start.result c.in-Some.size (long at.After-deref_mut)
     ∙ sym (sized at.After-deref_mut)
 
 pub loop-row-preserved : goal.loop-row-preserved
 loop-row-preserved c =
     let at = (goal.at.loop-row-preserved c).After-deref_mut in
     let row = c.loop-row.row in
-    let size = c.size_of_line-size.result in
+    let size = c.in-Some.size in
     let line_size : length c.write_line.new.line ≡ size
     = ap (λ (l : List ℕ). length l) c.write_line.ensures.line ∙ sized at in
     let same = grown_same c.loop-row.picture.items c.resize.new.self.items c.deref_mut.result.now

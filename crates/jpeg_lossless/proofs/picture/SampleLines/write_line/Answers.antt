@@ -91,7 +91,6 @@ invariant_of-self c =
     let same = put_back s.stretched c.stretch_all.new.lines many in
     let kept = c.self.invariant in
     record {
-      most = kept.most;
       across = kept.across;
       down = kept.down;
       count = kept.count;
