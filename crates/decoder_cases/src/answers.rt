@@ -3,7 +3,7 @@
 use crate::calls::Call;
 use crate::decoded::{memory_text, partial_text, picture_text, refusal_text, size_text};
 use crate::hex_words::words_of;
-use jpeg_decoder::orientation::orientation_of;
+use exif_orientation::orientation_of;
 use jpeg_decoder::{Decoder, DecodingBytes, Error};
 use std::alloc::{AllocError, Global};
 use test_streams::readers::Counted;

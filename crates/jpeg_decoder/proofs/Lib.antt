@@ -58,7 +58,6 @@ mod DecodedSamples
 pub mod LinesTogether
 pub mod PictureSizes
 mod OnLiterals
-mod Orientations
 pub mod GatheredData
 pub mod KeptScans
 pub mod KeptStrips

@@ -6,7 +6,6 @@ use Rattle.jpeg_streams.specs.Rasters.{plane_by, plane_of_blocks}
 use Rattle.jpeg_streams.specs.Reported.{told_by_turns}
 use Rattle.jpeg_streams.specs.ScanSegments.{put_arrays}
 use Rattle.jpeg_streams.specs.Stream.{header_at, segment_at, turn_at}
-use Rattle.jpeg_decoder.specs.Orientation.{entries_in}
 use Rattle.std.proofs.lemmas.Grind.{common_steps}
 use Rattle.std.proofs.lemmas.List.{drop-set-lt, get_or-map, length-map, map-set}
 use Rattle.std.proofs.lemmas.List.Folds.{list_all-map}
@@ -38,9 +37,6 @@ use Rattle.std.proofs.lemmas.Result.{err_from_is_err_and}
 use Rattle.jpeg_segments.proofs.Gathered.{gathers-all, gathers-none}
 use Rattle.jpeg_streams.proofs.Refusals.{told-err, turns-no_start}
 use Rattle.jpeg_decoder.proofs.LosslessReads.{picture-given, picture-lacks, picture-made}
-use Rattle.jpeg_decoder.proofs.Orientations.{cut_directory, cut_exif, few_after, found_directory, four_higher}
-use Rattle.jpeg_decoder.proofs.Orientations.{four_lower, higher_exif, lower_exif, met, none_among, other_directory}
-use Rattle.jpeg_decoder.proofs.Orientations.{other_exif, passed, two_higher, two_lower}
 use Rattle.jpeg_decoder.proofs.Ratios.{ratios_refused}
 use Rattle.jpeg_decoder.proofs.ReplacedTables.{dht-onto}
 
@@ -159,21 +155,6 @@ pub ruleset stored = (common_steps, all-stored-long, filled-seen)
 
 -- sampling factors that are refused
 pub ruleset ratios = (err_from_is_err_and, ratios_refused)
-
--- orientations
-pub ruleset shorts = (two_lower, two_higher)
-
-pub ruleset longs = (four_lower, four_higher)
-
-pub ruleset entries = (none_among, passed, met)
-
-unfoldable pub listed : ⊤
-unfolding entries_in
-listed = tt
-
-pub ruleset directories = (cut_directory, few_after, other_directory, found_directory)
-
-pub ruleset exif = (cut_exif, lower_exif, higher_exif, other_exif)
 
 -- parts of a profile
 pub ruleset parts = (list_all-map)

@@ -18,5 +18,3 @@ pub mod GrowingView
 pub mod Steps
 pub mod LosslessParts
 pub mod Reaching
--- what Exif data say
-pub mod Orientation

@@ -40,7 +40,6 @@
 pub mod decoder;
 pub mod error;
 pub mod laws;
-pub mod orientation;
 mod picture;
 pub mod run;
 mod scan;

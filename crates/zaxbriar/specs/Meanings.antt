@@ -1,6 +1,7 @@
 -- What a call with some options gives for the bytes of a stream.
 use Rattle.std.specs.Prelude.{◌≡◌, ◌==◌, ◌+◌, ◌&&◌, ℕ, List, Option, Some, None, if◌then◌else◌}
 use Rattle.std.specs.Prelude.{length, option_map, replicate, Bool, true, false, Ok, Result, ◌⊎◌}
+use Rattle.exif_orientation.specs.Orientation.{orientation_in}
 use Rattle.jpeg_bits.specs.Reading.{Outcome, ◌>>=◌, Fault}
 use Rattle.jpeg_bits.specs.Stream.{Stream}
 use Rattle.jpeg_bits.specs.declared.color_transform.ColorTransform.{ColorTransform}
@@ -16,7 +17,6 @@ use Rattle.jpeg_streams.specs.Stream.{Told, header_at, rest_at}
 use Rattle.jpeg_streams.specs.declared.images.ImageInfo.{ImageInfo}
 use Rattle.jpeg_streams.specs.declared.settings.Settings.{Settings}
 use Rattle.jpeg_decoder.specs.Bytes.{decoding_bytes}
-use Rattle.jpeg_decoder.specs.Orientation.{orientation_in}
 use Rattle.jpeg_decoder.specs.StreamTransforms.{frame_transform}
 use Rattle.jpeg_decoder.specs.declared.sizes.DecodingBytes.{DecodingBytes}
 use Rattle.zaxbriar.specs.Density.{density_of}

@@ -14,7 +14,7 @@ ghost use Rattle.zaxbriar.specs.Sampling.{sampling_of};
 use crate::answers::{Refusal, refusal_of};
 use crate::options::{Options, apply, apply_size, number_of_transform};
 use crate::sampling::sampling_of;
-use jpeg_decoder::orientation::orientation_of;
+use exif_orientation::orientation_of;
 use jpeg_decoder::{Decoder, DecodingBytes, ImageInfo};
 use std::io::Read;
 

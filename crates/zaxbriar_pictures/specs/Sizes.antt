@@ -2,7 +2,7 @@
 use Rattle.std.specs.Prelude.{ℕ, ◌+◌, ◌*◌, ◌/◌, ◌&&◌, ◌==◌, Bool, max, min, nat_le, nat_lt}
 use Rattle.std.specs.Prelude.{if◌then◌else◌}
 use Rattle.std.specs.Prelude.{List, Option, None, Some, unwrap_or}
-use Rattle.jpeg_decoder.specs.Orientation.{orientation_in}
+use Rattle.exif_orientation.specs.Orientation.{orientation_in}
 use Rattle.jpeg_segments.specs.declared.frame.Dimensions.{Dimensions}
 use Rattle.jpeg_streams.specs.declared.images.ImageInfo.{ImageInfo}
 use Rattle.zaxbriar_pictures.specs.ScaledPictures.{side_at}

@@ -1,10 +1,12 @@
 //! The orientation given by Exif data (Exif 2.3, 4.6.4; TIFF 6.0, sections 2 and 8).
+#![tactic(auto)]
+
 ghost use Rattle.std.specs.Prelude.{◌≡◌, ◌<◌, ◌≤◌, ◌+◌, MatchOption, if◌then◌else◌};
 ghost use Rattle.std.specs.Prelude.{IfSome, Some, None, length, true};
-ghost use Rattle.jpeg_decoder.specs.Orientation.{entries_in, first_directory, is_orientation};
-ghost use Rattle.jpeg_decoder.specs.Orientation.{is_orientation_by, number_at};
-ghost use Rattle.jpeg_decoder.specs.Orientation.{orientation_among, orientation_in, value_by};
-ghost use Rattle.jpeg_decoder.specs.Orientation.{value_of};
+ghost use Rattle.exif_orientation.specs.Orientation.{entries_in, first_directory, is_orientation};
+ghost use Rattle.exif_orientation.specs.Orientation.{is_orientation_by, number_at};
+ghost use Rattle.exif_orientation.specs.Orientation.{orientation_among, orientation_in, value_by};
+ghost use Rattle.exif_orientation.specs.Orientation.{value_of};
 
 /// The tag of the orientation.
 const ORIENTATION: u16 = 0x0112;
@@ -131,9 +133,7 @@ fn orientation_by(exif: &[u8], is_little: bool) -> Option<u8>
 /// their first directory that has the tag 0x0112 and one number of two bytes from 1 to 8, or of
 /// four with a sign, which some files use.
 ///
-/// The data begin at their TIFF header, as those of
-/// [`Decoder::exif_data`](crate::Decoder::exif_data). If they are truncated or give no orientation,
-/// returns none.
+/// The data begin at their TIFF header. If they are truncated or give no orientation, returns none.
 #[tactic(auto, using(crate::proofs::Rules::exif))]
 pub fn orientation_of(exif: &[u8]) -> Option<u8>
     ensures value { result ≡ orientation_in exif.now }

@@ -1,6 +1,6 @@
 use Rattle.std.proofs.Common.{◌≡◌, ◌-◌}
-use Rattle.jpeg_decoder.specs.Orientation.{entries_in, orientation_among}
-use Rattle.jpeg_decoder.proofs.orientation.orientation_among.Given as goal
+use Rattle.exif_orientation.specs.Orientation.{entries_in, orientation_among}
+use Rattle.exif_orientation.proofs.orientation_among.Given as goal
 
 abbrev pub invariant-loop : goal.invariant-loop
 invariant-loop l =

@@ -4,7 +4,7 @@ use Rattle.std.proofs.Common.{slice_index, arith, None, Some, length-drop, ap, e
 use Rattle.std.proofs.Common.{◌∷◌, option_map}
 use Rattle.std.specs.List.{find}
 use Rattle.std.proofs.lemmas.Bool.{lt-leb, le-leb}
-use Rattle.jpeg_decoder.specs.Orientation.{lower_first, number, number_at, entries_in, first_directory, orientation_in, orientation_among, is_orientation, value_of}
+use Rattle.exif_orientation.specs.Orientation.{lower_first, number, number_at, entries_in, first_directory, orientation_in, orientation_among, is_orientation, value_of}
 use Rattle.std.proofs.lemmas.Grind.{common_steps}
 
 pub two_lower : (xs : List ℕ) → 2 ≤ length xs → slice_index xs 0 + 256 * slice_index xs 1 ≡ number true (take 2 xs)

@@ -1,0 +1,2 @@
+pub mod Orientations
+pub mod Rules
