@@ -35,26 +35,34 @@
 //! a lossless stream gives back its samples (clause `samples`). [`laws::headline`] and
 //! [`laws::lossless`] have these theorems as laws of their own. A caller with contracts of its own
 //! finds the lemmas that it needs in `proofs/Callers.antt`.
+//!
+//! A caller that reads scans itself, as an MJPEG reader does, finds the parts in [`marker`],
+//! [`huffman`], [`parser`], [`idct`], [`arch`], [`upsampler`], [`worker`] and [`lossless`]. Calls
+//! that read take a [`Source`](error::Source), which remembers whether a read has failed.
 #![tactic(auto)]
 
+pub mod arch;
 pub mod decoder;
 pub mod error;
+pub mod huffman;
+pub mod idct;
 pub mod laws;
+pub mod lossless;
+pub mod marker;
+pub mod parser;
 mod picture;
 pub mod run;
 mod scan;
-pub mod sizes;
+mod sizes;
 mod stream;
+pub mod upsampler;
+pub mod worker;
 
 pub use decoder::{Decoder, ImageInfo, PartialPicture, PixelFormat};
 pub use jpeg_bits::color_transform::ColorTransform;
 pub use jpeg_bits::error::{Error, UnsupportedFeature};
 pub use jpeg_bits::source::byte_reader::ByteReader;
 pub use jpeg_bits::source::slice_reader::SliceReader;
-pub use jpeg_bits::{huffman, marker};
-pub use jpeg_lossless::lossless;
-pub use jpeg_pixels::{arch, idct, upsampler, worker};
-pub use jpeg_segments::parser;
 pub use jpeg_segments::parser::CodingProcess;
 pub use jpeg_segments::scale::Scale;
 pub use picture::lines::Lines;
