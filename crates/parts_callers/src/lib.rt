@@ -11,3 +11,4 @@ pub mod bits;
 pub mod lossless;
 pub mod pixels;
 pub mod segments;
+pub mod values;
