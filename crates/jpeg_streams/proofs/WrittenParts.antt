@@ -3,17 +3,18 @@ use Rattle.std.proofs.Common.{rules, ◌≡◌, ℕ, ◌+◌, true, List, [], �
 use Rattle.std.proofs.Common.{ap, ◌∙◌, ◌/◌, ◌%◌, subst, true≢false}
 use Rattle.std.specs.List.{AllByRecursion, enumerate_from}
 use Rattle.std.specs.Prelude.{slice_get, slice_index_or}
-use Rattle.jpeg_bits.specs.Reading.{Fault, ◌>>=◌}
+use Rattle.jpeg_bits.specs.Reading.{Fault, Outcome, ◌>>=◌}
 use Rattle.jpeg_segments.specs.Frame.{Component, Frame}
 use Rattle.jpeg_segments.specs.ScanHeaders.{scan_written}
-use Rattle.jpeg_streams.specs.ArrayPictures.{picture_of_array, picture_of_blocks}
+use Rattle.jpeg_streams.specs.ArrayPictures.{meaning_of_array, picture_of_array, picture_of_blocks}
+use Rattle.jpeg_streams.specs.DecodedImages.{Size, FullSize, AtLeast, AtScale, at_size}
 use Rattle.jpeg_streams.specs.declared.settings.Settings.{Settings}
 use Rattle.jpeg_streams.specs.Levels.{Is8Bit, Levels, nothing_sent}
 use Rattle.jpeg_streams.specs.SaidSegments.{said_after}
 use Rattle.jpeg_segments.specs.Checks.{gathered}
 use Rattle.jpeg_streams.specs.ScanSegments.{Coding, is_progressive}
 use Rattle.jpeg_streams.specs.Found.{nothing_said, Said}
-use Rattle.jpeg_streams.specs.Stream.{Told, told_of}
+use Rattle.jpeg_streams.specs.Stream.{Told, meaning, scaled_meaning, sized_meaning, told_of}
 use Rattle.jpeg_streams.specs.FoundPictures.{picture_by}
 use Rattle.jpeg_streams.specs.WholeImages.{AllComplete}
 use Rattle.jpeg_streams.specs.WrittenImages.{WritesImage, ClosesImage, WritesPart}
@@ -26,6 +27,7 @@ use Rattle.jpeg_streams.proofs.LimitedPictures.{array_plane, limited-same}
 use Rattle.jpeg_streams.specs.WrittenStreams.{end, scan, segment}
 use Rattle.jpeg_streams.proofs.WalkedStreams.{closes, frame-kept, front-append}
 use Rattle.jpeg_streams.proofs.WholeImages.{whole-is}
+use Rattle.jpeg_streams.proofs.SizedStreams.{stream-means_scaled, stream-means_sized}
 use Rattle.jpeg_streams.proofs.WrittenPictures.{stream-means}
 use Rattle.jpeg_bits.proofs.BandSteps.{bind_same}
 
@@ -130,19 +132,37 @@ pub also-written : (a b : Coefficients) (bytes : List ℕ) (final : Said) (last 
     → WritesImage a bytes final last → final.frame ≡ Some frame → AgreeOnOwn frame a b → WritesImage b bytes final last
 also-written a b bytes final last frame w e agree = search (rules, also-writes)
 
-array-picture : (settings : Settings) (array : Coefficients) (bytes : List ℕ) (final : Said) (last : ℕ → Levels)
-    → ((index row column : ℕ) → Is8Bit (array index row column)) → WritesImage array bytes final
-    last
-    → picture_meant_by settings (bytes ++ []) ≡ picture_of_array settings final array last
-array-picture settings array bytes final last range w = ap (λ o. o >>= (λ m. Ok m.0.1))
-    (search (rules, stream-means))
-    ∙ picture-alone (picture_of_array settings final array last) (told_of final) []
+-- read at a size
+abbrev meant_at : Size → Settings → List ℕ → Outcome (Told × List ℕ)
+meant_at FullSize settings bytes = meaning settings bytes
+meant_at (AtLeast width height) settings bytes = sized_meaning width height settings bytes
+meant_at (AtScale scale) settings bytes = scaled_meaning scale settings bytes
 
-pub unseen-padding : (settings : Settings) (a b : Coefficients) (bytes : List ℕ) (final : Said)
+means-at : (size : Size) (settings : Settings) (array : Coefficients) (bytes rest : List ℕ) (final : Said)
+    (last : ℕ → Levels) → ((index row column : ℕ) → Is8Bit (array index row column))
+    → WritesImage array bytes final last
+    → meant_at size settings (bytes ++ rest) ≡ meaning_of_array settings (at_size size final) array last rest
+means-at FullSize settings array bytes rest final last range w =
+    stream-means settings array bytes rest final last range w
+means-at (AtLeast width height) settings array bytes rest final last range w =
+    stream-means_sized width height settings array bytes rest final last range w
+means-at (AtScale scale) settings array bytes rest final last range w =
+    stream-means_scaled scale settings array bytes rest final last range w
+
+array-picture : (size : Size) (settings : Settings) (array : Coefficients) (bytes : List ℕ) (final : Said)
+    (last : ℕ → Levels) → ((index row column : ℕ) → Is8Bit (array index row column))
+    → WritesImage array bytes final last
+    → (meant_at size settings (bytes ++ []) >>= (λ m. Ok m.0.1)) ≡ picture_of_array settings (at_size size final) array
+    last
+array-picture size settings array bytes final last range w =
+    ap (λ o. o >>= (λ m. Ok m.0.1)) (means-at size settings array bytes [] final last range w)
+    ∙ picture-alone (picture_of_array settings (at_size size final) array last) (told_of (at_size size final)) []
+
+pub unseen-padding : (size : Size) (settings : Settings) (a b : Coefficients) (bytes : List ℕ) (final : Said)
     (last : ℕ → Levels) (frame : Frame) → ((index row column : ℕ) → Is8Bit (a index row column))
     → ((index row column : ℕ) → Is8Bit (b index row column)) → WritesImage a bytes final last
-    → final.frame ≡ Some frame → AgreeOnOwn frame a b
-    → picture_of_array settings final a last ≡ picture_of_array settings final b last
-unseen-padding settings a b bytes final last frame range_a range_b w e agree =
-    sym (array-picture settings a bytes final last range_a w)
-    ∙ array-picture settings b bytes final last range_b (also-written a b bytes final last frame w e agree)
+    → final.frame ≡ Some frame → AgreeOnOwn frame a b → picture_of_array settings (at_size size final) a last
+    ≡ picture_of_array settings (at_size size final) b last
+unseen-padding size settings a b bytes final last frame range_a range_b w e agree =
+    sym (array-picture size settings a bytes final last range_a w)
+    ∙ array-picture size settings b bytes final last range_b (also-written a b bytes final last frame w e agree)

@@ -16,12 +16,14 @@ ghost use Rattle.jpeg_streams.specs.Segments.{accepted};
 ghost use Rattle.jpeg_streams.specs.Pixels.{info_of};
 ghost use Rattle.jpeg_streams.specs.ArrayPictures.{meaning_of_array, picture_of_array};
 ghost use Rattle.jpeg_streams.specs.ArrayPictures.{TakesPicture};
+ghost use Rattle.jpeg_streams.specs.DecodedImages.{Size, at_size};
 ghost use Rattle.jpeg_streams.specs.Levels.{Is8Bit, Levels, cut, nothing_sent};
 ghost use Rattle.jpeg_streams.specs.Stream.{meaning, scaled_meaning, scaled_to, sized_meaning};
 ghost use Rattle.jpeg_streams.specs.Stream.{sized_to, told_of};
 ghost use Rattle.jpeg_streams.specs.FrameSamples.{AreBytes};
 ghost use Rattle.jpeg_streams.specs.ScanSegments.{Coding, is_progressive, pass_of};
 ghost use Rattle.jpeg_streams.specs.Scripts.{IsScript, IsWrittenUnder, ScriptedScan, Suffices};
+ghost use Rattle.jpeg_streams.specs.Scripts.{scans_in};
 ghost use Rattle.jpeg_streams.specs.Found.{nothing_said, Said};
 ghost use Rattle.jpeg_streams.specs.WholeImages.{AllComplete, whole_meaning};
 ghost use Rattle.jpeg_streams.specs.WorkedImages.{IsWhollyWritten, grey_array, grey_bytes};
@@ -85,6 +87,56 @@ pub fn complete_images_are_whole()
         final.frame ≡ Some frame → AllComplete frame last →
         scaled_meaning scale settings (bytes ++ rest)
         ≡ whole_meaning settings (scaled_to scale final) array rest }
+{}
+
+/// A sequential stream that is written for the coefficients of 8-bit samples means the picture of
+/// those coefficients themselves, at every scale.
+pub fn sequential_images_are_read()
+    ensures whole { (settings : Settings) (array : Coefficients) (bytes rest : List ℕ)
+        (final : Said) (last : ℕ → Levels) (frame : Frame) →
+        ((index row column : ℕ) → Is8Bit (array index row column)) →
+        WritesImage array bytes final last →
+        final.frame ≡ Some frame → is_progressive frame.process ≡ false →
+        meaning settings (bytes ++ rest) ≡ whole_meaning settings final array rest }
+    ensures sized { (width height : ℕ) (settings : Settings) (array : Coefficients)
+        (bytes rest : List ℕ) (final : Said) (last : ℕ → Levels) (frame : Frame) →
+        ((index row column : ℕ) → Is8Bit (array index row column)) →
+        WritesImage array bytes final last →
+        final.frame ≡ Some frame → is_progressive frame.process ≡ false →
+        sized_meaning width height settings (bytes ++ rest)
+        ≡ whole_meaning settings (sized_to width height final) array rest }
+    ensures scaled { (scale : Scale) (settings : Settings) (array : Coefficients)
+        (bytes rest : List ℕ) (final : Said) (last : ℕ → Levels) (frame : Frame) →
+        ((index row column : ℕ) → Is8Bit (array index row column)) →
+        WritesImage array bytes final last →
+        final.frame ≡ Some frame → is_progressive frame.process ≡ false →
+        scaled_meaning scale settings (bytes ++ rest)
+        ≡ whole_meaning settings (scaled_to scale final) array rest }
+{}
+
+/// A stream of first scans alone, each with Ah = 0 in its header, means the picture of the
+/// coefficients, cut at the levels of its scans, at every scale. Nothing is refined in it.
+pub fn first_scans_are_read()
+    ensures whole { (settings : Settings) (array : Coefficients) (bytes rest : List ℕ)
+        (final : Said) (last : ℕ → Levels) →
+        ((index row column : ℕ) → Is8Bit (array index row column)) →
+        (written : WritesImage array bytes final last) →
+        AllByRecursion (λ s. s.header.high ≡ 0) (scans_in written.written) →
+        meaning settings (bytes ++ rest) ≡ meaning_of_array settings final array last rest }
+    ensures sized { (width height : ℕ) (settings : Settings) (array : Coefficients)
+        (bytes rest : List ℕ) (final : Said) (last : ℕ → Levels) →
+        ((index row column : ℕ) → Is8Bit (array index row column)) →
+        (written : WritesImage array bytes final last) →
+        AllByRecursion (λ s. s.header.high ≡ 0) (scans_in written.written) →
+        sized_meaning width height settings (bytes ++ rest)
+        ≡ meaning_of_array settings (sized_to width height final) array last rest }
+    ensures scaled { (scale : Scale) (settings : Settings) (array : Coefficients)
+        (bytes rest : List ℕ) (final : Said) (last : ℕ → Levels) →
+        ((index row column : ℕ) → Is8Bit (array index row column)) →
+        (written : WritesImage array bytes final last) →
+        AllByRecursion (λ s. s.header.high ≡ 0) (scans_in written.written) →
+        scaled_meaning scale settings (bytes ++ rest)
+        ≡ meaning_of_array settings (scaled_to scale final) array last rest }
 {}
 
 /// A sequential stream sends every bit of each coefficient.
@@ -161,18 +213,19 @@ pub fn pictures_are_of_coefficients()
 {}
 
 /// A stream for an array is one for each array that has the same blocks without padding, and their
-/// pictures are the same: no sample comes of padding.
+/// pictures are the same, at full size and at every scale: no sample comes of padding.
 pub fn padding_is_not_seen()
     ensures written { (a b : Coefficients) (bytes : List ℕ) (final : Said) (last : ℕ → Levels)
         (frame : Frame) →
         WritesImage a bytes final last → final.frame ≡ Some frame → AgreeOnOwn frame a b →
         WritesImage b bytes final last }
-    ensures pictured { (settings : Settings) (a b : Coefficients) (bytes : List ℕ) (final : Said)
-        (last : ℕ → Levels) (frame : Frame) →
+    ensures pictured { (size : Size) (settings : Settings) (a b : Coefficients) (bytes : List ℕ)
+        (final : Said) (last : ℕ → Levels) (frame : Frame) →
         ((index row column : ℕ) → Is8Bit (a index row column)) →
         ((index row column : ℕ) → Is8Bit (b index row column)) →
         WritesImage a bytes final last → final.frame ≡ Some frame → AgreeOnOwn frame a b →
-        picture_of_array settings final a last ≡ picture_of_array settings final b last }
+        picture_of_array settings (at_size size final) a last
+        ≡ picture_of_array settings (at_size size final) b last }
 {}
 
 /// A progressive stream may be cut after any of its scans and closed: it then means the picture of
