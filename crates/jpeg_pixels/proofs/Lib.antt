@@ -11,12 +11,12 @@ pub mod FrameCovers
 pub mod ColourLanes
 pub mod ComponentLines
 pub mod GivenRows
-pub mod Growing
 pub mod JoinedLines
 pub mod JointPictures
 pub mod PictureLines
 pub mod LinesOfColour
 pub mod PlaneRows
+pub mod ReservedRows
 pub mod SourceLists
 pub mod UpsampledRows
 pub mod WholePictures

@@ -56,6 +56,17 @@ plane-same s table wide high f g same =
     (same (i / (s * wide) / s) (i % (s * wide) / s) (line_lt s high (i / (s * wide)) line)
     (line_lt s wide (i % (s * wide)) column)))
 
+-- a row of blocks
+pub one-row : (s : ℕ) (table : List ℕ) (blocks : List (List ℤ)) → plane_of s table (length blocks) 1
+    (λ row column. slice_index_or blocks (row * length blocks + column) zero_coefficients) ≡ strip_of s table blocks
+one-row s table blocks = plane-same s table (length blocks) 1
+    (λ row column. slice_index_or blocks (row * length blocks + column) zero_coefficients)
+    (λ row column. slice_index_or blocks column zero_coefficients)
+    (λ r c hr hc.
+    let first : r ≡ 0 = omega arith in
+    let none : 0 * length blocks + c ≡ c = omega arith in
+    ap (λ (n : ℕ). slice_index_or blocks n zero_coefficients) (ap (λ (k : ℕ). k * length blocks + c) first ∙ none))
+
 pub plane-none : (s : ℕ) (table : List ℕ) (wide : ℕ) (block_at : ℕ → ℕ → List ℤ) → plane_of s table wide 0 block_at ≡ []
 unfolding plane_of
 plane-none s table wide block_at = search rules

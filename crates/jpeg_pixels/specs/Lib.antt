@@ -11,7 +11,7 @@ pub mod Lanes
 pub mod LaneRows
 pub mod PicturesView
 pub mod Workers
-pub mod GrowingView
+pub mod ReservedView
 pub mod ShortRows
 pub mod HalfRows
 pub mod JointPlanes

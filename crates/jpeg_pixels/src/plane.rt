@@ -1,6 +1,6 @@
 //! Planes of samples: the samples of a component, line by line (T.81, A.1.1 and A.2).
 ghost use Rattle.std.specs.Prelude.{◌≡◌, ℕ, ◌+◌, ◌≤◌, ◌<◌, ◌*◌, ◌++◌, OnOk, OnErr};
-ghost use Rattle.std.specs.Prelude.{length, slice_index, slice_index_or};
+ghost use Rattle.std.specs.Prelude.{length, slice_index, slice_index_or, vec_capacity};
 ghost use Rattle.jpeg_pixels.specs.Planes.{plane_of, strip_of, zero_coefficients, cropped};
 ghost use Rattle.jpeg_pixels.specs.Scaled.{IsScale};
 
@@ -82,7 +82,7 @@ pub fn append_row(
 }
 
 /// Appends the samples of a row of blocks to a plane, like `append_row`, with a table that was made
-/// for all rows.
+/// for all rows. It doesn't fail where the plane has room for them.
 pub fn append_strip(
     plane: &mut Vec<u8>,
     scale: usize,
@@ -94,16 +94,46 @@ pub fn append_strip(
     ensures ok { OnOk result
         (plane.new.items ≡ plane.old.items ++ strip_of scale table.now blocks.now) }
     ensures err { OnErr result (plane.new.items ≡ plane.old.items) }
+    ensures full { OnErr result (vec_capacity plane.old
+        < length plane.old.items + scale * scale * length blocks.now) }
+    ensures cap { vec_capacity plane.old ≤ vec_capacity plane.new }
+{
+    append_strips(plane, scale, blocks.len(), 1, blocks, table)
+}
+
+/// Appends the samples of some rows of blocks to a plane, as `append_strip` does row by row. The
+/// blocks stand in raster order, `blocks_wide` to a row.
+///
+/// It doesn't fail where the plane has room for all of them.
+pub fn append_strips(
+    plane: &mut Vec<u8>,
+    scale: usize,
+    blocks_wide: usize,
+    rows: usize,
+    blocks: &[[i16; 64]],
+    table: &SampleTable,
+) -> Result<(), AllocError>
+    requires scale { IsScale scale }
+    requires few { blocks_wide ≤ 65536 }
+    requires few_rows { rows ≤ 65535 }
+    requires blocks { length blocks.now ≡ blocks_wide * rows }
+    ensures ok { OnOk result (plane.new.items ≡ plane.old.items
+        ++ plane_of scale table.now blocks_wide rows
+        (λ row column. slice_index_or blocks.now (row * blocks_wide + column) zero_coefficients)) }
+    ensures err { OnErr result (plane.new.items ≡ plane.old.items) }
+    ensures full { OnErr result (vec_capacity plane.old
+        < length plane.old.items + scale * blocks_wide * (scale * rows)) }
+    ensures cap { vec_capacity plane.old ≤ vec_capacity plane.new }
 {
     let start = plane.len();
     plane.resize(start + scale * scale * blocks.len(), 0)?;
-    write_strip(scale, &mut plane[start..], blocks, table);
+    write_strips(scale, &mut plane[start..], blocks, blocks_wide, rows, table);
     Ok(())
 }
 
 /// Writes the samples of some rows of blocks, one after the other.
 #[tactic(auto, using(crate::proofs::PlaneRows::planes))]
-pub(crate) fn write_strips(
+fn write_strips(
     scale: usize,
     strips: &mut [u8],
     blocks: &[[i16; 64]],
@@ -112,8 +142,8 @@ pub(crate) fn write_strips(
     table: &SampleTable,
 )
     requires scale { IsScale scale }
-    requires few { blocks_wide ≤ 65535 }
-    requires few_rows { rows ≤ 255 }
+    requires few { blocks_wide ≤ 65536 }
+    requires few_rows { rows ≤ 65535 }
     requires blocks { length blocks.now ≡ blocks_wide * rows }
     requires room { length strips.old ≡ scale * blocks_wide * (scale * rows) }
     ensures { strips.new ≡ plane_of scale table.now blocks_wide rows

@@ -10,7 +10,7 @@ ghost use Rattle.jpeg_pixels.specs.Pictures.{Source, sources_of, AllCover, image
 ghost use Rattle.jpeg_segments.specs.Frame.{AllHaveSampling};
 
 use crate::color_convert::ColorConvert;
-use crate::growing_plane::GrowingPlane;
+use crate::reserved_plane::ReservedPlane;
 use crate::upsampler::Upsampler;
 use jpeg_bits::color_transform::ColorTransform;
 use jpeg_bits::error::Result;
@@ -33,7 +33,7 @@ pub struct RowData {
 #[derive(Drop)]
 pub struct ImmediateWorker {
     alloc: Global,
-    planes: [Option<GrowingPlane>; 4],
+    planes: [Option<ReservedPlane>; 4],
 }
 
 impl Model for ImmediateWorker {
@@ -80,10 +80,10 @@ impl ImmediateWorker {
         ensures err { OnErr result (self.new ≡ self.old) }
         ensures memory { IfErr result (λ e. e ≡ OutOfMemory) }
     {
-        let plane = GrowingPlane::new(
+        let plane = ReservedPlane::new(
             self.alloc,
             &row_data.component,
-            row_data.quantization_table,
+            &row_data.quantization_table,
         )?;
         self.planes[row_data.index] = Some(plane);
         Ok(())
@@ -102,8 +102,7 @@ impl ImmediateWorker {
         ensures row { self.new ≡ with_row self.old row.0 row.1.items }
     {
         let (index, coefficients) = row;
-        self.append(index, &coefficients);
-        Ok(())
+        self.append(index, &coefficients)
     }
 
     /// Appends each row that an iterator yields, as `append_row` does. It returns no error.
@@ -119,19 +118,22 @@ impl ImmediateWorker {
             × (self.new ≡ with_rows self.old given) }
     {
         for (index, coefficients) in rows {
-            self.append(index, &coefficients);
+            self.append(index, &coefficients)?;
         }
         Ok(())
     }
 
-    fn append(&mut self, index: usize, coefficients: &[i16])
+    // Appends a row. There is room for it, so that it doesn't fail.
+    fn append(&mut self, index: usize, coefficients: &[i16]) -> Result<()>
         requires index { index < 4 }
         requires row { IsRowAt (get_or self.old index None) coefficients.now }
-        ensures { self.new ≡ with_row self.old index coefficients.now }
+        ensures ok { result ≡ Ok tt }
+        ensures row { self.new ≡ with_row self.old index coefficients.now }
     {
         if let Some(plane) = &mut self.planes[index] {
-            plane.append(coefficients);
+            plane.append(coefficients)?;
         }
+        Ok(())
     }
 
     /// Takes the plane at an index: its samples are 0 where no row has come yet. It is empty if the
@@ -143,7 +145,7 @@ impl ImmediateWorker {
         ensures none_left { self.new ≡ set self.old index None }
     {
         match self.planes[index].take() {
-            Some(plane) => Ok(plane.into_samples()),
+            Some(plane) => Ok(plane.into_samples()?),
             None => Ok(Vec::new(self.alloc)),
         }
     }
