@@ -45,9 +45,6 @@ def expected():
     yield page, r"`list` has (\d+) definitions", wrong
     yield page, r"\((\d+)\s+files\)", files
     yield page, r"of these laws \((\d+):", laws
-    yield "wrong_bodies/README.md", r"`list` has (\d+) wrong bodies", first_number(
-        ["wrong_bodies/try", "--check"]
-    )[0]
     least = int(re.search(r"(?m)^LEAST=(\d+)$", text("memory"))[1])
     yield "docs/TRUST.md", r"each N from 1\s+to (\d+) \(`./memory`\)", least
     for crate in ("parts_callers", "decoder_callers", "zaxbriar", "zaxbriar_callers"):

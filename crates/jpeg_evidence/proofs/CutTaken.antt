@@ -54,9 +54,11 @@ unfolding picture_by image_of
 picture-of settings w f [] g sources t e = absurd t
 picture-of settings w f (c ∷ []) g sources t e = (picture_in f c (g (0, c)), refl)
 picture-of settings w f (c ∷ d ∷ more) g sources t e =
-    let convert = conversion-there (length (c ∷ d ∷ more)) _ t in
-    (_, then-ok (conversion_of (length (c ∷ d ∷ more)) _) _ convert.0 _ convert.1
-    (then-ok (sources_of (c ∷ d ∷ more) f.output_width f.output_height) _ sources _ e refl))
+    let convert = conversion-there (length (c ∷ d ∷ more)) _ t in (
+      _,
+      then-ok (conversion_of (length (c ∷ d ∷ more)) _) _ convert.0 _ convert.1
+          (then-ok (sources_of (c ∷ d ∷ more) f.output_width f.output_height) _ sources _ e refl),
+    )
 
 -- the picture of blocks that are held
 held-there : (settings : Settings) (said : Said) (f : Frame) (blocks : Coefficients) (sources : List Source)
@@ -67,12 +69,14 @@ unfolding picture_held
 held-there settings said f blocks sources takes same is_said e =
     let g : ℕ × Component → List ℕ
     = λ c. plane_of_blocks c.1 (unwrap_or
-        (slice_index_or said.quantization c.1.factors.quantization None) (replicate 64 1)) (blocks c.0) in
+    (slice_index_or said.quantization c.1.factors.quantization None) (replicate 64 1)) (blocks c.0) in
     let picture = picture-of settings said f f.components g sources
-    (subst (λ (h : Frame). HasTransform settings said h.components) same takes.transform) e in
-    (picture.0, limited-ok settings said f _ picture.0 is_said (rw same at takes.limit)
-    (then-ok (gathered (λ c. Ok (g c)) (enumerate_from 0 f.components)) _ _ _
-    (gathered-ok g (enumerate_from 0 f.components)) picture.1))
+    (subst (λ (h : Frame). HasTransform settings said h.components) same takes.transform) e in (
+      picture.0,
+      limited-ok settings said f _ picture.0 is_said (rw same at takes.limit)
+          (then-ok (gathered (λ c. Ok (g c)) (enumerate_from 0 f.components)) _ _ _
+          (gathered-ok g (enumerate_from 0 f.components)) picture.1),
+    )
 
 -- what is shown of what a walk brought, where there is a frame and a picture
 shown-there : (settings : Settings) (w : Walked) (f : Frame) (picture : List ℕ) → w.0.said.frame ≡ Some f
@@ -106,8 +110,7 @@ cut_images_are_shown settings array image part more final last range w parts =
     let e : EndedAt array range part
     = each-front array range nothing_said final (λ k. nothing_sent) last w.after w.written [] part more
     (end nothing_said (λ k. nothing_sent) [] refl) (nothing-there array range) after in
-    let found_same : (all_brought nothing_found part).0.said ≡ e.said = ap (λ (y : Found). y.said) e.found in
-    (
+    let found_same : (all_brought nothing_found part).0.said ≡ e.said = ap (λ (y : Found). y.said) e.found in (
       e.said,
       as_sent e.image e.levels,
       subst (λ (rows : ℕ). HoldsCut array (as_sent e.image e.levels) part e.said rows)

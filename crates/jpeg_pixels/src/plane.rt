@@ -42,10 +42,16 @@ impl SampleTable {
         }
     }
 
-    /// Writes the samples of a block.
+    /// Writes the samples of a block to the front of the output, `scale` to a line, in lines of
+    /// `stride` bytes. All planes are written by this call.
+    ///
+    /// Of all coefficients and all quantization values it writes what is defined, whichever kernel
+    /// runs. At full size a block with no dequantized coefficient above 1095, as in photographs, is
+    /// transformed in lanes of 16 bits, and any other in the lanes of 32 bits of `arch`; at less
+    /// than full size, each by the transforms of `idct`.
     #[inline(always)]
     #[tactic(auto, unfolding(crate::specs::Scaled::sample_at))]
-    fn write_block(&self, scale: usize, block: &[i16; 64], stride: usize, output: &mut [u8])
+    pub fn write_block(&self, scale: usize, block: &[i16; 64], stride: usize, output: &mut [u8])
         requires scale { IsScale scale }
         requires wide { scale ≤ stride }
         requires room { (scale - 1) * stride + scale ≤ length output.old }

@@ -9,7 +9,7 @@ use jpeg_pixels::idct::{
     choose_idct_size, dequantize_and_idct_block, dequantize_and_idct_block_1x1,
     dequantize_and_idct_block_2x2, dequantize_and_idct_block_4x4, dequantize_and_idct_block_8x8,
 };
-use jpeg_pixels::plane::{append_row, crop};
+use jpeg_pixels::plane::{SampleTable, append_row, crop};
 use jpeg_pixels::zigzag::values_in_order;
 use jpeg_segments::parser::Dimensions;
 use std::alloc::Global;
@@ -35,7 +35,8 @@ fn transform(scale: usize, block: &[i16; 64], values: &[u16; 64], stride: usize,
     }
 }
 
-/// Transforms a block at a scale into `room` bytes, which were 7, with lines of `stride` bytes.
+/// Transforms a block at a scale into `room` bytes, which were 7, with lines of `stride` bytes: by
+/// the function for its scale, in lanes, and as a plane's blocks are transformed.
 fn samples_of(
     alloc: Global,
     scale: usize,
@@ -46,14 +47,19 @@ fn samples_of(
 ) -> anyhow::Result<String> {
     let (stride, room) = (usize::from(stride), usize::from(room));
     let mut one = vec![in alloc; 7; room]?;
-    let mut other = vec![in alloc; 7; room]?;
+    let mut by_lanes = vec![in alloc; 7; room]?;
+    let mut by_table = vec![in alloc; 7; room]?;
     if !is_scale(scale) || stride < scale || room < (scale - 1) * stride + scale {
         bail!("expected a scale, and room for its lines");
     }
     transform(scale, block, values, stride, &mut one);
-    dequantize_and_idct_block(scale, block, values, stride, &mut other);
-    if one.as_slice() != other.as_slice() {
+    dequantize_and_idct_block(scale, block, values, stride, &mut by_lanes);
+    SampleTable::new(values).write_block(scale, block, stride, &mut by_table);
+    if one.as_slice() != by_lanes.as_slice() {
         return Ok(format!(in alloc; "WRONG by lanes")?);
+    }
+    if one.as_slice() != by_table.as_slice() {
+        return Ok(format!(in alloc; "WRONG in a plane")?);
     }
     Ok(text_of_bytes(alloc, &one)?)
 }

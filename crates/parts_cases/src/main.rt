@@ -47,7 +47,8 @@
 //! coefficients NUMBERS            the block
 //! values NUMBERS                  a quantization table
 //! zigzag                          its values from zigzag into block order
-//! idct SCALE STRIDE ROOM CHANGES  the block's samples; a change is INDEX=VALUE
+//! idct SCALE STRIDE ROOM CHANGES  the block's samples, by the function for the scale, in lanes, and
+//!                                 as in a plane, which have to agree; a change is INDEX=VALUE
 //! row SCALE BEFORE AFTER CHANGES  a row of blocks is appended to the plane: the block BEFORE
 //!                                 times, once with changes, and AFTER times
 //! plane                           the plane
