@@ -114,27 +114,27 @@ fn scale_reaching(state: &State, width: u16, height: u16) -> usize
     }
 }
 
-/// Sizes the frame at a scale, if one was read.
+/// Sizes the frame, which was read, at a scale, and returns the size of its picture.
 #[tactic(auto, using(jpeg_streams::proofs::Soundness::scaled_rules))]
-fn scale_state(state: &mut State, scale: usize) -> Result<(u16, u16)>
+fn scale_state(state: &mut State, scale: usize) -> (u16, u16)
+    requires framed { is_some state.old.said.frame ≡ true }
     requires frames { HasDecodedFrame state.old }
     requires scale { is_scale scale ≡ true }
     ensures found { state.new ≡ with_said (λ said. record said {
       frame = option_map
           (λ f. scaled_by f.process scale f) said.frame;
     }) state.old }
-    ensures none { OnErr result (state.old.said.frame ≡ None) }
-    ensures size { IfOk result (λ size. IfSome state.new.said.frame (λ f. (f.output_width
-        ≡ size.0) × (f.output_height ≡ size.1))) }
+    ensures size { IfSome state.new.said.frame (λ f. (f.output_width ≡ result.0)
+        × (f.output_height ≡ result.1)) }
     ensures frames { HasDecodedFrame state.new }
     ensures sound { IsSound state.old → IsUnread state.old
         → IsSound state.new × IsUnread state.new }
 {
     let said = &mut state.said;
     let Some(frame) = &mut said.frame else {
-        return Err(Error::Internal("decoder has no frame"));
+        unreachable!()
     };
-    Ok(size_frame(frame, scale))
+    size_frame(frame, scale)
 }
 
 /// Returns how many bytes the picture takes if the memory is large enough, otherwise `Internal`.
@@ -149,7 +149,7 @@ fn size_within(state: &State, room: usize) -> Result<usize>
     ensures err { IfErr result IsInternal }
 {
     let Some(frame) = &state.said.frame else {
-        return Err(Error::Internal("decoder has no frame"));
+        unreachable!()
     };
     let size = picture_bytes(frame);
     if size > room as u64 {
@@ -438,7 +438,7 @@ impl<R: Read + Drop> Decoder<R> {
     {
         self.read_info()?;
         let scale = scale_reaching(&self.state, requested_width, requested_height);
-        scale_state(&mut self.state, scale)
+        Ok(scale_state(&mut self.state, scale))
     }
 
     /// Scales the picture to exactly 1/8, 1/4, 1/2 or full size, each side rounded up, and returns
@@ -469,7 +469,7 @@ impl<R: Read + Drop> Decoder<R> {
         ensures settings { self.new.settings ≡ self.old.settings }
     {
         self.read_info()?;
-        scale_state(&mut self.state, scale.block_side())
+        Ok(scale_state(&mut self.state, scale.block_side()))
     }
 
     /// Reads the header where it wasn't read. Where no image is left to decode it is `Internal`,

@@ -1,4 +1,4 @@
-use Rattle.std.proofs.Common.{◌≡◌, rules}
+use Rattle.std.proofs.Common.{◌≡◌, Ok, rules}
 use Rattle.std.proofs.lemmas.Result.{err_from_is_err_and}
 use Rattle.jpeg_streams.specs.Found.{with_said}
 use Rattle.jpeg_streams.specs.Stream.{scaled_header_at, scaled_to}
@@ -19,5 +19,5 @@ returns-clause-reads g c =
     let same : c.self.inside.source ≡ c.read_info.new.self.source = search rules in
     λ fresh. answers-changed (scaled_to scale) (scaled_header_at scale) c.args.self.now.source
     c.read_info.new.self.source c.self.inside.source c.read_info.new.self.found
-    c.scale_state.new.state (tt {0}) c.scale_state.result (scaled-read scale) (search rules)
+    c.scale_state.new.state (tt {0}) (Ok c.scale_state.result) (scaled-read scale) (search rules)
     c.in_ok-read_info.ensures.framed (c.in_ok-read_info.ensures.reads fresh) same scaled
