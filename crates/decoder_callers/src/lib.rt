@@ -2,8 +2,8 @@
 //! tried.
 //!
 //! A caller does nothing but make its call, and promises one clause of that call's contract, or one
-//! field of the record `Decodes`. Each file of must-fail/ puts a wrong body in place of a call, and
-//! the check has to refuse it. So a clause that is weakened in its library fails a caller here, and
+//! field of the record `Decodes`. Each edit of wrong/ puts a wrong body in place of a call, and the
+//! check has to refuse it; its twin puts a right one there, and is proved. So a clause that is weakened in its library fails a caller here, and
 //! a clause that lets a wrong body through fails the gate. docs/WRONG_BODIES.md lists the wrong
 //! bodies. Nothing stands on this crate.
 //!
@@ -18,5 +18,4 @@ pub mod partial;
 pub mod pictures;
 pub mod runs;
 pub mod settings;
-pub mod streams;
 pub mod told;
