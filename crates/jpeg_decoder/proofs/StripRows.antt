@@ -125,7 +125,3 @@ drop-none wide blocks = let e : 0 ≡ 0 * wide = omega arith in ap (λ (k : ℕ)
 pub drop-next : (wide v : ℕ) (blocks : List (List ℤ)) → drop wide (drop (v * wide) blocks)
     ≡ drop ((v + 1) * wide) blocks
 drop-next wide v blocks = grind (arith, common_steps, drop-drop, suc-mul)
-
-pub rest-long : (wide v : ℕ) (blocks : List (List ℤ)) → v * wide + wide ≤ length blocks
-    → wide ≤ length (drop (v * wide) blocks)
-rest-long wide v blocks h = let d = length-drop (v * wide) blocks in omega arith

@@ -16,6 +16,7 @@ ghost use Rattle.jpeg_decoder.specs.GrowingView.{GrowsFor, growing_in, is_joint}
 use crate::scan::block_array::BlockArray;
 use crate::scan::coded::Coded;
 use jpeg_pixels::joint_planes::JointPlanes;
+use jpeg_pixels::plane;
 use jpeg_pixels::plane::{SampleTable, append_strip};
 use jpeg_pixels::zigzag::values_in_order;
 use jpeg_segments::parser::Component;
@@ -111,13 +112,14 @@ pub fn append_rows(
         (in_raster component.now.block_size.width (map to_block blocks.now))) }
 {
     let wide = usize::from(component.block_size.width);
-    let mut rest = blocks;
-    for _ in 0..high {
-        let (row, others) = rest.split_at(wide);
-        append_strip(plane, component.dct_scale, row, table)?;
-        rest = others;
-    }
-    Ok(())
+    plane::append_strips(
+        plane,
+        component.dct_scale,
+        wide,
+        usize::from(high),
+        blocks,
+        table,
+    )
 }
 
 /// Appends the samples of a row of a component's blocks to its plane. Blocks that are missing at

@@ -1,17 +1,16 @@
-use Rattle.std.proofs.Common.{arith, append_assoc}
-use Rattle.jpeg_decoder.proofs.StripRows.{raster-rows, strip-next, rows-fit, none-yet, drop-none}
-use Rattle.jpeg_decoder.proofs.StripRows.{drop-next, rest-long}
+use Rattle.std.proofs.Common.{◌≡◌, ◌<◌, [], ℕ, get_or, length, rules}
+use Rattle.std.proofs.lemmas.Result.{on_ok_weaker}
+use Rattle.jpeg_decoder.proofs.StripRows.{raster-rows}
 use Rattle.jpeg_decoder.proofs.scan.strips.append_rows.Goals as goal
-use Rattle.std.proofs.lemmas.Grind.{common_steps}
-
-pub loop-init : goal.loop-init
-loop-init c = grind (arith, common_steps, drop-none, none-yet)
-
-pub split_at-requires : goal.split_at-requires
-split_at-requires c = grind (arith, common_steps, rows-fit, rest-long)
-
-pub loop-preserved : goal.loop-preserved
-loop-preserved c = grind (arith, common_steps, rows-fit, drop-next, append_assoc, strip-next)
 
 pub returns : goal.returns
-returns c = grind (arith, common_steps, raster-rows)
+returns c =
+    let component = c.args.component.now in
+    let blocks = c.args.blocks.now in
+    let wide : c.from-wide.result ≡ component.block_size.width = search rules in
+    let high : c.from.result ≡ c.args.high = search rules in
+    let sized : (i : ℕ) → i < length blocks → length (get_or blocks i []) ≡ 64 = search rules in
+    on_ok_weaker c.append_strips.result (λ done.
+    raster-rows component.dct_scale c.args.table.now c.from-wide.result component.block_size.width c.args.high
+    c.from.result blocks c.args.plane.now.items c.append_strips.new.plane.items wide high c.requires.size sized done)
+    c.append_strips.ensures.ok
