@@ -1,5 +1,5 @@
 //! Callers of `jpeg_pixels`.
-ghost use Rattle.std.specs.Prelude.{◌≡◌, ◌+◌, ◌*◌, ◌≤◌, ◌<◌, ℕ, ℤ, ◌∷◌, [], List, Ok, Some, None};
+ghost use Rattle.std.specs.Prelude.{◌≡◌, ◌+◌, ◌-◌, ◌*◌, ◌≤◌, ◌<◌, ℕ, ℤ, ◌∷◌, [], List, Ok, Some, None};
 ghost use Rattle.std.specs.Prelude.{get_or, length, map, set, MatchResult, OnOk};
 ghost use Rattle.std.specs.Iterator.{Drains, HoldsAlong, IsFinite};
 ghost use Rattle.std.specs.declared.alloc.Global.{Global};
@@ -10,13 +10,14 @@ ghost use Rattle.jpeg_pixels.specs.Colour.{conversion_of};
 ghost use Rattle.jpeg_pixels.specs.Pictures.{AllCover, picture_line};
 ghost use Rattle.jpeg_pixels.specs.PicturesView.{IsFor};
 ghost use Rattle.jpeg_pixels.specs.Samples.{sample};
-ghost use Rattle.jpeg_pixels.specs.Scaled.{IsScale};
+ghost use Rattle.jpeg_pixels.specs.Scaled.{IsScale, sample_at};
 ghost use Rattle.jpeg_pixels.specs.Workers.{AreRows, IsRowAt, plane_at, with_row, with_rows};
 ghost use Rattle.jpeg_pixels.specs.Workers.{work_of};
 ghost use Rattle.jpeg_segments.specs.FrameView.{component_in};
 
 use jpeg_bits::color_transform::ColorTransform;
 use jpeg_bits::error::Result;
+use jpeg_pixels::plane::SampleTable;
 use jpeg_pixels::upsampler::{ColorConvert, Upsampler};
 use jpeg_pixels::worker::{ImmediateWorker, RowData};
 use jpeg_pixels::{arch, idct};
@@ -50,6 +51,23 @@ pub fn samples_by_lanes(
         output.old output.new }
 {
     arch::dequantize_and_idct_block_8x8(coefficients, quantization_table, output_linestride, output)
+}
+
+/// Calls `SampleTable::write_block`.
+pub fn samples_in_a_plane(
+    table: &SampleTable,
+    scale: usize,
+    block: &[i16; 64],
+    stride: usize,
+    output: &mut [u8],
+)
+    requires scale { IsScale scale }
+    requires wide { scale ≤ stride }
+    requires room { (scale - 1) * stride + scale ≤ length output.old }
+    ensures { WritesBlock scale scale stride (sample_at scale block.now table.now) output.old
+        output.new }
+{
+    table.write_block(scale, block, stride, output)
 }
 
 /// Calls `ColorConvert::choose`.
