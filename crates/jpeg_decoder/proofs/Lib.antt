@@ -73,3 +73,4 @@ pub mod ShownParts
 pub mod ShownFaults
 pub mod ShownRows
 pub mod ShownLines
+pub mod Interrupted

@@ -3,47 +3,47 @@ ghost use Rattle.std.specs.Prelude.{◌≡◌, ◌++◌, ℕ, List, Some, None, 
 ghost use Rattle.std.specs.Prelude.{IsSomeAnd, OnOk, OnErr, IfErr, IfOk, IsErr, string_bytes};
 ghost use Rattle.jpeg_streams.specs.States.{IsOfBytes};
 ghost use Rattle.std.specs.Io.KnownBytes.{Appends, Keeps};
+ghost use Rattle.jpeg_decoder.specs.Writes.{StopsByTurns};
 ghost use Rattle.jpeg_bits.specs.declared.error.Error.TheVariants.{OutOfMemory};
 ghost use Rattle.jpeg_streams.specs.Output.{output_of, header_line_of, name_of, Tells};
 ghost use Rattle.jpeg_streams.specs.Output.{TakesBeginning};
 ghost use Rattle.jpeg_streams.specs.Output.{IsOutside, IsOutsideOrMemory, NamesOrOutside};
 ghost use Rattle.jpeg_streams.specs.PrintedImages.{PrintsImages};
 
+mod writes;
+
 use crate::decoder::{Decoder, ImageInfo, PixelFormat};
+use crate::run::writes::{Offered, write_by_turns};
 use jpeg_bits::error::{Error, Result};
 use std::alloc::{AllocError, Global};
 use std::io;
 use std::io::{ErrorKind, Read, Write};
 
 /// Writes all of the bytes, repeating interrupted writes. A write of 0 bytes is refused as
-/// `WriteZero`, and endless interruptions as a `Format` without a text.
-fn write_fully<W: Write>(alloc: Global, writer: &mut W, bytes: &[u8]) -> Result<()>
+/// `WriteZero`, and 2^64 - 1 interruptions in a row as a `Format` without a text.
+fn write_fully<W: Offered>(alloc: Global, writer: &mut W, bytes: &[u8]) -> Result<()>
     ensures ok { OnOk result (Appends (W.contents writer.old) (W.contents writer.new) bytes.now) }
     ensures err { OnErr result (TakesBeginning (W.contents writer.old) (W.contents writer.new)
         bytes.now) }
     ensures outside { IfErr result IsOutside }
+    ensures stops { IfErr result (StopsByTurns W.answers) }
 {
     let mut rest = bytes;
-    for _ in 0..u64::MAX {
-        if rest.is_empty() {
-            return Ok(());
-        }
-        match writer.write(rest) {
-            Ok(0) => {
-                return Err(Error::Io(io::Error::new(ErrorKind::WriteZero, "nothing was written")));
-            }
-            Ok(count) => {
+    while !rest.is_empty() {
+        match write_by_turns(writer, rest) {
+            Some(answer) => {
+                let count = answer?;
+                if count == 0 {
+                    let error = io::Error::new(ErrorKind::WriteZero, "nothing was written");
+                    return Err(Error::Io(error));
+                }
                 let (_, after) = rest.split_at(count);
                 rest = after;
             }
-            Err(error) => {
-                if error.kind() != ErrorKind::Interrupted {
-                    return Err(Error::Io(error));
-                }
-            }
+            None => return Err(Error::Format(String::new(alloc))),
         }
     }
-    Err(Error::Format(String::new(alloc)))
+    Ok(())
 }
 
 /// Returns the name of a format in the header line.
@@ -79,12 +79,13 @@ fn header_line(alloc: Global, info: Option<ImageInfo>) -> std::result::Result<St
 }
 
 /// Writes two texts, one after the other.
-fn write_both<W: Write>(alloc: Global, writer: &mut W, first: &[u8], second: &[u8]) -> Result<()>
+fn write_both<W: Offered>(alloc: Global, writer: &mut W, first: &[u8], second: &[u8]) -> Result<()>
     ensures ok { OnOk result (Appends (W.contents writer.old) (W.contents writer.new)
         (first.now ++ second.now)) }
     ensures err { OnErr result (TakesBeginning (W.contents writer.old) (W.contents writer.new)
         (first.now ++ second.now)) }
     ensures outside { IfErr result IsOutside }
+    ensures stops { IfErr result (StopsByTurns W.answers) }
 {
     write_fully(alloc, writer, first)?;
     write_fully(alloc, writer, second)
