@@ -15,7 +15,7 @@ ROOT = Path(__file__).resolve().parent.parent
 OTHERS = """
     doc give_up HEX WORD WRONG __xpg_strerror_r Ah Al axioms Box ceil clone coef_bits
     compute_image_parallel cur_comp_info DCT_scaled_size dyn EOBRUN ERREXIT FORMAT Hmax JBLOCK
-    jpeg_decompress_struct last_dc_val ljpeg LOSSLESS malloc MCU_membership non_exhaustive perf
+    jpeg_decompress_struct last_dc_val ljpeg LOSSLESS lseek malloc MCU_membership non_exhaustive perf
     plant Pt random_tests_tests rattle_alloc rattle_dealloc rattle_errno rattle_realloc read_markers
     realloc ROW Se Ss tbl_no TEST tmp try ulimit unread_marker Upsample Vmax
 """.split()

@@ -9,10 +9,11 @@ mod input;
 use crate::input::Input;
 use jpeg_decoder::error::Error;
 use jpeg_decoder::run::{report, run};
+use std::io::Lock;
 use std::process::ExitCode;
 
 fn main(rt: HostRuntime) -> ExitCode {
-    let outcome = match Input::new(rt.alloc(), rt.stdin()) {
+    let outcome = match Input::new(rt.alloc(), rt.stdin().lock()) {
         Ok(input) => run(rt.alloc(), input, &mut rt.stdout()),
         Err(_) => Err(Error::OutOfMemory),
     };
