@@ -1,4 +1,5 @@
-/* The decoder for JavaScript, over zaxbriar.wasm: for browsers, their workers, and Node.
+/* The decoder for JavaScript, over zaxbriar.wasm: for browsers, their workers, and bundlers. Node
+ * takes node.mjs by the same name, which also reads the module from a file.
  *
  *     import { load } from 'zaxbriar';
  *     const zaxbriar = await load();
@@ -121,11 +122,6 @@ function wantsPart({ partial = false }) {
 /* The sampling factors that a byte of a frame header has. */
 const factorsOf = (byte) => ({ horizontal: byte >> 4, vertical: byte & 15 });
 
-async function compileFile(url) {
-    const { readFile } = await import('node:fs/promises');
-    return WebAssembly.compile(await readFile(url));
-}
-
 /* Compiles the module: of a URL, a response, bytes, or one that is compiled already. */
 export async function compile(source = new URL('zaxbriar.wasm', import.meta.url)) {
     const given = await source;
@@ -133,7 +129,6 @@ export async function compile(source = new URL('zaxbriar.wasm', import.meta.url)
     if (given instanceof ArrayBuffer || ArrayBuffer.isView(given)) {
         return WebAssembly.compile(given);
     }
-    if (String(given.href ?? given).startsWith('file:')) return compileFile(new URL(given));
     const response = given instanceof Response ? given : await fetch(given);
     if (!response.ok) throw new Error(`${response.url}: ${response.status}`);
     // (some servers don't know the type of .wasm, which compileStreaming asks for)

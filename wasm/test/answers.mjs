@@ -2,7 +2,7 @@
  * picture, after a line with its size and format, or the line of a refusal. A stream comes after
  * its length, in four bytes, and an answer after its status, a byte, and its length. */
 import { readSync, writeSync } from 'node:fs';
-import { ZaxbriarError, load } from '../dist/zaxbriar.mjs';
+import { ZaxbriarError, load } from '../dist/node.mjs';
 
 const NAMES = { grey8: 'L8', grey16: 'L16', rgb: 'RGB24', cmyk: 'CMYK32' };
 const zaxbriar = await load();

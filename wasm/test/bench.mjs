@@ -5,7 +5,7 @@
 import { spawnSync } from 'node:child_process';
 import { readFileSync } from 'node:fs';
 import { basename } from 'node:path';
-import { load } from '../dist/zaxbriar.mjs';
+import { load } from '../dist/node.mjs';
 
 const [clock, ...files] = process.argv.slice(2);
 const zaxbriar = await load();

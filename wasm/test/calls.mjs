@@ -4,7 +4,7 @@
 import assert from 'node:assert/strict';
 import { readFileSync } from 'node:fs';
 import { Worker } from 'node:worker_threads';
-import { Zaxbriar, ZaxbriarError, compile, load } from '../dist/zaxbriar.mjs';
+import { Zaxbriar, ZaxbriarError, compile, load } from '../dist/node.mjs';
 
 const path = process.argv[2];
 const jpeg = readFileSync(path);
@@ -278,7 +278,7 @@ const source = `
     import(workerData.url).then(async ({ load }) => {
         parentPort.postMessage((await load()).decode(workerData.jpeg).pixels);
     });`;
-const words = { url: new URL('../dist/zaxbriar.mjs', import.meta.url).href, jpeg };
+const words = { url: new URL('../dist/node.mjs', import.meta.url).href, jpeg };
 const fromWorker = await new Promise((done, fail) => {
     const worker = new Worker(source, { eval: true, workerData: words });
     worker.once('message', done).once('error', fail);

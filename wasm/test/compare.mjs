@@ -5,7 +5,7 @@
  * compared. */
 import { spawnSync } from 'node:child_process';
 import { readFileSync, writeFileSync } from 'node:fs';
-import { ZaxbriarError, load } from '../dist/zaxbriar.mjs';
+import { ZaxbriarError, load } from '../dist/node.mjs';
 import { allCases } from './cases.mjs';
 
 const [native, folder, ...files] = process.argv.slice(2);

@@ -13,7 +13,7 @@ import {
 } from 'node:fs';
 import { resolve } from 'node:path';
 import { inflateSync } from 'node:zlib';
-import { load } from '../dist/zaxbriar.mjs';
+import { load } from '../dist/node.mjs';
 import { allCases } from './cases.mjs';
 import { Chromium } from './chromium.mjs';
 import { Firefox } from './firefox.mjs';

@@ -1,7 +1,7 @@
 /* node high.mjs FILE..: the answers of a module whose memory below 2^31, and nearly 2^32, is taken:
  * they have to be those of one that begins low, or NO_MEMORY. */
 import { readFileSync } from 'node:fs';
-import { Zaxbriar, ZaxbriarError, compile } from '../dist/zaxbriar.mjs';
+import { Zaxbriar, ZaxbriarError, compile } from '../dist/node.mjs';
 
 const module = await compile();
 

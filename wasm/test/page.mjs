@@ -5,7 +5,7 @@
 import assert from 'node:assert/strict';
 import { readFileSync, writeFileSync } from 'node:fs';
 import { resolve } from 'node:path';
-import { load } from '../dist/zaxbriar.mjs';
+import { load } from '../dist/node.mjs';
 import { allCases } from './cases.mjs';
 import { Chromium } from './chromium.mjs';
 import { Firefox } from './firefox.mjs';

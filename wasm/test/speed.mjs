@@ -8,7 +8,7 @@
 import { spawnSync } from 'node:child_process';
 import { readFileSync } from 'node:fs';
 import { basename } from 'node:path';
-import { load } from '../dist/zaxbriar.mjs';
+import { load } from '../dist/node.mjs';
 
 const ROUNDS = 15;
 const AGAIN = 3;

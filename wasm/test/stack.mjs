@@ -6,7 +6,7 @@
  * is another trap, and fails.
  * The call after a trap begins with a new instance, which has to give its answer too. */
 import { readFileSync } from 'node:fs';
-import { Zaxbriar, ZaxbriarError } from '../dist/zaxbriar.mjs';
+import { Zaxbriar, ZaxbriarError } from '../dist/node.mjs';
 
 const bytes = readFileSync(new URL('../dist/zaxbriar.wasm', import.meta.url));
 const STACK = 262144;

@@ -5,7 +5,7 @@
  * Not asked is what the calls of JavaScript don't have: the original crate's limit, decoding into a
  * caller's memory, the transforms that c/zaxbriar.h has no number for, and all that stands after
  * such a call or after the picture, but for the bytes left unread. */
-import { ZaxbriarError, load } from '../dist/zaxbriar.mjs';
+import { ZaxbriarError, load } from '../dist/node.mjs';
 import { allCases, bytesOf } from './cases.mjs';
 
 const zaxbriar = await load();
