@@ -9,13 +9,14 @@ export type Source =
     | ArrayBufferView
     | WebAssembly.Module;
 
-/** The bytes of a stream. They are copied before anything is read. */
+/** The bytes of a stream, of any realm. They are copied before anything is read. */
 export type Bytes = ArrayBuffer | SharedArrayBuffer | ArrayBufferView;
 
 /**
  * How the pixels are arranged. `stored` has each pixel's samples in the order of the components.
- * The others are for pictures of grey, or of red, green and blue, with 8 bits a sample; they are a
- * BAD_ARGUMENT for other pictures.
+ * The others have 8 bits a sample, and every picture can be decoded into each of them: samples of
+ * other precisions are scaled, grey is repeated, and ink is converted by the simple formula of
+ * viewers. The fourth sample of `rgba` and `bgra`, and the first of `xrgb`, is 255.
  */
 export type Layout = 'stored' | 'grey' | 'rgb' | 'rgba' | 'bgra' | 'bgr' | 'xrgb';
 
@@ -55,10 +56,7 @@ export interface Density {
 }
 
 export interface Options {
-    /**
-     * The default is `stored`. All others are of 8 bits per sample; samples of other precisions, and
-     * cyan, magenta, yellow and black, are converted.
-     */
+    /** The default is `stored`. */
     layout?: Layout;
     /** Decodes at exactly 1 / scale of each side, rounded up: 1, 2, 4 or 8. */
     scale?: 0 | 1 | 2 | 4 | 8;
@@ -77,14 +75,19 @@ export interface Options {
     maxBytes?: number;
 }
 
-/** Options that decode as far as a stream goes. */
-export interface PartialOptions extends Options {
+/** The options of `decode`. */
+export interface DecodingOptions extends Options {
     /**
      * Decodes a stream that is truncated or damaged, too. What no scan has brought is mid-grey. A
      * marker in place of blocks is a fault, where decoding without `partial` takes zeros.
      * `decodingBytes`, which `maxBytes` limits, then counts the coefficients of all blocks, 128
      * bytes each; the data of one restart interval aren't counted.
      */
+    partial?: boolean;
+}
+
+/** Options that decode as far as a stream goes. */
+export interface PartialOptions extends DecodingOptions {
     partial: true;
 }
 
@@ -184,7 +187,8 @@ export interface DecodedPicture {
 export interface PartialPicture extends DecodedPicture {
     /**
      * How many rows of the picture, from its top, are complete in each scan that has begun: all
-     * rows if the stream has no fault.
+     * rows if the stream has no fault. Where chroma has fewer lines than luma, the last of these
+     * rows also depends on chroma below it, which may be missing.
      */
     wholeRows: number;
     fault: ZaxbriarError | null;
@@ -206,8 +210,8 @@ export function load(
 
 /**
  * A decoder. Each call throws a ZaxbriarError where the stream or the call is refused, and a
- * TypeError or RangeError where an option is none. A call that traps throws the engine's error, and
- * the next one begins with a new instance of the module.
+ * TypeError or RangeError, which names it, where an option or its value doesn't exist. A call that
+ * traps throws the engine's error, and the next one begins with a new instance of the module.
  */
 export class Zaxbriar {
     constructor(module: WebAssembly.Module, options?: DecoderOptions);
@@ -221,7 +225,8 @@ export class Zaxbriar {
      * are complete; a stream whose header can't be decoded is refused all the same.
      */
     decode(jpeg: Bytes, options: PartialOptions): PartialPicture;
-    decode(jpeg: Bytes, options?: Options & { partial?: false }): DecodedPicture;
+    decode(jpeg: Bytes, options?: DecodingOptions & { partial?: false }): DecodedPicture;
+    decode(jpeg: Bytes, options?: DecodingOptions): DecodedPicture | PartialPicture;
 
     /** Returns Exif data from the TIFF header on, XMP data or an ICC profile; null: none. */
     metadata(jpeg: Bytes, kind: 'exif' | 'xmp' | 'icc'): Data | null;

@@ -27,6 +27,20 @@ const FEATURES = [
     'factors',
     'transform',
 ];
+/* What decode and readInfo take, and what a decoder takes. */
+const OPTIONS = [
+    'layout',
+    'scale',
+    'minWidth',
+    'minHeight',
+    'stride',
+    'colorTransform',
+    'maxPixels',
+    'maxBytes',
+    'partial',
+];
+const DECODER_OPTIONS = ['maxMemory'];
+const BUFFERS = ['ArrayBuffer', 'SharedArrayBuffer'];
 /* The features that come with a number. */
 const NUMBERED = ['precision', 'components', 'transform'];
 const OK = 0;
@@ -86,15 +100,26 @@ function wholeNumber(value, most, what) {
     return value;
 }
 
+/* Refuses an option that doesn't exist, which may be the misspelt name of a limit. */
+function checkNames(options, names) {
+    for (const name in options) {
+        if (!names.includes(name)) {
+            throw new TypeError(`${name} is no option; there are ${names.join(', ')}`);
+        }
+    }
+}
+
+/* The name of a value's class, which `instanceof` doesn't know where the value is of another realm,
+ * as of a frame or in a test runner. */
+const classOf = (value) => Object.prototype.toString.call(value).slice(8, -1);
+
 /* The bytes of a buffer or of any view of one. */
 function bytesOf(source) {
     if (source instanceof Uint8Array || source instanceof Uint8ClampedArray) return source;
     if (ArrayBuffer.isView(source)) {
         return new Uint8Array(source.buffer, source.byteOffset, source.byteLength);
     }
-    const isShared =
-        typeof SharedArrayBuffer !== 'undefined' && source instanceof SharedArrayBuffer;
-    if (source instanceof ArrayBuffer || isShared) return new Uint8Array(source);
+    if (BUFFERS.includes(classOf(source))) return new Uint8Array(source);
     throw new TypeError('jpeg: an ArrayBuffer or a view of one');
 }
 
@@ -125,11 +150,10 @@ const factorsOf = (byte) => ({ horizontal: byte >> 4, vertical: byte & 15 });
 /* Compiles the module: of a URL, a response, bytes, or one that is compiled already. */
 export async function compile(source = new URL('zaxbriar.wasm', import.meta.url)) {
     const given = await source;
-    if (given instanceof WebAssembly.Module) return given;
-    if (given instanceof ArrayBuffer || ArrayBuffer.isView(given)) {
-        return WebAssembly.compile(given);
-    }
-    const response = given instanceof Response ? given : await fetch(given);
+    const kind = classOf(given);
+    if (kind === 'WebAssembly.Module') return given;
+    if (kind === 'ArrayBuffer' || ArrayBuffer.isView(given)) return WebAssembly.compile(given);
+    const response = kind === 'Response' ? given : await fetch(given);
     if (!response.ok) throw new Error(`${response.url}: ${response.status}`);
     // (some servers don't know the type of .wasm, which compileStreaming asks for)
     return WebAssembly.compile(await response.arrayBuffer());
@@ -146,7 +170,9 @@ export class Zaxbriar {
     /* Whether the last call into the instance has returned. */
     #isWhole = false;
 
-    constructor(module, { maxMemory = 0 } = {}) {
+    constructor(module, options = {}) {
+        checkNames(options, DECODER_OPTIONS);
+        const { maxMemory = 0 } = options;
         this.#module = module;
         this.#maxMemory = wholeNumber(maxMemory, 2 ** 32, 'maxMemory');
     }
@@ -278,6 +304,7 @@ export class Zaxbriar {
     }
 
     readInfo(jpeg, options = {}) {
+        checkNames(options, OPTIONS);
         return this.#with((allocate) => {
             const stream = this.#stream(allocate, jpeg, options);
             return this.#describe(stream, allocate(PICTURE_BYTES), options);
@@ -285,6 +312,7 @@ export class Zaxbriar {
     }
 
     decode(jpeg, options = {}) {
+        checkNames(options, OPTIONS);
         const isPartial = wantsPart(options);
         const name = isPartial ? 'zaxbriar_decode_partial' : 'zaxbriar_decode';
         return this.#with((allocate) => {

@@ -1,6 +1,7 @@
 // What compiles by zaxbriar.d.mts, and what doesn't.
 import { Zaxbriar, ZaxbriarError, compile, load } from '../dist/zaxbriar.mjs';
-import type { Bytes, Density, Feature, Format, Layout, Options } from '../dist/zaxbriar.mjs';
+import type { Bytes, DecodingOptions, DecodedPicture, Density } from '../dist/zaxbriar.mjs';
+import type { Feature, Format, Layout, Options, PartialOptions } from '../dist/zaxbriar.mjs';
 import type { PartialPicture, Picture, Sampling, Source } from '../dist/zaxbriar.mjs';
 
 // Sources, and the bytes of streams.
@@ -67,6 +68,20 @@ part.fault.code;
 // @ts-expect-error
 zaxbriar.readInfo(streams[0], { partial: true });
 
+// Where `partial` isn't known before, the picture may have a fault or none.
+const isPartial: boolean = rows > 1;
+const given: DecodingOptions = { ...options, partial: isPartial };
+const either: DecodedPicture | PartialPicture = zaxbriar.decode(streams[0], given);
+const first: number = zaxbriar.decode(streams[0], { partial: isPartial }).pixels[0];
+const told: string = 'fault' in either ? either.fault?.code ?? 'none' : 'not asked';
+const asked: PartialOptions = { ...given, partial: true };
+const known: number = zaxbriar.decode(streams[0], asked).wholeRows;
+const plain: DecodedPicture = zaxbriar.decode(streams[0], options);
+// @ts-expect-error
+either.fault;
+// @ts-expect-error
+zaxbriar.decode(streams[0], { partial: 1 });
+
 // Metadata, which may not be there.
 const profile = other.metadata(streams[0], 'icc');
 const file = new Blob(profile ? [profile] : []);
@@ -97,4 +112,5 @@ try {
 zaxbriar.memoryBytes = 0;
 const version: string = zaxbriar.version;
 export { bits, columns, data, described, feature, fetched, file, format, ink, layout, length };
-export { fault, inches, planes, profile, rows, samples, strict, version };
+export { fault, first, inches, known, plain, planes, profile, rows, samples, strict, told };
+export { version };
