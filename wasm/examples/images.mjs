@@ -10,28 +10,32 @@
 const worker = new Worker(new URL('images-worker.mjs', import.meta.url), { type: 'module' });
 const waiting = new Map();
 
-/* The addresses that images have been given here. */
-const given = new Set();
+/* The address that each image has been given here. */
+const given = new WeakMap();
+
+/* Gives images a picture, whose memory is free again once all of them have read it. */
+async function give(images, blob) {
+    const picture = URL.createObjectURL(blob);
+    for (const image of images) {
+        given.set(image, picture);
+        image.removeAttribute('srcset');
+        image.src = picture;
+    }
+    await Promise.allSettled(images.map((image) => image.decode()));
+    URL.revokeObjectURL(picture);
+}
 
 worker.onmessage = ({ data: { address, blob } }) => {
-    const images = waiting.get(address);
+    // (one that has another file by now keeps it)
+    const images = [...waiting.get(address)].filter((image) => image.currentSrc === address);
     waiting.delete(address);
-    if (!blob) return;
-    const picture = URL.createObjectURL(blob);
-    given.add(picture);
-    for (const image of images) {
-        // (unless it has another file by now)
-        if (image.currentSrc === address) {
-            image.removeAttribute('srcset');
-            image.src = picture;
-        }
-    }
+    if (blob) give(images, blob);
 };
 
 function repair(image) {
     const address = image.currentSrc;
     const isBroken = image.complete && image.naturalWidth === 0;
-    if (!isBroken || !address || given.has(address)) return;
+    if (!isBroken || !address || given.get(image) === address) return;
     const images = waiting.get(address);
     if (images) {
         images.add(image);

@@ -1,6 +1,7 @@
 /* node examples.mjs node|chromium|firefox FOLDER: the examples of dist/examples by their pixels:
  * thumbnails in Node; in a browser these files, and the images of a page, by examples/images.mjs
- * and by the service worker. FOLDER takes files and EXAMPLE.BROWSER.png. */
+ * and by the service worker, which passes other files on as they come. FOLDER takes files and
+ * EXAMPLE.BROWSER.png. */
 import assert from 'node:assert/strict';
 import { spawnSync } from 'node:child_process';
 import {
@@ -14,6 +15,8 @@ import {
 import { resolve } from 'node:path';
 import { inflateSync } from 'node:zlib';
 import { load } from '../dist/node.mjs';
+import { bmpOf } from '../dist/examples/bmp.mjs';
+import { LOSSLESS as FRAME, frameOf } from '../dist/examples/frame.mjs';
 import { allCases } from './cases.mjs';
 import { Chromium } from './chromium.mjs';
 import { Firefox } from './firefox.mjs';
@@ -56,6 +59,34 @@ const REFUSED = {
     'cut-lossless.jpg': LOSSLESS['colours.jpg'].subarray(0, 200),
     'none.jpg': Buffer.from('no picture'),
 };
+
+/* Photographs of which the server sends the first half, and the rest when they are released. */
+const HELD = Object.fromEntries(
+    ['held.jpg', 'held.bmp'].map((name) => {
+        let release;
+        const released = new Promise((done) => (release = done));
+        return [name, { release, released }];
+    }),
+);
+async function* halves(bytes, released) {
+    yield bytes.subarray(0, bytes.length >> 1);
+    await released;
+    yield bytes.subarray(bytes.length >> 1);
+}
+
+/* The server sends these, in pieces/, in pieces. */
+const IN_PIECES = ['colours.jpg', 'orientation-6.jpg'];
+async function* cut(bytes) {
+    for (let at = 0; at < bytes.length; at += 50) {
+        yield bytes.subarray(at, at + 50);
+        await new Promise((done) => setTimeout(done, 5));
+    }
+}
+function inPieces(path, bytes) {
+    const name = path.slice(1);
+    if (name in HELD) return halves(bytes, HELD[name].released);
+    return name.startsWith('pieces/') ? cut(bytes) : bytes;
+}
 
 /* Where the first line of a stored picture is to be seen, and its first column, by the orientation
  * of Exif. */
@@ -164,16 +195,42 @@ function checkThumbnails() {
 }
 
 /* A site with the package, the pictures and a page for each example. */
-function makeSite() {
+async function makeSite() {
     symlinkSync(pathOf('../dist'), `${folder}/zaxbriar`);
     const files = { ...LOSSLESS, ...ORDINARY, ...REFUSED };
     for (const [name, bytes] of Object.entries(files)) writeFileSync(`${folder}/${name}`, bytes);
+    mkdirSync(`${folder}/pieces`);
+    for (const name of IN_PIECES) writeFileSync(`${folder}/pieces/${name}`, LOSSLESS[name]);
+    const photograph = readFileSync(pathOf('../../examples/rocket.jpg'));
+    const bmp = bmpOf(zaxbriar.decode(photograph, { layout: 'bgra' }));
+    writeFileSync(`${folder}/held.jpg`, photograph);
+    writeFileSync(`${folder}/held.bmp`, new Uint8Array(await bmp.arrayBuffer()));
     const images = Object.keys(files).map((name) => `<img src="${name}" alt="${name}">`);
     const page = `<!doctype html><title>${browser}</title><body>${images.join('\n')}`;
     const script = '<script type="module" src="zaxbriar/examples/images.mjs"></script>';
     writeFileSync(`${folder}/plain.html`, page);
     writeFileSync(`${folder}/images.html`, page + script);
     writeFileSync(`${folder}/worker.mjs`, `import './zaxbriar/examples/service-worker.mjs';\n`);
+}
+
+/* The frame of each file is known from some prefix on, and that it is no JPEG file at once. */
+function checkFrames() {
+    for (const [name, bytes] of Object.entries({ ...LOSSLESS, ...ORDINARY })) {
+        const wanted = name in LOSSLESS ? FRAME : 0xc0;
+        const at = bytes.indexOf(Buffer.from([0xff, wanted]));
+        const filled = Buffer.concat([bytes.subarray(0, at), Buffer.alloc(9, 0xff)]);
+        for (const file of [bytes, Buffer.concat([filled, bytes.subarray(at)])]) {
+            const known = file.indexOf(bytes.subarray(at, at + 4)) + 4;
+            for (let length = 0; length <= file.length; length++) {
+                const frame = frameOf(file.subarray(0, length));
+                assert.equal(frame, length < known ? undefined : wanted, `${name}: ${length}`);
+            }
+        }
+    }
+    for (const text of ['6e', '89504e47', 'ff00', 'ffd86e6f2066', 'ffd8ffe00004616200000000']) {
+        assert.equal(frameOf(Buffer.from(text, 'hex')), null, text);
+    }
+    console.log('frames: each beginning of 13 files, lossless or not');
 }
 
 /* The pixels of an image of the page, or null where it shows none. */
@@ -227,6 +284,37 @@ async function checkImages(page, url, before) {
     await checkShown(page, before);
 }
 
+/* The memory of each picture that images.mjs has given is free, and the picture still shown. */
+async function checkFreed(page, before) {
+    const isFree = `fetch(it.src).then(() => false, () => true)`;
+    await page.until(`Promise.all([...document.images].filter((it) => it.src.startsWith('blob:'))
+        .map((it) => ${isFree})).then((all) => all.length > 11 && all.every(Boolean))`);
+    await checkShown(page, before);
+}
+
+/* An image is there as far as its file has come, since the service worker passes it on; and files
+ * that come in small pieces are told apart. */
+async function checkPieces(page) {
+    const add = (name) => page.run(`document.body.prepend(Object.assign(new Image(),
+        { src: '${name}', alt: '${name}' }))`);
+    for (const name of Object.keys(HELD)) {
+        await add(name);
+        const image = `document.querySelector('img[alt="${name}"]')`;
+        await page.until(`${image}.naturalWidth > 0 && !${image}.complete`);
+        HELD[name].release();
+        await page.until(`${image}.complete`);
+        assert.ok(await page.run(`${image}.decode().then(() => true)`), name);
+    }
+    for (const name of IN_PIECES) {
+        await add(`pieces/${name}`);
+        const { width, height, pixels } = uprightOf(LOSSLESS[name], { layout: 'rgba' });
+        const image = `document.querySelector('img[alt="pieces/${name}"]')`;
+        await page.until(`${image}.naturalWidth > 0`);
+        const wanted = { width, height, pixels: [...pixels] };
+        assert.deepEqual(await shownAs(page, `pieces/${name}`), wanted, name);
+    }
+}
+
 async function checkServiceWorker(page, url, before) {
     await page.open(`${url}plain.html`);
     await page.until(LOADED);
@@ -236,12 +324,13 @@ async function checkServiceWorker(page, url, before) {
     await page.open(`${url}plain.html`);
     await page.until(LOADED);
     await checkShown(page, before);
+    await checkPieces(page);
 }
 
 async function checkBrowser() {
     checkThumbnails();
-    makeSite();
-    const { url, close } = await serve(folder);
+    await makeSite();
+    const { url, close } = await serve(folder, inPieces);
     const page = await { chromium: Chromium, firefox: Firefox }[browser].browse(`${url}plain.html`);
     await page.until(LOADED);
     const before = {};
@@ -251,15 +340,18 @@ async function checkBrowser() {
     for (const name of Object.keys(LOSSLESS)) assert.equal(await shownAs(page, name), null, name);
     await checkPng(page);
     await checkImages(page, url, before);
+    await checkFreed(page, before);
     await page.screenshot(`${room}/images.${browser}.png`);
     await checkServiceWorker(page, url, before);
     await page.screenshot(`${room}/service worker.${browser}.png`);
     await page.close();
     close();
     const shown = Object.keys(LOSSLESS).length;
-    console.log(`examples in ${browser}: images and service worker, ${shown} lossless files each`);
+    console.log(`examples in ${browser}: images and service worker, ${shown} lossless files each;`);
+    console.log('      the memory of given pictures is free, and files are passed on as they come');
 }
 
 rmSync(folder, { recursive: true, force: true });
 mkdirSync(folder, { recursive: true });
+if (browser === 'node') checkFrames();
 await (browser === 'node' ? checkThumbnails() : checkBrowser());

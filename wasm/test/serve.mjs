@@ -2,6 +2,7 @@
 import { readFileSync } from 'node:fs';
 import { createServer } from 'node:http';
 import { extname, join, normalize } from 'node:path';
+import { Readable } from 'node:stream';
 
 const TYPES = {
     '.css': 'text/css',
@@ -17,7 +18,8 @@ const ALONE = {
     'Cross-Origin-Embedder-Policy': 'require-corp',
 };
 
-/* Serves a folder; `replace` may give other bytes for a path, or null for none. */
+/* Serves a folder; `replace` may give other bytes for a path, or null for none, or their pieces one
+ * after the other, as an asynchronous generator. */
 export async function serve(folder, replace = (path, bytes) => bytes, { isAlone = false } = {}) {
     const server = createServer((request, response) => {
         const { pathname } = new URL(request.url, 'http://x');
@@ -33,7 +35,8 @@ export async function serve(folder, replace = (path, bytes) => bytes, { isAlone 
             'Cache-Control': 'no-store',
             ...(isAlone ? ALONE : {}),
         });
-        response.end(bytes ?? undefined);
+        if (bytes?.[Symbol.asyncIterator]) Readable.from(bytes).pipe(response);
+        else response.end(bytes ?? undefined);
     });
     await new Promise((done) => server.listen(0, '127.0.0.1', done));
     const { port } = server.address();
