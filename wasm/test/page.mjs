@@ -1,9 +1,11 @@
 /* node page.mjs BROWSER FOLDER: the page of dist/web in headless chromium or firefox: files that
  * are chosen, dropped and pasted, their pixels and sampling factors, what there is of files with a
- * fault, faults by name, the list, zoom and keys, names for a screen reader, the page without a
- * network, and the worker after a trap. FOLDER takes files and BROWSER.png. */
+ * fault, faults in words and by name, the list, zoom and keys, names for a screen reader, the file
+ * that is chosen before those that wait, the first screen of a phone, the photograph, the page
+ * without a network, and the worker after a trap. FOLDER takes files, BROWSER.png and
+ * BROWSER.phone.png. */
 import assert from 'node:assert/strict';
-import { readFileSync, writeFileSync } from 'node:fs';
+import { copyFileSync, readFileSync, writeFileSync } from 'node:fs';
 import { resolve } from 'node:path';
 import { load } from '../dist/node.mjs';
 import { allCases } from './cases.mjs';
@@ -72,19 +74,28 @@ function twoThirds() {
     return path;
 }
 
-/* Files of which there is a part, with their fault, and what the page says of their rows. */
+/* Files of which there is a part, with their fault, what that means, and what the page says of
+ * their rows. */
 const PARTIAL = {
     [twoThirds()]: [
         'TRUNCATED',
+        'The file ends too soon: a part of it is missing.',
         'The first 16 of 24 rows are complete, before the picture is turned.',
     ],
-    [withLines()]: ['UNSUPPORTED', 'All rows are complete.'],
+    [withLines()]: [
+        'UNSUPPORTED',
+        'This JPEG file needs a number of lines that comes after the picture.',
+        'All rows are complete.',
+    ],
 };
 const REFUSED = {
-    [headless()]: 'TRUNCATED',
-    [ours('large.jpg')]: 'NO_MEMORY',
-    [ours('picture.png')]: 'MALFORMED',
-    [fileOf(arithmetic.file.replace('.case', ''), arithmetic.name)]: 'UNSUPPORTED',
+    [headless()]: ['TRUNCATED', 'The file ends too soon: a part of it is missing.'],
+    [ours('large.jpg')]: ['NO_MEMORY', 'The picture is too large for this page.'],
+    [ours('picture.png')]: ['MALFORMED', 'This is a PNG file, not a JPEG file.'],
+    [fileOf(arithmetic.file.replace('.case', ''), arithmetic.name)]: [
+        'UNSUPPORTED',
+        'This JPEG file needs arithmetic coding, which hardly any program reads.',
+    ],
 };
 const nameOf = (path) => path.split('/').at(-1);
 const button = (path) =>
@@ -146,16 +157,22 @@ async function checkPixels(page) {
     }
 }
 
-/* A fault is named beside what there is: in its alert, with the rows that are complete, the status
+/* The alert has what a fault means, and then its name and text. */
+async function checkFault(page, fault, sentence) {
+    const textOf = (selector) => page.run(`document.querySelector('${selector}').textContent`);
+    assert.equal(await textOf('#error strong'), sentence);
+    assert.ok((await textOf('#error small')).startsWith(`${fault}: `), fault);
+}
+
+/* A fault is told beside what there is: in its alert, with the rows that are complete, the status
  * and the list; and the picture's name says that it is a part. */
 async function checkPartial(page) {
-    for (const [path, [fault, rows]] of Object.entries(PARTIAL)) {
+    for (const [path, [fault, sentence, rows]] of Object.entries(PARTIAL)) {
         assert.equal(await show(page, path), 'partial', path);
         const textOf = (id) => page.run(`document.getElementById('${id}').textContent`);
-        const error = await textOf('error');
-        assert.ok(error.startsWith(`${fault}: `) && error.endsWith(` ${rows}`), error);
-        const told = `${nameOf(path)}: shown in part: ${fault}, `;
-        assert.ok((await textOf('status')).startsWith(told));
+        await checkFault(page, fault, sentence);
+        assert.ok((await textOf('error')).includes(` ${rows} `), rows);
+        assert.equal(await textOf('status'), `${nameOf(path)}: shown in part: ${sentence}`);
         const note = await page.run(`${button(path)}.lastChild.textContent`);
         assert.match(note, new RegExp(`^\\d+ × \\d+, ${fault}$`));
         const label = `document.getElementById('canvas').getAttribute('aria-label')`;
@@ -165,13 +182,78 @@ async function checkPartial(page) {
 }
 
 async function checkRefusals(page) {
-    for (const [path, fault] of Object.entries(REFUSED)) {
+    for (const [path, [fault, sentence]] of Object.entries(REFUSED)) {
         assert.equal(await show(page, path), 'refused', path);
-        const text = await page.run(`document.getElementById('error').textContent`);
-        assert.ok(text.startsWith(`${fault}: `), `${path}: ${text}`);
+        await checkFault(page, fault, sentence);
         assert.equal(await page.run(`${button(path)}.lastChild.textContent`), fault);
         assert.ok(await page.run(`document.getElementById('shown').hidden`));
     }
+}
+
+/* Of many files the one that is chosen comes next: it is chosen as soon as it is in the list. */
+async function checkOrder(page, url) {
+    const names = Array.from({ length: 9 }, (_, index) => `${folder}/many ${index}.jpg`);
+    for (const name of names) copyFileSync(larger(), name);
+    await page.open(url);
+    await page.until(`document.body?.dataset.state === 'ready'`);
+    await page.run(`(() => {
+        const list = document.getElementById('files');
+        globalThis.order = [];
+        new MutationObserver((changes) => {
+            for (const { target } of changes) {
+                if (target === list && list.children.length === ${names.length}) {
+                    list.lastChild.firstChild.click();
+                }
+                if (target.matches('small')) order.push(target.parentElement.firstChild.data);
+            }
+        }).observe(list, { childList: true, subtree: true });
+    })()`);
+    await page.choose('#file', names);
+    await page.until(`![...document.querySelectorAll('#files small')].some(
+        (it) => it.textContent === 'waiting') && document.querySelector('#files small')`);
+    const order = await page.run(`[...new Set(order)]`);
+    const [first, ...others] = names.map(nameOf);
+    assert.deepEqual(order, [first, others.at(-1), ...others.slice(0, -1)]);
+    const label = await page.run(`document.getElementById('canvas').getAttribute('aria-label')`);
+    assert.ok(label.startsWith(others.at(-1)), label);
+}
+
+/* The page itself doesn't draw: its canvas takes what the worker has drawn. */
+async function checkDrawing(page) {
+    assert.ok(await page.run(`document.getElementById('canvas').getContext('2d') === null`));
+}
+
+/* The photograph and its first part. */
+async function checkSample(page) {
+    const count = await page.run(`document.querySelectorAll('#files button').length`);
+    await page.run(`document.getElementById('sample').click()`);
+    await page.until(`document.querySelectorAll('#files button').length === ${count + 2}`);
+    assert.equal(await show(page, 'rocket.jpg'), 'shown');
+    assert.equal((await factsOf(page)).Size, '640 × 427 pixels');
+    assert.equal(await show(page, 'rocket, cut.jpg'), 'partial');
+}
+
+/* On a phone the button, of a size for a finger, and then the picture are on the first screen; and
+ * nothing says that no file is chosen. */
+async function checkPhone(url) {
+    const page = await Page.browse(url, { width: 360, height: 740 });
+    await page.until(`document.body.dataset.state === 'ready'`);
+    const boxOf = (selector) => page.run(`(() => {
+        const box = document.querySelector('${selector}').getBoundingClientRect();
+        return { top: box.top, bottom: box.bottom, width: box.width };
+    })()`);
+    const label = await boxOf('label[for=file]');
+    assert.ok(label.bottom - label.top >= 44 && label.bottom < 200, JSON.stringify(label));
+    assert.ok((await boxOf('#file')).width <= 1);
+    assert.ok((await boxOf('footer p')).top > label.bottom);
+    await page.choose('#file', [larger()]);
+    await page.until(`document.body.dataset.state === 'shown'`);
+    const canvas = await boxOf('canvas');
+    assert.ok(canvas.top > label.bottom && canvas.bottom < 740, JSON.stringify(canvas));
+    assert.ok((await boxOf('#files')).top > canvas.bottom);
+    assert.ok(await page.run('document.documentElement.scrollWidth <= innerWidth'));
+    await page.screenshot(`${folder}/${browser}.phone.png`);
+    await page.close();
 }
 
 /* Drops and pastes a file that the page builds of these bytes. */
@@ -272,6 +354,7 @@ async function checkOffline(page, url) {
     await page.choose('#file', PICTURES);
     await page.until(`document.querySelectorAll('#files button').length === ${PICTURES.length}`);
     assert.equal(await show(page, PICTURES[0]), 'shown');
+    await checkSample(page);
 }
 
 /* A module whose stack is too small, for the first worker alone. */
@@ -288,7 +371,7 @@ async function checkTrap() {
     await page.until(`document.body.dataset.state === 'ready'`);
     await page.choose('#file', PICTURES.slice(0, 1));
     await page.until(`document.body.dataset.state === 'refused'`);
-    const text = await page.run(`document.getElementById('error').textContent`);
+    const text = await page.run(`document.querySelector('#error small').textContent`);
     assert.match(text, /^FAILED: .*unreachable/);
     isSmall = false;
     assert.equal(await show(page, PICTURES[0]), 'shown');
@@ -301,6 +384,9 @@ const { url, close } = await serve(web);
 const page = await Page.browse(url);
 await page.until(`document.body.dataset.state === 'ready'`);
 await checkFit(page);
+await checkDrawing(page);
+await checkOrder(page, url);
+await checkPhone(url);
 await page.open(url);
 await page.until(`document.body.dataset.state === 'ready'`);
 const files = [...PICTURES, ...Object.keys(PARTIAL), ...Object.keys(REFUSED)];
@@ -330,4 +416,5 @@ const [parts, refusals] = [PARTIAL, REFUSED].map((files) => Object.keys(files).l
 console.log(`page in ${browser}: ${PICTURES.length} pictures with their sampling,`);
 console.log(`      ${parts} in part, ${refusals} refusals by name, the list, drop, paste, fit, zoom,`);
 console.log(`      ${stops} stops of the tabulator, ${buttons} buttons with names,`);
+console.log('      the chosen file first, the first screen of a phone, the photograph,');
 console.log('      an empty console, no network, the worker after a trap');

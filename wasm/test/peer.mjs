@@ -15,7 +15,7 @@ function contextOf({ width, height }) {
     return context;
 }
 
-onmessage = async ({ data: { id, file } }) => {
+onmessage = async ({ data: { file } }) => {
     const start = performance.now();
     const image = await createImageBitmap(file, UNCHANGED);
     const { width, height } = image;
@@ -24,5 +24,5 @@ onmessage = async ({ data: { id, file } }) => {
     image.close();
     const pixels = drawn.getImageData(0, 0, width, height).data.buffer;
     const milliseconds = performance.now() - start;
-    postMessage({ id, pixels, milliseconds }, [pixels]);
+    postMessage({ pixels, milliseconds }, [pixels]);
 };

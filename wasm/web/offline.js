@@ -6,9 +6,12 @@ const FILES = [
     'index.html',
     'style.css',
     'page.mjs',
+    'decoder.mjs',
     'worker.mjs',
+    'words.mjs',
     'zaxbriar.mjs',
     'zaxbriar.wasm',
+    'rocket.jpg',
 ];
 
 async function keep() {

@@ -1,79 +1,22 @@
 /* The page: a list of files, of which one is shown. Each is decoded by the worker when it is added,
- * and again when it is chosen: pictures that aren't shown aren't kept. */
+ * and again when it is chosen: pictures that aren't shown aren't kept. The worker also draws them,
+ * so that a large one doesn't hold the page. */
+import { Decoder } from './decoder.mjs';
+
 const at = (id) => document.getElementById(id);
 const tell = (text) => (at('status').textContent = text);
 
-/* The worker and the requests that it hasn't answered. Where a worker fails another takes them. */
-class Decoder {
-    #worker = null;
-    #last = 0;
-    #waiting = new Map();
+const decoder = new Decoder(() => {
+    document.body.dataset.workers = Number(document.body.dataset.workers ?? 0) + 1;
+    return new Worker(new URL('worker.mjs', import.meta.url), { type: 'module' });
+});
 
-    #begin() {
-        this.#worker = new Worker(new URL('worker.mjs', import.meta.url), { type: 'module' });
-        const started = Number(document.body.dataset.workers ?? 0) + 1;
-        document.body.dataset.workers = started;
-        this.#worker.onmessage = ({ data }) => {
-            this.#waiting.get(data.id)?.done(data);
-            this.#waiting.delete(data.id);
-            if (data.isBroken) this.#replace();
-        };
-        this.#worker.onerror = (event) => {
-            event.preventDefault();
-            const [id] = this.#waiting.keys();
-            const text = event.message || 'the worker could not be started';
-            this.#waiting.get(id)?.done({ fault: 'FAILED', text });
-            this.#waiting.delete(id);
-            this.#replace();
-        };
-    }
-
-    /* Ends the worker. What it has not answered is asked of a new one. */
-    #replace() {
-        this.#worker.terminate();
-        this.#worker = null;
-        if (this.#waiting.size === 0) return;
-        this.#begin();
-        for (const [id, { file }] of this.#waiting) this.#worker.postMessage({ id, file });
-    }
-
-    decode(file) {
-        if (!this.#worker) this.#begin();
-        const id = ++this.#last;
-        return new Promise((done) => {
-            this.#waiting.set(id, { file, done });
-            this.#worker.postMessage({ id, file });
-        });
-    }
-}
-
-const decoder = new Decoder();
-
-/* Where a picture's axes go in an upright one, by its Exif orientation. */
-const matrixOf = ({ orientation, width, height }) =>
-    ({
-        1: [1, 0, 0, 1, 0, 0],
-        2: [-1, 0, 0, 1, width, 0],
-        3: [-1, 0, 0, -1, width, height],
-        4: [1, 0, 0, -1, 0, height],
-        5: [0, 1, 1, 0, 0, 0],
-        6: [0, 1, -1, 0, height, 0],
-        7: [0, -1, -1, 0, height, width],
-        8: [0, -1, 1, 0, 0, width],
-    })[orientation];
-
-function draw(picture, pixels) {
-    const { width, height, orientation } = picture;
-    const stored = new OffscreenCanvas(width, height);
-    const data = new ImageData(new Uint8ClampedArray(pixels), width, height);
-    stored.getContext('2d').putImageData(data, 0, 0);
+/* Puts a picture that the worker has drawn into the canvas. */
+function put(bitmap) {
     const canvas = at('canvas');
-    const isTurned = orientation > 4;
-    canvas.width = isTurned ? height : width;
-    canvas.height = isTurned ? width : height;
-    const context = canvas.getContext('2d');
-    context.setTransform(...matrixOf(picture));
-    context.drawImage(stored, 0, 0);
+    canvas.width = bitmap.width;
+    canvas.height = bitmap.height;
+    canvas.getContext('bitmaprenderer').transferFromImageBitmap(bitmap);
 }
 
 let zoom = 1;
@@ -171,24 +114,23 @@ function rowsText({ picture: { height, orientation, process }, wholeRows }) {
     return `${rows}${soFar}${orientation > 2 ? ', before the picture is turned' : ''}.`;
 }
 
-/* The fault in words, after its name. */
-function faultText(reply) {
-    if (!reply.isPartial) return reply.text;
-    const shown = 'What the file brings before that is shown; the rest is grey.';
-    return `${reply.text}. ${shown} ${rowsText(reply)}`;
-}
-
+/* What is said of a fault: what it means, what is shown, and its name and text. */
 function showFault(reply) {
     at('error').hidden = !reply.fault;
-    const name = document.createElement('strong');
-    name.textContent = reply.fault ?? '';
-    at('error').replaceChildren(name, reply.fault ? `: ${faultText(reply)}` : '');
+    if (!reply.fault) return at('error').replaceChildren();
+    const meaning = document.createElement('strong');
+    meaning.textContent = reply.sentence;
+    const name = document.createElement('small');
+    name.textContent = `${reply.fault}: ${reply.text}`;
+    const shown = 'What the file brings before that is shown; the rest is grey.';
+    const rest = reply.isPartial ? ` ${shown} ${rowsText(reply)}` : '';
+    return at('error').replaceChildren(meaning, `${rest} `, name);
 }
 
 /* What is told of a file: shown, shown in part, or refused. */
-function statusOf({ fault, text, isPartial }) {
+function statusOf({ fault, sentence, isPartial }) {
     if (!fault) return 'shown';
-    return isPartial ? `shown in part: ${fault}, ${text}` : `${fault}, ${text}`;
+    return `${isPartial ? 'shown in part' : 'not shown'}: ${sentence}`;
 }
 
 /* The state of the page. */
@@ -209,15 +151,7 @@ function reveal({ button }) {
 
 /* Puts an answer on the page. */
 function show(entry, reply) {
-    if (reply.pixels) {
-        try {
-            draw(reply.picture, reply.pixels);
-        } catch (error) {
-            reply.fault = 'NOT SHOWN';
-            reply.text = `the browser has no canvas of that size (${error.message})`;
-            reply.isPartial = false;
-        }
-    }
+    if (reply.bitmap) put(reply.bitmap);
     showFault(reply);
     showFacts(factsOf(entry.file, reply));
     at('xmp').hidden = !reply.metadata?.text;
@@ -237,13 +171,18 @@ function show(entry, reply) {
 }
 
 async function decodeEntry(entry) {
-    if (entry === chosen) document.body.dataset.state = 'working';
-    const reply = await decoder.decode(entry.file);
+    const isChosen = () => entry === chosen;
+    if (isChosen()) document.body.dataset.state = 'working';
+    const reply = await decoder.decode(entry.file, isChosen);
     const size = reply.picture && `${reply.picture.width} × ${reply.picture.height}`;
     entry.note.textContent = reply.isPartial ? `${size}, ${reply.fault}` : reply.fault ?? size;
     entry.button.classList.toggle('refused', Boolean(reply.fault));
     entry.isDone = true;
-    if (entry === chosen) show(entry, reply);
+    const isRefused = reply.fault && !reply.isPartial;
+    if (isChosen() && (reply.bitmap || isRefused)) show(entry, reply);
+    // (it was chosen while it was decoded, and hasn't been drawn)
+    else if (isChosen()) choose(entry);
+    else reply.bitmap?.close();
 }
 
 function choose(entry) {
@@ -251,6 +190,7 @@ function choose(entry) {
     chosen = entry;
     entry.button.setAttribute('aria-current', 'true');
     if (entry.isDone) decodeEntry(entry);
+    decoder.hasten(entry.file);
 }
 
 function add(file) {
@@ -275,6 +215,7 @@ function open(files) {
     at('work').hidden = false;
     choose(added[0]);
     added.forEach(decodeEntry);
+    decoder.hasten(chosen.file);
 }
 
 at('file').onchange = (event) => {
@@ -282,6 +223,19 @@ at('file').onchange = (event) => {
     // (so that the same file can be chosen again)
     event.target.value = '';
 };
+/* Opens the photograph that lies beside the page, and its first part as a file that is cut. */
+async function openSample() {
+    try {
+        const response = await fetch('rocket.jpg');
+        if (!response.ok) throw new Error(`${response.status}`);
+        const photograph = await response.blob();
+        const part = photograph.slice(0, photograph.size * 0.6);
+        open([new File([photograph], 'rocket.jpg'), new File([part], 'rocket, cut.jpg')]);
+    } catch (error) {
+        tell(`The photograph could not be fetched: ${error.message}`);
+    }
+}
+at('sample').onclick = openSample;
 at('zoom').onclick = (event) => ZOOMS[event.target.dataset.zoom]?.();
 at('view').onkeydown = (event) => {
     if (event.ctrlKey || event.metaKey || event.altKey || !KEYS[event.key]) return;

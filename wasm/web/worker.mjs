@@ -1,6 +1,8 @@
-/* Decodes away from the page. A request is { id, file }, and its answer { id, .. }, of which
- * `fault` names what went wrong. With `isPartial` there is a picture beside it; after a fault with
- * `isBroken` the page takes another worker. */
+/* Decodes away from the page, and draws there, too. A request is { file, isShown }. Its answer
+ * describes the file; `fault` names what went wrong, and `sentence` says what that means. Where the
+ * picture is to be shown it is an ImageBitmap, upright: with `isPartial` beside a fault. After a
+ * fault with `isBroken` the page takes another worker. */
+import { sentenceOf } from './words.mjs';
 import { ZaxbriarError, load } from './zaxbriar.mjs';
 
 const MAX_MEMORY = 2 ** 30;
@@ -29,6 +31,43 @@ function decode(zaxbriar, jpeg) {
     return { pixels, wholeRows, fault, milliseconds: performance.now() - start };
 }
 
+/* Where a picture's axes go in an upright one, by its Exif orientation. */
+const matrixOf = ({ orientation, width, height }) =>
+    ({
+        1: [1, 0, 0, 1, 0, 0],
+        2: [-1, 0, 0, 1, width, 0],
+        3: [-1, 0, 0, -1, width, height],
+        4: [1, 0, 0, -1, 0, height],
+        5: [0, 1, 1, 0, 0, 0],
+        6: [0, 1, -1, 0, height, 0],
+        7: [0, -1, -1, 0, height, width],
+        8: [0, -1, 1, 0, 0, width],
+    })[orientation];
+
+/* The upright picture as what a canvas takes without a copy. */
+function draw(picture, pixels) {
+    const { width, height, orientation } = picture;
+    const stored = new OffscreenCanvas(width, height);
+    stored.getContext('2d').putImageData(new ImageData(pixels, width, height), 0, 0);
+    if (orientation === 1) return stored.transferToImageBitmap();
+    const isTurned = orientation > 4;
+    const upright = new OffscreenCanvas(isTurned ? height : width, isTurned ? width : height);
+    const context = upright.getContext('2d');
+    context.setTransform(...matrixOf(picture));
+    context.drawImage(stored, 0, 0);
+    return upright.transferToImageBitmap();
+}
+
+/* The picture drawn, or the fault that the browser can't. */
+function drawn(picture, pixels) {
+    try {
+        return { bitmap: draw(picture, pixels) };
+    } catch (error) {
+        const text = `the browser has no canvas of that size (${error.message})`;
+        return { fault: 'NOT SHOWN', text, isPartial: false };
+    }
+}
+
 /* What the segments before the frame say: how many bytes of each kind there are, and the text of
  * XMP data. */
 function metadata(zaxbriar, jpeg) {
@@ -41,26 +80,34 @@ function metadata(zaxbriar, jpeg) {
     return found;
 }
 
-async function answer({ id, file }) {
-    const reply = { id };
+/* What a fault says of itself; any other error is the end of the decoder. */
+const told = (error) => ({
+    fault: error instanceof ZaxbriarError ? error.code : 'FAILED',
+    text: error.message,
+    feature: error.feature,
+    featureArgument: error.featureArgument,
+});
+
+async function answer({ file, isShown }) {
+    const reply = {};
+    let jpeg;
     try {
         const zaxbriar = await loaded;
-        const jpeg = new Uint8Array(await file.arrayBuffer());
+        jpeg = new Uint8Array(await file.arrayBuffer());
         reply.picture = zaxbriar.readInfo(jpeg);
         reply.metadata = metadata(zaxbriar, jpeg);
         const { pixels, wholeRows, fault, milliseconds } = decode(zaxbriar, jpeg);
-        reply.pixels = pixels.buffer;
         reply.milliseconds = milliseconds;
         reply.wholeRows = wholeRows;
         reply.isPartial = Boolean(fault);
-        reply.fault = fault?.code;
-        reply.text = fault?.message;
+        if (fault) Object.assign(reply, told(fault));
+        if (isShown) Object.assign(reply, drawn(reply.picture, pixels));
     } catch (error) {
         reply.isBroken = !(error instanceof ZaxbriarError);
-        reply.fault = reply.isBroken ? 'FAILED' : error.code;
-        reply.text = error.message;
+        Object.assign(reply, told(error));
     }
-    postMessage(reply, reply.pixels ? [reply.pixels] : []);
+    if (reply.fault) reply.sentence = sentenceOf(reply, jpeg);
+    postMessage(reply, reply.bitmap ? [reply.bitmap] : []);
 }
 
 onmessage = (event) => answer(event.data);

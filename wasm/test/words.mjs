@@ -1,0 +1,60 @@
+/* node words.mjs: what the page says of files that it doesn't show: formats by their first bytes,
+ * and a sentence for each fault. */
+import assert from 'node:assert/strict';
+import { readFileSync } from 'node:fs';
+import { formatOf, sentenceOf } from '../web/words.mjs';
+
+const bytesOf = (text) => Buffer.from(text, 'latin1');
+const FORMATS = {
+    '\x89PNG\r\n\x1a\n': 'a PNG file',
+    GIF89a: 'a GIF file',
+    'RIFF\n\x00\x00\x00WEBPVP8 ': 'a WebP file',
+    'RIFF\n\x00\x00\x00AVI LIST': 'another kind of file',
+    '\x00\x00\x00\x1cftypavif': 'an AVIF file',
+    '\x00\x00\x00\x18ftypheic': 'an HEIC file',
+    '\x00\x00\x00\x18ftypisom': 'a video file',
+    'II*\x00': 'a TIFF file, or one of a camera',
+    'MM\x00*': 'a TIFF file, or one of a camera',
+    BM: 'a BMP file',
+    '\xff\x0a': 'a JPEG XL file',
+    '\x00\x00\x00\x0cJXL \r\n\x87\n': 'a JPEG XL file',
+    '\x00\x00\x00\x0cjP  \r\n\x87\n': 'a JPEG 2000 file',
+    '\xff\x4f\xff\x51': 'a JPEG 2000 file',
+    '\xff\xd8\xff\xf7': 'a JPEG-LS file',
+    '%PDF-1.7': 'a PDF file',
+    'PK\x03\x04': 'a ZIP file',
+    '\n<!DOCTYPE html><title>Not found': 'a web page',
+    '<html lang="en">': 'a web page',
+    '\xef\xbb\xbf<?xml version="1.0"?>': 'an SVG or XML file',
+    '<svg xmlns=': 'an SVG or XML file',
+    'Not found': 'another kind of file',
+};
+for (const [start, format] of Object.entries(FORMATS)) {
+    assert.equal(formatOf(bytesOf(start)), format, start);
+    for (const fault of ['MALFORMED', 'TRUNCATED']) {
+        const sentence = sentenceOf({ fault }, bytesOf(start));
+        assert.equal(sentence, `This is ${format}, not a JPEG file.`);
+    }
+}
+const jpeg = readFileSync(new URL('../../programs/files/turned.jpg', import.meta.url));
+assert.equal(formatOf(jpeg), null);
+assert.equal(sentenceOf({ fault: 'TRUNCATED' }, new Uint8Array(0)), 'The file is empty.');
+
+/* Each fault of a JPEG file has a sentence, which isn't that of another. */
+const FAULTS = ['MALFORMED', 'TRUNCATED', 'NO_MEMORY', 'NOT SHOWN', 'FAILED'];
+const FEATURES = ['hierarchical', 'arithmetic', 'dnl', 'factors', 'transform'];
+const sentences = [
+    ...FAULTS.map((fault) => sentenceOf({ fault }, jpeg)),
+    ...FEATURES.map((feature) => sentenceOf({ fault: 'UNSUPPORTED', feature }, jpeg)),
+    ...[12, 16].flatMap((featureArgument) =>
+        ['precision', 'components'].map((feature) =>
+            sentenceOf({ fault: 'UNSUPPORTED', feature, featureArgument }, jpeg),
+        ),
+    ),
+    sentenceOf({ fault: 'UNSUPPORTED', feature: 'FEATURE_9' }, jpeg),
+];
+assert.equal(new Set(sentences).size, sentences.length);
+for (const sentence of sentences) assert.match(sentence, /^(The|This) [^A-Z_]*(JPEG)?[^_]*\.$/);
+assert.equal(sentenceOf({ fault: 'NO_MEMORY' }), sentenceOf({ fault: 'TOO_LARGE' }));
+const formats = Object.keys(FORMATS).length;
+console.log(`words: ${formats} beginnings of other files, ${sentences.length} faults`);
