@@ -3,8 +3,12 @@
  * otherwise ../libexec/zaxbriar/x86-64-v2/NAME, with the same arguments. NAME is its own name, also
  * where a link with another name led to it. */
 #include <stdio.h>
+#include <stdlib.h>
 #include <string.h>
+#include <sys/auxv.h>
 #include <unistd.h>
+
+enum { ROOM = 4096 };
 
 /* Whether the processor and the system are of the kind x86-64-v3. */
 static int is_v3(void) {
@@ -15,25 +19,36 @@ static int is_v3(void) {
            __builtin_cpu_supports("movbe");
 }
 
-/* Writes where the build for a kind of processor is. Returns 0 if there is no room for that. */
-static int find_build(const char *kind, char *path, size_t room) {
-    char own[4096];
-    ssize_t length = readlink("/proc/self/exe", own, sizeof own - 1);
-    if (length <= 0 || (size_t)length >= sizeof own - 1) return 0;
-    own[length] = 0;
-    char *name = strrchr(own, '/');
-    if (!name) return 0;
-    *name++ = 0;
-    int written = snprintf(path, room, "%s/../libexec/zaxbriar/%s/%s", own, kind, name);
-    return written > 0 && (size_t)written < room;
+/* Writes the program's own path: the one that the system tells, or, where /proc isn't mounted, as
+ * in many sandboxes, the one that it was started by. (That isn't argv[0], which the caller is free
+ * to choose.) Returns 0 if neither is known. */
+static int find_own(char own[ROOM]) {
+    ssize_t length = readlink("/proc/self/exe", own, ROOM - 1);
+    if (length > 0 && length < ROOM - 1) {
+        own[length] = 0;
+        return 1;
+    }
+    const char *started_by = (const char *)getauxval(AT_EXECFN);
+    char *resolved = started_by ? realpath(started_by, NULL) : NULL;
+    int written = resolved ? snprintf(own, ROOM, "%s", resolved) : -1;
+    free(resolved);
+    return written > 0 && written < ROOM;
 }
 
 int main(int count, char **words) {
     (void)count;
-    char path[8192] = "zaxbriar";
+    char own[ROOM], path[2 * ROOM];
+    char *name = find_own(own) ? strrchr(own, '/') : NULL;
+    if (!name) {
+        fputs("zaxbriar: the program's own folder isn't known: is /proc mounted?\n", stderr);
+        return 127;
+    }
+    *name++ = 0;
     const char *const kinds[] = {"x86-64-v3", "x86-64-v2"};
-    for (int kind = is_v3() ? 0 : 1; kind < 2; kind++)
-        if (find_build(kinds[kind], path, sizeof path)) execv(path, words);
+    for (int kind = is_v3() ? 0 : 1; kind < 2; kind++) {
+        snprintf(path, sizeof path, "%s/../libexec/zaxbriar/%s/%s", own, kinds[kind], name);
+        execv(path, words);
+    }
     perror(path);
     return 127;
 }
