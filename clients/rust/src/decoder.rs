@@ -2,9 +2,13 @@ use crate::color::{transform_number, ColorTransform};
 use crate::error::{Error, Result, UnsupportedFeature};
 use crate::info::{size_of, Density, ImageInfo, Scale};
 use crate::library::{self, Answer, Metadata, Options, Part, Picture, Refusal};
-use crate::stream::Stream;
+use crate::stream::{Failure, Stream};
 use std::io::{self, Read};
 use std::ops::Range;
+
+/// The least limit on the bytes of a stream that a limit on memory sets: those of a small picture
+/// with an ICC profile and Exif data are many more than it takes.
+const LEAST_STREAM_LIMIT: u64 = 1 << 20;
 
 /// How far a decoder has come.
 #[derive(Clone, Copy, PartialEq)]
@@ -56,6 +60,8 @@ pub struct Decoder<R> {
     options: Options,
     max_samples: u64,
     max_bytes: u64,
+    /// None where it goes by `max_bytes`.
+    max_stream_bytes: Option<u64>,
 }
 
 /// The interface of jpeg-decoder.
@@ -64,7 +70,7 @@ impl<R: Read> Decoder<R> {
     pub fn new(reader: R) -> Decoder<R> {
         Decoder {
             reader,
-            stream: Stream::default(),
+            stream: Stream::new(),
             stage: Stage::Fresh,
             picture: None,
             metadata: Metadata::default(),
@@ -72,6 +78,7 @@ impl<R: Read> Decoder<R> {
             options: Options::default(),
             max_samples: u64::MAX,
             max_bytes: u64::MAX,
+            max_stream_bytes: None,
         }
     }
 
@@ -135,6 +142,9 @@ impl<R: Read> Decoder<R> {
         let failure = self.stream.read_header(&mut self.reader);
         let call = |bytes: &[u8]| library::read_info(bytes, &options);
         let (outcome, failure) = self.ask(failure, is_truncated, call);
+        if is_above_limit(&outcome, &failure) {
+            self.stage = Stage::Fresh;
+        }
         self.picture = Some(outcome.map_err(|refusal| error_of(refusal, failure))?);
         self.stage = Stage::HeaderRead;
         Ok(())
@@ -160,8 +170,9 @@ impl<R: Read> Decoder<R> {
     /// takes one byte; or two, the lower one first, in a lossless picture above 8 bits.
     ///
     /// Where the picture is above a limit, or can't have the colour transform, nothing after the
-    /// header is read, and other settings may be tried. After another error the decoder has failed,
-    /// and after a picture a second one is [`Error::Internal`].
+    /// header is read, and other settings may be tried; where the stream is above its limit it was
+    /// read as far as that, and is read on under a higher one. After another error the decoder has
+    /// failed, and after a picture a second one is [`Error::Internal`].
     pub fn decode(&mut self) -> Result<Vec<u8>> {
         let (pixels, (), _) = self.decode_by(library::decode, is_truncated)?;
         Ok(pixels)
@@ -173,6 +184,10 @@ impl<R: Read> Decoder<R> {
     /// Sets how many bytes decoding may take, as [`decoding_bytes`](Decoder::decoding_bytes) counts
     /// them. [`decode`](Decoder::decode) refuses a picture that needs more by its header, before it
     /// takes any.
+    ///
+    /// The bytes of the stream, which aren't counted among them, may be as many too, or 1 MiB if
+    /// that is more, unless [`set_max_stream_bytes`](Decoder::set_max_stream_bytes) sets their
+    /// number.
     ///
     /// ```
     /// # let jpeg = &std::fs::read("tests/grey.jpg").unwrap()[..];
@@ -186,6 +201,30 @@ impl<R: Read> Decoder<R> {
     /// ```
     pub fn set_max_decoding_bytes(&mut self, max: u64) {
         self.max_bytes = max;
+        self.limit_stream();
+    }
+
+    /// Sets how many bytes of the stream may be read, since a decoder keeps all of them: for
+    /// readers that don't end by themselves, such as a connection.
+    ///
+    /// A stream whose header or image doesn't end within so many bytes is [`Error::Format`], by a
+    /// text that names this call, and [`decode_partial`](Decoder::decode_partial) shows what they
+    /// bring, with that fault. No more bytes are read, and after a refusal a higher limit may be
+    /// set, under which the stream is read on.
+    ///
+    /// ```
+    /// # let jpeg = &std::fs::read("tests/grey.jpg").unwrap()[..];
+    /// use std::io::{repeat, Read};
+    /// use zaxbriar::Decoder;
+    ///
+    /// let mut decoder = Decoder::new(jpeg[..139].chain(repeat(0)));
+    /// decoder.set_max_stream_bytes(10_000_000);
+    /// let refusal = decoder.decode().unwrap_err().to_string();
+    /// assert!(refusal.ends_with("more than 10000000 bytes in the stream (set_max_stream_bytes)"));
+    /// ```
+    pub fn set_max_stream_bytes(&mut self, max: u64) {
+        self.max_stream_bytes = Some(max);
+        self.limit_stream();
     }
 
     /// Returns the most memory that decoding takes at a time for the picture, its planes and its
@@ -289,6 +328,12 @@ impl<R: Read> Decoder<R> {
 }
 
 impl<R: Read> Decoder<R> {
+    fn limit_stream(&mut self) {
+        let by_memory = self.max_bytes.max(LEAST_STREAM_LIMIT);
+        let max = self.max_stream_bytes.unwrap_or(by_memory);
+        self.stream.set_max_bytes(max);
+    }
+
     /// Describes the picture anew, by other options.
     fn resize(&mut self, options: Options) -> Result<(u16, u16)> {
         self.read_info()?;
@@ -323,7 +368,7 @@ impl<R: Read> Decoder<R> {
         &mut self,
         call: impl Fn(&[u8], &Options, &mut [u8]) -> Answer<T>,
         lacks_bytes: impl Fn(&Outcome<T>) -> bool,
-    ) -> Result<(Vec<u8>, T, Option<io::Error>)> {
+    ) -> Result<(Vec<u8>, T, Option<Failure>)> {
         self.read_info()?;
         let picture = match (self.stage, self.picture) {
             (Stage::HeaderRead, Some(picture)) => picture,
@@ -340,7 +385,7 @@ impl<R: Read> Decoder<R> {
         let failure = self.stream.read_image(&mut self.reader);
         let call = |bytes: &[u8]| call(bytes, &options, &mut pixels);
         let (outcome, failure) = self.ask(failure, lacks_bytes, call);
-        if matches!(outcome, Err(Refusal::TooLarge(_))) {
+        if matches!(outcome, Err(Refusal::TooLarge(_))) || is_above_limit(&outcome, &failure) {
             self.stage = Stage::HeaderRead;
         }
         match outcome {
@@ -361,10 +406,10 @@ impl<R: Read> Decoder<R> {
     /// made again. Returns the outcome, and why the reader gave no more bytes, if it didn't.
     fn ask<T>(
         &mut self,
-        mut failure: Option<io::Error>,
+        mut failure: Option<Failure>,
         lacks_bytes: impl Fn(&Outcome<T>) -> bool,
         mut call: impl FnMut(&[u8]) -> Answer<T>,
-    ) -> (Outcome<T>, Option<io::Error>) {
+    ) -> (Outcome<T>, Option<Failure>) {
         let mut answer = call(self.stream.bytes());
         if failure.is_none() && lacks_bytes(&answer.outcome) {
             failure = Some(self.stream.read_rest(&mut self.reader));
@@ -384,6 +429,11 @@ fn is_truncated<T>(outcome: &Outcome<T>) -> bool {
     matches!(outcome, Err(Refusal::Truncated))
 }
 
+/// Returns whether a stream is refused since it doesn't end within its limit.
+fn is_above_limit<T>(outcome: &Outcome<T>, failure: &Option<Failure>) -> bool {
+    is_truncated(outcome) && matches!(failure, Some(Failure::Limit(_)))
+}
+
 /// Returns whether it ends too soon, and what there is of it may be shown.
 fn shows_cut(outcome: &Outcome<Part>) -> bool {
     let fault = match outcome {
@@ -398,8 +448,8 @@ fn refused(refusal: Refusal) -> Error {
     error_of(refusal, None)
 }
 
-/// Returns the error for a refusal. Where the stream ends too soon it is the failure of its reader.
-fn error_of(refusal: Refusal, failure: Option<io::Error>) -> Error {
+/// Returns the error for a refusal. Where the stream ends too soon it is why no more was read.
+fn error_of(refusal: Refusal, failure: Option<Failure>) -> Error {
     match refusal {
         Refusal::Malformed(text) => {
             let text = text.strip_prefix("invalid JPEG format: ").unwrap_or(&text);
@@ -411,9 +461,13 @@ fn error_of(refusal: Refusal, failure: Option<io::Error>) -> Error {
             text,
         } => UnsupportedFeature::numbered(feature, argument)
             .map_or(Error::Format(text), Error::Unsupported),
-        Refusal::Truncated => {
-            Error::Io(failure.unwrap_or_else(|| io::ErrorKind::UnexpectedEof.into()))
-        }
+        Refusal::Truncated => match failure {
+            Some(Failure::Reader(error)) => Error::Io(error),
+            Some(Failure::Limit(max)) => Error::Format(format!(
+                "more than {max} bytes in the stream (set_max_stream_bytes)"
+            )),
+            None => Error::Io(io::ErrorKind::UnexpectedEof.into()),
+        },
         Refusal::NoMemory => Error::Io(io::ErrorKind::OutOfMemory.into()),
         Refusal::TooLarge(bytes) => {
             Error::Format(format!("{bytes} bytes for decoding, more than the limit"))

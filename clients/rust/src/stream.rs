@@ -31,17 +31,24 @@ const APP2: u8 = 0xE2;
 const APP15: u8 = 0xEF;
 const COM: u8 = 0xFE;
 
+/// Why no more bytes are read.
+pub enum Failure {
+    /// The reader has failed, or has no more bytes; or there is no memory for them.
+    Reader(io::Error),
+    /// So many bytes are kept, and no more may be.
+    Limit(u64),
+}
+
 /// Why reading stops before the place that is looked for.
 enum Stop {
     /// The image has ended, or its stream breaks a rule: the library will say so.
     AtEnd,
-    /// The reader has failed, or has no more bytes; or there is no memory for them.
-    Failed(io::Error),
+    Failed(Failure),
 }
 
 impl From<io::Error> for Stop {
     fn from(error: io::Error) -> Stop {
-        Stop::Failed(error)
+        Stop::Failed(Failure::Reader(error))
     }
 }
 
@@ -50,9 +57,10 @@ fn end_of_bytes() -> io::Error {
 }
 
 /// The bytes that were read of a stream.
-#[derive(Default)]
 pub struct Stream {
     bytes: Vec<u8>,
+    /// How many bytes may be read. With more, reading goes on where it has stopped.
+    max_bytes: u64,
     /// Where the next segment is looked for: after the last one, or later in the data of a scan.
     position: usize,
     /// Whether the frame header was read.
@@ -64,6 +72,28 @@ pub struct Stream {
 }
 
 impl Stream {
+    pub fn new() -> Stream {
+        Stream {
+            bytes: Vec::new(),
+            max_bytes: u64::MAX,
+            position: 0,
+            has_header: false,
+            is_in_scan: false,
+            metadata_end: 0,
+        }
+    }
+
+    /// Sets how many bytes may be read.
+    pub fn set_max_bytes(&mut self, max: u64) {
+        // (the two bytes of SOI are always read, and at once)
+        self.max_bytes = max.max(2);
+    }
+
+    /// Returns how many more bytes may be read.
+    fn room(&self) -> u64 {
+        self.max_bytes.saturating_sub(self.bytes.len() as u64)
+    }
+
     /// Returns all bytes that were read.
     pub fn bytes(&self) -> &[u8] {
         &self.bytes
@@ -75,22 +105,27 @@ impl Stream {
         self.metadata_end
     }
 
-    /// Reads up to the end of the frame header. Returns why no more could be read, if that is the
-    /// reader's fault.
-    pub fn read_header<R: Read>(&mut self, reader: &mut R) -> Option<io::Error> {
+    /// Reads up to the end of the frame header. Returns why no more could be read, if that isn't for
+    /// what was read.
+    pub fn read_header<R: Read>(&mut self, reader: &mut R) -> Option<Failure> {
         self.read_while(reader, |stream| !stream.has_header)
     }
 
     /// Reads up to the end of the image, and returns the same.
-    pub fn read_image<R: Read>(&mut self, reader: &mut R) -> Option<io::Error> {
+    pub fn read_image<R: Read>(&mut self, reader: &mut R) -> Option<Failure> {
         self.read_while(reader, |_| true)
     }
 
-    /// Reads all that the reader has, and returns what it ended with.
-    pub fn read_rest<R: Read>(&mut self, reader: &mut R) -> io::Error {
-        let outcome = reader.read_to_end(&mut self.bytes);
+    /// Reads all that the reader has, if so much may be read, and returns why that was all.
+    pub fn read_rest<R: Read>(&mut self, reader: &mut R) -> Failure {
+        let mut rest = reader.by_ref().take(self.room());
+        let outcome = rest.read_to_end(&mut self.bytes);
         self.metadata_end = self.bytes.len();
-        outcome.err().unwrap_or_else(end_of_bytes)
+        match outcome {
+            Ok(_) if self.room() == 0 => Failure::Limit(self.max_bytes),
+            Ok(_) => Failure::Reader(end_of_bytes()),
+            Err(error) => Failure::Reader(error),
+        }
     }
 
     /// Reads segment by segment as long as more is wanted.
@@ -98,12 +133,12 @@ impl Stream {
         &mut self,
         reader: &mut R,
         is_wanted: impl Fn(&Stream) -> bool,
-    ) -> Option<io::Error> {
+    ) -> Option<Failure> {
         while is_wanted(self) {
             match self.read_segment(reader) {
                 Ok(()) => {}
                 Err(Stop::AtEnd) => return None,
-                Err(Stop::Failed(error)) => return Some(error),
+                Err(Stop::Failed(failure)) => return Some(failure),
             }
         }
         None
@@ -179,9 +214,13 @@ impl Stream {
     fn read_to_ff<R: Read>(&mut self, reader: &mut R) -> Result<(), Stop> {
         loop {
             let mut run = [0; 64];
-            let (count, outcome) = read_run(reader, &mut run);
+            let most = self.room().min(run.len() as u64) as usize;
+            if most == 0 {
+                return Err(Stop::Failed(Failure::Limit(self.max_bytes)));
+            }
+            let (count, outcome) = read_run(reader, &mut run[..most]);
             if self.bytes.try_reserve(count).is_err() {
-                return Err(Stop::Failed(ErrorKind::OutOfMemory.into()));
+                return Err(io::Error::from(ErrorKind::OutOfMemory).into());
             }
             self.bytes.extend_from_slice(&run[..count]);
             outcome?;
@@ -193,8 +232,12 @@ impl Stream {
         }
     }
 
-    /// Reads so many bytes, and keeps those that there are where the reader has fewer.
+    /// Reads so many bytes, and keeps those that there are where the reader has fewer. Reads none
+    /// where so many may not be read.
     fn read<R: Read>(&mut self, reader: &mut R, count: usize) -> Result<(), Stop> {
+        if count as u64 > self.room() {
+            return Err(Stop::Failed(Failure::Limit(self.max_bytes)));
+        }
         let mut part = reader.by_ref().take(count as u64);
         if part.read_to_end(&mut self.bytes)? < count {
             return Err(end_of_bytes().into());

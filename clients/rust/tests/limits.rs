@@ -1,5 +1,6 @@
 //! Limits are compared with the header, before the rest of the stream is read.
 
+use std::io::{self, Read};
 use zaxbriar::{Decoder, Error, Scale};
 
 /// The header of a grey picture of 65535x65535, and nothing after it.
@@ -63,5 +64,97 @@ fn metadata_behind_the_frame_are_read_under_any_limit() -> Result<(), Error> {
     decoder.set_max_decoding_bytes(191);
     assert_eq!(decoder.decode()?, [0x81]);
     assert_eq!(decoder.exif_data(), Some(&[1][..]));
+    Ok(())
+}
+
+/// A reader that repeats a byte after some others, and counts what it has given.
+struct Endless<'a> {
+    head: &'a [u8],
+    byte: u8,
+    given: u64,
+}
+
+impl Read for Endless<'_> {
+    fn read(&mut self, buffer: &mut [u8]) -> io::Result<usize> {
+        let mut count = self.head.read(buffer)?;
+        if count == 0 {
+            buffer.fill(self.byte);
+            count = buffer.len();
+        }
+        self.given += count as u64;
+        Ok(count)
+    }
+}
+
+const STREAM_LIMIT: &str = " bytes in the stream (set_max_stream_bytes)";
+
+fn is_stream_limit(error: &Error, max: u64) -> bool {
+    matches!(error, Error::Format(text) if *text == format!("more than {max}{STREAM_LIMIT}"))
+}
+
+#[test]
+fn a_stream_without_an_end_is_refused_within_its_limit() -> Result<(), Error> {
+    let jpeg = std::fs::read("tests/grey.jpg").unwrap();
+    // In a scan, in fill bytes before a scan, before a frame, and in the header.
+    for (length, byte) in [(139, 0), (84, 0xFF), (84, 0), (2, 0xFF), (2, 0)] {
+        // The limit on memory counts here too, but not below 1 MiB.
+        for (memory, stream, max) in [
+            (2 << 20, None, 2 << 20),
+            (1000, None, 1 << 20),
+            (u64::MAX, Some(5000), 5000),
+            (1000, Some(2 << 20), 2 << 20),
+        ] {
+            let head = &jpeg[..length];
+            let mut reader = Endless {
+                head,
+                byte,
+                given: 0,
+            };
+            let mut decoder = Decoder::new(&mut reader);
+            decoder.set_max_decoding_bytes(memory);
+            stream
+                .into_iter()
+                .for_each(|max| decoder.set_max_stream_bytes(max));
+            let refusal = decoder.decode().unwrap_err();
+            assert!(is_stream_limit(&refusal, max), "{refusal}");
+            // Without a higher limit nothing more is read.
+            assert!(is_stream_limit(&decoder.decode().unwrap_err(), max));
+            drop(decoder);
+            assert!(reader.given <= max && reader.given + 64 > max);
+        }
+    }
+    let mut decoder = Decoder::new(Endless {
+        head: &jpeg[..139],
+        byte: 0,
+        given: 0,
+    });
+    decoder.set_max_stream_bytes(5000);
+    assert!(is_stream_limit(
+        &decoder.decode_partial()?.fault.unwrap(),
+        5000
+    ));
+    Ok(())
+}
+
+#[test]
+fn a_stream_is_read_on_under_a_higher_limit() -> Result<(), Error> {
+    let jpeg = std::fs::read("tests/grey.jpg").unwrap();
+    let whole = Decoder::new(&jpeg[..]).decode()?;
+    let two_images = [&jpeg[..], &jpeg].concat();
+    for step in 1..=jpeg.len() {
+        let mut reader = &two_images[..];
+        let mut decoder = Decoder::new(&mut reader);
+        for max in (0..jpeg.len()).step_by(step) {
+            decoder.set_max_stream_bytes(max as u64);
+            let refusal = decoder.decode().unwrap_err();
+            assert!(
+                is_stream_limit(&refusal, max.max(2) as u64),
+                "{max}: {refusal}"
+            );
+        }
+        decoder.set_max_stream_bytes(jpeg.len() as u64);
+        assert_eq!(decoder.decode()?, whole);
+        assert_eq!(reader.len(), jpeg.len());
+    }
     Ok(())
 }
