@@ -266,3 +266,23 @@ fn read_run<R: Read>(reader: &mut R, room: &mut [u8]) -> (usize, io::Result<()>)
     }
     (room.len(), Ok(()))
 }
+
+#[cfg(test)]
+mod tests {
+    use super::*;
+
+    #[test]
+    fn the_rest_is_read_up_to_the_limit_and_on_under_a_higher_one() {
+        let bytes = [1; 15];
+        let mut reader = &bytes[..];
+        let mut stream = Stream::new();
+        stream.set_max_bytes(10);
+        for _ in 0..2 {
+            assert!(matches!(stream.read_rest(&mut reader), Failure::Limit(10)));
+            assert_eq!((stream.bytes().len(), reader.len()), (10, 5));
+        }
+        stream.set_max_bytes(16);
+        assert!(matches!(stream.read_rest(&mut reader), Failure::Reader(_)));
+        assert_eq!(stream.bytes(), bytes);
+    }
+}
