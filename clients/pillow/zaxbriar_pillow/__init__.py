@@ -4,9 +4,11 @@ Pillow's own Python code still reads the header and the metadata, and libjpeg st
 """
 
 import ctypes
+import threading
+import warnings
 from array import array
 
-from PIL import Image, ImageFile
+from PIL import Image, ImageFile, JpegImagePlugin
 
 from . import library
 
@@ -25,11 +27,45 @@ _MODES = {
 }
 
 
-def _memory_of(image, pixel_bytes):
-    """The address of an image's first line and the bytes from a line to the next, where all lines
-    are equally far."""
+class _ArrowArray(ctypes.Structure):
+    """The first members of ArrowArray, by which Pillow exports an image's memory since 11.2."""
+
+
+_ArrowArray._fields_ = [
+    *((name, ctypes.c_int64) for name in ("length", "nulls", "offset", "n_buffers", "n_children")),
+    ("buffers", ctypes.POINTER(ctypes.c_void_p)),
+    ("children", ctypes.POINTER(ctypes.POINTER(_ArrowArray))),
+]
+_pointer_of = ctypes.pythonapi.PyCapsule_GetPointer
+_pointer_of.restype = ctypes.c_void_p
+_pointer_of.argtypes = [ctypes.py_object, ctypes.c_char_p]
+
+
+def _exported_memory_of(image, pixel_bytes):
+    """What `_memory_of` returns, by Arrow's interface, for an image that is one block."""
+    if Image.core.get_alignment() != 1:  # Arrow's interface has no word for gaps between lines
+        return None
     try:
-        lines = dict(image.unsafe_ptrs)["image"]
+        exported = image.__arrow_c_array__()
+    except ValueError:  # several blocks
+        return None
+    capsule = exported[-1] if isinstance(exported, tuple) else exported
+    array = _ArrowArray.from_address(_pointer_of(capsule, b"arrow_array"))
+    while array.n_children == 1:
+        array = array.children[0].contents
+    width, height = image.size
+    bytes_each = width * height * pixel_bytes // max(1, array.length)  # a byte, or a whole pixel
+    if bytes_each not in (1, pixel_bytes) or array.offset or array.n_buffers != 2:
+        return None
+    return array.buffers[1], width * pixel_bytes
+
+
+def _lines_of(image, pixel_bytes):
+    """What `_memory_of` returns, by the addresses of the lines, which Pillow gives up to 11."""
+    try:
+        with warnings.catch_warnings():
+            warnings.simplefilter("ignore", DeprecationWarning)
+            lines = dict(image.unsafe_ptrs)["image"]
     except (AttributeError, KeyError):  # other versions of Pillow
         return None
     width, height = image.size
@@ -44,11 +80,60 @@ def _memory_of(image, pixel_bytes):
     return starts[0], stride
 
 
+def _memory_of(image, pixel_bytes):
+    """The address of an image's first line and the bytes from a line to the next, or None unless
+    all lines are equally far."""
+    if hasattr(image, "__arrow_c_array__"):
+        return _exported_memory_of(image, pixel_bytes)
+    return _lines_of(image, pixel_bytes)
+
+
+_GREATEST_BLOCK = (1 << 31) - 4096
+_allocation = threading.Lock()
+
+
+def _load_prepare(self, prepare=JpegImagePlugin.JpegImageFile.load_prepare):
+    """Allocates the image's memory as one block, also above Pillow's block size of 16 MB, so that
+    there is no second copy of a large picture."""
+    _, _, pixel_bytes, _ = _MODES.get(self.mode, (None, None, 0, None))
+    wanted = self.size[0] * self.size[1] * pixel_bytes + 4095 & ~4095
+    with _allocation:
+        kept = Image.core.get_block_size()
+        if not kept < wanted <= _GREATEST_BLOCK:
+            return prepare(self)
+        Image.core.set_block_size(wanted)
+        try:
+            return prepare(self)
+        finally:
+            Image.core.set_block_size(kept)
+
+
+_TABLES = {0xC4, 0xCC, 0xDB, 0xDD, 0xFE, *range(0xE0, 0xF0)}
+
+
+def _joined(stream):
+    """A stream of tables alone and the image that uses them, as one stream; or the stream as it is.
+    The library decodes one image, whose tables are in its own stream; libjpeg keeps those that it
+    has read before."""
+    at = 2
+    while stream[at : at + 1] == b"\xff" and len(stream) > at + 3 and stream[at + 1] in _TABLES:
+        at += 2 + int.from_bytes(stream[at + 2 : at + 4], "big")
+    if at == 2 or stream[at : at + 4] != b"\xff\xd9\xff\xd8":
+        return stream
+    return stream[:at] + stream[at + 4 :]
+
+
 class ZaxbriarDecoder(ImageFile.PyDecoder):
     """Pillow's decoder `jpeg`: its arguments are the raw mode, the mode of the colours in the file,
     and a scale."""
 
     _pulls_fd = True
+
+    def setimage(self, im, extents=None):
+        is_box = isinstance(extents, tuple) and [type(each) for each in extents] == [int] * 4
+        if extents is not None and not is_box:  # (as Pillow's own decoder says it)
+            raise ValueError("invalid extents")
+        super().setimage(im, extents)
 
     def _in_place(self, stream, layout, pixel_bytes, options):
         """Decodes right into the image, and says whether that was possible."""
@@ -111,7 +196,7 @@ class ZaxbriarDecoder(ImageFile.PyDecoder):
         return -1, 0
 
     def decode(self, buffer):
-        stream = self.fd.read()
+        stream = _joined(self.fd.read())
         try:
             self._load(stream, is_partial=False)
         except library.Error as error:
@@ -122,3 +207,4 @@ class ZaxbriarDecoder(ImageFile.PyDecoder):
 
 
 Image.register_decoder("jpeg", ZaxbriarDecoder)
+JpegImagePlugin.JpegImageFile.load_prepare = _load_prepare
