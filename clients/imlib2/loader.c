@@ -2,6 +2,7 @@
 #include <sys/types.h>
 
 #include <Imlib2_Loader.h>
+#include <dlfcn.h>
 #include <stdlib.h>
 #include <string.h>
 #include <zaxbriar.h>
@@ -74,4 +75,18 @@ static int _load(ImlibImage *image, int load_data) {
     return loaded;
 }
 
-IMLIB_LOADER(_formats, _load, NULL);
+static int _save(ImlibImage *image);
+
+IMLIB_LOADER(_formats, _load, _save);
+
+/* Files are written by imlib2's own loader, OWN_LOADER. (imlib2 opens no other file than jpeg.so
+ * for a name that ends in .jpg, whether it reads or writes.) */
+static int _save(ImlibImage *image) {
+    void *file = dlopen(OWN_LOADER, RTLD_NOW | RTLD_LOCAL);
+    ImlibLoaderModule *own = file ? dlsym(file, "loader") : NULL;
+    int saved = LOAD_FAIL;
+    if (own && own != &loader && own->ldr_version == loader.ldr_version && own->save)
+        saved = own->save(image);
+    if (file) dlclose(file);
+    return saved;
+}
