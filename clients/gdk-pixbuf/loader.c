@@ -80,10 +80,27 @@ static void set_number(GdkPixbuf *pixbuf, const char *key, int number) {
     gdk_pixbuf_set_option(pixbuf, key, text);
 }
 
-/* Sets the options that GdkPixbuf's own loader sets, but for comments. */
+/* Sets the text of the first comment before the first scan, if there is one. */
+static void set_comment(const load *state, GdkPixbuf *pixbuf) {
+    zaxbriar_segment segment;
+    size_t at = 0;
+    while (zaxbriar_next_segment(state->jpeg + at, state->size - at, &segment) == ZAXBRIAR_OK &&
+           segment.marker != 0xDA && segment.marker != 0xD9) {
+        if (segment.marker == 0xFE) {
+            char *text = g_strndup((const char *)state->jpeg + at + segment.offset, segment.size);
+            gdk_pixbuf_set_option(pixbuf, "comment", text);
+            g_free(text);
+            return;
+        }
+        at += segment.end;
+    }
+}
+
+/* Sets the options that GdkPixbuf's own loader sets. */
 static void set_options(const load *state, const zaxbriar_picture *picture, GdkPixbuf *pixbuf) {
     double per_inch = picture->density_unit == ZAXBRIAR_PER_CENTIMETRE ? 2.54 : 1;
     size_t length = 0;
+    set_comment(state, pixbuf);
     if (picture->orientation > 1) set_number(pixbuf, "orientation", picture->orientation);
     if (picture->density_unit == ZAXBRIAR_PER_INCH ||
         picture->density_unit == ZAXBRIAR_PER_CENTIMETRE) {
@@ -108,7 +125,10 @@ static gboolean load_pixels(load *state, GError **error) {
     zaxbriar_picture picture;
     if (!choose_scale(state, &options, &picture, error)) return FALSE;
     int width = (int)picture.width, height = (int)picture.height;
-    GdkPixbuf *pixbuf = gdk_pixbuf_new(GDK_COLORSPACE_RGB, FALSE, 8, width, height);
+    /* (GdkPixbuf's own loader gives cyan, magenta, yellow and black as opaque colours) */
+    gboolean has_alpha = picture.format == ZAXBRIAR_FORMAT_CMYK;
+    if (has_alpha) options.layout = ZAXBRIAR_RGBA;
+    GdkPixbuf *pixbuf = gdk_pixbuf_new(GDK_COLORSPACE_RGB, has_alpha, 8, width, height);
     if (!pixbuf) return refuse(error, ZAXBRIAR_NO_MEMORY, "out of memory");
     options.stride = (uint64_t)gdk_pixbuf_get_rowstride(pixbuf);
     gboolean is_decoded = decode(state, &options, pixbuf, &picture, error);
@@ -167,20 +187,53 @@ static gboolean stop_load(gpointer context, GError **error) {
     return is_loaded;
 }
 
+/* This loader, as GdkPixbuf knows it, and its name in a list of loaders. */
+static GdkPixbufModule *own;
+static char listed_name[] = "zaxbriar", usual_name[] = "jpeg";
+
+/* Has GdkPixbuf's own code write a file: while this loader has its other name, "jpeg" names that.
+ * (A loader that another thread makes meanwhile by the name is GdkPixbuf's own, too. That is rare:
+ * files are recognised by their first bytes.) */
+static gboolean save_to_callback(GdkPixbufSaveFunc save, gpointer user, GdkPixbuf *pixbuf,
+                                 gchar **keys, gchar **values, GError **error) {
+    static GMutex one_at_a_time;
+    g_mutex_lock(&one_at_a_time);
+    g_atomic_pointer_set(&own->module_name, listed_name);
+    gboolean is_saved =
+        gdk_pixbuf_save_to_callbackv(pixbuf, save, user, usual_name, keys, values, error);
+    g_atomic_pointer_set(&own->module_name, usual_name);
+    g_mutex_unlock(&one_at_a_time);
+    return is_saved;
+}
+
+static gboolean is_save_option_supported(const gchar *key) {
+    return !g_strcmp0(key, "quality") || !g_strcmp0(key, "icc-profile");
+}
+
 G_MODULE_EXPORT void fill_vtable(GdkPixbufModule *module);
 G_MODULE_EXPORT void fill_vtable(GdkPixbufModule *module) {
     module->begin_load = begin_load;
     module->load_increment = load_increment;
     module->stop_load = stop_load;
+    module->save_to_callback = save_to_callback;
+    module->is_save_option_supported = is_save_option_supported;
+    /* From here on it has the name of GdkPixbuf's own, and comes before that: programs that ask for
+     * "jpeg" or image/jpeg get this loader, and those that save in the format that they loaded find
+     * one that can be written. In the list of loaders it has another name, since GdkPixbuf takes
+     * its own code for each entry "jpeg". (gdk-pixbuf-query-loaders, which writes the list, calls
+     * this function without a format.) */
+    if (!module->info) return;
+    own = module;
+    own->info->flags |= GDK_PIXBUF_FORMAT_WRITABLE;
+    own->info->name = own->module_name = usual_name;
 }
 
-/* (By another name than "jpeg", by which GdkPixbuf's own writes files.) */
 G_MODULE_EXPORT void fill_info(GdkPixbufFormat *info);
 G_MODULE_EXPORT void fill_info(GdkPixbufFormat *info) {
     static const GdkPixbufModulePattern signature[] = {{"\xff\xd8", NULL, 100}, {NULL, NULL, 0}};
     static const char *types[] = {"image/jpeg", NULL};
     static const char *extensions[] = {"jpeg", "jpe", "jpg", NULL};
-    info->name = "zaxbriar";
+    info->name = listed_name;
     info->signature = (GdkPixbufModulePattern *)signature;
     info->description = "JPEG, decoded by zaxbriar";
     info->mime_types = (char **)types;

@@ -37,10 +37,14 @@ int main(int argc, char **argv) {
             option(stored, "y-dpi", "none"), strlen(option(stored, "icc-profile", "")));
     GdkPixbuf *pixbuf = gdk_pixbuf_apply_embedded_orientation(stored);
     int width = gdk_pixbuf_get_width(pixbuf), height = gdk_pixbuf_get_height(pixbuf);
+    int channels = gdk_pixbuf_get_n_channels(pixbuf);
     printf("P6\n%d %d\n255\n", width, height);
     for (int y = 0; y < height; y++)
-        fwrite(gdk_pixbuf_get_pixels(pixbuf) + (size_t)y * gdk_pixbuf_get_rowstride(pixbuf), 3,
-               (size_t)width, stdout);
+        for (int x = 0; x < width; x++)
+            fwrite(gdk_pixbuf_get_pixels(pixbuf) +
+                       (size_t)y * (size_t)gdk_pixbuf_get_rowstride(pixbuf) +
+                       (size_t)x * (size_t)channels,
+                   3, 1, stdout);
     g_object_unref(pixbuf);
     g_object_unref(stored);
     return 0;
