@@ -1,6 +1,7 @@
 /* calls LIST: for each file that LIST names, the picture in every format of RGB, with a pitch and
  * without, from the top and from the bottom, and at each scale has the pixels of the library's own
- * RGB, and the bytes between the lines are unchanged. */
+ * RGB, and the bytes between the lines are unchanged; in grey it is the library's own, and in CMYK
+ * its complement, or refused where the file doesn't store that. */
 #include <stdio.h>
 #include <stdlib.h>
 #include <string.h>
@@ -54,6 +55,27 @@ static void in_format(tjhandle handle, const char *name, size_t size, int which,
     }
 }
 
+/* In grey, or in the colours of CMYK, at full size. */
+static void in_layout(tjhandle handle, const char *name, size_t size, int format) {
+    zaxbriar_options options = {.layout = format == TJPF_GRAY ? ZAXBRIAR_GREY : ZAXBRIAR_AS_STORED};
+    zaxbriar_picture picture;
+    if (zaxbriar_read_info(jpeg, size, &options, &picture) != ZAXBRIAR_OK) return;
+    int is_given = format == TJPF_GRAY || (picture.components == 4 && picture.sample_bytes == 1);
+    unsigned char *wanted = malloc(picture.size), *pixels = malloc(picture.size);
+    if (zaxbriar_decode(jpeg, size, &options, wanted, picture.size, &picture) == ZAXBRIAR_OK) {
+        int answer = tjDecompress2(handle, jpeg, size, pixels, 0, 0, 0, format, 0);
+        if (is_given == (answer != 0)) fault(name, "grey or CMYK is answered otherwise");
+        for (size_t i = 0; !answer && i < picture.size; i++)
+            if (pixels[i] != (format == TJPF_GRAY ? wanted[i] : wanted[i] ^ 255)) {
+                fault(name, "another sample of grey or CMYK");
+                break;
+            }
+        pictures += !answer;
+    }
+    free(wanted);
+    free(pixels);
+}
+
 static void of_file(const char *name, size_t size) {
     int width, height, sampling, colours, count;
     tjhandle handle = tjInitDecompress();
@@ -90,6 +112,8 @@ static void of_file(const char *name, size_t size) {
                           picture.row_bytes);
         free(wanted);
     }
+    in_layout(handle, name, size, TJPF_GRAY);
+    in_layout(handle, name, size, TJPF_CMYK);
     if (answer) refused++;
     if (answer && !tjGetErrorStr2(handle)[0]) fault(name, "no text");
     tjDestroy(handle);

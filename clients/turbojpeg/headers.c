@@ -1,5 +1,5 @@
-/* headers LIST: for each file that LIST names, a line with its name, and with the width, the height
- * and the sampling that tjDecompressHeader3 gives, or - if it refuses the file. */
+/* headers LIST: for each file that LIST names, a line with its name, and with the width, height,
+ * sampling and colours that tjDecompressHeader3 gives, or - if it refuses the file. */
 #include <stdio.h>
 #include <string.h>
 #include <turbojpeg.h>
@@ -22,7 +22,7 @@ int main(int argc, char **argv) {
         if (!handle) return 2;
         if (tjDecompressHeader3(handle, jpeg, size, &width, &height, &sampling, &colours))
             printf("%s -\n", name);
-        else printf("%s %d,%d,%d\n", name, width, height, sampling);
+        else printf("%s %d,%d,%d,%d\n", name, width, height, sampling, colours);
         tjDestroy(handle);
     }
     fclose(list);

@@ -1,31 +1,20 @@
-/* Decompression calls of TurboJPEG over zaxbriar, which timg and programs of its kind make. */
+/* Decompression calls of TurboJPEG over zaxbriar. */
+#include "shim.h"
+
 #include <stdio.h>
-#include <stdlib.h>
 #include <string.h>
-#include <turbojpeg.h>
-#include <zaxbriar.h>
-
-/* What a handle points to: why the last call failed, and whether that is a warning (TJERR_WARNING:
- * there is a picture all the same) or not (TJERR_FATAL). */
-struct handle {
-    char text[sizeof((zaxbriar_picture *)0)->text];
-    int code;
-};
-
-static char first_error[] = "no such handle";
-
-static int fail(struct handle *handle, const char *text) {
-    if (handle) {
-        snprintf(handle->text, sizeof handle->text, "%s", text);
-        handle->code = TJERR_FATAL;
-    }
-    return -1;
-}
 
 static int warn(struct handle *handle, const char *text) {
     fail(handle, text);
     handle->code = TJERR_WARNING;
     return -1;
+}
+
+/* The handle with which zaxbriar decompresses: any of this library's but a compressor's, with
+ * which libturbojpeg refuses to. */
+static struct handle *decompressor_of(tjhandle given) {
+    struct handle *handle = handle_of(given);
+    return handle && handle->kind != COMPRESSOR ? handle : NULL;
 }
 
 /* The scales 1, 1/2, 1/4 and 1/8. timg 1.4 reads one more than there are, so the last stands twice.
@@ -36,25 +25,6 @@ tjscalingfactor *tjGetScalingFactors(int *count) {
     if (!count) return NULL;
     *count = 4;
     return factors;
-}
-
-tjhandle tjInitDecompress(void) {
-    struct handle *handle = calloc(1, sizeof(struct handle));
-    if (handle) handle->code = TJERR_FATAL;
-    return handle;
-}
-
-int tjDestroy(tjhandle handle) {
-    free(handle);
-    return 0;
-}
-
-char *tjGetErrorStr2(tjhandle handle) {
-    return handle ? ((struct handle *)handle)->text : first_error;
-}
-
-int tjGetErrorCode(tjhandle handle) {
-    return handle ? ((struct handle *)handle)->code : TJERR_FATAL;
 }
 
 /* The name of the sampling: how many samples of the first component there are, across and down, for
@@ -71,33 +41,68 @@ static int sampling_of(const zaxbriar_picture *picture) {
     return TJSAMP_444;
 }
 
-int tjDecompressHeader3(tjhandle handle, const unsigned char *jpeg, unsigned long size, int *width,
+static int colours_of(const zaxbriar_picture *picture) {
+    switch (picture->transform) {
+        case ZAXBRIAR_TRANSFORM_RGB: return TJCS_RGB;
+        case ZAXBRIAR_TRANSFORM_YCBCR: return TJCS_YCbCr;
+        case ZAXBRIAR_TRANSFORM_CMYK: return TJCS_CMYK;
+        case ZAXBRIAR_TRANSFORM_YCCK: return TJCS_YCCK;
+        default:
+            return picture->components == 1   ? TJCS_GRAY
+                   : picture->components == 3 ? TJCS_RGB
+                                              : TJCS_CMYK;
+    }
+}
+
+int tjDecompressHeader3(tjhandle given, const unsigned char *jpeg, unsigned long size, int *width,
                         int *height, int *sampling, int *colours) {
+    struct handle *handle = decompressor_of(given);
     zaxbriar_picture picture;
-    if (!handle || !width || !height || !sampling || !colours)
-        return fail(handle, "a null pointer");
+    if (!given) return fail(NULL, "Invalid handle");
+    if (!handle)
+        return OWN(tjDecompressHeader3) ? OWN(tjDecompressHeader3)(own_handle(given), jpeg, size,
+                                                                   width, height, sampling, colours)
+                                        : -1;
+    if (!width || !height || !sampling || !colours) return fail(handle, "a null pointer");
     if (zaxbriar_read_info(jpeg, size, NULL, &picture) != ZAXBRIAR_OK)
         return fail(handle, picture.text);
     *width = (int)picture.width;
     *height = (int)picture.height;
     *sampling = sampling_of(&picture);
-    /* (the library doesn't say whether colours are converted) */
-    *colours = picture.components == 1   ? TJCS_GRAY
-               : picture.components == 3 ? TJCS_YCbCr
-                                         : TJCS_CMYK;
+    *colours = colours_of(&picture);
     return 0;
 }
 
-/* The library's layout of a pixel format. XBGR and ABGR have the bytes of a pixel in the opposite
- * order. */
+int tjDecompressHeader2(tjhandle handle, unsigned char *jpeg, unsigned long size, int *width,
+                        int *height, int *sampling) {
+    int colours;
+    return tjDecompressHeader3(handle, jpeg, size, width, height, sampling, &colours);
+}
+
+int tjDecompressHeader(tjhandle handle, unsigned char *jpeg, unsigned long size, int *width,
+                       int *height) {
+    int sampling;
+    return tjDecompressHeader2(handle, jpeg, size, width, height, &sampling);
+}
+
+/* The library's layout of a pixel format, and what is done with it. XBGR and ABGR have the bytes of
+ * a pixel in the opposite order; CMYK is as Adobe stores it, 0 for full ink. */
+enum { AS_IT_IS, REVERSED, COMPLEMENTED };
 static const struct {
-    uint8_t layout, is_reversed;
+    uint8_t is_known, layout, change;
 } formats[] = {
-    [TJPF_RGB] = {ZAXBRIAR_RGB, 0},   [TJPF_BGR] = {ZAXBRIAR_BGR, 0},
-    [TJPF_RGBX] = {ZAXBRIAR_RGBA, 0}, [TJPF_RGBA] = {ZAXBRIAR_RGBA, 0},
-    [TJPF_BGRX] = {ZAXBRIAR_BGRA, 0}, [TJPF_BGRA] = {ZAXBRIAR_BGRA, 0},
-    [TJPF_XRGB] = {ZAXBRIAR_XRGB, 0}, [TJPF_ARGB] = {ZAXBRIAR_XRGB, 0},
-    [TJPF_XBGR] = {ZAXBRIAR_RGBA, 1}, [TJPF_ABGR] = {ZAXBRIAR_RGBA, 1},
+    [TJPF_RGB] = {1, ZAXBRIAR_RGB, AS_IT_IS},
+    [TJPF_BGR] = {1, ZAXBRIAR_BGR, AS_IT_IS},
+    [TJPF_RGBX] = {1, ZAXBRIAR_RGBA, AS_IT_IS},
+    [TJPF_RGBA] = {1, ZAXBRIAR_RGBA, AS_IT_IS},
+    [TJPF_BGRX] = {1, ZAXBRIAR_BGRA, AS_IT_IS},
+    [TJPF_BGRA] = {1, ZAXBRIAR_BGRA, AS_IT_IS},
+    [TJPF_XRGB] = {1, ZAXBRIAR_XRGB, AS_IT_IS},
+    [TJPF_ARGB] = {1, ZAXBRIAR_XRGB, AS_IT_IS},
+    [TJPF_XBGR] = {1, ZAXBRIAR_RGBA, REVERSED},
+    [TJPF_ABGR] = {1, ZAXBRIAR_RGBA, REVERSED},
+    [TJPF_GRAY] = {1, ZAXBRIAR_GREY, AS_IT_IS},
+    [TJPF_CMYK] = {1, ZAXBRIAR_AS_STORED, COMPLEMENTED},
 };
 
 /* The options under which the picture has the greatest of its sizes that fits into width x height;
@@ -135,6 +140,12 @@ static void reverse_pixels(const zaxbriar_picture *picture, unsigned char *pixel
         }
 }
 
+/* Replaces each sample by its complement. */
+static void complement(const zaxbriar_picture *picture, unsigned char *pixels, size_t pitch) {
+    for (size_t y = 0; y < picture->height; y++)
+        for (size_t i = 0; i < picture->row_bytes; i++) pixels[y * pitch + i] ^= 255;
+}
+
 /* Exchanges the first line and the last, the second and the last but one, and so on. */
 static void reverse_lines(const zaxbriar_picture *picture, unsigned char *pixels, size_t pitch) {
     for (size_t y = 0; y < picture->height / 2; y++)
@@ -148,26 +159,70 @@ static int is_fault(zaxbriar_result answer) {
            answer == ZAXBRIAR_TRUNCATED;
 }
 
-int tjDecompress2(tjhandle handle, const unsigned char *jpeg, unsigned long size,
-                  unsigned char *pixels, int width, int pitch, int height, int format, int flags) {
+/* Decompresses the picture, or what there is of a damaged one, at the scale of the options. */
+static zaxbriar_result decode(const unsigned char *jpeg, size_t size,
+                              const zaxbriar_options *options, unsigned char *pixels, int flags,
+                              zaxbriar_picture *picture) {
+    size_t room = options->stride * (picture->height - 1) + picture->row_bytes;
+    zaxbriar_result answer = zaxbriar_decode(jpeg, size, options, pixels, room, picture);
+    if (is_fault(answer) && !(flags & TJFLAG_STOPONWARNING))
+        answer = zaxbriar_decode_partial(jpeg, size, options, pixels, room, picture);
+    return answer;
+}
+
+static int decompress(struct handle *handle, const unsigned char *jpeg, size_t size,
+                      unsigned char *pixels, const int sides[2], size_t pitch, int format,
+                      int flags) {
     zaxbriar_options options = {0};
     zaxbriar_picture picture;
-    if (!handle || !pixels || width < 0 || height < 0 || pitch < 0)
-        return fail(handle, "a bad argument");
-    if (format < 0 || (size_t)format >= sizeof formats / sizeof *formats || !formats[format].layout)
+    if (format < 0 || (size_t)format >= sizeof formats / sizeof *formats ||
+        !formats[format].is_known)
         return fail(handle, "a pixel format that isn't supported");
     options.layout = formats[format].layout;
-    if (!options_for(jpeg, size, width, height, &options, &picture))
+    if (!options_for(jpeg, size, sides[0], sides[1], &options, &picture))
         return fail(handle, picture.text);
-    options.stride = pitch ? (uint64_t)pitch : picture.row_bytes;
+    if (format == TJPF_CMYK && (picture.components != 4 || picture.sample_bytes != 1))
+        return fail(handle, "colours that aren't converted to this pixel format");
+    options.stride = pitch ? pitch : picture.row_bytes;
     if (options.stride < picture.row_bytes) return fail(handle, "a line is longer than the pitch");
-    size_t room = options.stride * (picture.height - 1) + picture.row_bytes;
-    zaxbriar_result answer = zaxbriar_decode(jpeg, size, &options, pixels, room, &picture);
+    zaxbriar_result answer = decode(jpeg, size, &options, pixels, flags, &picture);
     if (is_fault(answer) && flags & TJFLAG_STOPONWARNING) return warn(handle, picture.text);
-    if (is_fault(answer))
-        answer = zaxbriar_decode_partial(jpeg, size, &options, pixels, room, &picture);
     if (answer != ZAXBRIAR_OK && answer != ZAXBRIAR_PARTIAL) return fail(handle, picture.text);
-    if (formats[format].is_reversed) reverse_pixels(&picture, pixels, options.stride);
+    if (formats[format].change == REVERSED) reverse_pixels(&picture, pixels, options.stride);
+    if (formats[format].change == COMPLEMENTED) complement(&picture, pixels, options.stride);
     if (flags & TJFLAG_BOTTOMUP) reverse_lines(&picture, pixels, options.stride);
     return answer == ZAXBRIAR_PARTIAL ? warn(handle, picture.text) : 0;
+}
+
+int tjDecompress2(tjhandle given, const unsigned char *jpeg, unsigned long size,
+                  unsigned char *pixels, int width, int pitch, int height, int format, int flags) {
+    struct handle *handle = decompressor_of(given);
+    if (!given) return fail(NULL, "Invalid handle");
+    if (!handle)
+        return OWN(tjDecompress2) ? OWN(tjDecompress2)(own_handle(given), jpeg, size, pixels, width,
+                                                       pitch, height, format, flags)
+                                  : -1;
+    if (!pixels || width < 0 || height < 0 || pitch < 0) return fail(handle, "a bad argument");
+    return decompress(handle, jpeg, size, pixels, (int[]){width, height}, (size_t)pitch, format,
+                      flags);
+}
+
+/* The pixel format of the first versions' arguments. */
+static int format_of(int pixel_size, int flags) {
+    int is_bgr = flags & TJ_BGR, is_first = flags & TJ_ALPHAFIRST;
+    switch (pixel_size) {
+        case 1: return TJPF_GRAY;
+        case 3: return is_bgr ? TJPF_BGR : TJPF_RGB;
+        case 4:
+            if (is_first) return is_bgr ? TJPF_XBGR : TJPF_XRGB;
+            return is_bgr ? TJPF_BGRX : TJPF_RGBX;
+        default: return -1;
+    }
+}
+
+int tjDecompress(tjhandle handle, unsigned char *jpeg, unsigned long size, unsigned char *pixels,
+                 int width, int pitch, int height, int pixel_size, int flags) {
+    if (flags & TJ_YUV) return tjDecompressToYUV(handle, jpeg, size, pixels, flags);
+    return tjDecompress2(handle, jpeg, size, pixels, width, pitch, height,
+                         format_of(pixel_size, flags), flags);
 }
