@@ -65,7 +65,7 @@ typedef enum zaxbriar_result {
 /* How the pixels are arranged. Every picture can be decoded into every layout. In all but
  * AS_STORED a pixel is first converted to 8-bit red, green and blue, by integer arithmetic:
  * - a sample of a precision P other than 8 bits becomes (sample * 255 + most / 2) / most, where
- *   most = 2^P - 1;
+ *   most = 2^P - 1; a greater sample, which a lossless picture may have, becomes 255;
  * - a grey sample is repeated;
  * - cyan, magenta and yellow become red, green and blue by ((255 - ink) * (255 - black) + 127) /
  *   255 each. This is the simple formula of viewers; for exact colours use AS_STORED and the ICC
@@ -146,8 +146,9 @@ typedef enum zaxbriar_kind {
 
 /* Functions that the library takes its memory from, in place of malloc, realloc and free. They get
  * `context`, and have to behave like these for sizes that aren't 0: blocks are aligned to 16 bytes,
- * and a null pointer is returned if there is no memory. They are called only while a call of this
- * library runs, in its thread, and all blocks have been freed when it returns. */
+ * and a null pointer is returned if there is no memory. They have to return: no longjmp, and no C++
+ * exception. They are called only while a call of this library runs, in its thread, and all blocks
+ * have been freed when it returns. */
 typedef struct zaxbriar_memory {
     void *(*allocate)(void *context, size_t size);
     void *(*resize)(void *context, void *block, size_t size);
@@ -300,8 +301,9 @@ ZAXBRIAR_CALL zaxbriar_result zaxbriar_decode(const void *jpeg, size_t jpeg_size
 
 /* Decodes as zaxbriar_decode does, but also a stream that is truncated or damaged: then `pixels`
  * gets the picture of what the stream brings up to its first fault, and the call returns
- * ZAXBRIAR_PARTIAL. What no scan has brought is mid-grey; the first `whole_rows` rows are complete.
- * ZAXBRIAR_OK means that the stream has no fault.
+ * ZAXBRIAR_PARTIAL. What no scan has brought is mid-grey; the first `whole_rows` rows are complete,
+ * but where chroma has fewer lines than luma, the last of them also depends on chroma below it,
+ * which may be missing. ZAXBRIAR_OK means that the stream has no fault.
  *
  * MALFORMED, UNSUPPORTED and TRUNCATED are for streams without a frame header that can be decoded,
  * and for a transform that doesn't fit the picture. All other values are as for zaxbriar_decode.
