@@ -1,31 +1,29 @@
 #!/usr/bin/env python3
-"""Makes docs/LEMMAS.md: the lemma files of each crate, what each is about, and what others import.
+"""Lists the lemma files of each crate, what each is about, and what others import from it.
 
-    docs/lemmas.py            prints the page
-    docs/lemmas.py --check    fails with a diff if the page differs from what this prints
-    docs/lemmas.py --write    writes the page
+    docs/lemmas.py            prints the list
+    docs/lemmas.py --write    writes it into out/lemmas.md
+    docs/lemmas.py --check    fails if a lemma file doesn't begin with a sentence on what it is about,
+                              or if docs/LEMMAS.md names a file that no crate has
 
 A lemma file is any in crates/*/proofs except those that answer the goals of one function, which are
 in a folder with the function's name. Its first comment says what it is about. A name is listed if
 another file imports it from there, or if a function's tactic names it.
 """
-import difflib
+import fnmatch
 import re
 import sys
 import textwrap
 from pathlib import Path
 
 ROOT = Path(__file__).resolve().parent.parent
+LIST = ROOT / "out/lemmas.md"
 PAGE = ROOT / "docs/LEMMAS.md"
 INTRODUCTION = """\
-# Lemmas
+# Lemma files
 
-The lemma files of each crate, what each is about, and the names that other files import from it:
-look here before you state a lemma. `rt lemma WORD..` in a crate's folder finds lemmas by words of
-the goal, including those of the kit's library. `docs/lemmas.py --write` generates this page, and
-`./test` checks it. Answers to the goals of a single function are in proofs/MODULE/FUNCTION and are
-not listed; a file that is listed without names is used as a whole by functions' answers, or only by
-its own crate's rule sets.
+What each is about, and the names that other files import from it. A file that is listed without
+names is used as a whole by functions' answers, or only by its own crate's rule sets.
 """
 # What the prover makes or asks for in the folder of a function.
 ANSWERS = {"Answers.antt", "Goals.antt", "Given.antt", "Invariants.antt"}
@@ -66,8 +64,8 @@ def first_comment(path):
     return " ".join(lines)
 
 
-def page():
-    """Returns the page as text."""
+def listing():
+    """Returns the list as text."""
     taken, lines, last = taken_names(), [INTRODUCTION], None
     for crate, file, path in lemma_files():
         if crate != last:
@@ -84,16 +82,29 @@ def page():
     return re.sub(r"\n(## .*\n)", r"\n\n\1", text).replace("\n\n\n", "\n\n")
 
 
+def faults():
+    """Gives what is wrong: a file without a sentence at its head, a name on the page without a file."""
+    names = set()
+    for crate, file, path in lemma_files():
+        names.add(file)
+        if not re.match(r"[^\s].*\.", first_comment(path)):
+            yield f"{path.relative_to(ROOT)} doesn't begin with a sentence that says what it is about"
+    below = PAGE.read_text("utf8").split("\n- **", 1)[1]
+    for name in re.findall(r"`([\w*]+)`", below):
+        if not any(fnmatch.fnmatchcase(it, name) for it in names):
+            yield f"docs/LEMMAS.md names `{name}`, and no crate has such a lemma file"
+
+
 def main(choice):
     if choice == "":
-        print(page(), end="")
+        print(listing(), end="")
     elif choice == "--write":
-        PAGE.write_text(page(), "utf8")
+        LIST.parent.mkdir(exist_ok=True)
+        LIST.write_text(listing(), "utf8")
     elif choice == "--check":
-        old, new = PAGE.read_text("utf8").splitlines(), page().splitlines()
-        if old != new:
-            print("\n".join(difflib.unified_diff(old, new, "docs/LEMMAS.md", "computed", n=0)))
-            sys.exit("docs/LEMMAS.md is not what docs/lemmas.py --write makes of it")
+        found = list(faults())
+        if found:
+            sys.exit("\n".join(found))
     else:
         sys.exit(__doc__)
 
