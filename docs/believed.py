@@ -2,11 +2,12 @@
 """Lists the definitions in crates/*/specs that the public clauses rest on: what has to be believed.
 
     docs/believed.py            counts and names by file
-    docs/believed.py --table    the generated part of docs/REVIEW.md
-    docs/believed.py --shared   that of docs/SHARED.md: what writer, reader and picture share
-    docs/believed.py --check    fails with a diff if a page differs from what this computes, or if
-                                what is written rests on what a reader answers
-    docs/believed.py --write    writes both parts into the pages
+    docs/believed.py --table    what each file says, and the laws that compute it
+    docs/believed.py --shared   what writer, reader and picture share
+    docs/believed.py --check    fails with a diff if docs/REVIEW.md differs from what this computes,
+                                or if what is written rests on what a reader answers
+    docs/believed.py --write    writes the lists of docs/REVIEW.md, and both tables into
+                                out/believed.md
 
 It follows names: a definition reaches each name in its text that its file defines or imports, a
 constructor its type, and `do` the `>>=` of its file. A variable spelled like a definition in scope
@@ -64,12 +65,14 @@ PICTURE = [
 ]
 # Where the structs stand whose values the view of a `Decoder` shows: their views count with it.
 HELD = "stream/state"
-# What is answered by a definition that reads bytes, or that looks something up and may not find it.
-# What is written rests on none: else a reader that refused more would make streams fewer.
+# What is answered by a definition that reads bytes, or that refuses what it reads. What is written
+# rests on none: else a reader that refused more would make streams fewer.
 ANSWERS = {"Outcome", "Reads", "Result", "Fault"}
 APART = [
-    "Nothing that is written rests on a definition that reads bytes, or that looks something up",
-    "and may not find it (none names " + ", ".join(f"`{word}`" for word in sorted(ANSWERS)) + ").",
+    "Nothing that is written rests on a definition that reads bytes or refuses something (none",
+    "names " + ", ".join(f"`{word}`" for word in sorted(ANSWERS)) + "). The one look-up that both",
+    "share is `index_of`, which finds a component by its identifier; `header_rules` says which",
+    "choices it allows.",
 ]
 BEGIN, END = "<!-- docs/believed.py: begin -->", "<!-- docs/believed.py: end -->"
 
@@ -222,7 +225,7 @@ def rows(specs, keys, on):
 
 
 def table(specs):
-    """The generated part of docs/REVIEW.md."""
+    """What each file says, how many of its definitions are reached, and by which laws computed."""
     calls, laws = believed(specs)
     on = computed_on(specs)
     yield f"The clauses of `Decoder`, `run` and `report` reach {specs.total(calls)}:"
@@ -245,7 +248,7 @@ def answering(specs):
 
 
 def shared(specs):
-    """The generated part of docs/SHARED.md."""
+    """What is written and the picture share with the reader, by file."""
     reader = specs.under(READER)
     for what, names in [("What is written", WRITER), ("The picture", PICTURE)]:
         under = specs.under(names)
@@ -258,6 +261,37 @@ def shared(specs):
             listed = ", ".join(f"`{name}`" for name in names)
             yield f"| {file[0]} `{file[1]}` | {specs.says[file]} | {listed} | {lines} |"
         yield from ["", *APART, ""] if what != "The picture" else []
+
+
+def by_crate(specs, keys):
+    """A list of the files of some definitions by crate, with the number of definitions of each."""
+    files = specs.by_file(keys)
+    for crate in CRATES:
+        named = [f"`{file[1]}` {len(files[file][0])}" for file in files if file[0] == crate]
+        if named:
+            item = f"- {crate}: " + ", ".join(named)
+            yield from textwrap.wrap(item, 100, subsequent_indent="  ")
+
+
+def lists(specs):
+    """The generated part of docs/REVIEW.md."""
+    calls, laws = believed(specs)
+    on = computed_on(specs)
+    alone = {key for key in calls if key[0] not in on}
+    reader = specs.under(READER)
+    for text, keys in [
+        (f"The clauses of `Decoder`, `run` and `report` reach {specs.total(calls)}:", calls),
+        ("Of these files no law computes", alone),
+        (f"`laws::headline` and `laws::lossless` reach {specs.total(laws)} more:", laws),
+    ]:
+        yield from [text, "", *by_crate(specs, keys), ""]
+    for what, names in [("What is written", WRITER), ("The picture", PICTURE)]:
+        under = specs.under(names)
+        roots = ", ".join(f"`{name.split('.')[2]}`" for name in names)
+        text = f"{what} ({roots}) rests on {specs.total(under)}. "
+        text += f"Of these {specs.total(under & reader)} are under `meaning` too:"
+        yield from [*textwrap.wrap(text, 100), "", *by_crate(specs, under & reader), ""]
+    yield from textwrap.wrap(" ".join(APART), 100)
 
 
 def listing(specs):
@@ -278,15 +312,18 @@ def main(choice):
         sys.exit(__doc__)
     if answering(specs):
         sys.exit("what is written rests on what a reader answers: " + ", ".join(answering(specs)))
-    for page, part in [("docs/REVIEW.md", table(specs)), ("docs/SHARED.md", shared(specs))]:
-        old = (ROOT / page).read_text("utf8")
-        new = "\n".join([old.split(BEGIN)[0] + BEGIN, *part, "", END + old.split(END)[1]])
-        if choice == "--write":
-            (ROOT / page).write_text(new, "utf8")
-        elif old != new:
-            both = old.splitlines(), new.splitlines()
-            print("\n".join(difflib.unified_diff(*both, page, "computed", lineterm="", n=0)))
-            sys.exit(f"{page} is not what docs/believed.py --write makes of it")
+    page = ROOT / "docs/REVIEW.md"
+    old = page.read_text("utf8")
+    new = "\n".join([old.split(BEGIN)[0] + BEGIN, *lists(specs), "", END + old.split(END)[1]])
+    if choice == "--write":
+        page.write_text(new, "utf8")
+        (ROOT / "out").mkdir(exist_ok=True)
+        both = "\n".join([*table(specs), "", *shared(specs)])
+        (ROOT / "out/believed.md").write_text(both, "utf8")
+    elif old != new:
+        both = old.splitlines(), new.splitlines()
+        print("\n".join(difflib.unified_diff(*both, "docs/REVIEW.md", "computed", lineterm="", n=0)))
+        sys.exit("docs/REVIEW.md is not what docs/believed.py --write makes of it")
 
 
 if __name__ == "__main__":

@@ -1,4 +1,4 @@
-//! Theorems on lossless streams, each on a function without a body. docs/LOSSLESS.md states them in
+//! Theorems on lossless streams, each on a function without a body. docs/THEOREMS.md states them in
 //! plain words.
 #![tactic(auto, using(crate::proofs::Rules::samples, crate::proofs::Rules::written_samples))]
 
