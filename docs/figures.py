@@ -2,8 +2,10 @@
 """Checks the figures of the pages that the repository itself has: fails where one isn't so.
 
 Each entry below names a page, a pattern whose group is the figure, and what it has to be. What was
-measured (times, memory) is no such figure: it stands in one page, with its commit.
+measured (times, memory) stands in one page, with its commit; README's ranges of times are compared
+with the tables of docs/SPEED.md.
 """
+import math
 import re
 import subprocess
 import sys
@@ -32,11 +34,57 @@ def edits(crate):
     return len(list((ROOT / "crates" / crate).glob("*/*.edit")))
 
 
+def ratios(first, column):
+    """The least and the greatest ratio of photographs in a column of a table of docs/SPEED.md, by
+    the first cell of its head."""
+    table = text("docs/SPEED.md").split(f"\n| {first} |", 1)[1].split("\n\n", 1)[0]
+    head, _, *rows = [[it.strip() for it in line.split("|")] for line in table.splitlines()]
+    at = head.index(column) + 1
+    found = [row[at + 1].split(" to ") for row in rows if row[1].startswith("photographs")]
+    return min(float(low) for low, _ in found), max(float(high) for _, high in found)
+
+
+def rounded(ends):
+    """A range to one digit: the greater end is rounded up."""
+    return f"{ends[0]:.1f} to {math.ceil(ends[1] * 10 - 1e-9) / 10:.1f}"
+
+
+def speeds():
+    """Gives what README says of times, by the tables of docs/SPEED.md."""
+    page = "README.md"
+    end = r"of the time of\s+Rust's\s+`jpeg-decoder`"
+    yield page, rf"x86-64-v3, it takes ([\d.]+ to [\d.]+) {end}", rounded(
+        ratios("ours", "to jpeg-decoder")
+    )
+    yield page, r"([\d.]+ to [\d.]+) of that of its\s+SSSE3", rounded(
+        ratios("ours", "to jpeg-decoder-ssse3")
+    )
+    yield page, r"([\d.]+ to [\d.]+)\s+of the\s+time of libjpeg-turbo", rounded(
+        ratios("ours", "to libjpeg-turbo")
+    )
+    low, high = ratios("ours, for x86-64-v2", "to libjpeg-turbo 2.1.5")
+    yield page, r"static library is, ([\d.]+ to [\d.]+) of", f"{low:.2f} to {high:.2f}"
+    columns = ["ours", "jpeg-decoder", "jpeg-decoder-ssse3", "stb_image"]
+    ours, crate, ssse3, stb = [rounded(ratios("to libjpeg-turbo", it)) for it in columns]
+    row = f"{ours} | 1 | {crate}, with SSSE3 {ssse3} | {stb}"
+    yield page, r"(?m)relative to libjpeg-turbo[^|]*\| (.*) \|$", row
+
+
 def expected():
     """Gives a page, a pattern and the figure that its group has to be."""
     every = sum(cases(it.stem) for it in CASES.glob("*.case"))
-    for page in ("README.md", "docs/CONFORMANCE.md"):
+    for page in ("README.md", "docs/CONFORMANCE.md", "CHANGELOG.md"):
         yield page, r"([\d,]+) (?:streams|cases) as text", every
+    drawn = sum(map(cases, ("random", "extreme", "partial_random")))
+    yield "docs/CONFORMANCE.md", r"(\d+) are random streams", drawn
+    yield "docs/TRUST.md", r"(\d+) random\s+streams", drawn
+    partial = cases("partial") + cases("partial_random")
+    yield "docs/TRUST.md", r"of (\d+)\s+cut or\s+damaged streams", partial
+    parts, computed, _ = first_number(["model/parts.py"])
+    yield "docs/CONFORMANCE.md", r"each of its (\d+) cases", parts
+    yield "docs/CONFORMANCE.md", r"computes (\d+) of the lines", computed
+    yield "CHANGELOG.md", r"(\d+) calls of\s+the parts", parts
+    yield from speeds()
     for row in re.findall(r"(?m)^\| ((?:`\w+`(?:, )?)+) \| \d+ \|", text("docs/CONFORMANCE.md")):
         names = re.findall(r"\w+", row)
         yield "docs/CONFORMANCE.md", rf"(?m)^\| {row} \| (\d+) \|", sum(map(cases, names))
@@ -59,7 +107,7 @@ def main():
             print(f"{page} has no figure by the pattern {pattern}")
         wrong += not found
         for it in found:
-            if int(it.replace(",", "")) != figure:
+            if it.replace(",", "") != str(figure).replace(",", ""):
                 print(f"{page} says {it}, and it is {figure}: {pattern}")
                 wrong += 1
     sys.exit(1 if wrong else 0)
