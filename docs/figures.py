@@ -13,6 +13,7 @@ from pathlib import Path
 
 ROOT = Path(__file__).resolve().parent.parent
 CASES = ROOT / "crates/decoder_cases/data"
+PARTIAL = CASES / "partial_random.case"
 
 
 def text(path):
@@ -78,6 +79,9 @@ def expected():
     drawn = sum(map(cases, ("random", "extreme", "partial_random")))
     yield "docs/CONFORMANCE.md", r"(\d+) are random streams", drawn
     yield "docs/TRUST.md", r"(\d+) random\s+streams", drawn
+    damaged = len(re.findall(r"(?m)^case .*(?:flipped|at byte \d+)$", text(PARTIAL)))
+    yield "docs/CONFORMANCE.md", r"those of (\d+)\s+damaged", damaged
+    yield "docs/TRUST.md", r"of (\d+) damaged", damaged
     partial = cases("partial") + cases("partial_random")
     yield "docs/TRUST.md", r"of (\d+)\s+cut or\s+damaged streams", partial
     parts, computed, _ = first_number(["model/parts.py"])
