@@ -95,10 +95,17 @@ def expected():
     wrong, laws, files = first_number(["wrong_definitions/try", "--check"])
     page = "wrong_definitions/README.md"
     yield page, r"`list` has (\d+) definitions", wrong
+    yield page, r"\| tried \| (\d+) \|", wrong
     yield page, r"\((\d+)\s+files\)", files
     yield page, r"of these laws \((\d+):", laws
     least = int(re.search(r"(?m)^LEAST=(\d+)$", text("memory"))[1])
     yield "docs/TRUST.md", r"each N from 1\s+to (\d+) \(`./memory`\)", least
+    gate = text("docs/GATE.md")
+    first = re.search(r"fresh\s+clone.*?took\s+(\d+)\s+minutes", gate, re.S)[1]
+    yield "README.md", r"proves it first: (\d+) minutes", first
+    yield "README.md", r"info examples/rocket.jpg` \| (\d+) minutes", first
+    whole = re.search(r"takes (\d+ to \d+) minutes with 4", gate)[1]
+    yield "README.md", r"`./test` \| (\d+ to \d+) minutes on 4", whole
     for crate in ("parts_callers", "decoder_callers", "zaxbriar", "zaxbriar_callers"):
         yield "docs/GATE.md", rf"`{crate}` with (\d+) edits", edits(crate)
 

@@ -143,7 +143,7 @@ export type Data = ReturnType<Uint8Array['slice']>;
  * - `precision`: samples of so many bits;
  * - `components`: so many components;
  * - `dnl`: a number of lines after the first scan;
- * - `subsampling`: kept, no stream is refused for it;
+ * - `subsampling`: reserved: no stream is refused for it;
  * - `factors`: sampling factors that don't divide the greatest ones;
  * - `transform`: libjpeg's big gamut.
  */
