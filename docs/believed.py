@@ -322,7 +322,8 @@ def main(choice):
         (ROOT / "out/believed.md").write_text(both, "utf8")
     elif old != new:
         both = old.splitlines(), new.splitlines()
-        print("\n".join(difflib.unified_diff(*both, "docs/REVIEW.md", "computed", lineterm="", n=0)))
+        found = difflib.unified_diff(*both, "docs/REVIEW.md", "computed", lineterm="", n=0)
+        print("\n".join(found))
         sys.exit("docs/REVIEW.md is not what docs/believed.py --write makes of it")
 
 

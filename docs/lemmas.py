@@ -3,8 +3,8 @@
 
     docs/lemmas.py            prints the list
     docs/lemmas.py --write    writes it into out/lemmas.md
-    docs/lemmas.py --check    fails if a lemma file doesn't begin with a sentence on what it is about,
-                              or if docs/LEMMAS.md names a file that no crate has
+    docs/lemmas.py --check    fails if a lemma file doesn't begin with a sentence that says what it
+                              is about, or if docs/LEMMAS.md names a file that no crate has
 
 A lemma file is any in crates/*/proofs except those that answer the goals of one function, which are
 in a folder with the function's name. Its first comment says what it is about. A name is listed if
@@ -83,12 +83,12 @@ def listing():
 
 
 def faults():
-    """Gives what is wrong: a file without a sentence at its head, a name on the page without a file."""
+    """Gives each lemma file without a sentence at its head, and each name on the page without one."""
     names = set()
     for crate, file, path in lemma_files():
         names.add(file)
         if not re.match(r"[^\s].*\.", first_comment(path)):
-            yield f"{path.relative_to(ROOT)} doesn't begin with a sentence that says what it is about"
+            yield f"{path.relative_to(ROOT)} doesn't begin with a sentence on what it is about"
     below = PAGE.read_text("utf8").split("\n- **", 1)[1]
     for name in re.findall(r"`([\w*]+)`", below):
         if not any(fnmatch.fnmatchcase(it, name) for it in names):
