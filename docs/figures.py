@@ -100,6 +100,10 @@ def expected():
     yield page, r"of these laws \((\d+):", laws
     least = int(re.search(r"(?m)^LEAST=(\d+)$", text("memory"))[1])
     yield "docs/TRUST.md", r"each N from 1\s+to (\d+) \(`./memory`\)", least
+    table = text("real_files/README.md").split("| Files | number | refused by both |", 1)[1]
+    counts = re.findall(r"(?m)^\| [^|]* \| (\d+) \| \d+ \| \d+ \|$", table.split("\n\n", 1)[0])
+    # (the last one is the stream of frames)
+    yield "docs/TRUST.md", r"([\d,]+) files and a\s+stream", sum(map(int, counts)) - 1
     gate = text("docs/GATE.md")
     first = re.search(r"fresh\s+clone.*?took\s+(\d+)\s+minutes", gate, re.S)[1]
     yield "README.md", r"proves it first: (\d+) minutes", first

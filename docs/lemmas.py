@@ -83,7 +83,7 @@ def listing():
 
 
 def faults():
-    """Gives each lemma file without a sentence at its head, and each name on the page without one."""
+    """Gives each lemma file without a sentence at its head, and each name without a file."""
     names = set()
     for crate, file, path in lemma_files():
         names.add(file)
