@@ -84,9 +84,8 @@ def expected():
     yield "docs/TRUST.md", r"of (\d+) damaged", damaged
     partial = cases("partial") + cases("partial_random")
     yield "docs/TRUST.md", r"of (\d+)\s+cut or\s+damaged streams", partial
-    parts, computed, _ = first_number(["model/parts.py"])
+    parts = len(text("crates/parts_cases/stdout").splitlines())
     yield "docs/CONFORMANCE.md", r"each of its (\d+) cases", parts
-    yield "docs/CONFORMANCE.md", r"computes (\d+) of the lines", computed
     yield "CHANGELOG.md", r"(\d+) calls of\s+the parts", parts
     yield from speeds()
     for row in re.findall(r"(?m)^\| ((?:`\w+`(?:, )?)+) \| \d+ \|", text("docs/CONFORMANCE.md")):
