@@ -1,6 +1,7 @@
 pub mod TakenBytes
 pub mod Loops
 pub mod BufferedBits
+pub mod PlainBytes
 pub mod CodeLemmas
 pub mod Ranges
 pub mod DefaultTables

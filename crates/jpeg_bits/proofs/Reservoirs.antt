@@ -82,9 +82,42 @@ front_number word count n w h g z = grind (arith, front_bits, number_of-low_bits
 by_bits : (word count : ℕ) → HasZerosAfter word count → word ≡ word / 2 ^ (64 - count) * 2 ^ (64 - count)
 by_bits word count z = sym (div-add-mod' word (2 ^ (64 - count))) ∙ omega (arith, z)
 
-byte_bits : (b : ℕ) → low_bits 8 b ≡ bits_of b
+pub byte_bits : (b : ℕ) → low_bits 8 b ≡ bits_of b
 unfolding low_bits
 byte_bits b = grind arith
+
+-- m bits after those of a word
+module _ (word count m front : ℕ) (few : count + m ≤ 64) (z : HasZerosAfter word count) (small : front < 2 ^ m) where
+  with_front : word + front * 2 ^ (64 - (count + m)) ≡ (word / 2 ^ (64 - count) * 2 ^ m + front) * 2 ^ (64 - (count + m))
+  with_front =
+      let k = 64 - (count + m) in
+      let e : 64 - count ≡ m + k = omega (arith, few) in
+      grind (arith, pow-add, by_bits, mul_assoc, add-mul)
+
+  pub front_zeros : HasZerosAfter (word + front * 2 ^ (64 - (count + m))) (count + m)
+  front_zeros = grind (arith, with_front, mul-mod_left)
+
+  pub front_buffered : buffered_bits (word + front * 2 ^ (64 - (count + m))) (count + m) ≡
+      buffered_bits word count ++ low_bits m front
+  front_buffered = grind (arith, with_front, shl-shr, low_bits-append)
+
+  pub front_fits : word < 2 ^ 64 → word + front * 2 ^ (64 - (count + m)) < 2 ^ 64
+  front_fits fits =
+      let k = 64 - (count + m) in
+      let q = word / 2 ^ (64 - count) in
+      let e : 64 ≡ count + (64 - count) = omega (arith, few) in
+      let f : 64 ≡ (count + m) + k = omega (arith, few) in
+      let p : 2 ^ 64 ≡ 2 ^ (count + (64 - count)) = ap (λ (n : ℕ). 2 ^ n) e in
+      let below : q < 2 ^ count = front_small word count (64 - count) (omega (arith, p)) in
+      let c : 2 ^ (count + m) ≡ 2 ^ count * 2 ^ m = pow-add 2 count m in
+      let above : q + 1 ≤ 2 ^ count = omega (arith, below) in
+      let row : (q + 1) * 2 ^ m ≤ 2 ^ count * 2 ^ m = mul-le-mul_right (2 ^ m) above in
+      let le : q * 2 ^ m + front + 1 ≤ 2 ^ (count + m) = omega (arith, c, row, add-mul q 1 (2 ^ m), one-mul (2 ^ m), small) in
+      let g : (q * 2 ^ m + front + 1) * 2 ^ k ≤ 2 ^ (count + m) * 2 ^ k = mul-le-mul_right (2 ^ k) le in
+      grind (arith, add-mul, one-mul, pow_pos, pow-add, with_front)
+
+  pub front_shifted : front * 2 ^ (64 - (count + m)) % 2 ^ 64 ≡ front * 2 ^ (64 - (count + m))
+  front_shifted = shl_exact m (64 - (count + m)) 64 small (omega (arith, few))
 
 -- a byte after the bits
 module _ (word count byte : ℕ) (few : count ≤ 56) (z : HasZerosAfter word count) where

@@ -20,6 +20,7 @@ pub mod BlockView
 -- the code's own words: the clauses of `Decoder`, `run` and `report` reach none of these
 pub mod Turns
 pub mod Refusals
+pub mod BytesAhead
 pub mod Reservoir
 pub mod ShortCodes
 pub mod Skips

@@ -3,6 +3,7 @@ ghost use Rattle.std.specs.Prelude.{◌≡◌, if◌then◌else◌, IfOk, IfErr,
 ghost use Rattle.std.specs.Prelude.{IsErrAnd, map, Some};
 ghost use Rattle.std.specs.Prelude.{[], replicate, IfSome, None, option_map, is_some, Err, true};
 ghost use Rattle.std.specs.Prelude.{false};
+ghost use Rattle.std.specs.Io.KnownBytes.{prepend_known};
 ghost use Rattle.jpeg_bits.specs.Reading.{Answers};
 ghost use Rattle.jpeg_bits.specs.Stream.{stream_of};
 ghost use Rattle.jpeg_bits.specs.declared.error.Error.TheVariants.{OutOfMemory};
@@ -235,8 +236,30 @@ impl<R: Read + Drop> Model for Decoder<R> {
 }
 
 impl<R: Read + Drop> Decoder<R> {
-    /// Makes a decoder for the stream that the reader gives. The only error is `OutOfMemory`, in
-    /// which case the reader is dropped.
+    /// Makes a decoder that has read nothing of a source.
+    #[inline(always)]
+    fn of_source(alloc: Global, source: Source<R>) -> Decoder<R>
+        ensures { result ≡ record {
+          source = source;
+          stage = Fresh;
+          found = nothing_found;
+          settings = default_settings;
+        } }
+    {
+        Decoder {
+            alloc,
+            source,
+            progress: Progress::Fresh,
+            state: State::new(alloc),
+            settings: Settings {
+                limit: usize::MAX,
+                color_transform: None,
+            },
+        }
+    }
+
+    /// Makes a decoder for the stream that the reader gives. It reads no byte after the end of the
+    /// image. The only error is `OutOfMemory`, in which case the reader is dropped.
     pub fn new(alloc: Global, reader: R) -> Result<Decoder<R>>
         ensures ok { IfOk result (λ d. d ≡ record {
           source = stream_of (R.remaining reader) false false;
@@ -246,16 +269,24 @@ impl<R: Read + Drop> Decoder<R> {
         }) }
         ensures err { IfErr result (λ e. e ≡ OutOfMemory) }
     {
-        Ok(Decoder {
-            alloc,
-            source: Source::new(reader),
-            progress: Progress::Fresh,
-            state: State::new(alloc),
-            settings: Settings {
-                limit: usize::MAX,
-                color_transform: None,
-            },
-        })
+        Ok(Decoder::of_source(alloc, Source::new(reader)))
+    }
+
+    /// Makes a decoder like `new` that reads ahead of what it needs, up to `capacity` bytes at
+    /// once, which takes less time. It may have read bytes after the end of the image: `rest`
+    /// returns them. A capacity of 0 is that of `new`. The only error is `OutOfMemory`, in which
+    /// case the reader is dropped.
+    pub fn with_capacity(alloc: Global, capacity: usize, reader: R) -> Result<Decoder<R>>
+        ensures ok { IfOk result (λ d. d ≡ record {
+          source = stream_of (R.remaining reader) false false;
+          stage = Fresh;
+          found = nothing_found;
+          settings = default_settings;
+        }) }
+        ensures err { IfErr result (λ e. e ≡ OutOfMemory) }
+    {
+        let source = Source::with_capacity(alloc, capacity, reader)?;
+        Ok(Decoder::of_source(alloc, source))
     }
 
     /// Returns the size and the format of the picture once a frame has been accepted, in every
@@ -279,12 +310,13 @@ impl<R: Read + Drop> Decoder<R> {
         self.state.said.frame.as_ref().map(|frame| frame.precision)
     }
 
-    /// Returns the reader, in every state. The bytes that no call has read are ahead of it.
-    pub fn reader(&self) -> &R
-        ensures { self.now.source.known ≡ true → R.remaining result.now
-            ≡ Some self.now.source.bytes }
+    /// Returns the bytes that were read ahead and that no call has taken, and the reader, which
+    /// goes on after them, in every state. A decoder made by `new` has read no bytes ahead.
+    pub fn rest(&self) -> (&[u8], &R)
+        ensures { self.now.source.known ≡ true
+            → prepend_known result.0.now (R.remaining result.1.now) ≡ Some self.now.source.bytes }
     {
-        self.source.reader()
+        self.source.rest()
     }
 
     /// Returns whether a read has failed, other than by being interrupted, in every state. The end

@@ -202,11 +202,36 @@ impl BufferedBits {
         if count <= self.bits.len() || self.end.is_some() {
             return true;
         }
+        if self.push_plain(source) {
+            return true;
+        }
         // A local's address goes to the call, so that `self` can stay in registers.
         let mut buffered = self.copied();
         let is_full = buffered.refill(source, refusal);
         *self = buffered;
         is_full
+    }
+
+    /// Appends as many whole bytes as there is room for, if the source has read eight ahead and
+    /// none of them is FF, and returns whether that is so.
+    #[inline(always)]
+    fn push_plain<R: Read + Drop>(&mut self, source: &mut Source<R>) -> bool
+        requires few { length self.old.bits ≤ 56 }
+        requires unended { self.old.met ≡ None }
+        ensures pushed { result ≡ true → Takes {X = Unit {0}} (λ _. 0) same_text self.old source.old
+            (Ok tt) self.new source.new }
+        ensures full { result ≡ true → IsFilled 57 self.new.bits self.new.met }
+        ensures same { result ≡ false → self.new ≡ self.old }
+        ensures still { result ≡ false → source.new ≡ source.old }
+    {
+        let count = (64 - self.bits.len()) / 8;
+        match source.take_plain(count) {
+            Some(word) => {
+                self.bits.push_front(word, count);
+                true
+            }
+            None => false,
+        }
     }
 
     /// Reads ahead until at least 57 bits are buffered, or the end is reached, which is read once.

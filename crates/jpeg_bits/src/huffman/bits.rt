@@ -23,7 +23,8 @@ impl Model for Bits {
 }
 
 impl Bits {
-    ghost use Rattle.std.specs.Prelude.{◌≡◌, ◌≤◌, ◌<◌, ◌^◌, ◌++◌, [], take, drop, length};
+    ghost use Rattle.std.specs.Prelude.{◌≡◌, ◌≤◌, ◌<◌, ◌+◌, ◌-◌, ◌*◌, ◌/◌, ◌^◌, ◌++◌, [], take};
+    ghost use Rattle.std.specs.Prelude.{drop, length};
     ghost use Rattle.std.specs.Prelude.{replicate, false};
     ghost use Rattle.jpeg_bits.specs.Codes.{next_16};
     ghost use Rattle.jpeg_bits.specs.ShortCodes.{next_bits};
@@ -73,6 +74,20 @@ impl Bits {
     {
         self.word += u64::from(byte) << (56 - self.count);
         self.count += 8;
+    }
+
+    /// Appends the bits of the first `count` of eight bytes, of which the first is the highest of
+    /// the number.
+    #[inline(always)]
+    pub(crate) fn push_front(&mut self, word: u64, count: usize)
+        requires some { 1 ≤ count }
+        requires most { count ≤ 8 }
+        requires room { length self.old + 8 * count ≤ 64 }
+        ensures { self.new ≡ self.old ++ low_bits (8 * count) (word / 2 ^ (64 - 8 * count)) }
+    {
+        let after = self.count + 8 * count;
+        self.word += (word >> (64 - 8 * count)) << (64 - after);
+        self.count = after;
     }
 
     /// Returns the first `count` bits, with zeros after them, as a number.
