@@ -236,28 +236,6 @@ impl<R: Read + Drop> Model for Decoder<R> {
 }
 
 impl<R: Read + Drop> Decoder<R> {
-    /// Makes a decoder that has read nothing of a source.
-    #[inline(always)]
-    fn of_source(alloc: Global, source: Source<R>) -> Decoder<R>
-        ensures { result ≡ record {
-          source = source;
-          stage = Fresh;
-          found = nothing_found;
-          settings = default_settings;
-        } }
-    {
-        Decoder {
-            alloc,
-            source,
-            progress: Progress::Fresh,
-            state: State::new(alloc),
-            settings: Settings {
-                limit: usize::MAX,
-                color_transform: None,
-            },
-        }
-    }
-
     /// Makes a decoder for the stream that the reader gives. It reads no byte after the end of the
     /// image. The only error is `OutOfMemory`, in which case the reader is dropped.
     pub fn new(alloc: Global, reader: R) -> Result<Decoder<R>>
@@ -269,13 +247,20 @@ impl<R: Read + Drop> Decoder<R> {
         }) }
         ensures err { IfErr result (λ e. e ≡ OutOfMemory) }
     {
-        Ok(Decoder::of_source(alloc, Source::new(reader)))
+        Ok(Decoder {
+            alloc,
+            source: Source::new(reader),
+            progress: Progress::Fresh,
+            state: State::new(alloc),
+            settings: Settings {
+                limit: usize::MAX,
+                color_transform: None,
+            },
+        })
     }
 
-    /// Makes a decoder like `new` that reads ahead of what it needs, up to `capacity` bytes at
-    /// once, which takes less time. It may have read bytes after the end of the image: `rest`
-    /// returns them. A capacity of 0 is that of `new`. The only error is `OutOfMemory`, in which
-    /// case the reader is dropped.
+    /// Makes a decoder like `new` that reads up to `capacity` bytes ahead (`read_ahead`). The only
+    /// error is `OutOfMemory`, in which case the reader is dropped.
     pub fn with_capacity(alloc: Global, capacity: usize, reader: R) -> Result<Decoder<R>>
         ensures ok { IfOk result (λ d. d ≡ record {
           source = stream_of (R.remaining reader) false false;
@@ -285,8 +270,20 @@ impl<R: Read + Drop> Decoder<R> {
         }) }
         ensures err { IfErr result (λ e. e ≡ OutOfMemory) }
     {
-        let source = Source::with_capacity(alloc, capacity, reader)?;
-        Ok(Decoder::of_source(alloc, source))
+        let mut decoder = Decoder::new(alloc, reader)?;
+        decoder.read_ahead(capacity)?;
+        Ok(decoder)
+    }
+
+    /// Lets the decoder read up to `capacity` bytes ahead of what it needs, which takes less time
+    /// for all but the smallest pictures, unless it does so already. It may then read bytes after
+    /// the end of the image: `rest` returns them. No answer changes. A capacity of 0 changes
+    /// nothing. The only error is `OutOfMemory`, in which case the decoder reads as it did.
+    pub fn read_ahead(&mut self, capacity: usize) -> Result<()>
+        ensures same { self.new ≡ self.old }
+        ensures err { IfErr result (λ e. e ≡ OutOfMemory) }
+    {
+        self.source.read_ahead(self.alloc, capacity)
     }
 
     /// Returns the size and the format of the picture once a frame has been accepted, in every

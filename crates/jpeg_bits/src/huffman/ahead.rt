@@ -13,6 +13,7 @@ use crate::huffman::codes::HuffmanTable;
 use crate::huffman::pairs::Pair;
 use crate::marker::Marker;
 use crate::source::Source;
+use crate::source::bytes::Bytes;
 use std::alloc::Global;
 use std::io::Read;
 use std::marker::Model;
@@ -41,16 +42,16 @@ pub(crate) enum Piece {
 #[cold]
 #[inline(never)]
 #[tactic(auto, unfolding(crate::specs::Entropy::piece_at))]
-fn piece_of<R: Read + Drop>(
+fn piece_of<S: Bytes>(
     alloc: Global,
-    source: &mut Source<R>,
+    source: &mut S,
     next: Option<Option<u8>>,
     refusal: &mut Option<Error>,
 ) -> Option<Piece>
     requires { IsRefused next refusal.old }
     ensures answers { (before : Stream) → Answers (λ b. b) byte_or_end before
-        (answer_of next refusal.old) source.old
-        → Answers (λ p. p) piece_at before (answer_of result refusal.new) source.new }
+        (answer_of next refusal.old) (S.stream source.old)
+        → Answers (λ p. p) piece_at before (answer_of result refusal.new) (S.stream source.new) }
     ensures refused { IsRefused result refusal.new }
 {
     match next {
@@ -65,13 +66,13 @@ fn piece_of<R: Read + Drop>(
 /// returned.
 #[cold]
 #[inline(never)]
-fn next_after_ff<R: Read + Drop>(
+fn next_after_ff<S: Bytes>(
     alloc: Global,
-    source: &mut Source<R>,
+    source: &mut S,
     refusal: &mut Option<Error>,
 ) -> Option<Piece>
-    ensures answers { Answers (λ p. p) (λ bytes. Ok (after_ff bytes)) source.old
-        (answer_of result refusal.new) source.new }
+    ensures answers { Answers (λ p. p) (λ bytes. Ok (after_ff bytes)) (S.stream source.old)
+        (answer_of result refusal.new) (S.stream source.new) }
     ensures refused { IsRefused result refusal.new }
 {
     match read_after_ff(alloc, source) {
@@ -85,8 +86,9 @@ fn next_after_ff<R: Read + Drop>(
 
 /// Reads what a byte FF and those after it mean.
 #[tactic(auto, unfolding(crate::specs::Entropy::filled_end))]
-fn read_after_ff<R: Read + Drop>(alloc: Global, source: &mut Source<R>) -> Result<Piece>
-    ensures { Answers (λ p. p) (λ bytes. Ok (after_ff bytes)) source.old result source.new }
+fn read_after_ff<S: Bytes>(alloc: Global, source: &mut S) -> Result<Piece>
+    ensures { Answers (λ p. p) (λ bytes. Ok (after_ff bytes)) (S.stream source.old) result
+        (S.stream source.new) }
 {
     let Some(mut next) = read_or_end(alloc, source)? else {
         return Ok(Piece::Data(DataEnd::Ended));
@@ -110,13 +112,17 @@ fn read_after_ff<R: Read + Drop>(alloc: Global, source: &mut Source<R>) -> Resul
 }
 
 /// Reads the next byte, or returns none if the bytes end.
-fn read_or_end<R: Read + Drop>(alloc: Global, source: &mut Source<R>) -> Result<Option<u8>>
-    ensures answers { Answers (λ b. b) byte_or_end source.old result source.new }
-    ensures short { IsShort source.old }
+fn read_or_end<S: Bytes>(alloc: Global, source: &mut S) -> Result<Option<u8>>
+    ensures answers { Answers (λ b. b) byte_or_end (S.stream source.old) result
+        (S.stream source.new) }
+    ensures short { IsShort (S.stream source.old) }
 {
-    let mut buffer = [0u8];
-    let count = source.read(alloc, &mut buffer)?;
-    Ok(if count == 0 { None } else { Some(buffer[0]) })
+    let mut refusal = None;
+    match (source.next_byte(alloc, &mut refusal), refusal) {
+        (Some(next), _) => Ok(next),
+        (None, Some(error)) => Err(error),
+        (None, None) => unreachable!(),
+    }
 }
 
 /// The bits read ahead of a source, and the end that was reached.
@@ -236,8 +242,7 @@ impl BufferedBits {
 
     /// Reads ahead until at least 57 bits are buffered, or the end is reached, which is read once.
     /// A refusal is stored in `refusal`, and false is returned.
-    #[inline(never)]
-    #[tactic(auto, unfolding(crate::specs::Entropy::upcoming))]
+    #[inline(always)]
     fn refill<R: Read + Drop>(
         &mut self,
         source: &mut Source<R>,
@@ -248,13 +253,28 @@ impl BufferedBits {
         ensures full { result ≡ true → IsFilled 57 self.new.bits self.new.met }
         ensures refused { result ≡ false → is_some refusal.new ≡ true }
     {
+        if source.ahead.is_some() {
+            return self.refill_from(source, refusal);
+        }
+        self.refill_from(&mut source.unbuffered, refusal)
+    }
+
+    /// Does so from what gives bytes one by one.
+    #[inline(never)]
+    #[tactic(auto, unfolding(crate::specs::Entropy::upcoming))]
+    fn refill_from<S: Bytes>(&mut self, source: &mut S, refusal: &mut Option<Error>) -> bool
+        ensures fills { Takes (λ _. 0) same_text self.old (S.stream source.old)
+            (outcome_of result refusal.new) self.new (S.stream source.new) }
+        ensures full { result ≡ true → IsFilled 57 self.new.bits self.new.met }
+        ensures refused { result ≡ false → is_some refusal.new ≡ true }
+    {
         if self.end.is_some() {
             return true;
         }
         // The loop works on a local, which stays in registers.
         let mut bits = self.bits.copied();
         while bits.len() <= 56 {
-            let next = source.next(self.alloc, refusal);
+            let next = source.next_byte(self.alloc, refusal);
             // Nearly all bytes stand for themselves.
             if let Some(Some(byte)) = next
                 && byte != 0xff

@@ -11,7 +11,7 @@ use std::marker::Model;
 
 /// Bytes that were read and not taken yet: those of `bytes` from `start` to `end`.
 #[derive(Drop)]
-pub(super) struct Buffer {
+pub(crate) struct Buffer {
     bytes: Vec<u8>,
     start: usize,
     end: usize,

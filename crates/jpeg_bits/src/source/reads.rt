@@ -10,7 +10,34 @@ use std::alloc::Global;
 use std::io::Read;
 
 /// Reads the next byte. The error is `Io` if the bytes end or a read fails.
+#[inline(always)]
 pub fn read_u8<R: Read + Drop>(alloc: Global, source: &mut Source<R>) -> Result<u8>
+    ensures answers { Answers (λ b. b) next_byte source.old result source.new }
+    ensures room { source.old.known ≡ true → result ≡ Err OutOfMemory
+        → next_byte source.old.bytes ≡ Err Malformed }
+    ensures short { IsShort source.old }
+{
+    // A read of bytes in memory can't fail, so that without the buffer's no error is made room for.
+    if source.ahead.is_some() {
+        return read_u8_ahead(alloc, source);
+    }
+    read_next(alloc, source)
+}
+
+/// Reads the next byte of a source that reads ahead.
+#[inline(never)]
+fn read_u8_ahead<R: Read + Drop>(alloc: Global, source: &mut Source<R>) -> Result<u8>
+    ensures answers { Answers (λ b. b) next_byte source.old result source.new }
+    ensures room { source.old.known ≡ true → result ≡ Err OutOfMemory
+        → next_byte source.old.bytes ≡ Err Malformed }
+    ensures short { IsShort source.old }
+{
+    read_next(alloc, source)
+}
+
+/// Reads the next byte by a read of one.
+#[inline(always)]
+fn read_next<R: Read + Drop>(alloc: Global, source: &mut Source<R>) -> Result<u8>
     ensures answers { Answers (λ b. b) next_byte source.old result source.new }
     ensures room { source.old.known ≡ true → result ≡ Err OutOfMemory
         → next_byte source.old.bytes ≡ Err Malformed }

@@ -3,6 +3,7 @@ ghost use Rattle.std.specs.Prelude.{◌≡◌, length};
 ghost use Rattle.jpeg_bits.specs.Stream.{Stream};
 
 use crate::error::{Error, Result};
+use crate::source::bytes::Bytes;
 use crate::source::turns::{Asked, read_by_turns};
 use std::alloc::Global;
 use std::io;
@@ -12,7 +13,7 @@ use std::marker::Model;
 /// A reader, and whether a read of it has failed, which is remembered. Interrupted reads are
 /// repeated.
 #[derive(Drop)]
-pub(super) struct Unbuffered<R: Read + Drop> {
+pub(crate) struct Unbuffered<R: Read + Drop> {
     reader: R,
     failed: bool,
     exhausted: bool,
@@ -98,6 +99,7 @@ impl<R: Asked + Drop> Unbuffered<R> {
         ensures answers { Answers (λ b. b) byte_or_end self.old (answer_of result refusal.new)
             self.new }
         ensures refused { IsRefused result refusal.new }
+        ensures short { IsShort self.old }
         ensures turns { IfErr (answer_of result refusal.new) (IsByTurns (read_fails R.answers)) }
     {
         let mut buffer = [0u8];
@@ -135,5 +137,14 @@ impl<R: Asked + Drop> Unbuffered<R> {
                 None
             }
         }
+    }
+}
+
+impl<R: Asked + Drop> Bytes for Unbuffered<R> {
+    ghost stream = { λ s. s };
+
+    #[inline(always)]
+    fn next_byte(&mut self, alloc: Global, refusal: &mut Option<Error>) -> Option<Option<u8>> {
+        self.next(alloc, refusal)
     }
 }

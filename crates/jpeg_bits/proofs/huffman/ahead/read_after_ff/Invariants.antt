@@ -6,7 +6,7 @@ use Rattle.jpeg_bits.proofs.huffman.ahead.read_after_ff.Given as goal
 
 abbrev pub invariant-loop : goal.invariant-loop
 invariant-loop g l = record {
-  rest : Continues (λ (bs : List ℕ). Ok (after_ff bs)) l.fn.source
-      (λ (bs : List ℕ). Ok (Data (filled_end (l.next ∷ bs)).0, (filled_end (l.next ∷ bs)).1)) l.source;
-  took : Took l.fn.source (l.counter + 1) l.source;
+  rest : Continues (λ (bs : List ℕ). Ok (after_ff bs)) (g.S.Bytes.stream l.fn.source)
+      (λ (bs : List ℕ). Ok (Data (filled_end (l.next ∷ bs)).0, (filled_end (l.next ∷ bs)).1)) (g.S.Bytes.stream l.source);
+  took : Took (g.S.Bytes.stream l.fn.source) (l.counter + 1) (g.S.Bytes.stream l.source);
 }
