@@ -1,25 +1,10 @@
 /* The C side of the library: tests what a C caller can get wrong and the proved calls can't (null
  * pointers, sizes above PTRDIFF_MAX), and then calls these, with the memory of the options. */
 #include "heap.h"
+#include "proved.h"
 
 #include <stddef.h>
 #include <string.h>
-
-/* The proved calls, of crates/zaxbriar. They take a slice as a pointer that isn't null and a
- * length. */
-uint32_t zaxbriar_checked_read_info(const uint8_t *jpeg, size_t jpeg_size,
-                                    const zaxbriar_options *options, zaxbriar_picture *picture);
-uint32_t zaxbriar_checked_decode(const uint8_t *jpeg, size_t jpeg_size,
-                                 const zaxbriar_options *options, uint8_t *pixels,
-                                 size_t pixels_size, zaxbriar_picture *picture);
-uint32_t zaxbriar_checked_decode_partial(const uint8_t *jpeg, size_t jpeg_size,
-                                         const zaxbriar_options *options, uint8_t *pixels,
-                                         size_t pixels_size, zaxbriar_picture *picture);
-uint32_t zaxbriar_checked_metadata(const uint8_t *jpeg, size_t jpeg_size, uint32_t kind,
-                                   uint8_t *data, size_t data_size, uint64_t *length);
-void zaxbriar_checked_find_metadata(const uint8_t *jpeg, size_t jpeg_size, zaxbriar_places *places);
-uint32_t zaxbriar_checked_next_segment(const uint8_t *jpeg, size_t jpeg_size,
-                                       zaxbriar_segment *segment);
 
 /* The proved code has the same structs. */
 _Static_assert(sizeof(size_t) == 8, "the proofs are for 64 bits");

@@ -8,16 +8,9 @@
 #include <sys/auxv.h>
 #include <unistd.h>
 
-enum { ROOM = 4096 };
+#include "processor.h"
 
-/* Whether the processor and the system are of the kind x86-64-v3. */
-static int is_v3(void) {
-    __builtin_cpu_init();
-    return __builtin_cpu_supports("avx2") && __builtin_cpu_supports("bmi") &&
-           __builtin_cpu_supports("bmi2") && __builtin_cpu_supports("f16c") &&
-           __builtin_cpu_supports("fma") && __builtin_cpu_supports("lzcnt") &&
-           __builtin_cpu_supports("movbe");
-}
+enum { ROOM = 4096 };
 
 /* Writes the program's own path: the one that the system tells, or, where /proc isn't mounted, as
  * in many sandboxes, the one that it was started by. (That isn't argv[0], which the caller is free
@@ -45,7 +38,7 @@ int main(int count, char **words) {
     }
     *name++ = 0;
     const char *const kinds[] = {"x86-64-v3", "x86-64-v2"};
-    for (int kind = is_v3() ? 0 : 1; kind < 2; kind++) {
+    for (int kind = zaxbriar_is_v3() ? 0 : 1; kind < 2; kind++) {
         snprintf(path, sizeof path, "%s/../libexec/zaxbriar/%s/%s", own, kinds[kind], name);
         execv(path, words);
     }

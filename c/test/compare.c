@@ -4,7 +4,8 @@
  * byte for byte. Then the same picture is asked for with less room, from the part of the file that
  * was read, in each layout with gaps between the lines, at each scale, and with a limit. Metadata
  * are compared with NAME.exif, NAME.xmp and NAME.icc where there are such files, and the
- * orientation with the number after `orientation-` in the name. */
+ * orientation with the number after `orientation-` in the name. The last line has a sum of all
+ * pictures and of what is said of them, by which two builds of the library are compared. */
 #define _POSIX_C_SOURCE 200809L
 #include <sys/wait.h>
 
@@ -12,6 +13,12 @@
 
 static struct bytes jpeg;
 static long decoded, refused, compared, arranged, scaled;
+static uint64_t sum = 14695981039346656037u;
+
+static void add_to_sum(const void *start, size_t size) {
+    for (size_t i = 0; i < size; i++)
+        sum = (sum ^ ((const unsigned char *)start)[i]) * 1099511628211u;
+}
 
 static const char *format(const zaxbriar_picture *picture) {
     switch (picture->format) {
@@ -149,6 +156,7 @@ static void in_layout(int layout, const zaxbriar_picture *whole, const unsigned 
     for (size_t y = 0; y < head.height; y++)
         CHECK(!memcmp(joined + y * head.row_bytes, rows + y * ((uint64_t)whole->width * 8 + 13),
                       head.row_bytes));
+    add_to_sum(joined, head.size);
     free(joined);
     free(rows);
     arranged++;
@@ -178,6 +186,7 @@ static void at_scale(unsigned part, const zaxbriar_picture *whole) {
           ZAXBRIAR_OK);
     CHECK(picture.width == head.width && picture.height == head.height &&
           picture.size == head.size);
+    add_to_sum(pixels, head.size);
     free(pixels);
     scaled++;
 }
@@ -259,6 +268,7 @@ static void of_file(const char *name, const char *jpegraw) {
     CHECK(is_headed || answer != ZAXBRIAR_OK);
     if (answer) refused++;
     else decoded++;
+    add_to_sum(&picture, sizeof picture);
     if (jpegraw) with_jpegraw(jpegraw, name, answer, &picture, pixels);
     metadata(name);
     metadata_of_image(answer);
@@ -294,7 +304,7 @@ int main(int argc, char **argv) {
     fclose(list);
     printf("compare: %ld files decoded, %ld refused; %ld compared with jpegraw; %ld pictures in "
            "other layouts, %ld at scales; "
-           "%d faults\n",
-           decoded, refused, compared, arranged, scaled, faults);
+           "%d faults; sum %016llx\n",
+           decoded, refused, compared, arranged, scaled, faults, (unsigned long long)sum);
     return faults != 0;
 }

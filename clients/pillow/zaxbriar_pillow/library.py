@@ -90,25 +90,11 @@ class Error(OSError):
         self.answer = answer
 
 
-def _has_x86_64_v3():
-    """Whether the processor has what the kind x86-64-v3 has."""
-    wanted = {"avx2", "bmi1", "bmi2", "f16c", "fma", "abm", "movbe"}
-    try:
-        with open("/proc/cpuinfo") as info:
-            flags = next((line for line in info if line.startswith("flags")), "")
-    except OSError:
-        return False
-    return wanted <= set(flags.split())
-
-
 def _place():
-    """Where the library is: as ZAXBRIAR_LIBRARY says, beside this file as a wheel has it, with a
-    form for newer processors as glibc would choose it, or where the system finds it."""
-    here = os.path.dirname(os.path.abspath(__file__))
-    beside = [f"{here}/{NAME}"]
-    if _has_x86_64_v3():
-        beside.insert(0, f"{here}/glibc-hwcaps/x86-64-v3/{NAME}")
-    return os.environ.get("ZAXBRIAR_LIBRARY") or next(filter(os.path.exists, beside), NAME)
+    """Where the library is: as ZAXBRIAR_LIBRARY says, beside this file as a wheel has it, or where
+    the system finds it."""
+    beside = f"{os.path.dirname(os.path.abspath(__file__))}/{NAME}"
+    return os.environ.get("ZAXBRIAR_LIBRARY") or (beside if os.path.exists(beside) else NAME)
 
 
 _library = ctypes.CDLL(_place())

@@ -1,0 +1,58 @@
+/* The proved calls where the library has them twice, of the same proofs: compiled for processors of
+ * the kind x86-64-v2, and for those of the kind x86-64-v3. Each call goes to the second where the
+ * processor is of that kind. Where the library has them once (`make CPU=..`) this isn't linked. */
+#include "processor.h"
+#include "proved.h"
+
+#define FOR_BOTH(call) \
+    extern __typeof__(zaxbriar_checked_##call) zaxbriar_v2_##call, zaxbriar_v3_##call
+
+FOR_BOTH(read_info);
+FOR_BOTH(decode);
+FOR_BOTH(decode_partial);
+FOR_BOTH(metadata);
+FOR_BOTH(find_metadata);
+FOR_BOTH(next_segment);
+
+uint32_t zaxbriar_checked_read_info(const uint8_t *jpeg, size_t jpeg_size,
+                                    const zaxbriar_options *options, zaxbriar_picture *picture) {
+    if (zaxbriar_is_v3()) return zaxbriar_v3_read_info(jpeg, jpeg_size, options, picture);
+    return zaxbriar_v2_read_info(jpeg, jpeg_size, options, picture);
+}
+
+uint32_t zaxbriar_checked_decode(const uint8_t *jpeg, size_t jpeg_size,
+                                 const zaxbriar_options *options, uint8_t *pixels,
+                                 size_t pixels_size, zaxbriar_picture *picture) {
+    if (zaxbriar_is_v3())
+        return zaxbriar_v3_decode(jpeg, jpeg_size, options, pixels, pixels_size, picture);
+    return zaxbriar_v2_decode(jpeg, jpeg_size, options, pixels, pixels_size, picture);
+}
+
+uint32_t zaxbriar_checked_decode_partial(const uint8_t *jpeg, size_t jpeg_size,
+                                         const zaxbriar_options *options, uint8_t *pixels,
+                                         size_t pixels_size, zaxbriar_picture *picture) {
+    if (zaxbriar_is_v3())
+        return zaxbriar_v3_decode_partial(jpeg, jpeg_size, options, pixels, pixels_size, picture);
+    return zaxbriar_v2_decode_partial(jpeg, jpeg_size, options, pixels, pixels_size, picture);
+}
+
+uint32_t zaxbriar_checked_metadata(const uint8_t *jpeg, size_t jpeg_size, uint32_t kind,
+                                   uint8_t *data, size_t data_size, uint64_t *length) {
+    if (zaxbriar_is_v3())
+        return zaxbriar_v3_metadata(jpeg, jpeg_size, kind, data, data_size, length);
+    return zaxbriar_v2_metadata(jpeg, jpeg_size, kind, data, data_size, length);
+}
+
+void zaxbriar_checked_find_metadata(const uint8_t *jpeg, size_t jpeg_size,
+                                    zaxbriar_places *places) {
+    if (zaxbriar_is_v3())
+        zaxbriar_v3_find_metadata(jpeg, jpeg_size, places);
+    else
+        zaxbriar_v2_find_metadata(jpeg, jpeg_size, places);
+}
+
+uint32_t zaxbriar_checked_next_segment(const uint8_t *jpeg, size_t jpeg_size,
+                                       zaxbriar_segment *segment) {
+    if (zaxbriar_is_v3()) return zaxbriar_v3_next_segment(jpeg, jpeg_size, segment);
+    return zaxbriar_v2_next_segment(jpeg, jpeg_size, segment);
+}

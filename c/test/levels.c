@@ -1,0 +1,69 @@
+/* levels: whether each call of levels.c gives its arguments to the one of the processor's kind, and
+ * what that returns to its caller. The calls for both kinds are this file's. */
+#include "common.h"
+#include "processor.h"
+#include "proved.h"
+
+static int kind, calls;
+static unsigned char bytes[4];
+static zaxbriar_options options;
+static zaxbriar_picture picture;
+static zaxbriar_places places;
+static zaxbriar_segment segment;
+static uint64_t length;
+
+int zaxbriar_is_v3(void) { return kind == 3; }
+
+/* A call of the kind N returns 10 * N + NUMBER where its arguments are those of `main`. */
+static uint32_t called(int of, uint32_t number, int right) {
+    CHECK(of == kind);
+    CHECK(right);
+    calls++;
+    return (uint32_t)of * 10 + number;
+}
+
+#define CALLS_OF(N)                                                                                \
+    uint32_t zaxbriar_v##N##_read_info(const uint8_t *j, size_t n, const zaxbriar_options *o,      \
+                                       zaxbriar_picture *p) {                                      \
+        return called(N, 1, j == bytes && n == 3 && o == &options && p == &picture);               \
+    }                                                                                              \
+    uint32_t zaxbriar_v##N##_decode(const uint8_t *j, size_t n, const zaxbriar_options *o,         \
+                                    uint8_t *x, size_t m, zaxbriar_picture *p) {                   \
+        return called(N, 2, j == bytes && n == 3 && o == &options && x == bytes + 1 && m == 2 &&   \
+                                p == &picture);                                                    \
+    }                                                                                              \
+    uint32_t zaxbriar_v##N##_decode_partial(const uint8_t *j, size_t n, const zaxbriar_options *o, \
+                                            uint8_t *x, size_t m, zaxbriar_picture *p) {           \
+        return called(N, 3, j == bytes && n == 3 && o == &options && x == bytes + 1 && m == 2 &&   \
+                                p == &picture);                                                    \
+    }                                                                                              \
+    uint32_t zaxbriar_v##N##_metadata(const uint8_t *j, size_t n, uint32_t k, uint8_t *d, size_t m,\
+                                      uint64_t *l) {                                               \
+        return called(N, 4, j == bytes && n == 3 && k == 257 && d == bytes + 1 && m == 2 &&        \
+                                l == &length);                                                     \
+    }                                                                                              \
+    void zaxbriar_v##N##_find_metadata(const uint8_t *j, size_t n, zaxbriar_places *p) {           \
+        called(N, 5, j == bytes && n == 3 && p == &places);                                        \
+    }                                                                                              \
+    uint32_t zaxbriar_v##N##_next_segment(const uint8_t *j, size_t n, zaxbriar_segment *s) {       \
+        return called(N, 6, j == bytes && n == 3 && s == &segment);                                \
+    }
+
+CALLS_OF(2)
+CALLS_OF(3)
+
+int main(void) {
+    for (kind = 2; kind <= 3; kind++) {
+        uint32_t base = (uint32_t)kind * 10;
+        CHECK(zaxbriar_checked_read_info(bytes, 3, &options, &picture) == base + 1);
+        CHECK(zaxbriar_checked_decode(bytes, 3, &options, bytes + 1, 2, &picture) == base + 2);
+        CHECK(zaxbriar_checked_decode_partial(bytes, 3, &options, bytes + 1, 2, &picture) ==
+              base + 3);
+        CHECK(zaxbriar_checked_metadata(bytes, 3, 257, bytes + 1, 2, &length) == base + 4);
+        zaxbriar_checked_find_metadata(bytes, 3, &places);
+        CHECK(zaxbriar_checked_next_segment(bytes, 3, &segment) == base + 6);
+    }
+    CHECK(calls == 12);
+    printf("levels: %d calls; %d faults\n", calls, faults);
+    return faults != 0;
+}
