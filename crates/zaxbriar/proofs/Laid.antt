@@ -1,11 +1,13 @@
 -- Pixels and lines that are written one after the other.
 use Rattle.std.proofs.Common.{◌≡◌, ◌∙◌, ℕ, zero, suc, ◌+◌, ◌-◌, ◌*◌, ◌/◌, ◌<◌, ◌≤◌, List, [], ◌∷◌, ◌++◌, length, take}
-use Rattle.std.proofs.Common.{drop, refl, sym, ap, arith, append_assoc, length-append, length-drop, length-take, true}
+use Rattle.std.proofs.Common.{drop, refl, sym, ap, arith, add-mul, append_assoc, length-append, length-drop, length-take, replicate, true}
 use Rattle.std.proofs.Math.Seq.{take-append_seam, drop-append_seam, take-append-add, drop-append-add}
-use Rattle.std.proofs.lemmas.List.{append-nil, drop-append-le, drop-drop, take-append-drop}
+use Rattle.std.proofs.lemmas.List.{append-nil, drop_all, drop-append-le, drop-drop, take-append-drop}
+use Rattle.std.proofs.lemmas.Simd.{put_chunk_is}
 use Rattle.std.specs.List.{AllByRecursion, concat}
 use Rattle.std.specs.Prelude.{slice_index_or}
 use borrow.Rule.Slice.PartMut.{put_mid}
+use lib.Lanes.{pick_l, put_chunk}
 use Rattle.zaxbriar.specs.Layouts.{TakesStored, bytes_of, colour_of, converted_bytes, is_stored, layout_bytes}
 use Rattle.zaxbriar.specs.Layouts.{laid_out, layout_line, level, over, pixel_bytes, pixel_of, pixels_of}
 use Rattle.jpeg_streams.specs.declared.images.PixelFormat.{PixelFormat}
@@ -40,35 +42,50 @@ pixels-length pixel stored bytes (suc width) row each =
     pixels-length pixel stored bytes width (drop stored row) each in
     length-append (pixel (take stored row)) (pixels_of pixel stored width (drop stored row)) ∙ omega arith
 
-pixels-next : (pixel : List ℕ → List ℕ) (stored x : ℕ) (row : List ℕ)
-    → pixels_of pixel stored (suc x) row ≡ pixels_of pixel stored x row ++ pixel (take stored (drop (x * stored) row))
+-- the pixels after those of the first columns
+pub pixels-more : (pixel : List ℕ → List ℕ) (stored x more : ℕ) (row : List ℕ)
+    → pixels_of pixel stored (x + more) row
+    ≡ pixels_of pixel stored x row ++ pixels_of pixel stored more (drop (x * stored) row)
 unfolding pixels_of
-pixels-next pixel stored zero row =
+pixels-more pixel stored zero more row =
     let none : 0 ≡ 0 * stored = omega arith in
-    append-nil (pixel (take stored row)) ∙ ap (λ n. pixel (take stored (drop n row))) none
-pixels-next pixel stored (suc x) row =
+    let same : 0 + more ≡ more = omega arith in
+    ap (λ n. pixels_of pixel stored n row) same ∙ ap (λ n. pixels_of pixel stored more (drop n row)) none
+pixels-more pixel stored (suc x) more row =
     let at : stored + x * stored ≡ suc x * stored = omega arith in
-    ap (λ (l : List ℕ). pixel (take stored row) ++ l) (pixels-next pixel stored x (drop stored row))
+    let next : suc x + more ≡ suc (x + more) = omega arith in
+    ap (λ n. pixels_of pixel stored n row) next
+    ∙ ap (λ (l : List ℕ). pixel (take stored row) ++ l) (pixels-more pixel stored x more (drop stored row))
     ∙ sym (append_assoc (pixel (take stored row)) (pixels_of pixel stored x (drop stored row))
-    (pixel (take stored (drop (x * stored) (drop stored row)))))
+    (pixels_of pixel stored more (drop (x * stored) (drop stored row))))
     ∙ ap (λ (l : List ℕ). (pixel (take stored row) ++ pixels_of pixel stored x (drop stored row))
-    ++ pixel (take stored l)) (drop-drop (x * stored) stored row ∙ ap (λ n. drop n row) at)
+    ++ pixels_of pixel stored more l) (drop-drop (x * stored) stored row ∙ ap (λ n. drop n row) at)
+
+-- more pixels of a line
+pixels-put : (pixel : List ℕ → List ℕ) (stored bytes x more k : ℕ) (row old now piece : List ℕ)
+    → ((p : List ℕ) → length (pixel p) ≡ bytes) → k ≡ more * bytes
+    → piece ≡ pixels_of pixel stored more (drop (x * stored) row)
+    → now ≡ pixels_of pixel stored x row ++ drop (x * bytes) old
+    → put_mid (x * bytes) k now piece ≡ pixels_of pixel stored (x + more) row ++ drop ((x + more) * bytes) old
+pixels-put pixel stored bytes x more k row old now piece each e is before =
+    let count : length (pixels_of pixel stored x row) ≡ x * bytes = pixels-length pixel stored bytes x row each in
+    let at : x * bytes + k ≡ (x + more) * bytes = omega (arith, e, add-mul x more bytes) in
+    ap (λ (l : List ℕ). put_mid (x * bytes) k l piece) before
+    ∙ piece-put (pixels_of pixel stored x row) old piece (x * bytes) k count
+    ∙ (λ i. (pixels_of pixel stored x row ++ is i) ++ drop (at i) old)
+    ∙ ap (λ (l : List ℕ). l ++ drop ((x + more) * bytes) old) (sym (pixels-more pixel stored x more row))
 
 -- one more pixel of a line
-pub pixel-put : (pixel : List ℕ → List ℕ) (stored bytes x k : ℕ) (row old now piece : List ℕ)
+pixel-put : (pixel : List ℕ → List ℕ) (stored bytes x k : ℕ) (row old now piece : List ℕ)
     → ((p : List ℕ) → length (pixel p) ≡ bytes) → k ≡ bytes
     → piece ≡ pixel (take stored (drop (x * stored) row))
     → now ≡ pixels_of pixel stored x row ++ drop (x * bytes) old
     → put_mid (x * bytes) k now piece ≡ pixels_of pixel stored (x + 1) row ++ drop ((x + 1) * bytes) old
+unfolding pixels_of
 pixel-put pixel stored bytes x k row old now piece each e is before =
-    let count : length (pixels_of pixel stored x row) ≡ x * bytes = pixels-length pixel stored bytes x row each in
-    let at : x * bytes + k ≡ (x + 1) * bytes = omega (arith, e) in
-    let next : suc x ≡ x + 1 = omega arith in
-    ap (λ (l : List ℕ). put_mid (x * bytes) k l piece) before
-    ∙ piece-put (pixels_of pixel stored x row) old piece (x * bytes) k count
-    ∙ (λ i. (pixels_of pixel stored x row ++ is i) ++ drop (at i) old)
-    ∙ ap (λ (l : List ℕ). l ++ drop ((x + 1) * bytes) old) (sym (pixels-next pixel stored x row)
-    ∙ ap (λ n. pixels_of pixel stored n row) next)
+    let one : k ≡ 1 * bytes = omega (arith, e) in
+    pixels-put pixel stored bytes x 1 k row old now piece each one
+    (is ∙ sym (append-nil (pixel (take stored (drop (x * stored) row))))) before
 
 -- pixels that stay as they are
 pub pixels-same : (pixel : List ℕ → List ℕ) (stored width : ℕ) (row : List ℕ)
@@ -116,6 +133,116 @@ colour-put format precision layout stored bytes x row old now piece s b is befor
     ∙ pixel-put (pixel_of (InColour format precision layout)) (pixel_bytes format precision) (layout_bytes layout) x
     (layout_bytes layout) row old now piece (λ p. colour-bytes layout (colour_of format precision p)) refl
     (is ∙ (λ i. bytes_of layout (colour_of format precision (take ((taken ∙ s) i) (drop (x * s i) row))))) before
+
+-- ---- four pixels of red, green and blue at a time
+
+four_given : (P : List ℕ → Type 0) → ((a b c d : ℕ) (more : List ℕ) → P (a ∷ b ∷ c ∷ d ∷ more)) → (row : List ℕ)
+    → 4 ≤ length row → P row
+four_given P given [] room = absurd (omega (arith, room))
+four_given P given (a ∷ []) room = absurd (omega (arith, room))
+four_given P given (a ∷ b ∷ []) room = absurd (omega (arith, room))
+four_given P given (a ∷ b ∷ c ∷ []) room = absurd (omega (arith, room))
+four_given P given (a ∷ b ∷ c ∷ d ∷ more) room = given a b c d more
+
+-- what is so of each row that begins with sixteen samples
+sixteen_given : (P : List ℕ → Type 0) → ((a b c d e f g h i j k l m n o p : ℕ) (more : List ℕ)
+    → P (a ∷ b ∷ c ∷ d ∷ e ∷ f ∷ g ∷ h ∷ i ∷ j ∷ k ∷ l ∷ m ∷ n ∷ o ∷ p ∷ more)) → (row : List ℕ) → 16 ≤ length row
+    → P row
+sixteen_given P given row room = four_given (λ r. 16 ≤ length r → P r)
+    (λ a b c d more room. four_given (λ r. 12 ≤ length r → P (a ∷ b ∷ c ∷ d ∷ r))
+    (λ e f g h more room. four_given (λ r. 8 ≤ length r → P (a ∷ b ∷ c ∷ d ∷ e ∷ f ∷ g ∷ h ∷ r))
+    (λ i j k l more room. four_given (λ r. P (a ∷ b ∷ c ∷ d ∷ e ∷ f ∷ g ∷ h ∷ i ∷ j ∷ k ∷ l ∷ r))
+    (λ m n o p more. given a b c d e f g h i j k l m n o p more) more (omega (arith, room)))
+    more (omega (arith, room)) (omega (arith, room)))
+    more (omega (arith, room)) (omega (arith, room)))
+    row (omega (arith, room)) room
+
+-- the bytes that a shuffle of sixteen samples and as many of 255 gives
+abbrev pub shuffled : List ℕ → List ℕ → List ℕ
+shuffled row places = pick_l 0 (take 16 row ++ replicate 16 255) places
+
+pub shuffled_rgba : (row : List ℕ) → 16 ≤ length row
+    → shuffled row (0 ∷ 1 ∷ 2 ∷ 16 ∷ 3 ∷ 4 ∷ 5 ∷ 16 ∷ 6 ∷ 7 ∷ 8 ∷ 16 ∷ 9 ∷ 10 ∷ 11 ∷ 16 ∷ [])
+    ≡ layout_line (InColour RGB24 8 Rgba) (pixel_bytes RGB24 8) 4 row
+unfolding pixels_of level
+shuffled_rgba row room = sixteen_given
+    (λ r. shuffled r (0 ∷ 1 ∷ 2 ∷ 16 ∷ 3 ∷ 4 ∷ 5 ∷ 16 ∷ 6 ∷ 7 ∷ 8 ∷ 16 ∷ 9 ∷ 10 ∷ 11 ∷ 16 ∷ [])
+    ≡ layout_line (InColour RGB24 8 Rgba) (pixel_bytes RGB24 8) 4 r)
+    (λ a b c d e f g h i j k l m n o p more. refl) row room
+
+pub shuffled_bgra : (row : List ℕ) → 16 ≤ length row
+    → shuffled row (2 ∷ 1 ∷ 0 ∷ 16 ∷ 5 ∷ 4 ∷ 3 ∷ 16 ∷ 8 ∷ 7 ∷ 6 ∷ 16 ∷ 11 ∷ 10 ∷ 9 ∷ 16 ∷ [])
+    ≡ layout_line (InColour RGB24 8 Bgra) (pixel_bytes RGB24 8) 4 row
+unfolding pixels_of level
+shuffled_bgra row room = sixteen_given
+    (λ r. shuffled r (2 ∷ 1 ∷ 0 ∷ 16 ∷ 5 ∷ 4 ∷ 3 ∷ 16 ∷ 8 ∷ 7 ∷ 6 ∷ 16 ∷ 11 ∷ 10 ∷ 9 ∷ 16 ∷ [])
+    ≡ layout_line (InColour RGB24 8 Bgra) (pixel_bytes RGB24 8) 4 r)
+    (λ a b c d e f g h i j k l m n o p more. refl) row room
+
+pub shuffled_xrgb : (row : List ℕ) → 16 ≤ length row
+    → shuffled row (16 ∷ 0 ∷ 1 ∷ 2 ∷ 16 ∷ 3 ∷ 4 ∷ 5 ∷ 16 ∷ 6 ∷ 7 ∷ 8 ∷ 16 ∷ 9 ∷ 10 ∷ 11 ∷ [])
+    ≡ layout_line (InColour RGB24 8 Xrgb) (pixel_bytes RGB24 8) 4 row
+unfolding pixels_of level
+shuffled_xrgb row room = sixteen_given
+    (λ r. shuffled r (16 ∷ 0 ∷ 1 ∷ 2 ∷ 16 ∷ 3 ∷ 4 ∷ 5 ∷ 16 ∷ 6 ∷ 7 ∷ 8 ∷ 16 ∷ 9 ∷ 10 ∷ 11 ∷ [])
+    ≡ layout_line (InColour RGB24 8 Xrgb) (pixel_bytes RGB24 8) 4 r)
+    (λ a b c d e f g h i j k l m n o p more. refl) row room
+
+-- the only layout of four bytes that is not one of the two others
+pub rgba_left : (layout : Layout) → layout_bytes layout ≡ 4 → (layout ≡ Bgra → ⊥) → (layout ≡ Xrgb → ⊥)
+    → layout ≡ Rgba
+rgba_left Grey four not_bgra not_xrgb = absurd (omega (arith, four))
+rgba_left Rgb four not_bgra not_xrgb = absurd (omega (arith, four))
+rgba_left Rgba four not_bgra not_xrgb = refl
+rgba_left Bgra four not_bgra not_xrgb = absurd (not_bgra refl)
+rgba_left Bgr four not_bgra not_xrgb = absurd (omega (arith, four))
+rgba_left Xrgb four not_bgra not_xrgb = absurd (not_xrgb refl)
+
+abbrev pub rgb_pixels : Layout → ℕ → List ℕ → List ℕ
+rgb_pixels layout width row = layout_line (InColour RGB24 8 layout) (pixel_bytes RGB24 8) width row
+
+rgb_bytes : (layout : Layout) → layout_bytes layout ≡ 4 → (p : List ℕ)
+    → length (pixel_of (InColour RGB24 8 layout) p) ≡ 4
+rgb_bytes layout four p = colour-bytes layout (colour_of RGB24 8 p) ∙ four
+
+-- four more pixels of a line
+pub fours-put : (layout : Layout) (k : ℕ) (row old now piece : List ℕ) → layout_bytes layout ≡ 4
+    → piece ≡ rgb_pixels layout 4 (drop (12 * k) row)
+    → now ≡ rgb_pixels layout (4 * k) row ++ drop (16 * k) old
+    → 16 * k + 16 ≤ length now
+    → put_chunk (16 * k) now piece ≡ rgb_pixels layout (4 * (k + 1)) row ++ drop (16 * (k + 1)) old
+fours-put layout k row old now piece four is before room =
+    let pixel : List ℕ → List ℕ = pixel_of (InColour RGB24 8 layout) in
+    let count : length piece ≡ 16 = ap (λ (l : List ℕ). length l) is
+    ∙ pixels-length pixel 3 4 4 (drop (12 * k) row) (rgb_bytes layout four) in
+    let from : 12 * k ≡ 4 * k * 3 = omega arith in
+    let at : 16 * k ≡ 4 * k * 4 = omega arith in
+    let next : 4 * k + 4 ≡ 4 * (k + 1) = omega arith in
+    let end : (4 * k + 4) * 4 ≡ 16 * (k + 1) = omega arith in
+    put_chunk_is (16 * k) now piece (omega (arith, count, room))
+    ∙ (λ i. put_mid (at i) (count i) now piece)
+    ∙ pixels-put pixel 3 4 (4 * k) 4 16 row old now piece (rgb_bytes layout four) refl
+    (is ∙ ap (λ n. pixels_of pixel 3 4 (drop n row)) from)
+    (before ∙ ap (λ n. pixels_of pixel 3 (4 * k) row ++ drop n old) at)
+    ∙ (λ i. pixels_of pixel 3 (next i) row ++ drop (end i) old)
+
+-- the pixels that are left
+pub fours-end : (layout : Layout) (k left room width : ℕ) (row old now piece : List ℕ) → layout_bytes layout ≡ 4
+    → piece ≡ rgb_pixels layout left (drop (12 * k) row)
+    → now ≡ rgb_pixels layout (4 * k) row ++ drop (16 * k) old
+    → 4 * k + left ≡ width → room ≡ left * 4 → length old ≡ width * 4
+    → put_mid (16 * k) room now piece ≡ rgb_pixels layout width row
+fours-end layout k left room width row old now piece four is before all e whole =
+    let pixel : List ℕ → List ℕ = pixel_of (InColour RGB24 8 layout) in
+    let from : 12 * k ≡ 4 * k * 3 = omega arith in
+    let at : 16 * k ≡ 4 * k * 4 = omega arith in
+    let none : drop ((4 * k + left) * 4) old ≡ [] = drop_all ((4 * k + left) * 4) old
+    (omega (arith, all, whole)) in
+    ap (λ n. put_mid n room now piece) at
+    ∙ pixels-put pixel 3 4 (4 * k) left room row old now piece (rgb_bytes layout four) e
+    (is ∙ ap (λ n. pixels_of pixel 3 left (drop n row)) from)
+    (before ∙ ap (λ n. pixels_of pixel 3 (4 * k) row ++ drop n old) at)
+    ∙ (λ i. pixels_of pixel 3 (all i) row ++ none i) ∙ append-nil (pixels_of pixel 3 width row)
 
 -- a row of pixels as they are stored
 pub stored-line : (stored width : ℕ) (row : List ℕ) → length row ≡ width * stored

@@ -9,6 +9,7 @@ ghost use Rattle.jpeg_streams.specs.declared.images.PixelFormat.TheVariants.{L8,
 ghost use Rattle.zaxbriar.specs.declared.layouts.Conversion.TheVariants.{InColour};
 
 use jpeg_decoder::PixelFormat;
+use std::simd::prelude::*;
 
 /// How a colour becomes the bytes of a pixel, of 8 bits a sample.
 #[derive(Clone, Copy)]
@@ -282,6 +283,52 @@ fn put_in_layout(
     }
 }
 
+/// Returns the first four of some pixels of red, green and blue, of 8 bits a sample, in a layout of
+/// four bytes. Of the sixteen samples that are read, the last four are of the pixels behind them.
+#[inline(always)]
+fn four_pixels(row: &[u8], layout: Layout) -> u8x16
+    requires room { 16 ≤ length row.now }
+    requires four { layout_bytes layout ≡ 4 }
+    ensures { result ≡ layout_line (InColour RGB24 8 layout) (pixel_bytes RGB24 8) 4 row.now }
+{
+    let samples = u8x16::from_slice(row);
+    let full = u8x16::splat(255);
+    match layout {
+        Layout::Xrgb => {
+            samples.shuffle(full, [16, 0, 1, 2, 16, 3, 4, 5, 16, 6, 7, 8, 16, 9, 10, 11])
+        }
+        Layout::Bgra => {
+            samples.shuffle(full, [2, 1, 0, 16, 5, 4, 3, 16, 8, 7, 6, 16, 11, 10, 9, 16])
+        }
+        _ => samples.shuffle(full, [0, 1, 2, 16, 3, 4, 5, 16, 6, 7, 8, 16, 9, 10, 11, 16]),
+    }
+}
+
+/// Writes pixels of red, green and blue, of 8 bits a sample, in a layout of four bytes: four at a
+/// time, and one at a time where fewer than sixteen samples are left.
+#[inline(always)]
+fn put_fours(row: &[u8], layout: Layout, width: usize, line: &mut [u8])
+    requires whole { length row.now ≡ width * pixel_bytes RGB24 8 }
+    requires four { layout_bytes layout ≡ 4 }
+    requires room { length line.old ≡ width * layout_bytes layout }
+    ensures { line.new ≡ layout_line (InColour RGB24 8 layout) (pixel_bytes RGB24 8) width row.now }
+{
+    let fours = width.saturating_sub(2) / 4;
+    for k in 0..fours {
+        four_pixels(&row[12 * k..], layout).copy_to_slice(&mut line[16 * k..]);
+    }
+    let left = width - 4 * fours;
+    let rest = &row[12 * fours..];
+    put_pixels(
+        rest,
+        PixelFormat::RGB24,
+        8,
+        layout,
+        left,
+        &mut line[16 * fours..],
+    );
+}
+
 /// Writes pixels of grey, of 8 bits a sample, in a layout, by a loop for each.
 fn put_grey(row: &[u8], layout: Layout, width: usize, line: &mut [u8])
     requires whole { length row.now ≡ width * pixel_bytes L8 8 }
@@ -307,10 +354,10 @@ fn put_rgb(row: &[u8], layout: Layout, width: usize, line: &mut [u8])
     match layout {
         Layout::Grey => put_pixels(row, PixelFormat::RGB24, 8, Layout::Grey, width, line),
         Layout::Rgb => put_pixels(row, PixelFormat::RGB24, 8, Layout::Rgb, width, line),
-        Layout::Rgba => put_pixels(row, PixelFormat::RGB24, 8, Layout::Rgba, width, line),
-        Layout::Bgra => put_pixels(row, PixelFormat::RGB24, 8, Layout::Bgra, width, line),
+        Layout::Rgba => put_fours(row, Layout::Rgba, width, line),
+        Layout::Bgra => put_fours(row, Layout::Bgra, width, line),
         Layout::Bgr => put_pixels(row, PixelFormat::RGB24, 8, Layout::Bgr, width, line),
-        Layout::Xrgb => put_pixels(row, PixelFormat::RGB24, 8, Layout::Xrgb, width, line),
+        Layout::Xrgb => put_fours(row, Layout::Xrgb, width, line),
     }
 }
 
