@@ -268,6 +268,15 @@ class Decoder:
         orientation = orientation_of(self.said['exif'] or b'')
         return ['none' if orientation is None else str(orientation)]
 
+    def stream_transform(self):
+        """The transform by the identifiers and the segments, which a picture of one component and a
+        lossless one don't have."""
+        if self.frame is None:
+            return ['none']
+        if len(self.frame.comps) == 1 or self.frame.process == 'lossless':
+            return ['None']
+        return [model.choose(self.frame, self.said, model.Settings())]
+
     def rest(self):
         return None if self.place is None else [str(len(self.stream) - self.place)]
 

@@ -4,7 +4,7 @@ use crate::calls::Call;
 use crate::decoded::{memory_text, partial_text, picture_text, refusal_text, size_text};
 use crate::hex_words::words_of;
 use exif_orientation::orientation_of;
-use jpeg_decoder::{Decoder, DecodingBytes, Error};
+use jpeg_decoder::{ColorTransform, Decoder, DecodingBytes, Error};
 use std::alloc::{AllocError, Global};
 use test_streams::readers::Counted;
 use test_streams::states::{is_failed, is_finished};
@@ -136,6 +136,14 @@ fn profile(alloc: Global, decoder: &Decoder<Counted<'_>>) -> Result<String, Allo
     }
 }
 
+/// Returns the words for a colour transform, if it is there.
+fn transform_text(alloc: Global, transform: Option<ColorTransform>) -> Result<String, AllocError> {
+    match transform {
+        Some(transform) => format!(in alloc; "{:?}", transform),
+        None => String::from_str(alloc, "none"),
+    }
+}
+
 /// Returns the answer to a call, of which a setter has none.
 pub fn answer(
     alloc: Global,
@@ -166,6 +174,7 @@ pub fn answer(
             let exif = decoder.exif_data().unwrap_or(&[]);
             number_text(alloc, orientation_of(exif))
         }
+        Call::StreamTransform => transform_text(alloc, decoder.stream_transform()),
     };
     Ok(Some(text?))
 }

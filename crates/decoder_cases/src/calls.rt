@@ -25,6 +25,7 @@ pub enum Call {
     Xmp,
     Icc,
     Orientation,
+    StreamTransform,
 }
 
 /// What a line asks for.
@@ -81,6 +82,7 @@ fn plain_call(word: &str) -> Option<Call> {
         "xmp" => Call::Xmp,
         "icc" => Call::Icc,
         "orientation" => Call::Orientation,
+        "stream_transform" => Call::StreamTransform,
         _ => return None,
     })
 }

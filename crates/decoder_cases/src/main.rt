@@ -27,6 +27,7 @@
 //!                          all coefficients and the peak
 //!     exif, xmp, icc       `exif_data`, `xmp_data`, `icc_profile`: how many bytes, and the bytes
 //!     orientation          `orientation_of` the Exif data
+//!     stream_transform     `stream_transform`: its name
 //!     rest                 how many bytes of the stream are still unread
 //!     cuts                 `decode` of each beginning of the stream that is shorter than it, with
 //!                          the length from which on that is the answer
