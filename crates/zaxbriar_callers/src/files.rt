@@ -3,19 +3,20 @@ ghost use Rattle.std.specs.Prelude.{ℕ, List, IfOk, IsSomeAnd, OnOk};
 ghost use Rattle.std.specs.Io.KnownBytes.{Appends};
 ghost use Rattle.jpeg_streams.specs.Output.{Tells, output_of};
 ghost use Rattle.zaxbriar_pictures.specs.Given.{WritesGiven};
-ghost use Rattle.zaxbriar_pictures.specs.Netpbm.{file_of};
+ghost use Rattle.zaxbriar_samples.specs.Netpbm.{file_of};
 ghost use Rattle.zaxbriar_pictures.specs.Thumbnails.{WritesThumbnail};
 
 use jpeg_decoder::{Scale, error};
 use std::alloc::Global;
 use std::io::{Read, Write};
+use zaxbriar_files::limits::Limits;
+use zaxbriar_files::refusal::Refusal;
 use zaxbriar_pictures::extents::{Completeness, Extent};
-use zaxbriar_pictures::limits::Limits;
-use zaxbriar_pictures::netpbm::{Picture, write_picture};
 use zaxbriar_pictures::raw::write_raw;
-use zaxbriar_pictures::refusal::Refusal;
-use zaxbriar_pictures::scaled::{Request, write_at};
+use zaxbriar_pictures::scaled::write_at;
 use zaxbriar_pictures::thumbnails::write_thumbnail;
+use zaxbriar_samples::netpbm::{Picture, write_picture};
+use zaxbriar_samples::requests::Request;
 
 /// Calls `write_picture`, and says which file an Ok wrote.
 pub fn picture<W: Write>(alloc: Global, picture: Picture, writer: &mut W) -> error::Result<()>

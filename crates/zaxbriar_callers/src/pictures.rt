@@ -2,15 +2,17 @@
 ghost use Rattle.std.specs.Prelude.{◌≡◌, ℕ, List, Some, IfOk};
 ghost use Rattle.jpeg_streams.specs.Output.{Tells};
 ghost use Rattle.zaxbriar_pictures.specs.Given.{IsGiven};
-ghost use Rattle.zaxbriar_pictures.specs.ScaledPictures.{decoded, picture_at_scale};
-ghost use Rattle.zaxbriar_pictures.specs.Turns.{decoded_in};
+ghost use Rattle.zaxbriar_samples.specs.DecodedPictures.{decoded};
+ghost use Rattle.zaxbriar_pictures.specs.ScaledPictures.{picture_at_scale};
+ghost use Rattle.zaxbriar_samples.specs.DecodedPictures.{decoded_in};
 
 use std::alloc::Global;
 use std::io::Read;
+use zaxbriar_files::limits::Limits;
+use zaxbriar_files::refusal::Refusal;
 use zaxbriar_pictures::extents::Extent;
-use zaxbriar_pictures::limits::Limits;
-use zaxbriar_pictures::refusal::Refusal;
-use zaxbriar_pictures::scaled::{Request, ScaledPicture, read_picture};
+use zaxbriar_pictures::scaled::{ScaledPicture, read_picture};
+use zaxbriar_samples::requests::Request;
 
 /// Calls `read_picture`, and says that picture, complete rows and fault are those that the stream
 /// gives at its scale.

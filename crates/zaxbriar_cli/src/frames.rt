@@ -1,15 +1,15 @@
 //! Frames of a stream, one after the other.
 
-use crate::avi::{Video, is_avi, skip_rest};
 use jpeg_decoder::Decoder;
 use std::alloc::Global;
 use std::io::Read;
 use std::{fmt, io};
+use zaxbriar_files::avi::{Video, is_avi, skip_rest};
+use zaxbriar_files::limits::Limits;
+use zaxbriar_files::refusal::Refusal;
 use zaxbriar_pictures::extents::Extent;
-use zaxbriar_pictures::limits::Limits;
-use zaxbriar_pictures::netpbm::Picture;
-use zaxbriar_pictures::refusal::Refusal;
 use zaxbriar_pictures::scaled::{decode_picture, taken_by};
+use zaxbriar_samples::netpbm::Picture;
 
 /// Why a frame isn't written.
 #[derive(Drop)]

@@ -9,21 +9,13 @@
 //! picture is complete.
 #![tactic(auto)]
 
-mod arguments;
-mod avi;
 mod commands;
-mod description;
-mod ending;
-mod files;
 mod frames;
-mod header;
 mod metadata;
-mod names;
-mod output;
 mod partial;
 
-use ending::exit_code;
 use std::process::ExitCode;
+use zaxbriar_files::ending::exit_code;
 
 fn main(rt: HostRuntime) -> ExitCode {
     exit_code(commands::run(rt))

@@ -3,6 +3,10 @@
 use jpeg_decoder::error::Error;
 use jpeg_decoder::{CodingProcess, ImageInfo};
 use std::fmt;
+use zaxbriar_files::ending::{Failure, Outcome};
+use zaxbriar_files::files::{finish, report};
+use zaxbriar_files::output::Output;
+use zaxbriar_files::refusal::Refusal;
 use zaxbriar_pictures::extents::Completeness;
 
 /// How the complete rows of a picture are counted.
@@ -75,5 +79,28 @@ impl fmt::Display for Part {
                 write!(f, "about {percent}% of its rows are complete{so_far}")
             }
         }
+    }
+}
+
+/// Ends an output like `finish`, and reports the fault of a file of which what there is was
+/// written, and how much of the picture is complete.
+pub fn finish_with_fault(
+    rt: &HostRuntime,
+    input: Option<&str>,
+    output: Output<'_>,
+    written: Result<Completeness, Refusal>,
+    measure: Measure,
+) -> Outcome<()> {
+    let (outcome, part) = match written {
+        Ok(told) => (Ok(()), Part::of(told, measure)),
+        Err(refusal) => (Err(refusal), None),
+    };
+    finish(rt, input, output, outcome)?;
+    match part {
+        Some(part) => {
+            report(rt, input, &part);
+            Err(Failure::Faulty)
+        }
+        None => Ok(()),
     }
 }

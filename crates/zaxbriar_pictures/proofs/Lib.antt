@@ -1,7 +1,4 @@
-mod BoxSums
 mod GivenLines
-mod Greatest
 pub mod ScaledStreams
-mod Turned
 mod WrittenLines
 mod WrittenThumbnails

@@ -17,7 +17,8 @@ use Rattle.jpeg_decoder.specs.Reaching.{NamesFault}
 use Rattle.jpeg_decoder.proofs.HeaderThenRest.{header-means}
 use Rattle.zaxbriar_pictures.specs.Given.{Given, IsGiven, WritesGiven, file_in, given, given_at_scale, given_of}
 use Rattle.zaxbriar_pictures.specs.Given.{TellsGiven, complete_rest, complete_rows, given_rest, without_fault}
-use Rattle.zaxbriar_pictures.specs.ScaledPictures.{Decoded, decoded, header_exif, header_info, picture_at_scale}
+use Rattle.zaxbriar_samples.specs.DecodedPictures.{Decoded, decoded}
+use Rattle.zaxbriar_pictures.specs.ScaledPictures.{header_exif, header_info, picture_at_scale}
 use Rattle.zaxbriar_pictures.specs.Steps.{GivesPicture}
 use Rattle.zaxbriar_pictures.specs.declared.extents.Completeness.{Completeness}
 use Rattle.zaxbriar_pictures.specs.declared.extents.Extent.{Extent}

@@ -2,16 +2,17 @@
 use Rattle.std.proofs.Common.{◌≡◌, ℕ, List, Option, None, Some, IsSomeAnd, ap, refl, ◌∙◌}
 use Rattle.std.specs.Io.KnownBytes.{Appends}
 use Rattle.jpeg_segments.specs.declared.frame.Dimensions.{Dimensions}
-use Rattle.zaxbriar_pictures.specs.Boxes.{boxed}
+use Rattle.zaxbriar_samples.specs.Boxes.{boxed}
 use Rattle.zaxbriar_pictures.specs.Given.{Given, IsGiven, TellsGiven, file_in, given_at_scale}
-use Rattle.zaxbriar_pictures.specs.ScaledPictures.{Decoded, header_exif, header_info}
-use Rattle.zaxbriar_pictures.specs.Sizes.{orientation_for, scale_of_request, size_for}
+use Rattle.zaxbriar_samples.specs.DecodedPictures.{Decoded}
+use Rattle.zaxbriar_pictures.specs.ScaledPictures.{header_exif, header_info}
+use Rattle.zaxbriar_samples.specs.Sizes.{orientation_for, scale_of_request, size_for}
 use Rattle.zaxbriar_pictures.specs.Thumbnails.{WritesThumbnail}
-use Rattle.zaxbriar_pictures.specs.Turns.{upright}
+use Rattle.zaxbriar_samples.specs.Turns.{upright}
 use Rattle.zaxbriar_pictures.proofs.ScaledStreams.{tells-given}
 use Rattle.zaxbriar_pictures.specs.declared.extents.Completeness.{Completeness}
 use Rattle.zaxbriar_pictures.specs.declared.extents.Extent.{Extent}
-use Rattle.zaxbriar_pictures.specs.declared.scaled.Request.{Request}
+use Rattle.zaxbriar_samples.specs.declared.requests.Request.{Request}
 use Rattle.jpeg_segments.specs.declared.scale.Scale.{Scale}
 
 -- what is there, where something holds of it

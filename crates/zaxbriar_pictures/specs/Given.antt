@@ -11,8 +11,8 @@ use Rattle.jpeg_streams.specs.Shown.{Shown, shown_rest}
 use Rattle.jpeg_streams.specs.Stream.{Told, header_at, rest_at, scaled_to}
 use Rattle.jpeg_streams.specs.WholeRows.{whole_rows_rest}
 use Rattle.jpeg_decoder.specs.Reaching.{NamesFault}
-use Rattle.zaxbriar_pictures.specs.Netpbm.{file_of}
-use Rattle.zaxbriar_pictures.specs.ScaledPictures.{Decoded, decoded}
+use Rattle.zaxbriar_samples.specs.Netpbm.{file_of}
+use Rattle.zaxbriar_samples.specs.DecodedPictures.{Decoded, decoded}
 use Rattle.zaxbriar_pictures.specs.declared.extents.Completeness.{Completeness}
 use Rattle.zaxbriar_pictures.specs.declared.extents.Extent.{Extent}
 use Rattle.zaxbriar_pictures.specs.declared.extents.Extent.TheVariants.{Whole, Partial}

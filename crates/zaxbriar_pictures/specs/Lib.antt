@@ -1,10 +1,4 @@
-pub mod Boxes
 pub mod Given
-pub mod Limits
-pub mod Netpbm
-pub mod Samples
 pub mod ScaledPictures
-pub mod Sizes
 pub mod Steps
 pub mod Thumbnails
-pub mod Turns

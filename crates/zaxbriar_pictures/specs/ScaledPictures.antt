@@ -1,21 +1,11 @@
 -- The pictures of a stream at its scales.
 use Rattle.std.specs.Prelude.{ℕ, List, Ok, Err, Option, None, option_map}
-use Rattle.std.specs.Int.{div_ceil}
 use Rattle.jpeg_streams.specs.Output.{default_settings}
 use Rattle.jpeg_streams.specs.Pixels.{info_of}
 use Rattle.jpeg_streams.specs.Stream.{header_at, scaled_meaning}
 use Rattle.jpeg_streams.specs.declared.images.ImageInfo.{ImageInfo}
 use Rattle.jpeg_segments.specs.declared.scale.Scale.{Scale}
-use Rattle.jpeg_segments.specs.declared.scale.Scale.TheVariants.{Eighth, Quarter, Half, Full}
-
--- a picture: what is said of it, how many bits a sample has, and its pixels
-pub record Decoded : Type 0 where
-  pub info : ImageInfo
-  pub precision : ℕ
-  pub pixels : List ℕ
-
-abbrev pub decoded : ImageInfo → ℕ → List ℕ → Decoded
-decoded info precision pixels = record { info = info; precision = precision; pixels = pixels }
+use Rattle.zaxbriar_samples.specs.DecodedPictures.{Decoded, decoded}
 
 -- what a stream's header says of its picture at full size
 unfoldable pub header_info : List ℕ → Option ImageInfo
@@ -30,13 +20,6 @@ header_exif bytes = elim (header_at bytes) [
   | Ok header ↦ header.0.said.metadata.exif
   | Err fault ↦ None
 ]
-
--- what a side is at a scale, rounded up
-abbrev pub side_at : Scale → ℕ → ℕ
-side_at Eighth side = div_ceil side 8
-side_at Quarter side = div_ceil side 4
-side_at Half side = div_ceil side 2
-side_at Full side = side
 
 -- the picture of a stream at a scale
 unfoldable pub picture_at_scale : Scale → List ℕ → Option Decoded

@@ -12,12 +12,12 @@ use Rattle.jpeg_streams.specs.Stream.{header_at, scaled_to, told_of}
 use Rattle.jpeg_streams.specs.declared.progress.Progress.TheVariants.{HeaderRead}
 use Rattle.jpeg_decoder.specs.Reaching.{NamesFault}
 use Rattle.zaxbriar_pictures.specs.Given.{complete_rest, file_in, given_rest}
-use Rattle.zaxbriar_pictures.specs.ScaledPictures.{Decoded}
-use Rattle.zaxbriar_pictures.specs.Sizes.{orientation_for, scale_of_request, size_for}
+use Rattle.zaxbriar_samples.specs.DecodedPictures.{Decoded}
+use Rattle.zaxbriar_samples.specs.Sizes.{orientation_for, scale_of_request, size_for}
 use Rattle.zaxbriar_pictures.specs.declared.extents.Completeness.{Completeness}
 use Rattle.zaxbriar_pictures.specs.declared.extents.Extent.{Extent}
 use Rattle.zaxbriar_pictures.specs.declared.scaled.Choice.{Choice}
-use Rattle.zaxbriar_pictures.specs.declared.scaled.Request.{Request}
+use Rattle.zaxbriar_samples.specs.declared.requests.Request.{Request}
 
 -- A choice is the one for a request, by what a header says.
 pub record IsChoice (request : Request) (header : Found) (choice : Choice) : Type 0 where

@@ -4,12 +4,12 @@ use Rattle.std.specs.Io.KnownBytes.{Appends}
 use Rattle.jpeg_streams.specs.declared.images.ImageInfo.{ImageInfo}
 use Rattle.zaxbriar_pictures.specs.Given.{Given, TellsGiven, file_in, given_at_scale}
 use Rattle.zaxbriar_pictures.specs.ScaledPictures.{header_exif, header_info}
-use Rattle.zaxbriar_pictures.specs.Sizes.{orientation_for, scale_of_request, size_for}
+use Rattle.zaxbriar_samples.specs.Sizes.{orientation_for, scale_of_request, size_for}
 use Rattle.zaxbriar_pictures.specs.declared.extents.Completeness.{Completeness}
 use Rattle.zaxbriar_pictures.specs.declared.extents.Extent.{Extent}
-use Rattle.zaxbriar_pictures.specs.declared.scaled.Request.{Request}
-use Rattle.zaxbriar_pictures.specs.Boxes.{boxed}
-use Rattle.zaxbriar_pictures.specs.Turns.{upright}
+use Rattle.zaxbriar_samples.specs.declared.requests.Request.{Request}
+use Rattle.zaxbriar_samples.specs.Boxes.{boxed}
+use Rattle.zaxbriar_samples.specs.Turns.{upright}
 
 -- A writer is given the file of the picture that the stream gives at the scale for the request,
 -- boxed down to the requested size, and turned upright by the orientation for the request: the one

@@ -8,14 +8,14 @@ ghost use Rattle.jpeg_streams.specs.Pixels.{info_of};
 ghost use Rattle.jpeg_streams.specs.WholeRows.{whole_rows_rest};
 ghost use Rattle.jpeg_streams.specs.declared.progress.Progress.TheVariants.{HeaderRead};
 ghost use Rattle.zaxbriar_pictures.specs.Steps.{CountsRest, GivesPicture, GivesRest};
-ghost use Rattle.zaxbriar_pictures.specs.Turns.{decoded_in};
+ghost use Rattle.zaxbriar_samples.specs.DecodedPictures.{decoded_in};
 ghost use Rattle.zaxbriar_pictures.specs.declared.extents.Extent.TheVariants.{Partial, Whole};
 
-use crate::netpbm::Picture;
 use jpeg_decoder::error::{Error, Result};
 use jpeg_decoder::{Decoder, ImageInfo, PartialLines};
 use std::alloc::Global;
 use std::io::Read;
+use zaxbriar_samples::netpbm::Picture;
 
 /// How much of a stream's picture is wanted.
 #[derive(Clone, Copy)]

@@ -1,5 +1,5 @@
 //! The pictures that the program `zaxbriar` writes: a stream's picture at a scale or within a size,
-//! upright, as a netpbm file or as its bytes, and why a file is refused.
+//! upright, as a netpbm file or as its bytes.
 //!
 //! `write_at`, `write_thumbnail` and `write_raw` read a stream and write its picture, which they
 //! refuse after its header where it is above the limits. Where nothing has to be made of the
@@ -8,16 +8,8 @@
 //! that has a decoder of its own. The other functions are parts of these.
 #![tactic(auto)]
 
-pub mod boxes;
 pub mod extents;
-pub mod formats;
-pub mod limits;
 pub mod lines;
-pub mod netpbm;
 pub mod raw;
-pub mod refusal;
-pub mod samples;
 pub mod scaled;
-pub mod sizes;
 pub mod thumbnails;
-pub mod turns;

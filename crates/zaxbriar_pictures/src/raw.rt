@@ -6,13 +6,13 @@ ghost use Rattle.jpeg_streams.specs.Output.{output_of};
 ghost use Rattle.jpeg_streams.specs.declared.progress.Progress.TheVariants.{Fresh};
 
 use crate::extents::Extent;
-use crate::limits::Limits;
 use crate::lines::write_lines;
-use crate::refusal::Refusal;
 use crate::scaled::taken_by_lines;
 use jpeg_decoder::{Decoder, ImageInfo, PixelFormat};
 use std::alloc::{AllocError, Global};
 use std::io::{Read, Write};
+use zaxbriar_files::limits::Limits;
+use zaxbriar_files::refusal::Refusal;
 
 /// Returns the name of a format in the header line.
 fn format_name(format: PixelFormat) -> &'static str

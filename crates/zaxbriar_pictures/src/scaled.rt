@@ -2,50 +2,35 @@
 ghost use Rattle.std.specs.Prelude.{◌≡◌, ◌*◌, List, ℕ, IfOk, OnOk, Some, IsSomeAnd, option_map};
 ghost use Rattle.std.specs.Prelude.{◌≤◌, true};
 ghost use Rattle.std.specs.List.{concat};
-ghost use Rattle.std.specs.Option.{option_copied};
 ghost use Rattle.std.specs.Io.KnownBytes.{Appends};
 ghost use Rattle.jpeg_bits.specs.Reading.{Answers};
 ghost use Rattle.jpeg_streams.specs.Output.{Tells};
 ghost use Rattle.jpeg_streams.specs.Pixels.{info_of};
 ghost use Rattle.jpeg_streams.specs.States.{IsReading, ahead};
 ghost use Rattle.jpeg_streams.specs.Stream.{told_of};
-ghost use Rattle.zaxbriar_pictures.specs.Limits.{is_at_most};
+ghost use Rattle.zaxbriar_files.specs.Limits.{is_at_most};
 ghost use Rattle.jpeg_streams.specs.Output.{default_settings};
 ghost use Rattle.jpeg_streams.specs.declared.progress.Progress.TheVariants.{Fresh, HeaderRead};
 ghost use Rattle.zaxbriar_pictures.specs.Given.{IsGiven, WritesGiven};
-ghost use Rattle.zaxbriar_pictures.specs.Netpbm.{file_of};
-ghost use Rattle.zaxbriar_pictures.specs.ScaledPictures.{header_exif, header_info, side_at};
-ghost use Rattle.zaxbriar_pictures.specs.Turns.{decoded_in};
+ghost use Rattle.zaxbriar_samples.specs.Netpbm.{file_of};
+ghost use Rattle.zaxbriar_pictures.specs.ScaledPictures.{header_exif, header_info};
+ghost use Rattle.zaxbriar_samples.specs.DecodedPictures.{decoded_in};
 ghost use Rattle.zaxbriar_pictures.specs.Steps.{ReadsForRequest, WritesFile};
-ghost use Rattle.zaxbriar_pictures.specs.Sizes.{covers, is_full, least_scale, orientation_for};
-ghost use Rattle.zaxbriar_pictures.specs.Sizes.{scale_of_request, size_for};
-ghost use Rattle.zaxbriar_pictures.specs.declared.scaled.Request.TheVariants.{At};
+ghost use Rattle.zaxbriar_samples.specs.Sizes.{orientation_for, scale_of_request, size_for};
+ghost use Rattle.zaxbriar_samples.specs.declared.requests.Request.TheVariants.{At};
 
 use crate::extents::{Completeness, Extent, decode_wanted_lines, decode_wanted_picture};
-use crate::limits::Limits;
 use crate::lines::write_lines;
-use crate::netpbm::{Picture, header, write_picture};
-use crate::refusal::Refusal;
-use crate::sizes::{as_stored, fitted};
-use crate::turns::bytes_of;
-use exif_orientation::orientation_of;
 use jpeg_decoder::error::Error;
 use jpeg_decoder::parser::Dimensions;
 use jpeg_decoder::{Decoder, ImageInfo, Lines, Scale, error};
 use std::alloc::Global;
 use std::io::{Read, Write};
-
-/// Returns what a side is at a scale, rounded up.
-fn side_at(scale: Scale, side: u16) -> u16
-    ensures { result ≡ side_at scale side }
-{
-    match scale {
-        Scale::Eighth => side.div_ceil(8),
-        Scale::Quarter => side.div_ceil(4),
-        Scale::Half => side.div_ceil(2),
-        Scale::Full => side,
-    }
-}
+use zaxbriar_files::limits::Limits;
+use zaxbriar_files::refusal::Refusal;
+use zaxbriar_samples::netpbm::{Picture, header, write_picture};
+use zaxbriar_samples::requests::Request;
+use zaxbriar_samples::turns::bytes_of;
 
 /// Decodes the picture of a decoder, at the scale that was set.
 pub fn decode_picture<R: Read + Drop>(decoder: &mut Decoder<R>) -> error::Result<Picture>
@@ -87,25 +72,6 @@ pub(crate) fn taken_by_lines<R: Read + Drop>(decoder: &Decoder<R>, extent: Exten
     }
 }
 
-/// A request for a stream's picture.
-#[derive(Clone, Copy)]
-pub enum Request {
-    /// The picture at a scale.
-    At(Scale),
-    /// The greatest picture that fits within a size, as it is shown or as it is stored, and isn't
-    /// greater than the whole picture.
-    Within(Dimensions, Upright),
-}
-
-/// Whether a picture is turned by the orientation in its Exif data.
-#[derive(Clone, Copy)]
-pub enum Upright {
-    /// It is.
-    Turned,
-    /// It stays as it is stored.
-    AsStored,
-}
-
 /// What a request asks of a stream, by its header.
 #[derive(Clone, Copy)]
 pub struct Choice {
@@ -133,83 +99,6 @@ pub struct ScaledPicture {
     pub size: Dimensions,
     /// The orientation that it is to be turned by: 1 where it is none.
     pub orientation: u8,
-}
-
-impl Request {
-    /// Returns the requested size of a picture whose header was read.
-    #[tactic(auto, unfolding(crate::specs::Sizes::size_for))]
-    fn size(self, full: ImageInfo, orientation: u8) -> Dimensions
-        ensures { result ≡ size_for self full orientation }
-    {
-        match self {
-            Request::At(scale) => Dimensions {
-                width: side_at(scale, full.width),
-                height: side_at(scale, full.height),
-            },
-            Request::Within(most, _) => fitted(full, as_stored(most, orientation)),
-        }
-    }
-
-    /// Returns the scale that such a picture is decoded at.
-    #[tactic(auto, unfolding(crate::specs::Sizes::scale_of_request))]
-    fn scale(self, full: ImageInfo, orientation: u8) -> Scale
-        ensures chosen { result ≡ scale_of_request self full orientation }
-        ensures asked { (scale : _) → self ≡ At scale → result ≡ scale }
-    {
-        match self {
-            Request::At(scale) => scale,
-            Request::Within(most, _) => {
-                least_scale(full, fitted(full, as_stored(most, orientation)))
-            }
-        }
-    }
-
-    /// Returns the orientation by which a picture is to be turned, by the stream's Exif data.
-    #[tactic(auto, unfolding(crate::specs::Sizes::orientation_for))]
-    fn orientation_in(self, exif: Option<&[u8]>) -> u8
-        ensures said { result ≡ orientation_for self (option_copied exif.entry) }
-        ensures range { (1 ≤ result) × (result ≤ 8) }
-    {
-        match self {
-            Request::At(_) | Request::Within(_, Upright::AsStored) => 1,
-            Request::Within(_, Upright::Turned) => match exif {
-                Some(exif) => orientation_of(exif).unwrap_or(1),
-                None => 1,
-            },
-        }
-    }
-}
-
-/// Returns whether a picture at a scale isn't smaller than a size.
-fn covers(scale: Scale, full: ImageInfo, size: Dimensions) -> bool
-    ensures { result ≡ covers scale full size }
-{
-    size.width <= side_at(scale, full.width) && size.height <= side_at(scale, full.height)
-}
-
-/// Returns whether a size is that of the whole picture.
-fn is_full(full: ImageInfo, size: Dimensions) -> bool
-    ensures { result ≡ is_full full size }
-{
-    size.width == full.width && size.height == full.height
-}
-
-/// Returns the least scale at which a picture isn't smaller than a size: all of it, where that is
-/// its size.
-fn least_scale(full: ImageInfo, size: Dimensions) -> Scale
-    ensures { result ≡ least_scale full size }
-{
-    if is_full(full, size) {
-        Scale::Full
-    } else if covers(Scale::Eighth, full, size) {
-        Scale::Eighth
-    } else if covers(Scale::Quarter, full, size) {
-        Scale::Quarter
-    } else if covers(Scale::Half, full, size) {
-        Scale::Half
-    } else {
-        Scale::Full
-    }
 }
 
 /// Returns how many bytes a picture of this size takes, of the format and precision of another.

@@ -9,15 +9,16 @@ ghost use Rattle.std.specs.Prelude.{List, ℕ, IfOk};
 ghost use Rattle.jpeg_streams.specs.Output.{Tells};
 ghost use Rattle.zaxbriar_pictures.specs.Thumbnails.{WritesThumbnail};
 
-use crate::boxes::boxed;
 use crate::extents::{Completeness, Extent};
-use crate::limits::Limits;
-use crate::netpbm::write_picture;
-use crate::refusal::Refusal;
-use crate::scaled::{Request, read_picture};
-use crate::turns::upright;
+use crate::scaled::read_picture;
 use std::alloc::Global;
 use std::io::{Read, Write};
+use zaxbriar_files::limits::Limits;
+use zaxbriar_files::refusal::Refusal;
+use zaxbriar_samples::boxes::boxed;
+use zaxbriar_samples::netpbm::write_picture;
+use zaxbriar_samples::requests::Request;
+use zaxbriar_samples::turns::upright;
 
 /// Decodes as much as is wanted of the stream that the reader gives, writes the requested picture,
 /// and returns how much is complete of the one that was decoded, before it was made smaller and

@@ -5,56 +5,21 @@
 //! to its end, since such data may stand anywhere in it; if it is refused, what stands before the
 //! fault is written all the same.
 
-use crate::arguments::{Making, with};
-use crate::commands::pictures::check_output;
-use crate::ending::{Failure, Outcome};
-use crate::metadata::{KINDS, Kind, is_read, write_data};
-use crate::output::Output;
-use crate::{arguments, files, names};
-use clap::{Arg, ArgMatches};
+use crate::metadata::{is_read, write_data};
+use clap::ArgMatches;
 use jpeg_decoder::error::Result;
 use jpeg_decoder::{Decoder, Scale};
-use std::alloc::{AllocError, Global};
 use std::io::Read;
+use zaxbriar_arguments::arguments;
+use zaxbriar_arguments::pictures::check_output;
+use zaxbriar_files::ending::{Failure, Outcome};
+use zaxbriar_files::kinds::{KINDS, Kind};
+use zaxbriar_files::limits::Limits;
+use zaxbriar_files::output::Output;
+use zaxbriar_files::refusal::Refusal;
+use zaxbriar_files::{files, names};
 use zaxbriar_pictures::extents::Extent;
-use zaxbriar_pictures::limits::Limits;
-use zaxbriar_pictures::refusal::Refusal;
 use zaxbriar_pictures::scaled::taken_by;
-
-const EXIF: &str = "Write the Exif data to FILE, and nothing else";
-
-const XMP: &str = "Write the XMP data to FILE, and nothing else";
-
-const ICC: &str = "Write the ICC profile to FILE, and nothing else";
-
-/// Returns an option that names the file for data of a kind.
-fn data_option<'a>(
-    alloc: Global,
-    name: &'a str,
-    help: &'a str,
-) -> std::result::Result<Arg<'a>, AllocError> {
-    arguments::value_option(alloc, name, "FILE", help)
-        .conflicts_with("json")?
-        .conflicts_with("output")
-}
-
-/// Adds an option that names the file for data of a kind.
-fn with_option<'a>(alloc: Global, command: Making<'a>, name: &'a str, help: &'a str) -> Making<'a> {
-    let option = data_option(alloc, name, help)?;
-    with(command, option)
-}
-
-/// Adds the options that name files for data.
-pub fn with_options<'a>(alloc: Global, command: Making<'a>) -> Making<'a> {
-    let command = with_option(alloc, command, "exif", EXIF);
-    let command = with_option(alloc, command, "xmp", XMP);
-    with_option(alloc, command, "icc", ICC)
-}
-
-/// Returns whether data are requested, and not a description.
-pub fn is_asked_for(matches: &ArgMatches<'_>) -> bool {
-    KINDS.iter().any(|kind| matches.contains_id(kind.option()))
-}
 
 /// Returns whether a decoder has read all requested data.
 fn has_all<R: Read + Drop>(decoder: &Decoder<R>, matches: &ArgMatches<'_>) -> Result<bool> {
@@ -173,7 +138,7 @@ pub fn run(rt: HostRuntime, matches: &ArgMatches<'_>) -> Outcome<()> {
     }
     let mut outcome = Ok(());
     for name in names {
-        if extract(rt, matches, arguments::named(name), limits).is_err() {
+        if extract(rt, matches, files::named(name), limits).is_err() {
             outcome = Err(Failure::Refused);
         }
     }

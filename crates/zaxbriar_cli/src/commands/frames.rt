@@ -14,42 +14,23 @@
 //! anything else in it, such as sound and indexes, is skipped. A frame that is refused ends the
 //! program; the frames before it are written.
 
-use crate::arguments::{Making, with};
-use crate::ending::Outcome;
-use crate::files::InputReader;
 use crate::frames::{FrameRefusal, Frames};
-use crate::names::Numbered;
-use crate::output::Output;
-use crate::{arguments, files};
-use clap::{Arg, ArgAction, ArgMatches};
+use clap::ArgMatches;
 use jpeg_decoder::ImageInfo;
 use std::alloc::Global;
 use std::io::Write;
-use zaxbriar_pictures::limits::Limits;
-use zaxbriar_pictures::netpbm::{Picture, write_picture};
-use zaxbriar_pictures::refusal::Refusal;
-
-pub const NAME: &str = "frames";
-
-const ABOUT: &str = "Decodes the frames of an MJPEG stream, plain or in an AVI file";
-
-const OUTPUT: &str = "The files to write, such as frame-%04d.ppm; or one file of rawvideo; \
-    rawvideo on standard output by default, or for -";
+use zaxbriar_arguments::arguments;
+use zaxbriar_files::ending::Outcome;
+use zaxbriar_files::files;
+use zaxbriar_files::files::InputReader;
+use zaxbriar_files::limits::Limits;
+use zaxbriar_files::names::Numbered;
+use zaxbriar_files::output::Output;
+use zaxbriar_files::refusal::Refusal;
+use zaxbriar_samples::netpbm::{Picture, write_picture};
 
 /// The frames of a file or of standard input.
 type InputFrames = Frames<InputReader>;
-
-/// Returns what the word takes.
-pub fn command<'a>(alloc: Global) -> Making<'a> {
-    let list = Arg::new(alloc, "list")
-        .long("list")
-        .action(ArgAction::SetTrue)
-        .help("Write a line NUMBER WIDTH HEIGHT FORMAT for each frame instead of its pixels");
-    let command = arguments::word(alloc, NAME, ABOUT);
-    let command = with(command, arguments::file_argument(alloc));
-    let command = with(command, arguments::output_option(alloc, OUTPUT));
-    with(command, list)
-}
 
 /// What is requested: a stream, and what is done with its frames.
 #[derive(Clone, Copy)]

@@ -1,72 +1,19 @@
 //! Writes the pictures of the given files, for the words `pnm` and `thumbnail`.
 
-use crate::ending::{Outcome, worse_of};
-use crate::output::Output;
-use crate::partial::Measure;
-use crate::{arguments, files, names};
-use clap::{Arg, ArgAction, ArgMatches};
-use std::alloc::{AllocError, Global};
-use std::collections::BTreeSet;
+use crate::partial::{Measure, finish_with_fault};
+use clap::ArgMatches;
 use std::io::{Read, Write};
+use zaxbriar_arguments::arguments;
+use zaxbriar_arguments::pictures::check_output;
+use zaxbriar_files::ending::{Outcome, worse_of};
+use zaxbriar_files::limits::Limits;
+use zaxbriar_files::output::Output;
+use zaxbriar_files::refusal::Refusal;
+use zaxbriar_files::{files, names};
 use zaxbriar_pictures::extents::{Completeness, Extent};
-use zaxbriar_pictures::limits::Limits;
-use zaxbriar_pictures::refusal::Refusal;
-use zaxbriar_pictures::scaled::{Request, write_at};
+use zaxbriar_pictures::scaled::write_at;
 use zaxbriar_pictures::thumbnails::write_thumbnail;
-
-const OUTPUT: &str =
-    "The file to write; standard output by default, or for -; for several files DIR/%s.ppm, where \
-    %s stands for each file's name without its extension";
-
-const PARTIAL: &str = "Write what there is of a truncated or damaged file; the status is then 3";
-
-/// Returns the option `-o` of a word that may write several files.
-pub fn output_option<'a>(alloc: Global) -> Arg<'a> {
-    arguments::output_option(alloc, OUTPUT)
-}
-
-/// Returns whether the outputs of files have names of their own.
-fn are_distinct(alloc: Global, names: &[&str], output: &str) -> Result<bool, AllocError> {
-    let mut written = BTreeSet::new(alloc);
-    for name in names {
-        let name = names::name_for(alloc, output, arguments::named(name))?;
-        if !written.insert(name)? {
-            return Ok(false);
-        }
-    }
-    Ok(true)
-}
-
-/// Refuses an output of several files whose names aren't distinct.
-pub fn check_output(
-    rt: &HostRuntime,
-    names: &[&str],
-    option: &str,
-    output: Option<&str>,
-) -> Outcome<()> {
-    if names.len() < 2 {
-        return Ok(());
-    }
-    let Some(output) = output else {
-        return Err(arguments::refuse_value(rt, option, "DIR/%s.EXTENSION for several files"));
-    };
-    if !names::has_place(output) {
-        return Err(arguments::refuse_value(rt, option, "%s in the name, for several files"));
-    }
-    match are_distinct(rt.alloc(), names, output) {
-        Ok(true) => Ok(()),
-        Ok(false) => Err(arguments::refuse_value(rt, option, "files of distinct names")),
-        Err(error) => Err(files::report(rt, Some(output), &Refusal::from(error))),
-    }
-}
-
-/// Returns the option `--partial`.
-pub fn partial_option<'a>(alloc: Global) -> Arg<'a> {
-    Arg::new(alloc, "partial")
-        .long("partial")
-        .action(ArgAction::SetTrue)
-        .help(PARTIAL)
-}
+use zaxbriar_samples::requests::Request;
 
 /// Returns how much of a picture is requested.
 fn extent_of(matches: &ArgMatches<'_>) -> Extent {
@@ -128,7 +75,7 @@ impl Job {
             Ok(reader) => self.write_picture(reader, &mut output),
             Err(refusal) => Err(refusal),
         };
-        files::finish_with_fault(&self.rt, input, output, written, self.measure())
+        finish_with_fault(&self.rt, input, output, written, self.measure())
     }
 
     /// Writes the picture of a file to the output of its name.
@@ -160,7 +107,7 @@ pub fn write_all(rt: HostRuntime, matches: &ArgMatches<'_>, request: Request) ->
     };
     let mut outcome = Ok(());
     for name in names {
-        outcome = worse_of(outcome, job.write_named(arguments::named(name), output));
+        outcome = worse_of(outcome, job.write_named(files::named(name), output));
     }
     outcome
 }

@@ -1,6 +1,6 @@
 use Rattle.std.proofs.lemmas.Result.{IfOk-weaker}
 use Rattle.zaxbriar_pictures.proofs.ScaledStreams.{whole-given}
-use Rattle.zaxbriar_pictures.specs.Turns.{decoded_in}
+use Rattle.zaxbriar_samples.specs.DecodedPictures.{decoded_in}
 use Rattle.zaxbriar_callers.proofs.pictures.whole_picture.Goals as goal
 
 pub returns : goal.returns

@@ -1,5 +1,5 @@
 use Rattle.std.proofs.Common.{◌≡◌, ◌∙◌, ◌*◌, rules, sym, true}
-use Rattle.zaxbriar_pictures.specs.Limits.{is_at_most}
+use Rattle.zaxbriar_files.specs.Limits.{is_at_most}
 use Rattle.zaxbriar_pictures.proofs.ScaledStreams.{header-info-some}
 use Rattle.zaxbriar_pictures.proofs.scaled.choose.Goals as goal
 

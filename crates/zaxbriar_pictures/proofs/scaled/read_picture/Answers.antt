@@ -1,5 +1,5 @@
 use Rattle.jpeg_decoder.proofs.Callers.{bytes_are_known, known_bytes_are_told}
-use Rattle.zaxbriar_pictures.specs.Turns.{decoded_in}
+use Rattle.zaxbriar_samples.specs.DecodedPictures.{decoded_in}
 use Rattle.zaxbriar_pictures.proofs.ScaledStreams.{header-exif-some, header-info-is, is-given}
 use Rattle.zaxbriar_pictures.proofs.scaled.read_picture.Goals as goal
 

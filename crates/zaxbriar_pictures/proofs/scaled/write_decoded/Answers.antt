@@ -1,6 +1,6 @@
 use Rattle.std.proofs.Common.{◌∙◌, refl, sym}
 use Rattle.std.specs.List.{concat}
-use Rattle.zaxbriar_pictures.specs.ScaledPictures.{decoded}
+use Rattle.zaxbriar_samples.specs.DecodedPictures.{decoded}
 use Rattle.zaxbriar_pictures.proofs.scaled.write_decoded.Goals as goal
 
 pub returns : goal.returns

@@ -1,5 +1,5 @@
 use Rattle.std.proofs.Common.{refl}
-use Rattle.zaxbriar_pictures.specs.Turns.{decoded_in}
+use Rattle.zaxbriar_samples.specs.DecodedPictures.{decoded_in}
 use Rattle.zaxbriar_pictures.specs.declared.extents.Completeness.{Completeness}
 use Rattle.zaxbriar_pictures.proofs.WrittenThumbnails.{written}
 use Rattle.zaxbriar_pictures.proofs.thumbnails.write_thumbnail.Goals as goal

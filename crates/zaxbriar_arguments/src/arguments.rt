@@ -1,0 +1,178 @@
+//! The program's arguments, parsed with the crate `clap`.
+
+use clap::error::ErrorKind;
+use clap::{Arg, ArgMatches, Command};
+use std::alloc::{AllocError, Global};
+use std::{env, io};
+use zaxbriar_files::ending::{Failure, Outcome};
+use zaxbriar_files::files::NAME;
+use zaxbriar_files::limits::Limits;
+
+/// The version that the program names.
+pub const VERSION: &str = "0.1.0";
+
+/// The name of the argument of the files that are read, of which `-` is standard input.
+pub const FILE: &str = "FILE";
+
+const MAX_PIXELS: &str =
+    "Refuse pictures with more pixels, judging by the header; suffixes k, M and G";
+
+const MAX_MEMORY: &str =
+    "Refuse pictures that need more bytes, judging by the header; suffixes k, M and G";
+
+/// A command that is being made, unless there was no memory for it.
+///
+/// What makes it passes it on as a result, which `with` and `with_word` look into: a function with
+/// a command that is alive at each of several exits takes a minute to check.
+pub type Making<'a> = Result<Command<'a>, AllocError>;
+
+/// Adds an argument to a command.
+pub fn with<'a>(command: Making<'a>, argument: Arg<'a>) -> Making<'a> {
+    command?.arg(argument)
+}
+
+/// Adds a word's command to a command.
+pub fn with_word<'a>(command: Making<'a>, word: Making<'a>) -> Making<'a> {
+    let command = command?;
+    command.subcommand(word?)
+}
+
+/// Returns a word's command, with the options that limit a picture.
+pub fn word<'a>(alloc: Global, name: &'a str, about: &'a str) -> Making<'a> {
+    let command = Command::new(alloc, name)
+        .about(about)
+        .arg(value_option(alloc, "max-pixels", "N", MAX_PIXELS));
+    with(
+        command,
+        value_option(alloc, "max-memory", "BYTES", MAX_MEMORY),
+    )
+}
+
+/// Returns the argument of the file that is read.
+pub fn file_argument<'a>(alloc: Global) -> Arg<'a> {
+    Arg::new(alloc, FILE)
+        .default_value("-")
+        .hide_default_value(true)
+        .help("The file to read; standard input by default, or for -")
+}
+
+/// Returns the argument of the files that are read.
+pub fn files_argument<'a>(alloc: Global) -> Arg<'a> {
+    Arg::new(alloc, FILE)
+        .num_args(1..)
+        .default_value("-")
+        .hide_default_value(true)
+        .help("The files to read; standard input by default, or for -")
+}
+
+/// Returns an option `--NAME VALUE`.
+pub fn value_option<'a>(alloc: Global, name: &'a str, value: &'a str, help: &'a str) -> Arg<'a> {
+    Arg::new(alloc, name)
+        .long(name)
+        .value_name(value)
+        .help(help)
+}
+
+/// Returns the option `-o`, with what it says of the file.
+pub fn output_option<'a>(alloc: Global, help: &'a str) -> Arg<'a> {
+    value_option(alloc, "output", "FILE", help).short('o')
+}
+
+/// Returns the words that the program was called with. If one is not text, says so.
+pub fn words(rt: &HostRuntime) -> Outcome<Vec<String>> {
+    let words = match env::args(rt) {
+        Ok(words) => words.collect(rt.alloc()).map_err(io::Error::from),
+        Err(error) => Err(error),
+    };
+    match words {
+        Ok(words) => Ok(words),
+        Err(error) => {
+            if error.kind() == io::ErrorKind::OutOfMemory {
+                let _ = eprintln!(rt; "{NAME}: out of memory");
+                return Err(Failure::Refused);
+            }
+            let _ = eprintln!(rt; "{NAME}: an argument is not UTF-8 text");
+            Err(Failure::WrongUse)
+        }
+    }
+}
+
+/// Prints why there are no matches, or the requested help or version.
+fn print_outcome(rt: &HostRuntime, error: &clap::Error) -> Outcome<()> {
+    let is_printed = error.print(rt).is_ok();
+    match error.kind() {
+        ErrorKind::DisplayHelp | ErrorKind::DisplayVersion if is_printed => Ok(()),
+        ErrorKind::DisplayHelp | ErrorKind::DisplayVersion | ErrorKind::OutOfMemory => {
+            Err(Failure::Refused)
+        }
+        _ => Err(Failure::WrongUse),
+    }
+}
+
+/// Parses the words by a command. Returns no matches if help or the version was requested, and was
+/// printed; wrong words are reported.
+pub fn parse<'a>(
+    rt: &HostRuntime,
+    command: Making<'a>,
+    words: &'a [String],
+) -> Outcome<Option<ArgMatches<'a>>> {
+    let parsed = match command {
+        Ok(command) => command.try_get_matches_from(words),
+        Err(error) => Err(clap::Error::from(error)),
+    };
+    match parsed {
+        Ok(matches) => Ok(Some(matches)),
+        Err(error) => {
+            print_outcome(rt, &error)?;
+            Ok(None)
+        }
+    }
+}
+
+/// Returns the file that an option or argument names: none if it isn't there, or is `-`.
+pub fn file_of<'a>(matches: &ArgMatches<'a>, id: &str) -> Option<&'a str> {
+    match matches.get_str(id) {
+        Some("-") => None,
+        other => other,
+    }
+}
+
+/// Says what the value of an option has to be.
+pub fn refuse_value(rt: &HostRuntime, option: &str, expected: &str) -> Failure {
+    let _ = eprintln!(rt; "{NAME}: --{option}: expected {expected}");
+    Failure::WrongUse
+}
+
+/// Returns the number that a text is, in digits with `k`, `M` or `G` after them for thousands,
+/// millions and billions.
+fn number_in(text: &str) -> Option<u64> {
+    let (digits, unit) = if let Some(digits) = text.strip_suffix('k') {
+        (digits, 1_000)
+    } else if let Some(digits) = text.strip_suffix('M') {
+        (digits, 1_000_000)
+    } else if let Some(digits) = text.strip_suffix('G') {
+        (digits, 1_000_000_000)
+    } else {
+        (text, 1)
+    };
+    digits.parse::<u64>().ok()?.checked_mul(unit)
+}
+
+/// Returns the number that an option gives, if it is there.
+fn limit_of(rt: &HostRuntime, matches: &ArgMatches<'_>, id: &str) -> Outcome<Option<u64>> {
+    let Some(text) = matches.get_str(id) else {
+        return Ok(None);
+    };
+    match number_in(text) {
+        Some(number) => Ok(Some(number)),
+        None => Err(refuse_value(rt, id, "a number, as 100000, 100k or 2G")),
+    }
+}
+
+/// Returns the limits of a picture that the options set.
+pub fn limits_of(rt: &HostRuntime, matches: &ArgMatches<'_>) -> Outcome<Limits> {
+    Ok(Limits {
+        pixels: limit_of(rt, matches, "max-pixels")?,
+        memory: limit_of(rt, matches, "max-memory")?,
+    })
+}

@@ -1,0 +1,26 @@
+//! The word `info`.
+
+use crate::arguments::{Making, with};
+use crate::{arguments, extraction};
+use clap::{Arg, ArgAction};
+use std::alloc::Global;
+
+/// The word.
+pub const NAME: &str = "info";
+
+const ABOUT: &str = "Says what JPEG files are, and takes their Exif, XMP and ICC data out of them";
+
+const OUTPUT: &str = "The file for the description; standard output by default, or for -";
+
+/// Returns what the word takes.
+pub fn command<'a>(alloc: Global) -> Making<'a> {
+    let json = Arg::new(alloc, "json")
+        .long("json")
+        .action(ArgAction::SetTrue)
+        .help("Write JSON instead of lines: an object, or an array for several files");
+    let command = arguments::word(alloc, NAME, ABOUT);
+    let command = with(command, arguments::files_argument(alloc));
+    let command = with(command, arguments::output_option(alloc, OUTPUT));
+    let command = with(command, json);
+    extraction::with_options(alloc, command)
+}

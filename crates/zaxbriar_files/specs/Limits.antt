@@ -1,0 +1,13 @@
+-- The limits of a picture that is decoded.
+use Rattle.std.specs.Prelude.{ℕ, ◌*◌, ◌&&◌, Bool, true, Option, None, Some, nat_le}
+use Rattle.zaxbriar_files.specs.declared.limits.Limits.{Limits}
+
+-- whether a number is at most what is allowed, if there is a limit
+abbrev pub is_at_most : Option ℕ → ℕ → Bool
+is_at_most None n = true
+is_at_most (Some most) n = nat_le n most
+
+-- whether a picture of this width and height, which takes this number of bytes, is allowed
+abbrev pub is_allowed : Limits → ℕ → ℕ → ℕ → Bool
+is_allowed limits width height bytes =
+    is_at_most limits.pixels (width * height) && is_at_most limits.memory bytes

@@ -1,0 +1,44 @@
+//! How the program ends.
+ghost use Rattle.std.specs.Prelude.{◌≡◌};
+ghost use Rattle.std.specs.Process.{exit_status};
+ghost use Rattle.zaxbriar_files.specs.Endings.{status_of, worse_status};
+
+use std::process::ExitCode;
+
+/// Why the program ends with a status other than 0.
+#[derive(Clone, Copy)]
+pub enum Failure {
+    /// A file was refused, or can't be read or written.
+    Refused,
+    /// The arguments are wrong.
+    WrongUse,
+    /// A file has a fault, and what there is of its picture was written.
+    Faulty,
+}
+
+/// What was done, or how the program ends if it wasn't, which was reported.
+pub type Outcome<T> = Result<T, Failure>;
+
+/// Returns how the program ends after two files: a refusal is worse than a fault.
+pub fn worse_of(first: Outcome<()>, second: Outcome<()>) -> Outcome<()>
+    ensures { status_of result ≡ worse_status (status_of first) (status_of second) }
+{
+    match (first, second) {
+        (Ok(()), other) => other,
+        (Err(Failure::Faulty), Err(failure)) => Err(failure),
+        _ => first,
+    }
+}
+
+/// Returns the status that the program ends with: 0 for Ok, 1 after a refusal, 2 for wrong
+/// arguments, and 3 if what there is of a file that has a fault was written.
+pub fn exit_code(outcome: Outcome<()>) -> ExitCode
+    ensures { exit_status result ≡ status_of outcome }
+{
+    match outcome {
+        Ok(()) => ExitCode::SUCCESS,
+        Err(Failure::Refused) => ExitCode::FAILURE,
+        Err(Failure::WrongUse) => ExitCode::from(2),
+        Err(Failure::Faulty) => ExitCode::from(3),
+    }
+}

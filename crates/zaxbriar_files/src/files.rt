@@ -1,0 +1,114 @@
+//! The files that the program reads, and its messages about them.
+
+use crate::ending::{Failure, Outcome};
+use crate::formats::FileFormat;
+use crate::output::Output;
+use crate::refusal::Refusal;
+use jpeg_bits::error::Error;
+use jpeg_bits::source::byte_reader::ByteReader;
+use std::fmt::Display;
+use std::fs::File;
+use std::io;
+use std::io::{BufRead, BufReader, ErrorKind, Read};
+use std::rt::Stdin;
+
+/// The program's name.
+pub const NAME: &str = "zaxbriar";
+
+/// The bytes of a file or of standard input.
+#[derive(Drop)]
+pub enum Input {
+    /// Standard input.
+    Standard(Stdin),
+    /// An open file.
+    File(File),
+}
+
+impl Read for Input {
+    fn read(&mut self, buf: &mut [u8]) -> io::Result<usize> {
+        match self {
+            Input::Standard(stdin) => stdin.read(buf),
+            Input::File(file) => file.read(buf),
+        }
+    }
+}
+
+/// Returns the file that a text names: none if it is `-`.
+pub fn named(text: &str) -> Option<&str> {
+    if text == "-" { None } else { Some(text) }
+}
+
+/// The reader that the program gives to a decoder.
+pub type InputReader = ByteReader<Input>;
+
+/// Opens the file of this name, or standard input if there is none. A file that begins like one of
+/// another format is refused by that format's name.
+pub fn open(rt: &HostRuntime, name: Option<&str>) -> Result<InputReader, Refusal> {
+    let input = match name {
+        Some(name) => Input::File(File::open(rt, name)?),
+        None => Input::Standard(rt.stdin()),
+    };
+    let mut reader = BufReader::new(rt.alloc(), input)?;
+    if let Some(format) = FileFormat::of(reader.fill_buf()?) {
+        return Err(Refusal::Format(format));
+    }
+    Ok(ByteReader::new(reader))
+}
+
+/// Returns whether the refusal is that nobody reads what is written.
+fn is_broken_pipe(refusal: &Refusal) -> bool {
+    match refusal {
+        Refusal::Decoding(Error::Io(error)) => error.kind() == ErrorKind::BrokenPipe,
+        _ => false,
+    }
+}
+
+/// Reports in one line on standard error what is wrong with a file, or with standard input if none
+/// is named.
+pub fn report<D: Display>(rt: &HostRuntime, name: Option<&str>, reason: &D) -> Failure {
+    let name = name.unwrap_or("standard input");
+    let _ = eprintln!(rt; "{NAME}: {name}: {reason}");
+    Failure::Refused
+}
+
+/// Reports a refusal in one line: it names the file that couldn't be written, otherwise the one
+/// that was read. A pipe that nobody reads is not reported.
+fn report_refusal(
+    rt: &HostRuntime,
+    input: Option<&str>,
+    output: &Output<'_>,
+    refusal: &Refusal,
+) -> Failure {
+    if !output.has_failed() {
+        return report(rt, input, refusal);
+    }
+    if is_broken_pipe(refusal) {
+        return Failure::Refused;
+    }
+    report(
+        rt,
+        Some(output.name().unwrap_or("standard output")),
+        refusal,
+    )
+}
+
+/// Ends an output whose file was read: after an Ok, what was written is put in place; after a
+/// refusal, which is reported, it is removed.
+pub fn finish(
+    rt: &HostRuntime,
+    input: Option<&str>,
+    mut output: Output<'_>,
+    outcome: Result<(), Refusal>,
+) -> Outcome<()> {
+    let outcome = match outcome {
+        Ok(()) => output.keep().map_err(Refusal::from),
+        refused => refused,
+    };
+    match outcome {
+        Ok(()) => Ok(()),
+        Err(refusal) => {
+            output.discard();
+            Err(report_refusal(rt, input, &output, &refusal))
+        }
+    }
+}

@@ -1,0 +1,275 @@
+//! What the segments of a stream say up to its first scan.
+
+use exif_orientation::orientation_of;
+use jpeg_bits::error::{Result, format_error_of};
+use jpeg_bits::marker::{Marker, read_marker};
+use jpeg_bits::source::Source;
+use jpeg_bits::source::reads::{read_bytes, read_length, read_u16_be, skip};
+use jpeg_segments::parser::{
+    AdobeColorTransform, AppData, FrameInfo, parse_app, parse_com, parse_dri, parse_sof,
+};
+use std::alloc::Global;
+use std::io::Read;
+
+/// The marker SOI.
+const START: u16 = 0xffd8;
+
+/// How many pixels a JFIF segment says that a length has.
+#[derive(Clone, Copy)]
+pub struct Density {
+    /// The length.
+    pub unit: Unit,
+    /// How many pixels it has across.
+    pub across: u16,
+    /// How many it has down.
+    pub down: u16,
+}
+
+/// A length by which pixels are counted (JFIF 1.02).
+#[derive(Clone, Copy)]
+pub enum Unit {
+    /// None: the two numbers are the ratio of a pixel's sides.
+    Ratio,
+    /// An inch.
+    Inch,
+    /// A centimetre.
+    Centimetre,
+}
+
+/// What the segments of a stream say up to its first scan. If data occur more than once, the last
+/// counts, and of comments the first.
+#[derive(Drop)]
+pub struct Header {
+    /// The frame header.
+    pub frame: FrameInfo,
+    /// How many MCUs a restart interval has: 0 if there are no restarts.
+    pub restart_interval: u16,
+    /// The colours that a segment names.
+    pub colours: NamedColours,
+    /// The density that a JFIF segment names.
+    pub density: Option<Density>,
+    /// The first comment.
+    pub comment: Option<Vec<u8>>,
+    /// What stands there beside the picture.
+    pub data: Data,
+}
+
+/// What the segments say about colours.
+#[derive(Clone, Copy)]
+pub struct NamedColours {
+    /// Whether there is a JFIF segment.
+    pub is_jfif: bool,
+    /// The transform that Adobe's segment names.
+    pub adobe: Option<AdobeColorTransform>,
+}
+
+/// The sizes of what stands in a stream beside the picture, in bytes.
+#[derive(Clone, Copy)]
+pub struct Data {
+    /// Of the parts of an ICC profile.
+    pub icc: Option<usize>,
+    /// Of Exif data.
+    pub exif: Option<usize>,
+    /// The orientation that the Exif data give.
+    pub orientation: Option<u8>,
+    /// Of XMP data.
+    pub xmp: Option<usize>,
+}
+
+impl Unit {
+    /// Returns the unit that a JFIF segment has this number for.
+    fn of(number: u8) -> Option<Unit> {
+        match number {
+            0 => Some(Unit::Ratio),
+            1 => Some(Unit::Inch),
+            2 => Some(Unit::Centimetre),
+            _ => None,
+        }
+    }
+}
+
+impl Data {
+    /// Adds what the segment of an application says.
+    fn add(&mut self, said: &AppData) {
+        match said {
+            AppData::Icc(part) => {
+                self.icc = Some(self.icc.unwrap_or(0).saturating_add(part.bytes.len()));
+            }
+            AppData::Exif(bytes) => {
+                self.exif = Some(bytes.len());
+                self.orientation = orientation_of(bytes.as_slice());
+            }
+            AppData::Xmp(bytes) => self.xmp = Some(bytes.len()),
+            AppData::Adobe(_) | AppData::Jfif | AppData::Avi1 | AppData::Psir(_) => {}
+        }
+    }
+}
+
+impl NamedColours {
+    /// Adds what the segment of an application says.
+    fn add(&mut self, said: &AppData) {
+        match said {
+            AppData::Adobe(transform) => self.adobe = Some(*transform),
+            AppData::Jfif => self.is_jfif = true,
+            AppData::Icc(_) | AppData::Exif(_) | AppData::Xmp(_) => {}
+            AppData::Avi1 | AppData::Psir(_) => {}
+        }
+    }
+}
+
+/// Returns the density in a JFIF segment, without its marker and length: its name of five bytes,
+/// its version of two, the unit, and two numbers of two bytes each.
+fn density_in(segment: &[u8]) -> Option<Density> {
+    if !segment.starts_with(b"JFIF\0") {
+        return None;
+    }
+    let &[_, _, _, _, _, _, _, unit, a, b, c, d, ..] = segment else {
+        return None;
+    };
+    Some(Density {
+        unit: Unit::of(unit)?,
+        across: u16::from_be_bytes([a, b]),
+        down: u16::from_be_bytes([c, d]),
+    })
+}
+
+/// What was found before the first scan.
+#[derive(Drop)]
+struct Found {
+    frame: Option<FrameInfo>,
+    restart_interval: u16,
+    colours: NamedColours,
+    density: Option<Density>,
+    comment: Option<Vec<u8>>,
+    data: Data,
+}
+
+impl Found {
+    /// Returns what was found before anything was read.
+    fn nothing() -> Found {
+        Found {
+            frame: None,
+            restart_interval: 0,
+            colours: NamedColours {
+                is_jfif: false,
+                adobe: None,
+            },
+            density: None,
+            comment: None,
+            data: Data {
+                icc: None,
+                exif: None,
+                orientation: None,
+                xmp: None,
+            },
+        }
+    }
+
+    /// Reads the segment of an application.
+    fn read_application<R: Read + Drop>(
+        &mut self,
+        alloc: Global,
+        source: &mut Source<R>,
+        marker: Marker,
+    ) -> Result<()> {
+        if let Some(said) = parse_app(alloc, source, marker)? {
+            self.colours.add(&said);
+            self.data.add(&said);
+        }
+        Ok(())
+    }
+
+    /// Reads the segment APP0, which has the density in addition to what `parse_app` says of it.
+    fn read_application_0<R: Read + Drop>(
+        &mut self,
+        alloc: Global,
+        source: &mut Source<R>,
+    ) -> Result<()> {
+        let length = read_length(alloc, source)?;
+        let segment = read_bytes(alloc, source, length)?;
+        if segment.starts_with(b"JFIF\0") {
+            self.colours.is_jfif = true;
+        }
+        if self.density.is_none() {
+            self.density = density_in(&segment);
+        }
+        Ok(())
+    }
+
+    /// Reads the segment after a marker.
+    fn read_segment<R: Read + Drop>(
+        &mut self,
+        alloc: Global,
+        source: &mut Source<R>,
+        marker: Marker,
+    ) -> Result<()> {
+        match marker {
+            Marker::SOF(_) => self.frame = Some(parse_sof(alloc, source, marker)?),
+            Marker::DRI => self.restart_interval = parse_dri(alloc, source)?,
+            Marker::APP(0) => self.read_application_0(alloc, source)?,
+            Marker::APP(_) => self.read_application(alloc, source, marker)?,
+            Marker::COM => {
+                let comment = parse_com(alloc, source)?;
+                if self.comment.is_none() {
+                    self.comment = Some(comment);
+                }
+            }
+            _ => {
+                if marker.has_length() {
+                    let length = read_length(alloc, source)?;
+                    skip(alloc, source, length)?;
+                }
+            }
+        }
+        Ok(())
+    }
+
+    /// Returns the header that was found before a marker.
+    fn into_header(self, alloc: Global, marker: Marker) -> Result<Header> {
+        let Found {
+            frame,
+            restart_interval,
+            colours,
+            density,
+            comment,
+            data,
+        } = self;
+        match frame {
+            Some(frame) => Ok(Header {
+                frame,
+                restart_interval,
+                colours,
+                density,
+                comment,
+                data,
+            }),
+            None => Err(format_error_of(format!(in alloc; "found {marker}, expected SOFn"))),
+        }
+    }
+}
+
+/// Reads the marker SOI, with which a stream begins.
+fn read_start<R: Read + Drop>(alloc: Global, source: &mut Source<R>) -> Result<()> {
+    let start = read_u16_be(alloc, source)?;
+    if start != START {
+        return Err(format_error_of(format!(in alloc;
+            "found {start:04X} at the start, expected SOI (FFD8)"
+        )));
+    }
+    Ok(())
+}
+
+/// Reads the segments of a stream up to its first scan, or up to its end if it has none.
+pub fn read_header<R: Read + Drop>(alloc: Global, reader: R) -> Result<Header> {
+    let mut source = Source::new(reader);
+    read_start(alloc, &mut source)?;
+    let mut found = Found::nothing();
+    for _ in 0..u64::MAX {
+        let marker = read_marker(alloc, &mut source)?;
+        if matches!(marker, Marker::SOS | Marker::EOI) {
+            return found.into_header(alloc, marker);
+        }
+        found.read_segment(alloc, &mut source, marker)?;
+    }
+    found.into_header(alloc, Marker::EOI)
+}

@@ -1,0 +1,41 @@
+//! Describes files, one after the other.
+
+use crate::description::{Form, Subject};
+use crate::files::{named, open, report};
+use crate::header::{Header, read_header};
+use crate::limits::Limits;
+use crate::output::Output;
+use crate::refusal::Refusal;
+
+/// Reads the header of a file.
+fn header_of(rt: &HostRuntime, name: Option<&str>, limits: Limits) -> Result<Header, Refusal> {
+    let reader = open(rt, name)?;
+    let header = read_header(rt.alloc(), reader)?;
+    let size = header.frame.image_size;
+    limits.check(size.width, size.height, 0)?;
+    Ok(header)
+}
+
+/// Describes the files, and returns whether each could be described. A refusal is reported.
+pub fn describe(
+    rt: HostRuntime,
+    names: &[&str],
+    form: Form,
+    limits: Limits,
+    output: &mut Output<'_>,
+) -> Result<bool, Refusal> {
+    let mut are_all = true;
+    form.begin(output)?;
+    for index in 0..names.len() {
+        let name = named(names[index]);
+        let header = header_of(&rt, name, limits);
+        if let Err(refusal) = &header {
+            report(&rt, name, refusal);
+            are_all = false;
+        }
+        let subject = Subject { index, name };
+        form.write(rt.alloc(), subject, &header, output)?;
+    }
+    form.end(output)?;
+    Ok(are_all)
+}

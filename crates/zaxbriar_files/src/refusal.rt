@@ -1,0 +1,69 @@
+//! Why a file isn't decoded or described.
+
+use crate::formats::FileFormat;
+use jpeg_bits::error::Error;
+use std::alloc::AllocError;
+use std::{fmt, io};
+
+/// Why a file isn't decoded or described.
+#[derive(Drop)]
+pub enum Refusal {
+    /// The decoder refuses it, or it can't be read, or there is no memory, or the output can't be
+    /// written.
+    Decoding(Error),
+    /// It is a file of another format.
+    Format(FileFormat),
+    /// Its picture has more pixels than are allowed.
+    Pixels {
+        /// How many it has.
+        pixels: u64,
+        /// How many are allowed.
+        most: u64,
+    },
+    /// Its picture takes more memory than is allowed.
+    Memory {
+        /// How many bytes it takes.
+        bytes: u64,
+        /// How many are allowed.
+        most: u64,
+    },
+}
+
+impl fmt::Display for Refusal {
+    fn fmt<W: fmt::Write>(&self, f: &mut fmt::Formatter<W>) -> fmt::Result {
+        match self {
+            Refusal::Decoding(error) => write!(f, "{error}"),
+            Refusal::Format(format) => write!(f, "a {} file, not a JPEG file", format.name()),
+            Refusal::Pixels { pixels, most } => {
+                write!(
+                    f,
+                    "the picture has {pixels} pixels, and --max-pixels is {most}"
+                )
+            }
+            Refusal::Memory { bytes, most } => {
+                write!(
+                    f,
+                    "the picture takes {bytes} bytes, and --max-memory is {most}"
+                )
+            }
+        }
+    }
+}
+
+impl From<Error> for Refusal {
+    fn from(error: Error) -> Refusal {
+        Refusal::Decoding(error)
+    }
+}
+
+impl From<io::Error> for Refusal {
+    fn from(error: io::Error) -> Refusal {
+        Refusal::Decoding(Error::from(error))
+    }
+}
+
+impl From<AllocError> for Refusal {
+    fn from(error: AllocError) -> Refusal {
+        Refusal::Decoding(Error::from(error))
+    }
+}

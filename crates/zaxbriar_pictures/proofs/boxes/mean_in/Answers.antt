@@ -1,7 +1,0 @@
-use Rattle.std.proofs.Common.{rules}
-use Rattle.zaxbriar_pictures.specs.Boxes.{mean_in}
-use Rattle.zaxbriar_pictures.proofs.boxes.mean_in.Goals as goal
-
-pub returns : goal.returns
-unfolding mean_in
-returns c = search rules

@@ -1,7 +1,0 @@
-use Rattle.std.proofs.Common.{rules, append_assoc}
-use Rattle.zaxbriar_pictures.proofs.netpbm.pam_header.Goals as goal
-
-pub returns : goal.returns
-returns c =
-    let made = c.in_ok-format.ensures.ok in
-    search (rules, append_assoc)

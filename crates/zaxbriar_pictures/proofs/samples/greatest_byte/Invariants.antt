@@ -1,6 +1,0 @@
-use Rattle.std.proofs.Common.{◌≡◌}
-use Rattle.zaxbriar_pictures.specs.Samples.{greatest_below, byte_at}
-use Rattle.zaxbriar_pictures.proofs.samples.greatest_byte.Given as goal
-
-abbrev pub invariant-loop-index : goal.invariant-loop-index
-invariant-loop-index l = l.greatest ≡ greatest_below l.index (byte_at l.pixels)

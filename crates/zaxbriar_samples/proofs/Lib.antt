@@ -1,0 +1,3 @@
+mod BoxSums
+mod Greatest
+mod Turned

@@ -1,0 +1,12 @@
+//! The samples of decoded pictures, for the program `zaxbriar`: pictures made smaller and turned
+//! upright, the sizes and scales for that, and netpbm files.
+//!
+//! It knows no decoder, so that the gate proves both at the same time.
+#![tactic(auto)]
+
+pub mod boxes;
+pub mod netpbm;
+pub mod requests;
+pub mod samples;
+pub mod sizes;
+pub mod turns;
