@@ -109,16 +109,21 @@ fn put_line_of(line: &mut String, text: &str) -> Result<(), AllocError> {
     Ok(())
 }
 
-/// Appends the components: the number of each, and its sampling factors across and down.
+/// Appends a component: its number, and its sampling factors across and down.
+fn put_component(text: &mut String, component: &Component) -> Result<(), AllocError> {
+    let identifier = component.identifier;
+    let across = component.horizontal_sampling_factor;
+    let down = component.vertical_sampling_factor;
+    write!(text, " {identifier}:{across}x{down}")
+}
+
+/// Appends the components.
 fn put_components(text: &mut String, components: &[Component]) -> Result<(), AllocError> {
-    write!(text, "components:")?;
+    text.push_str("components:")?;
     for component in components {
-        let identifier = component.identifier;
-        let across = component.horizontal_sampling_factor;
-        let down = component.vertical_sampling_factor;
-        write!(text, " {identifier}:{across}x{down}")?;
+        put_component(text, component)?;
     }
-    writeln!(text, "")
+    text.push('\n')
 }
 
 /// Appends the density.

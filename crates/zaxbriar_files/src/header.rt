@@ -259,17 +259,30 @@ fn read_start<R: Read + Drop>(alloc: Global, source: &mut Source<R>) -> Result<(
     Ok(())
 }
 
+/// Reads the segments of a stream up to its first scan, or up to its end if it has none, and
+/// returns the marker there.
+fn read_segments<R: Read + Drop>(
+    alloc: Global,
+    source: &mut Source<R>,
+    found: &mut Found,
+) -> Result<Marker> {
+    read_start(alloc, source)?;
+    for _ in 0..u64::MAX {
+        let marker = read_marker(alloc, source)?;
+        if matches!(marker, Marker::SOS | Marker::EOI) {
+            return Ok(marker);
+        }
+        found.read_segment(alloc, source, marker)?;
+    }
+    Ok(Marker::EOI)
+}
+
 /// Reads the segments of a stream up to its first scan, or up to its end if it has none.
 pub fn read_header<R: Read + Drop>(alloc: Global, reader: R) -> Result<Header> {
     let mut source = Source::new(reader);
-    read_start(alloc, &mut source)?;
     let mut found = Found::nothing();
-    for _ in 0..u64::MAX {
-        let marker = read_marker(alloc, &mut source)?;
-        if matches!(marker, Marker::SOS | Marker::EOI) {
-            return found.into_header(alloc, marker);
-        }
-        found.read_segment(alloc, &mut source, marker)?;
+    match read_segments(alloc, &mut source, &mut found) {
+        Ok(marker) => found.into_header(alloc, marker),
+        Err(error) => Err(error),
     }
-    found.into_header(alloc, Marker::EOI)
 }

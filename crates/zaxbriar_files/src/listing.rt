@@ -16,6 +16,25 @@ fn header_of(rt: &HostRuntime, name: Option<&str>, limits: Limits) -> Result<Hea
     Ok(header)
 }
 
+/// Describes a file, and returns whether it could be described. A refusal is reported.
+fn describe_file(
+    rt: &HostRuntime,
+    subject: Subject<'_>,
+    form: Form,
+    limits: Limits,
+    output: &mut Output<'_>,
+) -> Result<bool, Refusal> {
+    let header = header_of(rt, subject.name, limits);
+    if let Err(refusal) = &header {
+        report(rt, subject.name, refusal);
+    }
+    let is_described = header.is_ok();
+    match form.write(rt.alloc(), subject, &header, output) {
+        Ok(()) => Ok(is_described),
+        Err(refusal) => Err(refusal),
+    }
+}
+
 /// Describes the files, and returns whether each could be described. A refusal is reported.
 pub fn describe(
     rt: HostRuntime,
@@ -28,13 +47,8 @@ pub fn describe(
     form.begin(output)?;
     for index in 0..names.len() {
         let name = named(names[index]);
-        let header = header_of(&rt, name, limits);
-        if let Err(refusal) = &header {
-            report(&rt, name, refusal);
-            are_all = false;
-        }
         let subject = Subject { index, name };
-        form.write(rt.alloc(), subject, &header, output)?;
+        are_all &= describe_file(&rt, subject, form, limits, output)?;
     }
     form.end(output)?;
     Ok(are_all)

@@ -91,14 +91,14 @@ fn write_all<R: Read + Drop>(
     rt: HostRuntime,
     matches: &ArgMatches<'_>,
     input: Option<&str>,
-    mut decoder: Decoder<R>,
+    decoder: &mut Decoder<R>,
     limits: Limits,
 ) -> Outcome<()> {
-    let refusal = read_data(&mut decoder, matches, limits).err();
+    let refusal = read_data(decoder, matches, limits).err();
     let mut outcome = Ok(());
     for kind in KINDS {
         if matches.contains_id(kind.option())
-            && write_kind(rt, matches, input, &decoder, refusal.as_ref(), kind).is_err()
+            && write_kind(rt, matches, input, decoder, refusal.as_ref(), kind).is_err()
         {
             outcome = Err(Failure::Refused);
         }
@@ -118,7 +118,7 @@ fn extract(
         Err(refusal) => return Err(files::report(&rt, input, &refusal)),
     };
     match Decoder::new(rt.alloc(), reader) {
-        Ok(decoder) => write_all(rt, matches, input, decoder, limits),
+        Ok(mut decoder) => write_all(rt, matches, input, &mut decoder, limits),
         Err(error) => Err(files::report(&rt, input, &error)),
     }
 }

@@ -70,18 +70,21 @@ impl<'a> Job<'a> {
         files::finish(&self.rt, self.input, output, written.map_err(Refusal::from))
     }
 
+    /// Writes the frame of a number as the file that has it in its name.
+    fn write_numbered(&self, names: Numbered<'_>, number: u64, frame: Picture) -> Outcome<()> {
+        match names.with_number(self.rt.alloc(), number) {
+            Ok(name) => self.write_file(name.as_str(), frame),
+            Err(error) => Err(files::report(&self.rt, self.input, &Refusal::from(error))),
+        }
+    }
+
     /// Writes each frame as a file of its own.
     fn write_files(&self, frames: &mut InputFrames, names: Numbered<'_>) -> Outcome<()> {
         for number in 1..u64::MAX {
             let Some(frame) = self.next(frames, number)? else {
                 break;
             };
-            match names.with_number(self.rt.alloc(), number) {
-                Ok(name) => self.write_file(name.as_str(), frame)?,
-                Err(error) => {
-                    return Err(files::report(&self.rt, self.input, &Refusal::from(error)));
-                }
-            }
+            self.write_numbered(names, number, frame)?;
         }
         Ok(())
     }
@@ -118,30 +121,67 @@ impl<'a> Job<'a> {
         }
     }
 
+    /// Decodes the next frame, and writes what is requested of it to the one file. Returns what is
+    /// said of the frame, if there is one that isn't refused.
+    fn write_next(
+        &self,
+        frames: &mut InputFrames,
+        number: u64,
+        first: Option<ImageInfo>,
+        output: &mut Output<'_>,
+    ) -> Result<Outcome<Option<ImageInfo>>, Refusal> {
+        match self.next_alike(frames, number, first) {
+            Ok(Some(frame)) => {
+                let info = frame.info;
+                match self.write_frame(number, &frame, output) {
+                    Ok(()) => Ok(Ok(Some(info))),
+                    Err(refusal) => Err(refusal),
+                }
+            }
+            Ok(None) => Ok(Ok(None)),
+            Err(failure) => Ok(Err(failure)),
+        }
+    }
+
+    /// Writes what is requested of each frame to the one file. Returns whether there was a frame,
+    /// and how the last one ended.
+    fn write_each(
+        &self,
+        frames: &mut InputFrames,
+        output: &mut Output<'_>,
+    ) -> Result<(bool, Outcome<()>), Refusal> {
+        let mut first = None;
+        for number in 1..u64::MAX {
+            match self.write_next(frames, number, first, output)? {
+                Ok(Some(info)) => first = Some(info),
+                Ok(None) => break,
+                Err(failure) => return Ok((first.is_some(), Err(failure))),
+            }
+        }
+        Ok((first.is_some(), Ok(())))
+    }
+
     /// Writes what is requested of each frame to one file. The frames before one that is refused
     /// are kept.
     fn write_stream(&self, frames: &mut InputFrames) -> Outcome<()> {
         let mut output = Output::new(self.rt, self.output);
-        let mut first = None;
-        let mut outcome = Ok(());
-        for number in 1..u64::MAX {
-            let frame = match self.next_alike(frames, number, first) {
-                Ok(Some(frame)) => frame,
-                Ok(None) => break,
-                Err(failure) => {
-                    outcome = Err(failure);
-                    break;
-                }
-            };
-            first = Some(frame.info);
-            if let Err(refusal) = self.write_frame(number, &frame, &mut output) {
-                return files::finish(&self.rt, self.input, output, Err(refusal));
-            }
+        match self.write_each(frames, &mut output) {
+            Ok((true, outcome)) => files::finish(&self.rt, self.input, output, Ok(())).and(outcome),
+            Ok((false, outcome)) => outcome,
+            Err(refusal) => files::finish(&self.rt, self.input, output, Err(refusal)),
         }
-        if first.is_some() {
-            files::finish(&self.rt, self.input, output, Ok(()))?;
-        }
-        outcome
+    }
+
+    /// Does what is requested to the one file.
+    fn run_stream(&self) -> Outcome<()> {
+        let mut frames = self.frames()?;
+        self.write_stream(&mut frames)
+    }
+
+    /// Does what is requested to a file for each frame.
+    fn run_files(&self, names: Numbered<'_>) -> Outcome<()> {
+        let mut frames = self.frames()?;
+        self.write_files(&mut frames, names)
     }
 }
 
@@ -172,16 +212,10 @@ pub fn run(rt: HostRuntime, matches: &ArgMatches<'_>) -> Outcome<()> {
     };
     let names = match output {
         Some(name) if !job.is_list && name.contains('%') => Numbered::new(name),
-        _ => {
-            let mut frames = job.frames()?;
-            return job.write_stream(&mut frames);
-        }
+        _ => return job.run_stream(),
     };
     match names {
-        Some(names) => {
-            let mut frames = job.frames()?;
-            job.write_files(&mut frames, names)
-        }
+        Some(names) => job.run_files(names),
         None => Err(arguments::refuse_value(&rt, "output", "one %d or %04d in the name")),
     }
 }
