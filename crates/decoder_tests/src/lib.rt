@@ -12,6 +12,8 @@ mod decoders;
 #[cfg(test)]
 mod each_reader;
 #[cfg(test)]
+mod failed_partial;
+#[cfg(test)]
 mod failed_reads;
 #[cfg(test)]
 mod failed_writes;

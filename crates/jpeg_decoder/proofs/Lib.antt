@@ -56,6 +56,7 @@ mod PlainPixels
 mod SamplesMeant
 mod DecodedSamples
 pub mod LinesTogether
+pub mod WrittenLines
 pub mod PictureSizes
 mod OnLiterals
 pub mod GatheredData

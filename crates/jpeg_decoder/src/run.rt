@@ -1,50 +1,22 @@
 //! The program's engine: a stream from a reader, its picture to a writer, and a line for a refusal.
-ghost use Rattle.std.specs.Prelude.{◌≡◌, ◌++◌, ℕ, List, Some, None, Err, IsSome};
+ghost use Rattle.std.specs.Prelude.{◌≡◌, ℕ, List, Some, None, Err, IsSome};
 ghost use Rattle.std.specs.Prelude.{IsSomeAnd, OnOk, OnErr, IfErr, IfOk, IsErr, string_bytes};
 ghost use Rattle.jpeg_streams.specs.States.{IsOfBytes};
 ghost use Rattle.std.specs.Io.KnownBytes.{Appends, Keeps};
-ghost use Rattle.jpeg_decoder.specs.Writes.{StopsByTurns};
 ghost use Rattle.jpeg_bits.specs.declared.error.Error.TheVariants.{OutOfMemory};
 ghost use Rattle.jpeg_streams.specs.Output.{output_of, header_line_of, name_of, Tells};
 ghost use Rattle.jpeg_streams.specs.Output.{TakesBeginning};
-ghost use Rattle.jpeg_streams.specs.Output.{IsOutside, IsOutsideOrMemory, NamesOrOutside};
+ghost use Rattle.jpeg_streams.specs.Output.{IsOutsideOrMemory, NamesOrOutside};
 ghost use Rattle.jpeg_streams.specs.PrintedImages.{PrintsImages};
 
+mod lines;
 mod writes;
 
 use crate::decoder::{Decoder, ImageInfo, PixelFormat};
-use crate::run::writes::{Offered, write_by_turns};
-use jpeg_bits::error::{Error, Result};
+pub use crate::run::lines::write_lines;
+use jpeg_bits::error::Result;
 use std::alloc::{AllocError, Global};
-use std::io;
-use std::io::{ErrorKind, Read, Write};
-
-/// Writes all of the bytes, repeating interrupted writes. A write of 0 bytes is refused as
-/// `WriteZero`, and 2^64 - 1 interruptions in a row as a `Format` without a text.
-fn write_fully<W: Offered>(alloc: Global, writer: &mut W, bytes: &[u8]) -> Result<()>
-    ensures ok { OnOk result (Appends (W.contents writer.old) (W.contents writer.new) bytes.now) }
-    ensures err { OnErr result (TakesBeginning (W.contents writer.old) (W.contents writer.new)
-        bytes.now) }
-    ensures outside { IfErr result IsOutside }
-    ensures stops { IfErr result (StopsByTurns W.answers) }
-{
-    let mut rest = bytes;
-    while !rest.is_empty() {
-        match write_by_turns(writer, rest) {
-            Some(answer) => {
-                let count = answer?;
-                if count == 0 {
-                    let error = io::Error::new(ErrorKind::WriteZero, "nothing was written");
-                    return Err(Error::Io(error));
-                }
-                let (_, after) = rest.split_at(count);
-                rest = after;
-            }
-            None => return Err(Error::Format(String::new(alloc))),
-        }
-    }
-    Ok(())
-}
+use std::io::{Read, Write};
 
 /// Returns the name of a format in the header line.
 fn format_name(format: PixelFormat) -> &'static str
@@ -76,19 +48,6 @@ fn header_line(alloc: Global, info: Option<ImageInfo>) -> std::result::Result<St
         Some(info) => info_line(alloc, info),
         None => Ok(String::new(alloc)),
     }
-}
-
-/// Writes two texts, one after the other.
-fn write_both<W: Offered>(alloc: Global, writer: &mut W, first: &[u8], second: &[u8]) -> Result<()>
-    ensures ok { OnOk result (Appends (W.contents writer.old) (W.contents writer.new)
-        (first.now ++ second.now)) }
-    ensures err { OnErr result (TakesBeginning (W.contents writer.old) (W.contents writer.new)
-        (first.now ++ second.now)) }
-    ensures outside { IfErr result IsOutside }
-    ensures stops { IfErr result (StopsByTurns W.answers) }
-{
-    write_fully(alloc, writer, first)?;
-    write_fully(alloc, writer, second)
 }
 
 /// Decodes the stream that the reader gives, and writes the header line `WIDTH HEIGHT FORMAT` with
@@ -130,9 +89,9 @@ pub fn run<R: Read + Drop, W: Write>(alloc: Global, reader: R, writer: &mut W) -
     ensures own { IfErr result IsOfBytes }
 {
     let mut decoder = Decoder::new(alloc, reader)?;
-    let pixels = decoder.decode()?;
+    let mut lines = decoder.decode_lines()?;
     let line = header_line(alloc, decoder.info())?;
-    write_both(alloc, writer, line.as_bytes(), pixels.as_slice())
+    write_lines(alloc, line.as_bytes(), &mut lines, writer)
 }
 
 /// Reports a refusal in one line, and returns the program's status: 0 for `Ok`, for which nothing

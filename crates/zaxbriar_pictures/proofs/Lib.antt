@@ -1,4 +1,3 @@
 mod GivenLines
 pub mod ScaledStreams
-mod WrittenLines
 mod WrittenThumbnails

@@ -9,7 +9,6 @@
 #![tactic(auto)]
 
 pub mod extents;
-pub mod lines;
 pub mod raw;
 pub mod scaled;
 pub mod thumbnails;

@@ -6,8 +6,8 @@ ghost use Rattle.jpeg_streams.specs.Output.{output_of};
 ghost use Rattle.jpeg_streams.specs.declared.progress.Progress.TheVariants.{Fresh};
 
 use crate::extents::Extent;
-use crate::lines::write_lines;
 use crate::scaled::taken_by_lines;
+use jpeg_decoder::run::write_lines;
 use jpeg_decoder::{Decoder, ImageInfo, PixelFormat};
 use std::alloc::{AllocError, Global};
 use std::io::{Read, Write};

@@ -20,9 +20,9 @@ ghost use Rattle.zaxbriar_samples.specs.Sizes.{orientation_for, scale_of_request
 ghost use Rattle.zaxbriar_samples.specs.declared.requests.Request.TheVariants.{At};
 
 use crate::extents::{Completeness, Extent, decode_wanted_lines, decode_wanted_picture};
-use crate::lines::write_lines;
 use jpeg_decoder::error::Error;
 use jpeg_decoder::parser::Dimensions;
+use jpeg_decoder::run::write_lines;
 use jpeg_decoder::{Decoder, ImageInfo, Lines, Scale, error};
 use std::alloc::Global;
 use std::io::{Read, Write};

@@ -1,12 +1,17 @@
 //! Writes that are repeated while they are interrupted.
 ghost use Rattle.std.specs.Prelude.{◌≡◌, ◌≢◌, ◌-◌, ◌^◌, ℕ, List, Result, IfSome, IfNone, IfErr};
+ghost use Rattle.std.specs.Prelude.{OnOk, OnErr};
 ghost use Rattle.std.specs.Io.{WritesAtMost};
-ghost use Rattle.std.specs.Io.KnownBytes.{Keeps, WriteAppends};
+ghost use Rattle.std.specs.Io.KnownBytes.{Appends, Keeps, WriteAppends};
 ghost use Rattle.std.specs.IoError.{error_kind};
 ghost use Rattle.std.specs.declared.io.Error.{Error};
 ghost use Rattle.jpeg_bits.specs.Turns.{Interruptions};
-ghost use Rattle.jpeg_decoder.specs.Writes.{WritesLater, write_fails};
+ghost use Rattle.jpeg_streams.specs.Output.{IsOutside, TakesBeginning};
+ghost use Rattle.jpeg_decoder.specs.Writes.{StopsByTurns, WritesLater, write_fails};
 
+use jpeg_bits::error;
+use jpeg_bits::error::Error;
+use std::alloc::Global;
 use std::io;
 use std::io::{ErrorKind, Write};
 
@@ -59,4 +64,35 @@ pub(super) fn write_by_turns<W: Offered>(writer: &mut W, bytes: &[u8]) -> Option
         }
     }
     None
+}
+
+/// Writes all of the bytes, repeating interrupted writes. A write of 0 bytes is refused as
+/// `WriteZero`, and 2^64 - 1 interruptions in a row as a `Format` without a text.
+pub(super) fn write_fully<W: Offered>(
+    alloc: Global,
+    writer: &mut W,
+    bytes: &[u8],
+) -> error::Result<()>
+    ensures ok { OnOk result (Appends (W.contents writer.old) (W.contents writer.new) bytes.now) }
+    ensures err { OnErr result (TakesBeginning (W.contents writer.old) (W.contents writer.new)
+        bytes.now) }
+    ensures outside { IfErr result IsOutside }
+    ensures stops { IfErr result (StopsByTurns W.answers) }
+{
+    let mut rest = bytes;
+    while !rest.is_empty() {
+        match write_by_turns(writer, rest) {
+            Some(answer) => {
+                let count = answer?;
+                if count == 0 {
+                    let error = io::Error::new(ErrorKind::WriteZero, "nothing was written");
+                    return Err(Error::Io(error));
+                }
+                let (_, after) = rest.split_at(count);
+                rest = after;
+            }
+            None => return Err(Error::Format(String::new(alloc))),
+        }
+    }
+    Ok(())
 }

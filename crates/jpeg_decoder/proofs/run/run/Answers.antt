@@ -1,6 +1,7 @@
 use Rattle.std.proofs.Common.{◌≡◌, ◌∙◌, ◌++◌, ap, sym, subst, rules, append-nil, List, [], ℕ}
 use Rattle.std.proofs.Common.{Option, Some, Result, Ok, Err, string_bytes, option_map, OnErr, OnOk}
 use Rattle.std.specs.Io.KnownBytes.{Appends}
+use Rattle.std.specs.List.{concat}
 use Rattle.std.proofs.lemmas.Result.{err_from_is_err_and}
 use Rattle.jpeg_bits.specs.declared.error.Error.{Error}
 use Rattle.jpeg_streams.specs.Output.{header_line_of, output_of, TakesBeginning, Tells}
@@ -9,6 +10,7 @@ use Rattle.jpeg_streams.specs.Stream.{told_of}
 use Rattle.jpeg_streams.proofs.Refusals.{outside-decode, named-decode, output-some}
 use Rattle.jpeg_streams.proofs.PrintedImages.{prints-images}
 use Rattle.jpeg_decoder.proofs.Callers.{bytes_are_known, known_bytes_are_told}
+use Rattle.jpeg_decoder.proofs.WrittenLines.{outside-named, outside-own}
 use Rattle.jpeg_decoder.proofs.run.run.Given.{Over}
 use Rattle.jpeg_decoder.proofs.run.run.Goals as goal
 
@@ -17,30 +19,30 @@ returns-in_err-decoder-clause-images g c = search (rules, prints-images)
 
 -- ---- the stream was refused
 
-pub returns-in_err-pixels-clause-refused : goal.returns-in_err-pixels-clause-refused
-returns-in_err-pixels-clause-refused g c bytes tells some =
-    let p = err_from_is_err_and c.from_residual-in_err-pixels.result c.from_residual-in_err-pixels.ensures.1 in
-    let reads = rw c.in_ok-decoder.ensures.ok at c.in_err-pixels.ensures.decodes.reads in
+pub returns-in_err-lines-clause-refused : goal.returns-in_err-lines-clause-refused
+returns-in_err-lines-clause-refused g c bytes tells some =
+    let p = err_from_is_err_and c.from_residual-in_err-lines.result c.from_residual-in_err-lines.ensures.1 in
+    let reads = rw c.in_ok-decoder.ensures.ok at c.in_err-lines.ensures.decodes.reads in
     let known = bytes_are_known (g.R.Read.remaining c.args.reader) bytes tells in
     let same = known_bytes_are_told (g.R.Read.remaining c.args.reader) bytes tells in
     let here = reads tt in
-    rw (p.1, p.2) (outside-decode c.decode.new.self.source.known _ _ bytes (λ k. rw same at here.1 known k)
+    rw (p.1, p.2) (outside-decode c.decode_lines.new.self.source.known _ _ bytes (λ k. rw same at here.1 known k)
     (λ k. here.2 known k) some)
 
-pub returns-in_err-pixels-clause-named : goal.returns-in_err-pixels-clause-named
-returns-in_err-pixels-clause-named g c bytes tells =
-    let p = err_from_is_err_and c.from_residual-in_err-pixels.result c.from_residual-in_err-pixels.ensures.1 in
-    let reads = rw c.in_ok-decoder.ensures.ok at c.in_err-pixels.ensures.decodes.reads in
+pub returns-in_err-lines-clause-named : goal.returns-in_err-lines-clause-named
+returns-in_err-lines-clause-named g c bytes tells =
+    let p = err_from_is_err_and c.from_residual-in_err-lines.result c.from_residual-in_err-lines.ensures.1 in
+    let reads = rw c.in_ok-decoder.ensures.ok at c.in_err-lines.ensures.decodes.reads in
     let known = bytes_are_known (g.R.Read.remaining c.args.reader) bytes tells in
     let same = known_bytes_are_told (g.R.Read.remaining c.args.reader) bytes tells in
     let here = reads tt in
-    rw (p.1, p.2) (named-decode c.decode.new.self.source.known c.decode.new.self.source.failed _ bytes
+    rw (p.1, p.2) (named-decode c.decode_lines.new.self.source.known c.decode_lines.new.self.source.failed _ bytes
     (λ k. rw same at here.1 known k) (λ k. here.2 known k))
 
-pub returns-in_err-pixels-clause-images : goal.returns-in_err-pixels-clause-images
-returns-in_err-pixels-clause-images g c =
+pub returns-in_err-lines-clause-images : goal.returns-in_err-lines-clause-images
+returns-in_err-lines-clause-images g c =
     prints-images (g.R.Read.remaining c.args.reader) _ _ _ (λ bytes tells. search rules) (λ bytes tells. search rules)
-    (λ bytes tells some. returns-in_err-pixels-clause-refused g c bytes tells some)
+    (λ bytes tells some. returns-in_err-lines-clause-refused g c bytes tells some)
 
 pub returns-in_err-line-clause-images : goal.returns-in_err-line-clause-images
 returns-in_err-line-clause-images g c =
@@ -51,17 +53,17 @@ returns-in_err-line-clause-images g c =
 
 -- what is to be written
 printed : (g : Over) (c : goal.After-array_drop-decoder-inside-5 g) (bytes : List ℕ) → Tells (g.R.Read.remaining c.args.reader) bytes
-    → output_of bytes ≡ Some (string_bytes c.in_ok-line.line ++ c.in_ok-pixels.pixels.items)
+    → output_of bytes ≡ Some (string_bytes c.in_ok-line.line ++ concat c.in_ok-lines.lines)
 printed g c bytes tells =
-    let reads = rw c.in_ok-decoder.ensures.ok at c.in_ok-pixels.ensures.decodes.reads in
+    let reads = rw c.in_ok-decoder.ensures.ok at c.in_ok-lines.ensures.decodes.reads in
     let known = bytes_are_known (g.R.Read.remaining c.args.reader) bytes tells in
     let same = known_bytes_are_told (g.R.Read.remaining c.args.reader) bytes tells in
     let here = reads tt in
     let all = rw same at (here.1 known).1 in
-    let text : string_bytes c.in_ok-line.line ≡ header_line_of (option_map info_of c.decode.new.self.found.said.frame) =
+    let text : string_bytes c.in_ok-line.line ≡ header_line_of (option_map info_of c.decode_lines.new.self.found.said.frame) =
     c.in_ok-line.ensures ∙ ap header_line_of c.info.ensures in
-    output-some bytes c.decode.new.self.source.bytes (told_of c.decode.new.self.found.said) c.in_ok-pixels.pixels.items all
-    ∙ ap (λ xs. Some (xs ++ c.in_ok-pixels.pixels.items)) (sym text)
+    output-some bytes c.decode_lines.new.self.source.bytes (told_of c.decode_lines.new.self.found.said) (concat c.in_ok-lines.lines) all
+    ∙ ap (λ xs. Some (xs ++ concat c.in_ok-lines.lines)) (sym text)
 
 pub returns-clause-ok : goal.returns-clause-ok
 returns-clause-ok g c bytes tells = let is = printed g c bytes tells in search rules
@@ -77,14 +79,20 @@ begins (Err e) old new text ok err = err
 pub returns-clause-beginning : goal.returns-clause-beginning
 returns-clause-beginning g c bytes tells text e =
     let is = printed g c bytes tells in
-    let same : string_bytes c.in_ok-line.line ++ c.in_ok-pixels.pixels.items ≡ text = cc in
-    let given : c.as_bytes.result.now ++ c.as_slice.result.now ≡ string_bytes c.in_ok-line.line
-    ++ c.in_ok-pixels.pixels.items = search rules in
+    let same : string_bytes c.in_ok-line.line ++ concat c.in_ok-lines.lines ≡ text = cc in
+    let given : c.as_bytes.result.now ++ concat c.in_ok-lines.lines ≡ string_bytes c.in_ok-line.line
+    ++ concat c.in_ok-lines.lines = search rules in
     subst (λ (t : List ℕ). TakesBeginning (g.W.Write.contents c.args.writer.now)
-    (g.W.Write.contents c.write_both.new.writer) t) (given ∙ same)
-    (begins c.write_both.result _ _ _ c.write_both.ensures.ok c.write_both.ensures.err)
+    (g.W.Write.contents c.write_lines.new.writer) t) (given ∙ same)
+    (begins c.write_lines.result _ _ _ c.write_lines.ensures.ok c.write_lines.ensures.err)
 
 pub returns-clause-images : goal.returns-clause-images
 returns-clause-images g c =
     prints-images (g.R.Read.remaining c.args.reader) _ _ _ (λ bytes tells. returns-clause-ok g c bytes tells)
     (λ bytes tells. returns-clause-beginning g c bytes tells) (λ bytes tells. search rules)
+
+pub returns-clause-named : goal.returns-clause-named
+returns-clause-named g c bytes tells = outside-named bytes c.write_lines.result c.write_lines.ensures.outside
+
+pub returns-clause-own : goal.returns-clause-own
+returns-clause-own g c = outside-own c.write_lines.result c.write_lines.ensures.outside

@@ -4,7 +4,7 @@ use Rattle.std.specs.Io.KnownBytes.{Appends}
 use Rattle.jpeg_streams.proofs.WriterLemmas.{Took-more, Took-kept}
 use Rattle.jpeg_decoder.specs.Writes.{all_interrupted}
 use Rattle.jpeg_decoder.proofs.Interrupted.{stops-failed, stops-none, some-left}
-use Rattle.jpeg_decoder.proofs.run.write_fully.Goals as goal
+use Rattle.jpeg_decoder.proofs.run.writes.write_fully.Goals as goal
 
 pub loop-rest-preserved : goal.loop-rest-preserved
 loop-rest-preserved g c =
