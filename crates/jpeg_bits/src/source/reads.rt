@@ -17,38 +17,15 @@ pub fn read_u8<R: Read + Drop>(alloc: Global, source: &mut Source<R>) -> Result<
         → next_byte source.old.bytes ≡ Err Malformed }
     ensures short { IsShort source.old }
 {
-    // A read of bytes in memory can't fail, so that without the buffer's no error is made room for.
-    if source.ahead.is_some() {
-        return read_u8_ahead(alloc, source);
+    let mut refusal = None;
+    match source.next(alloc, &mut refusal) {
+        Some(Some(byte)) => Ok(byte),
+        Some(None) => Err(end_of_bytes()),
+        None => match refusal {
+            Some(error) => Err(error),
+            None => unreachable!(),
+        },
     }
-    read_next(alloc, source)
-}
-
-/// Reads the next byte of a source that reads ahead.
-#[inline(never)]
-fn read_u8_ahead<R: Read + Drop>(alloc: Global, source: &mut Source<R>) -> Result<u8>
-    ensures answers { Answers (λ b. b) next_byte source.old result source.new }
-    ensures room { source.old.known ≡ true → result ≡ Err OutOfMemory
-        → next_byte source.old.bytes ≡ Err Malformed }
-    ensures short { IsShort source.old }
-{
-    read_next(alloc, source)
-}
-
-/// Reads the next byte by a read of one.
-#[inline(always)]
-fn read_next<R: Read + Drop>(alloc: Global, source: &mut Source<R>) -> Result<u8>
-    ensures answers { Answers (λ b. b) next_byte source.old result source.new }
-    ensures room { source.old.known ≡ true → result ≡ Err OutOfMemory
-        → next_byte source.old.bytes ≡ Err Malformed }
-    ensures short { IsShort source.old }
-{
-    let mut buffer = [0u8];
-    let count = source.read(alloc, &mut buffer)?;
-    if count == 0 {
-        return Err(end_of_bytes());
-    }
-    Ok(buffer[0])
 }
 
 /// Reads the next two bytes as a number, the higher first (T.81, B.1.1.1). The errors are those of
