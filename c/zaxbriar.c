@@ -82,6 +82,15 @@ static const char *fault_of(const void *jpeg, size_t jpeg_size, const zaxbriar_o
     return NULL;
 }
 
+/* The same of a call that describes or decodes a picture. (The proved calls look at the other
+ * options before they read the stream, but at the layout only after its header.) */
+static const char *fault_of_decoding(const void *jpeg, size_t jpeg_size,
+                                     const zaxbriar_options *options) {
+    const char *fault = fault_of(jpeg, jpeg_size, options);
+    if (!fault && options && options->layout > ZAXBRIAR_XRGB) fault = "the layout doesn't exist";
+    return fault;
+}
+
 /* Finds the places that the options ask for, unless the arguments are wrong. */
 static zaxbriar_result with_places(uint32_t answer, const void *jpeg, size_t jpeg_size,
                                    const zaxbriar_options *options) {
@@ -93,7 +102,7 @@ static zaxbriar_result with_places(uint32_t answer, const void *jpeg, size_t jpe
 zaxbriar_result zaxbriar_read_info(const void *jpeg, size_t jpeg_size,
                                    const zaxbriar_options *options, zaxbriar_picture *picture) {
     if (!picture) return ZAXBRIAR_BAD_ARGUMENT;
-    const char *fault = fault_of(jpeg, jpeg_size, options);
+    const char *fault = fault_of_decoding(jpeg, jpeg_size, options);
     if (fault) return bad_argument(picture, fault);
     zaxbriar_options others = without_pointers(options);
     const zaxbriar_memory *before = zaxbriar_exchange_memory(memory_of(options));
@@ -112,7 +121,7 @@ static zaxbriar_result decode_by(decoding *call, const void *jpeg, size_t jpeg_s
                                  zaxbriar_picture *picture) {
     zaxbriar_picture unused;
     if (!picture) picture = &unused;
-    const char *fault = fault_of(jpeg, jpeg_size, options);
+    const char *fault = fault_of_decoding(jpeg, jpeg_size, options);
     if (fault) return bad_argument(picture, fault);
     if (!is_slice(pixels, pixels_size)) return bad_argument(picture, "pixels is a null pointer");
     zaxbriar_options others = without_pointers(options);

@@ -77,11 +77,16 @@ static void unknown_options(void) {
         if (which == 4) options.reserved = 1;
         CHECK(zaxbriar_read_info(jpeg.start, jpeg.size, &options, &picture) ==
               ZAXBRIAR_BAD_ARGUMENT);
-        CHECK(picture.text[0] != 0);
+        CHECK(picture.text[0] != 0 && picture.stream_bytes == 0);
         CHECK(zaxbriar_decode(jpeg.start, jpeg.size, &options, NULL, 0, &picture) ==
               ZAXBRIAR_BAD_ARGUMENT);
+        CHECK(picture.stream_bytes == 0);
         CHECK(zaxbriar_decode_partial(jpeg.start, jpeg.size, &options, NULL, 0, &picture) ==
               ZAXBRIAR_BAD_ARGUMENT);
+        CHECK(picture.stream_bytes == 0);
+        /* Also where the stream's header would be refused. */
+        CHECK(zaxbriar_read_info("GIF89a", 6, &options, &picture) == ZAXBRIAR_BAD_ARGUMENT);
+        CHECK(zaxbriar_decode("GIF89a", 6, &options, NULL, 0, NULL) == ZAXBRIAR_BAD_ARGUMENT);
     }
     for (int scale = 0; scale <= UINT8_MAX; scale++) {
         zaxbriar_options scaled = {.scale = (uint8_t)scale};
@@ -206,8 +211,11 @@ static void limited_metadata(void) {
     CHECK(zaxbriar_metadata_within(NULL, 1, &options, ZAXBRIAR_EXIF, NULL, 0, &length) ==
               ZAXBRIAR_BAD_ARGUMENT &&
           length == 0);
-    CHECK(zaxbriar_metadata_within(jpeg.start, jpeg.size, NULL, ZAXBRIAR_EXIF, NULL, 0, NULL) ==
-          zaxbriar_metadata(jpeg.start, jpeg.size, ZAXBRIAR_EXIF, NULL, 0, NULL));
+    zaxbriar_options unknown = {.layout = UINT8_MAX}; /* which the call ignores */
+    for (int with = 0; with < 2; with++)
+        CHECK(zaxbriar_metadata_within(jpeg.start, jpeg.size, with ? &unknown : NULL, ZAXBRIAR_EXIF,
+                                       NULL, 0, NULL) ==
+              zaxbriar_metadata(jpeg.start, jpeg.size, ZAXBRIAR_EXIF, NULL, 0, NULL));
 }
 
 /* A partial picture is limited by all of its blocks, of which a sequential one keeps a row else. */
