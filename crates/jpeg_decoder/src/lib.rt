@@ -1,11 +1,11 @@
 //! A decoder of JPEG streams (ITU-T T.81) whose calls are proved: baseline, extended sequential and
 //! progressive streams of 8 bits, and lossless ones of 2 to 16 bits, with Huffman coding.
 //!
-//! [`Decoder`] takes the bytes from any reader. A [`ByteReader`] over a buffered reader is the
-//! fastest for files and pipes, and a [`SliceReader`] for bytes in memory:
+//! [`Decoder`] takes the bytes from any reader; [`SliceReader`] is one for bytes in memory. It is
+//! fastest where it may read ahead. Where the reader is used after the picture, [`Decoder::new`]
+//! reads no byte too many, and a [`ByteReader`] over a buffered reader is the fastest for it:
 //!
-//!     let reader = ByteReader::new(BufReader::new(alloc, file)?);
-//!     let mut decoder = Decoder::new(alloc, reader)?;
+//!     let mut decoder = Decoder::with_capacity(alloc, 65536, file)?;
 //!     let pixels = decoder.decode()?;     // a Vec<u8>, line by line from the top
 //!     let info = decoder.info();          // width, height, pixel format and coding process
 //!     let bits = decoder.precision();     // bits per sample: one byte up to 8, two above
@@ -26,7 +26,7 @@
 //! any of that is allocated; `set_max_decoding_buffer_size` counts samples, and refuses at the end
 //! of the image. `set_scale` requests the picture at 1/8, 1/4, 1/2 or full size, and `scale` at the
 //! least of these that reaches a size. [`run::run`] is a whole program: from a reader to a line of
-//! text and the pixels on a writer.
+//! text and the pixels on a writer, and [`run::write_lines`] its end.
 //!
 //! Every call returns, whatever the reader gives, with a value or an [`Error`] that says what was
 //! wrong; after an error the frame and the metadata that were read before it are still there. What

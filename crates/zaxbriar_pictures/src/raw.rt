@@ -6,7 +6,7 @@ ghost use Rattle.jpeg_streams.specs.Output.{output_of};
 ghost use Rattle.jpeg_streams.specs.declared.progress.Progress.TheVariants.{Fresh};
 
 use crate::extents::Extent;
-use crate::scaled::taken_by_lines;
+use crate::scaled::{READ_AHEAD, taken_by_lines};
 use jpeg_decoder::run::write_lines;
 use jpeg_decoder::{Decoder, ImageInfo, PixelFormat};
 use std::alloc::{AllocError, Global};
@@ -72,6 +72,6 @@ pub fn write_raw<R: Read + Drop, W: Write>(
         → OnOk result (IsSomeAnd (output_of bytes) (Appends (W.contents writer.old)
         (W.contents writer.new))) }
 {
-    let mut decoder = Decoder::new(alloc, reader)?;
+    let mut decoder = Decoder::with_capacity(alloc, READ_AHEAD, reader)?;
     write_decoded(alloc, &mut decoder, limits, writer)
 }

@@ -32,6 +32,9 @@ use zaxbriar_samples::netpbm::{Picture, header, write_picture};
 use zaxbriar_samples::requests::Request;
 use zaxbriar_samples::turns::bytes_of;
 
+/// How many bytes of a stream are read ahead of what is decoded.
+pub(crate) const READ_AHEAD: usize = 65536;
+
 /// Decodes the picture of a decoder, at the scale that was set.
 pub fn decode_picture<R: Read + Drop>(decoder: &mut Decoder<R>) -> error::Result<Picture>
     ensures reads { IsReading decoder.old.stage → Answers
@@ -200,7 +203,7 @@ pub fn read_picture<R: Read + Drop>(
         IsSomeAnd (header_info bytes) (λ full.
         is_at_most limits.pixels (full.width * full.height) ≡ true)) }
 {
-    let mut decoder = Decoder::new(alloc, reader)?;
+    let mut decoder = Decoder::with_capacity(alloc, READ_AHEAD, reader)?;
     let choice = choose(&mut decoder, request, extent, limits)?;
     let (picture, completeness) = decode_wanted_picture(alloc, &mut decoder, extent)?;
     Ok(ScaledPicture {
@@ -277,7 +280,7 @@ pub fn write_at<R: Read + Drop, W: Write>(
         → IfOk result (WritesGiven extent scale bytes (W.contents writer.old)
         (W.contents writer.new)) }
 {
-    let mut decoder = Decoder::new(alloc, reader)?;
+    let mut decoder = Decoder::with_capacity(alloc, READ_AHEAD, reader)?;
     choose(&mut decoder, Request::At(scale), extent, limits)?;
     Ok(write_decoded(alloc, &mut decoder, extent, writer)?)
 }
