@@ -7,7 +7,8 @@
                               is about, or if docs/LEMMAS.md names a file that no crate has
 
 A lemma file is any in crates/*/proofs except those that answer the goals of one function, which are
-in a folder with the function's name. Its first comment says what it is about. A name is listed if
+in a folder with the function's name; large crates have them in folders by subject, whose names begin
+with a capital. Its first comment says what it is about. A name is listed if
 another file imports it from there, or if a function's tactic names it.
 """
 import fnmatch
@@ -86,7 +87,7 @@ def faults():
     """Gives each lemma file without a sentence at its head, and each name without a file."""
     names = set()
     for crate, file, path in lemma_files():
-        names.add(file)
+        names.update((file, path.stem))
         if not re.match(r"[^\s].*\.", first_comment(path)):
             yield f"{path.relative_to(ROOT)} doesn't begin with a sentence on what it is about"
     below = PAGE.read_text("utf8").split("\n- **", 1)[1]

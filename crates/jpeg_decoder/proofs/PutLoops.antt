@@ -7,7 +7,7 @@ use Rattle.std.specs.declared.vec.Vec.{Vec}
 use Rattle.jpeg_bits.specs.Passes.{Pass, Block}
 use Rattle.jpeg_decoder.specs.declared.scan.coded.Coded.{Coded}
 use Rattle.jpeg_decoder.specs.Scanning.{arrays_in, blocks_in}
-use Rattle.jpeg_decoder.proofs.BlockArrays.{Held}
+use Rattle.jpeg_decoder.proofs.Kept.BlockArrays.{Held}
 use Rattle.jpeg_decoder.specs.Steps.{coding_in, with_its_plane, with_planes, decided_planes}
 use Rattle.jpeg_streams.specs.Rasters.{plane_by}
 use Rattle.jpeg_streams.specs.ScanSegments.{put_arrays, with_arrays, with_blocks, with_plane}

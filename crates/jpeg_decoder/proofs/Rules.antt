@@ -10,35 +10,35 @@ use Rattle.std.proofs.lemmas.Grind.{common_steps}
 use Rattle.std.proofs.lemmas.List.{drop-set-lt, get_or-map, length-map, map-set}
 use Rattle.std.proofs.lemmas.List.Folds.{list_all-map}
 use Rattle.jpeg_segments.proofs.ScaleLemmas.{full_size}
-use Rattle.jpeg_streams.proofs.AcceptedSamples.{accepted-picture, accepted-samples}
-use Rattle.jpeg_streams.proofs.Apart.{spots-apart, spots-inside, zeros-sized}
-use Rattle.jpeg_streams.proofs.CountedScans.{frame-scans, scans-in-turn}
-use Rattle.jpeg_streams.proofs.EncodedLossless.{lossless-script-written, samples-written}
-use Rattle.jpeg_streams.proofs.FrameShapes.{frames-fit, scaled-frames-fit, frames-have-sources}
-use Rattle.jpeg_streams.proofs.LosslessSizes.{lossless-accepted}
-use Rattle.jpeg_streams.proofs.McuRows.{scans-by-rows, plane-strips, codings-are-of}
-use Rattle.jpeg_streams.proofs.McuRows.{sequential-scan, progressive-scan}
-use Rattle.jpeg_streams.proofs.PaddingUnseen.{own-predicted, pictures-agree, planes-same}
-use Rattle.jpeg_streams.proofs.PicturedFrames.{header-accepted}
+use Rattle.jpeg_streams.proofs.Pictures.AcceptedSamples.{accepted-picture, accepted-samples}
+use Rattle.jpeg_streams.proofs.Order.Apart.{spots-apart, spots-inside, zeros-sized}
+use Rattle.jpeg_streams.proofs.Order.CountedScans.{frame-scans, scans-in-turn}
+use Rattle.jpeg_streams.proofs.Encoded.EncodedLossless.{lossless-script-written, samples-written}
+use Rattle.jpeg_streams.proofs.Order.FrameShapes.{frames-fit, scaled-frames-fit, frames-have-sources}
+use Rattle.jpeg_streams.proofs.Pictures.LosslessSizes.{lossless-accepted}
+use Rattle.jpeg_streams.proofs.Order.McuRows.{scans-by-rows, plane-strips, codings-are-of}
+use Rattle.jpeg_streams.proofs.Order.McuRows.{sequential-scan, progressive-scan}
+use Rattle.jpeg_streams.proofs.Pictures.PaddingUnseen.{own-predicted, pictures-agree, planes-same}
+use Rattle.jpeg_streams.proofs.Pictures.PicturedFrames.{header-accepted}
 use Rattle.jpeg_streams.proofs.Soundness.{nothing-framed, scaled-again, sized-again, sound-nothing}
 use Rattle.jpeg_streams.proofs.Soundness.{sound_kept}
-use Rattle.jpeg_streams.proofs.SizedStreams.{scaled-taken, sized-taken, stream-means_scaled, stream-means_sized}
-use Rattle.jpeg_streams.proofs.WalkedStreams.{front-append}
-use Rattle.jpeg_streams.proofs.WholeImages.{cut-whole}
-use Rattle.jpeg_streams.proofs.WorkedStreams.{colour-written, grey-written, padding-written, three-written}
-use Rattle.jpeg_streams.proofs.WrittenParts.{front-closed}
-use Rattle.jpeg_streams.proofs.WrittenPictures.{stream-means, taken-means}
-use Rattle.jpeg_decoder.proofs.StoredRows.{all-stored-long, filled-seen}
-use Rattle.jpeg_decoder.proofs.BlocksBefore.{plane_by-length}
-use Rattle.jpeg_decoder.proofs.HeaderThenRest.{header-lacks, header-means}
-use Rattle.jpeg_decoder.proofs.JointDecided.{or-after, or-at, or-nothing, or-set, room-at, room-past}
+use Rattle.jpeg_streams.proofs.Written.SizedStreams.{scaled-taken, sized-taken, stream-means_scaled, stream-means_sized}
+use Rattle.jpeg_streams.proofs.Written.WalkedStreams.{front-append}
+use Rattle.jpeg_streams.proofs.Pictures.WholeImages.{cut-whole}
+use Rattle.jpeg_streams.proofs.Tested.WorkedStreams.{colour-written, grey-written, padding-written, three-written}
+use Rattle.jpeg_streams.proofs.Written.WrittenParts.{front-closed}
+use Rattle.jpeg_streams.proofs.Written.WrittenPictures.{stream-means, taken-means}
+use Rattle.jpeg_decoder.proofs.Strips.StoredRows.{all-stored-long, filled-seen}
+use Rattle.jpeg_decoder.proofs.Scans.BlocksBefore.{plane_by-length}
+use Rattle.jpeg_decoder.proofs.Segments.HeaderThenRest.{header-lacks, header-means}
+use Rattle.jpeg_decoder.proofs.Strips.JointDecided.{or-after, or-at, or-nothing, or-set, room-at, room-past}
 use Rattle.std.proofs.lemmas.List.FromFn.{length-enumerate_from}
 use Rattle.std.proofs.lemmas.Result.{err_from_is_err_and}
 use Rattle.jpeg_segments.proofs.Gathered.{gathers-all, gathers-none}
 use Rattle.jpeg_streams.proofs.Refusals.{told-err, turns-no_start}
-use Rattle.jpeg_decoder.proofs.LosslessReads.{picture-given, picture-lacks, picture-made}
-use Rattle.jpeg_decoder.proofs.Ratios.{ratios_refused}
-use Rattle.jpeg_decoder.proofs.ReplacedTables.{dht-onto}
+use Rattle.jpeg_decoder.proofs.Lossless.LosslessReads.{picture-given, picture-lacks, picture-made}
+use Rattle.jpeg_decoder.proofs.Pictures.Ratios.{ratios_refused}
+use Rattle.jpeg_decoder.proofs.Segments.ReplacedTables.{dht-onto}
 
 -- the tables in force after a segment
 pub ruleset replaced = (sound_kept, dht-onto)

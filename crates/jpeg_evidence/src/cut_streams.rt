@@ -22,7 +22,7 @@ ghost use Rattle.jpeg_evidence.specs.CutStreams.{wrong_row_restart};
 
 /// Where `decode_partial` names no fault, `decode` gives the same: what a stream shows without a
 /// fault is what it means, picture and metadata, within the same limit.
-#[tactic(auto, using(jpeg_streams::proofs::Faultless::faultless_streams_are_meant))]
+#[tactic(auto, using(jpeg_streams::proofs::Partial::Faultless::faultless_streams_are_meant))]
 pub fn faultless_streams_are_meant()
     ensures { (settings : Settings) (bytes : List ℕ) (s : Shown) → shown settings bytes ≡ Ok s
         → s.fault ≡ None
@@ -30,7 +30,7 @@ pub fn faultless_streams_are_meant()
 {}
 
 /// Where `decode_partial` names no fault, all rows of the picture are complete.
-#[tactic(auto, using(crate::proofs::AllRows::faultless_streams_have_all_rows))]
+#[tactic(auto, using(crate::proofs::Cut::AllRows::faultless_streams_have_all_rows))]
 pub fn faultless_streams_have_all_rows()
     ensures { (settings : Settings) (bytes : List ℕ) (s : Shown) (frame : Frame)
         → shown settings bytes ≡ Ok s → s.fault ≡ None → s.told.frame ≡ Some frame

@@ -87,7 +87,7 @@ pub fn matrix_is_of_cosines()
 /// to a sample is within (617000 + 342 n) / 10^6 of A.3.3's. So it is less than 1 away where they
 /// add up to at most 1119^2. (Those of a block of 8-bit samples add up to at most 1024^2 before
 /// they are quantized, by Parseval's equation.)
-#[tactic(auto, using(crate::proofs::NearTransform::nearness))]
+#[tactic(auto, using(crate::proofs::Transform::NearTransform::nearness))]
 pub fn transform_is_near()
     ensures clamped { (coefficients : List ℤ) (quantization : List ℕ) (x y : ℕ) →
         sample coefficients quantization x y ≡ clamped (unclamped coefficients quantization x y) }

@@ -22,7 +22,7 @@ ghost use Rattle.jpeg_evidence.specs.Strict.{IsValue, TokensFit, alone, numbers_
 
 /// What is read of bits that nothing follows was written (T.81, C.2 and F.1.2): the bits that were
 /// taken are those of the number, of a code for the symbol, of the value, and of the DC difference.
-#[tactic(auto, using(crate::proofs::TakenValues::values))]
+#[tactic(auto, using(crate::proofs::Taken::TakenValues::values))]
 pub fn bits_taken_are_written()
     ensures numbers { (n : ℕ) (bits : List Bool) (v : ℕ) (left : Text)
         → bits_from n (alone bits) ≡ Ok (v, left) → IsCut (IsNumber n v) bits left }
@@ -38,7 +38,7 @@ pub fn bits_taken_are_written()
 
 /// Bytes whose data end with a marker are the data's bits in bytes, where 00 follows each FF, and
 /// the marker after fill bytes (T.81, B.1.1.2 and B.1.1.5).
-#[tactic(auto, using(crate::proofs::TakenBytes::bytes_back))]
+#[tactic(auto, using(crate::proofs::Taken::TakenBytes::bytes_back))]
 pub fn data_up_to_a_marker_are_stuffed()
     ensures { (bytes rest : List ℕ) (m : Marker) → (text_at bytes).ending ≡ Found m rest
         → IsData bytes (text_at bytes).bits m rest }
@@ -46,7 +46,7 @@ pub fn data_up_to_a_marker_are_stuffed()
 
 /// A DC coefficient that is read in its first scan was written, by its difference from the
 /// predictor (T.81, F.1.2.1): what is read is the coefficient modulo 2 ^ 16.
-#[tactic(auto, using(crate::proofs::TakenValues::dc_taken))]
+#[tactic(auto, using(crate::proofs::Taken::TakenValues::dc_taken))]
 pub fn dc_taken_is_written()
     ensures { (table : Table) (al : ℕ) (predictor : ℤ) (bits : List Bool) (y : ℤ × ℤ) (left : Text)
         → IsTable table → first_dc table al predictor (alone bits) ≡ Ok (y, left)
@@ -56,7 +56,7 @@ pub fn dc_taken_is_written()
 /// A token of a band that is read of bits that nothing follows is a code RRRRSSSS and the bits
 /// after it (T.81, F.1.2.2 and G.1.2.2): those of its value, none for sixteen zeros, or those of
 /// the number of an end of bands.
-#[tactic(auto, using(crate::proofs::TakenTokens::token_taken))]
+#[tactic(auto, using(crate::proofs::Taken::TakenTokens::token_taken))]
 pub fn tokens_taken_are_written()
     ensures { (table : Table) (room : ℕ) (bits : List Bool) (x : Token) (left : Text)
         → IsTable table → token_from table room (alone bits) ≡ Ok (x, left)
@@ -66,7 +66,7 @@ pub fn tokens_taken_are_written()
 /// A band that is read in its first scan, where each token stands for coefficients that the band
 /// has, was written: the bits that were taken are those that a writer may emit for the coefficients
 /// read at level al, and for the run of blocks after them (T.81, F.1.2.2 and G.1.2.2).
-#[tactic(auto, using(crate::proofs::TakenBands::band_taken))]
+#[tactic(auto, using(crate::proofs::Taken::TakenBands::band_taken))]
 pub fn bands_taken_are_written()
     ensures { (table : Table) (al n room : ℕ) (bits : List Bool) (y : Band) (left : Text)
         → IsTable table → HasByteSymbols table → TokensFit table al room bits → room ≤ n
@@ -78,7 +78,7 @@ pub fn bands_taken_are_written()
 /// those that a writer may emit for the block's numbers at the level of the pass (T.81, F.1.2 and
 /// G.1.2). It fits where no DC goes round at 16 bits, where each token stands for coefficients that
 /// the band has, and where a refinement is of what was sent at the level above.
-#[tactic(auto, using(crate::proofs::TakenBlocks::block_taken))]
+#[tactic(auto, using(crate::proofs::Taken::TakenBlocks::block_taken))]
 pub fn block_taken_is_written()
     ensures { (p : Pass) (via : Via) (predictor : ℤ) (run : ℕ) (old : Block) (bits : List Bool)
         (r : Block × ℤ × ℕ) (left : Text) → HasTables p via
@@ -90,7 +90,7 @@ pub fn block_taken_is_written()
 /// The blocks of an interval that are read were written where each fits and no run of blocks goes
 /// beyond the last: the predictors and the run go from block to block for the reader as they do for
 /// the writer (T.81, F.1.1.5.1, G.1.2.2 and G.1.2.3).
-#[tactic(auto, using(crate::proofs::TakenTurns::blocks_taken))]
+#[tactic(auto, using(crate::proofs::Taken::TakenTurns::blocks_taken))]
 pub fn blocks_taken_are_written()
     ensures { (p : Pass) (predictors : List ℤ) (run : ℕ) (turns : List (Via × Block))
         (bits : List Bool) (blocks : List Block) (left : Text)
@@ -110,7 +110,7 @@ pub fn intervals_of_written_bits_are_written()
 
 /// An interval up to a marker whose blocks are read of its bits was written where they fit and
 /// leave at most 7 bits (T.81, F.1.2.3 and B.1.1.5).
-#[tactic(auto, using(crate::proofs::TakenScans::interval_of_taken))]
+#[tactic(auto, using(crate::proofs::Taken::TakenScans::interval_of_taken))]
 pub fn interval_taken_is_written()
     ensures { (p : Pass) (turns : List (Via × Block)) (bytes rest : List ℕ) (m : Marker)
         (blocks : List Block) (left : Text) → (text_at bytes).ending ≡ Found m rest
@@ -121,7 +121,7 @@ pub fn interval_taken_is_written()
 
 /// Intervals that are written one after the other, each up to RST with its number modulo 8 and the
 /// last up to any marker, are those of a scan (T.81, E.1.4 and B.2.1).
-#[tactic(auto, using(crate::proofs::TakenScans::last_interval))]
+#[tactic(auto, using(crate::proofs::Taken::TakenScans::last_interval))]
 pub fn intervals_of_a_scan_are_written()
     ensures last { (p : Pass) (k : ℕ) (turns : List (Via × Block)) (bytes rest : List ℕ)
         (m : Marker) → IsInterval p turns bytes m rest → IsIntervals p k turns [] bytes m rest }
@@ -136,7 +136,7 @@ pub fn intervals_of_a_scan_are_written()
 /// intervals fit: each up to a marker, its blocks fit its bits, and they leave at most 7 of them
 /// (T.81, B.1.1.5, E.1.4 and F.1.2.3). An interval that fits is read. Here the zeros stand after
 /// its bits that a decoder reads up to the marker, and none is taken.
-#[tactic(auto, using(crate::proofs::ReadScans::scan_written))]
+#[tactic(auto, using(crate::proofs::Taken::ReadScans::scan_written))]
 pub fn scan_taken_is_written()
     ensures interval { (p : Pass) (turns : List (Via × Block)) (bytes rest : List ℕ) (m : Marker)
         → (fits : IntervalFits p turns bytes m rest)

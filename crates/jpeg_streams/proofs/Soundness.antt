@@ -21,10 +21,10 @@ use Rattle.jpeg_streams.specs.Segments.{accepted, is_decoded_count, is_decoded_p
 use Rattle.jpeg_streams.specs.Found.{nothing_found, nothing_said, Found, with_said, Said}
 use Rattle.jpeg_streams.specs.ScanSegments.{arrays_before}
 use Rattle.jpeg_streams.specs.Sound.{AreSampled, HasDecodedFrame, IsUnread, IsDecodedFrame, ArePlanes, IsSound}
-use Rattle.jpeg_streams.proofs.Apart.{zeros-sized}
-use Rattle.jpeg_streams.proofs.FrameShapes.{scaled-frames-fit, frames-have-sources}
+use Rattle.jpeg_streams.proofs.Order.Apart.{zeros-sized}
+use Rattle.jpeg_streams.proofs.Order.FrameShapes.{scaled-frames-fit, frames-have-sources}
 use borrow.Author.Tests.{not-false}
-pub use Rattle.jpeg_streams.proofs.FrameShapes.{accepted-facts, count-few}
+pub use Rattle.jpeg_streams.proofs.Order.FrameShapes.{accepted-facts, count-few}
 use Rattle.jpeg_bits.specs.Reading.{Fault, Answers, Outcome}
 use Rattle.jpeg_bits.specs.Stream.{Stream}
 

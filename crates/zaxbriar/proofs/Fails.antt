@@ -7,7 +7,7 @@ use Rattle.jpeg_streams.specs.DecodedImages.{at_size}
 use Rattle.jpeg_streams.specs.Found.{Found, with_said}
 use Rattle.jpeg_streams.specs.Stream.{header_at, rest_at}
 use Rattle.jpeg_streams.specs.Output.{Tells}
-use Rattle.jpeg_streams.proofs.ReadTurns.{then-ok}
+use Rattle.jpeg_streams.proofs.Written.ReadTurns.{then-ok}
 use Rattle.zaxbriar.specs.Faults.{IsFault, IsNamed, IsOfCall, IsOfCallNumber, IsOfReading, IsOwn}
 use Rattle.zaxbriar.specs.Faults.{status_of, fault_code}
 use Rattle.zaxbriar.specs.Meanings.{settings_of, size_wanted, meaning_by}

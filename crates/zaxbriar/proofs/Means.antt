@@ -6,7 +6,7 @@ use Rattle.jpeg_streams.specs.Found.{Found, with_said}
 use Rattle.jpeg_streams.specs.declared.progress.Progress.TheVariants.{HeaderRead}
 use Rattle.jpeg_streams.specs.States.{Decoding}
 use Rattle.jpeg_streams.specs.Stream.{Told, header_at, rest_at}
-use Rattle.jpeg_streams.proofs.ReadTurns.{then-ok}
+use Rattle.jpeg_streams.proofs.Written.ReadTurns.{then-ok}
 use Rattle.zaxbriar.specs.Meanings.{ReadsHeader, StandsAfter, settings_of, size_wanted, meaning_by}
 use Rattle.zaxbriar.specs.declared.options.Options.{Options}
 

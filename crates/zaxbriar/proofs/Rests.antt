@@ -23,11 +23,11 @@ use Rattle.jpeg_streams.specs.Stream.{end_segment, header_at, rest_at, segment_a
 use Rattle.jpeg_streams.specs.declared.before.Before.{Before}
 use Rattle.jpeg_streams.specs.declared.before.Before.TheVariants.{Elsewhere}
 use Rattle.jpeg_streams.specs.declared.settings.Settings.{Settings}
-use Rattle.jpeg_streams.proofs.ReadTurns.{Walked, walked_to}
+use Rattle.jpeg_streams.proofs.Written.ReadTurns.{Walked, walked_to}
 use Rattle.jpeg_streams.proofs.Shorter.{LeavesBelow, arrays-below, below-at, below-err, below-more, below-ok, below-on}
 use Rattle.jpeg_streams.proofs.Shorter.{below_steps, marker-below, samples-below, sos-below}
-use Rattle.jpeg_decoder.proofs.PassedRestarts.{Passes, after-passes}
-use Rattle.jpeg_decoder.proofs.Turns.{IsOnward, On, onward_rules}
+use Rattle.jpeg_decoder.proofs.Segments.PassedRestarts.{Passes, after-passes}
+use Rattle.jpeg_decoder.proofs.Segments.Turns.{IsOnward, On, onward_rules}
 use Rattle.zaxbriar.specs.Meanings.{CountsRead, StandsAfter, meaning_by, settings_of, size_wanted}
 use Rattle.zaxbriar.specs.declared.options.Options.{Options}
 

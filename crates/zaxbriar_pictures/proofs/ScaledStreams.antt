@@ -11,10 +11,10 @@ use Rattle.jpeg_streams.specs.Shown.{Shown}
 use Rattle.jpeg_streams.specs.States.{Decoding}
 use Rattle.jpeg_streams.specs.Stream.{Told, header_at, rest_at, scaled_meaning, scaled_to}
 use Rattle.jpeg_streams.specs.Found.{Found, with_said}
-use Rattle.jpeg_streams.proofs.ReadTurns.{then-ok}
+use Rattle.jpeg_streams.proofs.Written.ReadTurns.{then-ok}
 use Rattle.jpeg_streams.specs.declared.images.ImageInfo.{ImageInfo}
 use Rattle.jpeg_decoder.specs.Reaching.{NamesFault}
-use Rattle.jpeg_decoder.proofs.HeaderThenRest.{header-means}
+use Rattle.jpeg_decoder.proofs.Segments.HeaderThenRest.{header-means}
 use Rattle.zaxbriar_pictures.specs.Given.{Given, IsGiven, WritesGiven, file_in, given, given_at_scale, given_of}
 use Rattle.zaxbriar_pictures.specs.Given.{TellsGiven, complete_rest, complete_rows, given_rest, without_fault}
 use Rattle.zaxbriar_samples.specs.DecodedPictures.{Decoded, decoded}

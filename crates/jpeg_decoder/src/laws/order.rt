@@ -60,7 +60,7 @@ pub fn scans_go_in_turn()
 
 /// The code walks over the MCUs of a scan, and of each over its members: for several components
 /// these are all blocks of the scan in order, and for a component alone its own blocks.
-#[tactic(auto, using(crate::proofs::OrderedWalks::order_rules))]
+#[tactic(auto, using(crate::proofs::Orders::OrderedWalks::order_rules))]
 pub fn walks_are_in_order()
     ensures several { (wide high : ℕ) (components : List Component) →
         spots_at (members_from 0 components) (raster wide high) ≡ all_spots wide high components }

@@ -99,7 +99,7 @@ impl Lines {
     }
 
     /// Writes all lines, from the top, into memory that has exactly their bytes.
-    #[tactic(auto, using(crate::proofs::LinesTogether::written))]
+    #[tactic(auto, using(crate::proofs::Pictures::LinesTogether::written))]
     pub(crate) fn write_all(&mut self, picture: &mut [u8])
         requires { length picture.old ≡ length (concat self.old) }
         ensures { picture.new ≡ concat self.old }

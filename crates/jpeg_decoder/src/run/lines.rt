@@ -19,7 +19,7 @@ use std::io::Write;
 const PIECE_BYTES: usize = 65536;
 
 /// Returns how many lines of this many bytes are written at a time, of a picture of this height.
-#[tactic(auto, using(crate::proofs::WrittenLines::piece_rules))]
+#[tactic(auto, using(crate::proofs::Pictures::WrittenLines::piece_rules))]
 fn lines_at_once(line_bytes: usize, height: usize) -> usize
     ensures some { 1 ≤ result }
     ensures fits { result * line_bytes < 2 ^ 64 }

@@ -65,7 +65,7 @@ pub fn first_interval(alloc: Global, left: u64) -> Interval
 /// Begins the next restart interval, of `n` blocks, where no block is left of this one. A refusal
 /// is stored in the interval's, and false is returned.
 #[inline(always)]
-#[tactic(auto, using(crate::proofs::BlockSteps::begun_rules))]
+#[tactic(auto, using(crate::proofs::Orders::BlockSteps::begun_rules))]
 pub fn begin<R: Read + Drop>(interval: &mut Interval, source: &mut Source<R>, n: u64) -> bool
     ensures begun { (arrays : Arrays) → Takes (λ _. counted interval.new arrays)
         (begun_from n (counted interval.old arrays))
@@ -106,7 +106,7 @@ pub fn reach(arrays: &mut Vec<BlockArray>, spot: Spot) -> std::result::Result<()
 
 /// Reads the blocks at some spots, in restart intervals of `n` blocks, or in one where `n` is 0.
 /// Where the scan doesn't keep AC coefficients, those of the arrays mean nothing after it.
-#[tactic(auto, using(crate::proofs::KeptScans::kept_rules))]
+#[tactic(auto, using(crate::proofs::Kept::KeptScans::kept_rules))]
 pub fn read_spots<R: Read + Drop>(
     interval: &mut Interval,
     source: &mut Source<R>,

@@ -96,7 +96,7 @@ pub fn zero_blocks(
 }
 
 /// Returns the blocks of all components of a frame in which nothing was read yet.
-#[tactic(auto, using(crate::proofs::BlocksBefore::zeros_all))]
+#[tactic(auto, using(crate::proofs::Scans::BlocksBefore::zeros_all))]
 fn zero_frame(alloc: Global, frame: &FrameInfo) -> std::result::Result<Vec<BlockArray>, AllocError>
     ensures { IfOk result
         (λ v. arrays_in v.items ≡ zero_arrays (frame_in frame.now).components) }
@@ -291,7 +291,7 @@ impl Decoded {
     }
 
     /// Adds the plane of a component after a scan of a sequential frame.
-    #[tactic(auto, using(crate::proofs::DecidedPlanes::plane_rules))]
+    #[tactic(auto, using(crate::proofs::Scans::DecidedPlanes::plane_rules))]
     fn add_plane(&mut self, pass: Pass, index: usize, plane: Vec<u8>)
         requires pass { IsPass (pass_in pass) }
         requires index { index < 4 }
@@ -307,7 +307,7 @@ impl Decoded {
     }
 
     /// Adds the blocks of a component after a scan of a progressive frame.
-    #[tactic(auto, using(crate::proofs::DecidedPlanes::plane_rules))]
+    #[tactic(auto, using(crate::proofs::Scans::DecidedPlanes::plane_rules))]
     fn add_blocks(
         &mut self,
         alloc: Global,
@@ -399,7 +399,7 @@ impl Decoded {
     }
 
     /// Adds the planes of a scan of a sequential frame.
-    #[tactic(auto, using(crate::proofs::JointStrips::full_rules))]
+    #[tactic(auto, using(crate::proofs::Strips::JointStrips::full_rules))]
     fn add_grown(&mut self, scan: &Scan<'_>, planes: GrowingPlanes, alloc: Global)
         requires grown { GrowsFor scan.now.codings planes }
         requires sizes { map length (growing_in planes)

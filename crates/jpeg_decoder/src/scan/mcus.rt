@@ -33,7 +33,7 @@ const WHOLE: Pass = Pass {
 /// Begins the next restart interval as `begin` does, where the blocks are read by locals in place
 /// of what `interval` has. A refusal is stored in `interval`, and false is returned.
 #[inline(always)]
-#[tactic(auto, using(crate::proofs::BlockSteps::begun_rules))]
+#[tactic(auto, using(crate::proofs::Orders::BlockSteps::begun_rules))]
 fn begin_by<R: Read + Drop>(
     decoder: &mut HuffmanDecoder,
     carried: &mut Carried,
@@ -68,7 +68,7 @@ fn begin_by<R: Read + Drop>(
 /// Reads the blocks at some spots as `read_spots` does, each of them whole, by locals: the bits
 /// stay in registers from block to block.
 #[inline(never)]
-#[tactic(auto, using(crate::proofs::KeptScans::kept_rules))]
+#[tactic(auto, using(crate::proofs::Kept::KeptScans::kept_rules))]
 fn read_whole<R: Read + Drop>(
     interval: &mut Interval,
     source: &mut Source<R>,

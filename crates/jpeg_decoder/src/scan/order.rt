@@ -42,7 +42,7 @@ fn member(slot: u8, component: &Component, v: u8, h: u8) -> Member
 }
 
 /// Adds the members of a line of blocks of a component.
-#[tactic(auto, using(crate::proofs::OrderedWalks::line_rules))]
+#[tactic(auto, using(crate::proofs::Orders::OrderedWalks::line_rules))]
 fn add_line(
     members: &mut Vec<Member>,
     slot: u8,
@@ -63,7 +63,7 @@ fn add_line(
 }
 
 /// Adds the members of a component.
-#[tactic(auto, using(crate::proofs::OrderedWalks::part_rules))]
+#[tactic(auto, using(crate::proofs::Orders::OrderedWalks::part_rules))]
 fn add_part(members: &mut Vec<Member>, slot: u8, component: &Component) -> Result<(), AllocError>
     ensures items { OnOk result (members.new.items ≡ members.old.items
         ++ part_members slot (component_in component.now)) }
@@ -79,7 +79,7 @@ fn add_part(members: &mut Vec<Member>, slot: u8, component: &Component) -> Resul
 }
 
 /// Collects the members of some components.
-#[tactic(auto, using(crate::proofs::OrderedWalks::slot_rules))]
+#[tactic(auto, using(crate::proofs::Orders::OrderedWalks::slot_rules))]
 fn members_of(alloc: Global, components: &[Coded<'_>]) -> Result<Vec<Member>, AllocError>
     requires { length components.now ≤ 4 }
     ensures items { let codings = map coding_in components.now in

@@ -55,7 +55,7 @@ impl Raster {
 
     /// Takes the next position: its row and its column. Not an `Iterator`, so that the contract can
     /// say which comes next.
-    #[tactic(auto, using(crate::proofs::Walks::raster_rules))]
+    #[tactic(auto, using(crate::proofs::Orders::Walks::raster_rules))]
     #[inline]
     pub fn next(&mut self) -> Option<(u16, u16)>
         ensures { NextPosition self.old result self.new }

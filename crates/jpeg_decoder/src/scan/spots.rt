@@ -92,7 +92,7 @@ impl<'a> Spots<'a> {
     }
 
     /// Takes the next block. Not an `Iterator`, so that the contract can say which comes next.
-    #[tactic(auto, using(crate::proofs::Walks::spots_rules))]
+    #[tactic(auto, using(crate::proofs::Orders::Walks::spots_rules))]
     #[inline]
     pub fn next(&mut self) -> Option<Spot>
         ensures { NextSpot self.old result self.new }
@@ -112,7 +112,7 @@ impl<'a> Spots<'a> {
     }
 
     /// Returns the next block, and doesn't take it.
-    #[tactic(auto, using(crate::proofs::Walks::spots_rules))]
+    #[tactic(auto, using(crate::proofs::Orders::Walks::spots_rules))]
     pub fn first(&mut self) -> Option<Spot>
         ensures first { NextSpot self.old result (drop 1 self.old) }
         ensures same { self.new ≡ self.old }

@@ -1,6 +1,6 @@
 use Rattle.std.proofs.Common.{rules}
 use Rattle.jpeg_segments.specs.FrameView.{frame_in}
-use Rattle.jpeg_decoder.proofs.PicturesOfPlanes.{decoded-few}
+use Rattle.jpeg_decoder.proofs.Pictures.PicturesOfPlanes.{decoded-few}
 use Rattle.jpeg_decoder.proofs.decoder.size_within.Goals as goal
 
 pub picture_bytes-size-requires : goal.picture_bytes-size-requires

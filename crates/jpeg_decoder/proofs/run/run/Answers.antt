@@ -8,9 +8,9 @@ use Rattle.jpeg_streams.specs.Output.{header_line_of, output_of, TakesBeginning,
 use Rattle.jpeg_streams.specs.Pixels.{info_of}
 use Rattle.jpeg_streams.specs.Stream.{told_of}
 use Rattle.jpeg_streams.proofs.Refusals.{outside-decode, named-decode, output-some}
-use Rattle.jpeg_streams.proofs.PrintedImages.{prints-images}
+use Rattle.jpeg_streams.proofs.Pictures.PrintedImages.{prints-images}
 use Rattle.jpeg_decoder.proofs.Callers.{bytes_are_known, known_bytes_are_told}
-use Rattle.jpeg_decoder.proofs.WrittenLines.{outside-named, outside-own}
+use Rattle.jpeg_decoder.proofs.Pictures.WrittenLines.{outside-named, outside-own}
 use Rattle.jpeg_decoder.proofs.run.run.Given.{Over}
 use Rattle.jpeg_decoder.proofs.run.run.Goals as goal
 

@@ -1,4 +1,4 @@
-use Rattle.jpeg_evidence.proofs.CutScans.{cut_images_bring_what_was_sent}
+use Rattle.jpeg_evidence.proofs.Cut.CutScans.{cut_images_bring_what_was_sent}
 use Rattle.jpeg_evidence.proofs.cut_images.cut_images_bring_what_was_sent.Goals as goal
 
 pub returns : goal.returns

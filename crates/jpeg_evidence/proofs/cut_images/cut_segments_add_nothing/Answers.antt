@@ -1,4 +1,4 @@
-use Rattle.jpeg_evidence.proofs.CutScans.{cut_headers_add_nothing, cut_segments_add_nothing}
+use Rattle.jpeg_evidence.proofs.Cut.CutScans.{cut_headers_add_nothing, cut_segments_add_nothing}
 use Rattle.jpeg_evidence.proofs.cut_images.cut_segments_add_nothing.Goals as goal
 
 pub returns-clause-segment : goal.returns-clause-segment

@@ -6,8 +6,8 @@ use Rattle.jpeg_streams.specs.WrittenData.{WritesDifference}
 use Rattle.jpeg_streams.specs.WrittenData.WritesAc.{first}
 use Rattle.jpeg_streams.specs.WrittenData.WritesBand.{ended}
 use Rattle.jpeg_streams.specs.WrittenData.WritesDc.{whole}
-use Rattle.jpeg_streams.proofs.TestedData.{category-by}
-use Rattle.jpeg_streams.proofs.TestedStreams.{written_on_literals}
+use Rattle.jpeg_streams.proofs.Tested.TestedData.{category-by}
+use Rattle.jpeg_streams.proofs.Tested.TestedStreams.{written_on_literals}
 use Rattle.jpeg_evidence.specs.FirstBlocks.BeginsIntervals.{within}
 use Rattle.jpeg_evidence.specs.FirstBlocks.WritesFirst.{next_block, no_more}
 use Rattle.jpeg_evidence.specs.FoundTables.{one_symbol}

@@ -1,4 +1,4 @@
-use Rattle.jpeg_evidence.proofs.SentCuts.{cut_scans_have_what_was_sent, sequential_levels}
+use Rattle.jpeg_evidence.proofs.Cut.SentCuts.{cut_scans_have_what_was_sent, sequential_levels}
 use Rattle.jpeg_evidence.proofs.longer_streams.cut_scans_have_what_was_sent.Goals as goal
 
 pub returns-clause-sent : goal.returns-clause-sent

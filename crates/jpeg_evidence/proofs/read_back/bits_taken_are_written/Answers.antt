@@ -1,5 +1,5 @@
-use Rattle.jpeg_evidence.proofs.TakenBits.{number_taken}
-use Rattle.jpeg_evidence.proofs.TakenValues.{value_taken}
+use Rattle.jpeg_evidence.proofs.Taken.TakenBits.{number_taken}
+use Rattle.jpeg_evidence.proofs.Taken.TakenValues.{value_taken}
 use Rattle.jpeg_evidence.proofs.read_back.bits_taken_are_written.Goals as goal
 
 pub returns-clause-numbers : goal.returns-clause-numbers

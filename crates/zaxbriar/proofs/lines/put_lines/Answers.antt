@@ -3,7 +3,7 @@ use Rattle.std.proofs.Math.Nat.{mul-le-mul_right}
 use Rattle.std.specs.List.{concat}
 use Rattle.std.specs.Prelude.{slice_index_or}
 use borrow.Rule.Slice.PartMut.{put_mid}
-use Rattle.jpeg_decoder.proofs.LinesTogether.{line-long, together-length}
+use Rattle.jpeg_decoder.proofs.Pictures.LinesTogether.{line-long, together-length}
 use Rattle.zaxbriar.specs.Layouts.{laid_out, layout_line}
 use Rattle.zaxbriar.proofs.Laid.{line-length, line-of-all, line-put}
 use Rattle.zaxbriar.proofs.lines.put_lines.Goals as goal

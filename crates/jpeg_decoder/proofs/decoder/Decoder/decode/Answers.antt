@@ -1,7 +1,7 @@
 use Rattle.std.proofs.Common.{Global, Vec, rules, ℕ}
 use Rattle.std.proofs.lemmas.Result.{err_from_is_err_and}
 use Rattle.std.specs.List.{concat}
-use Rattle.jpeg_decoder.proofs.DecodedLines.{decodes-as, decodes-err, decodes-lost, decoded-reading}
+use Rattle.jpeg_decoder.proofs.Pictures.DecodedLines.{decodes-as, decodes-err, decodes-lost, decoded-reading}
 use Rattle.jpeg_decoder.proofs.decoder.Decoder.decode.Goals as goal
 
 pub returns-in_err-lines-clause-decodes : goal.returns-in_err-lines-clause-decodes

@@ -1,8 +1,8 @@
 use Rattle.std.proofs.Common.{rules, ◌≡◌, ◌++◌, ◌∙◌, Ok, Err, drop, length-take, refl, take}
 use Rattle.std.proofs.lemmas.Result.{err_from_is_err_and}
 use Rattle.std.specs.List.{concat}
-use Rattle.jpeg_decoder.proofs.DecodedLines.{begun-seen, decodes-as, decodes-begun, decodes-err}
-use Rattle.jpeg_decoder.proofs.DecodedLines.{decodes-unbegun, front-of}
+use Rattle.jpeg_decoder.proofs.Pictures.DecodedLines.{begun-seen, decodes-as, decodes-begun, decodes-err}
+use Rattle.jpeg_decoder.proofs.Pictures.DecodedLines.{decodes-unbegun, front-of}
 use Rattle.jpeg_decoder.proofs.decoder.Decoder.decode_into.Given as given
 use Rattle.jpeg_decoder.proofs.decoder.Decoder.decode_into.Goals as goal
 

@@ -8,8 +8,8 @@ use Rattle.jpeg_streams.specs.Sound.{HasDecodedFrame, IsSound, IsUnread}
 use Rattle.jpeg_streams.specs.States.{HasHeader}
 use Rattle.jpeg_streams.specs.declared.progress.Progress.{Progress}
 use Rattle.jpeg_streams.specs.declared.progress.Progress.TheVariants.{Failed, Finished, Fresh, HeaderRead}
-use Rattle.jpeg_decoder.proofs.DecodedLines.{begun-seen, decodes-rest, decodes-unbegun}
-use Rattle.jpeg_decoder.proofs.PictureSizes.{if-counted}
+use Rattle.jpeg_decoder.proofs.Pictures.DecodedLines.{begun-seen, decodes-rest, decodes-unbegun}
+use Rattle.jpeg_decoder.proofs.Pictures.PictureSizes.{if-counted}
 use Rattle.jpeg_decoder.proofs.decoder.Decoder.decode_lines.Goals as goal
 
 -- ---- the header was refused

@@ -2,8 +2,8 @@ use Rattle.std.proofs.Common.{rules}
 use Rattle.std.specs.List.{concat}
 use Rattle.jpeg_decoder.specs.declared.decoder.PartialPicture.{PartialPicture}
 use Rattle.jpeg_decoder.specs.declared.picture.partial.PartialLines.{PartialLines}
-use Rattle.jpeg_decoder.proofs.DecodedLines.{decoded-reading}
-use Rattle.jpeg_decoder.proofs.ShownLines.{shows-lost}
+use Rattle.jpeg_decoder.proofs.Pictures.DecodedLines.{decoded-reading}
+use Rattle.jpeg_decoder.proofs.Partial.ShownLines.{shows-lost}
 use Rattle.jpeg_decoder.proofs.decoder.Decoder.decode_partial.Goals as goal
 
 pub returns-in-Err-clause-shows : goal.returns-in-Err-clause-shows

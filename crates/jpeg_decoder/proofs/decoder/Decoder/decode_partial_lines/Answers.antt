@@ -1,6 +1,6 @@
 use Rattle.std.proofs.Common.{rules}
-use Rattle.jpeg_decoder.proofs.PictureSizes.{if-counted}
-use Rattle.jpeg_decoder.proofs.ShownLines.{start-sound}
+use Rattle.jpeg_decoder.proofs.Pictures.PictureSizes.{if-counted}
+use Rattle.jpeg_decoder.proofs.Partial.ShownLines.{start-sound}
 use Rattle.jpeg_decoder.proofs.decoder.Decoder.decode_partial_lines.Goals as goal
 
 pub show-result-requires-clause-sound : goal.show-result-requires-clause-sound

@@ -1,7 +1,7 @@
 use Rattle.std.proofs.Common.{rules}
 use Rattle.jpeg_streams.specs.Sound.{IsDecodedFrame}
 use Rattle.jpeg_segments.specs.FrameView.{frame_in}
-use Rattle.jpeg_decoder.proofs.PicturesOfPlanes.{decoded-factors, decoded-few}
+use Rattle.jpeg_decoder.proofs.Pictures.PicturesOfPlanes.{decoded-factors, decoded-few}
 use Rattle.jpeg_decoder.proofs.decoder.Decoder.decoding_bytes.Goals as goal
 
 pub decoding_bytes-requires : goal.decoding_bytes-requires

@@ -4,8 +4,8 @@ use Rattle.std.proofs.lemmas.List.{length-map}
 use Rattle.jpeg_lossless.proofs.RowLoops.{mapped-within}
 use Rattle.jpeg_segments.specs.FrameView.{component_in, frame_in}
 use Rattle.jpeg_decoder.specs.Steps.{with_decoded}
-use Rattle.jpeg_decoder.proofs.EndedPlanes.{mapped-or}
-use Rattle.jpeg_decoder.proofs.ShownParts.{shown-all, shown-first, shown-more, shown-sound}
+use Rattle.jpeg_decoder.proofs.Pictures.EndedPlanes.{mapped-or}
+use Rattle.jpeg_decoder.proofs.Partial.ShownParts.{shown-all, shown-first, shown-more, shown-sound}
 use Rattle.jpeg_decoder.proofs.picture.partial.complete.Goals.{After-index}
 use Rattle.jpeg_decoder.proofs.picture.partial.complete.Goals as goal
 

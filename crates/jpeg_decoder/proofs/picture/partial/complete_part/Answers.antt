@@ -1,8 +1,8 @@
 use Rattle.std.proofs.Common.{rules, arith}
 use Rattle.jpeg_segments.specs.FrameView.{component_in, frame_in}
 use Rattle.jpeg_decoder.specs.Steps.{with_decoded}
-use Rattle.jpeg_decoder.proofs.PicturesOfPlanes.{decoded-few}
-use Rattle.jpeg_decoder.proofs.ShownParts.{lossless-shown}
+use Rattle.jpeg_decoder.proofs.Pictures.PicturesOfPlanes.{decoded-few}
+use Rattle.jpeg_decoder.proofs.Partial.ShownParts.{lossless-shown}
 use Rattle.jpeg_decoder.proofs.picture.partial.complete_part.Goals as goal
 
 pub complete_samples-requires-clause-index : goal.complete_samples-requires-clause-index

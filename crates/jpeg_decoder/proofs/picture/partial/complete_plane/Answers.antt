@@ -7,8 +7,8 @@ use Rattle.jpeg_streams.specs.Shown.{blocks_held, table_held}
 use Rattle.jpeg_decoder.specs.Scanning.{blocks_in}
 use Rattle.jpeg_decoder.specs.declared.scan.block_array.BlockArray.{BlockArray}
 use Rattle.jpeg_decoder.specs.Steps.{with_decoded}
-use Rattle.jpeg_decoder.proofs.PicturesOfPlanes.{decoded-few}
-use Rattle.jpeg_decoder.proofs.ShownParts.{held-blocks, held-within, plane-put, plane-there, scale-at}
+use Rattle.jpeg_decoder.proofs.Pictures.PicturesOfPlanes.{decoded-few}
+use Rattle.jpeg_decoder.proofs.Partial.ShownParts.{held-blocks, held-within, plane-put, plane-there, scale-at}
 use Rattle.jpeg_decoder.proofs.picture.partial.complete_plane.Goals as goal
 
 pub has-requires : goal.has-requires

@@ -4,9 +4,9 @@ use Rattle.std.proofs.lemmas.List.{length-map}
 use Rattle.jpeg_lossless.proofs.RowLoops.{mapped-within}
 use Rattle.jpeg_segments.specs.FrameView.{component_in, frame_in}
 use Rattle.jpeg_decoder.specs.Steps.{with_decoded}
-use Rattle.jpeg_decoder.proofs.EndedPlanes.{mapped-or}
-use Rattle.jpeg_decoder.proofs.PicturesOfPlanes.{decoded-few}
-use Rattle.jpeg_decoder.proofs.ShownParts.{given-more, given-none, missing-at, missing-none}
+use Rattle.jpeg_decoder.proofs.Pictures.EndedPlanes.{mapped-or}
+use Rattle.jpeg_decoder.proofs.Pictures.PicturesOfPlanes.{decoded-few}
+use Rattle.jpeg_decoder.proofs.Partial.ShownParts.{given-more, given-none, missing-at, missing-none}
 use Rattle.jpeg_decoder.proofs.picture.partial.missing_fault.Goals.{After-index}
 use Rattle.jpeg_decoder.proofs.picture.partial.missing_fault.Goals as goal
 

@@ -1,6 +1,6 @@
 use Rattle.std.proofs.Common.{rules, ◌∙◌, sym}
 use Rattle.jpeg_segments.specs.FrameView.{component_in}
-use Rattle.jpeg_decoder.proofs.ShownParts.{kept-length}
+use Rattle.jpeg_decoder.proofs.Partial.ShownParts.{kept-length}
 use Rattle.jpeg_decoder.proofs.picture.partial.plane_held.Goals as goal
 
 pub render-requires-clause-blocks : goal.render-requires-clause-blocks

@@ -3,8 +3,8 @@ use Rattle.std.proofs.lemmas.Result.{err_from_is_err_and}
 use Rattle.std.specs.List.{concat}
 use Rattle.jpeg_streams.specs.Found.{Found, nothing_found}
 use Rattle.jpeg_decoder.specs.declared.picture.partial.PartialLines.{PartialLines}
-use Rattle.jpeg_decoder.proofs.ShownFaults.{start-given-up, start-lacks, start-shown, start-unknown}
-use Rattle.jpeg_decoder.proofs.ShownRows.{start-counted}
+use Rattle.jpeg_decoder.proofs.Partial.ShownFaults.{start-given-up, start-lacks, start-shown, start-unknown}
+use Rattle.jpeg_decoder.proofs.Partial.ShownRows.{start-counted}
 use Rattle.jpeg_decoder.proofs.picture.partial.show.Goals as goal
 
 pub returns-in_err-read_start-clause-whole : goal.returns-in_err-read_start-clause-whole

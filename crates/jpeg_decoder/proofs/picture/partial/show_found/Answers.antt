@@ -4,8 +4,8 @@ use Rattle.std.proofs.lemmas.Result.{err_from_is_err_and}
 use Rattle.std.specs.List.{concat}
 use Rattle.jpeg_segments.specs.FrameView.{frame_in}
 use Rattle.jpeg_decoder.specs.Steps.{with_decoded}
-use Rattle.jpeg_decoder.proofs.ShownFaults.{first-stays, framed-lacks, framed-shown, unframed-end, unframed-fault}
-use Rattle.jpeg_decoder.proofs.ShownRows.{found-counted}
+use Rattle.jpeg_decoder.proofs.Partial.ShownFaults.{first-stays, framed-lacks, framed-shown, unframed-end, unframed-fault}
+use Rattle.jpeg_decoder.proofs.Partial.ShownRows.{found-counted}
 use Rattle.jpeg_decoder.proofs.picture.partial.show_found.Goals as goal
 
 pub returns-in-Some-fault-clause-shown : goal.returns-in-Some-fault-clause-shown

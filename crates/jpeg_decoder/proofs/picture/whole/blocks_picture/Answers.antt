@@ -1,6 +1,6 @@
 use Rattle.jpeg_segments.specs.FrameView.{frame_in}
-use Rattle.jpeg_decoder.proofs.JointEnds.{joint-meant}
-use Rattle.jpeg_decoder.proofs.PicturesOfPlanes.{decoded-factors}
+use Rattle.jpeg_decoder.proofs.Pictures.JointEnds.{joint-meant}
+use Rattle.jpeg_decoder.proofs.Pictures.PicturesOfPlanes.{decoded-factors}
 use Rattle.jpeg_decoder.proofs.picture.whole.blocks_picture.Goals as goal
 
 pub joint_shape_of-requires : goal.joint_shape_of-requires

@@ -1,9 +1,9 @@
 use Rattle.std.proofs.Common.{ap, map, refl}
 use Rattle.std.specs.List.{concat}
 use Rattle.jpeg_segments.specs.FrameView.{component_in, frame_in}
-use Rattle.jpeg_decoder.proofs.JointEnds.{not-one}
-use Rattle.jpeg_decoder.proofs.PictureSizes.{if-block_lines}
-use Rattle.jpeg_decoder.proofs.PicturesOfPlanes.{decoded-factors, several-given}
+use Rattle.jpeg_decoder.proofs.Pictures.JointEnds.{not-one}
+use Rattle.jpeg_decoder.proofs.Pictures.PictureSizes.{if-block_lines}
+use Rattle.jpeg_decoder.proofs.Pictures.PicturesOfPlanes.{decoded-factors, several-given}
 use Rattle.jpeg_decoder.proofs.picture.whole.joint_picture.Goals as goal
 
 pub joint_lines-requires-clause-factors : goal.joint_lines-requires-clause-factors

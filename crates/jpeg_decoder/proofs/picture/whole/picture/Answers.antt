@@ -1,6 +1,6 @@
 use Rattle.std.proofs.Common.{rules}
 use Rattle.jpeg_segments.specs.FrameView.{frame_in}
-use Rattle.jpeg_decoder.proofs.PicturesOfPlanes.{decoded-few}
+use Rattle.jpeg_decoder.proofs.Pictures.PicturesOfPlanes.{decoded-few}
 use Rattle.jpeg_decoder.proofs.picture.whole.picture.Goals as goal
 
 pub line_bytes-line_bytes-requires : goal.line_bytes-line_bytes-requires

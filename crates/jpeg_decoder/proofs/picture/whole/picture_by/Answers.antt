@@ -1,9 +1,9 @@
 use Rattle.std.proofs.Common.{ap, map, refl, rules}
 use Rattle.std.specs.List.{concat}
 use Rattle.jpeg_segments.specs.FrameView.{component_in, frame_in}
-use Rattle.jpeg_decoder.proofs.PictureSizes.{if-block_lines}
-use Rattle.jpeg_decoder.proofs.PicturesOfPlanes.{lines-first, picture-first, scale-first, several-given, several-ready}
-use Rattle.jpeg_decoder.proofs.PicturesOfPlanes.{several-seen}
+use Rattle.jpeg_decoder.proofs.Pictures.PictureSizes.{if-block_lines}
+use Rattle.jpeg_decoder.proofs.Pictures.PicturesOfPlanes.{lines-first, picture-first, scale-first, several-given, several-ready}
+use Rattle.jpeg_decoder.proofs.Pictures.PicturesOfPlanes.{several-seen}
 use Rattle.jpeg_decoder.proofs.picture.whole.picture_by.Goals as goal
 
 pub lines_within-requires : goal.lines_within-requires

@@ -6,9 +6,9 @@ use Rattle.std.specs.Option.{option_map}
 use Rattle.jpeg_segments.specs.FrameView.{component_in, frame_in}
 use Rattle.jpeg_decoder.specs.Scanning.{blocks_in}
 use Rattle.jpeg_decoder.specs.Steps.{with_decoded}
-use Rattle.jpeg_decoder.proofs.EndedPlanes.{IsTaken, mapped-or, none-left, reached-kept, taken, taken-blocks, taken-more}
-use Rattle.jpeg_decoder.proofs.EndedPlanes.{taken-plane, taken-refused, taken-scale, taken-whole, whole-all}
-use Rattle.jpeg_decoder.proofs.PicturesOfPlanes.{decoded-few}
+use Rattle.jpeg_decoder.proofs.Pictures.EndedPlanes.{IsTaken, mapped-or, none-left, reached-kept, taken, taken-blocks, taken-more}
+use Rattle.jpeg_decoder.proofs.Pictures.EndedPlanes.{taken-plane, taken-refused, taken-scale, taken-whole, whole-all}
+use Rattle.jpeg_decoder.proofs.Pictures.PicturesOfPlanes.{decoded-few}
 use Rattle.jpeg_lossless.proofs.RowLoops.{mapped-within}
 use Rattle.jpeg_decoder.proofs.picture.whole.planes_at_end.Goals.{After-index}
 use Rattle.jpeg_decoder.proofs.picture.whole.planes_at_end.Goals as goal

@@ -4,7 +4,7 @@ use Rattle.jpeg_streams.specs.Reported.{IsOfTurns}
 use Rattle.jpeg_streams.specs.Found.{Found, nothing_found}
 use Rattle.jpeg_streams.proofs.Soundness.{nothing-framed}
 use Rattle.jpeg_streams.proofs.Refusals.{told-through, turns-none}
-use Rattle.jpeg_decoder.proofs.Turns.{told-start}
+use Rattle.jpeg_decoder.proofs.Segments.Turns.{told-start}
 use Rattle.jpeg_decoder.proofs.picture.whole.read_header.Goals as goal
 
 pub returns-clause-told : goal.returns-clause-told

@@ -11,12 +11,12 @@ use Rattle.jpeg_segments.specs.Checks.{needed}
 use Rattle.jpeg_segments.specs.Frame.{Component}
 use Rattle.jpeg_segments.specs.FrameView.{component_in}
 use Rattle.jpeg_decoder.specs.PlanesView.{planes_in}
-use Rattle.jpeg_decoder.proofs.EndedPlanes.{mapped-or, same-at}
-use Rattle.jpeg_decoder.proofs.LosslessReads.{sample_plane}
+use Rattle.jpeg_decoder.proofs.Pictures.EndedPlanes.{mapped-or, same-at}
+use Rattle.jpeg_decoder.proofs.Lossless.LosslessReads.{sample_plane}
 use Rattle.jpeg_lossless.proofs.RowLoops.{mapped-within}
 use Rattle.jpeg_decoder.specs.LosslessParts.{no_component}
 use Rattle.jpeg_segments.proofs.Gathered.{gathers-err, gathers-more, numbered}
-use Rattle.jpeg_decoder.proofs.SlotCodings.{format-refuses}
+use Rattle.jpeg_decoder.proofs.Scans.SlotCodings.{format-refuses}
 use Rattle.jpeg_decoder.proofs.picture.whole.samples_at_end.Goals as goal
 
 -- what is gathered at an index: the samples there, of what is left

@@ -2,10 +2,10 @@ use Rattle.std.proofs.Common.{◌≡◌, ◌∙◌, ◌+◌, ◌-◌, ◌<◌, �
 use Rattle.std.specs.List.{concat}
 use Rattle.std.specs.Prelude.{slice_index_or}
 use borrow.Rule.Slice.PartMut.{put_mid}
-use Rattle.jpeg_decoder.proofs.LinesTogether.{line-long}
+use Rattle.jpeg_decoder.proofs.Pictures.LinesTogether.{line-long}
 use Rattle.std.proofs.lemmas.Result.{err_from_is_err_and, on_err_weaker}
-use Rattle.jpeg_decoder.proofs.WrittenLines.{appends-more, begun, full, gathered, line-fits, one-more-fits}
-use Rattle.jpeg_decoder.proofs.WrittenLines.{written-full}
+use Rattle.jpeg_decoder.proofs.Pictures.WrittenLines.{appends-more, begun, full, gathered, line-fits, one-more-fits}
+use Rattle.jpeg_decoder.proofs.Pictures.WrittenLines.{written-full}
 use Rattle.jpeg_decoder.proofs.run.lines.write_through.Goals as goal
 use Rattle.jpeg_decoder.proofs.run.lines.write_through.Goals.{else-filled-piece, then-filled-piece+in_ok-write_fully}
 

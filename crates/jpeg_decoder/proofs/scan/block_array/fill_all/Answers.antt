@@ -1,6 +1,6 @@
 use Rattle.std.proofs.Common.{rules, ◌≡◌, ◌∙◌, ap, get_or, length, List}
 use Rattle.jpeg_bits.specs.Passes.{Block}
-use Rattle.jpeg_decoder.proofs.BlockArrays.{arrays-same, full-next, sizes-put}
+use Rattle.jpeg_decoder.proofs.Kept.BlockArrays.{arrays-same, full-next, sizes-put}
 use Rattle.jpeg_decoder.proofs.scan.block_array.fill_all.Goals as goal
 
 pub loop-slot-preserved : goal.loop-slot-preserved

@@ -1,6 +1,6 @@
 use Rattle.std.proofs.Common.{◌≡◌, ◌≤◌, ◌<◌, ◌-◌, ℕ, get_or, length}
 use Rattle.jpeg_decoder.specs.Scanning.{arrays_in, sizes_of, IsFull}
-use Rattle.jpeg_decoder.proofs.BlockArrays.{Held}
+use Rattle.jpeg_decoder.proofs.Kept.BlockArrays.{Held}
 use Rattle.jpeg_decoder.proofs.scan.block_array.fill_all.Given as goal
 
 abbrev pub invariant-loop-slot : goal.invariant-loop-slot

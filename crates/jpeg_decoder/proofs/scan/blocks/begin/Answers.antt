@@ -4,7 +4,7 @@ use Rattle.jpeg_bits.proofs.WholeBlocks.{refused_after}
 use Rattle.jpeg_streams.specs.InTurn.{begun_from, restart_from}
 use Rattle.jpeg_decoder.specs.Scanning.{counted}
 use Rattle.jpeg_bits.proofs.BandSteps.{Leaves-whole}
-use Rattle.jpeg_decoder.proofs.BlockSteps.{begun_next, begun_refused}
+use Rattle.jpeg_decoder.proofs.Orders.BlockSteps.{begun_next, begun_refused}
 use Rattle.jpeg_decoder.proofs.scan.blocks.begin.Goals as goal
 
 pub returns-in-Err-clause-begun : goal.returns-in-Err-clause-begun

@@ -1,6 +1,6 @@
 use Rattle.std.proofs.Common.{ap, length, List}
 use Rattle.jpeg_bits.specs.Passes.{Block}
-use Rattle.jpeg_decoder.proofs.BlockArrays.{arrays-same, sizes-put}
+use Rattle.jpeg_decoder.proofs.Kept.BlockArrays.{arrays-same, sizes-put}
 use Rattle.jpeg_decoder.proofs.scan.blocks.reach.Goals as goal
 
 pub returns-clause-arrays : goal.returns-clause-arrays

@@ -10,9 +10,9 @@ use Rattle.jpeg_streams.specs.InTurn.{Counted, begun_from, blocks_from}
 use Rattle.jpeg_bits.specs.Reading.{Fault}
 use Rattle.jpeg_decoder.specs.Scanning.{IsSpotOf, arrays_in, counted, kept_after, sizes_of, scan_vias}
 use Rattle.jpeg_bits.specs.Skips.{kept, kept_from}
-use Rattle.jpeg_decoder.proofs.KeptScans.{next-kept, turn-kept-refused}
-use Rattle.jpeg_decoder.proofs.BlockSteps.{begun_turn, blocks_begun, blocks_refused, next_refused, next_unbegun}
-use Rattle.jpeg_decoder.proofs.KeptBlocks.{reached-alike, sizes-set, spot, stored-there, turn-kept, turn-refused}
+use Rattle.jpeg_decoder.proofs.Kept.KeptScans.{next-kept, turn-kept-refused}
+use Rattle.jpeg_decoder.proofs.Orders.BlockSteps.{begun_turn, blocks_begun, blocks_refused, next_refused, next_unbegun}
+use Rattle.jpeg_decoder.proofs.Kept.KeptBlocks.{reached-alike, sizes-set, spot, stored-there, turn-kept, turn-refused}
 use Rattle.jpeg_decoder.proofs.scan.blocks.read_spots.Goals as goal
 use Rattle.std.proofs.lemmas.Grind.{common_steps}
 

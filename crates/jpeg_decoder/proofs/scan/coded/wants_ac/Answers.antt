@@ -4,7 +4,7 @@ use Rattle.std.proofs.lemmas.List.Elements.{All-map}
 use Rattle.std.specs.Prelude.{All}
 use Rattle.jpeg_streams.specs.ScanSegments.{Coding}
 use Rattle.jpeg_decoder.specs.Steps.{coding_in}
-use Rattle.jpeg_decoder.proofs.DecidedScans.{so-far-next}
+use Rattle.jpeg_decoder.proofs.Scans.DecidedScans.{so-far-next}
 use Rattle.jpeg_decoder.proofs.scan.coded.wants_ac.Goals as goal
 
 pub loop-coded-preserved : goal.loop-coded-preserved

@@ -13,9 +13,9 @@ use Rattle.jpeg_streams.specs.Scans.{no_table}
 use Rattle.std.proofs.lemmas.Result.{err_from_is_err_and}
 use Rattle.jpeg_bits.proofs.Loops.{bind_err}
 use Rattle.jpeg_decoder.specs.Seen.{said_of}
-use Rattle.jpeg_decoder.proofs.SlotCodings.{ac-read, class-in-force, dc-read, format-refuses}
-use Rattle.jpeg_decoder.proofs.SlotCodings.{ac_of, coded_by, dc_of, refused-through, slot-coded}
-use Rattle.jpeg_decoder.proofs.CodedScales.{scale-at}
+use Rattle.jpeg_decoder.proofs.Scans.SlotCodings.{ac-read, class-in-force, dc-read, format-refuses}
+use Rattle.jpeg_decoder.proofs.Scans.SlotCodings.{ac_of, coded_by, dc_of, refused-through, slot-coded}
+use Rattle.jpeg_decoder.proofs.Scans.CodedScales.{scale-at}
 use Rattle.jpeg_decoder.proofs.scan.codings.coding_of.Goals.{After-table_at-quantization, After-table_in_force-ac}
 use Rattle.jpeg_decoder.proofs.scan.codings.coding_of.Goals.{After-table_in_force-dc}
 use Rattle.jpeg_decoder.proofs.scan.codings.coding_of.Goals as goal

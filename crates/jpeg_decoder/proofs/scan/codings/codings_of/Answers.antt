@@ -3,7 +3,7 @@ use Rattle.std.proofs.lemmas.Result.{err_from_is_err_and}
 use Rattle.jpeg_bits.specs.Reading.{Fault}
 use Rattle.jpeg_segments.specs.FrameView.{frame_in}
 use Rattle.jpeg_decoder.specs.Steps.{coding_in}
-use Rattle.jpeg_decoder.proofs.ScanCodings.{codings-more, codings-fail, codings-all, codings-none}
+use Rattle.jpeg_decoder.proofs.Scans.ScanCodings.{codings-more, codings-fail, codings-all, codings-none}
 use Rattle.jpeg_decoder.proofs.scan.codings.codings_of.Goals as goal
 use Rattle.std.proofs.lemmas.Grind.{common_steps}
 

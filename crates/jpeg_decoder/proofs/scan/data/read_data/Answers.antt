@@ -2,9 +2,9 @@ use Rattle.std.proofs.Common.{◌≡◌, ◌+◌, ◌∷◌, [], ◌++◌, sym, 
 use Rattle.std.proofs.lemmas.Result.{err_from_is_err_and}
 use Rattle.jpeg_bits.specs.declared.marker.Marker.{Marker}
 use Rattle.jpeg_streams.proofs.Refusals.{short-first}
-use Rattle.jpeg_decoder.proofs.GatheredData.{Closes, byte-closes, byte-longer, byte-more, closes-none, end-answers}
-use Rattle.jpeg_decoder.proofs.GatheredData.{end-data, first-answers, first-data, second-answers, second-data}
-use Rattle.jpeg_decoder.proofs.GatheredData.{stuffed-closes, stuffed-more}
+use Rattle.jpeg_decoder.proofs.Partial.GatheredData.{Closes, byte-closes, byte-longer, byte-more, closes-none, end-answers}
+use Rattle.jpeg_decoder.proofs.Partial.GatheredData.{end-data, first-answers, first-data, second-answers, second-data}
+use Rattle.jpeg_decoder.proofs.Partial.GatheredData.{stuffed-closes, stuffed-more}
 use Rattle.jpeg_decoder.proofs.scan.data.read_data.Goals as goal
 
 pub loop-init : goal.loop-init

@@ -1,6 +1,6 @@
 use Rattle.std.proofs.Common.{◌≡◌, ◌<◌, ◌≤◌, length}
 use Rattle.jpeg_bits.specs.Reading.{IsShort}
-use Rattle.jpeg_decoder.proofs.GatheredData.{Closes, Gathers}
+use Rattle.jpeg_decoder.proofs.Partial.GatheredData.{Closes, Gathers}
 use Rattle.jpeg_decoder.proofs.scan.data.read_data.Given as goal
 
 abbrev pub invariant-loop : goal.invariant-loop

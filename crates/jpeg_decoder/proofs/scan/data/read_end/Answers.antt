@@ -6,8 +6,8 @@ use Rattle.jpeg_bits.specs.Reading.{next_byte}
 use Rattle.jpeg_bits.specs.declared.marker.Marker.{Marker}
 use Rattle.jpeg_bits.proofs.Loops.{Continues-err}
 use Rattle.jpeg_streams.proofs.Refusals.{short-first}
-use Rattle.jpeg_decoder.proofs.GatheredData.{byte-takes, end-malformed, end-marker, end-next, end-refused}
-use Rattle.jpeg_decoder.proofs.GatheredData.{format-answers}
+use Rattle.jpeg_decoder.proofs.Partial.GatheredData.{byte-takes, end-malformed, end-marker, end-next, end-refused}
+use Rattle.jpeg_decoder.proofs.Partial.GatheredData.{format-answers}
 use Rattle.jpeg_decoder.proofs.scan.data.read_end.Goals as goal
 
 pub returns-in-Some-clause-answers : goal.returns-in-Some-clause-answers

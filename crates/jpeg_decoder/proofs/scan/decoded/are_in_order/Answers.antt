@@ -1,7 +1,7 @@
 use Rattle.std.proofs.Common.{arith, rules}
 use Rattle.std.proofs.lemmas.Bool.{cases_lt}
 use Rattle.std.proofs.lemmas.List.{get_or_default}
-use Rattle.jpeg_decoder.proofs.PlacedCodings.{in-order}
+use Rattle.jpeg_decoder.proofs.Scans.PlacedCodings.{in-order}
 use Rattle.jpeg_decoder.proofs.scan.decoded.are_in_order.Goals as goal
 use Rattle.std.proofs.lemmas.Grind.{common_steps}
 

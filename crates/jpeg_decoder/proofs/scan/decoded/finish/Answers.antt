@@ -1,7 +1,7 @@
 use Rattle.std.proofs.Common.{arith, ap}
 use Rattle.jpeg_bits.specs.Passes.{Pass}
-use Rattle.jpeg_decoder.proofs.BlocksBefore.{marked-by, unmarked-by}
-use Rattle.jpeg_decoder.proofs.JointAdded.{all-marked}
+use Rattle.jpeg_decoder.proofs.Scans.BlocksBefore.{marked-by, unmarked-by}
+use Rattle.jpeg_decoder.proofs.Strips.JointAdded.{all-marked}
 use Rattle.jpeg_decoder.proofs.scan.decoded.finish.Goals as goal
 use Rattle.std.proofs.lemmas.Grind.{common_steps}
 

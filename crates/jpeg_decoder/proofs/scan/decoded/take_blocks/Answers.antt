@@ -1,6 +1,6 @@
 use Rattle.std.proofs.Common.{arith, ◌≡◌, ◌<◌, ◌++◌, ◌∷◌, [], length, get_or, rules}
 use Rattle.std.proofs.lemmas.Grind.{common_steps}
-use Rattle.jpeg_decoder.proofs.TakenBlocks.{none-taken, taken-more, left-more}
+use Rattle.jpeg_decoder.proofs.Kept.TakenBlocks.{none-taken, taken-more, left-more}
 use Rattle.jpeg_decoder.proofs.scan.decoded.take_blocks.Goals as goal
 
 pub loop-coded-init : goal.loop-coded-init

@@ -4,7 +4,7 @@ use Rattle.jpeg_bits.specs.declared.marker.Marker.{Marker}
 use Rattle.jpeg_streams.specs.Scans.{Arrays}
 use Rattle.jpeg_decoder.specs.Scanning.{blocks_in, counted, scan_vias}
 use Rattle.jpeg_decoder.specs.Walk.{rows_spots}
-use Rattle.jpeg_decoder.proofs.LinesOfBlocks.{scan-ended, scan-stopped}
+use Rattle.jpeg_decoder.proofs.Kept.LinesOfBlocks.{scan-ended, scan-stopped}
 use Rattle.jpeg_decoder.proofs.scan.kept.read_bands.Goals as goal
 
 pub returns-in_err-read_lines-clause-scan : goal.returns-in_err-read_lines-clause-scan

@@ -1,12 +1,12 @@
-use Rattle.jpeg_streams.proofs.CountedScans.{frame-scans}
-use Rattle.jpeg_decoder.proofs.KeptSpots.{kept-spots}
+use Rattle.jpeg_streams.proofs.Order.CountedScans.{frame-scans}
+use Rattle.jpeg_decoder.proofs.Kept.KeptSpots.{kept-spots}
 use Rattle.jpeg_decoder.proofs.scan.kept.read_blocks.Goals as goal
 use Rattle.std.proofs.lemmas.Grind.{common_steps}
 use Rattle.std.proofs.Common.{◌∙◌, arith, rules}
 use Rattle.jpeg_segments.specs.FrameView.{frame_in}
 use Rattle.jpeg_decoder.specs.Scanning.{scan_vias}
-use Rattle.jpeg_decoder.proofs.LinesOfBlocks.{one-long, one-scan, one-there}
-use Rattle.jpeg_decoder.proofs.PlacedCodings.{seen-long}
+use Rattle.jpeg_decoder.proofs.Kept.LinesOfBlocks.{one-long, one-scan, one-there}
+use Rattle.jpeg_decoder.proofs.Scans.PlacedCodings.{seen-long}
 
 pub read_intervals-requires : goal.read_intervals-requires
 read_intervals-requires g c = grind (arith, common_steps, kept-spots)

@@ -5,7 +5,7 @@ use Rattle.jpeg_streams.specs.InTurn.{Counted, blocks_from}
 use Rattle.jpeg_streams.specs.Scans.{Arrays}
 use Rattle.jpeg_decoder.specs.Scanning.{blocks_in, counted, reached, scan_vias}
 use Rattle.jpeg_decoder.specs.Walk.{line_spots}
-use Rattle.jpeg_decoder.proofs.LinesOfBlocks.{line-begins, line-ends, line-goes, line-stops, line-unbegins}
+use Rattle.jpeg_decoder.proofs.Kept.LinesOfBlocks.{line-begins, line-ends, line-goes, line-stops, line-unbegins}
 use Rattle.jpeg_decoder.proofs.scan.kept.read_line.Goals as goal
 
 pub returns-then-not-begin-clause-blocks : goal.returns-then-not-begin-clause-blocks

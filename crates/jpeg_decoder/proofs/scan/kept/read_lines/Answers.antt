@@ -4,7 +4,7 @@ use Rattle.jpeg_bits.specs.Readers.{Reads}
 use Rattle.jpeg_streams.specs.InTurn.{Counted, blocks_from}
 use Rattle.jpeg_decoder.specs.Scanning.{blocks_in, counted, scan_vias}
 use Rattle.jpeg_decoder.specs.Walk.{rows_spots}
-use Rattle.jpeg_decoder.proofs.LinesOfBlocks.{rows-end, rows-go, rows-stop}
+use Rattle.jpeg_decoder.proofs.Kept.LinesOfBlocks.{rows-end, rows-go, rows-stop}
 use Rattle.jpeg_decoder.proofs.scan.kept.read_lines.Goals as goal
 
 pub returns-in_err-read_line-clause-blocks : goal.returns-in_err-read_line-clause-blocks

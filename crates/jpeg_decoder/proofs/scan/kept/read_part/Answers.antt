@@ -1,7 +1,7 @@
 use Rattle.std.proofs.Common.{◌≤◌, ◌+◌, ◌-◌, Ok, Err, List, ℤ, length, ap, ◌∙◌, arith}
 use Rattle.jpeg_bits.specs.Passes.{Block}
 use Rattle.jpeg_bits.specs.Refusals.{kept_refusal}
-use Rattle.jpeg_decoder.proofs.PartTurns.{part-of-array, part-size}
+use Rattle.jpeg_decoder.proofs.Kept.PartTurns.{part-of-array, part-size}
 use Rattle.jpeg_decoder.proofs.scan.kept.read_part.Goals as goal
 
 pub returns-then-not-take_bands-clause-size : goal.returns-then-not-take_bands-clause-size

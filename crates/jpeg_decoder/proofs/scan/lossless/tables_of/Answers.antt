@@ -6,7 +6,7 @@ use Rattle.std.proofs.lemmas.Result.{err_from_is_err_and}
 use Rattle.jpeg_bits.specs.Reading.{Malformed}
 use Rattle.jpeg_segments.specs.Checks.{needed}
 use Rattle.jpeg_segments.proofs.Gathered.{gathers-all, gathers-err, gathers-more, gathers-none}
-use Rattle.jpeg_decoder.proofs.SlotCodings.{format-refuses}
+use Rattle.jpeg_decoder.proofs.Scans.SlotCodings.{format-refuses}
 use Rattle.jpeg_decoder.proofs.scan.lossless.tables_of.Goals as goal
 
 pub returns-in_err-needed : goal.returns-in_err-needed

@@ -3,7 +3,7 @@ use Rattle.std.specs.List.{range_with_len}
 use Rattle.jpeg_segments.specs.FrameView.{component_in}
 use Rattle.jpeg_decoder.specs.declared.scan.spots.Member.{Member}
 use Rattle.jpeg_decoder.specs.Walk.{member_of}
-use Rattle.jpeg_decoder.proofs.OrderedWalks.{more_members}
+use Rattle.jpeg_decoder.proofs.Orders.OrderedWalks.{more_members}
 use Rattle.jpeg_decoder.proofs.scan.order.add_line.Goals as goal
 
 pub loop-h-preserved : goal.loop-h-preserved

@@ -3,7 +3,7 @@ use Rattle.std.specs.List.{range_with_len, flat_map}
 use Rattle.jpeg_segments.specs.FrameView.{component_in}
 use Rattle.jpeg_decoder.specs.declared.scan.spots.Member.{Member}
 use Rattle.jpeg_decoder.specs.Walk.{line_members}
-use Rattle.jpeg_decoder.proofs.OrderedWalks.{more_lines}
+use Rattle.jpeg_decoder.proofs.Orders.OrderedWalks.{more_lines}
 use Rattle.jpeg_decoder.proofs.scan.order.add_part.Goals as goal
 
 pub loop-v-preserved : goal.loop-v-preserved

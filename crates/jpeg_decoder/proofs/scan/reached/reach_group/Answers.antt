@@ -13,12 +13,12 @@ use Rattle.jpeg_bits.specs.Skips.{kept_from}
 use Rattle.jpeg_streams.specs.InTurn.{at_start}
 use Rattle.jpeg_decoder.specs.Reaching.{after_group}
 use Rattle.jpeg_decoder.specs.Scanning.{IsSpotOf, arrays_in, sizes_of, scan_vias}
-use Rattle.jpeg_decoder.proofs.KeptBlocks.{sizes-set, spot, stored-there, turn-kept, turn-refused}
-use Rattle.jpeg_decoder.proofs.KeptScans.{turn-kept-refused}
-use Rattle.jpeg_decoder.proofs.ReachedBlocks.{after-some, ahead-next, after_left, carried_on, first-end, first-none}
-use Rattle.jpeg_decoder.proofs.ReachedBlocks.{first_left, group-next, group-none, group-refused, names-in-memory}
-use Rattle.jpeg_decoder.proofs.ReachedBlocks.{on-fault, put-back, read_from, Read, taken-left, turn-read}
-use Rattle.jpeg_decoder.proofs.ReachedBlocks.{unread-none, unread-refused}
+use Rattle.jpeg_decoder.proofs.Kept.KeptBlocks.{sizes-set, spot, stored-there, turn-kept, turn-refused}
+use Rattle.jpeg_decoder.proofs.Kept.KeptScans.{turn-kept-refused}
+use Rattle.jpeg_decoder.proofs.Partial.ReachedBlocks.{after-some, ahead-next, after_left, carried_on, first-end, first-none}
+use Rattle.jpeg_decoder.proofs.Partial.ReachedBlocks.{first_left, group-next, group-none, group-refused, names-in-memory}
+use Rattle.jpeg_decoder.proofs.Partial.ReachedBlocks.{on-fault, put-back, read_from, Read, taken-left, turn-read}
+use Rattle.jpeg_decoder.proofs.Partial.ReachedBlocks.{unread-none, unread-refused}
 use Rattle.jpeg_decoder.proofs.scan.reached.reach_group.Given.{Over}
 use Rattle.jpeg_decoder.proofs.scan.reached.reach_group.Goals as goal
 use Rattle.jpeg_decoder.proofs.scan.reached.reach_group.Goals.{then-n-eq0, else-n-eq0+then-left-gt0}

@@ -5,7 +5,7 @@ use Rattle.jpeg_bits.specs.Intervals.{first_group}
 use Rattle.jpeg_streams.specs.InTurn.{at_start}
 use Rattle.jpeg_decoder.specs.Reaching.{after_group, IsAhead}
 use Rattle.jpeg_decoder.specs.Scanning.{scan_vias, arrays_in, sizes_of, IsSpotOf}
-use Rattle.jpeg_decoder.proofs.ReachedBlocks.{after_left, carried_on, first_left, read_from, Read}
+use Rattle.jpeg_decoder.proofs.Partial.ReachedBlocks.{after_left, carried_on, first_left, read_from, Read}
 use Rattle.jpeg_decoder.proofs.scan.reached.reach_group.Given as goal
 
 abbrev pub invariant-loop-carried : goal.invariant-loop-carried

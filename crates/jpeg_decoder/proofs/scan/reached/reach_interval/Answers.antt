@@ -4,8 +4,8 @@ use Rattle.jpeg_streams.specs.Order.{Spot}
 use Rattle.jpeg_streams.specs.WholeRows.{or_first}
 use Rattle.jpeg_decoder.specs.Reaching.{after_group, IsIntervalEnd}
 use Rattle.jpeg_decoder.specs.Scanning.{arrays_in, scan_vias}
-use Rattle.jpeg_decoder.proofs.ReachedIntervals.{end-answers, end-found, end-reached, interval-arrays}
-use Rattle.jpeg_decoder.proofs.ReachedIntervals.{interval-outcome, interval-unread, outcome_of, read_of}
+use Rattle.jpeg_decoder.proofs.Partial.ReachedIntervals.{end-answers, end-found, end-reached, interval-arrays}
+use Rattle.jpeg_decoder.proofs.Partial.ReachedIntervals.{interval-outcome, interval-unread, outcome_of, read_of}
 use Rattle.jpeg_decoder.proofs.scan.reached.reach_interval.Goals as goal
 
 pub returns-clause-left : goal.returns-clause-left

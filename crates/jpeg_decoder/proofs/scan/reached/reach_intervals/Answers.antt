@@ -3,11 +3,11 @@ use Rattle.std.proofs.lemmas.Result.{err_from_is_err_and}
 use Rattle.std.specs.List.{AllByRecursion}
 use Rattle.jpeg_bits.specs.Intervals.{is_restart}
 use Rattle.jpeg_decoder.specs.Scanning.{arrays_in, scan_vias, sizes_of, IsSpotOf}
-use Rattle.jpeg_decoder.proofs.GroupedScans.{after-all, blocks_loop, first-refused-answers}
-use Rattle.jpeg_decoder.proofs.GroupedScans.{first-refused-state, next-refused-answers, next-refused-state}
-use Rattle.jpeg_decoder.proofs.GroupedScans.{passed-answers, runs-first, runs-next, whole_of}
-use Rattle.jpeg_decoder.proofs.UnreadIntervals.{first-refused, lacks-first, lacks-next, last-lacks}
-use Rattle.jpeg_decoder.proofs.UnreadIntervals.{next-refused, told-any, whole_by}
+use Rattle.jpeg_decoder.proofs.Partial.GroupedScans.{after-all, blocks_loop, first-refused-answers}
+use Rattle.jpeg_decoder.proofs.Partial.GroupedScans.{first-refused-state, next-refused-answers, next-refused-state}
+use Rattle.jpeg_decoder.proofs.Partial.GroupedScans.{passed-answers, runs-first, runs-next, whole_of}
+use Rattle.jpeg_decoder.proofs.Partial.UnreadIntervals.{first-refused, lacks-first, lacks-next, last-lacks}
+use Rattle.jpeg_decoder.proofs.Partial.UnreadIntervals.{next-refused, told-any, whole_by}
 use Rattle.jpeg_decoder.proofs.scan.reached.reach_intervals.Goals as goal
 
 pub returns-in_err-end-clause-arrays : goal.returns-in_err-end-clause-arrays

@@ -1,8 +1,8 @@
 use Rattle.std.proofs.Common.{◌≡◌, length}
 use Rattle.std.specs.List.{AllByRecursion}
 use Rattle.jpeg_decoder.specs.Scanning.{scan_vias, arrays_in, sizes_of, IsSpotOf}
-use Rattle.jpeg_decoder.proofs.GroupedScans.{Runs, blocks_loop, whole_of}
-use Rattle.jpeg_decoder.proofs.UnreadIntervals.{Lacks, whole_by}
+use Rattle.jpeg_decoder.proofs.Partial.GroupedScans.{Runs, blocks_loop, whole_of}
+use Rattle.jpeg_decoder.proofs.Partial.UnreadIntervals.{Lacks, whole_by}
 use Rattle.jpeg_decoder.proofs.scan.reached.reach_intervals.Given as goal
 
 abbrev pub invariant-loop-end : goal.invariant-loop-end

@@ -2,8 +2,8 @@ use Rattle.std.proofs.Common.{◌∙◌, Bool, map, sym, subst}
 use Rattle.jpeg_lossless.specs.Codings.{part_in, way_by}
 use Rattle.jpeg_lossless.specs.Scans.{scan_tables}
 use Rattle.jpeg_decoder.specs.Reaching.{IsIntervalEnd, rows_appended}
-use Rattle.jpeg_decoder.proofs.ReachedIntervals.{end-answers, end-found}
-use Rattle.jpeg_decoder.proofs.RowIntervals.{interval-planes, interval-rows-outcome, rows_in}
+use Rattle.jpeg_decoder.proofs.Partial.ReachedIntervals.{end-answers, end-found}
+use Rattle.jpeg_decoder.proofs.Partial.RowIntervals.{interval-planes, interval-rows-outcome, rows_in}
 use Rattle.jpeg_decoder.proofs.scan.reached_rows.reach_interval.Goals as goal
 
 pub returns-clause-planes : goal.returns-clause-planes

@@ -6,11 +6,11 @@ use Rattle.jpeg_bits.specs.declared.marker.Marker.{Marker}
 use Rattle.jpeg_lossless.specs.Codings.{part_in, way_by}
 use Rattle.jpeg_lossless.specs.Scans.{Way, scan_tables}
 use Rattle.jpeg_decoder.specs.Reaching.{after_group}
-use Rattle.jpeg_decoder.proofs.GroupedScans.{broken-answers, first-refused-answers, first-refused-state}
-use Rattle.jpeg_decoder.proofs.GroupedScans.{next-refused-answers, next-refused-state, passed-answers}
-use Rattle.jpeg_decoder.proofs.GroupedScans.{runs-first, runs-next, whole_of}
-use Rattle.jpeg_decoder.proofs.RowIntervals.{first-rows, group-answers, group-told, left-rows, no-rows, rows-count}
-use Rattle.jpeg_decoder.proofs.RowIntervals.{rows_loop}
+use Rattle.jpeg_decoder.proofs.Partial.GroupedScans.{broken-answers, first-refused-answers, first-refused-state}
+use Rattle.jpeg_decoder.proofs.Partial.GroupedScans.{next-refused-answers, next-refused-state, passed-answers}
+use Rattle.jpeg_decoder.proofs.Partial.GroupedScans.{runs-first, runs-next, whole_of}
+use Rattle.jpeg_decoder.proofs.Partial.RowIntervals.{first-rows, group-answers, group-told, left-rows, no-rows, rows-count}
+use Rattle.jpeg_decoder.proofs.Partial.RowIntervals.{rows_loop}
 use Rattle.jpeg_decoder.proofs.scan.reached_rows.reach_intervals.Goals as goal
 use Rattle.jpeg_decoder.proofs.scan.reached_rows.reach_intervals.Goals.{then-not-end-via-then-not-end}
 use Rattle.jpeg_decoder.proofs.scan.reached_rows.reach_intervals.Goals.{

@@ -1,8 +1,8 @@
 use Rattle.std.proofs.Common.{◌≡◌, length, map}
 use Rattle.jpeg_lossless.specs.Codings.{part_in, way_by}
 use Rattle.jpeg_lossless.specs.Scans.{scan_tables}
-use Rattle.jpeg_decoder.proofs.GroupedScans.{Runs, whole_of}
-use Rattle.jpeg_decoder.proofs.RowIntervals.{rows_loop}
+use Rattle.jpeg_decoder.proofs.Partial.GroupedScans.{Runs, whole_of}
+use Rattle.jpeg_decoder.proofs.Partial.RowIntervals.{rows_loop}
 use Rattle.jpeg_decoder.proofs.scan.reached_rows.reach_intervals.Given as goal
 
 abbrev pub invariant-loop-left : goal.invariant-loop-left

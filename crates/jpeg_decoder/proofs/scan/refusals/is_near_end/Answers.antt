@@ -1,7 +1,7 @@
 use Rattle.std.proofs.Common.{◌≡◌, ◌∙◌, length, nat_le, refl, true}
 use Rattle.jpeg_bits.specs.Entropy.{marker_from, upcoming}
 use Rattle.jpeg_bits.specs.Reading.{Names}
-use Rattle.jpeg_decoder.proofs.ReachedBlocks.{if-there, met-near, names-in-memory, on-fault, refused-near}
+use Rattle.jpeg_decoder.proofs.Partial.ReachedBlocks.{if-there, met-near, names-in-memory, on-fault, refused-near}
 use Rattle.jpeg_decoder.proofs.scan.refusals.is_near_end.Goals as goal
 use Rattle.jpeg_decoder.proofs.scan.refusals.is_near_end.Goals.{in-OutOfMemory, in_default}
 

@@ -15,18 +15,18 @@ use Rattle.jpeg_streams.specs.InTurn.{blocks_from, counted_at_start}
 use Rattle.jpeg_streams.specs.McuRows.{rows_of, zero_rows}
 use Rattle.jpeg_decoder.specs.Scanning.{IsSpotOf, arrays_in, scan_components, counted, down_in}
 use Rattle.jpeg_decoder.specs.Scanning.{kept_blocks, kept_counted, sizes_of, scan_vias}
-use Rattle.jpeg_decoder.proofs.KeptStrips.{kept-refused, strips_kept}
+use Rattle.jpeg_decoder.proofs.Strips.KeptStrips.{kept-refused, strips_kept}
 use Rattle.jpeg_decoder.specs.GrowingView.{GrowsFor, growing_in}
 use Rattle.jpeg_decoder.specs.Strips.{row_sizes, strip_samples, strips_from, with_strips, zeros_of}
 use Rattle.jpeg_decoder.specs.Walk.{walk_of_row, walks_of_rows}
 use Rattle.jpeg_streams.specs.ScanSegments.{Coding, components_of}
-use Rattle.jpeg_decoder.proofs.KeptSpots.{rows-spots}
-use Rattle.jpeg_decoder.proofs.ScanOrders.{rows-walked}
-use Rattle.jpeg_decoder.proofs.StripScans.{rows-refused, scan-ended}
-use Rattle.jpeg_decoder.proofs.StripSteps.{strips_refused, strips_none, whole-rows, first-row}
-use Rattle.jpeg_decoder.proofs.StripSteps.{later-rows, zeros-are, lengths, lengths-all}
-use Rattle.jpeg_decoder.proofs.StripSteps.{lengths-none, lengths-next, row-count}
-use Rattle.jpeg_decoder.proofs.StripRows.{some-before}
+use Rattle.jpeg_decoder.proofs.Kept.KeptSpots.{rows-spots}
+use Rattle.jpeg_decoder.proofs.Orders.ScanOrders.{rows-walked}
+use Rattle.jpeg_decoder.proofs.Strips.StripScans.{rows-refused, scan-ended}
+use Rattle.jpeg_decoder.proofs.Strips.StripSteps.{strips_refused, strips_none, whole-rows, first-row}
+use Rattle.jpeg_decoder.proofs.Strips.StripSteps.{later-rows, zeros-are, lengths, lengths-all}
+use Rattle.jpeg_decoder.proofs.Strips.StripSteps.{lengths-none, lengths-next, row-count}
+use Rattle.jpeg_decoder.proofs.Strips.StripRows.{some-before}
 use Rattle.jpeg_decoder.proofs.scan.rows.read_planes.Goals as goal
 
 pub loop-row-init : goal.loop-row-init

@@ -7,9 +7,9 @@ use Rattle.jpeg_segments.specs.FrameView.{component_in, frame_in}
 use Rattle.jpeg_streams.specs.Brought.{grey_samples}
 use Rattle.jpeg_decoder.specs.PlanesView.{planes_in}
 use Rattle.jpeg_decoder.specs.Reaching.{over, planes_over, samples_or_grey}
-use Rattle.jpeg_decoder.proofs.EndedPlanes.{mapped-or}
-use Rattle.jpeg_decoder.proofs.LosslessReads.{component-at}
-use Rattle.jpeg_decoder.proofs.SampleScans.{over-none, over-step}
+use Rattle.jpeg_decoder.proofs.Pictures.EndedPlanes.{mapped-or}
+use Rattle.jpeg_decoder.proofs.Lossless.LosslessReads.{component-at}
+use Rattle.jpeg_decoder.proofs.Lossless.SampleScans.{over-none, over-step}
 use Rattle.jpeg_decoder.proofs.scan.samples.complete_all.Goals as goal
 
 pub loop-slot-preserved : goal.loop-slot-preserved

@@ -15,15 +15,15 @@ use Rattle.jpeg_decoder.specs.declared.stream.state.Step.{Step}
 use Rattle.jpeg_bits.specs.declared.marker.Marker.{Marker}
 use Rattle.jpeg_decoder.specs.Reaching.{sample_codings, samples_reached, UnlessRefused}
 use Rattle.jpeg_streams.specs.WholeRows.{rows_of_planes, rows_of_scan}
-use Rattle.jpeg_decoder.proofs.ReachedScans.{blocks-count, ended-rows, ended-whole, none-counted, samples-count, Counts}
-use Rattle.jpeg_decoder.proofs.ReachedScans.{blocks-begin, decoded-sound, ended-found, ended-reads, ended-steps}
-use Rattle.jpeg_decoder.proofs.ReachedScans.{ended-unless, no-codings, no-frame, no-header, no-samples, none-reads}
-use Rattle.jpeg_decoder.proofs.ReachedScans.{moved, none-stays, samples-begin, BeginsData, Data}
-use Rattle.jpeg_decoder.proofs.ReadableScans.{before-said, decoded-few, decoded-scales, legal-pass, ready, scanned-before}
-use Rattle.jpeg_decoder.proofs.ReadableScans.{some-after}
-use Rattle.jpeg_decoder.proofs.ScanData.{before-as}
-use Rattle.jpeg_decoder.proofs.ScanReads.{is-dct}
-use Rattle.jpeg_decoder.proofs.SampleScans.{scan-codings}
+use Rattle.jpeg_decoder.proofs.Partial.ReachedScans.{blocks-count, ended-rows, ended-whole, none-counted, samples-count, Counts}
+use Rattle.jpeg_decoder.proofs.Partial.ReachedScans.{blocks-begin, decoded-sound, ended-found, ended-reads, ended-steps}
+use Rattle.jpeg_decoder.proofs.Partial.ReachedScans.{ended-unless, no-codings, no-frame, no-header, no-samples, none-reads}
+use Rattle.jpeg_decoder.proofs.Partial.ReachedScans.{moved, none-stays, samples-begin, BeginsData, Data}
+use Rattle.jpeg_decoder.proofs.Scans.ReadableScans.{before-said, decoded-few, decoded-scales, legal-pass, ready, scanned-before}
+use Rattle.jpeg_decoder.proofs.Scans.ReadableScans.{some-after}
+use Rattle.jpeg_decoder.proofs.Scans.ScanData.{before-as}
+use Rattle.jpeg_decoder.proofs.Scans.ScanReads.{is-dct}
+use Rattle.jpeg_decoder.proofs.Lossless.SampleScans.{scan-codings}
 use Rattle.jpeg_decoder.proofs.scan.segment.reach_scan.Given as given
 use Rattle.jpeg_decoder.proofs.scan.segment.reach_scan.Goals.{After-reach_samples-reached}
 use Rattle.jpeg_decoder.proofs.scan.segment.reach_scan.Goals as goal

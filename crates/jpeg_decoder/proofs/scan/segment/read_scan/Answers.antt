@@ -11,12 +11,12 @@ use Rattle.jpeg_streams.specs.Sound.{IsSound}
 use Rattle.jpeg_decoder.specs.Seen.{found_of}
 use Rattle.jpeg_decoder.specs.PlanesView.{planes_in}
 use Rattle.jpeg_decoder.specs.Steps.{IsStep, with_decoded}
-use Rattle.jpeg_decoder.proofs.ReadableScans.{before-said, decoded-few, decoded-scales, legal-pass, ready, scanned-before}
-use Rattle.jpeg_decoder.proofs.ReadableScans.{some-after}
-use Rattle.jpeg_decoder.proofs.ScanData.{before-as}
-use Rattle.jpeg_decoder.proofs.ScanReads.{blocks-sound, codings-refused, data-refused}
-use Rattle.jpeg_decoder.proofs.ScanReads.{frame-refused, header-refused, is-dct, samples-met}
-use Rattle.jpeg_decoder.proofs.ScanReads.{refused-steps, scan-ends, scan-steps, segment-ends, segment-refused}
+use Rattle.jpeg_decoder.proofs.Scans.ReadableScans.{before-said, decoded-few, decoded-scales, legal-pass, ready, scanned-before}
+use Rattle.jpeg_decoder.proofs.Scans.ReadableScans.{some-after}
+use Rattle.jpeg_decoder.proofs.Scans.ScanData.{before-as}
+use Rattle.jpeg_decoder.proofs.Scans.ScanReads.{blocks-sound, codings-refused, data-refused}
+use Rattle.jpeg_decoder.proofs.Scans.ScanReads.{frame-refused, header-refused, is-dct, samples-met}
+use Rattle.jpeg_decoder.proofs.Scans.ScanReads.{refused-steps, scan-ends, scan-steps, segment-ends, segment-refused}
 use Rattle.jpeg_decoder.proofs.scan.segment.read_scan.Goals as goal
 
 pub returns-in_err-frame-clause-reads : goal.returns-in_err-frame-clause-reads

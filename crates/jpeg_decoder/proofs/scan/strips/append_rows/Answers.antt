@@ -1,6 +1,6 @@
 use Rattle.std.proofs.Common.{◌≡◌, ◌<◌, [], ℕ, get_or, length, rules}
 use Rattle.std.proofs.lemmas.Result.{on_ok_weaker}
-use Rattle.jpeg_decoder.proofs.StripRows.{raster-rows}
+use Rattle.jpeg_decoder.proofs.Strips.StripRows.{raster-rows}
 use Rattle.jpeg_decoder.proofs.scan.strips.append_rows.Goals as goal
 
 pub returns : goal.returns

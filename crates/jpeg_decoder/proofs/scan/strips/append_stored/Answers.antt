@@ -2,8 +2,8 @@ use Rattle.std.proofs.Common.{◌≡◌, ◌≤◌, ◌*◌, arith, drop, length
 use Rattle.std.specs.Prelude.{min}
 use Rattle.std.proofs.lemmas.Grind.{common_steps}
 use Rattle.std.proofs.Math.Nat.{min-le_right}
-use Rattle.jpeg_decoder.proofs.StoredRows.{rest-next, row-appended, rows-appended}
-use Rattle.jpeg_decoder.proofs.StripRows.{drop-none, none-yet, rows-fit}
+use Rattle.jpeg_decoder.proofs.Strips.StoredRows.{rest-next, row-appended, rows-appended}
+use Rattle.jpeg_decoder.proofs.Strips.StripRows.{drop-none, none-yet, rows-fit}
 use Rattle.jpeg_decoder.proofs.scan.strips.append_stored.Goals as goal
 
 pub loop-init : goal.loop-init

@@ -1,7 +1,7 @@
 use Rattle.std.proofs.Common.{◌≡◌, ◌++◌, ◌*◌, drop}
 use Rattle.jpeg_pixels.specs.Planes.{plane_of}
 use Rattle.jpeg_decoder.specs.Scanning.{filled}
-use Rattle.jpeg_decoder.proofs.StripRows.{block_in}
+use Rattle.jpeg_decoder.proofs.Strips.StripRows.{block_in}
 use Rattle.jpeg_decoder.proofs.scan.strips.append_stored.Given as goal
 
 abbrev pub invariant-loop : goal.invariant-loop

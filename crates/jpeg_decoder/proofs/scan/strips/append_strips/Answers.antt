@@ -1,8 +1,8 @@
 use Rattle.std.proofs.Common.{arith}
 use Rattle.std.proofs.lemmas.Grind.{common_steps}
 use Rattle.std.proofs.lemmas.Result.{on_ok_weaker}
-use Rattle.jpeg_decoder.proofs.JointStrips.{room-grown, room-kept, some-planes}
-use Rattle.jpeg_decoder.proofs.StripSteps.{row-count}
+use Rattle.jpeg_decoder.proofs.Strips.JointStrips.{room-grown, room-kept, some-planes}
+use Rattle.jpeg_decoder.proofs.Strips.StripSteps.{row-count}
 use Rattle.jpeg_decoder.proofs.scan.strips.append_strips.Goals as goal
 
 pub append_to_room-requires-clause-tables : goal.append_to_room-requires-clause-tables

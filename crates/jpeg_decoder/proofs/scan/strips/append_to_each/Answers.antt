@@ -1,7 +1,7 @@
 use Rattle.std.proofs.Common.{arith, rules}
 use Rattle.jpeg_decoder.specs.Strips.{samples_of}
-use Rattle.jpeg_decoder.proofs.RowBuffers.{no-strips, planes-all, planes-long, planes-next}
-use Rattle.jpeg_decoder.proofs.RowBuffers.{row-full, row-size, table-here, tables-long}
+use Rattle.jpeg_decoder.proofs.Strips.RowBuffers.{no-strips, planes-all, planes-long, planes-next}
+use Rattle.jpeg_decoder.proofs.Strips.RowBuffers.{row-full, row-size, table-here, tables-long}
 use Rattle.jpeg_decoder.proofs.scan.strips.append_to_each.Goals as goal
 use Rattle.std.proofs.lemmas.Grind.{common_steps}
 

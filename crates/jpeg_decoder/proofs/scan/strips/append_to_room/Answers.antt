@@ -1,6 +1,6 @@
 use Rattle.std.proofs.Common.{arith, rules}
 use Rattle.jpeg_decoder.specs.Strips.{samples_of}
-use Rattle.jpeg_decoder.proofs.RowBuffers.{room-all, room-next, row-full, row-size, table-here, tables-long}
+use Rattle.jpeg_decoder.proofs.Strips.RowBuffers.{room-all, room-next, row-full, row-size, table-here, tables-long}
 use Rattle.jpeg_decoder.proofs.scan.strips.append_to_room.Goals as goal
 use Rattle.std.proofs.lemmas.Grind.{common_steps}
 

@@ -1,8 +1,8 @@
 use Rattle.std.proofs.Common.{◌≡◌, ◌∙◌, ap, refl, sym, get_or, length, replicate, List, ℤ, pos, arith}
 use Rattle.std.proofs.lemmas.List.{with_items_is}
 use Rattle.std.specs.Vec.{with_items}
-use Rattle.jpeg_decoder.proofs.BlockArrays.{Held}
-use Rattle.jpeg_decoder.proofs.RowBuffers.{cleared-next}
+use Rattle.jpeg_decoder.proofs.Kept.BlockArrays.{Held}
+use Rattle.jpeg_decoder.proofs.Strips.RowBuffers.{cleared-next}
 use Rattle.jpeg_decoder.proofs.scan.strips.clear_rows.Goals as goal
 
 pub loop-row-preserved : goal.loop-row-preserved

@@ -5,7 +5,7 @@ use Rattle.jpeg_segments.specs.FrameView.{component_in, frame_in}
 use Rattle.jpeg_decoder.specs.Scanning.{scan_components}
 use Rattle.jpeg_decoder.specs.Steps.{coding_in}
 use Rattle.jpeg_streams.specs.ScanSegments.{Coding}
-use Rattle.jpeg_decoder.proofs.RowsAbove.{above-line, slot-component}
+use Rattle.jpeg_decoder.proofs.Partial.RowsAbove.{above-line, slot-component}
 use Rattle.jpeg_decoder.proofs.scan.whole_rows.rows_above.Goals as goal
 
 pub returns : goal.returns

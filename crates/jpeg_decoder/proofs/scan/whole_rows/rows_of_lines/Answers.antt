@@ -3,7 +3,7 @@ use Rattle.jpeg_segments.specs.Frame.{greatest, most_down}
 use Rattle.jpeg_segments.specs.FrameView.{component_in, factors_in, frame_in}
 use Rattle.jpeg_segments.specs.declared.frame.Component.{Component as Given}
 use Rattle.jpeg_segments.proofs.ScaleLemmas.{factors-seen}
-use Rattle.jpeg_decoder.proofs.RowsAbove.{saturated}
+use Rattle.jpeg_decoder.proofs.Partial.RowsAbove.{saturated}
 use Rattle.jpeg_decoder.proofs.scan.whole_rows.rows_of_lines.Goals as goal
 
 pub returns : goal.returns

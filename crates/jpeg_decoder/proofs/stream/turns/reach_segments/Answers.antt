@@ -2,13 +2,13 @@ use Rattle.std.proofs.lemmas.Grind.{common_steps}
 use Rattle.std.proofs.Common.{◌≡◌, ◌∙◌, ◌<◌, ◌^◌, true, Ok, sym, ap, arith, length}
 use Rattle.std.proofs.lemmas.Result.{err_from_is_err_and}
 use Rattle.jpeg_streams.specs.Brought.{all_brought}
-use Rattle.jpeg_streams.proofs.ReadTurns.{Walked}
+use Rattle.jpeg_streams.proofs.Written.ReadTurns.{Walked}
 use Rattle.jpeg_streams.proofs.Refusals.{short-step, never-met}
 use Rattle.jpeg_decoder.specs.Reaching.{walk_end, without_tables}
 use Rattle.jpeg_decoder.specs.Steps.{turn_of}
-use Rattle.jpeg_decoder.proofs.BroughtLoops.{brought-end, brought-err, brought-found, brought-more}
-use Rattle.jpeg_decoder.proofs.BroughtLoops.{brought-rows, brought-whole, ended-rows, refused-any}
-use Rattle.jpeg_decoder.proofs.BroughtTurns.{brought-takes}
+use Rattle.jpeg_decoder.proofs.Partial.BroughtLoops.{brought-end, brought-err, brought-found, brought-more}
+use Rattle.jpeg_decoder.proofs.Partial.BroughtLoops.{brought-rows, brought-whole, ended-rows, refused-any}
+use Rattle.jpeg_decoder.proofs.Partial.BroughtTurns.{brought-takes}
 use Rattle.jpeg_decoder.proofs.stream.turns.reach_segments.Given.{Over}
 use Rattle.jpeg_decoder.proofs.stream.turns.reach_segments.Goals as goal
 use Rattle.jpeg_decoder.proofs.stream.turns.reach_segments.Goals.{else-loop-test}

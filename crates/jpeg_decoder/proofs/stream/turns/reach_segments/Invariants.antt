@@ -1,7 +1,7 @@
 use Rattle.std.proofs.Common.{◌≡◌, ◌<◌, true, None, is_some}
 use Rattle.jpeg_bits.specs.Reading.{IsShort}
 use Rattle.jpeg_streams.specs.Sound.{IsSound}
-use Rattle.jpeg_decoder.proofs.BroughtLoops.{IsBrought}
+use Rattle.jpeg_decoder.proofs.Partial.BroughtLoops.{IsBrought}
 use Rattle.jpeg_decoder.proofs.stream.turns.reach_segments.Given as goal
 
 abbrev pub invariant-loop : goal.invariant-loop

@@ -6,9 +6,9 @@ use Rattle.jpeg_streams.specs.Stream.{segment_at}
 use Rattle.jpeg_streams.specs.WholeRows.{rows_of_scan}
 use Rattle.jpeg_decoder.specs.Reaching.{without_tables}
 use Rattle.jpeg_decoder.specs.Steps.{turn_of}
-use Rattle.jpeg_decoder.proofs.BroughtLoops.{marked-found, marked-reads, marked-rows, refusal-any, refusal-told}
-use Rattle.jpeg_decoder.proofs.BroughtLoops.{sound-unless, unless-any, unmarked-found, unmarked-reads, unmarked-rows}
-use Rattle.jpeg_decoder.proofs.BroughtTurns.{rows-scan, rows-segment, turn-scan, turn-segment}
+use Rattle.jpeg_decoder.proofs.Partial.BroughtLoops.{marked-found, marked-reads, marked-rows, refusal-any, refusal-told}
+use Rattle.jpeg_decoder.proofs.Partial.BroughtLoops.{sound-unless, unless-any, unmarked-found, unmarked-reads, unmarked-rows}
+use Rattle.jpeg_decoder.proofs.Partial.BroughtTurns.{rows-scan, rows-segment, turn-scan, turn-segment}
 use Rattle.jpeg_decoder.proofs.stream.turns.reach_turn.Goals as goal
 
 -- ---- no marker

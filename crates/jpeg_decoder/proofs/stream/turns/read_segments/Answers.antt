@@ -5,11 +5,11 @@ use Rattle.jpeg_streams.specs.declared.before.Before.TheVariants.{Elsewhere}
 use Rattle.jpeg_streams.specs.Stream.{told_of, turn_at, segments_at, walk}
 use Rattle.jpeg_streams.specs.Reported.{IsOfTurns}
 use Rattle.jpeg_decoder.specs.Steps.{turn_of}
-use Rattle.jpeg_streams.proofs.ReadTurns.{Walked, segments-walked, walk-end, walk-refused}
-use Rattle.jpeg_streams.proofs.ReadTurns.{walk-stop}
+use Rattle.jpeg_streams.proofs.Written.ReadTurns.{Walked, segments-walked, walk-end, walk-refused}
+use Rattle.jpeg_streams.proofs.Written.ReadTurns.{walk-stop}
 use Rattle.jpeg_streams.proofs.Refusals.{short-step, told-err, never-met}
-use Rattle.jpeg_decoder.proofs.Turns.{not-framed, turn-takes}
-use Rattle.jpeg_decoder.proofs.TurnLoops.{walked-err, walked-on, walked-whole}
+use Rattle.jpeg_decoder.proofs.Segments.Turns.{not-framed, turn-takes}
+use Rattle.jpeg_decoder.proofs.Segments.TurnLoops.{walked-err, walked-on, walked-whole}
 use Rattle.jpeg_decoder.proofs.stream.turns.read_segments.Given.{Over}
 use Rattle.jpeg_decoder.proofs.stream.turns.read_segments.Goals as goal
 use Rattle.jpeg_decoder.proofs.stream.turns.read_segments.Goals.{else-loop-test}

@@ -1,5 +1,5 @@
 use Rattle.std.proofs.Common.{arith}
-use Rattle.jpeg_decoder.proofs.BlockArrays.{all-stored}
+use Rattle.jpeg_decoder.proofs.Kept.BlockArrays.{all-stored}
 use Rattle.jpeg_decoder.proofs.scan.block_array.BlockArray.fill.Goals as goal
 
 pub returns-in_ok-store-clause-full : goal.returns-in_ok-store-clause-full

@@ -1,4 +1,4 @@
-use Rattle.jpeg_decoder.proofs.BlockArrays.{none-stored}
+use Rattle.jpeg_decoder.proofs.Kept.BlockArrays.{none-stored}
 use Rattle.jpeg_decoder.proofs.scan.block_array.BlockArray.none.Goals as goal
 
 pub returns : goal.returns

@@ -1,5 +1,5 @@
 use Rattle.std.proofs.Common.{arith}
-use Rattle.jpeg_decoder.proofs.BlockArrays.{seen-count}
+use Rattle.jpeg_decoder.proofs.Kept.BlockArrays.{seen-count}
 use Rattle.jpeg_decoder.proofs.scan.block_array.BlockArray.reach.Goals as goal
 
 pub end_after-requires : goal.end_after-requires

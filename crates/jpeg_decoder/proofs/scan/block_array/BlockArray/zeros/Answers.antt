@@ -1,7 +1,7 @@
 use Rattle.std.proofs.Common.{◌∙◌, ap, length, List}
 use Rattle.std.proofs.lemmas.List.{length-replicate}
 use Rattle.jpeg_bits.specs.Passes.{Block, zero_block}
-use Rattle.jpeg_decoder.proofs.BlockArrays.{none-stored}
+use Rattle.jpeg_decoder.proofs.Kept.BlockArrays.{none-stored}
 use Rattle.jpeg_decoder.proofs.scan.block_array.BlockArray.zeros.Goals as goal
 
 pub returns-clause-blocks : goal.returns-clause-blocks

@@ -1,5 +1,5 @@
 use Rattle.std.proofs.Common.{rules}
-use Rattle.jpeg_decoder.proofs.PlacedCodings.{component-at}
+use Rattle.jpeg_decoder.proofs.Scans.PlacedCodings.{component-at}
 use Rattle.jpeg_decoder.proofs.scan.coded.Scan.component.Goals as goal
 
 pub returns-clause-component : goal.returns-clause-component

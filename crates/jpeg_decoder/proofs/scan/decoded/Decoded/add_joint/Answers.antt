@@ -4,10 +4,10 @@ use Rattle.std.proofs.Common.{Option}
 use Rattle.std.proofs.lemmas.List.{get_or_default}
 use Rattle.jpeg_pixels.specs.JointPlanes.{joint_planes}
 use Rattle.jpeg_decoder.specs.Steps.{marks_after, with_decoded}
-use Rattle.jpeg_decoder.proofs.JointAdded.{joint-done, joint-step}
-use Rattle.jpeg_decoder.proofs.JointDecided.{or-nothing}
-use Rattle.jpeg_decoder.proofs.JointStrips.{planes-long}
-use Rattle.jpeg_decoder.proofs.PlacedCodings.{first-index, seen-long}
+use Rattle.jpeg_decoder.proofs.Strips.JointAdded.{joint-done, joint-step}
+use Rattle.jpeg_decoder.proofs.Strips.JointDecided.{or-nothing}
+use Rattle.jpeg_decoder.proofs.Strips.JointStrips.{planes-long}
+use Rattle.jpeg_decoder.proofs.Scans.PlacedCodings.{first-index, seen-long}
 use Rattle.jpeg_decoder.proofs.scan.decoded.Decoded.add_joint.Goals as goal
 
 pub loop-coded-init : goal.loop-coded-init

@@ -1,7 +1,7 @@
 use Rattle.std.proofs.Common.{is_some, slice_index_or, arith}
 use Rattle.std.proofs.lemmas.List.Elements.{All-map}
 use Rattle.jpeg_decoder.specs.Steps.{coding_in}
-use Rattle.jpeg_decoder.proofs.DecidedScans.{so-far-next, IsDecided}
+use Rattle.jpeg_decoder.proofs.Scans.DecidedScans.{so-far-next, IsDecided}
 use Rattle.jpeg_decoder.proofs.scan.decoded.Decoded.are_decided.Goals as goal
 use Rattle.std.proofs.lemmas.Grind.{common_steps}
 

@@ -3,8 +3,8 @@ use Rattle.std.proofs.lemmas.List.{get_or_default}
 use Rattle.std.proofs.Common.{rules, ◌≡◌, ◌<◌, ◌∙◌, arith, get_or, length, None, subst, true}
 use Rattle.std.specs.Prelude.{is_some, slice_index_or}
 use Rattle.jpeg_decoder.specs.Steps.{coding_in, marks_after, with_decoded, with_planes}
-use Rattle.jpeg_decoder.proofs.DecidedScans.{again-step, IsDecided}
-use Rattle.jpeg_decoder.proofs.PlacedCodings.{coding-at, seen-long}
+use Rattle.jpeg_decoder.proofs.Scans.DecidedScans.{again-step, IsDecided}
+use Rattle.jpeg_decoder.proofs.Scans.PlacedCodings.{coding-at, seen-long}
 use Rattle.jpeg_decoder.proofs.PutLoops.{none-left}
 use Rattle.jpeg_decoder.proofs.scan.decoded.Decoded.mark_again.Goals as goal
 

@@ -12,11 +12,11 @@ use Rattle.jpeg_decoder.specs.PlanesView.{planes_in}
 use Rattle.jpeg_decoder.specs.Reaching.{kept_after}
 use Rattle.jpeg_decoder.specs.Scanning.{arrays_in, scan_components}
 use Rattle.jpeg_decoder.specs.Steps.{blocks_at, blocks_before, with_decoded, IsBefore}
-use Rattle.jpeg_decoder.proofs.BlockArrays.{Held}
-use Rattle.jpeg_decoder.proofs.ReachedData.{kept-all, on-told, reached-answers, reached-as}
-use Rattle.jpeg_decoder.proofs.ReachedData.{reached-found, rows-as, taken-sized, unless, whole-after}
-use Rattle.jpeg_decoder.proofs.ScanData.{arrays-by-sizes, arrays-whole, before-as, coded-within-kept}
-use Rattle.jpeg_decoder.proofs.ScanData.{of-frame, rising-codings}
+use Rattle.jpeg_decoder.proofs.Kept.BlockArrays.{Held}
+use Rattle.jpeg_decoder.proofs.Partial.ReachedData.{kept-all, on-told, reached-answers, reached-as}
+use Rattle.jpeg_decoder.proofs.Partial.ReachedData.{reached-found, rows-as, taken-sized, unless, whole-after}
+use Rattle.jpeg_decoder.proofs.Scans.ScanData.{arrays-by-sizes, arrays-whole, before-as, coded-within-kept}
+use Rattle.jpeg_decoder.proofs.Scans.ScanData.{of-frame, rising-codings}
 use Rattle.jpeg_decoder.proofs.scan.decoded.Decoded.reach.Given as given
 use Rattle.jpeg_decoder.proofs.scan.decoded.Decoded.reach.Goals.{After-keep_blocks, In_ok-arrays}
 use Rattle.jpeg_decoder.proofs.scan.decoded.Decoded.reach.Goals as goal

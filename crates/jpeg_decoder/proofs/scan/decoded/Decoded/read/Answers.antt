@@ -4,8 +4,8 @@ use Rattle.jpeg_segments.specs.FrameView.{frame_in}
 use Rattle.jpeg_decoder.specs.Steps.{with_decoded}
 use Rattle.jpeg_streams.specs.Found.{Found, nothing_found}
 use Rattle.jpeg_decoder.specs.GrowingView.{growing_in}
-use Rattle.jpeg_decoder.proofs.ScanData.{kept-afterwards, none-kept, of-frame, planes-whole}
-use Rattle.jpeg_decoder.proofs.SequentialScans.{read-data, read-refused}
+use Rattle.jpeg_decoder.proofs.Scans.ScanData.{kept-afterwards, none-kept, of-frame, planes-whole}
+use Rattle.jpeg_decoder.proofs.Scans.SequentialScans.{read-data, read-refused}
 use Rattle.jpeg_decoder.proofs.scan.decoded.Decoded.read.Goals as goal
 use Rattle.std.proofs.lemmas.Grind.{common_steps}
 

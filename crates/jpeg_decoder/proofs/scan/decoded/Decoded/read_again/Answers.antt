@@ -3,9 +3,9 @@ use Rattle.std.proofs.lemmas.Result.{err_from_is_err_and}
 use Rattle.std.proofs.lemmas.Grind.{common_steps}
 use Rattle.jpeg_segments.specs.FrameView.{frame_in}
 use Rattle.jpeg_decoder.specs.GrowingView.{growing_in}
-use Rattle.jpeg_decoder.proofs.SequentialScans.{again-data, again-refused-data}
+use Rattle.jpeg_decoder.proofs.Scans.SequentialScans.{again-data, again-refused-data}
 use Rattle.std.proofs.lemmas.List.Elements.{recursion_from_All}
-use Rattle.jpeg_decoder.proofs.DecidedScans.{IsDecided}
+use Rattle.jpeg_decoder.proofs.Scans.DecidedScans.{IsDecided}
 use Rattle.jpeg_decoder.proofs.scan.decoded.Decoded.read_again.Goals as goal
 
 pub returns-in_err-reached-clause-data : goal.returns-in_err-reached-clause-data

@@ -9,11 +9,11 @@ use Rattle.jpeg_decoder.specs.Steps.{blocks_at, blocks_before, with_decoded}
 use Rattle.jpeg_decoder.specs.Steps.{IsBefore}
 use Rattle.jpeg_streams.specs.ScanSegments.{put_arrays, arrays_before}
 use Rattle.jpeg_streams.specs.Found.{Found, nothing_found}
-use Rattle.jpeg_decoder.proofs.BlockArrays.{Held}
-use Rattle.jpeg_decoder.proofs.ReachedData.{put-all, taken-sized}
-use Rattle.jpeg_decoder.proofs.ScanData.{of-frame, arrays-by-sizes, coded-within-kept}
-use Rattle.jpeg_decoder.proofs.ScanData.{rising-codings, data-kept, data-kept-refused}
-use Rattle.jpeg_decoder.proofs.ScanData.{arrays-whole, before-as}
+use Rattle.jpeg_decoder.proofs.Kept.BlockArrays.{Held}
+use Rattle.jpeg_decoder.proofs.Partial.ReachedData.{put-all, taken-sized}
+use Rattle.jpeg_decoder.proofs.Scans.ScanData.{of-frame, arrays-by-sizes, coded-within-kept}
+use Rattle.jpeg_decoder.proofs.Scans.ScanData.{rising-codings, data-kept, data-kept-refused}
+use Rattle.jpeg_decoder.proofs.Scans.ScanData.{arrays-whole, before-as}
 use Rattle.jpeg_decoder.proofs.scan.decoded.Decoded.read_kept.Given as given
 use Rattle.jpeg_decoder.proofs.scan.decoded.Decoded.read_kept.Goals.{After-put_blocks, In_ok-arrays}
 use Rattle.jpeg_decoder.proofs.scan.decoded.Decoded.read_kept.Goals as goal

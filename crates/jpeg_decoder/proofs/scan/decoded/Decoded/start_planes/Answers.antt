@@ -2,7 +2,7 @@ use Rattle.std.proofs.Common.{arith, ◌≡◌, ap, length, map}
 use Rattle.std.proofs.lemmas.Grind.{common_steps}
 use Rattle.std.proofs.lemmas.List.{length-map}
 use Rattle.jpeg_segments.specs.FrameView.{component_in, frame_in}
-use Rattle.jpeg_decoder.proofs.JointStrips.{joint-started, none-started}
+use Rattle.jpeg_decoder.proofs.Strips.JointStrips.{joint-started, none-started}
 use Rattle.jpeg_decoder.proofs.scan.decoded.Decoded.start_planes.Goals.{In_ok-new}
 use Rattle.jpeg_decoder.proofs.scan.decoded.Decoded.start_planes.Goals as goal
 

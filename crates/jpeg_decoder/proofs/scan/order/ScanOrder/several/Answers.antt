@@ -4,7 +4,7 @@ use Rattle.jpeg_streams.specs.ScanSegments.{Coding, components_of}
 use Rattle.jpeg_decoder.specs.Scanning.{scan_components}
 use Rattle.jpeg_decoder.specs.Walk.{members_from}
 use Rattle.std.proofs.lemmas.List.{length-map}
-use Rattle.jpeg_decoder.proofs.ScanOrders.{several-order}
+use Rattle.jpeg_decoder.proofs.Orders.ScanOrders.{several-order}
 use Rattle.jpeg_decoder.proofs.scan.order.ScanOrder.several.Goals as goal
 
 pub returns : goal.returns

@@ -1,5 +1,5 @@
 use Rattle.std.proofs.Common.{◌∙◌, rules}
-use Rattle.jpeg_decoder.proofs.JointDecided.{none-own}
+use Rattle.jpeg_decoder.proofs.Strips.JointDecided.{none-own}
 use Rattle.jpeg_decoder.proofs.scan.planes.Planes.put_joint.Goals as goal
 
 pub returns : goal.returns

@@ -1,6 +1,6 @@
 use Rattle.std.proofs.Common.{arith}
 use Rattle.std.proofs.lemmas.Grind.{common_steps}
-use Rattle.jpeg_decoder.proofs.Walks.{raster-more, wide-none}
+use Rattle.jpeg_decoder.proofs.Orders.Walks.{raster-more, wide-none}
 use Rattle.jpeg_decoder.proofs.scan.raster.Raster.is_done.Goals as goal
 
 pub returns-else-self-eq0-2-clause-done : goal.returns-else-self-eq0-2-clause-done

@@ -1,0 +1,9 @@
+-- Lossless scans and the pictures of their samples.
+pub mod LosslessReads
+pub mod SampleScans
+pub mod WrittenSamples
+pub mod WrittenLosslessStreams
+pub mod LosslessPixels
+pub mod PlainPixels
+pub mod SamplesMeant
+pub mod DecodedSamples

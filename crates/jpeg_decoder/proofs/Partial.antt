@@ -1,0 +1,16 @@
+-- What a stream has brought up to its first fault, and what is shown of it.
+pub mod BroughtTurns
+pub mod BroughtLoops
+pub mod ReachedScans
+pub mod ReachedData
+pub mod GatheredData
+pub mod RowsAbove
+pub mod ReachedBlocks
+pub mod ReachedIntervals
+pub mod GroupedScans
+pub mod UnreadIntervals
+pub mod RowIntervals
+pub mod ShownParts
+pub mod ShownFaults
+pub mod ShownRows
+pub mod ShownLines

@@ -1,0 +1,389 @@
+-- The intervals of a scan are reached one after the other.
+use Rattle.std.proofs.Common.{◌≡◌, ◌∙◌, ◌⊎◌, inl, inr, ◌+◌, ◌%◌, ◌<◌, ◌≤◌, ◌==◌, ◌&&◌, ℕ, zero, suc, Bool, true}
+use Rattle.std.proofs.Common.{false, List, [], ◌∷◌, length, drop, take, refl, sym, subst, ap, ap₂, arith, Result, Ok}
+use Rattle.std.proofs.Common.{Err, Option, Some, if◌then◌else◌}
+use Rattle.std.proofs.lemmas.List.{length-drop}
+use Rattle.std.specs.List.{AllByRecursion}
+use Rattle.jpeg_bits.specs.Stream.{Stream}
+use Rattle.jpeg_bits.specs.Reading.{Answers, Fault, Malformed, NamesFormat, Outcome, ◌>>=◌}
+use Rattle.jpeg_bits.specs.Intervals.{first_group, groups, is_restart, other_groups}
+use Rattle.jpeg_bits.specs.Passes.{Pass, Via}
+use Rattle.jpeg_bits.specs.declared.error.Error.{Error}
+use Rattle.jpeg_bits.specs.declared.error.Error.TheVariants as errors
+use Rattle.jpeg_bits.specs.declared.marker.Marker.{Marker}
+use Rattle.jpeg_bits.specs.declared.marker.Marker.TheVariants as markers
+use Rattle.jpeg_bits.proofs.Loops.{Continues, Continues-err, still_known}
+use Rattle.jpeg_bits.proofs.ReadIntervals.{all-drop}
+use Rattle.jpeg_streams.proofs.Refusals.{told-err}
+use Rattle.jpeg_streams.specs.Brought.{after_interval, after_intervals, interval_reached, intervals_reached}
+use Rattle.jpeg_streams.specs.Order.{Spot}
+use Rattle.jpeg_streams.specs.Scans.{Arrays}
+use Rattle.jpeg_streams.specs.States.{IfRefused, OnTold}
+use Rattle.jpeg_decoder.specs.Reaching.{after_group}
+use Rattle.jpeg_decoder.specs.Steps.{after_all}
+use Rattle.jpeg_decoder.proofs.Partial.GatheredData.{continued-answers}
+use Rattle.jpeg_decoder.proofs.Partial.ReachedIntervals.{named-may-fail, shown}
+use Rattle.jpeg_decoder.proofs.Scans.SlotCodings.{format-refuses}
+
+-- ---- groups
+
+groups-none : {A : Type 0} (turns n : ℕ) → groups {A = A} turns n [] ≡ []
+unfolding groups
+groups-none zero n = refl
+groups-none (suc turns) n = refl
+
+groups-enough : {A : Type 0} (s t n : ℕ) (xs : List A) → length xs ≤ s → length xs ≤ t
+    → groups s (suc n) xs ≡ groups t (suc n) xs
+unfolding groups
+groups-enough s t n [] a b = groups-none s (suc n) ∙ sym (groups-none t (suc n))
+groups-enough (suc s) (suc t) n (x ∷ xs) a b =
+    ap (λ gs. take (suc n) (x ∷ xs) ∷ gs) (groups-enough s t n (drop (suc n) (x ∷ xs))
+    (omega (arith, length-drop (suc n) (x ∷ xs))) (omega (arith, length-drop (suc n) (x ∷ xs))))
+groups-enough _ _ n (x ∷ xs) a b = absurd (omega arith)
+
+-- the groups of what is left
+abbrev pub left_groups : {A : Type 0} → ℕ → List A → List (List A)
+left_groups n [] = []
+left_groups n (x ∷ xs) = first_group n (x ∷ xs) ∷ other_groups n (x ∷ xs)
+
+groups-left : {A : Type 0} (turns n : ℕ) (ys : List A) → length ys ≤ turns
+    → groups turns (suc n) ys ≡ left_groups (suc n) ys
+unfolding groups
+groups-left turns n [] h = groups-none turns (suc n)
+groups-left (suc turns) n (y ∷ ys) h =
+    ap (λ gs. take (suc n) (y ∷ ys) ∷ gs) (groups-enough turns (length (y ∷ ys)) n (drop (suc n) (y ∷ ys))
+    (omega (arith, length-drop (suc n) (y ∷ ys))) (omega (arith, length-drop (suc n) (y ∷ ys))))
+groups-left zero n (y ∷ ys) h = absurd (omega arith)
+
+pub others-left : {A : Type 0} (n : ℕ) (xs : List A) → other_groups n xs ≡ left_groups n (after_group n xs)
+others-left zero xs = refl
+others-left (suc n) xs =
+    groups-left (length xs) n (drop (suc n) xs) (omega (arith, length-drop (suc n) xs))
+
+pub after-all : {A : Type 0} (Q : A → Type 0) (n : ℕ) (xs : List A) → AllByRecursion Q xs
+    → AllByRecursion Q (after_group n xs)
+after-all Q zero xs h = tt
+after-all Q (suc n) xs h = all-drop Q (suc n) xs h
+
+-- ---- what is reached after an interval
+
+abbrev pub Reaches : Type 0 → Type 0
+Reaches A = A × Outcome (Option Marker)
+
+-- what follows an interval, by what the others reach
+abbrev pub goes_by : {A G : Type 0} → (ℕ → List G → List (List G) → A → List ℕ → Reaches A) → ℕ → List (List G) → A
+    → Outcome (Bool × Option Marker) → Reaches A
+goes_by others k [] state o = (state, o >>= after_intervals)
+goes_by {A} others k (next ∷ more) state o = elim (o >>= after_interval k) as (λ _. Reaches A) [
+  | Ok rest ↦ others (suc k) next more state rest
+  | Err fault ↦ (state, Err fault)
+]
+
+-- What the intervals of a scan reach: each of a group changes a state, and then the others do.
+pub record Loop (A G : Type 0) : Type 0 where
+  pub one : List G → A → List ℕ → A × Outcome (Bool × Option Marker)
+  pub all : ℕ → List G → List (List G) → A → List ℕ → Reaches A
+  pub goes : (k : ℕ) (group : List G) (others : List (List G)) (state : A) (bytes : List ℕ)
+      → all k group others state bytes ≡ goes_by all k others (one group state bytes).0 (one group state bytes).1
+
+-- blocks
+pub blocks-go : (p : Pass) (vias : List Via) (k : ℕ) (spots : List Spot) (gs : List (List Spot)) (arrays : Arrays)
+    (bytes : List ℕ) → intervals_reached p vias k spots gs arrays bytes
+    ≡ goes_by (intervals_reached p vias) k gs (interval_reached p vias spots arrays bytes).0
+    (interval_reached p vias spots arrays bytes).1
+unfolding intervals_reached
+blocks-go p vias k spots [] arrays bytes = refl
+blocks-go p vias k spots (next ∷ more) arrays bytes = refl
+
+abbrev pub blocks_loop : Pass → List Via → Loop Arrays Spot
+blocks_loop p vias = record {
+  one = interval_reached p vias;
+  all = intervals_reached p vias;
+  goes = blocks-go p vias;
+}
+
+-- what is reached after an interval
+abbrev pub goes_on : {A G : Type 0} → Loop A G → ℕ → List (List G) → A → Outcome (Bool × Option Marker) → Reaches A
+goes_on s k others state o = goes_by s.all k others state o
+
+-- the end of an interval
+abbrev pub end_of_one : {A G : Type 0} → Loop A G → List G → A → List ℕ → Outcome (Bool × Option Marker)
+end_of_one s group state bytes = (s.one group state bytes).1
+
+first-goes : {A G : Type 0} (s : Loop A G) (k : ℕ) (items : List G) (gs : List (List G)) (state : A)
+    (bytes : List ℕ) → s.all k items gs state bytes
+    ≡ goes_on s k gs (s.one items state bytes).0 (s.one items state bytes).1
+first-goes s k items gs state bytes = s.goes k items gs state bytes
+
+goes-refused : {A G : Type 0} (s : Loop A G) (k : ℕ) (gs : List (List G)) (state : A) (f : Fault)
+    → goes_on s k gs state (Err f) ≡ (state, Err f)
+goes-refused s k [] state f = refl
+goes-refused s k (next ∷ more) state f = refl
+
+-- where an interval can't be read, nor can the rest
+rest-refused : {A G : Type 0} (s : Loop A G) (k : ℕ) (items : List G) (gs : List (List G)) (state : A)
+    (bytes : List ℕ) (f : Fault) → end_of_one s items state bytes ≡ Err f
+    → s.all k items gs state bytes ≡ ((s.one items state bytes).0, Err f)
+rest-refused s k items gs state bytes f h =
+    first-goes s k items gs state bytes
+    ∙ ap (goes_on s k gs (s.one items state bytes).0) h
+    ∙ goes-refused s k gs (s.one items state bytes).0 f
+
+group-goes : {A G : Type 0} (s : Loop A G) (n k : ℕ) (items left : List G) (state now : A) (bytes : List ℕ)
+    (o : Outcome (Bool × Option Marker)) → left ≡ after_group n items
+    → now ≡ (s.one (first_group n items) state bytes).0
+    → end_of_one s (first_group n items) state bytes ≡ o
+    → s.all k (first_group n items) (other_groups n items) state bytes
+    ≡ goes_on s k (left_groups n left) now o
+group-goes s n k items left state now bytes o is same h =
+    first-goes s k (first_group n items) (other_groups n items) state bytes
+    ∙ ap (λ gs. goes_on s k gs (s.one (first_group n items) state bytes).0
+    (s.one (first_group n items) state bytes).1)
+    (others-left n items ∙ ap (left_groups n) (sym is))
+    ∙ ap (λ a. goes_on s k (left_groups n left) a (s.one (first_group n items) state bytes).1)
+    (sym same)
+    ∙ ap (goes_on s k (left_groups n left) now) h
+
+-- ---- restart markers
+
+same-restart : (k : ℕ) (m : Marker) → is_restart (k % 8) (Some m) ≡ is_restart k (Some m)
+same-restart k (markers.RST n) = ap (λ r. n == r) (omega arith)
+same-restart k (markers.SOF n) = refl
+same-restart k (markers.JPG) = refl
+same-restart k (markers.DHT) = refl
+same-restart k (markers.DAC) = refl
+same-restart k (markers.SOI) = refl
+same-restart k (markers.EOI) = refl
+same-restart k (markers.SOS) = refl
+same-restart k (markers.DQT) = refl
+same-restart k (markers.DNL) = refl
+same-restart k (markers.DRI) = refl
+same-restart k (markers.DHP) = refl
+same-restart k (markers.EXP) = refl
+same-restart k (markers.APP n) = refl
+same-restart k (markers.JPGn n) = refl
+same-restart k (markers.COM) = refl
+same-restart k (markers.TEM) = refl
+same-restart k (markers.RES) = refl
+
+pub numbered : (k number : ℕ) (m : Marker) → number ≡ k % 8 → is_restart number (Some m) ≡ is_restart k (Some m)
+numbered k number m is = ap (λ (n : ℕ). is_restart n (Some m)) is ∙ same-restart k m
+
+-- the next interval is reached, where the marker before it stands there
+abbrev goes_if : {A G : Type 0} → Loop A G → ℕ → List G → List (List G) → A → List ℕ → Bool → Reaches A
+goes_if {A} s k next more state bytes b =
+    elim (if◌then◌else◌ {A = Result (List ℕ) Fault} b (Ok bytes) (Err Malformed)) as (λ _. Reaches A) [
+      | Ok rest ↦ s.all (suc k) next more state rest
+      | Err fault ↦ (state, Err fault)
+    ]
+
+more-goes : {A G : Type 0} (s : Loop A G) (n k : ℕ) (items : List G) (state : A) (near : Bool) (m : Marker)
+    (bytes : List ℕ) → 0 < length items → near ≡ true → is_restart k (Some m) ≡ true
+    → goes_on s k (left_groups n items) state (Ok ((near, Some m), bytes))
+    ≡ s.all (suc k) (first_group n items) (other_groups n items) state bytes
+more-goes s n k [] state near m bytes some e f = absurd (omega arith)
+more-goes s n k (x ∷ xs) state near m bytes some e f =
+    ap (goes_if s k (first_group n (x ∷ xs)) (other_groups n (x ∷ xs)) state bytes)
+    (ap₂ (λ (a b : Bool). a && b) e f)
+
+-- ---- a loop over the intervals
+
+abbrev pub whole_of : {A G : Type 0} → Loop A G → ℕ → List G → A → List ℕ → Reaches A
+whole_of s n items state bytes = s.all 0 (first_group n items) (other_groups n items) state bytes
+
+-- From old, some intervals have been reached, after the last of which a marker was met; these items are left.
+abbrev pub Runs : {A G : Type 0} → (List ℕ → Reaches A) → Loop A G → ℕ → Stream → ℕ → Bool × Marker → List G → A
+    → Stream → Type 0
+Runs whole s n old number end items state cur =
+    (k : ℕ) × (number ≡ k % 8) × (cur.failed ≡ old.failed) × (old.known ≡ true → (cur.known ≡ true)
+    × (whole old.bytes ≡ goes_on s k (left_groups n items) state (Ok ((end.0, Some end.1), cur.bytes))))
+
+pub runs-first : {A G : Type 0} (s : Loop A G) (n : ℕ) (items left : List G) (state now : A) (old new : Stream)
+    (end : Bool × Marker) → left ≡ after_group n items
+    → OnTold {X = Bool × Marker} old new (Ok end)
+    (now ≡ (s.one (first_group n items) state old.bytes).0)
+    → Answers {X = Bool × Marker} shown (end_of_one s (first_group n items) state) old (Ok end) new
+    → Runs (whole_of s n items state) s n old 0 end left now new
+runs-first s n items left state now old new end is same a = (
+  0,
+  refl,
+  a.0,
+  λ k. (
+    (a.1 k).0,
+    group-goes s n 0 items left state now old.bytes (Ok ((end.0, Some end.1), new.bytes)) is (same k) (a.1 k).1,
+  ),
+)
+
+pub runs-next : {A G : Type 0} (whole : List ℕ → Reaches A) (s : Loop A G) (n number next : ℕ) (items left : List G)
+    (state now : A) (old cur new : Stream) (end after : Bool × Marker) → 0 < length items → end.0 ≡ true
+    → is_restart number (Some end.1) ≡ true → next ≡ (number + 1) % 8
+    → Runs whole s n old number end items state cur → left ≡ after_group n items
+    → OnTold {X = Bool × Marker} cur new (Ok after)
+    (now ≡ (s.one (first_group n items) state cur.bytes).0)
+    → Answers {X = Bool × Marker} shown (end_of_one s (first_group n items) state) cur (Ok after) new
+    → Runs whole s n old next after left now new
+runs-next whole s n number next items left state now old cur new end after some near restart counts r is same a =
+    let number_is = r.1 in (
+      suc r.0,
+      (let e : next ≡ suc r.0 % 8 = omega (arith, number_is, counts) in e),
+      a.0 ∙ r.2,
+      λ k.
+          let here = r.3 k in
+          let there = a.1 here.0 in (
+            there.0,
+            here.1
+                ∙ more-goes s n r.0 items state end.0 end.1 cur.bytes some near
+                (sym (numbered r.0 number end.1 number_is) ∙ restart)
+                ∙ group-goes s n (suc r.0) items left state now cur.bytes
+                (Ok ((after.0, Some after.1), new.bytes)) is
+                (same here.0) there.1,
+          ),
+    )
+
+-- ---- refusals
+
+if-apply : (e : Error) (A B : Type 0) → IfRefused e (A → B) → IfRefused e A → IfRefused e B
+if-apply (errors.Format t) A B f h = f h
+if-apply (errors.Unsupported t) A B f h = f h
+if-apply (errors.Io t) A B f h = f h
+if-apply (errors.Internal t) A B f h = f h
+if-apply errors.OutOfMemory A B f h = tt
+
+abbrev pub end_of : {A : Type 0} → (List ℕ → Reaches A) → List ℕ → Outcome (Option Marker)
+end_of whole bytes = (whole bytes).1
+
+-- an interval can't be read, from which the whole goes on
+refused-answers : {A G : Type 0} (whole rest : List ℕ → Reaches A) (s : Loop A G) (group : List G) (state : A)
+    (old cur new : Stream) (e : Error)
+    → ((f : Fault) → end_of_one s group state cur.bytes ≡ Err f → (rest cur.bytes).1 ≡ Err f)
+    → Continues (end_of whole) old (end_of rest) cur
+    → Answers {X = Bool × Marker} shown (end_of_one s group state) cur (Err e) new
+    → Answers {X = Option Marker} (λ m. m) (end_of whole) old (Err e) new
+refused-answers whole rest s group state old cur new e through c a =
+    Continues-err {X = Option Marker} {Z = Bool × Marker} (λ m. m) shown (end_of whole) (end_of rest)
+    (end_of_one s group state) old cur new e through c a
+
+pub first-refused-answers : {A G : Type 0} (s : Loop A G) (n : ℕ) (items : List G) (state : A)
+    (old new : Stream) (e : Error)
+    → Answers {X = Bool × Marker} shown (end_of_one s (first_group n items) state) old (Err e) new
+    → Answers {X = Option Marker} (λ m. m) (end_of (whole_of s n items state)) old (Err e) new
+first-refused-answers {A} s n items state old new e a =
+    refused-answers (whole_of s n items state) (whole_of s n items state) s (first_group n items)
+    state old old new e
+    (λ f h. ap (λ (r : Reaches A). r.1)
+    (rest-refused s 0 (first_group n items) (other_groups n items) state old.bytes f h))
+    (refl, λ k. (k, refl)) a
+
+pub first-refused-state : {A G : Type 0} (s : Loop A G) (n : ℕ) (items : List G) (state now : A)
+    (old new : Stream) (e : Error)
+    → Answers {X = Bool × Marker} shown (end_of_one s (first_group n items) state) old (Err e) new
+    → OnTold {X = Bool × Marker} old new (Err e)
+    (now ≡ (s.one (first_group n items) state old.bytes).0)
+    → OnTold {X = Option Marker} old new (Err e) (now ≡ (whole_of s n items state old.bytes).0)
+first-refused-state {A} s n items state now old new e a same = λ k l.
+    let P = now ≡ (s.one (first_group n items) state old.bytes).0 in
+    let Q = now ≡ (whole_of s n items state old.bytes).0 in
+    if-apply e P Q
+    (told-err e (end_of_one s (first_group n items) state old.bytes) (P → Q) (a.1 k l)
+    (λ f h is. is ∙ sym (ap (λ (r : Reaches A). r.0)
+    (rest-refused s 0 (first_group n items) (other_groups n items) state old.bytes f h))))
+    (same k l)
+
+-- from where the next interval begins
+next-continues : {A G : Type 0} (whole : List ℕ → Reaches A) (s : Loop A G) (n number : ℕ) (items : List G)
+    (state : A) (old cur : Stream) (end : Bool × Marker) → 0 < length items → end.0 ≡ true
+    → is_restart number (Some end.1) ≡ true → (r : Runs whole s n old number end items state cur)
+    → old.known ≡ true → (cur.known ≡ true) × (whole old.bytes
+    ≡ s.all (suc r.0) (first_group n items) (other_groups n items) state cur.bytes)
+next-continues whole s n number items state old cur end some near restart r = λ k.
+    let here = r.3 k in (
+      here.0,
+      here.1 ∙ more-goes s n r.0 items state end.0 end.1 cur.bytes some near
+          (sym (numbered r.0 number end.1 r.1) ∙ restart),
+    )
+
+pub next-refused-answers : {A G : Type 0} (whole : List ℕ → Reaches A) (s : Loop A G) (n number : ℕ) (items : List G)
+    (state : A) (old cur new : Stream) (end : Bool × Marker) (e : Error) → 0 < length items → end.0 ≡ true
+    → is_restart number (Some end.1) ≡ true → Runs whole s n old number end items state cur
+    → Answers {X = Bool × Marker} shown (end_of_one s (first_group n items) state) cur (Err e) new
+    → Answers {X = Option Marker} (λ m. m) (end_of whole) old (Err e) new
+next-refused-answers {A} whole s n number items state old cur new end e some near restart r a =
+    let rest = λ (bs : List ℕ).
+    s.all (suc r.0) (first_group n items) (other_groups n items) state bs in
+    let goes = next-continues whole s n number items state old cur end some near restart r in
+    refused-answers whole rest s (first_group n items) state old cur new e
+    (λ f h. ap (λ (r : Reaches A). r.1)
+    (rest-refused s (suc r.0) (first_group n items) (other_groups n items) state cur.bytes f h))
+    (r.2, λ k. ((goes k).0, ap (λ (r : Reaches A). r.1) (goes k).1)) a
+
+pub next-refused-state : {A G : Type 0} (whole : List ℕ → Reaches A) (s : Loop A G) (n number : ℕ) (items : List G)
+    (state now : A) (old cur new : Stream) (end : Bool × Marker) (e : Error) → 0 < length items → end.0 ≡ true
+    → is_restart number (Some end.1) ≡ true → Runs whole s n old number end items state cur
+    → Answers {X = Bool × Marker} shown (end_of_one s (first_group n items) state) cur (Err e) new
+    → OnTold {X = Bool × Marker} cur new (Err e)
+    (now ≡ (s.one (first_group n items) state cur.bytes).0)
+    → OnTold {X = Option Marker} old new (Err e) (now ≡ (whole old.bytes).0)
+next-refused-state {A} whole s n number items state now old cur new end e some near restart r a same = λ k l.
+    let here = next-continues whole s n number items state old cur end some near restart r k in
+    let P = now ≡ (s.one (first_group n items) state cur.bytes).0 in
+    let Q = now ≡ (whole old.bytes).0 in
+    if-apply e P Q
+    (told-err e (end_of_one s (first_group n items) state cur.bytes) (P → Q) (a.1 here.0 l)
+    (λ f h is. is ∙ sym (ap (λ (r : Reaches A). r.0) (here.1
+    ∙ rest-refused s (suc r.0) (first_group n items) (other_groups n items) state cur.bytes f h))))
+    (same here.0 l)
+
+-- ---- another marker stands there
+
+and-broken : (near restart : Bool) → near ≡ false ⊎ restart ≡ false → (near && restart) ≡ false
+and-broken near restart (inl e) = ap (λ (b : Bool). b && restart) e
+and-broken true restart (inr e) = e
+and-broken false restart (inr e) = refl
+
+broken-goes : {A G : Type 0} (s : Loop A G) (n k : ℕ) (items : List G) (state : A) (near : Bool) (m : Marker)
+    (bytes : List ℕ) → 0 < length items → (near && is_restart k (Some m)) ≡ false
+    → goes_on s k (left_groups n items) state (Ok ((near, Some m), bytes)) ≡ (state, Err Malformed)
+broken-goes s n k [] state near m bytes some e = absurd (omega arith)
+broken-goes s n k (x ∷ xs) state near m bytes some e =
+    ap (goes_if s k (first_group n (x ∷ xs)) (other_groups n (x ∷ xs)) state bytes) e
+
+pub broken-answers : {A G : Type 0} (whole : List ℕ → Reaches A) (s : Loop A G) (n number : ℕ) (items : List G)
+    (state : A) (old cur : Stream) (end : Bool × Marker) (e : Error) → 0 < length items
+    → Runs whole s n old number end items state cur
+    → end.0 ≡ false ⊎ is_restart number (Some end.1) ≡ false → NamesFormat e
+    → Answers {X = Option Marker} (λ m. m) (end_of whole) old (Err e) cur
+broken-answers {A} whole s n number items state old cur end e some r broken f =
+    let other : end.0 ≡ false ⊎ is_restart r.0 (Some end.1) ≡ false
+    = subst (λ (b : Bool). end.0 ≡ false ⊎ b ≡ false) (numbered r.0 number end.1 r.1) broken in
+    let refused = λ (k : old.known ≡ true). ap (λ (x : Reaches A). x.1) ((r.3 k).1
+    ∙ broken-goes s n r.0 items state end.0 end.1 cur.bytes some
+    (and-broken end.0 (is_restart r.0 (Some end.1)) other)) in (
+      named-may-fail {Y = Unit {0}} e (Err Malformed) old.failed cur.failed r.2
+          (format-refuses {Y = Unit {0}} e (Err Malformed) f refl).1,
+      λ k l. (format-refuses e (end_of whole old.bytes) f (refused k)).1,
+      λ k l. still_known e cur.failed (r.3 k).0 l,
+    )
+
+-- ---- nothing is left
+
+last-goes : {A G : Type 0} (s : Loop A G) (n k : ℕ) (items : List G) (state : A)
+    (o : Outcome (Bool × Option Marker)) → items ≡ []
+    → goes_on s k (left_groups n items) state o ≡ (state, o >>= after_intervals)
+last-goes s n k items state o is = ap (λ l. goes_on s k (left_groups n l) state o) is
+
+pub passed-answers : {A G : Type 0} (whole : List ℕ → Reaches A) (s : Loop A G) (n number : ℕ)
+    (items : List G) (state : A) (old cur new : Stream) (end : Bool × Marker)
+    (r : Result (Option Marker) Error) → items ≡ [] → end.0 ≡ true → Runs whole s n old number end items state cur
+    → Answers {X = Option Marker} (λ m. m) (after_all (Some end.1)) cur r new
+    → Answers {X = Option Marker} (λ m. m) (end_of whole) old r new
+unfolding after_all
+passed-answers {A} whole s n number items state old cur new end r is near runs a =
+    continued-answers (λ m. m) (end_of whole) (after_all (Some end.1)) old cur new r (
+      runs.2,
+      λ k. (
+        (runs.3 k).0,
+        ap (λ (r : Reaches A). r.1) ((runs.3 k).1
+            ∙ last-goes s n runs.0 items state (Ok ((end.0, Some end.1), cur.bytes)) is)
+            ∙ ap (λ (b : Bool). after_intervals ((b, Some end.1), cur.bytes)) near,
+      ),
+    ) a

@@ -1,0 +1,194 @@
+-- A scan of blocks as far as it goes: what is found after it, by what is reached of its blocks; and
+-- the blocks that are taken for a scan, and put back.
+use Rattle.std.proofs.Common.{◌≡◌, ◌*◌, Bool, true, false, ℕ, List, length, map, Option, Result, Ok, Err}
+use Rattle.std.proofs.Common.{refl, ap, arith}
+use Rattle.std.specs.Prelude.{option_map}
+use Rattle.std.specs.List.{AllByRecursion}
+use Rattle.std.proofs.lemmas.Grind.{common_steps}
+use Rattle.std.proofs.lemmas.List.{length-map}
+use Rattle.jpeg_bits.specs.Stream.{Stream}
+use Rattle.jpeg_bits.specs.Passes.{Pass}
+use Rattle.jpeg_bits.specs.Reading.{Answers, Outcome}
+use Rattle.jpeg_bits.specs.declared.error.Error.{Error}
+use Rattle.jpeg_bits.specs.declared.error.Error.TheVariants as errors
+use Rattle.jpeg_bits.specs.declared.marker.Marker.{Marker}
+use Rattle.jpeg_segments.specs.Frame.{Frame}
+use Rattle.jpeg_streams.specs.Brought.{scan_reached}
+use Rattle.jpeg_streams.specs.Found.{Found}
+use Rattle.jpeg_streams.specs.InTurn.{AreArrays}
+use Rattle.jpeg_streams.specs.Order.{spots_of, mcu_size}
+use Rattle.jpeg_streams.specs.Scans.{Arrays}
+use Rattle.jpeg_streams.specs.ScanSegments.{arrays_before, blocks_after, components_of, is_progressive}
+use Rattle.jpeg_streams.specs.ScanSegments.{once_scanned, put_arrays, vias_from, with_arrays, Coding}
+use Rattle.jpeg_streams.specs.States.{IfRefused, OnTold}
+use Rattle.jpeg_streams.specs.WholeRows.{rows_above, rows_of_codings, unread_of_scan}
+use Rattle.jpeg_streams.proofs.Order.Apart.{zeros-sized}
+use Rattle.jpeg_streams.proofs.Order.McuRows.{arrays-sized, kept-sized}
+use Rattle.jpeg_decoder.specs.declared.scan.coded.Coded.{Coded}
+use Rattle.jpeg_decoder.specs.declared.scan.decoded.Decoded.{Decoded}
+use Rattle.jpeg_decoder.specs.PlanesView.{planes_in}
+use Rattle.jpeg_decoder.specs.Reaching.{data_reached, kept_after, UnlessRefused}
+use Rattle.jpeg_decoder.specs.Scanning.{arrays_in, scan_components, scan_vias, sizes_of, BlockScan}
+use Rattle.jpeg_decoder.specs.Steps.{blocks_at, blocks_before, coding_in, with_decoded, without_blocks}
+use Rattle.jpeg_decoder.specs.Steps.{AreRising, IsCodingOf}
+use Rattle.jpeg_decoder.proofs.Kept.BlockArrays.{Held}
+use Rattle.jpeg_decoder.proofs.Scans.PlacedCodings.{coded-indices}
+use Rattle.jpeg_decoder.proofs.Scans.ScanData.{arrays-by-sizes, kept-kept, of-frame, rising-codings, same-found}
+use Rattle.jpeg_decoder.proofs.Kept.TakenBlocks.{put-back}
+
+-- ---- calls that ran out of memory, or not
+
+pub if-refused : {P : Type 0} (e : Error) → P → IfRefused e P
+if-refused (errors.Format text) p = p
+if-refused (errors.Unsupported feature) p = p
+if-refused (errors.Io e) p = p
+if-refused (errors.Internal text) p = p
+if-refused errors.OutOfMemory p = tt
+
+pub if-refused-as : {P Q : Type 0} (e : Error) → (P → Q) → IfRefused e P → IfRefused e Q
+if-refused-as (errors.Format text) h p = h p
+if-refused-as (errors.Unsupported feature) h p = h p
+if-refused-as (errors.Io e) h p = h p
+if-refused-as (errors.Internal text) h p = h p
+if-refused-as errors.OutOfMemory h p = tt
+
+pub unless : {X P : Type 0} (r : Result X Error) → P → UnlessRefused r P
+unless (Ok x) p = p
+unless (Err e) p = if-refused e p
+
+pub on-told : {X P Q : Type 0} (old new : Stream) (r : Result X Error) → (P → Q) → OnTold old new r P
+    → OnTold old new r Q
+on-told old new (Ok x) h p = λ k. h (p k)
+on-told old new (Err e) h p = λ k l. if-refused-as e h (p k l)
+
+-- a call answered by another reading of the same bytes
+pub answers-by : {X Y : Type 0} (v : X → Y) (f g : List ℕ → Outcome Y) (old new : Stream)
+    (r : Result X Error) → f old.bytes ≡ g old.bytes → Answers v f old r new → Answers v g old r new
+answers-by v f g old new (Ok x) e p = grind (arith, common_steps)
+answers-by v f g old new (Err e) is p = grind (arith, common_steps)
+
+-- ---- what is found
+
+-- what is reached of the blocks of a scan
+abbrev pub reached_at : Found → Frame → Pass → List Coding → List ℕ → Arrays × Outcome (Option Marker)
+reached_at f frame p codings bytes =
+    scan_reached p (f.said.restart * mcu_size (components_of codings)) (vias_from 0 codings)
+    (spots_of frame (components_of codings)) (blocks_at codings (arrays_before f frame)) bytes
+
+-- what the code reaches of the blocks of a scan
+abbrev reached_by : BlockScan → Frame → Arrays → List ℕ → Arrays × Outcome (Option Marker)
+reached_by scan frame arrays bytes =
+    scan_reached scan.pass (scan.restart_interval * mcu_size (scan_components scan)) (scan_vias scan)
+    (spots_of frame (scan_components scan)) arrays bytes
+
+pub reached-as : (f : Found) (frame : Frame) (scan : BlockScan) (arrays : Arrays) (bytes : List ℕ)
+    → scan.restart_interval ≡ f.said.restart → arrays ≡ blocks_at scan.codings (arrays_before f frame)
+    → reached_by scan frame arrays bytes ≡ reached_at f frame scan.pass scan.codings bytes
+reached-as f frame scan arrays bytes n is = grind (arith, common_steps)
+
+-- the marker after the scan, or the fault, as the code reads it
+pub reached-answers : (f : Found) (frame : Frame) (scan : BlockScan) (arrays : Arrays) (old new : Stream)
+    (r : Result (Option Marker) Error) → scan.restart_interval ≡ f.said.restart
+    → arrays ≡ blocks_at scan.codings (arrays_before f frame)
+    → Answers (λ (m : Option Marker). m) (λ bytes. (reached_by scan frame arrays bytes).1) old r new
+    → UnlessRefused r (Answers (λ (m : Option Marker). m)
+    (λ bytes. (data_reached f frame scan.pass scan.codings bytes).1) old r new)
+unfolding data_reached
+reached-answers f frame scan arrays old new r n is h =
+    unless r (answers-by (λ (m : Option Marker). m) (λ bytes. (reached_by scan frame arrays bytes).1)
+    (λ bytes. (data_reached f frame scan.pass scan.codings bytes).1) old new r
+    (ap (λ (r : Arrays × Outcome (Option Marker)). r.1) (reached-as f frame scan arrays old.bytes n is)) h)
+
+-- the complete rows of the picture, as the code counts them
+pub rows-as : (f : Found) (frame : Frame) (scan : BlockScan) (arrays : Arrays) (bytes : List ℕ)
+    → scan.restart_interval ≡ f.said.restart
+    → arrays ≡ blocks_at scan.codings (arrays_before f frame)
+    → option_map (rows_above frame (scan_components scan)) (unread_of_scan scan.pass
+    (scan.restart_interval * mcu_size (scan_components scan)) (scan_vias scan)
+    (spots_of frame (scan_components scan)) arrays bytes)
+    ≡ rows_of_codings f frame scan.pass scan.codings bytes
+unfolding rows_of_codings
+rows-as f frame scan arrays bytes n is = grind (arith, common_steps)
+
+data-found : (f : Found) (frame : Frame) (p : Pass) (codings : List Coding) (bytes : List ℕ)
+    → (data_reached f frame p codings bytes).0 ≡ with_arrays p codings (reached_at f frame p codings bytes).0
+    (record (once_scanned f) { kept = blocks_after f frame codings (reached_at f frame p codings bytes).0 })
+unfolding data_reached
+data-found f frame p codings bytes = refl
+
+-- What is found, of what is reached and added, and of the blocks that are kept.
+pub reached-found : (f : Found) (frame : Frame) (p : Pass) (codings : List Coding) (arrays : Arrays)
+    (bytes : List ℕ) (one two : Decoded) (kept : Arrays)
+    → ((base : Found) → with_decoded base two ≡ with_arrays p codings arrays (with_decoded base one))
+    → one.finished ≡ f.finished → one.planes ≡ f.planes → planes_in one.samples ≡ f.samples
+    → kept ≡ blocks_after f frame codings arrays
+    → arrays ≡ (reached_at f frame p codings bytes).0
+    → ◌≡◌ {A = Found} (record (once_scanned f) {
+      kept = kept;
+      finished = two.finished;
+      planes = two.planes;
+      samples = planes_in two.samples;
+    }) (data_reached f frame p codings bytes).0
+reached-found f frame p codings arrays bytes one two kept added fin pl sa h is =
+    let same = same-found f one kept fin pl sa in
+    let after = added (once_scanned f) in
+    let away = kept-kept p codings arrays (with_decoded (once_scanned f) one) kept in
+    grind (arith, common_steps, data-found)
+
+-- ---- the blocks that are taken, and put back
+
+-- the blocks that are taken are those of the components
+pub taken-sized : (frame : Frame) (codings : List Coding) (seen : List Coded) (kept taken : List Held) (before : Arrays)
+    → map coding_in seen ≡ codings → arrays_in kept ≡ before → arrays_in taken ≡ blocks_at (map coding_in seen)
+    (arrays_in kept) → AllByRecursion (IsCodingOf frame) codings
+    → AreArrays frame.components before → (arrays_in taken ≡ blocks_at codings before)
+    × AreArrays (components_of codings) (arrays_in taken)
+taken-sized frame codings seen kept taken before d e t of h =
+    grind (arith, common_steps, taken, arrays-sized, of-frame)
+
+-- the blocks that are kept afterwards
+pub put-all : (frame : Frame) (codings : List Coding) (seen : List Coded) (kept left taken arrays put : List Held) (before : Arrays)
+    → map coding_in seen ≡ codings → arrays_in kept ≡ before
+    → arrays_in taken ≡ blocks_at (map coding_in seen) (arrays_in kept)
+    → arrays_in left ≡ without_blocks (map coding_in seen) (arrays_in kept) → sizes_of arrays ≡ sizes_of taken
+    → arrays_in put ≡ put_arrays (map coding_in seen) (arrays_in arrays) (arrays_in left)
+    → AllByRecursion (IsCodingOf frame) codings → AreRising codings
+    → AreArrays frame.components before
+    → (arrays_in put ≡ put_arrays codings (arrays_in arrays) before)
+    × AreArrays frame.components (arrays_in put)
+put-all frame codings seen kept left taken arrays put before d k t l s h of rising whole =
+    let sized = taken-sized frame codings seen kept taken before d k t of whole in
+    let long : length arrays ≡ length codings = grind (arith, common_steps, length-map) in
+    let is : arrays_in put ≡ put_arrays codings (arrays_in arrays) before
+    = grind (arith, common_steps, put-back, coded-indices, rising-codings, length-map) in
+    grind (arith, common_steps, arrays-by-sizes, kept-sized, of-frame)
+
+-- those of a progressive frame; of a sequential one none
+pub kept-all : (is_kept : Bool) (frame : Frame) (codings : List Coding) (seen : List Coded)
+    (kept left taken arrays put : List Held) (before : Arrays)
+    → map coding_in seen ≡ codings → arrays_in kept ≡ before
+    → arrays_in taken ≡ blocks_at (map coding_in seen) (arrays_in kept)
+    → arrays_in left ≡ without_blocks (map coding_in seen) (arrays_in kept) → sizes_of arrays ≡ sizes_of taken
+    → arrays_in put ≡ kept_after is_kept (map coding_in seen) (arrays_in arrays) (arrays_in left)
+    → AllByRecursion (IsCodingOf frame) codings → AreRising codings
+    → AreArrays frame.components before
+    → (arrays_in put ≡ kept_after is_kept codings (arrays_in arrays) before)
+    × (is_kept ≡ true → AreArrays frame.components (arrays_in put))
+kept-all true frame codings seen kept left taken arrays put before d k t l s h of rising whole =
+    let all = put-all frame codings seen kept left taken arrays put before d k t l s h of rising whole in
+    (all.0, λ _. all.1)
+kept-all false frame codings seen kept left taken arrays put before d k t l s h of rising whole =
+    (h, λ e. absurd (false-true e))
+  where
+    false-true : false ≡ true → ⊥
+    false-true e = cc
+
+pub whole-after : (d : Decoded) (frame : Frame)
+    → (is_progressive frame.process ≡ true → AreArrays frame.components (arrays_in d.kept.items))
+    → AreArrays frame.components (blocks_before true d frame)
+whole-after d frame h = by-process (is_progressive frame.process) refl
+  where
+    by-process : (b : Bool) → is_progressive frame.process ≡ b
+        → AreArrays frame.components (blocks_before true d frame)
+    by-process true e = grind (arith, common_steps)
+    by-process false e = grind (arith, common_steps, zeros-sized)

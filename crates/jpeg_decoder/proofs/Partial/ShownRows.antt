@@ -1,0 +1,80 @@
+-- The complete rows of what is shown.
+use Rattle.std.proofs.Common.{◌≡◌, ◌∙◌, ℕ, List, Option, Some, None, Result, Ok, Err, ap, refl, sym, true, false}
+use Rattle.std.specs.Prelude.{IfOk, is_some, option_map, unwrap_or}
+use Rattle.std.proofs.lemmas.Result.{IfOk-weaker}
+use Rattle.jpeg_bits.specs.Reading.{Answers, Fault}
+use Rattle.jpeg_bits.specs.Stream.{Stream}
+use Rattle.jpeg_bits.specs.declared.error.Error.{Error}
+use Rattle.jpeg_segments.specs.Frame.{Frame}
+use Rattle.jpeg_streams.specs.Brought.{all_brought}
+use Rattle.jpeg_streams.specs.Found.{Found, nothing_found}
+use Rattle.jpeg_streams.specs.Shown.{fault_in, planes_by}
+use Rattle.jpeg_streams.specs.States.{OnTold}
+use Rattle.jpeg_streams.specs.Stream.{start_at}
+use Rattle.jpeg_streams.specs.WholeRows.{rows_of_found, rows_of_frame, whole_rows, whole_rows_rest}
+use Rattle.jpeg_decoder.specs.Reaching.{NamesFault, is_out_of_memory, without_tables}
+use Rattle.jpeg_decoder.specs.Shows.{CountsRows}
+use Rattle.jpeg_decoder.proofs.Partial.BroughtLoops.{all_rows}
+use Rattle.jpeg_decoder.proofs.Partial.ShownFaults.{planes-tables, told-holds}
+
+-- ---- what was found
+
+-- all rows, or none, by whether a component is missing
+abbrev rows_by : Option ℕ → Frame → Result (List (List ℕ)) Fault → ℕ
+rows_by rows frame o = elim o as (λ _. ℕ) [ Ok planes ↦ unwrap_or rows frame.output_height | Err fault ↦ 0 ]
+
+by-missing : (rows : Option ℕ) (frame : Frame) (o : Result (List (List ℕ)) Fault) (missing : Option Error) (n : ℕ)
+    → NamesFault missing (fault_in o) → (is_some missing ≡ false → n ≡ unwrap_or rows frame.output_height)
+    → (is_some missing ≡ true → n ≡ 0) → n ≡ rows_by rows frame o
+by-missing rows frame (Ok planes) None n names all none = all refl
+by-missing rows frame (Ok planes) (Some e) n names all none = absurd names
+by-missing rows frame (Err fault) None n names all none = absurd names
+by-missing rows frame (Err fault) (Some e) n names all none = none refl
+
+pub found-counted : (rows : Option ℕ) (found : Found) (frame : Frame) (missing : Option Error) (n : ℕ)
+    → found.said.frame ≡ Some frame → NamesFault missing (fault_in (planes_by frame.process found frame))
+    → (is_some missing ≡ false → n ≡ unwrap_or rows frame.output_height) → (is_some missing ≡ true → n ≡ 0)
+    → n ≡ rows_of_found rows found
+found-counted rows found frame missing n framed names all none =
+    by-missing rows frame (planes_by frame.process found frame) missing n names all none
+    ∙ sym (ap (λ (o : Option Frame). unwrap_or (option_map (rows_of_frame rows found) o) 0) framed)
+
+-- ---- tables are not seen
+
+found-tables : (rows : Option ℕ) (f : Found) → rows_of_found rows (without_tables f) ≡ rows_of_found rows f
+found-tables rows f = go f.said.frame
+  where
+    go : (o : Option Frame) → unwrap_or (option_map (rows_of_frame rows (without_tables f)) o) 0
+        ≡ unwrap_or (option_map (rows_of_frame rows f) o) 0
+    go None = refl
+    go (Some frame) = ap (rows_by rows frame) (planes-tables frame.process f frame)
+
+found-same : (rows : Option ℕ) (f g : Found) → without_tables f ≡ without_tables g
+    → rows_of_found rows f ≡ rows_of_found rows g
+found-same rows f g e =
+    sym (found-tables rows f) ∙ ap (rows_of_found rows) e ∙ found-tables rows g
+
+-- ---- the rest of a stream, and a whole one
+
+pub rest-counted : {X : Type 0} (rows_of : X → ℕ) (old f g : Found) (s n : Stream) (ended : Result (Unit {0}) Error)
+    (rows : Option ℕ) (r : Result X Error) → is_out_of_memory ended ≡ false
+    → OnTold s n ended (without_tables f ≡ without_tables (all_brought old s.bytes).0)
+    → OnTold s n ended (rows ≡ all_rows old s.bytes) → g ≡ f
+    → IfOk r (λ x. rows_of x ≡ rows_of_found rows g) → CountsRows rows_of (whole_rows_rest old) s r n
+unfolding whole_rows_rest
+rest-counted rows_of old f g s n ended rows r m found counted same h = λ k l.
+    let all = (all_brought old s.bytes).0 in
+    IfOk-weaker r _ _ (λ x is. is ∙ ap (rows_of_found rows) same
+    ∙ found-same rows f all (told-holds s n ended _ m found k l)
+    ∙ ap (λ (rows : Option ℕ). rows_of_found rows all) (told-holds s n ended _ m counted k l)) h
+
+started : (bytes rest : List ℕ) → start_at bytes ≡ Ok (tt, rest) → whole_rows bytes ≡ whole_rows_rest nothing_found rest
+unfolding whole_rows
+started bytes rest e = rw (e, whole_rows) refl
+
+pub start-counted : {X : Type 0} (rows_of : X → ℕ) (old : Found) (s m n : Stream) (r : Result X Error)
+    → old ≡ nothing_found → Answers (λ (u : Unit {0}). u) start_at s (Ok tt) m
+    → CountsRows rows_of (whole_rows_rest old) m r n → CountsRows rows_of whole_rows s r n
+start-counted rows_of old s m n r same a h = λ k l.
+    IfOk-weaker r _ _ (λ x is. is ∙ ap (λ (f : Found). whole_rows_rest f m.bytes) same
+    ∙ sym (started s.bytes m.bytes (a.1 k).1)) (h (a.1 k).0 l)

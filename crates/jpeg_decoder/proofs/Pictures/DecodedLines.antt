@@ -1,0 +1,283 @@
+-- Calls that read the header of a stream where it is to be read, and then the rest of it.
+use Rattle.std.proofs.Common.{rules}
+use Rattle.std.proofs.Common.{◌≡◌, ◌++◌, [], None, replicate, ℕ, suc, List, Result, Ok, Err, true, false, refl, sym, ap, ◌∙◌, subst, length, take}
+use Rattle.std.proofs.lemmas.Bool.{false≢true, true≢false}
+use Rattle.std.proofs.Math.Seq.{take-append_seam}
+use Rattle.jpeg_bits.specs.Reading.{Answers, MayFail, Names, Outcome}
+use Rattle.jpeg_bits.specs.Stream.{Stream}
+use Rattle.jpeg_bits.specs.declared.error.Error.{Error}
+use Rattle.jpeg_bits.specs.declared.error.Error.TheVariants as errors
+use Rattle.jpeg_streams.specs.declared.settings.Settings.{Settings}
+use Rattle.jpeg_streams.specs.Reported.{IsOfTurns, told_in_turns}
+use Rattle.jpeg_streams.specs.declared.progress.Progress.{Progress}
+use Rattle.jpeg_streams.specs.declared.progress.Progress.TheVariants.{Failed, Finished, Fresh, HeaderRead}
+use Rattle.jpeg_streams.specs.Found.{Found}
+use Rattle.jpeg_streams.specs.States.{IfRefused, IsInternal, IsReading, OnTold}
+use Rattle.jpeg_streams.specs.States.{Decoding, MovesToEnd, MovesToHeader, ahead, told_ahead, turns_ahead}
+use Rattle.jpeg_streams.specs.Stream.{Told, header_at, rest_at, told_of}
+use Rattle.jpeg_streams.proofs.Refusals.{told-err, told-through}
+use Rattle.jpeg_decoder.specs.Decodes.{Decodes}
+use Rattle.jpeg_decoder.proofs.Pictures.DecodedImages.{decodes-images}
+use Rattle.jpeg_decoder.proofs.Lossless.DecodedSamples.{decodes-samples}
+use Rattle.jpeg_decoder.proofs.Segments.HeaderThenRest.{header-lacks, header-means, header-told, header-told_lacking}
+use Rattle.jpeg_decoder.proofs.Segments.HeaderThenRest.{header-turns, header-turns_lacking}
+use Rattle.jpeg_decoder.proofs.Scans.ScanData.{answers-err}
+
+-- No blocks, planes or samples are kept.
+abbrev pub IsEmptied : Found → Type 0
+IsEmptied found =
+    (found.kept ≡ []) × (found.planes ≡ replicate 4 None) × (found.samples ≡ replicate 4 None)
+
+-- ---- one reading after another
+
+answers-then : {X Y Z : Type 0} (view : X → Z) (y : Y) (first : List ℕ → Outcome Y) (next whole : List ℕ → Outcome Z)
+    (old mid new : Stream) (r : Result X Error)
+    → ((rest : List ℕ) → first old.bytes ≡ Ok (y, rest) → whole old.bytes ≡ next rest)
+    → Answers (λ (u : Unit {0}). y) first old (Ok tt) mid → Answers view next mid r new → Answers view whole old r new
+answers-then view y first next whole old mid new (Ok x) means a h = (
+  h.0 ∙ a.0,
+  λ k.
+      let p = a.1 k in
+      let q = h.1 p.0 in
+      (q.0, means mid.bytes p.1 ∙ q.1),
+)
+answers-then view y first next whole old mid new (Err e) means a h = (
+  subst (λ b. MayFail e b new.failed) a.0 h.0,
+  (λ k l. let p = a.1 k in subst (Names e) (sym (means mid.bytes p.1)) (h.1 p.0 l)),
+  (λ k l. h.2 (a.1 k).0 l),
+)
+
+-- ---- where the header is read
+
+-- What a call says that has read the rest of a stream.
+pub record RestRead {X : Type 0} (bytes_of : X → List ℕ) (told : Told) (mid : Decoding) (r : Result X Error)
+    (new : Stream) : Type 0 where
+  pub reads : Answers (λ x. (told, bytes_of x)) (rest_at mid.settings mid.found) mid.source r new
+  pub tells : OnTold mid.source new r (told ≡ told_in_turns (suc (length mid.source.bytes)) false mid.found mid.source.bytes)
+  pub turns : mid.source.known ≡ true → IsOfTurns (λ n. told_in_turns n false mid.found mid.source.bytes) told
+
+-- What a call says that has read what its source has left.
+pub record HasRead {X : Type 0} (bytes_of : X → List ℕ) (told : Told) (old : Decoding) (r : Result X Error)
+    (new : Stream) : Type 0 where
+  pub reads : IsReading old.stage
+      → Answers (λ x. (told, bytes_of x)) (ahead old.stage old.settings old.found) old.source r new
+  pub told_is : IsReading old.stage
+      → OnTold old.source new r (told ≡ told_ahead false old.stage old.found old.source.bytes)
+  pub turns : IsReading old.stage → old.source.known ≡ true
+      → IsOfTurns (λ n. turns_ahead n false old.stage old.found old.source.bytes) told
+
+none-read : {X : Type 0} (bytes_of : X → List ℕ) (told : Told) (old : Decoding) (r : Result X Error) (new : Stream)
+    → (IsReading old.stage → ⊥) → HasRead bytes_of told old r new
+none-read bytes_of told old r new n = search rules
+
+-- What was done before the rest was read: the header, where it was to be read.
+pub record IsBegun (old mid : Decoding) : Type 0 where
+  pub fresh : old.stage ≡ Fresh → Answers (λ (u : Unit {0}). mid.found) header_at old.source (Ok tt) mid.source
+  pub still : (old.stage ≡ Fresh → ⊥) → mid ≡ old
+  pub settings : mid.settings ≡ old.settings
+
+pub begun-seen : (old mid seen : Decoding) → seen ≡ mid
+    → (old.stage ≡ Fresh → Answers (λ (u : Unit {0}). mid.found) header_at old.source (Ok tt) mid.source)
+    → ((old.stage ≡ Fresh → ⊥) → mid ≡ old) → mid.settings ≡ old.settings → IsBegun old seen
+begun-seen old mid seen e fresh still settings = search rules
+
+other-stage : HeaderRead ≡ Fresh → ⊥
+other-stage e = let n : ⊥ = cc in n
+
+pub into-at : {X : Type 0} (bytes_of : X → List ℕ) (told : Told) (stage : Progress) (old mid : Decoding) (new : Stream)
+    (r : Result X Error) → IsBegun (record old { stage = stage }) mid → RestRead bytes_of told mid r new
+    → HasRead bytes_of told (record old { stage = stage }) r new
+into-at {X} bytes_of told Fresh old mid new r b h =
+    let header = b.fresh refl in
+    record {
+      reads = λ _. answers-then (λ x. (told, bytes_of x)) mid.found header_at (rest_at old.settings mid.found)
+          (ahead Fresh old.settings old.found) old.source mid.source new r
+          (λ rest e. header-means old.settings mid.found old.source.bytes rest e) header
+          (subst (λ (s : Settings). Answers (λ (x : X). (told, bytes_of x)) (rest_at s mid.found) mid.source r new)
+          b.settings h.reads);
+      told_is = λ _. told-through {X = X} old.source mid.source new r _ _ (λ k.
+          let at = header.1 k in
+          (at.0, λ p. p ∙ sym (header-told mid.found old.source.bytes mid.source.bytes at.1))) h.tells;
+      turns = λ _ k.
+          let at = header.1 k in
+          header-turns mid.found old.source.bytes mid.source.bytes told at.1 (h.turns at.0);
+    }
+into-at bytes_of told HeaderRead old mid new r b h =
+    let same = subst (λ (d : Decoding). RestRead bytes_of told d r new) (b.still other-stage) h in
+    record { reads = λ _. same.reads; told_is = λ _. same.tells; turns = λ _. same.turns }
+into-at bytes_of told _ old mid new r b h = none-read bytes_of told _ r new (λ n. n)
+
+-- ---- where the header is refused
+
+refused-and : (e : Error) (P Q R : Type 0) → (P → Q → R) → IfRefused e P → IfRefused e Q → IfRefused e R
+refused-and errors.OutOfMemory P Q R f p q = tt
+refused-and _ _ _ _ f p q = f p q
+
+-- What a call says that was to read the header, and was refused.
+pub record IsUnbegun (old new : Decoding) (e : Error) : Type 0 where
+  pub stage : IsReading old.stage → MovesToHeader {X = Unit {0}} old.stage new.stage (Err e)
+  pub ended : (IsReading old.stage → ⊥) → IsInternal e
+  pub reads : old.stage ≡ Fresh → Answers (λ (u : Unit {0}). new.found) header_at old.source (Err e) new.source
+  pub tells : old.stage ≡ Fresh → OnTold {X = Unit {0}} old.source new.source (Err e)
+      (told_of new.found.said ≡ told_ahead true old.stage old.found old.source.bytes)
+  pub turns : old.stage ≡ Fresh → old.source.known ≡ true
+      → IsOfTurns (λ n. turns_ahead n true old.stage old.found old.source.bytes) (told_of new.found.said)
+  pub still : (old.stage ≡ Fresh → ⊥) → new ≡ old
+  pub emptied : old.stage ≡ Fresh → IsEmptied new.found
+
+-- only a fresh decoder's is
+refused-at : {X : Type 0} (bytes_of : X → List ℕ) (stage : Progress) (old new : Decoding) (e : Error)
+    → IsUnbegun (record old { stage = stage }) new e
+    → HasRead bytes_of (told_of new.found.said) (record old { stage = stage }) (Err e) new.source
+refused-at bytes_of Fresh old new e h = record {
+  reads = λ _. answers-err (λ (u : Unit {0}). new.found) (λ x. (told_of new.found.said, bytes_of x)) header_at
+      (ahead Fresh old.settings old.found) old.source new.source e
+      (λ fault is. header-lacks old.settings old.source.bytes fault is) (h.reads refl);
+  told_is = λ _ k l. refused-and e _ _ _ (λ p q. p ∙ q) (h.tells refl k l)
+      (told-err e (header_at old.source.bytes) _ ((h.reads refl).1 k l)
+      (λ fault is. header-told_lacking old.source.bytes fault is));
+  turns = λ _ k. header-turns_lacking old.source.bytes _ (h.turns refl k);
+}
+refused-at bytes_of HeaderRead old new e h = absurd (false≢true (h.stage tt).1)
+refused-at bytes_of _ old new e h = none-read bytes_of _ _ _ _ (λ n. n)
+
+refused-stage : (X : Type 0) (stage : Progress) (old new : Decoding) (e : Error)
+    → IsUnbegun (record old { stage = stage }) new e → MovesToEnd {X = X} stage new.stage (Err e)
+refused-stage X Fresh old new e h = h.stage tt
+refused-stage X HeaderRead old new e h = absurd (false≢true (h.stage tt).1)
+refused-stage X Finished old new e h =
+    (ap (λ (d : Decoding). d.stage) (h.still (λ k. let n : ⊥ = cc in n)), h.ended (λ n. n))
+refused-stage X Failed old new e h =
+    (ap (λ (d : Decoding). d.stage) (h.still (λ k. let n : ⊥ = cc in n)), h.ended (λ n. n))
+
+refused-emptied : (stage : Progress) (old new : Decoding) (e : Error)
+    → IsUnbegun (record old { stage = stage }) new e → IsReading stage → IsEmptied new.found
+refused-emptied Fresh old new e h k = h.emptied refl
+refused-emptied HeaderRead old new e h k = absurd (false≢true (h.stage tt).1)
+refused-emptied _ old new e h k = absurd k
+
+-- ---- all that a call says that decodes
+
+-- What was read, the state after it, and that nothing is kept.
+pub decodes : {X : Type 0} (bytes_of : X → List ℕ) (old new : Decoding) (r : Result X Error)
+    → MovesToEnd old.stage new.stage r → HasRead bytes_of (told_of new.found.said) old r new.source
+    → (IsReading old.stage → IsEmptied new.found) → Decodes bytes_of old r new
+decodes bytes_of old new r stage read emptied = record {
+  stage = stage;
+  reads = read.reads;
+  images = decodes-images bytes_of old new r read.reads;
+  samples = decodes-samples bytes_of old new r read.reads;
+  told = read.told_is;
+  turns = read.turns;
+  emptied = emptied;
+}
+
+-- where the header is refused
+pub decodes-unbegun : {X : Type 0} (bytes_of : X → List ℕ) (old new : Decoding) (e : Error)
+    → IsUnbegun old new e → Decodes bytes_of old (Err e) new
+decodes-unbegun bytes_of old new e h =
+    decodes bytes_of old new (Err e) (refused-stage _ old.stage old new e h) (refused-at bytes_of old.stage old new e h)
+    (refused-emptied old.stage old new e h)
+
+-- where the rest is read
+pub decodes-rest : {X : Type 0} (bytes_of : X → List ℕ) (old mid new : Decoding) (r : Result X Error) → IsBegun old mid
+    → MovesToEnd old.stage new.stage r → RestRead bytes_of (told_of new.found.said) mid r new.source
+    → IsEmptied new.found → Decodes bytes_of old r new
+decodes-rest bytes_of old mid new r b stage read emptied =
+    decodes bytes_of old new r stage (into-at bytes_of _ old.stage old mid new.source r b read) (λ _. emptied)
+
+-- ---- calls that do more with what is decoded
+
+-- where the header was read already
+begun-stage : {X : Type 0} (stage new : Progress) (r : Result X Error) → IsReading stage → MovesToEnd HeaderRead new r
+    → MovesToEnd stage new r
+begun-stage Fresh new (Ok x) k h = h
+begun-stage Fresh new (Err e) k h = h
+begun-stage HeaderRead new r k h = h
+begun-stage _ new r k h = absurd k
+
+begun-rest : {X : Type 0} (bytes_of : X → List ℕ) (mid new : Decoding) (r : Result X Error)
+    → Decodes bytes_of (record mid { stage = HeaderRead }) r new
+    → RestRead bytes_of (told_of new.found.said) mid r new.source
+begun-rest bytes_of mid new r d = record { reads = d.reads tt; tells = d.told tt; turns = d.turns tt }
+
+pub decodes-begun : {X : Type 0} (bytes_of : X → List ℕ) (old mid new : Decoding) (r : Result X Error)
+    → IsReading old.stage → IsBegun old mid → mid.stage ≡ HeaderRead → Decodes bytes_of mid r new
+    → Decodes bytes_of old r new
+decodes-begun {X} bytes_of old mid new r k b e d =
+    let at = subst (λ (s : Progress). Decodes bytes_of (record mid { stage = s }) r new) e d in
+    decodes-rest bytes_of old mid new r b (begun-stage old.stage new.stage r k at.stage)
+    (begun-rest bytes_of mid new r at) (at.emptied tt)
+
+-- the same bytes, seen otherwise
+same-stage : {X Y : Type 0} (old new : Progress) (x : X) (y : Y) → MovesToEnd old new (Ok x) → MovesToEnd old new (Ok y)
+same-stage Fresh new x y h = h
+same-stage HeaderRead new x y h = h
+same-stage Finished new x y h = h
+same-stage Failed new x y h = h
+
+pub decodes-as : {X Y : Type 0} (bytes_of : X → List ℕ) (seen_as : Y → List ℕ) (old new : Decoding) (x : X) (y : Y)
+    → seen_as y ≡ bytes_of x → Decodes bytes_of old (Ok x) new → Decodes seen_as old (Ok y) new
+decodes-as bytes_of seen_as old new x y same d =
+    decodes seen_as old new (Ok y) (same-stage old.stage new.stage x y d.stage) (record {
+      reads = λ k.
+          let a = d.reads k in (
+            a.0,
+            λ l. (
+              (a.1 l).0,
+              (a.1 l).1 ∙ ap (λ (b : List ℕ). Ok ((told_of new.found.said, b), new.source.bytes)) (sym same),
+            ),
+          );
+      told_is = d.told;
+      turns = d.turns;
+    }) d.emptied
+
+err-stage : (X Y : Type 0) (old new : Progress) (e : Error) → MovesToEnd {X = X} old new (Err e)
+    → MovesToEnd {X = Y} old new (Err e)
+err-stage X Y Fresh new e h = h
+err-stage X Y HeaderRead new e h = h
+err-stage X Y Finished new e h = h
+err-stage X Y Failed new e h = h
+
+pub decodes-err : {X Y : Type 0} (bytes_of : X → List ℕ) (seen_as : Y → List ℕ) (old new : Decoding) (e : Error)
+    → Decodes bytes_of old (Err e) new → Decodes seen_as old (Err e) new
+decodes-err bytes_of seen_as old new e d =
+    decodes seen_as old new (Err e) (err-stage _ _ old.stage new.stage e d.stage)
+    (record { reads = d.reads; told_is = d.told; turns = d.turns }) d.emptied
+
+-- An image was left to decode.
+pub decoded-reading : {X : Type 0} (old new : Progress) (x : X) → MovesToEnd old new (Ok x) → IsReading old
+decoded-reading Fresh new x h = tt
+decoded-reading HeaderRead new x h = tt
+decoded-reading Finished new x h = absurd h.1
+decoded-reading Failed new x h = absurd h.1
+
+-- no memory is left for what was decoded
+pub lost-stage : {X : Type 0} (Y : Type 0) (old new : Progress) (x : X) → MovesToEnd old new (Ok x)
+    → MovesToEnd {X = Y} old Failed (Err errors.OutOfMemory)
+lost-stage Y Fresh new x h = (refl, tt)
+lost-stage Y HeaderRead new x h = (refl, tt)
+lost-stage Y Finished new x h = absurd h.1
+lost-stage Y Failed new x h = absurd h.1
+
+pub decodes-lost : {X Y : Type 0} (bytes_of : X → List ℕ) (seen_as : Y → List ℕ) (old mid new : Decoding) (x : X)
+    (e : Error) → e ≡ errors.OutOfMemory → new ≡ record mid { stage = Failed } → Decodes bytes_of old (Ok x) mid
+    → Decodes seen_as old (Err e) new
+decodes-lost {Y = Y} bytes_of seen_as old mid new x e is made d =
+    subst (λ (e : Error). Decodes seen_as old (Err e) new) (sym is)
+    (subst (λ (new : Decoding). Decodes {X = Y} seen_as old (Err errors.OutOfMemory) new) (sym made)
+    (decodes seen_as old (record mid { stage = Failed }) (Err errors.OutOfMemory)
+    (lost-stage Y old.stage mid.stage x d.stage) (record {
+      reads = λ k.
+          let a = d.reads k in (
+            a.0,
+            (λ l m. tt),
+            λ l m. absurd (true≢false (sym (a.1 l).0 ∙ m)),
+          );
+      told_is = λ k l m. tt;
+      turns = d.turns;
+    }) d.emptied))
+
+-- the front of the caller's memory
+pub front-of : (n : ℕ) (ys more : List ℕ) → length ys ≡ n → take n (ys ++ more) ≡ ys
+front-of n ys more h = ap (λ (k : ℕ). take k (ys ++ more)) (sym h) ∙ take-append_seam ys more

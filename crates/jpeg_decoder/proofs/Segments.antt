@@ -1,0 +1,8 @@
+-- The segments of a stream, turn by turn, its header, and what may stand after a scan.
+pub mod PassedRestarts
+pub mod Turns
+pub mod TurnLoops
+pub mod Headers
+pub mod HeaderThenRest
+pub mod ScaledHeaders
+pub mod ReplacedTables

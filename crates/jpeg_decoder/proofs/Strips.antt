@@ -1,0 +1,11 @@
+-- Rows of MCUs of a sequential scan, and the strips of planes that they give.
+pub mod StoredRows
+pub mod StripRows
+pub mod RowBuffers
+pub mod ByStrips
+pub mod StripSteps
+pub mod StripScans
+pub mod JointDecided
+pub mod KeptStrips
+pub mod JointStrips
+pub mod JointAdded

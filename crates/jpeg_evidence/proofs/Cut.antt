@@ -1,0 +1,24 @@
+-- What is shown of a writer's stream that is cut.
+pub mod UnreadScans
+pub mod EarlyEnds
+pub mod NamedFaults
+pub mod WrittenCuts
+pub mod StandingBlocks
+pub mod ReachedFirst
+pub mod FirstWritten
+pub mod SentCuts
+pub mod CutFrames
+pub mod CutWalks
+pub mod CutScans
+pub mod CutPictures
+pub mod CutLater
+pub mod CutBlocks
+pub mod CutEnds
+pub mod CutFronts
+pub mod CutRows
+pub mod CutHeld
+pub mod CutSplits
+pub mod CutShown
+pub mod CutTaken
+pub mod WholeShown
+pub mod AllRows

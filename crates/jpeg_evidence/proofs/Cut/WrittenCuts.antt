@@ -1,0 +1,324 @@
+-- The data of a scan that were written are reached without a fault.
+use Rattle.std.proofs.Common.{◌≡◌, ◌+◌, ◌-◌, ◌%◌, ◌<◌, ℕ, suc, Bool, true, false, List, [], ◌∷◌, ◌++◌, length, map}
+use Rattle.std.proofs.Common.{refl, sym, ap, ap₂, ◌∙◌, subst, arith, Ok, Err, Result, Option, Some, append_assoc, ℤ}
+use Rattle.std.proofs.Common.{set}
+use Rattle.std.specs.Prelude.{nat_le}
+use Rattle.std.specs.List.{AllByRecursion}
+use Rattle.std.proofs.lemmas.Bool.{eq-eqb}
+use Rattle.std.proofs.lemmas.Bool.Decides.{nat_tests}
+use Rattle.std.proofs.lemmas.Simd.{map-map}
+use Rattle.jpeg_bits.specs.Reading.{End, Fault, Outcome}
+use Rattle.jpeg_bits.specs.Reading as outcomes
+use Rattle.jpeg_bits.specs.Entropy.{Broken, Ending, Found, Text, text_at}
+use Rattle.jpeg_bits.specs.Intervals.{end_after, first_group, interval, met, other_groups}
+use Rattle.jpeg_bits.specs.Marker.{marker_of}
+use Rattle.jpeg_bits.specs.Passes.{Block, Pass, Via, blocks_of, predictors_at_start}
+use Rattle.jpeg_bits.specs.Readers.{Reads, ReadsJust, read_on, text}
+use Rattle.jpeg_bits.specs.Written.{IsMarker, WritesInterval, WritesIntervals, marker}
+use Rattle.jpeg_bits.specs.Written.WritesIntervals.{last, another}
+use Rattle.jpeg_bits.specs.declared.marker.Marker.{Marker}
+use Rattle.jpeg_bits.specs.declared.marker.Marker.TheVariants.{EOI, RST}
+use Rattle.jpeg_bits.proofs.ReadIntervals.{all-map}
+use Rattle.jpeg_bits.proofs.WrittenBits.{takes-gives}
+use Rattle.jpeg_bits.proofs.WrittenIntervals.{all-groups, first-map, marker-append, others-map, reads-interval}
+use Rattle.jpeg_segments.proofs.Codecs.{bind-ok, err-ok, ok-same}
+use Rattle.jpeg_streams.specs.Brought.{after_interval, after_intervals, interval_end, interval_reached}
+use Rattle.jpeg_streams.specs.Brought.{intervals_reached, reached_from, scan_reached, sealed}
+use Rattle.jpeg_streams.specs.InTurn.{AreApart, IsIn, Reached, at_start, turn_from, turns_from}
+use Rattle.jpeg_streams.specs.Order.{Spot}
+use Rattle.jpeg_streams.specs.Scans.{Arrays, block_at, put_blocks, turns_of, via_at}
+use Rattle.jpeg_streams.specs.ScanSegments.{after_restarts}
+use Rattle.jpeg_streams.specs.WrittenData.{WritesBlocks}
+use Rattle.jpeg_streams.specs.WrittenData.WritesBlocks.{block, done}
+use Rattle.jpeg_streams.proofs.Order.CountedScans.{all_of, apart-back, apart-between, apart-front, arrays_in, in-back}
+use Rattle.jpeg_streams.proofs.Order.CountedScans.{in-front, in-turn, others-kept, put_in}
+use Rattle.jpeg_streams.proofs.Partial.ReachedIntervals.{after_turn, next_reached}
+use Rattle.jpeg_streams.proofs.Written.SentBlocks.{Suits, after_pass, numbers_of, reads_of}
+use Rattle.jpeg_streams.proofs.Written.WrittenBlocks.{IsReady, Predicts, takes-next}
+use Rattle.jpeg_streams.proofs.Written.WrittenFrameScans.{IsReadyAt, all-in, reads-arrays, start-predicts, turn_with}
+use Rattle.jpeg_evidence.specs.FirstBlocks.{WritesFirst}
+use Rattle.jpeg_evidence.specs.FirstBlocks.WritesFirst.{next_block, no_more}
+use Rattle.jpeg_evidence.proofs.Longer.LongerBlocks.{reached_are_read}
+use Rattle.jpeg_evidence.proofs.Longer.LongerData.{Met}
+use Rattle.jpeg_evidence.proofs.Taken.TakenBits.{none-is}
+
+-- ---- an interval
+
+-- blocks of the bits alone, before the end that follows them
+abbrev pub restored : Ending → Result (Arrays × Text) Fault → Result (Arrays × Text) Fault
+restored e (Ok r) = Ok (r.0, record r.1 { ending = e })
+restored e (Err f) = Err f
+
+abbrev pub sealed_read : Pass → List Via → List Spot → Arrays → Reads Arrays
+sealed_read p vias spots arrays t =
+    restored t.ending (arrays_in (turns_from p vias spots (at_start arrays) (sealed t)))
+
+-- the arrays after written blocks
+abbrev pub after_blocks : Pass → (Spot → Block) → List Spot → Arrays → Arrays
+after_blocks p u spots arrays = put_blocks spots (map (λ s. after_pass p (block_at arrays s) (u s)) spots) arrays
+
+-- The first blocks of an interval are read as all are.
+takes-first : (p : Pass) (turns : List (Via × Block × Block)) (predictors : List ℤ) (run : ℕ) (bits : List Bool)
+    → Predicts predictors → AllByRecursion (IsReady p) turns → WritesFirst p predictors run (numbers_of turns) bits
+    → ReadsJust (blocks_of p predictors run (reads_of turns)) bits (map (λ t. after_pass p t.1 t.2) turns)
+unfolding blocks_of
+takes-first p [] predictors run bits predict ready (no_more preds run') = takes-gives []
+takes-first p (t ∷ turns) predictors run bits predict ready
+    (next_block preds run' after via u turns' dc ac more next wd wa w) =
+    takes-next p t turns predictors next run after dc ac more predict ready.0 wd wa
+    (λ range. takes-first p turns (set predictors t.0.component next) after more range ready.1 w)
+
+pub first-read : (p : Pass) (vias : List Via) (spots : List Spot) (arrays : Arrays) (u : Spot → Block) (bits : List Bool)
+    → AllByRecursion (IsReadyAt p vias arrays u) spots
+    → WritesFirst p predictors_at_start 0 (turns_of vias spots u) bits
+    → ReadsJust (blocks_of p predictors_at_start 0 (turns_of vias spots (block_at arrays))) bits
+    (map (λ s. after_pass p (block_at arrays s) (u s)) spots)
+unfolding turns_of
+first-read p vias spots arrays u bits ready w =
+    rw (map-map, map-map) at (takes-first p (map (turn_with vias arrays u) spots) predictors_at_start 0 bits
+    start-predicts
+    (all-map (IsReadyAt p vias arrays u) (IsReady p) (turn_with vias arrays u) spots (λ s is. is.at) ready)
+    (rw (map-map) w))
+
+-- all of them are the first
+all-first : (p : Pass) (predictors : List ℤ) (run : ℕ) (turns : List (Via × Block)) (bits : List Bool)
+    → WritesBlocks p predictors run turns bits → WritesFirst p predictors run turns bits
+all-first p predictors run [] bits (done preds) = no_more predictors 0
+all-first p predictors run (t ∷ turns) bits (block preds run' after via u more dc ac left next wd wa w) =
+    next_block predictors run after via u turns dc ac left next wd wa
+    (all-first p (set predictors via.component next) after turns left w)
+
+pub takes-sealed : (p : Pass) (vias : List Via) (spots : List Spot) (arrays : Arrays) (u : Spot → Block) (bits : List Bool)
+    → AreApart spots → AllByRecursion (IsReadyAt p vias arrays u) spots
+    → WritesBlocks p predictors_at_start 0 (turns_of vias spots u) bits
+    → ReadsJust (sealed_read p vias spots arrays) bits (after_blocks p u spots arrays)
+takes-sealed p vias spots arrays u bits apart ready w = record {
+  read = λ rest following e. ap (restored e)
+      (in-turn p vias spots arrays predictors_at_start 0 (text (bits ++ rest) following (Broken End)) apart
+      ∙ ap (put_in spots arrays)
+      ((first-read p vias spots arrays u bits ready (all-first p predictors_at_start 0 _ bits w)).read rest following
+      (Broken End)));
+}
+
+-- blocks that are all read are reached
+pub turns-reached : (p : Pass) (vias : List Via) (spots : List Spot) (old : Reached) (t : Text) (r : Reached × Text)
+    → turns_from p vias spots old t ≡ Ok r → reached_from p vias spots old t ≡ (r.0, Ok r.1.bits)
+unfolding turns_from reached_from
+turns-reached p vias [] old t r e = ap (λ (q : Reached × Text). (q.0, Ok q.1.bits)) (ok-same (old, t) r e)
+turns-reached p vias (s ∷ spots) old t r e = go (turn_from p vias s old t) e
+    (λ x y h. turns-reached p vias spots x y r h)
+  where
+    go : (o : Result (Reached × Text) Fault) → read_on (turns_from p vias spots) o ≡ Ok r
+        → ((x : Reached) (y : Text) → turns_from p vias spots x y ≡ Ok r
+        → reached_from p vias spots x y ≡ (r.0, Ok r.1.bits))
+        → after_turn p vias spots old o ≡ (r.0, Ok r.1.bits)
+    go (Ok q) h more = more q.0 q.1 h
+    go (Err g) h more = absurd (err-ok g r h)
+
+abbrev Read : Type 0
+Read = Outcome (Arrays × Option Marker)
+
+-- with the end that is met
+abbrev ended_with : Arrays → Option Marker × List ℕ → Read
+ended_with arrays n = Ok ((arrays, n.0), n.1)
+
+abbrev tested_with : Bool → Option Marker × List ℕ → Met
+tested_with b n = Ok ((b, n.0), n.1)
+
+some-marker : (e : Ending) (arrays x : Arrays) (m : Marker) (rest : List ℕ)
+    → outcomes.◌>>=◌ (met e) (ended_with arrays) ≡ Ok ((x, Some m), rest)
+    → (arrays ≡ x) × (met e ≡ Ok (Some m, rest))
+some-marker (Broken f) arrays x m rest h = absurd (err-ok f _ h)
+some-marker (Found n others) arrays x m rest h =
+    let s = ok-same ((arrays, Some n), others) ((x, Some m), rest) h in (
+      ap (λ (y : (Arrays × Option Marker) × List ℕ). y.0.0) s,
+      ap (λ (y : (Arrays × Option Marker) × List ℕ). Ok (y.0.1, y.1)) s,
+    )
+
+end-so : (k : ℕ) (bytes : List ℕ) (left : List Bool) (e : Ending) (arrays x : Arrays) (m : Marker) (rest : List ℕ)
+    (small : Bool) → nat_le (length left) 56 ≡ small
+    → outcomes.◌>>=◌ (end_after k bytes left e) (ended_with arrays)
+    ≡ Ok ((x, Some m), rest)
+    → (arrays ≡ x) × (nat_le (length left) 56 ≡ true) × (met e ≡ Ok (Some m, rest))
+unfolding end_after
+end-so k bytes left e arrays x m rest true s h =
+    let q = some-marker e arrays x m rest (rw (s, end_after) at h) in (q.0, s, q.1)
+end-so k bytes left e arrays x m rest false s h =
+    absurd (none-is m (ap (λ (y : (Arrays × Option Marker) × List ℕ). y.0.1)
+    (ok-same _ ((x, Some m), rest) (rw (s, end_after) at h))))
+
+-- blocks that are read of bits alone are reached
+pub read-reached : (p : Pass) (vias : List Via) (spots : List Spot) (arrays : Arrays) (t : Text) (r : Arrays × Text)
+    → sealed_read p vias spots arrays t ≡ Ok r
+    → ((reached_from p vias spots (at_start arrays) (sealed t)).0.arrays ≡ r.0)
+    × ((reached_from p vias spots (at_start arrays) (sealed t)).1 ≡ Ok r.1.bits)
+read-reached p vias spots arrays t r h = go (turns_from p vias spots (at_start arrays) (sealed t)) refl h
+  where
+    go : (o : Result (Reached × Text) Fault) → turns_from p vias spots (at_start arrays) (sealed t) ≡ o
+        → restored t.ending (arrays_in o) ≡ Ok r
+        → ((reached_from p vias spots (at_start arrays) (sealed t)).0.arrays ≡ r.0)
+        × ((reached_from p vias spots (at_start arrays) (sealed t)).1 ≡ Ok r.1.bits)
+    go (Err g) a e = absurd (err-ok g r e)
+    go (Ok q) a e =
+        let is = turns-reached p vias spots (at_start arrays) (sealed t) q a in
+        let same = ok-same _ r e in (
+          ap (λ (y : Reached × Result (List Bool) Fault). y.0.arrays) is ∙ ap (λ (y : Arrays × Text). y.0) same,
+          ap (λ (y : Reached × Result (List Bool) Fault). y.1) is ∙ ap (λ (y : Arrays × Text). Ok y.1.bits) same,
+        )
+
+-- An interval of which the bits alone are read up to a marker is reached.
+interval-sealed : (p : Pass) (vias : List Via) (spots : List Spot) (arrays x : Arrays) (bytes rest : List ℕ) (m : Marker)
+    → interval (sealed_read p vias spots arrays) bytes ≡ Ok ((x, Some m), rest)
+    → interval_reached p vias spots arrays bytes ≡ (x, Ok ((true, Some m), rest))
+unfolding interval interval_reached
+interval-sealed p vias spots arrays x bytes rest m h =
+    let t = text_at bytes in
+    let r = bind-ok (sealed_read p vias spots arrays t) _ ((x, Some m), rest) h in
+    let left = r.0.1.bits in
+    let is = read-reached p vias spots arrays t r.0 r.1 in
+    let q = end-so (length t.bits - length left) bytes left t.ending r.0.0 x m rest (nat_le (length left) 56) refl
+    r.2 in
+    ap₂ (λ (a : Arrays) (o : Result (List Bool) Fault). (a, interval_end t.ending o)) is.0 is.1
+    ∙ ap (λ (o : Outcome (Option Marker)). (r.0.0, outcomes.◌>>=◌ o (tested_with (nat_le (length left) 56)))) q.2
+    ∙ ap₂ (λ (y : Arrays) (b : Bool). (y, Ok ((b, Some m), rest))) q.0 q.1
+
+pub interval-written : (p : Pass) (vias : List Via) (spots : List Spot) (arrays : Arrays) (u : Spot → Block) (bytes : List ℕ)
+    (fill code : ℕ) (m : Marker) (rest : List ℕ) → AreApart spots → AllByRecursion (IsReadyAt p vias arrays u) spots
+    → IsMarker code m → WritesInterval (WritesBlocks p predictors_at_start 0 (turns_of vias spots u)) bytes
+    → interval_reached p vias spots arrays (bytes ++ marker fill code rest)
+    ≡ (after_blocks p u spots arrays, Ok ((true, Some m), rest))
+interval-written p vias spots arrays u bytes fill code m rest apart ready is w =
+    interval-sealed p vias spots arrays (after_blocks p u spots arrays) (bytes ++ marker fill code rest) rest m
+    (reads-interval (sealed_read p vias spots arrays) (WritesBlocks p predictors_at_start 0 (turns_of vias spots u))
+    (after_blocks p u spots arrays) (λ bits c. takes-sealed p vias spots arrays u bits apart ready c) bytes fill code m
+    rest is w)
+
+-- ---- a scan
+
+rst : (n : ℕ) → n < 8 → marker_of (0xD0 + n) ≡ Some (RST n)
+unfolding marker_of
+rst n h = grind (arith, nat_tests)
+
+pub rst-marker : (k : ℕ) → IsMarker (0xD0 + k % 8) (RST (k % 8))
+rst-marker k = record { is = rst (k % 8) (omega arith) }
+
+-- where RST k is met, the next interval begins after it
+pub restart-met : (k : ℕ) (rest : List ℕ) → after_interval k ((true, Some (RST (k % 8))), rest) ≡ Ok rest
+restart-met k rest = rw (eq-eqb (k % 8) (k % 8) refl) refl
+
+-- the other blocks stay ready
+pub stays-ready : (p : Pass) (vias : List Via) (spots others : List Spot) (arrays : Arrays) (u : Spot → Block)
+    → AreApart (spots ++ others) → ((s : Spot) → IsIn s (spots ++ others) → IsReadyAt p vias arrays u s) → (s : Spot)
+    → IsIn s others → IsReadyAt p vias (after_blocks p u spots arrays) u s
+stays-ready p vias spots others arrays u apart ready s t =
+    let kept = others-kept spots (map (λ s. after_pass p (block_at arrays s) (u s)) spots) arrays s
+    (λ here. apart-between s spots others apart here t) in
+    let is = (ready s (in-back s spots others t)).at in
+    record {
+      at = record {
+        dc_good = is.dc_good;
+        ac_good = is.ac_good;
+        suits = subst (λ (b : Block). Suits p b (u s)) (sym kept) is.suits;
+      };
+    }
+
+-- after an interval that ends with its restart marker
+pub one-more : (k : ℕ) (r : Arrays × Met) (x : Arrays) (rest : List ℕ)
+    (reached : Arrays → List ℕ → Arrays × Outcome (Option Marker)) → r ≡ (x, Ok ((true, Some (RST (k % 8))), rest))
+    → next_reached reached r.0 (outcomes.◌>>=◌ r.1 (after_interval k)) ≡ reached x rest
+one-more k r x rest reached e =
+    ap (λ (q : Arrays × Met). next_reached reached q.0 (outcomes.◌>>=◌ q.1 (after_interval k))) e
+    ∙ ap (next_reached reached x) (restart-met k rest)
+
+-- Written intervals are reached up to the marker after them.
+pub intervals-written : (p : Pass) (vias : List Via) (u : Spot → Block) (fill code : ℕ) (m : Marker) (rest : List ℕ)
+    (y : Option Marker × List ℕ) → IsMarker code m → after_restarts (suc (length rest)) (Some m) rest ≡ Ok y
+    → (k : ℕ) (spots : List Spot) (groups : List (List Spot)) (arrays : Arrays) (bytes : List ℕ)
+    → AreApart (spots ++ all_of groups)
+    → ((s : Spot) → IsIn s (spots ++ all_of groups) → IsReadyAt p vias arrays u s)
+    → WritesIntervals (WritesBlocks p predictors_at_start 0) k (turns_of vias spots u)
+    (map (λ (g : List Spot). turns_of vias g u) groups) bytes
+    → (intervals_reached p vias k spots groups arrays (bytes ++ marker fill code rest)).1 ≡ Ok y
+unfolding intervals_reached
+intervals-written p vias u fill code m rest y is ends k spots [] arrays bytes apart ready (last k' one bytes' w) =
+    ap (λ (r : Arrays × Met). outcomes.◌>>=◌ r.1 after_intervals)
+    (interval-written p vias spots arrays u bytes fill code m rest (apart-front spots [] apart)
+    (all-in (IsReadyAt p vias arrays u) spots (λ s t. ready s (in-front s spots [] t))) is w)
+    ∙ ends
+intervals-written p vias u fill code m rest y is ends k spots (next ∷ groups) arrays bytes apart ready
+    (another k' fill' one next' more' first after w ws) =
+    let others = all_of (next ∷ groups) in
+    let now = after_blocks p u spots arrays in
+    let left = after ++ marker fill code rest in
+    let parts : (first ++ marker fill' (0xD0 + k % 8) after) ++ marker fill code rest
+    ≡ first ++ marker fill' (0xD0 + k % 8) left
+    = append_assoc first (marker fill' (0xD0 + k % 8) after) (marker fill code rest)
+    ∙ ap (λ (l : List ℕ). first ++ l) (marker-append fill' (0xD0 + k % 8) after (marker fill code rest)) in
+    ap (λ (q : Arrays × Outcome (Option Marker)). q.1)
+    (one-more k (interval_reached p vias spots arrays (bytes ++ marker fill code rest)) now left
+    (intervals_reached p vias (suc k) next groups)
+    (ap (interval_reached p vias spots arrays) parts
+    ∙ interval-written p vias spots arrays u first fill' (0xD0 + k % 8) (RST (k % 8)) left
+    (apart-front spots others apart)
+    (all-in (IsReadyAt p vias arrays u) spots (λ s t. ready s (in-front s spots others t))) (rst-marker k) w))
+    ∙ (intervals-written p vias u fill code m rest y is ends (suc k) next groups now after
+    (apart-back spots others apart)
+    (stays-ready p vias spots others arrays u apart ready) ws)
+
+-- the groups of a scan's turns are the turns of the groups of its spots
+pub groups-are : (vias : List Via) (spots : List Spot) (u : Spot → Block) (n : ℕ)
+    → ◌≡◌ {A = List (Via × Block) × List (List (Via × Block))}
+    (first_group n (turns_of vias spots u), other_groups n (turns_of vias spots u))
+    (turns_of vias (first_group n spots) u, map (λ (g : List Spot). turns_of vias g u) (other_groups n spots))
+unfolding turns_of
+groups-are vias spots u n =
+    let turn : Spot → Via × Block = λ s. (via_at vias s.slot, u s) in
+    ap₂ (λ (one : List (Via × Block)) (more : List (List (Via × Block))). (one, more)) (sym (first-map turn n spots))
+    (sym (others-map turn n spots))
+
+-- the intervals of a scan are those of its groups of spots
+pub groups-coded : (vias : List Via) (spots : List Spot) (u : Spot → Block) (p : Pass) (n : ℕ) (bytes : List ℕ)
+    → WritesIntervals (WritesBlocks p predictors_at_start 0) 0 (first_group n (turns_of vias spots u))
+    (other_groups n (turns_of vias spots u)) bytes
+    → WritesIntervals (WritesBlocks p predictors_at_start 0) 0 (turns_of vias (first_group n spots) u)
+    (map (λ (g : List Spot). turns_of vias g u) (other_groups n spots)) bytes
+groups-coded vias spots u p n bytes w =
+    subst (λ (g : List (Via × Block) × List (List (Via × Block))).
+    WritesIntervals (WritesBlocks p predictors_at_start 0) 0 g.0 g.1 bytes) (groups-are vias spots u n) w
+
+-- A written scan is reached up to the marker after it.
+pub scan-written : (p : Pass) (n : ℕ) (vias : List Via) (u : Spot → Block) (spots : List Spot) (arrays : Arrays)
+    (bytes : List ℕ) (fill code : ℕ) (m : Marker) (rest : List ℕ) (y : Option Marker × List ℕ) → IsMarker code m
+    → after_restarts (suc (length rest)) (Some m) rest ≡ Ok y → AreApart spots
+    → ((s : Spot) → IsIn s spots → IsReadyAt p vias arrays u s)
+    → WritesIntervals (WritesBlocks p predictors_at_start 0) 0 (first_group n (turns_of vias spots u))
+    (other_groups n (turns_of vias spots u)) bytes
+    → (scan_reached p n vias spots arrays (bytes ++ marker fill code rest)).1 ≡ Ok y
+scan-written p n vias u spots arrays bytes fill code m rest y is ends apart ready w =
+    let all = all-groups n spots in
+    intervals-written p vias u fill code m rest y is ends 0 (first_group n spots) (other_groups n spots) arrays bytes
+    (subst AreApart (sym all) apart)
+    (λ s t. ready s (subst (λ (l : List Spot). IsIn s l) all t))
+    (groups-coded vias spots u p n bytes w)
+
+pub eoi_code : marker_of 217 ≡ Some EOI
+unfolding marker_of
+eoi_code = refl
+
+pub eoi_ends : after_restarts 1 (Some EOI) [] ≡ Ok (Some EOI, [])
+unfolding after_restarts
+eoi_ends = refl
+
+-- the arrays after a written scan
+pub whole-reached : (p : Pass) (n : ℕ) (vias : List Via) (u : Spot → Block) (spots : List Spot) (arrays : Arrays)
+    (bytes : List ℕ) → AreApart spots → ((s : Spot) → IsIn s spots → IsReadyAt p vias arrays u s)
+    → WritesIntervals (WritesBlocks p predictors_at_start 0) 0 (first_group n (turns_of vias spots u))
+    (other_groups n (turns_of vias spots u)) bytes
+    → (scan_reached p n vias spots arrays (bytes ++ marker 0 217 [])).0 ≡ after_blocks p u spots arrays
+whole-reached p n vias u spots arrays bytes apart ready w =
+    let is : IsMarker 217 EOI = record { is = eoi_code } in
+    let r = reached_are_read p n vias spots arrays (bytes ++ marker 0 217 []) (Some EOI, []) apart
+    (scan-written p n vias u spots arrays bytes 0 217 EOI [] (Some EOI, []) is eoi_ends apart ready w) in
+    let q = reads-arrays p n vias spots arrays u bytes 0 217 EOI []
+    (all-in (IsReadyAt p vias arrays u) spots (λ s t. ready s t)) is w in
+    ap (λ (y : (Arrays × Option Marker) × List ℕ). y.0.0) (ok-same _ _ (sym r.2 ∙ q))

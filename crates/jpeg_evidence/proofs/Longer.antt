@@ -1,0 +1,10 @@
+-- A longer stream goes on from what a shorter one has brought.
+pub mod FrontReaders
+pub mod LongerBits
+pub mod LongerData
+pub mod LongerScans
+pub mod LongerSegments
+pub mod LongerRows
+pub mod LongerSamples
+pub mod LongerTurns
+pub mod LongerBlocks

@@ -1,0 +1,310 @@
+-- Readers of entropy-coded bits take the same first bits whatever bits come after them; or they break a rule, whatever
+-- comes after the bits, or lack bits.
+use Rattle.std.proofs.Common.{rules, ◌≡◌, ◌⊎◌, inl, inr, ℕ, zero, suc, ◌+◌, ◌<◌, ◌≤◌, Bool, true, false, cond, List}
+use Rattle.std.proofs.Common.{[], ◌∷◌, ◌++◌, length, take, drop, replicate, refl, sym, ap, ◌∙◌, arith, Ok, Err}
+use Rattle.std.proofs.Common.{Option, Some, None, ℤ, slice_index, get_or, if◌then◌else◌, append_assoc, eqb}
+use Rattle.std.proofs.Common.{take-append-drop, length-take, length-append, le_refl, Result, subst}
+use Rattle.std.proofs.lemmas.Bool.{cases_lt, lt-leb}
+use Rattle.std.proofs.lemmas.List.{take-append-le, take-take, drop_at}
+use Rattle.std.specs.Option.{option_map}
+use Rattle.jpeg_bits.specs.Reading.{Fault, End, Malformed}
+use Rattle.jpeg_bits.specs.Entropy.{bits_from, has_bits, number_of, Broken, Ending, Text}
+use Rattle.jpeg_bits.specs.Readers.{Reads, ReadsJust, each, read_on, gives, refused, signed_from, text, ◌>>=◌}
+use Rattle.jpeg_bits.specs.Codes.{Table, begins, code_by, code_from, code_in, code_lengths, code_value, next_16}
+use Rattle.jpeg_bits.specs.Codes.{symbol_from}
+use Rattle.jpeg_bits.specs.Bands.{Band, after_token, difference, first_ac, first_dc, token_at, token_from}
+use Rattle.jpeg_bits.specs.Refinement.{corrected, corrected_by, refined_ac, refined_piece}
+use Rattle.jpeg_bits.specs.Passes.{Block, Pass, band_part, block_from, dc_part}
+use Rattle.jpeg_bits.specs.declared.blocks.tokens.Token.{Token}
+use Rattle.jpeg_bits.specs.declared.blocks.tokens.Token.TheVariants.{Value}
+use Rattle.jpeg_bits.proofs.BufferedBits.{has_enough}
+use Rattle.jpeg_bits.proofs.CodeLemmas.{first_from}
+use Rattle.jpeg_bits.proofs.Tables.{ordered, rising-lengths}
+use Rattle.jpeg_bits.proofs.WrittenBits.{takes-bind, takes-bits, takes-gives}
+use Rattle.jpeg_evidence.proofs.Taken.TakenBits.{none-is, some-is}
+
+-- ---- readers
+
+-- These bits have this fault for a reader, where nothing follows them: a rule is broken before any end; or bits lack,
+-- and the fault is the one that the data end with.
+pub data FaultIn {A : Type 0} (p : Reads A) (bits : List Bool) (g : Fault) : Type 0 where
+  rule : g ≡ Malformed → ((f : Ending) (ps : List (List ℕ)) → p (text bits ps f) ≡ Err Malformed) → FaultIn p bits g
+  short : g ≡ End → ((h : Fault) (ps : List (List ℕ)) → p (text bits ps (Broken h)) ≡ Err h) → FaultIn p bits g
+
+pub fault-read : {A : Type 0} (p : Reads A) (bits : List Bool) (g : Fault) (ps : List (List ℕ)) → FaultIn p bits g
+    → p (text bits ps (Broken End)) ≡ Err g
+fault-read p bits g ps (rule m is) = is (Broken End) ps ∙ ap Err (sym m)
+fault-read p bits g ps (short m is) = is End ps ∙ ap Err (sym m)
+
+-- What is read of these bits: some first ones, whatever comes after them; or a fault where nothing does.
+pub data Front {A : Type 0} (p : Reads A) (bits : List Bool) : Type 0 where
+  gave : (own left : List Bool) (x : A) → bits ≡ own ++ left → ReadsJust p own x → Front p bits
+  failed : (g : Fault) → FaultIn p bits g → Front p bits
+
+-- what is read of bits that begin with the reader's own
+pub own-read : {A : Type 0} (p : Reads A) (own left bits : List Bool) (x : A) (ps : List (List ℕ)) (e : Ending)
+    → bits ≡ own ++ left → ReadsJust p own x → p (text bits ps e) ≡ Ok (x, text left (drop (length own) ps) e)
+own-read p own left bits x ps e is r = ap (λ (b : List Bool). p (text b ps e)) is ∙ r.read left ps e
+
+pub fault-bind : {A B : Type 0} (p : Reads A) (f : A → Reads B) (bits : List Bool) (g : Fault) → FaultIn p bits g
+    → FaultIn (p >>= f) bits g
+fault-bind p f bits g (rule m is) = rule m (λ e ps. ap (read_on f) (is e ps))
+fault-bind p f bits g (short m is) = short m (λ h ps. ap (read_on f) (is h ps))
+
+pub fault-after : {A B : Type 0} (p : Reads A) (f : A → Reads B) (own left bits : List Bool) (x : A) (g : Fault)
+    → bits ≡ own ++ left → ReadsJust p own x → FaultIn (f x) left g → FaultIn (p >>= f) bits g
+fault-after p f own left bits x g e r (rule m is) =
+    rule m (λ d ps. ap (read_on f) (own-read p own left bits x ps d e r) ∙ is d (drop (length own) ps))
+fault-after p f own left bits x g e r (short m is) =
+    short m (λ h ps. ap (read_on f) (own-read p own left bits x ps (Broken h) e r) ∙ is h (drop (length own) ps))
+
+unfoldable pub TakesFront : {A : Type 0} → Reads A → Type 0
+TakesFront p = (bits : List Bool) → Front p bits
+
+pub err-same : {A : Type 0} (f g : Fault) → ◌≡◌ {A = Result A Fault} (Err f) (Err g) → f ≡ g
+err-same f g e = cc
+
+-- The fault of a reader that reads on, by what is reached after its first part.
+pub bound-fault : {A B : Type 0} (p : Reads A) (f : A → Reads B) (bits : List Bool) (ps : List (List ℕ)) (g : Fault)
+    (after : Result (A × Text) Fault → Result (List Bool) Fault) → Front p bits
+    → ((h : Fault) → after (Err h) ≡ Err h)
+    → ((x : A) (left : List Bool) (qs : List (List ℕ)) → after (Ok (x, text left qs (Broken End))) ≡ Err g
+    → FaultIn (f x) left g)
+    → after (p (text bits ps (Broken End))) ≡ Err g → FaultIn (p >>= f) bits g
+bound-fault p f bits ps g after (failed h is) errs others e =
+    subst (FaultIn (p >>= f) bits) (err-same h g (sym (ap after (fault-read p bits h ps is) ∙ errs h) ∙ e))
+    (fault-bind p f bits h is)
+bound-fault p f bits ps g after (gave own left x are r) errs others e =
+    fault-after p f own left bits x g are r (others x left (drop (length own) ps)
+    (sym (ap after (own-read p own left bits x ps (Broken End) are r)) ∙ e))
+
+then-front : {A B : Type 0} (p : Reads A) (f : A → Reads B) → ((x : A) → TakesFront (f x)) → (bits : List Bool)
+    → Front p bits → Front (p >>= f) bits
+unfolding TakesFront
+then-front {A} {B} p f each bits (failed g is) = failed g (fault-bind p f bits g is)
+then-front {A} {B} p f each bits (gave own left x e r) = go (each x left)
+  where
+    go : Front (f x) left → Front (p >>= f) bits
+    go (failed g is) = failed g (fault-after p f own left bits x g e r is)
+    go (gave next rest y d s) = gave (own ++ next) rest y
+        (e ∙ ap (λ (b : List Bool). own ++ b) d ∙ sym (append_assoc own next rest)) (takes-bind p f own next x y r s)
+
+pub bind-front : {A B : Type 0} (p : Reads A) (f : A → Reads B) → TakesFront p → ((x : A) → TakesFront (f x))
+    → TakesFront (p >>= f)
+unfolding TakesFront
+bind-front p f h each = λ bits. then-front p f each bits (h bits)
+
+pub gives-front : {A : Type 0} (x : A) → TakesFront (gives x)
+unfolding TakesFront
+gives-front x = λ bits. gave [] bits x refl (takes-gives x)
+
+pub refused-front : (A : Type 0) → TakesFront {A = A} refused
+unfolding TakesFront
+refused-front A = λ bits. failed Malformed (rule refl (λ f ps. refl))
+
+pub if-front : {A : Type 0} (b : Bool) (p q : Reads A) → TakesFront p → TakesFront q
+    → TakesFront (if b then p else q)
+if-front b p q x y = grind arith
+
+pub each-front : {A B : Type 0} (read : A → Reads B) (xs : List A) → ((x : A) → TakesFront (read x))
+    → TakesFront (each read xs)
+unfolding each
+each-front read [] h = gives-front []
+each-front read (x ∷ xs) h = search (rules, bind-front, gives-front, each-front read xs h)
+
+-- ---- bits
+
+front-long : (n : ℕ) (bits : List Bool) → n ≤ length bits → length (take n bits) ≡ n
+front-long n bits h = omega (arith, length-take n bits)
+
+-- bits that aren't all there
+too-few : (n : ℕ) (bits : List Bool) (h : Fault) → length bits < n → has_bits n bits (Broken h) ≡ Err h
+too-few n bits h few = rw (lt-leb n (length bits) few) refl
+
+bits-by : (n : ℕ) (bits : List Bool) → (length bits < n) ⊎ (n ≤ length bits) → Front (bits_from n) bits
+unfolding bits_from
+bits-by n bits (inl few) = failed End (short refl (λ h ps. rw (too-few n bits h few) refl))
+bits-by n bits (inr le) = gave (take n bits) (drop n bits) (number_of (take n bits)) (sym (take-append-drop n bits))
+    (takes-bits n (take n bits) (front-long n bits le))
+
+pub bits-front : (n : ℕ) → TakesFront (bits_from n)
+unfolding TakesFront
+bits-front n = λ bits. bits-by n bits (cases_lt (length bits) n)
+
+-- ---- codes
+
+found-within : (test : ℕ → Bool) (a n i : ℕ) → first_from test a n ≡ Some i → (a ≤ i) × (i < a + n)
+found-within test a zero i e = absurd (none-is i e)
+found-within test a (suc n) i e = go (test a) e (λ h. found-within test (a + 1) n i h)
+  where
+    go : (b : Bool) → cond b (Some a) (first_from test (a + 1) n) ≡ Some i
+        → (first_from test (a + 1) n ≡ Some i → (a + 1 ≤ i) × (i < a + 1 + n)) → (a ≤ i) × (i < a + suc n)
+    go true e more = let s = some-is a i e in (omega (arith, s), omega (arith, s))
+    go false e more = let m = more e in (omega (arith, m), omega (arith, m))
+
+-- a test that is the same up to what the first finds finds the same
+same-found : (test other : ℕ → Bool) (a n i : ℕ) → first_from test a n ≡ Some i
+    → ((j : ℕ) → j ≤ i → other j ≡ test j) → first_from other a n ≡ Some i
+same-found test other a zero i e h = absurd (none-is i e)
+same-found test other a (suc n) i e h =
+    let within = found-within test a (suc n) i e in
+    go (test a) (other a) (h a within.0) e (λ k. same-found test other (a + 1) n i k h)
+  where
+    go : (b c : Bool) → c ≡ b → cond b (Some a) (first_from test (a + 1) n) ≡ Some i
+        → (first_from test (a + 1) n ≡ Some i → first_from other (a + 1) n ≡ Some i)
+        → cond c (Some a) (first_from other (a + 1) n) ≡ Some i
+    go b true s e more = rw (← s) at e
+    go b false s e more = more (rw (← s) at e)
+
+-- of the first 16 bits, the first of those that are there
+front-of-16 : (l n : ℕ) (bits rest : List Bool) → l ≤ n → n ≤ length bits
+    → take l (next_16 (take n bits ++ rest)) ≡ take l (next_16 bits)
+front-of-16 l n bits rest h k = go (cases_lt 16 l)
+  where
+    zeros : List Bool
+    zeros = replicate 16 false
+
+    cut : (m : ℕ) → m ≤ n → take m ((take n bits ++ rest) ++ replicate 16 false) ≡ take m (bits ++ replicate 16 false)
+    cut m le =
+        let long = front-long n bits k in
+        take-append-le m (take n bits ++ rest) (replicate 16 false)
+        (omega (arith, long, length-append (take n bits) rest))
+        ∙ take-append-le m (take n bits) rest (omega (arith, long)) ∙ take-take m n bits le
+        ∙ sym (take-append-le m bits (replicate 16 false) (omega arith))
+
+    go : (16 < l) ⊎ (l ≤ 16) → take l (next_16 (take n bits ++ rest)) ≡ take l (next_16 bits)
+    go (inl many) = ap (take l) (cut 16 (omega arith))
+    go (inr few) =
+        take-take l 16 ((take n bits ++ rest) ++ replicate 16 false) few ∙ cut l h
+        ∙ sym (take-take l 16 (bits ++ replicate 16 false) few)
+
+begins-same : (lens : List ℕ) (n j : ℕ) (bits rest : List Bool) → get_or lens j 0 ≤ n → n ≤ length bits
+    → begins lens (next_16 (take n bits ++ rest)) j ≡ begins lens (next_16 bits) j
+unfolding begins
+begins-same lens n j bits rest h k =
+    ap (λ (b : List Bool). eqb (number_of b) (code_value lens j)) (front-of-16 (get_or lens j 0) n bits rest h k)
+
+code-index : (lens : List ℕ) (o : Option ℕ) (c : ℕ × ℕ) → option_map (λ (i : ℕ). (i, slice_index lens i)) o ≡ Some c
+    → (o ≡ Some c.0) × (c.1 ≡ slice_index lens c.0)
+code-index lens None c e = absurd (none-is c e)
+code-index lens (Some i) c e =
+    let s = some-is (i, slice_index lens i) c e in
+    (ap (λ (x : ℕ × ℕ). Some x.0) s, sym (ap (λ (x : ℕ × ℕ). x.1) s) ∙ ap (λ (x : ℕ × ℕ). slice_index lens x.0) s)
+
+-- the code that begins some bits, where all its bits are among them, begins all that begin with it
+code-same : (counts : List ℕ) (bits rest : List Bool) (c : ℕ × ℕ) → code_in (code_lengths counts) (next_16 bits) ≡ Some c
+    → c.1 ≤ length bits → code_in (code_lengths counts) (next_16 (take c.1 bits ++ rest)) ≡ Some c
+unfolding code_in
+code-same counts bits rest c e le =
+    let lens = code_lengths counts in
+    let is = code-index lens (first_from (begins lens (next_16 bits)) 0 (length lens)) c e in
+    let within = found-within (begins lens (next_16 bits)) 0 (length lens) c.0 is.0 in
+    let same = same-found (begins lens (next_16 bits)) (begins lens (next_16 (take c.1 bits ++ rest))) 0 (length lens)
+    c.0 is.0 (λ j h. begins-same lens c.1 j bits rest (omega (
+      arith,
+      is.1,
+      ordered 1 (length counts) lens j c.0
+          (rising-lengths 1 (length counts) counts 1 (le_refl 1) (omega arith)) h (omega (arith, within)),
+    )) le) in
+    ap (option_map (λ (i : ℕ). (i, slice_index lens i))) same
+    ∙ ap (λ (n : ℕ). Some (c.0, n)) (sym is.1)
+
+code-by : (table : Table) (bits : List Bool) (c : ℕ × ℕ)
+    → code_in (code_lengths table.counts) (next_16 bits) ≡ Some c → (length bits < c.1) ⊎ (c.1 ≤ length bits)
+    → Front (code_from table) bits
+unfolding code_from
+code-by table bits c h (inl few) =
+    failed End (short refl (λ e ps. ap (code_by table (text bits ps (Broken e))) h ∙ rw (too-few c.1 bits e few) refl))
+code-by table bits c h (inr le) =
+    let long = front-long c.1 bits le in
+    gave (take c.1 bits) (drop c.1 bits) (c.1, slice_index table.symbols c.0) (sym (take-append-drop c.1 bits)) (record {
+      read = λ rest ps e.
+          let own = take c.1 bits in
+          ap (code_by table (text (own ++ rest) ps e)) (code-same table.counts bits rest c h le)
+          ∙ rw (
+            has_enough c.1 (own ++ rest) e (omega (arith, long, length-append own rest)),
+            drop_at own rest c.1 long,
+            long,
+          ) refl;
+    })
+
+code-found : (table : Table) (bits : List Bool) (o : Option (ℕ × ℕ))
+    → code_in (code_lengths table.counts) (next_16 bits) ≡ o → Front (code_from table) bits
+unfolding code_from
+code-found table bits None h = failed Malformed (rule refl (λ e ps. ap (code_by table (text bits ps e)) h))
+code-found table bits (Some c) h = code-by table bits c h (cases_lt (length bits) c.1)
+
+pub code-front : (table : Table) → TakesFront (code_from table)
+unfolding TakesFront
+code-front table = λ bits. code-found table bits (code_in (code_lengths table.counts) (next_16 bits)) refl
+
+pub symbol-front : (table : Table) → TakesFront (symbol_from table)
+unfolding symbol_from
+symbol-front table = search (rules, bind-front, code-front, gives-front)
+
+pub signed-front : (n : ℕ) → TakesFront (signed_from n)
+unfolding signed_from
+signed-front n = search (rules, bind-front, bits-front, gives-front)
+
+-- ---- first passes
+
+difference-front : (table : Table) → TakesFront (difference table)
+unfolding difference
+difference-front table = search (rules, bind-front, symbol-front, if-front, signed-front, refused-front)
+
+first_dc-front : (table : Table) (al : ℕ) (predictor : ℤ) → TakesFront (first_dc table al predictor)
+unfolding first_dc
+first_dc-front table al predictor = search (rules, bind-front, difference-front, gives-front)
+
+token_at-front : (room size r s : ℕ) → TakesFront (token_at room size r s)
+unfolding token_at
+token_at-front room size r s = search (rules, if-front, bind-front, signed-front, bits-front, gives-front)
+
+after-front : (al : ℕ) (others : List ℤ → Reads Band) (rest : List ℤ)
+    → ((rest : List ℤ) → TakesFront (others rest)) → (token : Token) → TakesFront (after_token al others rest token)
+after-front al others rest h (Value r v) = search (rules, bind-front, gives-front)
+after-front al others rest h token = search (rules, bind-front, gives-front)
+
+first_ac-front : (table : Table) (al n : ℕ) (rest : List ℤ) → TakesFront (first_ac table al n rest)
+unfolding first_ac token_from
+first_ac-front table al (suc n) (x ∷ rest) =
+    search (rules, bind-front, code-front, token_at-front, after-front, first_ac-front table al n)
+first_ac-front table al n rest = search (rules, gives-front, refused-front)
+
+dc-front : (p : Pass) (dc : Table) (z predictor : ℤ) → TakesFront (dc_part p dc z predictor)
+unfolding dc_part
+dc-front p dc z predictor = search (rules, if-front, first_dc-front, bind-front, bits-front, gives-front)
+
+-- ---- refinements
+
+moved-front : (al : ℕ) (z : ℤ) (b : ℕ) → TakesFront (corrected_by al z b)
+moved-front al z b = search (rules, if-front, gives-front, refused-front)
+
+corrected-front : (al : ℕ) (band : List ℤ) → TakesFront (corrected al band)
+unfolding corrected
+corrected-front al band = search (rules, each-front, bind-front, if-front, gives-front, bits-front, moved-front)
+
+piece-front : (al : ℕ) (others : List ℤ → Reads Band) (rest : List ℤ)
+    → ((rest : List ℤ) → TakesFront (others rest)) → (r s : ℕ) → TakesFront (refined_piece al others rest r s)
+unfolding refined_piece
+piece-front al others rest h r s =
+    search (rules, if-front, bind-front, bits-front, corrected-front, gives-front, refused-front) depth 8
+
+refined_ac-front : (table : Table) (al n : ℕ) (rest : List ℤ) → TakesFront (refined_ac table al n rest)
+unfolding refined_ac
+refined_ac-front table al (suc n) (x ∷ rest) =
+    search (rules, bind-front, symbol-front, piece-front, refined_ac-front table al n)
+refined_ac-front table al n rest = search (rules, gives-front, refused-front)
+
+-- ---- blocks
+
+band-front : (p : Pass) (ac : Table) (band : List ℤ) (run : ℕ) → TakesFront (band_part p ac band run)
+unfolding band_part
+band-front p ac [] run = gives-front _
+band-front p ac (x ∷ band) zero = search (rules, if-front, first_ac-front, refined_ac-front)
+band-front p ac (x ∷ band) (suc run) = search (rules, if-front, gives-front, bind-front, corrected-front)
+
+pub block-front : (p : Pass) (dc ac : Table) (predictor : ℤ) (run : ℕ) (old : Block)
+    → TakesFront (block_from p dc ac predictor run old)
+unfolding block_from
+block-front p dc ac predictor run old = search (rules, bind-front, dc-front, band-front, gives-front)

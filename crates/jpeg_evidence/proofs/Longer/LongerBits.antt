@@ -1,0 +1,213 @@
+-- Bits bring the blocks that can be read of them, and more bits go on from there.
+use Rattle.std.proofs.Common.{rules, ◌≡◌, ℕ, zero, suc, ◌≤◌, Bool, List, [], ◌∷◌, ◌++◌, length, take, drop, arith, refl}
+use Rattle.std.proofs.Common.{sym, ap, ◌∙◌, subst, Ok, Err, Result, append_assoc, Option, Some, slice_get}
+use Rattle.jpeg_bits.specs.Reading.{End, Fault}
+use Rattle.jpeg_bits.specs.Entropy.{Broken, Ending, Text}
+use Rattle.jpeg_bits.specs.Passes.{Pass, Via}
+use Rattle.jpeg_bits.specs.Readers.{ReadsJust, read_on, text}
+use Rattle.jpeg_bits.proofs.WrittenBits.{following-after}
+use Rattle.jpeg_segments.proofs.Codecs.{err-ok}
+use Rattle.jpeg_streams.specs.Brought.{reached_from}
+use Rattle.jpeg_streams.specs.InTurn.{Reached, turn_from, turns_from}
+use Rattle.jpeg_streams.specs.Order.{Spot}
+use Rattle.jpeg_streams.specs.WholeRows.{unread_from}
+use Rattle.jpeg_streams.proofs.Partial.ReachedIntervals.{After, after_turn}
+use Rattle.jpeg_evidence.specs.LongerStreams.{GoesOn}
+use Rattle.jpeg_evidence.proofs.Longer.FrontReaders.{Front, TakesFront, bind-front, block-front, fault-read, gives-front}
+use Rattle.jpeg_evidence.proofs.Longer.FrontReaders.{own-read}
+use Rattle.jpeg_evidence.proofs.Longer.FrontReaders.Front.{gave, failed}
+
+pub turn-front : (p : Pass) (vias : List Via) (s : Spot) (old : Reached) → TakesFront (turn_from p vias s old)
+unfolding turn_from
+turn-front p vias s old = search (rules, bind-front, block-front, gives-front)
+
+-- The first of these blocks, so many, can be read of the bits alone.
+pub record CanRead (p : Pass) (vias : List Via) (spots : List Spot) (old : Reached) (bits : List Bool) (count : ℕ)
+    : Type 0 where
+  pub are_there : count ≤ length spots
+  pub read : (following : List (List ℕ))
+      → (after : Reached × Text)
+      × (turns_from p vias (take count spots) old (text bits following (Broken End)) ≡ Ok after)
+
+-- after the next block, the first that isn't read
+abbrev unread_after : Pass → List Via → Spot → List Spot → Result (Reached × Text) Fault → Option Spot
+unread_after p vias s spots o = elim o [ Ok r ↦ unread_from p vias spots r.0 r.1 | Err fault ↦ Some s ]
+
+-- What is reached of these bits, all blocks that can be read, that more bits go on from there, and the first block that
+-- isn't read.
+pub record Stops (p : Pass) (vias : List Via) (spots : List Spot) (old : Reached) (bits : List Bool) : Type 0 where
+  pub end : After
+  pub whole : (ps : List (List ℕ)) → reached_from p vias spots old (text bits ps (Broken End)) ≡ end
+  pub goes : GoesOn p vias spots old bits end.0
+  pub can : CanRead p vias spots old bits (length goes.done)
+  pub most : (count : ℕ) → CanRead p vias spots old bits count → count ≤ length goes.done
+  pub unread : (ps : List (List ℕ))
+      → unread_from p vias spots old (text bits ps (Broken End)) ≡ slice_get spots (length goes.done)
+
+-- no block
+none-can : (p : Pass) (vias : List Via) (spots : List Spot) (old : Reached) (bits : List Bool)
+    → CanRead p vias spots old bits 0
+unfolding turns_from
+none-can p vias spots old bits =
+    record { are_there = omega arith; read = λ ps. ((old, text bits ps (Broken End)), refl) }
+
+-- where no block is read, all bits are left
+none-goes : (p : Pass) (vias : List Via) (spots : List Spot) (old : Reached) (bits : List Bool)
+    → GoesOn p vias spots old bits old
+unfolding reached_from
+none-goes p vias spots old bits = record {
+  done = [];
+  others = spots;
+  taken = [];
+  left = bits;
+  spots_are = refl;
+  bits_are = refl;
+  brought = λ ps. refl;
+  longer = λ more ps f. refl;
+}
+
+none-stops : (p : Pass) (vias : List Via) (old : Reached) (bits : List Bool) → Stops p vias [] old bits
+unfolding reached_from unread_from none-goes
+none-stops p vias old bits = record {
+  end = (old, Ok bits);
+  whole = λ ps. refl;
+  goes = none-goes p vias [] old bits;
+  can = none-can p vias [] old bits;
+  most = λ count c. c.are_there;
+  unread = λ ps. refl;
+}
+
+-- no block is read where the first has a fault
+failed-most : (p : Pass) (vias : List Via) (s : Spot) (spots : List Spot) (old : Reached) (bits : List Bool) (g : Fault)
+    → ((ps : List (List ℕ)) → turn_from p vias s old (text bits ps (Broken End)) ≡ Err g)
+    → (count : ℕ) → CanRead p vias (s ∷ spots) old bits count → count ≤ 0
+unfolding turns_from
+failed-most p vias s spots old bits g is zero c = omega arith
+failed-most p vias s spots old bits g is (suc n) c =
+    let r = c.read [] in
+    absurd (err-ok g r.0 (sym (ap (read_on (turns_from p vias (take n spots))) (is [])) ∙ r.1))
+
+failed-stops : (p : Pass) (vias : List Via) (s : Spot) (spots : List Spot) (old : Reached) (bits : List Bool)
+    (g : Fault) → ((ps : List (List ℕ)) → turn_from p vias s old (text bits ps (Broken End)) ≡ Err g)
+    → Stops p vias (s ∷ spots) old bits
+unfolding reached_from unread_from none-goes
+failed-stops p vias s spots old bits g is = record {
+  end = (old, Err g);
+  whole = λ ps. ap (after_turn p vias spots old) (is ps);
+  goes = none-goes p vias (s ∷ spots) old bits;
+  can = none-can p vias (s ∷ spots) old bits;
+  most = failed-most p vias s spots old bits g is;
+  unread = λ ps. ap (unread_after p vias s spots) (is ps);
+}
+
+-- the next block of bits that begin with its own
+next-turn : (p : Pass) (vias : List Via) (s : Spot) (spots : List Spot) (old x : Reached) (own rest bits : List Bool)
+    (ps : List (List ℕ)) (e : Ending) → bits ≡ own ++ rest → ReadsJust (turn_from p vias s old) own x
+    → reached_from p vias (s ∷ spots) old (text bits ps e)
+    ≡ reached_from p vias spots x (text rest (drop (length own) ps) e)
+unfolding reached_from
+next-turn p vias s spots old x own rest bits ps e is r =
+    ap (after_turn p vias spots old) (own-read (turn_from p vias s old) own rest bits x ps e is r)
+
+next-unread : (p : Pass) (vias : List Via) (s : Spot) (spots : List Spot) (old x : Reached) (own rest bits : List Bool)
+    (ps : List (List ℕ)) → bits ≡ own ++ rest → ReadsJust (turn_from p vias s old) own x
+    → unread_from p vias (s ∷ spots) old (text bits ps (Broken End))
+    ≡ unread_from p vias spots x (text rest (drop (length own) ps) (Broken End))
+unfolding unread_from
+next-unread p vias s spots old x own rest bits ps is r =
+    ap (unread_after p vias s spots) (own-read (turn_from p vias s old) own rest bits x ps (Broken End) is r)
+
+-- so many lists and these
+abbrev padded : List Bool → List (List ℕ) → List (List ℕ)
+padded [] ps = ps
+padded (b ∷ bits) ps = [] ∷ padded bits ps
+
+padded-drop : (bits : List Bool) (ps : List (List ℕ)) → drop (length bits) (padded bits ps) ≡ ps
+padded-drop [] ps = refl
+padded-drop (b ∷ bits) ps = padded-drop bits ps
+
+-- the blocks after one that is read
+next-turns : (p : Pass) (vias : List Via) (s : Spot) (spots : List Spot) (old x : Reached) (own left bits : List Bool)
+    (ps : List (List ℕ)) → bits ≡ own ++ left → ReadsJust (turn_from p vias s old) own x
+    → turns_from p vias (s ∷ spots) old (text bits ps (Broken End))
+    ≡ turns_from p vias spots x (text left (drop (length own) ps) (Broken End))
+unfolding turns_from
+next-turns p vias s spots old x own left bits ps is r =
+    ap (read_on (turns_from p vias spots)) (own-read (turn_from p vias s old) own left bits x ps (Broken End) is r)
+
+next-can : (p : Pass) (vias : List Via) (s : Spot) (spots : List Spot) (old x : Reached) (own left bits : List Bool)
+    (n : ℕ) → bits ≡ own ++ left → ReadsJust (turn_from p vias s old) own x → CanRead p vias spots x left n
+    → CanRead p vias (s ∷ spots) old bits (suc n)
+next-can p vias s spots old x own left bits n is r c = record {
+  are_there = let e = c.are_there in omega arith;
+  read = λ ps.
+      let q = c.read (drop (length own) ps) in
+      (q.0, next-turns p vias s (take n spots) old x own left bits ps is r ∙ q.1);
+}
+
+next-most : (p : Pass) (vias : List Via) (s : Spot) (spots : List Spot) (old x : Reached) (own left bits : List Bool)
+    → bits ≡ own ++ left → ReadsJust (turn_from p vias s old) own x → (m : ℕ)
+    → ((count : ℕ) → CanRead p vias spots x left count → count ≤ m)
+    → (count : ℕ) → CanRead p vias (s ∷ spots) old bits count → count ≤ suc m
+next-most p vias s spots old x own left bits is r m most zero c = omega arith
+next-most p vias s spots old x own left bits is r m most (suc n) c =
+    let w = c.are_there in
+    let le = most n (record {
+      are_there = omega arith;
+      read = λ ps.
+          let q = c.read (padded own ps) in (
+            q.0,
+            ap (λ (qs : List (List ℕ)). turns_from p vias (take n spots) x (text left qs (Broken End)))
+                (sym (padded-drop own ps))
+                ∙ sym (next-turns p vias s (take n spots) old x own left bits (padded own ps) is r) ∙ q.1,
+          );
+    }) in
+    omega arith
+
+next-stops : (p : Pass) (vias : List Via) (s : Spot) (spots : List Spot) (old x : Reached) (own left bits : List Bool)
+    → bits ≡ own ++ left → ReadsJust (turn_from p vias s old) own x → Stops p vias spots x left
+    → Stops p vias (s ∷ spots) old bits
+next-stops p vias s spots old x own left bits is r rest =
+    let g = rest.goes in
+    record {
+      end = rest.end;
+      whole = λ ps. next-turn p vias s spots old x own left bits ps (Broken End) is r
+          ∙ rest.whole (drop (length own) ps);
+      goes = record {
+        done = s ∷ g.done;
+        others = g.others;
+        taken = own ++ g.taken;
+        left = g.left;
+        spots_are = ap (λ (l : List Spot). s ∷ l) g.spots_are;
+        bits_are = is ∙ ap (λ (b : List Bool). own ++ b) g.bits_are ∙ sym (append_assoc own g.taken g.left);
+        brought = λ ps. next-turn p vias s g.done old x own left bits ps (Broken End) is r
+            ∙ g.brought (drop (length own) ps);
+        longer = λ more ps f. next-turn p vias s spots old x own (left ++ more) (bits ++ more) ps f
+            (ap (λ (b : List Bool). b ++ more) is ∙ append_assoc own left more) r
+            ∙ g.longer more (drop (length own) ps) f
+            ∙ ap (λ (qs : List (List ℕ)). reached_from p vias g.others rest.end.0 (text (g.left ++ more) qs f))
+            (following-after own g.taken ps);
+      };
+      can = next-can p vias s spots old x own left bits (length g.done) is r rest.can;
+      most = next-most p vias s spots old x own left bits is r (length g.done) rest.most;
+      unread = λ ps. next-unread p vias s spots old x own left bits ps is r ∙ rest.unread (drop (length own) ps);
+    }
+
+pub stops : (p : Pass) (vias : List Via) (spots : List Spot) (old : Reached) (bits : List Bool)
+    → Stops p vias spots old bits
+unfolding TakesFront
+stops p vias [] old bits = none-stops p vias old bits
+stops p vias (s ∷ spots) old bits =
+    go (turn-front p vias s old bits) (λ x left. stops p vias spots x left)
+  where
+    go : Front (turn_from p vias s old) bits → ((x : Reached) (left : List Bool) → Stops p vias spots x left)
+        → Stops p vias (s ∷ spots) old bits
+    go (failed g is) others = failed-stops p vias s spots old bits g (λ ps. fault-read _ bits g ps is)
+    go (gave own left x e r) others = next-stops p vias s spots old x own left bits e r (others x left)
+
+-- Bits bring blocks, and more bits go on from there.
+pub longer_bits_go_on : (p : Pass) (vias : List Via) (spots : List Spot) (old : Reached) (bits : List Bool)
+    → GoesOn p vias spots old bits (reached_from p vias spots old (text bits [] (Broken End))).0
+longer_bits_go_on p vias spots old bits =
+    let s = stops p vias spots old bits in
+    subst (λ (x : After). GoesOn p vias spots old bits x.0) (sym (s.whole [])) s.goes
