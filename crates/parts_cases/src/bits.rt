@@ -3,9 +3,10 @@ ghost use Rattle.std.specs.Prelude.{◌≡◌, ◌≤◌, sum, IfOk};
 ghost use Rattle.jpeg_bits.specs.BlockView.{pass_in, IsPass};
 ghost use Rattle.jpeg_bits.specs.declared.huffman.codes.HuffmanTableClass.TheVariants.{AC};
 
+use crate::fault;
+use crate::fault::Fault;
 use crate::state::{Codes, State};
 use crate::words::{answer_of, byte, bytes, first_word, halves, numbers, refusal, text_of_block};
-use anyhow::{Context, bail};
 use jpeg_bits::blocks::{BlockCoding, Carried, Pass, read_block};
 use jpeg_bits::color_transform::ColorTransform;
 use jpeg_bits::error::{Error, UnsupportedFeature, end_of_bytes, format_error};
@@ -19,16 +20,16 @@ use std::io;
 use std::io::ErrorKind;
 
 /// Returns the number of a text, which has to be from `least` to `most`.
-fn within(text: &str, least: u8, most: u8) -> anyhow::Result<u8>
+fn within(text: &str, least: u8, most: u8) -> fault::Result<u8>
     ensures least { IfOk result (λ n. least ≤ n) }
     ensures most { IfOk result (λ n. n ≤ most) }
 {
     let number = text.parse::<u8>()?;
     if number < least {
-        bail!("expected at least {least}");
+        return Err(Fault::Expected("a greater number"));
     }
     if number > most {
-        bail!("expected at most {most}");
+        return Err(Fault::Expected("a smaller number"));
     }
     Ok(number)
 }
@@ -49,12 +50,12 @@ pub fn table_of(
     alloc: Global,
     codes: &Codes,
     class: HuffmanTableClass,
-) -> anyhow::Result<Result<HuffmanTable, Error>>
+) -> fault::Result<Result<HuffmanTable, Error>>
     ensures { IfOk result (λ answer. IfOk answer (λ table. table.class ≡ class)) }
 {
     let count = codes.symbols.len();
     if usize::from(total(&codes.counts)) != count || count == 0 || count > 256 {
-        bail!("expected a symbol for each code, 1 to 256");
+        return Err(Fault::Expected("a symbol for each code, 1 to 256"));
     }
     let symbols = codes.symbols.as_slice();
     Ok(HuffmanTable::new(alloc, &codes.counts, symbols, class))
@@ -70,22 +71,22 @@ fn widen(alloc: Global, table: &mut HuffmanTable) -> Result<(), AllocError>
 }
 
 /// Returns the class of this name.
-fn class_of(name: &str) -> anyhow::Result<HuffmanTableClass> {
+fn class_of(name: &str) -> fault::Result<HuffmanTableClass> {
     match name {
         "dc" => Ok(HuffmanTableClass::DC),
         "ac" => Ok(HuffmanTableClass::AC),
-        _ => bail!("expected dc or ac"),
+        _ => return Err(Fault::Expected("dc or ac")),
     }
 }
 
 /// Returns the counts of words in hex.
-fn counts_of(alloc: Global, text: &str) -> anyhow::Result<[u8; 16]> {
+fn counts_of(alloc: Global, text: &str) -> fault::Result<[u8; 16]> {
     let counts = bytes(alloc, text)?;
     Ok(<[u8; 16]>::try_from(counts.as_slice())?)
 }
 
 /// Returns the codes of words `COUNTS: SYMBOLS`.
-fn codes_of(alloc: Global, text: &str) -> anyhow::Result<Codes> {
+fn codes_of(alloc: Global, text: &str) -> fault::Result<Codes> {
     let (counts, symbols) = halves(text)?;
     Ok(Codes {
         counts: counts_of(alloc, counts)?,
@@ -101,7 +102,7 @@ fn put(tables: &mut [Option<HuffmanTable>], table: HuffmanTable) {
 }
 
 /// Defines the table of a class at destination 0.
-fn define(state: &mut State<'_>, text: &str) -> anyhow::Result<String> {
+fn define(state: &mut State<'_>, text: &str) -> fault::Result<String> {
     let (class, text) = first_word(text);
     let class = class_of(class)?;
     state.codes = codes_of(state.alloc, text)?;
@@ -117,7 +118,7 @@ fn define(state: &mut State<'_>, text: &str) -> anyhow::Result<String> {
 }
 
 /// Returns the table of words `CLASS DESTINATION`.
-fn table<'t>(tables: &'t DefinedTables, text: &str) -> anyhow::Result<&'t HuffmanTable> {
+fn table<'t>(tables: &'t DefinedTables, text: &str) -> fault::Result<&'t HuffmanTable> {
     let (class, destination) = first_word(text);
     let tables = match class_of(class)? {
         HuffmanTableClass::DC => &tables.0,
@@ -125,12 +126,12 @@ fn table<'t>(tables: &'t DefinedTables, text: &str) -> anyhow::Result<&'t Huffma
     };
     match tables.get(destination.parse::<usize>()?) {
         Some(Some(table)) => Ok(table),
-        _ => bail!("there is no such table"),
+        _ => return Err(Fault::Expected("a table that is there")),
     }
 }
 
 /// Returns the destinations of decimal words.
-fn destinations(alloc: Global, text: &str) -> anyhow::Result<Vec<usize>> {
+fn destinations(alloc: Global, text: &str) -> fault::Result<Vec<usize>> {
     let mut all = Vec::new(alloc);
     for number in numbers(alloc, text)? {
         all.push(usize::from(number))?;
@@ -176,27 +177,27 @@ fn scan_of(alloc: Global, dc: Vec<usize>, ac: Vec<usize>) -> ScanInfo {
 }
 
 /// Fills in the default tables that a scan names by words `DC: AC`.
-fn fill_defaults(state: &mut State<'_>, text: &str) -> anyhow::Result<String> {
+fn fill_defaults(state: &mut State<'_>, text: &str) -> fault::Result<String> {
     let alloc = state.alloc;
     let (dc, ac) = halves(text)?;
     let scan = scan_of(alloc, destinations(alloc, dc)?, destinations(alloc, ac)?);
     let (dc, ac) = (&mut state.tables.0, &mut state.tables.1);
     if dc.len() < 2 || ac.len() < 2 {
-        bail!("expected two destinations");
+        return Err(Fault::Expected("two destinations"));
     }
     fill_default_mjpeg_tables(alloc, &scan, dc, ac)?;
     Ok(text_of_tables(alloc, &state.tables)?)
 }
 
 /// Returns the pass of words `PASS SS SE AL`.
-fn pass_of(alloc: Global, text: &str) -> anyhow::Result<Pass>
+fn pass_of(alloc: Global, text: &str) -> fault::Result<Pass>
     ensures { IfOk result (λ pass. IsPass (pass_in pass)) }
 {
     let (name, text) = first_word(text);
     let is_first = match name {
         "first" => true,
         "refined" => false,
-        _ => bail!("expected first or refined"),
+        _ => return Err(Fault::Expected("first or refined")),
     };
     let (ss, text) = first_word(text);
     let (se, al) = first_word(text);
@@ -210,7 +211,7 @@ fn pass_of(alloc: Global, text: &str) -> anyhow::Result<Pass>
 }
 
 /// Returns the table of codes of the class AC; if `is_wide`, as blocks of large pictures are read.
-fn last_table(alloc: Global, codes: &Codes, is_wide: bool) -> anyhow::Result<HuffmanTable>
+fn last_table(alloc: Global, codes: &Codes, is_wide: bool) -> fault::Result<HuffmanTable>
     ensures { IfOk result (λ table. table.class ≡ AC) }
 {
     let mut table = table_of(alloc, codes, HuffmanTableClass::AC)??;
@@ -221,7 +222,7 @@ fn last_table(alloc: Global, codes: &Codes, is_wide: bool) -> anyhow::Result<Huf
 }
 
 /// Reads a block by the codes of the last table.
-fn block(state: &mut State<'_>, text: &str) -> anyhow::Result<String> {
+fn block(state: &mut State<'_>, text: &str) -> fault::Result<String> {
     let alloc = state.alloc;
     let pass = pass_of(alloc, text)?;
     let table = last_table(alloc, &state.codes, state.is_wide)?;
@@ -242,7 +243,7 @@ fn block(state: &mut State<'_>, text: &str) -> anyhow::Result<String> {
 }
 
 /// Returns what a marker code says.
-fn code(alloc: Global, text: &str) -> anyhow::Result<String> {
+fn code(alloc: Global, text: &str) -> fault::Result<String> {
     Ok(match Marker::from_u8(byte(alloc, text)?) {
         Some(marker) => {
             let length = if marker.has_length() { "a" } else { "no" };
@@ -266,7 +267,7 @@ fn plain_error(name: &str) -> Option<Error> {
 }
 
 /// Returns the error of a name.
-fn named_error(alloc: Global, name: &str) -> anyhow::Result<Error> {
+fn named_error(alloc: Global, name: &str) -> fault::Result<Error> {
     let (kind, text) = first_word(name);
     match kind {
         "format" => Ok(format_error(alloc, text)),
@@ -274,17 +275,17 @@ fn named_error(alloc: Global, name: &str) -> anyhow::Result<Error> {
             let bits = text.parse::<u8>()?;
             Ok(Error::Unsupported(UnsupportedFeature::SamplePrecision(bits)))
         }
-        _ => plain_error(name).context("expected a kind of error"),
+        _ => plain_error(name).ok_or(Fault::Expected("a kind of error")),
     }
 }
 
 /// Returns the text of an error.
-fn error(alloc: Global, name: &str) -> anyhow::Result<String> {
+fn error(alloc: Global, name: &str) -> fault::Result<String> {
     Ok(format!(in alloc; "{}", named_error(alloc, name)?)?)
 }
 
 /// Passes over bytes or takes them.
-fn pass(state: &mut State<'_>, verb: &str, text: &str) -> anyhow::Result<String> {
+fn pass(state: &mut State<'_>, verb: &str, text: &str) -> fault::Result<String> {
     let (alloc, source) = (state.alloc, &mut state.source);
     let count = text.parse::<u16>()?;
     let answer = match verb {
@@ -295,7 +296,7 @@ fn pass(state: &mut State<'_>, verb: &str, text: &str) -> anyhow::Result<String>
 }
 
 /// Reads bits as a number, or as a signed one.
-fn take_bits(state: &mut State<'_>, verb: &str, text: &str) -> anyhow::Result<String> {
+fn take_bits(state: &mut State<'_>, verb: &str, text: &str) -> fault::Result<String> {
     let (alloc, source) = (state.alloc, &mut state.source);
     let most = if verb == "bits" { 16 } else { 15 };
     let count = within(text, 1, most)?;
@@ -307,7 +308,7 @@ fn take_bits(state: &mut State<'_>, verb: &str, text: &str) -> anyhow::Result<St
 }
 
 /// Reads a symbol, or a value with its code.
-fn take_code(state: &mut State<'_>, verb: &str, text: &str) -> anyhow::Result<String> {
+fn take_code(state: &mut State<'_>, verb: &str, text: &str) -> fault::Result<String> {
     let (alloc, source) = (state.alloc, &mut state.source);
     let table = table(&state.tables, text)?;
     let answer = match verb {
@@ -332,7 +333,7 @@ fn read(state: &mut State<'_>, verb: &str) -> Option<Result<String, AllocError>>
 }
 
 /// Keeps this many destinations of each class.
-fn keep(state: &mut State<'_>, text: &str) -> anyhow::Result<String> {
+fn keep(state: &mut State<'_>, text: &str) -> fault::Result<String> {
     let count = text.parse::<usize>()?;
     state.tables.0.truncate(count);
     state.tables.1.truncate(count);
@@ -340,7 +341,7 @@ fn keep(state: &mut State<'_>, text: &str) -> anyhow::Result<String> {
 }
 
 /// Returns the answer to a call of `jpeg_bits`, or none to another.
-pub fn answer(state: &mut State<'_>, verb: &str, text: &str) -> anyhow::Result<Option<String>> {
+pub fn answer(state: &mut State<'_>, verb: &str, text: &str) -> fault::Result<Option<String>> {
     if let Some(answer) = read(state, verb) {
         return Ok(Some(answer?));
     }

@@ -2,9 +2,10 @@
 ghost use Rattle.std.specs.Prelude.{◌≡◌, ◌+◌, ◌-◌, ◌*◌, ◌≤◌, length, true};
 ghost use Rattle.jpeg_pixels.specs.Scaled.{IsScale};
 
+use crate::fault;
+use crate::fault::Fault;
 use crate::state::State;
 use crate::words::{change, coefficients, first_word, numbers, text_of_bytes};
-use anyhow::bail;
 use jpeg_pixels::idct::{
     choose_idct_size, dequantize_and_idct_block, dequantize_and_idct_block_1x1,
     dequantize_and_idct_block_2x2, dequantize_and_idct_block_4x4, dequantize_and_idct_block_8x8,
@@ -44,13 +45,13 @@ fn samples_of(
     values: &[u16; 64],
     stride: u16,
     room: u16,
-) -> anyhow::Result<String> {
+) -> fault::Result<String> {
     let (stride, room) = (usize::from(stride), usize::from(room));
     let mut one = vec![in alloc; 7; room]?;
     let mut by_lanes = vec![in alloc; 7; room]?;
     let mut by_table = vec![in alloc; 7; room]?;
     if !is_scale(scale) || stride < scale || room < (scale - 1) * stride + scale {
-        bail!("expected a scale, and room for its lines");
+        return Err(Fault::Expected("a scale, and room for its lines"));
     }
     transform(scale, block, values, stride, &mut one);
     dequantize_and_idct_block(scale, block, values, stride, &mut by_lanes);
@@ -65,7 +66,7 @@ fn samples_of(
 }
 
 /// Transforms the block with changes, by words `SCALE STRIDE ROOM CHANGES`.
-fn idct(state: &mut State<'_>, text: &str) -> anyhow::Result<String> {
+fn idct(state: &mut State<'_>, text: &str) -> fault::Result<String> {
     let (scale, text) = first_word(text);
     let (stride, text) = first_word(text);
     let (room, changes) = first_word(text);
@@ -83,7 +84,7 @@ fn idct(state: &mut State<'_>, text: &str) -> anyhow::Result<String> {
 
 /// Appends a row of blocks to the plane, by words `SCALE BEFORE AFTER CHANGES`: the block this
 /// often, once with changes, and again this often.
-fn row(state: &mut State<'_>, text: &str) -> anyhow::Result<String> {
+fn row(state: &mut State<'_>, text: &str) -> fault::Result<String> {
     let (scale, text) = first_word(text);
     let (before, text) = first_word(text);
     let (after, changes) = first_word(text);
@@ -99,17 +100,17 @@ fn row(state: &mut State<'_>, text: &str) -> anyhow::Result<String> {
         blocks.push(state.block)?;
     }
     if !is_scale(scale) || blocks.len() > 65536 {
-        bail!("expected a scale");
+        return Err(Fault::Expected("a scale"));
     }
     append_row(&mut state.samples, scale, &blocks, &state.values)?;
     Ok(String::new(state.alloc))
 }
 
 /// Crops the plane, by words `STRIDE WIDTH HEIGHT`.
-fn cropped(state: &mut State<'_>, text: &str) -> anyhow::Result<String> {
+fn cropped(state: &mut State<'_>, text: &str) -> fault::Result<String> {
     let numbers = numbers(state.alloc, text)?;
     let [stride, width, height] = numbers.as_slice() else {
-        bail!("expected three numbers");
+        return Err(Fault::Expected("three numbers"));
     };
     let (stride, width, height) = (
         usize::from(*stride),
@@ -117,17 +118,17 @@ fn cropped(state: &mut State<'_>, text: &str) -> anyhow::Result<String> {
         usize::from(*height),
     );
     if width > stride || height * stride > state.samples.len() {
-        bail!("expected a part of the plane");
+        return Err(Fault::Expected("a part of the plane"));
     }
     crop(&mut state.samples, stride, width, height);
     Ok(text_of_bytes(state.alloc, &state.samples)?)
 }
 
 /// Chooses a scale, by words `FULL_WIDTH FULL_HEIGHT WIDTH HEIGHT`.
-fn size(alloc: Global, text: &str) -> anyhow::Result<String> {
+fn size(alloc: Global, text: &str) -> fault::Result<String> {
     let numbers = numbers(alloc, text)?;
     let [full_width, full_height, width, height] = numbers.as_slice() else {
-        bail!("expected four numbers");
+        return Err(Fault::Expected("four numbers"));
     };
     let full = Dimensions {
         width: *full_width,
@@ -141,7 +142,7 @@ fn size(alloc: Global, text: &str) -> anyhow::Result<String> {
 }
 
 /// Sets the block, or the values of the quantization table.
-fn set(state: &mut State<'_>, verb: &str, text: &str) -> anyhow::Result<()> {
+fn set(state: &mut State<'_>, verb: &str, text: &str) -> fault::Result<()> {
     match verb {
         "coefficients" => state.block = coefficients(state.alloc, text)?,
         _ => state.values = <[u16; 64]>::try_from(numbers(state.alloc, text)?.as_slice())?,
@@ -150,7 +151,7 @@ fn set(state: &mut State<'_>, verb: &str, text: &str) -> anyhow::Result<()> {
 }
 
 /// Returns the answer to a call about blocks and planes, or none to another.
-pub fn answer(state: &mut State<'_>, verb: &str, text: &str) -> anyhow::Result<Option<String>> {
+pub fn answer(state: &mut State<'_>, verb: &str, text: &str) -> fault::Result<Option<String>> {
     let alloc = state.alloc;
     let answer = match verb {
         "coefficients" | "values" => {

@@ -1,9 +1,10 @@
 //! Case files: each case answered in pieces of each size.
 
+use crate::fault::Fault;
 use crate::state::State;
 use crate::words::{bytes, first_word};
-use crate::{bits, blocks, lossless, pictures, segments, workers};
-use anyhow::{Context, bail};
+use crate::{bits, blocks, fault, lossless, pictures, segments, workers};
+use anyhow::Context;
 use std::alloc::{AllocError, Global};
 use std::io::Write;
 use test_streams::readers::{Reader, STEPS, Trouble};
@@ -70,10 +71,10 @@ fn is_alone(verb: &str) -> bool {
 }
 
 /// Returns the answer to a call.
-fn answer(state: &mut State<'_>, line: &str) -> anyhow::Result<String> {
+fn answer(state: &mut State<'_>, line: &str) -> fault::Result<String> {
     let (verb, text) = first_word(line);
     if is_alone(verb) && !text.is_empty() {
-        bail!("expected nothing after {verb}");
+        return Err(Fault::Expected("nothing after the call"));
     }
     if let Some(answer) = bits::answer(state, verb, text)? {
         return Ok(answer);
@@ -93,7 +94,7 @@ fn answer(state: &mut State<'_>, line: &str) -> anyhow::Result<String> {
     if let Some(answer) = lossless::answer(state, verb, text)? {
         return Ok(answer);
     }
-    bail!("there is no such call")
+    Err(Fault::Expected("a call"))
 }
 
 /// Appends an answer after those before it, unless it is empty.

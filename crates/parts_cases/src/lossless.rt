@@ -4,9 +4,10 @@ ghost use Rattle.std.specs.List.{AllByRecursion};
 ghost use Rattle.jpeg_lossless.specs.Codings.{IsCovered, part_in};
 
 use crate::bits::table_of;
+use crate::fault;
+use crate::fault::Fault;
 use crate::state::State;
 use crate::words::{answer_of, halves, numbers, refusal};
-use anyhow::bail;
 use jpeg_bits::huffman::{HuffmanTable, HuffmanTableClass};
 use jpeg_bits::scan::Predictor;
 use jpeg_lossless::lossless::predict;
@@ -14,7 +15,7 @@ use jpeg_lossless::scan::{Coding, LosslessScan, Part, RowCoding, read_scan, rows
 use std::alloc::Global;
 
 /// Returns the predictor of a selection (T.81, Table H.1).
-fn predictor_of(selection: u16) -> anyhow::Result<Predictor> {
+fn predictor_of(selection: u16) -> fault::Result<Predictor> {
     Ok(match selection {
         0 => Predictor::NoPrediction,
         1 => Predictor::Ra,
@@ -24,18 +25,18 @@ fn predictor_of(selection: u16) -> anyhow::Result<Predictor> {
         5 => Predictor::RaRbRc2,
         6 => Predictor::RaRbRc3,
         7 => Predictor::RaRb,
-        _ => bail!("expected a selection of 0 to 7"),
+        _ => return Err(Fault::Expected("a selection of 0 to 7")),
     })
 }
 
 /// Predicts a sample, by numbers `LEFT ABOVE CORNER SELECTION POINT PRECISION COLUMN LINE`.
-fn predicted(alloc: Global, numbers: &[u16]) -> anyhow::Result<String> {
+fn predicted(alloc: Global, numbers: &[u16]) -> fault::Result<String> {
     let [ra, rb, rc, selection, point, precision, ix, iy] = numbers else {
-        bail!("expected eight numbers");
+        return Err(Fault::Expected("eight numbers"));
     };
     let (point, precision) = (u8::try_from(*point)?, u8::try_from(*precision)?);
     if precision < 2 || precision > 16 || point >= precision {
-        bail!("expected a precision of 2 to 16, and a point transform below it");
+        return Err(Fault::Expected("a precision of 2 to 16, and a point transform below it"));
     }
     let sample = predict(
         i32::from(*ra),
@@ -51,9 +52,9 @@ fn predicted(alloc: Global, numbers: &[u16]) -> anyhow::Result<String> {
 }
 
 /// Returns the coding of numbers `WIDE HIGH PRECISION SELECTION POINT INTERVAL`.
-fn coding_of(numbers: &[u16]) -> anyhow::Result<Coding> {
+fn coding_of(numbers: &[u16]) -> fault::Result<Coding> {
     let [wide, high, precision, selection, point, interval] = numbers else {
-        bail!("expected six numbers");
+        return Err(Fault::Expected("six numbers"));
     };
     Ok(Coding {
         wide: *wide,
@@ -66,10 +67,10 @@ fn coding_of(numbers: &[u16]) -> anyhow::Result<Coding> {
 }
 
 /// Returns what a scan has of the component of words `ACROSS DOWN WIDTH HEIGHT`.
-fn part_of<'t>(alloc: Global, table: &'t HuffmanTable, text: &str) -> anyhow::Result<Part<'t>> {
+fn part_of<'t>(alloc: Global, table: &'t HuffmanTable, text: &str) -> fault::Result<Part<'t>> {
     let numbers = numbers(alloc, text)?;
     let [across, down, width, height] = numbers.as_slice() else {
-        bail!("expected four numbers");
+        return Err(Fault::Expected("four numbers"));
     };
     Ok(Part {
         table,
@@ -95,7 +96,7 @@ fn are_covered(wide: u16, high: u16, parts: &[Part<'_>]) -> bool
 }
 
 /// Reads a scan.
-fn scan_read(state: &mut State<'_>, coding: Coding, parts: &[Part<'_>]) -> anyhow::Result<String>
+fn scan_read(state: &mut State<'_>, coding: Coding, parts: &[Part<'_>]) -> fault::Result<String>
     requires wide { 0 < coding.wide }
     requires high { 0 < coding.high }
     requires point { coding.point_transform < coding.precision }
@@ -111,7 +112,7 @@ fn scan_read(state: &mut State<'_>, coding: Coding, parts: &[Part<'_>]) -> anyho
 
 /// Reads the rows of MCUs of a restart interval as far as they go, and says the samples that are
 /// there, and the refusal.
-fn rows_read(state: &mut State<'_>, coding: Coding, parts: &[Part<'_>]) -> anyhow::Result<String>
+fn rows_read(state: &mut State<'_>, coding: Coding, parts: &[Part<'_>]) -> fault::Result<String>
     requires wide { 0 < coding.wide }
     requires high { 0 < coding.high }
     requires point { coding.point_transform < coding.precision }
@@ -120,7 +121,7 @@ fn rows_read(state: &mut State<'_>, coding: Coding, parts: &[Part<'_>]) -> anyho
 {
     let alloc = state.alloc;
     let Some(count) = rows_of_interval(coding) else {
-        bail!("expected an interval of whole rows");
+        return Err(Fault::Expected("an interval of whole rows"));
     };
     let coding = RowCoding::new(alloc, coding, parts)?;
     let mut scan = LosslessScan::new(alloc, &coding)?;
@@ -132,7 +133,7 @@ fn rows_read(state: &mut State<'_>, coding: Coding, parts: &[Part<'_>]) -> anyho
 
 /// Reads a scan by the codes of the last table, or the rows of an interval of it, by words
 /// `CODING: PART: PART ..`.
-fn scan(state: &mut State<'_>, is_whole: bool, text: &str) -> anyhow::Result<String> {
+fn scan(state: &mut State<'_>, is_whole: bool, text: &str) -> fault::Result<String> {
     let alloc = state.alloc;
     let (coding, rest) = halves(text)?;
     let coding = coding_of(&numbers(alloc, coding)?)?;
@@ -142,13 +143,13 @@ fn scan(state: &mut State<'_>, is_whole: bool, text: &str) -> anyhow::Result<Str
         parts.push(part_of(alloc, &table, part)?)?;
     }
     if coding.wide == 0 || coding.high == 0 || coding.precision > 16 {
-        bail!("expected MCUs, and a precision of at most 16");
+        return Err(Fault::Expected("MCUs, and a precision of at most 16"));
     }
     if coding.point_transform >= coding.precision {
-        bail!("expected a point transform below the precision");
+        return Err(Fault::Expected("a point transform below the precision"));
     }
     if !are_covered(coding.wide, coding.high, &parts) {
-        bail!("expected components within their MCUs");
+        return Err(Fault::Expected("components within their MCUs"));
     }
     if is_whole {
         scan_read(state, coding, &parts)
@@ -158,7 +159,7 @@ fn scan(state: &mut State<'_>, is_whole: bool, text: &str) -> anyhow::Result<Str
 }
 
 /// Returns the answer to a call of `jpeg_lossless`, or none to another.
-pub fn answer(state: &mut State<'_>, verb: &str, text: &str) -> anyhow::Result<Option<String>> {
+pub fn answer(state: &mut State<'_>, verb: &str, text: &str) -> fault::Result<Option<String>> {
     Ok(Some(match verb {
         "predict" => predicted(state.alloc, &numbers(state.alloc, text)?)?,
         "lossless" => scan(state, true, text)?,

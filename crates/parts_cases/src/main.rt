@@ -87,6 +87,7 @@
 mod bits;
 mod blocks;
 mod cases;
+mod fault;
 mod lossless;
 mod pictures;
 mod segments;

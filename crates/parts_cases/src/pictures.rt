@@ -6,10 +6,11 @@ ghost use Rattle.jpeg_pixels.specs.Pictures.{HaveRoom};
 ghost use Rattle.jpeg_pixels.specs.PicturesView.{IsFor};
 ghost use Rattle.jpeg_pixels.specs.Upsampling.{across, down};
 
+use crate::fault;
+use crate::fault::Fault;
 use crate::segments::marker_of;
 use crate::state::State;
 use crate::words::{answer_of, bytes, first_word, halves, numbers, refusal, text_of_bytes};
-use anyhow::{Context, bail};
 use jpeg_bits::color_transform::ColorTransform;
 use jpeg_bits::error::{Error, Result};
 use jpeg_pixels::arch::color_convert_line_ycbcr;
@@ -19,14 +20,14 @@ use jpeg_segments::parser::{Component, FrameInfo, parse_sof};
 use std::alloc::{AllocError, Global};
 
 /// Returns the rule of this name: of `ACROSSxDOWN` the one that repeats samples.
-fn rule_of(name: &str) -> anyhow::Result<UpsampleRule> {
+fn rule_of(name: &str) -> fault::Result<UpsampleRule> {
     Ok(match name {
         "H1V1" => UpsampleRule::H1V1,
         "H2V1" => UpsampleRule::H2V1,
         "H1V2" => UpsampleRule::H1V2,
         "H2V2" => UpsampleRule::H2V2,
         _ => {
-            let (across, down) = name.split_once('x').context("expected a rule")?;
+            let (across, down) = name.split_once('x').ok_or(Fault::Expected("a rule"))?;
             UpsampleRule::Generic(across.parse::<u8>()?, down.parse::<u8>()?)
         }
     })
@@ -49,7 +50,7 @@ fn ratios(rule: UpsampleRule) -> (usize, usize)
 
 /// Makes a row, by words `RULE WIDTH HEIGHT STRIDE ROW OUTPUT_WIDTH ROOM: SAMPLES`, in `ROOM` bytes
 /// that were 7.
-fn upsample(alloc: Global, text: &str) -> anyhow::Result<String> {
+fn upsample(alloc: Global, text: &str) -> fault::Result<String> {
     let (name, text) = first_word(text);
     let (text, samples) = halves(text)?;
     let rule = rule_of(name)?;
@@ -63,9 +64,9 @@ fn upsampled(
     rule: UpsampleRule,
     numbers: &[u16],
     samples: &[u8],
-) -> anyhow::Result<String> {
+) -> fault::Result<String> {
     let [width, height, stride, row, output_width, room] = numbers else {
-        bail!("expected six numbers");
+        return Err(Fault::Expected("six numbers"));
     };
     let (width, height, stride) = (
         usize::from(*width),
@@ -76,13 +77,13 @@ fn upsampled(
     let room = usize::from(*room);
     let (across, down) = ratios(rule);
     if across < 1 || down < 1 || width < 1 || row >= down * height {
-        bail!("expected a row of the picture");
+        return Err(Fault::Expected("a row of the picture"));
     }
     if output_width > across * width || output_width > room {
-        bail!("expected room for a part of a row");
+        return Err(Fault::Expected("room for a part of a row"));
     }
     if (height - 1) * stride + width > samples.len() {
-        bail!("expected the samples of all lines");
+        return Err(Fault::Expected("the samples of all lines"));
     }
     let mut output = vec![in alloc; 7; room]?;
     rule.upsample_row(
@@ -98,20 +99,20 @@ fn upsampled(
 }
 
 /// Converts chunks of a line, by words `ROOM: Y: CB: CR`, into `ROOM` bytes that were 7.
-fn ycbcr(alloc: Global, text: &str) -> anyhow::Result<String> {
+fn ycbcr(alloc: Global, text: &str) -> fault::Result<String> {
     let (room, text) = halves(text)?;
     let room = room.parse::<u16>()?;
     converted(alloc, usize::from(room), &planes_of(alloc, text)?)
 }
 
 /// Converts chunks of a line of three components.
-fn converted(alloc: Global, room: usize, samples: &[Vec<u8>]) -> anyhow::Result<String> {
+fn converted(alloc: Global, room: usize, samples: &[Vec<u8>]) -> fault::Result<String> {
     let [y, cb, cr] = samples else {
-        bail!("expected the samples of three components");
+        return Err(Fault::Expected("the samples of three components"));
     };
     let count = room / 3;
     if count * 3 != room || count > y.len() || count > cb.len() || count > cr.len() {
-        bail!("expected the samples of whole pixels");
+        return Err(Fault::Expected("the samples of whole pixels"));
     }
     let mut output = vec![in alloc; 7; room]?;
     let converted = color_convert_line_ycbcr(y, cb, cr, &mut output);
@@ -120,7 +121,7 @@ fn converted(alloc: Global, room: usize, samples: &[Vec<u8>]) -> anyhow::Result<
 }
 
 /// Returns the colour transform of this name.
-fn transform_of(name: &str) -> anyhow::Result<ColorTransform> {
+fn transform_of(name: &str) -> fault::Result<ColorTransform> {
     Ok(match name {
         "None" => ColorTransform::None,
         "RGB" => ColorTransform::RGB,
@@ -131,12 +132,12 @@ fn transform_of(name: &str) -> anyhow::Result<ColorTransform> {
         "JcsBgYcc" => ColorTransform::JcsBgYcc,
         "JcsBgRgb" => ColorTransform::JcsBgRgb,
         "Unknown" => ColorTransform::Unknown,
-        _ => bail!("expected a colour transform"),
+        _ => return Err(Fault::Expected("a colour transform")),
     })
 }
 
 /// Chooses a conversion, by words `COUNT TRANSFORM`.
-fn colours(alloc: Global, text: &str) -> anyhow::Result<String> {
+fn colours(alloc: Global, text: &str) -> fault::Result<String> {
     let (count, name) = first_word(text);
     let count = count.parse::<usize>()?;
     let convert = ColorConvert::choose(alloc, count, transform_of(name)?);
@@ -144,13 +145,13 @@ fn colours(alloc: Global, text: &str) -> anyhow::Result<String> {
 }
 
 /// Appends the plane of some words.
-fn push_plane(alloc: Global, planes: &mut Vec<Vec<u8>>, text: &str) -> anyhow::Result<()> {
+fn push_plane(alloc: Global, planes: &mut Vec<Vec<u8>>, text: &str) -> fault::Result<()> {
     let plane = bytes(alloc, text)?;
     Ok(planes.push(plane)?)
 }
 
 /// Returns the planes of words `PLANE: PLANE ..`.
-fn planes_of(alloc: Global, text: &str) -> anyhow::Result<Vec<Vec<u8>>> {
+fn planes_of(alloc: Global, text: &str) -> fault::Result<Vec<Vec<u8>>> {
     let mut planes = Vec::new(alloc);
     for plane in text.split(':') {
         push_plane(alloc, &mut planes, plane)?;
@@ -220,7 +221,7 @@ fn text_of(alloc: Global, samples: &Result<Vec<u8>>) -> std::result::Result<Stri
 }
 
 /// Reads a frame of the marker of this code.
-fn frame_of(state: &mut State<'_>, code: &str) -> anyhow::Result<FrameInfo>
+fn frame_of(state: &mut State<'_>, code: &str) -> fault::Result<FrameInfo>
     ensures made { IfOk result (λ frame. IsFrame (frame_in frame)) }
     ensures factors { IfOk result (λ frame.
         AllHaveSampling (map component_in frame.components.items)) }
@@ -230,7 +231,7 @@ fn frame_of(state: &mut State<'_>, code: &str) -> anyhow::Result<FrameInfo>
 }
 
 /// Makes the picture of a frame that is read, by words `CODE TRANSFORM: PLANE: PLANE ..`.
-fn picture(state: &mut State<'_>, text: &str) -> anyhow::Result<String> {
+fn picture(state: &mut State<'_>, text: &str) -> fault::Result<String> {
     let (words, planes) = halves(text)?;
     let (code, name) = first_word(words);
     let transform = transform_of(name)?;
@@ -245,13 +246,13 @@ fn text_of_picture(
     frame: &FrameInfo,
     planes: &[Vec<u8>],
     transform: ColorTransform,
-) -> anyhow::Result<String>
+) -> fault::Result<String>
     requires made { IsFrame (frame_in frame.now) }
     requires factors { AllHaveSampling (map component_in frame.now.components.items) }
 {
     let count = frame.components.len();
     if count < 3 || count > 4 || count != planes.len() || !have_room(&frame.components, planes) {
-        bail!("expected the planes of three or four components");
+        return Err(Fault::Expected("the planes of three or four components"));
     }
     Ok(text_of(alloc, &picture_of(alloc, frame, planes, transform))?)
 }
@@ -297,7 +298,7 @@ fn line_of(
 }
 
 /// Makes a line of the picture of a frame that is read, by words `CODE TRANSFORM ROW: PLANE ..`.
-fn line(state: &mut State<'_>, text: &str) -> anyhow::Result<String> {
+fn line(state: &mut State<'_>, text: &str) -> fault::Result<String> {
     let (words, planes) = halves(text)?;
     let (code, words) = first_word(words);
     let (name, row) = first_word(words);
@@ -315,17 +316,17 @@ fn text_of_line(
     planes: &[Vec<u8>],
     row: u16,
     transform: ColorTransform,
-) -> anyhow::Result<String>
+) -> fault::Result<String>
     requires made { IsFrame (frame_in frame.now) }
     requires factors { AllHaveSampling (map component_in frame.now.components.items) }
 {
     let count = frame.components.len();
     let convert = ColorConvert::choose(alloc, count, transform)?;
     if count < 1 || count > 4 || count != planes.len() || !have_room(&frame.components, planes) {
-        bail!("expected the planes of one to four components");
+        return Err(Fault::Expected("the planes of one to four components"));
     }
     if row >= frame.image_size.height || !is_for(count, convert) {
-        bail!("expected a line of the picture");
+        return Err(Fault::Expected("a line of the picture"));
     }
     Ok(text_of(
         alloc,
@@ -334,7 +335,7 @@ fn text_of_line(
 }
 
 /// Returns the answer to a call about pictures, or none to another.
-pub fn answer(state: &mut State<'_>, verb: &str, text: &str) -> anyhow::Result<Option<String>> {
+pub fn answer(state: &mut State<'_>, verb: &str, text: &str) -> fault::Result<Option<String>> {
     let alloc = state.alloc;
     let answer = match verb {
         "upsample" => upsample(alloc, text),

@@ -3,9 +3,10 @@ ghost use Rattle.std.specs.Prelude.{◌≡◌};
 ghost use Rattle.jpeg_segments.specs.Scales.{is_scale};
 
 use crate::bits::text_of_tables;
+use crate::fault;
+use crate::fault::Fault;
 use crate::state::State;
 use crate::words::{answer_of, byte, first_word, refusal};
-use anyhow::{Context, bail};
 use jpeg_bits::error::Error;
 use jpeg_bits::marker::Marker;
 use jpeg_segments::parser::{
@@ -15,8 +16,8 @@ use jpeg_segments::sizes::scale_frame;
 use std::alloc::{AllocError, Global};
 
 /// Returns the marker of a code.
-pub fn marker_of(alloc: Global, text: &str) -> anyhow::Result<Marker> {
-    Ok(Marker::from_u8(byte(alloc, text)?).context("expected a marker code")?)
+pub fn marker_of(alloc: Global, text: &str) -> fault::Result<Marker> {
+    Ok(Marker::from_u8(byte(alloc, text)?).ok_or(Fault::Expected("a marker code"))?)
 }
 
 /// Returns the words for a frame.
@@ -37,7 +38,7 @@ fn text_of_frame(alloc: Global, frame: &FrameInfo) -> Result<String, AllocError>
 }
 
 /// Reads a frame, which is kept.
-fn sof(state: &mut State<'_>, text: &str) -> anyhow::Result<String> {
+fn sof(state: &mut State<'_>, text: &str) -> fault::Result<String> {
     let alloc = state.alloc;
     match parse_sof(alloc, &mut state.source, marker_of(alloc, text)?) {
         Ok(frame) => {
@@ -57,13 +58,13 @@ fn is_scale(scale: usize) -> bool
 }
 
 /// Reads a frame, and sizes it at a scale and then at another one.
-fn scaled(state: &mut State<'_>, text: &str) -> anyhow::Result<String> {
+fn scaled(state: &mut State<'_>, text: &str) -> fault::Result<String> {
     let alloc = state.alloc;
     let (code, scales) = first_word(text);
     let (first, second) = first_word(scales);
     let (first, second) = (first.parse::<usize>()?, second.parse::<usize>()?);
     if !is_scale(first) || !is_scale(second) {
-        bail!("expected scales of 1, 2, 4 or 8");
+        return Err(Fault::Expected("scales of 1, 2, 4 or 8"));
     }
     let mut frame = parse_sof(alloc, &mut state.source, marker_of(alloc, code)?)?;
     scale_frame(&mut frame, first);
@@ -72,19 +73,19 @@ fn scaled(state: &mut State<'_>, text: &str) -> anyhow::Result<String> {
 }
 
 /// Reads the header of a scan of the frame that was read.
-fn sos(state: &mut State<'_>) -> anyhow::Result<String> {
-    let frame = state.frame.as_ref().context("expected a frame")?;
+fn sos(state: &mut State<'_>) -> fault::Result<String> {
+    let frame = state.frame.as_ref().ok_or(Fault::Expected("a frame"))?;
     let scan = parse_sos(state.alloc, &mut state.source, frame);
     Ok(answer_of(state.alloc, &scan)?)
 }
 
 /// Reads Huffman tables, which are kept.
-fn dht(state: &mut State<'_>, text: &str) -> anyhow::Result<String> {
+fn dht(state: &mut State<'_>, text: &str) -> fault::Result<String> {
     let is_baseline = match text {
         "baseline" => Some(true),
         "other" => Some(false),
         "none" => None,
-        _ => bail!("expected baseline, other or none"),
+        _ => return Err(Fault::Expected("baseline, other or none")),
     };
     let alloc = state.alloc;
     match parse_dht(alloc, &mut state.source, is_baseline) {
@@ -97,7 +98,7 @@ fn dht(state: &mut State<'_>, text: &str) -> anyhow::Result<String> {
 }
 
 /// Reads application data.
-fn app(state: &mut State<'_>, text: &str) -> anyhow::Result<String> {
+fn app(state: &mut State<'_>, text: &str) -> fault::Result<String> {
     let alloc = state.alloc;
     let marker = marker_of(alloc, text)?;
     Ok(answer_of(alloc, &parse_app(alloc, &mut state.source, marker))?)
@@ -115,7 +116,7 @@ fn parsed(state: &mut State<'_>, verb: &str) -> Option<Result<String, AllocError
 }
 
 /// Returns the answer to a call of `jpeg_segments`, or none to another.
-pub fn answer(state: &mut State<'_>, verb: &str, text: &str) -> anyhow::Result<Option<String>> {
+pub fn answer(state: &mut State<'_>, verb: &str, text: &str) -> fault::Result<Option<String>> {
     if let Some(answer) = parsed(state, verb) {
         return Ok(Some(answer?));
     }

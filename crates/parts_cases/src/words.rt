@@ -1,12 +1,13 @@
 //! Words of case files, and words of answers.
 
-use anyhow::{Context, bail};
+use crate::fault;
+use crate::fault::Fault;
 use jpeg_bits::error::Error;
 use std::alloc::{AllocError, Global};
 use std::fmt::Debug;
 
 /// Returns a word, and how often it stands: as often as a star and a number after it say, or once.
-fn repeated(word: &str) -> anyhow::Result<(&str, u16)> {
+fn repeated(word: &str) -> fault::Result<(&str, u16)> {
     match word.split_once('*') {
         Some((word, count)) => Ok((word, count.parse::<u16>()?)),
         None => Ok((word, 1)),
@@ -19,7 +20,7 @@ pub fn first_word(line: &str) -> (&str, &str) {
 }
 
 /// Appends the bytes of a word in hex.
-fn append_bytes(alloc: Global, all: &mut Vec<u8>, word: &str) -> anyhow::Result<()> {
+fn append_bytes(alloc: Global, all: &mut Vec<u8>, word: &str) -> fault::Result<()> {
     let (digits, count) = repeated(word)?;
     let part = hex::decode(alloc, digits)?;
     for _ in 0..count {
@@ -29,12 +30,12 @@ fn append_bytes(alloc: Global, all: &mut Vec<u8>, word: &str) -> anyhow::Result<
 }
 
 /// Returns what stands before a colon, and what stands after it.
-pub fn halves(text: &str) -> anyhow::Result<(&str, &str)> {
-    text.split_once(':').context("expected a colon")
+pub fn halves(text: &str) -> fault::Result<(&str, &str)> {
+    text.split_once(':').ok_or(Fault::Expected("a colon"))
 }
 
 /// Returns the bytes of words in hex.
-pub fn bytes(alloc: Global, text: &str) -> anyhow::Result<Vec<u8>> {
+pub fn bytes(alloc: Global, text: &str) -> fault::Result<Vec<u8>> {
     let mut all = Vec::new(alloc);
     for word in text.split_whitespace() {
         append_bytes(alloc, &mut all, word)?;
@@ -43,10 +44,10 @@ pub fn bytes(alloc: Global, text: &str) -> anyhow::Result<Vec<u8>> {
 }
 
 /// Returns the byte of two hex digits.
-pub fn byte(alloc: Global, text: &str) -> anyhow::Result<u8> {
+pub fn byte(alloc: Global, text: &str) -> fault::Result<u8> {
     match bytes(alloc, text)?.as_slice() {
         [byte] => Ok(*byte),
-        _ => bail!("expected a byte"),
+        _ => return Err(Fault::Expected("a byte")),
     }
 }
 
@@ -57,13 +58,13 @@ fn append<T: Copy>(all: &mut Vec<T>, value: T, count: u16) -> Result<(), AllocEr
 }
 
 /// Appends the numbers of a decimal word.
-fn append_numbers(all: &mut Vec<u16>, word: &str) -> anyhow::Result<()> {
+fn append_numbers(all: &mut Vec<u16>, word: &str) -> fault::Result<()> {
     let (digits, count) = repeated(word)?;
     Ok(append(all, digits.parse::<u16>()?, count)?)
 }
 
 /// Returns the numbers of decimal words.
-pub fn numbers(alloc: Global, text: &str) -> anyhow::Result<Vec<u16>> {
+pub fn numbers(alloc: Global, text: &str) -> fault::Result<Vec<u16>> {
     let mut all = Vec::new(alloc);
     for word in text.split_whitespace() {
         append_numbers(&mut all, word)?;
@@ -72,13 +73,13 @@ pub fn numbers(alloc: Global, text: &str) -> anyhow::Result<Vec<u16>> {
 }
 
 /// Appends the coefficients of a decimal word.
-fn append_coefficients(all: &mut Vec<i16>, word: &str) -> anyhow::Result<()> {
+fn append_coefficients(all: &mut Vec<i16>, word: &str) -> fault::Result<()> {
     let (digits, count) = repeated(word)?;
     Ok(append(all, digits.parse::<i16>()?, count)?)
 }
 
 /// Returns the 64 coefficients of decimal words.
-pub fn coefficients(alloc: Global, text: &str) -> anyhow::Result<[i16; 64]> {
+pub fn coefficients(alloc: Global, text: &str) -> fault::Result<[i16; 64]> {
     let mut all = Vec::new(alloc);
     for word in text.split_whitespace() {
         append_coefficients(&mut all, word)?;
@@ -87,18 +88,18 @@ pub fn coefficients(alloc: Global, text: &str) -> anyhow::Result<[i16; 64]> {
 }
 
 /// Returns the index and the coefficient of a word `INDEX=VALUE`.
-fn indexed(word: &str) -> anyhow::Result<(usize, i16)> {
-    let (index, value) = word.split_once('=').context("expected INDEX=VALUE")?;
+fn indexed(word: &str) -> fault::Result<(usize, i16)> {
+    let (index, value) = word.split_once('=').ok_or(Fault::Expected("INDEX=VALUE"))?;
     Ok((index.parse::<usize>()?, value.parse::<i16>()?))
 }
 
 /// Puts the coefficients of words `INDEX=VALUE` into a block.
-pub fn change(block: &mut [i16; 64], text: &str) -> anyhow::Result<()> {
+pub fn change(block: &mut [i16; 64], text: &str) -> fault::Result<()> {
     for word in text.split_whitespace() {
         let (index, value) = indexed(word)?;
         match block.get_mut(index) {
             Some(slot) => *slot = value,
-            None => bail!("expected an index below 64"),
+            None => return Err(Fault::Expected("an index below 64")),
         }
     }
     Ok(())

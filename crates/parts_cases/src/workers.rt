@@ -6,8 +6,9 @@ ghost use Rattle.jpeg_segments.specs.FrameView.{component_in};
 ghost use Rattle.jpeg_pixels.specs.JointPlanes.{HasFrameSizes, joint_row_size};
 ghost use Rattle.jpeg_pixels.specs.Workers.{work_of};
 
+use crate::fault;
+use crate::fault::Fault;
 use crate::words::{bytes, halves, numbers, text_of_bytes};
-use anyhow::{Context, bail};
 use jpeg_bits::error::Error;
 use jpeg_pixels::joint_planes::{JointPlanes, JointShape, joint_shape};
 use jpeg_pixels::worker::{ImmediateWorker, RowData};
@@ -63,12 +64,12 @@ fn shape_of(factors: [u8; 3], size: Dimensions, rows: u16) -> Option<JointShape>
 }
 
 /// Returns the layout of words `FIRST SECOND THIRD WIDTH HEIGHT ROWS`.
-fn shape(alloc: Global, text: &str) -> anyhow::Result<Option<JointShape>>
+fn shape(alloc: Global, text: &str) -> fault::Result<Option<JointShape>>
     ensures { IfOk result (λ shape. IfSome shape HasFrameSizes) }
 {
     let numbers = numbers(alloc, text)?;
     let [first, second, third, width, height, rows] = numbers.as_slice() else {
-        bail!("expected six numbers");
+        return Err(Fault::Expected("six numbers"));
     };
     let factors = [
         u8::try_from(*first)?,
@@ -76,7 +77,7 @@ fn shape(alloc: Global, text: &str) -> anyhow::Result<Option<JointShape>>
         u8::try_from(*third)?,
     ];
     if factors.iter().any(|factor| *factor < 1 || *factor > 4) {
-        bail!("expected factors of 1 to 4");
+        return Err(Fault::Expected("factors of 1 to 4"));
     }
     let size = Dimensions {
         width: *width,
@@ -94,17 +95,17 @@ fn room_of(shape: JointShape) -> Option<usize>
 }
 
 /// Takes a plane out of a buffer, by words `SHAPE: SLOT: SAMPLES`.
-fn joint(alloc: Global, text: &str) -> anyhow::Result<String> {
+fn joint(alloc: Global, text: &str) -> fault::Result<String> {
     let (words, text) = halves(text)?;
     let (slot, samples) = halves(text)?;
     let slot = slot.trim().parse::<usize>()?;
     let samples = bytes(alloc, samples)?;
     let Some(shape) = shape(alloc, words)? else {
-        bail!("expected components alike");
+        return Err(Fault::Expected("components alike"));
     };
-    let room = room_of(shape).context("expected fewer samples")?;
+    let room = room_of(shape).ok_or(Fault::Expected("fewer samples"))?;
     if slot >= shape.count || samples.len() != room {
-        bail!("expected a slot, and the samples of all planes");
+        return Err(Fault::Expected("a slot, and the samples of all planes"));
     }
     let mut joint = JointPlanes::new(alloc, shape)?;
     joint.samples.extend_from_slice(&samples)?;
@@ -164,10 +165,10 @@ fn whole(alloc: Global, firsts: [i16; 4], seconds: [i16; 4]) -> Result<Vec<u8>, 
 }
 
 /// Returns four coefficients of words.
-fn firsts(alloc: Global, text: &str) -> anyhow::Result<[i16; 4]> {
+fn firsts(alloc: Global, text: &str) -> fault::Result<[i16; 4]> {
     let numbers = numbers(alloc, text)?;
     let [first, second, third, fourth] = numbers.as_slice() else {
-        bail!("expected four numbers");
+        return Err(Fault::Expected("four numbers"));
     };
     Ok([
         i16::try_from(*first)?,
@@ -178,7 +179,7 @@ fn firsts(alloc: Global, text: &str) -> anyhow::Result<[i16; 4]> {
 }
 
 /// Makes a plane by a worker, by words `FIRSTS` of one row, or `FIRSTS: FIRSTS` of two.
-fn worker(alloc: Global, text: &str) -> anyhow::Result<String> {
+fn worker(alloc: Global, text: &str) -> fault::Result<String> {
     if let Some((first, second)) = text.split_once(':') {
         let plane = whole(alloc, firsts(alloc, first)?, firsts(alloc, second)?)?;
         return Ok(text_of_bytes(alloc, &plane)?);
@@ -188,7 +189,7 @@ fn worker(alloc: Global, text: &str) -> anyhow::Result<String> {
 }
 
 /// Returns the answer to a call about planes, or none to another.
-pub fn answer(alloc: Global, verb: &str, text: &str) -> anyhow::Result<Option<String>> {
+pub fn answer(alloc: Global, verb: &str, text: &str) -> fault::Result<Option<String>> {
     let answer = match verb {
         "shape" => return Ok(Some(format!(in alloc; "{:?}", shape(alloc, text)?)?)),
         "joint" => joint(alloc, text),
