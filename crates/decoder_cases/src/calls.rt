@@ -1,6 +1,7 @@
 //! What a line of a case asks for, and the words for it.
 
-use anyhow::{Context, bail, ensure};
+use crate::fault;
+use crate::fault::Fault;
 use jpeg_decoder::{ColorTransform, Scale};
 use std::str::SplitWhitespace;
 
@@ -39,7 +40,7 @@ pub enum Request {
 }
 
 /// Returns the colour transform of this name.
-fn transform_of(name: &str) -> anyhow::Result<ColorTransform> {
+fn transform_of(name: &str) -> fault::Result<ColorTransform> {
     Ok(match name {
         "None" => ColorTransform::None,
         "Grayscale" => ColorTransform::Grayscale,
@@ -50,24 +51,24 @@ fn transform_of(name: &str) -> anyhow::Result<ColorTransform> {
         "JcsBgYcc" => ColorTransform::JcsBgYcc,
         "JcsBgRgb" => ColorTransform::JcsBgRgb,
         "Unknown" => ColorTransform::Unknown,
-        _ => bail!("unknown colour transform {name:?}"),
+        _ => return Err(Fault::Expected("a colour transform")),
     })
 }
 
 /// Returns the scale that a part of the size is.
-fn scale_of(part: &str) -> anyhow::Result<Scale> {
+fn scale_of(part: &str) -> fault::Result<Scale> {
     Ok(match part {
         "1/8" => Scale::Eighth,
         "1/4" => Scale::Quarter,
         "1/2" => Scale::Half,
         "1" => Scale::Full,
-        _ => bail!("unknown scale {part:?}"),
+        _ => return Err(Fault::Expected("a scale")),
     })
 }
 
 /// Returns the next of the words that a call takes.
-fn next_of<'a>(words: &mut SplitWhitespace<'a>) -> anyhow::Result<&'a str> {
-    words.next().context("too few words")
+fn next_of<'a>(words: &mut SplitWhitespace<'a>) -> fault::Result<&'a str> {
+    words.next().ok_or(Fault::Expected("more words"))
 }
 
 /// Returns the call of a word that takes no other words, if it is one.
@@ -88,18 +89,18 @@ fn plain_call(word: &str) -> Option<Call> {
 }
 
 /// Returns the number that the next word says.
-fn next_number(words: &mut SplitWhitespace<'_>) -> anyhow::Result<usize> {
+fn next_number(words: &mut SplitWhitespace<'_>) -> fault::Result<usize> {
     Ok(next_of(words)?.parse::<usize>()?)
 }
 
 /// Returns the call of `scale` with the width and the height that the next words say.
-fn scale_call(words: &mut SplitWhitespace<'_>) -> anyhow::Result<Call> {
+fn scale_call(words: &mut SplitWhitespace<'_>) -> fault::Result<Call> {
     let width = next_of(words)?.parse::<u16>()?;
     Ok(Call::Scale(width, next_of(words)?.parse::<u16>()?))
 }
 
 /// Returns the call of a word, which takes some of the words after it.
-fn call_of(word: &str, words: &mut SplitWhitespace<'_>) -> anyhow::Result<Call> {
+fn call_of(word: &str, words: &mut SplitWhitespace<'_>) -> fault::Result<Call> {
     if let Some(call) = plain_call(word) {
         return Ok(call);
     }
@@ -109,20 +110,22 @@ fn call_of(word: &str, words: &mut SplitWhitespace<'_>) -> anyhow::Result<Call> 
         "scale" => scale_call(words),
         "at" => Ok(Call::At(scale_of(next_of(words)?)?)),
         "into" => Ok(Call::Into(next_number(words)?)),
-        _ => bail!("unknown word {word:?}"),
+        _ => Err(Fault::Expected("a word of a call")),
     }
 }
 
 impl Request {
     /// Returns the request of a word and all that stands after it on its line.
-    pub fn new(word: &str, rest: &str) -> anyhow::Result<Request> {
+    pub fn new(word: &str, rest: &str) -> fault::Result<Request> {
         let mut words = rest.split_whitespace();
         let request = match word {
             "rest" => Request::Rest,
             "cuts" => Request::Cuts,
             _ => Request::Call(call_of(word, &mut words)?),
         };
-        ensure!(words.next().is_none(), "too many words after {word:?}");
-        Ok(request)
+        match words.next() {
+            Some(_) => Err(Fault::Expected("fewer words")),
+            None => Ok(request),
+        }
     }
 }

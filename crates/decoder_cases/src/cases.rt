@@ -1,9 +1,11 @@
 //! The cases of a file, one after the other.
 
 use crate::calls::Request;
+use crate::fault;
+use crate::fault::Fault;
 use crate::hex_words::append_bytes;
 use crate::pieces::answers;
-use anyhow::{Context, bail, ensure};
+use anyhow::Context;
 use std::alloc::Global;
 use std::io::Write;
 
@@ -18,8 +20,10 @@ struct Case {
 
 impl Case {
     /// Returns a case of this name.
-    fn new(alloc: Global, name: &str) -> anyhow::Result<Case> {
-        ensure!(!name.is_empty(), "a case without a name");
+    fn new(alloc: Global, name: &str) -> fault::Result<Case> {
+        if name.is_empty() {
+            return Err(Fault::Expected("the name of the case"));
+        }
         Ok(Case {
             name: String::from_str(alloc, name)?,
             has_stream: false,
@@ -29,21 +33,27 @@ impl Case {
     }
 
     /// Reads a line of the case, which begins with this word.
-    fn read_line(&mut self, alloc: Global, word: &str, rest: &str) -> anyhow::Result<()> {
+    fn read_line(&mut self, alloc: Global, word: &str, rest: &str) -> fault::Result<()> {
         if word == "stream" {
-            ensure!(self.requests.is_empty(), "a stream after a call");
+            if !self.requests.is_empty() {
+                return Err(Fault::Expected("no stream after a call"));
+            }
             self.has_stream = true;
             append_bytes(alloc, &mut self.stream, rest)
         } else {
-            ensure!(self.has_stream, "a call before a stream");
+            if !self.has_stream {
+                return Err(Fault::Expected("a stream before a call"));
+            }
             self.requests.push(Request::new(word, rest)?)?;
             Ok(())
         }
     }
 
     /// Writes the line of the case.
-    fn answer<W: Write>(&self, alloc: Global, writer: &mut W) -> anyhow::Result<()> {
-        ensure!(!self.requests.is_empty(), "a case without a call");
+    fn answer<W: Write>(&self, alloc: Global, writer: &mut W) -> fault::Result<()> {
+        if self.requests.is_empty() {
+            return Err(Fault::Expected("a call of the case"));
+        }
         let answers = answers(alloc, &self.stream, &self.requests)?;
         let line = format!(in alloc; "{}: {answers}\n", self.name)?;
         writer.write_all(line.as_bytes())?;
@@ -52,7 +62,7 @@ impl Case {
 }
 
 /// Writes the line of a case that has ended, if there is one.
-fn end_case<W: Write>(alloc: Global, case: Option<Case>, writer: &mut W) -> anyhow::Result<()> {
+fn end_case<W: Write>(alloc: Global, case: Option<Case>, writer: &mut W) -> fault::Result<()> {
     match case {
         Some(case) => case.answer(alloc, writer),
         None => Ok(()),
@@ -65,7 +75,7 @@ fn next_case<W: Write>(
     case: Option<Case>,
     line: &str,
     writer: &mut W,
-) -> anyhow::Result<Option<Case>> {
+) -> fault::Result<Option<Case>> {
     let (word, rest) = line.split_once(' ').unwrap_or((line, ""));
     if line.is_empty() || word == "#" {
         return Ok(case);
@@ -79,7 +89,7 @@ fn next_case<W: Write>(
             case.read_line(alloc, word, rest)?;
             Ok(Some(case))
         }
-        (_, None) => bail!("a line before a case"),
+        (_, None) => Err(Fault::Expected("a case before its lines")),
     }
 }
 
@@ -90,5 +100,5 @@ pub fn answer_cases<W: Write>(alloc: Global, text: &str, writer: &mut W) -> anyh
         let number = index.wrapping_add(1);
         case = next_case(alloc, case, line, writer).context(format_args!("line {number}"))?;
     }
-    end_case(alloc, case, writer)
+    Ok(end_case(alloc, case, writer)?)
 }

@@ -1,9 +1,10 @@
 //! Bytes as words of hex digits, each with how often it stands after a star.
 
+use crate::fault;
 use std::alloc::{AllocError, Global};
 
 /// Appends the bytes of words.
-pub fn append_bytes(alloc: Global, bytes: &mut Vec<u8>, words: &str) -> anyhow::Result<()> {
+pub fn append_bytes(alloc: Global, bytes: &mut Vec<u8>, words: &str) -> fault::Result<()> {
     for word in words.split_whitespace() {
         append_word(alloc, bytes, word)?;
     }
@@ -11,7 +12,7 @@ pub fn append_bytes(alloc: Global, bytes: &mut Vec<u8>, words: &str) -> anyhow::
 }
 
 /// Appends the bytes of a word.
-fn append_word(alloc: Global, bytes: &mut Vec<u8>, word: &str) -> anyhow::Result<()> {
+fn append_word(alloc: Global, bytes: &mut Vec<u8>, word: &str) -> fault::Result<()> {
     let (digits, count) = match word.split_once('*') {
         Some((digits, count)) => (digits, count.parse::<u32>()?),
         None => (word, 1),

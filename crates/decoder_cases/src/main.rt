@@ -54,6 +54,7 @@ mod answers;
 mod calls;
 mod cases;
 mod decoded;
+mod fault;
 mod hex_words;
 mod pieces;
 

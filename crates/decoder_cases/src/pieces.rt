@@ -3,6 +3,8 @@
 use crate::answers::answer;
 use crate::calls::{Call, Request};
 use crate::decoded::size_text;
+use crate::fault;
+use crate::fault::Fault;
 use jpeg_decoder::run::{report, run};
 use jpeg_decoder::{Decoder, Error, ImageInfo, PartialPicture};
 use std::alloc::{AllocError, Global};
@@ -37,7 +39,7 @@ fn decoded_by(alloc: Global, stream: &[u8], step: usize) -> Result<String, Error
 
 /// Returns the answers to `decode` of each shorter beginning, each with the length from which on
 /// it is the answer.
-fn cuts_by(alloc: Global, stream: &[u8], step: usize) -> anyhow::Result<String> {
+fn cuts_by(alloc: Global, stream: &[u8], step: usize) -> fault::Result<String> {
     let mut text = String::new(alloc);
     let mut last = String::new(alloc);
     for length in 0..stream.len() {
@@ -68,7 +70,7 @@ fn answer_to(
     step: usize,
     left: usize,
     request: Request,
-) -> anyhow::Result<Option<String>> {
+) -> fault::Result<Option<String>> {
     match request {
         Request::Call(call) => Ok(answer(alloc, decoder, call)?),
         Request::Rest => Ok(Some(format!(in alloc; "{left}")?)),
@@ -84,7 +86,7 @@ fn answers_of(
     stream: &[u8],
     step: usize,
     requests: &[Request],
-) -> anyhow::Result<String> {
+) -> fault::Result<String> {
     let mut text = String::new(alloc);
     for request in requests {
         let left = stream.len().saturating_sub(counts.given.get());
@@ -101,11 +103,11 @@ fn answers_by(
     stream: &[u8],
     requests: &[Request],
     step: usize,
-) -> anyhow::Result<String> {
+) -> fault::Result<String> {
     let counts = Counts::new();
     match decoder_of(alloc, stream, step, &counts) {
         Ok(mut decoder) => answers_of(alloc, &mut decoder, &counts, stream, step, requests),
-        Err(error) => Err(anyhow::Error::from(error)),
+        Err(error) => Err(Fault::from(error)),
     }
 }
 
@@ -204,7 +206,7 @@ fn decodes_as_asked(alloc: Global, stream: &[u8], requests: &[Request]) -> bool 
 }
 
 /// Returns the answers to requests of a stream, or where they are wrong.
-pub fn answers(alloc: Global, stream: &[u8], requests: &[Request]) -> anyhow::Result<String> {
+pub fn answers(alloc: Global, stream: &[u8], requests: &[Request]) -> fault::Result<String> {
     let whole = answers_by(alloc, stream, requests, usize::MAX)?;
     for step in STEPS {
         let other = answers_by(alloc, stream, requests, step)?;
