@@ -86,10 +86,14 @@ returns-clause-beginning g c bytes tells text e =
     (g.W.Write.contents c.write_lines.new.writer) t) (given ∙ same)
     (begins c.write_lines.result _ _ _ c.write_lines.ensures.ok c.write_lines.ensures.err)
 
+pub returns-clause-refused : goal.returns-clause-refused
+returns-clause-refused g c bytes tells some = c.write_lines.ensures.outside
+
 pub returns-clause-images : goal.returns-clause-images
 returns-clause-images g c =
     prints-images (g.R.Read.remaining c.args.reader) _ _ _ (λ bytes tells. returns-clause-ok g c bytes tells)
-    (λ bytes tells. returns-clause-beginning g c bytes tells) (λ bytes tells. search rules)
+    (λ bytes tells. returns-clause-beginning g c bytes tells)
+    (λ bytes tells some. returns-clause-refused g c bytes tells some)
 
 pub returns-clause-named : goal.returns-clause-named
 returns-clause-named g c bytes tells = outside-named bytes c.write_lines.result c.write_lines.ensures.outside
