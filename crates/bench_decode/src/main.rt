@@ -37,9 +37,18 @@ fn request_of(mut arguments: Args) -> Option<Request> {
     })
 }
 
+/// How many bytes a decoder reads ahead at most.
+const CAPACITY: usize = 65536;
+
+/// How many bytes a stream has that is worth reading ahead.
+const LONG: usize = 1024;
+
 /// Returns the pixels of a stream.
 fn pixels_of(alloc: Global, bytes: &[u8], size: Option<Dimensions>) -> Result<Vec<u8>> {
     let mut decoder = Decoder::new(alloc, SliceReader::new(bytes))?;
+    if bytes.len() >= LONG {
+        decoder.read_ahead(bytes.len().min(CAPACITY))?;
+    }
     if let Some(size) = size {
         decoder.scale(size.width, size.height)?;
     }
