@@ -1,6 +1,7 @@
 //! A stream that holds each value of a byte, in metadata and in entropy-coded data, whole and cut,
-//! through each reader: the answer doesn't depend on the reader.
+//! through each reader: the answer doesn't depend on the reader, nor on how much is read ahead.
 
+use jpeg_decoder::error::Result;
 use jpeg_decoder::{ByteReader, Decoder, Error, SliceReader};
 use std::alloc::Global;
 use std::io::{BufReader, ErrorKind, Read};
@@ -88,10 +89,10 @@ struct Front<'a> {
 }
 
 impl Front<'_> {
-    /// Returns whether a reader of these bytes gives what they mean, and the Exif data where they
+    /// Returns whether a decoder of these bytes gives what they mean, and the Exif data where they
     /// hold it.
-    fn is_read<R: Read + Drop>(&self, alloc: Global, reader: R) -> bool {
-        match Decoder::new(alloc, reader) {
+    fn is_decoded<R: Read + Drop>(&self, decoder: Result<Decoder<R>>) -> bool {
+        match decoder {
             Ok(mut decoder) => {
                 let is_decoded = is_decoded(&mut decoder, self.is_whole);
                 let is_exif = match decoder.exif_data() {
@@ -102,6 +103,19 @@ impl Front<'_> {
             }
             Err(_) => false,
         }
+    }
+
+    /// Returns whether a decoder of a reader of these bytes does so.
+    fn is_read<R: Read + Drop>(&self, alloc: Global, reader: R) -> bool {
+        self.is_decoded(Decoder::new(alloc, reader))
+    }
+
+    /// Returns whether decoders that read ahead do so: some bytes at once, and a few of a reader
+    /// that gives even fewer.
+    fn is_read_ahead(&self, alloc: Global) -> bool {
+        let reader = Reader::new(self.bytes, 3, usize::MAX, Trouble::Fails);
+        self.is_decoded(Decoder::with_capacity(alloc, 61, SliceReader::new(self.bytes)))
+            && self.is_decoded(Decoder::with_capacity(alloc, 5, reader))
     }
 
     /// Returns whether a byte reader does so.
@@ -127,6 +141,7 @@ impl Front<'_> {
             && self.is_read(alloc, SliceReader::new(self.bytes))
             && self.is_buffered(alloc)
             && self.is_buffered_in_pieces(alloc)
+            && self.is_read_ahead(alloc)
     }
 }
 
@@ -151,4 +166,42 @@ fn each_reader_gives_each_byte(rt: HostRuntime) {
         Err(_) => Some(0),
     };
     assert!(rt; wrong.is_none(), "{wrong:?} bytes");
+}
+
+/// Returns how many bytes follow the image of a stream that ends with AA: read ahead, and of the
+/// reader.
+fn rest_of(alloc: Global, bytes: &[u8], capacity: usize) -> Result<(usize, usize)> {
+    let mut decoder = Decoder::with_capacity(alloc, capacity, SliceReader::new(bytes))?;
+    decoder.decode()?;
+    let (ahead, reader) = decoder.rest();
+    let is_next = ahead.first().is_none_or(|byte| *byte == 0xaa);
+    if !is_next {
+        return Err(Error::Internal("another byte is next"));
+    }
+    Ok((ahead.len(), reader.left()))
+}
+
+/// Returns whether the byte after the image was read ahead, or else is the reader's next.
+fn is_left(alloc: Global, bytes: &[u8]) -> bool {
+    for capacity in [0, 1, 1000] {
+        let expected = if capacity == 1000 { (1, 0) } else { (0, 1) };
+        let is_rest = match rest_of(alloc, bytes, capacity) {
+            Ok(rest) => rest == expected,
+            Err(_) => false,
+        };
+        if !is_rest {
+            return false;
+        }
+    }
+    true
+}
+
+#[test]
+fn the_rest_follows_the_image(rt: HostRuntime) {
+    let text = "FFD8 Q(01) F(C0) D(04) A(00) S(003F00) 43 FFD9 AA";
+    let is_left = match bytes_in(&mut [0; ROOM], text) {
+        Ok(bytes) => is_left(rt.alloc(), bytes),
+        Err(_) => false,
+    };
+    assert!(rt; is_left);
 }

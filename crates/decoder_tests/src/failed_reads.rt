@@ -41,10 +41,18 @@ impl Failure {
         }
     }
 
-    /// Returns whether a new decoder does so and reads no more.
-    fn fails_a_decoder(self, alloc: Global, stream: &Written<'_>, first: First) -> bool {
+    /// Returns whether a new decoder does so and reads no more. One that reads ahead takes each
+    /// byte before it asks for the next, since its reader gives one at a time.
+    fn fails_a_decoder(
+        self,
+        alloc: Global,
+        stream: &Written<'_>,
+        first: First,
+        capacity: usize,
+    ) -> bool {
         let counts = Counts::new();
-        match Decoder::new(alloc, self.reader(stream.bytes, &counts)) {
+        let reader = self.reader(stream.bytes, &counts);
+        match Decoder::with_capacity(alloc, capacity, reader) {
             Ok(mut decoder) => {
                 self.fails(stream, &mut decoder, first)
                     && stream.is_reported(&decoder, self.call)
@@ -69,11 +77,13 @@ impl Failure {
     /// Returns whether decoders and `run` do so.
     fn fails_all(self, alloc: Global, stream: &Written<'_>) -> bool {
         for first in FIRSTS {
-            if !self.fails_a_decoder(alloc, stream, first) {
+            if !self.fails_a_decoder(alloc, stream, first, 0) {
                 return false;
             }
         }
-        self.fails_a_program(alloc, stream)
+        let is_ahead = self.kind == FAILURES[0];
+        (!is_ahead || self.fails_a_decoder(alloc, stream, First::Nothing, 16))
+            && self.fails_a_program(alloc, stream)
     }
 }
 

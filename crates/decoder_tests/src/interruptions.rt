@@ -51,9 +51,9 @@ impl Interruptions {
         run(alloc, self.reader(bytes), &mut writer)
     }
 
-    /// Returns what a decoder returns of a stream.
+    /// Returns what a decoder that reads ahead returns of a stream.
     fn decode(self, alloc: Global, bytes: &[u8], first: First) -> Result<Vec<u8>, Error> {
-        match Decoder::new(alloc, self.reader(bytes)) {
+        match Decoder::with_capacity(alloc, 16, self.reader(bytes)) {
             Ok(mut decoder) => decode_after(&mut decoder, first),
             Err(error) => Err(error),
         }

@@ -120,17 +120,21 @@ impl Reading<'_> {
     }
 }
 
-/// Returns whether a decoder of a stream returns what is wanted, or runs out of memory.
-fn answers(alloc: Global, stream: &Written<'_>, wanted: Wanted) -> bool {
+/// Returns whether a decoder of a stream returns what is wanted, or runs out of memory. One that
+/// reads ahead has a reader that gives one byte at a time, so that no byte is given before it is
+/// taken.
+fn answers(alloc: Global, stream: &Written<'_>, wanted: Wanted, capacity: usize) -> bool {
     let counts = Counts::new();
-    let reader = Reader::new(stream.bytes, usize::MAX, usize::MAX, Trouble::Fails);
+    let piece = if capacity == 0 { usize::MAX } else { 1 };
+    let reader = Reader::new(stream.bytes, piece, usize::MAX, Trouble::Fails);
     let reading = Reading {
         alloc,
         stream,
         counts: &counts,
     };
     begin_call(alloc);
-    match end_call(alloc, Decoder::new(alloc, Counted::new(reader, &counts))) {
+    let decoder = Decoder::with_capacity(alloc, capacity, Counted::new(reader, &counts));
+    match end_call(alloc, decoder) {
         Ok(mut decoder) => reading.answers(&mut decoder, wanted),
         Err(error) => matches!(error, Error::OutOfMemory),
     }
@@ -156,12 +160,21 @@ fn fares(alloc: Global, stream: &Stream) -> bool {
     match stream.write_out(&mut [0; ROOM], &mut [0; ROOM]) {
         Ok(stream) => {
             for first in FIRSTS {
-                if !answers(alloc, &stream, Wanted::Whole(first)) {
+                if !answers(alloc, &stream, Wanted::Whole(first), 0) {
                     return false;
                 }
             }
-            answers(alloc, &stream, Wanted::Partial) && runs(alloc, &stream)
+            answers(alloc, &stream, Wanted::Partial, 0) && runs(alloc, &stream)
         }
+        Err(_) => false,
+    }
+}
+
+/// Returns whether a decoder of a stream that reads ahead returns its picture, or runs out of
+/// memory.
+fn fares_ahead(alloc: Global, stream: &Stream) -> bool {
+    match stream.write_out(&mut [0; ROOM], &mut [0; ROOM]) {
+        Ok(stream) => answers(alloc, &stream, Wanted::Whole(First::Nothing), 16),
         Err(_) => false,
     }
 }
@@ -172,4 +185,10 @@ fn streams_want_memory(rt: HostRuntime) {
         let stream = stream_of(number);
         assert!(rt; fares(rt.alloc(), &stream), "{}", stream.named.name);
     }
+}
+
+#[test]
+fn bytes_ahead_want_memory(rt: HostRuntime) {
+    let stream = stream_of(0);
+    assert!(rt; fares_ahead(rt.alloc(), &stream), "{}", stream.named.name);
 }
