@@ -1,4 +1,5 @@
 -- Lemmas that the proofs of functions use, by what they are about.
+use Rattle.std.proofs.Common.{length-append}
 use Rattle.zaxbriar.proofs.Densities.{density-none, density-short, density-some, first-cut, first-ended, first-jfif}
 use Rattle.zaxbriar.proofs.Densities.{first-later, first-none, first-past}
 use Rattle.zaxbriar.proofs.FoundSegments.{marker-filled, marker-here, marker-later, no-marker, payload-cut, payload-is}
@@ -6,6 +7,9 @@ use Rattle.zaxbriar.proofs.FoundSegments.{few-refused, marked-long, payload-shor
 use Rattle.zaxbriar.proofs.FoundSegments.{some-left, unsized}
 use Rattle.zaxbriar.proofs.KeptBytes.{marker-long, segment-cut, segment-found, segment-none}
 use Rattle.zaxbriar.proofs.FoundPlaces.{other-said, places-are, places-ended, places-later, places-none, places-past}
+
+-- how many bytes were read
+pub ruleset counted = (length-append)
 
 -- the next marker
 pub ruleset markers = (no-marker, marker-here, marker-later, marker-filled)

@@ -3,7 +3,8 @@ ghost use Rattle.std.specs.Prelude.{◌≡◌, ◌≤◌, ◌+◌, length, true}
 
 use jpeg_decoder::{Decoder, SliceReader};
 
-/// Returns how many bytes of a stream its decoder has read.
+/// Returns how many bytes of a stream its decoder has taken.
+#[tactic(auto, using(crate::proofs::Rules::counted))]
 pub fn bytes_read(jpeg: &[u8], decoder: &Decoder<SliceReader<'_>>) -> u64
     ensures most { result ≤ length jpeg.now }
     ensures counts { decoder.now.source.known ≡ true
@@ -11,5 +12,8 @@ pub fn bytes_read(jpeg: &[u8], decoder: &Decoder<SliceReader<'_>>) -> u64
         → result + length decoder.now.source.bytes ≡ length jpeg.now }
 {
     // A decoder that isn't of these bytes may have more left: then it is 0.
-    jpeg.len().saturating_sub(decoder.reader().left()) as u64
+    let (ahead, reader) = decoder.rest();
+    jpeg.len()
+        .saturating_sub(ahead.len())
+        .saturating_sub(reader.left()) as u64
 }
