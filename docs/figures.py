@@ -109,7 +109,7 @@ def expected():
     yield "README.md", r"info examples/rocket.jpg` \| (\d+) minutes", first
     whole = re.search(r"takes (\d+ to \d+) minutes with 4", gate)[1]
     yield "README.md", r"`./test` \| (\d+ to \d+) minutes on 4", whole
-    for crate in ("parts_callers", "decoder_callers", "zaxbriar", "zaxbriar_callers"):
+    for crate in ("parts_callers", "decoder_callers", "zaxbriar_callers"):
         yield "docs/GATE.md", rf"`{crate}` with (\d+) edits", edits(crate)
 
 

@@ -1,9 +1,0 @@
-use Rattle.std.proofs.Common.{◌≡◌, ◌*◌, ◌++◌, drop}
-use Rattle.zaxbriar.specs.Layouts.{layout_line, pixel_bytes}
-use Rattle.jpeg_streams.specs.declared.images.PixelFormat.TheVariants.{RGB24}
-use Rattle.zaxbriar.specs.declared.layouts.Conversion.TheVariants.{InColour}
-use Rattle.zaxbriar.proofs.layouts.put_fours.Given as goal
-
-abbrev pub invariant-loop-k : goal.invariant-loop-k
-invariant-loop-k l = l.line ≡ layout_line (InColour RGB24 8 l.fn.layout) (pixel_bytes RGB24 8) (4 * l.k) l.fn.row
-    ++ drop (16 * l.k) l.initial.line

@@ -1,0 +1,61 @@
+-- What a call that copies metadata says of its outcome: a field of its record each.
+use Rattle.std.proofs.Common.{arith, ◌≡◌, ◌⊎◌, ◌∙◌, ◌<◌, ◌≤◌, ℕ, List, None, refl}
+use Rattle.std.specs.Prelude.{IsOk, length}
+use Rattle.zaxbriar_calls.specs.CopiesMetadata.{CopiesMetadata}
+use Rattle.zaxbriar_calls.specs.Faults.{IsNamed}
+use Rattle.zaxbriar_calls.specs.Metadata.{IsCopied, IsLonger, IsNoKind, end_at, is_whole, kind_alone, said_of}
+
+-- a kind that doesn't exist
+pub no-kind-copied : (bytes : List ℕ) (kind : ℕ) (old : List ℕ) (count : ℕ) → IsNoKind kind
+    → CopiesMetadata bytes kind old old count 6
+no-kind-copied bytes kind old count none = record {
+  copies = λ z. absurd (omega (arith, z));
+  none = λ z. absurd (omega (arith, z));
+  room = λ z. absurd (omega (arith, z));
+  known = λ k. refl;
+  wrong = λ z. none;
+  number = omega arith;
+  malformed = λ z. absurd (omega (arith, z));
+  unsupported = λ z. absurd (omega (arith, z));
+  truncated = λ z. absurd (omega (arith, z));
+  kept = λ z. refl;
+}
+
+-- memory that is refused
+pub no-memory-copied : (bytes : List ℕ) (kind : ℕ) (old new : List ℕ) (count : ℕ) → (IsNoKind kind → ⊥) → new ≡ old
+    → CopiesMetadata bytes kind old new count 4
+no-memory-copied bytes kind old new count some same = record {
+  copies = λ z. absurd (omega (arith, z));
+  none = λ z. absurd (omega (arith, z));
+  room = λ z. absurd (omega (arith, z));
+  known = λ k. absurd (some k);
+  wrong = λ z. absurd (omega (arith, z));
+  number = omega arith;
+  malformed = λ z. absurd (omega (arith, z));
+  unsupported = λ z. absurd (omega (arith, z));
+  truncated = λ z. absurd (omega (arith, z));
+  kept = λ z. same;
+}
+
+pub found-copied : (bytes : List ℕ) (kind : ℕ) (old new : List ℕ) (count code : ℕ) → (IsNoKind kind → ⊥)
+    → (code ≡ 0 → IsCopied (said_of kind bytes) old new count)
+    → (code ≡ 7 → (said_of kind bytes ≡ None) × IsOk (end_at (is_whole kind) bytes))
+    → (code ≡ 5 → IsLonger (said_of kind bytes) (length old) count)
+    → IsNamed code (end_at (is_whole kind) bytes) → (code ≡ 6 → IsNoKind kind) → code ≤ 7
+    → ((code ≡ 0 → ⊥) → new ≡ old) → CopiesMetadata bytes kind old new count code
+found-copied bytes kind old new count code some copies none room named wrong most kept = record {
+  copies = copies;
+  none = none;
+  room = room;
+  known = λ k. absurd (some k);
+  wrong = wrong;
+  number = most;
+  malformed = named.0;
+  unsupported = named.1;
+  truncated = named.2;
+  kept = kept;
+}
+
+-- a kind of 1 to 3 exists
+pub is-kind : (kind alone : ℕ) → alone ≡ kind_alone kind → (alone ≡ 0 → ⊥) → alone ≤ 3 → IsNoKind kind → ⊥
+is-kind kind alone same some few none = grind arith

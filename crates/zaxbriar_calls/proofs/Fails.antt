@@ -1,0 +1,75 @@
+-- A refusal of the header, or of what follows it, is one of the stream.
+use Rattle.std.proofs.Common.{◌≡◌, ◌⊎◌, ◌<◌, ◌^◌, ℕ, List, Ok, Err, Some, length, Result, ap, arith, refl}
+use Rattle.std.specs.Prelude.{IfErr, IsErrAnd, OnOk}
+use Rattle.jpeg_bits.specs.Reading.{Fault, Names}
+use Rattle.jpeg_bits.specs.declared.error.Error.{Error}
+use Rattle.jpeg_streams.specs.DecodedImages.{at_size}
+use Rattle.jpeg_streams.specs.Found.{Found, with_said}
+use Rattle.jpeg_streams.specs.Stream.{header_at, rest_at}
+use Rattle.jpeg_streams.specs.Output.{Tells}
+use Rattle.jpeg_streams.proofs.Written.ReadTurns.{then-ok}
+use Rattle.zaxbriar_calls.specs.Faults.{IsFault, IsNamed, IsOfCall, IsOfCallNumber, IsOfReading, IsOwn}
+use Rattle.zaxbriar_calls.specs.Faults.{status_of, fault_code}
+use Rattle.zaxbriar_calls.specs.Meanings.{settings_of, size_wanted, meaning_by}
+use Rattle.zaxbriar_calls.specs.declared.answers.Refusal.{Refusal}
+use Rattle.zaxbriar_calls.specs.declared.answers.Refusal.TheVariants as refusals
+use Rattle.zaxbriar_calls.specs.declared.options.Options.{Options}
+
+-- a reader of a slice tells its bytes
+pub tells-slice : (bytes jpeg : List ℕ) → bytes ≡ jpeg → length jpeg < 2 ^ 64 → Tells (Some bytes) jpeg
+tells-slice bytes jpeg same few = record { told = ap Some same; few = few }
+
+-- ---- what follows of an outcome
+
+pub on-ok : {X E : Type 0} (r : Result X E) (P Q : Type 0) → OnOk r P → (P → Q) → OnOk r Q
+on-ok (Ok x) P Q p f = f p
+on-ok (Err e) P Q p f = tt
+
+pub if-err : {X E : Type 0} (r : Result X E) (P Q : E → Type 0) → IfErr r P → ((e : E) → P e → Q e) → IfErr r Q
+if-err (Ok x) P Q p f = tt
+if-err (Err e) P Q p f = f e p
+
+-- a refusal of a decoder, and a part, are none for the size of a picture
+pub not-own : (r : Refusal) → IsOfReading r → IsOwn r → ⊥
+not-own r d o = grind arith
+
+-- one for the size of a picture that isn't for lack of room is for a limit
+pub own-large : (r : Refusal) (P : Type 0) → IsOwn r → (r ≡ refusals.NoRoom → ⊥) → (r ≡ refusals.TooLarge → P) → P
+own-large refusals.NoRoom P own room large = absurd (room refl)
+own-large refusals.TooLarge P own room large = large refl
+own-large _ P own room large = absurd own
+
+-- a number that no fault has
+pub other-named : {Y : Type 0} (code : ℕ) (read : Result Y Fault) → (code < 4 → code ≡ 0) → IsNamed code read
+other-named code read h = grind arith
+
+refusal-named : {Y : Type 0} (r : Refusal) (read : Result Y Fault) → IsFault read r → IsNamed
+    (fault_code r) read
+refusal-named x read h = grind (arith, other-named)
+
+-- the number of an outcome that names a fault is the fault's
+pub named : {X Y : Type 0} (outcome : Result X Refusal) (read : Result Y Fault) (code : ℕ) → code ≡
+    status_of outcome
+    → IfErr outcome (IsFault read) → IsNamed code read
+named x read code c h = grind (arith, other-named, refusal-named)
+
+-- no refusal has the number of an OK
+pub code-fails : (r : Refusal) → fault_code r ≡ 0 → ⊥
+code-fails x e = grind arith
+
+call-number : (r : Refusal) → IsOfCall r → IsOfCallNumber (fault_code r)
+call-number r c = grind arith
+
+pub of-call-number : {X : Type 0} (outcome : Result X Refusal) (code : ℕ) → code ≡ status_of outcome
+    → IsErrAnd outcome IsOfCall → IsOfCallNumber code
+of-call-number outcome code e c = grind (arith, call-number)
+
+pub is-too-large : (r : Refusal) → fault_code r ≡ 8 → r ≡ refusals.TooLarge
+is-too-large r e = grind arith
+
+pub has-no-room : (r : Refusal) → fault_code r ≡ 5 → r ≡ refusals.NoRoom
+has-no-room r e = grind arith
+
+-- a kind whose number is refused doesn't exist
+pub no-kind : (kind code : ℕ) → (0 < kind → kind < 4 → code ≡ 6 → ⊥) → code ≡ 6 → (kind ≡ 0) ⊎ (3 < kind)
+no-kind kind code known e = grind arith

@@ -1,0 +1,429 @@
+-- What a call that decodes says of its outcome: a field of its record each.
+use Rattle.std.proofs.Common.{arith, ◌≡◌, ◌⊎◌, ◌∙◌, ◌<◌, ◌≤◌, ◌++◌, ℕ, List, Option, Some, None, Result, Ok, Err, false}
+use Rattle.std.proofs.Common.{ap, inl, inr, length, refl, subst, sym}
+use Rattle.std.specs.Prelude.{IfErr, IfOk, IsErrAnd, OnOk, option_map, replicate, slice_index}
+use Rattle.std.proofs.lemmas.Grind.{common_steps}
+use Rattle.jpeg_bits.specs.Reading.{◌>>=◌, End, Fault, Lacks, Malformed, Names, Outcome}
+use Rattle.jpeg_bits.specs.declared.error.Error.{Error}
+use Rattle.jpeg_bits.specs.declared.error.Error.TheVariants as errors
+use Rattle.jpeg_bits.specs.declared.error.UnsupportedFeature.{UnsupportedFeature}
+use Rattle.jpeg_streams.specs.Shown.{Shown}
+use Rattle.jpeg_streams.specs.Stream.{header_at}
+use Rattle.jpeg_streams.specs.declared.images.ImageInfo.{ImageInfo}
+use Rattle.zaxbriar_calls.proofs.Fails.{code-fails, has-no-room, is-too-large, named, of-call-number}
+use Rattle.zaxbriar_calls.proofs.Means.{images-given}
+use Rattle.zaxbriar_calls.proofs.Parts.{given-entire, given-refused}
+use Rattle.zaxbriar_calls.proofs.Told.{if-ok, if-own}
+use Rattle.zaxbriar_calls.specs.Faults.{IsArgument, IsFault, IsNamed, IsOfCall, IsOwn, IsPart, fault_code, outcome_fault, outcome_rows}
+use Rattle.zaxbriar_calls.specs.Faults.{status_of}
+use Rattle.zaxbriar_calls.specs.Features.{NamesFeature, feature_in, numbered, outcome_feature}
+use Rattle.zaxbriar_calls.specs.Fills.{Fills, FillsImages, greatest_code}
+use Rattle.zaxbriar_calls.specs.Given.{CountsImage, Gives, GivesPart, HasRows, TellsFault, given_by, rows_by, without_fault, without_rows}
+use Rattle.zaxbriar_calls.specs.Limits.{are_known}
+use Rattle.zaxbriar_calls.specs.Lines.{Arranged}
+use Rattle.zaxbriar_calls.specs.Meanings.{AreWrong, CountsRead, Describes, IsTooLarge, IsWithin, as_described, no_picture, uncounted}
+use Rattle.zaxbriar_calls.specs.declared.answers.Refusal.{Refusal}
+use Rattle.zaxbriar_calls.specs.declared.answers.Refusal.TheVariants as refusals
+use Rattle.zaxbriar_calls.specs.declared.extents.Extent.{Extent}
+use Rattle.zaxbriar_calls.specs.declared.extents.Extent.TheVariants.{Whole, Partial}
+use Rattle.zaxbriar_calls.specs.declared.features.Feature.{Feature}
+use Rattle.zaxbriar_calls.specs.declared.options.Options.{Options}
+use Rattle.zaxbriar_calls.specs.declared.picture.Picture.{Picture}
+
+-- What is known of an outcome, and of the picture that was described.
+pub record Decoded (extent : Extent) (o : Options) (bytes old new : List ℕ) (picture : Picture)
+    (outcome : Result ℕ Refusal) : Type 0 where
+  pub given : OnOk outcome (Gives extent o bytes old new None picture)
+  pub part : IfErr outcome (GivesPart extent o bytes old new picture)
+  pub rows : HasRows (rows_by extent o bytes) outcome
+  pub counts : OnOk outcome (CountsImage extent o bytes picture.stream_bytes)
+  pub header : IfErr outcome (λ r. IsOwn r → CountsRead (header_at bytes) bytes picture.stream_bytes)
+  pub most : picture.stream_bytes ≤ length bytes
+  pub named : IfErr outcome (IsFault (given_by extent o bytes))
+  pub kept : IfErr outcome (λ r. (IsPart r → ⊥) → new ≡ old)
+  pub within : OnOk outcome (IsWithin extent o bytes (uncounted picture))
+  pub described : IfErr outcome (λ r. IsPart r → IsWithin extent o bytes (uncounted picture))
+  pub room : IfErr outcome (λ r. r ≡ refusals.NoRoom → IsWithin extent o bytes (uncounted picture) × (length old < picture.size))
+  pub large : IfErr outcome (λ r. r ≡ refusals.TooLarge → IsTooLarge extent o bytes (uncounted picture))
+  pub limited : (size : Picture) → IsTooLarge extent o bytes size → IsErrAnd outcome IsOfCall
+  pub known : are_known o ≡ false → IsErrAnd outcome IsArgument
+  pub wrong : IfErr outcome (λ r. IsArgument r → AreWrong o bytes)
+  pub unasked : are_known o ≡ false → picture ≡ no_picture
+  pub undescribed : (fault : Fault) → header_at bytes ≡ Err fault → uncounted picture ≡ no_picture
+
+-- What is told of an outcome.
+pub record Answered (outcome : Result ℕ Refusal) (feature : Feature) (fault rows : ℕ) (text : List ℕ) (code : ℕ)
+    : Type 0 where
+  pub code_is : code ≡ status_of outcome
+  pub feature_is : feature ≡ outcome_feature outcome
+  pub fault_is : fault ≡ outcome_fault outcome
+  pub rows_are : rows ≡ outcome_rows outcome
+  pub text_is : IfOk outcome (λ _. text ≡ replicate 112 0)
+  pub ended : slice_index text 111 ≡ 0
+  pub said : IfErr outcome (λ r. IsOwn r → slice_index text 0 ≡ 0 → ⊥)
+
+-- a picture with a feature, a fault, a number of rows and a text
+abbrev pub telling : Picture → Feature → ℕ → ℕ → List ℕ → Picture
+telling picture feature fault rows text = record picture {
+  feature = feature.number;
+  feature_argument = feature.argument;
+  fault = fault;
+  whole_rows = rows;
+  text = text;
+}
+
+-- ---- OK and PARTIAL
+
+-- a picture is given without its rows
+ok-given : (extent : Extent) (o : Options) (bytes old new : List ℕ) (picture : Picture) (feature : Feature)
+    (fault rows : ℕ) (text : List ℕ)
+    → feature ≡ numbered 0 0 → fault ≡ 0 → text ≡ replicate 112 0 → Gives extent o bytes old new None picture
+    → Gives extent o bytes old new None (without_rows (telling picture feature fault rows text))
+ok-given extent o bytes old new picture feature fault rows text lacks none t s = record {
+  told = s.told;
+  samples = s.samples;
+  info = s.info;
+  precision = s.precision;
+  are = s.are;
+  info_is = s.info_is;
+  precision_is = s.precision_is;
+  arranged = record {
+    conversion = s.arranged.conversion;
+    is = s.arranged.is;
+    pixels = s.arranged.pixels;
+    decoding = s.arranged.decoding;
+    orientation = s.arranged.orientation;
+    sampling = s.arranged.sampling;
+    transform = s.arranged.transform;
+    density = s.arranged.density;
+    picture_is = λ i. telling (s.arranged.picture_is i) (lacks i) (none i) 0 (t i);
+  };
+}
+
+whole-told : (extent : Extent) (outcome : Result ℕ Refusal) (o : Options) (bytes old new : List ℕ) (picture : Picture)
+    (feature : Feature) (fault rows : ℕ) (text : List ℕ) (code : ℕ)
+    → Answered outcome feature fault rows text code
+    → OnOk outcome (Gives extent o bytes old new None picture) → code ≡ 0
+    → Gives extent o bytes old new None (without_rows (telling picture feature fault rows text))
+whole-told extent (Ok x) o bytes old new picture feature fault rows text code a s z =
+    ok-given extent o bytes old new picture feature fault rows text a.feature_is a.fault_is a.text_is s
+whole-told extent (Err r) o bytes old new picture feature fault rows text code a s z =
+    absurd (code-fails r (sym a.code_is ∙ z))
+
+-- a picture that is described tells of no fault
+without-same : (o : Options) (info : ImageInfo) (precision : ℕ) (samples old new : List ℕ) (picture : Picture)
+    (feature : Feature) (fault rows : ℕ) (text : List ℕ) → Arranged o info precision samples old new picture
+    → picture ≡ without_fault (without_rows (telling picture feature fault rows text))
+without-same o info precision samples old new picture feature fault rows text a =
+    a.picture_is ∙ sym (ap (λ (p : Picture). without_fault (without_rows p)) a.picture_is)
+
+numbers : (e : Error) (n : ℕ) (f : Fault) → Names {Y = Unit {0}} e (Err f) → (e ≡ errors.OutOfMemory → ⊥)
+    → (picture : Picture) → picture.fault ≡ outcome_fault {X = ℕ} (Err (refusals.Part e n))
+    → NamesFeature picture (outcome_feature {X = ℕ} (Err (refusals.Part e n))) → TellsFault picture f
+numbers (errors.Format t) rows f n m picture p q = grind (arith, common_steps)
+numbers (errors.Unsupported feature) rows f n m picture p q = grind (arith, common_steps)
+numbers (errors.Io e) rows f n m picture p q = grind (arith, common_steps)
+numbers (errors.Internal t) rows f n m picture p q = absurd n
+numbers errors.OutOfMemory rows f n m picture p q = absurd (m refl)
+
+-- the number of a part is its own
+is-part : (r : Refusal) → fault_code r ≡ 9 → IsPart r
+is-part r e = grind arith
+
+error-told : (extent : Extent) (r : Refusal) (o : Options) (bytes old new : List ℕ) (picture : Picture)
+    (feature : Feature) (fault rows : ℕ) (text : List ℕ)
+    → feature ≡ outcome_feature {X = ℕ} (Err r) → fault ≡ outcome_fault {X = ℕ} (Err r)
+    → GivesPart extent o bytes old new picture r → IsPart r
+    → (f : Fault)
+    × Gives extent o bytes old new (Some f) (without_fault (without_rows (telling picture feature fault rows text)))
+    × TellsFault (telling picture feature fault rows text) f
+error-told extent (refusals.Part e n) o bytes old new picture feature fault rows text is names s p = (
+  s.0,
+  subst (λ (p : Picture). Gives extent o bytes old new (Some s.0) p)
+      (without-same o s.3.info s.3.precision s.3.samples old new picture feature fault rows text s.3.arranged) s.3,
+  numbers e n s.0 s.1 s.2 (telling picture feature fault rows text) names
+      (ap (λ (f : Feature). f.number) is, ap (λ (f : Feature). f.argument) is),
+)
+error-told extent (refusals.Stream e) o bytes old new picture feature fault rows text is names s p = absurd p
+error-told extent refusals.Reader o bytes old new picture feature fault rows text is names s p = absurd p
+error-told extent (refusals.Argument t) o bytes old new picture feature fault rows text is names s p = absurd p
+error-told extent refusals.NoRoom o bytes old new picture feature fault rows text is names s p = absurd p
+error-told extent refusals.TooLarge o bytes old new picture feature fault rows text is names s p = absurd p
+
+part-told : (extent : Extent) (outcome : Result ℕ Refusal) (o : Options) (bytes old new : List ℕ) (picture : Picture)
+    (feature : Feature) (fault rows : ℕ) (text : List ℕ) (code : ℕ)
+    → Answered outcome feature fault rows text code
+    → IfErr outcome (GivesPart extent o bytes old new picture) → code ≡ 9
+    → (f : Fault)
+    × Gives extent o bytes old new (Some f) (without_fault (without_rows (telling picture feature fault rows text)))
+    × TellsFault (telling picture feature fault rows text) f
+part-told extent (Ok x) o bytes old new picture feature fault rows text code a s z =
+    absurd (omega (arith, a.code_is, z))
+part-told extent (Err r) o bytes old new picture feature fault rows text code a s z =
+    error-told extent r o bytes old new picture feature fault rows text a.feature_is a.fault_is s
+    (is-part r (sym a.code_is ∙ z))
+
+-- ---- numbers
+
+no-fault : (outcome : Result ℕ Refusal) (code : ℕ) → code ≡ status_of outcome → (code ≡ 9 → ⊥) → outcome_fault outcome ≡ 0
+no-fault outcome code c n = grind arith
+
+told-rows : (outcome : Result ℕ Refusal) (complete code : ℕ) → code ≡ status_of outcome
+    → HasRows complete outcome → (code ≡ 0) ⊎ (code ≡ 9) → outcome_rows outcome ≡ complete
+told-rows outcome complete code c h z = grind (arith, code-fails, is-part)
+
+none-told : (outcome : Result ℕ Refusal) (code : ℕ) → code ≡ status_of outcome → (code ≡ 0 → ⊥)
+    → (code ≡ 9 → ⊥) → outcome_rows outcome ≡ 0
+none-told outcome code c a b = grind arith
+
+pub none-lacking : {X : Type 0} (outcome : Result X Refusal) (code : ℕ) → code ≡ status_of outcome → (code ≡ 2 → ⊥) → (code ≡ 9 → ⊥)
+    → outcome_feature outcome ≡ numbered 0 0
+none-lacking outcome code c a b = grind arith
+
+error-lacks : {Y : Type 0} (e : Error) (read : Result Y Fault) → fault_code (refusals.Stream e) ≡ 2 → Names e read
+    → (feature : UnsupportedFeature) × (read ≡ Err (Lacks feature))
+    × (outcome_feature {X = ℕ} (Err (refusals.Stream e)) ≡ feature_in feature)
+error-lacks (errors.Unsupported feature) read c n = (feature, n, refl)
+error-lacks (errors.Format t) read c n = absurd (omega (arith, c))
+error-lacks (errors.Io e) read c n = absurd (omega (arith, c))
+error-lacks (errors.Internal t) read c n = absurd (omega (arith, c))
+error-lacks errors.OutOfMemory read c n = absurd (omega (arith, c))
+
+lacks-told : {Y : Type 0} (r : Refusal) (read : Result Y Fault) → fault_code r ≡ 2 → IsFault read r
+    → (feature : UnsupportedFeature) × (read ≡ Err (Lacks feature))
+    × (outcome_feature {X = ℕ} (Err r) ≡ feature_in feature)
+lacks-told (refusals.Stream e) read c n = error-lacks e read c n
+lacks-told (refusals.Part e rows) read c n = absurd (omega (arith, c))
+lacks-told refusals.Reader read c n = absurd (omega (arith, c))
+lacks-told (refusals.Argument t) read c n = absurd (omega (arith, c))
+lacks-told refusals.NoRoom read c n = absurd (omega (arith, c))
+lacks-told refusals.TooLarge read c n = absurd (omega (arith, c))
+
+pub feature-told : {X Y : Type 0} (outcome : Result X Refusal) (read : Result Y Fault) (code : ℕ) (feature : Feature)
+    → code ≡ status_of outcome → feature ≡ outcome_feature outcome → IfErr outcome (IsFault read) → code ≡ 2
+    → (lacking : UnsupportedFeature) × (read ≡ Err (Lacks lacking)) × (feature ≡ feature_in lacking)
+feature-told (Ok x) read code feature c f h z = absurd (omega (arith, c, z))
+feature-told (Err r) read code feature c f h z =
+    let l = lacks-told r read (sym c ∙ z) h in (l.0, l.1, f ∙ l.2)
+
+-- a whole picture is never PARTIAL
+no-part-given : (extent : Extent) (o : Options) (bytes old new : List ℕ) (picture : Picture) (r : Refusal)
+    → GivesPart extent o bytes old new picture r → IsPart r → extent ≡ Whole → ⊥
+no-part-given extent o bytes old new picture (refusals.Part e n) s p w =
+    let g : given_by Whole o bytes ≡ Ok (record { told = s.3.told; picture = s.3.samples; fault = Some s.0 }) =
+    ap (λ (x : Extent). given_by x o bytes) (sym w) ∙ s.3.are in
+    some-none s.0 (given-entire o bytes _ g)
+  where
+    some-none : (f : Fault) → Some f ≡ None → ⊥
+    some-none f h = cc
+no-part-given extent o bytes old new picture (refusals.Stream e) s p w = absurd p
+no-part-given extent o bytes old new picture refusals.Reader s p w = absurd p
+no-part-given extent o bytes old new picture (refusals.Argument t) s p w = absurd p
+no-part-given extent o bytes old new picture refusals.NoRoom s p w = absurd p
+no-part-given extent o bytes old new picture refusals.TooLarge s p w = absurd p
+
+pub few-codes : {X : Type 0} (outcome : Result X Refusal) → (IfErr outcome (λ r. IsPart r → ⊥)) → status_of outcome ≤ 8
+few-codes outcome n = grind arith
+
+pub all-codes : {X : Type 0} (outcome : Result X Refusal) → (status_of outcome ≤ 9) × (status_of outcome ≡ 7 → ⊥)
+all-codes outcome = grind arith
+
+whole-codes : (o : Options) (bytes old new : List ℕ) (picture : Picture) (outcome : Result ℕ Refusal)
+    → IfErr outcome (GivesPart Whole o bytes old new picture) → status_of outcome ≤ 8
+whole-codes o bytes old new picture (Ok x) s = few-codes {X = ℕ} (Ok x) tt
+whole-codes o bytes old new picture (Err r) s =
+    few-codes {X = ℕ} (Err r) (λ p. no-part-given Whole o bytes old new picture r s p refl)
+
+codes : (extent : Extent) (o : Options) (bytes old new : List ℕ) (picture : Picture) (outcome : Result ℕ Refusal)
+    (code : ℕ) → code ≡ status_of outcome → IfErr outcome (GivesPart extent o bytes old new picture)
+    → (code ≤ greatest_code extent) × (code ≡ 7 → ⊥)
+codes Whole o bytes old new picture outcome code c s =
+    let few = whole-codes o bytes old new picture outcome s in
+    let all = all-codes outcome in (omega (arith, c, few), λ z. all.1 (sym c ∙ z))
+codes Partial o bytes old new picture outcome code c s =
+    let all = all-codes outcome in (omega (arith, c, all.0), λ z. all.1 (sym c ∙ z))
+
+-- ---- what is described
+
+-- a described picture tells of nothing else
+as-told : (extent : Extent) (o : Options) (bytes : List ℕ) (picture : Picture) (feature : Feature) (fault rows : ℕ)
+    (text : List ℕ) → fault ≡ 0 → rows ≡ 0 → Describes extent o bytes (uncounted picture)
+    → as_described (telling picture feature fault rows text) ≡ uncounted picture
+as-told extent o bytes picture feature fault rows text f r d =
+    (λ i. as_described (telling (d.picture_is i) feature (f i) (r i) text)) ∙ sym d.picture_is
+
+as-shown : (extent : Extent) (o : Options) (bytes : List ℕ) (picture : Picture) (feature : Feature) (fault rows : ℕ)
+    (text : List ℕ) → Describes extent o bytes (uncounted picture)
+    → as_described (without_fault (without_rows (telling picture feature fault rows text))) ≡ uncounted picture
+as-shown extent o bytes picture feature fault rows text d =
+    ap (λ (p : Picture). as_described (without_fault (without_rows p))) d.picture_is ∙ sym d.picture_is
+
+described-shown : (extent : Extent) (o : Options) (bytes : List ℕ) (picture : Picture) (feature : Feature)
+    (fault rows : ℕ) (text : List ℕ) → IsWithin extent o bytes (uncounted picture)
+    → IsWithin extent o bytes (as_described (without_fault (without_rows (telling picture feature fault rows text))))
+described-shown extent o bytes picture feature fault rows text w =
+    subst (λ (p : Picture). IsWithin extent o bytes p)
+    (sym (as-shown extent o bytes picture feature fault rows text w.0)) w
+
+within-told : (P : Type 0) (outcome : Result ℕ Refusal) (code : ℕ) → code ≡ status_of outcome
+    → OnOk outcome P → IfErr outcome (λ r. IsPart r → P) → (code ≡ 0) ⊎ (code ≡ 9) → P
+within-told P outcome code c d e z = grind (arith, code-fails, is-part)
+
+large-at : (P : Type 0) (outcome : Result ℕ Refusal) (code : ℕ) → code ≡ status_of outcome
+    → IfErr outcome (λ r. r ≡ refusals.TooLarge → P) → code ≡ 8 → P
+large-at P (Ok x) code c p z = absurd (omega (arith, c, z))
+large-at P (Err r) code c p z = p (is-too-large r (sym c ∙ z))
+
+room-at : (P : Type 0) (outcome : Result ℕ Refusal) (code : ℕ) → code ≡ status_of outcome
+    → IfErr outcome (λ r. r ≡ refusals.NoRoom → P) → code ≡ 5 → P
+room-at P (Ok x) code c p z = absurd (omega (arith, c, z))
+room-at P (Err r) code c p z = p (has-no-room r (sym c ∙ z))
+
+-- ---- refusals
+
+pub argument-code : {X : Type 0} (outcome : Result X Refusal) (code : ℕ) → code ≡ status_of outcome → IsErrAnd outcome IsArgument
+    → code ≡ 6
+argument-code outcome code c a = grind arith
+
+error-wrong : {Y : Type 0} (e : Error) (read : Result Y Fault) (P : Type 0) → fault_code (refusals.Stream e) ≡ 6
+    → Names e read → P
+error-wrong (errors.Internal t) read P c n = absurd n
+error-wrong (errors.Format t) read P c n = absurd (omega (arith, c))
+error-wrong (errors.Unsupported f) read P c n = absurd (omega (arith, c))
+error-wrong (errors.Io e) read P c n = absurd (omega (arith, c))
+error-wrong errors.OutOfMemory read P c n = absurd (omega (arith, c))
+
+refusal-wrong : {Y : Type 0} (r : Refusal) (read : Result Y Fault) (P : Type 0) → fault_code r ≡ 6 → IsFault read r
+    → (IsArgument r → P) → P
+refusal-wrong (refusals.Argument t) read P c n p = p tt
+refusal-wrong (refusals.Stream e) read P c n p = error-wrong e read P c n
+refusal-wrong (refusals.Part e rows) read P c n p = absurd (omega (arith, c))
+refusal-wrong refusals.Reader read P c n p = absurd (omega (arith, c))
+refusal-wrong refusals.NoRoom read P c n p = absurd (omega (arith, c))
+refusal-wrong refusals.TooLarge read P c n p = absurd (omega (arith, c))
+
+pub wrong-told : {X Y : Type 0} (outcome : Result X Refusal) (read : Result Y Fault) (P : Type 0) (code : ℕ)
+    → code ≡ status_of outcome → IfErr outcome (IsFault read) → IfErr outcome (λ r. IsArgument r → P) → code ≡ 6 → P
+wrong-told (Ok x) read P code c n p z = absurd (omega (arith, c, z))
+wrong-told (Err r) read P code c n p z = refusal-wrong r read P (sym c ∙ z) n p
+
+kept-told : (P : Type 0) (outcome : Result ℕ Refusal) (code : ℕ) → code ≡ status_of outcome
+    → IfErr outcome (λ r. (IsPart r → ⊥) → P) → (code ≡ 0 → ⊥) → (code ≡ 9 → ⊥) → P
+kept-told P (Ok x) code c k a b = absurd (a c)
+kept-told P (Err r) code c k a b = k (λ p. b (c ∙ part-code r p))
+  where
+    part-code : (r : Refusal) → IsPart r → fault_code r ≡ 9
+    part-code r p = grind arith
+
+-- no picture tells of nothing
+cleared : (picture : Picture) (feature : Feature) (fault rows : ℕ) (text : List ℕ) → fault ≡ 0 → rows ≡ 0
+    → uncounted picture ≡ no_picture → as_described (telling picture feature fault rows text) ≡ no_picture
+cleared picture feature fault rows text f r none =
+    λ i. as_described (telling (none i) feature (f i) (r i) text)
+
+-- after a refusal of the header there are no rows and no fault
+header-rows : (extent : Extent) (o : Options) (bytes : List ℕ) (f : Fault) → header_at bytes ≡ Err f
+    → rows_by extent o bytes ≡ 0
+unfolding rows_by
+header-rows Whole o bytes f h = refl
+header-rows Partial o bytes f h = rw (h, rows_by) refl
+
+unread : (extent : Extent) (o : Options) (bytes : List ℕ) (f : Fault) (s : Shown) → header_at bytes ≡ Err f
+    → given_by extent o bytes ≡ Ok s → ⊥
+unread extent o bytes f s h g =
+    let none : given_by extent o bytes ≡ Err f = given-refused extent o bytes f h in
+    cc
+
+part-read : (extent : Extent) (o : Options) (bytes old new : List ℕ) (picture : Picture) (r : Refusal) (f : Fault)
+    → header_at bytes ≡ Err f → GivesPart extent o bytes old new picture r → IsPart r → ⊥
+part-read extent o bytes old new picture (refusals.Part e n) f h s p = unread extent o bytes f _ h s.3.are
+part-read extent o bytes old new picture (refusals.Stream e) f h s p = p
+part-read extent o bytes old new picture refusals.Reader f h s p = p
+part-read extent o bytes old new picture (refusals.Argument t) f h s p = p
+part-read extent o bytes old new picture refusals.NoRoom f h s p = p
+part-read extent o bytes old new picture refusals.TooLarge f h s p = p
+
+no-part-code : (r : Refusal) → (IsPart r → ⊥) → (outcome_fault {X = ℕ} (Err r) ≡ 0) × (outcome_rows (Err r) ≡ 0)
+no-part-code r n = grind arith
+
+header-cleared : (extent : Extent) (o : Options) (bytes old new : List ℕ) (picture : Picture)
+    (outcome : Result ℕ Refusal) (f : Fault) → header_at bytes ≡ Err f
+    → OnOk outcome (Gives extent o bytes old new None picture)
+    → IfErr outcome (GivesPart extent o bytes old new picture)
+    → (outcome_fault outcome ≡ 0) × (outcome_rows outcome ≡ 0)
+header-cleared extent o bytes old new picture (Ok x) f h g p = absurd (unread extent o bytes f _ h g.are)
+header-cleared extent o bytes old new picture (Err r) f h g p =
+    no-part-code r (part-read extent o bytes old new picture r f h p)
+
+argument-cleared : (outcome : Result ℕ Refusal) → IsErrAnd outcome IsArgument
+    → (outcome_fault outcome ≡ 0) × (outcome_rows outcome ≡ 0)
+argument-cleared outcome a = grind arith
+
+-- an outcome that is no part tells of no fault and no rows
+own-cleared : (outcome : Result ℕ Refusal) (code : ℕ) → code ≡ status_of outcome → (code ≡ 5) ⊎ (code ≡ 8)
+    → (outcome_fault outcome ≡ 0) × (outcome_rows outcome ≡ 0)
+own-cleared outcome code c z = grind arith
+
+-- ---- all of it
+
+pub fills : (extent : Extent) (o : Options) (bytes old new : List ℕ) (picture : Picture) (outcome : Result ℕ Refusal)
+    (feature : Feature) (fault rows : ℕ) (text : List ℕ) (code : ℕ)
+    → Decoded extent o bytes old new picture outcome → Answered outcome feature fault rows text code
+    → Fills extent o bytes old new (telling picture feature fault rows text) code
+fills extent o bytes old new picture outcome feature fault rows text code d a =
+    let names : IsNamed code (given_by extent o bytes) =
+    named outcome (given_by extent o bytes) code a.code_is d.named in
+    let shown : code ≡ 0 → Gives extent o bytes old new None (without_rows (telling picture feature fault rows text)) =
+    whole-told extent outcome o bytes old new picture feature fault rows text code a d.given in
+    record {
+      given = shown;
+      part = part-told extent outcome o bytes old new picture feature fault rows text code a d.part;
+      entire = λ n. a.fault_is ∙ no-fault outcome code a.code_is n;
+      images = λ z. images-given extent o bytes old new (telling picture feature fault rows text) (shown z)
+          (a.rows_are ∙ told-rows outcome (rows_by extent o bytes) code a.code_is d.rows (inl z))
+          (if-ok _ outcome code a.code_is d.counts z);
+      rows = λ z. a.rows_are ∙ told-rows outcome (rows_by extent o bytes) code a.code_is d.rows z;
+      rowless = λ n m. a.rows_are ∙ none-told outcome code a.code_is n m;
+      counts = λ z. if-ok _ outcome code a.code_is d.counts z;
+      header = λ z. if-own _ outcome code a.code_is d.header z;
+      unread = λ n. ap (λ (p : Picture). p.stream_bytes) (d.unasked n);
+      most = d.most;
+      number = codes extent o bytes old new picture outcome code a.code_is d.part;
+      malformed = names.0;
+      unsupported = λ z.
+          let l = feature-told outcome (given_by extent o bytes) code feature a.code_is a.feature_is d.named z in
+          (l.0, l.1, (ap (λ (f : Feature). f.number) l.2, ap (λ (f : Feature). f.argument) l.2));
+      truncated = names.2;
+      unnamed = λ n m.
+          let l = a.feature_is ∙ none-lacking outcome code a.code_is n m in
+          (ap (λ (f : Feature). f.number) l, ap (λ (f : Feature). f.argument) l);
+      kept = λ n m. kept-told _ outcome code a.code_is d.kept n m;
+      describes = λ z. described-shown extent o bytes picture feature fault rows text
+          (within-told _ outcome code a.code_is d.within d.described z);
+      room = λ z.
+          let w = room-at _ outcome code a.code_is d.room z in
+          let none = own-cleared outcome code a.code_is (inl z) in (
+            subst (λ (p : Picture). IsWithin extent o bytes p)
+                (sym (as-told extent o bytes picture feature fault rows text (a.fault_is ∙ none.0) (a.rows_are ∙ none.1)
+                w.0.0)) w.0,
+            w.1,
+          );
+      large = λ z.
+          let w = large-at _ outcome code a.code_is d.large z in
+          let none = own-cleared outcome code a.code_is (inr z) in
+          subst (λ (p : Picture). IsTooLarge extent o bytes p)
+          (sym (as-told extent o bytes picture feature fault rows text (a.fault_is ∙ none.0) (a.rows_are ∙ none.1)
+          w.0)) w;
+      limited = λ size l. of-call-number outcome code a.code_is (d.limited size l);
+      known = λ n. argument-code outcome code a.code_is (d.known n);
+      wrong = λ z. wrong-told outcome (given_by extent o bytes) _ code a.code_is d.named d.wrong z;
+      unasked = λ n.
+          let none = argument-cleared outcome (d.known n) in
+          cleared picture feature fault rows text (a.fault_is ∙ none.0) (a.rows_are ∙ none.1)
+          (ap (λ (p : Picture). uncounted p) (d.unasked n));
+      cleared = λ f h.
+          let none = header-cleared extent o bytes old new picture outcome f h d.given d.part in
+          cleared picture feature fault rows text (a.fault_is ∙ none.0) (a.rows_are ∙ none.1) (d.undescribed f h);
+      ended = a.ended;
+      said = λ z. if-own _ outcome code a.code_is a.said z;
+    }

@@ -1,0 +1,16 @@
+mod Copied
+mod Decoded
+mod Densities
+mod Fails
+mod Filled
+mod FoundPlaces
+mod FoundSegments
+mod Informed
+mod KeptBytes
+mod Laid
+mod Means
+mod Parts
+mod Rests
+pub mod Rules
+mod Texts
+mod Told

@@ -1,0 +1,226 @@
+-- What a reading of a stream leaves is no longer than the stream, so that all before it can be counted.
+use Rattle.std.proofs.lemmas.Grind.{common_steps}
+use Rattle.std.proofs.Common.{arith, ◌≡◌, ◌∙◌, ◌+◌, ◌<◌, ◌≤◌, ℕ, zero, suc, List, Ok, Err, Result, Bool}
+use Rattle.std.proofs.Common.{Option, Some, None, true, false, length, refl, sym}
+use Rattle.std.specs.Prelude.{if◌then◌else◌, ◌&&◌, is_some}
+use Rattle.jpeg_bits.specs.Reading.{Outcome, Fault, ◌>>=◌}
+use Rattle.jpeg_bits.specs.Marker.{found_or, next_marker}
+use Rattle.jpeg_bits.specs.Stream.{Stream}
+use Rattle.jpeg_bits.specs.declared.marker.Marker.{Marker}
+use Rattle.jpeg_segments.specs.Frame.{Frame}
+use Rattle.jpeg_segments.specs.ScanHeader.{Scan, sos_at}
+use Rattle.jpeg_segments.specs.Checks.{needed}
+use Rattle.jpeg_segments.specs.declared.frame.CodingProcess.{CodingProcess}
+use Rattle.jpeg_streams.specs.DecodedImages.{at_size}
+use Rattle.jpeg_streams.specs.Found.{Found, nothing_found, with_said}
+use Rattle.jpeg_streams.specs.FoundPictures.{picture_of}
+use Rattle.jpeg_streams.specs.LosslessScans.{lossless_codings}
+use Rattle.jpeg_streams.specs.ScanSegments.{after_restarts, blocks_scan, codings_of, lossless_scan, scan_arrays}
+use Rattle.jpeg_streams.specs.ScanSegments.{scan_by, scan_samples, scan_segment}
+use Rattle.jpeg_streams.specs.Segments.{Turn}
+use Rattle.jpeg_streams.specs.States.{Decoding}
+use Rattle.jpeg_streams.specs.Stream.{end_segment, header_at, rest_at, segment_at, segments_at, start_at, turn_at, walk}
+use Rattle.jpeg_streams.specs.declared.before.Before.{Before}
+use Rattle.jpeg_streams.specs.declared.before.Before.TheVariants.{Elsewhere}
+use Rattle.jpeg_streams.specs.declared.settings.Settings.{Settings}
+use Rattle.jpeg_streams.proofs.Written.ReadTurns.{Walked, then-ok, walked_to}
+use Rattle.jpeg_streams.proofs.Shorter.{LeavesBelow, arrays-below, below-at, below-err, below-more, below-ok, below-on}
+use Rattle.jpeg_streams.proofs.Shorter.{below_steps, marker-below, samples-below, sos-below}
+use Rattle.jpeg_decoder.proofs.Segments.PassedRestarts.{Passes, after-passes}
+use Rattle.jpeg_decoder.proofs.Segments.Turns.{IsOnward, On, onward_rules}
+use Rattle.zaxbriar_calls.specs.Given.{CountsImage, EndsImage}
+use Rattle.zaxbriar_calls.specs.Meanings.{CountsRead, StandsAfter, meaning_by, settings_of, size_wanted}
+use Rattle.zaxbriar_calls.specs.declared.extents.Extent.{Extent}
+use Rattle.zaxbriar_calls.specs.declared.extents.Extent.TheVariants.{Whole, Partial}
+use Rattle.zaxbriar_calls.specs.declared.options.Options.{Options}
+
+-- what has to hold, or to be there, first
+below-needs : {A B : Type 0} (limit : ℕ) (r : Result A Fault) (f : A → Outcome B)
+    → ((x : A) → LeavesBelow limit (f x)) → LeavesBelow limit (r >>= f)
+below-needs limit (Ok x) f p = p x
+below-needs {A} {B} limit (Err fault) f p = below-err B limit fault
+
+-- ---- a turn
+
+onward-below : (limit : ℕ) (r : Outcome Turn) → On (IsOnward limit) r → LeavesBelow limit r
+unfolding On LeavesBelow
+onward-below limit r h = grind (arith, common_steps)
+
+passed-below : (limit : ℕ) (r : Outcome (Option Marker)) → Passes limit r → LeavesBelow limit r
+unfolding Passes LeavesBelow
+passed-below limit r h = grind (arith, common_steps)
+
+met-below : (limit : ℕ) (met : Option Marker) (bytes : List ℕ) → length bytes < limit
+    → LeavesBelow limit (after_restarts (suc (length bytes)) met bytes)
+met-below limit met bytes h = passed-below limit _ (after-passes limit met bytes h)
+
+blocks-below : (limit : ℕ) (found : Found) (frame : Frame) (scan : Scan) (bytes : List ℕ) → length bytes < limit
+    → LeavesBelow limit (blocks_scan found frame scan bytes)
+unfolding blocks_scan scan_arrays
+blocks-below limit found frame scan bytes h =
+    below-needs limit (codings_of found.said frame scan) _ (λ codings.
+    below-on limit (scan_arrays found frame scan codings bytes) _ (arrays-below limit _ _ _ _ _ bytes h) (λ read p.
+    below-on limit (after_restarts (suc (length read.1)) read.0.1 read.1) _ (met-below limit read.0.1 read.1 p)
+    (λ met q. below-ok limit _ met.1 q)))
+
+samples-scanned : (limit : ℕ) (found : Found) (frame : Frame) (scan : Scan) (bytes : List ℕ) → length bytes < limit
+    → LeavesBelow limit (lossless_scan found frame scan bytes)
+unfolding lossless_scan
+samples-scanned limit found frame scan bytes h =
+    below-needs limit (lossless_codings found.said.huffman.dc frame scan.components scan.dc_destinations) _ (λ codings.
+    below-on limit (scan_samples found frame scan codings bytes) _ (samples-below limit _ _ _ _ bytes h) (λ read p.
+    below-on limit (after_restarts (suc (length read.1)) read.0.1 read.1) _ (met-below limit read.0.1 read.1 p)
+    (λ met q. below-ok limit _ met.1 q)))
+
+process-below : (limit : ℕ) (p : CodingProcess) (found : Found) (frame : Frame) (scan : Scan) (bytes : List ℕ)
+    → length bytes < limit → LeavesBelow limit (scan_by p found frame scan bytes)
+process-below limit p found frame scan bytes h = grind (arith, common_steps, samples-scanned, blocks-below)
+
+scan-below : (limit : ℕ) (found : Found) (bytes : List ℕ) → length bytes < limit
+    → LeavesBelow limit (scan_segment found bytes)
+unfolding scan_segment
+scan-below limit found bytes h =
+    below-needs limit (needed found.said.frame) _ (λ frame.
+    below-on limit (sos_at frame bytes) _ (sos-below limit frame bytes (omega (arith, h))) (λ scan p.
+    process-below limit frame.process found frame scan.0 scan.1 p))
+
+segment-below : (limit : ℕ) (m : Marker) (before : Before) (found : Found) (bytes : List ℕ) → length bytes < limit
+    → LeavesBelow limit (segment_at m before found bytes)
+unfolding segment_at end_segment LeavesBelow
+segment-below limit m before found bytes h =
+    grind (arith, common_steps, onward_rules, onward-below, scan-below, below-ok, below-err)
+
+found-below : (limit : ℕ) (met : Option Marker) (bytes : List ℕ) → length bytes < limit
+    → LeavesBelow limit (found_or met bytes (next_marker bytes))
+found-below limit None bytes h =
+    below-more (length bytes) limit (next_marker bytes) (omega (arith, h)) (marker-below bytes)
+found-below limit (Some m) bytes h = below-ok limit m bytes h
+
+turn-below : (limit : ℕ) (before : Before) (found : Found) (met : Option Marker) (bytes : List ℕ)
+    → length bytes < limit → LeavesBelow limit (turn_at before found met bytes)
+unfolding turn_at
+turn-below limit before found met bytes h =
+    below-on limit (found_or met bytes (next_marker bytes)) _ (found-below limit met bytes h) (λ m p.
+    segment-below limit m.0 before found m.1 p)
+
+-- ---- all of them
+
+-- fewer bytes are left after some turns than the limit
+unfoldable LeftBelow : ℕ → Result (List ℕ) Fault → Type 0
+LeftBelow limit (Ok rest) = length rest < limit
+LeftBelow limit (Err fault) = Unit {0}
+
+abbrev WalksBelow : ℕ → Walked → Type 0
+WalksBelow limit w = LeftBelow limit w.1
+
+test-below : (limit : ℕ) (b : Bool) (x y : Walked) → WalksBelow limit x → WalksBelow limit y
+    → WalksBelow limit (if b then x else y)
+test-below limit true x y p q = p
+test-below limit false x y p q = q
+
+after-turn : (limit : ℕ) (r : Outcome Turn) (f : Turn × List ℕ → Walked) (refused : Fault → Walked)
+    → LeavesBelow limit r → ((x : Turn × List ℕ) → length x.1 < limit → WalksBelow limit (f x))
+    → ((fault : Fault) → WalksBelow limit (refused fault))
+    → WalksBelow limit (elim r as (λ _. Walked) [ Err fault ↦ refused fault | Ok t ↦ f t ])
+unfolding LeavesBelow
+after-turn limit (Ok x) f refused h p q = p x h
+after-turn limit (Err fault) f refused h p q = q fault
+
+walk-below : (limit turns : ℕ) (header : Bool) (before : Before) (found : Found) (met : Option Marker) (bytes : List ℕ)
+    → length bytes < limit → WalksBelow limit (walk turns header before found met bytes)
+unfolding walk LeftBelow
+walk-below limit zero header before found met bytes h = tt
+walk-below limit (suc turns) header before found met bytes h =
+    test-below limit (header && is_some found.said.frame) _ _ h (
+    after-turn limit (turn_at before found met bytes) _ _ (turn-below limit before found met bytes h)
+    (λ t p. test-below limit t.0.ended _ _ p (walk-below limit turns header t.0.before t.0.found t.0.met t.1 p))
+    (λ fault. tt))
+
+walked-below : (limit : ℕ) (w : Walked) → WalksBelow limit w → LeavesBelow limit (walked_to w)
+unfolding LeavesBelow LeftBelow
+walked-below limit (found, Ok rest) h = h
+walked-below limit (found, Err fault) h = tt
+
+segments-below : (limit : ℕ) (header : Bool) (before : Before) (found : Found) (met : Option Marker) (bytes : List ℕ)
+    → length bytes < limit → LeavesBelow limit (segments_at header before found met bytes)
+unfolding segments_at
+segments-below limit header before found met bytes h =
+    walked-below limit (walk (suc (length bytes)) header before found met bytes)
+    (walk-below limit (suc (length bytes)) header before found met bytes h)
+
+start-below : (limit : ℕ) (bytes : List ℕ) → length bytes < limit → LeavesBelow limit (start_at bytes)
+unfolding start_at
+start-below limit bytes h = search below_steps
+
+header-leaves : (limit : ℕ) (bytes : List ℕ) → length bytes < limit → LeavesBelow limit (header_at bytes)
+unfolding header_at
+header-leaves limit bytes h =
+    below-on limit (start_at bytes) _ (start-below limit bytes h) (λ start p.
+    segments-below limit true Elsewhere nothing_found _ start.1 p)
+
+rest-leaves : (limit : ℕ) (settings : Settings) (found : Found) (bytes : List ℕ) → length bytes < limit
+    → LeavesBelow limit (rest_at settings found bytes)
+unfolding rest_at
+rest-leaves limit settings found bytes h =
+    below-on limit (segments_at _ Elsewhere found _ bytes) _ (segments-below limit _ Elsewhere found _ bytes h)
+    (λ all p.
+    below-needs limit (picture_of settings all.0) _ (λ picture. below-ok limit _ all.1 p))
+
+meaning-leaves : (limit : ℕ) (o : Options) (bytes : List ℕ) → length bytes < limit
+    → LeavesBelow limit (meaning_by o bytes)
+unfolding meaning_by
+meaning-leaves limit o bytes h =
+    below-on limit (header_at bytes) _ (header-leaves limit bytes h) (λ header p.
+    rest-leaves limit (settings_of o) (with_said (at_size (size_wanted o)) header.0) header.1 p)
+
+-- ---- what was read
+
+counted : {A : Type 0} (bytes : List ℕ) (read : Outcome A) (source : Stream) (count : ℕ)
+    → LeavesBelow (suc (length bytes)) read → StandsAfter read source
+    → (source.known ≡ true → length source.bytes ≤ length bytes → count + length source.bytes ≡ length bytes)
+    → CountsRead read bytes count
+counted bytes read source count below after counts =
+    let few : length source.bytes < suc (length bytes) =
+    below-at (suc (length bytes)) read (after.value, source.bytes) below after.reads in
+    record {
+      value = after.value;
+      rest = source.bytes;
+      reads = after.reads;
+      count_is = counts after.known (omega (arith, few));
+    }
+
+-- the number of bytes that a header takes
+pub header-counted : (bytes : List ℕ) (source : Stream) (count : ℕ) → StandsAfter (header_at bytes) source
+    → (source.known ≡ true → length source.bytes ≤ length bytes → count + length source.bytes ≡ length bytes)
+    → CountsRead (header_at bytes) bytes count
+header-counted bytes source count =
+    counted bytes (header_at bytes) source count (header-leaves (suc (length bytes)) bytes (omega arith))
+
+-- and that a whole image takes
+pub meaning-counted : (o : Options) (bytes : List ℕ) (source : Stream) (count : ℕ)
+    → StandsAfter (meaning_by o bytes) source
+    → (source.known ≡ true → length source.bytes ≤ length bytes → count + length source.bytes ≡ length bytes)
+    → CountsRead (meaning_by o bytes) bytes count
+meaning-counted o bytes source count =
+    counted bytes (meaning_by o bytes) source count (meaning-leaves (suc (length bytes)) o bytes (omega arith))
+
+means-rest : (o : Options) (bytes rest : List ℕ) (header : Found) → header_at bytes ≡ Ok (header, rest)
+    → meaning_by o bytes ≡ rest_at (settings_of o) (with_said (at_size (size_wanted o)) header) rest
+unfolding meaning_by
+means-rest o bytes rest header h = then-ok (header_at bytes) _ (header, rest) _ h refl
+
+-- where the whole of a picture was read, its decoder has read the image
+pub image-counted : (extent : Extent) (o : Options) (bytes : List ℕ) (old new : Decoding) (header : Found) (count : ℕ)
+    → header_at bytes ≡ Ok (header, old.source.bytes) → old.settings ≡ settings_of o
+    → old.found ≡ with_said (at_size (size_wanted o)) header → EndsImage extent old new
+    → (new.source.known ≡ true → length new.source.bytes ≤ length bytes
+    → count + length new.source.bytes ≡ length bytes)
+    → CountsImage extent o bytes count
+image-counted Whole o bytes old new header count h s f ends counts =
+    meaning-counted o bytes new.source count (record {
+      known = ends.known;
+      value = ends.value;
+      reads = means-rest o bytes old.source.bytes header h
+          ∙ (λ i. rest_at (sym s i) (sym f i) old.source.bytes) ∙ ends.reads;
+    }) counts
+image-counted Partial o bytes old new header count h s f ends counts = tt

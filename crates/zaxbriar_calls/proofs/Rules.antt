@@ -1,0 +1,46 @@
+-- Lemmas that the proofs of functions use, by what they are about.
+use Rattle.std.proofs.Common.{length-append}
+use Rattle.zaxbriar_calls.proofs.Densities.{density-none, density-short, density-some, first-cut, first-ended, first-jfif}
+use Rattle.zaxbriar_calls.proofs.Densities.{first-later, first-none, first-past}
+use Rattle.zaxbriar_calls.proofs.FoundSegments.{marker-filled, marker-here, marker-later, no-marker, payload-cut, payload-is}
+use Rattle.zaxbriar_calls.proofs.FoundSegments.{few-refused, marked-long, payload-short, payload-unsized, sized}
+use Rattle.zaxbriar_calls.proofs.FoundSegments.{some-left, unsized}
+use Rattle.zaxbriar_calls.proofs.KeptBytes.{marker-long, segment-cut, segment-found, segment-none}
+use Rattle.zaxbriar_calls.proofs.Means.{given-fails, given-means}
+use Rattle.zaxbriar_calls.proofs.FoundPlaces.{other-said, places-are, places-ended, places-later, places-none, places-past}
+
+-- how many bytes were read
+pub ruleset counted = (length-append)
+
+-- the next marker
+pub ruleset markers = (no-marker, marker-here, marker-later, marker-filled)
+
+-- the payload of a segment
+pub ruleset payloads = (payload-unsized, payload-short, payload-cut, payload-is)
+
+-- a marker with or without a length field
+pub ruleset lengths = (sized, unsized)
+
+-- what a payload needs that isn't whole
+pub ruleset needs = (few-refused, some-left)
+
+-- how long what is read of a segment is
+pub ruleset long_segments = (marker-long, marked-long)
+
+-- the first segment
+pub ruleset read_segments = (segment-cut, segment-found, segment-none)
+
+-- the applications that have no metadata
+pub ruleset others = (other-said)
+
+-- the places of metadata
+pub ruleset places = (places-are, places-ended, places-later, places-none, places-past)
+
+-- the first JFIF segment
+pub ruleset segments = (first-none, first-ended, first-cut, first-jfif, first-later, first-past)
+
+-- the density of a stream
+pub ruleset densities = (density-short, density-some, density-none)
+
+-- the whole of what a stream gives
+pub ruleset wholes = (given-means, given-fails)

@@ -1,0 +1,9 @@
+use Rattle.zaxbriar_calls.proofs.Decoded.{lines-stored}
+use Rattle.zaxbriar_calls.proofs.decode.decode_lines.Goals as goal
+
+pub put_lines-requires-clause-stored : goal.put_lines-requires-clause-stored
+put_lines-requires-clause-stored g c =
+    lines-stored c.requires.lines.0 c.args.header.info c.args.header.precision c.args.lines
+    c.args.decoder.now.found.said.frame c.read_lines.new.decoder.found.said.frame c.in-Ok.decoded.lines
+    c.requires.lines.1 c.in-Ok.ensures.stays c.requires.info c.requires.precision c.in-Ok.ensures.counted
+    c.in-Ok.ensures.lines

@@ -1,0 +1,55 @@
+use Rattle.std.proofs.Common.{◌≡◌, ◌∙◌, ◌+◌, ◌*◌, ◌-◌, ◌<◌, ◌≤◌, ℕ, List, [], ap, arith, drop, length, refl, sym, take}
+use Rattle.std.proofs.Math.Nat.{mul-le-mul_right}
+use Rattle.std.specs.List.{concat}
+use Rattle.std.specs.Prelude.{slice_index_or}
+use borrow.Rule.Slice.PartMut.{put_mid}
+use Rattle.jpeg_decoder.proofs.Pictures.LinesTogether.{line-long, together-length}
+use Rattle.zaxbriar_calls.specs.Layouts.{laid_out, layout_line}
+use Rattle.zaxbriar_calls.proofs.Laid.{line-length, line-of-all, line-put}
+use Rattle.zaxbriar_calls.proofs.lines.put_lines.Goals as goal
+
+pub loop-y-init : goal.loop-y-init
+unfolding laid_out
+loop-y-init c = record { lines = refl; picture = refl; row = refl }
+
+pub put_line-requires-clause-y : goal.put_line-requires-clause-y
+put_line-requires-clause-y c = grind arith
+
+pub put_line-requires-clause-stored : goal.put_line-requires-clause-stored
+put_line-requires-clause-stored c =
+    let lines = c.args.lines in
+    let low : c.loop-y.y < length c.args.picture.now = grind arith in
+    ap (λ (l : List (List ℕ)). length (slice_index_or l c.loop-y.y [])) c.loop-y.invariant.picture
+    ∙ line-long (lines.width * lines.stored) c.loop-y.y c.args.picture.now [] c.requires.stored low
+
+pub loop-y-preserved : goal.loop-y-preserved
+loop-y-preserved c =
+    let lines = c.args.lines in
+    let picture : List (List ℕ) = c.args.picture.now in
+    let bytes : ℕ = lines.width * lines.stored in
+    let samples : List ℕ = concat picture in
+    let y : ℕ = c.loop-y.y in
+    let low : y < length picture = grind arith in
+    let all : length samples ≡ length picture * bytes = together-length bytes picture c.requires.stored in
+    let next : y + 1 ≤ length picture = omega (arith, low) in
+    let few : (y + 1) * bytes ≤ length picture * bytes = mul-le-mul_right bytes next in
+    let few' : (y + 1) * bytes ≤ length samples = omega (arith, few, all) in
+    let one : take bytes (drop (y * bytes) samples) ≡ slice_index_or picture y [] =
+    line-of-all bytes y picture c.requires.stored low in
+    let is : c.put_line.new.line ≡ layout_line lines.conversion lines.stored lines.width
+    (take bytes (drop (y * bytes) samples)) = c.put_line.ensures.line
+    ∙ ap (λ (l : List (List ℕ)). layout_line lines.conversion lines.stored lines.width (slice_index_or l y []))
+    c.loop-y.invariant.picture
+    ∙ ap (λ (l : List ℕ). layout_line lines.conversion lines.stored lines.width l) (sym one) in
+    let room : y * lines.stride + lines.row_bytes ≤ length c.args.pixels.now = c.requires.room y (grind arith) in
+    let k : y * lines.stride + lines.row_bytes - y * lines.stride ≡ lines.row_bytes = omega arith in
+    record {
+      lines = ap (λ (l : List ℕ). put_mid (y * lines.stride) (y * lines.stride + lines.row_bytes - y * lines.stride) l
+          c.put_line.new.line) c.loop-y.invariant.lines
+          ∙ line-put (layout_line lines.conversion lines.stored lines.width) bytes lines.row_bytes lines.stride y
+          (y * lines.stride + lines.row_bytes - y * lines.stride) samples c.args.pixels.now c.put_line.new.line
+          (λ p whole. line-length lines.conversion lines.stored lines.width p whole ∙ sym c.requires.line)
+          few' c.requires.wide room k is;
+      picture = c.put_line.ensures.same ∙ c.loop-y.invariant.picture;
+      row = c.put_line.auto.row ∙ c.loop-y.invariant.row;
+    }

@@ -1,0 +1,161 @@
+-- What a call with some options gives of a stream: the whole of its picture, or what it has brought
+-- up to its first fault.
+use Rattle.std.specs.Prelude.{◌≡◌, ℕ, ◌*◌, List, Option, Some, None, Ok, Err, Result, option_map}
+use Rattle.std.specs.Prelude.{replicate}
+use Rattle.jpeg_bits.specs.Reading.{◌>>=◌, Fault, Malformed, Lacks, End, Names}
+use Rattle.jpeg_bits.specs.declared.error.Error.{Error}
+use Rattle.jpeg_bits.specs.declared.error.Error.TheVariants as errors
+use Rattle.jpeg_decoder.specs.Reaching.{NamesFault}
+use Rattle.jpeg_streams.specs.DecodedImages.{at_size}
+use Rattle.jpeg_streams.specs.Found.{Found, with_said}
+use Rattle.jpeg_streams.specs.Pixels.{info_of}
+use Rattle.jpeg_streams.specs.Shown.{Shown, shown_rest}
+use Rattle.jpeg_streams.specs.States.{Decoding}
+use Rattle.jpeg_streams.specs.Stream.{Told, header_at, rest_at, told_of}
+use Rattle.jpeg_streams.specs.WholeRows.{whole_rows_rest}
+use Rattle.jpeg_streams.specs.declared.images.ImageInfo.{ImageInfo}
+use Rattle.jpeg_streams.specs.declared.settings.Settings.{Settings}
+use Rattle.zaxbriar_calls.specs.Features.{NamesFeature, feature_in, numbered}
+use Rattle.zaxbriar_calls.specs.Layouts.{laid_out, layout_line}
+use Rattle.zaxbriar_calls.specs.Lines.{Arranged}
+use Rattle.zaxbriar_calls.specs.Meanings.{CountsRead, StandsAfter, meaning_by, settings_of}
+use Rattle.zaxbriar_calls.specs.Meanings.{size_wanted}
+use Rattle.zaxbriar_calls.specs.declared.answers.Refusal.{Refusal}
+use Rattle.zaxbriar_calls.specs.declared.answers.Refusal.TheVariants.{Part}
+use Rattle.zaxbriar_calls.specs.declared.extents.Extent.{Extent}
+use Rattle.zaxbriar_calls.specs.declared.extents.Extent.TheVariants.{Whole, Partial}
+use Rattle.zaxbriar_calls.specs.declared.features.Feature.{Feature}
+use Rattle.zaxbriar_calls.specs.declared.lines.Lines.{Lines}
+use Rattle.zaxbriar_calls.specs.declared.options.Options.{Options}
+use Rattle.zaxbriar_calls.specs.declared.picture.Picture.{Picture}
+
+-- what is told of a stream, and its picture, without a fault
+abbrev pub faultless : Told × List ℕ → Shown
+faultless m = record { told = m.0; picture = m.1; fault = None }
+
+-- What the rest of a stream gives after its header: its meaning, where the whole is asked for, or
+-- else what it shows.
+abbrev pub given_rest : Extent → Settings → Found → List ℕ → Result Shown Fault
+given_rest Whole settings found bytes =
+    rest_at settings found bytes >>= (λ m. Ok (faultless m.0))
+given_rest Partial settings found bytes = shown_rest settings found bytes
+
+-- What a stream gives: what is told of it, its picture, and its first fault; or why it gives none.
+-- A whole picture has no fault.
+unfoldable pub given_by : Extent → Options → List ℕ → Result Shown Fault
+given_by extent o bytes = do
+  header ← header_at bytes
+  given_rest extent (settings_of o) (with_said (at_size (size_wanted o)) header.0) header.1
+
+-- How many rows of what is given, from the top, are complete in each scan that the stream has
+-- begun. Those of a whole picture, which all are, aren't counted.
+abbrev pub rows_rest : Extent → Found → List ℕ → ℕ
+rows_rest Whole found bytes = 0
+rows_rest Partial found bytes = whole_rows_rest found bytes
+
+unfoldable pub rows_by : Extent → Options → List ℕ → ℕ
+rows_by Whole o bytes = 0
+rows_by Partial o bytes = elim (header_at bytes) [
+  | Ok header ↦ whole_rows_rest (with_said (at_size (size_wanted o)) header.0) header.1
+  | Err fault ↦ 0
+]
+
+-- The picture that a stream gives, up to this fault, if it has one, is in the caller's memory.
+pub record Gives (extent : Extent) (o : Options) (bytes old new : List ℕ) (fault : Option Fault)
+    (picture : Picture) : Type 0 where
+  pub told : Told
+  pub samples : List ℕ
+  pub info : ImageInfo
+  pub precision : ℕ
+  pub are : given_by extent o bytes ≡ Ok (record { told = told; picture = samples; fault = fault })
+  pub info_is : option_map info_of told.frame ≡ Some info
+  pub precision_is : option_map (λ f. f.precision) told.frame ≡ Some precision
+  pub arranged : Arranged o info precision samples old new picture
+
+-- This many bytes are those of the image, where the whole of its picture was read.
+abbrev pub CountsImage : Extent → Options → List ℕ → ℕ → Type 0
+CountsImage Whole o bytes count = CountsRead (meaning_by o bytes) bytes count
+CountsImage Partial o bytes count = Unit {0}
+
+-- the number of a fault, and the feature that it names
+abbrev pub fault_number : Fault → ℕ
+fault_number Malformed = 1
+fault_number (Lacks feature) = 2
+fault_number End = 3
+
+abbrev pub feature_lacking : Fault → Feature
+feature_lacking (Lacks feature) = feature_in feature
+feature_lacking _ = numbered 0 0
+
+-- A picture names a fault.
+abbrev pub TellsFault : Picture → Fault → Type 0
+TellsFault picture fault =
+    (picture.fault ≡ fault_number fault) × NamesFeature picture (feature_lacking fault)
+
+-- a picture without the number of rows that are complete
+abbrev pub without_rows : Picture → Picture
+without_rows picture = record picture { whole_rows = 0 }
+
+-- a picture without the fault of which a call tells, its feature, and its text
+abbrev pub without_fault : Picture → Picture
+without_fault picture = record picture {
+  feature = 0;
+  feature_argument = 0;
+  fault = 0;
+  text = replicate 112 0;
+}
+
+-- ---- what the code's own clauses need
+
+-- What a call says that has written a part: the picture of what the stream has brought up to its
+-- first fault, which the error names.
+abbrev pub GivesPart : Extent → Options → List ℕ → List ℕ → List ℕ → Picture → Refusal → Type 0
+GivesPart extent o bytes old new picture (Part e rows) = (fault : Fault)
+    × Names {Y = Unit {0}} e (Err fault) × (e ≡ errors.OutOfMemory → ⊥)
+    × Gives extent o bytes old new (Some fault) picture
+GivesPart extent o bytes old new picture _ = Unit {0}
+
+-- What was read is what a stream gives: these samples, this fault, and what is told. Memory was
+-- there for the fault.
+pub record Brings (expected : Result Shown Fault) (samples : List ℕ) (fault : Option Error)
+    (told : Told) : Type 0 where
+  pub named : Option Fault
+  pub shown : expected ≡ Ok (record { told = told; picture = samples; fault = named })
+  pub fault_is : NamesFault fault named
+  pub memory : fault ≡ Some errors.OutOfMemory → ⊥
+
+-- A decoder stands after the image, where it has read the whole of its picture.
+abbrev pub EndsImage : Extent → Decoding → Decoding → Type 0
+EndsImage Whole old new =
+    StandsAfter (rest_at old.settings old.found old.source.bytes) new.source
+EndsImage Partial old new = Unit {0}
+
+abbrev pub outcome_of : ℕ → Option Error → Result ℕ Refusal
+outcome_of rows None = Ok rows
+outcome_of rows (Some e) = Err (Part e rows)
+
+-- Where a picture was written, or a part of it, this many of its rows are counted as complete.
+abbrev pub HasRows : ℕ → Result ℕ Refusal → Type 0
+HasRows complete (Ok rows) = rows ≡ complete
+HasRows complete (Err (Part e rows)) = rows ≡ complete
+HasRows complete (Err r) = Unit {0}
+
+-- A decoder whose header was read has brought what a stream gives, and the lines of it are in the
+-- caller's memory.
+pub record BringsLines (extent : Extent) (lines : Lines) (fault : Option Error) (old new : Decoding)
+    (before after : List ℕ) : Type 0 where
+  pub samples : List ℕ
+  pub frame : new.found.said.frame ≡ old.found.said.frame
+  pub brings : Brings (given_rest extent old.settings old.found old.source.bytes) samples fault
+      (told_of new.found.said)
+  pub ends : EndsImage extent old new
+  pub pixels : after ≡ laid_out (layout_line lines.conversion lines.stored lines.width)
+      (lines.width * lines.stored) lines.stride lines.height samples before
+
+abbrev pub Reaches : Extent → Lines → Result ℕ Refusal → Decoding → Decoding → List ℕ → List ℕ
+    → Type 0
+Reaches extent lines (Ok rows) old new before after =
+    BringsLines extent lines None old new before after
+Reaches extent lines (Err (Part e rows)) old new before after =
+    BringsLines extent lines (Some e) old new before after
+Reaches extent lines (Err r) old new before after = Unit {0}

@@ -1,0 +1,16 @@
+pub mod CopiesMetadata
+pub mod Density
+pub mod Faults
+pub mod Features
+pub mod Fills
+pub mod FindsSegment
+pub mod Given
+pub mod Layouts
+pub mod Limits
+pub mod Lines
+pub mod Meanings
+pub mod Metadata
+pub mod Places
+pub mod ReadsInfo
+pub mod Sampling
+pub mod StreamSegments

@@ -1,0 +1,34 @@
+-- The limits of some options, and the memory that they are compared with.
+use Rattle.std.specs.Prelude.{◌==◌, ◌&&◌, ◌||◌, ◌+◌, ◌*◌, ℕ, Bool, not, nat_le, nat_lt, slice_index}
+use Rattle.jpeg_decoder.specs.declared.sizes.DecodingBytes.{DecodingBytes}
+use Rattle.zaxbriar_calls.specs.declared.extents.Extent.{Extent}
+use Rattle.zaxbriar_calls.specs.declared.extents.Extent.TheVariants.{Whole, Partial}
+use Rattle.zaxbriar_calls.specs.declared.options.Options.{Options}
+use Rattle.zaxbriar_calls.specs.declared.picture.Picture.{Picture}
+
+-- whether a number is the denominator of a scale, or 0
+abbrev pub is_denominator : ℕ → Bool
+is_denominator n = n == 0 || (n == 1 || (n == 2 || (n == 4 || n == 8)))
+
+-- whether all options exist whatever the picture is: the transform, of which 1, none, goes with
+-- layout 0 alone, the scale, and what is reserved
+abbrev pub are_known : Options → Bool
+are_known o = (not (o.transform == 1) || o.layout == 0) && (nat_le o.transform 5
+    && (is_denominator o.scale && (o.reserved == 0
+    && (slice_index o.reserved_words 0 == 0 && slice_index o.reserved_words 1 == 0))))
+
+-- The most memory for samples that decoding takes at a time beside the caller's: blocks and planes,
+-- from which the lines are written. Of a picture in part all blocks are kept.
+abbrev pub bytes_beside : Extent → DecodingBytes → ℕ
+bytes_beside Whole d = d.coefficients + d.planes
+bytes_beside Partial d = d.all_coefficients + d.planes
+
+-- whether a count is above a limit, where 0 is none
+abbrev pub is_over : ℕ → ℕ → Bool
+is_over limit count = not (limit == 0) && nat_lt limit count
+
+-- whether a picture is above a limit: by its samples, or by the memory that decoding takes
+abbrev pub exceeds_limits : Options → Picture → Bool
+exceeds_limits o picture =
+    is_over o.max_samples (picture.width * picture.height * picture.components)
+    || is_over o.max_bytes picture.decoding_bytes

@@ -1,0 +1,126 @@
+-- The lines of a picture, and what a caller is told of it.
+use Rattle.std.specs.Prelude.{◌≡◌, ◌==◌, ◌≤◌, ℕ, ◌*◌, List, replicate, if◌then◌else◌, Some}
+use Rattle.jpeg_decoder.specs.Bytes.{bytes_a_sample, samples_a_pixel}
+use Rattle.jpeg_segments.specs.declared.frame.CodingProcess.{CodingProcess}
+use Rattle.jpeg_segments.specs.declared.frame.CodingProcess.TheVariants.{DctSequential}
+use Rattle.jpeg_segments.specs.declared.frame.CodingProcess.TheVariants.{DctProgressive, Lossless}
+use Rattle.jpeg_streams.specs.declared.images.ImageInfo.{ImageInfo}
+use Rattle.jpeg_streams.specs.declared.images.PixelFormat.{PixelFormat}
+use Rattle.jpeg_streams.specs.declared.images.PixelFormat.TheVariants.{L8, L16, RGB24, CMYK32}
+use Rattle.zaxbriar_calls.specs.Layouts.{TakesStored, conversion_to, converted_bytes, laid_out}
+use Rattle.zaxbriar_calls.specs.Layouts.{layout_line, pixel_bytes, size_of_lines}
+use Rattle.zaxbriar_calls.specs.declared.layouts.Conversion.{Conversion}
+use Rattle.zaxbriar_calls.specs.declared.density.Density.{Density}
+use Rattle.zaxbriar_calls.specs.declared.lines.Lines.{Lines}
+use Rattle.zaxbriar_calls.specs.declared.options.Options.{Options}
+use Rattle.zaxbriar_calls.specs.declared.picture.Picture.{Picture}
+
+-- the bytes of a pixel as it is stored
+abbrev pub stored_bytes : ImageInfo → ℕ → ℕ
+stored_bytes info precision = pixel_bytes info.pixel_format precision
+
+-- the bytes of a pixel, and those of a line without its gap
+abbrev pub layout_pixel_bytes : ImageInfo → ℕ → Conversion → ℕ
+layout_pixel_bytes info precision conversion = converted_bytes conversion (stored_bytes info
+    precision)
+
+abbrev pub row_bytes : ImageInfo → ℕ → Conversion → ℕ
+row_bytes info precision conversion = info.width * layout_pixel_bytes info precision conversion
+
+-- the bytes from one line to the next
+abbrev pub stride_of : ℕ → ℕ → ℕ
+stride_of stride row = if stride == 0 then row else stride
+
+-- the lines of a picture
+abbrev pub lines_by : ℕ → ImageInfo → ℕ → Conversion → Lines
+lines_by stride info precision conversion = record {
+  conversion = conversion;
+  width = info.width;
+  height = info.height;
+  stored = stored_bytes info precision;
+  pixel_bytes = layout_pixel_bytes info precision conversion;
+  row_bytes = row_bytes info precision conversion;
+  stride = stride_of stride (row_bytes info precision conversion);
+}
+
+-- Lines are those that the options ask for.
+pub record HasLines (o : Options) (info : ImageInfo) (precision : ℕ) (lines : Lines) : Type 0 where
+  pub conversion : Conversion
+  pub is : conversion_to o.layout info.pixel_format precision ≡ Some conversion
+  pub fits : TakesStored conversion (stored_bytes info precision)
+  pub lines_are : lines ≡ lines_by o.stride info precision conversion
+  pub wide : lines.row_bytes ≤ lines.stride
+  pub narrow : lines.stride ≤ 4294967296
+
+-- Lines fit a picture, as the options ask for them: there is the layout, and a stride, if one is
+-- given, is no shorter than a line and at most 2^32.
+pub record FitLines (o : Options) (info : ImageInfo) (precision : ℕ) : Type 0 where
+  pub conversion : Conversion
+  pub is : conversion_to o.layout info.pixel_format precision ≡ Some conversion
+  pub wide : row_bytes info precision conversion ≤ stride_of o.stride (row_bytes info precision
+      conversion)
+  pub narrow : stride_of o.stride (row_bytes info precision conversion) ≤ 4294967296
+
+-- the number of a coding process
+abbrev pub process_number : CodingProcess → ℕ
+process_number DctSequential = 1
+process_number DctProgressive = 2
+process_number Lossless = 3
+
+-- the number of a format
+abbrev pub format_number : PixelFormat → ℕ
+format_number L8 = 1
+format_number L16 = 2
+format_number RGB24 = 3
+format_number CMYK32 = 4
+
+-- what a caller is told of a picture: these lines, the memory that decoding takes, the orientation,
+-- the sampling factors, the transform, the density, and the bytes of the stream
+abbrev pub described_picture : ℕ → ImageInfo → ℕ → Lines → ℕ → ℕ → List ℕ → ℕ → Density → ℕ
+    → Picture
+described_picture layout info precision lines decoding orientation sampling transform density
+    bytes = record {
+      size = size_of_lines lines.stride lines.row_bytes lines.height;
+      row_bytes = lines.row_bytes;
+      decoding_bytes = decoding;
+      stream_bytes = bytes;
+      width = lines.width;
+      height = lines.height;
+      whole_rows = 0;
+      pixel_bytes = lines.pixel_bytes;
+      layout = layout;
+      components = samples_a_pixel info.pixel_format;
+      precision = precision;
+      sample_bytes = bytes_a_sample precision;
+      process = process_number info.coding_process;
+      orientation = orientation;
+      format = format_number info.pixel_format;
+      feature = 0;
+      feature_argument = 0;
+      sampling = sampling;
+      fault = 0;
+      density_unit = density.unit;
+      horizontal_density = density.horizontal;
+      vertical_density = density.vertical;
+      transform = transform;
+      reserved = replicate 15 0;
+      text = replicate 112 0;
+    }
+
+-- The samples of a picture are in the caller's memory in the layout that the options ask for, and a
+-- caller is told of them.
+pub record Arranged (o : Options) (info : ImageInfo) (precision : ℕ) (samples old new : List ℕ)
+    (picture : Picture) : Type 0 where
+  pub conversion : Conversion
+  pub is : conversion_to o.layout info.pixel_format precision ≡ Some conversion
+  pub pixels : new ≡ laid_out (layout_line conversion (stored_bytes info precision) info.width)
+      (info.width * stored_bytes info precision)
+      (stride_of o.stride (row_bytes info precision conversion)) info.height samples old
+  pub decoding : ℕ
+  pub orientation : ℕ
+  pub sampling : List ℕ
+  pub transform : ℕ
+  pub density : Density
+  pub picture_is : picture ≡ described_picture o.layout info precision
+      (lines_by o.stride info precision conversion) decoding orientation sampling transform
+      density picture.stream_bytes

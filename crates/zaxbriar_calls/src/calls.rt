@@ -1,0 +1,140 @@
+//! The calls of the C library, each over a stream in memory.
+//!
+//! They keep no state and share nothing: each reads its stream from the start, writes only through
+//! its arguments, and has freed all of its memory when it returns. The number that a call returns
+//! is one of `c/zaxbriar.h`: 0 OK, 1 MALFORMED, 2 UNSUPPORTED, 3 TRUNCATED, 4 NO_MEMORY, 5 NO_ROOM,
+//! 6 BAD_ARGUMENT, 7 NO_DATA, 8 TOO_LARGE, 9 PARTIAL.
+ghost use Rattle.std.specs.Prelude.{◌≡◌};
+ghost use Rattle.zaxbriar_calls.specs.CopiesMetadata.{CopiesMetadata};
+ghost use Rattle.zaxbriar_calls.specs.Fills.{Fills};
+ghost use Rattle.zaxbriar_calls.specs.FindsSegment.{FindsSegment};
+ghost use Rattle.zaxbriar_calls.specs.Places.{places_of};
+ghost use Rattle.zaxbriar_calls.specs.ReadsInfo.{ReadsInfo};
+ghost use Rattle.zaxbriar_calls.specs.declared.extents.Extent.TheVariants.{Whole, Partial};
+
+use crate::answers::{
+    BAD_ARGUMENT, MALFORMED, NO_MEMORY, OK, TRUNCATED, answer, outcome_fault, outcome_rows,
+};
+use crate::decode::decode_into;
+use crate::description::describe_stream;
+use crate::extents::Extent;
+use crate::features::outcome_feature;
+use crate::metadata::{is_no_kind, read_metadata};
+use crate::options::Options;
+use crate::picture::{NO_PICTURE, Picture};
+use crate::places::{Places, find_places};
+use crate::segments::{NO_SEGMENT, Segment, ends_by_ff, next_marker, payload_after, payload_needs};
+use std::alloc::Global;
+
+/// Describes the picture of a stream, by its header.
+pub fn read_info(alloc: Global, jpeg: &[u8], options: &Options, picture: &mut Picture) -> u32
+    ensures { ReadsInfo options.now jpeg.now picture.new result }
+{
+    *picture = NO_PICTURE;
+    let outcome = describe_stream(alloc, jpeg, options, picture);
+    let feature = outcome_feature(&outcome);
+    picture.feature = feature.number;
+    picture.feature_argument = feature.argument;
+    answer(alloc, outcome, &mut picture.text)
+}
+
+/// Decodes what is asked for of a stream into `pixels`, and describes it.
+fn fill(
+    alloc: Global,
+    jpeg: &[u8],
+    options: &Options,
+    pixels: &mut [u8],
+    picture: &mut Picture,
+    extent: Extent,
+) -> u32
+    ensures { Fills extent options.now jpeg.now pixels.old pixels.new picture.new result }
+{
+    *picture = NO_PICTURE;
+    let outcome = decode_into(alloc, jpeg, options, pixels, picture, extent);
+    let feature = outcome_feature(&outcome);
+    picture.feature = feature.number;
+    picture.feature_argument = feature.argument;
+    picture.fault = outcome_fault(&outcome);
+    picture.whole_rows = u32::from(outcome_rows(&outcome));
+    answer(alloc, outcome, &mut picture.text)
+}
+
+/// Decodes a stream into `pixels`.
+pub fn decode(
+    alloc: Global,
+    jpeg: &[u8],
+    options: &Options,
+    pixels: &mut [u8],
+    picture: &mut Picture,
+) -> u32
+    ensures { Fills Whole options.now jpeg.now pixels.old pixels.new picture.new result }
+{
+    fill(alloc, jpeg, options, pixels, picture, Extent::Whole)
+}
+
+/// Decodes what there is of a stream that may have a fault into `pixels`. What it doesn't bring is
+/// mid-grey.
+pub fn decode_partial(
+    alloc: Global,
+    jpeg: &[u8],
+    options: &Options,
+    pixels: &mut [u8],
+    picture: &mut Picture,
+) -> u32
+    ensures { Fills Partial options.now jpeg.now pixels.old pixels.new picture.new result }
+{
+    fill(alloc, jpeg, options, pixels, picture, Extent::Partial)
+}
+
+/// Copies the Exif data, the XMP data or the ICC profile of a header or of a whole image, and
+/// writes how many bytes they have.
+pub fn metadata(alloc: Global, jpeg: &[u8], kind: u32, buffer: &mut [u8], count: &mut u64) -> u32
+    ensures { CopiesMetadata jpeg.now kind buffer.old buffer.new count.new result }
+{
+    *count = 0;
+    if is_no_kind(kind) {
+        return BAD_ARGUMENT;
+    }
+    let Ok(code) = read_metadata(alloc, jpeg, kind, buffer, count) else {
+        return NO_MEMORY;
+    };
+    code
+}
+
+/// Finds the first segment in some bytes, whatever stands before its marker.
+#[tactic(auto, using(crate::proofs::Rules::long_segments))]
+pub fn next_segment(jpeg: &[u8], segment: &mut Segment) -> u32
+    ensures { FindsSegment jpeg.now segment.new result }
+{
+    *segment = NO_SEGMENT;
+    let Some((marker, after)) = next_marker(jpeg) else {
+        let begun = usize::from(ends_by_ff(jpeg));
+        segment.needed = (2 - begun) as u64;
+        segment.skipped = (jpeg.len() - begun) as u64;
+        return TRUNCATED;
+    };
+    let start = jpeg.len() - after.len();
+    segment.marker = jpeg[start - 1];
+    if let Some((payload, rest)) = payload_after(marker, after) {
+        segment.end = (jpeg.len() - rest.len()) as u64;
+        segment.size = payload.len() as u64;
+        segment.offset = segment.end - segment.size;
+        return OK;
+    }
+    match payload_needs(after) {
+        Some(needed) => {
+            segment.needed = needed as u64;
+            segment.skipped = (start - 2) as u64;
+            TRUNCATED
+        }
+        None => MALFORMED,
+    }
+}
+
+/// Finds the metadata in the segments of an image, also of one that is cut or damaged: those up to
+/// its end or as far as there are whole segments.
+pub fn find_metadata(jpeg: &[u8], places: &mut Places)
+    ensures { places.new ≡ places_of jpeg.now }
+{
+    find_places(jpeg, places);
+}

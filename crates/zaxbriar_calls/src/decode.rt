@@ -1,0 +1,258 @@
+//! Pictures of streams in the caller's memory.
+ghost use Rattle.std.specs.Prelude.{◌≡◌, ◌≤◌, ◌<◌, Some, length, option_map};
+ghost use Rattle.std.specs.Prelude.{true, false, Err, IfErr, IfOk, IfSome, IsErrAnd, None, Ok};
+ghost use Rattle.std.specs.Prelude.{OnOk};
+ghost use Rattle.std.specs.List.{concat};
+ghost use Rattle.jpeg_bits.specs.Reading.{Answers, Fault, IsGivenUp};
+ghost use Rattle.jpeg_bits.specs.declared.error.Error.TheVariants.{OutOfMemory};
+ghost use Rattle.jpeg_decoder.specs.Bytes.{AreLinesOf, IsCounted, decoding_bytes, shape_in};
+ghost use Rattle.jpeg_streams.specs.Pixels.{info_of};
+ghost use Rattle.jpeg_streams.specs.Stream.{header_at, rest_at, told_of};
+ghost use Rattle.jpeg_streams.specs.declared.progress.Progress.TheVariants.{HeaderRead};
+ghost use Rattle.zaxbriar_calls.specs.Faults.{IsArgument, IsFault, IsOfCall, IsOfDecoder};
+ghost use Rattle.zaxbriar_calls.specs.Faults.{IsOfReading, IsOwn, IsPart};
+ghost use Rattle.zaxbriar_calls.specs.Given.{Brings, CountsImage, EndsImage, Gives, GivesPart};
+ghost use Rattle.zaxbriar_calls.specs.Given.{HasRows, Reaches, given_by, given_rest, outcome_of};
+ghost use Rattle.zaxbriar_calls.specs.Given.{rows_by, rows_rest};
+ghost use Rattle.zaxbriar_calls.specs.Layouts.{size_of_lines};
+ghost use Rattle.zaxbriar_calls.specs.Limits.{are_known};
+ghost use Rattle.zaxbriar_calls.specs.Lines.{HasLines};
+ghost use Rattle.zaxbriar_calls.specs.Meanings.{AreWrong, CountsRead, IsTooLarge, IsWithin};
+ghost use Rattle.zaxbriar_calls.specs.Meanings.{uncounted};
+ghost use Rattle.zaxbriar_calls.specs.declared.answers.Refusal.TheVariants.{NoRoom, TooLarge};
+ghost use Rattle.zaxbriar_calls.specs.declared.extents.Extent.TheVariants.{Partial};
+
+use crate::answers::{Refusal, refusal_of};
+use crate::counts::bytes_read;
+use crate::decoders::decoder_of;
+use crate::density::density_of;
+use crate::description::describe;
+use crate::extents::Extent;
+use crate::header::Header;
+use crate::lines::{Lines, put_lines, stored_line};
+use crate::options::{Options, are_known};
+use crate::picture::Picture;
+use jpeg_decoder::error::Error;
+use jpeg_decoder::{Decoder, PartialLines};
+use std::alloc::Global;
+use std::io::Read;
+
+/// Returns the fault of a stream, or the refusal where it isn't one of the stream: for lack of
+/// memory, or because of the reader.
+fn stream_fault<R: Read + Drop>(
+    decoder: &Decoder<R>,
+    fault: Option<Error>,
+) -> std::result::Result<Option<Error>, Refusal>
+    ensures same { IfOk result (λ f. f ≡ fault) }
+    ensures of_stream { IfOk result (λ f. IfSome f (λ e.
+        (IsGivenUp e decoder.now.source.failed → ⊥) × (e ≡ OutOfMemory → ⊥))) }
+    ensures call { IfErr result IsOfCall }
+    ensures own { IfErr result IsOfDecoder }
+{
+    let Some(error) = fault else {
+        return Ok(None);
+    };
+    match refusal_of(decoder, error) {
+        Refusal::Stream(Error::OutOfMemory) => Err(Refusal::Stream(Error::OutOfMemory)),
+        Refusal::Stream(error) => Ok(Some(error)),
+        refusal => Err(refusal),
+    }
+}
+
+/// Reads the rest of a stream as far as it goes, and returns its lines, how many of them are
+/// complete, and its first fault.
+fn read_part<R: Read + Drop>(decoder: &mut Decoder<R>) -> std::result::Result<PartialLines, Refusal>
+    requires read { decoder.old.stage ≡ HeaderRead }
+    ensures stays { IfOk result
+        (λ _. decoder.new.found.said.frame ≡ decoder.old.found.said.frame) }
+    ensures counted { IfOk result (λ _. IsCounted (shape_in decoder.new)) }
+    ensures lines { IfOk result (λ p. AreLinesOf (shape_in decoder.new) p.lines) }
+    ensures given { decoder.old.source.known ≡ true → IfOk result (λ p. Brings
+        (given_rest Partial decoder.old.settings decoder.old.found decoder.old.source.bytes)
+        (concat p.lines) p.fault (told_of decoder.new.found.said)) }
+    ensures rows { decoder.old.source.known ≡ true → IfOk result
+        (λ p. p.whole_rows ≡ rows_rest Partial decoder.old.found decoder.old.source.bytes) }
+    ensures named { decoder.old.source.known ≡ true → IfErr result (IsFault
+        (given_rest Partial decoder.old.settings decoder.old.found decoder.old.source.bytes)) }
+    ensures own { IfErr result IsOfDecoder }
+{
+    match decoder.decode_partial_lines() {
+        Ok(partial) => match stream_fault(decoder, partial.fault) {
+            Ok(fault) => Ok(PartialLines {
+                lines: partial.lines,
+                whole_rows: partial.whole_rows,
+                fault,
+            }),
+            Err(refusal) => Err(refusal),
+        },
+        Err(error) => {
+            // After a failed read the error may be that of the picture.
+            if decoder.has_read_failed() {
+                Err(Refusal::Reader)
+            } else {
+                Err(refusal_of(decoder, error))
+            }
+        }
+    }
+}
+
+/// Reads the rest of a stream, all of it, and returns its lines. Their number isn't told.
+fn read_whole<R: Read + Drop>(
+    decoder: &mut Decoder<R>,
+) -> std::result::Result<PartialLines, Refusal>
+    requires read { decoder.old.stage ≡ HeaderRead }
+    ensures stays { IfOk result
+        (λ _. decoder.new.found.said.frame ≡ decoder.old.found.said.frame) }
+    ensures counted { IfOk result (λ _. IsCounted (shape_in decoder.new)) }
+    ensures lines { IfOk result (λ p. AreLinesOf (shape_in decoder.new) p.lines) }
+    ensures entire { IfOk result (λ p. p.fault ≡ None) }
+    ensures rows { IfOk result (λ p. p.whole_rows ≡ 0) }
+    ensures reads { IfOk result (λ p. Answers {X = Unit {0}}
+        (λ u. (told_of decoder.new.found.said, concat p.lines))
+        (rest_at decoder.old.settings decoder.old.found) decoder.old.source (Ok tt)
+        decoder.new.source) }
+    ensures named { decoder.old.source.known ≡ true
+        → IfErr result (IsFault (rest_at decoder.old.settings decoder.old.found
+        decoder.old.source.bytes)) }
+    ensures own { IfErr result IsOfDecoder }
+{
+    match decoder.decode_lines() {
+        Ok(lines) => Ok(PartialLines {
+            lines,
+            whole_rows: 0,
+            fault: None,
+        }),
+        Err(error) => Err(refusal_of(decoder, error)),
+    }
+}
+
+/// Reads the rest of a stream, all of it, or, in part, as far as it goes, and returns its lines,
+/// how many of them are complete in part, and its first fault.
+fn read_lines<R: Read + Drop>(
+    decoder: &mut Decoder<R>,
+    extent: Extent,
+) -> std::result::Result<PartialLines, Refusal>
+    requires read { decoder.old.stage ≡ HeaderRead }
+    ensures stays { IfOk result
+        (λ _. decoder.new.found.said.frame ≡ decoder.old.found.said.frame) }
+    ensures counted { IfOk result (λ _. IsCounted (shape_in decoder.new)) }
+    ensures lines { IfOk result (λ p. AreLinesOf (shape_in decoder.new) p.lines) }
+    ensures given { decoder.old.source.known ≡ true → IfOk result (λ p. Brings
+        (given_rest extent decoder.old.settings decoder.old.found decoder.old.source.bytes)
+        (concat p.lines) p.fault (told_of decoder.new.found.said)) }
+    ensures ends { decoder.old.source.known ≡ true
+        → OnOk result (EndsImage extent decoder.old decoder.new) }
+    ensures rows { decoder.old.source.known ≡ true → IfOk result (λ p. p.whole_rows
+        ≡ rows_rest extent decoder.old.found decoder.old.source.bytes) }
+    ensures named { decoder.old.source.known ≡ true → IfErr result (IsFault
+        (given_rest extent decoder.old.settings decoder.old.found decoder.old.source.bytes)) }
+    ensures own { IfErr result IsOfDecoder }
+{
+    match extent {
+        Extent::Whole => read_whole(decoder),
+        Extent::Partial => read_part(decoder),
+    }
+}
+
+/// Returns how many rows of a picture are complete, as OK or beside the fault of a picture in part.
+fn outcome_of(whole_rows: u16, fault: Option<Error>) -> std::result::Result<u16, Refusal>
+    ensures { result ≡ outcome_of whole_rows fault }
+{
+    match fault {
+        Some(error) => Err(Refusal::Part(error, whole_rows)),
+        None => Ok(whole_rows),
+    }
+}
+
+/// Decodes what is asked for of the picture whose header was read into its lines in the caller's
+/// memory. Returns how many rows of a part are complete.
+fn decode_lines<R: Read + Drop>(
+    alloc: Global,
+    decoder: &mut Decoder<R>,
+    header: Header,
+    lines: Lines,
+    pixels: &mut [u8],
+    extent: Extent,
+) -> std::result::Result<u16, Refusal>
+    requires read { decoder.old.stage ≡ HeaderRead }
+    requires info { option_map info_of decoder.old.found.said.frame ≡ Some header.info }
+    requires precision { option_map (λ f. f.precision) decoder.old.found.said.frame
+        ≡ Some header.precision }
+    requires bytes { option_map (decoding_bytes decoder.old.settings)
+        decoder.old.found.said.frame
+        ≡ Some header.decoding_bytes }
+    requires lines { (options : Options) × HasLines options header.info header.precision lines }
+    requires room { size_of_lines lines.stride lines.row_bytes lines.height ≤ length pixels.old }
+    ensures reaches { decoder.old.source.known ≡ true
+        → Reaches extent lines result decoder.old decoder.new pixels.old pixels.new }
+    ensures rows { decoder.old.source.known ≡ true
+        → HasRows (rows_rest extent decoder.old.found decoder.old.source.bytes) result }
+    ensures named { decoder.old.source.known ≡ true → IfErr result (IsFault
+        (given_rest extent decoder.old.settings decoder.old.found decoder.old.source.bytes)) }
+    ensures kept { IfErr result (λ r. (IsPart r → ⊥) → pixels.new ≡ pixels.old) }
+    ensures own { IfErr result IsOfReading }
+{
+    // After a refusal the caller's memory is as it was, so all memory is taken before.
+    let mut row = stored_line(alloc, lines)?;
+    match read_lines(decoder, extent) {
+        Ok(mut decoded) => {
+            put_lines(&mut decoded.lines, lines, &mut row, pixels);
+            outcome_of(decoded.whole_rows, decoded.fault)
+        }
+        Err(refusal) => Err(refusal),
+    }
+}
+
+/// Decodes what is asked for of a stream into the caller's memory, and counts the bytes that were
+/// read. Returns how many rows of a part are complete.
+pub fn decode_into(
+    alloc: Global,
+    jpeg: &[u8],
+    options: &Options,
+    pixels: &mut [u8],
+    picture: &mut Picture,
+    extent: Extent,
+) -> std::result::Result<u16, Refusal>
+    ensures given { OnOk result
+        (Gives extent options.now jpeg.now pixels.old pixels.new None picture.new) }
+    ensures part { IfErr result
+        (GivesPart extent options.now jpeg.now pixels.old pixels.new picture.new) }
+    ensures rows { HasRows (rows_by extent options.now jpeg.now) result }
+    ensures counts { OnOk result
+        (CountsImage extent options.now jpeg.now picture.new.stream_bytes) }
+    ensures header { IfErr result (λ r. IsOwn r
+        → CountsRead (header_at jpeg.now) jpeg.now picture.new.stream_bytes) }
+    ensures most { picture.old.stream_bytes ≡ 0 → picture.new.stream_bytes ≤ length jpeg.now }
+    ensures named { IfErr result (IsFault (given_by extent options.now jpeg.now)) }
+    ensures kept { IfErr result (λ r. (IsPart r → ⊥) → pixels.new ≡ pixels.old) }
+    ensures within { OnOk result (IsWithin extent options.now jpeg.now (uncounted picture.new)) }
+    ensures described { IfErr result
+        (λ r. IsPart r → IsWithin extent options.now jpeg.now (uncounted picture.new)) }
+    ensures room { IfErr result (λ r. r ≡ NoRoom
+        → IsWithin extent options.now jpeg.now (uncounted picture.new)
+        × (length pixels.old < picture.new.size)) }
+    ensures large { IfErr result
+        (λ r. r ≡ TooLarge → IsTooLarge extent options.now jpeg.now (uncounted picture.new)) }
+    ensures limited { (size : Picture)
+        → IsTooLarge extent options.now jpeg.now size → IsErrAnd result IsOfCall }
+    ensures known { are_known options.now ≡ false → IsErrAnd result IsArgument }
+    ensures wrong { IfErr result (λ r. IsArgument r → AreWrong options.now jpeg.now) }
+    ensures unasked { are_known options.now ≡ false → picture.new ≡ picture.old }
+    ensures undescribed { (fault : Fault)
+        → header_at jpeg.now ≡ Err fault → uncounted picture.new ≡ uncounted picture.old }
+{
+    if !are_known(options) {
+        return Err(Refusal::Argument("an option doesn't exist"));
+    }
+    let mut decoder = decoder_of(alloc, jpeg)?;
+    let density = density_of(jpeg);
+    let described = describe(&mut decoder, options, density, picture, extent);
+    picture.stream_bytes = bytes_read(jpeg, &decoder);
+    let (header, lines) = described?;
+    if picture.size > pixels.len() as u64 {
+        return Err(Refusal::NoRoom);
+    }
+    let decoded = decode_lines(alloc, &mut decoder, header, lines, pixels, extent);
+    picture.stream_bytes = bytes_read(jpeg, &decoder);
+    decoded
+}

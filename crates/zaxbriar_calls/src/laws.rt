@@ -1,0 +1,113 @@
+//! Laws that make the definitions evident: worked rows, computed by the checker, and what the whole
+//! of a picture is. Nothing here is code that runs.
+ghost use Rattle.std.specs.Prelude.{◌≡◌, ◌++◌, ℕ, List, [], ◌∷◌, Err, None, Ok, Some, codes, map};
+ghost use Rattle.std.specs.Prelude.{false, replicate, true};
+ghost use Rattle.jpeg_bits.specs.Reading.{Fault};
+ghost use Rattle.jpeg_bits.specs.declared.color_transform.ColorTransform.TheVariants as transforms;
+ghost use Rattle.jpeg_bits.specs.declared.error.UnsupportedFeature.TheVariants as features;
+ghost use Rattle.jpeg_streams.specs.Stream.{Told};
+ghost use Rattle.jpeg_streams.specs.declared.images.PixelFormat.TheVariants.{L8, RGB24};
+ghost use Rattle.jpeg_streams.specs.declared.images.PixelFormat.TheVariants.{CMYK32};
+ghost use Rattle.zaxbriar_calls.specs.Density.{density_of};
+ghost use Rattle.zaxbriar_calls.specs.Given.{faultless, given_by};
+ghost use Rattle.zaxbriar_calls.specs.Features.{feature_in, numbered, transform_code};
+ghost use Rattle.zaxbriar_calls.specs.Layouts.{colour, conversion_to, laid_out, level, light, luma};
+ghost use Rattle.zaxbriar_calls.specs.Layouts.{layout_numbered, pixel_of, size_of_lines};
+ghost use Rattle.zaxbriar_calls.specs.Limits.{is_denominator, is_over};
+ghost use Rattle.zaxbriar_calls.specs.Meanings.{meaning_by, number_of_transform, scale_by};
+ghost use Rattle.zaxbriar_calls.specs.Meanings.{transform_number};
+ghost use Rattle.zaxbriar_calls.specs.Metadata.{is_whole, kind_alone};
+ghost use Rattle.zaxbriar_calls.specs.declared.extents.Extent.TheVariants.{Whole};
+ghost use Rattle.zaxbriar_calls.specs.declared.options.Options.{Options};
+ghost use Rattle.zaxbriar_calls.specs.declared.layouts.Conversion.TheVariants.{InColour};
+ghost use Rattle.zaxbriar_calls.specs.declared.layouts.Layout.TheVariants as layouts;
+ghost use Rattle.jpeg_segments.specs.declared.scale.Scale.TheVariants as scales;
+
+/// The numbers of the layouts, and the bytes of a pixel of red 10, green 20 and blue 30 in each.
+#[tactic(auto, unfolding(crate::specs::Layouts::level))]
+pub fn known_layouts()
+    ensures numbers { map layout_numbered (0 ∷ 1 ∷ 2 ∷ 3 ∷ 4 ∷ 5 ∷ 6 ∷ 7 ∷ []) ≡ None
+        ∷ Some layouts.Grey ∷ Some layouts.Rgb ∷ Some layouts.Rgba ∷ Some layouts.Bgra
+        ∷ Some layouts.Bgr ∷ Some layouts.Xrgb ∷ None ∷ [] }
+    ensures pixels { map (λ l. pixel_of (InColour RGB24 8 l) (10 ∷ 20 ∷ 30 ∷ []))
+        (layouts.Grey ∷ layouts.Rgb ∷ layouts.Rgba ∷ layouts.Bgra ∷ layouts.Bgr ∷ layouts.Xrgb ∷ [])
+        ≡ (18 ∷ []) ∷ (10 ∷ 20 ∷ 30 ∷ []) ∷ (10 ∷ 20 ∷ 30 ∷ 255 ∷ []) ∷ (30 ∷ 20 ∷ 10 ∷ 255 ∷ [])
+        ∷ (30 ∷ 20 ∷ 10 ∷ []) ∷ (255 ∷ 10 ∷ 20 ∷ 30 ∷ []) ∷ [] }
+    ensures grey { pixel_of (InColour L8 8 layouts.Rgba) (77 ∷ []) ≡ 77 ∷ 77 ∷ 77 ∷ 255 ∷ [] }
+    ensures ink { pixel_of (InColour CMYK32 8 layouts.Rgb) (0 ∷ 128 ∷ 255 ∷ 0 ∷ [])
+        ≡ 255 ∷ 127 ∷ 0 ∷ [] }
+{}
+
+/// The luma of grey is that grey, and those of red, green and blue add up to white.
+#[tactic(auto)]
+pub fn known_lumas()
+    ensures grey { map (λ n. luma (colour n n n)) (0 ∷ 1 ∷ 127 ∷ 254 ∷ 255 ∷ [])
+        ≡ 0 ∷ 1 ∷ 127 ∷ 254 ∷ 255 ∷ [] }
+    ensures parts { luma (colour 255 0 0) ∷ luma (colour 0 255 0) ∷ luma (colour 0 0 255) ∷ []
+        ≡ 76 ∷ 150 ∷ 29 ∷ [] }
+{}
+
+/// A sample above 8 bits has its lower byte first, and the greatest of each precision is 255.
+#[tactic(auto, unfolding(crate::specs::Layouts::level))]
+pub fn known_levels()
+    ensures greatest { level 2 (3 ∷ []) 0 ∷ level 8 (255 ∷ []) 0 ∷ level 12 (255 ∷ 15 ∷ []) 0
+        ∷ level 16 (255 ∷ 255 ∷ []) 0 ∷ [] ≡ replicate 4 255 }
+    ensures middle { level 12 (0 ∷ 8 ∷ []) 0 ∷ level 16 (0 ∷ 128 ∷ []) 0 ∷ [] ≡ 128 ∷ 128 ∷ [] }
+    ensures second { level 8 (1 ∷ 2 ∷ 3 ∷ []) 1 ≡ 2 }
+{}
+
+/// Lines have a gap between them where the stride is longer, which stays as it was.
+#[tactic(auto, unfolding(crate::specs::Layouts::laid_out))]
+pub fn known_lines()
+    ensures gap { laid_out (λ line. line) 2 3 2 (1 ∷ 2 ∷ 3 ∷ 4 ∷ []) (9 ∷ 9 ∷ 9 ∷ 9 ∷ 9 ∷ 9 ∷ [])
+        ≡ 1 ∷ 2 ∷ 9 ∷ 3 ∷ 4 ∷ 9 ∷ [] }
+    ensures size { size_of_lines 3 2 2 ≡ 5 }
+    ensures none { size_of_lines 3 2 0 ≡ 0 }
+{}
+
+/// A limit of 0 is none, and another is the greatest count that is taken. The scales are 1, 1/2,
+/// 1/4 and 1/8.
+#[tactic(auto)]
+pub fn known_options()
+    ensures unlimited { is_over 0 1000000 ≡ false }
+    ensures limited { map (is_over 5) (4 ∷ 5 ∷ 6 ∷ []) ≡ false ∷ false ∷ true ∷ [] }
+    ensures denominators { map is_denominator (0 ∷ 1 ∷ 2 ∷ 3 ∷ 4 ∷ 8 ∷ 16 ∷ [])
+        ≡ true ∷ true ∷ true ∷ false ∷ true ∷ true ∷ false ∷ [] }
+    ensures scales { map scale_by (0 ∷ 1 ∷ 2 ∷ 4 ∷ 8 ∷ []) ≡ None ∷ Some scales.Full
+        ∷ Some scales.Half ∷ Some scales.Quarter ∷ Some scales.Eighth ∷ [] }
+    ensures transforms { map transform_number (0 ∷ 1 ∷ 2 ∷ 3 ∷ 4 ∷ 5 ∷ 6 ∷ []) ≡ None
+        ∷ Some transforms.None ∷ Some transforms.RGB ∷ Some transforms.YCbCr ∷ Some transforms.CMYK
+        ∷ Some transforms.YCCK ∷ None ∷ [] }
+    ensures numbers { map number_of_transform (transforms.None ∷ transforms.RGB ∷ transforms.YCbCr
+        ∷ transforms.CMYK ∷ transforms.YCCK ∷ []) ≡ 1 ∷ 2 ∷ 3 ∷ 4 ∷ 5 ∷ [] }
+    ensures kinds { map kind_alone (1 ∷ 3 ∷ 17 ∷ 19 ∷ []) ≡ 1 ∷ 3 ∷ 1 ∷ 3 ∷ [] }
+    ensures whole { map is_whole (3 ∷ 15 ∷ 16 ∷ 17 ∷ []) ≡ false ∷ false ∷ true ∷ true ∷ [] }
+{}
+
+/// Features have a number, and some an argument.
+#[tactic(auto, unfolding(crate::specs::Features::feature_in))]
+pub fn known_features()
+    ensures plain { map feature_in (features.Hierarchical ∷ features.ArithmeticEntropyCoding
+        ∷ features.DNL ∷ features.SubsamplingRatio ∷ features.NonIntegerSubsamplingRatio ∷ [])
+        ≡ numbered 1 0 ∷ numbered 2 0 ∷ numbered 5 0 ∷ numbered 6 0 ∷ numbered 7 0 ∷ [] }
+    ensures precision { feature_in (features.SamplePrecision 12) ≡ numbered 3 12 }
+    ensures count { feature_in (features.ComponentCount 5) ≡ numbered 4 5 }
+{}
+
+/// The argument of a colour transform is its number among the options, or 6 or 7.
+#[tactic(auto, unfolding(crate::specs::Features::transform_code))]
+pub fn known_transform_codes()
+    ensures { map transform_code (transforms.None ∷ transforms.RGB ∷ transforms.YCbCr
+        ∷ transforms.CMYK ∷ transforms.YCCK ∷ transforms.JcsBgYcc ∷ transforms.JcsBgRgb
+        ∷ transforms.Grayscale ∷ []) ≡ 1 ∷ 2 ∷ 3 ∷ 4 ∷ 5 ∷ 6 ∷ 7 ∷ 0 ∷ [] }
+{}
+
+/// The whole of what a stream gives is what it means by T.81, and has no fault; and where it means
+/// nothing it gives nothing, for the same fault.
+#[tactic(auto, using(crate::proofs::Rules::wholes))]
+pub fn the_whole_is_the_meaning()
+    ensures given { (o : Options) (bytes : List ℕ) (m : Told × List ℕ) (rest : List ℕ)
+        → meaning_by o bytes ≡ Ok (m, rest) → given_by Whole o bytes ≡ Ok (faultless m) }
+    ensures refused { (o : Options) (bytes : List ℕ) (fault : Fault)
+        → meaning_by o bytes ≡ Err fault → given_by Whole o bytes ≡ Err fault }
+{}

@@ -1,0 +1,25 @@
+//! What the C library does, as a library: the calls of `c/zaxbriar.h` over streams in memory.
+//!
+//! `calls` has them. The crate `zaxbriar` exports each under its name in C, and does nothing else.
+#![tactic(auto)]
+
+mod answers;
+pub mod calls;
+mod counts;
+mod decode;
+mod decoders;
+pub mod density;
+mod description;
+pub mod extents;
+mod features;
+mod header;
+pub mod laws;
+mod layouts;
+mod limits;
+mod lines;
+mod metadata;
+pub mod options;
+pub mod picture;
+pub mod places;
+mod sampling;
+pub mod segments;

@@ -1,0 +1,155 @@
+//! How a stream is to be decoded.
+ghost use Rattle.std.specs.Prelude.{◌≡◌, IsOk, OnOk, true};
+ghost use Rattle.jpeg_streams.specs.DecodedImages.{at_size};
+ghost use Rattle.jpeg_streams.specs.Found.{with_said};
+ghost use Rattle.jpeg_streams.specs.Output.{default_settings};
+ghost use Rattle.jpeg_streams.specs.declared.progress.Progress.TheVariants.{HeaderRead};
+ghost use Rattle.zaxbriar_calls.specs.Limits.{are_known, is_denominator};
+ghost use Rattle.zaxbriar_calls.specs.Meanings.{least_side, scale_by, settings_of, size_wanted};
+ghost use Rattle.zaxbriar_calls.specs.Meanings.{number_of_transform, transform_number};
+
+use jpeg_decoder::error::Result;
+use jpeg_decoder::{ColorTransform, Decoder, Scale};
+use std::io::Read;
+
+/// How a stream is to be decoded: `zaxbriar_options` of the header. All zeros ask for the picture
+/// as it is stored, at full size and without gaps.
+#[repr(C)]
+#[derive(Clone, Copy)]
+pub struct Options {
+    /// The most samples that a picture may have, at its scale; 0 for any number.
+    pub max_samples: u64,
+    /// The bytes from one line to the next; 0 for no gaps.
+    pub stride: u64,
+    /// The picture is decoded at the least of 1/8, 1/4, 1/2 and 1 of its size at which it is at
+    /// least that wide or at least that high. Where one of the two is 0 the other alone decides;
+    /// where both are, the picture has its full size.
+    pub min_width: u16,
+    pub min_height: u16,
+    /// The number of a colour transform in place of the stream's; 0 for the stream's. Without a
+    /// conversion, which is 1, a line has its samples component after component, so that no other
+    /// layout than 0 goes with it.
+    pub transform: u8,
+    /// The number of a layout; 0 for the picture as it is stored.
+    pub layout: u8,
+    /// The denominator of the scale: 1, 2, 4 or 8 for exactly that part of each side, rounded up,
+    /// whatever the two above are; 0 for what they say.
+    pub scale: u8,
+    /// Zero.
+    pub reserved: u8,
+    /// The most bytes that decoding may take beside the caller's memory, as `decoding_bytes` of the
+    /// picture counts them; 0 for any number.
+    pub max_bytes: u64,
+    /// Zero.
+    pub reserved_words: [u64; 2],
+}
+
+/// The picture as it is stored, at full size and without gaps, whatever its size is.
+pub const AS_STORED: Options = Options {
+    max_samples: 0,
+    stride: 0,
+    min_width: 0,
+    min_height: 0,
+    transform: 0,
+    layout: 0,
+    scale: 0,
+    reserved: 0,
+    max_bytes: 0,
+    reserved_words: [0; 2],
+};
+
+/// Returns whether a number is the denominator of a scale, or 0.
+fn is_denominator(number: u8) -> bool
+    ensures { result ≡ is_denominator number }
+{
+    number == 0 || number == 1 || number == 2 || number == 4 || number == 8
+}
+
+/// Returns whether all options exist whatever the picture is.
+pub fn are_known(options: &Options) -> bool
+    ensures { result ≡ are_known options.now }
+{
+    (options.transform != 1 || options.layout == 0)
+        && options.transform <= 5
+        && is_denominator(options.scale)
+        && options.reserved == 0
+        && options.reserved_words[0] == 0
+        && options.reserved_words[1] == 0
+}
+
+/// Returns the colour transform of a number.
+fn transform_of(number: u8) -> Option<ColorTransform>
+    ensures { result ≡ transform_number number }
+{
+    match number {
+        1 => Some(ColorTransform::None),
+        2 => Some(ColorTransform::RGB),
+        3 => Some(ColorTransform::YCbCr),
+        4 => Some(ColorTransform::CMYK),
+        5 => Some(ColorTransform::YCCK),
+        _ => None,
+    }
+}
+
+/// Returns the number of a transform among the options, and 0 for one that is refused.
+pub fn number_of_transform(transform: ColorTransform) -> u8
+    ensures { result ≡ number_of_transform transform }
+{
+    match transform {
+        ColorTransform::None => 1,
+        ColorTransform::RGB => 2,
+        ColorTransform::YCbCr => 3,
+        ColorTransform::CMYK => 4,
+        ColorTransform::YCCK => 5,
+        _ => 0,
+    }
+}
+
+/// Gives a decoder the settings of some options.
+pub fn apply<R: Read + Drop>(decoder: &mut Decoder<R>, options: &Options)
+    requires fresh { decoder.old.settings ≡ default_settings }
+    ensures { decoder.new ≡ record decoder.old { settings = settings_of options.now } }
+{
+    if let Some(transform) = transform_of(options.transform) {
+        decoder.set_color_transform(transform);
+    }
+}
+
+/// Returns the scale of a denominator.
+fn scale_of(denominator: u8) -> Option<Scale>
+    ensures { result ≡ scale_by denominator }
+{
+    match denominator {
+        1 => Some(Scale::Full),
+        2 => Some(Scale::Half),
+        4 => Some(Scale::Quarter),
+        8 => Some(Scale::Eighth),
+        _ => None,
+    }
+}
+
+/// Returns the least length of a side for `Decoder::scale`, of one that may be 0: a side is 65,535
+/// samples long at full size alone, so that the other side decides.
+fn least_side(side: u16) -> u16
+    ensures { result ≡ least_side side }
+{
+    if side == 0 { u16::MAX } else { side }
+}
+
+/// Chooses the scale of the picture whose header was read.
+pub fn apply_size<R: Read + Drop>(decoder: &mut Decoder<R>, options: &Options) -> Result<()>
+    requires read { decoder.old.stage ≡ HeaderRead }
+    ensures sized { OnOk result (decoder.new ≡ record decoder.old
+        { found = with_said (at_size (size_wanted options.now)) decoder.old.found }) }
+    ensures ok { IsOk result }
+{
+    if let Some(scale) = scale_of(options.scale) {
+        decoder.set_scale(scale)?;
+    } else if options.min_width != 0 || options.min_height != 0 {
+        decoder.scale(
+            least_side(options.min_width),
+            least_side(options.min_height),
+        )?;
+    }
+    Ok(())
+}
