@@ -31,6 +31,8 @@ const WORDS = {
 };
 const WEBPACK = {
     mode: 'production',
+    // (by default it warns of each file above 244 KiB, which the module is)
+    performance: { hints: false },
     target: ['web', 'es2022'],
     entry: './program.mjs',
     experiments: { outputModule: true },
