@@ -11,4 +11,4 @@ pub mod Kept
 pub mod Strips
 pub mod Partial
 pub mod Pictures
-pub mod Lossless
+pub mod LosslessFrames

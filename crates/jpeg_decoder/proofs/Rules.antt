@@ -36,7 +36,7 @@ use Rattle.std.proofs.lemmas.List.FromFn.{length-enumerate_from}
 use Rattle.std.proofs.lemmas.Result.{err_from_is_err_and}
 use Rattle.jpeg_segments.proofs.Gathered.{gathers-all, gathers-none}
 use Rattle.jpeg_streams.proofs.Refusals.{told-err, turns-no_start}
-use Rattle.jpeg_decoder.proofs.Lossless.LosslessReads.{picture-given, picture-lacks, picture-made}
+use Rattle.jpeg_decoder.proofs.LosslessFrames.LosslessReads.{picture-given, picture-lacks, picture-made}
 use Rattle.jpeg_decoder.proofs.Pictures.Ratios.{ratios_refused}
 use Rattle.jpeg_decoder.proofs.Segments.ReplacedTables.{dht-onto}
 

@@ -18,7 +18,7 @@ use Rattle.jpeg_streams.specs.Stream.{Told, header_at, rest_at, told_of}
 use Rattle.jpeg_streams.proofs.Refusals.{told-err, told-through}
 use Rattle.jpeg_decoder.specs.Decodes.{Decodes}
 use Rattle.jpeg_decoder.proofs.Pictures.DecodedImages.{decodes-images}
-use Rattle.jpeg_decoder.proofs.Lossless.DecodedSamples.{decodes-samples}
+use Rattle.jpeg_decoder.proofs.LosslessFrames.DecodedSamples.{decodes-samples}
 use Rattle.jpeg_decoder.proofs.Segments.HeaderThenRest.{header-lacks, header-means, header-told, header-told_lacking}
 use Rattle.jpeg_decoder.proofs.Segments.HeaderThenRest.{header-turns, header-turns_lacking}
 use Rattle.jpeg_decoder.proofs.Scans.ScanData.{answers-err}

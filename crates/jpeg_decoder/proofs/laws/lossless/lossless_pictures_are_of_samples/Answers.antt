@@ -1,4 +1,4 @@
-use Rattle.jpeg_decoder.proofs.Lossless.SamplesMeant.{samples-alike}
+use Rattle.jpeg_decoder.proofs.LosslessFrames.SamplesMeant.{samples-alike}
 use Rattle.jpeg_decoder.proofs.laws.lossless.lossless_pictures_are_of_samples.Goals as goal
 
 pub returns : goal.returns

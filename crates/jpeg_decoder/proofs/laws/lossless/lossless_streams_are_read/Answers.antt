@@ -1,5 +1,5 @@
 use Rattle.std.proofs.Common.{◌∙◌}
-use Rattle.jpeg_decoder.proofs.Lossless.LosslessPixels.{limit-takes, lossless-means}
+use Rattle.jpeg_decoder.proofs.LosslessFrames.LosslessPixels.{limit-takes, lossless-means}
 use Rattle.jpeg_decoder.proofs.laws.lossless.lossless_streams_are_read.Goals as goal
 
 pub returns : goal.returns

@@ -1,5 +1,5 @@
 use Rattle.std.proofs.Common.{◌∙◌}
-use Rattle.jpeg_decoder.proofs.Lossless.LosslessPixels.{limit-takes, lossless-scaled, lossless-sized}
+use Rattle.jpeg_decoder.proofs.LosslessFrames.LosslessPixels.{limit-takes, lossless-scaled, lossless-sized}
 use Rattle.jpeg_decoder.proofs.laws.lossless.lossless_streams_keep_their_size.Goals as goal
 
 pub returns-clause-sized : goal.returns-clause-sized

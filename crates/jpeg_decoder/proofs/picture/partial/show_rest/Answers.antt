@@ -7,7 +7,7 @@ use Rattle.jpeg_decoder.specs.Reaching.{walk_end}
 use Rattle.jpeg_decoder.specs.Seen.{found_of}
 use Rattle.jpeg_decoder.specs.declared.picture.partial.PartialLines.{PartialLines}
 use Rattle.jpeg_decoder.specs.declared.scan.decoded.Decoded.{Decoded}
-use Rattle.jpeg_decoder.proofs.Lossless.LosslessReads.{on-ok}
+use Rattle.jpeg_decoder.proofs.LosslessFrames.LosslessReads.{on-ok}
 use Rattle.jpeg_decoder.proofs.Pictures.PictureSizes.{lines-whole}
 use Rattle.jpeg_decoder.proofs.Partial.ShownFaults.{ended-bytes, rest-given-up, rest-shown, then-holds}
 use Rattle.jpeg_decoder.proofs.Partial.ShownRows.{rest-counted}

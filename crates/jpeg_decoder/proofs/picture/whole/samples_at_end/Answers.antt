@@ -12,7 +12,7 @@ use Rattle.jpeg_segments.specs.Frame.{Component}
 use Rattle.jpeg_segments.specs.FrameView.{component_in}
 use Rattle.jpeg_decoder.specs.PlanesView.{planes_in}
 use Rattle.jpeg_decoder.proofs.Pictures.EndedPlanes.{mapped-or, same-at}
-use Rattle.jpeg_decoder.proofs.Lossless.LosslessReads.{sample_plane}
+use Rattle.jpeg_decoder.proofs.LosslessFrames.LosslessReads.{sample_plane}
 use Rattle.jpeg_lossless.proofs.RowLoops.{mapped-within}
 use Rattle.jpeg_decoder.specs.LosslessParts.{no_component}
 use Rattle.jpeg_segments.proofs.Gathered.{gathers-err, gathers-more, numbered}

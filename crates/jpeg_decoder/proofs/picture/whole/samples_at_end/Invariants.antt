@@ -3,7 +3,7 @@ use Rattle.std.specs.List.{enumerate_from}
 use Rattle.jpeg_segments.proofs.Gathered.{Gathers}
 use Rattle.jpeg_segments.specs.FrameView.{frame_in}
 use Rattle.jpeg_decoder.specs.PlanesView.{planes_in}
-use Rattle.jpeg_decoder.proofs.Lossless.LosslessReads.{sample_plane}
+use Rattle.jpeg_decoder.proofs.LosslessFrames.LosslessReads.{sample_plane}
 use Rattle.jpeg_decoder.proofs.picture.whole.samples_at_end.Given as goal
 
 abbrev pub invariant-loop-index : goal.invariant-loop-index

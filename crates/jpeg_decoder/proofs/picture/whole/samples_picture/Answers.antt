@@ -1,5 +1,5 @@
 use Rattle.jpeg_segments.specs.FrameView.{frame_in}
-use Rattle.jpeg_decoder.proofs.Lossless.LosslessReads.{samples-whole}
+use Rattle.jpeg_decoder.proofs.LosslessFrames.LosslessReads.{samples-whole}
 use Rattle.jpeg_decoder.proofs.Pictures.PictureSizes.{if-sample_lines}
 use Rattle.jpeg_decoder.proofs.Pictures.PicturesOfPlanes.{decoded-factors, decoded-few}
 use Rattle.jpeg_streams.proofs.Pictures.LosslessSizes.{all-reach, decoded-made}

@@ -5,7 +5,7 @@ use Rattle.jpeg_segments.specs.FrameView.{component_in, factors_in, frame_in}
 use Rattle.jpeg_segments.specs.declared.frame.Component.{Component as Given}
 use Rattle.jpeg_segments.proofs.ScaleLemmas.{factors-seen}
 use Rattle.jpeg_decoder.specs.LosslessParts.{no_component}
-use Rattle.jpeg_decoder.proofs.Lossless.LosslessReads.{alone, component-at, not-alone}
+use Rattle.jpeg_decoder.proofs.LosslessFrames.LosslessReads.{alone, component-at, not-alone}
 use Rattle.jpeg_decoder.proofs.scan.lossless.mcus_of.Goals as goal
 use Rattle.std.proofs.lemmas.Grind.{common_steps}
 

@@ -5,7 +5,7 @@ use Rattle.std.specs.Prelude.{slice_index_or}
 use Rattle.std.proofs.lemmas.List.{length-map, map-append}
 use Rattle.jpeg_segments.specs.FrameView.{component_in, frame_in}
 use Rattle.jpeg_lossless.specs.Codings.{part_in}
-use Rattle.jpeg_decoder.proofs.Lossless.LosslessReads.{component-at, parts_none, parts_step}
+use Rattle.jpeg_decoder.proofs.LosslessFrames.LosslessReads.{component-at, parts_none, parts_step}
 use Rattle.jpeg_decoder.proofs.scan.lossless.parts_of.Goals as goal
 use Rattle.std.proofs.lemmas.Grind.{common_steps}
 

@@ -5,11 +5,11 @@ use Rattle.jpeg_streams.specs.ScanSegments.{after_samples, once_scanned}
 use Rattle.jpeg_lossless.specs.Codings.{part_in}
 use Rattle.std.proofs.lemmas.Result.{err_from_is_err_and}
 use Rattle.jpeg_bits.specs.Reading.{Fault}
-use Rattle.jpeg_decoder.proofs.Lossless.LosslessReads.{samples-read, AreCodings, HasMcus, codings-by-tables}
-use Rattle.jpeg_decoder.proofs.Lossless.LosslessReads.{coding_found, codings-count, codings-lacking, four-indices}
-use Rattle.jpeg_decoder.proofs.Lossless.LosslessReads.{has-mcus, parts-count, put-made, samples-end}
-use Rattle.jpeg_decoder.proofs.Lossless.LosslessReads.{samples-fail, samples-lacking, samples-sound}
-use Rattle.jpeg_decoder.proofs.Lossless.LosslessReads.{scan-sampled}
+use Rattle.jpeg_decoder.proofs.LosslessFrames.LosslessReads.{samples-read, AreCodings, HasMcus, codings-by-tables}
+use Rattle.jpeg_decoder.proofs.LosslessFrames.LosslessReads.{coding_found, codings-count, codings-lacking, four-indices}
+use Rattle.jpeg_decoder.proofs.LosslessFrames.LosslessReads.{has-mcus, parts-count, put-made, samples-end}
+use Rattle.jpeg_decoder.proofs.LosslessFrames.LosslessReads.{samples-fail, samples-lacking, samples-sound}
+use Rattle.jpeg_decoder.proofs.LosslessFrames.LosslessReads.{scan-sampled}
 use Rattle.jpeg_segments.specs.FrameView.{frame_in}
 use Rattle.jpeg_streams.specs.Found.{Found, Said}
 use Rattle.jpeg_streams.specs.LosslessScans.{with_samples}

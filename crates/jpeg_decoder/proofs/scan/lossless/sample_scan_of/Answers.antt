@@ -9,9 +9,9 @@ use Rattle.jpeg_lossless.specs.Scans.{is_of_rows}
 use Rattle.jpeg_lossless.specs.declared.scan.Coding.{Coding}
 use Rattle.jpeg_streams.specs.Found.{Said}
 use Rattle.jpeg_decoder.specs.LosslessParts.{mcus_high, mcus_wide, parts_at}
-use Rattle.jpeg_decoder.proofs.Lossless.LosslessReads.{AreCodings, HasMcus, codings-by-tables, codings-count, has-mcus}
+use Rattle.jpeg_decoder.proofs.LosslessFrames.LosslessReads.{AreCodings, HasMcus, codings-by-tables, codings-count, has-mcus}
 use Rattle.jpeg_decoder.proofs.Pictures.PicturesOfPlanes.{decoded-factors}
-use Rattle.jpeg_decoder.proofs.Lossless.SampleScans.{broken-codings, no-codings}
+use Rattle.jpeg_decoder.proofs.LosslessFrames.SampleScans.{broken-codings, no-codings}
 use Rattle.jpeg_decoder.proofs.Scans.SlotCodings.{format-refuses}
 use Rattle.jpeg_decoder.proofs.scan.lossless.sample_scan_of.Goals.{After-deref}
 use Rattle.jpeg_decoder.proofs.scan.lossless.sample_scan_of.Goals as goal

@@ -8,7 +8,7 @@ use Rattle.jpeg_streams.specs.States.{IfRefused}
 use Rattle.jpeg_streams.specs.WholeRows.{or_first}
 use Rattle.jpeg_decoder.specs.Reaching.{after_group}
 use Rattle.jpeg_decoder.specs.Scanning.{arrays_in, scan_vias}
-use Rattle.jpeg_decoder.proofs.Lossless.LosslessReads.{on-ok}
+use Rattle.jpeg_decoder.proofs.LosslessFrames.LosslessReads.{on-ok}
 use Rattle.jpeg_decoder.proofs.Partial.ReachedBlocks.{ahead-fresh, near-tells, start-alike}
 use Rattle.jpeg_decoder.proofs.Partial.ReachedData.{unless}
 use Rattle.jpeg_decoder.proofs.scan.reached.reach_spots.Goals as goal

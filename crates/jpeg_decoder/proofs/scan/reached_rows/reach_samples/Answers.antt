@@ -12,10 +12,10 @@ use Rattle.jpeg_streams.specs.WholeRows.{rows_of_planes}
 use Rattle.jpeg_streams.proofs.Soundness.{decoded-precision, decoded-sized}
 use Rattle.jpeg_decoder.specs.Reaching.{planes_over, planes_reached, samples_reached}
 use Rattle.jpeg_decoder.specs.Seen.{found_of}
-use Rattle.jpeg_decoder.proofs.Lossless.LosslessReads.{HasMcus, codings-count, four-indices, parts-count, put-made}
+use Rattle.jpeg_decoder.proofs.LosslessFrames.LosslessReads.{HasMcus, codings-count, four-indices, parts-count, put-made}
 use Rattle.jpeg_decoder.proofs.Partial.ReachedData.{answers-by, on-told, unless}
-use Rattle.jpeg_decoder.proofs.Lossless.SampleScans.{Reads, put_over, reads-components, reads-cut, reads-found}
-use Rattle.jpeg_decoder.proofs.Lossless.SampleScans.{reads-marker, reads-sound, scan-coded, scan-mcus, scan-rows}
+use Rattle.jpeg_decoder.proofs.LosslessFrames.SampleScans.{Reads, put_over, reads-components, reads-cut, reads-found}
+use Rattle.jpeg_decoder.proofs.LosslessFrames.SampleScans.{reads-marker, reads-sound, scan-coded, scan-mcus, scan-rows}
 use Rattle.jpeg_decoder.proofs.scan.reached_rows.reach_samples.Given as given
 use Rattle.jpeg_decoder.proofs.scan.reached_rows.reach_samples.Goals.{After-deref, After-put_samples, In_ok-rows}
 use Rattle.jpeg_decoder.proofs.scan.reached_rows.reach_samples.Goals as goal

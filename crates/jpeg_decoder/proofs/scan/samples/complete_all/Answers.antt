@@ -8,8 +8,8 @@ use Rattle.jpeg_streams.specs.Brought.{grey_samples}
 use Rattle.jpeg_decoder.specs.PlanesView.{planes_in}
 use Rattle.jpeg_decoder.specs.Reaching.{over, planes_over, samples_or_grey}
 use Rattle.jpeg_decoder.proofs.Pictures.EndedPlanes.{mapped-or}
-use Rattle.jpeg_decoder.proofs.Lossless.LosslessReads.{component-at}
-use Rattle.jpeg_decoder.proofs.Lossless.SampleScans.{over-none, over-step}
+use Rattle.jpeg_decoder.proofs.LosslessFrames.LosslessReads.{component-at}
+use Rattle.jpeg_decoder.proofs.LosslessFrames.SampleScans.{over-none, over-step}
 use Rattle.jpeg_decoder.proofs.scan.samples.complete_all.Goals as goal
 
 pub loop-slot-preserved : goal.loop-slot-preserved

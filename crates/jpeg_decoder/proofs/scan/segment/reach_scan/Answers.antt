@@ -23,7 +23,7 @@ use Rattle.jpeg_decoder.proofs.Scans.ReadableScans.{before-said, decoded-few, de
 use Rattle.jpeg_decoder.proofs.Scans.ReadableScans.{some-after}
 use Rattle.jpeg_decoder.proofs.Scans.ScanData.{before-as}
 use Rattle.jpeg_decoder.proofs.Scans.ScanReads.{is-dct}
-use Rattle.jpeg_decoder.proofs.Lossless.SampleScans.{scan-codings}
+use Rattle.jpeg_decoder.proofs.LosslessFrames.SampleScans.{scan-codings}
 use Rattle.jpeg_decoder.proofs.scan.segment.reach_scan.Given as given
 use Rattle.jpeg_decoder.proofs.scan.segment.reach_scan.Goals.{After-reach_samples-reached}
 use Rattle.jpeg_decoder.proofs.scan.segment.reach_scan.Goals as goal

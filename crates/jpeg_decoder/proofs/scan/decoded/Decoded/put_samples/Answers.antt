@@ -1,5 +1,5 @@
 use Rattle.std.proofs.Common.{rules, arith}
-use Rattle.jpeg_decoder.proofs.Lossless.LosslessReads.{put-all, put-step}
+use Rattle.jpeg_decoder.proofs.LosslessFrames.LosslessReads.{put-all, put-step}
 use Rattle.jpeg_decoder.proofs.scan.decoded.Decoded.put_samples.Goals as goal
 use Rattle.std.proofs.lemmas.Grind.{common_steps}
 

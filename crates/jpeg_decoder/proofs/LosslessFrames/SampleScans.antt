@@ -42,9 +42,9 @@ use Rattle.jpeg_decoder.specs.LosslessParts.{mcus_high, mcus_wide, no_component,
 use Rattle.jpeg_decoder.specs.Reaching.{over, planes_over, planes_reached, sample_codings, samples_or_grey}
 use Rattle.jpeg_decoder.specs.Reaching.{samples_reached, IsSampleScan}
 use Rattle.jpeg_decoder.specs.declared.scan.lossless.SampleScan.{SampleScan}
-use Rattle.jpeg_decoder.proofs.Lossless.LosslessReads.{AreCodings, AreOf, HasMcus, coding_found, codings-by-tables}
-use Rattle.jpeg_decoder.proofs.Lossless.LosslessReads.{codings-count, codings-lacking, has-mcus, mcus-are, parts-are}
-use Rattle.jpeg_decoder.proofs.Lossless.LosslessReads.{parts-count, samples-sound, scan-sampled}
+use Rattle.jpeg_decoder.proofs.LosslessFrames.LosslessReads.{AreCodings, AreOf, HasMcus, coding_found, codings-by-tables}
+use Rattle.jpeg_decoder.proofs.LosslessFrames.LosslessReads.{codings-count, codings-lacking, has-mcus, mcus-are, parts-are}
+use Rattle.jpeg_decoder.proofs.LosslessFrames.LosslessReads.{parts-count, samples-sound, scan-sampled}
 use Rattle.jpeg_decoder.proofs.Partial.RowIntervals.{Planes, scanned_on}
 use Rattle.jpeg_decoder.proofs.Partial.ShownParts.{samples-at}
 

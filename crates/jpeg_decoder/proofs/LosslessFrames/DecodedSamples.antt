@@ -11,7 +11,7 @@ use Rattle.jpeg_streams.specs.Found.{Said}
 use Rattle.jpeg_streams.specs.WrittenLossless.{picture_of_samples, Samples, WritesSamples}
 use Rattle.jpeg_streams.specs.declared.settings.Settings.{Settings}
 use Rattle.jpeg_decoder.proofs.Pictures.DecodedImages.{gives, left-means, left-reading, means_at}
-use Rattle.jpeg_decoder.proofs.Lossless.LosslessPixels.{lossless-means, lossless-scaled, lossless-sized}
+use Rattle.jpeg_decoder.proofs.LosslessFrames.LosslessPixels.{lossless-means, lossless-scaled, lossless-sized}
 
 means-samples : (size : Size) (settings : Settings) (samples : Samples) (image rest : List ℕ) (final : Said)
     → WritesSamples samples image final

@@ -28,8 +28,8 @@ use Rattle.jpeg_streams.proofs.Pictures.DecodedHeaders.{decoded-accepted}
 use Rattle.jpeg_streams.proofs.Pictures.LosslessSizes.{IsShaped, header-shaped}
 use Rattle.jpeg_streams.proofs.Written.WalkedStreams.{beside, FindsScan, header-read, IsMeant, IsRead, IsSaid, stream-read}
 use Rattle.jpeg_decoder.proofs.Segments.HeaderThenRest.{header-means}
-use Rattle.jpeg_decoder.proofs.Lossless.WrittenSamples.{bring_samples, indices_of, planes_for, scan-read}
-use Rattle.jpeg_decoder.proofs.Lossless.LosslessReads.{all-below}
+use Rattle.jpeg_decoder.proofs.LosslessFrames.WrittenSamples.{bring_samples, indices_of, planes_for, scan-read}
+use Rattle.jpeg_decoder.proofs.LosslessFrames.LosslessReads.{all-below}
 
 -- ---- samples that are decided
 

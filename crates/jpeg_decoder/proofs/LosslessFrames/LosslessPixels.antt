@@ -26,11 +26,11 @@ use Rattle.jpeg_streams.proofs.Pictures.PaddingUnseen.{pictures-by}
 use Rattle.jpeg_streams.proofs.Written.ReadTurns.{same-frame, then-ok}
 use Rattle.jpeg_streams.proofs.Written.WalkedStreams.{beside, IsSaid, keeps, nothing-said, segment-said}
 use Rattle.jpeg_streams.proofs.Written.WrittenFrameScans.{in-all}
-use Rattle.jpeg_decoder.proofs.Lossless.LosslessReads.{sample_plane}
+use Rattle.jpeg_decoder.proofs.LosslessFrames.LosslessReads.{sample_plane}
 use Rattle.jpeg_decoder.proofs.ReadLists.{at-flat}
-use Rattle.jpeg_decoder.proofs.Lossless.WrittenLosslessStreams.{all-in, AreKept, AreMeant, header-said, IsSampled}
-use Rattle.jpeg_decoder.proofs.Lossless.WrittenLosslessStreams.{samples-walked, scaled-walked, sized-walked}
-use Rattle.jpeg_decoder.proofs.Lossless.WrittenSamples.{bring_samples, indices_of, planes_for, scan-sized, SizedAt}
+use Rattle.jpeg_decoder.proofs.LosslessFrames.WrittenLosslessStreams.{all-in, AreKept, AreMeant, header-said, IsSampled}
+use Rattle.jpeg_decoder.proofs.LosslessFrames.WrittenLosslessStreams.{samples-walked, scaled-walked, sized-walked}
+use Rattle.jpeg_decoder.proofs.LosslessFrames.WrittenSamples.{bring_samples, indices_of, planes_for, scan-sized, SizedAt}
 
 -- ---- sizes
 

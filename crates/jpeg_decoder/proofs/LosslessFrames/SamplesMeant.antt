@@ -14,7 +14,7 @@ use Rattle.jpeg_streams.proofs.Pictures.LimitedPictures.{limited-same}
 use Rattle.jpeg_streams.proofs.Pictures.LosslessSizes.{IsShaped}
 use Rattle.jpeg_streams.proofs.Pictures.SamplesAlike.{pictures-alike}
 use Rattle.jpeg_streams.proofs.Written.WrittenParts.{picture-alone}
-use Rattle.jpeg_decoder.proofs.Lossless.LosslessPixels.{lossless-means, sizes-kept}
+use Rattle.jpeg_decoder.proofs.LosslessFrames.LosslessPixels.{lossless-means, sizes-kept}
 use Rattle.std.proofs.lemmas.Grind.{common_steps}
 
 -- how many samples a frame's picture has
