@@ -64,7 +64,8 @@ def speeds():
         ratios("ours", "to libjpeg-turbo")
     )
     low, high = ratios("ours, for x86-64-v2", "to libjpeg-turbo 2.1.5")
-    yield page, r"processors without AVX2 ([\d.]+ to [\d.]+)\s+of the latter", f"{low:.2f} to {high:.2f}"
+    figure = f"{low:.2f} to {high:.2f}"
+    yield page, r"processors without AVX2 ([\d.]+ to [\d.]+)\s+of the latter", figure
     columns = ["ours", "jpeg-decoder", "jpeg-decoder-ssse3", "stb_image"]
     ours, crate, ssse3, stb = [rounded(ratios("to libjpeg-turbo", it)) for it in columns]
     row = f"{ours} | 1 | {crate}, with SSSE3 {ssse3} | {stb}"
