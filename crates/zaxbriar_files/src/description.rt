@@ -1,6 +1,7 @@
 //! Headers in words: lines `key: value`, and JSON.
 
 use crate::header::{Data, Density, Header, NamedColours, Unit};
+use crate::lines::{JsonLine, Line};
 use crate::output::Output;
 use crate::refusal::Refusal;
 use jpeg_segments::parser::{
@@ -92,23 +93,6 @@ fn unit_name(unit: Unit) -> &'static str {
     }
 }
 
-/// Appends a character, or `\xNN` for a control character.
-fn put_character(line: &mut String, character: char) -> Result<(), AllocError> {
-    if character < ' ' || character == '\x7f' {
-        write!(line, "\\x{:02x}", u32::from(character))
-    } else {
-        line.push(character)
-    }
-}
-
-/// Appends a text in which control characters are written as `\xNN`, so that it is one line.
-fn put_line_of(line: &mut String, text: &str) -> Result<(), AllocError> {
-    for character in text.chars() {
-        put_character(line, character)?;
-    }
-    Ok(())
-}
-
 /// Appends a component: its number, and its sampling factors across and down.
 fn put_component(text: &mut String, component: &Component) -> Result<(), AllocError> {
     let identifier = component.identifier;
@@ -148,12 +132,8 @@ fn put_comment(
     let Some(comment) = comment else {
         return writeln!(text, "comment: none");
     };
-    text.push_str("comment: ")?;
-    put_line_of(
-        text,
-        String::from_utf8_lossy(alloc, comment.as_slice())?.as_str(),
-    )?;
-    writeln!(text, "")
+    let comment = String::from_utf8_lossy(alloc, comment.as_slice())?;
+    writeln!(text, "comment: {}", Line(comment.as_str()))
 }
 
 /// Appends a line about the size of some data, in bytes.
@@ -342,9 +322,7 @@ impl Form {
     ) -> Result<String, AllocError> {
         let mut lines = String::new(alloc);
         if self.is_several {
-            lines.push_str("file: ")?;
-            put_line_of(&mut lines, subject.name.unwrap_or("-"))?;
-            lines.push('\n')?;
+            writeln!(lines, "file: {}", Line(subject.name.unwrap_or("-")))?;
         }
         put_header(alloc, &mut lines, header)?;
         Ok(lines)
@@ -356,7 +334,7 @@ impl Form {
         alloc: Global,
         subject: Subject<'_>,
         header: &Result<Header, Refusal>,
-    ) -> Result<Vec<u8>, AllocError> {
+    ) -> Result<String, AllocError> {
         let mut writer = Writer::new(Vec::new(alloc));
         writer.begin_object()?;
         match subject.name {
@@ -371,7 +349,8 @@ impl Form {
             }
         }
         writer.end_object()?;
-        Ok(writer.into_inner())
+        let object = String::from_utf8_lossy(alloc, writer.into_inner().as_slice())?;
+        format!(in alloc; "{}", JsonLine(object.as_str()))
     }
 
     /// Writes what stands before the first file.
@@ -405,7 +384,7 @@ impl Form {
             io::Write::write_all(output, b",\n")?;
         }
         let object = self.object_of(alloc, subject, header)?;
-        io::Write::write_all(output, object.as_slice())?;
+        io::Write::write_all(output, object.as_bytes())?;
         Ok(())
     }
 

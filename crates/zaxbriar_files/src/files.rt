@@ -2,6 +2,7 @@
 
 use crate::ending::{Failure, Outcome};
 use crate::formats::FileFormat;
+use crate::lines::Line;
 use crate::output::Output;
 use crate::refusal::Refusal;
 use jpeg_bits::error::Error;
@@ -64,9 +65,9 @@ fn is_broken_pipe(refusal: &Refusal) -> bool {
 }
 
 /// Reports in one line on standard error what is wrong with a file, or with standard input if none
-/// is named.
+/// is named, whatever characters the name has.
 pub fn report<D: Display>(rt: &HostRuntime, name: Option<&str>, reason: &D) -> Failure {
-    let name = name.unwrap_or("standard input");
+    let name = Line(name.unwrap_or("standard input"));
     let _ = eprintln!(rt; "{NAME}: {name}: {reason}");
     Failure::Refused
 }

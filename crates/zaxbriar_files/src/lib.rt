@@ -12,6 +12,7 @@ pub mod formats;
 pub mod header;
 pub mod kinds;
 pub mod limits;
+pub mod lines;
 pub mod listing;
 pub mod names;
 pub mod output;

@@ -1,0 +1,60 @@
+//! Texts that others have chosen, as names and comments, for a terminal and for lines.
+ghost use Rattle.std.specs.Prelude.{◌≡◌};
+ghost use Rattle.zaxbriar_files.specs.Lines.{is_acting};
+
+use std::fmt;
+
+/// Returns whether a character ends the line, or acts on a terminal or on the text around it in
+/// place of being shown.
+pub fn acts(character: char) -> bool
+    ensures { result ≡ is_acting character }
+{
+    matches!(
+        character,
+        '\0'..='\x1f'
+            | '\x7f'..='\u{9f}'
+            | '\u{61c}'
+            | '\u{200e}'..='\u{200f}'
+            | '\u{2028}'..='\u{202e}'
+            | '\u{2066}'..='\u{2069}'
+    )
+}
+
+/// A text as one line that acts on nothing: characters that would are written as `\xNN`, or as
+/// `\uNNNN` above U+00FF.
+#[derive(Clone, Copy)]
+pub struct Line<'a>(pub &'a str);
+
+impl fmt::Display for Line<'_> {
+    fn fmt<W: fmt::Write>(&self, f: &mut fmt::Formatter<W>) -> fmt::Result {
+        for character in self.0.chars() {
+            let number = u32::from(character);
+            if !acts(character) {
+                f.write_char(character)?;
+            } else if number <= 0xff {
+                write!(f, "\\x{number:02x}")?;
+            } else {
+                write!(f, "\\u{number:04x}")?;
+            }
+        }
+        Ok(())
+    }
+}
+
+/// A JSON text of one line, which acts on nothing either: characters that would, which stand in its
+/// strings, are written as JSON's `\uNNNN`.
+#[derive(Clone, Copy)]
+pub struct JsonLine<'a>(pub &'a str);
+
+impl fmt::Display for JsonLine<'_> {
+    fn fmt<W: fmt::Write>(&self, f: &mut fmt::Formatter<W>) -> fmt::Result {
+        for character in self.0.chars() {
+            if acts(character) {
+                write!(f, "\\u{:04x}", u32::from(character))?;
+            } else {
+                f.write_char(character)?;
+            }
+        }
+        Ok(())
+    }
+}
