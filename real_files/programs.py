@@ -93,7 +93,7 @@ def samples_of(netpbm):
 
 def description_faults(tools, path):
     """What `info` says in another way than identify and exiftool."""
-    said = json.loads(tools.run("info", "--json", path))
+    said = json.loads(tools.run("info", "--json", path))[0]
     tags = [
         "-Orientation",
         "-EncodingProcess",

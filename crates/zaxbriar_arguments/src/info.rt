@@ -17,7 +17,7 @@ pub fn command<'a>(alloc: Global) -> Making<'a> {
     let json = Arg::new(alloc, "json")
         .long("json")
         .action(ArgAction::SetTrue)
-        .help("Write JSON instead of lines: an object, or an array for several files");
+        .help("Write JSON instead of lines: an array with an object for each file");
     let command = arguments::word(alloc, NAME, ABOUT);
     let command = with(command, arguments::files_argument(alloc));
     let command = with(command, arguments::output_option(alloc, OUTPUT));

@@ -355,14 +355,13 @@ impl Form {
 
     /// Writes what stands before the first file.
     pub fn begin(self, output: &mut Output<'_>) -> io::Result<()> {
-        if self.is_json && self.is_several {
+        if self.is_json {
             io::Write::write_all(output, b"[")?;
         }
         Ok(())
     }
 
-    /// Writes what is said about a file. Lines say nothing about one that was refused, nor does the
-    /// object of one file.
+    /// Writes what is said about a file. Lines say nothing about one that was refused.
     pub fn write(
         self,
         alloc: Global,
@@ -377,9 +376,6 @@ impl Form {
             }
             return Ok(());
         }
-        if header.is_err() && !self.is_several {
-            return Ok(());
-        }
         if 0 < subject.index {
             io::Write::write_all(output, b",\n")?;
         }
@@ -390,8 +386,8 @@ impl Form {
 
     /// Writes what stands after the last file.
     pub fn end(self, output: &mut Output<'_>) -> io::Result<()> {
-        if self.is_json && self.is_several {
-            io::Write::write_all(output, b"]")?;
+        if self.is_json {
+            io::Write::write_all(output, b"]\n")?;
         }
         Ok(())
     }

@@ -1,6 +1,6 @@
 //! Says what JPEG files are: `zaxbriar info photo.jpg` reads the segments of each file up to its
-//! first scan and writes lines `key: value`, or JSON with `--json`: an object for one file, and an
-//! array of objects for several.
+//! first scan and writes lines `key: value`, or with `--json` an array that has an object for each
+//! file, also for one that is refused.
 //!
 //! `--exif FILE`, `--xmp FILE` and `--icc FILE` write data of that kind in place of a description.
 
@@ -23,11 +23,13 @@ pub fn run(rt: HostRuntime, matches: &ArgMatches<'_>) -> Outcome<()> {
     let Some(names) = matches.get_strs(arguments::FILE) else {
         return Ok(());
     };
-    let form = Form::new(matches.get_flag("json"), names.len() > 1);
+    let is_json = matches.get_flag("json");
+    let is_several = names.len() > 1;
+    let form = Form::new(is_json, is_several);
     let mut output = Output::new(rt, arguments::file_of(matches, "output"));
     match describe(rt, names, form, limits, &mut output) {
         Ok(true) => files::finish(&rt, None, output, Ok(())),
-        Ok(false) if names.len() > 1 => {
+        Ok(false) if is_json || is_several => {
             files::finish(&rt, None, output, Ok(()))?;
             Err(Failure::Refused)
         }
