@@ -1,7 +1,7 @@
 //! What the segments of a stream say up to its first scan.
 
 use exif_orientation::orientation_of;
-use jpeg_bits::error::{Result, format_error_of};
+use jpeg_bits::error::{Error, Result, format_error_of};
 use jpeg_bits::marker::{Marker, read_marker};
 use jpeg_bits::source::Source;
 use jpeg_bits::source::reads::{read_bytes, read_length, read_u16_be, skip};
@@ -9,7 +9,7 @@ use jpeg_segments::parser::{
     AdobeColorTransform, AppData, FrameInfo, parse_app, parse_com, parse_dri, parse_sof,
 };
 use std::alloc::Global;
-use std::io::Read;
+use std::io::{ErrorKind, Read};
 
 /// The marker SOI.
 const START: u16 = 0xffd8;
@@ -277,12 +277,24 @@ fn read_segments<R: Read + Drop>(
     Ok(Marker::EOI)
 }
 
-/// Reads the segments of a stream up to its first scan, or up to its end if it has none.
+/// Returns whether an error is that the bytes end too soon.
+fn is_end(error: &Error) -> bool {
+    match error {
+        Error::Io(error) => error.kind() == ErrorKind::UnexpectedEof,
+        _ => false,
+    }
+}
+
+/// Reads the segments of a stream up to its first scan, or up to its end if it has none. Bytes that
+/// end after a frame header are described as far as they go.
 pub fn read_header<R: Read + Drop>(alloc: Global, reader: R) -> Result<Header> {
     let mut source = Source::new(reader);
     let mut found = Found::nothing();
     match read_segments(alloc, &mut source, &mut found) {
         Ok(marker) => found.into_header(alloc, marker),
+        Err(error) if found.frame.is_some() && is_end(&error) => {
+            found.into_header(alloc, Marker::EOI)
+        }
         Err(error) => Err(error),
     }
 }
