@@ -1,7 +1,7 @@
 -- Lines that are gathered in a piece and written when it is full.
 use Rattle.std.proofs.lemmas.Grind.{common_steps}
 use Rattle.std.proofs.Common.{◌≡◌, ◌∙◌, ℕ, ◌+◌, ◌*◌, ◌<◌, ◌≤◌, List, [], ◌++◌, Option, Some, None, ap, sym}
-use Rattle.std.proofs.Common.{arith, length, take, drop, append_assoc, append-nil, inr, subst, Result, Ok}
+use Rattle.std.proofs.Common.{arith, length, take, drop, append_assoc, append-nil, inr, refl, subst, Result, Ok}
 use Rattle.std.proofs.Common.{Err, IfErr}
 use Rattle.std.proofs.Math.Nat.{div-mul-le_self, mul-le-mul_right}
 use Rattle.std.proofs.lemmas.List.{take_all, take-append-drop}
@@ -81,6 +81,11 @@ begun old mid new w piece row lines before now is =
     subst (TakesBeginning old new) (lines-split row lines)
     (TakesBeginning-front old new (concat (take row lines)) (concat (drop row lines))
     (subst (TakesBeginning old new) is (TakesBeginning-after old mid new w piece before now)))
+
+-- where nothing is written, a beginning of any text is
+pub none-taken : (old : Option (List ℕ)) (text : List ℕ) → TakesBeginning old old text
+none-taken None text = ([], text, refl, tt)
+none-taken (Some xs) text = ([], text, refl, sym (append-nil xs))
 
 -- the error of a writer, or that memory ran out, is no other
 pub outside-named : {X : Type 0} (bytes : List ℕ) (r : Result X Error) → IfErr r IsOutsideOrMemory

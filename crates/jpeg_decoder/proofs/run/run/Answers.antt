@@ -1,4 +1,4 @@
-use Rattle.std.proofs.Common.{◌≡◌, ◌∙◌, ◌++◌, ap, sym, subst, rules, append-nil, List, [], ℕ}
+use Rattle.std.proofs.Common.{◌≡◌, ◌∙◌, ◌++◌, ap, sym, subst, rules, append-nil, inr, List, [], ℕ}
 use Rattle.std.proofs.Common.{Option, Some, Result, Ok, Err, string_bytes, option_map, OnErr, OnOk}
 use Rattle.std.specs.Io.KnownBytes.{Appends}
 use Rattle.std.specs.List.{concat}
@@ -10,7 +10,7 @@ use Rattle.jpeg_streams.specs.Stream.{told_of}
 use Rattle.jpeg_streams.proofs.Refusals.{outside-decode, named-decode, output-some}
 use Rattle.jpeg_streams.proofs.Pictures.PrintedImages.{prints-images}
 use Rattle.jpeg_decoder.proofs.Callers.{bytes_are_known, known_bytes_are_told}
-use Rattle.jpeg_decoder.proofs.Pictures.WrittenLines.{outside-named, outside-own}
+use Rattle.jpeg_decoder.proofs.Pictures.WrittenLines.{none-taken, outside-named, outside-own}
 use Rattle.jpeg_decoder.proofs.run.run.Given.{Over}
 use Rattle.jpeg_decoder.proofs.run.run.Goals as goal
 
@@ -41,13 +41,29 @@ returns-in_err-lines-clause-named g c bytes tells =
 
 pub returns-in_err-lines-clause-images : goal.returns-in_err-lines-clause-images
 returns-in_err-lines-clause-images g c =
-    prints-images (g.R.Read.remaining c.args.reader) _ _ _ (λ bytes tells. search rules) (λ bytes tells. search rules)
+    let p = err_from_is_err_and c.from_residual-in_err-lines.result c.from_residual-in_err-lines.ensures.1 in
+    prints-images (g.R.Read.remaining c.args.reader) _ _ _ (λ bytes tells. rw p.1 tt)
+    (λ bytes tells text e. none-taken (g.W.Write.contents c.args.writer.now) text)
     (λ bytes tells some. returns-in_err-lines-clause-refused g c bytes tells some)
+
+-- ---- there was no memory for the header line
+
+pub returns-in_err-line-clause-refused : goal.returns-in_err-line-clause-refused
+returns-in_err-line-clause-refused g c bytes tells some =
+    let p = err_from_is_err_and c.from_residual-in_err-line.result c.from_residual-in_err-line.ensures.1 in
+    rw (p.1, p.2) tt
+
+pub returns-in_err-line-clause-named : goal.returns-in_err-line-clause-named
+returns-in_err-line-clause-named g c bytes tells =
+    let p = err_from_is_err_and c.from_residual-in_err-line.result c.from_residual-in_err-line.ensures.1 in
+    rw (p.1, p.2) (inr tt)
 
 pub returns-in_err-line-clause-images : goal.returns-in_err-line-clause-images
 returns-in_err-line-clause-images g c =
-    prints-images (g.R.Read.remaining c.args.reader) _ _ _ (λ bytes tells. search rules) (λ bytes tells. search rules)
-    (λ bytes tells. search rules)
+    let p = err_from_is_err_and c.from_residual-in_err-line.result c.from_residual-in_err-line.ensures.1 in
+    prints-images (g.R.Read.remaining c.args.reader) _ _ _ (λ bytes tells. rw p.1 tt)
+    (λ bytes tells text e. none-taken (g.W.Write.contents c.args.writer.now) text)
+    (λ bytes tells some. returns-in_err-line-clause-refused g c bytes tells some)
 
 -- ---- the picture is written
 
