@@ -114,7 +114,7 @@ impl<'a> Job<'a> {
     ) -> Outcome<Option<Picture>> {
         let next = self.next(frames, number)?;
         match (&next, first) {
-            (Some(frame), Some(info)) if !self.is_list && frame.info != info => {
+            (Some(frame), Some(info)) if !self.is_list && !is_alike(frame.info, info) => {
                 Err(files::report(&self.rt, self.input, &FrameRefusal::Other(number)))
             }
             _ => Ok(next),
@@ -183,6 +183,13 @@ impl<'a> Job<'a> {
         let mut frames = self.frames()?;
         self.write_files(&mut frames, names)
     }
+}
+
+/// Returns whether two frames have one size and format, whatever the process of each.
+fn is_alike(frame: ImageInfo, other: ImageInfo) -> bool {
+    frame.width == other.width
+        && frame.height == other.height
+        && frame.pixel_format == other.pixel_format
 }
 
 /// Writes the line of a frame.
