@@ -46,7 +46,7 @@ const START: u8 = 0xff;
 /// How the frames stand in a stream.
 #[derive(Clone, Copy)]
 enum Layout {
-    /// One after the other: the byte that was read of the next one.
+    /// One after the other, with padding between them: the byte that was read of the next one.
     Plain(Option<u8>),
     /// In the chunks of an AVI file.
     Avi(Video),
@@ -91,23 +91,37 @@ fn decode_from<R: Read + Drop>(
     decode_frame(alloc, io::repeat(first).take(1).chain(rest), limits)
 }
 
-/// Decodes the frame that begins with a byte that was read, or with the next one, if there is one.
+/// Reads the first byte behind an image that is no padding, if there is one. Zero bytes and line
+/// feeds are padding.
+fn skip_padding<R: Read>(reader: &mut R) -> io::Result<Option<u8>> {
+    let mut first = [0u8];
+    for _ in 0..u64::MAX {
+        if reader.read(&mut first)? == 0 {
+            break;
+        }
+        if !matches!(first[0], 0 | b'\n') {
+            return Ok(Some(first[0]));
+        }
+    }
+    Ok(None)
+}
+
+/// Decodes the frame that begins with a byte that was read, or with the next one behind padding, if
+/// there is one.
 fn next_plain<R: Read + Drop>(
     alloc: Global,
     reader: &mut R,
     read: Option<u8>,
     limits: Limits,
 ) -> Result<Option<Picture>, Refusal> {
-    let mut first = [0u8];
-    match read {
-        Some(byte) => first = [byte],
-        None => {
-            if reader.read(&mut first)? == 0 {
-                return Ok(None);
-            }
-        }
+    let first = match read {
+        Some(byte) => Some(byte),
+        None => skip_padding(reader)?,
+    };
+    match first {
+        Some(byte) => Ok(Some(decode_from(alloc, byte, reader, limits)?)),
+        None => Ok(None),
     }
-    Ok(Some(decode_from(alloc, first[0], reader, limits)?))
 }
 
 /// Decodes the next frame of an AVI file: the first image in its chunk. Returns none if the first
