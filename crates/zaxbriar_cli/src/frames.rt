@@ -43,13 +43,35 @@ impl fmt::Display for FrameRefusal {
 /// The first byte of a JPEG image, that of the marker SOI.
 const START: u8 = 0xff;
 
+/// The second byte of a JPEG image, that of the marker SOI.
+const SECOND: u8 = 0xd8;
+
+/// What was read of a frame before it is decoded.
+#[derive(Clone, Copy)]
+struct Begun {
+    /// Its first byte.
+    first: u8,
+    /// Whether its second byte was read too, that of the marker SOI.
+    has_second: bool,
+}
+
+/// A place in an AVI file.
+#[derive(Clone, Copy)]
+struct Place {
+    video: Video,
+    /// The size of the chunk of the last frame.
+    size: u32,
+    /// How many bytes of that chunk are still to be read.
+    left: u64,
+}
+
 /// How the frames stand in a stream.
 #[derive(Clone, Copy)]
 enum Layout {
     /// One after the other, with padding between them: the byte that was read of the next one.
     Plain(Option<u8>),
     /// In the chunks of an AVI file.
-    Avi(Video),
+    Avi(Place),
 }
 
 /// The frames that a reader gives.
@@ -81,14 +103,17 @@ fn decode_frame<R: Read + Drop>(
     decode_within(&mut decoder, limits)
 }
 
-/// Decodes the frame that begins with a byte that was read and continues in a reader that is lent.
+/// Decodes the frame that begins with what was read and continues in a reader that is lent.
 fn decode_from<R: Read + Drop>(
     alloc: Global,
-    first: u8,
+    begun: Begun,
     rest: &mut R,
     limits: Limits,
 ) -> Result<Picture, Refusal> {
-    decode_frame(alloc, io::repeat(first).take(1).chain(rest), limits)
+    let seconds = if begun.has_second { 1 } else { 0 };
+    let first = io::repeat(begun.first).take(1);
+    let read = first.chain(io::repeat(SECOND).take(seconds));
+    decode_frame(alloc, read.chain(rest), limits)
 }
 
 /// Reads the first byte behind an image that is no padding, if there is one. Zero bytes and line
@@ -119,33 +144,105 @@ fn next_plain<R: Read + Drop>(
         None => skip_padding(reader)?,
     };
     match first {
-        Some(byte) => Ok(Some(decode_from(alloc, byte, reader, limits)?)),
+        Some(byte) => Ok(Some(decode_from(alloc, Begun::with_first(byte), reader, limits)?)),
         None => Ok(None),
     }
 }
 
-/// Decodes the next frame of an AVI file: the first image in its chunk. Returns none if the first
-/// frame doesn't begin like a JPEG image.
+/// Returns whether a reader gives an image, behind padding. It gives its third byte next then.
+fn begins_image<R: Read>(reader: &mut R) -> io::Result<bool> {
+    if skip_padding(reader)? != Some(START) {
+        return Ok(false);
+    }
+    let mut second = [0u8];
+    Ok(reader.read(&mut second)? == 1 && second[0] == SECOND)
+}
+
+impl Begun {
+    /// Returns what was read of a frame whose first byte this is.
+    fn with_first(first: u8) -> Begun {
+        Begun {
+            first,
+            has_second: false,
+        }
+    }
+}
+
+impl Place {
+    /// Returns the beginning of a file.
+    fn new() -> Place {
+        Place {
+            video: Video::new(),
+            size: 0,
+            left: 0,
+        }
+    }
+
+    /// Returns whether another image follows in the chunk of the last frame, as a second field
+    /// does. Its first two bytes are read then.
+    fn has_field<R: Read>(&mut self, reader: &mut R) -> io::Result<bool> {
+        let mut chunk = reader.by_ref().take(self.left);
+        let begins = begins_image(&mut chunk);
+        self.left = chunk.limit();
+        begins
+    }
+
+    /// Reads as far as the chunk of the next frame, if there is one, and its first byte.
+    fn next_chunk<R: Read>(&mut self, reader: &mut R) -> io::Result<Option<u8>> {
+        skip_rest(reader, self.size, self.left)?;
+        let Some(size) = self.video.find_frame(reader)? else {
+            return Ok(None);
+        };
+        let mut first = [0u8];
+        reader.read_exact(&mut first)?;
+        self.size = size;
+        self.left = u64::from(size.saturating_sub(1));
+        Ok(Some(first[0]))
+    }
+
+    /// Reads as far as the next frame, if there is one, and returns what was read of it. Returns
+    /// none if the first frame doesn't begin like a JPEG image.
+    fn next<R: Read>(&mut self, reader: &mut R, is_first: bool) -> io::Result<Option<Begun>> {
+        if self.has_field(reader)? {
+            return Ok(Some(Begun {
+                first: START,
+                has_second: true,
+            }));
+        }
+        match self.next_chunk(reader)? {
+            Some(first) if !is_first || first == START => Ok(Some(Begun::with_first(first))),
+            _ => Ok(None),
+        }
+    }
+
+    /// Decodes the frame that begins with what was read and continues in the chunk.
+    fn decode<R: Read + Drop>(
+        &mut self,
+        alloc: Global,
+        begun: Begun,
+        reader: &mut R,
+        limits: Limits,
+    ) -> Result<Picture, Refusal> {
+        let mut chunk = reader.by_ref().take(self.left);
+        let frame = decode_from(alloc, begun, &mut chunk, limits);
+        self.left = chunk.limit();
+        frame
+    }
+}
+
+/// Decodes the next frame of an AVI file. Returns none if the first frame doesn't begin like a JPEG
+/// image.
 fn next_in_avi<R: Read + Drop>(
     alloc: Global,
     reader: &mut R,
-    video: &mut Video,
+    place: &mut Place,
     is_first: bool,
     limits: Limits,
 ) -> Result<Option<Picture>, Refusal> {
-    let Some(size) = video.find_frame(reader)? else {
-        return Ok(None);
-    };
-    let mut chunk = reader.by_ref().take(u64::from(size));
-    let mut first = [0u8];
-    chunk.read_exact(&mut first)?;
-    if is_first && first[0] != START {
-        return Ok(None);
+    match place.next(reader, is_first)? {
+        Some(begun) => Ok(Some(place.decode(alloc, begun, reader, limits)?)),
+        None => Ok(None),
     }
-    let frame = decode_from(alloc, first[0], &mut chunk, limits)?;
-    let left = chunk.limit();
-    skip_rest(reader, size, left)?;
-    Ok(Some(frame))
 }
 
 impl<R: Read + Drop> Frames<R> {
@@ -172,8 +269,8 @@ impl<R: Read + Drop> Frames<R> {
         let limits = self.limits;
         let frame = match &mut self.layout {
             Layout::Plain(read) => next_plain(alloc, &mut self.reader, read.take(), limits),
-            Layout::Avi(video) => {
-                next_in_avi(alloc, &mut self.reader, video, number == 1, limits)
+            Layout::Avi(place) => {
+                next_in_avi(alloc, &mut self.reader, place, number == 1, limits)
             }
         };
         match frame {
@@ -195,7 +292,7 @@ fn layout_of<R: Read>(reader: &mut R) -> io::Result<Option<Layout>> {
         return Ok(Some(Layout::Plain(Some(first[0]))));
     }
     Ok(if is_avi(reader)? {
-        Some(Layout::Avi(Video::new()))
+        Some(Layout::Avi(Place::new()))
     } else {
         None
     })
