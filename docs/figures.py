@@ -108,7 +108,7 @@ def expected():
     first = re.search(r"fresh\s+clone.*?took\s+(\d+)\s+minutes", gate, re.S)[1]
     yield "README.md", r"proves it first: (\d+) minutes", first
     yield "README.md", r"info examples/rocket.jpg` \| (\d+) minutes", first
-    whole = re.search(r"takes (\d+ to \d+) minutes with 4", gate)[1]
+    whole = re.search(r"takes (\d+ to \d+) minutes\s+with 4", gate)[1]
     yield "README.md", r"`./test` \| (\d+ to \d+) minutes on 4", whole
     for crate in ("parts_callers", "decoder_callers", "zaxbriar_callers"):
         yield "docs/GATE.md", rf"`{crate}` with (\d+) edits", edits(crate)
