@@ -52,7 +52,9 @@ fn cases_of(text: &str) -> Vec<Case<'_>> {
         let case = cases
             .last_mut()
             .expect("a line stands before the first case");
-        match line.strip_prefix("stream") {
+        // (a stream may be empty, and `stream_transform` is a call)
+        let words = line.strip_prefix("stream");
+        match words.filter(|words| words.is_empty() || words.starts_with(' ')) {
             Some(words) => case
                 .stream
                 .extend(words.split_whitespace().flat_map(bytes_of_word)),
@@ -228,7 +230,7 @@ fn answers_of(case: &Case<'_>, most: usize) -> Vec<String> {
             ["icc"] => data(decoder.icc_profile().as_deref()),
             ["rest"] => left.get().to_string(),
             ["cuts"] => cuts(&case.stream),
-            ["into", _] | ["orientation"] => break,
+            ["into", _] | ["orientation"] | ["stream_transform"] => break,
             _ => panic!("no such call: {call}"),
         });
     }
