@@ -3,8 +3,9 @@
  * fault, sizes at scales, metadata, bytes left unread.
  *
  * Not asked is what the calls of JavaScript don't have: the original crate's limit, decoding into a
- * caller's memory, the transforms that c/zaxbriar.h has no number for, and all that stands after
- * such a call or after the picture, but for the bytes left unread. */
+ * caller's memory, the transforms that c/zaxbriar.h has no number for, the transform of a stream
+ * apart from an option's, and all that stands after such a call or after the picture, but for the
+ * bytes left unread. */
 import { ZaxbriarError, load } from '../dist/node.mjs';
 import { allCases, bytesOf } from './cases.mjs';
 
@@ -146,7 +147,7 @@ function* answered({ stream, calls, answers: line }) {
             isRead = Boolean(read.value);
             yield [call, answer, isRead ? answer === 'ok' : isRefusal(read, answer, false)];
             if (!isRead) return;
-        } else if (!isRead) {
+        } else if (!isRead || call === 'stream_transform') {
             yield [call, answer, null];
         } else if (call === 'info') {
             const picture = zaxbriar.readInfo(stream, options);
