@@ -99,7 +99,7 @@ def expected():
     yield page, r"\((\d+)\s+files\)", files
     yield page, r"of these laws \((\d+):", laws
     least = int(re.search(r"(?m)^LEAST=(\d+)$", text("memory"))[1])
-    yield "docs/TRUST.md", r"each N from 1\s+to (\d+) \(`./memory`\)", least
+    yield "docs/TRUST.md", r"the last, which is at least (\d+) \(`./memory`\)", least
     table = text("real_files/README.md").split("| Files | number | refused by both |", 1)[1]
     counts = re.findall(r"(?m)^\| [^|]* \| (\d+) \| \d+ \| \d+ \|$", table.split("\n\n", 1)[0])
     # (the last one is the stream of frames)
