@@ -1,3 +1,4 @@
+mod Allowances
 mod GivenLines
 pub mod ScaledStreams
 mod WrittenThumbnails

@@ -1,3 +1,4 @@
+pub mod Allowed
 pub mod Given
 pub mod ScaledPictures
 pub mod Steps

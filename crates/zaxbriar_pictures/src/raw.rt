@@ -4,6 +4,7 @@ ghost use Rattle.std.specs.Io.KnownBytes.{Appends};
 ghost use Rattle.jpeg_streams.specs.Output.{Tells, default_settings, header_line_of, name_of};
 ghost use Rattle.jpeg_streams.specs.Output.{output_of};
 ghost use Rattle.jpeg_streams.specs.declared.progress.Progress.TheVariants.{Fresh};
+ghost use Rattle.zaxbriar_pictures.specs.Allowed.{allows_raw};
 
 use crate::extents::Extent;
 use crate::scaled::{READ_AHEAD, taken_by_lines};
@@ -46,9 +47,11 @@ fn write_decoded<R: Read + Drop, W: Write>(
 ) -> Result<(), Refusal>
     requires fresh { decoder.old.stage ≡ Fresh }
     requires plain { decoder.old.settings ≡ default_settings }
-    ensures { decoder.old.source.known ≡ true
+    ensures written { decoder.old.source.known ≡ true
         → OnOk result (IsSomeAnd (output_of decoder.old.source.bytes) (Appends
         (W.contents writer.old) (W.contents writer.new))) }
+    ensures limited { decoder.old.source.known ≡ true
+        → OnOk result (allows_raw limits decoder.old.source.bytes ≡ true) }
 {
     decoder.read_info()?;
     let full = decoder.info().unwrap();
@@ -68,9 +71,11 @@ pub fn write_raw<R: Read + Drop, W: Write>(
     limits: Limits,
     writer: &mut W,
 ) -> Result<(), Refusal>
-    ensures { (bytes : List ℕ) → Tells (R.remaining reader) bytes
+    ensures written { (bytes : List ℕ) → Tells (R.remaining reader) bytes
         → OnOk result (IsSomeAnd (output_of bytes) (Appends (W.contents writer.old)
         (W.contents writer.new))) }
+    ensures limited { (bytes : List ℕ) → Tells (R.remaining reader) bytes
+        → OnOk result (allows_raw limits bytes ≡ true) }
 {
     let mut decoder = Decoder::with_capacity(alloc, READ_AHEAD, reader)?;
     write_decoded(alloc, &mut decoder, limits, writer)

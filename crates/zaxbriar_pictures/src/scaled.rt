@@ -1,6 +1,6 @@
 //! Pictures of streams at a scale, as netpbm files.
 ghost use Rattle.std.specs.Prelude.{◌≡◌, ◌*◌, List, ℕ, IfOk, OnOk, Some, IsSomeAnd, option_map};
-ghost use Rattle.std.specs.Prelude.{◌≤◌, true};
+ghost use Rattle.std.specs.Prelude.{◌≤◌, IfSome, true};
 ghost use Rattle.std.specs.List.{concat};
 ghost use Rattle.std.specs.Io.KnownBytes.{Appends};
 ghost use Rattle.jpeg_bits.specs.Reading.{Answers};
@@ -8,7 +8,10 @@ ghost use Rattle.jpeg_streams.specs.Output.{Tells};
 ghost use Rattle.jpeg_streams.specs.Pixels.{info_of};
 ghost use Rattle.jpeg_streams.specs.States.{IsReading, ahead};
 ghost use Rattle.jpeg_streams.specs.Stream.{told_of};
-ghost use Rattle.zaxbriar_files.specs.Limits.{is_at_most};
+ghost use Rattle.jpeg_decoder.specs.Bytes.{decoding_bytes};
+ghost use Rattle.jpeg_streams.specs.States.{HasHeader};
+ghost use Rattle.zaxbriar_pictures.specs.Allowed.{allows, made_bytes, taken_for, taken_in};
+ghost use Rattle.zaxbriar_pictures.specs.Allowed.{taken_in_lines};
 ghost use Rattle.jpeg_streams.specs.Output.{default_settings};
 ghost use Rattle.jpeg_streams.specs.declared.progress.Progress.TheVariants.{Fresh, HeaderRead};
 ghost use Rattle.zaxbriar_pictures.specs.Given.{IsGiven, WritesGiven};
@@ -58,7 +61,10 @@ pub fn decode_picture<R: Read + Drop>(decoder: &mut Decoder<R>) -> error::Result
 
 /// Returns how many bytes decoding as much as is wanted of the picture of a decoder takes, whose
 /// header was read: for a partial picture all blocks are counted.
-pub fn taken_by<R: Read + Drop>(decoder: &Decoder<R>, extent: Extent) -> u64 {
+pub fn taken_by<R: Read + Drop>(decoder: &Decoder<R>, extent: Extent) -> u64
+    ensures { HasHeader decoder.now.stage → IfSome decoder.now.found.said.frame (λ f. result
+        ≡ taken_in extent (decoding_bytes decoder.now.settings f)) }
+{
     match (decoder.decoding_bytes(), extent) {
         (Some(bytes), Extent::Whole) => bytes.peak,
         (Some(bytes), Extent::Partial) => bytes.partial_peak,
@@ -67,7 +73,10 @@ pub fn taken_by<R: Read + Drop>(decoder: &Decoder<R>, extent: Extent) -> u64 {
 }
 
 /// Returns how many bytes this takes where the lines of the picture are written one by one.
-pub(crate) fn taken_by_lines<R: Read + Drop>(decoder: &Decoder<R>, extent: Extent) -> u64 {
+pub(crate) fn taken_by_lines<R: Read + Drop>(decoder: &Decoder<R>, extent: Extent) -> u64
+    ensures { HasHeader decoder.now.stage → IfSome decoder.now.found.said.frame (λ f. result
+        ≡ taken_in_lines extent (decoding_bytes decoder.now.settings f)) }
+{
     match (decoder.decoding_bytes(), extent) {
         (Some(bytes), Extent::Whole) => bytes.coefficients.saturating_add(bytes.planes),
         (Some(bytes), Extent::Partial) => bytes.all_coefficients.saturating_add(bytes.planes),
@@ -105,26 +114,37 @@ pub struct ScaledPicture {
 }
 
 /// Returns how many bytes a picture of this size takes, of the format and precision of another.
-fn made_bytes(size: Dimensions, full: ImageInfo, precision: Option<u8>) -> u64 {
-    let pixel = bytes_of(full.pixel_format, precision.unwrap_or(8));
+fn made_bytes(size: Dimensions, full: ImageInfo, precision: u8) -> u64
+    ensures { result ≡ made_bytes size full precision }
+{
+    let pixel = bytes_of(full.pixel_format, precision);
     u64::from(size.width) * u64::from(size.height) * pixel as u64
 }
 
 /// Returns how many bytes the picture of a decoder takes for a request, whose header was read: with
 /// the picture that is made of it, or, where its lines are written one by one, without it.
+#[tactic(auto, unfolding(crate::specs::Allowed::taken_for))]
 fn bytes_for<R: Read + Drop>(
     decoder: &Decoder<R>,
     request: Request,
     extent: Extent,
     full: ImageInfo,
     size: Dimensions,
-) -> u64 {
-    let precision = decoder.precision();
+) -> u64
+    requires plain { decoder.now.settings ≡ default_settings }
+    requires header { HasHeader decoder.now.stage }
+    ensures { IfSome decoder.now.found.said.frame (λ f. result
+        ≡ taken_for request extent full f size) }
+{
+    let precision = decoder.precision().unwrap_or(8);
     match request {
-        Request::At(_) => match precision {
-            Some(8) => taken_by_lines(decoder, extent),
-            _ => taken_by(decoder, extent),
-        },
+        Request::At(_) => {
+            if precision == 8 {
+                taken_by_lines(decoder, extent)
+            } else {
+                taken_by(decoder, extent)
+            }
+        }
         Request::Within(_, _) => {
             taken_by(decoder, extent).saturating_add(made_bytes(size, full, precision))
         }
@@ -147,8 +167,7 @@ fn choose<R: Read + Drop>(
     ensures orientation { IfOk result (λ choice. (1 ≤ choice.orientation)
         × (choice.orientation ≤ 8)) }
     ensures limited { IfOk result (λ _. decoder.old.source.known ≡ true
-        → IsSomeAnd (header_info decoder.old.source.bytes) (λ full.
-        is_at_most limits.pixels (full.width * full.height) ≡ true)) }
+        → allows request extent limits decoder.old.source.bytes ≡ true) }
 {
     decoder.read_info()?;
     let full = decoder.info().unwrap();
@@ -198,10 +217,9 @@ pub fn read_picture<R: Read + Drop>(
     ensures orientation { IfOk result (λ made. (1 ≤ made.orientation)
         × (made.orientation ≤ 8)) }
 
-    // A picture of more pixels than are allowed is refused.
-    ensures limited { (bytes : List ℕ) → Tells (R.remaining reader) bytes → IfOk result (λ _.
-        IsSomeAnd (header_info bytes) (λ full.
-        is_at_most limits.pixels (full.width * full.height) ≡ true)) }
+    // A picture that has or takes more than the limits allow is refused.
+    ensures limited { (bytes : List ℕ) → Tells (R.remaining reader) bytes
+        → IfOk result (λ _. allows request extent limits bytes ≡ true) }
 {
     let mut decoder = Decoder::with_capacity(alloc, READ_AHEAD, reader)?;
     let choice = choose(&mut decoder, request, extent, limits)?;
@@ -276,9 +294,11 @@ pub fn write_at<R: Read + Drop, W: Write>(
     limits: Limits,
     writer: &mut W,
 ) -> Result<Completeness, Refusal>
-    ensures { (bytes : List ℕ) → Tells (R.remaining reader) bytes
+    ensures written { (bytes : List ℕ) → Tells (R.remaining reader) bytes
         → IfOk result (WritesGiven extent scale bytes (W.contents writer.old)
         (W.contents writer.new)) }
+    ensures limited { (bytes : List ℕ) → Tells (R.remaining reader) bytes
+        → IfOk result (λ _. allows (At scale) extent limits bytes ≡ true) }
 {
     let mut decoder = Decoder::with_capacity(alloc, READ_AHEAD, reader)?;
     choose(&mut decoder, Request::At(scale), extent, limits)?;

@@ -5,8 +5,9 @@
 //! sample is then the mean of those in its box. One that fits is decoded at all of its size. It is
 //! turned upright by the orientation in its Exif data, as it is shown, unless it is to stay as it
 //! is stored.
-ghost use Rattle.std.specs.Prelude.{List, ℕ, IfOk};
+ghost use Rattle.std.specs.Prelude.{◌≡◌, List, ℕ, IfOk, true};
 ghost use Rattle.jpeg_streams.specs.Output.{Tells};
+ghost use Rattle.zaxbriar_pictures.specs.Allowed.{allows};
 ghost use Rattle.zaxbriar_pictures.specs.Thumbnails.{WritesThumbnail};
 
 use crate::extents::{Completeness, Extent};
@@ -32,9 +33,11 @@ pub fn write_thumbnail<R: Read + Drop, W: Write>(
     limits: Limits,
     writer: &mut W,
 ) -> Result<Completeness, Refusal>
-    ensures { (bytes : List ℕ) → Tells (R.remaining reader) bytes
+    ensures written { (bytes : List ℕ) → Tells (R.remaining reader) bytes
         → IfOk result (WritesThumbnail extent request bytes (W.contents writer.old)
         (W.contents writer.new)) }
+    ensures limited { (bytes : List ℕ) → Tells (R.remaining reader) bytes
+        → IfOk result (λ _. allows request extent limits bytes ≡ true) }
 {
     let made = read_picture(alloc, reader, request, extent, limits)?;
     let info = made.picture.info;

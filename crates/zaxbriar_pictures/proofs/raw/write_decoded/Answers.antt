@@ -1,11 +1,12 @@
 use Rattle.std.proofs.Common.{◌∙◌, rules, sym}
 use Rattle.std.specs.List.{concat}
 use Rattle.jpeg_streams.specs.Stream.{told_of}
+use Rattle.zaxbriar_pictures.proofs.Allowances.{lines-allowed}
 use Rattle.zaxbriar_pictures.proofs.ScaledStreams.{output-some}
 use Rattle.zaxbriar_pictures.proofs.raw.write_decoded.Goals as goal
 
-pub returns : goal.returns
-returns g c known =
+pub returns-clause-written : goal.returns-clause-written
+returns-clause-written g c known =
     let header = c.in_ok-read_info.ensures.reads c.requires.fresh in
     let stage = rw c.requires.fresh at c.in_ok-read_info.ensures.stage in
     let settings = c.in_ok-read_info.ensures.settings ∙ c.requires.plain in
@@ -17,3 +18,13 @@ returns g c known =
     (told_of c.decode_lines.new.self.found.said) (concat c.in_ok-lines.lines)
     c.unwrap.result first.1 second.1 (sym c.info-2.ensures ∙ c.unwrap.ensures) in
     rw is (search rules)
+
+pub returns-clause-limited : goal.returns-clause-limited
+returns-clause-limited g c known =
+    let header = c.in_ok-read_info.ensures.reads c.requires.fresh in
+    let stage = rw c.requires.fresh at c.in_ok-read_info.ensures.stage in
+    let first = header.1 known in
+    lines-allowed c.args.limits c.args.decoder.now.source.bytes c.read_info.new.self.source.bytes
+    c.read_info.new.self.found c.unwrap-full.result c.taken_by_lines-taken.result first.1
+    (sym c.info.ensures ∙ c.unwrap-full.ensures) ((rw stage at c.taken_by_lines-taken.ensures) tt)
+    c.in_ok-check.ensures

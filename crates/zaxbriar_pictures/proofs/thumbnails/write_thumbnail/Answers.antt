@@ -4,8 +4,8 @@ use Rattle.zaxbriar_pictures.specs.declared.extents.Completeness.{Completeness}
 use Rattle.zaxbriar_pictures.proofs.WrittenThumbnails.{written}
 use Rattle.zaxbriar_pictures.proofs.thumbnails.write_thumbnail.Goals as goal
 
-pub returns : goal.returns
-returns g c bytes tells =
+pub returns-clause-written : goal.returns-clause-written
+returns-clause-written g c bytes tells =
     let made = c.in_ok-made.made in
     let told : Completeness = record {
       info = made.picture.info;
@@ -18,3 +18,6 @@ returns g c bytes tells =
     (decoded_in c.in_ok-picture.picture) told (c.in_ok-made.ensures.said bytes tells)
     (c.in_ok-made.ensures.picture bytes tells) refl (c.in_ok-made.ensures.chosen bytes tells)
     c.in_ok-smaller.ensures c.in_ok-picture.ensures c.in_ok-write_picture.ensures.file
+
+pub returns-clause-limited : goal.returns-clause-limited
+returns-clause-limited g c bytes tells = c.in_ok-made.ensures.limited bytes tells

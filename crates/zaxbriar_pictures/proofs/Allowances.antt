@@ -1,0 +1,60 @@
+-- What a header and the steps after it have allowed is what the stream is allowed.
+use Rattle.std.proofs.Common.{◌≡◌, ◌∙◌, ℕ, List, Ok, Option, Some, None, IfSome, option_map, subst, sym, true, false}
+use Rattle.std.specs.Prelude.{unwrap_or}
+use Rattle.jpeg_segments.specs.Frame.{Frame}
+use Rattle.jpeg_segments.specs.Scales.{scaled}
+use Rattle.jpeg_segments.specs.declared.frame.Dimensions.{Dimensions}
+use Rattle.jpeg_segments.specs.declared.scale.Scale.{Scale}
+use Rattle.jpeg_streams.specs.Found.{Found}
+use Rattle.jpeg_streams.specs.Output.{default_settings}
+use Rattle.jpeg_streams.specs.Pixels.{info_of}
+use Rattle.jpeg_streams.specs.Stream.{header_at}
+use Rattle.jpeg_streams.specs.declared.images.ImageInfo.{ImageInfo}
+use Rattle.jpeg_decoder.specs.Bytes.{decoding_bytes}
+use Rattle.zaxbriar_files.specs.Limits.{is_allowed}
+use Rattle.zaxbriar_files.specs.declared.limits.Limits.{Limits}
+use Rattle.zaxbriar_samples.specs.Sizes.{orientation_for, scale_of_request, size_for}
+use Rattle.zaxbriar_samples.specs.declared.requests.Request.{Request}
+use Rattle.zaxbriar_pictures.specs.Allowed.{allows, allows_frame, allows_lines, allows_raw, taken_for, taken_in_lines}
+use Rattle.zaxbriar_pictures.specs.declared.extents.Extent.{Extent}
+use Rattle.zaxbriar_pictures.specs.declared.extents.Extent.TheVariants.{Whole}
+
+some-same : {A : Type 0} (x y : A) → ◌≡◌ {A = Option A} (Some x) (Some y) → x ≡ y
+some-same x y e = cc
+
+pub allowed-there : (request : Request) (extent : Extent) (limits : Limits) (bytes rest : List ℕ) (header : Found)
+    (full : ImageInfo) (orientation : ℕ) (scale : Scale) (size : Dimensions) (taken : ℕ)
+    → header_at bytes ≡ Ok (header, rest) → option_map info_of header.said.frame ≡ Some full
+    → orientation ≡ orientation_for request header.said.metadata.exif
+    → scale ≡ scale_of_request request full orientation → size ≡ size_for request full orientation
+    → IfSome (option_map (scaled scale) header.said.frame) (λ f. taken ≡ taken_for request extent full f size)
+    → is_allowed limits full.width full.height taken ≡ true → allows request extent limits bytes ≡ true
+unfolding allows
+allowed-there request extent limits bytes rest header full orientation scale size taken e i o s z t a =
+    rw (e, allows) (go header.said.frame i t)
+  where
+    go : (frame : Option Frame) → option_map info_of frame ≡ Some full
+        → IfSome (option_map (scaled scale) frame) (λ f. taken ≡ taken_for request extent full f size)
+        → unwrap_or (option_map (allows_frame request extent limits header) frame) false ≡ true
+    go None i t = absurd (let n : ⊥ = cc in n)
+    go (Some f) i t =
+        let turn = orientation_for request header.said.metadata.exif in
+        subst (λ (k : ImageInfo). is_allowed limits k.width k.height (taken_for request extent k
+        (scaled (scale_of_request request k turn) f) (size_for request k turn)) ≡ true)
+        (sym (some-same (info_of f) full i)) (rw (sym o) (rw (sym s, sym z, sym t) a))
+
+pub lines-allowed : (limits : Limits) (bytes rest : List ℕ) (header : Found) (full : ImageInfo) (taken : ℕ)
+    → header_at bytes ≡ Ok (header, rest) → option_map info_of header.said.frame ≡ Some full
+    → IfSome header.said.frame (λ f. taken ≡ taken_in_lines Whole (decoding_bytes default_settings f))
+    → is_allowed limits full.width full.height taken ≡ true → allows_raw limits bytes ≡ true
+unfolding allows_raw
+lines-allowed limits bytes rest header full taken e i t a = rw (e, allows_raw) (go header.said.frame i t)
+  where
+    go : (frame : Option Frame) → option_map info_of frame ≡ Some full
+        → IfSome frame (λ f. taken ≡ taken_in_lines Whole (decoding_bytes default_settings f))
+        → unwrap_or (option_map (allows_lines limits) frame) false ≡ true
+    go None i t = absurd (let n : ⊥ = cc in n)
+    go (Some f) i t =
+        subst (λ (k : ImageInfo). is_allowed limits k.width k.height
+        (taken_in_lines Whole (decoding_bytes default_settings f)) ≡ true)
+        (sym (some-same (info_of f) full i)) (rw (sym t) a)

@@ -1,0 +1,76 @@
+-- What a request takes of the picture of a stream, by its header, and whether the limits allow it.
+use Rattle.std.specs.Prelude.{ℕ, ◌+◌, ◌*◌, ◌-◌, ◌^◌, ◌==◌, Bool, false, List, min, option_map}
+use Rattle.std.specs.Prelude.{Ok, Err, if◌then◌else◌, unwrap_or}
+use Rattle.jpeg_segments.specs.Frame.{Frame}
+use Rattle.jpeg_segments.specs.Scales.{scaled}
+use Rattle.jpeg_segments.specs.declared.frame.Dimensions.{Dimensions}
+use Rattle.jpeg_streams.specs.Found.{Found}
+use Rattle.jpeg_streams.specs.Output.{default_settings}
+use Rattle.jpeg_streams.specs.Pixels.{info_of}
+use Rattle.jpeg_streams.specs.Stream.{header_at}
+use Rattle.jpeg_streams.specs.declared.images.ImageInfo.{ImageInfo}
+use Rattle.jpeg_decoder.specs.Bytes.{decoding_bytes}
+use Rattle.jpeg_decoder.specs.declared.sizes.DecodingBytes.{DecodingBytes}
+use Rattle.zaxbriar_files.specs.Limits.{is_allowed}
+use Rattle.zaxbriar_files.specs.declared.limits.Limits.{Limits}
+use Rattle.zaxbriar_samples.specs.Sizes.{orientation_for, scale_of_request, size_for}
+use Rattle.zaxbriar_samples.specs.Turns.{bytes_of}
+use Rattle.zaxbriar_samples.specs.declared.requests.Request.{Request}
+use Rattle.zaxbriar_samples.specs.declared.requests.Request.TheVariants.{At, Within}
+use Rattle.zaxbriar_pictures.specs.declared.extents.Extent.{Extent}
+use Rattle.zaxbriar_pictures.specs.declared.extents.Extent.TheVariants.{Whole, Partial}
+
+-- a sum of bytes, as far as 64 bits count them
+abbrev pub together : ℕ → ℕ → ℕ
+together a b = min (a + b) (2 ^ 64 - 1)
+
+-- what is taken at most while as much as is wanted of a picture is decoded
+abbrev pub taken_in : Extent → DecodingBytes → ℕ
+taken_in Whole bytes = bytes.peak
+taken_in Partial bytes = bytes.partial_peak
+
+-- the same, where the lines of the picture are written one by one
+abbrev pub taken_in_lines : Extent → DecodingBytes → ℕ
+taken_in_lines Whole bytes = together bytes.coefficients bytes.planes
+taken_in_lines Partial bytes = together bytes.all_coefficients bytes.planes
+
+-- a picture of this size, of the format of another
+abbrev pub made_bytes : Dimensions → ImageInfo → ℕ → ℕ
+made_bytes size full precision = size.width * size.height * bytes_of full.pixel_format precision
+
+-- What a request takes of the picture of a frame at its scale. Lines of 8 bits a sample are written
+-- one by one; a picture that fits within a size is made beside the one that is decoded.
+unfoldable pub taken_for : Request → Extent → ImageInfo → Frame → Dimensions → ℕ
+taken_for (At scale) extent full f size =
+    let bytes = decoding_bytes default_settings f in
+    if f.precision == 8 then taken_in_lines extent bytes else taken_in extent bytes
+taken_for (Within most upright) extent full f size =
+    together (taken_in extent (decoding_bytes default_settings f)) (made_bytes size full f.precision)
+
+-- whether the limits allow the pixels of a frame, and what a request takes of it
+abbrev pub allows_frame : Request → Extent → Limits → Found → Frame → Bool
+allows_frame request extent limits header f =
+    let full = info_of f in
+    let orientation = orientation_for request header.said.metadata.exif in
+    is_allowed limits full.width full.height (taken_for request extent full
+    (scaled (scale_of_request request full orientation) f) (size_for request full orientation))
+
+-- Whether the limits allow what a request takes of a stream.
+unfoldable pub allows : Request → Extent → Limits → List ℕ → Bool
+allows request extent limits bytes = elim (header_at bytes) [
+  | Ok header ↦
+      unwrap_or (option_map (allows_frame request extent limits header.0) header.0.said.frame) false
+  | Err fault ↦ false
+]
+
+-- Whether the limits allow the pixels of a stream, and what is taken where the lines of its picture
+-- are written one by one, whatever their samples.
+abbrev pub allows_lines : Limits → Frame → Bool
+allows_lines limits f = is_allowed limits f.output_width f.output_height
+    (taken_in_lines Whole (decoding_bytes default_settings f))
+
+unfoldable pub allows_raw : Limits → List ℕ → Bool
+allows_raw limits bytes = elim (header_at bytes) [
+  | Ok header ↦ unwrap_or (option_map (allows_lines limits) header.0.said.frame) false
+  | Err fault ↦ false
+]
