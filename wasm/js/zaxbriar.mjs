@@ -1,13 +1,12 @@
-/* The decoder for JavaScript, over zaxbriar.wasm: for browsers, their workers, and bundlers. Node
- * takes node.mjs by the same name, which also reads the module from a file.
+/* The decoder for JavaScript, over zaxbriar.wasm, with synchronous calls: all that a worker needs.
+ * The package's name gives index.mjs, which adds `decodeAsync`, or node.mjs in Node.
  *
- *     import { load } from 'zaxbriar';
+ *     import { load } from './zaxbriar.mjs';
  *     const zaxbriar = await load();
  *     const { picture, pixels } = zaxbriar.decode(bytes, { layout: 'rgba' });
  *
- * Calls are synchronous: where a page is not to wait, make them in a worker. zaxbriar.d.mts has the
- * types, and what each call does. Nothing in this file is proved: it copies bytes into the module's
- * memory and out of it. */
+ * zaxbriar.d.mts has the types, and what each call does. Nothing in this file is proved: it copies
+ * bytes into the module's memory and out of it. */
 
 /* Names of the numbers of c/zaxbriar.h. The module says which of them fit a picture: others are
  * BAD_ARGUMENT. */
@@ -28,7 +27,7 @@ const FEATURES = [
     'transform',
 ];
 /* What decode and readInfo take, and what a decoder takes. */
-const OPTIONS = [
+export const OPTIONS = [
     'layout',
     'scale',
     'minWidth',
@@ -39,7 +38,7 @@ const OPTIONS = [
     'maxBytes',
     'partial',
 ];
-const DECODER_OPTIONS = ['maxMemory'];
+export const DECODER_OPTIONS = ['maxMemory'];
 const BUFFERS = ['ArrayBuffer', 'SharedArrayBuffer'];
 /* The features that come with a number. */
 const NUMBERED = ['precision', 'components', 'transform'];
@@ -109,12 +108,18 @@ function checkNames(options, names) {
     }
 }
 
+/* The options as an object's own, also those that it inherits, once their names are checked. */
+export function ownOptions(options, names) {
+    checkNames(options, names);
+    return Object.fromEntries(names.map((name) => [name, options[name]]));
+}
+
 /* The name of a value's class, which `instanceof` doesn't know where the value is of another realm,
  * as of a frame or in a test runner. */
 const classOf = (value) => Object.prototype.toString.call(value).slice(8, -1);
 
 /* The bytes of a buffer or of any view of one. */
-function bytesOf(source) {
+export function bytesOf(source) {
     if (source instanceof Uint8Array || source instanceof Uint8ClampedArray) return source;
     if (ArrayBuffer.isView(source)) {
         return new Uint8Array(source.buffer, source.byteOffset, source.byteLength);
@@ -138,10 +143,22 @@ function optionsOf(options) {
     return bytes;
 }
 
-/* Whether what there is of a stream with a fault is wanted, too. */
-function wantsPart({ partial = false }) {
-    if (typeof partial !== 'boolean') throw new TypeError(`partial: a boolean, not ${partial}`);
-    return partial;
+/* Whether an option is set that is true or false. */
+export function isSet(options, name) {
+    const { [name]: value = false } = options;
+    if (typeof value !== 'boolean') throw new TypeError(`${name}: a boolean, not ${value}`);
+    return value;
+}
+
+/* How many pixels a picture may have; 0: any number. */
+const pixelLimit = ({ maxPixels }) =>
+    wholeNumber(maxPixels ?? 0, Number.MAX_SAFE_INTEGER, 'maxPixels');
+
+/* Refuses options of `decode` whose values don't exist. */
+export function checkValues(options) {
+    optionsOf(options);
+    isSet(options, 'partial');
+    pixelLimit(options);
 }
 
 /* The sampling factors that a byte of a frame header has. */
@@ -286,8 +303,7 @@ export class Zaxbriar {
     #describe(stream, picture, options) {
         this.#readHeader(stream, picture);
         const described = this.#picture(picture);
-        const most = options.maxPixels ?? 0;
-        wholeNumber(most, Number.MAX_SAFE_INTEGER, 'maxPixels');
+        const most = pixelLimit(options);
         if (most && described.width * described.height > most) {
             const size = `${described.width} by ${described.height} pixels`;
             throw new ZaxbriarError(TOO_LARGE, `the picture has ${size}, above ${most}`);
@@ -298,6 +314,7 @@ export class Zaxbriar {
     /* Puts a stream and its options into the module's memory, and gives the words of a call. */
     #stream(allocate, jpeg, options) {
         const bytes = bytesOf(jpeg);
+        pixelLimit(options);
         const given = optionsOf(options);
         const at = this.#put(allocate, bytes);
         return [at, bytes.length, this.#put(allocate, given)].map(BigInt);
@@ -313,7 +330,7 @@ export class Zaxbriar {
 
     decode(jpeg, options = {}) {
         checkNames(options, OPTIONS);
-        const isPartial = wantsPart(options);
+        const isPartial = isSet(options, 'partial');
         const name = isPartial ? 'zaxbriar_decode_partial' : 'zaxbriar_decode';
         return this.#with((allocate) => {
             const stream = this.#stream(allocate, jpeg, options);

@@ -1,6 +1,7 @@
 /* node bundlers.mjs FOLDER BUNDLER..: what esbuild, rollup and webpack make of the package for
  * browsers, and what Node takes of it. A bundler may not warn; its bundle has nothing of Node's in
- * it, and decodes. FOLDER takes the package, a program and the bundles. */
+ * it, and decodes. FOLDER takes the package, a program and the bundles, which async_page.mjs asks
+ * in a browser. */
 import assert from 'node:assert/strict';
 import { spawnSync } from 'node:child_process';
 import { copyFileSync, cpSync, mkdirSync, readFileSync, rmSync, writeFileSync } from 'node:fs';
@@ -15,6 +16,8 @@ const jpeg = readFileSync(pathOf('../../programs/files/turned.jpg'));
 const wanted = (await load()).decode(jpeg);
 const PACKAGE = './node_modules/zaxbriar';
 const PROGRAM = (name) => `import { load } from '${name}';\nexport const loaded = load();\n`;
+
+const BESIDE = ['zaxbriar.wasm', 'zaxbriar-worker.mjs', 'zaxbriar.mjs'];
 
 /* The words of each bundler, by which it makes NAME/bundle.mjs for browsers. rollup finds packages
  * by a plugin alone, and so it is given a path. */
@@ -74,9 +77,10 @@ async function check(name) {
     run(process.env[name.toUpperCase()] ?? name, WORDS[name]);
     const bundle = `${folder}/${name}/bundle.mjs`;
     assert.doesNotMatch(readFileSync(bundle, 'utf8'), /node:|\brequire\(/, name);
-    // (webpack puts the module beside its bundle, and the others leave that to the caller)
-    if (name !== 'webpack') {
-        copyFileSync(pathOf('../dist/zaxbriar.wasm'), `${folder}/${name}/zaxbriar.wasm`);
+    // (webpack puts the module and the worker beside its bundle, and the others leave that to the
+    // caller)
+    for (const file of name === 'webpack' ? [] : BESIDE) {
+        copyFileSync(pathOf(`../dist/${file}`), `${folder}/${name}/${file}`);
     }
     assert.deepEqual(await decodeBy(bundle), wanted, name);
 }
@@ -85,6 +89,7 @@ async function check(name) {
 function checkNode() {
     const code = `import { load } from 'zaxbriar';
         if (!import.meta.resolve('zaxbriar').endsWith('/node.mjs')) throw new Error('not node.mjs');
+        await import('zaxbriar/zaxbriar.mjs');
         (await load()).version;`;
     run(process.execPath, ['--input-type=module', '--eval', code]);
 }
@@ -93,7 +98,7 @@ rmSync(folder, { recursive: true, force: true });
 mkdirSync(folder, { recursive: true });
 cpSync(pathOf('../dist'), `${folder}/node_modules/zaxbriar`, { recursive: true });
 writeFileSync(`${folder}/program.mjs`, PROGRAM('zaxbriar'));
-writeFileSync(`${folder}/by-path.mjs`, PROGRAM(`${PACKAGE}/zaxbriar.mjs`));
+writeFileSync(`${folder}/by-path.mjs`, PROGRAM(`${PACKAGE}/index.mjs`));
 writeFileSync(`${folder}/webpack.config.cjs`, `module.exports = ${JSON.stringify(WEBPACK)};\n`);
 checkNode();
 for (const name of names) await check(name);

@@ -1,8 +1,9 @@
-// What compiles by zaxbriar.d.mts, and what doesn't.
-import { Zaxbriar, ZaxbriarError, compile, load } from '../dist/zaxbriar.mjs';
-import type { Bytes, DecodingOptions, DecodedPicture, Density } from '../dist/zaxbriar.mjs';
-import type { Feature, Format, Layout, Options, PartialOptions } from '../dist/zaxbriar.mjs';
-import type { PartialPicture, Picture, Sampling, Source } from '../dist/zaxbriar.mjs';
+// What compiles by index.d.mts and zaxbriar.d.mts, and what doesn't.
+import { Zaxbriar, ZaxbriarError, compile, load } from '../dist/index.mjs';
+import type { AsyncOptions, AsyncPartialOptions, Bytes, DecoderOptions } from '../dist/index.mjs';
+import type { DecodingOptions, DecodedPicture, Density, Feature } from '../dist/index.mjs';
+import type { Format, Layout, Options, PartialOptions, PartialPicture } from '../dist/index.mjs';
+import type { Picture, Sampling, Source } from '../dist/index.mjs';
 
 // Sources, and the bytes of streams.
 const sources: Source[] = ['zaxbriar.wasm', new URL('file:///zaxbriar.wasm'), new Uint8Array(8)];
@@ -82,6 +83,33 @@ either.fault;
 // @ts-expect-error
 zaxbriar.decode(streams[0], { partial: 1 });
 
+// The same in a worker.
+const { signal } = new AbortController();
+const whole: DecodedPicture = await zaxbriar.decodeAsync(streams[0], { layout: 'rgb', signal });
+const deadline: AsyncOptions = { signal: null, transfer: true, maxBytes: 1e9 };
+const begun: Promise<DecodedPicture> = zaxbriar.decodeAsync(streams[1]);
+const piece: PartialPicture = await zaxbriar.decodeAsync(streams[0], { partial: true, signal });
+const wanted: AsyncPartialOptions = { ...deadline, partial: true };
+const complete: number = (await zaxbriar.decodeAsync(streams[0], wanted)).wholeRows;
+const perhaps: DecodedPicture | PartialPicture = await zaxbriar.decodeAsync(streams[0], deadline);
+const startWorker = () => new Worker('zaxbriar-worker.mjs', { type: 'module' });
+const started: DecoderOptions = { startWorker, maxMemory: 1 << 30 };
+const elsewhere: Promise<Zaxbriar> = load(sources[1], started);
+// @ts-expect-error
+whole.fault;
+// @ts-expect-error
+perhaps.wholeRows;
+// @ts-expect-error
+zaxbriar.decodeAsync(streams[0]).pixels;
+// @ts-expect-error
+zaxbriar.decodeAsync(streams[0], { signal: new AbortController() });
+// @ts-expect-error
+zaxbriar.decodeAsync(streams[0], { transfer: [buffer] });
+// @ts-expect-error
+zaxbriar.decode(streams[0], { transfer: true });
+// @ts-expect-error
+load(sources[1], { startWorker: 'zaxbriar-worker.mjs' });
+
 // Metadata, which may not be there.
 const profile = other.metadata(streams[0], 'icc');
 const file = new Blob(profile ? [profile] : []);
@@ -113,4 +141,4 @@ zaxbriar.memoryBytes = 0;
 const version: string = zaxbriar.version;
 export { bits, columns, data, described, feature, fetched, file, format, ink, layout, length };
 export { fault, first, inches, known, plain, planes, profile, rows, samples, strict, told };
-export { version };
+export { begun, complete, elsewhere, piece, version };
