@@ -1,15 +1,16 @@
 /* node page.mjs BROWSER FOLDER: the page of dist/web in headless chromium or firefox: files that
- * are chosen, dropped and pasted, their pixels and sampling factors, what there is of files with a
+ * are chosen, dropped and pasted, their pixels and sampling factors, the part of files with a
  * fault, faults in words and by name, the list, zoom and keys, names for a screen reader, the file
- * that is chosen before those that wait, the first screen of a phone, the photograph, the page
- * without a network, and the worker after a trap. FOLDER takes files, BROWSER.png and
- * BROWSER.phone.png. */
+ * that is chosen before those that wait and in place of one that takes half a minute, the first
+ * screen of a phone, the photograph, the page without a network, and the worker after a trap.
+ * FOLDER takes files, BROWSER.png and BROWSER.phone.png. */
 import assert from 'node:assert/strict';
 import { copyFileSync, readFileSync, writeFileSync } from 'node:fs';
 import { resolve } from 'node:path';
 import { load } from '../dist/node.mjs';
 import { allCases } from './cases.mjs';
 import { Chromium } from './chromium.mjs';
+import { endless } from './endless.mjs';
 import { Firefox } from './firefox.mjs';
 import { serve } from './serve.mjs';
 
@@ -218,6 +219,20 @@ async function checkOrder(page, url) {
     assert.ok(label.startsWith(others.at(-1)), label);
 }
 
+/* A file that takes half a minute is put off for one that is chosen. */
+async function checkPatience(page, url) {
+    const slow = `${folder}/endless.jpg`;
+    writeFileSync(slow, endless());
+    await page.open(url);
+    await page.until(`document.body?.dataset.state === 'ready'`);
+    await page.choose('#file', [slow, PICTURES[0]]);
+    await page.until(`document.body.dataset.state === 'working'`);
+    const time = performance.now();
+    assert.equal(await show(page, PICTURES[0]), 'shown');
+    assert.ok(performance.now() - time < 10000);
+    assert.equal(await page.run(`${button(slow)}.lastChild.textContent`), 'waiting');
+}
+
 /* The page itself doesn't draw: its canvas takes what the worker has drawn. */
 async function checkDrawing(page) {
     assert.ok(await page.run(`document.getElementById('canvas').getContext('2d') === null`));
@@ -386,6 +401,7 @@ await page.until(`document.body.dataset.state === 'ready'`);
 await checkFit(page);
 await checkDrawing(page);
 await checkOrder(page, url);
+await checkPatience(page, url);
 await checkPhone(url);
 await page.open(url);
 await page.until(`document.body.dataset.state === 'ready'`);
@@ -416,5 +432,5 @@ const [parts, refusals] = [PARTIAL, REFUSED].map((files) => Object.keys(files).l
 console.log(`page in ${browser}: ${PICTURES.length} pictures with their sampling,`);
 console.log(`      ${parts} in part, ${refusals} refusals by name, the list, drop, paste, fit, zoom,`);
 console.log(`      ${stops} stops of the tabulator, ${buttons} buttons with names,`);
-console.log('      the chosen file first, the first screen of a phone, the photograph,');
-console.log('      an empty console, no network, the worker after a trap');
+console.log('      the chosen file first, a slow one put off, the first screen of a phone,');
+console.log('      the photograph, an empty console, no network, the worker after a trap');

@@ -1,12 +1,17 @@
 /* The worker and what it is asked: one file at a time, so that the file that is chosen comes next.
- * Where a worker fails another takes its place. */
+ * A file that takes long is put off for it. Where a worker fails, or is ended for that, another
+ * takes its place. */
 import { sentenceOf } from './words.mjs';
+
+/* How long a file that is chosen waits for another, in milliseconds. */
+const PATIENCE = 1000;
 
 export class Decoder {
     #start;
     #worker = null;
     #asked = null;
     #waiting = [];
+    #timer = 0;
 
     /* `start` starts a worker. */
     constructor(start) {
@@ -27,11 +32,21 @@ export class Decoder {
     #answer(reply) {
         const asked = this.#asked;
         this.#asked = null;
-        if (reply.isBroken) {
-            this.#worker.terminate();
-            this.#worker = null;
-        }
+        if (reply.isBroken) this.#stop();
         asked?.done(reply);
+        this.#next();
+    }
+
+    #stop() {
+        this.#worker.terminate();
+        this.#worker = null;
+    }
+
+    /* Ends what the worker does, to ask for it again after all that waits. */
+    #putOff() {
+        this.#stop();
+        this.#waiting.push(this.#asked);
+        this.#asked = null;
         this.#next();
     }
 
@@ -56,5 +71,9 @@ export class Decoder {
         const isIts = (request) => request.file === file;
         const others = this.#waiting.filter((request) => !isIts(request));
         this.#waiting = [...this.#waiting.filter(isIts), ...others];
+        const asked = this.#asked;
+        clearTimeout(this.#timer);
+        if (!asked || isIts(asked)) return;
+        this.#timer = setTimeout(() => asked === this.#asked && this.#putOff(), PATIENCE);
     }
 }

@@ -70,6 +70,11 @@ function samplingOf({ sampling }) {
     return (isNamed && SAMPLINGS[first]) || factors.join(', ');
 }
 
+/* The orientation that the file has, and the size that the picture has once it is turned. */
+function orientationOf({ orientation, width, height }) {
+    return orientation > 4 ? `${orientation}: shown as ${height} × ${width}` : `${orientation}`;
+}
+
 function factsOf(file, { picture, metadata, milliseconds }) {
     const facts = { File: file.name, Length: counted(file.size) };
     if (picture) {
@@ -78,7 +83,7 @@ function factsOf(file, { picture, metadata, milliseconds }) {
         facts.Colours = COLOURS[picture.components];
         facts.Samples = `${picture.precision} bits`;
         facts.Sampling = samplingOf(picture);
-        facts.Orientation = `${picture.orientation}`;
+        facts.Orientation = orientationOf(picture);
     }
     if (metadata) {
         facts.Exif = counted(metadata.exif);
@@ -122,7 +127,7 @@ function showFault(reply) {
     meaning.textContent = reply.sentence;
     const name = document.createElement('small');
     name.textContent = `${reply.fault}: ${reply.text}`;
-    const shown = 'What the file brings before that is shown; the rest is grey.';
+    const shown = 'The part before that is shown; the rest is grey.';
     const rest = reply.isPartial ? ` ${shown} ${rowsText(reply)}` : '';
     return at('error').replaceChildren(meaning, `${rest} `, name);
 }

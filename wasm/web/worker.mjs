@@ -13,7 +13,7 @@ loaded.catch(() => {});
 /* What names a fault of the stream's, of which there may be a part. */
 const FAULTS = ['MALFORMED', 'UNSUPPORTED', 'TRUNCATED'];
 
-/* The picture, or what there is of a stream with a fault, and that fault. */
+/* The picture, or the part of it that comes before a fault of the stream, and that fault. */
 function pictureOf(zaxbriar, jpeg) {
     try {
         return zaxbriar.decode(jpeg, { layout: 'rgba' });
