@@ -175,7 +175,7 @@ async function checkPartial(page) {
         assert.ok((await textOf('error')).includes(` ${rows} `), rows);
         assert.equal(await textOf('status'), `${nameOf(path)}: shown in part: ${sentence}`);
         const note = await page.run(`${button(path)}.lastChild.textContent`);
-        assert.match(note, new RegExp(`^\\d+ × \\d+, ${fault}$`));
+        assert.match(note, new RegExp(`^\\d+ × \\d+\\. ${sentence}$`));
         const label = `document.getElementById('canvas').getAttribute('aria-label')`;
         assert.ok((await page.run(label)).startsWith(`${nameOf(path)}, in part, `));
         assert.ok(!(await page.run(`document.getElementById('shown').hidden`)));
@@ -186,7 +186,7 @@ async function checkRefusals(page) {
     for (const [path, [fault, sentence]] of Object.entries(REFUSED)) {
         assert.equal(await show(page, path), 'refused', path);
         await checkFault(page, fault, sentence);
-        assert.equal(await page.run(`${button(path)}.lastChild.textContent`), fault);
+        assert.equal(await page.run(`${button(path)}.lastChild.textContent`), sentence);
         assert.ok(await page.run(`document.getElementById('shown').hidden`));
     }
 }

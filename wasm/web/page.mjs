@@ -180,7 +180,8 @@ async function decodeEntry(entry) {
     if (isChosen()) document.body.dataset.state = 'working';
     const reply = await decoder.decode(entry.file, isChosen);
     const size = reply.picture && `${reply.picture.width} × ${reply.picture.height}`;
-    entry.note.textContent = reply.isPartial ? `${size}, ${reply.fault}` : reply.fault ?? size;
+    const parts = [!reply.fault || reply.isPartial ? size : null, reply.sentence];
+    entry.note.textContent = parts.filter(Boolean).join('. ');
     entry.button.classList.toggle('refused', Boolean(reply.fault));
     entry.isDone = true;
     const isRefused = reply.fault && !reply.isPartial;
