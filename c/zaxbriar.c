@@ -8,7 +8,7 @@
 
 /* The proved code has the same structs. */
 _Static_assert(sizeof(size_t) == 8, "the proofs are for 64 bits");
-_Static_assert(sizeof(zaxbriar_options) == 48, "options");
+_Static_assert(sizeof(zaxbriar_options) == 128, "options");
 _Static_assert(offsetof(zaxbriar_options, min_width) == 16, "options");
 _Static_assert(offsetof(zaxbriar_options, transform) == 20, "options");
 _Static_assert(offsetof(zaxbriar_options, layout) == 21, "options");
@@ -16,7 +16,8 @@ _Static_assert(offsetof(zaxbriar_options, scale) == 22, "options");
 _Static_assert(offsetof(zaxbriar_options, max_bytes) == 24, "options");
 _Static_assert(offsetof(zaxbriar_options, memory) == 32, "options");
 _Static_assert(offsetof(zaxbriar_options, places) == 40, "options");
-_Static_assert(sizeof(zaxbriar_picture) == 192, "picture");
+_Static_assert(offsetof(zaxbriar_options, reserved_words) == 48, "options");
+_Static_assert(sizeof(zaxbriar_picture) == 320, "picture");
 _Static_assert(offsetof(zaxbriar_picture, width) == 32, "picture");
 _Static_assert(offsetof(zaxbriar_picture, whole_rows) == 40, "picture");
 _Static_assert(offsetof(zaxbriar_picture, pixel_bytes) == 44, "picture");
@@ -31,7 +32,7 @@ _Static_assert(offsetof(zaxbriar_picture, horizontal_density) == 60, "picture");
 _Static_assert(offsetof(zaxbriar_picture, vertical_density) == 62, "picture");
 _Static_assert(offsetof(zaxbriar_picture, transform) == 64, "picture");
 _Static_assert(offsetof(zaxbriar_picture, reserved) == 65, "picture");
-_Static_assert(offsetof(zaxbriar_picture, text) == 80, "picture");
+_Static_assert(offsetof(zaxbriar_picture, text) == 208, "picture");
 _Static_assert(sizeof(zaxbriar_place) == 16, "place");
 _Static_assert(sizeof(zaxbriar_places) == 4160, "places");
 _Static_assert(offsetof(zaxbriar_places, xmp) == 16, "places");

@@ -203,8 +203,8 @@ typedef struct zaxbriar_segment {
 
 /* How to decode. Set the whole struct to zero first; a null pointer stands for all zeros. Later
  * versions may give reserved members a meaning, but zero will always mean what it means now, and
- * the size of the struct won't change. Values that a version doesn't know are a
- * ZAXBRIAR_BAD_ARGUMENT.
+ * the struct will keep its size of 128 bytes. Values that a version doesn't know, in reserved
+ * members too, are a ZAXBRIAR_BAD_ARGUMENT.
  *
  * The limits are checked against the header, before anything is allocated for the picture and
  * before any byte after the header is read. A picture that exceeds one is ZAXBRIAR_TOO_LARGE. */
@@ -228,11 +228,13 @@ typedef struct zaxbriar_options {
                                 zaxbriar_decode_partial store what zaxbriar_find_metadata finds,
                                 whatever they return but ZAXBRIAR_BAD_ARGUMENT; the limits don't
                                 affect it */
+    uint64_t reserved_words[10]; /* zero */
 } zaxbriar_options;
 
 /* Describes a picture as it is decoded with the options, also after ZAXBRIAR_NO_ROOM and
  * ZAXBRIAR_TOO_LARGE. If the header or the options are refused, everything is zero except `text`,
- * `feature`, `feature_argument` and `stream_bytes`. */
+ * `feature`, `feature_argument` and `stream_bytes`. Later versions may use reserved members; the
+ * struct will keep its size of 320 bytes. */
 typedef struct zaxbriar_picture {
     uint64_t size;           /* of the picture in bytes: stride * (height - 1) + row_bytes */
     uint64_t row_bytes;      /* bytes of a line without its gap: width * pixel_bytes */
@@ -279,7 +281,7 @@ typedef struct zaxbriar_picture {
                                  ZAXBRIAR_TRANSFORM_OF_STREAM, unless such a segment follows. NONE
                                  for grey and lossless pictures, and 0 for libjpeg's big gamut
                                  colours, which aren't decoded */
-    uint8_t reserved[15];     /* zero */
+    uint8_t reserved[143];    /* zero */
     char text[112];           /* why the call failed, or the fault of a partial picture, in English,
                                  ending with a zero; "" after OK */
 } zaxbriar_picture;

@@ -111,6 +111,31 @@ static void unknown_options(void) {
     }
 }
 
+/* Each reserved byte of the options has to be zero, and those of a picture become zero. */
+static void reserved_bytes(void) {
+    int count = 0;
+    for (size_t at = offsetof(zaxbriar_options, reserved); at < sizeof(zaxbriar_options); at++) {
+        zaxbriar_options options = {0};
+        if (at > offsetof(zaxbriar_options, reserved) &&
+            at < offsetof(zaxbriar_options, reserved_words))
+            continue;
+        ((unsigned char *)&options)[at] = 1;
+        count++;
+        memset(&picture, 1, sizeof picture);
+        CHECK(zaxbriar_read_info(jpeg.start, jpeg.size, &options, &picture) ==
+              ZAXBRIAR_BAD_ARGUMENT);
+        CHECK(picture.text[0] != 0 && is_all(picture.reserved, sizeof picture.reserved, 0));
+        CHECK(zaxbriar_decode(jpeg.start, jpeg.size, &options, NULL, 0, NULL) ==
+              ZAXBRIAR_BAD_ARGUMENT);
+        CHECK(zaxbriar_decode_partial(jpeg.start, jpeg.size, &options, NULL, 0, NULL) ==
+              ZAXBRIAR_BAD_ARGUMENT);
+    }
+    CHECK(count == 81 && sizeof picture.reserved == 143);
+    memset(&picture, 1, sizeof picture);
+    CHECK(zaxbriar_read_info(jpeg.start, jpeg.size, NULL, &picture) == ZAXBRIAR_OK);
+    CHECK(is_all(picture.reserved, sizeof picture.reserved, 0));
+}
+
 /* Counts its blocks, and refuses the allocation of a number. */
 struct counts {
     long live, allocations, refused;
@@ -261,6 +286,7 @@ int main(int argc, char **argv) {
     null_segments();
     sizes();
     unknown_options();
+    reserved_bytes();
     own_memory();
     limited_metadata();
     limited_part();

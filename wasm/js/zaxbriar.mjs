@@ -62,15 +62,15 @@ const CODES = [
 ];
 
 /* The structs zaxbriar_options and zaxbriar_picture of c/zaxbriar.h. */
-const OPTIONS_BYTES = 48;
-const PICTURE_BYTES = 192;
+const OPTIONS_BYTES = 128;
+const PICTURE_BYTES = 320;
 const WHOLE_ROWS_AT = 40;
 const FEATURE_AT = 52;
 const SAMPLING_AT = 54;
 const FAULT_AT = 58;
 const DENSITY_AT = 59;
 const TRANSFORM_AT = 64;
-const TEXT_AT = 80;
+const TEXT_AT = 208;
 const TEXT_BYTES = 112;
 
 const nameOf = (numbers, number) => Object.keys(numbers).find((name) => numbers[name] === number);

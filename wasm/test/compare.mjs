@@ -78,7 +78,7 @@ class Written {
 
     /* A description, or a refusal; for PARTIAL a description, and the fault after it. */
     description(answer) {
-        const struct = this.take(192);
+        const struct = this.take(320);
         if (answer && answer !== PARTIAL) return refusalOf(answer, struct);
         const described = pictureOf(struct) + rowsText(struct.readUInt32LE(40));
         return answer ? described + refusalOf(struct[58], struct) : described;
@@ -126,7 +126,7 @@ const words = (code, feature, argument, text) =>
 /* The refusal of an answer and its struct. */
 function refusalOf(answer, struct) {
     const [feature, argument] = struct.subarray(52);
-    const text = struct.subarray(80);
+    const text = struct.subarray(208);
     return words(
         CODES[answer],
         feature ? FEATURES[feature] : undefined,

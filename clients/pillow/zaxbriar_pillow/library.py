@@ -47,7 +47,7 @@ class Options(Structure):
         ("scale", c_uint8),
         ("reserved", c_uint8),
         ("max_bytes", c_uint64),
-        ("reserved_words", c_uint64 * 2),
+        ("reserved_words", c_uint64 * 12),
     ]
 
 
@@ -77,7 +77,7 @@ class Picture(Structure):
         ("density_unit", c_uint8),
         ("horizontal_density", c_uint16),
         ("vertical_density", c_uint16),
-        ("reserved", c_uint8 * 16),
+        ("reserved", c_uint8 * 144),
         ("text", c_char * 112),
     ]
 

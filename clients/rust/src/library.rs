@@ -39,7 +39,7 @@ pub struct Options {
     pub scale: u8,
     reserved: u8,
     pub max_bytes: u64,
-    reserved_words: [u64; 2],
+    reserved_words: [u64; 12],
 }
 
 /// `zaxbriar_picture`.
@@ -68,7 +68,7 @@ pub struct Picture {
     pub density_unit: u8,
     pub horizontal_density: u16,
     pub vertical_density: u16,
-    reserved: [u8; 16],
+    reserved: [u8; 144],
     text: [u8; TEXT_BYTES],
 }
 
@@ -115,8 +115,8 @@ struct Places {
 
 // The library is for 64 bits, and has structs of these sizes.
 const _: () = assert!(std::mem::size_of::<usize>() == 8);
-const _: () = assert!(std::mem::size_of::<Options>() == 48);
-const _: () = assert!(std::mem::size_of::<Picture>() == 192);
+const _: () = assert!(std::mem::size_of::<Options>() == 128);
+const _: () = assert!(std::mem::size_of::<Picture>() == 320);
 const _: () = assert!(std::mem::size_of::<FoundSegment>() == 64);
 const _: () = assert!(std::mem::size_of::<Places>() == 4160);
 
@@ -144,7 +144,7 @@ impl Picture {
         density_unit: 0,
         horizontal_density: 0,
         vertical_density: 0,
-        reserved: [0; 16],
+        reserved: [0; 144],
         text: [0; TEXT_BYTES],
     };
 

@@ -1,5 +1,6 @@
 -- The limits of some options, and the memory that they are compared with.
-use Rattle.std.specs.Prelude.{◌==◌, ◌&&◌, ◌||◌, ◌+◌, ◌*◌, ℕ, Bool, not, nat_le, nat_lt, slice_index}
+use Rattle.std.specs.Prelude.{◌==◌, ◌&&◌, ◌||◌, ◌+◌, ◌*◌, ℕ, Bool, not, nat_le, nat_lt}
+use Rattle.std.specs.List.{list_all}
 use Rattle.jpeg_decoder.specs.declared.sizes.DecodingBytes.{DecodingBytes}
 use Rattle.zaxbriar_calls.specs.declared.extents.Extent.{Extent}
 use Rattle.zaxbriar_calls.specs.declared.extents.Extent.TheVariants.{Whole, Partial}
@@ -14,8 +15,8 @@ is_denominator n = n == 0 || (n == 1 || (n == 2 || (n == 4 || n == 8)))
 -- layout 0 alone, the scale, and what is reserved
 abbrev pub are_known : Options → Bool
 are_known o = (not (o.transform == 1) || o.layout == 0) && (nat_le o.transform 5
-    && (is_denominator o.scale && (o.reserved == 0
-    && (slice_index o.reserved_words 0 == 0 && slice_index o.reserved_words 1 == 0))))
+    && (is_denominator o.scale
+    && (o.reserved == 0 && list_all (λ word. word == 0) o.reserved_words)))
 
 -- The most memory for samples that decoding takes at a time beside the caller's: blocks and planes,
 -- from which the lines are written. Of a picture in part all blocks are kept.

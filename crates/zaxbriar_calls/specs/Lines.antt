@@ -103,7 +103,7 @@ described_picture layout info precision lines decoding orientation sampling tran
       horizontal_density = density.horizontal;
       vertical_density = density.vertical;
       transform = transform;
-      reserved = replicate 15 0;
+      reserved = replicate 143 0;
       text = replicate 112 0;
     }
 

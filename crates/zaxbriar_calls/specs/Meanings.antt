@@ -185,7 +185,7 @@ no_picture = record {
   horizontal_density = 0;
   vertical_density = 0;
   transform = 0;
-  reserved = replicate 15 0;
+  reserved = replicate 143 0;
   text = replicate 112 0;
 }
 

@@ -1,5 +1,6 @@
 //! How a stream is to be decoded.
-ghost use Rattle.std.specs.Prelude.{◌≡◌, IsOk, OnOk, true};
+ghost use Rattle.std.specs.Prelude.{◌≡◌, ◌==◌, IsOk, OnOk, true};
+ghost use Rattle.std.specs.List.{list_all};
 ghost use Rattle.jpeg_streams.specs.DecodedImages.{at_size};
 ghost use Rattle.jpeg_streams.specs.Found.{with_said};
 ghost use Rattle.jpeg_streams.specs.Output.{default_settings};
@@ -40,8 +41,8 @@ pub struct Options {
     /// The most bytes that decoding may take beside the caller's memory, as `decoding_bytes` of the
     /// picture counts them; 0 for any number.
     pub max_bytes: u64,
-    /// Zero.
-    pub reserved_words: [u64; 2],
+    /// Zero. The first two are where the C struct has pointers, which only C code reads.
+    pub reserved_words: [u64; 12],
 }
 
 /// The picture as it is stored, at full size and without gaps, whatever its size is.
@@ -55,7 +56,7 @@ pub const AS_STORED: Options = Options {
     scale: 0,
     reserved: 0,
     max_bytes: 0,
-    reserved_words: [0; 2],
+    reserved_words: [0; 12],
 };
 
 /// Returns whether a number is the denominator of a scale, or 0.
@@ -63,6 +64,13 @@ fn is_denominator(number: u8) -> bool
     ensures { result ≡ is_denominator number }
 {
     number == 0 || number == 1 || number == 2 || number == 4 || number == 8
+}
+
+/// Returns whether all of some words are 0.
+fn are_zero(words: &[u64]) -> bool
+    ensures { result ≡ list_all (λ word. word == 0) words.now }
+{
+    words.iter().all(|word| *word == 0)
 }
 
 /// Returns whether all options exist whatever the picture is.
@@ -73,8 +81,7 @@ pub fn are_known(options: &Options) -> bool
         && options.transform <= 5
         && is_denominator(options.scale)
         && options.reserved == 0
-        && options.reserved_words[0] == 0
-        && options.reserved_words[1] == 0
+        && are_zero(&options.reserved_words)
 }
 
 /// Returns the colour transform of a number.

@@ -64,7 +64,7 @@ pub struct Picture {
     /// The number of the colour transform that the header asks for.
     pub transform: u8,
     /// Zero.
-    pub reserved: [u8; 15],
+    pub reserved: [u8; 143],
     /// Why a call failed, ended by a zero; all zeros after a success.
     pub text: [u8; TEXT_BYTES],
 }
@@ -94,7 +94,7 @@ pub const NO_PICTURE: Picture = Picture {
     horizontal_density: 0,
     vertical_density: 0,
     transform: 0,
-    reserved: [0; 15],
+    reserved: [0; 143],
     text: [0; TEXT_BYTES],
 };
 
@@ -164,7 +164,7 @@ pub fn picture_of(
         horizontal_density: density.horizontal,
         vertical_density: density.vertical,
         transform: header.transform,
-        reserved: [0; 15],
+        reserved: [0; 143],
         text: [0; TEXT_BYTES],
     }
 }
