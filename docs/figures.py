@@ -88,6 +88,10 @@ def expected():
     parts = len(text("crates/parts_cases/stdout").splitlines())
     yield "docs/CONFORMANCE.md", r"each of its (\d+) cases", parts
     yield "CHANGELOG.md", r"(\d+) calls of\s+the parts", parts
+    calls = len(re.findall(r"(?m)^case ", text("crates/calls_cases/stdout")))
+    yield "docs/CONFORMANCE.md", r"for its (\d+) cases", calls
+    yield "CHANGELOG.md", r"and (\d+)\s+cases of the C library", calls
+    yield "docs/TRUST.md", r"on (\d+) streams and headers", calls
     yield from speeds()
     for row in re.findall(r"(?m)^\| ((?:`\w+`(?:, )?)+) \| \d+ \|", text("docs/CONFORMANCE.md")):
         names = re.findall(r"\w+", row)
