@@ -241,8 +241,9 @@ impl BufferedBits {
     }
 
     /// Reads ahead until at least 57 bits are buffered, or the end is reached, which is read once.
-    /// A refusal is stored in `refusal`, and false is returned.
-    #[inline(always)]
+    /// A refusal is stored in `refusal`, and false is returned. Each place that reads bits has one
+    /// call of it: the compiler inlines no function that grows very large.
+    #[inline(never)]
     fn refill<R: Read + Drop>(
         &mut self,
         source: &mut Source<R>,
