@@ -2,8 +2,12 @@
 _zaxbriar() {
     local word="${COMP_WORDS[COMP_CWORD]}" before="${COMP_WORDS[COMP_CWORD - 1]}"
     local options='-h --help -o --output --max-pixels --max-memory'
-    local words='pnm thumbnail info raw frames --help --version'
+    local words='pnm thumbnail info raw frames'
     if [ "$COMP_CWORD" -eq 1 ]; then
+        mapfile -t COMPREPLY < <(compgen -W "$words help --help --version" -- "$word")
+        return
+    fi
+    if [ "${COMP_WORDS[1]}" = help ]; then
         mapfile -t COMPREPLY < <(compgen -W "$words" -- "$word")
         return
     fi
@@ -15,7 +19,7 @@ _zaxbriar() {
     esac
     case "$before" in
         --scale) options='1/8 1/4 1/2 1' ;;
-        --max) options='160x120 320x240 640x480 1280x960' ;;
+        --max) options='160 320 640x480 1280x960' ;;
         --max-pixels) options='10M 100M' ;;
         --max-memory) options='100M 1G' ;;
         *)

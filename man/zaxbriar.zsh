@@ -13,7 +13,12 @@ if ((CURRENT == 2)); then
         'thumbnail[write pictures that fit within a size]' \
         'info[describe files]' \
         'raw[write the bytes of a picture]' \
-        'frames[decode the frames of an MJPEG stream]'
+        'frames[decode the frames of an MJPEG stream]' \
+        'help[print the options of a command]'
+    return
+fi
+if [[ "${words[2]}" == help ]]; then
+    _values word pnm thumbnail info raw frames
     return
 fi
 case "${words[2]}" in
@@ -25,7 +30,7 @@ case "${words[2]}" in
         ;;
     thumbnail)
         own=(
-            '--max[the size to fit within]:WIDTHxHEIGHT:(160x120 320x240 640x480 1280x960)'
+            '--max[the size to fit within]:size:(160 320 640x480 1280x960)'
             '--as-stored[do not turn the picture]'
             '--partial[write what there is of a damaged file]'
         )

@@ -3,13 +3,18 @@
 use clap::error::ErrorKind;
 use clap::{Arg, ArgMatches, Command};
 use std::alloc::{AllocError, Global};
-use std::{env, io};
+use std::env::{Env, FillError};
 use zaxbriar_files::ending::{Failure, Outcome};
 use zaxbriar_files::files::NAME;
 use zaxbriar_files::limits::Limits;
+use zaxbriar_files::lines::Line;
+use zaxbriar_files::names::{shown, word_of};
 
 /// The version that the program names.
 pub const VERSION: &str = "0.1.0";
+
+/// How many bytes a word may have: Linux passes none that is longer.
+const LONGEST_WORD: usize = 131_072;
 
 /// The name of the argument of the files that are read, of which `-` is standard input.
 pub const FILE: &str = "FILE";
@@ -41,10 +46,10 @@ pub fn with_word<'a>(command: Making<'a>, word: Making<'a>) -> Making<'a> {
 pub fn word<'a>(alloc: Global, name: &'a str, about: &'a str) -> Making<'a> {
     let command = Command::new(alloc, name)
         .about(about)
-        .arg(value_option(alloc, "max-pixels", "N", MAX_PIXELS));
+        .arg(number_option(alloc, "max-pixels", "N", MAX_PIXELS));
     with(
         command,
-        value_option(alloc, "max-memory", "BYTES", MAX_MEMORY),
+        number_option(alloc, "max-memory", "BYTES", MAX_MEMORY),
     )
 }
 
@@ -73,32 +78,68 @@ pub fn value_option<'a>(alloc: Global, name: &'a str, value: &'a str, help: &'a 
         .help(help)
 }
 
+/// Returns an option `--NAME VALUE` for a number or a size: whatever word follows it is its value, so
+/// that `-1` is a number that is refused, and no option that doesn't exist.
+pub fn number_option<'a>(alloc: Global, name: &'a str, value: &'a str, help: &'a str) -> Arg<'a> {
+    value_option(alloc, name, value, help).allow_hyphen_values(true)
+}
+
 /// Returns the option `-o`, with what it says of the file.
 pub fn output_option<'a>(alloc: Global, help: &'a str) -> Arg<'a> {
     value_option(alloc, "output", "FILE", help).short('o')
 }
 
-/// Returns the words that the program was called with. If one is not text, says so.
+/// Appends the word of an index, which is read into a buffer, and returns whether there is one.
+fn push_word(
+    rt: &HostRuntime,
+    index: usize,
+    buffer: &mut [u8],
+    words: &mut Vec<String>,
+) -> Result<bool, AllocError> {
+    match rt.arg(index, buffer) {
+        Ok(length) => {
+            words.push(word_of(rt.alloc(), &buffer[..length])?)?;
+            Ok(true)
+        }
+        Err(FillError::NotPresent) => Ok(false),
+        Err(FillError::TooLong) => Err(AllocError),
+    }
+}
+
+/// Appends the words that the program was called with.
+fn push_words(rt: &HostRuntime, words: &mut Vec<String>) -> Result<(), AllocError> {
+    let mut buffer = vec![in rt.alloc(); 0u8; LONGEST_WORD]?;
+    for index in 0..usize::MAX {
+        if !push_word(rt, index, buffer.as_mut_slice(), words)? {
+            break;
+        }
+    }
+    Ok(())
+}
+
+/// Returns the words that the program was called with, each as `word_of` has it.
 pub fn words(rt: &HostRuntime) -> Outcome<Vec<String>> {
-    let words = match env::args(rt) {
-        Ok(words) => words.collect(rt.alloc()).map_err(io::Error::from),
-        Err(error) => Err(error),
-    };
-    match words {
-        Ok(words) => Ok(words),
-        Err(error) => {
-            if error.kind() == io::ErrorKind::OutOfMemory {
-                let _ = eprintln!(rt; "{NAME}: out of memory");
-                return Err(Failure::Refused);
-            }
-            let _ = eprintln!(rt; "{NAME}: an argument is not UTF-8 text");
-            Err(Failure::WrongUse)
+    let mut words = Vec::new(rt.alloc());
+    match push_words(rt, &mut words) {
+        Ok(()) => Ok(words),
+        Err(_) => {
+            let _ = eprintln!(rt; "{NAME}: out of memory");
+            Err(Failure::Refused)
         }
     }
 }
 
+/// Returns the words as they are shown, each in a line that acts on nothing.
+pub fn shown_words(alloc: Global, words: &[String]) -> Result<Vec<String>, AllocError> {
+    let mut lines = Vec::new(alloc);
+    for word in words {
+        lines.push(format!(in alloc; "{}", Line(shown(word.as_str())))?)?;
+    }
+    Ok(lines)
+}
+
 /// Prints why there are no matches, or the requested help or version.
-fn print_outcome(rt: &HostRuntime, error: &clap::Error) -> Outcome<()> {
+pub fn print_outcome(rt: &HostRuntime, error: &clap::Error) -> Outcome<()> {
     let is_printed = error.print(rt).is_ok();
     match error.kind() {
         ErrorKind::DisplayHelp | ErrorKind::DisplayVersion if is_printed => Ok(()),
@@ -109,23 +150,11 @@ fn print_outcome(rt: &HostRuntime, error: &clap::Error) -> Outcome<()> {
     }
 }
 
-/// Parses the words by a command. Returns no matches if help or the version was requested, and was
-/// printed; wrong words are reported.
-pub fn parse<'a>(
-    rt: &HostRuntime,
-    command: Making<'a>,
-    words: &'a [String],
-) -> Outcome<Option<ArgMatches<'a>>> {
-    let parsed = match command {
+/// Parses the words by a command.
+pub fn parse<'a>(command: Making<'a>, words: &'a [String]) -> Result<ArgMatches<'a>, clap::Error> {
+    match command {
         Ok(command) => command.try_get_matches_from(words),
         Err(error) => Err(clap::Error::from(error)),
-    };
-    match parsed {
-        Ok(matches) => Ok(Some(matches)),
-        Err(error) => {
-            print_outcome(rt, &error)?;
-            Ok(None)
-        }
     }
 }
 

@@ -2,8 +2,9 @@
 
 use crate::arguments::{Making, with_word};
 use crate::{arguments, frames, info, pnm, raw, thumbnail};
-use clap::Command;
+use clap::{ArgMatches, Command};
 use std::alloc::Global;
+use zaxbriar_files::ending::Outcome;
 use zaxbriar_files::files::NAME;
 
 const ABOUT: &str = "Decodes JPEG files: baseline, extended, progressive and lossless";
@@ -14,11 +15,31 @@ pub fn command<'a>(alloc: Global) -> Making<'a> {
         .version(arguments::VERSION)
         .about(ABOUT)
         .subcommand_required(true)
-        .arg_required_else_help(true)
-        .disable_help_subcommand(true);
+        .arg_required_else_help(true);
     let command = with_word(Ok(command), pnm::command(alloc));
     let command = with_word(command, thumbnail::command(alloc));
     let command = with_word(command, info::command(alloc));
     let command = with_word(command, raw::command(alloc));
     with_word(command, frames::command(alloc))
+}
+
+/// Returns why words are none that the program takes, with the words as they are shown, or none
+/// if there was no memory for that.
+fn shown_error(alloc: Global, words: &[String]) -> Option<clap::Error> {
+    let lines = arguments::shown_words(alloc, words).ok()?;
+    arguments::parse(command(alloc), lines.as_slice()).err()
+}
+
+/// Parses the words that the program was called with. Returns no matches if help or the version was
+/// requested, and was printed; wrong words are reported.
+pub fn parse<'a>(rt: &HostRuntime, words: &'a [String]) -> Outcome<Option<ArgMatches<'a>>> {
+    let alloc = rt.alloc();
+    match arguments::parse(command(alloc), words) {
+        Ok(matches) => Ok(Some(matches)),
+        Err(error) => {
+            let error = shown_error(alloc, words).unwrap_or(error);
+            arguments::print_outcome(rt, &error)?;
+            Ok(None)
+        }
+    }
 }

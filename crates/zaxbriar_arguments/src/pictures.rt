@@ -3,14 +3,18 @@
 use crate::arguments;
 use clap::{Arg, ArgAction};
 use std::alloc::{AllocError, Global};
-use std::collections::BTreeSet;
-use zaxbriar_files::ending::Outcome;
+use std::collections::BTreeMap;
+use zaxbriar_files::ending::{Failure, Outcome};
+use zaxbriar_files::files;
+use zaxbriar_files::files::NAME;
+use zaxbriar_files::lines::Line;
+use zaxbriar_files::names::{has_place, name_for, shown};
+use zaxbriar_files::output::is_direct;
 use zaxbriar_files::refusal::Refusal;
-use zaxbriar_files::{files, names};
 
 const OUTPUT: &str =
     "The file to write; standard output by default, or for -; for several files DIR/%s.ppm, where \
-    %s stands for each file's name without its extension";
+    %s stands for each file's name without its extension, or a device";
 
 const PARTIAL: &str = "Write what there is of a truncated or damaged file; the status is then 3";
 
@@ -19,19 +23,34 @@ pub fn output_option<'a>(alloc: Global) -> Arg<'a> {
     arguments::output_option(alloc, OUTPUT)
 }
 
-/// Returns whether the outputs of files have names of their own.
-fn are_distinct(alloc: Global, names: &[&str], output: &str) -> Result<bool, AllocError> {
-    let mut written = BTreeSet::new(alloc);
+/// Returns the first two files whose outputs have one name, if there are any.
+fn first_alike<'a>(
+    alloc: Global,
+    names: &[&'a str],
+    output: &str,
+) -> Result<Option<(&'a str, &'a str)>, AllocError> {
+    let mut written = BTreeMap::new(alloc);
     for name in names {
-        let name = names::name_for(alloc, output, files::named(name))?;
-        if !written.insert(name)? {
-            return Ok(false);
+        let output = name_for(alloc, output, files::named(name))?;
+        if let Some(other) = written.insert(output, *name)? {
+            return Ok(Some((other, *name)));
         }
     }
-    Ok(true)
+    Ok(None)
 }
 
-/// Refuses an output of several files whose names aren't distinct.
+/// Says that the outputs of two files have one name.
+fn refuse_alike(rt: &HostRuntime, option: &str, first: &str, second: &str) -> Failure {
+    let first = Line(shown(first));
+    let second = Line(shown(second));
+    let _ = eprintln!(rt;
+        "{NAME}: --{option}: expected files of distinct names, not {first} and {second}"
+    );
+    Failure::WrongUse
+}
+
+/// Refuses an output of several files whose names aren't distinct. A pipe or a device is written by
+/// one after the other.
 pub fn check_output(
     rt: &HostRuntime,
     names: &[&str],
@@ -44,12 +63,15 @@ pub fn check_output(
     let Some(output) = output else {
         return Err(arguments::refuse_value(rt, option, "DIR/%s.EXTENSION for several files"));
     };
-    if !names::has_place(output) {
+    if !has_place(output) {
+        if is_direct(rt, output) {
+            return Ok(());
+        }
         return Err(arguments::refuse_value(rt, option, "%s in the name, for several files"));
     }
-    match are_distinct(rt.alloc(), names, output) {
-        Ok(true) => Ok(()),
-        Ok(false) => Err(arguments::refuse_value(rt, option, "files of distinct names")),
+    match first_alike(rt.alloc(), names, output) {
+        Ok(None) => Ok(()),
+        Ok(Some((first, second))) => Err(refuse_alike(rt, option, first, second)),
         Err(error) => Err(files::report(rt, Some(output), &Refusal::from(error))),
     }
 }

@@ -13,8 +13,11 @@ pub const NAME: &str = "thumbnail";
 const ABOUT: &str = "Writes small pictures of JPEG files as PGM, PPM or, of CMYK, PAM";
 
 const MAX: &str =
-    "The size that the picture is to fit within, such as 640x480: it keeps its proportions, and is \
-    never enlarged";
+    "The size that the picture is to fit within: 640x480, 640x or x480 for one side, 640 for both; \
+    it keeps its proportions, and is never enlarged";
+
+/// What the value of the option `--max` has to be.
+pub const SIZES: &str = "WIDTHxHEIGHT, WIDTHx, xHEIGHT or SIDE, of 1 to 65535";
 
 /// Returns what the word takes.
 pub fn command<'a>(alloc: Global) -> Making<'a> {
@@ -22,7 +25,7 @@ pub fn command<'a>(alloc: Global) -> Making<'a> {
         .long("as-stored")
         .action(ArgAction::SetTrue)
         .help("Don't turn the picture by the orientation in its Exif data");
-    let max = arguments::value_option(alloc, "max", "WIDTHxHEIGHT", MAX).required(true);
+    let max = arguments::number_option(alloc, "max", "SIZE", MAX).required(true);
     let command = arguments::word(alloc, NAME, ABOUT);
     let command = with(command, arguments::files_argument(alloc));
     let command = with(command, pictures::output_option(alloc));
@@ -31,11 +34,23 @@ pub fn command<'a>(alloc: Global) -> Making<'a> {
     with(command, pictures::partial_option(alloc))
 }
 
-/// Returns the size that a text `WIDTHxHEIGHT` names.
+/// Returns the length that a text names: an empty one is that of any side.
+fn side_of(text: &str) -> Option<u16> {
+    if text.is_empty() {
+        return Some(u16::MAX);
+    }
+    text.parse::<u16>().ok()
+}
+
+/// Returns the size that a text names: `WIDTHxHEIGHT`, of which one may be left out, or one number
+/// for both sides.
 fn size_of(text: &str) -> Option<Dimensions> {
-    let (width, height) = text.split_once('x')?;
-    let width = width.parse::<u16>().ok()?;
-    let height = height.parse::<u16>().ok()?;
+    let (width, height) = text.split_once('x').unwrap_or((text, text));
+    if width.is_empty() && height.is_empty() {
+        return None;
+    }
+    let width = side_of(width)?;
+    let height = side_of(height)?;
     if width == 0 || height == 0 {
         return None;
     }

@@ -10,7 +10,7 @@ mod thumbnail;
 
 use clap::ArgMatches;
 use zaxbriar_arguments::arguments;
-use zaxbriar_arguments::commands::command;
+use zaxbriar_arguments::commands::parse;
 use zaxbriar_files::ending::Outcome;
 
 /// Does what the word that was matched requests.
@@ -28,7 +28,7 @@ fn run_word(rt: HostRuntime, matches: &ArgMatches<'_>) -> Outcome<()> {
 /// Does what the program's arguments request.
 pub fn run(rt: HostRuntime) -> Outcome<()> {
     let words = arguments::words(&rt)?;
-    match arguments::parse(&rt, command(rt.alloc()), words.as_slice())? {
+    match parse(&rt, words.as_slice())? {
         Some(matches) => run_word(rt, &matches),
         None => Ok(()),
     }

@@ -116,7 +116,7 @@ fn decode_from<R: Read + Drop>(
     decode_frame(alloc, read.chain(rest), limits)
 }
 
-/// Reads the first byte behind an image that is no padding, if there is one. Zero bytes and line
+/// Reads the first byte after an image that is no padding, if there is one. Zero bytes and line
 /// feeds are padding.
 fn skip_padding<R: Read>(reader: &mut R) -> io::Result<Option<u8>> {
     let mut first = [0u8];
@@ -131,7 +131,7 @@ fn skip_padding<R: Read>(reader: &mut R) -> io::Result<Option<u8>> {
     Ok(None)
 }
 
-/// Decodes the frame that begins with a byte that was read, or with the next one behind padding, if
+/// Decodes the frame that begins with a byte that was read, or with the next one after padding, if
 /// there is one.
 fn next_plain<R: Read + Drop>(
     alloc: Global,
@@ -149,7 +149,7 @@ fn next_plain<R: Read + Drop>(
     }
 }
 
-/// Returns whether a reader gives an image, behind padding. It gives its third byte next then.
+/// Returns whether a reader gives an image, after padding. It gives its third byte next then.
 fn begins_image<R: Read>(reader: &mut R) -> io::Result<bool> {
     if skip_padding(reader)? != Some(START) {
         return Ok(false);

@@ -2,6 +2,7 @@
 
 use crate::header::{Data, Density, Header, NamedColours, Unit};
 use crate::lines::{JsonLine, Line};
+use crate::names::shown;
 use crate::output::Output;
 use crate::refusal::Refusal;
 use jpeg_segments::parser::{
@@ -338,7 +339,7 @@ impl Form {
         let mut writer = Writer::new(Vec::new(alloc));
         writer.begin_object()?;
         match subject.name {
-            Some(name) => text(&mut writer, "file", name)?,
+            Some(name) => text(&mut writer, "file", shown(name))?,
             None => null(&mut writer, "file")?,
         }
         match header {

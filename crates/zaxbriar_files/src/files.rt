@@ -3,6 +3,7 @@
 use crate::ending::{Failure, Outcome};
 use crate::formats::FileFormat;
 use crate::lines::Line;
+use crate::names::{is_text, shown};
 use crate::output::Output;
 use crate::refusal::Refusal;
 use jpeg_bits::error::Error;
@@ -46,6 +47,7 @@ pub type InputReader = ByteReader<Input>;
 /// another format is refused by that format's name.
 pub fn open(rt: &HostRuntime, name: Option<&str>) -> Result<InputReader, Refusal> {
     let input = match name {
+        Some(name) if !is_text(name) => return Err(Refusal::Name),
         Some(name) => Input::File(File::open(rt, name)?),
         None => Input::Standard(rt.stdin()),
     };
@@ -54,6 +56,18 @@ pub fn open(rt: &HostRuntime, name: Option<&str>) -> Result<InputReader, Refusal
         return Err(Refusal::Format(format));
     }
     Ok(ByteReader::new(reader))
+}
+
+/// Opens the file of this name, or standard input if there is none, and then the output, so that
+/// one that can't be written is refused before a picture is decoded.
+pub fn open_both(
+    rt: &HostRuntime,
+    name: Option<&str>,
+    output: &mut Output<'_>,
+) -> Result<InputReader, Refusal> {
+    let reader = open(rt, name)?;
+    output.open()?;
+    Ok(reader)
 }
 
 /// Returns whether the refusal is that nobody reads what is written.
@@ -67,7 +81,7 @@ fn is_broken_pipe(refusal: &Refusal) -> bool {
 /// Reports in one line on standard error what is wrong with a file, or with standard input if none
 /// is named, whatever characters the name has.
 pub fn report<D: Display>(rt: &HostRuntime, name: Option<&str>, reason: &D) -> Failure {
-    let name = Line(name.unwrap_or("standard input"));
+    let name = Line(shown(name.unwrap_or("standard input")));
     let _ = eprintln!(rt; "{NAME}: {name}: {reason}");
     Failure::Refused
 }

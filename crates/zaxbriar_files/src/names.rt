@@ -1,7 +1,15 @@
-//! Names of outputs: with the number of a frame, or with the name of the file that was read.
+//! Names: words of the command line as text, and those of outputs, with the number of a frame or
+//! with the name of the file that was read.
+ghost use Rattle.std.specs.Prelude.{◌≡◌, IfOk, string_bytes};
+ghost use Rattle.std.specs.Str.{IsUtf8};
 
 use std::alloc::{AllocError, Global};
+use std::fmt::Write;
 use std::path::Path;
+use std::str;
+
+/// What ends a word that is not UTF-8 text: no word of a command line has this character.
+const MARK: char = '\0';
 
 /// The most digits that a name may request.
 const MOST_DIGITS: usize = 20;
@@ -48,6 +56,48 @@ impl<'a> Numbered<'a> {
     }
 }
 
+/// Appends bytes, each as `\xNN`.
+fn push_bytes(text: &mut String, bytes: &[u8]) -> Result<(), AllocError> {
+    for byte in bytes {
+        write!(text, "\\x{byte:02x}")?;
+    }
+    Ok(())
+}
+
+/// Appends a word that is not UTF-8 text: its bytes that aren't as `\xNN`, and the mark of such a
+/// word.
+fn push_marked(text: &mut String, bytes: &[u8]) -> Result<(), AllocError> {
+    for chunk in bytes.utf8_chunks() {
+        text.push_str(chunk.valid())?;
+        push_bytes(text, chunk.invalid())?;
+    }
+    text.push(MARK)
+}
+
+/// Returns a word of a command line, as it is if it is UTF-8 text. Otherwise, as the name of a file
+/// may be, it is a text that shows its bytes, and that `is_text` tells from any word.
+pub fn word_of(alloc: Global, bytes: &[u8]) -> Result<String, AllocError>
+    ensures { IsUtf8 bytes.now → IfOk result (λ word. string_bytes word ≡ bytes.now) }
+{
+    if let Ok(text) = str::from_utf8(bytes) {
+        return String::from_str(alloc, text);
+    }
+    let mut word = String::new(alloc);
+    push_marked(&mut word, bytes)?;
+    Ok(word)
+}
+
+/// Returns whether a word of a command line is UTF-8 text, as the name of a file that is opened has
+/// to be.
+pub fn is_text(word: &str) -> bool {
+    !word.ends_with(MARK)
+}
+
+/// Returns a word of a command line as it is shown.
+pub fn shown(word: &str) -> &str {
+    word.strip_suffix(MARK).unwrap_or(word)
+}
+
 /// Returns whether a name has a place for that of the file that was read.
 pub fn has_place(name: &str) -> bool {
     name.contains("%s")
@@ -62,13 +112,7 @@ fn stem_of(input: Option<&str>) -> &str {
     }
 }
 
-/// Returns the name of the output of a file: that of the file takes the place of `%s`.
+/// Returns the name of the output of a file: that of the file takes the place of each `%s`.
 pub fn name_for(alloc: Global, name: &str, input: Option<&str>) -> Result<String, AllocError> {
-    let Some((before, after)) = name.split_once("%s") else {
-        return String::from_str(alloc, name);
-    };
-    let mut named = String::from_str(alloc, before)?;
-    named.push_str(stem_of(input))?;
-    named.push_str(after)?;
-    Ok(named)
+    name.replace(alloc, "%s", stem_of(input))
 }

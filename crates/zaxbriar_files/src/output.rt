@@ -5,6 +5,8 @@
 //! was read before. What is not a regular file, such as a pipe or `/dev/stdout`, is written
 //! directly.
 
+use crate::names::is_text;
+use crate::refusal::NOT_TEXT;
 use std::alloc::{AllocError, Global};
 use std::fs::{File, Metadata, OpenOptions};
 use std::io::{ErrorKind, Write};
@@ -30,7 +32,7 @@ struct Opened {
     temporary: Option<Temporary>,
 }
 
-/// A file or standard output to be written. The file is opened by the first write.
+/// A file or standard output to be written. The file is opened by `open`, or by the first write.
 #[derive(Drop)]
 pub struct Output<'a> {
     rt: HostRuntime,
@@ -81,8 +83,19 @@ fn open_replacing(rt: &HostRuntime, name: &str, metadata: &Metadata) -> io::Resu
     Ok(opened)
 }
 
+/// Returns whether a name is that of a pipe or of a device, which is written directly.
+pub fn is_direct(rt: &HostRuntime, name: &str) -> bool {
+    match fs::metadata(rt, name) {
+        Ok(metadata) => !metadata.is_file() && !metadata.is_dir(),
+        Err(_) => false,
+    }
+}
+
 /// Opens what is written to a name.
 fn open(rt: &HostRuntime, name: &str) -> io::Result<Opened> {
+    if !is_text(name) {
+        return Err(io::Error::new(ErrorKind::InvalidFilename, NOT_TEXT));
+    }
     match fs::metadata(rt, name) {
         Ok(metadata) if metadata.is_file() => open_replacing(rt, name, &metadata),
         Ok(_) => {
@@ -129,16 +142,32 @@ impl<'a> Output<'a> {
         self.has_failed
     }
 
-    /// Writes some of the bytes, into the file, which is opened if it wasn't.
-    fn write_some(&mut self, buf: &[u8]) -> io::Result<usize>
-        ensures { WritesAtMost result buf.now }
-    {
+    /// Opens the file if it isn't.
+    fn open_file(&mut self) -> io::Result<()> {
         let Some(name) = self.name else {
-            return self.rt.stdout().write(buf);
+            return Ok(());
         };
         if self.opened.is_none() {
             self.opened = Some(open(&self.rt, name)?);
         }
+        Ok(())
+    }
+
+    /// Opens the file, so that one that can't be written is known before a picture is decoded.
+    pub fn open(&mut self) -> io::Result<()> {
+        let outcome = self.open_file();
+        self.has_failed = outcome.is_err();
+        outcome
+    }
+
+    /// Writes some of the bytes, into the file, which is opened if it wasn't.
+    fn write_some(&mut self, buf: &[u8]) -> io::Result<usize>
+        ensures { WritesAtMost result buf.now }
+    {
+        if self.name.is_none() {
+            return self.rt.stdout().write(buf);
+        }
+        self.open_file()?;
         match &mut self.opened {
             Some(opened) => opened.file.write(buf),
             None => Ok(0),

@@ -5,6 +5,9 @@ use jpeg_bits::error::Error;
 use std::alloc::AllocError;
 use std::{fmt, io};
 
+/// What is said of a name that is not UTF-8 text.
+pub const NOT_TEXT: &str = "the name is not UTF-8 text";
+
 /// Why a file isn't decoded or described.
 #[derive(Drop)]
 pub enum Refusal {
@@ -13,6 +16,8 @@ pub enum Refusal {
     Decoding(Error),
     /// It is a file of another format.
     Format(FileFormat),
+    /// Its name is not UTF-8 text.
+    Name,
     /// Its picture has more pixels than are allowed.
     Pixels {
         /// How many it has.
@@ -34,6 +39,7 @@ impl fmt::Display for Refusal {
         match self {
             Refusal::Decoding(error) => write!(f, "{error}"),
             Refusal::Format(format) => write!(f, "a {} file, not a JPEG file", format.name()),
+            Refusal::Name => write!(f, "{NOT_TEXT}"),
             Refusal::Pixels { pixels, most } => {
                 write!(
                     f,

@@ -1,5 +1,5 @@
 //! What is requested of a stream's picture: a scale, or a size that it is to fit within.
-ghost use Rattle.std.specs.Prelude.{◌≡◌, ◌≤◌, ◌*◌};
+ghost use Rattle.std.specs.Prelude.{◌≡◌, ◌≤◌};
 ghost use Rattle.std.specs.Option.{option_copied};
 ghost use Rattle.zaxbriar_samples.specs.Sizes.{covers, is_full, least_scale, orientation_for};
 ghost use Rattle.zaxbriar_samples.specs.Sizes.{scale_of_request, side_at, size_for};

@@ -71,7 +71,7 @@ impl Job {
     /// Writes the picture of a file.
     fn write(&self, input: Option<&str>, output: Option<&str>) -> Outcome<()> {
         let mut output = Output::new(self.rt, output);
-        let written = match files::open(&self.rt, input) {
+        let written = match files::open_both(&self.rt, input, &mut output) {
             Ok(reader) => self.write_picture(reader, &mut output),
             Err(refusal) => Err(refusal),
         };

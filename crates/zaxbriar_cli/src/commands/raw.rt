@@ -13,7 +13,7 @@ pub fn run(rt: HostRuntime, matches: &ArgMatches<'_>) -> Outcome<()> {
     let limits = arguments::limits_of(&rt, matches)?;
     let input = arguments::file_of(matches, arguments::FILE);
     let mut output = Output::new(rt, arguments::file_of(matches, "output"));
-    let outcome = match files::open(&rt, input) {
+    let outcome = match files::open_both(&rt, input, &mut output) {
         Ok(reader) => write_raw(rt.alloc(), reader, limits, &mut output),
         Err(refusal) => Err(refusal),
     };

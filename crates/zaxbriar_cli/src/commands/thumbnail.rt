@@ -4,13 +4,13 @@
 use crate::commands::pictures;
 use clap::ArgMatches;
 use zaxbriar_arguments::arguments;
-use zaxbriar_arguments::thumbnail::request_of;
+use zaxbriar_arguments::thumbnail::{SIZES, request_of};
 use zaxbriar_files::ending::Outcome;
 
 /// Writes the thumbnails of the files that the arguments name.
 pub fn run(rt: HostRuntime, matches: &ArgMatches<'_>) -> Outcome<()> {
     match request_of(matches) {
         Some(request) => pictures::write_all(rt, matches, request),
-        None => Err(arguments::refuse_value(&rt, "max", "WIDTHxHEIGHT, of 1 to 65535")),
+        None => Err(arguments::refuse_value(&rt, "max", SIZES)),
     }
 }
