@@ -9,13 +9,14 @@ use zaxbriar_files::output::Output;
 use zaxbriar_files::refusal::Refusal;
 use zaxbriar_pictures::extents::Completeness;
 
-/// How the complete rows of a picture are counted.
+/// Whose rows are counted that are complete.
 #[derive(Clone, Copy)]
-pub enum Measure {
-    /// As rows of the file that was written.
-    Rows,
-    /// As a share of all rows, since the picture may have been made smaller or turned.
-    Share,
+pub enum Rows {
+    /// Those of the file that was written.
+    OfOutput,
+    /// Those of the file that was read, as it stores them: the picture may have been made smaller
+    /// or turned.
+    OfFile,
 }
 
 /// The fault of a file, and how much of its picture is complete.
@@ -24,12 +25,12 @@ pub struct Part {
     fault: Error,
     info: ImageInfo,
     whole_rows: u16,
-    measure: Measure,
+    rows: Rows,
 }
 
 impl Part {
     /// Returns what is to be said of a picture, or nothing if it is whole.
-    pub fn of(told: Completeness, measure: Measure) -> Option<Part> {
+    pub fn of(told: Completeness, rows: Rows) -> Option<Part> {
         let Completeness {
             info,
             whole_rows,
@@ -40,16 +41,11 @@ impl Part {
                 fault,
                 info,
                 whole_rows,
-                measure,
+                rows,
             }),
             None => None,
         }
     }
-}
-
-/// Returns how many of a hundred rows some of all rows are, and at least 1.
-fn percent_of(rows: u16, all: u16) -> u32 {
-    (u32::from(rows) * 100 / u32::from(all.max(1))).max(1)
 }
 
 impl fmt::Display for Part {
@@ -68,17 +64,17 @@ impl fmt::Display for Part {
         if rows >= height {
             return write!(f, "all rows are complete{so_far}");
         }
-        match self.measure {
-            Measure::Rows if rows == 1 => write!(
-                f,
-                "the first of {height} rows is complete{so_far}"
-            ),
-            Measure::Rows => write!(f, "the first {rows} of {height} rows are complete{so_far}"),
-            Measure::Share => {
-                let percent = percent_of(rows, height);
-                write!(f, "about {percent}% of its rows are complete{so_far}")
-            }
+        let whose = match self.rows {
+            Rows::OfOutput => "",
+            Rows::OfFile => "the file's ",
+        };
+        if rows == 1 {
+            return write!(f, "the first of {whose}{height} rows is complete{so_far}");
         }
+        write!(
+            f,
+            "the first {rows} of {whose}{height} rows are complete{so_far}"
+        )
     }
 }
 
@@ -89,10 +85,10 @@ pub fn finish_with_fault(
     input: Option<&str>,
     output: Output<'_>,
     written: Result<Completeness, Refusal>,
-    measure: Measure,
+    rows: Rows,
 ) -> Outcome<()> {
     let (outcome, part) = match written {
-        Ok(told) => (Ok(()), Part::of(told, measure)),
+        Ok(told) => (Ok(()), Part::of(told, rows)),
         Err(refusal) => (Err(refusal), None),
     };
     finish(rt, input, output, outcome)?;

@@ -22,7 +22,7 @@ use Rattle.zaxbriar_samples.specs.declared.requests.Request.{Request}
 -- A choice is the one for a request, by what a header says.
 pub record IsChoice (request : Request) (header : Found) (choice : Choice) : Type 0 where
   pub sized : IsSomeAnd (option_map info_of header.said.frame) (λ full.
-      (choice.scale ≡ scale_of_request request full choice.orientation)
+      (choice.full ≡ full) × (choice.scale ≡ scale_of_request request full choice.orientation)
       × (choice.size ≡ size_for request full choice.orientation))
   pub turned : choice.orientation ≡ orientation_for request header.said.metadata.exif
 

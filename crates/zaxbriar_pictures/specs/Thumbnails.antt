@@ -1,8 +1,11 @@
 -- The file of a small picture of a stream.
-use Rattle.std.specs.Prelude.{ℕ, List, Option, ◌≡◌, Some}
+use Rattle.std.specs.Prelude.{ℕ, List, Option, ◌≡◌, ◌==◌, ◌*◌, Some, min, if◌then◌else◌}
 use Rattle.std.specs.Io.KnownBytes.{Appends}
 use Rattle.jpeg_streams.specs.declared.images.ImageInfo.{ImageInfo}
-use Rattle.zaxbriar_pictures.specs.Given.{Given, TellsGiven, file_in, given_at_scale}
+use Rattle.jpeg_decoder.specs.Reaching.{NamesFault}
+use Rattle.jpeg_segments.specs.declared.scale.Scale.{Scale}
+use Rattle.jpeg_segments.specs.declared.scale.Scale.TheVariants.{Eighth, Quarter, Half, Full}
+use Rattle.zaxbriar_pictures.specs.Given.{Given, complete_rows, file_in, given_at_scale}
 use Rattle.zaxbriar_pictures.specs.ScaledPictures.{header_exif, header_info}
 use Rattle.zaxbriar_samples.specs.Sizes.{orientation_for, scale_of_request, size_for}
 use Rattle.zaxbriar_pictures.specs.declared.extents.Completeness.{Completeness}
@@ -11,10 +14,32 @@ use Rattle.zaxbriar_samples.specs.declared.requests.Request.{Request}
 use Rattle.zaxbriar_samples.specs.Boxes.{boxed}
 use Rattle.zaxbriar_samples.specs.Turns.{upright}
 
+-- how many rows of the whole picture a row of the picture at a scale stands for
+abbrev pub rows_a_row : Scale → ℕ
+rows_a_row Eighth = 8
+rows_a_row Quarter = 4
+rows_a_row Half = 2
+rows_a_row Full = 1
+
+-- How many rows of the whole picture, from its top, some rows of the picture at a scale stand for.
+-- The last may stand for fewer, and a lossless picture keeps its height at each scale.
+abbrev pub file_rows : Scale → ℕ → ℕ → ℕ → ℕ
+file_rows scale full height rows =
+    if height == full then rows else min full (rows * rows_a_row scale)
+
+-- A caller is told how much is complete of the whole picture, as the file stores it: what its
+-- header says, for how many rows those stand that are complete at the scale, and the name of the
+-- fault.
+abbrev pub TellsOfFile : ImageInfo → Extent → Scale → List ℕ → Given → Completeness → Type 0
+TellsOfFile full extent scale bytes g told = (told.info ≡ full)
+    × (told.whole_rows ≡ file_rows scale full.height g.picture.info.height
+    (complete_rows extent scale bytes g.picture.info.height))
+    × NamesFault told.fault g.fault
+
 -- A writer is given the file of the picture that the stream gives at the scale for the request,
 -- boxed down to the requested size, and turned upright by the orientation for the request: the one
--- that the Exif data of the header say, or 1. Its caller is told how much is complete of the
--- picture at that scale, before it is boxed down and turned.
+-- that the Exif data of the header say, or 1. Its caller is told how much of the file's picture is
+-- complete.
 abbrev pub WritesThumbnail : Extent → Request → List ℕ → Option (List ℕ) → Option (List ℕ)
     → Completeness → Type 0
 WritesThumbnail extent request bytes before after told =
@@ -23,4 +48,4 @@ WritesThumbnail extent request bytes before after told =
     × (given_at_scale extent (scale_of_request request full orientation) bytes ≡ Some g)
     × Appends before after
     (file_in (upright orientation (boxed (size_for request full orientation) g.picture)))
-    × TellsGiven extent (scale_of_request request full orientation) bytes g told
+    × TellsOfFile full extent (scale_of_request request full orientation) bytes g told

@@ -29,8 +29,8 @@ pub enum Extent {
 /// How much of a picture its stream has brought.
 #[derive(Drop)]
 pub struct Completeness {
-    /// The size and the process of the picture as it was decoded, before it is made smaller or
-    /// turned.
+    /// The size and the process of the picture whose rows are counted: as it was decoded, or of the
+    /// whole one if it was then made smaller or turned.
     pub info: ImageInfo,
     /// The number of its rows, from the top, that are complete in each scan that was begun. All of
     /// them if the stream has no fault.

@@ -87,6 +87,8 @@ pub(crate) fn taken_by_lines<R: Read + Drop>(decoder: &Decoder<R>, extent: Exten
 /// What a request asks of a stream, by its header.
 #[derive(Clone, Copy)]
 pub struct Choice {
+    /// What the header says of the whole picture.
+    pub full: ImageInfo,
     /// The scale.
     pub scale: Scale,
     /// The requested size, which isn't greater than the picture at that scale.
@@ -105,6 +107,8 @@ pub struct ScaledPicture {
     pub whole_rows: u16,
     /// The first fault of its stream, or none if it is whole.
     pub fault: Option<Error>,
+    /// What the header says of the whole picture.
+    pub full: ImageInfo,
     /// Its scale.
     pub scale: Scale,
     /// The requested size, which isn't greater than the picture.
@@ -181,6 +185,7 @@ fn choose<R: Read + Drop>(
         bytes_for(decoder, request, extent, full, size),
     )?;
     Ok(Choice {
+        full,
         scale,
         size,
         orientation,
@@ -207,8 +212,8 @@ pub fn read_picture<R: Read + Drop>(
 
     // Scale and size are those for the request, by the header and the orientation.
     ensures chosen { (bytes : List ℕ) → Tells (R.remaining reader) bytes → IfOk result (λ made.
-        IsSomeAnd (header_info bytes) (λ full.
-        (made.scale ≡ scale_of_request request full made.orientation)
+        IsSomeAnd (header_info bytes) (λ full. (made.full ≡ full)
+        × (made.scale ≡ scale_of_request request full made.orientation)
         × (made.size ≡ size_for request full made.orientation))) }
 
     // The orientation is the one that the header's Exif data say, if the request is to turn by it.
@@ -228,6 +233,7 @@ pub fn read_picture<R: Read + Drop>(
         picture,
         whole_rows: completeness.whole_rows,
         fault: completeness.fault,
+        full: choice.full,
         scale: choice.scale,
         size: choice.size,
         orientation: choice.orientation,

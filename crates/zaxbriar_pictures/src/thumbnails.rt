@@ -8,10 +8,11 @@
 ghost use Rattle.std.specs.Prelude.{◌≡◌, List, ℕ, IfOk, true};
 ghost use Rattle.jpeg_streams.specs.Output.{Tells};
 ghost use Rattle.zaxbriar_pictures.specs.Allowed.{allows};
-ghost use Rattle.zaxbriar_pictures.specs.Thumbnails.{WritesThumbnail};
+ghost use Rattle.zaxbriar_pictures.specs.Thumbnails.{WritesThumbnail, file_rows, rows_a_row};
 
 use crate::extents::{Completeness, Extent};
 use crate::scaled::read_picture;
+use jpeg_decoder::Scale;
 use std::alloc::Global;
 use std::io::{Read, Write};
 use zaxbriar_files::limits::Limits;
@@ -21,10 +22,34 @@ use zaxbriar_samples::netpbm::write_picture;
 use zaxbriar_samples::requests::Request;
 use zaxbriar_samples::turns::upright;
 
+/// Returns how many rows of the whole picture a row of the picture at a scale stands for.
+fn rows_a_row(scale: Scale) -> u8
+    ensures { result ≡ rows_a_row scale }
+{
+    match scale {
+        Scale::Eighth => 8,
+        Scale::Quarter => 4,
+        Scale::Half => 2,
+        Scale::Full => 1,
+    }
+}
+
+/// Returns how many rows of a whole picture, from its top, some rows of the picture at a scale stand
+/// for. Its height there is another one, unless it is lossless.
+fn file_rows(scale: Scale, full: u16, height: u16, rows: u16) -> u16
+    ensures { result ≡ file_rows scale full height rows }
+{
+    if height == full {
+        return rows;
+    }
+    let rows = u32::from(rows) * u32::from(rows_a_row(scale));
+    u32::from(full).min(rows) as u16
+}
+
 /// Decodes as much as is wanted of the stream that the reader gives, writes the requested picture,
-/// and returns how much is complete of the one that was decoded, before it was made smaller and
-/// turned, with the first fault of the stream. A picture above the limits is refused by its header.
-/// A read that fails is an error.
+/// and returns how much is complete of the whole picture, as the file stores it, with the first
+/// fault of the stream. A picture above the limits is refused by its header. A read that fails is
+/// an error.
 pub fn write_thumbnail<R: Read + Drop, W: Write>(
     alloc: Global,
     reader: R,
@@ -40,13 +65,15 @@ pub fn write_thumbnail<R: Read + Drop, W: Write>(
         → IfOk result (λ _. allows request extent limits bytes ≡ true) }
 {
     let made = read_picture(alloc, reader, request, extent, limits)?;
-    let info = made.picture.info;
+    let info = made.full;
+    let height = made.picture.info.height;
+    let whole_rows = file_rows(made.scale, info.height, height, made.whole_rows);
     let smaller = boxed(alloc, made.picture, made.size)?;
     let picture = upright(alloc, smaller, made.orientation)?;
     write_picture(alloc, picture, writer)?;
     Ok(Completeness {
         info,
-        whole_rows: made.whole_rows,
+        whole_rows,
         fault: made.fault,
     })
 }

@@ -1,6 +1,6 @@
 //! Writes the pictures of the given files, for the words `pnm` and `thumbnail`.
 
-use crate::partial::{Measure, finish_with_fault};
+use crate::partial::{Rows, finish_with_fault};
 use clap::ArgMatches;
 use std::io::{Read, Write};
 use zaxbriar_arguments::arguments;
@@ -59,12 +59,11 @@ impl Job {
         }
     }
 
-    /// Returns how the complete rows of a picture are counted: those of a thumbnail aren't rows of
-    /// its file.
-    fn measure(&self) -> Measure {
+    /// Returns whose rows are counted that are complete.
+    fn rows(&self) -> Rows {
         match self.request {
-            Request::At(_) => Measure::Rows,
-            Request::Within(_, _) => Measure::Share,
+            Request::At(_) => Rows::OfOutput,
+            Request::Within(_, _) => Rows::OfFile,
         }
     }
 
@@ -75,7 +74,7 @@ impl Job {
             Ok(reader) => self.write_picture(reader, &mut output),
             Err(refusal) => Err(refusal),
         };
-        finish_with_fault(&self.rt, input, output, written, self.measure())
+        finish_with_fault(&self.rt, input, output, written, self.rows())
     }
 
     /// Writes the picture of a file to the output of its name.

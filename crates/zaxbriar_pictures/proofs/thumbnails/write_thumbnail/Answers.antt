@@ -8,15 +8,15 @@ pub returns-clause-written : goal.returns-clause-written
 returns-clause-written g c bytes tells =
     let made = c.in_ok-made.made in
     let told : Completeness = record {
-      info = made.picture.info;
-      whole_rows = made.whole_rows;
+      info = made.full;
+      whole_rows = c.file_rows-whole_rows.result;
       fault = made.fault;
     } in
     written c.args.extent c.args.request bytes (g.W.Write.contents c.args.writer.now)
     (g.W.Write.contents c.write_picture.new.writer) made.scale made.size made.orientation
-    (decoded_in made.picture) (decoded_in c.in_ok-smaller.smaller)
+    made.whole_rows (decoded_in made.picture) (decoded_in c.in_ok-smaller.smaller)
     (decoded_in c.in_ok-picture.picture) told (c.in_ok-made.ensures.said bytes tells)
-    (c.in_ok-made.ensures.picture bytes tells) refl (c.in_ok-made.ensures.chosen bytes tells)
+    (c.in_ok-made.ensures.picture bytes tells) c.file_rows-whole_rows.ensures (c.in_ok-made.ensures.chosen bytes tells)
     c.in_ok-smaller.ensures c.in_ok-picture.ensures c.in_ok-write_picture.ensures.file
 
 pub returns-clause-limited : goal.returns-clause-limited
