@@ -1,9 +1,8 @@
 //! Callers that ask for the picture that a stream has brought up to its first fault.
 ghost use Rattle.jpeg_decoder.specs.Shows.{CountsRows, ShowsJust};
-ghost use Rattle.jpeg_streams.specs.Shown.{shown_ahead};
+ghost use Rattle.jpeg_streams.specs.Shown.{shown_ahead, whole_rows_ahead};
 ghost use Rattle.jpeg_streams.specs.States.{IsReading};
 ghost use Rattle.jpeg_streams.specs.Stream.{told_of};
-ghost use Rattle.jpeg_streams.specs.WholeRows.{whole_rows_ahead};
 
 use jpeg_decoder::error::Result;
 use jpeg_decoder::{Decoder, PartialPicture};

@@ -1,6 +1,6 @@
 -- What a stream has brought up to its first fault, and what is shown of it.
-pub mod BroughtTurns
-pub mod BroughtLoops
+pub mod Refused
+pub mod BroughtScans
 pub mod ReachedScans
 pub mod ReachedData
 pub mod GatheredData
@@ -8,7 +8,6 @@ pub mod RowsAbove
 pub mod ReachedBlocks
 pub mod ReachedIntervals
 pub mod GroupedScans
-pub mod UnreadIntervals
 pub mod RowIntervals
 pub mod ShownParts
 pub mod ShownFaults

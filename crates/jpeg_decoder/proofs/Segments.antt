@@ -1,6 +1,8 @@
 -- The segments of a stream, turn by turn, its header, and what may stand after a scan.
 pub mod PassedRestarts
+pub mod LeftBytes
 pub mod Turns
+pub mod MarkedTurns
 pub mod TurnLoops
 pub mod Headers
 pub mod HeaderThenRest

@@ -2,7 +2,7 @@
 use Rattle.std.specs.Prelude.{◌≡◌, ℕ, zero, suc, List, [], ◌∷◌, ◌++◌, drop, length, map, nat_le}
 use Rattle.std.specs.Prelude.{Bool, Result, Ok, Err, Option, Some, None, ◌*◌, ◌-◌, ◌⊎◌, ◌==◌}
 use Rattle.std.specs.Prelude.{true, false, if◌then◌else◌, IsErrAnd, IsOkAnd, get_or, slice_index_or}
-use Rattle.std.specs.Prelude.{unwrap_or, zip}
+use Rattle.std.specs.Prelude.{option_map, unwrap_or, zip}
 use Rattle.jpeg_bits.specs.Codes.{Table}
 use Rattle.jpeg_bits.specs.Entropy.{Broken, Text, text_at}
 use Rattle.jpeg_bits.specs.Entropy as entropy
@@ -34,6 +34,8 @@ use Rattle.jpeg_streams.specs.ScanSegments.{once_scanned, put_arrays, vias_from,
 use Rattle.jpeg_streams.specs.Scans.{Arrays}
 use Rattle.jpeg_streams.specs.Segments.{Turn}
 use Rattle.jpeg_streams.specs.States.{IfRefused}
+use Rattle.jpeg_streams.specs.Stream.{Walked}
+use Rattle.jpeg_streams.specs.WholeRows.{rows_above, rows_of_planes}
 use Rattle.jpeg_decoder.specs.LosslessParts.{mcus_high, mcus_wide, no_component, parts_at}
 use Rattle.jpeg_decoder.specs.Steps.{blocks_at}
 use Rattle.jpeg_decoder.specs.declared.scan.lossless.SampleScan.{SampleScan}
@@ -125,8 +127,8 @@ NamesFault _ _ = ⊥
 -- ---- the segments
 
 -- the bytes after the image, or the fault
-abbrev pub walk_end : Found × Result (List ℕ) Fault → Outcome (Unit {0})
-walk_end w = w.1 >>= λ rest. Ok (tt, rest)
+abbrev pub walk_end : Walked → Outcome (Unit {0})
+walk_end w = w.rest >>= λ rest. Ok (tt, rest)
 
 -- ---- a scan
 
@@ -151,19 +153,25 @@ rows_after (Err e) old rows = rows
 abbrev pub kept_after : Bool → List Coding → Arrays → Arrays → Arrays
 kept_after is_kept codings arrays left = if is_kept then put_arrays codings arrays left else []
 
--- A scan of blocks as far as it goes: what is found after it, or by its fault, and the marker after
--- it, or the fault.
-unfoldable pub data_reached : Found → Frame → Pass → List Coding → List ℕ
-    → Found × Outcome (Option Marker)
+-- What the data of a scan bring up to their first fault: what is found, the complete rows of the
+-- picture where some lack, and the marker after them, or the fault.
+pub record DataBrought : Type 0 where
+  pub found : Found
+  pub rows : Option ℕ
+  pub met : Outcome (Option Marker)
+
+-- A scan of blocks.
+unfoldable pub data_reached : Found → Frame → Pass → List Coding → List ℕ → DataBrought
 data_reached found frame p codings bytes =
     let r = scan_reached p (found.said.restart * mcu_size (components_of codings))
     (vias_from 0 codings) (spots_of frame (components_of codings))
-    (blocks_at codings (arrays_before found frame)) bytes in (
-      with_arrays p codings r.0 (record (once_scanned found) {
-        kept = blocks_after found frame codings r.0;
-      }),
-      r.1,
-    )
+    (blocks_at codings (arrays_before found frame)) bytes in record {
+      found = with_arrays p codings r.reached (record (once_scanned found) {
+        kept = blocks_after found frame codings r.reached;
+      });
+      rows = option_map (rows_above frame (components_of codings)) r.unread;
+      met = r.rest;
+    }
 
 -- ---- a lossless scan
 
@@ -228,10 +236,12 @@ planes_over frame samples (index ∷ indices) (plane ∷ planes) =
     over (samples_or_grey frame samples index) plane ∷ planes_over frame samples indices planes
 planes_over frame samples _ _ = []
 
--- A scan of samples as far as it goes: what is found after it, or by its fault, and the marker
--- after it, or the fault.
+-- A scan of samples.
 unfoldable pub samples_reached : Found → Frame → headers.Scan → List LosslessCoding → List ℕ
-    → Found × Outcome (Option Marker)
+    → DataBrought
 samples_reached found frame scan codings bytes =
-    let r = planes_brought found frame scan codings bytes in
-    (after_samples found codings (map (samples_over found frame) (zip codings r.0)), r.1)
+    let r = planes_brought found frame scan codings bytes in record {
+      found = after_samples found codings (map (samples_over found frame) (zip codings r.0));
+      rows = rows_of_planes frame codings r.0;
+      met = r.1;
+    }

@@ -31,8 +31,8 @@ ghost use Rattle.jpeg_segments.specs.FrameView.{component_in, frame_in};
 ghost use Rattle.jpeg_segments.specs.Scales.{IsSizedFrame, is_scale, scale_for, scaled_by};
 ghost use Rattle.jpeg_streams.specs.Output.{default_settings};
 ghost use Rattle.jpeg_streams.specs.Profile.{profile_of};
-ghost use Rattle.jpeg_streams.specs.WholeRows.{whole_rows_ahead};
 ghost use Rattle.std.specs.Option.{option_copied};
+ghost use Rattle.jpeg_streams.specs.Shown.{whole_rows_ahead};
 
 use crate::picture::color_choice::frame_transform;
 use crate::picture::lines::Lines;

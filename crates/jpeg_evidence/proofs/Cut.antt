@@ -1,5 +1,4 @@
 -- What is shown of a writer's stream that is cut.
-pub mod UnreadScans
 pub mod EarlyEnds
 pub mod NamedFaults
 pub mod WrittenCuts

@@ -1,5 +1,6 @@
 -- A longer stream goes on from what a shorter one has brought.
 pub mod FrontReaders
+pub mod FirstSpots
 pub mod LongerBits
 pub mod LongerData
 pub mod LongerScans

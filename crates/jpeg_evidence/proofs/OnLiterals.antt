@@ -10,14 +10,11 @@ use Rattle.jpeg_streams.proofs.OnLiterals.{samples_on_literals, streams_on_liter
 use Rattle.jpeg_lossless.specs.RowsReached.{rows_reached}
 use Rattle.jpeg_streams.specs.Brought.{blocks_brought, blocks_brought_by, interval_reached, interval_rows_reached}
 use Rattle.jpeg_streams.specs.Brought.{intervals_reached, reached_from, samples_brought, samples_brought_by}
-use Rattle.jpeg_streams.specs.Brought.{scan_brought, scan_rows_reached, segment_brought, turn_brought, walk_brought}
+use Rattle.jpeg_streams.specs.Brought.{scan_brought, scan_rows_reached}
 use Rattle.jpeg_streams.specs.InTurn.{turn_from}
 use Rattle.jpeg_streams.specs.Profile.{profile_of}
-use Rattle.jpeg_streams.specs.Shown.{completed, fault_shown, picture_shown, shown, shown_of, shown_rest}
+use Rattle.jpeg_streams.specs.Shown.{completed, fault_shown, picture_shown, shown, shown_of, shown_rest, whole_rows, whole_rows_rest}
 use Rattle.jpeg_streams.specs.Shown.{with_plane_shown, with_samples_shown}
-use Rattle.jpeg_streams.specs.WholeRows.{rows_of_blocks, rows_of_codings, rows_of_samples, rows_of_scan}
-use Rattle.jpeg_streams.specs.WholeRows.{rows_of_turn, rows_of_walk, unread_from, unread_in, whole_rows}
-use Rattle.jpeg_streams.specs.WholeRows.{whole_rows_rest}
 use Rattle.jpeg_evidence.specs.Cosines.{cosine, is_entry, are_entries}
 
 unfoldable pub files_on_literals : ⊤
@@ -51,11 +48,10 @@ profiles_on_literals = tt
 unfoldable pub cuts_on_literals : ⊤
 unfolding streams_on_literals samples_on_literals blocks_brought blocks_brought_by interval_reached
     interval_rows_reached intervals_reached reached_from rows_reached samples_brought samples_brought_by scan_brought
-    scan_rows_reached segment_brought turn_brought walk_brought turn_from completed fault_shown
-    picture_shown shown shown_of shown_rest with_plane_shown with_samples_shown
+    scan_rows_reached turn_from completed fault_shown picture_shown shown shown_of shown_rest with_plane_shown
+    with_samples_shown
 cuts_on_literals = tt
 
 unfoldable pub rows_on_literals : ⊤
-unfolding cuts_on_literals unread_from unread_in rows_of_codings rows_of_blocks rows_of_samples rows_of_scan
-    rows_of_turn rows_of_walk whole_rows_rest whole_rows
+unfolding cuts_on_literals whole_rows_rest whole_rows
 rows_on_literals = tt

@@ -17,9 +17,10 @@ use Rattle.jpeg_segments.specs.Frame.{Frame}
 use Rattle.jpeg_segments.specs.ScanHeader.{Scan}
 use Rattle.jpeg_streams.specs.declared.before.Before.{Before}
 use Rattle.jpeg_streams.specs.declared.before.Before.TheVariants.{Elsewhere}
+use Rattle.jpeg_streams.specs.declared.beyond.Beyond.TheVariants.{Nothing}
 use Rattle.jpeg_streams.specs.Brought.{after_interval, frame_and_scan, has_whole_rows}
 use Rattle.jpeg_streams.specs.Brought.{interval_reached, interval_rows_reached, reached_from}
-use Rattle.jpeg_streams.specs.Brought.{sealed, turn_brought}
+use Rattle.jpeg_streams.specs.Brought.{sealed}
 use Rattle.jpeg_streams.specs.Found.{Found, nothing_found}
 use Rattle.jpeg_streams.specs.InTurn.{at_start}
 use Rattle.jpeg_streams.specs.LosslessScans.{LosslessCoding, lossless_codings, mcus_down, way_of}
@@ -27,7 +28,7 @@ use Rattle.jpeg_streams.specs.Order.{Spot, mcu_size, spots_of}
 use Rattle.jpeg_streams.specs.Scans.{Arrays}
 use Rattle.jpeg_streams.specs.ScanSegments.{Coding, codings_of, components_of, pass_of, vias_from}
 use Rattle.jpeg_streams.specs.Segments.{Turn}
-use Rattle.jpeg_streams.specs.Stream.{start_at}
+use Rattle.jpeg_streams.specs.Stream.{start_at, turn_at}
 use Rattle.jpeg_evidence.specs.LongerStreams.{arrays_of}
 
 -- Where these bits are left after what is read of a restart interval, or with this fault, its data
@@ -43,12 +44,13 @@ pub data EndsEarly (bytes : List ℕ) (r : Result (List Bool) Fault) : Type 0 wh
 pub data BlocksEndEarly (p : Pass) (vias : List Via)
     : ℕ → List Spot → List (List Spot) → Arrays → List ℕ → Type 0 where
   here : (k : ℕ) (spots : List Spot) (more : List (List Spot)) (arrays : Arrays) (bytes : List ℕ)
-      → EndsEarly bytes (reached_from p vias spots (at_start arrays) (sealed (text_at bytes))).1
+      → EndsEarly bytes (reached_from p vias spots (at_start arrays) (sealed (text_at bytes))).rest
       → BlocksEndEarly p vias k spots more arrays bytes
   later : (k : ℕ) (spots next : List Spot) (more : List (List Spot)) (arrays : Arrays)
       (bytes rest : List ℕ)
-      → (interval_reached p vias spots arrays bytes).1 >>= after_interval k ≡ Ok rest
-      → BlocksEndEarly p vias (suc k) next more (interval_reached p vias spots arrays bytes).0 rest
+      → (interval_reached p vias spots arrays bytes).rest >>= after_interval k ≡ Ok rest
+      → BlocksEndEarly p vias (suc k) next more (interval_reached p vias spots arrays bytes).reached
+      rest
       → BlocksEndEarly p vias k spots (next ∷ more) arrays bytes
 
 -- The same of one of the intervals of a lossless scan.
@@ -88,8 +90,9 @@ pub data SegmentsEndEarly : Before → Found → Option Marker → List ℕ → 
       → found_or met bytes (next_marker bytes) ≡ Ok (SOS, rest) → ScanEndsEarly found rest
       → SegmentsEndEarly before found met bytes
   later_turn : (before : Before) (found : Found) (met : Option Marker) (bytes : List ℕ) (t : Turn)
-      (rest : List ℕ) → (turn_brought before found met bytes).1 ≡ Ok (t, rest) → t.ended ≡ false
-      → SegmentsEndEarly t.before t.found t.met rest → SegmentsEndEarly before found met bytes
+      (rest : List ℕ) → (turn_at Nothing before found met bytes).turn ≡ Ok (t, rest)
+      → t.ended ≡ false → SegmentsEndEarly t.before t.found t.met rest
+      → SegmentsEndEarly before found met bytes
 
 -- In a stream there is such a scan.
 abbrev pub StreamEndsEarly : List ℕ → Type 0

@@ -1,7 +1,7 @@
 -- What more bytes add to what was brought of some: what was brought stays, and more comes after it.
 use Rattle.std.specs.Prelude.{◌≡◌, ◌≤◌, ℕ, suc, List, [], ◌∷◌, ◌++◌, length, drop, map, get_or, zip}
-use Rattle.std.specs.Prelude.{Bool, Option, Result, Ok}
-use Rattle.jpeg_bits.specs.Reading.{End, Fault}
+use Rattle.std.specs.Prelude.{Bool, false, Option, None, Ok}
+use Rattle.jpeg_bits.specs.Reading.{End}
 use Rattle.jpeg_bits.specs.Entropy.{Broken, Ending}
 use Rattle.jpeg_bits.specs.Passes.{Block, Pass, Via}
 use Rattle.jpeg_bits.specs.Readers.{text}
@@ -9,8 +9,9 @@ use Rattle.jpeg_bits.specs.declared.marker.Marker.{Marker}
 use Rattle.jpeg_segments.specs.Frame.{Frame}
 use Rattle.jpeg_segments.specs.ScanHeader.{Scan}
 use Rattle.jpeg_streams.specs.declared.before.Before.{Before}
+use Rattle.jpeg_streams.specs.declared.beyond.Beyond.TheVariants.{Nothing}
 use Rattle.jpeg_lossless.specs.Scans.{lines_by_component, planes_of}
-use Rattle.jpeg_streams.specs.Brought.{reached_from, samples_over, turn_brought, walk_brought}
+use Rattle.jpeg_streams.specs.Brought.{reached_from, samples_over}
 use Rattle.jpeg_streams.specs.Found.{Found}
 use Rattle.jpeg_streams.specs.InTurn.{IsIn, Reached}
 use Rattle.jpeg_streams.specs.Levels.{IsLegal, Levels, cut, sent_after}
@@ -19,6 +20,7 @@ use Rattle.jpeg_streams.specs.Order.{Spot, spots_of}
 use Rattle.jpeg_streams.specs.Scans.{Arrays, block_at, put_block}
 use Rattle.jpeg_streams.specs.ScanSegments.{Coding, after_samples, after_scan, arrays_before}
 use Rattle.jpeg_streams.specs.ScanSegments.{components_of}
+use Rattle.jpeg_streams.specs.Stream.{Walked, turn_at, walk}
 
 -- These bits bring the blocks at `done`, and `left` are left, of which no block more can be read.
 -- Where more bits come after them, the other blocks are read from there on, before any end.
@@ -31,7 +33,8 @@ pub record GoesOn (p : Pass) (vias : List Via) (spots : List Spot) (old : Reache
   pub spots_are : spots ≡ done ++ others
   pub bits_are : bits ≡ taken ++ left
   pub brought : (following : List (List ℕ))
-      → reached_from p vias done old (text bits following (Broken End)) ≡ (reached, Ok left)
+      → reached_from p vias done old (text bits following (Broken End))
+      ≡ record { reached = reached; unread = None; rest = Ok left }
   pub longer : (more : List Bool) (following : List (List ℕ)) (e : Ending)
       → reached_from p vias spots old (text (bits ++ more) following e)
       ≡ reached_from p vias others reached (text (left ++ more) (drop (length taken) following) e)
@@ -151,15 +154,15 @@ pub record RowScanGoesOn (before shorter longer : Found) : Type 0 where
 -- `left` are the bytes of it that are read again. It comes by what was brought, in front of the
 -- segment that has the fault; or the fault is in the data of a scan, and the longer stream comes by
 -- what was found before this scan, and brings of it the same blocks first, or rows of MCUs.
-pub data ComesBy (more : List ℕ) (brought : Found) (longer : Found × Result (List ℕ) Fault)
-    : Type 0 where
+pub data ComesBy (more : List ℕ) (brought : Found) (longer : Walked) : Type 0 where
   in_front : (turns : ℕ) (before : Before) (met : Option Marker) (left : List ℕ)
-      → longer ≡ walk_brought turns before brought met (left ++ more) → ComesBy more brought longer
+      → longer ≡ walk Nothing turns false before brought met (left ++ more)
+      → ComesBy more brought longer
   in_scan : (turns : ℕ) (before : Before) (last : Found) (met : Option Marker) (left : List ℕ)
-      → longer ≡ walk_brought (suc turns) before last met (left ++ more)
-      → ScanGoesOn last brought (turn_brought before last met (left ++ more)).0
+      → longer ≡ walk Nothing (suc turns) false before last met (left ++ more)
+      → ScanGoesOn last brought (turn_at Nothing before last met (left ++ more)).found
       → ComesBy more brought longer
   in_rows : (turns : ℕ) (before : Before) (last : Found) (met : Option Marker) (left : List ℕ)
-      → longer ≡ walk_brought (suc turns) before last met (left ++ more)
-      → RowScanGoesOn last brought (turn_brought before last met (left ++ more)).0
+      → longer ≡ walk Nothing (suc turns) false before last met (left ++ more)
+      → RowScanGoesOn last brought (turn_at Nothing before last met (left ++ more)).found
       → ComesBy more brought longer

@@ -8,15 +8,13 @@ ghost use Rattle.jpeg_segments.specs.ScanHeaders.{IsScan, ScanHeader, scan_paylo
 ghost use Rattle.jpeg_segments.specs.WrittenSegments.{Segment, marker_code, payload_of};
 ghost use Rattle.jpeg_segments.specs.WrittenSegments.{with_length};
 ghost use Rattle.jpeg_streams.specs.ArrayPictures.{TakesPicture, picture_of_array};
-ghost use Rattle.jpeg_streams.specs.Brought.{all_brought};
 ghost use Rattle.jpeg_streams.specs.Found.{Said, nothing_found};
 ghost use Rattle.jpeg_streams.specs.Levels.{Is8Bit, Levels};
 ghost use Rattle.jpeg_streams.specs.Order.{spots_of};
 ghost use Rattle.jpeg_streams.specs.SaidSegments.{Stands};
 ghost use Rattle.jpeg_streams.specs.ScanSegments.{Coding, components_of, pass_of};
-ghost use Rattle.jpeg_streams.specs.Shown.{Shown, shown};
-ghost use Rattle.jpeg_streams.specs.Stream.{told_of};
-ghost use Rattle.jpeg_streams.specs.WholeRows.{whole_rows};
+ghost use Rattle.jpeg_streams.specs.Shown.{Shown, shown, whole_rows};
+ghost use Rattle.jpeg_streams.specs.Stream.{all_brought, told_of};
 ghost use Rattle.jpeg_streams.specs.WrittenImages.{WritesImage, WritesImageScan};
 ghost use Rattle.jpeg_streams.specs.WrittenScans.{Coefficients, WritesScan};
 ghost use Rattle.jpeg_streams.specs.declared.settings.Settings.{Settings};
@@ -38,7 +36,7 @@ pub fn cut_images_bring_what_was_sent()
         → (sends : WritesImageScan array said levels frame h (front ++ more) next)
         → (has : BringsCut array said levels frame (scan_written frame h) sends.codings
         (all_brought nothing_found (first ++ marker fill 218 (with_length (scan_payload h)
-        ++ front))).0)
+        ++ front))).found)
         × IsMost (λ count. StandWhole frame said.restart (pass_of (scan_written frame h))
         sends.codings sends.written.sent count front) (length has.done) }
 {}
@@ -53,14 +51,14 @@ pub fn cut_segments_add_nothing()
         → WritesFront array said levels first → Stands said s
         → with_length (payload_of s) ≡ part ++ more → (more ≡ [] → ⊥)
         → BringsFront array said levels
-        (all_brought nothing_found (first ++ marker fill (marker_code s) part)).0 }
+        (all_brought nothing_found (first ++ marker fill (marker_code s) part)).found }
     ensures header { (array : Coefficients) (said : Said) (levels : ℕ → Levels) (frame : Frame)
         (first part more : List ℕ) (fill : ℕ) (h : ScanHeader)
         → ((index row column : ℕ) → Is8Bit (array index row column))
         → WritesFront array said levels first → said.frame ≡ Some frame → IsScan frame h
         → with_length (scan_payload h) ≡ part ++ more → (more ≡ [] → ⊥)
         → BringsFront array said levels
-        (all_brought nothing_found (first ++ marker fill 218 part)).0 }
+        (all_brought nothing_found (first ++ marker fill 218 part)).found }
 {}
 
 /// The data of a scan that a writer emits have its first blocks whole, however many, also where

@@ -13,7 +13,7 @@ ghost use Rattle.jpeg_bits.specs.declared.marker.Marker.{Marker};
 ghost use Rattle.jpeg_lossless.specs.Differences.{interval_rows};
 ghost use Rattle.jpeg_segments.specs.Frame.{Component, Frame};
 ghost use Rattle.jpeg_segments.specs.ScanHeader.{Scan};
-ghost use Rattle.jpeg_streams.specs.Brought.{all_brought, reached_from, scan_reached};
+ghost use Rattle.jpeg_streams.specs.Brought.{reached_from, scan_reached};
 ghost use Rattle.jpeg_streams.specs.Brought.{scan_rows_reached};
 ghost use Rattle.jpeg_streams.specs.Found.{Found};
 ghost use Rattle.jpeg_streams.specs.InTurn.{AreApart, AreArrays, Fits, IsIn, Reached};
@@ -22,6 +22,7 @@ ghost use Rattle.jpeg_streams.specs.LosslessScans.{LosslessCoding};
 ghost use Rattle.jpeg_streams.specs.Order.{Spot, mcu_size, spots_of};
 ghost use Rattle.jpeg_streams.specs.Scans.{Arrays, arrays_at, block_at};
 ghost use Rattle.jpeg_streams.specs.ScanSegments.{Coding, components_of, vias_from};
+ghost use Rattle.jpeg_streams.specs.Stream.{all_brought};
 ghost use Rattle.jpeg_streams.specs.WrittenScans.{Coefficients, WritesScan};
 ghost use Rattle.jpeg_evidence.specs.CutStreams.{requantized, seen, without_last};
 ghost use Rattle.jpeg_evidence.specs.FirstBlocks.{IsMost, StandWhole};
@@ -36,7 +37,7 @@ ghost use Rattle.jpeg_evidence.specs.LongerStreams.{PlanesGoOn, RowsGoOn, planes
 pub fn longer_bits_go_on()
     ensures { (p : Pass) (vias : List Via) (spots : List Spot) (old : Reached) (bits : List Bool)
         → GoesOn p vias spots old bits
-        (reached_from p vias spots old (text bits [] (Broken End))).0 }
+        (reached_from p vias spots old (text bits [] (Broken End))).reached }
 {}
 
 /// Longer data of a scan bring the blocks that shorter ones bring, and go on with the blocks after
@@ -46,8 +47,8 @@ pub fn longer_bits_go_on()
 pub fn longer_data_read_on()
     ensures { (p : Pass) (n : ℕ) (vias : List Via) (spots : List Spot) (arrays : Arrays)
         (bytes more : List ℕ)
-        → ReadsOn spots arrays (scan_reached p n vias spots arrays bytes).0
-        (scan_reached p n vias spots arrays (bytes ++ more)).0 }
+        → ReadsOn spots arrays (scan_reached p n vias spots arrays bytes).reached
+        (scan_reached p n vias spots arrays (bytes ++ more)).reached }
 {}
 
 /// As a scan has each block once, each block that shorter data bring is the one that longer data
@@ -59,13 +60,13 @@ pub fn blocks_of_shorter_data_stay()
         → AllByRecursion (Fits frame) components → AreApart (spots_of frame components) }
     ensures stay { (p : Pass) (n : ℕ) (vias : List Via) (spots : List Spot) (arrays : Arrays)
         (bytes more : List ℕ) → AreApart spots
-        → HoldsFirst spots arrays (scan_reached p n vias spots arrays bytes).0
-        (scan_reached p n vias spots arrays (bytes ++ more)).0 }
+        → HoldsFirst spots arrays (scan_reached p n vias spots arrays bytes).reached
+        (scan_reached p n vias spots arrays (bytes ++ more)).reached }
     ensures meant { (p : Pass) (n : ℕ) (vias : List Via) (spots : List Spot) (arrays : Arrays)
         (bytes : List ℕ) (x : Option Marker × List ℕ) → AreApart spots
-        → (scan_reached p n vias spots arrays bytes).1 ≡ Ok x
+        → (scan_reached p n vias spots arrays bytes).rest ≡ Ok x
         → (m : Option Marker) × (rest : List ℕ) × (arrays_at p n vias spots arrays bytes
-        ≡ Ok (((scan_reached p n vias spots arrays bytes).0, m), rest)) }
+        ≡ Ok (((scan_reached p n vias spots arrays bytes).reached, m), rest)) }
 {}
 
 /// Longer data of a lossless scan bring the rows of MCUs that shorter ones bring, and go on with
@@ -105,7 +106,7 @@ pub fn cut_scans_have_what_was_sent()
         → bytes ≡ front ++ more
         → (has : HoldsSent p (spots_of frame (components_of codings)) levels w.sent before
         (scan_reached p (restart * mcu_size (components_of codings)) (vias_from 0 codings)
-        (spots_of frame (components_of codings)) before front).0)
+        (spots_of frame (components_of codings)) before front).reached)
         × IsMost (λ count. StandWhole frame restart p codings w.sent count front)
         (length has.done) }
     ensures sequential { (c : Block) → Is8Bit c → IsKeptBefore whole_pass nothing_sent c zero_block
@@ -118,12 +119,13 @@ pub fn cut_scans_have_what_was_sent()
 /// the blocks after them; of a lossless scan the same rows of MCUs, and those after them. What
 /// later segments do to these isn't said. It holds of any bytes, also of those that break a rule.
 pub fn longer_streams_go_on()
-    ensures ended { (found brought : Found) (bytes more rest : List ℕ)
-        → all_brought found bytes ≡ (brought, Ok rest)
-        → all_brought found (bytes ++ more) ≡ (brought, Ok (rest ++ more)) }
-    ensures stopped { (found brought : Found) (bytes more : List ℕ) (fault : Fault)
-        → all_brought found bytes ≡ (brought, Err fault)
-        → ComesBy more brought (all_brought found (bytes ++ more)) }
+    ensures ended { (found : Found) (bytes more rest : List ℕ)
+        → (all_brought found bytes).rest ≡ Ok rest
+        → all_brought found (bytes ++ more)
+        ≡ record (all_brought found bytes) { rest = Ok (rest ++ more) } }
+    ensures stopped { (found : Found) (bytes more : List ℕ) (fault : Fault)
+        → (all_brought found bytes).rest ≡ Err fault
+        → ComesBy more (all_brought found bytes).found (all_brought found (bytes ++ more)) }
 {}
 
 /// It is blocks that stay, not samples: a quantization table after the scans counts for all blocks

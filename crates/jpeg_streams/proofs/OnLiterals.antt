@@ -34,8 +34,8 @@ use Rattle.jpeg_streams.specs.ScanSegments.{scan_segment, tables_of, vias_from, 
 use Rattle.jpeg_streams.specs.ScanSegments.{lossless_scan}
 use Rattle.jpeg_streams.specs.Scans.{arrays_at, put_blocks, turns_of, zero_arrays}
 use Rattle.jpeg_streams.specs.Segments.{accepted, frame_segment, updated}
-use Rattle.jpeg_streams.specs.Stream.{end_segment, header_at, meaning, rest_at, segment_at, segments_at}
-use Rattle.jpeg_streams.specs.Stream.{scaled_meaning, sized_meaning, start_at, turn_at, walk}
+use Rattle.jpeg_streams.specs.Stream.{brought_after, end_segment, header_at, meaning, rest_at, segment_at, segments_at}
+use Rattle.jpeg_streams.specs.Stream.{scan_turn_at, scaled_meaning, sized_meaning, start_at, turn_at, walk}
 use Rattle.jpeg_segments.specs.HuffmanTables as tables
 use Rattle.jpeg_segments.specs.Quantization as quantization
 use Rattle.jpeg_lossless.specs.Differences as differences
@@ -52,7 +52,7 @@ unfolding accepted adobe_at after_bytes after_restarts after_scan all_spots app_
     arrays_before band_at band_part basis begins bits_from block_from blocks_of blocks_picture
     blocks_scan blue_of by_identifiers code_from code_in code_value codes_exist
     codings_of coefficients_in_block_order colour_of column_of_4 column_value com_at component_at
-    component_coding component_of components_from conversion_of converted_picture corrected count_at
+    brought_after component_coding component_of components_from conversion_of converted_picture corrected count_at
     cropped dc_part dequantized difference dri_at each end_after end_segment ending_at even_part extended
     factors_at finished_by first_ac first_dc frame_at frame_of frame_segment gathered green_of
     groups header_at image_of int_wrap interval intervals is_flat_column length_at lengths_from
@@ -61,7 +61,7 @@ unfolding accepted adobe_at after_bytes after_restarts after_scan all_spots app_
     plane_at_end plane_by plane_of plane_of_blocks put_arrays put_blocks
     quantization.defined_table_at quantization.dqt_at quantization.quantization_from
     tables.defined_codes_at tables.dht_at red_of refined_ac refined_piece rest_at rule_of sample
-    sample_at sample_of_1 sample_of_2 sample_of_4 scale_for scaled_meaning scan_arrays scan_of scan_segment
+    sample_at sample_of_1 sample_of_2 sample_of_4 scale_for scaled_meaning scan_arrays scan_of scan_segment scan_turn_at
     segment_at segments_at selector_at selectors_from signed_from size_at sized_meaning skip_at
     sof_at sos_at source_of spots_of start_at symbol_from tables.tables_from tables_of text_at through_zero times token_at token_from transform_of transformed turn_at turns_of updated
     upsampled quantization.value_at values_in_block_order vias_from walk with_arrays with_blocks

@@ -1,21 +1,21 @@
 -- What a stream has brought up to its first fault: the blocks that can be read of the bits that are
--- there, or the rows of samples, and the fault (T.81, B.1.1.5, E.2.4, F.2, G.2 and H.2).
+-- there, or the rows of samples, how many rows of the picture they complete, and the fault (T.81,
+-- B.1.1.5, E.2.4, F.2, G.2 and H.2).
 --
 -- They are read as in a stream without fault, with one difference: where a marker ends the data no
 -- zeros follow the bits. A block or a row of MCUs that needs one bit more isn't read, nor is any
 -- after it.
-use Rattle.std.specs.Prelude.{ℕ, zero, suc, ◌*◌, ◌-◌, ◌^◌, List, [], ◌∷◌, ◌++◌, map, length, drop}
+use Rattle.std.specs.Prelude.{ℕ, suc, ◌*◌, ◌-◌, ◌^◌, List, [], ◌∷◌, ◌++◌, map, length, drop}
 use Rattle.std.specs.Prelude.{zip, replicate, get_or, slice_index_or, unwrap_or, Bool}
-use Rattle.std.specs.Prelude.{Option, None, Result, Ok, Err, nat_le, if◌then◌else◌, ◌&&◌}
+use Rattle.std.specs.Prelude.{Option, Some, None, option_map, slice_get, Result, Ok, Err, nat_le}
+use Rattle.std.specs.Prelude.{if◌then◌else◌, ◌&&◌}
 use Rattle.jpeg_bits.specs.Reading.{Fault, Malformed, End, Outcome, ◌>>=◌}
 use Rattle.jpeg_bits.specs.Entropy as entropy
 use Rattle.jpeg_bits.specs.Entropy.{Text, Ending, text_at, Broken}
 use Rattle.jpeg_bits.specs.Intervals.{is_restart, first_group, other_groups, met}
 use Rattle.jpeg_bits.specs.Codes.{Table}
-use Rattle.jpeg_bits.specs.Marker.{found_or, next_marker}
 use Rattle.jpeg_bits.specs.Passes.{Pass, Via}
 use Rattle.jpeg_bits.specs.declared.marker.Marker.{Marker}
-use Rattle.jpeg_bits.specs.declared.marker.Marker.TheVariants.{SOS}
 use Rattle.jpeg_segments.specs.Checks.{needed}
 use Rattle.jpeg_lossless.specs.RowsReached.{rows_reached}
 use Rattle.jpeg_lossless.specs.Scans.{is_of_rows, lines_by_component, planes_of, rows_of_interval}
@@ -24,8 +24,6 @@ use Rattle.jpeg_segments.specs.Frame.{Component, Frame}
 use Rattle.jpeg_segments.specs.ScanHeader.{Scan, sos_at}
 use Rattle.jpeg_segments.specs.declared.frame.CodingProcess.{CodingProcess}
 use Rattle.jpeg_segments.specs.declared.frame.CodingProcess.TheVariants.{Lossless}
-use Rattle.jpeg_streams.specs.declared.before.Before.{Before}
-use Rattle.jpeg_streams.specs.declared.before.Before.TheVariants.{Elsewhere}
 use Rattle.jpeg_streams.specs.Found.{Found}
 use Rattle.jpeg_streams.specs.InTurn.{Reached, at_start, turn_from}
 use Rattle.jpeg_streams.specs.LosslessScans.{LosslessCoding, lossless_codings, mcus_down, way_of}
@@ -35,7 +33,7 @@ use Rattle.jpeg_streams.specs.ScanSegments.{after_restarts, after_samples, after
 use Rattle.jpeg_streams.specs.ScanSegments.{arrays_before, codings_of, components_of, Coding}
 use Rattle.jpeg_streams.specs.ScanSegments.{pass_of, scan_turn, vias_from}
 use Rattle.jpeg_streams.specs.Segments.{Turn}
-use Rattle.jpeg_streams.specs.Stream.{segment_at}
+use Rattle.jpeg_streams.specs.WholeRows.{rows_above, rows_of_planes}
 
 -- ---- a restart interval
 
@@ -43,14 +41,20 @@ use Rattle.jpeg_streams.specs.Stream.{segment_at}
 abbrev pub sealed : Text → Text
 sealed t = record t { ending = Broken End }
 
--- The blocks at some spots, up to the first that can't be read: what is reached, and the bits after
--- the last block, or the fault.
+-- What is reached of some blocks: the first spot whose block isn't read, if there is one, and what
+-- stands after the last block, or the fault.
+pub record Through (A : Type 0) (B : Type 0) : Type 0 where
+  pub reached : A
+  pub unread : Option Spot
+  pub rest : Result B Fault
+
+-- The blocks at some spots, up to the first that can't be read, and the bits after the last block.
 unfoldable pub reached_from : Pass → List Via → List Spot → Reached → Text
-    → Reached × Result (List Bool) Fault
-reached_from p vias [] old t = (old, Ok t.bits)
+    → Through Reached (List Bool)
+reached_from p vias [] old t = record { reached = old; unread = None; rest = Ok t.bits }
 reached_from p vias (s ∷ spots) old t = elim (turn_from p vias s old t) [
   | Ok r ↦ reached_from p vias spots r.0 r.1
-  | Err fault ↦ (old, Err fault)
+  | Err fault ↦ record { reached = old; unread = Some s; rest = Err fault }
 ]
 
 -- The fault of a block that needs more bits than there are: a marker stands in their place, or the
@@ -70,12 +74,20 @@ abbrev pub interval_end : Ending → Result (List Bool) Fault → Outcome (Bool 
 interval_end e r =
     or_fault_at e r >>= λ left. met e >>= λ m. Ok ((nat_le (length left) 56, m.0), m.1)
 
+-- blocks that are reached, and the outcome of what follows them
+abbrev pub BlocksTo : Type 0 → Type 0
+BlocksTo A = Through Arrays (A × List ℕ)
+
 -- The interval that begins these bytes: the blocks as far as they can be read; and its end.
 unfoldable pub interval_reached : Pass → List Via → List Spot → Arrays → List ℕ
-    → Arrays × Outcome (Bool × Option Marker)
+    → BlocksTo (Bool × Option Marker)
 interval_reached p vias spots arrays bytes =
     let r = reached_from p vias spots (at_start arrays) (sealed (text_at bytes)) in
-    (r.0.arrays, interval_end (text_at bytes).ending r.1)
+    record {
+      reached = r.reached.arrays;
+      unread = r.unread;
+      rest = interval_end (text_at bytes).ending r.rest;
+    }
 
 -- ---- a scan
 
@@ -89,32 +101,45 @@ after_interval k r = if r.0.0 && is_restart k r.0.1 then Ok r.1 else Err Malform
 abbrev pub after_intervals : (Bool × Option Marker) × List ℕ → Outcome (Option Marker)
 after_intervals r = if r.0.0 then after_restarts (suc (length r.1)) r.0.1 r.1 else Ok (r.0.1, r.1)
 
+-- Where all blocks of an interval are read, and the next doesn't follow it, its first block.
+abbrev pub or_first : Option Spot → List Spot → Option Spot
+or_first None next = slice_get next 0
+or_first (Some s) next = Some s
+
 -- One interval and more, between which RST stand in turn from number k on: the blocks as far as
 -- they can be read, and the marker after the scan, or the fault.
 unfoldable pub intervals_reached
     : Pass → List Via → ℕ → List Spot → List (List Spot) → Arrays → List ℕ
-    → Arrays × Outcome (Option Marker)
+    → BlocksTo (Option Marker)
 intervals_reached p vias k spots [] arrays bytes =
     let r = interval_reached p vias spots arrays bytes in
-    (r.0, r.1 >>= after_intervals)
+    record { reached = r.reached; unread = r.unread; rest = r.rest >>= after_intervals }
 intervals_reached p vias k spots (next ∷ more) arrays bytes =
     let r = interval_reached p vias spots arrays bytes in
-    elim (r.1 >>= after_interval k) [
-      | Ok rest ↦ intervals_reached p vias (suc k) next more r.0 rest
-      | Err fault ↦ (r.0, Err fault)
+    elim (r.rest >>= after_interval k) [
+      | Ok rest ↦ intervals_reached p vias (suc k) next more r.reached rest
+      | Err fault ↦
+          record { reached = r.reached; unread = or_first r.unread next; rest = Err fault }
     ]
 
 -- A scan in intervals of n blocks, or in one where n is 0.
 abbrev pub scan_reached
-    : Pass → ℕ → List Via → List Spot → Arrays → List ℕ → Arrays × Outcome (Option Marker)
+    : Pass → ℕ → List Via → List Spot → Arrays → List ℕ → BlocksTo (Option Marker)
 scan_reached p n vias spots arrays bytes =
     intervals_reached p vias 0 (first_group n spots) (other_groups n spots) arrays bytes
 
 -- ---- a scan of blocks
 
--- What is found where a turn ends with a fault, and the turn or its fault.
-abbrev pub Brought : Type 0
-Brought = Found × Outcome Turn
+-- What is found where a turn ends with a fault; where it is a scan that lacks blocks or lines of
+-- samples, how many rows of the picture are complete; and the turn or its fault.
+pub record Brought : Type 0 where
+  pub found : Found
+  pub rows : Option ℕ
+  pub turn : Outcome Turn
+
+-- what brings nothing before its fault
+abbrev pub unbrought : Found → Outcome Turn → Brought
+unbrought found turn = record { found = found; rows = None; turn = turn }
 
 -- The blocks that were reached count as if the scan had ended after them.
 unfoldable pub blocks_brought_by : Found → Frame → Scan → List Coding → List ℕ → Brought
@@ -122,13 +147,17 @@ blocks_brought_by found frame scan codings bytes =
     let r = scan_reached (pass_of scan) (found.said.restart * mcu_size (components_of codings))
     (vias_from 0 codings) (spots_of frame (components_of codings))
     (map (λ c. get_or (arrays_before found frame) c.index []) codings) bytes in
-    let after = after_scan found frame scan codings r.0 in
-    (after, r.1 >>= λ m. Ok (scan_turn found after m.0, m.1))
+    let after = after_scan found frame scan codings r.reached in
+    record {
+      found = after;
+      rows = option_map (rows_above frame (components_of codings)) r.unread;
+      turn = r.rest >>= λ m. Ok (scan_turn found after m.0, m.1);
+    }
 
 unfoldable pub blocks_brought : Found → Frame → Scan → List ℕ → Brought
 blocks_brought found frame scan bytes = elim (codings_of found.said frame scan) [
   | Ok codings ↦ blocks_brought_by found frame scan codings bytes
-  | Err fault ↦ (found, Err fault)
+  | Err fault ↦ unbrought found (Err fault)
 ]
 
 -- ---- a scan of a lossless frame
@@ -180,7 +209,11 @@ unfoldable pub samples_brought_by : Found → Frame → Scan → List LosslessCo
 samples_brought_by found frame scan codings bytes =
     let r = planes_brought found frame scan codings bytes in
     let after = after_samples found codings (map (samples_over found frame) (zip codings r.0)) in
-    (after, r.1 >>= λ m. Ok (scan_turn found after m.0, m.1))
+    record {
+      found = after;
+      rows = rows_of_planes frame codings r.0;
+      turn = r.1 >>= λ m. Ok (scan_turn found after m.0, m.1);
+    }
 
 -- whether the restart interval of a scan has whole rows
 abbrev pub has_whole_rows : Found → Frame → Scan → List LosslessCoding → Bool
@@ -192,15 +225,14 @@ unfoldable pub samples_brought : Found → Frame → Scan → List ℕ → Broug
 samples_brought found frame scan bytes =
     elim (lossless_codings found.said.huffman.dc frame scan.components scan.dc_destinations) [
       | Ok codings ↦ if has_whole_rows found frame scan codings
-          then samples_brought_by found frame scan codings bytes else (found, Err Malformed)
-      | Err fault ↦ (found, Err fault)
+          then samples_brought_by found frame scan codings bytes
+          else unbrought found (Err Malformed)
+      | Err fault ↦ unbrought found (Err fault)
     ]
 
 abbrev pub brought_by : CodingProcess → Found → Frame → Scan → List ℕ → Brought
 brought_by Lossless found frame scan bytes = samples_brought found frame scan bytes
 brought_by _ found frame scan bytes = blocks_brought found frame scan bytes
-
--- ---- the segments
 
 -- the frame, and the header of a scan of it
 abbrev pub frame_and_scan : Found → List ℕ → Result (Frame × (Scan × List ℕ)) Fault
@@ -210,33 +242,5 @@ frame_and_scan found bytes =
 unfoldable pub scan_brought : Found → List ℕ → Brought
 scan_brought found bytes = elim (frame_and_scan found bytes) [
   | Ok x ↦ brought_by x.0.process found x.0 x.1.0 x.1.1
-  | Err fault ↦ (found, Err fault)
+  | Err fault ↦ unbrought found (Err fault)
 ]
-
--- After a marker. Of a segment that has a fault nothing counts, but where it is a scan.
-unfoldable pub segment_brought : Marker → Before → Found → List ℕ → Brought
-segment_brought SOS before found bytes = scan_brought found bytes
-segment_brought m before found bytes = (found, segment_at m before found bytes)
-
-unfoldable pub turn_brought : Before → Found → Option Marker → List ℕ → Brought
-turn_brought before found met bytes = elim (found_or met bytes (next_marker bytes)) [
-  | Ok m ↦ segment_brought m.0 before found m.1
-  | Err fault ↦ (found, Err fault)
-]
-
--- Segments in turn from a marker on, up to the end of the image or the first fault: what was found
--- by then, and the bytes after the image, or the fault. There are at most this many turns.
-unfoldable pub walk_brought : ℕ → Before → Found → Option Marker → List ℕ
-    → Found × Result (List ℕ) Fault
-walk_brought zero before found met bytes = (found, Err End)
-walk_brought (suc turns) before found met bytes =
-    let b = turn_brought before found met bytes in
-    elim b.1 [
-      | Err fault ↦ (b.0, Err fault)
-      | Ok t ↦ if t.0.ended then (t.0.found, Ok t.1) else walk_brought turns t.0.before t.0.found
-          t.0.met t.1
-    ]
-
--- All segments from here on. There are fewer turns than bytes.
-abbrev pub all_brought : Found → List ℕ → Found × Result (List ℕ) Fault
-all_brought found bytes = walk_brought (suc (length bytes)) Elsewhere found None bytes

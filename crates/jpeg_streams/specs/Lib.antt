@@ -8,6 +8,8 @@ pub mod Found
 pub mod Segments
 pub mod ScanSegments
 pub mod FoundPictures
+pub mod WholeRows
+pub mod Brought
 pub mod Stream
 pub mod Reported
 pub mod States
@@ -15,9 +17,7 @@ pub mod Pixels
 pub mod Profile
 pub mod Output
 -- what a stream with a fault shows
-pub mod Brought
 pub mod Shown
-pub mod WholeRows
 -- what a writer emits, and its picture
 pub mod Levels
 pub mod WrittenData

@@ -1,13 +1,14 @@
 -- What a caller is given of a stream: by its end, its fault, or where memory ran out.
 use Rattle.std.specs.Prelude.{◌≡◌, ℕ, Bool, List, None, Ok, Err}
 use Rattle.jpeg_streams.specs.declared.before.Before.TheVariants.{Elsewhere}
+use Rattle.jpeg_streams.specs.declared.beyond.Beyond.TheVariants.{Zeros}
 use Rattle.jpeg_streams.specs.Found.{Found, nothing_found, nothing_said}
 use Rattle.jpeg_streams.specs.Stream.{start_at, Told, told_of, walk}
 
 -- what the first turns of a header, or of the rest of a stream, have said
 abbrev pub told_in_turns : ℕ → Bool → Found → List ℕ → Told
 told_in_turns turns header found bytes =
-    told_of (walk turns header Elsewhere found None bytes).0.said
+    told_of (walk Zeros turns header Elsewhere found None bytes).found.said
 
 -- what the first turns of a stream have said
 unfoldable pub told_by_turns : ℕ → Bool → List ℕ → Told

@@ -1,6 +1,8 @@
--- What a stream shows: the picture of what it has brought, and its first fault.
+-- What a stream shows: the picture of what it has brought, how many of its rows are complete, and
+-- its first fault.
 use Rattle.std.specs.Prelude.{ℕ, ◌&&◌, List, fold, get_or, replicate}
-use Rattle.std.specs.Prelude.{Option, Some, None, unwrap_or, slice_index_or, Result, Ok, Err, []}
+use Rattle.std.specs.Prelude.{Option, Some, None, option_map, unwrap_or, slice_index_or, Result}
+use Rattle.std.specs.Prelude.{Ok, Err, []}
 use Rattle.std.specs.Prelude.{slice_set}
 use Rattle.std.specs.Prelude.{if◌then◌else◌}
 use Rattle.std.specs.List.{enumerate_from}
@@ -13,13 +15,13 @@ use Rattle.jpeg_segments.specs.declared.frame.CodingProcess.TheVariants.{Lossles
 use Rattle.jpeg_streams.specs.declared.settings.Settings.{Settings}
 use Rattle.jpeg_streams.specs.declared.progress.Progress.{Progress}
 use Rattle.jpeg_streams.specs.declared.progress.Progress.TheVariants.{Fresh}
-use Rattle.jpeg_streams.specs.Brought.{all_brought, grey_samples}
+use Rattle.jpeg_streams.specs.Brought.{grey_samples}
 use Rattle.jpeg_streams.specs.Found.{Found, nothing_found}
 use Rattle.jpeg_streams.specs.FoundPictures.{picture_of, plane_at_end}
 use Rattle.jpeg_streams.specs.Rasters.{plane_by}
 use Rattle.jpeg_streams.specs.Scans.{zero_of}
 use Rattle.jpeg_streams.specs.ScanSegments.{decided, is_progressive}
-use Rattle.jpeg_streams.specs.Stream.{Told, told_of, start_at}
+use Rattle.jpeg_streams.specs.Stream.{all_brought, start_at, Told, told_of}
 
 -- ---- the picture
 
@@ -95,16 +97,16 @@ framed_or (Some frame) walked = Ok tt
 framed_or None (Err fault) = Err fault
 framed_or None (Ok rest) = Err Malformed
 
-unfoldable pub shown_of : Settings → Found × Result (List ℕ) Fault → Result Shown Fault
-shown_of settings w = do
-  _ ← framed_or w.0.said.frame w.1
-  picture ← picture_shown settings w.0
-  Ok (record { told = told_of w.0.said; picture = picture; fault = fault_shown w.0 w.1 })
+unfoldable pub shown_of : Settings → Found → Result (List ℕ) Fault → Result Shown Fault
+shown_of settings found rest = do
+  _ ← framed_or found.said.frame rest
+  picture ← picture_shown settings found
+  Ok (record { told = told_of found.said; picture = picture; fault = fault_shown found rest })
 
 -- What the rest of a stream shows after its start or its header.
 unfoldable pub shown_rest : Settings → Found → List ℕ → Result Shown Fault
 shown_rest settings found bytes =
-    shown_of settings (all_brought found bytes)
+    let w = all_brought found bytes in shown_of settings w.found w.rest
 
 -- What a stream shows.
 unfoldable pub shown : Settings → List ℕ → Result Shown Fault
@@ -114,3 +116,35 @@ shown settings bytes = start_at bytes >>= (λ start. shown_rest settings nothing
 abbrev pub shown_ahead : Progress → Settings → Found → List ℕ → Result Shown Fault
 shown_ahead Fresh settings found bytes = shown settings bytes
 shown_ahead _ settings found bytes = shown_rest settings found bytes
+
+-- ---- complete rows
+
+-- How many rows of the picture, from its top, lie in rows of MCUs that are complete in every scan
+-- that the stream has begun, of all components. Only the scan in which the fault lies may lack
+-- blocks, or lines of samples: all rows but for such a scan; and none where a component has no scan
+-- that its picture needs.
+abbrev pub rows_of_frame : Option ℕ → Found → Frame → ℕ
+rows_of_frame rows found frame = elim (planes_by frame.process found frame) [
+  | Ok planes ↦ unwrap_or rows frame.output_height
+  | Err fault ↦ 0
+]
+
+abbrev pub rows_of_found : Option ℕ → Found → ℕ
+rows_of_found rows found =
+    unwrap_or (option_map (rows_of_frame rows found) found.said.frame) 0
+
+-- of the rest of a stream after its start or its header
+unfoldable pub whole_rows_rest : Found → List ℕ → ℕ
+whole_rows_rest found bytes = let w = all_brought found bytes in rows_of_found w.rows w.found
+
+-- of a stream
+unfoldable pub whole_rows : List ℕ → ℕ
+whole_rows bytes = elim (start_at bytes) [
+  | Ok start ↦ whole_rows_rest nothing_found start.1
+  | Err fault ↦ 0
+]
+
+-- of what lies ahead of a decoder: a whole stream, or the rest of one after its header
+abbrev pub whole_rows_ahead : Progress → Found → List ℕ → ℕ
+whole_rows_ahead Fresh found bytes = whole_rows bytes
+whole_rows_ahead _ found bytes = whole_rows_rest found bytes

@@ -17,6 +17,9 @@ use Rattle.jpeg_segments.specs.declared.scale.Scale.{Scale}
 use Rattle.jpeg_streams.specs.declared.settings.Settings.{Settings}
 use Rattle.jpeg_streams.specs.declared.before.Before.{Before}
 use Rattle.jpeg_streams.specs.declared.before.Before.TheVariants.{FirstScan, Elsewhere}
+use Rattle.jpeg_streams.specs.declared.beyond.Beyond.{Beyond}
+use Rattle.jpeg_streams.specs.declared.beyond.Beyond.TheVariants.{Zeros, Nothing}
+use Rattle.jpeg_streams.specs.Brought.{Brought, scan_brought, unbrought}
 use Rattle.jpeg_streams.specs.Found.{Metadata, Found, nothing_found, Said, with_said}
 use Rattle.jpeg_streams.specs.Segments.{Turn, onward, frame_segment, says, updated}
 use Rattle.jpeg_streams.specs.Segments.{with_application, with_huffman}
@@ -28,8 +31,9 @@ unfoldable pub end_segment : Found → List ℕ → Outcome Turn
 end_segment found bytes = if is_some found.said.frame
     then Ok (record (onward found) { ended = true }, bytes) else Err Malformed
 
--- After a marker. A restart marker after a scan is ignored, once, and a DNL segment after the first
--- scan would give the height. SOI, TEM, RES, JPG and JPGn are refused here.
+-- After a marker other than that of a scan. A restart marker after a scan is ignored, once, and a
+-- DNL segment after the first scan would give the height. SOI, TEM, RES, JPG and JPGn are refused
+-- here.
 unfoldable pub segment_at : Marker → Before → Found → List ℕ → Outcome Turn
 segment_at (SOF number) before found bytes = frame_segment number found bytes
 segment_at DQT before found bytes =
@@ -37,7 +41,6 @@ segment_at DQT before found bytes =
 segment_at DHT before found bytes =
     says (dht_at (option_map (λ f. f.is_baseline) found.said.frame))
     (λ t said. record said { huffman = with_huffman said.huffman t }) found bytes
-segment_at SOS before found bytes = scan_segment found bytes
 segment_at EOI before found bytes = end_segment found bytes
 segment_at DRI before found bytes = says dri_at (λ n said. record said { restart = n }) found bytes
 segment_at (APP number) before found bytes =
@@ -53,31 +56,56 @@ segment_at DHP before found bytes = Err (Lacks features.Hierarchical)
 segment_at EXP before found bytes = Err (Lacks features.Hierarchical)
 segment_at _ before found bytes = Err Malformed
 
+-- A scan. With zeros after its data nothing of it counts where it has a fault; else what it has
+-- brought by then does.
+unfoldable pub scan_turn_at : Beyond → Found → List ℕ → Brought
+scan_turn_at Zeros found bytes = unbrought found (scan_segment found bytes)
+scan_turn_at Nothing found bytes = scan_brought found bytes
+
+-- After a marker. Of a segment that has a fault nothing counts.
+unfoldable pub brought_after : Beyond → Marker → Before → Found → List ℕ → Brought
+brought_after beyond SOS before found bytes = scan_turn_at beyond found bytes
+brought_after beyond m before found bytes = unbrought found (segment_at m before found bytes)
+
 -- after the marker that is met, or else the next
-unfoldable pub turn_at : Before → Found → Option Marker → List ℕ → Outcome Turn
-turn_at before found met bytes = do
-  m ← found_or met bytes (next_marker bytes)
-  segment_at m.0 before found m.1
+unfoldable pub turn_at : Beyond → Before → Found → Option Marker → List ℕ → Brought
+turn_at beyond before found met bytes = elim (found_or met bytes (next_marker bytes)) [
+  | Ok m ↦ brought_after beyond m.0 before found m.1
+  | Err fault ↦ unbrought found (Err fault)
+]
+
+-- What segments have brought by their end or their first fault; how many rows of the picture are
+-- complete, where the scan with the fault lacks some; and the bytes after them, or the fault.
+pub record Walked : Type 0 where
+  pub found : Found
+  pub rows : Option ℕ
+  pub rest : Result (List ℕ) Fault
 
 -- Segments in turn from a marker on, up to the end of the image, or where a header is wanted up to
--- a frame: what is found by then, and the bytes after them; or what is found by the fault that ends
--- them, and this fault. There are at most this many turns.
-unfoldable pub walk : ℕ → Bool → Before → Found → Option Marker → List ℕ
-    → Found × Result (List ℕ) Fault
-walk zero header before found met bytes = (found, Err End)
-walk (suc turns) header before found met bytes =
-    if header && is_some found.said.frame then (found, Ok bytes) else
-    elim (turn_at before found met bytes) [
-      | Err fault ↦ (found, Err fault)
-      | Ok t ↦ if t.0.ended then (t.0.found, Ok t.1) else walk turns header t.0.before t.0.found
-          t.0.met t.1
+-- a frame, or up to the first fault. There are at most this many turns.
+unfoldable pub walk : Beyond → ℕ → Bool → Before → Found → Option Marker → List ℕ → Walked
+walk beyond zero header before found met bytes =
+    record { found = found; rows = None; rest = Err End }
+walk beyond (suc turns) header before found met bytes =
+    if header && is_some found.said.frame
+    then record { found = found; rows = None; rest = Ok bytes } else
+    let b = turn_at beyond before found met bytes in
+    elim b.turn [
+      | Err fault ↦ record { found = b.found; rows = b.rows; rest = Err fault }
+      | Ok t ↦ if t.0.ended
+          then record { found = t.0.found; rows = None; rest = Ok t.1 }
+          else walk beyond turns header t.0.before t.0.found t.0.met t.1
     ]
 
 -- As each turn takes bytes, there are fewer turns than bytes.
 unfoldable pub segments_at : Bool → Before → Found → Option Marker → List ℕ → Outcome Found
 segments_at header before found met bytes =
-    let w = walk (suc (length bytes)) header before found met bytes in
-    w.1 >>= λ rest. Ok (w.0, rest)
+    let w = walk Zeros (suc (length bytes)) header before found met bytes in
+    w.rest >>= λ rest. Ok (w.found, rest)
+
+-- All segments from here on, where nothing follows the marker after a scan's data.
+abbrev pub all_brought : Found → List ℕ → Walked
+all_brought found bytes = walk Nothing (suc (length bytes)) false Elsewhere found None bytes
 
 -- A stream begins with FF D8.
 unfoldable pub start_at : List ℕ → Outcome (Unit {0})

@@ -7,6 +7,7 @@
 #![tactic(auto)]
 
 pub mod before;
+pub mod beyond;
 pub mod grids;
 pub mod images;
 pub mod progress;

@@ -78,8 +78,8 @@ pub fn value_option<'a>(alloc: Global, name: &'a str, value: &'a str, help: &'a 
         .help(help)
 }
 
-/// Returns an option `--NAME VALUE` for a number or a size: whatever word follows it is its value, so
-/// that `-1` is a number that is refused, and no option that doesn't exist.
+/// Returns an option `--NAME VALUE` for a number or a size: whatever word follows it is its value,
+/// so that `-1` is a number that is refused, and no option that doesn't exist.
 pub fn number_option<'a>(alloc: Global, name: &'a str, value: &'a str, help: &'a str) -> Arg<'a> {
     value_option(alloc, name, value, help).allow_hyphen_values(true)
 }

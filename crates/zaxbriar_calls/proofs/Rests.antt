@@ -7,6 +7,7 @@ use Rattle.jpeg_bits.specs.Reading.{Outcome, Fault, ◌>>=◌}
 use Rattle.jpeg_bits.specs.Marker.{found_or, next_marker}
 use Rattle.jpeg_bits.specs.Stream.{Stream}
 use Rattle.jpeg_bits.specs.declared.marker.Marker.{Marker}
+use Rattle.jpeg_bits.specs.declared.marker.Marker.TheVariants.{SOS}
 use Rattle.jpeg_segments.specs.Frame.{Frame}
 use Rattle.jpeg_segments.specs.ScanHeader.{Scan, sos_at}
 use Rattle.jpeg_segments.specs.Checks.{needed}
@@ -19,15 +20,19 @@ use Rattle.jpeg_streams.specs.ScanSegments.{after_restarts, blocks_scan, codings
 use Rattle.jpeg_streams.specs.ScanSegments.{scan_by, scan_samples, scan_segment}
 use Rattle.jpeg_streams.specs.Segments.{Turn}
 use Rattle.jpeg_streams.specs.States.{Decoding}
-use Rattle.jpeg_streams.specs.Stream.{end_segment, header_at, rest_at, segment_at, segments_at, start_at, turn_at, walk}
+use Rattle.jpeg_streams.specs.Brought.{Brought, unbrought}
+use Rattle.jpeg_streams.specs.Stream.{Walked, brought_after, end_segment, header_at, rest_at, scan_turn_at, segment_at}
+use Rattle.jpeg_streams.specs.Stream.{segments_at, start_at, turn_at, walk}
 use Rattle.jpeg_streams.specs.declared.before.Before.{Before}
 use Rattle.jpeg_streams.specs.declared.before.Before.TheVariants.{Elsewhere}
+use Rattle.jpeg_streams.specs.declared.beyond.Beyond.TheVariants.{Zeros}
 use Rattle.jpeg_streams.specs.declared.settings.Settings.{Settings}
-use Rattle.jpeg_streams.proofs.Written.ReadTurns.{Walked, then-ok, walked_to}
+use Rattle.jpeg_streams.proofs.Written.ReadTurns.{then-ok}
 use Rattle.jpeg_streams.proofs.Shorter.{LeavesBelow, arrays-below, below-at, below-err, below-more, below-ok, below-on}
 use Rattle.jpeg_streams.proofs.Shorter.{below_steps, marker-below, samples-below, sos-below}
 use Rattle.jpeg_decoder.proofs.Segments.PassedRestarts.{Passes, after-passes}
-use Rattle.jpeg_decoder.proofs.Segments.Turns.{IsOnward, On, onward_rules}
+use Rattle.jpeg_decoder.proofs.Segments.LeftBytes.{IsOnward, On}
+use Rattle.jpeg_decoder.proofs.Segments.Turns.{onward_rules}
 use Rattle.zaxbriar_calls.specs.Given.{CountsImage, EndsImage}
 use Rattle.zaxbriar_calls.specs.Meanings.{CountsRead, StandsAfter, meaning_by, settings_of, size_wanted}
 use Rattle.zaxbriar_calls.specs.declared.extents.Extent.{Extent}
@@ -88,7 +93,7 @@ segment-below : (limit : ℕ) (m : Marker) (before : Before) (found : Found) (by
     → LeavesBelow limit (segment_at m before found bytes)
 unfolding segment_at end_segment LeavesBelow
 segment-below limit m before found bytes h =
-    grind (arith, common_steps, onward_rules, onward-below, scan-below, below-ok, below-err)
+    grind (arith, common_steps, onward_rules, onward-below, below-ok, below-err)
 
 found-below : (limit : ℕ) (met : Option Marker) (bytes : List ℕ) → length bytes < limit
     → LeavesBelow limit (found_or met bytes (next_marker bytes))
@@ -96,12 +101,24 @@ found-below limit None bytes h =
     below-more (length bytes) limit (next_marker bytes) (omega (arith, h)) (marker-below bytes)
 found-below limit (Some m) bytes h = below-ok limit m bytes h
 
+marked-below : (limit : ℕ) (m : Marker) (before : Before) (found : Found) (bytes : List ℕ) → length bytes < limit
+    → LeavesBelow limit (brought_after Zeros m before found bytes).turn
+unfolding brought_after scan_turn_at
+marked-below limit SOS before found bytes h = scan-below limit found bytes h
+marked-below limit m before found bytes h = segment-below limit m before found bytes h
+
 turn-below : (limit : ℕ) (before : Before) (found : Found) (met : Option Marker) (bytes : List ℕ)
-    → length bytes < limit → LeavesBelow limit (turn_at before found met bytes)
-unfolding turn_at
+    → length bytes < limit → LeavesBelow limit (turn_at Zeros before found met bytes).turn
+unfolding turn_at LeavesBelow
 turn-below limit before found met bytes h =
-    below-on limit (found_or met bytes (next_marker bytes)) _ (found-below limit met bytes h) (λ m p.
-    segment-below limit m.0 before found m.1 p)
+    go (found_or met bytes (next_marker bytes)) (found-below limit met bytes h)
+  where
+    go : (o : Outcome Marker) → LeavesBelow limit o → LeavesBelow limit (elim o as (λ _. Brought) [
+      | Ok m ↦ brought_after Zeros m.0 before found m.1
+      | Err fault ↦ unbrought found (Err fault)
+    ]).turn
+    go (Ok m) p = marked-below limit m.0 before found m.1 p
+    go (Err fault) p = tt
 
 -- ---- all of them
 
@@ -111,7 +128,7 @@ LeftBelow limit (Ok rest) = length rest < limit
 LeftBelow limit (Err fault) = Unit {0}
 
 abbrev WalksBelow : ℕ → Walked → Type 0
-WalksBelow limit w = LeftBelow limit w.1
+WalksBelow limit w = LeftBelow limit w.rest
 
 test-below : (limit : ℕ) (b : Bool) (x y : Walked) → WalksBelow limit x → WalksBelow limit y
     → WalksBelow limit (if b then x else y)
@@ -127,25 +144,26 @@ after-turn limit (Ok x) f refused h p q = p x h
 after-turn limit (Err fault) f refused h p q = q fault
 
 walk-below : (limit turns : ℕ) (header : Bool) (before : Before) (found : Found) (met : Option Marker) (bytes : List ℕ)
-    → length bytes < limit → WalksBelow limit (walk turns header before found met bytes)
+    → length bytes < limit → WalksBelow limit (walk Zeros turns header before found met bytes)
 unfolding walk LeftBelow
 walk-below limit zero header before found met bytes h = tt
 walk-below limit (suc turns) header before found met bytes h =
     test-below limit (header && is_some found.said.frame) _ _ h (
-    after-turn limit (turn_at before found met bytes) _ _ (turn-below limit before found met bytes h)
+    after-turn limit (turn_at Zeros before found met bytes).turn _ _ (turn-below limit before found met bytes h)
     (λ t p. test-below limit t.0.ended _ _ p (walk-below limit turns header t.0.before t.0.found t.0.met t.1 p))
     (λ fault. tt))
 
-walked-below : (limit : ℕ) (w : Walked) → WalksBelow limit w → LeavesBelow limit (walked_to w)
+walked-below : (limit : ℕ) (r : Result (List ℕ) Fault) (found : Found) → LeftBelow limit r
+    → LeavesBelow limit (r >>= λ (rest : List ℕ). Ok (found, rest))
 unfolding LeavesBelow LeftBelow
-walked-below limit (found, Ok rest) h = h
-walked-below limit (found, Err fault) h = tt
+walked-below limit (Ok rest) found h = h
+walked-below limit (Err fault) found h = tt
 
 segments-below : (limit : ℕ) (header : Bool) (before : Before) (found : Found) (met : Option Marker) (bytes : List ℕ)
     → length bytes < limit → LeavesBelow limit (segments_at header before found met bytes)
 unfolding segments_at
 segments-below limit header before found met bytes h =
-    walked-below limit (walk (suc (length bytes)) header before found met bytes)
+    walked-below limit (walk Zeros (suc (length bytes)) header before found met bytes).rest _
     (walk-below limit (suc (length bytes)) header before found met bytes h)
 
 start-below : (limit : ℕ) (bytes : List ℕ) → length bytes < limit → LeavesBelow limit (start_at bytes)

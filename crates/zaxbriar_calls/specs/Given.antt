@@ -9,10 +9,9 @@ use Rattle.jpeg_decoder.specs.Reaching.{NamesFault}
 use Rattle.jpeg_streams.specs.DecodedImages.{at_size}
 use Rattle.jpeg_streams.specs.Found.{Found, with_said}
 use Rattle.jpeg_streams.specs.Pixels.{info_of}
-use Rattle.jpeg_streams.specs.Shown.{Shown, shown_rest}
+use Rattle.jpeg_streams.specs.Shown.{Shown, shown_rest, whole_rows_rest}
 use Rattle.jpeg_streams.specs.States.{Decoding}
 use Rattle.jpeg_streams.specs.Stream.{Told, header_at, rest_at, told_of}
-use Rattle.jpeg_streams.specs.WholeRows.{whole_rows_rest}
 use Rattle.jpeg_streams.specs.declared.images.ImageInfo.{ImageInfo}
 use Rattle.jpeg_streams.specs.declared.settings.Settings.{Settings}
 use Rattle.zaxbriar_calls.specs.Features.{NamesFeature, feature_in, numbered}

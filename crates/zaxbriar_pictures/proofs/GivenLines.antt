@@ -5,10 +5,9 @@ use Rattle.std.specs.List.{concat}
 use Rattle.jpeg_bits.specs.Reading.{IsGivenUp, Outcome, ◌>>=◌}
 use Rattle.jpeg_bits.specs.declared.error.Error.{Error}
 use Rattle.jpeg_streams.specs.Output.{default_settings}
-use Rattle.jpeg_streams.specs.Shown.{shown_ahead, shown_rest}
+use Rattle.jpeg_streams.specs.Shown.{shown_ahead, shown_rest, whole_rows_ahead, whole_rows_rest}
 use Rattle.jpeg_streams.specs.States.{Decoding, IsReading, ahead}
 use Rattle.jpeg_streams.specs.Stream.{Told, rest_at, told_of}
-use Rattle.jpeg_streams.specs.WholeRows.{whole_rows_ahead, whole_rows_rest}
 use Rattle.jpeg_streams.specs.declared.progress.Progress.{Progress}
 use Rattle.jpeg_streams.specs.declared.progress.Progress.TheVariants.{HeaderRead}
 use Rattle.jpeg_streams.specs.declared.settings.Settings.{Settings}

@@ -7,9 +7,8 @@ use Rattle.jpeg_bits.specs.declared.error.Error.{Error}
 use Rattle.jpeg_streams.specs.Found.{Found, with_said}
 use Rattle.jpeg_streams.specs.Output.{default_settings}
 use Rattle.jpeg_streams.specs.Pixels.{info_of}
-use Rattle.jpeg_streams.specs.Shown.{Shown, shown_rest}
+use Rattle.jpeg_streams.specs.Shown.{Shown, shown_rest, whole_rows_rest}
 use Rattle.jpeg_streams.specs.Stream.{Told, header_at, rest_at, scaled_to}
-use Rattle.jpeg_streams.specs.WholeRows.{whole_rows_rest}
 use Rattle.jpeg_decoder.specs.Reaching.{NamesFault}
 use Rattle.zaxbriar_samples.specs.Netpbm.{file_of}
 use Rattle.zaxbriar_samples.specs.DecodedPictures.{Decoded, decoded}

@@ -34,8 +34,8 @@ fn rows_a_row(scale: Scale) -> u8
     }
 }
 
-/// Returns how many rows of a whole picture, from its top, some rows of the picture at a scale stand
-/// for. Its height there is another one, unless it is lossless.
+/// Returns how many rows of a whole picture, from its top, some rows of the picture at a scale
+/// stand for. Its height there is another one, unless it is lossless.
 fn file_rows(scale: Scale, full: u16, height: u16, rows: u16) -> u16
     ensures { result ≡ file_rows scale full height rows }
 {

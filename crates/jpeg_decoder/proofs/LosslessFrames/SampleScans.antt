@@ -40,7 +40,7 @@ use Rattle.jpeg_streams.specs.Sound.{AreSampled, IsDecodedFrame, IsSampled, IsSo
 use Rattle.jpeg_streams.proofs.Written.ReadTurns.{ok-same, then-ok}
 use Rattle.jpeg_decoder.specs.LosslessParts.{mcus_high, mcus_wide, no_component, parts_at}
 use Rattle.jpeg_decoder.specs.Reaching.{over, planes_over, planes_reached, sample_codings, samples_or_grey}
-use Rattle.jpeg_decoder.specs.Reaching.{samples_reached, IsSampleScan}
+use Rattle.jpeg_decoder.specs.Reaching.{samples_reached, DataBrought, IsSampleScan}
 use Rattle.jpeg_decoder.specs.declared.scan.lossless.SampleScan.{SampleScan}
 use Rattle.jpeg_decoder.proofs.LosslessFrames.LosslessReads.{AreCodings, AreOf, HasMcus, coding_found, codings-by-tables}
 use Rattle.jpeg_decoder.proofs.LosslessFrames.LosslessReads.{codings-count, codings-lacking, has-mcus, mcus-are, parts-are}
@@ -189,8 +189,11 @@ abbrev reached_by : Found → Frame → List LosslessCoding → Planes × Outcom
 reached_by found frame codings r =
     (after_samples found codings (map (samples_over found frame) (zip codings r.0)), r.1)
 
+abbrev found_met : DataBrought → Reached
+found_met d = (d.found, d.met)
+
 reached-by : (found : Found) (frame : Frame) (scan : Scan) (codings : List LosslessCoding) (bytes : List ℕ)
-    → samples_reached found frame scan codings bytes
+    → found_met (samples_reached found frame scan codings bytes)
     ≡ reached_by found frame codings (planes_brought found frame scan codings bytes)
 unfolding samples_reached
 reached-by found frame scan codings bytes = refl
@@ -415,7 +418,7 @@ reads-planes found frame scan s k parts empty codings bytes r h =
 reads-as : (found : Found) (frame : Frame) (scan : Scan) (s : SampleScan) (k : Coding) (parts : List Part)
     (empty : Planes) (codings : List LosslessCoding) (bytes : List ℕ) → Reads found frame scan s k parts empty
     → sample_codings found.said frame scan ≡ Ok codings
-    → ◌≡◌ {A = Reached} (samples_reached found frame scan codings bytes)
+    → ◌≡◌ {A = Reached} (found_met (samples_reached found frame scan codings bytes))
     (cut_over found frame scan.components scan.point_transform parts
     (planes_reached (way_by k parts) s.rows k.high empty bytes))
 reads-as found frame scan s k parts empty codings bytes r h =
@@ -445,7 +448,7 @@ pub reads-found : (found : Found) (frame : Frame) (scan : Scan) (s : SampleScan)
     → Reads found frame scan s k parts empty → sample_codings found.said frame scan ≡ Ok codings
     → next ≡ put_over found frame scan.components (cut_planes k.point_transform parts planes)
     → planes ≡ (planes_reached (way_by k parts) s.rows k.high empty bytes).0
-    → next ≡ (samples_reached found frame scan codings bytes).0
+    → next ≡ (samples_reached found frame scan codings bytes).found
 reads-found found frame scan s k parts empty planes codings bytes next r h is same =
     let point : k.point_transform ≡ scan.point_transform
     = ap (λ (q : Coding). q.point_transform) (r.coding ∙ r.scan_is.coding) in
@@ -456,7 +459,7 @@ reads-found found frame scan s k parts empty planes codings bytes next r h is sa
 pub reads-marker : (found : Found) (frame : Frame) (scan : Scan) (s : SampleScan) (k : Coding) (parts : List Part)
     (empty : Planes) (codings : List LosslessCoding) (bytes : List ℕ) → Reads found frame scan s k parts empty
     → sample_codings found.said frame scan ≡ Ok codings
-    → (planes_reached (way_by k parts) s.rows k.high empty bytes).1 ≡ (samples_reached found frame scan codings bytes).1
+    → (planes_reached (way_by k parts) s.rows k.high empty bytes).1 ≡ (samples_reached found frame scan codings bytes).met
 reads-marker found frame scan s k parts empty codings bytes r h =
     sym (ap (λ (x : Reached). x.1) (reads-as found frame scan s k parts empty codings bytes r h))
 

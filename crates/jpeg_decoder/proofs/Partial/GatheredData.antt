@@ -15,8 +15,9 @@ use Rattle.jpeg_bits.specs.declared.error.Error.TheVariants as errors
 use Rattle.jpeg_bits.specs.declared.marker.Marker.{Marker}
 use Rattle.jpeg_bits.proofs.Loops.{Continues, Continues-err, still_known}
 use Rattle.jpeg_streams.proofs.Refusals.{told-err}
-use Rattle.jpeg_streams.specs.States.{IfRefused, OnTold}
+use Rattle.jpeg_streams.specs.States.{OnTold}
 use Rattle.jpeg_decoder.specs.Reaching.{HasBits}
+use Rattle.jpeg_decoder.proofs.Partial.Refused.{told-any}
 
 -- ---- refusals
 
@@ -299,24 +300,12 @@ end-answers view old cur mid last new front b c r is n h g first second a =
     continued-answers view end_of (λ (bs : List ℕ). met (ending_at (c ∷ bs))) old last new r
     (end-continues old cur mid last front b c is n h g first second) a
 
-pub if-refused : (e : Error) (P : Type 0) → P → IfRefused e P
-if-refused (errors.Format t) P h = h
-if-refused errors.OutOfMemory P h = tt
-if-refused (errors.Io t) P h = h
-if-refused (errors.Unsupported t) P h = h
-if-refused (errors.Internal t) P h = h
-
-pub on-told : {X : Type 0} (old new : Stream) (r : Result X Error) (P : Type 0) → (old.known ≡ true → P)
-    → OnTold old new r P
-on-told old new (Ok x) P h = h
-on-told old new (Err e) P h = λ k l. if-refused e P (h k)
-
 pub end-data : {X : Type 0} (old cur mid last new : Stream) (front : List ℕ) (b c : ℕ) (r : Result X Error)
     → b ≡ 255 → (c ≡ 0 → ⊥) → Closes front → Gathers old front cur
     → Answers (λ (b : ℕ). b) next_byte cur (Ok b) mid → Answers (λ (b : ℕ). b) next_byte mid (Ok c) last
     → OnTold old new r (HasBits front (text_at old.bytes))
 end-data old cur mid last new front b c r is n h g first second =
-    on-told old new r (HasBits front (text_at old.bytes)) (λ k.
+    told-any old new r (λ k.
     nothing-left old cur front h g (ap (λ t. t.bits) (ends-after cur mid last b c is n (g.1 k).0 first second)) k)
 
 -- ---- what is added

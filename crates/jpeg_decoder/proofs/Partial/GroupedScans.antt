@@ -1,7 +1,7 @@
 -- The intervals of a scan are reached one after the other.
 use Rattle.std.proofs.Common.{◌≡◌, ◌∙◌, ◌⊎◌, inl, inr, ◌+◌, ◌%◌, ◌<◌, ◌≤◌, ◌==◌, ◌&&◌, ℕ, zero, suc, Bool, true}
 use Rattle.std.proofs.Common.{false, List, [], ◌∷◌, length, drop, take, refl, sym, subst, ap, ap₂, arith, Result, Ok}
-use Rattle.std.proofs.Common.{Err, Option, Some, if◌then◌else◌}
+use Rattle.std.proofs.Common.{Err, Option, None, Some, if◌then◌else◌}
 use Rattle.std.proofs.lemmas.List.{length-drop}
 use Rattle.std.specs.List.{AllByRecursion}
 use Rattle.jpeg_bits.specs.Stream.{Stream}
@@ -9,19 +9,21 @@ use Rattle.jpeg_bits.specs.Reading.{Answers, Fault, Malformed, NamesFormat, Outc
 use Rattle.jpeg_bits.specs.Intervals.{first_group, groups, is_restart, other_groups}
 use Rattle.jpeg_bits.specs.Passes.{Pass, Via}
 use Rattle.jpeg_bits.specs.declared.error.Error.{Error}
-use Rattle.jpeg_bits.specs.declared.error.Error.TheVariants as errors
 use Rattle.jpeg_bits.specs.declared.marker.Marker.{Marker}
 use Rattle.jpeg_bits.specs.declared.marker.Marker.TheVariants as markers
 use Rattle.jpeg_bits.proofs.Loops.{Continues, Continues-err, still_known}
 use Rattle.jpeg_bits.proofs.ReadIntervals.{all-drop}
+use Rattle.jpeg_streams.proofs.Partial.ReachedIntervals.{next_reached}
 use Rattle.jpeg_streams.proofs.Refusals.{told-err}
-use Rattle.jpeg_streams.specs.Brought.{after_interval, after_intervals, interval_reached, intervals_reached}
+use Rattle.jpeg_streams.specs.Brought.{BlocksTo, after_interval, after_intervals, interval_reached}
+use Rattle.jpeg_streams.specs.Brought.{intervals_reached, or_first}
 use Rattle.jpeg_streams.specs.Order.{Spot}
 use Rattle.jpeg_streams.specs.Scans.{Arrays}
 use Rattle.jpeg_streams.specs.States.{IfRefused, OnTold}
 use Rattle.jpeg_decoder.specs.Reaching.{after_group}
 use Rattle.jpeg_decoder.specs.Steps.{after_all}
 use Rattle.jpeg_decoder.proofs.Partial.GatheredData.{continued-answers}
+use Rattle.jpeg_decoder.proofs.Partial.Refused.{if-refused-as, refused-by}
 use Rattle.jpeg_decoder.proofs.Partial.ReachedIntervals.{named-may-fail, shown}
 use Rattle.jpeg_decoder.proofs.Scans.SlotCodings.{format-refuses}
 
@@ -79,41 +81,22 @@ goes_by {A} others k (next ∷ more) state o = elim (o >>= after_interval k) as 
   | Err fault ↦ (state, Err fault)
 ]
 
--- What the intervals of a scan reach: each of a group changes a state, and then the others do.
+-- What the intervals of a scan reach: each of a group of items changes a state, and then the others do.
 pub record Loop (A G : Type 0) : Type 0 where
-  pub one : List G → A → List ℕ → A × Outcome (Bool × Option Marker)
+  -- the first of some items, in groups of n
+  pub one : ℕ → List G → A → List ℕ → A × Outcome (Bool × Option Marker)
   pub all : ℕ → List G → List (List G) → A → List ℕ → Reaches A
-  pub goes : (k : ℕ) (group : List G) (others : List (List G)) (state : A) (bytes : List ℕ)
-      → all k group others state bytes ≡ goes_by all k others (one group state bytes).0 (one group state bytes).1
-
--- blocks
-pub blocks-go : (p : Pass) (vias : List Via) (k : ℕ) (spots : List Spot) (gs : List (List Spot)) (arrays : Arrays)
-    (bytes : List ℕ) → intervals_reached p vias k spots gs arrays bytes
-    ≡ goes_by (intervals_reached p vias) k gs (interval_reached p vias spots arrays bytes).0
-    (interval_reached p vias spots arrays bytes).1
-unfolding intervals_reached
-blocks-go p vias k spots [] arrays bytes = refl
-blocks-go p vias k spots (next ∷ more) arrays bytes = refl
-
-abbrev pub blocks_loop : Pass → List Via → Loop Arrays Spot
-blocks_loop p vias = record {
-  one = interval_reached p vias;
-  all = intervals_reached p vias;
-  goes = blocks-go p vias;
-}
+  pub goes : (n k : ℕ) (items : List G) (state : A) (bytes : List ℕ)
+      → all k (first_group n items) (other_groups n items) state bytes
+      ≡ goes_by all k (left_groups n (after_group n items)) (one n items state bytes).0 (one n items state bytes).1
 
 -- what is reached after an interval
 abbrev pub goes_on : {A G : Type 0} → Loop A G → ℕ → List (List G) → A → Outcome (Bool × Option Marker) → Reaches A
 goes_on s k others state o = goes_by s.all k others state o
 
 -- the end of an interval
-abbrev pub end_of_one : {A G : Type 0} → Loop A G → List G → A → List ℕ → Outcome (Bool × Option Marker)
-end_of_one s group state bytes = (s.one group state bytes).1
-
-first-goes : {A G : Type 0} (s : Loop A G) (k : ℕ) (items : List G) (gs : List (List G)) (state : A)
-    (bytes : List ℕ) → s.all k items gs state bytes
-    ≡ goes_on s k gs (s.one items state bytes).0 (s.one items state bytes).1
-first-goes s k items gs state bytes = s.goes k items gs state bytes
+abbrev pub end_of_one : {A G : Type 0} → Loop A G → ℕ → List G → A → List ℕ → Outcome (Bool × Option Marker)
+end_of_one s n items state bytes = (s.one n items state bytes).1
 
 goes-refused : {A G : Type 0} (s : Loop A G) (k : ℕ) (gs : List (List G)) (state : A) (f : Fault)
     → goes_on s k gs state (Err f) ≡ (state, Err f)
@@ -121,28 +104,93 @@ goes-refused s k [] state f = refl
 goes-refused s k (next ∷ more) state f = refl
 
 -- where an interval can't be read, nor can the rest
-rest-refused : {A G : Type 0} (s : Loop A G) (k : ℕ) (items : List G) (gs : List (List G)) (state : A)
-    (bytes : List ℕ) (f : Fault) → end_of_one s items state bytes ≡ Err f
-    → s.all k items gs state bytes ≡ ((s.one items state bytes).0, Err f)
-rest-refused s k items gs state bytes f h =
-    first-goes s k items gs state bytes
-    ∙ ap (goes_on s k gs (s.one items state bytes).0) h
-    ∙ goes-refused s k gs (s.one items state bytes).0 f
+rest-refused : {A G : Type 0} (s : Loop A G) (n k : ℕ) (items : List G) (state : A) (bytes : List ℕ) (f : Fault)
+    → end_of_one s n items state bytes ≡ Err f
+    → s.all k (first_group n items) (other_groups n items) state bytes ≡ ((s.one n items state bytes).0, Err f)
+rest-refused s n k items state bytes f h =
+    s.goes n k items state bytes
+    ∙ ap (goes_on s k (left_groups n (after_group n items)) (s.one n items state bytes).0) h
+    ∙ goes-refused s k (left_groups n (after_group n items)) (s.one n items state bytes).0 f
 
 group-goes : {A G : Type 0} (s : Loop A G) (n k : ℕ) (items left : List G) (state now : A) (bytes : List ℕ)
-    (o : Outcome (Bool × Option Marker)) → left ≡ after_group n items
-    → now ≡ (s.one (first_group n items) state bytes).0
-    → end_of_one s (first_group n items) state bytes ≡ o
-    → s.all k (first_group n items) (other_groups n items) state bytes
-    ≡ goes_on s k (left_groups n left) now o
+    (o : Outcome (Bool × Option Marker)) → left ≡ after_group n items → now ≡ (s.one n items state bytes).0
+    → end_of_one s n items state bytes ≡ o
+    → s.all k (first_group n items) (other_groups n items) state bytes ≡ goes_on s k (left_groups n left) now o
 group-goes s n k items left state now bytes o is same h =
-    first-goes s k (first_group n items) (other_groups n items) state bytes
-    ∙ ap (λ gs. goes_on s k gs (s.one (first_group n items) state bytes).0
-    (s.one (first_group n items) state bytes).1)
-    (others-left n items ∙ ap (left_groups n) (sym is))
-    ∙ ap (λ a. goes_on s k (left_groups n left) a (s.one (first_group n items) state bytes).1)
-    (sym same)
+    s.goes n k items state bytes
+    ∙ ap (λ l. goes_on s k (left_groups n l) (s.one n items state bytes).0 (s.one n items state bytes).1) (sym is)
+    ∙ ap (λ a. goes_on s k (left_groups n left) a (s.one n items state bytes).1) (sym same)
     ∙ ap (goes_on s k (left_groups n left) now) h
+
+-- ---- blocks
+
+-- the blocks of a scan, and the first that isn't read
+abbrev pub Blocks : Type 0
+Blocks = Arrays × Option Spot
+
+abbrev blocks_by : BlocksTo (Option Marker) → Reaches Blocks
+blocks_by r = ((r.reached, r.unread), r.rest)
+
+abbrev pub blocks_from : Pass → List Via → ℕ → List Spot → List (List Spot) → Blocks → List ℕ → Reaches Blocks
+blocks_from p vias k spots others state bytes = blocks_by (intervals_reached p vias k spots others state.0 bytes)
+
+-- An interval that is read whole leaves the first block after it.
+abbrev pub interval_from : Pass → List Via → ℕ → List Spot → Blocks → List ℕ → Blocks × Outcome (Bool × Option Marker)
+interval_from p vias n spots state bytes =
+    let r = interval_reached p vias (first_group n spots) state.0 bytes in
+    ((r.reached, or_first r.unread (after_group n spots)), r.rest)
+
+or-none : (unread : Option Spot) → unread ≡ or_first unread []
+or-none None = refl
+or-none (Some s) = refl
+
+or-group : (n : ℕ) (s : Spot) (spots : List Spot) (unread : Option Spot)
+    → or_first unread (first_group n (s ∷ spots)) ≡ or_first unread (s ∷ spots)
+or-group zero s spots unread = refl
+or-group (suc n) s spots None = refl
+or-group (suc n) s spots (Some t) = refl
+
+abbrev blocks_on : Pass → List Via → ℕ → List Spot → List (List Spot) → Blocks → Result (List ℕ) Fault → Reaches Blocks
+blocks_on p vias k next more state o = elim o as (λ _. Reaches Blocks) [
+  | Ok rest ↦ blocks_from p vias (suc k) next more state rest
+  | Err fault ↦ (state, Err fault)
+]
+
+next-blocks : (p : Pass) (vias : List Via) (n k : ℕ) (s : Spot) (spots : List Spot) (arrays : Arrays)
+    (unread : Option Spot) (o : Result (List ℕ) Fault) → let next = first_group n (s ∷ spots) in
+    let more = other_groups n (s ∷ spots) in
+    blocks_by (next_reached (intervals_reached p vias (suc k) next more) arrays (or_first unread next) o)
+    ≡ blocks_on p vias k next more (arrays, or_first unread (s ∷ spots)) o
+next-blocks p vias n k s spots arrays unread (Ok rest) = refl
+next-blocks p vias n k s spots arrays unread (Err fault) =
+    ap (λ (u : Option Spot). ((arrays, u), Err fault)) (or-group n s spots unread)
+
+blocks-left : (p : Pass) (vias : List Via) (n k : ℕ) (group left : List Spot) (arrays : Arrays) (bytes : List ℕ)
+    → let r = interval_reached p vias group arrays bytes in
+    blocks_by (intervals_reached p vias k group (left_groups n left) arrays bytes)
+    ≡ goes_by (blocks_from p vias) k (left_groups n left) (r.reached, or_first r.unread left) r.rest
+unfolding intervals_reached
+blocks-left p vias n k group [] arrays bytes =
+    let r = interval_reached p vias group arrays bytes in
+    ap (λ (u : Option Spot). ((r.reached, u), r.rest >>= after_intervals)) (or-none r.unread)
+blocks-left p vias n k group (s ∷ spots) arrays bytes =
+    let r = interval_reached p vias group arrays bytes in
+    next-blocks p vias n k s spots r.reached r.unread (r.rest >>= after_interval k)
+
+pub blocks-go : (p : Pass) (vias : List Via) (n k : ℕ) (spots : List Spot) (state : Blocks) (bytes : List ℕ)
+    → let r = interval_from p vias n spots state bytes in
+    blocks_from p vias k (first_group n spots) (other_groups n spots) state bytes
+    ≡ goes_by (blocks_from p vias) k (left_groups n (after_group n spots)) r.0 r.1
+blocks-go p vias n k spots state bytes =
+    ap (λ gs. blocks_from p vias k (first_group n spots) gs state bytes) (others-left n spots)
+    ∙ blocks-left p vias n k (first_group n spots) (after_group n spots) state.0 bytes
+
+abbrev pub blocks_loop : Pass → List Via → Loop Blocks Spot
+blocks_loop p vias = record {
+  one = interval_from p vias;
+  all = blocks_from p vias;
+  goes = blocks-go p vias;
+}
 
 -- ---- restart markers
 
@@ -201,8 +249,8 @@ Runs whole s n old number end items state cur =
 pub runs-first : {A G : Type 0} (s : Loop A G) (n : ℕ) (items left : List G) (state now : A) (old new : Stream)
     (end : Bool × Marker) → left ≡ after_group n items
     → OnTold {X = Bool × Marker} old new (Ok end)
-    (now ≡ (s.one (first_group n items) state old.bytes).0)
-    → Answers {X = Bool × Marker} shown (end_of_one s (first_group n items) state) old (Ok end) new
+    (now ≡ (s.one n items state old.bytes).0)
+    → Answers {X = Bool × Marker} shown (end_of_one s n items state) old (Ok end) new
     → Runs (whole_of s n items state) s n old 0 end left now new
 runs-first s n items left state now old new end is same a = (
   0,
@@ -219,8 +267,8 @@ pub runs-next : {A G : Type 0} (whole : List ℕ → Reaches A) (s : Loop A G) (
     → is_restart number (Some end.1) ≡ true → next ≡ (number + 1) % 8
     → Runs whole s n old number end items state cur → left ≡ after_group n items
     → OnTold {X = Bool × Marker} cur new (Ok after)
-    (now ≡ (s.one (first_group n items) state cur.bytes).0)
-    → Answers {X = Bool × Marker} shown (end_of_one s (first_group n items) state) cur (Ok after) new
+    (now ≡ (s.one n items state cur.bytes).0)
+    → Answers {X = Bool × Marker} shown (end_of_one s n items state) cur (Ok after) new
     → Runs whole s n old next after left now new
 runs-next whole s n number next items left state now old cur new end after some near restart counts r is same a =
     let number_is = r.1 in (
@@ -242,51 +290,52 @@ runs-next whole s n number next items left state now old cur new end after some 
 
 -- ---- refusals
 
-if-apply : (e : Error) (A B : Type 0) → IfRefused e (A → B) → IfRefused e A → IfRefused e B
-if-apply (errors.Format t) A B f h = f h
-if-apply (errors.Unsupported t) A B f h = f h
-if-apply (errors.Io t) A B f h = f h
-if-apply (errors.Internal t) A B f h = f h
-if-apply errors.OutOfMemory A B f h = tt
+-- what is told of blocks, and of the first that isn't read
+pub blocks-told : {X : Type 0} (old new : Stream) (r : Result X Error) (arrays : Arrays) (unread : Option Spot)
+    (state : Blocks) → OnTold old new r (arrays ≡ state.0) → OnTold old new r (unread ≡ state.1)
+    → OnTold old new r (◌≡◌ {A = Blocks} (arrays, unread) state)
+blocks-told old new (Ok x) arrays unread state a u = λ k i. (a k i, u k i)
+blocks-told old new (Err e) arrays unread state a u = λ k l.
+    refused-by e _ _ (if-refused-as e (λ p q i. (p i, q i)) (a k l)) (u k l)
 
 abbrev pub end_of : {A : Type 0} → (List ℕ → Reaches A) → List ℕ → Outcome (Option Marker)
 end_of whole bytes = (whole bytes).1
 
 -- an interval can't be read, from which the whole goes on
-refused-answers : {A G : Type 0} (whole rest : List ℕ → Reaches A) (s : Loop A G) (group : List G) (state : A)
+refused-answers : {A G : Type 0} (whole rest : List ℕ → Reaches A) (s : Loop A G) (n : ℕ) (items : List G) (state : A)
     (old cur new : Stream) (e : Error)
-    → ((f : Fault) → end_of_one s group state cur.bytes ≡ Err f → (rest cur.bytes).1 ≡ Err f)
+    → ((f : Fault) → end_of_one s n items state cur.bytes ≡ Err f → (rest cur.bytes).1 ≡ Err f)
     → Continues (end_of whole) old (end_of rest) cur
-    → Answers {X = Bool × Marker} shown (end_of_one s group state) cur (Err e) new
+    → Answers {X = Bool × Marker} shown (end_of_one s n items state) cur (Err e) new
     → Answers {X = Option Marker} (λ m. m) (end_of whole) old (Err e) new
-refused-answers whole rest s group state old cur new e through c a =
+refused-answers whole rest s n items state old cur new e through c a =
     Continues-err {X = Option Marker} {Z = Bool × Marker} (λ m. m) shown (end_of whole) (end_of rest)
-    (end_of_one s group state) old cur new e through c a
+    (end_of_one s n items state) old cur new e through c a
 
 pub first-refused-answers : {A G : Type 0} (s : Loop A G) (n : ℕ) (items : List G) (state : A)
     (old new : Stream) (e : Error)
-    → Answers {X = Bool × Marker} shown (end_of_one s (first_group n items) state) old (Err e) new
+    → Answers {X = Bool × Marker} shown (end_of_one s n items state) old (Err e) new
     → Answers {X = Option Marker} (λ m. m) (end_of (whole_of s n items state)) old (Err e) new
 first-refused-answers {A} s n items state old new e a =
-    refused-answers (whole_of s n items state) (whole_of s n items state) s (first_group n items)
+    refused-answers (whole_of s n items state) (whole_of s n items state) s n items
     state old old new e
     (λ f h. ap (λ (r : Reaches A). r.1)
-    (rest-refused s 0 (first_group n items) (other_groups n items) state old.bytes f h))
+    (rest-refused s n 0 items state old.bytes f h))
     (refl, λ k. (k, refl)) a
 
 pub first-refused-state : {A G : Type 0} (s : Loop A G) (n : ℕ) (items : List G) (state now : A)
     (old new : Stream) (e : Error)
-    → Answers {X = Bool × Marker} shown (end_of_one s (first_group n items) state) old (Err e) new
+    → Answers {X = Bool × Marker} shown (end_of_one s n items state) old (Err e) new
     → OnTold {X = Bool × Marker} old new (Err e)
-    (now ≡ (s.one (first_group n items) state old.bytes).0)
+    (now ≡ (s.one n items state old.bytes).0)
     → OnTold {X = Option Marker} old new (Err e) (now ≡ (whole_of s n items state old.bytes).0)
 first-refused-state {A} s n items state now old new e a same = λ k l.
-    let P = now ≡ (s.one (first_group n items) state old.bytes).0 in
+    let P = now ≡ (s.one n items state old.bytes).0 in
     let Q = now ≡ (whole_of s n items state old.bytes).0 in
-    if-apply e P Q
-    (told-err e (end_of_one s (first_group n items) state old.bytes) (P → Q) (a.1 k l)
+    refused-by e P Q
+    (told-err e (end_of_one s n items state old.bytes) (P → Q) (a.1 k l)
     (λ f h is. is ∙ sym (ap (λ (r : Reaches A). r.0)
-    (rest-refused s 0 (first_group n items) (other_groups n items) state old.bytes f h))))
+    (rest-refused s n 0 items state old.bytes f h))))
     (same k l)
 
 -- from where the next interval begins
@@ -305,32 +354,32 @@ next-continues whole s n number items state old cur end some near restart r = λ
 pub next-refused-answers : {A G : Type 0} (whole : List ℕ → Reaches A) (s : Loop A G) (n number : ℕ) (items : List G)
     (state : A) (old cur new : Stream) (end : Bool × Marker) (e : Error) → 0 < length items → end.0 ≡ true
     → is_restart number (Some end.1) ≡ true → Runs whole s n old number end items state cur
-    → Answers {X = Bool × Marker} shown (end_of_one s (first_group n items) state) cur (Err e) new
+    → Answers {X = Bool × Marker} shown (end_of_one s n items state) cur (Err e) new
     → Answers {X = Option Marker} (λ m. m) (end_of whole) old (Err e) new
 next-refused-answers {A} whole s n number items state old cur new end e some near restart r a =
     let rest = λ (bs : List ℕ).
     s.all (suc r.0) (first_group n items) (other_groups n items) state bs in
     let goes = next-continues whole s n number items state old cur end some near restart r in
-    refused-answers whole rest s (first_group n items) state old cur new e
+    refused-answers whole rest s n items state old cur new e
     (λ f h. ap (λ (r : Reaches A). r.1)
-    (rest-refused s (suc r.0) (first_group n items) (other_groups n items) state cur.bytes f h))
+    (rest-refused s n (suc r.0) items state cur.bytes f h))
     (r.2, λ k. ((goes k).0, ap (λ (r : Reaches A). r.1) (goes k).1)) a
 
 pub next-refused-state : {A G : Type 0} (whole : List ℕ → Reaches A) (s : Loop A G) (n number : ℕ) (items : List G)
     (state now : A) (old cur new : Stream) (end : Bool × Marker) (e : Error) → 0 < length items → end.0 ≡ true
     → is_restart number (Some end.1) ≡ true → Runs whole s n old number end items state cur
-    → Answers {X = Bool × Marker} shown (end_of_one s (first_group n items) state) cur (Err e) new
+    → Answers {X = Bool × Marker} shown (end_of_one s n items state) cur (Err e) new
     → OnTold {X = Bool × Marker} cur new (Err e)
-    (now ≡ (s.one (first_group n items) state cur.bytes).0)
+    (now ≡ (s.one n items state cur.bytes).0)
     → OnTold {X = Option Marker} old new (Err e) (now ≡ (whole old.bytes).0)
 next-refused-state {A} whole s n number items state now old cur new end e some near restart r a same = λ k l.
     let here = next-continues whole s n number items state old cur end some near restart r k in
-    let P = now ≡ (s.one (first_group n items) state cur.bytes).0 in
+    let P = now ≡ (s.one n items state cur.bytes).0 in
     let Q = now ≡ (whole old.bytes).0 in
-    if-apply e P Q
-    (told-err e (end_of_one s (first_group n items) state cur.bytes) (P → Q) (a.1 here.0 l)
+    refused-by e P Q
+    (told-err e (end_of_one s n items state cur.bytes) (P → Q) (a.1 here.0 l)
     (λ f h is. is ∙ sym (ap (λ (r : Reaches A). r.0) (here.1
-    ∙ rest-refused s (suc r.0) (first_group n items) (other_groups n items) state cur.bytes f h))))
+    ∙ rest-refused s n (suc r.0) items state cur.bytes f h))))
     (same here.0 l)
 
 -- ---- another marker stands there
@@ -387,3 +436,11 @@ passed-answers {A} whole s n number items state old cur new end r is near runs a
             ∙ ap (λ (b : Bool). after_intervals ((b, Some end.1), cur.bytes)) near,
       ),
     ) a
+
+-- Nothing is left: the state is that of all.
+pub last-state : {A G : Type 0} (whole : List ℕ → Reaches A) (s : Loop A G) (n number : ℕ) (items : List G) (state : A)
+    (old cur : Stream) (end : Bool × Marker) → items ≡ [] → Runs whole s n old number end items state cur
+    → old.known ≡ true → state ≡ (whole old.bytes).0
+last-state {A} whole s n number items state old cur end is runs k =
+    sym (ap (λ (r : Reaches A). r.0) ((runs.3 k).1
+    ∙ last-goes s n runs.0 items state (Ok ((end.0, Some end.1), cur.bytes)) is))

@@ -20,12 +20,11 @@ use Rattle.jpeg_bits.proofs.EndLemmas.{placed}
 use Rattle.jpeg_bits.proofs.TakenTexts.{Taken, TakesBits}
 use Rattle.jpeg_bits.proofs.TakenTexts.Taken.{gave, failed}
 use Rattle.jpeg_streams.proofs.Partial.ReachedIntervals.{turn-takes}
-use Rattle.jpeg_streams.specs.Brought.{reached_from}
+use Rattle.jpeg_streams.specs.Brought.{Through, or_first, reached_from}
 use Rattle.jpeg_streams.specs.InTurn.{Reached, turn_from}
 use Rattle.jpeg_streams.specs.Order.{Spot}
 use Rattle.jpeg_streams.specs.Scans.{Arrays}
 use Rattle.jpeg_streams.specs.States.{IfRefused}
-use Rattle.jpeg_streams.specs.WholeRows.{or_first, unread_from}
 use Rattle.jpeg_decoder.specs.Reaching.{IsAhead, TellsLeft}
 use Rattle.jpeg_decoder.specs.Scanning.{arrays_in, blocks_in}
 use Rattle.jpeg_decoder.specs.Walk.{NextSpot}
@@ -33,55 +32,38 @@ use Rattle.jpeg_decoder.specs.declared.scan.spots.Spot as taken
 use Rattle.jpeg_decoder.proofs.Kept.BlockArrays.{Held, seen, seen-is, with_block}
 use Rattle.jpeg_decoder.proofs.Kept.KeptScans.{kept_reached, kept_read}
 
--- what is reached, the bits that are left or the fault, and the first block that isn't read
 abbrev pub Read : Type 0
-Read = (Reached × Result (List Bool) Fault) × Option Spot
+Read = Through Reached (List Bool)
 
-abbrev pub read_from : Pass → List Via → List Spot → Reached → Text → Read
-read_from p vias spots old t = (reached_from p vias spots old t, unread_from p vias spots old t)
+-- what is reached at the first block that isn't read
+abbrev pub read_before : Reached → Spot → Fault → Read
+read_before old s fault = record { reached = old; unread = Some s; rest = Err fault }
+
+-- what is reached after the last block
+abbrev pub read_whole : Reached → Text → Read
+read_whole old t = record { reached = old; unread = None; rest = Ok t.bits }
 
 -- after the next block
-abbrev reached_after : Pass → List Via → List Spot → Reached → Result (Reached × Text) Fault
-    → Reached × Result (List Bool) Fault
-reached_after p vias spots old o = elim o [
-  | Ok r ↦ reached_from p vias spots r.0 r.1
-  | Err fault ↦ (old, Err fault)
-]
-
-abbrev unread_after : Pass → List Via → Spot → List Spot → Result (Reached × Text) Fault → Option Spot
-unread_after p vias s spots o = elim o [
-  | Ok r ↦ unread_from p vias spots r.0 r.1
-  | Err fault ↦ Some s
-]
-
 abbrev pub after_turn : Pass → List Via → Spot → List Spot → Reached → Result (Reached × Text) Fault → Read
 after_turn p vias s spots old o = elim o [
-  | Ok r ↦ read_from p vias spots r.0 r.1
-  | Err fault ↦ ((old, Err fault), Some s)
+  | Ok r ↦ reached_from p vias spots r.0 r.1
+  | Err fault ↦ read_before old s fault
 ]
 
-after-both : (p : Pass) (vias : List Via) (s : Spot) (spots : List Spot) (old : Reached)
-    (o : Result (Reached × Text) Fault)
-    → ◌≡◌ {A = Read} (reached_after p vias spots old o, unread_after p vias s spots o)
-    (after_turn p vias s spots old o)
-after-both p vias s spots old (Ok r) = refl
-after-both p vias s spots old (Err fault) = refl
+read-next : (p : Pass) (vias : List Via) (s : Spot) (spots : List Spot) (old : Reached) (t : Text)
+    → reached_from p vias (s ∷ spots) old t ≡ after_turn p vias s spots old (turn_from p vias s old t)
+unfolding reached_from
+read-next p vias s spots old t = refl
 
-pub read-next : (p : Pass) (vias : List Via) (s : Spot) (spots : List Spot) (old : Reached) (t : Text)
-    → ◌≡◌ {A = Read} (read_from p vias (s ∷ spots) old t)
-    (after_turn p vias s spots old (turn_from p vias s old t))
-unfolding reached_from unread_from
-read-next p vias s spots old t = after-both p vias s spots old (turn_from p vias s old t)
-
-pub read-none : (p : Pass) (vias : List Via) (old : Reached) (t : Text)
-    → ◌≡◌ {A = Read} (read_from p vias [] old t) ((old, Ok t.bits), None)
-unfolding reached_from unread_from
+read-none : (p : Pass) (vias : List Via) (old : Reached) (t : Text)
+    → reached_from p vias [] old t ≡ read_whole old t
+unfolding reached_from
 read-none p vias old t = refl
 
 turn-alike : (p : Pass) (vias : List Via) (s : Spot) (spots : List Spot) (old : Reached) (bits : List Bool)
     (e : Ending) (ps qs : List (List ℕ)) → Taken (turn_from p vias s old) bits e
     → ((new : Reached) (left : List Bool) (ps qs : List (List ℕ))
-    → ◌≡◌ {A = Read} (read_from p vias spots new (text left ps e)) (read_from p vias spots new (text left qs e)))
+    → reached_from p vias spots new (text left ps e) ≡ reached_from p vias spots new (text left qs e))
     → after_turn p vias s spots old (turn_from p vias s old (text bits ps e))
     ≡ after_turn p vias s spots old (turn_from p vias s old (text bits qs e))
 turn-alike p vias s spots old bits e ps qs (failed g is) others =
@@ -93,7 +75,7 @@ turn-alike p vias s spots old bits e ps qs (gave n x is) others =
 -- whatever follows the bits
 followed-alike : (p : Pass) (vias : List Via) (spots : List Spot) (old : Reached) (bits : List Bool)
     (e : Ending) (ps qs : List (List ℕ))
-    → ◌≡◌ {A = Read} (read_from p vias spots old (text bits ps e)) (read_from p vias spots old (text bits qs e))
+    → reached_from p vias spots old (text bits ps e) ≡ reached_from p vias spots old (text bits qs e)
 unfolding TakesBits
 followed-alike p vias [] old bits e ps qs =
     read-none p vias old (text bits ps e) ∙ sym (read-none p vias old (text bits qs e))
@@ -106,11 +88,11 @@ followed-alike p vias (s ∷ spots) old bits e ps qs =
 -- the same bits and the same ending
 pub read-alike : (p : Pass) (vias : List Via) (spots : List Spot) (old : Reached) (t u : Text)
     → t.bits ≡ u.bits → t.ending ≡ u.ending
-    → ◌≡◌ {A = Read} (read_from p vias spots old t) (read_from p vias spots old u)
+    → reached_from p vias spots old t ≡ reached_from p vias spots old u
 read-alike p vias spots old t u b e =
     followed-alike p vias spots old t.bits t.ending t.following u.following
-    ∙ ap (λ (bits : List Bool). read_from p vias spots old (text bits u.following t.ending)) b
-    ∙ ap (λ (end : Ending). read_from p vias spots old (text u.bits u.following end)) e
+    ∙ ap (λ (bits : List Bool). reached_from p vias spots old (text bits u.following t.ending)) b
+    ∙ ap (λ (end : Ending). reached_from p vias spots old (text u.bits u.following end)) e
 
 -- ---- block by block
 
@@ -170,26 +152,26 @@ first-end n left xs e = ap (first_left n left) e ∙ first-empty n left
 
 -- where no block is left of a group
 pub group-none : (p : Pass) (vias : List Via) (spots : List Spot) (old : Reached) (t : Text)
-    → spots ≡ [] → ◌≡◌ {A = Read} (read_from p vias spots old t) ((old, Ok t.bits), None)
+    → spots ≡ [] → reached_from p vias spots old t ≡ read_whole old t
 group-none p vias spots old t e =
-    ap (λ (l : List Spot). read_from p vias l old t) e ∙ read-none p vias old t
+    ap (λ (l : List Spot). reached_from p vias l old t) e ∙ read-none p vias old t
 
 group-turn : (p : Pass) (vias : List Via) (n left : ℕ) (spots others : List Spot) (s : Spot) (c : Carried)
     (a b : Arrays) (t : Text) → spots ≡ s ∷ others → b ≡ a → n ≡ 0 ⊎ 0 < left
-    → ◌≡◌ {A = Read} (read_from p vias (first_left n left spots) (carried_on c a) t)
-    (after_turn p vias s (first_left n (left - 1) others) (carried_on c b) (turn_from p vias s (carried_on c b) t))
+    → reached_from p vias (first_left n left spots) (carried_on c a) t
+    ≡ after_turn p vias s (first_left n (left - 1) others) (carried_on c b) (turn_from p vias s (carried_on c b) t)
 group-turn p vias n left spots others s c a b t e f h =
-    ap (λ (l : List Spot). read_from p vias l (carried_on c a) t)
+    ap (λ (l : List Spot). reached_from p vias l (carried_on c a) t)
     (ap (first_left n left) e ∙ first-some n left s others h)
-    ∙ ap (λ (x : Arrays). read_from p vias (s ∷ first_left n (left - 1) others) (carried_on c x) t) (sym f)
+    ∙ ap (λ (x : Arrays). reached_from p vias (s ∷ first_left n (left - 1) others) (carried_on c x) t) (sym f)
     ∙ read-next p vias s (first_left n (left - 1) others) (carried_on c b) t
 
 -- what is left of a group after its next block, or where that is refused
 pub group-next : (p : Pass) (vias : List Via) (n left : ℕ) (spots others : List Spot) (s : Spot) (c : Carried)
     (a b : Arrays) (t : Text) (new : Reached) (u : Text) → spots ≡ s ∷ others → b ≡ a → n ≡ 0 ⊎ 0 < left
     → turn_from p vias s (carried_on c b) t ≡ Ok (new, u)
-    → ◌≡◌ {A = Read} (read_from p vias (first_left n left spots) (carried_on c a) t)
-    (read_from p vias (first_left n (left - 1) others) new u)
+    → reached_from p vias (first_left n left spots) (carried_on c a) t
+    ≡ reached_from p vias (first_left n (left - 1) others) new u
 group-next p vias n left spots others s c a b t new u e f h k =
     group-turn p vias n left spots others s c a b t e f h
     ∙ ap (after_turn p vias s (first_left n (left - 1) others) (carried_on c b)) k
@@ -197,7 +179,8 @@ group-next p vias n left spots others s c a b t new u e f h k =
 pub group-refused : (p : Pass) (vias : List Via) (n left : ℕ) (spots others : List Spot) (s : Spot) (c : Carried)
     (a b : Arrays) (t : Text) (f : Fault) → spots ≡ s ∷ others → b ≡ a → n ≡ 0 ⊎ 0 < left
     → turn_from p vias s (carried_on c b) t ≡ Err f
-    → ◌≡◌ {A = Read} (read_from p vias (first_left n left spots) (carried_on c a) t) ((carried_on c b, Err f), Some s)
+    → reached_from p vias (first_left n left spots) (carried_on c a) t
+    ≡ read_before (carried_on c b) s f
 group-refused p vias n left spots others s c a b t g e f h k =
     group-turn p vias n left spots others s c a b t e f h
     ∙ ap (after_turn p vias s (first_left n (left - 1) others) (carried_on c b)) k
@@ -274,18 +257,6 @@ refused-in-memory (errors.Unsupported feature) e lost false h p given = absurd (
 refused-in-memory (errors.Io x) e lost false h p given = absurd (h.1 (given refl))
 refused-in-memory (errors.Internal text) e lost false h p given = absurd (h.1 (given refl))
 
--- what is so where an error names a fault
-pub on-fault : {X P : Type 0} (e : Error) (o : Result X Fault) → Names e o → ((f : Fault) → o ≡ Err f → P)
-    → IfRefused e P
-on-fault e o n h = grind (arith, common_steps)
-
-pub if-there : (e : Error) (P : Type 0) → (e ≡ errors.OutOfMemory → ⊥) → IfRefused e P → P
-if-there errors.OutOfMemory P h p = absurd (h refl)
-if-there (errors.Format text) P h p = p
-if-there (errors.Unsupported feature) P h p = p
-if-there (errors.Io e) P h p = p
-if-there (errors.Internal text) P h p = p
-
 -- ---- a block is put back
 
 pub put-back : (vs : List Held) (slot index : ℕ) (v : Held) (x : List ℤ) → v ≡ get_or vs slot v
@@ -306,11 +277,11 @@ ahead-fresh bytes =
 
 pub start-alike : (p : Pass) (vias : List Via) (spots : List Spot) (old : Reached) (a : Ahead) (bytes there : List ℕ)
     → a ≡ fresh → bytes ≡ there
-    → ◌≡◌ {A = Read} (read_from p vias spots old (upcoming a bytes)) (read_from p vias spots old (text_at there))
+    → reached_from p vias spots old (upcoming a bytes) ≡ reached_from p vias spots old (text_at there)
 unfolding upcoming
 start-alike p vias spots old a bytes there e f =
-    ap (λ (x : Ahead). read_from p vias spots old (upcoming x bytes)) e
-    ∙ ap (λ (l : List ℕ). read_from p vias spots old (upcoming fresh l)) f
+    ap (λ (x : Ahead). reached_from p vias spots old (upcoming x bytes)) e
+    ∙ ap (λ (l : List ℕ). reached_from p vias spots old (upcoming fresh l)) f
     ∙ read-alike p vias spots old (upcoming fresh there) (text_at there) refl refl
 
 -- whether the end is met, of what follows

@@ -13,7 +13,7 @@ use Rattle.jpeg_bits.specs.declared.error.Error.{Error}
 use Rattle.jpeg_bits.specs.declared.error.Error.TheVariants as errors
 use Rattle.jpeg_bits.specs.declared.marker.Marker.{Marker}
 use Rattle.jpeg_segments.specs.Frame.{Frame}
-use Rattle.jpeg_streams.specs.Brought.{scan_reached}
+use Rattle.jpeg_streams.specs.Brought.{BlocksTo, scan_reached}
 use Rattle.jpeg_streams.specs.Found.{Found}
 use Rattle.jpeg_streams.specs.InTurn.{AreArrays}
 use Rattle.jpeg_streams.specs.Order.{spots_of, mcu_size}
@@ -21,7 +21,7 @@ use Rattle.jpeg_streams.specs.Scans.{Arrays}
 use Rattle.jpeg_streams.specs.ScanSegments.{arrays_before, blocks_after, components_of, is_progressive}
 use Rattle.jpeg_streams.specs.ScanSegments.{once_scanned, put_arrays, vias_from, with_arrays, Coding}
 use Rattle.jpeg_streams.specs.States.{IfRefused, OnTold}
-use Rattle.jpeg_streams.specs.WholeRows.{rows_above, rows_of_codings, unread_of_scan}
+use Rattle.jpeg_streams.specs.WholeRows.{rows_above}
 use Rattle.jpeg_streams.proofs.Order.Apart.{zeros-sized}
 use Rattle.jpeg_streams.proofs.Order.McuRows.{arrays-sized, kept-sized}
 use Rattle.jpeg_decoder.specs.declared.scan.coded.Coded.{Coded}
@@ -32,34 +32,10 @@ use Rattle.jpeg_decoder.specs.Scanning.{arrays_in, scan_components, scan_vias, s
 use Rattle.jpeg_decoder.specs.Steps.{blocks_at, blocks_before, coding_in, with_decoded, without_blocks}
 use Rattle.jpeg_decoder.specs.Steps.{AreRising, IsCodingOf}
 use Rattle.jpeg_decoder.proofs.Kept.BlockArrays.{Held}
+use Rattle.jpeg_decoder.proofs.Partial.Refused.{unless}
 use Rattle.jpeg_decoder.proofs.Scans.PlacedCodings.{coded-indices}
 use Rattle.jpeg_decoder.proofs.Scans.ScanData.{arrays-by-sizes, kept-kept, of-frame, rising-codings, same-found}
 use Rattle.jpeg_decoder.proofs.Kept.TakenBlocks.{put-back}
-
--- ---- calls that ran out of memory, or not
-
-pub if-refused : {P : Type 0} (e : Error) → P → IfRefused e P
-if-refused (errors.Format text) p = p
-if-refused (errors.Unsupported feature) p = p
-if-refused (errors.Io e) p = p
-if-refused (errors.Internal text) p = p
-if-refused errors.OutOfMemory p = tt
-
-pub if-refused-as : {P Q : Type 0} (e : Error) → (P → Q) → IfRefused e P → IfRefused e Q
-if-refused-as (errors.Format text) h p = h p
-if-refused-as (errors.Unsupported feature) h p = h p
-if-refused-as (errors.Io e) h p = h p
-if-refused-as (errors.Internal text) h p = h p
-if-refused-as errors.OutOfMemory h p = tt
-
-pub unless : {X P : Type 0} (r : Result X Error) → P → UnlessRefused r P
-unless (Ok x) p = p
-unless (Err e) p = if-refused e p
-
-pub on-told : {X P Q : Type 0} (old new : Stream) (r : Result X Error) → (P → Q) → OnTold old new r P
-    → OnTold old new r Q
-on-told old new (Ok x) h p = λ k. h (p k)
-on-told old new (Err e) h p = λ k l. if-refused-as e h (p k l)
 
 -- a call answered by another reading of the same bytes
 pub answers-by : {X Y : Type 0} (v : X → Y) (f g : List ℕ → Outcome Y) (old new : Stream)
@@ -70,13 +46,13 @@ answers-by v f g old new (Err e) is p = grind (arith, common_steps)
 -- ---- what is found
 
 -- what is reached of the blocks of a scan
-abbrev pub reached_at : Found → Frame → Pass → List Coding → List ℕ → Arrays × Outcome (Option Marker)
+abbrev pub reached_at : Found → Frame → Pass → List Coding → List ℕ → BlocksTo (Option Marker)
 reached_at f frame p codings bytes =
     scan_reached p (f.said.restart * mcu_size (components_of codings)) (vias_from 0 codings)
     (spots_of frame (components_of codings)) (blocks_at codings (arrays_before f frame)) bytes
 
 -- what the code reaches of the blocks of a scan
-abbrev reached_by : BlockScan → Frame → Arrays → List ℕ → Arrays × Outcome (Option Marker)
+abbrev pub reached_by : BlockScan → Frame → Arrays → List ℕ → BlocksTo (Option Marker)
 reached_by scan frame arrays bytes =
     scan_reached scan.pass (scan.restart_interval * mcu_size (scan_components scan)) (scan_vias scan)
     (spots_of frame (scan_components scan)) arrays bytes
@@ -90,29 +66,28 @@ reached-as f frame scan arrays bytes n is = grind (arith, common_steps)
 pub reached-answers : (f : Found) (frame : Frame) (scan : BlockScan) (arrays : Arrays) (old new : Stream)
     (r : Result (Option Marker) Error) → scan.restart_interval ≡ f.said.restart
     → arrays ≡ blocks_at scan.codings (arrays_before f frame)
-    → Answers (λ (m : Option Marker). m) (λ bytes. (reached_by scan frame arrays bytes).1) old r new
+    → Answers (λ (m : Option Marker). m) (λ bytes. (reached_by scan frame arrays bytes).rest) old r new
     → UnlessRefused r (Answers (λ (m : Option Marker). m)
-    (λ bytes. (data_reached f frame scan.pass scan.codings bytes).1) old r new)
+    (λ bytes. (data_reached f frame scan.pass scan.codings bytes).met) old r new)
 unfolding data_reached
 reached-answers f frame scan arrays old new r n is h =
-    unless r (answers-by (λ (m : Option Marker). m) (λ bytes. (reached_by scan frame arrays bytes).1)
-    (λ bytes. (data_reached f frame scan.pass scan.codings bytes).1) old new r
-    (ap (λ (r : Arrays × Outcome (Option Marker)). r.1) (reached-as f frame scan arrays old.bytes n is)) h)
+    unless r (answers-by (λ (m : Option Marker). m) (λ bytes. (reached_by scan frame arrays bytes).rest)
+    (λ bytes. (data_reached f frame scan.pass scan.codings bytes).met) old new r
+    (ap (λ (r : BlocksTo (Option Marker)). r.rest) (reached-as f frame scan arrays old.bytes n is)) h)
 
 -- the complete rows of the picture, as the code counts them
 pub rows-as : (f : Found) (frame : Frame) (scan : BlockScan) (arrays : Arrays) (bytes : List ℕ)
-    → scan.restart_interval ≡ f.said.restart
-    → arrays ≡ blocks_at scan.codings (arrays_before f frame)
-    → option_map (rows_above frame (scan_components scan)) (unread_of_scan scan.pass
-    (scan.restart_interval * mcu_size (scan_components scan)) (scan_vias scan)
-    (spots_of frame (scan_components scan)) arrays bytes)
-    ≡ rows_of_codings f frame scan.pass scan.codings bytes
-unfolding rows_of_codings
-rows-as f frame scan arrays bytes n is = grind (arith, common_steps)
+    → scan.restart_interval ≡ f.said.restart → arrays ≡ blocks_at scan.codings (arrays_before f frame)
+    → option_map (rows_above frame (scan_components scan)) (reached_by scan frame arrays bytes).unread
+    ≡ (data_reached f frame scan.pass scan.codings bytes).rows
+unfolding data_reached
+rows-as f frame scan arrays bytes n is =
+    ap (λ (r : BlocksTo (Option Marker)). option_map (rows_above frame (scan_components scan)) r.unread)
+    (reached-as f frame scan arrays bytes n is)
 
 data-found : (f : Found) (frame : Frame) (p : Pass) (codings : List Coding) (bytes : List ℕ)
-    → (data_reached f frame p codings bytes).0 ≡ with_arrays p codings (reached_at f frame p codings bytes).0
-    (record (once_scanned f) { kept = blocks_after f frame codings (reached_at f frame p codings bytes).0 })
+    → (data_reached f frame p codings bytes).found ≡ with_arrays p codings (reached_at f frame p codings bytes).reached
+    (record (once_scanned f) { kept = blocks_after f frame codings (reached_at f frame p codings bytes).reached })
 unfolding data_reached
 data-found f frame p codings bytes = refl
 
@@ -122,13 +97,13 @@ pub reached-found : (f : Found) (frame : Frame) (p : Pass) (codings : List Codin
     → ((base : Found) → with_decoded base two ≡ with_arrays p codings arrays (with_decoded base one))
     → one.finished ≡ f.finished → one.planes ≡ f.planes → planes_in one.samples ≡ f.samples
     → kept ≡ blocks_after f frame codings arrays
-    → arrays ≡ (reached_at f frame p codings bytes).0
+    → arrays ≡ (reached_at f frame p codings bytes).reached
     → ◌≡◌ {A = Found} (record (once_scanned f) {
       kept = kept;
       finished = two.finished;
       planes = two.planes;
       samples = planes_in two.samples;
-    }) (data_reached f frame p codings bytes).0
+    }) (data_reached f frame p codings bytes).found
 reached-found f frame p codings arrays bytes one two kept added fin pl sa h is =
     let same = same-found f one kept fin pl sa in
     let after = added (once_scanned f) in

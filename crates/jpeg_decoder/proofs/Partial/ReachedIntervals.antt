@@ -14,16 +14,15 @@ use Rattle.jpeg_bits.specs.declared.error.Error.{Error}
 use Rattle.jpeg_bits.specs.declared.error.Error.TheVariants as errors
 use Rattle.jpeg_bits.specs.declared.marker.Marker.{Marker}
 use Rattle.jpeg_bits.proofs.Loops.{Names-through, still_known}
-use Rattle.jpeg_streams.specs.Brought.{fault_at, interval_reached, or_fault_at, reached_from, sealed}
-use Rattle.jpeg_streams.specs.InTurn.{Reached, at_start}
+use Rattle.jpeg_streams.specs.Brought.{BlocksTo, fault_at, interval_reached, or_fault_at, reached_from, sealed}
+use Rattle.jpeg_streams.specs.InTurn.{at_start}
 use Rattle.jpeg_streams.specs.Order.{Spot}
 use Rattle.jpeg_streams.specs.Scans.{Arrays}
 use Rattle.jpeg_streams.specs.States.{IfRefused, OnTold}
-use Rattle.jpeg_streams.specs.WholeRows.{unread_from}
 use Rattle.jpeg_decoder.specs.Reaching.{HasBits, IsBefore, IsIntervalEnd, IsOfData, IsRefusalAt, TellsLeft}
 use Rattle.jpeg_decoder.specs.Reaching.{UnlessRefused, first_of}
-use Rattle.jpeg_decoder.proofs.Partial.GatheredData.{if-refused}
-use Rattle.jpeg_decoder.proofs.Partial.ReachedBlocks.{Read, read-alike, read_from}
+use Rattle.jpeg_decoder.proofs.Partial.Refused.{if-refused, if-refused-as}
+use Rattle.jpeg_decoder.proofs.Partial.ReachedBlocks.{Read, read-alike}
 
 -- ---- what an interval is, by its blocks and how its data end
 
@@ -34,41 +33,21 @@ abbrev pub outcome_by : Result (List Bool) Fault → Ending → Outcome (Bool ×
 outcome_by r e = or_fault_at e r >>= is_near e
 
 -- what is read of data in memory
-abbrev pub read_of : Pass → List Via → List Spot → Arrays → List ℕ → Reached × Result (List Bool) Fault
+abbrev pub read_of : Pass → List Via → List Spot → Arrays → List ℕ → Read
 read_of p vias spots arrays front = reached_from p vias spots (at_start arrays) (text_at front)
 
--- the first block that isn't read of the interval that begins some bytes
-abbrev pub unread_of : Pass → List Via → List Spot → Arrays → List ℕ → Option Spot
-unread_of p vias spots arrays bytes = unread_from p vias spots (at_start arrays) (sealed (text_at bytes))
+abbrev pub interval_of : Ending → Read → BlocksTo (Bool × Option Marker)
+interval_of e r = record { reached = r.reached.arrays; unread = r.unread; rest = outcome_by r.rest e }
 
-same-blocks : (p : Pass) (vias : List Via) (spots : List Spot) (arrays : Arrays) (front bytes : List ℕ)
+-- An interval is what is read of data with its bits.
+pub interval-read : (p : Pass) (vias : List Via) (spots : List Spot) (arrays : Arrays) (front bytes : List ℕ)
     → HasBits front (text_at bytes)
-    → ◌≡◌ {A = Read} (read_from p vias spots (at_start arrays) (sealed (text_at bytes)))
-    (read_from p vias spots (at_start arrays) (text_at front))
-same-blocks p vias spots arrays front bytes h =
-    sym (read-alike p vias spots (at_start arrays) (text_at front) (sealed (text_at bytes)) h.bits h.ending)
-
-pub interval-unread : (p : Pass) (vias : List Via) (spots : List Spot) (arrays : Arrays) (front bytes : List ℕ)
-    → HasBits front (text_at bytes)
-    → unread_of p vias spots arrays bytes ≡ unread_from p vias spots (at_start arrays) (text_at front)
-interval-unread p vias spots arrays front bytes h =
-    ap (λ (r : Read). r.1) (same-blocks p vias spots arrays front bytes h)
-
-pub interval-arrays : (p : Pass) (vias : List Via) (spots : List Spot) (arrays : Arrays) (front bytes : List ℕ)
-    → HasBits front (text_at bytes)
-    → (interval_reached p vias spots arrays bytes).0 ≡ (read_of p vias spots arrays front).0.arrays
+    → interval_reached p vias spots arrays bytes
+    ≡ interval_of (text_at bytes).ending (read_of p vias spots arrays front)
 unfolding interval_reached
-interval-arrays p vias spots arrays front bytes h =
-    ap (λ (r : Read). r.0.0.arrays) (same-blocks p vias spots arrays front bytes h)
-
-pub interval-outcome : (p : Pass) (vias : List Via) (spots : List Spot) (arrays : Arrays) (front bytes : List ℕ)
-    → HasBits front (text_at bytes)
-    → (interval_reached p vias spots arrays bytes).1
-    ≡ outcome_by (read_of p vias spots arrays front).1 (text_at bytes).ending
-unfolding interval_reached
-interval-outcome p vias spots arrays front bytes h =
-    ap (λ (r : Read). outcome_by r.0.1 (text_at bytes).ending)
-    (same-blocks p vias spots arrays front bytes h)
+interval-read p vias spots arrays front bytes h =
+    ap (interval_of (text_at bytes).ending)
+    (sym (read-alike p vias spots (at_start arrays) (text_at front) (sealed (text_at bytes)) h.bits h.ending))
 
 -- ---- refusals
 
@@ -127,10 +106,10 @@ marker-names e result r end m rest before n h =
 if-memory : (e result : Error) (P : Type 0) → (e ≡ errors.OutOfMemory → result ≡ errors.OutOfMemory) → IfRefused e P
     → IfRefused result P
 if-memory errors.OutOfMemory result P m h = subst (λ (x : Error). IfRefused x P) (sym (m refl)) tt
-if-memory (errors.Format t) result P m h = if-refused result P h
-if-memory (errors.Io t) result P m h = if-refused result P h
-if-memory (errors.Unsupported t) result P m h = if-refused result P h
-if-memory (errors.Internal t) result P m h = if-refused result P h
+if-memory (errors.Format t) result P m h = if-refused result h
+if-memory (errors.Io t) result P m h = if-refused result h
+if-memory (errors.Unsupported t) result P m h = if-refused result h
+if-memory (errors.Internal t) result P m h = if-refused result h
 
 -- ---- the data end with an error
 
@@ -188,7 +167,7 @@ first-may-fail : (ended : Error) (reached : Result Bool Error) (r : Result (List
     → MayFail (first_of ended reached) old new
 first-may-fail ended reached r old new n m t =
     let same = same-failed ended old new n m in
-    first-by ended reached (Unit {0}) (λ (e : Error). MayFail e old new) (if-refused ended (Unit {0}) tt) same
+    first-by ended reached (Unit {0}) (λ (e : Error). MayFail e old new) (if-refused ended tt) same
     (λ u near is. m) (λ u e lack is. m)
     (λ u e other is. named-may-fail e r old new same (subst (λ (x : Result Bool Error). TellsLeft r x) is t))
 
@@ -233,13 +212,6 @@ first-names ended reached r end P o h is n t =
     (λ f m. is u ∙ end-inside r end f (lack-is e r lack (told (Err e) i)) m) n)
     (λ u e other i. Names-through e (outcome_by r end) o (λ f m. is u ∙ m) (other-stays e r end other (told (Err e) i)))
 
-if-map : (e : Error) (A B : Type 0) → (A → B) → IfRefused e A → IfRefused e B
-if-map (errors.Format t) A B f h = f h
-if-map (errors.Unsupported t) A B f h = f h
-if-map (errors.Io t) A B f h = f h
-if-map (errors.Internal t) A B f h = f h
-if-map errors.OutOfMemory A B f h = tt
-
 if-lack : (e : Error) (A : Type 0) → IsLack e → IfRefused e A → A
 if-lack (errors.Io t) A l h = h
 if-lack (errors.Format t) A l h = absurd l
@@ -252,9 +224,9 @@ first-refused : (ended : Error) (reached : Result Bool Error) (P A B : Type 0) �
 first-refused ended reached P A B h f u =
     let told = λ (x : Result Bool Error) (i : reached ≡ x). subst (λ (x : Result Bool Error). UnlessRefused x A) i u in
     first-by ended reached P (λ (e : Error). IfRefused e B) h tt
-    (λ p near i. if-refused ended B (f p (told (Ok near) i)))
-    (λ p e lack i. if-refused ended B (f p (if-lack e A lack (told (Err e) i))))
-    (λ p e other i. if-map e A B (f p) (told (Err e) i))
+    (λ p near i. if-refused ended (f p (told (Ok near) i)))
+    (λ p e lack i. if-refused ended (f p (if-lack e A lack (told (Err e) i))))
+    (λ p e other i. if-refused-as e (f p) (told (Err e) i))
 
 -- ---- the interval
 
@@ -262,7 +234,7 @@ abbrev pub end_of : List ℕ → Outcome (Option Marker)
 end_of bytes = met (text_at bytes).ending
 
 abbrev pub outcome_of : Pass → List Via → List Spot → Arrays → List ℕ → Outcome (Bool × Option Marker)
-outcome_of p vias spots arrays bytes = (interval_reached p vias spots arrays bytes).1
+outcome_of p vias spots arrays bytes = (interval_reached p vias spots arrays bytes).rest
 
 abbrev pub shown : Bool × Marker → Bool × Option Marker
 shown r = (r.0, Some r.1)
@@ -332,7 +304,7 @@ inner-found : {P Q : Type 0} (front : List ℕ) (old new : Stream) (e result : E
     → (old.known ≡ true → HasBits front (text_at old.bytes)) → (HasBits front (text_at old.bytes) → P → Q)
     → IfRefused e P → IsBefore e result → OnTold {X = Bool × Marker} old new (Err result) Q
 inner-found {P} {Q} front old new e result b goes u before =
-    λ k l. if-memory e result Q before.memory (if-map e P Q (goes (b k)) u)
+    λ k l. if-memory e result Q before.memory (if-refused-as e (goes (b k)) u)
 
 whole-answers : (outcome : List ℕ → Outcome (Bool × Option Marker)) (r : Result (List Bool) Fault) (front : List ℕ)
     (old new : Stream) (near : Bool) (m : Marker) → IsReadBy outcome r front old.bytes

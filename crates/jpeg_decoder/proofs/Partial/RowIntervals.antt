@@ -5,7 +5,7 @@ use Rattle.std.proofs.lemmas.Bool.{cases_lt}
 use Rattle.std.proofs.lemmas.List.{drop-replicate, length-replicate, take-replicate, take_all}
 use Rattle.jpeg_bits.specs.Codes.{Table}
 use Rattle.jpeg_bits.specs.Entropy.{Ahead, Ending, Text, fresh, text_at, upcoming}
-use Rattle.jpeg_bits.specs.Intervals.{first_group}
+use Rattle.jpeg_bits.specs.Intervals.{first_group, other_groups}
 use Rattle.jpeg_bits.specs.Reading.{Answers, Fault, Outcome, ◌>>=◌}
 use Rattle.jpeg_bits.specs.Readers.{text}
 use Rattle.jpeg_bits.specs.Stream.{Stream}
@@ -22,7 +22,7 @@ use Rattle.jpeg_lossless.proofs.WholeScans.{difference-takes}
 use Rattle.jpeg_streams.specs.Brought.{after_interval, interval_rows_reached, scan_rows_reached, sealed}
 use Rattle.jpeg_streams.specs.States.{OnTold}
 use Rattle.jpeg_decoder.specs.Reaching.{HasBits, after_group, rows_appended}
-use Rattle.jpeg_decoder.proofs.Partial.GroupedScans.{Loop, Reaches, goes_by}
+use Rattle.jpeg_decoder.proofs.Partial.GroupedScans.{Loop, Reaches, goes_by, left_groups, others-left}
 use Rattle.jpeg_decoder.proofs.Partial.ReachedIntervals.{outcome_by, shown}
 
 -- ---- rows go by the bits of a text and its ending alone
@@ -146,7 +146,7 @@ next-goes : (w : Way) (k : ℕ) (next : List (List Table)) (more : List (List (L
 next-goes w k next more read planes (Ok rest) = refl
 next-goes w k next more read planes (Err fault) = refl
 
-pub rows-go : (w : Way) (k : ℕ) (rows : List (List Table)) (others : List (List (List Table))) (planes : Planes)
+rows-go : (w : Way) (k : ℕ) (rows : List (List Table)) (others : List (List (List Table))) (planes : Planes)
     (bytes : List ℕ) → planes_from w k rows others planes bytes
     ≡ goes_by (planes_from w) k others (rows_appended w rows planes bytes).0 (rows_appended w rows planes bytes).1
 unfolding scan_rows_reached
@@ -155,11 +155,23 @@ rows-go w k rows (next ∷ more) planes bytes =
     next-goes w k next more (interval_rows_reached rows bytes).0 planes
     ((interval_rows_reached rows bytes).1 >>= after_interval k)
 
+abbrev pub first_appended : Way → ℕ → List (List Table) → Planes → List ℕ → Planes × Outcome (Bool × Option Marker)
+first_appended w n rows planes bytes = rows_appended w (first_group n rows) planes bytes
+
+pub rows-left : (w : Way) (n k : ℕ) (rows : List (List Table)) (planes : Planes) (bytes : List ℕ)
+    → let r = first_appended w n rows planes bytes in
+    planes_from w k (first_group n rows) (other_groups n rows) planes bytes
+    ≡ goes_by (planes_from w) k (left_groups n (after_group n rows)) r.0 r.1
+rows-left w n k rows planes bytes =
+    let r = first_appended w n rows planes bytes in
+    rows-go w k (first_group n rows) (other_groups n rows) planes bytes
+    ∙ ap (λ gs. goes_by (planes_from w) k gs r.0 r.1) (others-left n rows)
+
 abbrev pub rows_loop : Way → Loop Planes (List Table)
 rows_loop w = record {
-  one = rows_appended w;
+  one = first_appended w;
   all = planes_from w;
-  goes = rows-go w;
+  goes = rows-left w;
 }
 
 -- an interval of as many rows

@@ -16,7 +16,6 @@ use Rattle.jpeg_segments.specs.Checks.{needed}
 use Rattle.jpeg_segments.specs.Frame.{Component, Frame}
 use Rattle.jpeg_segments.specs.declared.frame.CodingProcess.{CodingProcess}
 use Rattle.jpeg_segments.specs.declared.frame.CodingProcess.TheVariants.{DctProgressive, DctSequential, Lossless}
-use Rattle.jpeg_streams.specs.Brought.{all_brought}
 use Rattle.jpeg_streams.specs.Found.{Found, nothing_found}
 use Rattle.jpeg_streams.specs.FoundPictures.{blocks_picture, limited, picture_by_process, picture_of, plane_at_end}
 use Rattle.jpeg_streams.specs.FoundPictures.{samples_picture}
@@ -24,9 +23,10 @@ use Rattle.jpeg_streams.specs.Shown.{Shown, completed, fault_in, fault_shown, fr
 use Rattle.jpeg_streams.specs.Shown.{shown}
 use Rattle.jpeg_streams.specs.Shown.{shown_by, shown_of, shown_rest, with_plane_shown, with_samples_shown}
 use Rattle.jpeg_streams.specs.States.{IfRefused, IsOfBytes, OnTold}
-use Rattle.jpeg_streams.specs.Stream.{Told, start_at, told_of}
+use Rattle.jpeg_streams.specs.Stream.{Told, all_brought, start_at, told_of}
 use Rattle.jpeg_streams.specs.declared.settings.Settings.{Settings}
 use Rattle.jpeg_decoder.specs.Reaching.{NamesFault, UnlessRefused, is_out_of_memory, walk_end, without_tables}
+use Rattle.jpeg_decoder.proofs.Partial.Refused.{if-there}
 use Rattle.jpeg_decoder.specs.Shows.{GivesUp, IsShown, ShowsJust}
 
 -- ---- tables are not seen
@@ -81,7 +81,7 @@ fault-tables f (Ok rest) =
     (λ i frame. planes-tables frame.process f frame i)
 
 shown-tables : (settings : Settings) (f : Found) (ended : Result (List ℕ) Fault)
-    → shown_of settings (without_tables f, ended) ≡ shown_of settings (f, ended)
+    → shown_of settings (without_tables f) ended ≡ shown_of settings f ended
 unfolding shown_of
 shown-tables settings f ended i =
     framed_or f.said.frame ended >>= (λ (u : Unit {0}). shown-picture settings f i >>= (λ (picture : List ℕ).
@@ -90,15 +90,15 @@ shown-tables settings f ended i =
 -- What differs in tables alone shows the same.
 pub shown-same : (settings : Settings) (f g : Found) (ended : Result (List ℕ) Fault)
     → without_tables f ≡ without_tables g
-    → shown_of settings (f, ended) ≡ shown_of settings (g, ended)
+    → shown_of settings f ended ≡ shown_of settings g ended
 shown-same settings f g ended e =
-    sym (shown-tables settings f ended) ∙ ap (λ (x : Found). shown_of settings (x, ended)) e
+    sym (shown-tables settings f ended) ∙ ap (λ (x : Found). shown_of settings x ended) e
     ∙ shown-tables settings g ended
 
 -- ---- what was found is shown
 
 framed-none : (settings : Settings) (f : Found) (o : Option Frame) (ended : Result (List ℕ) Fault) → f.said.frame ≡ o
-    → shown_of settings (f, ended) ≡ (framed_or o ended >>= (λ (u : Unit {0}). picture_shown settings f
+    → shown_of settings f ended ≡ (framed_or o ended >>= (λ (u : Unit {0}). picture_shown settings f
     >>= (λ (picture : List ℕ). Ok (record { told = told_of f.said; picture = picture; fault = fault_shown f ended }))))
 unfolding shown_of
 framed-none settings f o ended e = ap (λ (o : Option Frame). framed_or o ended >>= (λ (u : Unit
@@ -108,7 +108,7 @@ framed-none settings f o ended e = ap (λ (o : Option Frame). framed_or o ended 
 
 -- without a frame the fault is that of the segments
 fault-unframed : (settings : Settings) (f : Found) (e : Error) (ended : Result (List ℕ) Fault) → f.said.frame ≡ None
-    → NamesFault (Some e) (fault_in ended) → Names e (shown_of settings (f, ended))
+    → NamesFault (Some e) (fault_in ended) → Names e (shown_of settings f ended)
 fault-unframed settings f e (Ok rest) none n = absurd n
 fault-unframed settings f e (Err fault) none n =
     subst (Names e) (sym (framed-none settings f None (Err fault) none))
@@ -116,13 +116,13 @@ fault-unframed settings f e (Err fault) none n =
 
 pub unframed-fault : (settings : Settings) (f : Found) (e : Error) (fault : Option Error) (ended : Result
     (List ℕ) Fault)
-    → f.said.frame ≡ None → fault ≡ Some e → NamesFault fault (fault_in ended) → Names e (shown_of settings (f, ended))
+    → f.said.frame ≡ None → fault ≡ Some e → NamesFault fault (fault_in ended) → Names e (shown_of settings f ended)
 unframed-fault settings f e fault ended none is n =
     fault-unframed settings f e ended none (subst (λ (o : Option Error). NamesFault o (fault_in ended)) is n)
 
 -- or that there is none
 end-unframed : (settings : Settings) (f : Found) (e : Error) (ended : Result (List ℕ) Fault) → f.said.frame ≡ None
-    → NamesFault None (fault_in ended) → NamesFormat e → Names e (shown_of settings (f, ended))
+    → NamesFault None (fault_in ended) → NamesFormat e → Names e (shown_of settings f ended)
 end-unframed settings f e (Err fault) none n k = absurd n
 end-unframed settings f e (Ok rest) none n k =
     subst (Names e) (sym (framed-none settings f None (Ok rest) none)) (malformed e k)
@@ -132,14 +132,14 @@ end-unframed settings f e (Ok rest) none n k =
 
 pub unframed-end : (settings : Settings) (f : Found) (e : Error) (fault : Option Error) (ended : Result (List ℕ) Fault)
     → f.said.frame ≡ None → fault ≡ None → NamesFault fault (fault_in ended) → NamesFormat e
-    → Names e (shown_of settings (f, ended))
+    → Names e (shown_of settings f ended)
 unframed-end settings f e fault ended none is n k =
     end-unframed settings f e ended none (subst (λ (o : Option Error). NamesFault o (fault_in ended)) is n) k
 
 -- with one the picture is that of what was found, with what it lacks
 framed-some : (settings : Settings) (f : Found) (frame : Frame) (ended : Result (List ℕ) Fault)
     → f.said.frame ≡ Some frame
-    → shown_of settings (f, ended) ≡ (picture_of settings (completed f frame)
+    → shown_of settings f ended ≡ (picture_of settings (completed f frame)
     >>= (λ (picture : List ℕ). Ok (record { told = told_of f.said; picture = picture; fault = fault_shown f ended })))
 unfolding picture_shown
 framed-some settings f frame ended e =
@@ -149,9 +149,9 @@ framed-some settings f frame ended e =
 
 pub framed-lacks : (settings : Settings) (f g : Found) (frame : Frame) (e : Error) (ended : Result (List ℕ) Fault)
     → f.said.frame ≡ Some frame → g ≡ completed f frame → Names e (picture_of settings g)
-    → Names e (shown_of settings (f, ended))
+    → Names e (shown_of settings f ended)
 framed-lacks settings f g frame e ended some is n =
-    Names-through e (picture_of settings g) (shown_of settings (f, ended))
+    Names-through e (picture_of settings g) (shown_of settings f ended)
     (λ fault p. framed-some settings f frame ended some
     ∙ ap (λ (o : Result (List ℕ) Fault). o >>= (λ (picture : List ℕ).
     Ok (record { told = told_of f.said; picture = picture; fault = fault_shown f ended })))
@@ -174,7 +174,7 @@ pub framed-shown : (settings : Settings) (f g : Found) (frame : Frame) (fault mi
     → f.said.frame ≡ Some frame → g ≡ completed f frame → picture_of settings g ≡ Ok picture
     → first ≡ option_or fault missing → NamesFault missing (fault_in (planes_by frame.process f frame))
     → NamesFault fault (fault_in ended)
-    → (s : Shown) × (shown_of settings (f, ended) ≡ Ok s) × (picture ≡ s.picture) × (told_of f.said ≡ s.told)
+    → (s : Shown) × (shown_of settings f ended ≡ Ok s) × (picture ≡ s.picture) × (told_of f.said ≡ s.told)
     × NamesFault first s.fault
 framed-shown settings f g frame fault missing first picture ended some is made e m n = (
   record { told = told_of f.said; picture = picture; fault = fault_shown f ended },
@@ -190,59 +190,52 @@ framed-shown settings f g frame fault missing first picture ended some is made e
 
 -- ---- the rest of a stream
 
-ok-end : (w : Found × Result (List ℕ) Fault) (x : Unit {0} × List ℕ) → walk_end w ≡ Ok x
-    → NamesFault None (fault_in w.1)
-ok-end (f, Ok rest) x e = tt
-ok-end (f, Err fault) x e = let b : ⊥ = cc in b
+ok-end : (end : Result (List ℕ) Fault) (x : Unit {0} × List ℕ)
+    → (end >>= λ (rest : List ℕ). Ok (tt, rest)) ≡ Ok x → NamesFault None (fault_in end)
+ok-end (Ok rest) x e = tt
+ok-end (Err fault) x e = let b : ⊥ = cc in b
 
-err-end : (e : Error) (w : Found × Result (List ℕ) Fault) → (e ≡ errors.OutOfMemory → ⊥) → Names e (walk_end w)
-    → NamesFault (Some e) (fault_in w.1)
-err-end e (f, Ok rest) other n = grind (arith, common_steps)
-err-end e (f, Err fault) other n =
-    Names-through e (walk_end (f, Err fault)) (Err fault) (λ g p. ap (λ (r : Outcome (Unit {0})). r >>=
-    (λ x. Err g)) p) n
+err-end : (e : Error) (end : Result (List ℕ) Fault) → (e ≡ errors.OutOfMemory → ⊥)
+    → Names {Y = Unit {0} × List ℕ} e (end >>= λ (rest : List ℕ). Ok (tt, rest))
+    → NamesFault (Some e) (fault_in end)
+err-end e (Ok rest) other n = grind (arith, common_steps)
+err-end e (Err fault) other n =
+    Names-through e (Err fault) (Err fault) (λ g p. ap (λ (r : Outcome (Unit {0})). r >>= (λ x. Err g)) p) n
 
 shown-through : {X : Type 0} (bytes_of : X → List ℕ) (fault_of : X → Option Error) (settings : Settings) (old f : Found)
     (bytes : List ℕ) (fault : Option Error) (r : Result X Error) (told : Told)
-    → without_tables f ≡ without_tables (all_brought old bytes).0
-    → NamesFault fault (fault_in (all_brought old bytes).1)
+    → without_tables f ≡ without_tables (all_brought old bytes).found
+    → NamesFault fault (fault_in (all_brought old bytes).rest)
     → ((ended : Result (List ℕ) Fault) → NamesFault fault (fault_in ended)
-    → IsShown (shown_of settings (f, ended)) bytes_of fault_of r told)
+    → IsShown (shown_of settings f ended) bytes_of fault_of r told)
     → IsShown (shown_rest settings old bytes) bytes_of fault_of r told
 unfolding shown_rest
 shown-through bytes_of fault_of settings old f bytes fault r told same n h =
     subst (λ (o : Result Shown Fault). IsShown o bytes_of fault_of r told)
-    (shown-same settings f (all_brought old bytes).0 (all_brought old bytes).1 same)
-    (h (all_brought old bytes).1 n)
+    (shown-same settings f (all_brought old bytes).found (all_brought old bytes).rest same)
+    (h (all_brought old bytes).rest n)
 
 pub rest-ok : {X : Type 0} (bytes_of : X → List ℕ) (fault_of : X → Option Error) (settings : Settings) (old f : Found)
     (s n : Stream) (r : Result X Error) (told : Told)
     → Answers (λ (u : Unit {0}). tt) (λ bytes. walk_end (all_brought old bytes)) s (Ok tt) n
-    → (s.known ≡ true → without_tables f ≡ without_tables (all_brought old s.bytes).0)
+    → (s.known ≡ true → without_tables f ≡ without_tables (all_brought old s.bytes).found)
     → ((ended : Result (List ℕ) Fault) → NamesFault None (fault_in ended)
-    → IsShown (shown_of settings (f, ended)) bytes_of fault_of r told)
+    → IsShown (shown_of settings f ended) bytes_of fault_of r told)
     → ShowsJust (shown_rest settings old) bytes_of fault_of s r n told
 rest-ok bytes_of fault_of settings old f s n r told a found h k l =
     shown-through bytes_of fault_of settings old f s.bytes None r told (found k)
-    (ok-end (all_brought old s.bytes) _ (a.1 k).1) h
-
-unless : (e : Error) (P : Type 0) → (e ≡ errors.OutOfMemory → ⊥) → IfRefused e P → P
-unless errors.OutOfMemory P other p = absurd (other refl)
-unless (errors.Format t) P other p = p
-unless (errors.Unsupported t) P other p = p
-unless (errors.Io t) P other p = p
-unless (errors.Internal t) P other p = p
+    (ok-end (all_brought old s.bytes).rest _ (a.1 k).1) h
 
 pub rest-err : {X : Type 0} (bytes_of : X → List ℕ) (fault_of : X → Option Error) (settings : Settings) (old f : Found)
     (s n : Stream) (e : Error) (r : Result X Error) (told : Told) → (e ≡ errors.OutOfMemory → ⊥)
     → IfRefused e (Answers (λ (u : Unit {0}). tt) (λ bytes. walk_end (all_brought old bytes)) s (Err e) n)
-    → (s.known ≡ true → n.known ≡ true → IfRefused e (without_tables f ≡ without_tables (all_brought old s.bytes).0))
+    → (s.known ≡ true → n.known ≡ true → IfRefused e (without_tables f ≡ without_tables (all_brought old s.bytes).found))
     → ((ended : Result (List ℕ) Fault) → NamesFault (Some e) (fault_in ended)
-    → IsShown (shown_of settings (f, ended)) bytes_of fault_of r told)
+    → IsShown (shown_of settings f ended) bytes_of fault_of r told)
     → ShowsJust (shown_rest settings old) bytes_of fault_of s r n told
 rest-err bytes_of fault_of settings old f s n e r told other a found h k l =
-    shown-through bytes_of fault_of settings old f s.bytes (Some e) r told (unless e _ other (found k l))
-    (err-end e (all_brought old s.bytes) other ((unless e _ other a).1 k l)) h
+    shown-through bytes_of fault_of settings old f s.bytes (Some e) r told (if-there e _ other (found k l))
+    (err-end e (all_brought old s.bytes).rest other ((if-there e _ other a).1 k l)) h
 
 not-memory : (e : Error) → is_out_of_memory {X = Unit {0}} (Err e) ≡ false → e ≡ errors.OutOfMemory → ⊥
 not-memory e h is = true≢false (sym (ap (λ (e : Error). is_out_of_memory {X = Unit {0}} (Err e)) is) ∙ h)
@@ -252,30 +245,30 @@ pub rest-shown : {X : Type 0} (bytes_of : X → List ℕ) (fault_of : X
     (s n : Stream) (ended : Result (Unit {0}) Error) (fault : Option Error) (r : Result X Error) (told : Told)
     → is_out_of_memory ended ≡ false
     → UnlessRefused ended (Answers (λ (u : Unit {0}). tt) (λ bytes. walk_end (all_brought old bytes)) s ended n)
-    → OnTold s n ended (without_tables f ≡ without_tables (all_brought old s.bytes).0)
+    → OnTold s n ended (without_tables f ≡ without_tables (all_brought old s.bytes).found)
     → fault ≡ result_err ended → g ≡ f
     → ((w : Result (List ℕ) Fault) → NamesFault fault (fault_in w)
-    → IsShown (shown_of settings (g, w)) bytes_of fault_of r told)
+    → IsShown (shown_of settings g w) bytes_of fault_of r told)
     → ShowsJust (shown_rest settings old) bytes_of fault_of s r n told
 rest-shown bytes_of fault_of settings old f g s n (Ok u) fault r told m a found is e h =
     rest-ok bytes_of fault_of settings old f s n r told a found
-    (λ w p. subst (λ (x : Found). IsShown (shown_of settings (x, w)) bytes_of fault_of r told) e
+    (λ w p. subst (λ (x : Found). IsShown (shown_of settings x w) bytes_of fault_of r told) e
     (h w (subst (λ (o : Option Error). NamesFault o (fault_in w)) (sym is) p)))
 rest-shown bytes_of fault_of settings old f g s n (Err x) fault r told m a found is e h =
     rest-err bytes_of fault_of settings old f s n x r told (not-memory x m) a found
-    (λ w p. subst (λ (x : Found). IsShown (shown_of settings (x, w)) bytes_of fault_of r told) e
+    (λ w p. subst (λ (x : Found). IsShown (shown_of settings x w) bytes_of fault_of r told) e
     (h w (subst (λ (o : Option Error). NamesFault o (fault_in w)) (sym is) p)))
 
 -- what holds, unless memory ran out
 pub then-holds : (ended : Result (Unit {0}) Error) (P : Type 0) → is_out_of_memory ended ≡ false
     → UnlessRefused ended P → P
 then-holds (Ok u) P m p = p
-then-holds (Err e) P m p = unless e P (not-memory e m) p
+then-holds (Err e) P m p = if-there e P (not-memory e m) p
 
 pub told-holds : (s n : Stream) (ended : Result (Unit {0}) Error) (P : Type 0) → is_out_of_memory ended ≡ false
     → OnTold s n ended P → s.known ≡ true → n.known ≡ true → P
 told-holds s n (Ok u) P m p k l = p k
-told-holds s n (Err e) P m p k l = unless e P (not-memory e m) (p k l)
+told-holds s n (Err e) P m p k l = if-there e P (not-memory e m) (p k l)
 
 -- an error of a call on a source is one of bytes
 of-bytes : (e : Error) (a b : Bool) → MayFail e a b → IsOfBytes e
@@ -291,7 +284,7 @@ pub ended-bytes : (ended : Result (Unit {0}) Error) (fault : Option Error) (view
 ended-bytes (Ok u) fault view read s n m a is = subst (λ (o : Option Error). IfSome o IsOfBytes) (sym is) tt
 ended-bytes (Err e) fault view read s n m a is =
     subst (λ (o : Option Error). IfSome o IsOfBytes) (sym is)
-    (of-bytes e s.failed n.failed (unless e _ (not-memory e m) a).0)
+    (of-bytes e s.failed n.failed (if-there e _ (not-memory e m) a).0)
 
 -- ---- a reader that gives up
 
@@ -320,14 +313,14 @@ pub rest-given-up : {X : Type 0} (fault_of : X → Option Error) (view : Unit {0
 rest-given-up fault_of view read s n (Ok u) fault (Err e) m other a is first = λ k l.
     absurd (true≢false (sym (a.1 k).0 ∙ l))
 rest-given-up fault_of view read s n (Err x) fault (Err e) m other a is first = λ k l.
-    refused-or e n.failed (failed-read x n.failed ((unless x _ (not-memory x m) a).2 k l) other)
+    refused-or e n.failed (failed-read x n.failed ((if-there x _ (not-memory x m) a).2 k l) other)
 rest-given-up fault_of view read s n (Ok u) fault (Ok x) m other a is first = λ k l.
     absurd (true≢false (sym (a.1 k).0 ∙ l))
 rest-given-up fault_of view read s n (Err e) fault (Ok x) m other a is first = λ k l.
     let same : fault_of x ≡ Some e =
     subst (λ (o : Option Error). IfSome o (λ (e : Error). fault_of x ≡ Some e)) is first in
     subst (λ (o : Option Error). IsSomeAnd o (λ (e : Error). IsGivenUp e n.failed)) (sym same)
-    ((unless e _ (not-memory e m) a).2 k l)
+    ((if-there e _ (not-memory e m) a).2 k l)
 
 pub start-given-up : {X : Type 0} (fault_of : X → Option Error) (s m n : Stream) (r : Result X Error)
     → Answers (λ (u : Unit {0}). u) start_at s (Ok tt) m → GivesUp fault_of m r n → GivesUp fault_of s r n

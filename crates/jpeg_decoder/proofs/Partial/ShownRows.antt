@@ -6,15 +6,12 @@ use Rattle.jpeg_bits.specs.Reading.{Answers, Fault}
 use Rattle.jpeg_bits.specs.Stream.{Stream}
 use Rattle.jpeg_bits.specs.declared.error.Error.{Error}
 use Rattle.jpeg_segments.specs.Frame.{Frame}
-use Rattle.jpeg_streams.specs.Brought.{all_brought}
 use Rattle.jpeg_streams.specs.Found.{Found, nothing_found}
-use Rattle.jpeg_streams.specs.Shown.{fault_in, planes_by}
+use Rattle.jpeg_streams.specs.Shown.{fault_in, planes_by, rows_of_found, rows_of_frame, whole_rows, whole_rows_rest}
 use Rattle.jpeg_streams.specs.States.{OnTold}
-use Rattle.jpeg_streams.specs.Stream.{start_at}
-use Rattle.jpeg_streams.specs.WholeRows.{rows_of_found, rows_of_frame, whole_rows, whole_rows_rest}
+use Rattle.jpeg_streams.specs.Stream.{all_brought, start_at}
 use Rattle.jpeg_decoder.specs.Reaching.{NamesFault, is_out_of_memory, without_tables}
 use Rattle.jpeg_decoder.specs.Shows.{CountsRows}
-use Rattle.jpeg_decoder.proofs.Partial.BroughtLoops.{all_rows}
 use Rattle.jpeg_decoder.proofs.Partial.ShownFaults.{planes-tables, told-holds}
 
 -- ---- what was found
@@ -58,12 +55,12 @@ found-same rows f g e =
 
 pub rest-counted : {X : Type 0} (rows_of : X → ℕ) (old f g : Found) (s n : Stream) (ended : Result (Unit {0}) Error)
     (rows : Option ℕ) (r : Result X Error) → is_out_of_memory ended ≡ false
-    → OnTold s n ended (without_tables f ≡ without_tables (all_brought old s.bytes).0)
-    → OnTold s n ended (rows ≡ all_rows old s.bytes) → g ≡ f
+    → OnTold s n ended (without_tables f ≡ without_tables (all_brought old s.bytes).found)
+    → OnTold s n ended (rows ≡ (all_brought old s.bytes).rows) → g ≡ f
     → IfOk r (λ x. rows_of x ≡ rows_of_found rows g) → CountsRows rows_of (whole_rows_rest old) s r n
 unfolding whole_rows_rest
 rest-counted rows_of old f g s n ended rows r m found counted same h = λ k l.
-    let all = (all_brought old s.bytes).0 in
+    let all = (all_brought old s.bytes).found in
     IfOk-weaker r _ _ (λ x is. is ∙ ap (rows_of_found rows) same
     ∙ found-same rows f all (told-holds s n ended _ m found k l)
     ∙ ap (λ (rows : Option ℕ). rows_of_found rows all) (told-holds s n ended _ m counted k l)) h

@@ -11,12 +11,12 @@ ghost use Rattle.jpeg_streams.specs.EndPlanes.{AreBlocksOf, blocks_if, is_kept};
 ghost use Rattle.jpeg_streams.specs.Found.{Found, nothing_found};
 ghost use Rattle.jpeg_streams.specs.Rasters.{plane_by};
 ghost use Rattle.jpeg_streams.specs.Shown.{blocks_held, completed, fault_in, planes_by, shown};
+ghost use Rattle.jpeg_streams.specs.Shown.{rows_of_found, whole_rows, whole_rows_rest};
 ghost use Rattle.jpeg_streams.specs.Shown.{shown_by, shown_of, shown_rest, table_held};
 ghost use Rattle.jpeg_streams.specs.Shown.{with_plane_shown, with_samples_shown};
 ghost use Rattle.jpeg_streams.specs.Sound.{HasDecodedFrame, IsDecodedFrame, IsSound};
 ghost use Rattle.jpeg_streams.specs.States.{IsOfBytes};
 ghost use Rattle.jpeg_streams.specs.Stream.{told_of};
-ghost use Rattle.jpeg_streams.specs.WholeRows.{rows_of_found, whole_rows, whole_rows_rest};
 ghost use Rattle.jpeg_decoder.specs.Bytes.{AreLinesOf, IsWhole, shape_of};
 ghost use Rattle.jpeg_decoder.specs.Reaching.{NamesFault, is_out_of_memory};
 ghost use Rattle.jpeg_decoder.specs.Scanning.{arrays_in};
@@ -256,7 +256,7 @@ fn show_found(
     requires sound { IsSound (with_decoded state.now decoded.old) }
     requires fault { IfSome fault IsOfBytes }
     ensures shown { (ended : Result (List ℕ) Fault) → NamesFault fault (fault_in ended)
-        → IsShown (shown_of settings (with_decoded state.now decoded.old, ended))
+        → IsShown (shown_of settings (with_decoded state.now decoded.old) ended)
         (λ p. concat p.lines) (λ p. p.fault) result (told_of state.now.said) }
     ensures rows { IfOk result (λ p. p.whole_rows
         ≡ rows_of_found rows (with_decoded state.now decoded.old)) }

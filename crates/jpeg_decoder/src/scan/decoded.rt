@@ -205,7 +205,6 @@ fn is_out_of_memory(met: &Result<Option<Marker>>) -> bool
 
 impl Decoded {
     ghost use Rattle.jpeg_streams.specs.States.{OnTold};
-    ghost use Rattle.jpeg_streams.specs.WholeRows.{rows_of_codings};
     ghost use Rattle.jpeg_decoder.specs.Reaching.{data_reached, UnlessRefused};
     ghost use Rattle.std.specs.Prelude.{◌≡◌, ◌<◌, [], All, IfOk, OnOk, None, Some};
     ghost use Rattle.std.specs.Prelude.{◌*◌, true, false, length, map, replicate, slice_index_or};
@@ -585,15 +584,15 @@ impl Decoded {
             → OnTold source.old source.new result (once_scanned (with_decoded base self.new)
             ≡ (data_reached (with_decoded base self.old) (frame_in frame.now)
             scan.now.pass scan.now.codings
-            source.old.bytes).0) }
+            source.old.bytes).found) }
         ensures rows { (base : Found) → IsBefore scanned scan.now base
-            → OnTold source.old source.new result (self.new.rows ≡ rows_of_codings
+            → OnTold source.old source.new result (self.new.rows ≡ (data_reached
             (with_decoded base self.old) (frame_in frame.now) scan.now.pass scan.now.codings
-            source.old.bytes) }
+            source.old.bytes).rows) }
         ensures data { (base : Found) → IsBefore scanned scan.now base
             → UnlessRefused result (Answers (λ m. m) (λ bytes. (data_reached
             (with_decoded base self.old) (frame_in frame.now) scan.now.pass scan.now.codings
-            bytes).1) source.old result source.new) }
+            bytes).met) source.old result source.new) }
         ensures kept { UnlessRefused result (AreArrays (frame_in frame.now).components
             (blocks_before true self.new (frame_in frame.now))) }
         ensures planes { ArePlanes (frame_in frame.now).components self.old.planes

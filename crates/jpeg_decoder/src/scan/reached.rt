@@ -10,12 +10,11 @@ ghost use Rattle.jpeg_bits.specs.Entropy.{text_at, upcoming};
 ghost use Rattle.jpeg_bits.specs.Intervals.{first_group};
 ghost use Rattle.jpeg_bits.specs.Reading.{Answers};
 ghost use Rattle.jpeg_segments.specs.FrameView.{frame_in};
-ghost use Rattle.jpeg_streams.specs.Brought.{interval_reached, reached_from, scan_reached};
-ghost use Rattle.jpeg_streams.specs.Brought.{sealed};
+ghost use Rattle.jpeg_streams.specs.Brought.{interval_reached, or_first, reached_from};
+ghost use Rattle.jpeg_streams.specs.Brought.{scan_reached};
 ghost use Rattle.jpeg_streams.specs.InTurn.{AreArrays, Fits, at_start};
 ghost use Rattle.jpeg_streams.specs.Order.{mcu_size, spots_of};
 ghost use Rattle.jpeg_streams.specs.States.{OnTold};
-ghost use Rattle.jpeg_streams.specs.WholeRows.{or_first, unread_from, unread_of_scan};
 ghost use Rattle.jpeg_decoder.specs.Reaching.{after_group, IsAhead, TellsBits, TellsLeft};
 ghost use Rattle.jpeg_decoder.specs.Reaching.{UnlessRefused};
 ghost use Rattle.jpeg_decoder.specs.Scanning.{arrays_in, sizes_of, IsSpotOf};
@@ -60,14 +59,15 @@ fn reach_group<R: Read + Drop>(
     ensures left { OnOk result (spots.new ≡ after_group n spots.old) }
     ensures arrays { UnlessRefused result (arrays_in arrays.new.items
         ≡ (reached_from scan.now.pass (scan_vias scan.now) (first_group n spots.old)
-        (at_start (arrays_in arrays.old.items)) (upcoming decoder.old source.old.bytes)).0.arrays) }
-    ensures unread { UnlessRefused result (slice_get spots.new 0 ≡ or_first (unread_from
+        (at_start (arrays_in arrays.old.items))
+        (upcoming decoder.old source.old.bytes)).reached.arrays) }
+    ensures unread { UnlessRefused result (slice_get spots.new 0 ≡ or_first (reached_from
         scan.now.pass (scan_vias scan.now) (first_group n spots.old)
-        (at_start (arrays_in arrays.old.items)) (upcoming decoder.old source.old.bytes))
+        (at_start (arrays_in arrays.old.items)) (upcoming decoder.old source.old.bytes)).unread
         (after_group n spots.old)) }
     ensures told { TellsBits (reached_from scan.now.pass (scan_vias scan.now)
         (first_group n spots.old) (at_start (arrays_in arrays.old.items))
-        (upcoming decoder.old source.old.bytes)).1 result
+        (upcoming decoder.old source.old.bytes)).rest result
         (upcoming decoder.new source.new.bytes).bits }
     ensures known { OnOk result (source.new.known ≡ true) }
     ensures ahead { OnOk result (IsAhead (upcoming decoder.new source.new.bytes)) }
@@ -111,12 +111,13 @@ fn reach_spots(
     ensures left { OnOk result (spots.new ≡ after_group n spots.old) }
     ensures arrays { UnlessRefused result (arrays_in arrays.new.items
         ≡ (reached_from scan.now.pass (scan_vias scan.now) (first_group n spots.old)
-        (at_start (arrays_in arrays.old.items)) (text_at bytes.now)).0.arrays) }
-    ensures unread { UnlessRefused result (slice_get spots.new 0 ≡ or_first (unread_from
+        (at_start (arrays_in arrays.old.items)) (text_at bytes.now)).reached.arrays) }
+    ensures unread { UnlessRefused result (slice_get spots.new 0 ≡ or_first (reached_from
         scan.now.pass (scan_vias scan.now) (first_group n spots.old)
-        (at_start (arrays_in arrays.old.items)) (text_at bytes.now)) (after_group n spots.old)) }
+        (at_start (arrays_in arrays.old.items)) (text_at bytes.now)).unread
+        (after_group n spots.old)) }
     ensures told { TellsLeft (reached_from scan.now.pass (scan_vias scan.now)
-        (first_group n spots.old) (at_start (arrays_in arrays.old.items)) (text_at bytes.now)).1
+        (first_group n spots.old) (at_start (arrays_in arrays.old.items)) (text_at bytes.now)).rest
         result }
 {
     let mut source = Source::new(SliceReader::new(bytes));
@@ -142,14 +143,13 @@ fn reach_interval<R: Read + Drop>(
     ensures left { OnOk result (spots.new ≡ after_group n spots.old) }
     ensures arrays { OnTold source.old source.new result (arrays_in arrays.new.items
         ≡ (interval_reached scan.now.pass (scan_vias scan.now) (first_group n spots.old)
-        (arrays_in arrays.old.items) source.old.bytes).0) }
+        (arrays_in arrays.old.items) source.old.bytes).reached) }
     ensures unread { OnTold source.old source.new result (slice_get spots.new 0 ≡ or_first
-        (unread_from scan.now.pass (scan_vias scan.now) (first_group n spots.old)
-        (at_start (arrays_in arrays.old.items)) (sealed (text_at source.old.bytes)))
-        (after_group n spots.old)) }
+        (interval_reached scan.now.pass (scan_vias scan.now) (first_group n spots.old)
+        (arrays_in arrays.old.items) source.old.bytes).unread (after_group n spots.old)) }
     ensures answers { Answers (λ r. (r.0, Some r.1)) (λ bytes. (interval_reached
         scan.now.pass (scan_vias scan.now) (first_group n spots.old)
-        (arrays_in arrays.old.items) bytes).1) source.old result source.new }
+        (arrays_in arrays.old.items) bytes).rest) source.old result source.new }
 {
     let mut data = Vec::new(alloc);
     let ended = read_data(alloc, source, &mut data);
@@ -174,12 +174,12 @@ fn reach_intervals<R: Read + Drop>(
     ensures sizes { sizes_of arrays.new.items ≡ sizes_of arrays.old.items }
     ensures arrays { OnTold source.old source.new result (arrays_in arrays.new.items
         ≡ (scan_reached scan.now.pass n (scan_vias scan.now) spots.old
-        (arrays_in arrays.old.items) source.old.bytes).0) }
+        (arrays_in arrays.old.items) source.old.bytes).reached) }
     ensures unread { OnTold source.old source.new result (slice_get spots.new 0
-        ≡ unread_of_scan scan.now.pass n (scan_vias scan.now) spots.old
-        (arrays_in arrays.old.items) source.old.bytes) }
+        ≡ (scan_reached scan.now.pass n (scan_vias scan.now) spots.old
+        (arrays_in arrays.old.items) source.old.bytes).unread) }
     ensures answers { Answers (λ m. m) (λ bytes. (scan_reached scan.now.pass n
-        (scan_vias scan.now) spots.old (arrays_in arrays.old.items) bytes).1) source.old result
+        (scan_vias scan.now) spots.old (arrays_in arrays.old.items) bytes).rest) source.old result
         source.new }
 {
     let mut number = 0u8;
@@ -220,16 +220,16 @@ pub fn reach_blocks<R: Read + Drop>(
         ≡ (scan_reached scan.now.pass
         (scan.now.restart_interval * mcu_size (scan_components scan.now)) (scan_vias scan.now)
         (spots_of (frame_in frame.now) (scan_components scan.now)) (arrays_in arrays.old.items)
-        source.old.bytes).0) }
+        source.old.bytes).reached) }
     ensures unread { OnTold source.old source.new result (option_map spot_of unread.new
-        ≡ unread_of_scan scan.now.pass
+        ≡ (scan_reached scan.now.pass
         (scan.now.restart_interval * mcu_size (scan_components scan.now)) (scan_vias scan.now)
         (spots_of (frame_in frame.now) (scan_components scan.now)) (arrays_in arrays.old.items)
-        source.old.bytes) }
+        source.old.bytes).unread) }
     ensures answers { Answers (λ m. m) (λ bytes. (scan_reached scan.now.pass
         (scan.now.restart_interval * mcu_size (scan_components scan.now)) (scan_vias scan.now)
         (spots_of (frame_in frame.now) (scan_components scan.now)) (arrays_in arrays.old.items)
-        bytes).1) source.old result source.new }
+        bytes).rest) source.old result source.new }
 {
     let order = ScanOrder::new(alloc, scan, frame)?;
     let mut spots = order.spots();

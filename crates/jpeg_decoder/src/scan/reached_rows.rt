@@ -153,18 +153,17 @@ pub fn reach_samples<R: Read + Drop>(
         (frame_in scan.now.frame.now) scan.now.header.now ≡ Ok codings
         → OnTold source.old source.new result (once_scanned (found_of scan.now.said.now decoded.new)
         ≡ (samples_reached (found_of scan.now.said.now decoded.old) (frame_in scan.now.frame.now)
-        scan.now.header.now codings source.old.bytes).0) }
+        scan.now.header.now codings source.old.bytes).found) }
     ensures rows { (codings : List LosslessCoding) → sample_codings scan.now.said.now
         (frame_in scan.now.frame.now) scan.now.header.now ≡ Ok codings
-        → OnTold source.old source.new result (decoded.new.rows
-        ≡ rows_of_planes (frame_in scan.now.frame.now) codings (planes_brought
+        → OnTold source.old source.new result (decoded.new.rows ≡ (samples_reached
         (found_of scan.now.said.now decoded.old) (frame_in scan.now.frame.now)
-        scan.now.header.now codings source.old.bytes).0) }
+        scan.now.header.now codings source.old.bytes).rows) }
     ensures answers { (codings : List LosslessCoding) → sample_codings scan.now.said.now
         (frame_in scan.now.frame.now) scan.now.header.now ≡ Ok codings
         → UnlessRefused result (Answers (λ m. m) (λ bytes. (samples_reached
         (found_of scan.now.said.now decoded.old) (frame_in scan.now.frame.now)
-        scan.now.header.now codings bytes).1) source.old result source.new) }
+        scan.now.header.now codings bytes).met) source.old result source.new) }
     ensures sound { UnlessRefused result
         (IsSound (once_scanned (found_of scan.now.said.now decoded.new))) }
 {

@@ -11,7 +11,6 @@ ghost use Rattle.std.specs.Prelude.{List, None, OnOk, ℕ, ◌≡◌};
 ghost use Rattle.jpeg_streams.specs.Brought.{scan_brought};
 ghost use Rattle.jpeg_streams.specs.States.{OnToldRefusal};
 ghost use Rattle.jpeg_decoder.specs.Reaching.{IsEndOf, UnlessRefused, rows_after};
-ghost use Rattle.jpeg_streams.specs.WholeRows.{rows_of_scan};
 
 use crate::scan::coded::{Scan, wants_ac};
 use crate::scan::codings::{codings_of, pass_of, spare_tables, widen_tables};
@@ -82,11 +81,11 @@ pub fn reach_scan<R: Read + Drop>(
     requires rows { rows.old ≡ None }
     ensures whole { OnOk result (rows.new ≡ None) }
     ensures rows { OnToldRefusal source.old source.new result (rows.new
-        ≡ rows_of_scan state.old source.old.bytes) }
+        ≡ (scan_brought state.old source.old.bytes).rows) }
     ensures reads { UnlessRefused result (Answers (turn_of state.new) (λ bytes. (scan_brought
-        state.old bytes).1) source.old result source.new) }
+        state.old bytes).turn) source.old result source.new) }
     ensures found { OnToldRefusal source.old source.new result (state.new
-        ≡ (scan_brought state.old source.old.bytes).0) }
+        ≡ (scan_brought state.old source.old.bytes).found) }
     ensures sound { UnlessRefused result (IsSound state.new) }
     ensures steps { IsStep state.old result state.new }
 {

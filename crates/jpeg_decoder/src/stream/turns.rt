@@ -6,12 +6,11 @@ ghost use Rattle.jpeg_streams.specs.declared.before.Before.TheVariants.{Elsewher
 ghost use Rattle.jpeg_streams.specs.Reported.{IsOfTurns, told_in_turns};
 ghost use Rattle.jpeg_streams.specs.Sound.{IsSound, IsUnread};
 ghost use Rattle.jpeg_streams.specs.States.{OnTold, OnToldRefusal};
-ghost use Rattle.jpeg_streams.specs.Stream.{segment_at, segments_at, told_of, turn_at};
-ghost use Rattle.jpeg_streams.specs.Brought.{all_brought, turn_brought};
-ghost use Rattle.jpeg_streams.specs.WholeRows.{rows_of_turn, rows_of_walk};
+ghost use Rattle.jpeg_streams.specs.Stream.{all_brought, segment_at, segments_at, told_of, turn_at};
 ghost use Rattle.jpeg_bits.specs.declared.marker.Marker.TheVariants.{SOS};
 ghost use Rattle.jpeg_decoder.specs.Reaching.{OnFault, UnlessRefused, walk_end, without_tables};
 ghost use Rattle.jpeg_decoder.specs.Steps.{IsStep, turn_of};
+ghost use Rattle.jpeg_streams.specs.declared.beyond.Beyond.TheVariants.{Nothing, Zeros};
 
 use crate::scan::segment::{reach_scan, read_scan, refused_line_count};
 use crate::stream::state::{State, Step};
@@ -82,8 +81,8 @@ fn read_turn<R: Read + Drop>(
     met: Option<Marker>,
 ) -> Result<Step>
     requires sound { IsSound state.old }
-    ensures reads { Answers (turn_of state.new) (turn_at before state.old met)
-        source.old result source.new }
+    ensures reads { Answers (turn_of state.new) (λ bytes. (turn_at Zeros before state.old met
+        bytes).turn) source.old result source.new }
     ensures steps { IsStep state.old result state.new }
     ensures short { met ≡ None → IsShort source.old }
 {
@@ -109,12 +108,11 @@ fn reach_turn<R: Read + Drop>(
     requires rows { rows.old ≡ None }
     ensures whole { OnOk result (rows.new ≡ None) }
     ensures rows { OnToldRefusal source.old source.new result (rows.new
-        ≡ rows_of_turn state.old met source.old.bytes) }
-    ensures reads { UnlessRefused result (Answers (turn_of state.new) (λ bytes. (turn_brought before
-        state.old met bytes).1) source.old result source.new) }
-    ensures found { OnToldRefusal source.old source.new result
-        (without_tables state.new ≡ without_tables (turn_brought before
-        state.old met source.old.bytes).0) }
+        ≡ (turn_at Nothing before state.old met source.old.bytes).rows) }
+    ensures reads { UnlessRefused result (Answers (turn_of state.new) (λ bytes. (turn_at Nothing
+        before state.old met bytes).turn) source.old result source.new) }
+    ensures found { OnToldRefusal source.old source.new result (without_tables state.new
+        ≡ without_tables (turn_at Nothing before state.old met source.old.bytes).found) }
     ensures sound { UnlessRefused result (IsSound state.new) }
     ensures steps { IsStep state.old result state.new }
     ensures short { met ≡ None → IsShort source.old }
@@ -182,12 +180,12 @@ pub fn reach_segments<R: Read + Drop>(
 ) -> Result<()>
     requires sound { IsSound state.old }
     requires rows { rows.old ≡ None }
-    ensures rows { OnTold source.old source.new result (rows.new ≡ rows_of_walk
-        (suc (length source.old.bytes)) Elsewhere state.old None source.old.bytes) }
+    ensures rows { OnTold source.old source.new result (rows.new
+        ≡ (all_brought state.old source.old.bytes).rows) }
     ensures reads { UnlessRefused result (Answers (λ _. tt) (λ bytes. walk_end (all_brought
         state.old bytes)) source.old result source.new) }
     ensures found { OnTold source.old source.new result (without_tables state.new
-        ≡ without_tables (all_brought state.old source.old.bytes).0) }
+        ≡ without_tables (all_brought state.old source.old.bytes).found) }
     ensures sound { UnlessRefused result (IsSound state.new) }
     ensures framed { IfOk result (λ _. is_some state.new.said.frame ≡ true) }
     ensures stays { is_some state.old.said.frame ≡ true → state.new.said.frame

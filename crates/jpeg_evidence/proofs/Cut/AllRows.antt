@@ -9,47 +9,42 @@ use Rattle.jpeg_segments.proofs.Codecs.{bind-ok, err-ok, ok-same}
 use Rattle.jpeg_streams.specs.declared.before.Before.{Before}
 use Rattle.jpeg_streams.specs.declared.before.Before.TheVariants.{Elsewhere}
 use Rattle.jpeg_streams.specs.declared.settings.Settings.{Settings}
-use Rattle.jpeg_streams.specs.Brought.{all_brought, turn_brought, walk_brought}
+use Rattle.jpeg_streams.specs.Brought.{Brought}
 use Rattle.jpeg_streams.specs.Found.{Found, nothing_found}
 use Rattle.jpeg_streams.specs.Segments.{Turn}
-use Rattle.jpeg_streams.specs.Shown.{Shown, framed_or, picture_shown, shown, shown_of, shown_rest}
-use Rattle.jpeg_streams.specs.Stream.{start_at}
-use Rattle.jpeg_streams.specs.WholeRows.{rows_of_found, rows_of_frame, rows_of_turn, rows_of_walk, whole_rows}
-use Rattle.jpeg_streams.specs.WholeRows.{whole_rows_rest}
-use Rattle.jpeg_streams.proofs.Partial.Faultless.{brought_on, faultless}
+use Rattle.jpeg_streams.specs.Shown.{Shown, framed_or, picture_shown, rows_of_found, rows_of_frame, shown, shown_of}
+use Rattle.jpeg_streams.specs.Shown.{shown_rest, whole_rows, whole_rows_rest}
+use Rattle.jpeg_streams.specs.Stream.{all_brought, start_at, turn_at, walk}
+use Rattle.jpeg_streams.proofs.Partial.Faultless.{faultless}
+use Rattle.jpeg_streams.proofs.Written.ReadTurns.{walked}
+use Rattle.jpeg_streams.specs.declared.beyond.Beyond.TheVariants.{Nothing}
+use Rattle.jpeg_evidence.proofs.Longer.LongerTurns.{walk_on}
 
--- the rows after a turn
-abbrev pub rows_on : ℕ → Option ℕ → Outcome Turn → Option ℕ
-rows_on turns refused o = elim o [
-  | Err fault ↦ refused
-  | Ok t ↦ if t.0.ended then None else rows_of_walk turns t.0.before t.0.found t.0.met t.1
-]
-
--- No scan of a later turn lacks any.
-abbrev Again : ℕ → List ℕ → Type 0
-Again turns rest = (x : Turn × List ℕ) → (walk_brought turns x.0.before x.0.found x.0.met x.1).1 ≡ Ok rest
-    → rows_of_walk turns x.0.before x.0.found x.0.met x.1 ≡ None
-
-turn-whole : (turns : ℕ) (rest : List ℕ) (old : Found) (refused : Option ℕ) (o : Outcome Turn) → Again turns rest
-    → (brought_on turns (old, o)).1 ≡ Ok rest → rows_on turns refused o ≡ None
-turn-whole turns rest old refused (Err fault) again e = absurd (err-ok fault rest e)
-turn-whole turns rest old refused (Ok x) again e = go x.0.ended e
-  where
-    go : (b : Bool)
-        → (if b then (x.0.found, Ok x.1) else walk_brought turns x.0.before x.0.found x.0.met x.1).1 ≡ Ok rest
-        → (if b then None else rows_of_walk turns x.0.before x.0.found x.0.met x.1) ≡ None
-    go true e = refl
-    go false e = again x e
-
--- Where what a walk brings has no fault, no scan of it lacks any.
+-- Where what a walk brings has no fault, no scan of it lacks rows.
 walk-whole : (turns : ℕ) (before : Before) (found : Found) (met : Option Marker) (bytes rest : List ℕ)
-    → (walk_brought turns before found met bytes).1 ≡ Ok rest → rows_of_walk turns before found met bytes ≡ None
-unfolding walk_brought rows_of_walk
+    → (walk Nothing turns false before found met bytes).rest ≡ Ok rest
+    → (walk Nothing turns false before found met bytes).rows ≡ None
+unfolding walk
 walk-whole zero before found met bytes rest e = refl
 walk-whole (suc turns) before found met bytes rest e =
-    let b = turn_brought before found met bytes in
-    turn-whole turns rest b.0 (rows_of_turn found met bytes) b.1
-    (λ x h. walk-whole turns x.0.before x.0.found x.0.met x.1 rest h) e
+    go (turn_at Nothing before found met bytes) (turn_at Nothing before found met bytes).turn e
+    (λ t. walk-whole turns t.0.before t.0.found t.0.met t.1 rest)
+  where
+    on : (t : Turn × List ℕ) (b : Bool)
+        → (if b then walked t.0.found (Ok t.1) else walk Nothing turns false t.0.before t.0.found t.0.met t.1).rest
+        ≡ Ok rest
+        → ((walk Nothing turns false t.0.before t.0.found t.0.met t.1).rest ≡ Ok rest
+        → (walk Nothing turns false t.0.before t.0.found t.0.met t.1).rows ≡ None)
+        → (if b then walked t.0.found (Ok t.1) else walk Nothing turns false t.0.before t.0.found t.0.met t.1).rows
+        ≡ None
+    on t true e again = refl
+    on t false e again = again e
+
+    go : (b : Brought) (o : Outcome Turn) → (walk_on turns b o).rest ≡ Ok rest
+        → ((t : Turn × List ℕ) → (walk Nothing turns false t.0.before t.0.found t.0.met t.1).rest ≡ Ok rest
+        → (walk Nothing turns false t.0.before t.0.found t.0.met t.1).rows ≡ None) → (walk_on turns b o).rows ≡ None
+    go b (Err fault) e again = absurd (err-ok fault rest e)
+    go b (Ok t) e again = on t t.0.ended e (again t)
 
 rest-whole : (settings : Settings) (bytes : List ℕ) (s : Shown) (frame : Frame)
     → shown_rest settings nothing_found bytes ≡ Ok s → s.fault ≡ None → s.told.frame ≡ Some frame
@@ -57,14 +52,14 @@ rest-whole : (settings : Settings) (bytes : List ℕ) (s : Shown) (frame : Frame
 unfolding shown_rest shown_of whole_rows_rest
 rest-whole settings bytes s frame e none framed =
     let w = all_brought nothing_found bytes in
-    let u = bind-ok (framed_or w.0.said.frame w.1) _ s e in
-    let p = bind-ok (picture_shown settings w.0) _ s u.2 in
+    let u = bind-ok (framed_or w.found.said.frame w.rest) _ s e in
+    let p = bind-ok (picture_shown settings w.found) _ s u.2 in
     let same = ok-same _ s p.2 in
-    let is : w.0.said.frame ≡ Some frame = ap (λ (z : Shown). z.told.frame) same ∙ framed in
-    let f = faultless w.0 w.1 frame is (ap (λ (z : Shown). z.fault) same ∙ none) in
-    ap (λ (rows : Option ℕ). rows_of_found rows w.0)
+    let is : w.found.said.frame ≡ Some frame = ap (λ (z : Shown). z.told.frame) same ∙ framed in
+    let f = faultless w.found w.rest frame is (ap (λ (z : Shown). z.fault) same ∙ none) in
+    ap (λ (rows : Option ℕ). rows_of_found rows w.found)
     (walk-whole (suc (length bytes)) Elsewhere nothing_found None bytes f.0 f.2)
-    ∙ ap (λ (o : Option Frame). unwrap_or (option_map (rows_of_frame None w.0) o) 0) is
+    ∙ ap (λ (o : Option Frame). unwrap_or (option_map (rows_of_frame None w.found) o) 0) is
     ∙ ap (λ (o : Result (List (List ℕ)) Fault). elim o as (λ _. ℕ) [
       | Ok planes ↦ frame.output_height
       | Err fault ↦ 0

@@ -2,7 +2,7 @@
 use Rattle.std.proofs.Common.{◌≡◌, ◌+◌, ◌%◌, ℕ, zero, suc, Bool, List, [], ◌∷◌, ◌++◌, length, map, get_or, replicate}
 use Rattle.std.proofs.Common.{refl, sym, ap, ap₂, ◌∙◌, subst, Option, append_assoc, append-nil, length-set}
 use Rattle.std.specs.List.{AllByRecursion}
-use Rattle.jpeg_bits.specs.Reading.{End, Outcome}
+use Rattle.jpeg_bits.specs.Reading.{End}
 use Rattle.jpeg_bits.specs.Entropy.{Broken, Ending, Text, ending_at, no_bits, text_at}
 use Rattle.jpeg_bits.specs.Intervals.{first_group, other_groups}
 use Rattle.jpeg_bits.specs.Passes.{Block, Pass, Via, predictors_at_start}
@@ -12,7 +12,7 @@ use Rattle.jpeg_bits.specs.Written.WritesIntervals.{another, last}
 use Rattle.jpeg_bits.specs.declared.marker.Marker.{Marker}
 use Rattle.jpeg_bits.specs.declared.marker.Marker.TheVariants.{RST}
 use Rattle.jpeg_bits.proofs.WrittenIntervals.{all-groups, marker-append}
-use Rattle.jpeg_streams.specs.Brought.{interval_reached, intervals_reached, scan_reached}
+use Rattle.jpeg_streams.specs.Brought.{BlocksTo, interval_reached, intervals_reached, or_first, scan_reached}
 use Rattle.jpeg_streams.specs.InTurn.{AreApart, IsIn}
 use Rattle.jpeg_streams.specs.Order.{Spot}
 use Rattle.jpeg_streams.specs.Scans.{Arrays, put_block, put_blocks, turns_of}
@@ -20,7 +20,7 @@ use Rattle.jpeg_streams.specs.WrittenData.{WritesBlocks}
 use Rattle.jpeg_streams.proofs.Order.CountedScans.{all_of, apart-back, apart-front, in-front}
 use Rattle.jpeg_streams.proofs.Written.WrittenFrameScans.{IsReadyAt, all-in, put-size}
 use Rattle.jpeg_evidence.specs.LongerStreams.{Puts, finished, put}
-use Rattle.jpeg_evidence.proofs.Longer.LongerData.{Met}
+use Rattle.jpeg_evidence.proofs.Longer.LongerBits.{After}
 use Rattle.jpeg_evidence.proofs.Taken.StuffedTexts.{stuffed-begins}
 use Rattle.jpeg_evidence.proofs.Cut.WrittenCuts.{after_blocks, groups-coded, interval-written, one-more, read-reached}
 use Rattle.jpeg_evidence.proofs.Cut.WrittenCuts.{rst-marker, sealed_read, stays-ready, takes-sealed}
@@ -72,7 +72,7 @@ stuffed-filled j bytes =
 interval-filled : (p : Pass) (vias : List Via) (spots : List Spot) (arrays : Arrays) (u : Spot → Block) (bytes : List ℕ)
     (j : ℕ) → AreApart spots → AllByRecursion (IsReadyAt p vias arrays u) spots
     → WritesInterval (WritesBlocks p predictors_at_start 0 (turns_of vias spots u)) bytes
-    → (interval_reached p vias spots arrays (bytes ++ replicate j 255)).0 ≡ after_blocks p u spots arrays
+    → (interval_reached p vias spots arrays (bytes ++ replicate j 255)).reached ≡ after_blocks p u spots arrays
 unfolding interval_reached
 interval-filled p vias spots arrays u bytes j apart ready w =
     let all = bytes ++ replicate j 255 in
@@ -82,10 +82,11 @@ interval-filled p vias spots arrays u bytes j apart ready w =
     let same : text_at all ≡ text (w.bits ++ w.filling) (text_at all).following (Broken End)
     = ap₂ (λ (b : List Bool) (e : Ending). record { bits = b; following = (text_at all).following; ending = e })
     is.bits_are is.ends_so in
-    (read-reached p vias spots arrays (text_at all) _
+    let read = read-reached p vias spots arrays (text_at all) _
     (ap (sealed_read p vias spots arrays) same
     ∙ (takes-sealed p vias spots arrays u w.bits apart ready w.coded).read w.filling (text_at all).following
-    (Broken End))).0
+    (Broken End)) in
+    ap (λ (r : After). r.reached.arrays) read.1 ∙ read.2
 
 -- ---- a scan
 
@@ -103,14 +104,15 @@ module _ (p : Pass) (vias : List Via) (u : Spot → Block) (fill code : ℕ) (m 
       → ((s : Spot) → IsIn s (spots ++ all_of groups) → IsReadyAt p vias arrays u s)
       → WritesIntervals (WritesBlocks p predictors_at_start 0) k (turns_of vias spots u)
       (map (λ (g : List Spot). turns_of vias g u) groups) bytes
-      → (intervals_reached p vias k spots groups arrays (filled bytes)).0
-      ≡ (intervals_reached p vias k spots groups arrays (marked bytes)).0
+      → (intervals_reached p vias k spots groups arrays (filled bytes)).reached
+      ≡ (intervals_reached p vias k spots groups arrays (marked bytes)).reached
   unfolding intervals_reached
   intervals-filled k spots [] arrays bytes apart ready (last k' one bytes' w) =
       let a = apart-front spots [] apart in
       let r = all-in (IsReadyAt p vias arrays u) spots (λ s t. ready s (in-front s spots [] t)) in
       interval-filled p vias spots arrays u bytes j a r w
-      ∙ sym (ap (λ (q : Arrays × Met). q.0) (interval-written p vias spots arrays u bytes fill code m rest a r is w))
+      ∙ sym (ap (λ (q : BlocksTo (Bool × Option Marker)). q.reached)
+      (interval-written p vias spots arrays u bytes fill code m rest a r is w))
   intervals-filled k spots (next ∷ groups) arrays bytes apart ready (another k' fill' one next' more' first after w ws) =
       let others = all_of (next ∷ groups) in
       let now = after_blocks p u spots arrays in
@@ -120,11 +122,12 @@ module _ (p : Pass) (vias : List Via) (u : Spot → Block) (fill code : ℕ) (m 
       ≡ first ++ marker fill' (0xD0 + k % 8) (after ++ tail)
       = λ tail. append_assoc first (marker fill' (0xD0 + k % 8) after) tail
       ∙ ap (λ (l : List ℕ). first ++ l) (marker-append fill' (0xD0 + k % 8) after tail) in
-      let step : (tail : List ℕ) → (intervals_reached p vias k spots (next ∷ groups) arrays (bytes ++ tail)).0
-      ≡ (intervals_reached p vias (suc k) next groups now (after ++ tail)).0
-      = λ tail. ap (λ (q : Arrays × Outcome (Option Marker)). q.0)
+      let step : (tail : List ℕ) → (intervals_reached p vias k spots (next ∷ groups) arrays (bytes ++ tail)).reached
+      ≡ (intervals_reached p vias (suc k) next groups now (after ++ tail)).reached
+      = λ tail. ap (λ (q : BlocksTo (Option Marker)). q.reached)
       (one-more k (interval_reached p vias spots arrays (bytes ++ tail)) now (after ++ tail)
-      (intervals_reached p vias (suc k) next groups) (ap (interval_reached p vias spots arrays) (parts tail)
+      (intervals_reached p vias (suc k) next groups)
+      (or_first (interval_reached p vias spots arrays (bytes ++ tail)).unread next) (ap (interval_reached p vias spots arrays) (parts tail)
       ∙ interval-written p vias spots arrays u first fill' (0xD0 + k % 8) (RST (k % 8)) (after ++ tail) a r
       (rst-marker k) w)) in
       step (replicate j 255)
@@ -137,8 +140,8 @@ module _ (p : Pass) (vias : List Via) (u : Spot → Block) (fill code : ℕ) (m 
       → ((s : Spot) → IsIn s spots → IsReadyAt p vias arrays u s)
       → WritesIntervals (WritesBlocks p predictors_at_start 0) 0 (first_group n (turns_of vias spots u))
       (other_groups n (turns_of vias spots u)) bytes
-      → (scan_reached p n vias spots arrays (bytes ++ replicate j 255)).0
-      ≡ (scan_reached p n vias spots arrays (bytes ++ marker fill code rest)).0
+      → (scan_reached p n vias spots arrays (bytes ++ replicate j 255)).reached
+      ≡ (scan_reached p n vias spots arrays (bytes ++ marker fill code rest)).reached
   scan-filled n spots arrays bytes apart ready w =
       let all = all-groups n spots in
       intervals-filled 0 (first_group n spots) (other_groups n spots) arrays bytes (subst AreApart (sym all) apart)

@@ -15,7 +15,7 @@ use Rattle.jpeg_bits.specs.declared.marker.Marker.{Marker}
 use Rattle.jpeg_bits.specs.declared.marker.Marker.TheVariants.{EOI}
 use Rattle.jpeg_segments.specs.Frame.{Component, Frame}
 use Rattle.jpeg_segments.specs.ScanHeader.{Scan}
-use Rattle.jpeg_streams.specs.Brought.{scan_reached}
+use Rattle.jpeg_streams.specs.Brought.{BlocksTo, scan_reached}
 use Rattle.jpeg_streams.specs.Found.{Found, Said}
 use Rattle.jpeg_streams.specs.InTurn.{AreApart, AreArrays, Fits, IsIn}
 use Rattle.jpeg_streams.specs.Levels.{Levels, cut, nothing_sent, numbers_at, sent_after}
@@ -23,7 +23,6 @@ use Rattle.jpeg_streams.specs.Order.{Spot, grid_of, mcu_size, own_spots, spots_o
 use Rattle.jpeg_streams.specs.Scans.{Arrays, block_at}
 use Rattle.jpeg_streams.specs.ScanSegments.{Coding, arrays_before, components_of, is_progressive, pass_of}
 use Rattle.jpeg_streams.specs.ScanSegments.{after_restarts, scan_arrays, vias_from}
-use Rattle.jpeg_streams.specs.WholeRows.{unread_of_scan}
 use Rattle.jpeg_streams.specs.WrittenScans.{Coefficients, IsOwn}
 use Rattle.jpeg_streams.proofs.Order.Apart.{At, at-got, get-at, spots-apart}
 use Rattle.jpeg_streams.proofs.Written.BroughtLevels.{CodingFacts, KnownScan, PassSo, Progress, Scanned, Shaped, count, facts}
@@ -37,12 +36,12 @@ use Rattle.jpeg_evidence.specs.LongerStreams.{IsDcAlone, IsKeptBefore, arrays_of
 use Rattle.jpeg_evidence.proofs.Cut.CutBlocks.{HasOwn}
 use Rattle.jpeg_evidence.proofs.Cut.CutEnds.{puts-count, puts-size, scan-filled}
 use Rattle.jpeg_evidence.proofs.Longer.LongerBlocks.{reached_are_read}
+use Rattle.jpeg_evidence.proofs.Longer.LongerData.{both}
 use Rattle.jpeg_evidence.proofs.Cut.FirstWritten.{first_blocks_are_written}
-use Rattle.jpeg_evidence.proofs.Longer.LongerScans.{longer_data_read_most, longer_data_read_on}
+use Rattle.jpeg_evidence.proofs.Longer.LongerScans.{longer_data_read_most, longer_data_read_on, unread_is_next}
 use Rattle.jpeg_evidence.proofs.Longer.LongerTurns.{intervals-stay}
 use Rattle.jpeg_evidence.proofs.Cut.ReachedFirst.{first_blocks_are_reached}
 use Rattle.jpeg_evidence.proofs.Cut.StandingBlocks.{whole_data_have_all_blocks}
-use Rattle.jpeg_evidence.proofs.Cut.UnreadScans.{unread_is_next}
 use Rattle.jpeg_evidence.proofs.Cut.SentCuts.{SentMost, cut_scans_have_what_was_sent, kept-ready, sequential_levels}
 use Rattle.jpeg_evidence.proofs.Cut.WrittenCuts.{eoi_code, eoi_ends, scan-written}
 
@@ -89,7 +88,7 @@ module _ {w : Said} {f : Frame} {array : Coefficients} {levels : ℕ → Levels}
   before = arrays_of now f codings
 
   -- what the scan reaches of these bytes
-  abbrev pub reached_of : List ℕ → Arrays × Outcome (Option Marker)
+  abbrev pub reached_of : List ℕ → BlocksTo (Option Marker)
   reached_of front =
       scan_reached p (w.restart * mcu_size (components_of codings)) (vias_from 0 codings) spots before front
 
@@ -167,7 +166,7 @@ module _ {w : Said} {f : Frame} {array : Coefficients} {levels : ℕ → Levels}
   -- The beginning of the data has what was sent, at least the blocks that stand whole in it.
   pub scan-cut : (front more : List ℕ) → bytes ≡ front ++ more
       → SentMost (λ count. StandWhole f w.restart p codings known.written.sent count front) p spots
-      (levels_at codings levels) known.written.sent before (reached_of front).0
+      (levels_at codings levels) known.written.sent before (reached_of front).reached
   scan-cut front more parts =
       cut_scans_have_what_was_sent f w.restart p codings array bytes known.written (levels_at codings levels) before
       front more (all-fit w f codings known.shape (facts known))
@@ -177,7 +176,7 @@ module _ {w : Said} {f : Frame} {array : Coefficients} {levels : ℕ → Levels}
   -- an own block that the beginning has
   own-sent : (front more : List ℕ) (parts : bytes ≡ front ++ more) (k : Coding) (x : Spot) → At x.slot codings k
       → IsOwn (grid_of k.component) x.index → IsIn x (scan-cut front more parts).holds.done
-      → block_at (reached_of front).0 x
+      → block_at (reached_of front).reached x
       ≡ cut (sent_after p (levels k.index))
       (array k.index (x.index / k.component.blocks_wide) (x.index % k.component.blocks_wide))
   own-sent front more parts k x t own here =
@@ -188,7 +187,7 @@ module _ {w : Said} {f : Frame} {array : Coefficients} {levels : ℕ → Levels}
   -- an own block that it lacks
   own-unsent : (front more : List ℕ) (parts : bytes ≡ front ++ more) (k : Coding) (x : Spot) → At x.slot codings k
       → IsOwn (grid_of k.component) x.index → (IsIn x (scan-cut front more parts).holds.done → ⊥)
-      → block_at (reached_of front).0 x
+      → block_at (reached_of front).reached x
       ≡ cut (levels k.index)
       (array k.index (x.index / k.component.blocks_wide) (x.index % k.component.blocks_wide))
   own-unsent front more parts k x t own away = (scan-cut front more parts).holds.kept x away ∙ kept-own k x t own
@@ -207,7 +206,7 @@ module _ {w : Said} {f : Frame} {array : Coefficients} {levels : ℕ → Levels}
   -- The whole data are reached up to the marker after them, with the blocks that are read of them.
   pub whole-reached : (fill code : ℕ) (m : Marker) (rest : List ℕ) → IsMarker code m
       → after_restarts (suc (length rest)) (Some m) rest ≡ Ok (Some m, rest)
-      → reached_of (bytes ++ marker fill code rest) ≡ (scanned.arrays, Ok (Some m, rest))
+      → both (reached_of (bytes ++ marker fill code rest)) ≡ (scanned.arrays, Ok (Some m, rest))
   unfolding scan_arrays
   whole-reached fill code m rest is ends =
       let n = w.restart * mcu_size (components_of codings) in
@@ -216,22 +215,17 @@ module _ {w : Said} {f : Frame} {array : Coefficients} {levels : ℕ → Levels}
       let reached = scan-written p n vias (λ x. numbers_at p.al (known.written.sent x)) spots before bytes fill code m
       rest (Some m, rest) is ends apart ready known.written.coded in
       let r = reached_are_read p n vias spots before all (Some m, rest) apart reached in
-      let same : (reached_of all).0 ≡ scanned.arrays
+      let same : (reached_of all).reached ≡ scanned.arrays
       = ap (λ (y : (Arrays × Option Marker) × List ℕ). y.0.0)
       (ok-same _ _ (sym r.2 ∙ scanned.read fill code m rest is)) in
       ap₂ (λ (a : Arrays) (o : Outcome (Option Marker)). (a, o)) same reached
 
   -- ---- the first block that isn't read
 
-  -- what isn't read of these bytes comes first so
-  abbrev pub unread_of : List ℕ → Option Spot
-  unread_of front =
-      unread_of_scan p (w.restart * mcu_size (components_of codings)) (vias_from 0 codings) spots before front
-
   -- Of a beginning of the data it is the one after all that stand whole in it.
   pub cut-unread : (front more : List ℕ) (number : ℕ) → bytes ≡ front ++ more
       → IsMost (λ number. StandWhole f w.restart p codings known.written.sent number front) number
-      → unread_of front ≡ slice_get spots number
+      → (reached_of front).unread ≡ slice_get spots number
   cut-unread front more number parts m =
       let n = w.restart * mcu_size (components_of codings) in
       let vias = vias_from 0 codings in
@@ -243,7 +237,7 @@ module _ {w : Said} {f : Frame} {array : Coefficients} {levels : ℕ → Levels}
       })
 
   -- Of all data there is none.
-  pub whole-unread : (more : List ℕ) → unread_of (bytes ++ more) ≡ None
+  pub whole-unread : (more : List ℕ) → (reached_of (bytes ++ more)).unread ≡ None
   whole-unread more =
       let n = w.restart * mcu_size (components_of codings) in
       let vias = vias_from 0 codings in
@@ -261,10 +255,10 @@ module _ {w : Said} {f : Frame} {array : Coefficients} {levels : ℕ → Levels}
 
   -- Without the code of the marker after them the data have a fault.
   short-stops : (front left : List ℕ) (fill : ℕ) → 0 < length left → front ++ left ≡ bytes ++ marker fill 217 []
-      → (g : Fault) × ((reached_of front).1 ≡ Err g)
-  short-stops front left fill some parts = go (reached_of front).1 refl
+      → (g : Fault) × ((reached_of front).rest ≡ Err g)
+  short-stops front left fill some parts = go (reached_of front).rest refl
     where
-      go : (o : Outcome (Option Marker)) → (reached_of front).1 ≡ o → (g : Fault) × (o ≡ Err g)
+      go : (o : Outcome (Option Marker)) → (reached_of front).rest ≡ o → (g : Fault) × (o ≡ Err g)
       go (Err g) e = (g, refl)
       go (Ok x) e =
           let n = w.restart * mcu_size (components_of codings) in
@@ -273,14 +267,14 @@ module _ {w : Said} {f : Frame} {array : Coefficients} {levels : ℕ → Levels}
           let whole = whole-reached fill 217 EOI [] (record { is = eoi_code }) eoi_ends in
           let both : (x.0, x.1 ++ left) ≡ (Some EOI, [])
           = ok-same _ _ (sym (ap (λ (y : Arrays × Outcome (Option Marker)). y.1) stays)
-          ∙ ap (λ (l : List ℕ). (scan_reached p n vias spots before l).1) parts
+          ∙ ap (λ (l : List ℕ). (scan_reached p n vias spots before l).rest) parts
           ∙ ap (λ (y : Arrays × Outcome (Option Marker)). y.1) whole) in
           let none : length (x.1 ++ left) ≡ 0 = ap (λ (y : Option Marker × List ℕ). length y.1) both in
           let a = length-append x.1 left in
           absurd (omega arith)
 
   -- A beginning of the data, even all of them, has no end: it has a fault.
-  pub cut-stops : (front more : List ℕ) → bytes ≡ front ++ more → (g : Fault) × ((reached_of front).1 ≡ Err g)
+  pub cut-stops : (front more : List ℕ) → bytes ≡ front ++ more → (g : Fault) × ((reached_of front).rest ≡ Err g)
   cut-stops front more parts =
       let close = marker 0 217 [] in
       let n = length-append more close in
@@ -290,14 +284,14 @@ module _ {w : Said} {f : Frame} {array : Coefficients} {levels : ℕ → Levels}
   -- ---- all data, and bytes FF
 
   -- All data and bytes FF of the marker after them bring the whole scan.
-  pub whole-filled : (j : ℕ) → (reached_of (bytes ++ replicate j 255)).0 ≡ scanned.arrays
+  pub whole-filled : (j : ℕ) → (reached_of (bytes ++ replicate j 255)).reached ≡ scanned.arrays
   whole-filled j =
       let is : IsMarker 217 EOI = record { is = eoi_code } in
       scan-filled p (vias_from 0 codings) (λ x. numbers_at p.al (known.written.sent x)) 0 217 EOI [] is j
       (w.restart * mcu_size (components_of codings)) spots before bytes apart ready known.written.coded
       ∙ ap (λ (y : Arrays × Outcome (Option Marker)). y.0) (whole-reached 0 217 EOI [] is eoi_ends)
 
-  pub filled-stops : (j : ℕ) → (g : Fault) × ((reached_of (bytes ++ replicate j 255)).1 ≡ Err g)
+  pub filled-stops : (j : ℕ) → (g : Fault) × ((reached_of (bytes ++ replicate j 255)).rest ≡ Err g)
   filled-stops zero =
       short-stops (bytes ++ []) (marker 0 217 []) 0 (omega arith) (append_assoc bytes [] (marker 0 217 []))
   filled-stops (suc fill) =
@@ -308,11 +302,11 @@ module _ {w : Said} {f : Frame} {array : Coefficients} {levels : ℕ → Levels}
 
   -- The beginning of the data has the own blocks of the scan's components.
   pub cut-own : (front more : List ℕ) (parts : bytes ≡ front ++ more)
-      → HasOwn p array levels codings (scan-cut front more parts).holds.done (reached_of front).0
+      → HasOwn p array levels codings (scan-cut front more parts).holds.done (reached_of front).reached
   cut-own front more parts =
       let n = w.restart * mcu_size (components_of codings) in
       let vias = vias_from 0 codings in
-      let reached = (scan_reached p n vias spots before front).0 in
+      let reached = (scan_reached p n vias spots before front).reached in
       let on = longer_data_read_on p n vias spots before front [] in
       record {
         count = puts-count on.done before reached on.puts

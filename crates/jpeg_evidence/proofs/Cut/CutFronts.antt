@@ -7,12 +7,11 @@ use Rattle.jpeg_bits.specs.Written.{marker}
 use Rattle.jpeg_segments.specs.Frame.{Frame}
 use Rattle.jpeg_segments.specs.ScanHeaders.{IsScan, ScanHeader, scan_written}
 use Rattle.jpeg_segments.specs.WrittenSegments.{Header, Segment, frame_written}
-use Rattle.jpeg_streams.specs.Brought.{Brought, turn_brought, walk_brought}
+use Rattle.jpeg_streams.specs.Brought.{Brought, unbrought}
 use Rattle.jpeg_streams.specs.Found.{Found, Said, nothing_said}
 use Rattle.jpeg_streams.specs.Levels.{Levels, nothing_sent}
 use Rattle.jpeg_streams.specs.SaidSegments.{Stands, said_after}
 use Rattle.jpeg_streams.specs.ScanSegments.{is_progressive, pass_of}
-use Rattle.jpeg_streams.specs.WholeRows.{rows_of_turn, rows_of_walk}
 use Rattle.jpeg_streams.specs.WrittenImages.{MayStandInImage, WritesImageScan}
 use Rattle.jpeg_streams.specs.WrittenScans.{Coefficients, levels_after}
 use Rattle.jpeg_streams.specs.WrittenStreams.{Writes, end, scan, segment}
@@ -22,15 +21,16 @@ use Rattle.jpeg_streams.proofs.Written.CodingsInForce.{codings-found}
 use Rattle.jpeg_streams.proofs.Pictures.DecodedHeaders.{decoded-accepted}
 use Rattle.jpeg_streams.proofs.Order.FrameShapes.{accepted-facts, count-few}
 use Rattle.jpeg_streams.proofs.Order.OwnSpots.{AreApart}
-use Rattle.jpeg_streams.proofs.Written.ReadTurns.{same-frame, some-none}
+use Rattle.jpeg_streams.proofs.Written.ReadTurns.{refused_walk, same-frame, same-turn, some-none, walk-refused}
+use Rattle.jpeg_streams.proofs.Written.ReadTurns.{walked}
 use Rattle.jpeg_streams.proofs.Written.WalkedStreams.{IsSaid, nothing-said, segment-said}
 use Rattle.jpeg_streams.proofs.Written.WrittenPictures.{IsDrawn, drawn-said, header-facts}
 use Rattle.jpeg_evidence.specs.CutImages.{WritesFront}
-use Rattle.jpeg_evidence.proofs.Cut.AllRows.{rows_on}
 use Rattle.jpeg_evidence.proofs.Cut.CutBlocks.{NoneOrAll, all_sent, whole-after}
 use Rattle.jpeg_evidence.proofs.Cut.CutPictures.{AllOrNone}
-use Rattle.jpeg_evidence.proofs.Longer.LongerTurns.{walk_on}
 use Rattle.jpeg_evidence.proofs.Taken.TakenBits.{some-is}
+use Rattle.jpeg_streams.specs.Stream.{turn_at, walk}
+use Rattle.jpeg_streams.specs.declared.beyond.Beyond.TheVariants.{Nothing}
 
 -- ---- beginnings of bytes
 
@@ -94,23 +94,18 @@ none-filled (suc zero) = refl
 none-filled (suc (suc j)) = none-filled (suc j)
 
 turn-filled : (before : Before) (found : Found) (j : ℕ)
-    → ◌≡◌ {A = Brought} (turn_brought before found None (replicate j 255)) (found, Err End)
-unfolding turn_brought
-turn-filled before found j = rw (none-filled j, turn_brought) refl
+    → turn_at Nothing before found None (replicate j 255) ≡ unbrought found (Err End)
+unfolding turn_at
+turn-filled before found j = rw (none-filled j, turn_at) refl
 
 pub walk-filled : (turns : ℕ) (before : Before) (found : Found) (j : ℕ)
-    → walk_brought turns before found None (replicate j 255) ≡ (found, Err End)
-unfolding walk_brought
+    → walk Nothing turns false before found None (replicate j 255) ≡ walked found (Err End)
+unfolding walk
 walk-filled zero before found j = refl
-walk-filled (suc turns) before found j = ap (walk_on turns) (turn-filled before found j)
-
-pub rows-filled : (turns : ℕ) (before : Before) (found : Found) (j : ℕ)
-    → rows_of_walk turns before found None (replicate j 255) ≡ None
-unfolding rows_of_walk rows_of_turn
-rows-filled zero before found j = refl
-rows-filled (suc turns) before found j =
-    ap (λ (b : Brought). rows_on turns (rows_of_turn found None (replicate j 255)) b.1) (turn-filled before found j)
-    ∙ rw (none-filled j, rows_of_turn) refl
+walk-filled (suc turns) before found j =
+    let e = turn-filled before found j in
+    walk-refused Nothing turns false before found None (replicate j 255) End refl (same-turn _ _ e)
+    ∙ ap (λ (b : Brought). refused_walk b End) e
 
 -- ---- the levels of a sequential frame
 

@@ -16,8 +16,8 @@ use Rattle.jpeg_streams.specs.FoundPictures.{plane_at_end}
 use Rattle.jpeg_streams.specs.Levels.{Levels, nothing_sent}
 use Rattle.jpeg_streams.specs.Order.{Spot}
 use Rattle.jpeg_streams.specs.ScanSegments.{is_progressive}
-use Rattle.jpeg_streams.specs.Shown.{planes_by}
-use Rattle.jpeg_streams.specs.WholeRows.{rows_above, rows_of_found, rows_of_frame}
+use Rattle.jpeg_streams.specs.Shown.{planes_by, rows_of_found, rows_of_frame}
+use Rattle.jpeg_streams.specs.WholeRows.{rows_above}
 use Rattle.jpeg_streams.specs.WrittenImages.{ClosesImage}
 use Rattle.jpeg_streams.specs.WrittenScans.{Coefficients, HasTable, IsComplete}
 use Rattle.jpeg_streams.proofs.Order.Apart.{At, all-from, at-all}
@@ -35,7 +35,7 @@ use Rattle.jpeg_evidence.proofs.Cut.CutBlocks.{NoneOrAll}
 use Rattle.jpeg_evidence.proofs.Cut.CutFronts.{Unmixed, all-whole}
 use Rattle.jpeg_evidence.proofs.Cut.SentCuts.{complete-after}
 use Rattle.jpeg_evidence.proofs.Taken.TakenBits.{none-is}
-use Rattle.jpeg_evidence.proofs.Cut.UnreadScans.{get-after}
+use Rattle.jpeg_evidence.proofs.Longer.FirstSpots.{get-after}
 
 -- ---- lists
 

@@ -1,7 +1,7 @@
 -- A stream of a writer that is cut brings what was said and sent up to the cut.
-use Rattle.std.proofs.Common.{append-nil, [], ◌∷◌, subst, Ok, ◌≡◌, ◌*◌, ℕ, suc, false, List, ◌++◌, length}
+use Rattle.std.proofs.Common.{append-nil, [], ◌∷◌, subst, Ok, ◌≡◌, ℕ, suc, false, List, ◌++◌, length}
 use Rattle.std.proofs.Common.{Option, Some, None, Err, refl, sym, ap, ◌∙◌, arith}
-use Rattle.std.specs.Prelude.{Result, option_map}
+use Rattle.std.specs.Prelude.{option_map}
 use Rattle.jpeg_bits.specs.Marker.{marker_of}
 use Rattle.jpeg_bits.specs.Reading.{◌>>=◌, Fault, Outcome}
 use Rattle.jpeg_bits.specs.Written.{marker}
@@ -13,48 +13,53 @@ use Rattle.jpeg_segments.specs.Frame.{Frame}
 use Rattle.jpeg_segments.specs.ScanHeaders.{IsScan, ScanHeader, scan_payload, scan_written}
 use Rattle.jpeg_segments.specs.WrittenSegments.{with_length, Segment, marker_code, payload_of}
 use Rattle.jpeg_segments.proofs.HeaderSegments.{sos-read}
-use Rattle.jpeg_streams.specs.Brought.{frame_and_scan, scan_brought, Brought, all_brought, blocks_brought_by}
-use Rattle.jpeg_streams.specs.Brought.{scan_reached, walk_brought, segment_brought}
-use Rattle.jpeg_streams.proofs.Written.ReadTurns.{IsEnd, then-ok, Begins, next-marker, marker_for, ok-same, segment-ends}
-use Rattle.jpeg_streams.proofs.Written.ReadTurns.{segment-marker}
+use Rattle.jpeg_streams.specs.Brought.{BlocksTo, Brought, blocks_brought_by, frame_and_scan, scan_brought, unbrought}
+use Rattle.jpeg_streams.proofs.Written.ReadTurns.{Begins, IsEnd, marker-turn, marker_for, ok-same, same-turn}
+use Rattle.jpeg_streams.proofs.Written.ReadTurns.{refused_walk, segment-ends, segment-marker, stands-here, then-ok}
+use Rattle.jpeg_streams.proofs.Written.ReadTurns.{walk-refused}
 use Rattle.jpeg_streams.specs.declared.before.Before.{Before}
 use Rattle.jpeg_streams.specs.declared.before.Before.TheVariants.{Elsewhere}
+use Rattle.jpeg_streams.specs.declared.beyond.Beyond.TheVariants.{Nothing}
 use Rattle.jpeg_streams.specs.Found.{Found, Said, nothing_found, nothing_said}
 use Rattle.jpeg_streams.specs.Levels.{Is8Bit, Levels, nothing_sent}
-use Rattle.jpeg_streams.specs.Order.{mcu_size, spots_of}
-use Rattle.jpeg_streams.specs.Scans.{Arrays}
-use Rattle.jpeg_streams.specs.ScanSegments.{Coding, after_restarts, after_scan, components_of, pass_of, vias_from}
-use Rattle.jpeg_streams.specs.WholeRows.{rows_above, rows_by, rows_of_codings, rows_of_scan, rows_of_walk}
+use Rattle.jpeg_streams.specs.ScanSegments.{Coding, after_restarts, after_scan, components_of, pass_of}
+use Rattle.jpeg_streams.specs.WholeRows.{rows_above}
 use Rattle.jpeg_streams.specs.WrittenImages.{WritesImageScan}
 use Rattle.jpeg_streams.specs.WrittenScans.{Coefficients}
 use Rattle.jpeg_streams.proofs.Order.Apart.{get-at}
+use Rattle.jpeg_streams.proofs.Partial.Faultless.{scan_of_codings}
 use Rattle.jpeg_streams.proofs.Written.CodingsInForce.{codings-found}
 use Rattle.jpeg_streams.proofs.Written.WalkedStreams.{beside, nothing-said}
 use Rattle.jpeg_streams.proofs.Written.BroughtLevels.{KnownScan}
 use Rattle.jpeg_streams.proofs.Written.WrittenPictures.{IsDrawn, bring, framed-now, holds-nothing, known_scan, no_progress}
 use Rattle.jpeg_streams.specs.SaidSegments.{Stands, said_after}
 use Rattle.jpeg_streams.specs.Segments.{Turn, onward}
-use Rattle.jpeg_streams.specs.Stream.{segment_at}
-use Rattle.jpeg_streams.proofs.Partial.Faultless.{Walked}
-use Rattle.jpeg_evidence.proofs.Cut.CutWalks.{IsPast, codings-bring, front-walked, header-brings, meets-here, past-turn}
-use Rattle.jpeg_evidence.proofs.Cut.CutWalks.{plain-brought, plain-rows, rows-at, scan-rows, segment-brings, sos-brings}
-use Rattle.jpeg_evidence.proofs.Cut.CutWalks.{sos_code, turn-at}
+use Rattle.jpeg_streams.specs.Stream.{Walked, all_brought, brought_after, segment_at, turn_at, walk}
+use Rattle.jpeg_evidence.proofs.Cut.CutWalks.{IsPast, front-walked, plain-brought, scan-brings, scan-next, segment-brings}
+use Rattle.jpeg_evidence.proofs.Cut.CutWalks.{sos_code, turn-next}
 use Rattle.jpeg_evidence.proofs.Longer.LongerSegments.{sos-stays, Stays}
 use Rattle.jpeg_evidence.specs.CutImages.{BringsCut, BringsFront, WritesFront}
 use Rattle.jpeg_evidence.specs.FirstBlocks.{IsMost, StandWhole}
-use Rattle.jpeg_evidence.specs.LongerStreams.{arrays_of}
 use Rattle.jpeg_evidence.proofs.Longer.LongerTurns.{by_header, scan_led, segment-goes, with_frame}
-use Rattle.jpeg_evidence.proofs.Cut.CutFrames.{cut-own, cut-stops, reached_of, scan-cut, unread_of}
+use Rattle.jpeg_evidence.proofs.Cut.CutFrames.{cut-own, cut-stops, reached_of, scan-cut}
+
+-- what a scan brings that stops
+abbrev stopped : Found → Frame → Scan → List Coding → BlocksTo (Option Marker) → Outcome Turn → Brought
+stopped found f s codings r turn = record {
+  found = after_scan found f s codings r.reached;
+  rows = option_map (rows_above f (components_of codings)) r.unread;
+  turn = turn;
+}
 
 blocks-stop : (found : Found) (f : Frame) (s : Scan) (codings : List Coding) (bytes : List ℕ) (g : Fault)
-    (r : Arrays × Outcome (Option Marker))
-    → scan_reached (pass_of s) (found.said.restart * mcu_size (components_of codings)) (vias_from 0 codings)
-    (spots_of f (components_of codings)) (arrays_of found f codings) bytes ≡ r → r.1 ≡ Err g
-    → ◌≡◌ {A = Brought} (blocks_brought_by found f s codings bytes) (after_scan found f s codings r.0, Err g)
+    → (scan_of_codings found f s codings bytes).rest ≡ Err g
+    → blocks_brought_by found f s codings bytes
+    ≡ stopped found f s codings (scan_of_codings found f s codings bytes) (Err g)
 unfolding blocks_brought_by
-blocks-stop found f s codings bytes g r e h =
-    ap (scan_led found (after_scan found f s codings)) e
-    ∙ ap (λ (o : Outcome (Option Marker)). scan_led found (after_scan found f s codings) (r.0, o)) h
+blocks-stop found f s codings bytes g h =
+    let r = scan_of_codings found f s codings bytes in
+    ap (λ (o : Outcome (Option Marker)).
+    stopped found f s codings r (scan_led found (after_scan found f s codings) (r.reached, o))) h
 
 nothing-left : (l more : List ℕ) → l ++ more ≡ [] → more ≡ []
 nothing-left [] more e = e
@@ -84,10 +89,6 @@ pub begins-segment : (fill : ℕ) (said : Said) (s : Segment) (rest : List ℕ) 
 begins-segment fill said s rest stands =
     begins-marker fill (marker_code s) (marker_for s) rest (segment-marker said.frame s stands.0) (segment-ends s)
 
--- the rows of a scan that the segments of a stream stop in
-abbrev pub all_rows : List ℕ → Option ℕ
-all_rows bytes = rows_of_walk (suc (length bytes)) Elsewhere nothing_found None bytes
-
 -- a segment that isn't there whole has a fault
 segment-stops : (before : Before) (now : Found) (s : Segment) (part more : List ℕ) → Stands now.said s
     → with_length (payload_of s) ≡ part ++ more → (more ≡ [] → ⊥)
@@ -103,40 +104,32 @@ segment-stops before now s part more stands parts some = go (segment_at (marker_
     go (Ok t) e =
         let payload = with_length (payload_of s) in
         let all = marker 0 (marker_code s) (payload ++ []) in
-        let next = next-marker 0 (marker_code s) m (payload ++ [])
-        (record { is = segment-marker now.said.frame s stands.0 }) in
-        let whole = sym (turn-at before now None all (payload ++ []) m next)
-        ∙ segment-brings before now s None all 0 [] stands (meets-here all) in
+        let whole = same-turn _ _ (sym (marker-turn Nothing before now 0 (marker_code s) m (payload ++ [])
+        (segment-marker now.said.frame s stands.0)))
+        ∙ segment-brings before now s None all 0 [] stands (stands-here all) in
         let same : payload ++ [] ≡ part ++ more = append-nil payload ∙ parts in
         let longer = (segment-goes more m before now part).turn t
-        (ap (λ (b : Brought). b.1) (plain-brought s before now part) ∙ e) in
+        (same-turn _ _ (plain-brought s before now part) ∙ e) in
         let both : (t.0, t.1 ++ more) ≡ (onward (record now { said = said_after now.said s }), [])
-        = ok-same _ _ (sym longer ∙ ap (λ (l : List ℕ). (segment_brought m before now l).1) (sym same)
-        ∙ ap (λ (b : Brought). b.1) whole) in
+        = ok-same _ _ (sym longer ∙ ap (λ (l : List ℕ). (brought_after Nothing m before now l).turn) (sym same)
+        ∙ whole) in
         absurd (some (nothing-left t.1 more (ap (λ (y : Turn × List ℕ). y.1) both)))
 
 -- ---- a cut within the header of a scan
 
--- what the rows of a scan are by its header
-abbrev rows_by_header : Found → Result (Frame × (Scan × List ℕ)) Fault → Option ℕ
-rows_by_header found o = elim o as (λ _. Option ℕ) [
-  | Ok x ↦ rows_by x.0.process found x.0 x.1.0 x.1.1
-  | Err fault ↦ None
-]
-
 header-stops : (found : Found) (f : Frame) (h : ScanHeader) (part more : List ℕ) → found.said.frame ≡ Some f
     → IsScan f h → with_length (scan_payload h) ≡ part ++ more → (more ≡ [] → ⊥)
-    → (g : Fault) × ◌≡◌ {A = Brought} (scan_brought found part) (found, Err g) × (rows_of_scan found part ≡ None)
-unfolding scan_brought rows_of_scan Stays
+    → (g : Fault) × (scan_brought found part ≡ unbrought found (Err g))
+unfolding scan_brought Stays
 header-stops found f h part more e written parts some = go (sos_at f part) refl
   where
     go : (o : Outcome Scan) → sos_at f part ≡ o
-        → (g : Fault) × ◌≡◌ {A = Brought} (by_header found (frame_and_scan found part)) (found, Err g)
-        × (rows_by_header found (frame_and_scan found part) ≡ None)
-    go (Err g) a =
-        let stops = then-ok (needed found.said.frame) _ f (Err g) (ap needed e)
-        (ap (λ (o : Outcome Scan). o >>= with_frame f) a) in
-        (g, ap (by_header found) stops, ap (rows_by_header found) stops)
+        → (g : Fault) × (by_header found (frame_and_scan found part) ≡ unbrought found (Err g))
+    go (Err g) a = (
+      g,
+      ap (by_header found) (then-ok (needed found.said.frame) _ f (Err g) (ap needed e)
+          (ap (λ (o : Outcome Scan). o >>= with_frame f) a)),
+    )
     go (Ok x) a =
         let header = with_length (scan_payload h) in
         let both : (x.0, x.1 ++ more) ≡ (scan_written f h, [])
@@ -149,82 +142,73 @@ header-stops found f h part more e written parts some = go (sos_at f part) refl
 module _ (array : Coefficients) (range : (index row column : ℕ) → Is8Bit (array index row column)) where
   -- A walk comes by the whole segments and scans in the front of a stream.
   pub past-of : (said : Said) (levels : ℕ → Levels) (first rest : List ℕ) → WritesFront array said levels first
-      → Begins rest
-      → IsPast array range said levels rest (all_brought nothing_found (first ++ rest)) (all_rows (first ++ rest))
+      → Begins rest → IsPast array range said levels rest (all_brought nothing_found (first ++ rest))
   past-of said levels first rest w b =
       subst (λ (f : Found). IsPast array range said levels rest
-      (walk_brought (suc (length (first ++ rest))) Elsewhere f None (first ++ rest))
-      (rows_of_walk (suc (length (first ++ rest))) Elsewhere f None (first ++ rest))) found-nothing
+      (walk Nothing (suc (length (first ++ rest))) false Elsewhere f None (first ++ rest))) found-nothing
       (front-walked array range nothing_said said (λ k. nothing_sent) levels first rest no_progress
       (suc (length (first ++ rest))) Elsewhere None (first ++ rest) w b (nothing-said IsDrawn)
-      (holds-nothing array nothing_said unscanned) (meets-here (first ++ rest)) (omega arith))
+      (holds-nothing array nothing_said unscanned) (stands-here (first ++ rest)) (omega arith))
+
+  -- what is found where the turn that comes next has a fault
+  past-fault : (said : Said) (levels : ℕ → Levels) (rest : List ℕ) (w : Walked)
+      (past : IsPast array range said levels rest w) (b : Brought) (g : Fault)
+      → turn_at Nothing past.before (beside bring said past.brought) past.met past.all ≡ b → b.turn ≡ Err g
+      → (w.found ≡ b.found) × (w.rows ≡ b.rows)
+  past-fault said levels rest w past b g e fault =
+      let stops = past.goes_on ∙ walk-refused Nothing past.turns false past.before (beside bring said past.brought)
+      past.met past.all g refl (same-turn _ _ e ∙ fault) ∙ ap (λ (y : Brought). refused_walk y g) e in
+      (ap (λ (y : Walked). y.found) stops, ap (λ (y : Walked). y.rows) stops)
 
   -- what is found where the data of a scan have a fault, and which rows of the scan are whole
   pub scan-past : (said : Said) (levels : ℕ → Levels) (frame : Frame) (fill : ℕ) (h : ScanHeader)
-      (codings : List Coding) (bytes front : List ℕ) (w : Walked) {rows : Option ℕ}
-      (past : IsPast array range said levels (marker fill 218 (with_length (scan_payload h) ++ front)) w rows)
+      (codings : List Coding) (bytes front : List ℕ) (w : Walked)
+      (past : IsPast array range said levels (marker fill 218 (with_length (scan_payload h) ++ front)) w)
       (known : KnownScan said frame array levels said.scanned past.brought (scan_written frame h) codings bytes)
-      → said.frame ≡ Some frame → IsScan frame h → (g : Fault) × ((reached_of known front).1 ≡ Err g)
-      → (w.0
-      ≡ after_scan (beside bring said past.brought) frame (scan_written frame h) codings (reached_of known front).0)
-      × (rows ≡ option_map (rows_above frame (components_of codings)) (unread_of known front))
-  unfolding rows_of_codings
+      → said.frame ≡ Some frame → IsScan frame h → (g : Fault) × ((reached_of known front).rest ≡ Err g)
+      → (w.found
+      ≡ after_scan (beside bring said past.brought) frame (scan_written frame h) codings (reached_of known front).reached)
+      × (w.rows ≡ option_map (rows_above frame (components_of codings)) (reached_of known front).unread)
   scan-past said levels frame fill h codings bytes front w past known e written fault =
       let rest = with_length (scan_payload h) ++ front in
       let now = beside bring said past.brought in
       let s = scan_written frame h in
-      let first = past.at.first ∙ next-marker fill 218 SOS rest (record { is = sos_code }) in
-      let read = sos-read frame h front written in
-      let found = codings-found said frame s codings known.legal.are_in_force in
-      let turn = past-turn array range said levels (marker fill 218 rest) w past
-      (after_scan now frame s codings (reached_of known front).0, Err fault.0)
-      (turn-at past.before now past.met past.all rest SOS first
-      ∙ sos-brings past.before now rest
-      ∙ header-brings now frame s rest front known.shape.lossy e read
-      ∙ codings-bring now frame s codings front found
-      ∙ blocks-stop now frame s codings front fault.0 (reached_of known front) refl fault.1) in (
-        ap (λ (y : Walked). y.0) turn.1,
-        turn.2 ∙ rows-at now past.met past.all rest SOS first
-            ∙ scan-rows now frame s codings rest front known.shape.lossy e read found,
-      )
+      past-fault said levels (marker fill 218 rest) w past
+      (stopped now frame s codings (reached_of known front) (Err fault.0)) fault.0
+      (scan-next past.before now past.met past.all fill rest past.at
+      ∙ scan-brings now frame s codings rest front known.shape.lossy e (sos-read frame h front written)
+      (codings-found said frame s codings known.legal.are_in_force)
+      ∙ blocks-stop now frame s codings front fault.0 fault.1) refl
 
   -- what is found where a segment has a fault: no scan lacks rows
   pub segment-past : (said : Said) (levels : ℕ → Levels) (fill : ℕ) (s : Segment) (part more : List ℕ) (w : Walked)
-      {rows : Option ℕ} (past : IsPast array range said levels (marker fill (marker_code s) part) w rows)
+      (past : IsPast array range said levels (marker fill (marker_code s) part) w)
       → Stands said s → with_length (payload_of s) ≡ part ++ more → (more ≡ [] → ⊥)
-      → (w.0 ≡ beside bring said past.brought) × (rows ≡ None)
+      → (w.found ≡ beside bring said past.brought) × (w.rows ≡ None)
   segment-past said levels fill s part more w past stands parts some =
       let now = beside bring said past.brought in
       let fault = segment-stops past.before now s part more stands parts some in
-      let first = past.at.first ∙ next-marker fill (marker_code s) (marker_for s) part
-      (record { is = segment-marker said.frame s stands.0 }) in
-      let turn = past-turn array range said levels (marker fill (marker_code s) part) w past (now, Err fault.0)
-      (turn-at past.before now past.met past.all part (marker_for s) first
-      ∙ plain-brought s past.before now part ∙ ap (λ (o : Outcome Turn). (now, o)) fault.1) in (
-        ap (λ (y : Walked). y.0) turn.1,
-        turn.2 ∙ rows-at now past.met past.all part (marker_for s) first ∙ plain-rows s now part,
-      )
+      past-fault said levels (marker fill (marker_code s) part) w past (unbrought now (Err fault.0)) fault.0
+      (turn-next past.before now past.met past.all fill (marker_code s) (marker_for s) part past.at
+      (segment-marker said.frame s stands.0)
+      ∙ plain-brought s past.before now part ∙ ap (unbrought now) fault.1) refl
 
   -- and where the header of a scan has one
   pub header-past : (said : Said) (levels : ℕ → Levels) (frame : Frame) (fill : ℕ) (h : ScanHeader)
-      (part more : List ℕ) (w : Walked) {rows : Option ℕ}
-      (past : IsPast array range said levels (marker fill 218 part) w rows)
+      (part more : List ℕ) (w : Walked)
+      (past : IsPast array range said levels (marker fill 218 part) w)
       → said.frame ≡ Some frame → IsScan frame h → with_length (scan_payload h) ≡ part ++ more → (more ≡ [] → ⊥)
-      → (w.0 ≡ beside bring said past.brought) × (rows ≡ None)
+      → (w.found ≡ beside bring said past.brought) × (w.rows ≡ None)
   header-past said levels frame fill h part more w past e written parts some =
       let now = beside bring said past.brought in
       let fault = header-stops now frame h part more e written parts some in
-      let first = past.at.first ∙ next-marker fill 218 SOS part (record { is = sos_code }) in
-      let turn = past-turn array range said levels (marker fill 218 part) w past (now, Err fault.0)
-      (turn-at past.before now past.met past.all part SOS first ∙ sos-brings past.before now part ∙ fault.1) in (
-        ap (λ (y : Walked). y.0) turn.1,
-        turn.2 ∙ rows-at now past.met past.all part SOS first ∙ fault.2,
-      )
+      past-fault said levels (marker fill 218 part) w past (unbrought now (Err fault.0)) fault.0
+      (scan-next past.before now past.met past.all fill part past.at ∙ fault.1) refl
 
   -- where that is all that is found
-  front-brought : (said : Said) (levels : ℕ → Levels) (rest : List ℕ) (w : Walked) {rows : Option ℕ}
-      (past : IsPast array range said levels rest w rows) → w.0 ≡ beside bring said past.brought
-      → BringsFront array said levels w.0
+  front-brought : (said : Said) (levels : ℕ → Levels) (rest : List ℕ) (w : Walked)
+      (past : IsPast array range said levels rest w) → w.found ≡ beside bring said past.brought
+      → BringsFront array said levels w.found
   front-brought said levels rest w past same = subst (BringsFront array said levels) (sym same) (record {
     is_said = refl;
     keeps = λ frame e. record {
@@ -241,7 +225,7 @@ pub cut_images_bring_what_was_sent : (array : Coefficients) (said : Said) (level
     → said.frame ≡ Some frame → IsScan frame h
     → (sends : WritesImageScan array said levels frame h (front ++ more) next)
     → (has : BringsCut array said levels frame (scan_written frame h) sends.codings
-    (all_brought nothing_found (first ++ marker fill 218 (with_length (scan_payload h) ++ front))).0)
+    (all_brought nothing_found (first ++ marker fill 218 (with_length (scan_payload h) ++ front))).found)
     × IsMost (λ count. StandWhole frame said.restart (pass_of (scan_written frame h)) sends.codings sends.written.sent
     count front) (length has.done)
 cut_images_bring_what_was_sent array said levels next frame first front more fill h range w e written sends =
@@ -253,7 +237,7 @@ cut_images_bring_what_was_sent array said levels next frame first front more fil
     let own = cut-own known front more refl in (
       record {
         before = beside bring said past.brought;
-        blocks = (reached_of known front).0;
+        blocks = (reached_of known front).reached;
         done = sent.holds.done;
         others = sent.holds.others;
         is_said = refl;
@@ -276,7 +260,7 @@ pub cut_segments_add_nothing : (array : Coefficients) (said : Said) (levels : �
     (fill : ℕ) (s : Segment) → ((index row column : ℕ) → Is8Bit (array index row column))
     → WritesFront array said levels first → Stands said s → with_length (payload_of s) ≡ part ++ more
     → (more ≡ [] → ⊥)
-    → BringsFront array said levels (all_brought nothing_found (first ++ marker fill (marker_code s) part)).0
+    → BringsFront array said levels (all_brought nothing_found (first ++ marker fill (marker_code s) part)).found
 cut_segments_add_nothing array said levels first part more fill s range w stands parts some =
     let rest = marker fill (marker_code s) part in
     let walked = all_brought nothing_found (first ++ rest) in
@@ -289,7 +273,7 @@ pub cut_headers_add_nothing : (array : Coefficients) (said : Said) (levels : ℕ
     (first part more : List ℕ) (fill : ℕ) (h : ScanHeader) → ((index row column : ℕ) → Is8Bit (array index row column))
     → WritesFront array said levels first → said.frame ≡ Some frame → IsScan frame h
     → with_length (scan_payload h) ≡ part ++ more → (more ≡ [] → ⊥)
-    → BringsFront array said levels (all_brought nothing_found (first ++ marker fill 218 part)).0
+    → BringsFront array said levels (all_brought nothing_found (first ++ marker fill 218 part)).found
 cut_headers_add_nothing array said levels frame first part more fill h range w e written parts some =
     let rest = marker fill 218 part in
     let walked = all_brought nothing_found (first ++ rest) in

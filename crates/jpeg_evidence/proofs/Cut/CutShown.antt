@@ -4,37 +4,36 @@ use Rattle.jpeg_segments.specs.Frame.{Frame}
 use Rattle.jpeg_segments.proofs.Codecs.{bind-ok, err-ok, ok-same}
 use Rattle.jpeg_streams.specs.declared.settings.Settings.{Settings}
 use Rattle.jpeg_streams.specs.ArrayPictures.{as_sent}
-use Rattle.jpeg_streams.specs.Brought.{all_brought}
 use Rattle.jpeg_streams.specs.Found.{Found, Said, nothing_found, nothing_said}
 use Rattle.jpeg_streams.specs.Levels.{Is8Bit, Levels, nothing_sent}
-use Rattle.jpeg_streams.specs.Shown.{Shown, fault_shown, framed_or, picture_shown, shown, shown_of, shown_rest}
-use Rattle.jpeg_streams.specs.Stream.{start_at, told_of}
-use Rattle.jpeg_streams.specs.WholeRows.{rows_of_found, whole_rows, whole_rows_rest}
+use Rattle.jpeg_streams.specs.Shown.{Shown, fault_shown, framed_or, picture_shown, rows_of_found, shown, shown_of}
+use Rattle.jpeg_streams.specs.Shown.{shown_rest, whole_rows, whole_rows_rest}
+use Rattle.jpeg_streams.specs.Stream.{Walked, all_brought, start_at, told_of}
 use Rattle.jpeg_streams.specs.WrittenImages.{WritesImage}
 use Rattle.jpeg_streams.specs.WrittenScans.{Coefficients}
 use Rattle.jpeg_streams.specs.WrittenStreams.{end}
-use Rattle.jpeg_streams.proofs.Partial.Faultless.{Walked, framed-some}
+use Rattle.jpeg_streams.proofs.Partial.Faultless.{framed-some}
 use Rattle.jpeg_evidence.specs.CutImages.{HoldsCut, picture_held}
 use Rattle.jpeg_evidence.proofs.Cut.CutHeld.{EndedAt, nothing-there}
 use Rattle.jpeg_evidence.proofs.Cut.CutPictures.{shown-same}
-use Rattle.jpeg_evidence.proofs.Cut.CutScans.{all_rows}
 use Rattle.jpeg_evidence.proofs.Cut.CutSplits.{each-front}
 
 -- The picture of what was found, as it is shown.
 record ShowsFound (settings : Settings) (w : Walked) (s : Shown) : Type 0 where
   frame : Frame
-  framed : w.0.said.frame ≡ Some frame
-  told : s.told ≡ told_of w.0.said
-  picture : picture_shown settings w.0 ≡ Ok s.picture
+  framed : w.found.said.frame ≡ Some frame
+  told : s.told ≡ told_of w.found.said
+  picture : picture_shown settings w.found ≡ Ok s.picture
 
-shows-found : (settings : Settings) (w : Walked) (s : Shown) → shown_of settings w ≡ Ok s → ShowsFound settings w s
+shows-found : (settings : Settings) (w : Walked) (s : Shown) → shown_of settings w.found w.rest ≡ Ok s
+    → ShowsFound settings w s
 unfolding shown_of
 shows-found settings w s e =
-    let first = bind-ok (framed_or w.0.said.frame w.1) _ s e in
-    let second = bind-ok (picture_shown settings w.0) _ s first.2 in
-    let same : record { told = told_of w.0.said; picture = second.0; fault = fault_shown w.0 w.1 } ≡ s
+    let first = bind-ok (framed_or w.found.said.frame w.rest) _ s e in
+    let second = bind-ok (picture_shown settings w.found) _ s first.2 in
+    let same : record { told = told_of w.found.said; picture = second.0; fault = fault_shown w.found w.rest } ≡ s
     = ok-same _ s second.2 in
-    let f = framed-some w.0.said.frame w.1 first.0 first.1 in
+    let f = framed-some w.found.said.frame w.rest first.0 first.1 in
     record {
       frame = f.0;
       framed = f.1;
@@ -46,8 +45,8 @@ shows-found settings w s e =
 starts : (settings : Settings) (after front more : List ℕ) (s : Shown) → 255 ∷ 216 ∷ after ≡ front ++ more
     → shown settings front ≡ Ok s
     → (part : List ℕ) × (front ≡ 255 ∷ 216 ∷ part) × (after ≡ part ++ more)
-    × (shown_of settings (all_brought nothing_found part) ≡ Ok s)
-unfolding shown shown_rest start_at
+    × (shown_rest settings nothing_found part ≡ Ok s)
+unfolding shown start_at
 starts settings after [] more s e h = absurd (err-ok _ s h)
 starts settings after (a ∷ []) more s e h =
     let one : a ≡ 255 = cc in
@@ -60,7 +59,7 @@ starts settings after (a ∷ b ∷ part) more s e h =
     (part, front, cc, sym (ap (shown settings) front) ∙ h)
 
 rows-started : (part : List ℕ)
-    → whole_rows (255 ∷ 216 ∷ part) ≡ rows_of_found (all_rows part) (all_brought nothing_found part).0
+    → whole_rows (255 ∷ 216 ∷ part) ≡ rows_of_found (all_brought nothing_found part).rows (all_brought nothing_found part).found
 unfolding whole_rows whole_rows_rest start_at
 rows-started part = refl
 
@@ -69,7 +68,9 @@ pub cut_images_show_what_was_sent : (settings : Settings) (array : Coefficients)
     (final : Said) (last : ℕ → Levels) → ((index row column : ℕ) → Is8Bit (array index row column))
     → WritesImage array image final last → image ≡ front ++ more → (s : Shown) → shown settings front ≡ Ok s
     → (part : List ℕ) × (front ≡ 255 ∷ 216 ∷ part) × (said : Said) × (blocks : Coefficients)
-    × HoldsCut array blocks part said (whole_rows front) × (s.told ≡ told_of said) × (picture_held settings said blocks ≡ Ok s.picture)
+    × HoldsCut array blocks part said (whole_rows front) × (s.told ≡ told_of said)
+    × (picture_held settings said blocks ≡ Ok s.picture)
+unfolding shown_rest
 cut_images_show_what_was_sent settings array image front more final last range w parts s h =
     let a = starts settings w.after front more s (sym w.starts ∙ parts) h in
     let part = a.0 in
@@ -77,7 +78,7 @@ cut_images_show_what_was_sent settings array image front more final last range w
     = each-front array range nothing_said final (λ k. nothing_sent) last w.after w.written [] part more
     (end nothing_said (λ k. nothing_sent) [] refl) (nothing-there array range) a.2 in
     let c = shows-found settings (all_brought nothing_found part) s a.3 in
-    let said_same : (all_brought nothing_found part).0.said ≡ e.said = ap (λ (y : Found). y.said) e.found in
+    let said_same : (all_brought nothing_found part).found.said ≡ e.said = ap (λ (y : Found). y.said) e.found in
     let framed : e.said.frame ≡ Some c.frame = ap (λ (y : Said). y.frame) (sym said_same) ∙ c.framed in
     let shape = (e.is.shaped c.frame framed).0 in
     let same = shown-same settings e.said c.frame e.image e.levels e.brought e.counts shape framed

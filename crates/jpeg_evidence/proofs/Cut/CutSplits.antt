@@ -6,13 +6,12 @@ use Rattle.jpeg_bits.specs.Written.{marker}
 use Rattle.jpeg_segments.specs.Frame.{Frame}
 use Rattle.jpeg_segments.specs.ScanHeaders.{IsScan, ScanHeader, scan_payload, scan_written}
 use Rattle.jpeg_segments.specs.WrittenSegments.{Segment, marker_code, payload_of, with_length}
-use Rattle.jpeg_streams.specs.Brought.{all_brought}
 use Rattle.jpeg_streams.specs.Found.{Said, nothing_found, nothing_said}
 use Rattle.jpeg_streams.specs.Levels.{Is8Bit, Levels, nothing_sent}
 use Rattle.jpeg_streams.specs.SaidSegments.{Stands, said_after}
 use Rattle.jpeg_streams.specs.Order.{spots_of}
 use Rattle.jpeg_streams.specs.ScanSegments.{after_scan, components_of}
-use Rattle.jpeg_streams.specs.WholeRows.{rows_above, rows_of_found}
+use Rattle.jpeg_streams.specs.WholeRows.{rows_above}
 use Rattle.jpeg_streams.specs.WrittenImages.{ClosesImage, MayStandInImage, WritesImageScan}
 use Rattle.jpeg_streams.specs.WrittenScans.{Coefficients}
 use Rattle.jpeg_streams.specs.WrittenStreams.{Writes, end, scan, segment}
@@ -27,7 +26,9 @@ use Rattle.jpeg_evidence.proofs.Cut.CutFronts.{split-append, split-marker, unmix
 use Rattle.jpeg_evidence.proofs.Cut.CutHeld.{EndedAt, by-scan, data-filled, end-there, header-cut, segment-cut}
 use Rattle.jpeg_evidence.proofs.Cut.CutHeld.{segment-filled}
 use Rattle.jpeg_evidence.proofs.Cut.CutRows.{rows-first}
-use Rattle.jpeg_evidence.proofs.Cut.CutScans.{all_rows, begins-scan, past-of, scan-past}
+use Rattle.jpeg_evidence.proofs.Cut.CutScans.{begins-scan, past-of, scan-past}
+use Rattle.jpeg_streams.specs.Stream.{all_brought}
+use Rattle.jpeg_streams.specs.Shown.{rows_of_found}
 
 module _ (array : Coefficients) (range : (index row column : ℕ) → Is8Bit (array index row column)) where
   -- a part of the data of a scan
@@ -45,20 +46,20 @@ module _ (array : Coefficients) (range : (index row column : ℕ) → Is8Bit (ar
       let codings = sends.codings in
       let known = known_scan array range said levels next x frame h bytes past.said e written sends past.held in
       let sent = scan-cut known front more refl in
-      let found = after_scan (beside bring said x) frame s codings (reached_of known front).0 in
+      let found = after_scan (beside bring said x) frame s codings (reached_of known front).reached in
       let c : CutScan said frame array levels next codings sent.holds.done found
       = subst (λ (l : ℕ → Levels). CutScan said frame array levels l codings sent.holds.done found) sends.sent
-      (cut-scan known sent.holds.done (reached_of known front).0 (cut-own known front more refl)) in
-      let stops = scan-past array range said levels frame fill h codings bytes front (all_brought nothing_found part) past
-      known e written (cut-stops known front more refl) in
+      (cut-scan known sent.holds.done (reached_of known front).reached (cut-own known front more refl)) in
+      let walk = all_brought nothing_found part in
+      let stops = scan-past array range said levels frame fill h codings bytes front walk past known e written (cut-stops known front more refl) in
       let first_away = cut-unread known front more (length sent.holds.done) refl sent.most in
-      let rows = rows_of_found (all_rows part) (all_brought nothing_found part).0 in
-      by-scan array range part (all_brought nothing_found part) said frame c.image next found (all_rows part)
+      let rows = rows_of_found walk.rows walk.found in
+      by-scan array range part walk said frame c.image next found
       (λ f. rows_before f (components_of codings) sent.holds.others) e past.said c.after c.counts
       (unmixed-scan array said levels next frame h bytes past.said e written sends
       (front-unmixed array said levels first w))
       (rows-first frame (components_of codings) (spots_of frame (components_of codings)) sent.holds.done
-      sent.holds.others (all_rows part) sent.holds.parts
+      sent.holds.others walk.rows sent.holds.parts
       (stops.1 ∙ ap (option_map (rows_above frame (components_of codings))) first_away))
       (λ has. in_scan first said levels next frame fill h front more sent.holds.done sent.holds.others rows w e written
       sends some sent.holds.parts sent.most c.there c.away has)

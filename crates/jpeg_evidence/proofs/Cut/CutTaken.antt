@@ -1,9 +1,8 @@
 -- A cut stream of a writer is shown where the settings take the picture of its frame.
-use Rattle.std.proofs.Common.{rules, ◌≡◌, ℕ, List, [], ◌∷◌, ◌++◌, map, length, Some, None, Result, Ok, refl, sym, ap, ◌∙◌, subst}
+use Rattle.std.proofs.Common.{rules, ◌≡◌, ℕ, List, [], ◌∷◌, ◌++◌, map, length, Some, None, Ok, refl, sym, ap, ◌∙◌, subst}
 use Rattle.std.proofs.lemmas.Bool.{eq-eqb}
 use Rattle.std.specs.Prelude.{slice_index_or, unwrap_or, replicate}
 use Rattle.std.specs.List.{enumerate_from}
-use Rattle.jpeg_bits.specs.Reading.{Fault, ◌>>=◌}
 use Rattle.jpeg_pixels.specs.Colour.{conversion_of}
 use Rattle.jpeg_pixels.specs.Pictures.{Source, image_of, sources_of}
 use Rattle.jpeg_bits.specs.declared.color_transform.ColorTransform.{ColorTransform}
@@ -12,24 +11,21 @@ use Rattle.jpeg_segments.specs.Checks.{gathered}
 use Rattle.jpeg_segments.specs.Frame.{Component, Frame}
 use Rattle.jpeg_streams.specs.declared.settings.Settings.{Settings}
 use Rattle.jpeg_streams.specs.ArrayPictures.{HasTransform, IsTransformOf, TakesPicture, as_sent}
-use Rattle.jpeg_streams.specs.Brought.{all_brought}
 use Rattle.jpeg_streams.specs.Found.{Found, Said, nothing_found, nothing_said}
 use Rattle.jpeg_streams.specs.FoundPictures.{picture_by, picture_in}
 use Rattle.jpeg_streams.specs.Levels.{Is8Bit, Levels, nothing_sent}
 use Rattle.jpeg_streams.specs.Rasters.{plane_of_blocks}
-use Rattle.jpeg_streams.specs.Shown.{Shown, fault_shown, framed_or, picture_shown, shown, shown_of, shown_rest}
-use Rattle.jpeg_streams.specs.Stream.{start_at, told_of}
-use Rattle.jpeg_streams.specs.WholeRows.{rows_of_found, whole_rows, whole_rows_rest}
+use Rattle.jpeg_streams.specs.Shown.{Shown, fault_shown, framed_or, picture_shown, rows_of_found, shown, shown_of}
+use Rattle.jpeg_streams.specs.Shown.{shown_rest, whole_rows, whole_rows_rest}
+use Rattle.jpeg_streams.specs.Stream.{Walked, all_brought, start_at, told_of}
 use Rattle.jpeg_streams.specs.WrittenImages.{WritesImage}
 use Rattle.jpeg_streams.specs.WrittenScans.{Coefficients}
 use Rattle.jpeg_streams.specs.WrittenStreams.{end}
-use Rattle.jpeg_streams.proofs.Partial.Faultless.{Walked}
 use Rattle.jpeg_streams.proofs.Pictures.LimitedPictures.{limited-ok}
 use Rattle.jpeg_streams.proofs.Written.ReadTurns.{then-ok}
 use Rattle.jpeg_evidence.specs.CutImages.{HoldsCut, picture_held}
 use Rattle.jpeg_evidence.proofs.Cut.CutHeld.{EndedAt, nothing-there}
 use Rattle.jpeg_evidence.proofs.Cut.CutPictures.{shown-same}
-use Rattle.jpeg_evidence.proofs.Cut.CutScans.{all_rows}
 use Rattle.jpeg_evidence.proofs.Cut.CutSplits.{each-front}
 
 -- f of each, where it is always Ok
@@ -79,21 +75,23 @@ held-there settings said f blocks sources takes same is_said e =
     )
 
 -- what is shown of what a walk brought, where there is a frame and a picture
-shown-there : (settings : Settings) (w : Walked) (f : Frame) (picture : List ℕ) → w.0.said.frame ≡ Some f
-    → picture_shown settings w.0 ≡ Ok picture
-    → shown_of settings w ≡ Ok (record { told = told_of w.0.said; picture = picture; fault = fault_shown w.0 w.1 })
+shown-there : (settings : Settings) (w : Walked) (f : Frame) (picture : List ℕ) → w.found.said.frame ≡ Some f
+    → picture_shown settings w.found ≡ Ok picture
+    → shown_of settings w.found w.rest
+    ≡ Ok (record { told = told_of w.found.said; picture = picture; fault = fault_shown w.found w.rest })
 unfolding shown_of
 shown-there settings w f picture framed e =
-    then-ok (framed_or w.0.said.frame w.1) _ tt _ (rw (framed, framed_or) refl)
-    (then-ok (picture_shown settings w.0) _ picture _ e refl)
+    then-ok (framed_or w.found.said.frame w.rest) _ tt _ (rw (framed, framed_or) refl)
+    (then-ok (picture_shown settings w.found) _ picture _ e refl)
 
 starts-shown : (settings : Settings) (part : List ℕ)
-    → shown settings (255 ∷ 216 ∷ part) ≡ shown_of settings (all_brought nothing_found part)
+    → shown settings (255 ∷ 216 ∷ part)
+    ≡ shown_of settings (all_brought nothing_found part).found (all_brought nothing_found part).rest
 unfolding shown shown_rest start_at
 starts-shown settings part = refl
 
 rows-started : (part : List ℕ)
-    → whole_rows (255 ∷ 216 ∷ part) ≡ rows_of_found (all_rows part) (all_brought nothing_found part).0
+    → whole_rows (255 ∷ 216 ∷ part) ≡ rows_of_found (all_brought nothing_found part).rows (all_brought nothing_found part).found
 unfolding whole_rows whole_rows_rest start_at
 rows-started part = refl
 
@@ -110,7 +108,7 @@ cut_images_are_shown settings array image part more final last range w parts =
     let e : EndedAt array range part
     = each-front array range nothing_said final (λ k. nothing_sent) last w.after w.written [] part more
     (end nothing_said (λ k. nothing_sent) [] refl) (nothing-there array range) after in
-    let found_same : (all_brought nothing_found part).0.said ≡ e.said = ap (λ (y : Found). y.said) e.found in (
+    let found_same : (all_brought nothing_found part).found.said ≡ e.said = ap (λ (y : Found). y.said) e.found in (
       e.said,
       as_sent e.image e.levels,
       subst (λ (rows : ℕ). HoldsCut array (as_sent e.image e.levels) part e.said rows)
@@ -121,7 +119,7 @@ cut_images_are_shown settings array image part more final last range w parts =
           let same = shown-same settings e.said f e.image e.levels e.brought e.counts is.0 takes.is_said
           (e.framed f takes.is_said) (e.whole f takes.is_said) in
           let picture = held-there settings e.said f (as_sent e.image e.levels) is.1.0 takes refl takes.is_said is.1.1 in
-          let framed : (all_brought nothing_found part).0.said.frame ≡ Some f
+          let framed : (all_brought nothing_found part).found.said.frame ≡ Some f
           = ap (λ (y : Said). y.frame) found_same ∙ takes.is_said in
           let shows = shown-there settings (all_brought nothing_found part) f picture.0 framed
           (ap (picture_shown settings) e.found ∙ same ∙ picture.1) in

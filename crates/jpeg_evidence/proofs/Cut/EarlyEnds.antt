@@ -22,7 +22,7 @@ use Rattle.jpeg_lossless.proofs.ReachedRows.{rows-are-read}
 use Rattle.jpeg_lossless.proofs.WholeScans.{difference-takes}
 use Rattle.jpeg_streams.specs.Brought.{after_interval, after_intervals, fault_at, interval_end, interval_reached}
 use Rattle.jpeg_streams.specs.Brought.{interval_rows_reached, intervals_reached, reached_from, scan_rows_reached}
-use Rattle.jpeg_streams.specs.Brought.{sealed}
+use Rattle.jpeg_streams.specs.Brought.{or_first, sealed}
 use Rattle.jpeg_streams.specs.InTurn.{Reached, at_start, interval_from, intervals_from, next_interval, turn_from}
 use Rattle.jpeg_streams.specs.InTurn.{turns_from}
 use Rattle.jpeg_streams.specs.Order.{Spot}
@@ -119,12 +119,12 @@ text-end (b ∷ c ∷ bytes) h e =
 -- ---- what has a fault
 
 blocks-fault : (p : Pass) (vias : List Via) (spots : List Spot) (old : Reached) (bits : List Bool) (ps : List (List ℕ))
-    (g : Fault) → (reached_from p vias spots old (text bits ps (Broken End))).1 ≡ Err g
+    (g : Fault) → (reached_from p vias spots old (text bits ps (Broken End))).rest ≡ Err g
     → FaultIn (turns_from p vias spots old) bits g
 unfolding reached_from turns_from TakesFront
 blocks-fault p vias [] old bits ps g h = absurd (err-ok g bits (sym h))
 blocks-fault p vias (s ∷ spots) old bits ps g h =
-    bound-fault (turn_from p vias s old) (turns_from p vias spots) bits ps g (λ o. (after_turn p vias spots old o).1)
+    bound-fault (turn_from p vias s old) (turns_from p vias spots) bits ps g (λ o. (after_turn p vias s spots old o).rest)
     (turn-front p vias s old bits) (λ h. refl) (λ x left qs e. blocks-fault p vias spots x left qs g e) h
 
 abbrev rows_by : List (List Table) → Reads Rows
@@ -276,14 +276,14 @@ interval-by read view bytes f (Err g) faults reads e is h =
     short-interval read view bytes f g e is (err-same (fault_at e g) f h) (faults g refl)
 
 blocks-interval : (p : Pass) (vias : List Via) (spots : List Spot) (arrays : Arrays) (bytes : List ℕ) (f : Fault)
-    → (interval_reached p vias spots arrays bytes).1 ≡ Err f
+    → (interval_reached p vias spots arrays bytes).rest ≡ Err f
     → IntervalFault (interval_from p vias spots arrays bytes)
-    (EndsEarly bytes (reached_from p vias spots (at_start arrays) (sealed (text_at bytes))).1) f
+    (EndsEarly bytes (reached_from p vias spots (at_start arrays) (sealed (text_at bytes))).rest) f
 unfolding interval_reached interval_from
 blocks-interval p vias spots arrays bytes f h =
     let t = text_at bytes in
     interval-by (turns_from p vias spots (at_start arrays)) (λ (r : Reached). r.arrays) bytes f
-    (reached_from p vias spots (at_start arrays) (sealed t)).1
+    (reached_from p vias spots (at_start arrays) (sealed t)).rest
     (λ g e. blocks-fault p vias spots (at_start arrays) t.bits t.following g e)
     (λ left e.
     let r = reached-read p vias spots (at_start arrays) t.bits left t.following e in
@@ -435,31 +435,32 @@ changed-fault {A} {B} g o early whole f first h =
 
 pub blocks-have : (p : Pass) (vias : List Via) (number : ℕ) (spots : List Spot) (more : List (List Spot))
     (arrays : Arrays) (bytes : List ℕ) (f : Fault)
-    → (intervals_reached p vias number spots more arrays bytes).1 ≡ Err f
+    → (intervals_reached p vias number spots more arrays bytes).rest ≡ Err f
     → ScanFault (ended (intervals_from p vias number spots more arrays bytes))
     (BlocksEndEarly p vias number spots more arrays bytes) f
 unfolding intervals_reached intervals_from
 blocks-have p vias number spots [] arrays bytes f h =
     let r = interval_reached p vias spots arrays bytes in
-    last-fault (interval_from p vias spots arrays bytes) r.0 r.1
-    (EndsEarly bytes (reached_from p vias spots (at_start arrays) (sealed (text_at bytes))).1) _ f
+    last-fault (interval_from p vias spots arrays bytes) r.reached r.rest
+    (EndsEarly bytes (reached_from p vias spots (at_start arrays) (sealed (text_at bytes))).rest) _ f
     (λ e. here number spots [] arrays bytes e) (λ g e. blocks-interval p vias spots arrays bytes g e)
     (λ x e. interval-read p vias spots arrays bytes x e) h
 blocks-have p vias number spots (next ∷ more) arrays bytes f h =
     let r = interval_reached p vias spots arrays bytes in
     let one = interval_from p vias spots arrays bytes in
     let others = intervals_from p vias (suc number) next more in
-    others-fault number one r.0 (next_interval number others) r.1
-    (EndsEarly bytes (reached_from p vias spots (at_start arrays) (sealed (text_at bytes))).1) _ f
+    others-fault number one r.reached (next_interval number others) r.rest
+    (EndsEarly bytes (reached_from p vias spots (at_start arrays) (sealed (text_at bytes))).rest) _ f
     (λ y. here number spots (next ∷ more) arrays bytes y) (λ x e. rw (e, next_interval) refl)
     (λ g e. blocks-interval p vias spots arrays bytes g e) (λ x e. interval-read p vias spots arrays bytes x e)
-    (λ q. (next_reached (intervals_reached p vias (suc number) next more) r.0 q).1) (λ g. refl)
+    (λ q. (next_reached (intervals_reached p vias (suc number) next more) r.reached (or_first r.unread next) q).rest)
+    (λ g. refl)
     (λ marker left b e i t o k.
     subst (λ (q : Outcome (Arrays × Option Marker)). ScanFault (ended q)
     (BlocksEndEarly p vias number spots (next ∷ more) arrays bytes) f)
-    (sym (blocks.interval-next number r.0 one others marker left b i t o))
+    (sym (blocks.interval-next number r.reached one others marker left b i t o))
     (fault-earlier (λ y. later number spots next more arrays bytes b e y)
-    (blocks-have p vias (suc number) next more r.0 b f k))) (r.1 >>= after_interval number) refl h
+    (blocks-have p vias (suc number) next more r.reached b f k))) (r.rest >>= after_interval number) refl h
 
 -- ---- a lossless scan
 

@@ -15,7 +15,7 @@ use Rattle.jpeg_bits.specs.declared.marker.Marker.{Marker}
 use Rattle.jpeg_bits.specs.declared.marker.Marker.TheVariants.{RST}
 use Rattle.jpeg_bits.proofs.WrittenIntervals.{all-groups, marker-append}
 use Rattle.jpeg_segments.proofs.Codecs.{bind-ok, err-ok, ok-same}
-use Rattle.jpeg_streams.specs.Brought.{after_interval, interval_reached}
+use Rattle.jpeg_streams.specs.Brought.{BlocksTo, after_interval, interval_reached}
 use Rattle.jpeg_streams.specs.InTurn.{AreApart, IsIn, Reached, at_start, turns_from}
 use Rattle.jpeg_streams.specs.Order.{Spot}
 use Rattle.jpeg_streams.specs.Scans.{Arrays, turns_of}
@@ -27,7 +27,7 @@ use Rattle.jpeg_evidence.specs.FirstBlocks.BeginsIntervals.{beyond, within}
 use Rattle.jpeg_evidence.proofs.Longer.FrontReaders.{Front, TakesFront, bind-front, fault-read, gives-front}
 use Rattle.jpeg_evidence.proofs.Longer.FrontReaders.Front.{failed, gave}
 use Rattle.jpeg_evidence.proofs.Longer.LongerBits.{turn-front}
-use Rattle.jpeg_evidence.proofs.Longer.LongerData.{CanReadOf, Met, interval-stays, text-grows}
+use Rattle.jpeg_evidence.proofs.Longer.LongerData.{CanReadOf, Met, both, interval-stays, text-grows}
 use Rattle.jpeg_evidence.proofs.Longer.LongerScans.{CanReach, CanReachOf}
 use Rattle.jpeg_evidence.proofs.Longer.LongerScans.CanReach.{here, later}
 use Rattle.jpeg_evidence.proofs.Cut.ReachedFirst.{BeginsGroups, first-taken}
@@ -135,15 +135,16 @@ module _ (p : Pass) (vias : List Via) (u : Spot → Block) where
       let code = 0xD0 + k % 8 in
       let now = after_blocks p u spots arrays in
       let r = interval_reached p vias spots arrays front in
-      let x = bind-ok r.1 (after_interval k) left e in
+      let x = bind-ok r.rest (after_interval k) left e in
       let stays = interval-stays p vias spots arrays front more x.0 x.1 in
       let whole = interval-written p vias spots arrays u first fill code (RST (k % 8)) after
       (apart-front spots all apart)
       (all-in (IsReadyAt p vias arrays u) spots (λ s t. ready s (in-front s spots all t))) (rst-marker k) w in
-      let both : ◌≡◌ {A = Arrays × Met} (r.0, Ok (x.0.0, x.0.1 ++ more)) (now, Ok ((true, Some (RST (k % 8))), after))
-      = sym stays ∙ ap (interval_reached p vias spots arrays) (sym parts) ∙ whole in
+      let same : ◌≡◌ {A = Arrays × Met} (r.reached, Ok (x.0.0, x.0.1 ++ more))
+      (now, Ok ((true, Some (RST (k % 8))), after))
+      = sym stays ∙ ap (λ (y : BlocksTo (Bool × Option Marker)). both y) (ap (interval_reached p vias spots arrays) (sym parts) ∙ whole) in
       let rest : after ≡ left ++ more
-      = sym (ap (λ (y : (Bool × Option Marker) × List ℕ). y.1) (ok-same _ _ (ap (λ (y : Arrays × Met). y.1) both)))
+      = sym (ap (λ (y : (Bool × Option Marker) × List ℕ). y.1) (ok-same _ _ (ap (λ (y : Arrays × Met). y.1) same)))
       ∙ ap (λ (l : List ℕ). l ++ more) (after-read k x.0 left x.2) in
       let begun : front ≡ first ++ marker fill code left
       = append_cancel_right front (first ++ marker fill code left) more (sym parts
@@ -153,7 +154,7 @@ module _ (p : Pass) (vias : List Via) (u : Spot → Block) where
       let on = first-stand (suc k) next groups now after left more count' (apart-back spots all apart)
       (stays-ready p vias spots all arrays u apart ready) ws rest
       (subst (λ (a : Arrays). CanReach p vias (suc k) next groups a left count')
-      (ap (λ (y : Arrays × Met). y.0) both) c) in
+      (ap (λ (y : Arrays × Met). y.0) same) c) in
       subst (λ (n : ℕ). BeginsIntervals p k (turns_of vias spots u)
       (map (λ (g : List Spot). turns_of vias g u) (next ∷ groups)) (n + count') front) (turns-length vias spots u)
       (subst (λ (l : List ℕ). BeginsIntervals p k (turns_of vias spots u)

@@ -19,9 +19,9 @@ use Rattle.jpeg_segments.proofs.Codecs.{bind-ok, err-ok, ok-same}
 use Rattle.jpeg_streams.specs.declared.before.Before.{Before}
 use Rattle.jpeg_streams.specs.declared.before.Before.TheVariants.{Elsewhere}
 use Rattle.jpeg_streams.specs.declared.settings.Settings.{Settings}
-use Rattle.jpeg_streams.specs.Brought.{Brought, all_brought, blocks_brought, blocks_brought_by, brought_by}
+use Rattle.jpeg_streams.specs.Brought.{Brought, blocks_brought, blocks_brought_by, brought_by}
 use Rattle.jpeg_streams.specs.Brought.{frame_and_scan, has_whole_rows, samples_brought, samples_brought_by}
-use Rattle.jpeg_streams.specs.Brought.{scan_brought, segment_brought, turn_brought, walk_brought}
+use Rattle.jpeg_streams.specs.Brought.{scan_brought, unbrought}
 use Rattle.jpeg_streams.specs.Found.{Found, nothing_found, nothing_said}
 use Rattle.jpeg_streams.specs.FoundPictures.{blocks_picture, picture_by_process, picture_of, samples_picture}
 use Rattle.jpeg_streams.specs.InTurn.{Fits, intervals_from}
@@ -34,13 +34,15 @@ use Rattle.jpeg_streams.specs.ScanSegments.{scan_segment, scan_turn, vias_from}
 use Rattle.jpeg_streams.specs.Segments.{Turn}
 use Rattle.jpeg_streams.specs.Shown.{Shown, completed, fault_in, fault_shown, framed_or, picture_shown, planes_by}
 use Rattle.jpeg_streams.specs.Shown.{shown, shown_by, shown_of, shown_rest, with_samples_shown}
-use Rattle.jpeg_streams.specs.Stream.{meaning, rest_at, segment_at, segments_at, start_at, turn_at, walk}
+use Rattle.jpeg_streams.specs.Stream.{Walked, all_brought, brought_after, meaning, rest_at, scan_turn_at, segments_at}
+use Rattle.jpeg_streams.specs.Stream.{start_at, turn_at, walk}
 use Rattle.jpeg_streams.proofs.Order.Apart.{spots-apart}
 use Rattle.jpeg_streams.proofs.Partial.CompletedPictures.{all-stay, limited-at, within}
 use Rattle.jpeg_streams.proofs.Order.CountedScans.{scans-in-turn}
-use Rattle.jpeg_streams.proofs.Partial.Faultless.{IsTurn, Walked, arrays_of_scan, brought_on, codings-fit, framed-some}
+use Rattle.jpeg_streams.proofs.Partial.Faultless.{IsTurn, arrays_of_scan, codings-fit, framed-some}
 use Rattle.jpeg_streams.proofs.Partial.Faultless.{picture-at, planes_by_rows, rows_by, rows_of_codings, scan_of_codings}
-use Rattle.jpeg_streams.proofs.Partial.Faultless.{faultless_streams_are_meant, tables_by, turn-read, walk-read, walk_on}
+use Rattle.jpeg_streams.proofs.Partial.Faultless.{faultless_streams_are_meant, tables_by, turn-read, walk-read}
+use Rattle.jpeg_streams.proofs.Written.ReadTurns.{walk-end, walk-on, walk-refused, walked}
 use Rattle.jpeg_streams.proofs.Partial.FittingFrames.{FoundFits, FrameFits, needed-some, turn-fits}
 use Rattle.jpeg_evidence.specs.EarlyEnds.{BlocksEndEarly, RowsEndEarly, ScanEndsEarly, SegmentsEndEarly}
 use Rattle.jpeg_evidence.specs.EarlyEnds.{StreamEndsEarly}
@@ -52,6 +54,7 @@ use Rattle.jpeg_evidence.proofs.Longer.FrontReaders.{err-same}
 use Rattle.jpeg_evidence.proofs.Longer.LongerTurns.{FoundHeader, brought_of}
 use Rattle.jpeg_evidence.proofs.Taken.TakenBits.{some-is}
 use Rattle.jpeg_evidence.proofs.Cut.EarlyEnds.FaultOf.{other, refused, same, unmet}
+use Rattle.jpeg_streams.specs.declared.beyond.Beyond.TheVariants.{Nothing, Zeros}
 
 -- ---- a scan
 
@@ -69,8 +72,8 @@ TurnFault o early f = FaultOf (λ g. o ≡ Err g) early (LastTurn o) f
 
 -- a turn that brings something by what is read, or has a fault
 either-fault : {A : Type 0} (found : Found) (o : Result A Fault) (by : A → Brought) (q : Outcome Turn) (early : Type 0)
-    (f : Fault) → ((x : A) → o ≡ Ok x → (by x).1 ≡ Err f → TurnFault q early f)
-    → ((g : Fault) → o ≡ Err g → q ≡ Err g) → (brought_of found by o).1 ≡ Err f → TurnFault q early f
+    (f : Fault) → ((x : A) → o ≡ Ok x → (by x).turn ≡ Err f → TurnFault q early f)
+    → ((g : Fault) → o ≡ Err g → q ≡ Err g) → (brought_of found by o).turn ≡ Err f → TurnFault q early f
 either-fault found (Ok x) by q early f each errs h = each x refl h
 either-fault found (Err g) by q early f each errs h = same (errs g refl ∙ h)
 
@@ -135,13 +138,13 @@ scan-in-turn found frame scan codings bytes fits =
 
 coded-fault : (found : Found) (frame : Frame) (scan : Scan) (codings : List Coding) (bytes : List ℕ) (f : Fault)
     → AllByRecursion (Fits frame) frame.components → codings_of found.said frame scan ≡ Ok codings
-    → (blocks_brought_by found frame scan codings bytes).1 ≡ Err f
+    → (blocks_brought_by found frame scan codings bytes).turn ≡ Err f
     → TurnFault (blocks_scan found frame scan bytes) (EarlyBlocks found frame scan codings bytes) f
 unfolding blocks_brought_by blocks_scan
 coded-fault found frame scan codings bytes f fits c h =
     let n = found.said.restart * mcu_size (components_of codings) in
     let spots = spots_of frame (components_of codings) in
-    let r = given-err (scan_of_codings found frame scan codings bytes).1 _ f h in
+    let r = given-err (scan_of_codings found frame scan codings bytes).rest _ f h in
     let have = blocks-have (pass_of scan) (vias_from 0 codings) 0 (first_group n spots) (other_groups n spots)
     (arrays_of_scan found frame codings) bytes f r in
     rw c (turned-fault found (after_scan found frame scan codings) (scan_arrays found frame scan codings bytes)
@@ -153,7 +156,7 @@ blocks-scan : (found : Found) (frame : Frame) (scan : Scan) (bytes : List ℕ) (
     → AllByRecursion (Fits frame) frame.components
     → ((codings : List Coding) → codings_of found.said frame scan ≡ Ok codings
     → EarlyBlocks found frame scan codings bytes → whole)
-    → (blocks_brought found frame scan bytes).1 ≡ Err f → TurnFault (blocks_scan found frame scan bytes) whole f
+    → (blocks_brought found frame scan bytes).turn ≡ Err f → TurnFault (blocks_scan found frame scan bytes) whole f
 unfolding blocks_brought blocks_scan
 blocks-scan found frame scan bytes whole f fits first h =
     either-fault found (codings_of found.said frame scan)
@@ -180,7 +183,7 @@ samples-whole found frame scan codings bytes t = rw t refl
 
 coded-rows-fault : (found : Found) (frame : Frame) (scan : Scan) (codings : List LosslessCoding) (bytes : List ℕ)
     (f : Fault) → lossless_codings found.said.huffman.dc frame scan.components scan.dc_destinations ≡ Ok codings
-    → has_whole_rows found frame scan codings ≡ true → (samples_brought_by found frame scan codings bytes).1 ≡ Err f
+    → has_whole_rows found frame scan codings ≡ true → (samples_brought_by found frame scan codings bytes).turn ≡ Err f
     → TurnFault (lossless_scan found frame scan bytes) (EarlyRows found frame scan codings bytes) f
 unfolding samples_brought_by lossless_scan
 coded-rows-fault found frame scan codings bytes f c t h =
@@ -199,18 +202,18 @@ samples-scan : (found : Found) (frame : Frame) (scan : Scan) (bytes : List ℕ) 
     → ((codings : List LosslessCoding)
     → lossless_codings found.said.huffman.dc frame scan.components scan.dc_destinations ≡ Ok codings
     → has_whole_rows found frame scan codings ≡ true → EarlyRows found frame scan codings bytes → whole)
-    → (samples_brought found frame scan bytes).1 ≡ Err f → TurnFault (lossless_scan found frame scan bytes) whole f
+    → (samples_brought found frame scan bytes).turn ≡ Err f → TurnFault (lossless_scan found frame scan bytes) whole f
 unfolding samples_brought lossless_scan scan_at
 samples-scan found frame scan bytes whole f first h =
     either-fault found (lossless_codings found.said.huffman.dc frame scan.components scan.dc_destinations)
     (λ codings. if has_whole_rows found frame scan codings then samples_brought_by found frame scan codings bytes
-    else (found, Err Malformed)) (lossless_scan found frame scan bytes) whole f
+    else unbrought found (Err Malformed)) (lossless_scan found frame scan bytes) whole f
     (λ codings c k. by codings (has_whole_rows found frame scan codings) c refl k) (λ g c. rw c refl) h
   where
     by : (codings : List LosslessCoding) (b : Bool)
         → lossless_codings found.said.huffman.dc frame scan.components scan.dc_destinations ≡ Ok codings
         → has_whole_rows found frame scan codings ≡ b
-        → (if b then samples_brought_by found frame scan codings bytes else (found, Err Malformed)).1 ≡ Err f
+        → (if b then samples_brought_by found frame scan codings bytes else unbrought found (Err Malformed)).turn ≡ Err f
         → TurnFault (lossless_scan found frame scan bytes) whole f
     by codings true c t h =
         fault-earlier (first codings c t) (coded-rows-fault found frame scan codings bytes f c t h)
@@ -223,7 +226,7 @@ samples-scan found frame scan bytes whole f first h =
 by-scan : (process : CodingProcess) (found : Found) (frame : Frame) (scan : Scan) (bytes data_bytes : List ℕ)
     (f : Fault) → frame.process ≡ process → frame_and_scan found bytes ≡ Ok (frame, (scan, data_bytes))
     → AllByRecursion (Fits frame) frame.components
-    → (brought_by process found frame scan data_bytes).1 ≡ Err f
+    → (brought_by process found frame scan data_bytes).turn ≡ Err f
     → TurnFault (scan_by process found frame scan data_bytes) (ScanEndsEarly found bytes) f
 by-scan Lossless found frame scan bytes data_bytes f p header fits h =
     samples-scan found frame scan data_bytes (ScanEndsEarly found bytes) f
@@ -247,7 +250,7 @@ header-err (Ok frame) next to g e = go (next frame) e
 abbrev scanned_by : Found → Frame → Scan × List ℕ → Outcome Turn
 scanned_by found frame scan = scan_by frame.process found frame scan.0 scan.1
 
-scan-fault : (found : Found) (bytes : List ℕ) (f : Fault) → FoundFits found → (scan_brought found bytes).1 ≡ Err f
+scan-fault : (found : Found) (bytes : List ℕ) (f : Fault) → FoundFits found → (scan_brought found bytes).turn ≡ Err f
     → TurnFault (scan_segment found bytes) (ScanEndsEarly found bytes) f
 unfolding scan_brought scan_segment
 scan-fault found bytes f fits h =
@@ -259,7 +262,7 @@ scan-fault found bytes f fits h =
     let together : (c.0, s.0) ≡ y = ok-same _ y s.2 in
     let fit = (subst FrameFits (needed-some found.said.frame c.0 c.1) fits.frame).0 in
     at c.0 s.0 c.1 s.1 (by-scan c.0.process found c.0 s.0.0 bytes s.0.1 f refl (a ∙ ap Ok (sym together)) fit
-    (ap (λ (z : FoundHeader). (brought_by z.0.process found z.0 z.1.0 z.1.1).1) together ∙ k)))
+    (ap (λ (z : FoundHeader). (brought_by z.0.process found z.0 z.1.0 z.1.1).turn) together ∙ k)))
     (λ g a. header-err (needed found.said.frame) (λ frame. sos_at frame bytes) (scanned_by found) g a) h
   where
     at : (frame : Frame) (scan : Scan × List ℕ) → needed found.said.frame ≡ Ok frame → sos_at frame bytes ≡ Ok scan
@@ -273,9 +276,9 @@ abbrev EarlyAfter : Marker → Found → List ℕ → Type 0
 EarlyAfter m found bytes = (m ≡ SOS) × ScanEndsEarly found bytes
 
 segment-fault : (m : Marker) (before : Before) (found : Found) (bytes : List ℕ) (f : Fault) → FoundFits found
-    → (segment_brought m before found bytes).1 ≡ Err f
-    → TurnFault (segment_at m before found bytes) (EarlyAfter m found bytes) f
-unfolding segment_brought segment_at
+    → (brought_after Nothing m before found bytes).turn ≡ Err f
+    → TurnFault (brought_after Zeros m before found bytes).turn (EarlyAfter m found bytes) f
+unfolding brought_after scan_turn_at
 segment-fault SOS before found bytes f fits h =
     fault-earlier (λ y. (refl, y)) (scan-fault found bytes f fits h)
 segment-fault m before found bytes f fits h = same h
@@ -287,13 +290,14 @@ EarlyNext found met bytes =
 
 turn-fault : (before : Before) (found : Found) (met now : Option Marker) (bytes left : List ℕ) (f : Fault)
     → FoundFits found → found_or now left (next_marker left) ≡ found_or met bytes (next_marker bytes)
-    → (turn_brought before found met bytes).1 ≡ Err f
-    → TurnFault (turn_at before found now left) (EarlyNext found met bytes) f
-unfolding turn_brought turn_at
+    → (turn_at Nothing before found met bytes).turn ≡ Err f
+    → TurnFault (turn_at Zeros before found now left).turn (EarlyNext found met bytes) f
+unfolding turn_at
 turn-fault before found met now bytes left f fits next h =
-    let by : Outcome Marker → Outcome Turn = λ o. o >>= (λ m. segment_at m.0 before found m.1) in
-    either-fault found (found_or met bytes (next_marker bytes)) (λ m. segment_brought m.0 before found m.1)
-    (turn_at before found now left) (EarlyNext found met bytes) f
+    let by : Outcome Marker → Outcome Turn
+    = λ o. (brought_of found (λ (m : Marker × List ℕ). brought_after Zeros m.0 before found m.1) o).turn in
+    either-fault found (found_or met bytes (next_marker bytes)) (λ m. brought_after Nothing m.0 before found m.1)
+    (by (found_or now left (next_marker left))) (EarlyNext found met bytes) f
     (λ m at k.
     subst (λ (o : Outcome Marker). TurnFault (by o) (EarlyNext found met bytes) f) (sym (next ∙ at))
     (fault-earlier (λ y. (m.1, at ∙ ap (λ (k : Marker). Ok (k, m.1)) y.0, y.1))
@@ -303,24 +307,27 @@ turn-fault before found met now bytes left f fits next h =
 
 -- the fault of the segments
 abbrev WalkFault : Walked → Type 0 → Fault → Type 0
-WalkFault w early f = FaultOf (λ g. w.1 ≡ Err g) early ⊥ f
+WalkFault w early f = FaultOf (λ g. w.rest ≡ Err g) early ⊥ f
+
+same-rest : (w v : Walked) → w ≡ v → w.rest ≡ v.rest
+same-rest w v e = ap (λ (y : Walked). y.rest) e
 
 -- a walk that meets no marker
 walk-unmet : (turns : ℕ) (before : Before) (found : Found) (met : Option Marker) (bytes : List ℕ)
-    → found_or met bytes (next_marker bytes) ≡ Err End → (walk turns false before found met bytes).1 ≡ Err End
+    → found_or met bytes (next_marker bytes) ≡ Err End → (walk Zeros turns false before found met bytes).rest ≡ Err End
 unfolding walk turn_at
 walk-unmet zero before found met bytes e = refl
 walk-unmet (suc turns) before found met bytes e = rw e refl
 
--- after a turn that has a fault
-stopped-walk : (turns : ℕ) (found : Found) (o : Outcome Turn) (early whole : Type 0) (f : Fault) → (early → whole)
-    → TurnFault o early f → WalkFault (walk_on turns found o) whole f
-stopped-walk turns found o early whole f first h =
-    fault-on (λ g e. ap (λ (q : Outcome Turn). (walk_on turns found q).1) e) first
+-- a walk whose next turn has a fault
+stopped-walk : (turns : ℕ) (before : Before) (found : Found) (met : Option Marker) (bytes : List ℕ)
+    (early whole : Type 0) (f : Fault) → (early → whole) → TurnFault (turn_at Zeros before found met bytes).turn early f
+    → WalkFault (walk Zeros (suc turns) false before found met bytes) whole f
+stopped-walk turns before found met bytes early whole f first h =
+    fault-on (λ g e. same-rest _ _ (walk-refused Zeros turns false before found met bytes g refl e)) first
     (λ m l.
     let t = l.turn in
-    same (ap (λ (q : Outcome Turn). (walk_on turns found q).1) l.read
-    ∙ ap (λ (b : Bool). (if b then (t.found, Ok l.left) else walk turns false t.before t.found t.met l.left).1) l.going
+    same (same-rest _ _ (walk-on Zeros turns false before found met bytes l.left t refl l.read l.going)
     ∙ walk-unmet turns t.before t.found t.met l.left l.none ∙ ap Err (sym m))) h
 
 -- what a later turn of the walk gives
@@ -328,53 +335,57 @@ abbrev Again : ℕ → Fault → Type 0
 Again turns f =
     (x : Turn × List ℕ) (now : Option Marker) (left : List ℕ) → FoundFits x.0.found
     → found_or now left (next_marker left) ≡ found_or x.0.met x.1 (next_marker x.1)
-    → (walk_brought turns x.0.before x.0.found x.0.met x.1).1 ≡ Err f
-    → WalkFault (walk turns false x.0.before x.0.found now left)
+    → (walk Nothing turns false x.0.before x.0.found x.0.met x.1).rest ≡ Err f
+    → WalkFault (walk Zeros turns false x.0.before x.0.found now left)
     (SegmentsEndEarly x.0.before x.0.found x.0.met x.1) f
 
-going-walk : (turns : ℕ) (found : Found) (o : Outcome Turn) (x : Turn × List ℕ) (whole : Type 0) (f : Fault)
-    (t : IsTurn o x.0 x.1) → FoundFits x.0.found → Again turns f → (ended : Bool) → x.0.ended ≡ ended
-    → (ended ≡ false → SegmentsEndEarly x.0.before x.0.found x.0.met x.1 → whole)
-    → (if ended then (x.0.found, Ok x.1) else walk_brought turns x.0.before x.0.found x.0.met x.1).1 ≡ Err f
-    → WalkFault (walk_on turns found o) whole f
-going-walk turns found o x whole f t fits again true u first h = absurd (err-ok f x.1 (sym h))
-going-walk turns found o x whole f t fits again false u first h =
-    subst (λ (w : Walked). WalkFault w whole f) (sym (ap (walk_on turns found) t.read
-    ∙ ap (λ (b : Bool). if b then (t.now.found, Ok t.left)
-    else walk turns false t.now.before t.now.found t.now.met t.left) (t.ended ∙ u)
-    ∙ ap (λ (b : Before). walk turns false b t.now.found t.now.met t.left) t.before
-    ∙ ap (λ (g : Found). walk turns false x.0.before g t.now.met t.left) t.found))
-    (fault-earlier (first refl) (again x t.now.met t.left fits t.next h))
-
 -- a walk after its next turn
-walk-after : (turns : ℕ) (found old : Found) (o b : Outcome Turn) (early whole : Type 0) (f : Fault)
-    → ((x : Turn × List ℕ) → b ≡ Ok x → IsTurn o x.0 x.1)
-    → ((x : Turn × List ℕ) → o ≡ Ok x → FoundFits x.0.found)
-    → ((g : Fault) → b ≡ Err g → TurnFault o early g) → (early → whole)
-    → ((x : Turn × List ℕ) → b ≡ Ok x → x.0.ended ≡ false
-    → SegmentsEndEarly x.0.before x.0.found x.0.met x.1 → whole)
-    → Again turns f → (brought_on turns (old, b)).1 ≡ Err f → WalkFault (walk_on turns found o) whole f
-walk-after turns found old o (Err g) early whole f turn fits faults here later again h =
-    stopped-walk turns found o early whole f here (faults f (ap Err (err-same g f h)))
-walk-after turns found old o (Ok x) early whole f turn fits faults here later again h =
-    let t = turn x refl in
-    let k = subst FoundFits t.found (fits (t.now, t.left) t.read) in
-    going-walk turns found o x whole f t k again x.0.ended refl (λ u y. later x refl u y) h
+going-walk : (turns : ℕ) (before : Before) (found : Found) (now : Option Marker) (left : List ℕ) (x : Turn × List ℕ)
+    (whole : Type 0) (f : Fault) (t : IsTurn (turn_at Zeros before found now left).turn x.0 x.1) → FoundFits x.0.found
+    → Again turns f → (SegmentsEndEarly x.0.before x.0.found x.0.met x.1 → whole) → x.0.ended ≡ false
+    → (walk Nothing turns false x.0.before x.0.found x.0.met x.1).rest ≡ Err f
+    → WalkFault (walk Zeros (suc turns) false before found now left) whole f
+going-walk turns before found now left x whole f t fits again first u h =
+    subst (λ (w : Walked). WalkFault w whole f)
+    (sym (walk-on Zeros turns false before found now left t.left t.now refl t.read (t.ended ∙ u)
+    ∙ ap (λ (b : Before). walk Zeros turns false b t.now.found t.now.met t.left) t.before
+    ∙ ap (λ (g : Found). walk Zeros turns false x.0.before g t.now.met t.left) t.found))
+    (fault-earlier first (again x t.now.met t.left fits t.next h))
+
+walk-next : (turns : ℕ) (before : Before) (found : Found) (met now : Option Marker) (bytes left : List ℕ) (f : Fault)
+    → FoundFits found → found_or now left (next_marker left) ≡ found_or met bytes (next_marker bytes)
+    → (walk Nothing (suc turns) false before found met bytes).rest ≡ Err f → Again turns f
+    → (o : Outcome Turn) → (turn_at Nothing before found met bytes).turn ≡ o
+    → WalkFault (walk Zeros (suc turns) false before found now left) (SegmentsEndEarly before found met bytes) f
+walk-next turns before found met now bytes left f fits next h again (Err g) e =
+    let is = err-same g f
+    (sym (same-rest _ _ (walk-refused Nothing turns false before found met bytes g refl e)) ∙ h) in
+    stopped-walk turns before found now left (EarlyNext found met bytes) _ f
+    (λ y. at_scan before found met bytes y.0 y.1 y.2)
+    (turn-fault before found met now bytes left f fits next (e ∙ ap Err is))
+walk-next turns before found met now bytes left f fits next h again (Ok x) e = go x.0.ended refl
+  where
+    go : (b : Bool) → x.0.ended ≡ b
+        → WalkFault (walk Zeros (suc turns) false before found now left) (SegmentsEndEarly before found met bytes) f
+    go true u =
+        absurd (err-ok f x.1 (sym h
+        ∙ same-rest _ _ (walk-end Nothing turns false before found met bytes x.1 x.0 refl e u)))
+    go false u =
+        let t = turn-read before found met now bytes left x fits next e in
+        let fit = subst FoundFits t.found (turn-fits before found now left (t.now, t.left) fits t.read) in
+        going-walk turns before found now left x _ f t fit again (λ y. later_turn before found met bytes x.0 x.1 e u y) u
+        (sym (same-rest _ _ (walk-on Nothing turns false before found met bytes x.1 x.0 refl e u)) ∙ h)
 
 walk-fault : (turns : ℕ) (before : Before) (found : Found) (met now : Option Marker) (bytes left : List ℕ) (f : Fault)
     → FoundFits found → found_or now left (next_marker left) ≡ found_or met bytes (next_marker bytes)
-    → (walk_brought turns before found met bytes).1 ≡ Err f
-    → WalkFault (walk turns false before found now left) (SegmentsEndEarly before found met bytes) f
-unfolding walk_brought walk
+    → (walk Nothing turns false before found met bytes).rest ≡ Err f
+    → WalkFault (walk Zeros turns false before found now left) (SegmentsEndEarly before found met bytes) f
+unfolding walk
 walk-fault zero before found met now bytes left f fits next h = same h
 walk-fault (suc turns) before found met now bytes left f fits next h =
-    let b = turn_brought before found met bytes in
-    walk-after turns found b.0 (turn_at before found now left) b.1 (EarlyNext found met bytes) _ f
-    (λ x a. turn-read before found met now bytes left x fits next a)
-    (λ x a. turn-fits before found now left x fits a)
-    (λ g a. turn-fault before found met now bytes left g fits next a)
-    (λ y. at_scan before found met bytes y.0 y.1 y.2) (λ x a u y. later_turn before found met bytes x.0 x.1 a u y)
-    (λ x later bits k s a. walk-fault turns x.0.before x.0.found x.0.met later x.1 bits f k s a) h
+    walk-next turns before found met now bytes left f fits next h
+    (λ x later bits k s a. walk-fault turns x.0.before x.0.found x.0.met later x.1 bits f k s a)
+    (turn_at Nothing before found met bytes).turn refl
 
 -- ---- the picture
 
@@ -431,14 +442,16 @@ Named settings bytes f =
     (meaning settings bytes ≡ Err f)
     ⊎ (StreamEndsEarly bytes × ((f ≡ Malformed) ⊎ ((f ≡ End) × (meaning settings bytes ≡ Err Malformed))))
 
-walked-err : (settings : Settings) (rest : List ℕ) (g : Fault)
-    → (walk (suc (length rest)) false Elsewhere nothing_found None rest).1 ≡ Err g
+abbrev segments_walked : List ℕ → Walked
+segments_walked rest = walk Zeros (suc (length rest)) false Elsewhere nothing_found None rest
+
+walked-err : (settings : Settings) (rest : List ℕ) (g : Fault) → (segments_walked rest).rest ≡ Err g
     → rest_at settings nothing_found rest ≡ Err g
 unfolding rest_at segments_at
 walked-err settings rest g e = rw e refl
 
 drawn-err : (settings : Settings) (rest left : List ℕ) (found : Found) (g : Fault)
-    → walk (suc (length rest)) false Elsewhere nothing_found None rest ≡ (found, Ok left)
+    → segments_walked rest ≡ walked found (Ok left)
     → picture_of settings found ≡ Err g → rest_at settings nothing_found rest ≡ Err g
 unfolding rest_at segments_at
 drawn-err settings rest left found g e p = rw (e, p) refl
@@ -454,17 +467,18 @@ unfolding nothing_found nothing_said
 nothing-fits = record { frame = tt; samples = refl }
 
 -- by the end of the segments
-named-by : (settings : Settings) (bytes rest picture : List ℕ) (frame : Frame) (f : Fault) (found : Found)
-    (ended : Result (List ℕ) Fault) → start_at bytes ≡ Ok (tt, rest) → all_brought nothing_found rest ≡ (found, ended)
-    → found.said.frame ≡ Some frame → picture_shown settings found ≡ Ok picture
-    → fault_shown found ended ≡ Some f → Named settings bytes f
+named-by : (settings : Settings) (bytes rest picture : List ℕ) (frame : Frame) (f : Fault)
+    (ended : Result (List ℕ) Fault) → start_at bytes ≡ Ok (tt, rest) → (all_brought nothing_found rest).rest ≡ ended
+    → (all_brought nothing_found rest).found.said.frame ≡ Some frame
+    → picture_shown settings (all_brought nothing_found rest).found ≡ Ok picture
+    → fault_shown (all_brought nothing_found rest).found ended ≡ Some f → Named settings bytes f
 unfolding fault_shown
-named-by settings bytes rest picture frame f found (Err g) start walked framed shows fault =
+named-by settings bytes rest picture frame f (Err g) start walked_so framed shows fault =
     go (walk-fault (suc (length rest)) Elsewhere nothing_found None None rest rest f nothing-fits refl
-    (ap (λ (w : Walked). w.1) walked ∙ ap Err (some-is g f fault)))
+    (walked_so ∙ ap Err (some-is g f fault)))
   where
-    go : WalkFault (walk (suc (length rest)) false Elsewhere nothing_found None rest)
-        (SegmentsEndEarly Elsewhere nothing_found None rest) f → Named settings bytes f
+    go : WalkFault (segments_walked rest) (SegmentsEndEarly Elsewhere nothing_found None rest) f
+        → Named settings bytes f
     go (same e) = inl (meant-err settings bytes (tt, rest) f start (walked-err settings rest f e))
     go (other y m) = inr ((rest, start, y), inl m)
     go (refused y m e) =
@@ -477,18 +491,19 @@ named-by settings bytes rest picture frame f found (Err g) start walked framed s
           ),
         )
     go (unmet m n) = absurd n
-named-by settings bytes rest picture frame f found (Ok left) start walked framed shows fault =
-    let same = walk-read (suc (length rest)) Elsewhere nothing_found None None rest rest left nothing-fits refl
-    (ap (λ (w : Walked). w.1) walked) ∙ ap (λ (w : Walked). (w.0, Ok left)) walked in
-    inl (meant-err settings bytes (tt, rest) f start (drawn-err settings rest left found f same
+named-by settings bytes rest picture frame f (Ok left) start walked_so framed shows fault =
+    let found = (all_brought nothing_found rest).found in
+    let read = walk-read (suc (length rest)) Elsewhere nothing_found None None rest rest left nothing-fits refl
+    walked_so in
+    inl (meant-err settings bytes (tt, rest) f start (drawn-err settings rest left found f read
     (picture-fault settings found frame picture f framed shows
-    (lacking (planes_by frame.process found frame) (at found.said.frame framed fault)))))
+    (lacking (planes_by frame.process found frame) (at found found.said.frame framed fault)))))
   where
-    at : (o : Option Frame) → o ≡ Some frame
-        → fault_in (needed o >>= (λ frame. planes_by frame.process found frame)) ≡ Some f
-        → fault_in (planes_by frame.process found frame) ≡ Some f
-    at o e h = subst
-        (λ (q : Option Frame). fault_in (needed q >>= (λ frame. planes_by frame.process found frame)) ≡ Some f) e h
+    at : (g : Found) (o : Option Frame) → o ≡ Some frame
+        → fault_in (needed o >>= (λ frame. planes_by frame.process g frame)) ≡ Some f
+        → fault_in (planes_by frame.process g frame) ≡ Some f
+    at g o e h = subst
+        (λ (q : Option Frame). fault_in (needed q >>= (λ frame. planes_by frame.process g frame)) ≡ Some f) e h
 
     lacking : (o : Result (List (List ℕ)) Fault) → fault_in o ≡ Some f → o ≡ Err f
     lacking (Ok x) h = absurd (let n : ⊥ = cc in n)
@@ -501,11 +516,11 @@ unfolding shown shown_rest shown_of
 faults_are_the_meanings settings bytes s f e fault =
     let start = bind-ok (start_at bytes) _ s e in
     let w = all_brought nothing_found start.0.1 in
-    let u = bind-ok (framed_or w.0.said.frame w.1) _ s start.2 in
-    let p = bind-ok (picture_shown settings w.0) _ s u.2 in
+    let u = bind-ok (framed_or w.found.said.frame w.rest) _ s start.2 in
+    let p = bind-ok (picture_shown settings w.found) _ s u.2 in
     let same_so = ok-same _ s p.2 in
-    let frame = framed-some w.0.said.frame w.1 u.0 u.1 in
-    named-by settings bytes start.0.1 p.0 frame.0 f w.0 w.1 start.1 refl frame.1 p.1
+    let frame = framed-some w.found.said.frame w.rest u.0 u.1 in
+    named-by settings bytes start.0.1 p.0 frame.0 f w.rest start.1 refl frame.1 p.1
     (ap (λ (z : Shown). z.fault) same_so ∙ fault)
 
 -- Where the meaning has a fault, one is shown.

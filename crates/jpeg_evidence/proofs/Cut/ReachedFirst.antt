@@ -1,6 +1,6 @@
 -- The first blocks of a scan whose data stand whole in some bytes can be read of these.
 use Rattle.std.proofs.Common.{◌≡◌, ℕ, suc, ◌+◌, ◌%◌, ◌≤◌, Bool, true, List, [], ◌∷◌, ◌++◌, map, take, drop, refl, sym}
-use Rattle.std.proofs.Common.{ap, ◌∙◌, subst, Ok, Err, Result, Some, append_assoc, take-append-drop}
+use Rattle.std.proofs.Common.{ap, ◌∙◌, subst, Ok, Err, Result, Option, Some, append_assoc, take-append-drop}
 use Rattle.std.specs.List.{AllByRecursion}
 use Rattle.std.proofs.lemmas.List.{take-map}
 use Rattle.jpeg_bits.specs.Reading.{Fault, End}
@@ -10,11 +10,12 @@ use Rattle.jpeg_bits.specs.Intervals.{first_group, other_groups}
 use Rattle.jpeg_bits.specs.Passes.{Block, Pass, Via, predictors_at_start}
 use Rattle.jpeg_bits.specs.Readers.{text}
 use Rattle.jpeg_bits.specs.Written.{marker}
+use Rattle.jpeg_bits.specs.declared.marker.Marker.{Marker}
 use Rattle.jpeg_bits.specs.declared.marker.Marker.TheVariants.{RST}
 use Rattle.jpeg_bits.proofs.ReadIntervals.{all-take}
 use Rattle.jpeg_bits.proofs.WrittenIntervals.{all-groups}
 use Rattle.jpeg_segments.proofs.Codecs.{err-ok, ok-same}
-use Rattle.jpeg_streams.specs.Brought.{after_interval, interval_reached}
+use Rattle.jpeg_streams.specs.Brought.{BlocksTo, after_interval, interval_reached}
 use Rattle.jpeg_streams.specs.InTurn.{AreApart, IsIn, Reached, at_start, turns_from}
 use Rattle.jpeg_streams.specs.Order.{Spot}
 use Rattle.jpeg_streams.specs.Scans.{Arrays, turns_of, via_at}
@@ -22,13 +23,13 @@ use Rattle.jpeg_streams.proofs.Order.CountedScans.{all_of, apart-back, apart-fro
 use Rattle.jpeg_streams.proofs.Written.WrittenFrameScans.{IsReadyAt, all-in}
 use Rattle.jpeg_evidence.specs.FirstBlocks.{BeginsInterval, BeginsIntervals, WritesFirst}
 use Rattle.jpeg_evidence.specs.FirstBlocks.BeginsIntervals.{beyond, within}
-use Rattle.jpeg_evidence.proofs.Longer.LongerData.{CanReadOf, Met}
+use Rattle.jpeg_evidence.proofs.Longer.LongerData.{CanReadOf}
 use Rattle.jpeg_evidence.proofs.Longer.LongerScans.{CanReach, CanReachOf}
 use Rattle.jpeg_evidence.proofs.Longer.LongerScans.CanReach.{here, later}
 use Rattle.jpeg_evidence.proofs.Cut.StandingBlocks.{turns-length}
 use Rattle.jpeg_evidence.proofs.Taken.StuffedTexts.{stuffed-begins}
 use Rattle.jpeg_evidence.proofs.Cut.WrittenCuts.{after_blocks, first-read, groups-are, interval-written, restart-met}
-use Rattle.jpeg_evidence.proofs.Cut.WrittenCuts.{rst-marker, stays-ready}
+use Rattle.jpeg_evidence.proofs.Cut.WrittenCuts.{rst-marker, stays-ready, whole}
 
 -- ---- the blocks of an interval
 
@@ -104,19 +105,20 @@ first-reach p vias u k spots (next ∷ groups) arrays bytes count apart ready
     let others = all_of (next ∷ groups) in
     let now = after_blocks p u spots arrays in
     let all = first ++ marker fill (0xD0 + k % 8) after in
-    let is : interval_reached p vias spots arrays all ≡ (now, Ok ((true, Some (RST (k % 8))), after))
+    let is : interval_reached p vias spots arrays all ≡ whole now ((true, Some (RST (k % 8))), after)
     = interval-written p vias spots arrays u first fill (0xD0 + k % 8) (RST (k % 8)) after
     (apart-front spots others apart)
     (all-in (IsReadyAt p vias arrays u) spots (λ s t. ready s (in-front s spots others t))) (rst-marker k) w in
-    let ends : outcomes.◌>>=◌ (interval_reached p vias spots arrays all).1 (after_interval k) ≡ Ok after
-    = ap (λ (q : Arrays × Met). outcomes.◌>>=◌ q.1 (after_interval k)) is ∙ restart-met k after in
+    let ends : outcomes.◌>>=◌ (interval_reached p vias spots arrays all).rest (after_interval k) ≡ Ok after
+    = ap (λ (q : BlocksTo (Bool × Option Marker)). outcomes.◌>>=◌ q.rest (after_interval k)) is
+    ∙ restart-met k after in
     let more = first-reach p vias u (suc k) next groups now after count' (apart-back spots others apart)
     (stays-ready p vias spots others arrays u apart ready) b in
     subst (λ (n : ℕ). CanReach p vias k spots (next ∷ groups) arrays all (n + count'))
     (sym (turns-length vias spots u))
     (later k spots next groups arrays all after count' ends
     (subst (λ (a : Arrays). CanReach p vias (suc k) next groups a after count')
-    (sym (ap (λ (q : Arrays × Met). q.0) is)) more))
+    (sym (ap (λ (q : BlocksTo (Bool × Option Marker)). q.reached) is)) more))
 
 -- the first blocks of groups of a scan's turns stand whole in these bytes
 abbrev pub BeginsGroups : Pass → ℕ → List ℕ → List (Via × Block) × List (List (Via × Block)) → Type 0

@@ -69,7 +69,7 @@ pub cut_scans_have_what_was_sent : (frame : Frame) (restart : ℕ) (p : Pass) (c
     → SentMost (λ count. StandWhole frame restart p codings w.sent count front) p
     (spots_of frame (components_of codings)) levels w.sent before
     (scan_reached p (restart * mcu_size (components_of codings)) (vias_from 0 codings)
-    (spots_of frame (components_of codings)) before front).0
+    (spots_of frame (components_of codings)) before front).reached
 cut_scans_have_what_was_sent frame restart p codings array bytes w levels before front more fits sized tables kept
     parts =
     let n = restart * mcu_size (components_of codings) in
@@ -82,8 +82,8 @@ cut_scans_have_what_was_sent frame restart p codings array bytes w levels before
     let f : Spot → Block = λ s. after_pass p (block_at before s) (u s) in
     let all = whole-reached p n vias u spots before bytes apart ready w.coded in
     let end = more ++ marker 0 217 [] in
-    let shorter = (scan_reached p n vias spots before front).0 in
-    let longer = (scan_reached p n vias spots before (front ++ end)).0 in
+    let shorter = (scan_reached p n vias spots before front).reached in
+    let longer = (scan_reached p n vias spots before (front ++ end)).reached in
     let most = longer_data_read_most p n vias spots before front end in
     let on = most.on in
     let same : front ++ end ≡ bytes ++ marker 0 217 []
@@ -97,7 +97,7 @@ cut_scans_have_what_was_sent frame restart p codings array bytes w levels before
             let within : IsIn s spots = subst (λ (l : List Spot). IsIn s l) (sym on.parts)
             (in-front s on.done on.others t) in
             brought-stay spots before shorter longer apart on s t
-            ∙ ap (λ (l : List ℕ). block_at (scan_reached p n vias spots before l).0 s) same
+            ∙ ap (λ (l : List ℕ). block_at (scan_reached p n vias spots before l).reached s) same
             ∙ ap (λ (a : Arrays). block_at a s) all
             ∙ reaches f s spots before (spots-inside frame (components_of codings) before s fits sized within) within
             ∙ ap (λ (b : Block). after_pass p b (u s)) k.kept_is

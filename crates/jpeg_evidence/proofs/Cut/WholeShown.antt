@@ -1,20 +1,19 @@
 -- A whole stream of a writer is shown whole: its picture is that of the array, and no fault is named.
-use Rattle.std.proofs.Common.{◌≡◌, ℕ, List, [], ◌++◌, true, Option, Some, None, Result, Ok}
+use Rattle.std.proofs.Common.{true, ◌≡◌, ℕ, List, [], ◌++◌, false, Option, Some, None, Result, Ok}
 use Rattle.std.proofs.Common.{refl, sym, ap, ◌∙◌, append_assoc, is_some}
 use Rattle.std.specs.Prelude.{slice_index_or}
 use Rattle.std.specs.List.{enumerate_from}
 use Rattle.jpeg_bits.specs.Reading.{Fault}
 use Rattle.jpeg_bits.specs.Written.{marker}
-use Rattle.jpeg_bits.specs.declared.marker.Marker.TheVariants.{EOI}
 use Rattle.jpeg_segments.specs.Checks.{gathered, needed}
 use Rattle.jpeg_segments.specs.Frame.{Frame}
 use Rattle.jpeg_segments.specs.ScanHeaders.{scan_payload}
 use Rattle.jpeg_segments.specs.WrittenSegments.{marker_code, payload_of, with_length}
 use Rattle.jpeg_segments.specs.declared.frame.CodingProcess.{CodingProcess}
 use Rattle.jpeg_segments.specs.declared.frame.CodingProcess.TheVariants.{Lossless}
+use Rattle.jpeg_streams.specs.declared.beyond.Beyond.TheVariants.{Nothing}
 use Rattle.jpeg_streams.specs.declared.settings.Settings.{Settings}
 use Rattle.jpeg_streams.specs.ArrayPictures.{picture_of_array}
-use Rattle.jpeg_streams.specs.Brought.{all_brought}
 use Rattle.jpeg_streams.specs.Found.{Found, Said, nothing_found, nothing_said}
 use Rattle.jpeg_streams.specs.FoundPictures.{blocks_picture, limited, picture_by_process, picture_of, plane_at_end}
 use Rattle.jpeg_streams.specs.FoundPictures.{samples_picture}
@@ -22,20 +21,18 @@ use Rattle.jpeg_streams.specs.Levels.{Is8Bit, Levels, nothing_sent}
 use Rattle.jpeg_streams.specs.SaidSegments.{said_after}
 use Rattle.jpeg_streams.specs.Shown.{completed, fault_in, fault_shown, framed_or, picture_shown, planes_by, shown}
 use Rattle.jpeg_streams.specs.Shown.{shown_of, shown_rest}
-use Rattle.jpeg_streams.specs.Stream.{start_at, told_of}
+use Rattle.jpeg_streams.specs.Stream.{Walked, all_brought, start_at, told_of}
 use Rattle.jpeg_streams.specs.WrittenImages.{ClosesImage, MayStandInImage, WritesImage, WritesImageScan, WritesPart}
 use Rattle.jpeg_streams.specs.WrittenScans.{Coefficients}
 use Rattle.jpeg_streams.specs.WrittenStreams.{Writes, end, scan, segment}
 use Rattle.jpeg_streams.proofs.Partial.CompletedPictures.{completed-same, limited-at}
-use Rattle.jpeg_streams.proofs.Written.ReadTurns.{bind-ok, marker-append, next-marker, scan-tail, segment-tail, then-ok}
+use Rattle.jpeg_streams.proofs.Written.ReadTurns.{bind-ok, marker-append, scan-tail, segment-tail, then-ok, walk-end}
+use Rattle.jpeg_streams.proofs.Written.ReadTurns.{walked}
 use Rattle.jpeg_streams.proofs.Written.WalkedStreams.{beside}
 use Rattle.jpeg_streams.proofs.Written.WrittenPictures.{ReadImage, bring, pictures-same}
-use Rattle.jpeg_streams.proofs.Partial.Faultless.{Walked}
-use Rattle.jpeg_evidence.proofs.Cut.CutHeld.{begins-end, end-brings, last_turn}
+use Rattle.jpeg_evidence.proofs.Cut.CutHeld.{begins-end, end-next, last_turn}
 use Rattle.jpeg_evidence.proofs.Cut.CutScans.{past-of}
 use Rattle.jpeg_evidence.proofs.Cut.NamedFaults.{limit-passed}
-use Rattle.jpeg_evidence.proofs.Cut.CutWalks.{past-turn, turn-at}
-use Rattle.jpeg_evidence.proofs.Cut.WrittenCuts.{eoi_code}
 
 -- ---- the walk
 
@@ -85,7 +82,7 @@ closes-after array said final levels last bytes
 record WalksWhole (array : Coefficients) (final : Said) (last : ℕ → Levels) (rest : List ℕ) (w : Walked)
     : Type 0 where
   read : ReadImage array final last
-  walked : w ≡ (beside bring final read.brought, Ok rest)
+  ends : w ≡ walked (beside bring final read.brought) (Ok rest)
 
 whole-walked : (array : Coefficients) → ((index row column : ℕ) → Is8Bit (array index row column))
     → (after rest : List ℕ) (final : Said) (last : ℕ → Levels)
@@ -101,9 +98,6 @@ whole-walked array range after rest final last w =
     ∙ ap (λ (l : List ℕ). c.front ++ l) (marker-append fill 217 [] rest) in
     let past = past-of array range final last c.front tail c.written (begins-end fill rest) in
     let now = beside bring final past.brought in
-    let turn = turn-at past.before now past.met past.all rest EOI
-    (past.at.first ∙ next-marker fill 217 EOI rest (record { is = eoi_code }))
-    ∙ end-brings past.before now rest (ap is_some c.closes.is_said) in
     record {
       read = record {
         brought = past.brought;
@@ -113,9 +107,9 @@ whole-walked array range after rest final last w =
         framed = c.closes.is_said;
         ended = c.closes.ended;
       };
-      walked = ap (all_brought nothing_found) parts
-          ∙ (past-turn array range final last tail (all_brought nothing_found (c.front ++ tail)) past
-          (now, Ok (last_turn now, rest)) turn).1;
+      ends = ap (all_brought nothing_found) parts ∙ past.goes_on
+          ∙ walk-end Nothing past.turns false past.before now past.met past.all rest (last_turn now) refl
+          (end-next past.before now past.met past.all fill rest (ap is_some c.closes.is_said) past.at) refl;
     }
 
 -- ---- the picture, and no fault
@@ -149,7 +143,7 @@ no-fault found frame rest planes f e =
 -- what is found at the end of an image is shown so
 found-shown : (settings : Settings) (found : Found) (frame : Frame) (rest picture : List ℕ)
     → found.said.frame ≡ Some frame → picture_of settings found ≡ Ok picture
-    → shown_of settings (found, Ok rest)
+    → shown_of settings found (Ok rest)
     ≡ Ok (record { told = told_of found.said; picture = picture; fault = None })
 unfolding shown_of picture_shown picture_of
 found-shown settings found frame rest picture f e =
@@ -174,6 +168,6 @@ whole_images_are_shown_whole settings array image rest picture final last range 
     let walk = whole-walked array range w.after rest final last w.written in
     let found = beside bring final walk.read.brought in
     ap (λ (l : List ℕ). shown settings (l ++ rest)) w.starts
-    ∙ ap (shown_of settings) walk.walked
+    ∙ ap (λ (w : Walked). shown_of settings w.found w.rest) walk.ends
     ∙ found-shown settings found walk.read.frame rest picture walk.read.framed
     (pictures-same settings array final last walk.read ∙ e)

@@ -1,6 +1,6 @@
 -- The data of a scan that were written are reached without a fault.
 use Rattle.std.proofs.Common.{◌≡◌, ◌+◌, ◌-◌, ◌%◌, ◌<◌, ℕ, suc, Bool, true, false, List, [], ◌∷◌, ◌++◌, length, map}
-use Rattle.std.proofs.Common.{refl, sym, ap, ap₂, ◌∙◌, subst, arith, Ok, Err, Result, Option, Some, append_assoc, ℤ}
+use Rattle.std.proofs.Common.{refl, sym, ap, ap₂, ◌∙◌, subst, arith, Ok, Err, Result, Option, None, Some, append_assoc, ℤ}
 use Rattle.std.proofs.Common.{set}
 use Rattle.std.specs.Prelude.{nat_le}
 use Rattle.std.specs.List.{AllByRecursion}
@@ -22,8 +22,9 @@ use Rattle.jpeg_bits.proofs.ReadIntervals.{all-map}
 use Rattle.jpeg_bits.proofs.WrittenBits.{takes-gives}
 use Rattle.jpeg_bits.proofs.WrittenIntervals.{all-groups, first-map, marker-append, others-map, reads-interval}
 use Rattle.jpeg_segments.proofs.Codecs.{bind-ok, err-ok, ok-same}
-use Rattle.jpeg_streams.specs.Brought.{after_interval, after_intervals, interval_end, interval_reached}
-use Rattle.jpeg_streams.specs.Brought.{intervals_reached, reached_from, scan_reached, sealed}
+use Rattle.jpeg_streams.specs.Brought.{BlocksTo, Through, after_interval, after_intervals, interval_end}
+use Rattle.jpeg_streams.specs.Brought.{interval_reached, intervals_reached, or_first, reached_from, scan_reached}
+use Rattle.jpeg_streams.specs.Brought.{sealed}
 use Rattle.jpeg_streams.specs.InTurn.{AreApart, IsIn, Reached, at_start, turn_from, turns_from}
 use Rattle.jpeg_streams.specs.Order.{Spot}
 use Rattle.jpeg_streams.specs.Scans.{Arrays, block_at, put_blocks, turns_of, via_at}
@@ -39,6 +40,7 @@ use Rattle.jpeg_streams.proofs.Written.WrittenFrameScans.{IsReadyAt, all-in, rea
 use Rattle.jpeg_evidence.specs.FirstBlocks.{WritesFirst}
 use Rattle.jpeg_evidence.specs.FirstBlocks.WritesFirst.{next_block, no_more}
 use Rattle.jpeg_evidence.proofs.Longer.LongerBlocks.{reached_are_read}
+use Rattle.jpeg_evidence.proofs.Longer.LongerBits.{After}
 use Rattle.jpeg_evidence.proofs.Longer.LongerData.{Met}
 use Rattle.jpeg_evidence.proofs.Taken.TakenBits.{none-is}
 
@@ -100,18 +102,22 @@ takes-sealed p vias spots arrays u bits apart ready w = record {
       (Broken End)));
 }
 
+-- what is reached whole
+abbrev pub whole : {A B : Type 0} → A → B → Through A B
+whole x rest = record { reached = x; unread = None; rest = Ok rest }
+
 -- blocks that are all read are reached
-pub turns-reached : (p : Pass) (vias : List Via) (spots : List Spot) (old : Reached) (t : Text) (r : Reached × Text)
-    → turns_from p vias spots old t ≡ Ok r → reached_from p vias spots old t ≡ (r.0, Ok r.1.bits)
+turns-reached : (p : Pass) (vias : List Via) (spots : List Spot) (old : Reached) (t : Text) (r : Reached × Text)
+    → turns_from p vias spots old t ≡ Ok r → reached_from p vias spots old t ≡ whole r.0 r.1.bits
 unfolding turns_from reached_from
-turns-reached p vias [] old t r e = ap (λ (q : Reached × Text). (q.0, Ok q.1.bits)) (ok-same (old, t) r e)
+turns-reached p vias [] old t r e = ap (λ (q : Reached × Text). whole q.0 q.1.bits) (ok-same (old, t) r e)
 turns-reached p vias (s ∷ spots) old t r e = go (turn_from p vias s old t) e
     (λ x y h. turns-reached p vias spots x y r h)
   where
     go : (o : Result (Reached × Text) Fault) → read_on (turns_from p vias spots) o ≡ Ok r
         → ((x : Reached) (y : Text) → turns_from p vias spots x y ≡ Ok r
-        → reached_from p vias spots x y ≡ (r.0, Ok r.1.bits))
-        → after_turn p vias spots old o ≡ (r.0, Ok r.1.bits)
+        → reached_from p vias spots x y ≡ whole r.0 r.1.bits)
+        → after_turn p vias s spots old o ≡ whole r.0 r.1.bits
     go (Ok q) h more = more q.0 q.1 h
     go (Err g) h more = absurd (err-ok g r h)
 
@@ -150,26 +156,33 @@ end-so k bytes left e arrays x m rest false s h =
 -- blocks that are read of bits alone are reached
 pub read-reached : (p : Pass) (vias : List Via) (spots : List Spot) (arrays : Arrays) (t : Text) (r : Arrays × Text)
     → sealed_read p vias spots arrays t ≡ Ok r
-    → ((reached_from p vias spots (at_start arrays) (sealed t)).0.arrays ≡ r.0)
-    × ((reached_from p vias spots (at_start arrays) (sealed t)).1 ≡ Ok r.1.bits)
+    → (q : Reached) × (reached_from p vias spots (at_start arrays) (sealed t) ≡ whole q r.1.bits) × (q.arrays ≡ r.0)
 read-reached p vias spots arrays t r h = go (turns_from p vias spots (at_start arrays) (sealed t)) refl h
   where
     go : (o : Result (Reached × Text) Fault) → turns_from p vias spots (at_start arrays) (sealed t) ≡ o
         → restored t.ending (arrays_in o) ≡ Ok r
-        → ((reached_from p vias spots (at_start arrays) (sealed t)).0.arrays ≡ r.0)
-        × ((reached_from p vias spots (at_start arrays) (sealed t)).1 ≡ Ok r.1.bits)
+        → (q : Reached) × (reached_from p vias spots (at_start arrays) (sealed t) ≡ whole q r.1.bits)
+        × (q.arrays ≡ r.0)
     go (Err g) a e = absurd (err-ok g r e)
     go (Ok q) a e =
-        let is = turns-reached p vias spots (at_start arrays) (sealed t) q a in
         let same = ok-same _ r e in (
-          ap (λ (y : Reached × Result (List Bool) Fault). y.0.arrays) is ∙ ap (λ (y : Arrays × Text). y.0) same,
-          ap (λ (y : Reached × Result (List Bool) Fault). y.1) is ∙ ap (λ (y : Arrays × Text). Ok y.1.bits) same,
+          q.0,
+          turns-reached p vias spots (at_start arrays) (sealed t) q a
+              ∙ ap (λ (y : Arrays × Text). whole q.0 y.1.bits) same,
+          ap (λ (y : Arrays × Text). y.0) same,
         )
+
+-- an interval whose bits reach this, and one with these blocks, up to an end
+abbrev ended_so : Ending → After → BlocksTo (Bool × Option Marker)
+ended_so e r = record { reached = r.reached.arrays; unread = r.unread; rest = interval_end e r.rest }
+
+abbrev met_so : Arrays → Bool → Outcome (Option Marker) → BlocksTo (Bool × Option Marker)
+met_so arrays small o = record { reached = arrays; unread = None; rest = outcomes.◌>>=◌ o (tested_with small) }
 
 -- An interval of which the bits alone are read up to a marker is reached.
 interval-sealed : (p : Pass) (vias : List Via) (spots : List Spot) (arrays x : Arrays) (bytes rest : List ℕ) (m : Marker)
     → interval (sealed_read p vias spots arrays) bytes ≡ Ok ((x, Some m), rest)
-    → interval_reached p vias spots arrays bytes ≡ (x, Ok ((true, Some m), rest))
+    → interval_reached p vias spots arrays bytes ≡ whole x ((true, Some m), rest)
 unfolding interval interval_reached
 interval-sealed p vias spots arrays x bytes rest m h =
     let t = text_at bytes in
@@ -178,15 +191,15 @@ interval-sealed p vias spots arrays x bytes rest m h =
     let is = read-reached p vias spots arrays t r.0 r.1 in
     let q = end-so (length t.bits - length left) bytes left t.ending r.0.0 x m rest (nat_le (length left) 56) refl
     r.2 in
-    ap₂ (λ (a : Arrays) (o : Result (List Bool) Fault). (a, interval_end t.ending o)) is.0 is.1
-    ∙ ap (λ (o : Outcome (Option Marker)). (r.0.0, outcomes.◌>>=◌ o (tested_with (nat_le (length left) 56)))) q.2
-    ∙ ap₂ (λ (y : Arrays) (b : Bool). (y, Ok ((b, Some m), rest))) q.0 q.1
+    ap (ended_so t.ending) is.1
+    ∙ ap₂ (λ (a : Arrays) (o : Outcome (Option Marker)). met_so a (nat_le (length left) 56) o) is.2 q.2
+    ∙ ap₂ (λ (y : Arrays) (b : Bool). whole y ((b, Some m), rest)) q.0 q.1
 
 pub interval-written : (p : Pass) (vias : List Via) (spots : List Spot) (arrays : Arrays) (u : Spot → Block) (bytes : List ℕ)
     (fill code : ℕ) (m : Marker) (rest : List ℕ) → AreApart spots → AllByRecursion (IsReadyAt p vias arrays u) spots
     → IsMarker code m → WritesInterval (WritesBlocks p predictors_at_start 0 (turns_of vias spots u)) bytes
     → interval_reached p vias spots arrays (bytes ++ marker fill code rest)
-    ≡ (after_blocks p u spots arrays, Ok ((true, Some m), rest))
+    ≡ whole (after_blocks p u spots arrays) ((true, Some m), rest)
 interval-written p vias spots arrays u bytes fill code m rest apart ready is w =
     interval-sealed p vias spots arrays (after_blocks p u spots arrays) (bytes ++ marker fill code rest) rest m
     (reads-interval (sealed_read p vias spots arrays) (WritesBlocks p predictors_at_start 0 (turns_of vias spots u))
@@ -223,12 +236,14 @@ stays-ready p vias spots others arrays u apart ready s t =
     }
 
 -- after an interval that ends with its restart marker
-pub one-more : (k : ℕ) (r : Arrays × Met) (x : Arrays) (rest : List ℕ)
-    (reached : Arrays → List ℕ → Arrays × Outcome (Option Marker)) → r ≡ (x, Ok ((true, Some (RST (k % 8))), rest))
-    → next_reached reached r.0 (outcomes.◌>>=◌ r.1 (after_interval k)) ≡ reached x rest
-one-more k r x rest reached e =
-    ap (λ (q : Arrays × Met). next_reached reached q.0 (outcomes.◌>>=◌ q.1 (after_interval k))) e
-    ∙ ap (next_reached reached x) (restart-met k rest)
+pub one-more : (k : ℕ) (r : BlocksTo (Bool × Option Marker)) (x : Arrays) (rest : List ℕ)
+    (reached : Arrays → List ℕ → BlocksTo (Option Marker)) (unread : Option Spot)
+    → r ≡ whole x ((true, Some (RST (k % 8))), rest)
+    → next_reached reached r.reached unread (outcomes.◌>>=◌ r.rest (after_interval k)) ≡ reached x rest
+one-more k r x rest reached unread e =
+    ap (λ (q : BlocksTo (Bool × Option Marker)).
+    next_reached reached q.reached unread (outcomes.◌>>=◌ q.rest (after_interval k))) e
+    ∙ ap (next_reached reached x unread) (restart-met k rest)
 
 -- Written intervals are reached up to the marker after them.
 pub intervals-written : (p : Pass) (vias : List Via) (u : Spot → Block) (fill code : ℕ) (m : Marker) (rest : List ℕ)
@@ -238,10 +253,10 @@ pub intervals-written : (p : Pass) (vias : List Via) (u : Spot → Block) (fill 
     → ((s : Spot) → IsIn s (spots ++ all_of groups) → IsReadyAt p vias arrays u s)
     → WritesIntervals (WritesBlocks p predictors_at_start 0) k (turns_of vias spots u)
     (map (λ (g : List Spot). turns_of vias g u) groups) bytes
-    → (intervals_reached p vias k spots groups arrays (bytes ++ marker fill code rest)).1 ≡ Ok y
+    → (intervals_reached p vias k spots groups arrays (bytes ++ marker fill code rest)).rest ≡ Ok y
 unfolding intervals_reached
 intervals-written p vias u fill code m rest y is ends k spots [] arrays bytes apart ready (last k' one bytes' w) =
-    ap (λ (r : Arrays × Met). outcomes.◌>>=◌ r.1 after_intervals)
+    ap (λ (r : BlocksTo (Bool × Option Marker)). outcomes.◌>>=◌ r.rest after_intervals)
     (interval-written p vias spots arrays u bytes fill code m rest (apart-front spots [] apart)
     (all-in (IsReadyAt p vias arrays u) spots (λ s t. ready s (in-front s spots [] t))) is w)
     ∙ ends
@@ -254,9 +269,10 @@ intervals-written p vias u fill code m rest y is ends k spots (next ∷ groups) 
     ≡ first ++ marker fill' (0xD0 + k % 8) left
     = append_assoc first (marker fill' (0xD0 + k % 8) after) (marker fill code rest)
     ∙ ap (λ (l : List ℕ). first ++ l) (marker-append fill' (0xD0 + k % 8) after (marker fill code rest)) in
-    ap (λ (q : Arrays × Outcome (Option Marker)). q.1)
+    ap (λ (q : BlocksTo (Option Marker)). q.rest)
     (one-more k (interval_reached p vias spots arrays (bytes ++ marker fill code rest)) now left
     (intervals_reached p vias (suc k) next groups)
+    (or_first (interval_reached p vias spots arrays (bytes ++ marker fill code rest)).unread next)
     (ap (interval_reached p vias spots arrays) parts
     ∙ interval-written p vias spots arrays u first fill' (0xD0 + k % 8) (RST (k % 8)) left
     (apart-front spots others apart)
@@ -293,7 +309,7 @@ pub scan-written : (p : Pass) (n : ℕ) (vias : List Via) (u : Spot → Block) (
     → ((s : Spot) → IsIn s spots → IsReadyAt p vias arrays u s)
     → WritesIntervals (WritesBlocks p predictors_at_start 0) 0 (first_group n (turns_of vias spots u))
     (other_groups n (turns_of vias spots u)) bytes
-    → (scan_reached p n vias spots arrays (bytes ++ marker fill code rest)).1 ≡ Ok y
+    → (scan_reached p n vias spots arrays (bytes ++ marker fill code rest)).rest ≡ Ok y
 scan-written p n vias u spots arrays bytes fill code m rest y is ends apart ready w =
     let all = all-groups n spots in
     intervals-written p vias u fill code m rest y is ends 0 (first_group n spots) (other_groups n spots) arrays bytes
@@ -314,7 +330,7 @@ pub whole-reached : (p : Pass) (n : ℕ) (vias : List Via) (u : Spot → Block) 
     (bytes : List ℕ) → AreApart spots → ((s : Spot) → IsIn s spots → IsReadyAt p vias arrays u s)
     → WritesIntervals (WritesBlocks p predictors_at_start 0) 0 (first_group n (turns_of vias spots u))
     (other_groups n (turns_of vias spots u)) bytes
-    → (scan_reached p n vias spots arrays (bytes ++ marker 0 217 [])).0 ≡ after_blocks p u spots arrays
+    → (scan_reached p n vias spots arrays (bytes ++ marker 0 217 [])).reached ≡ after_blocks p u spots arrays
 whole-reached p n vias u spots arrays bytes apart ready w =
     let is : IsMarker 217 EOI = record { is = eoi_code } in
     let r = reached_are_read p n vias spots arrays (bytes ++ marker 0 217 []) (Some EOI, []) apart

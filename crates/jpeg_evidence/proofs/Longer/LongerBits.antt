@@ -1,17 +1,16 @@
 -- Bits bring the blocks that can be read of them, and more bits go on from there.
 use Rattle.std.proofs.Common.{rules, ◌≡◌, ℕ, zero, suc, ◌≤◌, Bool, List, [], ◌∷◌, ◌++◌, length, take, drop, arith, refl}
-use Rattle.std.proofs.Common.{sym, ap, ◌∙◌, subst, Ok, Err, Result, append_assoc, Option, Some, slice_get}
+use Rattle.std.proofs.Common.{sym, ap, ◌∙◌, subst, Ok, Err, append_assoc, None, Some, slice_get}
 use Rattle.jpeg_bits.specs.Reading.{End, Fault}
 use Rattle.jpeg_bits.specs.Entropy.{Broken, Ending, Text}
 use Rattle.jpeg_bits.specs.Passes.{Pass, Via}
 use Rattle.jpeg_bits.specs.Readers.{ReadsJust, read_on, text}
 use Rattle.jpeg_bits.proofs.WrittenBits.{following-after}
 use Rattle.jpeg_segments.proofs.Codecs.{err-ok}
-use Rattle.jpeg_streams.specs.Brought.{reached_from}
+use Rattle.jpeg_streams.specs.Brought.{Through, reached_from}
 use Rattle.jpeg_streams.specs.InTurn.{Reached, turn_from, turns_from}
 use Rattle.jpeg_streams.specs.Order.{Spot}
-use Rattle.jpeg_streams.specs.WholeRows.{unread_from}
-use Rattle.jpeg_streams.proofs.Partial.ReachedIntervals.{After, after_turn}
+use Rattle.jpeg_streams.proofs.Partial.ReachedIntervals.{after_turn}
 use Rattle.jpeg_evidence.specs.LongerStreams.{GoesOn}
 use Rattle.jpeg_evidence.proofs.Longer.FrontReaders.{Front, TakesFront, bind-front, block-front, fault-read, gives-front}
 use Rattle.jpeg_evidence.proofs.Longer.FrontReaders.{own-read}
@@ -29,20 +28,19 @@ pub record CanRead (p : Pass) (vias : List Via) (spots : List Spot) (old : Reach
       → (after : Reached × Text)
       × (turns_from p vias (take count spots) old (text bits following (Broken End)) ≡ Ok after)
 
--- after the next block, the first that isn't read
-abbrev unread_after : Pass → List Via → Spot → List Spot → Result (Reached × Text) Fault → Option Spot
-unread_after p vias s spots o = elim o [ Ok r ↦ unread_from p vias spots r.0 r.1 | Err fault ↦ Some s ]
+-- what is reached of an interval's blocks
+abbrev pub After : Type 0
+After = Through Reached (List Bool)
 
 -- What is reached of these bits, all blocks that can be read, that more bits go on from there, and the first block that
 -- isn't read.
 pub record Stops (p : Pass) (vias : List Via) (spots : List Spot) (old : Reached) (bits : List Bool) : Type 0 where
   pub end : After
   pub whole : (ps : List (List ℕ)) → reached_from p vias spots old (text bits ps (Broken End)) ≡ end
-  pub goes : GoesOn p vias spots old bits end.0
+  pub goes : GoesOn p vias spots old bits end.reached
   pub can : CanRead p vias spots old bits (length goes.done)
   pub most : (count : ℕ) → CanRead p vias spots old bits count → count ≤ length goes.done
-  pub unread : (ps : List (List ℕ))
-      → unread_from p vias spots old (text bits ps (Broken End)) ≡ slice_get spots (length goes.done)
+  pub unread : end.unread ≡ slice_get spots (length goes.done)
 
 -- no block
 none-can : (p : Pass) (vias : List Via) (spots : List Spot) (old : Reached) (bits : List Bool)
@@ -67,14 +65,14 @@ none-goes p vias spots old bits = record {
 }
 
 none-stops : (p : Pass) (vias : List Via) (old : Reached) (bits : List Bool) → Stops p vias [] old bits
-unfolding reached_from unread_from none-goes
+unfolding reached_from none-goes
 none-stops p vias old bits = record {
-  end = (old, Ok bits);
+  end = record { reached = old; unread = None; rest = Ok bits };
   whole = λ ps. refl;
   goes = none-goes p vias [] old bits;
   can = none-can p vias [] old bits;
   most = λ count c. c.are_there;
-  unread = λ ps. refl;
+  unread = refl;
 }
 
 -- no block is read where the first has a fault
@@ -90,14 +88,14 @@ failed-most p vias s spots old bits g is (suc n) c =
 failed-stops : (p : Pass) (vias : List Via) (s : Spot) (spots : List Spot) (old : Reached) (bits : List Bool)
     (g : Fault) → ((ps : List (List ℕ)) → turn_from p vias s old (text bits ps (Broken End)) ≡ Err g)
     → Stops p vias (s ∷ spots) old bits
-unfolding reached_from unread_from none-goes
+unfolding reached_from none-goes
 failed-stops p vias s spots old bits g is = record {
-  end = (old, Err g);
-  whole = λ ps. ap (after_turn p vias spots old) (is ps);
+  end = record { reached = old; unread = Some s; rest = Err g };
+  whole = λ ps. ap (after_turn p vias s spots old) (is ps);
   goes = none-goes p vias (s ∷ spots) old bits;
   can = none-can p vias (s ∷ spots) old bits;
   most = failed-most p vias s spots old bits g is;
-  unread = λ ps. ap (unread_after p vias s spots) (is ps);
+  unread = refl;
 }
 
 -- the next block of bits that begin with its own
@@ -107,15 +105,7 @@ next-turn : (p : Pass) (vias : List Via) (s : Spot) (spots : List Spot) (old x :
     ≡ reached_from p vias spots x (text rest (drop (length own) ps) e)
 unfolding reached_from
 next-turn p vias s spots old x own rest bits ps e is r =
-    ap (after_turn p vias spots old) (own-read (turn_from p vias s old) own rest bits x ps e is r)
-
-next-unread : (p : Pass) (vias : List Via) (s : Spot) (spots : List Spot) (old x : Reached) (own rest bits : List Bool)
-    (ps : List (List ℕ)) → bits ≡ own ++ rest → ReadsJust (turn_from p vias s old) own x
-    → unread_from p vias (s ∷ spots) old (text bits ps (Broken End))
-    ≡ unread_from p vias spots x (text rest (drop (length own) ps) (Broken End))
-unfolding unread_from
-next-unread p vias s spots old x own rest bits ps is r =
-    ap (unread_after p vias s spots) (own-read (turn_from p vias s old) own rest bits x ps (Broken End) is r)
+    ap (after_turn p vias s spots old) (own-read (turn_from p vias s old) own rest bits x ps e is r)
 
 -- so many lists and these
 abbrev padded : List Bool → List (List ℕ) → List (List ℕ)
@@ -185,12 +175,12 @@ next-stops p vias s spots old x own left bits is r rest =
         longer = λ more ps f. next-turn p vias s spots old x own (left ++ more) (bits ++ more) ps f
             (ap (λ (b : List Bool). b ++ more) is ∙ append_assoc own left more) r
             ∙ g.longer more (drop (length own) ps) f
-            ∙ ap (λ (qs : List (List ℕ)). reached_from p vias g.others rest.end.0 (text (g.left ++ more) qs f))
+            ∙ ap (λ (qs : List (List ℕ)). reached_from p vias g.others rest.end.reached (text (g.left ++ more) qs f))
             (following-after own g.taken ps);
       };
       can = next-can p vias s spots old x own left bits (length g.done) is r rest.can;
       most = next-most p vias s spots old x own left bits is r (length g.done) rest.most;
-      unread = λ ps. next-unread p vias s spots old x own left bits ps is r ∙ rest.unread (drop (length own) ps);
+      unread = rest.unread;
     }
 
 pub stops : (p : Pass) (vias : List Via) (spots : List Spot) (old : Reached) (bits : List Bool)
@@ -207,7 +197,7 @@ stops p vias (s ∷ spots) old bits =
 
 -- Bits bring blocks, and more bits go on from there.
 pub longer_bits_go_on : (p : Pass) (vias : List Via) (spots : List Spot) (old : Reached) (bits : List Bool)
-    → GoesOn p vias spots old bits (reached_from p vias spots old (text bits [] (Broken End))).0
+    → GoesOn p vias spots old bits (reached_from p vias spots old (text bits [] (Broken End))).reached
 longer_bits_go_on p vias spots old bits =
     let s = stops p vias spots old bits in
-    subst (λ (x : After). GoesOn p vias spots old bits x.0) (sym (s.whole [])) s.goes
+    subst (λ (x : After). GoesOn p vias spots old bits x.reached) (sym (s.whole [])) s.goes

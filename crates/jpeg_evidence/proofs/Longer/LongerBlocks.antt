@@ -46,9 +46,9 @@ blocks_stay spots before shorter longer apart r =
 
 -- A scan that is reached up to the marker after it is read as the same blocks.
 pub reached_are_read : (p : Pass) (n : ℕ) (vias : List Via) (spots : List Spot) (arrays : Arrays) (bytes : List ℕ)
-    (x : Option Marker × List ℕ) → AreApart spots → (scan_reached p n vias spots arrays bytes).1 ≡ Ok x
+    (x : Option Marker × List ℕ) → AreApart spots → (scan_reached p n vias spots arrays bytes).rest ≡ Ok x
     → (m : Option Marker) × (rest : List ℕ)
-    × (arrays_at p n vias spots arrays bytes ≡ Ok (((scan_reached p n vias spots arrays bytes).0, m), rest))
+    × (arrays_at p n vias spots arrays bytes ≡ Ok (((scan_reached p n vias spots arrays bytes).reached, m), rest))
 reached_are_read p n vias spots arrays bytes x apart h =
     let r = intervals-read p vias 0 (first_group n spots) (other_groups n spots) arrays bytes x.0 x.1 h in
     (r.marker, r.others, scans-in-turn p n vias spots arrays bytes apart ∙ r.read)

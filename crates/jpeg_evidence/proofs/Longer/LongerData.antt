@@ -1,7 +1,7 @@
 -- What the data of an interval bring, longer data bring too.
 use Rattle.std.proofs.Common.{◌≡◌, ◌⊎◌, inl, inr, ℕ, ◌≤◌, Bool, true, false, cond, List, [], ◌∷◌, ◌++◌, length, drop}
 use Rattle.std.proofs.Common.{refl, sym, ap, ◌∙◌, subst, Ok, Err, Result, Option, Some, None, append_assoc, append-nil}
-use Rattle.std.proofs.Common.{eqb, ℤ, pos, get_or, set}
+use Rattle.std.proofs.Common.{eqb, ℤ, pos, get_or, set, slice_get}
 use Rattle.jpeg_bits.specs.Reading.{End, Fault, Outcome}
 use Rattle.jpeg_bits.specs.Entropy.{Broken, Ending, Found, Text, add_byte, bits_of, ended_by, ending_at, no_bits}
 use Rattle.jpeg_bits.specs.Entropy.{text_at}
@@ -10,14 +10,14 @@ use Rattle.jpeg_bits.specs.Passes.{Block, Pass, Via, block_from}
 use Rattle.jpeg_bits.specs.Readers.{read_on, text}
 use Rattle.jpeg_bits.specs.declared.marker.Marker.{Marker}
 use Rattle.jpeg_segments.proofs.Codecs.{err-ok, ok-same}
-use Rattle.jpeg_streams.specs.Brought.{interval_end, interval_reached, reached_from, sealed}
+use Rattle.jpeg_streams.specs.Brought.{Through, interval_end, interval_reached, reached_from, sealed}
 use Rattle.jpeg_streams.specs.InTurn.{Reached, at_start, turn_from}
 use Rattle.jpeg_streams.specs.Order.{Spot}
 use Rattle.jpeg_streams.specs.Scans.{Arrays, block_at, put_block, via_at}
 use Rattle.jpeg_evidence.specs.LongerStreams.{Puts, PutsFirst, ReadsOn}
 use Rattle.jpeg_evidence.specs.LongerStreams.Puts.{finished, put}
-use Rattle.jpeg_streams.proofs.Partial.ReachedIntervals.{After, after_turn}
-use Rattle.jpeg_evidence.proofs.Longer.LongerBits.{CanRead, Stops, stops}
+use Rattle.jpeg_streams.proofs.Partial.ReachedIntervals.{after_turn}
+use Rattle.jpeg_evidence.proofs.Longer.LongerBits.{After, CanRead, Stops, stops}
 
 -- ---- blocks that are put
 
@@ -44,8 +44,8 @@ puts-of-more xs ys a b f = record {
 
 -- what is put of the blocks of an interval, and that all are where it has no fault
 pub record Reaches (spots : List Spot) (before : Arrays) (o : After) : Type 0 where
-  pub first : PutsFirst spots before o.0.arrays
-  pub all : (left : List Bool) → o.1 ≡ Ok left → Puts spots before o.0.arrays
+  pub first : PutsFirst spots before o.reached.arrays
+  pub all : (left : List Bool) → o.rest ≡ Ok left → Puts spots before o.reached.arrays
 
 turn-puts : (p : Pass) (vias : List Via) (s : Spot) (old : Reached) (t : Text) (r : Reached × Text)
     → turn_from p vias s old t ≡ Ok r → (b : Block) × (r.0.arrays ≡ put_block s b old.arrays)
@@ -78,7 +78,7 @@ reaches p vias (s ∷ spots) old t =
   where
     go : (o : Result (Reached × Text) Fault) → turn_from p vias s old t ≡ o
         → ((x : Reached) (u : Text) → Reaches spots x.arrays (reached_from p vias spots x u))
-        → Reaches (s ∷ spots) old.arrays (after_turn p vias spots old o)
+        → Reaches (s ∷ spots) old.arrays (after_turn p vias s spots old o)
     go (Err g) e others = record {
       first = record { done = []; others = s ∷ spots; parts = refl; puts = finished old.arrays };
       all = λ left h. absurd (err-ok g left h);
@@ -180,53 +180,54 @@ text-grows (b ∷ c ∷ bytes) more =
 abbrev pub Met : Type 0
 Met = Outcome (Bool × Option Marker)
 
--- Shorter data bring as many of the first blocks as this allows.
-pub record ReadsMost (P : ℕ → Type 0) (spots : List Spot) (before shorter longer : Arrays) : Type 0 where
+-- Shorter data bring as many of the first blocks as this allows, and the next is the first that they don't bring.
+pub record ReadsMost (P : ℕ → Type 0) (spots : List Spot) (before shorter longer : Arrays) (unread : Option Spot)
+    : Type 0 where
   pub on : ReadsOn spots before shorter longer
   pub can : P (length on.done)
   pub most : (count : ℕ) → P count → count ≤ length on.done
+  pub next : unread ≡ slice_get spots (length on.done)
 
 -- An interval of longer data goes on after the blocks of shorter ones, which are all that can be read; where it is read
 -- up to a marker, that is all.
-pub record IntervalGoes (P : ℕ → Type 0) (spots : List Spot) (before shorter longer : Arrays) (o : Met) : Type 0 where
-  pub brings : ReadsMost P spots before shorter longer
+pub record IntervalGoes (P : ℕ → Type 0) (spots : List Spot) (before shorter longer : Arrays) (unread : Option Spot)
+    (o : Met) : Type 0 where
+  pub brings : ReadsMost P spots before shorter longer unread
   pub all : (x : (Bool × Option Marker) × List ℕ) → o ≡ Ok x → Puts brings.on.others shorter longer
 
--- what is reached of an interval, and the end of its data
-abbrev pub interval_by : Ending → After → Met
-interval_by e r = interval_end e r.1
-
-pub all-read : (e : Ending) (r : After) (x : (Bool × Option Marker) × List ℕ) → interval_by e r ≡ Ok x
-    → (left : List Bool) × (r.1 ≡ Ok left)
-all-read e (a, Ok left) x h = (left, refl)
-all-read e (a, Err g) x h = absurd (err-ok _ x h)
+-- an interval that has an end is read
+pub all-read : (e : Ending) (o : Result (List Bool) Fault) (x : (Bool × Option Marker) × List ℕ)
+    → interval_end e o ≡ Ok x → (left : List Bool) × (o ≡ Ok left)
+all-read e (Ok left) x h = (left, refl)
+all-read e (Err g) x h = absurd (err-ok _ x h)
 
 bits-go : (p : Pass) (vias : List Via) (spots : List Spot) (arrays : Arrays) (bits more : List Bool)
     (ps : List (List ℕ)) (e : Ending) (s : Stops p vias spots (at_start arrays) bits)
-    → IntervalGoes (CanRead p vias spots (at_start arrays) bits) spots arrays s.end.0.arrays
-    (reached_from p vias spots (at_start arrays) (text (bits ++ more) ps (Broken End))).0.arrays
-    (interval_by e (reached_from p vias spots (at_start arrays) (text (bits ++ more) ps (Broken End))))
+    → IntervalGoes (CanRead p vias spots (at_start arrays) bits) spots arrays s.end.reached.arrays
+    (reached_from p vias spots (at_start arrays) (text (bits ++ more) ps (Broken End))).reached.arrays s.end.unread
+    (interval_end e (reached_from p vias spots (at_start arrays) (text (bits ++ more) ps (Broken End))).rest)
 bits-go p vias spots arrays bits more ps e s =
     let g = s.goes in
     let first = reaches p vias g.done (at_start arrays) (text bits [] (Broken End)) in
     let others = text (g.left ++ more) (drop (length g.taken) ps) (Broken End) in
-    let next = reaches p vias g.others s.end.0 others in
-    subst (λ (r : After). IntervalGoes (CanRead p vias spots (at_start arrays) bits) spots arrays s.end.0.arrays
-    r.0.arrays (interval_by e r)) (sym (g.longer more ps (Broken End)))
+    let next = reaches p vias g.others s.end.reached others in
+    subst (λ (r : After). IntervalGoes (CanRead p vias spots (at_start arrays) bits) spots arrays s.end.reached.arrays
+    r.reached.arrays s.end.unread (interval_end e r.rest)) (sym (g.longer more ps (Broken End)))
     (record {
       brings = record {
         on = record {
           done = g.done;
           others = g.others;
           parts = g.spots_are;
-          puts = subst (λ (r : After). Puts g.done arrays r.0.arrays) (g.brought [])
-              (first.all g.left (ap (λ (r : After). r.1) (g.brought [])));
+          puts = subst (λ (r : After). Puts g.done arrays r.reached.arrays) (g.brought [])
+              (first.all g.left (ap (λ (r : After). r.rest) (g.brought [])));
           further = next.first;
         };
         can = s.can;
         most = s.most;
+        next = s.unread;
       };
-      all = λ x h. let l = all-read e (reached_from p vias g.others s.end.0 others) x h in next.all l.0 l.1;
+      all = λ x h. let l = all-read e (reached_from p vias g.others s.end.reached others).rest x h in next.all l.0 l.1;
     })
 
 -- those of an interval's blocks that can be read of the bits that these bytes have
@@ -234,9 +235,9 @@ abbrev pub CanReadOf : Pass → List Via → List Spot → Arrays → List ℕ �
 CanReadOf p vias spots arrays bytes = CanRead p vias spots (at_start arrays) (text_at bytes).bits
 
 pub interval-goes : (p : Pass) (vias : List Via) (spots : List Spot) (arrays : Arrays) (bytes more : List ℕ)
-    → IntervalGoes (CanReadOf p vias spots arrays bytes) spots arrays (interval_reached p vias spots arrays bytes).0
-    (interval_reached p vias spots arrays (bytes ++ more)).0
-    (interval_reached p vias spots arrays (bytes ++ more)).1
+    → IntervalGoes (CanReadOf p vias spots arrays bytes) spots arrays (interval_reached p vias spots arrays bytes).reached
+    (interval_reached p vias spots arrays (bytes ++ more)).reached (interval_reached p vias spots arrays bytes).unread
+    (interval_reached p vias spots arrays (bytes ++ more)).rest
 unfolding interval_reached
 interval-goes p vias spots arrays bytes more =
     let t = text_at bytes in
@@ -244,13 +245,17 @@ interval-goes p vias spots arrays bytes more =
     let g = text-grows bytes more in
     let s = stops p vias spots (at_start arrays) t.bits in
     let P = CanReadOf p vias spots arrays bytes in
-    subst (λ (r : After). IntervalGoes P spots arrays r.0.arrays
-    (reached_from p vias spots (at_start arrays) (sealed u)).0.arrays
-    (interval_by u.ending (reached_from p vias spots (at_start arrays) (sealed u)))) (sym (s.whole t.following))
-    (subst (λ (b : List Bool). IntervalGoes P spots arrays s.end.0.arrays
-    (reached_from p vias spots (at_start arrays) (text b u.following (Broken End))).0.arrays
-    (interval_by u.ending (reached_from p vias spots (at_start arrays) (text b u.following (Broken End)))))
+    subst (λ (r : After). IntervalGoes P spots arrays r.reached.arrays
+    (reached_from p vias spots (at_start arrays) (sealed u)).reached.arrays r.unread
+    (interval_end u.ending (reached_from p vias spots (at_start arrays) (sealed u)).rest)) (sym (s.whole t.following))
+    (subst (λ (b : List Bool). IntervalGoes P spots arrays s.end.reached.arrays
+    (reached_from p vias spots (at_start arrays) (text b u.following (Broken End))).reached.arrays s.end.unread
+    (interval_end u.ending (reached_from p vias spots (at_start arrays) (text b u.following (Broken End))).rest))
     (sym g.are) (bits-go p vias spots arrays t.bits g.bits u.following u.ending s))
+
+-- what is reached, and what stands after it
+abbrev pub both : {A B : Type 0} → Through A B → A × Result B Fault
+both r = (r.reached, r.rest)
 
 -- What is brought, and what is read after it, is the same of longer data, where the shorter ones are read.
 abbrev pub StaysBrought : {A X : Type 0} → List ℕ → A × Outcome X → A × Outcome X → Type 0
@@ -295,9 +300,10 @@ text-stays {S} {A} to reach end bytes more whole x h =
         ∙ ap (λ (o : Met). (to r.0, o)) ends.1
 
 pub interval-stays : (p : Pass) (vias : List Via) (spots : List Spot) (arrays : Arrays) (bytes more : List ℕ)
-    → StaysBrought more (interval_reached p vias spots arrays bytes)
-    (interval_reached p vias spots arrays (bytes ++ more))
+    → StaysBrought more (both (interval_reached p vias spots arrays bytes))
+    (both (interval_reached p vias spots arrays (bytes ++ more)))
 unfolding interval_reached
 interval-stays p vias spots arrays bytes more =
     let s = stops p vias spots (at_start arrays) (text_at bytes).bits in
-    text-stays (λ (r : Reached). r.arrays) (reached_from p vias spots (at_start arrays)) s.end bytes more s.whole
+    text-stays (λ (r : Reached). r.arrays) (λ (t : Text). both (reached_from p vias spots (at_start arrays) t))
+    (both s.end) bytes more (λ ps. ap (λ (r : After). both r) (s.whole ps))

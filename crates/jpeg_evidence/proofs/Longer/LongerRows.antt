@@ -198,7 +198,7 @@ scan-rows-stay more k rows [] bytes =
     (interval_rows_reached rows (bytes ++ more)) (interval-stays rows bytes more)
 scan-rows-stay more k rows (next ∷ groups) bytes =
     let r = interval_rows_reached rows bytes in
-    next-stays more k (next_reached (scan_rows_reached (suc k) next groups)) r
-    (interval_rows_reached rows (bytes ++ more)) (λ g. refl) (interval-stays rows bytes more)
+    let after = next_reached (scan_rows_reached (suc k) next groups) in
+    next-stays more k after after r (interval_rows_reached rows (bytes ++ more)) (λ g. refl) (interval-stays rows bytes more)
     (λ b x h. ap (λ (z : Scanned). (r.0 ∷ z.0, z.1)) (scan-rows-stay more (suc k) next groups b x h))
     (outcomes.◌>>=◌ r.1 (after_interval k)) refl

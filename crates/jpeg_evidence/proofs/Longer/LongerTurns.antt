@@ -18,10 +18,10 @@ use Rattle.jpeg_segments.proofs.Codecs.{bind-ok, err-ok, ok-same}
 use Rattle.jpeg_lossless.specs.Scans.{rows_of_interval, scan_tables}
 use Rattle.jpeg_streams.specs.declared.before.Before.{Before}
 use Rattle.jpeg_streams.specs.declared.before.Before.TheVariants.{Elsewhere}
-use Rattle.jpeg_streams.specs.Brought.{Brought, after_interval, all_brought, blocks_brought, blocks_brought_by}
+use Rattle.jpeg_streams.specs.Brought.{BlocksTo, Brought, after_interval, blocks_brought, blocks_brought_by, or_first}
 use Rattle.jpeg_streams.specs.Brought.{brought_by, frame_and_scan, has_whole_rows, interval_reached, intervals_reached}
 use Rattle.jpeg_streams.specs.Brought.{samples_brought, samples_brought_by, scan_brought, scan_reached}
-use Rattle.jpeg_streams.specs.Brought.{scan_rows_reached, segment_brought, turn_brought, walk_brought}
+use Rattle.jpeg_streams.specs.Brought.{scan_rows_reached, unbrought}
 use Rattle.jpeg_streams.specs.Found.{Found}
 use Rattle.jpeg_streams.specs.LosslessScans.{LosslessCoding, lossless_codings, mcus_down, way_of}
 use Rattle.jpeg_streams.specs.Order.{Spot, mcu_size, spots_of}
@@ -29,56 +29,67 @@ use Rattle.jpeg_streams.specs.Scans.{Arrays}
 use Rattle.jpeg_streams.specs.ScanSegments.{Coding, after_scan, codings_of, components_of}
 use Rattle.jpeg_streams.specs.ScanSegments.{pass_of, scan_turn, vias_from}
 use Rattle.jpeg_streams.specs.Segments.{Turn, frame_segment}
-use Rattle.jpeg_streams.specs.Stream.{end_segment, segment_at}
-use Rattle.jpeg_streams.proofs.Partial.Faultless.{Walked}
+use Rattle.jpeg_streams.specs.Stream.{Walked, all_brought, brought_after, end_segment, scan_turn_at, segment_at, turn_at}
+use Rattle.jpeg_streams.specs.Stream.{walk}
+use Rattle.jpeg_streams.proofs.Partial.Faultless.{walked_after}
 use Rattle.jpeg_streams.proofs.Partial.ReachedIntervals.{next_reached}
+use Rattle.jpeg_streams.proofs.Written.ReadTurns.{refused_walk, walked}
 use Rattle.jpeg_evidence.specs.LongerStreams.{ComesBy, RowScanGoesOn, ScanGoesOn, after_rows, arrays_of}
 use Rattle.jpeg_evidence.specs.LongerStreams.ComesBy.{in_front, in_rows, in_scan}
-use Rattle.jpeg_evidence.proofs.Longer.LongerData.{StaysBrought, interval-stays}
+use Rattle.jpeg_evidence.proofs.Longer.LongerData.{StaysBrought, both, interval-stays}
 use Rattle.jpeg_evidence.proofs.Longer.LongerRows.{longer_rows_go_on, scan-rows-stay}
 use Rattle.jpeg_evidence.proofs.Longer.LongerScans.{last-stays, longer_data_read_on, next-stays}
 use Rattle.jpeg_evidence.proofs.Longer.LongerSegments.{Stays, app-stays, dht-stays, dqt-stays, dri-stays}
 use Rattle.jpeg_evidence.proofs.Longer.LongerSegments.{length-stays, marker-stays, skip-stays, sof-stays, sos-stays}
 use Rattle.jpeg_evidence.proofs.Longer.LongerSegments.{stays-after, stays-bind, stays-err, stays-if, stays-ok}
+use Rattle.jpeg_streams.specs.declared.beyond.Beyond.TheVariants.{Nothing}
 
 -- ---- segments
 
 -- the turn that a segment leads to, and the blocks or the rows of MCUs of a scan of which some are brought
 pub record TurnGoes (more : List ℕ) (found : Found) (b c : Brought) : Type 0 where
-  pub turn : Stays more b.1 c.1
-  adds : (b.0 ≡ found) ⊎ (ScanGoesOn found b.0 c.0 ⊎ RowScanGoesOn found b.0 c.0)
+  pub turn : Stays more b.turn c.turn
+  adds : (b.found ≡ found) ⊎ (ScanGoesOn found b.found c.found ⊎ RowScanGoesOn found b.found c.found)
 
 plain-goes : (more : List ℕ) (found : Found) (o q : Outcome Turn) → Stays more o q
-    → TurnGoes more found (found, o) (found, q)
+    → TurnGoes more found (unbrought found o) (unbrought found q)
 plain-goes more found o q h = record { turn = h; adds = inl refl }
 
 -- ---- a scan of blocks
 
+-- after an interval
+abbrev after_one : (Arrays → List ℕ → BlocksTo (Option Marker)) → Option Spot → Arrays → Result (List ℕ) Fault
+    → Arrays × Outcome (Option Marker)
+after_one others unread arrays o = both (next_reached others arrays unread o)
+
 -- Where a scan is reached up to its end, it is so of longer data.
 pub intervals-stay : (more : List ℕ) (p : Pass) (vias : List Via) (k : ℕ) (spots : List Spot) (groups : List (List Spot))
     (arrays : Arrays) (bytes : List ℕ)
-    → StaysBrought more (intervals_reached p vias k spots groups arrays bytes)
-    (intervals_reached p vias k spots groups arrays (bytes ++ more))
+    → StaysBrought more (both (intervals_reached p vias k spots groups arrays bytes))
+    (both (intervals_reached p vias k spots groups arrays (bytes ++ more)))
 unfolding intervals_reached
 intervals-stay more p vias k spots [] arrays bytes =
-    last-stays more (λ (a : Arrays). a) (interval_reached p vias spots arrays bytes)
-    (interval_reached p vias spots arrays (bytes ++ more)) (interval-stays p vias spots arrays bytes more)
+    last-stays more (λ (a : Arrays). a) (both (interval_reached p vias spots arrays bytes))
+    (both (interval_reached p vias spots arrays (bytes ++ more))) (interval-stays p vias spots arrays bytes more)
 intervals-stay more p vias k spots (next ∷ groups) arrays bytes =
     let r = interval_reached p vias spots arrays bytes in
-    next-stays more k (next_reached (intervals_reached p vias (suc k) next groups)) r
-    (interval_reached p vias spots arrays (bytes ++ more)) (λ g. refl) (interval-stays p vias spots arrays bytes more)
-    (λ b. intervals-stay more p vias (suc k) next groups r.0 b) (outcomes.◌>>=◌ r.1 (after_interval k)) refl
+    let s = interval_reached p vias spots arrays (bytes ++ more) in
+    let others = intervals_reached p vias (suc k) next groups in
+    next-stays more k (after_one others (or_first r.unread next)) (after_one others (or_first s.unread next)) (both r)
+    (both s) (λ g. refl) (interval-stays p vias spots arrays bytes more)
+    (λ b. intervals-stay more p vias (suc k) next groups r.reached b)
+    (outcomes.◌>>=◌ r.rest (after_interval k)) refl
 
--- what a scan leads to, by what is reached of it
-abbrev pub scan_led : {A : Type 0} → Found → (A → Found) → A × Outcome (Option Marker) → Brought
-scan_led found to r = (to r.0, outcomes.◌>>=◌ r.1 (λ m. Ok (scan_turn found (to r.0) m.0, m.1)))
+-- the turn that a scan leads to, by what is reached of it
+abbrev pub scan_led : {A : Type 0} → Found → (A → Found) → A × Outcome (Option Marker) → Outcome Turn
+scan_led found to r = outcomes.◌>>=◌ r.1 (λ m. Ok (scan_turn found (to r.0) m.0, m.1))
 
 led-stays : {A : Type 0} (more : List ℕ) (found : Found) (to : A → Found) (r s : A × Outcome (Option Marker))
-    → StaysBrought more r s → Stays more (scan_led found to r).1 (scan_led found to s).1
+    → StaysBrought more r s → Stays more (scan_led found to r) (scan_led found to s)
 unfolding Stays
 led-stays {A} more found to r s stays = λ x h.
     let m = bind-ok r.1 (λ (m : Option Marker × List ℕ). Ok (scan_turn found (to r.0) m.0, m.1)) x h in
-    ap (λ (q : A × Outcome (Option Marker)). (scan_led found to q).1) (stays m.0 m.1)
+    ap (λ (q : A × Outcome (Option Marker)). scan_led found to q) (stays m.0 m.1)
     ∙ ap (λ (y : Turn × List ℕ). Ok (y.0, y.1 ++ more)) (ok-same _ x m.2)
 
 coded-goes : (more : List ℕ) (found : Found) (frame : Frame) (scan : Scan) (codings : List Coding) (bytes : List ℕ)
@@ -94,14 +105,14 @@ coded-goes more found frame scan codings bytes =
     let r = scan_reached p n vias spots arrays bytes in
     let s = scan_reached p n vias spots arrays (bytes ++ more) in
     record {
-      turn = led-stays more found (after_scan found frame scan codings) r s
+      turn = led-stays more found (after_scan found frame scan codings) (both r) (both s)
           (intervals-stay more p vias 0 (first_group n spots) (other_groups n spots) arrays bytes);
       adds = inr (inl (record {
         frame = frame;
         scan = scan;
         codings = codings;
-        blocks = r.0;
-        more_blocks = s.0;
+        blocks = r.reached;
+        more_blocks = s.reached;
         shorter_is = refl;
         longer_is = refl;
         reads_on = longer_data_read_on p n vias spots arrays bytes more;
@@ -110,7 +121,7 @@ coded-goes more found frame scan codings bytes =
 
 -- what is brought by something that is read, or has a fault
 abbrev pub brought_of : {A : Type 0} → Found → (A → Brought) → Result A Fault → Brought
-brought_of found by o = elim o as (λ _. Brought) [ Ok x ↦ by x | Err fault ↦ (found, Err fault) ]
+brought_of found by o = elim o as (λ _. Brought) [ Ok x ↦ by x | Err fault ↦ unbrought found (Err fault) ]
 
 read-goes : {A : Type 0} (more : List ℕ) (found : Found) (o q : Result A Fault) (f g : A → Brought) (to : A → A)
     → ((x : A) → o ≡ Ok x → q ≡ Ok (to x)) → ((x : A) → TurnGoes more found (f x) (g (to x)))
@@ -166,11 +177,11 @@ samples-go more found frame scan bytes =
     by : List ℕ → List LosslessCoding → Brought
     by bytes codings =
         if has_whole_rows found frame scan codings then samples_brought_by found frame scan codings bytes
-        else (found, Err Malformed)
+        else unbrought found (Err Malformed)
 
     whole : (codings : List LosslessCoding) (b : Bool) → TurnGoes more found
-        (if b then samples_brought_by found frame scan codings bytes else (found, Err Malformed))
-        (if b then samples_brought_by found frame scan codings (bytes ++ more) else (found, Err Malformed))
+        (if b then samples_brought_by found frame scan codings bytes else unbrought found (Err Malformed))
+        (if b then samples_brought_by found frame scan codings (bytes ++ more) else unbrought found (Err Malformed))
     whole codings true = coded-rows-go more found frame scan codings bytes
     whole codings false = plain-goes more found _ _ (stays-err more Malformed _)
 
@@ -223,8 +234,8 @@ scan-goes more found bytes =
     (framed-stays more found bytes) (λ x. by-goes more x.0.process found x.0 x.1.0 x.1.1)
 
 pub segment-goes : (more : List ℕ) (m : Marker) (before : Before) (found : Found) (bytes : List ℕ)
-    → TurnGoes more found (segment_brought m before found bytes) (segment_brought m before found (bytes ++ more))
-unfolding segment_brought segment_at frame_segment end_segment
+    → TurnGoes more found (brought_after Nothing m before found bytes) (brought_after Nothing m before found (bytes ++ more))
+unfolding brought_after scan_turn_at segment_at frame_segment end_segment
 segment-goes more SOS before found bytes = scan-goes more found bytes
 segment-goes more (SOF n) before found bytes = plain-goes more found _ _
     (search (rules, stays-if, stays-err, stays-bind, sof-stays, stays-after, stays-ok) depth 12)
@@ -246,83 +257,90 @@ segment-goes more DNL Elsewhere found bytes = plain-goes more found _ _ (stays-e
 segment-goes more m before found bytes = plain-goes more found _ _ (stays-err more _ _)
 
 turn-goes : (more : List ℕ) (before : Before) (found : Found) (met : Option Marker) (bytes : List ℕ)
-    → TurnGoes more found (turn_brought before found met bytes) (turn_brought before found met (bytes ++ more))
-unfolding turn_brought Stays
+    → TurnGoes more found (turn_at Nothing before found met bytes) (turn_at Nothing before found met (bytes ++ more))
+unfolding turn_at Stays
 turn-goes more before found met bytes =
-    let by : Marker × List ℕ → Brought = λ m. segment_brought m.0 before found m.1 in
+    let by : Marker × List ℕ → Brought = λ m. brought_after Nothing m.0 before found m.1 in
     read-goes more found (found_or met bytes (next_marker bytes))
     (found_or met (bytes ++ more) (next_marker (bytes ++ more))) by by (λ m. (m.0, m.1 ++ more))
     (marker-stays more met bytes) (λ m. segment-goes more m.0 before found m.1)
 
 -- ---- the walk
 
--- after a turn
-abbrev pub walk_on : ℕ → Brought → Walked
-walk_on turns b = elim b.1 [
-  | Err fault ↦ (b.0, Err fault)
-  | Ok t ↦ if t.0.ended then (t.0.found, Ok t.1) else walk_brought turns t.0.before t.0.found t.0.met t.1
+-- after a turn of this that led so
+abbrev pub walk_on : ℕ → Brought → Outcome Turn → Walked
+walk_on turns b o = elim o [
+  | Err fault ↦ refused_walk b fault
+  | Ok t ↦ if t.0.ended then walked t.0.found (Ok t.1) else walk Nothing turns false t.0.before t.0.found t.0.met t.1
 ]
 
 -- what a longer stream brings, by what a shorter one has brought
 record Goes (more : List ℕ) (w v : Walked) : Type 0 where
-  ended : (rest : List ℕ) → w.1 ≡ Ok rest → v ≡ (w.0, Ok (rest ++ more))
-  stopped : (g : Fault) → w.1 ≡ Err g → ComesBy more w.0 v
+  ended : (rest : List ℕ) → w.rest ≡ Ok rest → v ≡ record w { rest = Ok (rest ++ more) }
+  stopped : (g : Fault) → w.rest ≡ Err g → ComesBy more w.found v
 
-ended-goes : (more : List ℕ) (found : Found) (rest : List ℕ) → Goes more (found, Ok rest) (found, Ok (rest ++ more))
+ended-goes : (more : List ℕ) (found : Found) (rest : List ℕ)
+    → Goes more (walked found (Ok rest)) (walked found (Ok (rest ++ more)))
 ended-goes more found rest = record {
-  ended = λ left e. ap (λ (l : List ℕ). (found, Ok (l ++ more))) (ok-same rest left e);
+  ended = λ left e. ap (λ (l : List ℕ). walked found (Ok (l ++ more))) (ok-same rest left e);
   stopped = λ g e. absurd (err-ok g rest (sym e));
 }
 
-stopped-goes : (more : List ℕ) (found : Found) (g : Fault) (v : Walked) → ComesBy more found v
-    → Goes more (found, Err g) v
-stopped-goes more found g v c = record { ended = λ rest e. absurd (err-ok g rest e); stopped = λ f e. c }
+stopped-goes : (more : List ℕ) (found : Found) (rows : Option ℕ) (g : Fault) (v : Walked) → ComesBy more found v
+    → Goes more (record { found = found; rows = rows; rest = Err g }) v
+stopped-goes more found rows g v c =
+    record { ended = λ rest e. absurd (err-ok g rest e); stopped = λ f e. c }
 
-on-goes : (more : List ℕ) (n k : ℕ) (t : Turn × List ℕ) → ((before : Before) (found : Found) (met : Option Marker)
-    (bytes : List ℕ) → Goes more (walk_brought n before found met bytes) (walk_brought k before found met (bytes ++ more)))
-    → (ended : Bool)
+-- what the turns after one do
+abbrev Others : List ℕ → ℕ → ℕ → Type 0
+Others more n k =
+    (before : Before) (found : Found) (met : Option Marker) (bytes : List ℕ)
+    → Goes more (walk Nothing n false before found met bytes) (walk Nothing k false before found met (bytes ++ more))
+
+on-goes : (more : List ℕ) (n k : ℕ) (t : Turn × List ℕ) → Others more n k → (ended : Bool)
     → Goes more
-    (if ended then (t.0.found, Ok t.1) else walk_brought n t.0.before t.0.found t.0.met t.1)
-    (if ended then (t.0.found, Ok (t.1 ++ more)) else walk_brought k t.0.before t.0.found t.0.met (t.1 ++ more))
+    (if ended then walked t.0.found (Ok t.1) else walk Nothing n false t.0.before t.0.found t.0.met t.1)
+    (if ended then walked t.0.found (Ok (t.1 ++ more))
+    else walk Nothing k false t.0.before t.0.found t.0.met (t.1 ++ more))
 on-goes more n k t others true = ended-goes more t.0.found t.1
 on-goes more n k t others false = others t.0.before t.0.found t.0.met t.1
 
 -- where the turn has a fault
 fault-goes : (more : List ℕ) (k : ℕ) (before : Before) (found some : Found) (met : Option Marker) (bytes : List ℕ)
-    (w : Walked) → w ≡ walk_brought (suc k) before found met (bytes ++ more)
-    → (some ≡ found) ⊎ (ScanGoesOn found some (turn_brought before found met (bytes ++ more)).0
-    ⊎ RowScanGoesOn found some (turn_brought before found met (bytes ++ more)).0) → ComesBy more some w
+    (w : Walked) → w ≡ walk Nothing (suc k) false before found met (bytes ++ more)
+    → (some ≡ found) ⊎ (ScanGoesOn found some (turn_at Nothing before found met (bytes ++ more)).found
+    ⊎ RowScanGoesOn found some (turn_at Nothing before found met (bytes ++ more)).found) → ComesBy more some w
 fault-goes more k before found some met bytes w whole (inl same) =
     in_front (suc k) before met bytes
-    (whole ∙ ap (λ (f : Found). walk_brought (suc k) before f met (bytes ++ more)) (sym same))
+    (whole ∙ ap (λ (f : Found). walk Nothing (suc k) false before f met (bytes ++ more)) (sym same))
 fault-goes more k before found some met bytes w whole (inr (inl adds)) = in_scan k before found met bytes whole adds
 fault-goes more k before found some met bytes w whole (inr (inr adds)) = in_rows k before found met bytes whole adds
 
 after-goes : (more : List ℕ) (n k : ℕ) (before : Before) (found : Found) (met : Option Marker) (bytes : List ℕ)
-    (some : Found) (o : Outcome Turn)
-    → TurnGoes more found (some, o) (turn_brought before found met (bytes ++ more))
-    → ((before : Before) (found : Found) (met : Option Marker) (bytes : List ℕ)
-    → Goes more (walk_brought n before found met bytes) (walk_brought k before found met (bytes ++ more)))
-    → walk_on k (turn_brought before found met (bytes ++ more)) ≡ walk_brought (suc k) before found met (bytes ++ more)
-    → Goes more (walk_on n (some, o)) (walk_on k (turn_brought before found met (bytes ++ more)))
+    (b : Brought) → TurnGoes more found b (turn_at Nothing before found met (bytes ++ more)) → Others more n k
+    → walked_after Nothing k (turn_at Nothing before found met (bytes ++ more))
+    ≡ walk Nothing (suc k) false before found met (bytes ++ more)
+    → (o : Outcome Turn) → b.turn ≡ o
+    → Goes more (walk_on n b o) (walked_after Nothing k (turn_at Nothing before found met (bytes ++ more)))
 unfolding Stays
-after-goes more n k before found met bytes some (Err g) t others whole =
-    stopped-goes more some g (walk_on k (turn_brought before found met (bytes ++ more)))
-    (fault-goes more k before found some met bytes _ whole t.adds)
-after-goes more n k before found met bytes some (Ok x) t others whole =
-    let c = turn_brought before found met (bytes ++ more) in
-    subst (λ (o : Outcome Turn). Goes more (walk_on n (some, Ok x)) (walk_on k (c.0, o))) (sym (t.turn x refl))
+after-goes more n k before found met bytes b t others whole (Err g) e =
+    stopped-goes more b.found b.rows g (walked_after Nothing k (turn_at Nothing before found met (bytes ++ more)))
+    (fault-goes more k before found b.found met bytes _ whole t.adds)
+after-goes more n k before found met bytes b t others whole (Ok x) e =
+    let c = turn_at Nothing before found met (bytes ++ more) in
+    subst (λ (o : Outcome Turn). Goes more (walk_on n b (Ok x)) (walk_on k c o)) (sym (t.turn x e))
     (on-goes more n k x others x.0.ended)
 
 walk-goes : (more : List ℕ) (n k : ℕ) → n ≤ k → (before : Before) (found : Found) (met : Option Marker) (bytes : List ℕ)
-    → Goes more (walk_brought n before found met bytes) (walk_brought k before found met (bytes ++ more))
-unfolding walk_brought
-walk-goes more zero k h before found met bytes = stopped-goes more found End _ (in_front k before met bytes refl)
+    → Goes more (walk Nothing n false before found met bytes) (walk Nothing k false before found met (bytes ++ more))
+unfolding walk
+walk-goes more zero k h before found met bytes =
+    stopped-goes more found None End _ (in_front k before met bytes refl)
 walk-goes more (suc n) zero h before found met bytes = absurd (omega arith)
 walk-goes more (suc n) (suc k) h before found met bytes =
-    let b = turn_brought before found met bytes in
-    after-goes more n k before found met bytes b.0 b.1 (turn-goes more before found met bytes)
-    (λ before found met bytes. walk-goes more n k (omega arith) before found met bytes) refl
+    let b = turn_at Nothing before found met bytes in
+    after-goes more n k before found met bytes b (turn-goes more before found met bytes)
+    (λ before found met bytes. walk-goes more n k (omega arith) before found met bytes) refl b.turn refl
 
 all-goes : (found : Found) (bytes more : List ℕ) → Goes more (all_brought found bytes) (all_brought found (bytes ++ more))
 all-goes found bytes more =
@@ -330,15 +348,12 @@ all-goes found bytes more =
     Elsewhere found None bytes
 
 -- After the end of the image more bytes change nothing.
-pub ended_streams_stay : (found brought : Found) (bytes more rest : List ℕ)
-    → all_brought found bytes ≡ (brought, Ok rest) → all_brought found (bytes ++ more) ≡ (brought, Ok (rest ++ more))
-ended_streams_stay found brought bytes more rest e =
-    (all-goes found bytes more).ended rest (ap (λ (w : Walked). w.1) e)
-    ∙ ap (λ (w : Walked). (w.0, Ok (rest ++ more))) e
+pub ended_streams_stay : (found : Found) (bytes more rest : List ℕ) → (all_brought found bytes).rest ≡ Ok rest
+    → all_brought found (bytes ++ more) ≡ record (all_brought found bytes) { rest = Ok (rest ++ more) }
+ended_streams_stay found bytes more rest e = (all-goes found bytes more).ended rest e
 
 -- A longer stream comes by what a shorter one has brought.
-pub longer_streams_go_on : (found brought : Found) (bytes more : List ℕ) (fault : Fault)
-    → all_brought found bytes ≡ (brought, Err fault) → ComesBy more brought (all_brought found (bytes ++ more))
-longer_streams_go_on found brought bytes more fault e =
-    subst (λ (w : Walked). ComesBy more w.0 (all_brought found (bytes ++ more))) e
-    ((all-goes found bytes more).stopped fault (ap (λ (w : Walked). w.1) e))
+pub longer_streams_go_on : (found : Found) (bytes more : List ℕ) (fault : Fault)
+    → (all_brought found bytes).rest ≡ Err fault
+    → ComesBy more (all_brought found bytes).found (all_brought found (bytes ++ more))
+longer_streams_go_on found bytes more fault e = (all-goes found bytes more).stopped fault e

@@ -1,6 +1,6 @@
 -- A stream in which no fault is named is meant: `decode` gives the picture that `decode_partial` gives.
 use Rattle.std.proofs.Common.{◌≡◌, ℕ, zero, suc, ◌*◌, Bool, true, false, List, [], length, map, Option, Some, None}
-use Rattle.std.proofs.Common.{Result, Ok, Err, refl, sym, ap, ◌∙◌, subst, get_or}
+use Rattle.std.proofs.Common.{◌⊎◌, inl, inr, Result, Ok, Err, refl, sym, ap, ◌∙◌, subst, get_or}
 use Rattle.std.specs.Prelude.{if◌then◌else◌}
 use Rattle.std.specs.List.{AllByRecursion}
 use Rattle.jpeg_bits.specs.Reading.{Outcome, Fault, Malformed, End, ◌>>=◌}
@@ -8,8 +8,7 @@ use Rattle.jpeg_bits.specs.Codes.{Table}
 use Rattle.jpeg_bits.specs.Intervals.{first_group, other_groups}
 use Rattle.jpeg_bits.specs.Marker.{found_or, next_marker}
 use Rattle.jpeg_bits.specs.declared.marker.Marker.{Marker}
-use Rattle.jpeg_bits.specs.declared.marker.Marker.TheVariants.{SOF, JPG, DHT, DAC, RST, SOI, EOI, SOS, DQT, DNL, DRI}
-use Rattle.jpeg_bits.specs.declared.marker.Marker.TheVariants.{DHP, EXP, APP, JPGn, COM, TEM, RES}
+use Rattle.jpeg_bits.specs.declared.marker.Marker.TheVariants.{SOS}
 use Rattle.jpeg_segments.specs.declared.frame.CodingProcess.{CodingProcess}
 use Rattle.jpeg_segments.specs.declared.frame.CodingProcess.TheVariants.{DctSequential, DctProgressive, Lossless}
 use Rattle.jpeg_segments.specs.Checks.{needed}
@@ -21,10 +20,9 @@ use Rattle.jpeg_lossless.proofs.LineSums.{Grids}
 use Rattle.jpeg_streams.specs.declared.before.Before.{Before}
 use Rattle.jpeg_streams.specs.declared.before.Before.TheVariants.{Elsewhere}
 use Rattle.jpeg_streams.specs.declared.settings.Settings.{Settings}
-use Rattle.jpeg_streams.specs.Brought.{Brought, all_brought, blocks_brought, blocks_brought_by, brought_by}
+use Rattle.jpeg_streams.specs.Brought.{BlocksTo, Brought, blocks_brought, blocks_brought_by, brought_by, unbrought}
 use Rattle.jpeg_streams.specs.Brought.{frame_and_scan, has_whole_rows, samples_brought, samples_brought_by}
-use Rattle.jpeg_streams.specs.Brought.{scan_brought, scan_reached, scan_rows_reached, segment_brought, turn_brought}
-use Rattle.jpeg_streams.specs.Brought.{walk_brought}
+use Rattle.jpeg_streams.specs.Brought.{scan_brought, scan_reached, scan_rows_reached}
 use Rattle.jpeg_streams.specs.Found.{Found, nothing_found, nothing_said}
 use Rattle.jpeg_streams.specs.FoundPictures.{picture_of}
 use Rattle.jpeg_streams.specs.InTurn.{Fits}
@@ -37,7 +35,10 @@ use Rattle.jpeg_streams.specs.ScanSegments.{scan_segment, scan_turn, vias_from}
 use Rattle.jpeg_streams.specs.Segments.{Turn}
 use Rattle.jpeg_streams.specs.Shown.{Shown, completed, fault_in, fault_shown, framed_or, picture_shown, planes_by}
 use Rattle.jpeg_streams.specs.Shown.{shown, shown_of, shown_rest}
-use Rattle.jpeg_streams.specs.Stream.{meaning, rest_at, segment_at, segments_at, start_at, told_of, turn_at, walk}
+use Rattle.jpeg_streams.specs.Stream.{Walked, all_brought, brought_after, meaning, rest_at, scan_turn_at, segment_at, segments_at}
+use Rattle.jpeg_streams.specs.Stream.{start_at}
+use Rattle.jpeg_streams.specs.Stream.{told_of, turn_at, walk}
+use Rattle.jpeg_streams.proofs.Written.ReadTurns.{scan-or-segment, walked}
 use Rattle.jpeg_streams.proofs.Order.Apart.{spots-apart}
 use Rattle.jpeg_streams.proofs.Order.McuRows.{AllOf, codings-are-of, fits-of}
 use Rattle.jpeg_streams.proofs.Order.CountedScans.{scans-in-turn}
@@ -46,6 +47,8 @@ use Rattle.jpeg_streams.proofs.Partial.FittingFrames.{FoundFits, FrameFits, Samp
 use Rattle.jpeg_streams.proofs.Partial.RowIntervals.{scan-rows-read}
 use Rattle.jpeg_streams.proofs.Partial.ScanSamples.{all-over, codings-at}
 use Rattle.jpeg_streams.proofs.Partial.ReachedIntervals.{GoesOnAt, Meets, intervals-read}
+use Rattle.jpeg_streams.specs.declared.beyond.Beyond.{Beyond}
+use Rattle.jpeg_streams.specs.declared.beyond.Beyond.TheVariants.{Nothing, Zeros}
 
 -- ---- turns
 
@@ -85,15 +88,15 @@ codings-fit found frame scan codings fits e =
 abbrev pub arrays_of_scan : Found → Frame → List Coding → Arrays
 arrays_of_scan found frame codings = map (λ c. get_or (arrays_before found frame) c.index []) codings
 
-abbrev pub scan_of_codings : Found → Frame → Scan → List Coding → List ℕ → Arrays × Outcome (Option Marker)
+abbrev pub scan_of_codings : Found → Frame → Scan → List Coding → List ℕ → BlocksTo (Option Marker)
 scan_of_codings found frame scan codings bytes =
     scan_reached (pass_of scan) (found.said.restart * mcu_size (components_of codings)) (vias_from 0 codings)
     (spots_of frame (components_of codings)) (arrays_of_scan found frame codings) bytes
 
 scan-read : (found : Found) (frame : Frame) (scan : Scan) (codings : List Coding) (bytes : List ℕ)
     (m : Option Marker × List ℕ) → AllByRecursion (Fits frame) (components_of codings)
-    → (scan_of_codings found frame scan codings bytes).1 ≡ Ok m
-    → Meets (scan_arrays found frame scan codings bytes) (scan_of_codings found frame scan codings bytes).0
+    → (scan_of_codings found frame scan codings bytes).rest ≡ Ok m
+    → Meets (scan_arrays found frame scan codings bytes) (scan_of_codings found frame scan codings bytes).reached
     (GoesOnAt m.0 m.1)
 unfolding scan_arrays
 scan-read found frame scan codings bytes m fits e =
@@ -103,7 +106,7 @@ scan-read found frame scan codings bytes m fits e =
     let spots = spots_of frame (components_of codings) in
     let arrays = arrays_of_scan found frame codings in
     subst (λ (o : Outcome (Arrays × Option Marker)). Meets o
-    (scan_of_codings found frame scan codings bytes).0 (GoesOnAt m.0 m.1))
+    (scan_of_codings found frame scan codings bytes).reached (GoesOnAt m.0 m.1))
     (sym (scans-in-turn p n vias spots arrays bytes (spots-apart frame (components_of codings) fits)))
     (intervals-read p vias 0 (first_group n spots) (other_groups n spots) arrays bytes m.0 m.1 e)
 
@@ -135,16 +138,16 @@ read-turn found frame scan codings bytes arrays m c r =
 
 coded-turn : (found : Found) (frame : Frame) (scan : Scan) (codings : List Coding) (bytes : List ℕ)
     (x : Turn × List ℕ) → AllByRecursion (Fits frame) frame.components → codings_of found.said frame scan ≡ Ok codings
-    → (blocks_brought_by found frame scan codings bytes).1 ≡ Ok x → IsTurn (blocks_scan found frame scan bytes) x.0 x.1
+    → (blocks_brought_by found frame scan codings bytes).turn ≡ Ok x → IsTurn (blocks_scan found frame scan bytes) x.0 x.1
 unfolding blocks_brought_by
 coded-turn found frame scan codings bytes x fits c e =
-    let m = bind-ok (scan_of_codings found frame scan codings bytes).1 _ x e in
+    let m = bind-ok (scan_of_codings found frame scan codings bytes).rest _ x e in
     let r = scan-read found frame scan codings bytes m.0 (codings-fit found frame scan codings fits c) m.1 in
     subst (λ (y : Turn × List ℕ). IsTurn (blocks_scan found frame scan bytes) y.0 y.1) (ok-same _ x m.2)
-    (read-turn found frame scan codings bytes (scan_of_codings found frame scan codings bytes).0 m.0 c r)
+    (read-turn found frame scan codings bytes (scan_of_codings found frame scan codings bytes).reached m.0 c r)
 
 blocks-turn : (found : Found) (frame : Frame) (scan : Scan) (bytes : List ℕ) (x : Turn × List ℕ)
-    → AllByRecursion (Fits frame) frame.components → (blocks_brought found frame scan bytes).1 ≡ Ok x
+    → AllByRecursion (Fits frame) frame.components → (blocks_brought found frame scan bytes).turn ≡ Ok x
     → IsTurn (blocks_scan found frame scan bytes) x.0 x.1
 unfolding blocks_brought
 blocks-turn found frame scan bytes x fits e = go (codings_of found.said frame scan) refl e
@@ -152,8 +155,8 @@ blocks-turn found frame scan bytes x fits e = go (codings_of found.said frame sc
     go : (o : Result (List Coding) Fault) → codings_of found.said frame scan ≡ o
         → (elim o as (λ _. Brought) [
           | Ok codings ↦ blocks_brought_by found frame scan codings bytes
-          | Err fault ↦ (found, Err fault)
-        ]).1 ≡ Ok x → IsTurn (blocks_scan found frame scan bytes) x.0 x.1
+          | Err fault ↦ unbrought found (Err fault)
+        ]).turn ≡ Ok x → IsTurn (blocks_scan found frame scan bytes) x.0 x.1
     go (Ok codings) c e = coded-turn found frame scan codings bytes x fits c e
     go (Err fault) c e = absurd (err-ok fault x e)
 
@@ -207,7 +210,7 @@ sampled-turn found frame scan codings bytes planes m c r =
 coded-samples : (found : Found) (frame : Frame) (scan : Scan) (codings : List LosslessCoding) (bytes : List ℕ)
     (x : Turn × List ℕ) → found.said.frame ≡ Some frame → FoundFits found
     → lossless_codings found.said.huffman.dc frame scan.components scan.dc_destinations ≡ Ok codings
-    → has_whole_rows found frame scan codings ≡ true → (samples_brought_by found frame scan codings bytes).1 ≡ Ok x
+    → has_whole_rows found frame scan codings ≡ true → (samples_brought_by found frame scan codings bytes).turn ≡ Ok x
     → IsTurn (lossless_scan found frame scan bytes) x.0 x.1
 unfolding samples_brought_by
 coded-samples found frame scan codings bytes x is fits c t e =
@@ -226,7 +229,7 @@ coded-samples found frame scan codings bytes x is fits c t e =
     (sampled-turn found frame scan codings bytes planes m.0 c r))
 
 samples-turn : (found : Found) (frame : Frame) (scan : Scan) (bytes : List ℕ) (x : Turn × List ℕ)
-    → found.said.frame ≡ Some frame → FoundFits found → (samples_brought found frame scan bytes).1 ≡ Ok x
+    → found.said.frame ≡ Some frame → FoundFits found → (samples_brought found frame scan bytes).turn ≡ Ok x
     → IsTurn (lossless_scan found frame scan bytes) x.0 x.1
 unfolding samples_brought
 samples-turn found frame scan bytes x is fits e =
@@ -235,7 +238,7 @@ samples-turn found frame scan bytes x is fits e =
     whole : (codings : List LosslessCoding) (b : Bool)
         → lossless_codings found.said.huffman.dc frame scan.components scan.dc_destinations ≡ Ok codings
         → has_whole_rows found frame scan codings ≡ b
-        → (if b then samples_brought_by found frame scan codings bytes else (found, Err Malformed)).1 ≡ Ok x
+        → (if b then samples_brought_by found frame scan codings bytes else unbrought found (Err Malformed)).turn ≡ Ok x
         → IsTurn (lossless_scan found frame scan bytes) x.0 x.1
     whole codings true c t e = coded-samples found frame scan codings bytes x is fits c t e
     whole codings false c t e = absurd (err-ok Malformed x e)
@@ -244,15 +247,15 @@ samples-turn found frame scan bytes x is fits e =
         → lossless_codings found.said.huffman.dc frame scan.components scan.dc_destinations ≡ o
         → (elim o as (λ _. Brought) [
           | Ok codings ↦ if has_whole_rows found frame scan codings
-              then samples_brought_by found frame scan codings bytes else (found, Err Malformed)
-          | Err fault ↦ (found, Err fault)
-        ]).1 ≡ Ok x → IsTurn (lossless_scan found frame scan bytes) x.0 x.1
+              then samples_brought_by found frame scan codings bytes else unbrought found (Err Malformed)
+          | Err fault ↦ unbrought found (Err fault)
+        ]).turn ≡ Ok x → IsTurn (lossless_scan found frame scan bytes) x.0 x.1
     go (Ok codings) c e = whole codings (has_whole_rows found frame scan codings) c refl e
     go (Err fault) c e = absurd (err-ok fault x e)
 
 by-turn : (process : CodingProcess) (found : Found) (frame : Frame) (scan : Scan) (bytes : List ℕ)
     (x : Turn × List ℕ) → found.said.frame ≡ Some frame → FoundFits found
-    → (brought_by process found frame scan bytes).1 ≡ Ok x
+    → (brought_by process found frame scan bytes).turn ≡ Ok x
     → IsTurn (scan_by process found frame scan bytes) x.0 x.1
 by-turn DctSequential found frame scan bytes x is fits e =
     blocks-turn found frame scan bytes x (subst FrameFits is fits.frame).0 e
@@ -263,7 +266,7 @@ by-turn Lossless found frame scan bytes x is fits e = samples-turn found frame s
 -- ---- a segment
 
 scan-turn : (found : Found) (bytes : List ℕ) (x : Turn × List ℕ) → FoundFits found
-    → (scan_brought found bytes).1 ≡ Ok x → IsTurn (scan_segment found bytes) x.0 x.1
+    → (scan_brought found bytes).turn ≡ Ok x → IsTurn (scan_segment found bytes) x.0 x.1
 unfolding scan_brought scan_segment
 scan-turn found bytes x fits e = go (frame_and_scan found bytes) refl e
   where
@@ -276,8 +279,8 @@ scan-turn found bytes x fits e = go (frame_and_scan found bytes) refl e
     go : (o : Result (Frame × (Scan × List ℕ)) Fault) → frame_and_scan found bytes ≡ o
         → (elim o as (λ _. Brought) [
           | Ok y ↦ brought_by y.0.process found y.0 y.1.0 y.1.1
-          | Err fault ↦ (found, Err fault)
-        ]).1 ≡ Ok x
+          | Err fault ↦ unbrought found (Err fault)
+        ]).turn ≡ Ok x
         → IsTurn (needed found.said.frame >>= (λ frame. sos_at frame bytes >>= (λ scan.
         scan_by frame.process found frame scan.0 scan.1))) x.0 x.1
     go (Err fault) a e = absurd (err-ok fault x e)
@@ -286,62 +289,51 @@ scan-turn found bytes x fits e = go (frame_and_scan found bytes) refl e
         let s = bind-ok (sos_at f.0 bytes) _ y f.2 in
         let same : (f.0, s.0) ≡ y = ok-same _ y s.2 in
         at f.0 s.0 f.1 s.1 (by-turn f.0.process found f.0 s.0.0 s.0.1 x (needed-some found.said.frame f.0 f.1) fits
-        (ap (λ (z : Frame × (Scan × List ℕ)). (brought_by z.0.process found z.0 z.1.0 z.1.1).1) same ∙ e))
+        (ap (λ (z : Frame × (Scan × List ℕ)). (brought_by z.0.process found z.0 z.1.0 z.1.1).turn) same ∙ e))
 
 segment-turn : (m : Marker) (before : Before) (found : Found) (bytes : List ℕ) (x : Turn × List ℕ)
-    → FoundFits found → (segment_brought m before found bytes).1 ≡ Ok x
-    → IsTurn (segment_at m before found bytes) x.0 x.1
-unfolding segment_brought segment_at
-segment-turn SOS before found bytes x fits e = scan-turn found bytes x fits e
-segment-turn (SOF n) before found bytes x fits e = same-turn _ x e
-segment-turn DQT before found bytes x fits e = same-turn _ x e
-segment-turn DHT before found bytes x fits e = same-turn _ x e
-segment-turn EOI before found bytes x fits e = same-turn _ x e
-segment-turn DRI before found bytes x fits e = same-turn _ x e
-segment-turn (APP n) before found bytes x fits e = same-turn _ x e
-segment-turn COM before found bytes x fits e = same-turn _ x e
-segment-turn (RST n) before found bytes x fits e = same-turn _ x e
-segment-turn DNL before found bytes x fits e = same-turn _ x e
-segment-turn DAC before found bytes x fits e = same-turn _ x e
-segment-turn DHP before found bytes x fits e = same-turn _ x e
-segment-turn EXP before found bytes x fits e = same-turn _ x e
-segment-turn JPG before found bytes x fits e = same-turn _ x e
-segment-turn SOI before found bytes x fits e = same-turn _ x e
-segment-turn (JPGn n) before found bytes x fits e = same-turn _ x e
-segment-turn TEM before found bytes x fits e = same-turn _ x e
-segment-turn RES before found bytes x fits e = same-turn _ x e
+    → FoundFits found → (brought_after Nothing m before found bytes).turn ≡ Ok x
+    → IsTurn (brought_after Zeros m before found bytes).turn x.0 x.1
+unfolding brought_after scan_turn_at
+segment-turn m before found bytes x fits e =
+    go (scan-or-segment Nothing m before found bytes) (scan-or-segment Zeros m before found bytes)
+  where
+    Same : Beyond → Type 0
+    Same beyond =
+        (m ≡ SOS) ⊎ (brought_after beyond m before found bytes ≡ unbrought found (segment_at m before found bytes))
+
+    go : Same Nothing → Same Zeros → IsTurn (brought_after Zeros m before found bytes).turn x.0 x.1
+    go (inl s) z = rw s (scan-turn found bytes x fits
+        (ap (λ (k : Marker). (brought_after Nothing k before found bytes).turn) (sym s) ∙ e))
+    go n (inl s) = rw s (scan-turn found bytes x fits
+        (ap (λ (k : Marker). (brought_after Nothing k before found bytes).turn) (sym s) ∙ e))
+    go (inr n) (inr z) = same-turn _ x (ap (λ (b : Brought). b.turn) (z ∙ sym n) ∙ e)
 
 -- the turn of the same marker
 pub turn-read : (before : Before) (found : Found) (met now : Option Marker) (bytes left : List ℕ) (x : Turn × List ℕ)
     → FoundFits found → found_or now left (next_marker left) ≡ found_or met bytes (next_marker bytes)
-    → (turn_brought before found met bytes).1 ≡ Ok x → IsTurn (turn_at before found now left) x.0 x.1
-unfolding turn_brought turn_at
+    → (turn_at Nothing before found met bytes).turn ≡ Ok x → IsTurn (turn_at Zeros before found now left).turn x.0 x.1
+unfolding turn_at
 turn-read before found met now bytes left x fits same e =
     go (found_or met bytes (next_marker bytes)) (found_or now left (next_marker left)) same e
   where
     go : (o q : Outcome Marker) → q ≡ o → (elim o as (λ _. Brought) [
-      | Ok m ↦ segment_brought m.0 before found m.1
-      | Err fault ↦ (found, Err fault)
-    ]).1 ≡ Ok x → IsTurn (q >>= (λ m. segment_at m.0 before found m.1)) x.0 x.1
+      | Ok m ↦ brought_after Nothing m.0 before found m.1
+      | Err fault ↦ unbrought found (Err fault)
+    ]).turn ≡ Ok x → IsTurn (elim q as (λ _. Brought) [
+      | Ok m ↦ brought_after Zeros m.0 before found m.1
+      | Err fault ↦ unbrought found (Err fault)
+    ]).turn x.0 x.1
     go (Err fault) q s e = absurd (err-ok fault x e)
     go (Ok m) q s e = rw s (segment-turn m.0 before found m.1 x fits e)
 
 -- ---- the walk
 
-abbrev pub Walked : Type 0
-Walked = Found × Result (List ℕ) Fault
-
--- after a turn that is brought, and after one that is read
-abbrev pub brought_on : ℕ → Brought → Walked
-brought_on turns b = elim b.1 [
-  | Err fault ↦ (b.0, Err fault)
-  | Ok t ↦ if t.0.ended then (t.0.found, Ok t.1) else walk_brought turns t.0.before t.0.found t.0.met t.1
-]
-
-abbrev pub walk_on : ℕ → Found → Outcome Turn → Walked
-walk_on turns found o = elim o [
-  | Err fault ↦ (found, Err fault)
-  | Ok t ↦ if t.0.ended then (t.0.found, Ok t.1) else walk turns false t.0.before t.0.found t.0.met t.1
+-- after a turn
+abbrev pub walked_after : Beyond → ℕ → Brought → Walked
+walked_after beyond turns b = elim b.turn [
+  | Err fault ↦ record { found = b.found; rows = b.rows; rest = Err fault }
+  | Ok t ↦ if t.0.ended then walked t.0.found (Ok t.1) else walk beyond turns false t.0.before t.0.found t.0.met t.1
 ]
 
 -- what a later turn of the walk gives
@@ -349,48 +341,69 @@ abbrev Again : ℕ → List ℕ → Type 0
 Again turns rest =
     (x : Turn × List ℕ) (now : Option Marker) (left : List ℕ) → FoundFits x.0.found
     → found_or now left (next_marker left) ≡ found_or x.0.met x.1 (next_marker x.1)
-    → (walk_brought turns x.0.before x.0.found x.0.met x.1).1 ≡ Ok rest
-    → walk turns false x.0.before x.0.found now left
-    ≡ ((walk_brought turns x.0.before x.0.found x.0.met x.1).0, Ok rest)
+    → (walk Nothing turns false x.0.before x.0.found x.0.met x.1).rest ≡ Ok rest
+    → walk Zeros turns false x.0.before x.0.found now left
+    ≡ walked (walk Nothing turns false x.0.before x.0.found x.0.met x.1).found (Ok rest)
 
 on-after : (turns : ℕ) (rest : List ℕ) (o : Outcome Turn) (x : Turn × List ℕ) (t : IsTurn o x.0 x.1)
     → FoundFits x.0.found → Again turns rest → (ended : Bool) → x.0.ended ≡ ended
-    → (if ended then (x.0.found, Ok x.1) else walk_brought turns x.0.before x.0.found x.0.met x.1).1 ≡ Ok rest
-    → (if ended then (t.now.found, Ok t.left) else walk turns false t.now.before t.now.found t.now.met t.left)
-    ≡ ((if ended then (x.0.found, Ok x.1) else walk_brought turns x.0.before x.0.found x.0.met x.1).0, Ok rest)
+    → (if ended then walked x.0.found (Ok x.1)
+    else walk Nothing turns false x.0.before x.0.found x.0.met x.1).rest ≡ Ok rest
+    → (if ended then walked t.now.found (Ok t.left)
+    else walk Zeros turns false t.now.before t.now.found t.now.met t.left)
+    ≡ walked (if ended then walked x.0.found (Ok x.1)
+    else walk Nothing turns false x.0.before x.0.found x.0.met x.1).found (Ok rest)
 on-after turns rest o x t fits again true u e =
-    ap (λ (z : Found). (z, Ok t.left)) t.found
-    ∙ ap (λ (z : List ℕ). (x.0.found, Ok z)) (t.after u ∙ ok-same x.1 rest e)
+    ap (λ (z : Found). walked z (Ok t.left)) t.found
+    ∙ ap (λ (z : List ℕ). walked x.0.found (Ok z)) (t.after u ∙ ok-same x.1 rest e)
 on-after turns rest o x t fits again false u e =
-    ap (λ (b : Before). walk turns false b t.now.found t.now.met t.left) t.before
-    ∙ ap (λ (g : Found). walk turns false x.0.before g t.now.met t.left) t.found
+    ap (λ (b : Before). walk Zeros turns false b t.now.found t.now.met t.left) t.before
+    ∙ ap (λ (g : Found). walk Zeros turns false x.0.before g t.now.met t.left) t.found
     ∙ again x t.now.met t.left fits t.next e
 
 -- a walk after its next turn
-walk-after : (turns : ℕ) (rest : List ℕ) (found old : Found) (o : Outcome Turn) (b : Outcome Turn)
-    → ((x : Turn × List ℕ) → b ≡ Ok x → IsTurn o x.0 x.1)
-    → ((x : Turn × List ℕ) → o ≡ Ok x → FoundFits x.0.found) → Again turns rest
-    → (brought_on turns (old, b)).1 ≡ Ok rest
-    → walk_on turns found o ≡ ((brought_on turns (old, b)).0, Ok rest)
-walk-after turns rest found old o (Err fault) turn fits again e = absurd (err-ok fault rest e)
-walk-after turns rest found old o (Ok x) turn fits again e =
-    let t = turn x refl in
-    let f = subst FoundFits t.found (fits (t.now, t.left) t.read) in
-    ap (walk_on turns found) t.read
-    ∙ ap (λ (ended : Bool). if ended then (t.now.found, Ok t.left)
-    else walk turns false t.now.before t.now.found t.now.met t.left) t.ended
-    ∙ on-after turns rest o x t f again x.0.ended refl e
+walk-after : (turns : ℕ) (rest : List ℕ) (o b : Brought)
+    → ((x : Turn × List ℕ) → b.turn ≡ Ok x → IsTurn o.turn x.0 x.1)
+    → ((x : Turn × List ℕ) → o.turn ≡ Ok x → FoundFits x.0.found) → Again turns rest
+    → (walked_after Nothing turns b).rest ≡ Ok rest
+    → walked_after Zeros turns o ≡ walked (walked_after Nothing turns b).found (Ok rest)
+walk-after turns rest o b turn fits again e = go b.turn refl e
+  where
+    read : (r : Outcome Turn) → o.turn ≡ r → walked_after Zeros turns o ≡ (elim r as (λ _. Walked) [
+      | Err fault ↦ record { found = o.found; rows = o.rows; rest = Err fault }
+      | Ok t ↦ if t.0.ended then walked t.0.found (Ok t.1)
+          else walk Zeros turns false t.0.before t.0.found t.0.met t.1
+    ])
+    read r a = rw a refl
 
--- Where what a walk brings has no fault, the segments are walked to the same end.
+    go : (r : Outcome Turn) → b.turn ≡ r → (elim r as (λ _. Walked) [
+      | Err fault ↦ record { found = b.found; rows = b.rows; rest = Err fault }
+      | Ok t ↦ if t.0.ended then walked t.0.found (Ok t.1)
+          else walk Nothing turns false t.0.before t.0.found t.0.met t.1
+    ]).rest ≡ Ok rest → walked_after Zeros turns o ≡ walked (elim r as (λ _. Walked) [
+      | Err fault ↦ record { found = b.found; rows = b.rows; rest = Err fault }
+      | Ok t ↦ if t.0.ended then walked t.0.found (Ok t.1)
+          else walk Nothing turns false t.0.before t.0.found t.0.met t.1
+    ]).found (Ok rest)
+    go (Err fault) a e = absurd (err-ok fault rest e)
+    go (Ok x) a e =
+        let t = turn x a in
+        let f = subst FoundFits t.found (fits (t.now, t.left) t.read) in
+        read (Ok (t.now, t.left)) t.read
+        ∙ ap (λ (ended : Bool). if ended then walked t.now.found (Ok t.left)
+        else walk Zeros turns false t.now.before t.now.found t.now.met t.left) t.ended
+        ∙ on-after turns rest o.turn x t f again x.0.ended refl e
+
+-- Where a walk with nothing after its data has no fault, that with zeros comes to the same end.
 pub walk-read : (turns : ℕ) (before : Before) (found : Found) (met now : Option Marker) (bytes left rest : List ℕ)
     → FoundFits found → found_or now left (next_marker left) ≡ found_or met bytes (next_marker bytes)
-    → (walk_brought turns before found met bytes).1 ≡ Ok rest
-    → walk turns false before found now left ≡ ((walk_brought turns before found met bytes).0, Ok rest)
-unfolding walk_brought walk
+    → (walk Nothing turns false before found met bytes).rest ≡ Ok rest
+    → walk Zeros turns false before found now left
+    ≡ walked (walk Nothing turns false before found met bytes).found (Ok rest)
+unfolding walk
 walk-read zero before found met now bytes left rest fits same e = absurd (err-ok End rest e)
 walk-read (suc turns) before found met now bytes left rest fits same e =
-    let b = turn_brought before found met bytes in
-    walk-after turns rest found b.0 (turn_at before found now left) b.1
+    walk-after turns rest (turn_at Zeros before found now left) (turn_at Nothing before found met bytes)
     (λ x a. turn-read before found met now bytes left x fits same a)
     (λ x a. turn-fits before found now left x fits a)
     (λ x later bits f s a. walk-read turns x.0.before x.0.found x.0.met later x.1 bits rest f s a) e
@@ -432,15 +445,15 @@ unfolding picture_shown
 picture-at settings found frame e = rw e refl
 
 rest-read : (settings : Settings) (bytes rest picture : List ℕ) (w : Walked) → all_brought nothing_found bytes ≡ w
-    → w.1 ≡ Ok rest → picture_of settings w.0 ≡ Ok picture
-    → rest_at settings nothing_found bytes ≡ Ok ((told_of w.0.said, picture), rest)
+    → w.rest ≡ Ok rest → picture_of settings w.found ≡ Ok picture
+    → rest_at settings nothing_found bytes ≡ Ok ((told_of w.found.said, picture), rest)
 unfolding rest_at segments_at nothing_found nothing_said
 rest-read settings bytes rest picture w a e p =
-    let walked : walk (suc (length bytes)) false Elsewhere nothing_found None bytes ≡ (w.0, Ok rest)
+    let same : walk Zeros (suc (length bytes)) false Elsewhere nothing_found None bytes ≡ walked w.found (Ok rest)
     = walk-read (suc (length bytes)) Elsewhere nothing_found None None bytes bytes rest
     (record { frame = tt; samples = refl }) refl
-    (ap (λ (z : Walked). z.1) a ∙ e) ∙ ap (λ (z : Walked). (z.0, Ok rest)) a in
-    rw (walked, p) refl
+    (ap (λ (z : Walked). z.rest) a ∙ e) ∙ ap (λ (z : Walked). walked z.found (Ok rest)) a in
+    rw (same, p) refl
 
 shown-rest : (settings : Settings) (bytes : List ℕ) (s : Shown) → shown_rest settings nothing_found bytes ≡ Ok s
     → s.fault ≡ None
@@ -448,13 +461,13 @@ shown-rest : (settings : Settings) (bytes : List ℕ) (s : Shown) → shown_rest
 unfolding shown_rest shown_of
 shown-rest settings bytes s e n =
     let w = all_brought nothing_found bytes in
-    let u = bind-ok (framed_or w.0.said.frame w.1) _ s e in
-    let p = bind-ok (picture_shown settings w.0) _ s u.2 in
+    let u = bind-ok (framed_or w.found.said.frame w.rest) _ s e in
+    let p = bind-ok (picture_shown settings w.found) _ s u.2 in
     let same = ok-same _ s p.2 in
-    let frame = framed-some w.0.said.frame w.1 u.0 u.1 in
-    let f = faultless w.0 w.1 frame.0 frame.1 (ap (λ (z : Shown). z.fault) same ∙ n) in
-    let picture = sym (picture-at settings w.0 frame.0 frame.1
-    ∙ completed-same settings w.0 frame.0 f.1 frame.1 f.3) ∙ p.1 in (
+    let frame = framed-some w.found.said.frame w.rest u.0 u.1 in
+    let f = faultless w.found w.rest frame.0 frame.1 (ap (λ (z : Shown). z.fault) same ∙ n) in
+    let picture = sym (picture-at settings w.found frame.0 frame.1
+    ∙ completed-same settings w.found frame.0 f.1 frame.1 f.3) ∙ p.1 in (
       f.0,
       rest-read settings bytes f.0 p.0 w refl f.2 picture
           ∙ ap (λ (z : Shown). Ok ((z.told, z.picture), f.0)) same,

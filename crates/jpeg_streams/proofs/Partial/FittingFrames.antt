@@ -1,5 +1,5 @@
 -- The components of the frame that was found fit it, and the samples that were found them, whatever turns are read.
-use Rattle.std.proofs.Common.{rules, ◌≡◌, ℕ, zero, suc, ◌+◌, ◌*◌, ◌/◌, ◌%◌, ◌≤◌, Bool, true, false, List, [], ◌∷◌}
+use Rattle.std.proofs.Common.{rules, ◌≡◌, ◌⊎◌, inl, inr, ap, ℕ, zero, suc, ◌+◌, ◌*◌, ◌/◌, ◌%◌, ◌≤◌, Bool, true, false, List, [], ◌∷◌}
 use Rattle.std.proofs.Common.{◌++◌, Option, Some, None, Ok, Err, refl, sym, ◌∙◌, map, replicate, subst, arith}
 use Rattle.std.specs.Prelude.{◌&&◌, not, option_map, fold, zip, is_some, if◌then◌else◌, nat_le, ◌==◌, length}
 use Rattle.std.specs.List.{AllByRecursion}
@@ -35,9 +35,12 @@ use Rattle.jpeg_streams.specs.ScanSegments.{scan_segment, with_arrays, with_bloc
 use Rattle.jpeg_streams.specs.Sound.{AreSampled}
 use Rattle.jpeg_streams.specs.Segments.{Turn, accepted, frame_segment, onward}
 use Rattle.jpeg_bits.specs.Passes.{Block}
-use Rattle.jpeg_streams.specs.Stream.{end_segment, segment_at, turn_at}
+use Rattle.jpeg_streams.specs.Brought.{Brought, unbrought}
+use Rattle.jpeg_streams.specs.declared.beyond.Beyond.TheVariants.{Zeros}
+use Rattle.jpeg_streams.specs.Stream.{brought_after, end_segment, scan_turn_at, segment_at, turn_at}
 use Rattle.jpeg_streams.proofs.Order.FrameShapes.{accepted-few, frames-fit}
 pub use Rattle.jpeg_streams.proofs.Written.ReadTurns.{needed-some}
+use Rattle.jpeg_streams.proofs.Written.ReadTurns.{scan-or-segment}
 use Rattle.jpeg_streams.proofs.Pictures.LosslessSizes.{IsMade, all-covered, frames-made}
 use Rattle.jpeg_streams.proofs.Partial.ScanSamples.{AreOwn, IsAt, codings-all, codings-at, parts-own, scan-whole, with-sampled}
 use Rattle.jpeg_streams.proofs.Soundness.{no-samples}
@@ -300,7 +303,7 @@ segment-fits DQT before found bytes x h e =
 segment-fits DHT before found bytes x h e =
     let r = bind-ok (dht_at (option_map (λ f. f.is_baseline) found.said.frame) bytes) _ x e in
     kept-fits found x h (subst (Keeps found) (ok-same _ x r.2) (refl, refl))
-segment-fits SOS before found bytes x h e = scan-fits found bytes x h e
+segment-fits SOS before found bytes x h e = absurd (err-ok _ x e)
 segment-fits EOI before found bytes x h e = kept-fits found x h (end-keeps found bytes x e)
 segment-fits DRI before found bytes x h e =
     let r = bind-ok (dri_at bytes) _ x e in
@@ -323,9 +326,25 @@ segment-fits (JPGn n) before found bytes x h e = absurd (err-ok _ x e)
 segment-fits TEM before found bytes x h e = absurd (err-ok _ x e)
 segment-fits RES before found bytes x h e = absurd (err-ok _ x e)
 
+after-fits : (m : Marker) (before : Before) (found : Found) (bytes : List ℕ) (x : Turn × List ℕ)
+    → FoundFits found → (brought_after Zeros m before found bytes).turn ≡ Ok x → FoundFits x.0.found
+unfolding brought_after scan_turn_at
+after-fits m before found bytes x h e = go (scan-or-segment Zeros m before found bytes)
+  where
+    go : (m ≡ SOS) ⊎ (brought_after Zeros m before found bytes ≡ unbrought found (segment_at m before found bytes))
+        → FoundFits x.0.found
+    go (inl s) = scan-fits found bytes x h
+        (ap (λ (k : Marker). (brought_after Zeros k before found bytes).turn) (sym s) ∙ e)
+    go (inr s) = segment-fits m before found bytes x h (ap (λ (b : Brought). b.turn) (sym s) ∙ e)
+
 pub turn-fits : (before : Before) (found : Found) (met : Option Marker) (bytes : List ℕ) (x : Turn × List ℕ)
-    → FoundFits found → turn_at before found met bytes ≡ Ok x → FoundFits x.0.found
+    → FoundFits found → (turn_at Zeros before found met bytes).turn ≡ Ok x → FoundFits x.0.found
 unfolding turn_at
-turn-fits before found met bytes x h e =
-    let m = bind-ok (found_or met bytes (next_marker bytes)) _ x e in
-    segment-fits m.0.0 before found m.0.1 x h m.2
+turn-fits before found met bytes x h e = go (found_or met bytes (next_marker bytes)) e
+  where
+    go : (o : Outcome Marker) → (elim o as (λ _. Brought) [
+      | Ok m ↦ brought_after Zeros m.0 before found m.1
+      | Err fault ↦ unbrought found (Err fault)
+    ]).turn ≡ Ok x → FoundFits x.0.found
+    go (Ok m) e = after-fits m.0 before found m.1 x h e
+    go (Err fault) e = absurd (err-ok fault x e)

@@ -20,7 +20,7 @@ use Rattle.jpeg_bits.proofs.TakenTexts.Taken.{gave, failed}
 use Rattle.jpeg_segments.proofs.Codecs.{err-ok, ok-same, bind-ok}
 use Rattle.jpeg_streams.proofs.Order.CountedScans.{closed}
 use Rattle.jpeg_streams.specs.Brought.{reached_from, interval_reached, intervals_reached, or_fault_at, after_interval}
-use Rattle.jpeg_streams.specs.Brought.{after_intervals, sealed}
+use Rattle.jpeg_streams.specs.Brought.{BlocksTo, Through, after_intervals, or_first, sealed}
 use Rattle.jpeg_streams.specs.InTurn.{Reached, at_start, interval_from, intervals_from, next_interval, turn_from}
 use Rattle.jpeg_streams.specs.InTurn.{turns_from}
 use Rattle.jpeg_streams.specs.Order.{Spot}
@@ -42,19 +42,17 @@ pub record AreRead (p : Pass) (vias : List Via) (spots : List Spot) (old : Reach
       (f : Ending) (ps : List (List ℕ))
       → turns_from p vias spots old (text bits ps f) ≡ Ok (new, text (drop taken bits) (drop taken ps) f)
 
-abbrev pub After : Type 0
-After = Reached × Result (List Bool) Fault
-
 -- what is reached after the next block
-abbrev pub after_turn : Pass → List Via → List Spot → Reached → Result (Reached × Text) Fault → After
-after_turn p vias spots old o = elim o [
+abbrev pub after_turn : Pass → List Via → Spot → List Spot → Reached → Result (Reached × Text) Fault
+    → Through Reached (List Bool)
+after_turn p vias s spots old o = elim o [
   | Ok r ↦ reached_from p vias spots r.0 r.1
-  | Err fault ↦ (old, Err fault)
+  | Err fault ↦ record { reached = old; unread = Some s; rest = Err fault }
 ]
 
 none-reached : (p : Pass) (vias : List Via) (old : Reached) (bits left : List Bool) (ps : List (List ℕ))
-    → (reached_from p vias [] old (text bits ps (Broken End))).1 ≡ Ok left
-    → AreRead p vias [] old bits (reached_from p vias [] old (text bits ps (Broken End))).0 left
+    → (reached_from p vias [] old (text bits ps (Broken End))).rest ≡ Ok left
+    → AreRead p vias [] old bits (reached_from p vias [] old (text bits ps (Broken End))).reached left
 unfolding reached_from turns_from
 none-reached p vias old bits left ps e =
     record { taken = 0; rest = sym (ok-same bits left e); read = λ f ps. refl }
@@ -76,26 +74,26 @@ next-read p vias s spots old x new n bits left is more = record {
 next-reached : (p : Pass) (vias : List Via) (s : Spot) (spots : List Spot) (old : Reached) (bits left : List Bool)
     (ps : List (List ℕ)) → Taken (turn_from p vias s old) bits (Broken End)
     → ((x : Reached) (more : List Bool) (qs : List (List ℕ))
-    → (reached_from p vias spots x (text more qs (Broken End))).1 ≡ Ok left
-    → AreRead p vias spots x more (reached_from p vias spots x (text more qs (Broken End))).0 left)
+    → (reached_from p vias spots x (text more qs (Broken End))).rest ≡ Ok left
+    → AreRead p vias spots x more (reached_from p vias spots x (text more qs (Broken End))).reached left)
     → (o : Result (Reached × Text) Fault) → turn_from p vias s old (text bits ps (Broken End)) ≡ o
-    → (after_turn p vias spots old o).1 ≡ Ok left
-    → AreRead p vias (s ∷ spots) old bits (after_turn p vias spots old o).0 left
+    → (after_turn p vias s spots old o).rest ≡ Ok left
+    → AreRead p vias (s ∷ spots) old bits (after_turn p vias s spots old o).reached left
 next-reached p vias s spots old bits left ps (failed g is) others o e h =
-    absurd (err-ok g left (ap (λ (q : Result (Reached × Text) Fault). (after_turn p vias spots old q).1)
+    absurd (err-ok g left (ap (λ (q : Result (Reached × Text) Fault). (after_turn p vias s spots old q).rest)
     (sym (is ps) ∙ e) ∙ h))
 next-reached p vias s spots old bits left ps (gave n x is) others o e h =
     let same : Ok (x, text (drop n bits) (drop n ps) (Broken End)) ≡ o = sym (is (Broken End) ps (inl refl)) ∙ e in
     subst
-    (λ (q : Result (Reached × Text) Fault). AreRead p vias (s ∷ spots) old bits (after_turn p vias spots old q).0 left)
+    (λ (q : Result (Reached × Text) Fault). AreRead p vias (s ∷ spots) old bits (after_turn p vias s spots old q).reached left)
     same (next-read p vias s spots old x _ n bits left (λ f qs. is f qs (inr refl))
     (others x (drop n bits) (drop n ps)
-    (ap (λ (q : Result (Reached × Text) Fault). (after_turn p vias spots old q).1) same ∙ h)))
+    (ap (λ (q : Result (Reached × Text) Fault). (after_turn p vias s spots old q).rest) same ∙ h)))
 
 -- Where all blocks at some spots are reached of bits that nothing follows, they are read of these bits before any end.
 pub reached-read : (p : Pass) (vias : List Via) (spots : List Spot) (old : Reached) (bits left : List Bool)
-    (ps : List (List ℕ)) → (reached_from p vias spots old (text bits ps (Broken End))).1 ≡ Ok left
-    → AreRead p vias spots old bits (reached_from p vias spots old (text bits ps (Broken End))).0 left
+    (ps : List (List ℕ)) → (reached_from p vias spots old (text bits ps (Broken End))).rest ≡ Ok left
+    → AreRead p vias spots old bits (reached_from p vias spots old (text bits ps (Broken End))).reached left
 unfolding reached_from TakesBits
 reached-read p vias [] old bits left ps h = none-reached p vias old bits left ps h
 reached-read p vias (s ∷ spots) old bits left ps h =
@@ -256,24 +254,24 @@ interval-by p vias spots arrays bytes rest m new left e r =
 
 -- An interval that is reached up to a marker is read.
 pub interval-read : (p : Pass) (vias : List Via) (spots : List Spot) (arrays : Arrays) (bytes : List ℕ)
-    (x : (Bool × Option Marker) × List ℕ) → (interval_reached p vias spots arrays bytes).1 ≡ Ok x
-    → Meets (interval_from p vias spots arrays bytes) (interval_reached p vias spots arrays bytes).0
+    (x : (Bool × Option Marker) × List ℕ) → (interval_reached p vias spots arrays bytes).rest ≡ Ok x
+    → Meets (interval_from p vias spots arrays bytes) (interval_reached p vias spots arrays bytes).reached
     (Follows x.0.0 x.0.1 x.1)
 unfolding interval_reached
 interval-read p vias spots arrays bytes x h =
-    go (reached_from p vias spots (at_start arrays) (sealed (text_at bytes))).1 refl (text_at bytes).ending refl h
+    go (reached_from p vias spots (at_start arrays) (sealed (text_at bytes))).rest refl (text_at bytes).ending refl h
   where
     go : (o : Result (List Bool) Fault)
-        → (reached_from p vias spots (at_start arrays) (sealed (text_at bytes))).1 ≡ o
+        → (reached_from p vias spots (at_start arrays) (sealed (text_at bytes))).rest ≡ o
         → (e : Ending) → (text_at bytes).ending ≡ e
         → (or_fault_at e o >>= λ left. met e >>= λ m. Ok ((nat_le (length left) 56, m.0), m.1)) ≡ Ok x
         → Meets (interval_from p vias spots arrays bytes)
-        (reached_from p vias spots (at_start arrays) (sealed (text_at bytes))).0.arrays (Follows x.0.0 x.0.1 x.1)
+        (reached_from p vias spots (at_start arrays) (sealed (text_at bytes))).reached.arrays (Follows x.0.0 x.0.1 x.1)
     go (Err g) a e b h = absurd (err-ok _ x h)
     go (Ok left) a (Broken f) b h = absurd (err-ok f x h)
     go (Ok left) a (Found m rest) b h =
         subst (λ (y : (Bool × Option Marker) × List ℕ). Meets (interval_from p vias spots arrays bytes)
-        (reached_from p vias spots (at_start arrays) (sealed (text_at bytes))).0.arrays (Follows y.0.0 y.0.1 y.1))
+        (reached_from p vias spots (at_start arrays) (sealed (text_at bytes))).reached.arrays (Follows y.0.0 y.0.1 y.1))
         (ok-same _ x h)
         (interval-by p vias spots arrays bytes rest m _ left b
         (reached-read p vias spots (at_start arrays) (text_at bytes).bits left (text_at bytes).following a))
@@ -303,11 +301,14 @@ last-follows false k bytes m rest marker others e f = record {
 }
 
 abbrev pub Scanned : Type 0
-Scanned = Arrays × Outcome (Option Marker)
+Scanned = BlocksTo (Option Marker)
 
 -- after an interval: the others, or its fault
-abbrev pub next_reached : (Arrays → List ℕ → Scanned) → Arrays → Result (List ℕ) Fault → Scanned
-next_reached others arrays o = elim o [ Ok rest ↦ others arrays rest | Err fault ↦ (arrays, Err fault) ]
+abbrev pub next_reached : (Arrays → List ℕ → Scanned) → Arrays → Option Spot → Result (List ℕ) Fault → Scanned
+next_reached others arrays unread o = elim o [
+  | Ok rest ↦ others arrays rest
+  | Err fault ↦ record { reached = arrays; unread = unread; rest = Err fault }
+]
 
 -- an interval after which its restart marker stands
 pub restart-follows : (number : ℕ) (x : (Bool × Option Marker) × List ℕ) (b : List ℕ) (marker : Option Marker)
@@ -329,36 +330,37 @@ interval-next number arrays o more marker others b a t s = rw (a, t, next_interv
 
 -- an interval, and the others after its restart marker
 next-intervals : (number : ℕ) (one : Outcome (Arrays × Option Marker))
-    (r : Arrays × Outcome (Bool × Option Marker)) (reached : Arrays → List ℕ → Scanned)
+    (r : BlocksTo (Bool × Option Marker)) (unread : Option Spot) (reached : Arrays → List ℕ → Scanned)
     (more : Arrays → List ℕ → Outcome (Arrays × Option Marker)) (m : Option Marker) (rest : List ℕ)
-    → ((x : (Bool × Option Marker) × List ℕ) → r.1 ≡ Ok x → Meets one r.0 (Follows x.0.0 x.0.1 x.1))
-    → ((b : List ℕ) → (reached r.0 b).1 ≡ Ok (m, rest)
-    → Meets (more r.0 b) (reached r.0 b).0 (GoesOnAt m rest))
-    → (o : Result (List ℕ) Fault) → (r.1 >>= after_interval number) ≡ o
-    → (next_reached reached r.0 o).1 ≡ Ok (m, rest)
-    → Meets (one >>= next_interval number more) (next_reached reached r.0 o).0 (GoesOnAt m rest)
-next-intervals number one r reached more m rest first others (Err fault) e h = absurd (err-ok fault (m, rest) h)
-next-intervals number one r reached more m rest first others (Ok b) e h =
-    let x = bind-ok r.1 (after_interval number) b e in
+    → ((x : (Bool × Option Marker) × List ℕ) → r.rest ≡ Ok x → Meets one r.reached (Follows x.0.0 x.0.1 x.1))
+    → ((b : List ℕ) → (reached r.reached b).rest ≡ Ok (m, rest)
+    → Meets (more r.reached b) (reached r.reached b).reached (GoesOnAt m rest))
+    → (o : Result (List ℕ) Fault) → (r.rest >>= after_interval number) ≡ o
+    → (next_reached reached r.reached unread o).rest ≡ Ok (m, rest)
+    → Meets (one >>= next_interval number more) (next_reached reached r.reached unread o).reached (GoesOnAt m rest)
+next-intervals number one r unread reached more m rest first others (Err fault) e h =
+    absurd (err-ok fault (m, rest) h)
+next-intervals number one r unread reached more m rest first others (Ok b) e h =
+    let x = bind-ok r.rest (after_interval number) b e in
     let i = first x.0 x.1 in
     let f = restart-follows number x.0 b i.marker i.others x.2 i.follows in
     let all = others b h in
     record {
       marker = all.marker;
       others = all.others;
-      read = interval-next number r.0 one more i.marker i.others b i.read f.0 f.1 ∙ all.read;
+      read = interval-next number r.reached one more i.marker i.others b i.read f.0 f.1 ∙ all.read;
       follows = all.follows;
     }
 
 -- Intervals that are reached up to the marker after the scan are read, and reading goes on at this marker.
 pub intervals-read : (p : Pass) (vias : List Via) (number : ℕ) (spots : List Spot) (more : List (List Spot))
     (arrays : Arrays) (bytes : List ℕ) (m : Option Marker) (rest : List ℕ)
-    → (intervals_reached p vias number spots more arrays bytes).1 ≡ Ok (m, rest)
+    → (intervals_reached p vias number spots more arrays bytes).rest ≡ Ok (m, rest)
     → Meets (intervals_from p vias number spots more arrays bytes)
-    (intervals_reached p vias number spots more arrays bytes).0 (GoesOnAt m rest)
+    (intervals_reached p vias number spots more arrays bytes).reached (GoesOnAt m rest)
 unfolding intervals_reached intervals_from
 intervals-read p vias number spots [] arrays bytes m rest h =
-    let r = bind-ok (interval_reached p vias spots arrays bytes).1 after_intervals (m, rest) h in
+    let r = bind-ok (interval_reached p vias spots arrays bytes).rest after_intervals (m, rest) h in
     let i = interval-read p vias spots arrays bytes r.0 r.1 in
     record {
       marker = i.marker;
@@ -368,8 +370,8 @@ intervals-read p vias number spots [] arrays bytes m rest h =
     }
 intervals-read p vias number spots (next ∷ more) arrays bytes m rest h =
     let r = interval_reached p vias spots arrays bytes in
-    next-intervals number (interval_from p vias spots arrays bytes) r
+    next-intervals number (interval_from p vias spots arrays bytes) r (or_first r.unread next)
     (intervals_reached p vias (suc number) next more) (intervals_from p vias (suc number) next more) m rest
     (λ x e. interval-read p vias spots arrays bytes x e)
-    (λ b e. intervals-read p vias (suc number) next more r.0 b m rest e)
-    (r.1 >>= after_interval number) refl h
+    (λ b e. intervals-read p vias (suc number) next more r.reached b m rest e)
+    (r.rest >>= after_interval number) refl h

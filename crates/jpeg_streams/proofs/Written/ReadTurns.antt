@@ -1,8 +1,8 @@
 -- A turn of a written stream is read.
-use Rattle.std.proofs.Common.{rules, ◌≡◌, Option, Some, ◌≢◌, ◌&&◌, ℕ, zero, suc, ◌<◌, Bool, true, false, List, []}
+use Rattle.std.proofs.Common.{rules, ◌≡◌, ◌⊎◌, Option, Some, ◌≢◌, ◌&&◌, ℕ, zero, suc, ◌<◌, Bool, true, false, List, []}
 use Rattle.std.proofs.Common.{◌∷◌, ◌++◌, map, length, ◌==◌, nat_lt, slice_get, slice_index_or, is_some, None, Result}
 use Rattle.std.proofs.Common.{Ok, Err, refl, sym, ap, ◌∙◌, subst, arith, append_assoc, length-append}
-use Rattle.jpeg_bits.specs.Marker.{marker_of, next_marker}
+use Rattle.jpeg_bits.specs.Marker.{found_or, marker_of, next_marker}
 use Rattle.jpeg_bits.specs.declared.marker.Marker.{Marker}
 use Rattle.jpeg_bits.specs.declared.marker.Marker.TheVariants.{SOF, DHT, DQT, DRI, APP, COM, EOI, SOS}
 use Rattle.jpeg_segments.specs.Frame.{Frame}
@@ -33,7 +33,11 @@ use Rattle.jpeg_streams.specs.ScanSegments.{scan_arrays, codings_of, scan_segmen
 use Rattle.jpeg_streams.specs.Segments.{accepted, onward, Turn, frame_segment}
 use Rattle.jpeg_streams.specs.Found.{Found, Said}
 use Rattle.jpeg_streams.specs.SaidSegments.{said_after}
-use Rattle.jpeg_streams.specs.Stream.{segment_at, segments_at, end_segment, turn_at, walk}
+use Rattle.jpeg_streams.specs.declared.beyond.Beyond.{Beyond}
+use Rattle.jpeg_streams.specs.declared.beyond.Beyond.TheVariants.{Zeros}
+use Rattle.jpeg_streams.specs.Brought.{Brought, unbrought}
+use Rattle.jpeg_streams.specs.Stream.{Walked, brought_after, end_segment, scan_turn_at, segment_at, segments_at}
+use Rattle.jpeg_streams.specs.Stream.{turn_at, walk}
 use Rattle.jpeg_bits.specs.declared.huffman.codes.HuffmanTableClass.TheVariants as classes
 use Rattle.jpeg_segments.specs.declared.frame.CodingProcess.TheVariants.{Lossless}
 use Rattle.jpeg_bits.specs.Written.{marker, IsMarker}
@@ -70,44 +74,87 @@ then-ok o f x y e g = ap (λ r. r >>= f) e ∙ g
 
 -- ---- turns of a walk
 
--- what a walk gives
-abbrev pub Walked : Type 0
-Walked = Found × Result (List ℕ) Fault
+-- a walk to an end or to its fault, where no scan lacks rows
+abbrev pub walked : Found → Result (List ℕ) Fault → Walked
+walked found rest = record { found = found; rows = None; rest = rest }
 
-pub walk-stop : (turns : ℕ) (header : Bool) (before : Before) (f : Found) (met : Option Marker) (all : List ℕ)
-    → 0 < turns → (header && is_some f.said.frame) ≡ true → walk turns header before f met all ≡ (f, Ok all)
+pub walk-stop : (beyond : Beyond) (turns : ℕ) (header : Bool) (before : Before) (f : Found) (met : Option Marker)
+    (all : List ℕ) → 0 < turns → (header && is_some f.said.frame) ≡ true
+    → walk beyond turns header before f met all ≡ walked f (Ok all)
 unfolding walk
-walk-stop zero header before f met all h e = absurd (omega arith)
-walk-stop (suc turns) header before f met all h e = rw e refl
+walk-stop beyond zero header before f met all h e = absurd (omega arith)
+walk-stop beyond (suc turns) header before f met all h e = rw e refl
 
-pub walk-refused : (turns : ℕ) (header : Bool) (before : Before) (f : Found) (met : Option Marker) (all : List ℕ)
-    (fault : Fault) → (header && is_some f.said.frame) ≡ false → turn_at before f met all ≡ Err fault
-    → walk (suc turns) header before f met all ≡ (f, Err fault)
-unfolding walk
-walk-refused turns header before f met all fault n e = rw (n, e) refl
+-- a walk up to the fault of a turn
+abbrev pub refused_walk : Brought → Fault → Walked
+refused_walk b fault = record { found = b.found; rows = b.rows; rest = Err fault }
 
-pub walk-end : (turns : ℕ) (header : Bool) (before : Before) (f : Found) (met : Option Marker) (all rest : List ℕ)
-    (t : Turn) → (header && is_some f.said.frame) ≡ false → turn_at before f met all ≡ Ok (t, rest) → t.ended ≡ true
-    → walk (suc turns) header before f met all ≡ (t.found, Ok rest)
+pub walk-refused : (beyond : Beyond) (turns : ℕ) (header : Bool) (before : Before) (f : Found) (met : Option Marker)
+    (all : List ℕ) (fault : Fault) → (header && is_some f.said.frame) ≡ false
+    → (turn_at beyond before f met all).turn ≡ Err fault → walk beyond (suc turns) header before f met all
+    ≡ refused_walk (turn_at beyond before f met all) fault
 unfolding walk
-walk-end turns header before f met all rest t n e g = rw (n, e, g) refl
+walk-refused beyond turns header before f met all fault n e = rw (n, e) refl
 
-pub walk-on : (turns : ℕ) (header : Bool) (before : Before) (f : Found) (met : Option Marker) (all rest : List ℕ)
-    (t : Turn) → (header && is_some f.said.frame) ≡ false → turn_at before f met all ≡ Ok (t, rest) → t.ended ≡ false
-    → walk (suc turns) header before f met all ≡ walk turns header t.before t.found t.met rest
+pub walk-end : (beyond : Beyond) (turns : ℕ) (header : Bool) (before : Before) (f : Found) (met : Option Marker)
+    (all rest : List ℕ) (t : Turn) → (header && is_some f.said.frame) ≡ false
+    → (turn_at beyond before f met all).turn ≡ Ok (t, rest) → t.ended ≡ true
+    → walk beyond (suc turns) header before f met all ≡ walked t.found (Ok rest)
 unfolding walk
-walk-on turns header before f met all rest t n e g = rw (n, e, g) refl
+walk-end beyond turns header before f met all rest t n e g = rw (n, e, g) refl
+
+pub walk-on : (beyond : Beyond) (turns : ℕ) (header : Bool) (before : Before) (f : Found) (met : Option Marker)
+    (all rest : List ℕ) (t : Turn) → (header && is_some f.said.frame) ≡ false
+    → (turn_at beyond before f met all).turn ≡ Ok (t, rest) → t.ended ≡ false
+    → walk beyond (suc turns) header before f met all ≡ walk beyond turns header t.before t.found t.met rest
+unfolding walk
+walk-on beyond turns header before f met all rest t n e g = rw (n, e, g) refl
+
+-- With zeros after its data a turn that has a fault brings nothing.
+pub zeros-bring : (before : Before) (f : Found) (met : Option Marker) (all : List ℕ)
+    → turn_at Zeros before f met all ≡ unbrought f (turn_at Zeros before f met all).turn
+unfolding turn_at brought_after scan_turn_at
+zeros-bring before f met all = go (found_or met all (next_marker all))
+  where
+    after : (m : Marker) (bytes : List ℕ)
+        → brought_after Zeros m before f bytes ≡ unbrought f (brought_after Zeros m before f bytes).turn
+    after m bytes = search rules
+
+    go : (o : Outcome Marker) → (elim o as (λ _. Brought) [
+      | Ok m ↦ brought_after Zeros m.0 before f m.1
+      | Err fault ↦ unbrought f (Err fault)
+    ]) ≡ unbrought f (elim o as (λ _. Brought) [
+      | Ok m ↦ brought_after Zeros m.0 before f m.1
+      | Err fault ↦ unbrought f (Err fault)
+    ]).turn
+    go (Ok m) = after m.0 m.1
+    go (Err fault) = refl
+
+pub zeros-refused : (turns : ℕ) (header : Bool) (before : Before) (f : Found) (met : Option Marker) (all : List ℕ)
+    (fault : Fault) → (header && is_some f.said.frame) ≡ false
+    → (turn_at Zeros before f met all).turn ≡ Err fault
+    → walk Zeros (suc turns) header before f met all ≡ walked f (Err fault)
+zeros-refused turns header before f met all fault n e =
+    walk-refused Zeros turns header before f met all fault n e
+    ∙ ap (λ (b : Brought). refused_walk b fault) (zeros-bring before f met all)
+
+pub zeros-scan : (found : Found) (bytes : List ℕ) → (scan_turn_at Zeros found bytes).turn ≡ scan_segment found bytes
+unfolding scan_turn_at
+zeros-scan found bytes = refl
 
 -- what is read by a walk
 abbrev pub walked_to : Walked → Outcome Found
-walked_to w = w.1 >>= λ (rest : List ℕ). Ok (w.0, rest)
+walked_to w = w.rest >>= λ (rest : List ℕ). Ok (w.found, rest)
 
 pub segments-walked : (header : Bool) (before : Before) (f : Found) (met : Option Marker) (all : List ℕ) (w : Walked)
-    → walk (suc (length all)) header before f met all ≡ w → segments_at header before f met all ≡ walked_to w
+    → walk Zeros (suc (length all)) header before f met all ≡ w → segments_at header before f met all ≡ walked_to w
 unfolding segments_at
 segments-walked header before f met all w e = ap walked_to e
 
 -- ---- the turn of a marker
+
+pub same-turn : (a b : Brought) → a ≡ b → a.turn ≡ b.turn
+same-turn a b e = ap (λ (x : Brought). x.turn) e
 
 -- a marker and what is written after it, and the bytes after the end of the image
 pub segment-tail : (fill code : ℕ) (bytes more tail : List ℕ)
@@ -119,37 +166,48 @@ pub scan-tail : (fill code : ℕ) (header bytes more tail : List ℕ)
 scan-tail fill code header bytes more tail = search (rules, segment-tail, append_assoc)
 
 -- the turn of a marker and what stands after it
-pub marker-turn : (before : Before) (found : Found) (fill code : ℕ) (m : Marker) (rest : List ℕ)
-    → marker_of code ≡ Some m → turn_at before found None (marker fill code rest) ≡ segment_at m before found rest
+pub marker-turn : (beyond : Beyond) (before : Before) (found : Found) (fill code : ℕ) (m : Marker) (rest : List ℕ)
+    → marker_of code ≡ Some m
+    → turn_at beyond before found None (marker fill code rest) ≡ brought_after beyond m before found rest
 unfolding turn_at
-marker-turn before found fill code m rest h = grind (arith, common_steps, next-marker)
+marker-turn beyond before found fill code m rest h = grind (arith, common_steps, next-marker)
 
 -- A marker is met or stands next, and these are the bytes from it on.
 pub record StandsAt (met : Option Marker) (all bytes : List ℕ) : Type 0 where
-  pub turn : (before : Before) (found : Found) → turn_at before found met all ≡ turn_at before found None bytes
+  pub turn : (beyond : Beyond) (before : Before) (found : Found)
+      → turn_at beyond before found met all ≡ turn_at beyond before found None bytes
 
 pub stands-here : (bytes : List ℕ) → StandsAt None bytes bytes
-stands-here bytes = record { turn = λ before found. refl }
+stands-here bytes = record { turn = λ beyond before found. refl }
 
 pub stands-met : (fill code : ℕ) (m : Marker) (rest : List ℕ) → marker_of code ≡ Some m
     → StandsAt (Some m) rest (marker fill code rest)
 unfolding turn_at
 stands-met fill code m rest h = grind (arith, common_steps, marker-turn)
 
-pub end-turn : (before : Before) (found : Found) (fill : ℕ) (rest : List ℕ)
-    → is_some found.said.frame ≡ true → turn_at before found None (marker fill 217 [] ++ rest) ≡ Ok
+pub end-turn : (beyond : Beyond) (before : Before) (found : Found) (fill : ℕ) (rest : List ℕ)
+    → is_some found.said.frame ≡ true
+    → (turn_at beyond before found None (marker fill 217 [] ++ rest)).turn ≡ Ok
     (record { found = found; before = Elsewhere; met = None; ended = true }, rest)
-unfolding marker_of segment_at end_segment
-end-turn before found fill rest some = ap (turn_at before found None) (marker-append fill 217 [] rest)
-    ∙ marker-turn before found fill 217 EOI rest refl ∙ kept (is_some found.said.frame) _ (Err Malformed) some
+unfolding marker_of brought_after segment_at end_segment
+end-turn beyond before found fill rest some =
+    ap (λ (bytes : List ℕ). (turn_at beyond before found None bytes).turn) (marker-append fill 217 [] rest)
+    ∙ ap (λ (b : Brought). b.turn) (marker-turn beyond before found fill 217 EOI rest refl)
+    ∙ kept (is_some found.said.frame) _ (Err Malformed) some
 
-pub scan-turn : (before : Before) (found : Found) (fill : ℕ) (header bytes more rest : List ℕ)
-    → turn_at before found None (marker fill 218 (header ++ (bytes ++ more)) ++ rest)
-    ≡ scan_segment found (header ++ (bytes ++ (more ++ rest)))
-unfolding marker_of segment_at
-scan-turn before found fill header bytes more rest =
-    ap (turn_at before found None) (scan-tail fill 218 header bytes more rest)
-    ∙ marker-turn before found fill 218 SOS (header ++ (bytes ++ (more ++ rest))) refl
+pub scan-turn : (beyond : Beyond) (before : Before) (found : Found) (fill : ℕ) (header bytes more rest : List ℕ)
+    → turn_at beyond before found None (marker fill 218 (header ++ (bytes ++ more)) ++ rest)
+    ≡ scan_turn_at beyond found (header ++ (bytes ++ (more ++ rest)))
+unfolding marker_of brought_after
+scan-turn beyond before found fill header bytes more rest =
+    ap (turn_at beyond before found None) (scan-tail fill 218 header bytes more rest)
+    ∙ marker-turn beyond before found fill 218 SOS (header ++ (bytes ++ (more ++ rest))) refl
+
+-- A marker is that of a scan, or what is brought after it is what its segment says.
+pub scan-or-segment : (beyond : Beyond) (m : Marker) (before : Before) (found : Found) (bytes : List ℕ)
+    → (m ≡ SOS) ⊎ (brought_after beyond m before found bytes ≡ unbrought found (segment_at m before found bytes))
+unfolding brought_after
+scan-or-segment beyond m before found bytes = search rules
 
 -- ---- what begins with a marker
 
@@ -196,16 +254,24 @@ segment-read before found (Header number h) rest stands =
 segment-read before found s rest stands =
     search (rules, read-on, dqt-read, dht-read, dri-read, app-read, sized-read, skip-read)
 
+-- no segment is a scan
+segment-brought : (beyond : Beyond) (before : Before) (found : Found) (s : Segment) (bytes : List ℕ)
+    → (brought_after beyond (marker_for s) before found bytes).turn ≡ segment_at (marker_for s) before found bytes
+unfolding brought_after
+segment-brought beyond before found s bytes = search rules
+
 -- the turn of a segment that is taken
-pub segment-turn : (before : Before) (now : Found) (s : Segment) (met : Option Marker) (all : List ℕ) (fill : ℕ)
-    (more tail : List ℕ) → MayStand now.said.frame s → IsTaken now.said s
+pub segment-turn : (beyond : Beyond) (before : Before) (now : Found) (s : Segment) (met : Option Marker)
+    (all : List ℕ) (fill : ℕ) (more tail : List ℕ) → MayStand now.said.frame s → IsTaken now.said s
     → StandsAt met all (marker fill (marker_code s) (with_length (payload_of s) ++ more) ++ tail)
-    → turn_at before now met all ≡ Ok (onward (record now { said = said_after now.said s }), more ++ tail)
-segment-turn before now s met all fill more tail may taken at =
-    at.turn before now
-    ∙ ap (turn_at before now None) (segment-tail fill (marker_code s) (with_length (payload_of s)) more tail)
-    ∙ marker-turn before now fill (marker_code s) (marker_for s) (with_length (payload_of s) ++ (more ++ tail))
-    (segment-marker now.said.frame s may) ∙ segment-read before now s (more ++ tail) taken
+    → (turn_at beyond before now met all).turn ≡ Ok (onward (record now { said = said_after now.said s }), more ++ tail)
+segment-turn beyond before now s met all fill more tail may taken at =
+    ap (λ (b : Brought). b.turn) (at.turn beyond before now
+    ∙ ap (turn_at beyond before now None) (segment-tail fill (marker_code s) (with_length (payload_of s)) more tail)
+    ∙ marker-turn beyond before now fill (marker_code s) (marker_for s) (with_length (payload_of s) ++ (more ++ tail))
+    (segment-marker now.said.frame s may))
+    ∙ segment-brought beyond before now s (with_length (payload_of s) ++ (more ++ tail))
+    ∙ segment-read before now s (more ++ tail) taken
 
 pub some-none : {P : Type 0} (f : Frame) (o : Option Frame) → o ≡ Some f → o ≡ None → P
 some-none f o e g = absurd (let n : ⊥ = cc in n)

@@ -15,6 +15,7 @@ use Rattle.jpeg_streams.specs.FoundPictures.{picture_of}
 use Rattle.jpeg_streams.specs.SaidSegments.{said_after, Stands}
 use Rattle.jpeg_streams.specs.ScanSegments.{after_restarts, scan_before, scan_segment, scan_turn}
 use Rattle.jpeg_streams.specs.Segments.{onward}
+use Rattle.jpeg_streams.specs.declared.beyond.Beyond.TheVariants.{Zeros}
 use Rattle.jpeg_streams.specs.Stream.{header_at, meaning, rest_at, segments_at, start_at, Told, told_of, turn_at, walk}
 use Rattle.jpeg_streams.specs.WrittenStreams.{Closes, end, scan, segment, Starts, Writes}
 use Rattle.jpeg_streams.specs.declared.before.Before.{Before}
@@ -23,7 +24,8 @@ use Rattle.jpeg_streams.specs.declared.settings.Settings.{Settings}
 use Rattle.jpeg_streams.proofs.Pictures.DecodedHeaders.{stands-taken}
 use Rattle.jpeg_streams.proofs.Written.ReadTurns.{Begins, end-turn, IsEnd, marker-longer, scan-tail, scan-turn, marker-begins}
 use Rattle.jpeg_streams.proofs.Written.ReadTurns.{segment-ends, segment-tail, segment-turn, segments-walked, some-none}
-use Rattle.jpeg_streams.proofs.Written.ReadTurns.{stands-here, stands-met, StandsAt, then-ok, walk-end, walk-on, walk-stop}
+use Rattle.jpeg_streams.proofs.Written.ReadTurns.{same-turn, stands-here, stands-met, StandsAt, then-ok, walk-end}
+use Rattle.jpeg_streams.proofs.Written.ReadTurns.{walk-on, walk-stop, walked, zeros-scan}
 use Rattle.jpeg_streams.proofs.Written.ReadTurns.{marker_for, segment-marker}
 use Rattle.jpeg_streams.proofs.Written.SaidTables.{HasTables, no-tables, segment-tables}
 
@@ -102,7 +104,7 @@ segment-said may P shaped said s stands allowed is =
 -- ---- the turns of a stream
 
 pub rest-by : (settings : Settings) (found all : Found) (bytes rest : List ℕ)
-    → walk (suc (length bytes)) false Elsewhere found None bytes ≡ (all, Ok rest)
+    → walk Zeros (suc (length bytes)) false Elsewhere found None bytes ≡ walked all (Ok rest)
     → rest_at settings found bytes ≡ (picture_of settings all >>= (λ picture. Ok ((told_of all.said, picture), rest)))
 unfolding rest_at
 rest-by settings found all bytes rest e = search (rules, then-ok, found, segments-walked)
@@ -191,25 +193,27 @@ module _ {Sent Brought : Type 0} {may : Said → Segment → Type 0}
   segment-next : (said : Said) (x : Brought) (s : Segment) (header : Bool) (turns fill : ℕ) (before : Before)
       (met : Option Marker) (all more : List ℕ) → Stands said s → (header && is_some said.frame) ≡ false
       → StandsAt met all (marker fill (marker_code s) (with_length (payload_of s) ++ more) ++ tail)
-      → walk (suc turns) header before (beside brings said x) met all
-      ≡ walk turns header Elsewhere (beside brings (said_after said s) x) None (more ++ tail)
+      → walk Zeros (suc turns) header before (beside brings said x) met all
+      ≡ walk Zeros turns header Elsewhere (beside brings (said_after said s) x) None (more ++ tail)
   segment-next said x s header turns fill before met all more stands goes_on at =
-      walk-on turns header before (beside brings said x) met all (more ++ tail) (onward (beside brings (said_after said s) x)) goes_on
-      (segment-turn before (beside brings said x) s met all fill more tail stands.0 (stands-taken said s stands) at) refl
+      walk-on Zeros turns header before (beside brings said x) met all (more ++ tail)
+      (onward (beside brings (said_after said s) x)) goes_on
+      (segment-turn Zeros before (beside brings said x) s met all fill more tail stands.0 (stands-taken said s stands) at) refl
 
   pub reads-on : (said final : Said) (sent last : Sent) (bytes : List ℕ) (x : Brought) (turns : ℕ) (before : Before)
       (met : Option Marker) (all : List ℕ) → Rest said sent bytes final last → IsSaid P said → Held said sent x
       → StandsAt met all (bytes ++ tail) → length bytes < turns
       → (r : ReadTo P Held may_end final last)
-      × (walk turns false before (beside brings said x) met all ≡ (beside brings final r.brought, Ok tail))
+      × (walk Zeros turns false before (beside brings said x) met all ≡ walked (beside brings final r.brought) (Ok tail))
   reads-on said final sent last bytes x zero before met all w is held at room = absurd (omega arith)
   reads-on said final sent last bytes x (suc turns) before met all (end said' sent' bytes' c) is held at room =
       let now = beside brings said x in (
         record { brought = x; held = held; said = is; frame = c.frame; framed = c.is_said; ended = c.ended },
-        walk-end turns false before now met all tail
+        walk-end Zeros turns false before now met all tail
             (record { found = now; before = Elsewhere; met = None; ended = true }) refl
-            (at.turn before now ∙ ap (λ (l : List ℕ). turn_at before now None (l ++ tail)) c.closed
-            ∙ end-turn before now c.fill tail (ap is_some c.is_said)) refl,
+            (same-turn _ _ (at.turn Zeros before now
+            ∙ ap (λ (l : List ℕ). turn_at Zeros before now None (l ++ tail)) c.closed)
+            ∙ end-turn Zeros before now c.fill tail (ap is_some c.is_said)) refl,
       )
   reads-on said final sent last bytes x (suc turns) before met all
       (segment said' final' sent' last' fill s more stands allowed w) is held at room =
@@ -230,8 +234,9 @@ module _ {Sent Brought : Type 0} {may : Said → Segment → Type 0}
       (let l = marker-longer fill 218 turns header (data_bytes ++ more) room in let k = length-append data_bytes more in
       omega arith) in (
         r.0,
-        walk-on turns false before now met all n.after _ refl
-            (at.turn before now ∙ scan-turn before now fill header data_bytes more tail
+        walk-on Zeros turns false before now met all n.after _ refl
+            (same-turn _ _ (at.turn Zeros before now ∙ scan-turn Zeros before now fill header data_bytes more tail)
+            ∙ zeros-scan now (header ++ (data_bytes ++ (more ++ tail)))
             ∙ ap (λ (l : List ℕ). scan_segment now (header ++ (data_bytes ++ l))) n.is
             ∙ b.found n.fill n.code n.m n.after n.makes n.ends) refl ∙ r.1,
       )
@@ -240,8 +245,8 @@ module _ {Sent Brought : Type 0} {may : Said → Segment → Type 0}
       → Rest said sent bytes final last → IsSaid P said → said.frame ≡ None → said.scanned ≡ false
       → length bytes < turns
       → (r : Headed may scans may_end P final sent last)
-      × (walk turns true Elsewhere (beside brings said x) None (bytes ++ tail)
-      ≡ (beside brings (said_after r.between (Header r.number r.header)) x, Ok (r.left ++ tail)))
+      × (walk Zeros turns true Elsewhere (beside brings said x) None (bytes ++ tail)
+      ≡ walked (beside brings (said_after r.between (Header r.number r.header)) x) (Ok (r.left ++ tail)))
   reads-header said final sent last bytes x zero w is e u room = absurd (omega arith)
   reads-header said final sent last bytes x (suc turns) (end said' sent' bytes' c) is e u room = cc
   reads-header said final sent last bytes x (suc turns)
@@ -262,7 +267,7 @@ module _ {Sent Brought : Type 0} {may : Said → Segment → Type 0}
         },
         segment-next said x (Header number h) true turns fill Elsewhere None _ more stands
             (ap is_some e) (stands-here _)
-            ∙ walk-stop turns true Elsewhere _ None (more ++ tail)
+            ∙ walk-stop Zeros turns true Elsewhere _ None (more ++ tail)
             (let l = marker-longer fill _ turns (with_length (payload_of (Header number h))) more room in omega arith)
             refl,
       )

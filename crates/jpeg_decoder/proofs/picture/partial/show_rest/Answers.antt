@@ -1,7 +1,6 @@
 use Rattle.std.proofs.Common.{◌∙◌, ap, refl, subst, sym}
 use Rattle.std.proofs.lemmas.Result.{IfOk-weaker}
 use Rattle.std.specs.List.{concat}
-use Rattle.jpeg_streams.specs.Brought.{all_brought}
 use Rattle.jpeg_streams.specs.Sound.{HasDecodedFrame, IsSound}
 use Rattle.jpeg_decoder.specs.Reaching.{walk_end}
 use Rattle.jpeg_decoder.specs.Seen.{found_of}
@@ -13,6 +12,7 @@ use Rattle.jpeg_decoder.proofs.Partial.ShownFaults.{ended-bytes, rest-given-up, 
 use Rattle.jpeg_decoder.proofs.Partial.ShownRows.{rest-counted}
 use Rattle.jpeg_decoder.proofs.picture.partial.show_rest.Given as given
 use Rattle.jpeg_decoder.proofs.picture.partial.show_rest.Goals.{After-show_found}
+use Rattle.jpeg_streams.specs.Stream.{all_brought}
 use Rattle.jpeg_decoder.proofs.picture.partial.show_rest.Goals as goal
 
 pub show_found-requires : goal.show_found-requires

@@ -1,4 +1,4 @@
-use Rattle.std.proofs.Common.{◌≡◌, ◌⊎◌, ◌<◌, ℕ, ℤ, Result, Err, Some, inl, inr, ◌∙◌, ap, sym, refl, rules, ◌∷◌}
+use Rattle.std.proofs.Common.{◌≡◌, ◌⊎◌, ◌<◌, ℕ, ℤ, Result, Err, inl, inr, ◌∙◌, ap, sym, refl, rules, ◌∷◌}
 use Rattle.std.proofs.Common.{drop, length, arith}
 use Rattle.std.specs.List.{AllByRecursion}
 use Rattle.std.proofs.lemmas.Grind.{common_steps}
@@ -10,14 +10,16 @@ use Rattle.jpeg_bits.specs.Passes.{Block, block_from}
 use Rattle.jpeg_bits.specs.Reading.{Fault, Names}
 use Rattle.jpeg_bits.specs.Refusals.{kept_refusal}
 use Rattle.jpeg_bits.specs.Skips.{kept_from}
+use Rattle.jpeg_streams.specs.Brought.{reached_from}
 use Rattle.jpeg_streams.specs.InTurn.{at_start}
+use Rattle.jpeg_streams.proofs.Refusals.{told-err}
 use Rattle.jpeg_decoder.specs.Reaching.{after_group}
 use Rattle.jpeg_decoder.specs.Scanning.{IsSpotOf, arrays_in, sizes_of, scan_vias}
 use Rattle.jpeg_decoder.proofs.Kept.KeptBlocks.{sizes-set, spot, stored-there, turn-kept, turn-refused}
 use Rattle.jpeg_decoder.proofs.Kept.KeptScans.{turn-kept-refused}
 use Rattle.jpeg_decoder.proofs.Partial.ReachedBlocks.{after-some, ahead-next, after_left, carried_on, first-end, first-none}
 use Rattle.jpeg_decoder.proofs.Partial.ReachedBlocks.{first_left, group-next, group-none, group-refused, names-in-memory}
-use Rattle.jpeg_decoder.proofs.Partial.ReachedBlocks.{on-fault, put-back, read_from, Read, taken-left, turn-read}
+use Rattle.jpeg_decoder.proofs.Partial.ReachedBlocks.{put-back, read_before, taken-left, turn-read}
 use Rattle.jpeg_decoder.proofs.Partial.ReachedBlocks.{unread-none, unread-refused}
 use Rattle.jpeg_decoder.proofs.scan.reached.reach_group.Given.{Over}
 use Rattle.jpeg_decoder.proofs.scan.reached.reach_group.Goals as goal
@@ -27,7 +29,7 @@ use Rattle.jpeg_decoder.proofs.scan.reached.reach_group.Goals.{After-refusal_in_
 pub returns-in_default-clause-arrays : goal.returns-in_default-clause-arrays
 returns-in_default-clause-arrays g c =
     let l = c.loop-carried in
-    sym (ap (λ x. x.0.0.arrays) (l.invariant.reached
+    sym (ap (λ x. x.reached.arrays) (l.invariant.reached
     ∙ group-none c.args.scan.now.pass (scan_vias c.args.scan.now)
     (first_left c.args.n l.left l.spots) (carried_on l.carried (arrays_in l.arrays.items))
     (upcoming l.decoder l.source.bytes) (first-end c.args.n l.left l.spots c.in_default.ensures.first.0)))
@@ -37,7 +39,7 @@ returns-in_default-clause-unread g c =
     let l = c.loop-carried in
     let e = c.in_default.ensures.first.0 in
     unread-none _ (after_group c.args.n c.args.spots.now) c.first.new.self
-    (ap (λ x. x.1) (l.invariant.reached
+    (ap (λ x. x.unread) (l.invariant.reached
     ∙ group-none c.args.scan.now.pass (scan_vias c.args.scan.now)
     (first_left c.args.n l.left l.spots) (carried_on l.carried (arrays_in l.arrays.items))
     (upcoming l.decoder l.source.bytes) (first-end c.args.n l.left l.spots e)))
@@ -46,7 +48,7 @@ returns-in_default-clause-unread g c =
 pub returns-in_default-clause-told : goal.returns-in_default-clause-told
 returns-in_default-clause-told g c =
     let l = c.loop-carried in
-    ap (λ x. x.0.1) (l.invariant.reached
+    ap (λ x. x.rest) (l.invariant.reached
     ∙ group-none c.args.scan.now.pass (scan_vias c.args.scan.now)
     (first_left c.args.n l.left l.spots) (carried_on l.carried (arrays_in l.arrays.items))
     (upcoming l.decoder l.source.bytes) (first-end c.args.n l.left l.spots c.in_default.ensures.first.0))
@@ -60,12 +62,11 @@ returns-then-not-take_block-clause-sizes g c =
 -- the fault of a block that is refused, and what is read by then
 refused : (g : Over) (c : After-refusal_in_memory g) → (o : Result ((Block × ℤ × ℕ) × Text) Fault)
     × Names c.refusal_in_memory.result o × ((f : Fault) → o ≡ Err f
-    → ◌≡◌ {A = Read} (read_from c.args.scan.now.pass (scan_vias c.args.scan.now)
+    → reached_from c.args.scan.now.pass (scan_vias c.args.scan.now)
     (first_group c.args.n c.args.spots.now) (at_start (arrays_in c.args.arrays.now.items))
-    (upcoming c.args.decoder.now c.args.source.now.bytes)) (
-      (carried_on c.loop-carried.carried (arrays_in c.reach.new.arrays.items), Err f),
-      Some (spot c.in-Some.spot.slot c.in-Some.spot.index),
-    ))
+    (upcoming c.args.decoder.now c.args.source.now.bytes)
+    ≡ read_before (carried_on c.loop-carried.carried (arrays_in c.reach.new.arrays.items))
+    (spot c.in-Some.spot.slot c.in-Some.spot.index) f)
 refused g c =
     let p = c.args.scan.now.pass in
     let vias = scan_vias c.args.scan.now in
@@ -106,23 +107,23 @@ refused g c =
 pub returns-then-not-take_block-clause-arrays : goal.returns-then-not-take_block-clause-arrays
 returns-then-not-take_block-clause-arrays g c =
     let r = refused g (goal.at.returns-then-not-take_block-clause-arrays g c).After-refusal_in_memory in
-    on-fault c.refusal_in_memory.result r.0 r.1 (λ f h.
+    told-err c.refusal_in_memory.result r.0 _ r.1 (λ f h.
     put-back c.reach.new.arrays.items c.in-Some.spot.slot c.in-Some.spot.index c.index_mut.result.now
     c.index_mut-block.result.now c.index_mut.ensures.value c.index_mut-block.ensures.value
-    ∙ sym (ap (λ x. x.0.0.arrays) (r.2 f h)))
+    ∙ sym (ap (λ x. x.reached.arrays) (r.2 f h)))
 
 pub returns-then-not-take_block-clause-unread : goal.returns-then-not-take_block-clause-unread
 returns-then-not-take_block-clause-unread g c =
     let r = refused g (goal.at.returns-then-not-take_block-clause-unread g c).After-refusal_in_memory in
-    on-fault c.refusal_in_memory.result r.0 r.1 (λ f h.
+    told-err c.refusal_in_memory.result r.0 _ r.1 (λ f h.
     unread-refused _ (after_group c.args.n c.args.spots.now) c.first.new.self (drop 1 c.loop-carried.spots)
-    (spot c.in-Some.spot.slot c.in-Some.spot.index) (ap (λ x. x.1) (r.2 f h))
+    (spot c.in-Some.spot.slot c.in-Some.spot.index) (ap (λ x. x.unread) (r.2 f h))
     (c.in-Some.ensures.same ∙ c.in-Some.ensures.first))
 
 pub returns-then-not-take_block-clause-told : goal.returns-then-not-take_block-clause-told
 returns-then-not-take_block-clause-told g c =
     let r = refused g (goal.at.returns-then-not-take_block-clause-told g c).After-refusal_in_memory in
-    Names-through c.refusal_in_memory.result r.0 _ (λ f h. ap (λ x. x.0.1) (r.2 f h)) r.1
+    Names-through c.refusal_in_memory.result r.0 _ (λ f h. ap (λ x. x.rest) (r.2 f h)) r.1
 
 pub loop-carried-preserved : goal.loop-carried-preserved
 loop-carried-preserved g c =
@@ -169,7 +170,7 @@ loop-carried-preserved g c =
 pub returns-clause-arrays : goal.returns-clause-arrays
 returns-clause-arrays g c =
     let l = c.loop-carried in
-    sym (ap (λ x. x.0.0.arrays) (l.invariant.reached
+    sym (ap (λ x. x.reached.arrays) (l.invariant.reached
     ∙ group-none c.args.scan.now.pass (scan_vias c.args.scan.now)
     (first_left c.args.n l.left l.spots) (carried_on l.carried (arrays_in l.arrays.items))
     (upcoming l.decoder l.source.bytes) (first-none c.args.n l.left l.spots (omega arith) (omega arith))))
@@ -178,7 +179,7 @@ pub returns-clause-unread : goal.returns-clause-unread
 returns-clause-unread g c =
     let l = c.loop-carried in
     unread-none _ (after_group c.args.n c.args.spots.now) l.spots
-    (ap (λ x. x.1) (l.invariant.reached
+    (ap (λ x. x.unread) (l.invariant.reached
     ∙ group-none c.args.scan.now.pass (scan_vias c.args.scan.now)
     (first_left c.args.n l.left l.spots) (carried_on l.carried (arrays_in l.arrays.items))
     (upcoming l.decoder l.source.bytes) (first-none c.args.n l.left l.spots (omega arith) (omega arith))))
@@ -187,7 +188,7 @@ returns-clause-unread g c =
 pub returns-clause-told : goal.returns-clause-told
 returns-clause-told g c =
     let l = c.loop-carried in
-    ap (λ x. x.0.1) (l.invariant.reached
+    ap (λ x. x.rest) (l.invariant.reached
     ∙ group-none c.args.scan.now.pass (scan_vias c.args.scan.now)
     (first_left c.args.n l.left l.spots) (carried_on l.carried (arrays_in l.arrays.items))
     (upcoming l.decoder l.source.bytes) (first-none c.args.n l.left l.spots (omega arith) (omega arith)))

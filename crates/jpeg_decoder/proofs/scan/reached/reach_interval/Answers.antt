@@ -1,11 +1,10 @@
-use Rattle.std.proofs.Common.{◌∙◌, ap, Bool, Option, sym, subst}
+use Rattle.std.proofs.Common.{◌∙◌, ap, Bool, sym, subst}
 use Rattle.jpeg_bits.specs.Intervals.{first_group}
-use Rattle.jpeg_streams.specs.Order.{Spot}
-use Rattle.jpeg_streams.specs.WholeRows.{or_first}
 use Rattle.jpeg_decoder.specs.Reaching.{after_group, IsIntervalEnd}
 use Rattle.jpeg_decoder.specs.Scanning.{arrays_in, scan_vias}
-use Rattle.jpeg_decoder.proofs.Partial.ReachedIntervals.{end-answers, end-found, end-reached, interval-arrays}
-use Rattle.jpeg_decoder.proofs.Partial.ReachedIntervals.{interval-outcome, interval-unread, outcome_of, read_of}
+use Rattle.jpeg_decoder.proofs.Partial.ReachedIntervals.{end-answers, end-found, end-reached, interval-read}
+use Rattle.jpeg_decoder.proofs.Partial.ReachedIntervals.{outcome_of, read_of}
+use Rattle.jpeg_streams.specs.Brought.{or_first}
 use Rattle.jpeg_decoder.proofs.scan.reached.reach_interval.Goals as goal
 
 pub returns-clause-left : goal.returns-clause-left
@@ -25,7 +24,7 @@ returns-clause-arrays g c =
     end-found front a.source.now new c.read_data-ended.result c.reach_spots-reached.result c.interval_end.result
     c.read_data-ended.ensures.own (rw c.deref.ensures.value c.read_data-ended.ensures.data)
     (λ k. sym c.has_failed.ensures.failed ∙ c.has_failed.ensures.known k)
-    (λ h is. is ∙ sym (interval-arrays p vias spots arrays front a.source.now.bytes h))
+    (λ h is. is ∙ sym (ap (λ r. r.reached) (interval-read p vias spots arrays front a.source.now.bytes h)))
     c.reach_spots-reached.ensures.arrays
     (subst (λ (f : Bool). IsIntervalEnd c.read_data-ended.result c.reach_spots-reached.result f c.interval_end.result)
     c.has_failed.ensures.failed c.interval_end.ensures)
@@ -42,8 +41,8 @@ returns-clause-unread g c =
     end-found front a.source.now new c.read_data-ended.result c.reach_spots-reached.result c.interval_end.result
     c.read_data-ended.ensures.own (rw c.deref.ensures.value c.read_data-ended.ensures.data)
     (λ k. sym c.has_failed.ensures.failed ∙ c.has_failed.ensures.known k)
-    (λ h is. is ∙ sym (ap (λ (o : Option Spot). or_first o (after_group a.n a.spots.now))
-    (interval-unread p vias spots arrays front a.source.now.bytes h)))
+    (λ h is. is ∙ sym (ap (λ r. or_first r.unread (after_group a.n a.spots.now))
+    (interval-read p vias spots arrays front a.source.now.bytes h)))
     c.reach_spots-reached.ensures.unread
     (subst (λ (f : Bool). IsIntervalEnd c.read_data-ended.result c.reach_spots-reached.result f c.interval_end.result)
     c.has_failed.ensures.failed c.interval_end.ensures)
@@ -57,9 +56,9 @@ returns-clause-answers g c =
     let arrays = arrays_in a.arrays.now.items in
     let front = c.deref.result.now in
     let new = c.read_data-ended.new.source in
-    end-answers (outcome_of p vias spots arrays) (read_of p vias spots arrays front).1 front a.source.now new
+    end-answers (outcome_of p vias spots arrays) (read_of p vias spots arrays front).rest front a.source.now new
     c.read_data-ended.result c.reach_spots-reached.result c.interval_end.result
-    (λ h. interval-outcome p vias spots arrays front a.source.now.bytes h)
+    (λ h. ap (λ r. r.rest) (interval-read p vias spots arrays front a.source.now.bytes h))
     c.read_data-ended.ensures.end c.read_data-ended.ensures.own
     (rw c.deref.ensures.value c.read_data-ended.ensures.data)
     (λ k. sym c.has_failed.ensures.failed ∙ c.has_failed.ensures.known k) c.reach_spots-reached.ensures.told

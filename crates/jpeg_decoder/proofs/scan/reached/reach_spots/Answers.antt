@@ -5,12 +5,12 @@ use Rattle.jpeg_bits.specs.Intervals.{first_group}
 use Rattle.jpeg_bits.specs.Reading.{Names}
 use Rattle.jpeg_streams.specs.InTurn.{at_start}
 use Rattle.jpeg_streams.specs.States.{IfRefused}
-use Rattle.jpeg_streams.specs.WholeRows.{or_first}
 use Rattle.jpeg_decoder.specs.Reaching.{after_group}
 use Rattle.jpeg_decoder.specs.Scanning.{arrays_in, scan_vias}
 use Rattle.jpeg_decoder.proofs.LosslessFrames.LosslessReads.{on-ok}
 use Rattle.jpeg_decoder.proofs.Partial.ReachedBlocks.{ahead-fresh, near-tells, start-alike}
-use Rattle.jpeg_decoder.proofs.Partial.ReachedData.{unless}
+use Rattle.jpeg_decoder.proofs.Partial.Refused.{unless}
+use Rattle.jpeg_streams.specs.Brought.{or_first}
 use Rattle.jpeg_decoder.proofs.scan.reached.reach_spots.Goals as goal
 
 pub reach_group-requires-clause-ahead : goal.reach_group-requires-clause-ahead
@@ -24,7 +24,7 @@ returns-in_err-reach_group-clause-arrays c =
     (ap (λ s. s.bytes) c.new-source.ensures ∙ c.new.ensures) in
     let p = err_from_is_err_and c.from_residual.result c.from_residual.ensures.1 in
     rw (p.1, p.2) (subst (λ x. IfRefused c.in_err-reach_group.field-0.0
-    (arrays_in c.reach_group.new.arrays.items ≡ x.0.0.arrays)) same c.in_err-reach_group.ensures.arrays)
+    (arrays_in c.reach_group.new.arrays.items ≡ x.reached.arrays)) same c.in_err-reach_group.ensures.arrays)
 
 pub returns-in_err-reach_group-clause-unread : goal.returns-in_err-reach_group-clause-unread
 returns-in_err-reach_group-clause-unread c =
@@ -34,7 +34,7 @@ returns-in_err-reach_group-clause-unread c =
     (ap (λ s. s.bytes) c.new-source.ensures ∙ c.new.ensures) in
     let p = err_from_is_err_and c.from_residual.result c.from_residual.ensures.1 in
     rw (p.1, p.2) (subst (λ x. IfRefused c.in_err-reach_group.field-0.0
-    (slice_get c.reach_group.new.spots 0 ≡ or_first x.1 (after_group c.args.n c.args.spots.now))) same
+    (slice_get c.reach_group.new.spots 0 ≡ or_first x.unread (after_group c.args.n c.args.spots.now))) same
     c.in_err-reach_group.ensures.unread)
 
 pub returns-in_err-reach_group-clause-told : goal.returns-in_err-reach_group-clause-told
@@ -44,7 +44,7 @@ returns-in_err-reach_group-clause-told c =
     c.new-source.result.bytes c.args.bytes.now c.new-decoder.ensures
     (ap (λ s. s.bytes) c.new-source.ensures ∙ c.new.ensures) in
     let p = err_from_is_err_and c.from_residual.result c.from_residual.ensures.1 in
-    rw (p.1, p.2) (subst (λ x. Names c.in_err-reach_group.field-0.0 x.0.1) same c.in_err-reach_group.ensures.told)
+    rw (p.1, p.2) (subst (λ x. Names c.in_err-reach_group.field-0.0 x.rest) same c.in_err-reach_group.ensures.told)
 
 pub returns-clause-left : goal.returns-clause-left
 returns-clause-left c = on-ok c.is_near_end.result c.in_ok-reach_group.ensures.left
@@ -55,7 +55,7 @@ returns-clause-arrays c =
     (first_group c.args.n c.args.spots.now) (at_start (arrays_in c.args.arrays.now.items)) c.new-decoder.result
     c.new-source.result.bytes c.args.bytes.now c.new-decoder.ensures
     (ap (λ s. s.bytes) c.new-source.ensures ∙ c.new.ensures) in
-    unless c.is_near_end.result (c.in_ok-reach_group.ensures.arrays ∙ ap (λ x. x.0.0.arrays) same)
+    unless c.is_near_end.result (c.in_ok-reach_group.ensures.arrays ∙ ap (λ x. x.reached.arrays) same)
 
 pub returns-clause-unread : goal.returns-clause-unread
 returns-clause-unread c =
@@ -64,7 +64,7 @@ returns-clause-unread c =
     c.new-source.result.bytes c.args.bytes.now c.new-decoder.ensures
     (ap (λ s. s.bytes) c.new-source.ensures ∙ c.new.ensures) in
     unless c.is_near_end.result (c.in_ok-reach_group.ensures.unread
-    ∙ ap (λ x. or_first x.1 (after_group c.args.n c.args.spots.now)) same)
+    ∙ ap (λ x. or_first x.unread (after_group c.args.n c.args.spots.now)) same)
 
 pub returns-clause-told : goal.returns-clause-told
 returns-clause-told c =
@@ -72,5 +72,5 @@ returns-clause-told c =
     (first_group c.args.n c.args.spots.now) (at_start (arrays_in c.args.arrays.now.items)) c.new-decoder.result
     c.new-source.result.bytes c.args.bytes.now c.new-decoder.ensures
     (ap (λ s. s.bytes) c.new-source.ensures ∙ c.new.ensures) in
-    near-tells _ _ c.is_near_end.result (sym (ap (λ x. x.0.1) same) ∙ c.in_ok-reach_group.ensures.told)
+    near-tells _ _ c.is_near_end.result (sym (ap (λ x. x.rest) same) ∙ c.in_ok-reach_group.ensures.told)
     c.is_near_end.ensures

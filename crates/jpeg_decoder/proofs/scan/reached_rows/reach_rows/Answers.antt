@@ -6,7 +6,7 @@ use Rattle.jpeg_lossless.specs.Rows.{planes_after_rows, with_mcu_rows}
 use Rattle.jpeg_lossless.specs.RowsReached.{rows_reached}
 use Rattle.jpeg_lossless.specs.Scans.{scan_tables}
 use Rattle.jpeg_decoder.proofs.Partial.ReachedBlocks.{ahead-after, ahead-fresh, names-in-memory, near-tells, refused-in-memory}
-use Rattle.jpeg_decoder.proofs.Partial.ReachedData.{unless}
+use Rattle.jpeg_decoder.proofs.Partial.Refused.{unless}
 use Rattle.jpeg_decoder.proofs.Partial.RowIntervals.{Rows, not-refused, planes-take, rows-start}
 use Rattle.jpeg_decoder.proofs.scan.reached_rows.reach_rows.Goals.{After-new-decoder}
 use Rattle.jpeg_decoder.proofs.scan.reached_rows.reach_rows.Goals as goal

@@ -13,7 +13,8 @@ use Rattle.jpeg_streams.proofs.Soundness.{decoded-precision, decoded-sized}
 use Rattle.jpeg_decoder.specs.Reaching.{planes_over, planes_reached, samples_reached}
 use Rattle.jpeg_decoder.specs.Seen.{found_of}
 use Rattle.jpeg_decoder.proofs.LosslessFrames.LosslessReads.{HasMcus, codings-count, four-indices, parts-count, put-made}
-use Rattle.jpeg_decoder.proofs.Partial.ReachedData.{answers-by, on-told, unless}
+use Rattle.jpeg_decoder.proofs.Partial.ReachedData.{answers-by}
+use Rattle.jpeg_decoder.proofs.Partial.Refused.{on-told, unless}
 use Rattle.jpeg_decoder.proofs.LosslessFrames.SampleScans.{Reads, put_over, reads-components, reads-cut, reads-found}
 use Rattle.jpeg_decoder.proofs.LosslessFrames.SampleScans.{reads-marker, reads-sound, scan-coded, scan-mcus, scan-rows}
 use Rattle.jpeg_decoder.proofs.scan.reached_rows.reach_samples.Given as given
@@ -152,6 +153,7 @@ returns-clause-found g c codings h =
     c.reach_intervals-met.ensures.planes
 
 pub returns-clause-rows : goal.returns-clause-rows
+unfolding samples_reached
 returns-clause-rows g c codings h =
     let s = c.args.scan.now in
     let found = found_of s.said.now c.args.decoded.now in
@@ -179,7 +181,7 @@ returns-clause-answers g c codings h =
     let empty = map (λ v. v.items) c.in_ok-rows.rows.planes.items in
     unless c.reach_intervals-met.result
     (answers-by (λ m. m) (λ bytes. (planes_reached (way_by k parts) s.rows k.high empty bytes).1)
-    (λ bytes. (samples_reached found (frame_in s.frame.now) s.header.now codings bytes).1)
+    (λ bytes. (samples_reached found (frame_in s.frame.now) s.header.now codings bytes).met)
     c.args.source.now c.reach_intervals-met.new.source c.reach_intervals-met.result
     (reads-marker (found_of s.said.now c.args.decoded.now) (frame_in s.frame.now) s.header.now s
     c.in_ok-coding.coding.scan (map part_in c.in_ok-coding.coding.parts.now)

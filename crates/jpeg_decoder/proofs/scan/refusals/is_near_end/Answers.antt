@@ -1,7 +1,9 @@
 use Rattle.std.proofs.Common.{◌≡◌, ◌∙◌, length, nat_le, refl, true}
 use Rattle.jpeg_bits.specs.Entropy.{marker_from, upcoming}
 use Rattle.jpeg_bits.specs.Reading.{Names}
-use Rattle.jpeg_decoder.proofs.Partial.ReachedBlocks.{if-there, met-near, names-in-memory, on-fault, refused-near}
+use Rattle.jpeg_streams.proofs.Refusals.{told-err}
+use Rattle.jpeg_decoder.proofs.Partial.ReachedBlocks.{met-near, names-in-memory, refused-near}
+use Rattle.jpeg_decoder.proofs.Partial.Refused.{if-there}
 use Rattle.jpeg_decoder.proofs.scan.refusals.is_near_end.Goals as goal
 use Rattle.jpeg_decoder.proofs.scan.refusals.is_near_end.Goals.{in-OutOfMemory, in_default}
 
@@ -23,5 +25,5 @@ returns-after-refusal_in_memory g c =
       | in-OutOfMemory w ↦ rw w.result-is refl
       | in_default w ↦
           rw w.result-is (if-there r (true ≡ nat_le (length t.bits) 56) w.in_default.not-OutOfMemory
-          (on-fault r (marker_from t) names (λ f. refused-near t f c.requires.ahead)))
+          (told-err r (marker_from t) _ names (λ f. refused-near t f c.requires.ahead)))
     ]

@@ -2,7 +2,7 @@ use Rattle.std.proofs.Common.{◌≡◌, ◌∙◌, ap, List, Ok, Option, refl, 
 use Rattle.std.proofs.Common.{sym, true, false, ℕ}
 use Rattle.jpeg_streams.specs.ScanSegments.{once_scanned}
 use Rattle.jpeg_bits.specs.Reading.{Answers}
-use Rattle.jpeg_streams.specs.Brought.{planes_brought, scan_brought}
+use Rattle.jpeg_streams.specs.Brought.{scan_brought}
 use Rattle.jpeg_segments.specs.FrameView.{frame_in}
 use Rattle.jpeg_streams.specs.Found.{Found, Said}
 use Rattle.jpeg_streams.specs.LosslessScans.{LosslessCoding}
@@ -14,8 +14,7 @@ use Rattle.jpeg_decoder.specs.Steps.{turn_of, with_decoded, IsStep}
 use Rattle.jpeg_decoder.specs.declared.stream.state.Step.{Step}
 use Rattle.jpeg_bits.specs.declared.marker.Marker.{Marker}
 use Rattle.jpeg_decoder.specs.Reaching.{sample_codings, samples_reached, UnlessRefused}
-use Rattle.jpeg_streams.specs.WholeRows.{rows_of_planes, rows_of_scan}
-use Rattle.jpeg_decoder.proofs.Partial.ReachedScans.{blocks-count, ended-rows, ended-whole, none-counted, samples-count, Counts}
+use Rattle.jpeg_decoder.proofs.Partial.ReachedScans.{ended-rows, ended-whole, none-counted}
 use Rattle.jpeg_decoder.proofs.Partial.ReachedScans.{blocks-begin, decoded-sound, ended-found, ended-reads, ended-steps}
 use Rattle.jpeg_decoder.proofs.Partial.ReachedScans.{ended-unless, no-codings, no-frame, no-header, no-samples, none-reads}
 use Rattle.jpeg_decoder.proofs.Partial.ReachedScans.{moved, none-stays, samples-begin, BeginsData, Data}
@@ -104,8 +103,9 @@ brings : (g : given.Over) (c : After-reach_samples-reached g)
     let new = c.reach_samples-reached.new.source in
     let r = c.reach_samples-reached.result in
     (d : Data) × BeginsData now d c.args.source.now cur
-    × OnTold cur new r (once_scanned (with_decoded now c.reach_samples-reached.new.decoded) ≡ (d cur.bytes).0)
-    × UnlessRefused r (Answers (λ (m : Option Marker). m) (λ bytes. (d bytes).1) cur r new)
+    × OnTold cur new r (once_scanned (with_decoded now c.reach_samples-reached.new.decoded) ≡ (d cur.bytes).found)
+    × UnlessRefused r (Answers (λ (m : Option Marker). m) (λ bytes. (d bytes).met) cur r new)
+    × OnTold cur new r (c.reach_samples-reached.new.decoded.rows ≡ (d cur.bytes).rows)
 brings g c =
     let now = found_of c.state.inside.said c.state.inside.decoded in
     let cur = c.read_scan_header.new.source in
@@ -122,13 +122,18 @@ brings g c =
       moved given.0 given.1 given.2 (λ s f h. (l : List LosslessCoding)
           → sample_codings s (frame_in f) h ≡ Ok l
           → OnTold cur new r (once_scanned (found_of s c.reach_samples-reached.new.decoded)
-          ≡ (samples_reached (found_of s c.state.inside.decoded) (frame_in f) h l cur.bytes).0))
+          ≡ (samples_reached (found_of s c.state.inside.decoded) (frame_in f) h l cur.bytes).found))
           c.reach_samples-reached.ensures.found codings.0 codings.1,
       moved given.0 given.1 given.2 (λ s f h. (l : List LosslessCoding)
           → sample_codings s (frame_in f) h ≡ Ok l
           → UnlessRefused r (Answers (λ (m : Option Marker). m) (λ bytes. (samples_reached
-          (found_of s c.state.inside.decoded) (frame_in f) h l bytes).1) cur r new))
+          (found_of s c.state.inside.decoded) (frame_in f) h l bytes).met) cur r new))
           c.reach_samples-reached.ensures.answers codings.0 codings.1,
+      moved given.0 given.1 given.2 (λ s f h. (l : List LosslessCoding)
+          → sample_codings s (frame_in f) h ≡ Ok l
+          → OnTold cur new r (c.reach_samples-reached.new.decoded.rows
+          ≡ (samples_reached (found_of s c.state.inside.decoded) (frame_in f) h l cur.bytes).rows))
+          c.reach_samples-reached.ensures.rows codings.0 codings.1,
     )
 
 pub returns-then-eq-clause-reads : goal.returns-then-eq-clause-reads
@@ -138,7 +143,7 @@ returns-then-eq-clause-reads g c =
     let new = c.reach_samples-reached.new.source in
     let v = λ (s : Step). turn_of c.end_reached.new.state s in
     let b = brings g (goal.at.returns-then-eq-clause-reads g c).After-reach_samples-reached in
-    subst (λ (f : Found). UnlessRefused c.end_reached.result (Answers v (λ bytes. (scan_brought f bytes).1)
+    subst (λ (f : Found). UnlessRefused c.end_reached.result (Answers v (λ bytes. (scan_brought f bytes).turn)
     c.args.source.now c.end_reached.result new)) (c.state.view_is ∙ c.widen_tables.ensures)
     (ended-reads v now prev b.0 c.args.source.now c.read_scan_header.new.source new c.reach_samples-reached.result
     c.end_reached.result b.1 refl b.2 b.3 c.end_reached.ensures.step)
@@ -151,38 +156,11 @@ returns-then-eq-clause-found g c =
     let v = λ (s : Step). turn_of c.end_reached.new.state s in
     let b = brings g (goal.at.returns-then-eq-clause-found g c).After-reach_samples-reached in
     subst (λ (f : Found). OnToldRefusal c.args.source.now new c.end_reached.result
-    (f ≡ (scan_brought c.args.state.now c.args.source.now.bytes).0)) (sym c.end_reached.ensures.found)
+    (f ≡ (scan_brought c.args.state.now c.args.source.now.bytes).found)) (sym c.end_reached.ensures.found)
     (subst (λ (f : Found). OnToldRefusal c.args.source.now new c.end_reached.result
-    (once_scanned prev ≡ (scan_brought f c.args.source.now.bytes).0)) (c.state.view_is ∙ c.widen_tables.ensures)
+    (once_scanned prev ≡ (scan_brought f c.args.source.now.bytes).found)) (c.state.view_is ∙ c.widen_tables.ensures)
     (ended-found v now prev b.0 c.args.source.now c.read_scan_header.new.source new c.reach_samples-reached.result
     c.end_reached.result b.1 b.2 c.end_reached.ensures.step))
-
--- the complete rows after the data of a lossless scan
-counted : (g : given.Over) (c : After-reach_samples-reached g)
-    → let now = found_of c.state.inside.said c.state.inside.decoded in
-    let cur = c.read_scan_header.new.source in
-    (expected : Option ℕ) × Counts now c.args.source.now cur expected
-    × OnTold cur c.reach_samples-reached.new.source c.reach_samples-reached.result
-    (c.reach_samples-reached.new.decoded.rows ≡ expected)
-counted g c =
-    let now = found_of c.state.inside.said c.state.inside.decoded in
-    let cur = c.read_scan_header.new.source in
-    let new = c.reach_samples-reached.new.source in
-    let r = c.reach_samples-reached.result in
-    let frame = frame_in c.in_ok-frame.frame.now in
-    let scan = c.in_ok-header.header in
-    let given = c.in_ok-scan.ensures.given in
-    let codings = scan-codings now.said frame scan c.in_ok-scan.scan c.in_ok-scan.ensures.scan
-    c.in_ok-header.ensures.scan in (
-      rows_of_planes frame codings.0 (planes_brought now frame scan codings.0 cur.bytes).0,
-      samples-count now frame scan codings.0 c.args.source.now cur (search rules) (search rules)
-          c.in_ok-header.ensures.answers codings.1,
-      moved given.0 given.1 given.2 (λ s f h. (l : List LosslessCoding)
-          → sample_codings s (frame_in f) h ≡ Ok l
-          → OnTold cur new r (c.reach_samples-reached.new.decoded.rows
-          ≡ rows_of_planes (frame_in f) l (planes_brought (found_of s c.state.inside.decoded) (frame_in f)
-          h l cur.bytes).0)) c.reach_samples-reached.ensures.rows codings.0 codings.1,
-    )
 
 pub returns-then-eq-clause-rows : goal.returns-then-eq-clause-rows
 returns-then-eq-clause-rows g c =
@@ -190,12 +168,12 @@ returns-then-eq-clause-rows g c =
     let prev = with_decoded now c.reach_samples-reached.new.decoded in
     let new = c.reach_samples-reached.new.source in
     let v = λ (s : Step). turn_of c.end_reached.new.state s in
-    let b = counted g (goal.at.returns-then-eq-clause-rows g c).After-reach_samples-reached in
+    let b = brings g (goal.at.returns-then-eq-clause-rows g c).After-reach_samples-reached in
     subst (λ (f : Found). OnToldRefusal c.args.source.now new c.end_reached.result
-    (c.end_reached.new.rows ≡ rows_of_scan f c.args.source.now.bytes)) (c.state.view_is ∙ c.widen_tables.ensures)
-    (ended-rows v now prev c.args.source.now c.read_scan_header.new.source new c.reach_samples-reached.new.decoded.rows
-    c.end_reached.new.rows c.args.rows.now b.0 c.reach_samples-reached.result c.end_reached.result b.1 b.2
-    c.end_reached.ensures.rows c.end_reached.ensures.step)
+    (c.end_reached.new.rows ≡ (scan_brought f c.args.source.now.bytes).rows)) (c.state.view_is ∙ c.widen_tables.ensures)
+    (ended-rows v now prev b.0 c.args.source.now c.read_scan_header.new.source new
+    c.reach_samples-reached.new.decoded.rows c.end_reached.new.rows c.args.rows.now c.reach_samples-reached.result
+    c.end_reached.result b.1 b.4 c.end_reached.ensures.rows c.end_reached.ensures.step)
 
 pub returns-then-eq-clause-whole : goal.returns-then-eq-clause-whole
 returns-then-eq-clause-whole g c =
@@ -284,7 +262,7 @@ returns-clause-reads g c =
     let frame = frame_in c.in_ok-frame.frame.now in
     let scan = c.in_ok-header.header in
     let v = λ (s : Step). turn_of c.end_reached-2.new.state s in
-    subst (λ (f : Found). UnlessRefused c.end_reached-2.result (Answers v (λ bytes. (scan_brought f bytes).1)
+    subst (λ (f : Found). UnlessRefused c.end_reached-2.result (Answers v (λ bytes. (scan_brought f bytes).turn)
     c.args.source.now c.end_reached-2.result c.reach-reached.new.source)) (c.state.view_is ∙ c.widen_tables.ensures)
     (ended-reads v now prev _ c.args.source.now c.read_scan_header.new.source c.reach-reached.new.source
     c.reach-reached.result c.end_reached-2.result
@@ -302,9 +280,9 @@ returns-clause-found g c =
     let scan = c.in_ok-header.header in
     let v = λ (s : Step). turn_of c.end_reached-2.new.state s in
     subst (λ (f : Found). OnToldRefusal c.args.source.now c.reach-reached.new.source c.end_reached-2.result
-    (f ≡ (scan_brought c.args.state.now c.args.source.now.bytes).0)) (sym c.end_reached-2.ensures.found)
+    (f ≡ (scan_brought c.args.state.now c.args.source.now.bytes).found)) (sym c.end_reached-2.ensures.found)
     (subst (λ (f : Found). OnToldRefusal c.args.source.now c.reach-reached.new.source c.end_reached-2.result
-    (once_scanned prev ≡ (scan_brought f c.args.source.now.bytes).0)) (c.state.view_is ∙ c.widen_tables.ensures)
+    (once_scanned prev ≡ (scan_brought f c.args.source.now.bytes).found)) (c.state.view_is ∙ c.widen_tables.ensures)
     (ended-found v now prev _ c.args.source.now c.read_scan_header.new.source c.reach-reached.new.source
     c.reach-reached.result c.end_reached-2.result
     (blocks-begin now frame scan _ _ c.args.source.now c.read_scan_header.new.source (search rules) (search rules)
@@ -320,11 +298,11 @@ returns-clause-rows g c =
     let scan = c.in_ok-header.header in
     let v = λ (s : Step). turn_of c.end_reached-2.new.state s in
     subst (λ (f : Found). OnToldRefusal c.args.source.now c.reach-reached.new.source c.end_reached-2.result
-    (c.end_reached-2.new.rows ≡ rows_of_scan f c.args.source.now.bytes)) (c.state.view_is ∙ c.widen_tables.ensures)
-    (ended-rows v now prev c.args.source.now c.read_scan_header.new.source c.reach-reached.new.source
-    c.reach-reached.new.self.rows c.end_reached-2.new.rows c.args.rows.now _ c.reach-reached.result
+    (c.end_reached-2.new.rows ≡ (scan_brought f c.args.source.now.bytes).rows)) (c.state.view_is ∙ c.widen_tables.ensures)
+    (ended-rows v now prev _ c.args.source.now c.read_scan_header.new.source c.reach-reached.new.source
+    c.reach-reached.new.self.rows c.end_reached-2.new.rows c.args.rows.now c.reach-reached.result
     c.end_reached-2.result
-    (blocks-count now frame scan _ _ c.args.source.now c.read_scan_header.new.source (search rules) (search rules)
+    (blocks-begin now frame scan _ _ c.args.source.now c.read_scan_header.new.source (search rules) (search rules)
     c.in_ok-header.ensures.answers c.in_ok-components.ensures.codings c.pass_of.ensures)
     (c.reach-reached.ensures.rows now (before-said c.said.inside _ _ c.said.view_is refl))
     c.end_reached-2.ensures.rows

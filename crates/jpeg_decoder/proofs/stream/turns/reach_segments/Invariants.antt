@@ -1,12 +1,13 @@
-use Rattle.std.proofs.Common.{◌≡◌, ◌<◌, true, None, is_some}
+use Rattle.std.proofs.Common.{◌≡◌, ◌<◌, false, true, None, is_some}
 use Rattle.jpeg_bits.specs.Reading.{IsShort}
 use Rattle.jpeg_streams.specs.Sound.{IsSound}
-use Rattle.jpeg_decoder.proofs.Partial.BroughtLoops.{IsBrought}
+use Rattle.jpeg_streams.specs.declared.beyond.Beyond.TheVariants.{Nothing}
+use Rattle.jpeg_decoder.proofs.Segments.TurnLoops.{IsWalked}
 use Rattle.jpeg_decoder.proofs.stream.turns.reach_segments.Given as goal
 
 abbrev pub invariant-loop : goal.invariant-loop
 invariant-loop g l = record {
-  brought : IsBrought l.fn.state l.fn.source l.counter l.before l.state l.met l.source;
+  walked : IsWalked Nothing false l.fn.state l.fn.source l.counter l.before l.state l.met l.source;
   short : 0 < l.counter → IsShort l.fn.source;
   stays : is_some l.fn.state.said.frame ≡ true
       → l.state.said.frame ≡ l.fn.state.said.frame;

@@ -1,14 +1,14 @@
-use Rattle.std.proofs.Common.{rules, ◌≡◌, ap, None}
+use Rattle.std.proofs.Common.{rules, ◌≡◌, ap, refl}
 use Rattle.std.proofs.lemmas.Result.{err_from_is_err_and}
 use Rattle.jpeg_bits.specs.declared.marker.Marker.TheVariants.{SOS}
-use Rattle.jpeg_streams.specs.Brought.{scan_brought}
+use Rattle.jpeg_streams.specs.Brought.{scan_brought, unbrought}
 use Rattle.jpeg_streams.specs.Stream.{segment_at}
-use Rattle.jpeg_streams.specs.WholeRows.{rows_of_scan}
+use Rattle.jpeg_streams.specs.declared.beyond.Beyond.TheVariants.{Nothing}
 use Rattle.jpeg_decoder.specs.Reaching.{without_tables}
 use Rattle.jpeg_decoder.specs.Steps.{turn_of}
-use Rattle.jpeg_decoder.proofs.Partial.BroughtLoops.{marked-found, marked-reads, marked-rows, refusal-any, refusal-told}
-use Rattle.jpeg_decoder.proofs.Partial.BroughtLoops.{sound-unless, unless-any, unmarked-found, unmarked-reads, unmarked-rows}
-use Rattle.jpeg_decoder.proofs.Partial.BroughtTurns.{rows-scan, rows-segment, turn-scan, turn-segment}
+use Rattle.jpeg_decoder.proofs.Partial.Refused.{if-refused, refusal-any, refusal-told, sound-unless, unless}
+use Rattle.jpeg_decoder.proofs.Segments.MarkedTurns.{marked-brought, marked-reads, reached-scan, turn-segment}
+use Rattle.jpeg_decoder.proofs.Segments.MarkedTurns.{unmarked-brought, unmarked-reads}
 use Rattle.jpeg_decoder.proofs.stream.turns.reach_turn.Goals as goal
 
 -- ---- no marker
@@ -16,20 +16,20 @@ use Rattle.jpeg_decoder.proofs.stream.turns.reach_turn.Goals as goal
 pub returns-in_err-marker-clause-reads : goal.returns-in_err-marker-clause-reads
 returns-in_err-marker-clause-reads g c =
     let p = err_from_is_err_and c.from_residual.result c.from_residual.ensures.1 in
-    rw (p.1, p.2) (unmarked-reads (turn_of c.args.state.now) c.args.before c.args.state.now c.args.met
-    c.args.source.now c.marker_or_next.new.source _ c.in_err-marker.ensures.answers)
+    rw (p.1, p.2) (if-refused _ (unmarked-reads (turn_of c.args.state.now) Nothing c.args.before c.args.state.now
+    c.args.met c.args.source.now c.marker_or_next.new.source _ c.in_err-marker.ensures.answers))
 
 pub returns-in_err-marker-clause-found : goal.returns-in_err-marker-clause-found
 returns-in_err-marker-clause-found g c =
     let p = err_from_is_err_and c.from_residual.result c.from_residual.ensures.1 in
-    rw (p.1, p.2) (unmarked-found c.args.before c.args.state.now c.args.met c.args.source.now
-    c.marker_or_next.new.source _ c.in_err-marker.ensures.answers)
+    rw (p.1, p.2) (unmarked-brought (λ b. without_tables b.found) _ Nothing c.args.before c.args.state.now c.args.met
+    c.args.source.now c.marker_or_next.new.source _ (λ f. refl) c.in_err-marker.ensures.answers)
 
 pub returns-in_err-marker-clause-rows : goal.returns-in_err-marker-clause-rows
 returns-in_err-marker-clause-rows g c =
     let p = err_from_is_err_and c.from_residual.result c.from_residual.ensures.1 in
-    rw (p.1, p.2) (unmarked-rows c.args.state.now c.args.met c.args.source.now
-    c.marker_or_next.new.source _ c.args.rows.now c.requires.rows c.in_err-marker.ensures.answers)
+    rw (p.1, p.2) (unmarked-brought (λ b. b.rows) _ Nothing c.args.before c.args.state.now c.args.met
+    c.args.source.now c.marker_or_next.new.source _ (λ f. c.requires.rows) c.in_err-marker.ensures.answers)
 
 -- ---- a scan
 
@@ -37,28 +37,29 @@ pub returns-then-eq-clause-reads : goal.returns-then-eq-clause-reads
 returns-then-eq-clause-reads g c =
     let is : c.in_ok-marker.marker ≡ SOS = search rules in
     let found = c.args.state.now in
-    marked-reads (turn_of c.reach_scan.new.state) c.args.before found c.args.met c.args.source.now
+    marked-reads (turn_of c.reach_scan.new.state) Nothing c.args.before found c.args.met c.args.source.now
     c.marker_or_next.new.source c.reach_scan.new.source c.in_ok-marker.marker (scan_brought found) c.reach_scan.result
-    (λ rest e. turn-scan c.args.before found c.args.met c.args.source.now.bytes rest c.in_ok-marker.marker is e)
+    (reached-scan c.args.before found c.args.met c.args.source.now c.in_ok-marker.marker is)
     c.in_ok-marker.ensures.answers c.reach_scan.ensures.reads
 
 pub returns-then-eq-clause-found : goal.returns-then-eq-clause-found
 returns-then-eq-clause-found g c =
     let is : c.in_ok-marker.marker ≡ SOS = search rules in
     let found = c.args.state.now in
-    marked-found c.args.before found c.reach_scan.new.state c.args.met c.args.source.now
-    c.marker_or_next.new.source c.reach_scan.new.source c.in_ok-marker.marker (scan_brought found) c.reach_scan.result _
-    (λ rest e. turn-scan c.args.before found c.args.met c.args.source.now.bytes rest c.in_ok-marker.marker is e)
+    marked-brought (λ b. without_tables b.found) (without_tables c.reach_scan.new.state) Nothing c.args.before found
+    c.args.met c.args.source.now c.marker_or_next.new.source c.reach_scan.new.source c.in_ok-marker.marker
+    (scan_brought found) c.reach_scan.result _
+    (reached-scan c.args.before found c.args.met c.args.source.now c.in_ok-marker.marker is)
     c.in_ok-marker.ensures.answers (λ e. ap without_tables e) c.reach_scan.ensures.found
 
 pub returns-then-eq-clause-rows : goal.returns-then-eq-clause-rows
 returns-then-eq-clause-rows g c =
     let is : c.in_ok-marker.marker ≡ SOS = search rules in
     let found = c.args.state.now in
-    marked-rows found c.args.met c.args.source.now c.marker_or_next.new.source c.reach_scan.new.source
-    c.in_ok-marker.marker (rows_of_scan found) c.reach_scan.new.rows c.reach_scan.result
-    (λ rest e. rows-scan found c.args.met c.args.source.now.bytes rest c.in_ok-marker.marker is e)
-    c.in_ok-marker.ensures.answers c.reach_scan.ensures.rows
+    marked-brought (λ b. b.rows) c.reach_scan.new.rows Nothing c.args.before found c.args.met c.args.source.now
+    c.marker_or_next.new.source c.reach_scan.new.source c.in_ok-marker.marker (scan_brought found) c.reach_scan.result _
+    (reached-scan c.args.before found c.args.met c.args.source.now c.in_ok-marker.marker is)
+    c.in_ok-marker.ensures.answers (λ e. e) c.reach_scan.ensures.rows
 
 -- ---- another segment
 
@@ -66,20 +67,20 @@ pub returns-clause-reads : goal.returns-clause-reads
 returns-clause-reads g c =
     let other : c.in_ok-marker.marker ≡ SOS → ⊥ = search rules in
     let found = c.args.state.now in
-    marked-reads (turn_of c.read_segment.new.state) c.args.before found c.args.met c.args.source.now
+    marked-reads (turn_of c.read_segment.new.state) Nothing c.args.before found c.args.met c.args.source.now
     c.marker_or_next.new.source c.read_segment.new.source c.in_ok-marker.marker
-    (λ bytes. (found, segment_at c.in_ok-marker.marker c.args.before found bytes)) c.read_segment.result
-    (λ rest e. turn-segment c.args.before found c.args.met c.args.source.now.bytes rest c.in_ok-marker.marker other e)
-    c.in_ok-marker.ensures.answers (unless-any c.read_segment.result _ c.read_segment.ensures.reads)
+    (λ bytes. unbrought found (segment_at c.in_ok-marker.marker c.args.before found bytes)) c.read_segment.result
+    (turn-segment Nothing c.args.before found c.args.met c.args.source.now c.in_ok-marker.marker other)
+    c.in_ok-marker.ensures.answers (unless c.read_segment.result c.read_segment.ensures.reads)
 
 pub returns-clause-found : goal.returns-clause-found
 returns-clause-found g c =
     let other : c.in_ok-marker.marker ≡ SOS → ⊥ = search rules in
     let found = c.args.state.now in
-    marked-found c.args.before found c.read_segment.new.state c.args.met c.args.source.now
-    c.marker_or_next.new.source c.read_segment.new.source c.in_ok-marker.marker
-    (λ bytes. (found, segment_at c.in_ok-marker.marker c.args.before found bytes)) c.read_segment.result _
-    (λ rest e. turn-segment c.args.before found c.args.met c.args.source.now.bytes rest c.in_ok-marker.marker other e)
+    marked-brought (λ b. without_tables b.found) (without_tables c.read_segment.new.state) Nothing c.args.before found
+    c.args.met c.args.source.now c.marker_or_next.new.source c.read_segment.new.source c.in_ok-marker.marker
+    (λ bytes. unbrought found (segment_at c.in_ok-marker.marker c.args.before found bytes)) c.read_segment.result _
+    (turn-segment Nothing c.args.before found c.args.met c.args.source.now c.in_ok-marker.marker other)
     c.in_ok-marker.ensures.answers (λ e. e)
     (refusal-told c.marker_or_next.new.source c.read_segment.new.source c.read_segment.result _
     c.read_segment.ensures.kept)
@@ -88,10 +89,11 @@ pub returns-clause-rows : goal.returns-clause-rows
 returns-clause-rows g c =
     let other : c.in_ok-marker.marker ≡ SOS → ⊥ = search rules in
     let found = c.args.state.now in
-    marked-rows found c.args.met c.args.source.now c.marker_or_next.new.source c.read_segment.new.source
-    c.in_ok-marker.marker (λ _. None) c.args.rows.now c.read_segment.result
-    (λ rest e. rows-segment found c.args.met c.args.source.now.bytes rest c.in_ok-marker.marker other e)
-    c.in_ok-marker.ensures.answers
+    marked-brought (λ b. b.rows) c.args.rows.now Nothing c.args.before found c.args.met c.args.source.now
+    c.marker_or_next.new.source c.read_segment.new.source c.in_ok-marker.marker
+    (λ bytes. unbrought found (segment_at c.in_ok-marker.marker c.args.before found bytes)) c.read_segment.result _
+    (turn-segment Nothing c.args.before found c.args.met c.args.source.now c.in_ok-marker.marker other)
+    c.in_ok-marker.ensures.answers (λ e. e)
     (refusal-any c.marker_or_next.new.source c.read_segment.new.source c.read_segment.result _ c.requires.rows)
 
 pub returns-clause-sound : goal.returns-clause-sound

@@ -2,14 +2,15 @@ use Rattle.std.proofs.lemmas.Grind.{common_steps}
 use Rattle.std.proofs.Common.{◌≡◌, ◌∙◌, ◌+◌, ◌<◌, ◌^◌, suc, true, None, Ok, sym, ap, arith, length}
 use Rattle.std.proofs.lemmas.Result.{err_from_is_err_and}
 use Rattle.jpeg_streams.specs.declared.before.Before.TheVariants.{Elsewhere}
-use Rattle.jpeg_streams.specs.Stream.{told_of, turn_at, segments_at, walk}
+use Rattle.jpeg_streams.specs.Stream.{Walked, segments_at, told_of, turn_at, walk}
 use Rattle.jpeg_streams.specs.Reported.{IsOfTurns}
 use Rattle.jpeg_decoder.specs.Steps.{turn_of}
-use Rattle.jpeg_streams.proofs.Written.ReadTurns.{Walked, segments-walked, walk-end, walk-refused}
-use Rattle.jpeg_streams.proofs.Written.ReadTurns.{walk-stop}
+use Rattle.jpeg_streams.specs.declared.beyond.Beyond.TheVariants.{Zeros}
+use Rattle.jpeg_streams.proofs.Written.ReadTurns.{segments-walked, walk-end, walk-stop, walked, walked_to, zeros-refused}
 use Rattle.jpeg_streams.proofs.Refusals.{short-step, told-err, never-met}
 use Rattle.jpeg_decoder.proofs.Segments.Turns.{not-framed, turn-takes}
-use Rattle.jpeg_decoder.proofs.Segments.TurnLoops.{walked-err, walked-on, walked-whole}
+use Rattle.jpeg_decoder.proofs.Segments.TurnLoops.{end-refused, walked-err, walked-on, walked-whole}
+use Rattle.jpeg_decoder.proofs.Segments.TurnLoops.{whole_walk}
 use Rattle.jpeg_decoder.proofs.stream.turns.read_segments.Given.{Over}
 use Rattle.jpeg_decoder.proofs.stream.turns.read_segments.Goals as goal
 use Rattle.jpeg_decoder.proofs.stream.turns.read_segments.Goals.{else-loop-test}
@@ -18,35 +19,38 @@ use Rattle.jpeg_decoder.proofs.stream.turns.read_segments.Goals.{then-loop-test+
 -- ---- a turn that is refused
 
 pub returns-in_err-step-clause-reads : goal.returns-in_err-step-clause-reads
+unfolding segments_at
 returns-in_err-step-clause-reads g c =
     let p = err_from_is_err_and c.from_residual.result c.from_residual.ensures.1 in
-    rw (p.1, p.2) (walked-err (turn_of c.read_turn.new.state) c.args.header c.args.state.now c.args.source.now
-    c.loop.counter c.loop.before c.loop.state c.loop.met c.loop.source c.read_turn.new.source
-    c.read_turn.new.state _ c.loop.invariant.walked (sym c.if-is_read_for.ensures) c.in_err-step.ensures.reads)
+    rw (p.1, p.2) (walked-err (turn_of c.read_turn.new.state) (λ (u : Unit {0}). c.read_turn.new.state) walked_to Zeros
+    c.args.header c.args.state.now c.args.source.now c.loop.counter c.loop.before c.loop.state c.loop.met c.loop.source
+    c.read_turn.new.source _ c.loop.invariant.walked (sym c.if-is_read_for.ensures) (end-refused (λ f rest. (f, rest)))
+    c.in_err-step.ensures.reads)
 
 pub returns-in_err-step-clause-told : goal.returns-in_err-step-clause-told
 returns-in_err-step-clause-told g c =
     let p = err_from_is_err_and c.from_residual.result c.from_residual.ensures.1 in
     let walked = c.loop.invariant.walked in
-    rw (p.1, p.2) (λ k known. told-err _ (turn_at c.loop.before c.loop.state c.loop.met c.loop.source.bytes) _
+    let l = c.loop in
+    rw (p.1, p.2) (λ k known. told-err _ (turn_at Zeros l.before l.state l.met l.source.bytes).turn _
     (c.in_err-step.ensures.reads.1 (walked.known k) known)
-    (λ f h. c.in_err-step.ensures.steps.kept ∙ ap (λ (w : Walked). told_of w.0.said) (sym (walked-whole _ walked
-    (λ n. walk-refused n _ _ _ _ _ f (sym c.if-is_read_for.ensures) h) k))))
+    (λ f h. c.in_err-step.ensures.steps.kept ∙ ap (λ (w : Walked). told_of w.found.said) (sym (walked-whole _ walked
+    (λ n. zeros-refused n _ _ _ _ _ f (sym c.if-is_read_for.ensures) h) k))))
 
 pub returns-in_err-step-clause-turns : goal.returns-in_err-step-clause-turns
 unfolding IsOfTurns walk
 returns-in_err-step-clause-turns g c k = (
   c.loop.counter + 0,
-  c.in_err-step.ensures.steps.kept ∙ ap (λ (w : Walked). told_of w.0.said) (sym (c.loop.invariant.walked.walks k 0)),
+  c.in_err-step.ensures.steps.kept ∙ ap (λ (w : Walked). told_of w.found.said) (sym (c.loop.invariant.walked.walks k 0)),
 )
 
 -- ---- a header that is read
 
 stopped : (g : Over) (c : goal.Then-is_read_for g) → c.args.source.now.known ≡ true
-    → walk (suc (length c.args.source.now.bytes)) c.args.header Elsewhere c.args.state.now None
-    c.args.source.now.bytes ≡ (c.loop.state, Ok c.loop.source.bytes)
+    → whole_walk Zeros c.args.header c.args.state.now c.args.source.now.bytes
+    ≡ walked c.loop.state (Ok c.loop.source.bytes)
 stopped g c k = walked-whole _ c.loop.invariant.walked
-    (λ n. walk-stop (suc n) _ _ _ _ _ (omega arith) (sym c.if-is_read_for.ensures)) k
+    (λ n. walk-stop Zeros (suc n) _ _ _ _ _ (omega arith) (sym c.if-is_read_for.ensures)) k
 
 pub returns-then-is_read_for-clause-reads : goal.returns-then-is_read_for-clause-reads
 returns-then-is_read_for-clause-reads g c =
@@ -54,20 +58,20 @@ returns-then-is_read_for-clause-reads g c =
     (walked.failed, λ k. (walked.known k, segments-walked _ _ _ _ _ _ (stopped g c k)))
 
 pub returns-then-is_read_for-clause-told : goal.returns-then-is_read_for-clause-told
-returns-then-is_read_for-clause-told g c k = ap (λ (w : Walked). told_of w.0.said) (sym (stopped g c k))
+returns-then-is_read_for-clause-told g c k = ap (λ (w : Walked). told_of w.found.said) (sym (stopped g c k))
 
 pub returns-then-is_read_for-clause-turns : goal.returns-then-is_read_for-clause-turns
 unfolding IsOfTurns
-returns-then-is_read_for-clause-turns g c k = (_, ap (λ (w : Walked). told_of w.0.said) (sym (stopped g c k)))
+returns-then-is_read_for-clause-turns g c k = (_, ap (λ (w : Walked). told_of w.found.said) (sym (stopped g c k)))
 
 -- ---- the end of the image
 
 ended : (g : Over) (c : goal.Then-step g) → c.args.source.now.known ≡ true
-    → walk (suc (length c.args.source.now.bytes)) c.args.header Elsewhere c.args.state.now None
-    c.args.source.now.bytes ≡ (c.read_turn.new.state, Ok c.read_turn.new.source.bytes)
+    → whole_walk Zeros c.args.header c.args.state.now c.args.source.now.bytes
+    ≡ walked c.read_turn.new.state (Ok c.read_turn.new.source.bytes)
 ended g c k =
     let walked = c.loop.invariant.walked in
-    walked-whole _ walked (λ n. walk-end n _ _ _ _ _ _ _ (sym c.if-is_read_for.ensures)
+    walked-whole _ walked (λ n. walk-end Zeros n _ _ _ _ _ _ _ (sym c.if-is_read_for.ensures)
     (c.in_ok-step.ensures.reads.1 (walked.known k)).1 c.if-step.true) k
 
 pub returns-then-step-clause-reads : goal.returns-then-step-clause-reads
@@ -77,11 +81,11 @@ returns-then-step-clause-reads g c =
     (read.0 ∙ walked.failed, λ k. ((read.1 (walked.known k)).0, segments-walked _ _ _ _ _ _ (ended g c k)))
 
 pub returns-then-step-clause-told : goal.returns-then-step-clause-told
-returns-then-step-clause-told g c k = ap (λ (w : Walked). told_of w.0.said) (sym (ended g c k))
+returns-then-step-clause-told g c k = ap (λ (w : Walked). told_of w.found.said) (sym (ended g c k))
 
 pub returns-then-step-clause-turns : goal.returns-then-step-clause-turns
 unfolding IsOfTurns
-returns-then-step-clause-turns g c k = (_, ap (λ (w : Walked). told_of w.0.said) (sym (ended g c k)))
+returns-then-step-clause-turns g c k = (_, ap (λ (w : Walked). told_of w.found.said) (sym (ended g c k)))
 
 -- ---- one more turn
 
@@ -89,7 +93,7 @@ pub loop-preserved : goal.loop-preserved
 loop-preserved g c =
     let found = c.loop.state in
     record {
-      walked = walked-on c.args.header c.args.state.now c.args.source.now c.loop.counter c.loop.before found
+      walked = walked-on Zeros c.args.header c.args.state.now c.args.source.now c.loop.counter c.loop.before found
           c.loop.met c.loop.source c.read_turn.new.source (turn_of c.read_turn.new.state c.in_ok-step.step)
           c.loop.invariant.walked (sym c.if-is_read_for.ensures) c.if-step.false c.in_ok-step.ensures.reads;
       short = λ _. short-step c.loop.counter c.loop.met c.loop.source c.args.source.now c.loop.invariant.short
@@ -110,8 +114,9 @@ never g c k =
     elim c.loop-test.branch [
       | else-loop-test w ↦ omega (arith, walked.took k)
       | then-loop-test+else-is_read_for+in_ok-step+else-step+else-counter-lt18446744073709551615 w ↦
-          let less = (turn-takes c.loop.before c.loop.state c.loop.met c.loop.source.bytes _
-          (walked.none k) (w.in_ok-step.ensures.reads.1 (walked.known k)).1 w.if-step.false).0 in
+          let less = turn-takes Zeros c.loop.before c.loop.state c.loop.met c.loop.source.bytes
+          (turn_of w.read_turn.new.state w.in_ok-step.step, w.read_turn.new.source.bytes)
+          (w.in_ok-step.ensures.reads.1 (walked.known k)).1 w.if-step.false in
           omega (arith, walked.took k, less)
     ]
 

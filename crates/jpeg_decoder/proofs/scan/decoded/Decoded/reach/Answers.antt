@@ -13,8 +13,10 @@ use Rattle.jpeg_decoder.specs.Reaching.{kept_after}
 use Rattle.jpeg_decoder.specs.Scanning.{arrays_in, scan_components}
 use Rattle.jpeg_decoder.specs.Steps.{blocks_at, blocks_before, with_decoded, IsBefore}
 use Rattle.jpeg_decoder.proofs.Kept.BlockArrays.{Held}
-use Rattle.jpeg_decoder.proofs.Partial.ReachedData.{kept-all, on-told, reached-answers, reached-as}
-use Rattle.jpeg_decoder.proofs.Partial.ReachedData.{reached-found, rows-as, taken-sized, unless, whole-after}
+use Rattle.jpeg_decoder.proofs.Partial.ReachedData.{kept-all, reached-answers, reached-as}
+use Rattle.jpeg_decoder.proofs.Partial.Refused.{on-told}
+use Rattle.jpeg_decoder.proofs.Partial.ReachedData.{reached-found, rows-as, taken-sized, whole-after}
+use Rattle.jpeg_decoder.proofs.Partial.Refused.{unless}
 use Rattle.jpeg_decoder.proofs.Scans.ScanData.{arrays-by-sizes, arrays-whole, before-as, coded-within-kept}
 use Rattle.jpeg_decoder.proofs.Scans.ScanData.{of-frame, rising-codings}
 use Rattle.jpeg_decoder.proofs.scan.decoded.Decoded.reach.Given as given
@@ -104,7 +106,7 @@ returns-clause-found g c base b =
     (record c.keep.new.self { kept = c.take_blocks.new.kept }) c.add_arrays.new.self
     (arrays_in c.keep_blocks.new.kept.items) c.in_ok-add_arrays.ensures.planes c.in_ok-keep.ensures.finished
     (ap (λ p. p) c.in_ok-keep.ensures.planes) (ap planes_in c.in_ok-keep.ensures.samples)
-    (held-by g at.After-keep_blocks base b) (is ∙ ap (λ r. r.0) same))
+    (held-by g at.After-keep_blocks base b) (is ∙ ap (λ r. r.reached) same))
     c.reach_blocks-met.ensures.arrays
 
 pub returns-clause-rows : goal.returns-clause-rows

@@ -1,0 +1,36 @@
+use Rattle.std.proofs.Common.{rules, ◌≡◌}
+use Rattle.std.proofs.lemmas.Result.{err_from_is_err_and}
+use Rattle.jpeg_bits.specs.declared.marker.Marker.TheVariants.{SOS}
+use Rattle.jpeg_streams.specs.Brought.{unbrought}
+use Rattle.jpeg_streams.specs.ScanSegments.{scan_segment}
+use Rattle.jpeg_streams.specs.Stream.{segment_at}
+use Rattle.jpeg_streams.specs.declared.beyond.Beyond.TheVariants.{Zeros}
+use Rattle.jpeg_decoder.specs.Steps.{turn_of}
+use Rattle.jpeg_decoder.proofs.Segments.MarkedTurns.{marked-answers, turn-segment, unmarked-reads, whole-scan}
+use Rattle.jpeg_decoder.proofs.stream.turns.read_turn.Goals as goal
+
+pub returns-in_err-marker-clause-reads : goal.returns-in_err-marker-clause-reads
+returns-in_err-marker-clause-reads g c =
+    let p = err_from_is_err_and c.from_residual.result c.from_residual.ensures.1 in
+    rw (p.1, p.2) (unmarked-reads (turn_of c.args.state.now) Zeros c.args.before c.args.state.now
+    c.args.met c.args.source.now c.marker_or_next.new.source _ c.in_err-marker.ensures.answers)
+
+pub returns-then-eq-clause-reads : goal.returns-then-eq-clause-reads
+returns-then-eq-clause-reads g c =
+    let is : c.in_ok-marker.marker ≡ SOS = search rules in
+    let found = c.args.state.now in
+    marked-answers (turn_of c.read_scan.new.state) Zeros c.args.before found c.args.met c.args.source.now
+    c.marker_or_next.new.source c.read_scan.new.source c.in_ok-marker.marker
+    (λ bytes. unbrought found (scan_segment found bytes)) c.read_scan.result
+    (whole-scan c.args.before found c.args.met c.args.source.now c.in_ok-marker.marker is)
+    c.in_ok-marker.ensures.answers c.read_scan.ensures.reads
+
+pub returns-clause-reads : goal.returns-clause-reads
+returns-clause-reads g c =
+    let other : c.in_ok-marker.marker ≡ SOS → ⊥ = search rules in
+    let found = c.args.state.now in
+    marked-answers (turn_of c.read_segment.new.state) Zeros c.args.before found c.args.met c.args.source.now
+    c.marker_or_next.new.source c.read_segment.new.source c.in_ok-marker.marker
+    (λ bytes. unbrought found (segment_at c.in_ok-marker.marker c.args.before found bytes)) c.read_segment.result
+    (turn-segment Zeros c.args.before found c.args.met c.args.source.now c.in_ok-marker.marker other)
+    c.in_ok-marker.ensures.answers c.read_segment.ensures.reads
