@@ -109,10 +109,10 @@ def expected():
     # (the last one is the stream of frames)
     yield "docs/TRUST.md", r"([\d,]+) files and a\s+stream", sum(map(int, counts)) - 1
     gate = text("docs/GATE.md")
-    first = re.search(r"fresh\s+clone.*?took\s+(\d+)\s+minutes", gate, re.S)[1]
+    first = re.search(r"In all it takes some (\d+) minutes", gate, re.S)[1]
     yield "README.md", r"proves it first: (\d+) minutes", first
     yield "README.md", r"info examples/rocket.jpg` \| (\d+) minutes", first
-    whole = re.search(r"takes (\d+ to \d+) minutes\s+with 4", gate)[1]
+    whole = re.search(r"takes (\d+ to \d+)\s+minutes\s+with 4", gate)[1]
     yield "README.md", r"`./test` \| (\d+ to \d+) minutes on 4", whole
     for crate in ("parts_callers", "decoder_callers", "zaxbriar_callers"):
         yield "docs/GATE.md", rf"`{crate}` with (\d+) edits", edits(crate)
