@@ -12,4 +12,5 @@ pub mod RowIntervals
 pub mod ShownParts
 pub mod ShownFaults
 pub mod ShownRows
+pub mod ShownTold
 pub mod ShownLines

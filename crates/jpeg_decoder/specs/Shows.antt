@@ -9,10 +9,12 @@ use Rattle.jpeg_segments.specs.Frame.{Component, Frame}
 use Rattle.jpeg_segments.specs.declared.frame.CodingProcess.{CodingProcess}
 use Rattle.jpeg_segments.specs.declared.frame.CodingProcess.TheVariants.{Lossless}
 use Rattle.jpeg_streams.specs.EndPlanes.{is_kept}
-use Rattle.jpeg_streams.specs.Found.{Found}
+use Rattle.jpeg_streams.specs.Found.{Found, nothing_found, nothing_said}
 use Rattle.jpeg_streams.specs.Shown.{Shown, shown_ahead}
-use Rattle.jpeg_streams.specs.States.{Decoding, IfRefused, IsReading, MovesToEnd}
-use Rattle.jpeg_streams.specs.Stream.{Told, told_of}
+use Rattle.jpeg_streams.specs.States.{Decoding, IfRefused, IsReading, MovesToEnd, OnToldRefusal}
+use Rattle.jpeg_streams.specs.Stream.{Told, all_brought, start_at, told_of}
+use Rattle.jpeg_streams.specs.declared.progress.Progress.{Progress}
+use Rattle.jpeg_streams.specs.declared.progress.Progress.TheVariants.{Fresh}
 use Rattle.jpeg_decoder.specs.Reaching.{NamesFault}
 
 -- Whether scans gave what the picture needs of a component: samples; or a plane, or else blocks
@@ -52,6 +54,21 @@ abbrev pub CountsRows : {X : Type 0} → (X → ℕ) → (List ℕ → ℕ) → 
 CountsRows rows_of expected old result new =
     old.known ≡ true → new.known ≡ true → IfOk result (λ x. rows_of x ≡ expected old.bytes)
 
+-- What has been said up to the first fault, or the end: by the rest of a stream after its start or
+-- its header, by a stream, and by what lies ahead of a decoder.
+abbrev pub told_shown_rest : Found → List ℕ → Told
+told_shown_rest found bytes = told_of (all_brought found bytes).found.said
+
+unfoldable pub told_shown : List ℕ → Told
+told_shown bytes = elim (start_at bytes) [
+  | Ok start ↦ told_shown_rest nothing_found start.1
+  | Err fault ↦ told_of nothing_said
+]
+
+abbrev pub told_shown_ahead : Progress → Found → List ℕ → Told
+told_shown_ahead Fresh found bytes = told_shown bytes
+told_shown_ahead _ found bytes = told_shown_rest found bytes
+
 pub record Shows {X : Type 0} (bytes_of : X → List ℕ) (fault_of : X → Option Error) (old : Decoding)
     (result : Result X Error) (new : Decoding) : Type 0 where
   -- The state table: an Ok finishes the decoder, a refusal fails it.
@@ -60,6 +77,9 @@ pub record Shows {X : Type 0} (bytes_of : X → List ℕ) (fault_of : X → Opti
   -- name of that fault, or why there is no picture.
   pub shown : IsReading old.stage → ShowsJust (shown_ahead old.stage old.settings old.found)
       bytes_of fault_of old.source result new.source (told_of new.found.said)
+  -- After a refusal, too, a caller is given what the segments up to the first fault have said.
+  pub told : IsReading old.stage → OnToldRefusal old.source new.source result
+      (told_of new.found.said ≡ told_shown_ahead old.stage old.found old.source.bytes)
   -- A caller can tell whether the reader was given up.
   pub given_up : IsReading old.stage → GivesUp fault_of old.source result new.source
   -- No blocks, planes or samples are kept.

@@ -15,12 +15,13 @@ ghost use Rattle.jpeg_streams.specs.Shown.{rows_of_found, whole_rows, whole_rows
 ghost use Rattle.jpeg_streams.specs.Shown.{shown_by, shown_of, shown_rest, table_held};
 ghost use Rattle.jpeg_streams.specs.Shown.{with_plane_shown, with_samples_shown};
 ghost use Rattle.jpeg_streams.specs.Sound.{HasDecodedFrame, IsDecodedFrame, IsSound};
-ghost use Rattle.jpeg_streams.specs.States.{IsOfBytes};
+ghost use Rattle.jpeg_streams.specs.States.{IsOfBytes, OnToldRefusal};
 ghost use Rattle.jpeg_streams.specs.Stream.{told_of};
 ghost use Rattle.jpeg_decoder.specs.Bytes.{AreLinesOf, IsWhole, shape_of};
 ghost use Rattle.jpeg_decoder.specs.Reaching.{NamesFault, is_out_of_memory};
 ghost use Rattle.jpeg_decoder.specs.Scanning.{arrays_in};
 ghost use Rattle.jpeg_decoder.specs.Shows.{CountsRows, GivesUp, IsShown, ShowsJust, is_there};
+ghost use Rattle.jpeg_decoder.specs.Shows.{told_shown, told_shown_rest};
 ghost use Rattle.jpeg_decoder.specs.Steps.{with_decoded};
 
 use crate::picture::lines::Lines;
@@ -309,6 +310,8 @@ fn show_rest<R: Read + Drop>(
         (λ p. concat p.lines) (λ p. p.fault) source.old result source.new (told_of state.new.said) }
     ensures rows { CountsRows (λ p. p.whole_rows) (whole_rows_rest state.old)
         source.old result source.new }
+    ensures told { OnToldRefusal source.old source.new result (told_of state.new.said
+        ≡ told_shown_rest state.old source.old.bytes) }
     ensures given_up { GivesUp (λ p. p.fault) source.old result source.new }
     ensures refused { IfErr result IsOfBytes }
     ensures framed { IfOk result (λ _. is_some state.new.said.frame ≡ true) }
@@ -354,6 +357,10 @@ pub fn show<R: Read + Drop>(
         (whole_rows_rest state.old) source.old result source.new }
     ensures rest { from_start ≡ false → ShowsJust (shown_rest settings state.old)
         (λ p. concat p.lines) (λ p. p.fault) source.old result source.new (told_of state.new.said) }
+    ensures told { from_start ≡ true → OnToldRefusal source.old source.new result
+        (told_of state.new.said ≡ told_shown source.old.bytes) }
+    ensures rest_told { from_start ≡ false → OnToldRefusal source.old source.new result
+        (told_of state.new.said ≡ told_shown_rest state.old source.old.bytes) }
     ensures given_up { GivesUp (λ p. p.fault) source.old result source.new }
     ensures refused { IfErr result IsOfBytes }
     ensures framed { IfOk result (λ _. is_some state.new.said.frame ≡ true) }

@@ -10,6 +10,7 @@ use Rattle.jpeg_decoder.proofs.LosslessFrames.LosslessReads.{on-ok}
 use Rattle.jpeg_decoder.proofs.Pictures.PictureSizes.{lines-whole}
 use Rattle.jpeg_decoder.proofs.Partial.ShownFaults.{ended-bytes, rest-given-up, rest-shown, then-holds}
 use Rattle.jpeg_decoder.proofs.Partial.ShownRows.{rest-counted}
+use Rattle.jpeg_decoder.proofs.Partial.ShownTold.{rest-told}
 use Rattle.jpeg_decoder.proofs.picture.partial.show_rest.Given as given
 use Rattle.jpeg_decoder.proofs.picture.partial.show_rest.Goals.{After-show_found}
 use Rattle.jpeg_streams.specs.Stream.{all_brought}
@@ -49,6 +50,14 @@ returns-clause-rows g c =
     c.reach_segments-ended.ensures.rows
     (ap (λ (d : Decoded). found_of c.state.inside.said d) c.replace-decoded.ensures.value ∙ c.state.view_is)
     c.show_found.ensures.rows
+
+pub returns-clause-told : goal.returns-clause-told
+returns-clause-told g c =
+    rest-told {X = PartialLines} c.args.state.now c.reach_segments-ended.new.state
+    (found_of c.state.inside.said c.replace-decoded.result) c.args.source.now
+    c.reach_segments-ended.new.source c.reach_segments-ended.result c.show_found.result
+    (c.is_lost.ensures.memory c.if-is_lost.false) c.reach_segments-ended.ensures.found
+    (ap (λ (d : Decoded). found_of c.state.inside.said d) c.replace-decoded.ensures.value ∙ c.state.view_is)
 
 pub returns-clause-given_up : goal.returns-clause-given_up
 returns-clause-given_up g c =
