@@ -1,4 +1,4 @@
--- What the decoder's own clauses need where a scan is read as far as it goes.
+-- What the decoder's own clauses need where a scan is read up to its first fault.
 use Rattle.std.specs.Prelude.{◌≡◌, ℕ, zero, suc, List, [], ◌∷◌, ◌++◌, drop, length, map, nat_le}
 use Rattle.std.specs.Prelude.{Bool, Result, Ok, Err, Option, Some, None, ◌*◌, ◌-◌, ◌⊎◌, ◌==◌}
 use Rattle.std.specs.Prelude.{true, false, if◌then◌else◌, IsErrAnd, IsOkAnd, get_or, slice_index_or}
@@ -91,7 +91,7 @@ IsRefusalAt ended reached failed result = ((result ≡ ended) × IsGivenUp ended
     ⊎ ((IsGivenUp ended failed → ⊥) × (result ≡ first_of ended reached))
 
 -- The error of a block or a row in data that a marker ends.
-pub record IsBefore (e result : Error) : Type 0 where
+pub record IsAtMarker (e result : Error) : Type 0 where
   pub names : (expected : Result (List Bool) Fault) (m : Marker) (rest : List ℕ)
       → Names e expected → Names result (or_fault_at (entropy.Found m rest) expected)
   pub memory : e ≡ OutOfMemory → result ≡ OutOfMemory
@@ -100,7 +100,7 @@ pub record IsBefore (e result : Error) : Type 0 where
 abbrev pub IsIntervalEnd : Result Marker Error → Result Bool Error → Bool
     → Result (Bool × Marker) Error → Type 0
 IsIntervalEnd (Ok m) (Ok is_near) failed result = result ≡ Ok (is_near, m)
-IsIntervalEnd (Ok m) (Err e) failed result = IsErrAnd result (IsBefore e)
+IsIntervalEnd (Ok m) (Err e) failed result = IsErrAnd result (IsAtMarker e)
 IsIntervalEnd (Err ended) reached failed result =
     IsErrAnd result (IsRefusalAt ended reached failed)
 
@@ -132,7 +132,7 @@ walk_end w = w.rest >>= λ rest. Ok (tt, rest)
 
 -- ---- a scan
 
--- What stands after a scan whose data were read as far as they go, by what these gave.
+-- What stands after a scan whose data were read up to their first fault, by what these gave.
 abbrev pub IsEndOf : Found → (Step → Turn) → Result (Option Marker) Error → Result Step Error
     → Type 0
 IsEndOf old view (Ok met) result = IsOkAnd result (λ step. view step ≡ record {
@@ -150,8 +150,8 @@ rows_after (Err e) old rows = rows
 
 -- the blocks that are kept after a scan, of those that are left beside it, by whether the frame is
 -- progressive
-abbrev pub kept_after : Bool → List Coding → Arrays → Arrays → Arrays
-kept_after is_kept codings arrays left = if is_kept then put_arrays codings arrays left else []
+abbrev pub kept_beside : Bool → List Coding → Arrays → Arrays → Arrays
+kept_beside is_kept codings arrays left = if is_kept then put_arrays codings arrays left else []
 
 -- What the data of a scan bring up to their first fault: what is found, the complete rows of the
 -- picture where some lack, and the marker after them, or the fault.

@@ -27,7 +27,7 @@ use Rattle.jpeg_streams.proofs.Order.McuRows.{arrays-sized, kept-sized}
 use Rattle.jpeg_decoder.specs.declared.scan.coded.Coded.{Coded}
 use Rattle.jpeg_decoder.specs.declared.scan.decoded.Decoded.{Decoded}
 use Rattle.jpeg_decoder.specs.PlanesView.{planes_in}
-use Rattle.jpeg_decoder.specs.Reaching.{data_reached, kept_after, UnlessRefused}
+use Rattle.jpeg_decoder.specs.Reaching.{data_reached, kept_beside, UnlessRefused}
 use Rattle.jpeg_decoder.specs.Scanning.{arrays_in, scan_components, scan_vias, sizes_of, BlockScan}
 use Rattle.jpeg_decoder.specs.Steps.{blocks_at, blocks_before, coding_in, with_decoded, without_blocks}
 use Rattle.jpeg_decoder.specs.Steps.{AreRising, IsCodingOf}
@@ -144,10 +144,10 @@ pub kept-all : (is_kept : Bool) (frame : Frame) (codings : List Coding) (seen : 
     → map coding_in seen ≡ codings → arrays_in kept ≡ before
     → arrays_in taken ≡ blocks_at (map coding_in seen) (arrays_in kept)
     → arrays_in left ≡ without_blocks (map coding_in seen) (arrays_in kept) → sizes_of arrays ≡ sizes_of taken
-    → arrays_in put ≡ kept_after is_kept (map coding_in seen) (arrays_in arrays) (arrays_in left)
+    → arrays_in put ≡ kept_beside is_kept (map coding_in seen) (arrays_in arrays) (arrays_in left)
     → AllByRecursion (IsCodingOf frame) codings → AreRising codings
     → AreArrays frame.components before
-    → (arrays_in put ≡ kept_after is_kept codings (arrays_in arrays) before)
+    → (arrays_in put ≡ kept_beside is_kept codings (arrays_in arrays) before)
     × (is_kept ≡ true → AreArrays frame.components (arrays_in put))
 kept-all true frame codings seen kept left taken arrays put before d k t l s h of rising whole =
     let all = put-all frame codings seen kept left taken arrays put before d k t l s h of rising whole in

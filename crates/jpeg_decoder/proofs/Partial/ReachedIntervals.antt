@@ -19,7 +19,7 @@ use Rattle.jpeg_streams.specs.InTurn.{at_start}
 use Rattle.jpeg_streams.specs.Order.{Spot}
 use Rattle.jpeg_streams.specs.Scans.{Arrays}
 use Rattle.jpeg_streams.specs.States.{IfRefused, OnTold}
-use Rattle.jpeg_decoder.specs.Reaching.{HasBits, IsBefore, IsIntervalEnd, IsOfData, IsRefusalAt, TellsLeft}
+use Rattle.jpeg_decoder.specs.Reaching.{HasBits, IsAtMarker, IsIntervalEnd, IsOfData, IsRefusalAt, TellsLeft}
 use Rattle.jpeg_decoder.specs.Reaching.{UnlessRefused, first_of}
 use Rattle.jpeg_decoder.proofs.Partial.Refused.{if-refused, if-refused-as}
 use Rattle.jpeg_decoder.proofs.Partial.ReachedBlocks.{Read, read-alike}
@@ -96,7 +96,7 @@ marker-ok r e near m rest t h =
     ∙ ap (λ (b : Bool). Ok ((b, Some m), rest)) (sym t.2)
 
 marker-names : (e result : Error) (r : Result (List Bool) Fault) (end : Ending) (m : Marker) (rest : List ℕ)
-    → IsBefore e result → Names e r → met end ≡ Ok (Some m, rest) → Names result (outcome_by r end)
+    → IsAtMarker e result → Names e r → met end ≡ Ok (Some m, rest) → Names result (outcome_by r end)
 marker-names e result r end m rest before n h =
     let is = still-found end m rest h in
     subst (λ (x : Ending). Names result (outcome_by r x)) (sym is)
@@ -288,7 +288,7 @@ inner-answers : (outcome : List ℕ → Outcome (Bool × Option Marker)) (r : Re
     (old new : Stream) (m : Marker) (e result : Error) → IsReadBy outcome r front old.bytes
     → Answers {X = Marker} (λ m. Some m) end_of old (Ok m) new
     → (old.known ≡ true → HasBits front (text_at old.bytes))
-    → Names e r → IsBefore e result
+    → Names e r → IsAtMarker e result
     → Answers {X = Bool × Marker} shown outcome old (Err result) new
 inner-answers outcome r front old new m e result by a b n before = (
   named-may-fail result (or_fault_at (entropy.Found m new.bytes) r) old.failed new.failed a.0
@@ -302,7 +302,7 @@ inner-answers outcome r front old new m e result by a b n before = (
 
 inner-found : {P Q : Type 0} (front : List ℕ) (old new : Stream) (e result : Error)
     → (old.known ≡ true → HasBits front (text_at old.bytes)) → (HasBits front (text_at old.bytes) → P → Q)
-    → IfRefused e P → IsBefore e result → OnTold {X = Bool × Marker} old new (Err result) Q
+    → IfRefused e P → IsAtMarker e result → OnTold {X = Bool × Marker} old new (Err result) Q
 inner-found {P} {Q} front old new e result b goes u before =
     λ k l. if-memory e result Q before.memory (if-refused-as e (goes (b k)) u)
 

@@ -284,8 +284,8 @@ fn show_found(
     })
 }
 
-/// Returns whether segments ended for lack of memory, or since a read was interrupted without end,
-/// which nobody could tell once the picture is refused.
+/// Returns whether segments ended for lack of memory, or because reads were interrupted forever:
+/// once the picture is refused, a caller could no longer tell.
 fn is_lost(ended: &Result<()>) -> bool
     ensures memory { result ≡ false → is_out_of_memory ended.now ≡ false }
     ensures interrupted { result ≡ false → IfErr ended.now (λ e. IsGivenUp e false → ⊥) }
@@ -297,8 +297,8 @@ fn is_lost(ended: &Result<()>) -> bool
     }
 }
 
-/// Reads the rest of a stream as far as it goes, and returns the lines of the picture that it has
-/// brought, how many of them are complete, and its first fault. No blocks or planes are kept.
+/// Reads the rest of a stream up to its first fault, and returns the lines of the picture that it
+/// has brought, how many of them are complete, and its first fault. No blocks or planes are kept.
 fn show_rest<R: Read + Drop>(
     alloc: Global,
     source: &mut Source<R>,
@@ -334,9 +334,9 @@ fn show_rest<R: Read + Drop>(
     show_found(alloc, state, &mut decoded, settings, ended.err(), rows)
 }
 
-/// Reads a stream, or the rest of one after its header, as far as it goes, and returns the lines of
-/// the picture that it has brought, how many of them are complete, and its first fault. No blocks
-/// or planes are kept.
+/// Reads a stream, or the rest of one after its header, up to its first fault, and returns the
+/// lines of the picture that it has brought, how many of them are complete, and its first fault. No
+/// blocks or planes are kept.
 ///
 /// The error is the fault if the stream has no frame, `Format` if the picture is above the limit or
 /// the transform doesn't fit it, and out of memory.

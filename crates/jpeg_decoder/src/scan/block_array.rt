@@ -4,7 +4,7 @@ ghost use Rattle.jpeg_decoder.specs.Scanning.{arrays_in, sizes_of, IsFull};
 
 use std::alloc::{AllocError, Global};
 
-/// How many blocks are stored at a time from one that is reached on, where so many are left.
+/// How many blocks are stored at once, from the one that is asked for on, as far as there are any.
 const STEP: usize = 64;
 
 /// The blocks of a component in raster order, their coefficients in block order: the first ones,

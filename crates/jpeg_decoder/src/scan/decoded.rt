@@ -16,7 +16,7 @@ ghost use Rattle.jpeg_streams.specs.ScanSegments.{put_arrays, finished_by, is_pr
 ghost use Rattle.jpeg_streams.specs.Found.{none_finished};
 ghost use Rattle.jpeg_decoder.specs.Steps.{blocks_at, coding_in, without_blocks, IsInOrder};
 ghost use Rattle.jpeg_bits.specs.Passes.{whole_pass};
-ghost use Rattle.jpeg_decoder.specs.Reaching.{is_out_of_memory, kept_after};
+ghost use Rattle.jpeg_decoder.specs.Reaching.{is_out_of_memory, kept_beside};
 
 use crate::scan::block_array::BlockArray;
 use crate::scan::coded::{Coded, Scan, is_progressive, is_whole};
@@ -47,7 +47,7 @@ pub struct Decoded {
     pub planes: Planes,
     /// The samples of a lossless frame's components, line by line.
     pub samples: [Option<Vec<u16>>; 4],
-    /// Where the last scan was read as far as it goes, and has a fault: how many rows of the
+    /// Where the last scan was read up to its first fault, and has one: how many rows of the
     /// picture lie above the first block that wasn't read, or are of whole lines of samples.
     pub rows: Option<u16>,
 }
@@ -186,7 +186,7 @@ fn keep_blocks(
 )
     requires count { length arrays.old.items ≡ length codings.now }
     requires indices { All (λ c. c.index < length kept.old.items) codings.now }
-    ensures { arrays_in kept.new.items ≡ kept_after (is_progressive (frame_in frame.now).process)
+    ensures { arrays_in kept.new.items ≡ kept_beside (is_progressive (frame_in frame.now).process)
         (map coding_in codings.now) (arrays_in arrays.old.items) (arrays_in kept.old.items) }
 {
     if is_progressive(frame.coding_process) {
@@ -562,7 +562,7 @@ impl Decoded {
         Ok(reached)
     }
 
-    /// Reads a scan of blocks as far as it goes, and returns the marker after it and after the
+    /// Reads a scan of blocks up to its first fault, and returns the marker after it and after the
     /// restart markers at its end, if one was reached. After an error other than out of memory
     /// the blocks count that were read before it.
     ///

@@ -175,7 +175,7 @@ pub fn read_lossless_scan<R: Read + Drop>(
     Ok(met)
 }
 
-/// A lossless scan that is to be read as far as it goes.
+/// A lossless scan that is to be read up to its first fault.
 #[derive(Drop)]
 pub struct SampleScan<'a> {
     /// What was said before it.

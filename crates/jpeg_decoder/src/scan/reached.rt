@@ -2,7 +2,7 @@
 //! E.2.4).
 //!
 //! The data of a restart interval are gathered up to the marker that ends them, and blocks are read
-//! of them alone: no zeros follow where the marker stands. `decode` never runs this.
+//! from them alone: no zeros follow where the marker stands. `decode` never runs this.
 ghost use Rattle.std.specs.Prelude.{◌≡◌, ◌≤◌, ◌*◌, Some, length, OnOk, option_map, slice_get};
 ghost use Rattle.std.specs.Prelude.{true};
 ghost use Rattle.std.specs.List.{AllByRecursion};
@@ -126,7 +126,7 @@ fn reach_spots(
     is_near_end(&mut decoder, &mut source)
 }
 
-/// Reads the next interval, of `n` blocks or of all if `n` is 0, as far as it goes, and returns
+/// Reads the next interval, of `n` blocks or of all if `n` is 0, up to its first fault, and returns
 /// whether at most 56 bits are left after its blocks, and the marker that ends it.
 fn reach_interval<R: Read + Drop>(
     alloc: Global,
@@ -157,9 +157,10 @@ fn reach_interval<R: Read + Drop>(
     interval_end(alloc, ended, reached, source.has_failed())
 }
 
-/// Reads the blocks at some spots as far as they go, in restart intervals of `n` blocks, or in one
-/// where `n` is 0, and returns the marker after them, if it was reached, and after the restart
-/// markers at their end. The spots that are left begin with the first whose block wasn't read.
+/// Reads the blocks at some spots up to their first fault, in restart intervals of `n` blocks, or
+/// in one where `n` is 0, and returns the marker after them, if it was reached, and after the
+/// restart markers at their end. The spots that are left begin with the first whose block wasn't
+/// read.
 fn reach_intervals<R: Read + Drop>(
     alloc: Global,
     source: &mut Source<R>,
@@ -198,7 +199,7 @@ fn reach_intervals<R: Read + Drop>(
     }
 }
 
-/// Reads a scan of a frame as far as it goes on the blocks of its components, and returns the
+/// Reads a scan of a frame up to its first fault on the blocks of its components, and returns the
 /// marker after it, if it was reached, and after the restart markers at its end.
 ///
 /// After an error other than out of memory the blocks before the one that it is about are there.

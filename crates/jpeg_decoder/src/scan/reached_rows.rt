@@ -66,8 +66,8 @@ fn reach_rows(
     }
 }
 
-/// Reads the next interval, of `count` rows of MCUs, as far as it goes, and returns whether at most
-/// 56 bits are left after its rows, and the marker that ends it.
+/// Reads the next interval, of `count` rows of MCUs, up to its first fault, and returns whether at
+/// most 56 bits are left after its rows, and the marker that ends it.
 fn reach_interval<R: Read + Drop>(
     alloc: Global,
     source: &mut Source<R>,
@@ -91,9 +91,9 @@ fn reach_interval<R: Read + Drop>(
     interval_end(alloc, ended, reached, source.has_failed())
 }
 
-/// Reads the intervals of a scan as far as they go, each of `n` rows of MCUs and the last of those
-/// that are left. Returns the marker after them, if it was reached, and after the restart markers
-/// at their end.
+/// Reads the intervals of a scan up to their first fault, each of `n` rows of MCUs and the last of
+/// those that are left. Returns the marker after them, if it was reached, and after the restart
+/// markers at their end.
 fn reach_intervals<R: Read + Drop>(
     alloc: Global,
     source: &mut Source<R>,
@@ -132,8 +132,8 @@ fn reach_intervals<R: Read + Drop>(
     }
 }
 
-/// Reads the data of a lossless scan as far as they go, and returns the marker after it and after
-/// the restart markers at its end, if one was reached.
+/// Reads the data of a lossless scan up to their first fault, and returns the marker after it and
+/// after the restart markers at its end, if one was reached.
 ///
 /// The rows of MCUs that were read replace the first samples of its components, also after an error
 /// other than out of memory. What lacks is as before, or half of the range of samples.

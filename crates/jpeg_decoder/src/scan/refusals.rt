@@ -1,11 +1,11 @@
-//! Refusals where the data of a restart interval are read from memory as far as they go (T.81,
-//! E.2.4).
+//! Refusals where the data of a restart interval are read from memory up to their first fault
+//! (T.81, E.2.4).
 ghost use Rattle.std.specs.Prelude.{◌≡◌, false, length, MatchResult, nat_le, true};
 ghost use Rattle.jpeg_bits.specs.Entropy.{upcoming};
 ghost use Rattle.jpeg_bits.specs.Reading.{IsGivenUp};
 ghost use Rattle.jpeg_bits.specs.declared.error.Error.TheVariants.{OutOfMemory};
 ghost use Rattle.jpeg_streams.specs.States.{IfRefused};
-ghost use Rattle.jpeg_decoder.specs.Reaching.{IsAhead, IsBefore, IsIntervalEnd, IsRefusalAt};
+ghost use Rattle.jpeg_decoder.specs.Reaching.{IsAhead, IsAtMarker, IsIntervalEnd, IsRefusalAt};
 
 use jpeg_bits::error::{Error, Result, format_error};
 use jpeg_bits::huffman::HuffmanDecoder;
@@ -61,7 +61,7 @@ pub fn is_near_end<R: Read + Drop>(
 /// Returns the refusal of a block or a row in data that a marker ends. Where bits are lacking, the
 /// marker stands in their place.
 fn refusal_before(alloc: Global, error: Error) -> Error
-    ensures { IsBefore error result }
+    ensures { IsAtMarker error result }
 {
     match error {
         Error::Io(_) => format_error(alloc, "found a marker, expected more bits"),
@@ -86,8 +86,8 @@ fn refusal_at(ended: Error, reached: Result<bool>, has_failed: bool) -> Error
     }
 }
 
-/// Returns the end of an interval whose data have ended, and were read as far as they go: whether
-/// at most 56 bits are left after what was read, and the marker that ends them.
+/// Returns the end of an interval whose data have ended, and were read up to their first fault:
+/// whether at most 56 bits are left after what was read, and the marker that ends them.
 pub fn interval_end(
     alloc: Global,
     ended: Result<Marker>,

@@ -42,9 +42,9 @@ pub fn refused_line_count(alloc: Global, before: Before) -> Error
     }
 }
 
-/// Marks that the data of a scan were read as far as they go, and returns what stands after it, or
-/// the refusal of its data, and with that the number of complete rows of the picture, which the
-/// scan has given.
+/// Marks that the data of a scan were read up to their first fault, and returns what stands after
+/// it, or the refusal of its data, and with that the number of complete rows of the picture, which
+/// the scan has given.
 fn end_reached(
     state: &mut State,
     reached: Result<Option<Marker>>,
@@ -65,11 +65,11 @@ fn end_reached(
     }
 }
 
-/// Reads a scan as far as it goes, and returns what stands after it: the marker after it and after
-/// the restart markers at its end, if one was reached.
+/// Reads a scan up to its first fault, and returns what stands after it: the marker after it and
+/// after the restart markers at its end, if one was reached.
 ///
-/// After an error other than out of memory the blocks count that were read before it, or the rows
-/// of MCUs of a lossless scan. Where it lacks some, `rows` says how many rows of the picture are
+/// Blocks that were read before an error count, or the rows of MCUs of a lossless scan, unless the
+/// error is out of memory. Where it lacks some, `rows` says how many rows of the picture are
 /// complete.
 pub fn reach_scan<R: Read + Drop>(
     alloc: Global,
@@ -96,7 +96,7 @@ pub fn reach_scan<R: Read + Drop>(
     if frame.coding_process == CodingProcess::Lossless {
         let scan = sample_scan_of(alloc, said, frame, &header)?;
         let reached = reach_samples(alloc, source, &scan, &mut state.decoded);
-        // It borrows from `state`, which changes now.
+        // Ends its borrow of `state`.
         drop(scan);
         let given = state.decoded.rows;
         return end_reached(state, reached, given, rows);
@@ -112,7 +112,7 @@ pub fn reach_scan<R: Read + Drop>(
     let reached = state
         .decoded
         .reach(alloc, source, said.scanned, frame, &scan);
-    // It borrows from `state`, which changes now.
+    // Ends its borrow of `state`.
     drop(scan);
     let given = state.decoded.rows;
     end_reached(state, reached, given, rows)
@@ -150,7 +150,7 @@ pub fn read_scan<R: Read + Drop>(
     let reached = state
         .decoded
         .read(alloc, source, said.scanned, frame, &scan)?;
-    // It borrows from `state`, which changes now.
+    // Ends its borrow of `state`.
     drop(scan);
     let met = pass_restarts(alloc, source, reached)?;
     Ok(state.end_scan(met))

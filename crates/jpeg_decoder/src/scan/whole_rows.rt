@@ -1,4 +1,4 @@
-//! The complete rows of the picture, where a scan was read as far as it goes (T.81, A.2).
+//! The complete rows of the picture, where a scan was read up to its first fault (T.81, A.2).
 ghost use Rattle.std.specs.Prelude.{◌≡◌, ◌<◌, ◌≤◌, ◌*◌, ◌/◌, All, false, get_or, length};
 ghost use Rattle.std.specs.Prelude.{List, map, min, option_map, true};
 ghost use Rattle.jpeg_segments.specs.Frame.{AllHaveSampling};
@@ -40,7 +40,7 @@ fn rows_of_lines(frame: &FrameInfo, component: &Component, lines: usize, side: u
     rows_by(lines, greatest, factor, frame.output_size.height)
 }
 
-/// Returns how many lines there are before the one at an index, each of so many.
+/// Returns how many full lines of `wide` come before an index.
 fn lines_before(index: usize, wide: u16) -> usize
     ensures { result ≡ index / wide }
 {

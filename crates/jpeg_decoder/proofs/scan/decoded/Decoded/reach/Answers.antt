@@ -9,7 +9,7 @@ use Rattle.jpeg_streams.specs.InTurn.{AreArrays}
 use Rattle.jpeg_streams.specs.ScanSegments.{arrays_before, is_progressive}
 use Rattle.jpeg_streams.specs.WholeRows.{rows_above}
 use Rattle.jpeg_decoder.specs.PlanesView.{planes_in}
-use Rattle.jpeg_decoder.specs.Reaching.{kept_after}
+use Rattle.jpeg_decoder.specs.Reaching.{kept_beside}
 use Rattle.jpeg_decoder.specs.Scanning.{arrays_in, scan_components}
 use Rattle.jpeg_decoder.specs.Steps.{blocks_at, blocks_before, with_decoded, IsBefore}
 use Rattle.jpeg_decoder.proofs.Kept.BlockArrays.{Held}
@@ -69,7 +69,7 @@ keep_blocks-requires-clause-indices g c =
 
 held : (g : given.Over) (c : After-keep_blocks g) → let cs = c.args.scan.now.codings in
     let is_kept = is_progressive (frame_in c.args.frame.now).process in
-    (arrays_in c.keep_blocks.new.kept.items ≡ kept_after is_kept cs
+    (arrays_in c.keep_blocks.new.kept.items ≡ kept_beside is_kept cs
     (arrays_in c.reach_blocks-met.new.arrays.items)
     (blocks_before c.args.scanned c.args.self.now (frame_in c.args.frame.now)))
     × (is_kept ≡ true → AreArrays (frame_in c.args.frame.now).components (arrays_in c.keep_blocks.new.kept.items))
@@ -84,12 +84,12 @@ held g c =
     c.requires.ready.of_frame c.requires.ready.rising c.requires.kept
 
 held-by : (g : given.Over) (c : After-keep_blocks g) (base : Found) → IsBefore c.args.scanned c.args.scan.now base
-    → arrays_in c.keep_blocks.new.kept.items ≡ kept_after (is_progressive (frame_in c.args.frame.now).process)
+    → arrays_in c.keep_blocks.new.kept.items ≡ kept_beside (is_progressive (frame_in c.args.frame.now).process)
     c.args.scan.now.codings (arrays_in c.reach_blocks-met.new.arrays.items)
     (arrays_before (with_decoded base c.args.self.now) (frame_in c.args.frame.now))
 held-by g c base b =
     (held g c).0
-    ∙ sym (ap (kept_after (is_progressive (frame_in c.args.frame.now).process)
+    ∙ sym (ap (kept_beside (is_progressive (frame_in c.args.frame.now).process)
     c.args.scan.now.codings (arrays_in c.reach_blocks-met.new.arrays.items))
     (before-as base c.args.self.now (frame_in c.args.frame.now) _ b.scanned))
 
