@@ -1,5 +1,6 @@
 -- What is shown of a writer's stream that is cut.
 pub mod EarlyEnds
+pub mod CutFaults
 pub mod NamedFaults
 pub mod WrittenCuts
 pub mod StandingBlocks

@@ -2,6 +2,7 @@
 ghost use Rattle.std.specs.Prelude.{◌≡◌, ◌*◌, ◌≤◌, ℕ, List, [], ◌∷◌, ◌++◌, length, Some};
 ghost use Rattle.std.specs.Prelude.{None, Ok};
 ghost use Rattle.jpeg_bits.specs.Passes.{Pass, whole_pass};
+ghost use Rattle.jpeg_bits.specs.Reading.{End};
 ghost use Rattle.jpeg_bits.specs.Written.{marker};
 ghost use Rattle.jpeg_segments.specs.Frame.{Frame};
 ghost use Rattle.jpeg_segments.specs.ScanHeaders.{IsScan, ScanHeader, scan_payload, scan_written};
@@ -83,7 +84,8 @@ pub fn first_byte_has_a_block()
 /// the first blocks at the levels after this scan, exactly those whose data stand whole in front of
 /// the cut. A component of which nothing has come is zeros. The number of complete rows is that of
 /// the rows above the row of MCUs of the first block that this scan lacks, or of all rows; and 0 if
-/// a component lacks what its picture is made of, so that the image couldn't be closed there.
+/// a component lacks what its picture is made of, so that the image couldn't be closed there. Where
+/// anything was cut off, even the last byte of EOI, the fault that is named is that the bytes end.
 pub fn cut_images_show_what_was_sent()
     ensures { (settings : Settings) (array : Coefficients) (image front more : List ℕ)
         (final : Said) (last : ℕ → Levels)
@@ -92,12 +94,14 @@ pub fn cut_images_show_what_was_sent()
         → (s : Shown) → shown settings front ≡ Ok s
         → (part : List ℕ) × (front ≡ 255 ∷ 216 ∷ part) × (said : Said) × (blocks : Coefficients)
         × HoldsCut array blocks part said (whole_rows front) × (s.told ≡ told_of said)
-        × (picture_held settings said blocks ≡ Ok s.picture) }
+        × (picture_held settings said blocks ≡ Ok s.picture)
+        × ((more ≡ [] → ⊥) → s.fault ≡ Some End) }
 {}
 
 /// Each beginning of such a stream that has its SOI holds blocks of the image, and the picture of
 /// these is shown, if the settings take the picture of what its whole segments say: there is a
-/// frame, its picture is within the limit, and its components can have the colour transform.
+/// frame, its picture is within the limit, and its components can have the colour transform. Where
+/// anything was cut off, the fault that is named is that the bytes end.
 pub fn cut_images_are_shown()
     ensures { (settings : Settings) (array : Coefficients) (image part more : List ℕ)
         (final : Said) (last : ℕ → Levels)
@@ -106,7 +110,8 @@ pub fn cut_images_are_shown()
         → (said : Said) × (blocks : Coefficients)
         × HoldsCut array blocks part said (whole_rows (255 ∷ 216 ∷ part))
         × (TakesPicture settings said → (s : Shown) × (shown settings (255 ∷ 216 ∷ part) ≡ Ok s)
-        × (s.told ≡ told_of said) × (picture_held settings said blocks ≡ Ok s.picture)) }
+        × (s.told ≡ told_of said) × (picture_held settings said blocks ≡ Ok s.picture)
+        × ((more ≡ [] → ⊥) → s.fault ≡ Some End)) }
 {}
 
 /// A stream that a writer emits whole for the coefficients of an image is never taken for one that

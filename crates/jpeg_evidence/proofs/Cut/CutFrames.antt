@@ -2,14 +2,14 @@
 -- far as it has them wholly, and all others at the levels before it.
 use Rattle.std.proofs.Common.{◌≡◌, ◌⊎◌, inl, inr, ◌*◌, ◌/◌, ◌%◌, ℕ, zero, suc, Bool, true, false, List, [], ◌∷◌, ◌++◌}
 use Rattle.std.proofs.Common.{Err, append_assoc, length-append, length, map, get_or, slice_get, Option, Some, None}
-use Rattle.std.proofs.Common.{Ok, refl, sym, ap, ◌∙◌, subst, arith, ap₂, ◌<◌, replicate}
+use Rattle.std.proofs.Common.{Ok, refl, sym, ap, ◌∙◌, subst, arith, ap₂, replicate}
 use Rattle.std.specs.List.{AllByRecursion}
 use Rattle.std.proofs.lemmas.List.{length-replicate}
 use Rattle.std.proofs.lemmas.Option.{slice_get_past}
 use lib.ListN.{length-map}
 use Rattle.jpeg_bits.specs.Passes.{Block, Pass, whole_pass, zero_block}
 use Rattle.jpeg_bits.specs.Intervals.{first_group, other_groups}
-use Rattle.jpeg_bits.specs.Reading.{Fault, Outcome}
+use Rattle.jpeg_bits.specs.Reading.{End, Outcome}
 use Rattle.jpeg_bits.specs.Written.{IsMarker, marker}
 use Rattle.jpeg_bits.specs.declared.marker.Marker.{Marker}
 use Rattle.jpeg_bits.specs.declared.marker.Marker.TheVariants.{EOI}
@@ -39,7 +39,8 @@ use Rattle.jpeg_evidence.proofs.Longer.LongerBlocks.{reached_are_read}
 use Rattle.jpeg_evidence.proofs.Longer.LongerData.{both}
 use Rattle.jpeg_evidence.proofs.Cut.FirstWritten.{first_blocks_are_written}
 use Rattle.jpeg_evidence.proofs.Longer.LongerScans.{longer_data_read_most, longer_data_read_on, unread_is_next}
-use Rattle.jpeg_evidence.proofs.Longer.LongerTurns.{intervals-stay}
+use Rattle.jpeg_evidence.proofs.Longer.LongerSegments.{nothing-left, short-ends}
+use Rattle.jpeg_evidence.proofs.Cut.CutFaults.{data-stay, tables-sized}
 use Rattle.jpeg_evidence.proofs.Cut.ReachedFirst.{first_blocks_are_reached}
 use Rattle.jpeg_evidence.proofs.Cut.StandingBlocks.{whole_data_have_all_blocks}
 use Rattle.jpeg_evidence.proofs.Cut.SentCuts.{SentMost, cut_scans_have_what_was_sent, kept-ready, sequential_levels}
@@ -253,32 +254,24 @@ module _ {w : Said} {f : Frame} {array : Coefficients} {levels : ℕ → Levels}
       })
       ∙ slice_get_past spots (length spots) (omega arith)
 
-  -- Without the code of the marker after them the data have a fault.
-  short-stops : (front left : List ℕ) (fill : ℕ) → 0 < length left → front ++ left ≡ bytes ++ marker fill 217 []
-      → (g : Fault) × ((reached_of front).rest ≡ Err g)
-  short-stops front left fill some parts = go (reached_of front).rest refl
-    where
-      go : (o : Outcome (Option Marker)) → (reached_of front).rest ≡ o → (g : Fault) × (o ≡ Err g)
-      go (Err g) e = (g, refl)
-      go (Ok x) e =
-          let n = w.restart * mcu_size (components_of codings) in
-          let vias = vias_from 0 codings in
-          let stays = intervals-stay left p vias 0 (first_group n spots) (other_groups n spots) before front x e in
-          let whole = whole-reached fill 217 EOI [] (record { is = eoi_code }) eoi_ends in
-          let both : (x.0, x.1 ++ left) ≡ (Some EOI, [])
-          = ok-same _ _ (sym (ap (λ (y : Arrays × Outcome (Option Marker)). y.1) stays)
-          ∙ ap (λ (l : List ℕ). (scan_reached p n vias spots before l).rest) parts
-          ∙ ap (λ (y : Arrays × Outcome (Option Marker)). y.1) whole) in
-          let none : length (x.1 ++ left) ≡ 0 = ap (λ (y : Option Marker × List ℕ). length y.1) both in
-          let a = length-append x.1 left in
-          absurd (omega arith)
+  -- Without the code of the marker after them the data end.
+  short-stops : (front left : List ℕ) (fill : ℕ) → (left ≡ [] → ⊥) → front ++ left ≡ bytes ++ marker fill 217 []
+      → (reached_of front).rest ≡ Err End
+  short-stops front left fill some parts =
+      let n = w.restart * mcu_size (components_of codings) in
+      let vias = vias_from 0 codings in
+      let whole = whole-reached fill 217 EOI [] (record { is = eoi_code }) eoi_ends in
+      short-ends left _ _ (Some EOI)
+      (data-stay left p vias (tables-sized codings known.exist) 0 (first_group n spots) (other_groups n spots) before
+      front)
+      (ap (λ (l : List ℕ). (scan_reached p n vias spots before l).rest) parts
+      ∙ ap (λ (y : Arrays × Outcome (Option Marker)). y.1) whole) some
 
-  -- A beginning of the data, even all of them, has no end: it has a fault.
-  pub cut-stops : (front more : List ℕ) → bytes ≡ front ++ more → (g : Fault) × ((reached_of front).rest ≡ Err g)
+  -- A beginning of the data, even all of them, has no end of the scan: the data end.
+  pub cut-stops : (front more : List ℕ) → bytes ≡ front ++ more → (reached_of front).rest ≡ Err End
   cut-stops front more parts =
       let close = marker 0 217 [] in
-      let n = length-append more close in
-      short-stops front (more ++ close) 0 (omega arith)
+      short-stops front (more ++ close) 0 (λ n. let z : close ≡ [] = nothing-left more close n in cc)
       (sym (append_assoc front more close) ∙ ap (λ (l : List ℕ). l ++ close) (sym parts))
 
   -- ---- all data, and bytes FF
@@ -291,11 +284,11 @@ module _ {w : Said} {f : Frame} {array : Coefficients} {levels : ℕ → Levels}
       (w.restart * mcu_size (components_of codings)) spots before bytes apart ready known.written.coded
       ∙ ap (λ (y : Arrays × Outcome (Option Marker)). y.0) (whole-reached 0 217 EOI [] is eoi_ends)
 
-  pub filled-stops : (j : ℕ) → (g : Fault) × ((reached_of (bytes ++ replicate j 255)).rest ≡ Err g)
+  pub filled-stops : (j : ℕ) → (reached_of (bytes ++ replicate j 255)).rest ≡ Err End
   filled-stops zero =
-      short-stops (bytes ++ []) (marker 0 217 []) 0 (omega arith) (append_assoc bytes [] (marker 0 217 []))
+      short-stops (bytes ++ []) (marker 0 217 []) 0 (λ n. cc) (append_assoc bytes [] (marker 0 217 []))
   filled-stops (suc fill) =
-      short-stops (bytes ++ replicate (suc fill) 255) (217 ∷ []) fill (omega arith)
+      short-stops (bytes ++ replicate (suc fill) 255) (217 ∷ []) fill (λ n. cc)
       (append_assoc bytes (replicate (suc fill) 255) (217 ∷ []))
 
   -- ---- the own blocks

@@ -2,7 +2,7 @@
 use Rattle.std.proofs.Common.{◌≡◌, ℕ, suc, false, true, List, [], ◌++◌, length, replicate, Option, Some, None, Ok, Err, refl}
 use Rattle.std.proofs.Common.{sym, ap, ◌∙◌, subst, is_some}
 use Rattle.std.specs.Prelude.{option_map, unwrap_or}
-use Rattle.jpeg_bits.specs.Reading.{Malformed}
+use Rattle.jpeg_bits.specs.Reading.{End, Malformed}
 use Rattle.jpeg_bits.specs.declared.marker.Marker.{Marker}
 use Rattle.jpeg_bits.specs.Written.{marker}
 use Rattle.jpeg_bits.specs.declared.marker.Marker.TheVariants.{EOI}
@@ -68,8 +68,8 @@ end-next before found met all fill rest some at =
 
 module _ (array : Coefficients) (range : (index row column : ℕ) → Is8Bit (array index row column)) where
   -- What a walk has found holds an image of which each block was sent at levels of its own, and a scan that it stops in
-  -- says how many rows are whole.
-  pub record Ended (part : List ℕ) (w : Walked) : Type 0 where
+  -- says how many rows are whole. Where there are more bytes, it stops at the end of these.
+  pub record Ended (part more : List ℕ) (w : Walked) : Type 0 where
     pub said : Said
     pub levels : ℕ → Levels
     pub image : Coefficients
@@ -81,6 +81,7 @@ module _ (array : Coefficients) (range : (index row column : ℕ) → Is8Bit (ar
     pub counts : (index row column : ℕ) → length (image index row column).acs ≡ 63
     pub whole : (f : Frame) → said.frame ≡ Some f → AllOrNone f levels
     pub holds : HoldsCut array (as_sent image levels) part said (rows_of_found w.rows w.found)
+    pub ends : (more ≡ [] → ⊥) → w.rest ≡ Err End
 
   -- the rows that are whole
   rows-found : (w : Walked) (said : Said) (image : Coefficients) (levels : ℕ → Levels) (x : Progress)
@@ -93,20 +94,21 @@ module _ (array : Coefficients) (range : (index row column : ℕ) → Is8Bit (ar
       (has-rows said image levels x u (λ f e. (is.shaped f e).0) framed w.rows above are)
 
   -- by whole segments and scans
-  by-front : (part : List ℕ) (w : Walked) (first rest : List ℕ) (said : Said) (levels : ℕ → Levels) (x : Progress)
+  by-front : (part more : List ℕ) (w : Walked) (first rest : List ℕ) (said : Said) (levels : ℕ → Levels) (x : Progress)
       → first ++ rest ≡ part → WritesFront array said levels first → IsPartOfNext said rest → IsSaid IsDrawn said
-      → Holds array said levels x → (w.found ≡ beside bring said x) × (w.rows ≡ None) → Ended part w
-  by-front part w first rest said levels x parts front short is held found =
+      → Holds array said levels x → w.found ≡ beside bring said x → w.rows ≡ None
+      → ((more ≡ [] → ⊥) → w.rest ≡ Err End) → Ended part more w
+  by-front part more w first rest said levels x parts front short is held found none ends =
       let u = front-unmixed array said levels first front in
-      let has = rows-found w said array levels x (λ f. f.output_height) found.0 u is
+      let has = rows-found w said array levels x (λ f. f.output_height) found u is
       (λ f e. framed-now array range said levels x f held e)
-      (λ f e. ap (λ (o : Option ℕ). unwrap_or o f.output_height) found.1) in
+      (λ f e. ap (λ (o : Option ℕ). unwrap_or o f.output_height) none) in
       record {
         said = said;
         levels = levels;
         image = array;
         brought = x;
-        found = found.0;
+        found = found;
         is = is;
         framed = λ f e. framed-now array range said levels x f held e;
         counts = λ index row column. (range index row column).count;
@@ -114,29 +116,31 @@ module _ (array : Coefficients) (range : (index row column : ℕ) → Is8Bit (ar
         holds = subst (λ (p : List ℕ). HoldsCut array (as_sent array levels) p said (rows_of_found w.rows w.found))
             parts (in_segment first rest said levels (rows_of_found w.rows w.found) front short
             (λ index row column. refl) has);
+        ends = ends;
       }
 
   -- ---- cut at a marker or a segment
 
   -- what is found where a stream is cut
-  abbrev pub EndedAt : List ℕ → Type 0
-  EndedAt part = Ended part (all_brought nothing_found part)
+  abbrev pub EndedAt : List ℕ → List ℕ → Type 0
+  EndedAt part more = Ended part more (all_brought nothing_found part)
 
-  pub nothing-there : (j : ℕ) → EndedAt (replicate j 255)
-  nothing-there j =
-      by-front (replicate j 255) (all_brought nothing_found (replicate j 255)) [] (replicate j 255) nothing_said
+  pub nothing-there : (j : ℕ) (more : List ℕ) → EndedAt (replicate j 255) more
+  nothing-there j more =
+      let walk = walk-filled (suc (length (replicate j 255))) Elsewhere nothing_found j in
+      by-front (replicate j 255) more (all_brought nothing_found (replicate j 255)) [] (replicate j 255) nothing_said
       (λ k. nothing_sent) no_progress refl (end nothing_said (λ k. nothing_sent) [] refl) (of_marker j)
       (nothing-said IsDrawn) (holds-nothing array nothing_said unscanned)
-      (let walk = walk-filled (suc (length (replicate j 255))) Elsewhere nothing_found j in
-      (ap (λ (y : Walked). y.found) walk ∙ sym found-nothing, ap (λ (y : Walked). y.rows) walk))
+      (ap (λ (y : Walked). y.found) walk ∙ sym found-nothing) (ap (λ (y : Walked). y.rows) walk)
+      (λ some. ap (λ (y : Walked). y.rest) walk)
 
   -- a whole segment, and bytes FF
-  pub segment-filled : (said : Said) (levels : ℕ → Levels) (first : List ℕ) (fill : ℕ) (s : Segment) (j : ℕ)
+  pub segment-filled : (said : Said) (levels : ℕ → Levels) (first more : List ℕ) (fill : ℕ) (s : Segment) (j : ℕ)
       → WritesFront array said levels first → Stands said s → MayStandInImage said s
       → (part : List ℕ) → part ≡ first ++ marker fill (marker_code s) (with_length (payload_of s) ++ replicate j 255)
       → (next : List ℕ) → next ++ replicate j 255 ≡ part → WritesFront array (said_after said s) levels next
-      → EndedAt part
-  segment-filled said levels first fill s j w stands allowed part is next parts whole =
+      → EndedAt part more
+  segment-filled said levels first more fill s j w stands allowed part is next parts whole =
       let payload = with_length (payload_of s) in
       let rest = marker fill (marker_code s) (payload ++ replicate j 255) in
       let past = past-of array range said levels first rest w
@@ -147,41 +151,43 @@ module _ (array : Coefficients) (range : (index row column : ℕ) → Is8Bit (ar
       ∙ walk-on Nothing past.turns false past.before now past.met past.all (replicate j 255) (onward later) refl
       (segment-brings past.before now s past.met past.all fill (replicate j 255) stands past.at) refl
       ∙ walk-filled past.turns Elsewhere later j in
-      by-front part (all_brought nothing_found part) next (replicate j 255) (said_after said s) levels past.brought
+      by-front part more (all_brought nothing_found part) next (replicate j 255) (said_after said s) levels past.brought
       parts whole (of_marker j) (segment-said MayStandInImage IsDrawn drawn-said said s stands allowed past.said)
       ((image-read array range).holds said levels past.brought s stands allowed past.held)
-      (ap (λ (y : Walked). y.found) ends, ap (λ (y : Walked). y.rows) ends)
+      (ap (λ (y : Walked). y.found) ends) (ap (λ (y : Walked). y.rows) ends) (λ some. ap (λ (y : Walked). y.rest) ends)
 
   -- a part of a segment
-  pub segment-cut : (said : Said) (levels : ℕ → Levels) (first : List ℕ) (fill : ℕ) (s : Segment) (part more : List ℕ)
-      → WritesFront array said levels first → Stands said s → with_length (payload_of s) ≡ part ++ more
-      → (more ≡ [] → ⊥)
-      → EndedAt (first ++ marker fill (marker_code s) part)
-  segment-cut said levels first fill s part more w stands parts some =
+  pub segment-cut : (said : Said) (levels : ℕ → Levels) (first : List ℕ) (fill : ℕ) (s : Segment)
+      (part left more : List ℕ) → WritesFront array said levels first → Stands said s
+      → with_length (payload_of s) ≡ part ++ left → (left ≡ [] → ⊥)
+      → EndedAt (first ++ marker fill (marker_code s) part) more
+  segment-cut said levels first fill s part left more w stands parts some =
       let rest = marker fill (marker_code s) part in
       let past = past-of array range said levels first rest w (begins-segment fill said s part stands) in
-      by-front (first ++ rest) (all_brought nothing_found (first ++ rest)) first rest said levels past.brought
-      refl w (of_segment fill s part more stands parts some) past.said past.held
-      (segment-past array range said levels fill s part more (all_brought nothing_found (first ++ rest)) past stands
-      parts some)
+      let e = segment-past array range said levels fill s part left (all_brought nothing_found (first ++ rest)) past
+      stands parts some in
+      by-front (first ++ rest) more (all_brought nothing_found (first ++ rest)) first rest said levels past.brought
+      refl w (of_segment fill s part left stands parts some) past.said past.held e.found_is e.rows_are
+      (λ some. e.rest_is)
 
   -- a part of a scan's header
   pub header-cut : (said : Said) (levels : ℕ → Levels) (frame : Frame) (first : List ℕ) (fill : ℕ) (h : ScanHeader)
-      (part more : List ℕ) → WritesFront array said levels first → said.frame ≡ Some frame → IsScan frame h
-      → with_length (scan_payload h) ≡ part ++ more → (more ≡ [] → ⊥)
-      → EndedAt (first ++ marker fill 218 part)
-  header-cut said levels frame first fill h part more w e written parts some =
+      (part left more : List ℕ) → WritesFront array said levels first → said.frame ≡ Some frame → IsScan frame h
+      → with_length (scan_payload h) ≡ part ++ left → (left ≡ [] → ⊥)
+      → EndedAt (first ++ marker fill 218 part) more
+  header-cut said levels frame first fill h part left more w e written parts some =
       let rest = marker fill 218 part in
       let past = past-of array range said levels first rest w (begins-scan fill part) in
-      by-front (first ++ rest) (all_brought nothing_found (first ++ rest)) first rest said levels past.brought
-      refl w (of_header frame fill h part more e written parts some) past.said past.held
-      (header-past array range said levels frame fill h part more (all_brought nothing_found (first ++ rest)) past e
-      written parts some)
+      let ends = header-past array range said levels frame fill h part left (all_brought nothing_found (first ++ rest))
+      past e written parts some in
+      by-front (first ++ rest) more (all_brought nothing_found (first ++ rest)) first rest said levels past.brought
+      refl w (of_header frame fill h part left e written parts some) past.said past.held ends.found_is ends.rows_are
+      (λ some. ends.rest_is)
 
   -- the end of the image
   pub end-there : (said : Said) (levels : ℕ → Levels) (frame : Frame) (first : List ℕ) (fill : ℕ)
       → WritesFront array said levels first → said.frame ≡ Some frame
-      → EndedAt (first ++ marker fill 217 [])
+      → EndedAt (first ++ marker fill 217 []) []
   end-there said levels frame first fill w e =
       let rest = marker fill 217 [] in
       let past = past-of array range said levels first rest w (begins-end fill []) in
@@ -189,21 +195,21 @@ module _ (array : Coefficients) (range : (index row column : ℕ) → Is8Bit (ar
       let ends = past.goes_on
       ∙ walk-end Nothing past.turns false past.before now past.met past.all [] (last_turn now) refl
       (end-next past.before now past.met past.all fill [] (ap is_some e) past.at) refl in
-      by-front (first ++ rest) (all_brought nothing_found (first ++ rest)) first rest said levels past.brought
+      by-front (first ++ rest) [] (all_brought nothing_found (first ++ rest)) first rest said levels past.brought
       refl w (of_end fill) past.said past.held
-      (ap (λ (y : Walked). y.found) ends, ap (λ (y : Walked). y.rows) ends)
+      (ap (λ (y : Walked). y.found) ends) (ap (λ (y : Walked). y.rows) ends) (λ some. absurd (some refl))
 
   -- ---- cut in the data of a scan
 
   -- what a cut scan holds
-  pub by-scan : (part : List ℕ) (w : Walked) (said : Said) (frame : Frame) (image : Coefficients) (next : ℕ → Levels)
-      (found : Found) (above : Frame → ℕ) → said.frame ≡ Some frame → IsSaid IsDrawn said
+  pub by-scan : (part more : List ℕ) (w : Walked) (said : Said) (frame : Frame) (image : Coefficients)
+      (next : ℕ → Levels) (found : Found) (above : Frame → ℕ) → said.frame ≡ Some frame → IsSaid IsDrawn said
       → AfterScan said frame image next found → ((index row column : ℕ) → length (image index row column).acs ≡ 63)
       → Unmixed (record said { scanned = true }) next → unwrap_or w.rows frame.output_height ≡ above frame
       → (HasRows (record said { scanned = true }) next above (rows_of_found w.rows w.found)
       → HoldsCut array (as_sent image next) part (record said { scanned = true }) (rows_of_found w.rows w.found))
-      → w.found ≡ found → Ended part w
-  by-scan part w said frame image next found above e is after counts u are holds same =
+      → w.found ≡ found → w.rest ≡ Err End → Ended part more w
+  by-scan part more w said frame image next found above e is after counts u are holds same short =
       let later = record said { scanned = true } in
       let x : Progress = (after.kept, after.finished, after.planes) in
       let is_said : IsSaid IsDrawn later = record { tables = is.tables; shaped = is.shaped } in
@@ -222,18 +228,19 @@ module _ (array : Coefficients) (range : (index row column : ℕ) → Is8Bit (ar
         whole = λ f g. all-or-none later next f u g;
         holds = holds (rows-found w later image next x above (same ∙ after.after) u is_said framed (λ f g.
             subst (λ (y : Frame). unwrap_or w.rows y.output_height ≡ above y) (same-frame frame f said.frame e g) are));
+        ends = λ some. short;
       }
 
   -- all data, and bytes FF
-  pub data-filled : (said : Said) (levels next : ℕ → Levels) (frame : Frame) (first : List ℕ) (fill : ℕ)
+  pub data-filled : (said : Said) (levels next : ℕ → Levels) (frame : Frame) (first more : List ℕ) (fill : ℕ)
       (h : ScanHeader) (bytes : List ℕ) (j : ℕ) → WritesFront array said levels first → said.frame ≡ Some frame
       → IsScan frame h → WritesImageScan array said levels frame h bytes next
       → (part : List ℕ)
       → part ≡ first ++ marker fill 218 (with_length (scan_payload h) ++ (bytes ++ replicate j 255))
       → (later : List ℕ) → later ++ replicate j 255 ≡ part
       → WritesFront array (record said { scanned = true }) next later
-      → EndedAt part
-  data-filled said levels next frame first fill h bytes j w e written sends part is later parts front =
+      → EndedAt part more
+  data-filled said levels next frame first more fill h bytes j w e written sends part is later parts front =
       let header = with_length (scan_payload h) in
       let d = bytes ++ replicate j 255 in
       let rest = marker fill 218 (header ++ d) in
@@ -256,13 +263,15 @@ module _ (array : Coefficients) (range : (index row column : ℕ) → Is8Bit (ar
       let stops = scan-past array range said levels frame fill h sends.codings bytes d
       (all_brought nothing_found (first ++ rest)) past known e written (filled-stops known j) in
       let walk = all_brought nothing_found part in
-      let none : walk.rows ≡ None = ap (λ (l : List ℕ). (all_brought nothing_found l).rows) is ∙ stops.1
+      let none : walk.rows ≡ None = ap (λ (l : List ℕ). (all_brought nothing_found l).rows) is ∙ stops.rows_are
       ∙ ap (option_map (rows_above frame (components_of sends.codings))) (whole-unread known (replicate j 255)) in
       let rows = rows_of_found walk.rows walk.found in
-      by-scan part walk said frame array next found (λ f. f.output_height) e past.said all (λ index row column. (range index row column).count)
+      by-scan part more walk said frame array next found (λ f. f.output_height) e past.said all
+      (λ index row column. (range index row column).count)
       (front-unmixed array (record said { scanned = true }) next later front)
       (ap (λ (o : Option ℕ). unwrap_or o frame.output_height) none)
       (λ has. subst (λ (p : List ℕ). HoldsCut array (as_sent array next) p (record said { scanned = true }) rows) parts
       (in_segment later (replicate j 255) (record said { scanned = true }) next rows front (of_marker j)
       (λ index row column. refl) has))
-      (ap (λ (l : List ℕ). (all_brought nothing_found l).found) is ∙ stops.0)
+      (ap (λ (l : List ℕ). (all_brought nothing_found l).found) is ∙ stops.found_is)
+      (ap (λ (l : List ℕ). (all_brought nothing_found l).rest) is ∙ stops.rest_is)

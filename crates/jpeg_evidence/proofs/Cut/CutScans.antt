@@ -1,9 +1,9 @@
 -- A stream of a writer that is cut brings what was said and sent up to the cut.
-use Rattle.std.proofs.Common.{append-nil, [], ◌∷◌, subst, Ok, ◌≡◌, ℕ, suc, false, List, ◌++◌, length}
+use Rattle.std.proofs.Common.{append-nil, [], subst, ◌≡◌, ℕ, suc, false, List, ◌++◌, length}
 use Rattle.std.proofs.Common.{Option, Some, None, Err, refl, sym, ap, ◌∙◌, arith}
 use Rattle.std.specs.Prelude.{option_map}
 use Rattle.jpeg_bits.specs.Marker.{marker_of}
-use Rattle.jpeg_bits.specs.Reading.{◌>>=◌, Fault, Outcome}
+use Rattle.jpeg_bits.specs.Reading.{◌>>=◌, End, Outcome}
 use Rattle.jpeg_bits.specs.Written.{marker}
 use Rattle.jpeg_bits.specs.declared.marker.Marker.{Marker}
 use Rattle.jpeg_bits.specs.declared.marker.Marker.TheVariants.{SOS}
@@ -13,8 +13,8 @@ use Rattle.jpeg_segments.specs.Frame.{Frame}
 use Rattle.jpeg_segments.specs.ScanHeaders.{IsScan, ScanHeader, scan_payload, scan_written}
 use Rattle.jpeg_segments.specs.WrittenSegments.{with_length, Segment, marker_code, payload_of}
 use Rattle.jpeg_segments.proofs.HeaderSegments.{sos-read}
-use Rattle.jpeg_streams.specs.Brought.{BlocksTo, Brought, blocks_brought_by, frame_and_scan, scan_brought, unbrought}
-use Rattle.jpeg_streams.proofs.Written.ReadTurns.{Begins, IsEnd, marker-turn, marker_for, ok-same, same-turn}
+use Rattle.jpeg_streams.specs.Brought.{BlocksTo, Brought, blocks_brought_by, scan_brought, unbrought}
+use Rattle.jpeg_streams.proofs.Written.ReadTurns.{Begins, IsEnd, marker-turn, marker_for, same-turn}
 use Rattle.jpeg_streams.proofs.Written.ReadTurns.{refused_walk, segment-ends, segment-marker, stands-here, then-ok}
 use Rattle.jpeg_streams.proofs.Written.ReadTurns.{walk-refused}
 use Rattle.jpeg_streams.specs.declared.before.Before.{Before}
@@ -34,13 +34,13 @@ use Rattle.jpeg_streams.proofs.Written.BroughtLevels.{KnownScan}
 use Rattle.jpeg_streams.proofs.Written.WrittenPictures.{IsDrawn, bring, framed-now, holds-nothing, known_scan, no_progress}
 use Rattle.jpeg_streams.specs.SaidSegments.{Stands, said_after}
 use Rattle.jpeg_streams.specs.Segments.{Turn, onward}
-use Rattle.jpeg_streams.specs.Stream.{Walked, all_brought, brought_after, segment_at, turn_at, walk}
+use Rattle.jpeg_streams.specs.Stream.{Walked, all_brought, segment_at, turn_at, walk}
 use Rattle.jpeg_evidence.proofs.Cut.CutWalks.{IsPast, front-walked, plain-brought, scan-brings, scan-next, segment-brings}
 use Rattle.jpeg_evidence.proofs.Cut.CutWalks.{sos_code, turn-next}
-use Rattle.jpeg_evidence.proofs.Longer.LongerSegments.{sos-stays, Stays}
+use Rattle.jpeg_evidence.proofs.Longer.LongerSegments.{short-ends, sos-stays}
 use Rattle.jpeg_evidence.specs.CutImages.{BringsCut, BringsFront, WritesFront}
 use Rattle.jpeg_evidence.specs.FirstBlocks.{IsMost, StandWhole}
-use Rattle.jpeg_evidence.proofs.Longer.LongerTurns.{by_header, scan_led, segment-goes, with_frame}
+use Rattle.jpeg_evidence.proofs.Longer.LongerTurns.{by_header, scan_led, segment-stays, with_frame}
 use Rattle.jpeg_evidence.proofs.Cut.CutFrames.{cut-own, cut-stops, reached_of, scan-cut}
 
 -- what a scan brings that stops
@@ -51,19 +51,15 @@ stopped found f s codings r turn = record {
   turn = turn;
 }
 
-blocks-stop : (found : Found) (f : Frame) (s : Scan) (codings : List Coding) (bytes : List ℕ) (g : Fault)
-    → (scan_of_codings found f s codings bytes).rest ≡ Err g
+blocks-stop : (found : Found) (f : Frame) (s : Scan) (codings : List Coding) (bytes : List ℕ)
+    → (scan_of_codings found f s codings bytes).rest ≡ Err End
     → blocks_brought_by found f s codings bytes
-    ≡ stopped found f s codings (scan_of_codings found f s codings bytes) (Err g)
+    ≡ stopped found f s codings (scan_of_codings found f s codings bytes) (Err End)
 unfolding blocks_brought_by
-blocks-stop found f s codings bytes g h =
+blocks-stop found f s codings bytes h =
     let r = scan_of_codings found f s codings bytes in
     ap (λ (o : Outcome (Option Marker)).
     stopped found f s codings r (scan_led found (after_scan found f s codings) (r.reached, o))) h
-
-nothing-left : (l more : List ℕ) → l ++ more ≡ [] → more ≡ []
-nothing-left [] more e = e
-nothing-left (a ∷ l) more e = absurd (let n : ⊥ = cc in n)
 
 pub begins-marker : (fill code : ℕ) (m : Marker) (rest : List ℕ) → marker_of code ≡ Some m → IsEnd m
     → Begins (marker fill code rest)
@@ -89,55 +85,39 @@ pub begins-segment : (fill : ℕ) (said : Said) (s : Segment) (rest : List ℕ) 
 begins-segment fill said s rest stands =
     begins-marker fill (marker_code s) (marker_for s) rest (segment-marker said.frame s stands.0) (segment-ends s)
 
--- a segment that isn't there whole has a fault
+-- a segment that isn't there whole ends
 segment-stops : (before : Before) (now : Found) (s : Segment) (part more : List ℕ) → Stands now.said s
     → with_length (payload_of s) ≡ part ++ more → (more ≡ [] → ⊥)
-    → (g : Fault) × (segment_at (marker_for s) before now part ≡ Err g)
-unfolding Stays
-segment-stops before now s part more stands parts some = go (segment_at (marker_for s) before now part) refl
-  where
-    m : Marker
-    m = marker_for s
-
-    go : (o : Outcome Turn) → segment_at (marker_for s) before now part ≡ o → (g : Fault) × (o ≡ Err g)
-    go (Err g) e = (g, refl)
-    go (Ok t) e =
-        let payload = with_length (payload_of s) in
-        let all = marker 0 (marker_code s) (payload ++ []) in
-        let whole = same-turn _ _ (sym (marker-turn Nothing before now 0 (marker_code s) m (payload ++ [])
-        (segment-marker now.said.frame s stands.0)))
-        ∙ segment-brings before now s None all 0 [] stands (stands-here all) in
-        let same : payload ++ [] ≡ part ++ more = append-nil payload ∙ parts in
-        let longer = (segment-goes more m before now part).turn t
-        (same-turn _ _ (plain-brought s before now part) ∙ e) in
-        let both : (t.0, t.1 ++ more) ≡ (onward (record now { said = said_after now.said s }), [])
-        = ok-same _ _ (sym longer ∙ ap (λ (l : List ℕ). (brought_after Nothing m before now l).turn) (sym same)
-        ∙ whole) in
-        absurd (some (nothing-left t.1 more (ap (λ (y : Turn × List ℕ). y.1) both)))
+    → segment_at (marker_for s) before now part ≡ Err End
+segment-stops before now s part more stands parts some =
+    let m = marker_for s in
+    let payload = with_length (payload_of s) in
+    let all = marker 0 (marker_code s) (payload ++ []) in
+    let whole = same-turn _ _ (sym (marker-turn Nothing before now 0 (marker_code s) m (payload ++ [])
+    (segment-marker now.said.frame s stands.0) ∙ plain-brought s before now (payload ++ [])))
+    ∙ segment-brings before now s None all 0 [] stands (stands-here all) in
+    short-ends more _ _ (onward (record now { said = said_after now.said s })) (segment-stays more m before now part)
+    (ap (segment_at m before now) (sym parts ∙ sym (append-nil payload)) ∙ whole) some
 
 -- ---- a cut within the header of a scan
 
 header-stops : (found : Found) (f : Frame) (h : ScanHeader) (part more : List ℕ) → found.said.frame ≡ Some f
     → IsScan f h → with_length (scan_payload h) ≡ part ++ more → (more ≡ [] → ⊥)
-    → (g : Fault) × (scan_brought found part ≡ unbrought found (Err g))
-unfolding scan_brought Stays
-header-stops found f h part more e written parts some = go (sos_at f part) refl
-  where
-    go : (o : Outcome Scan) → sos_at f part ≡ o
-        → (g : Fault) × (by_header found (frame_and_scan found part) ≡ unbrought found (Err g))
-    go (Err g) a = (
-      g,
-      ap (by_header found) (then-ok (needed found.said.frame) _ f (Err g) (ap needed e)
-          (ap (λ (o : Outcome Scan). o >>= with_frame f) a)),
-    )
-    go (Ok x) a =
-        let header = with_length (scan_payload h) in
-        let both : (x.0, x.1 ++ more) ≡ (scan_written f h, [])
-        = ok-same _ _ (sym (sos-stays more f part x a) ∙ ap (sos_at f) (sym parts ∙ sym (append-nil header))
-        ∙ sos-read f h [] written) in
-        absurd (some (nothing-left x.1 more (ap (λ (y : Scan × List ℕ). y.1) both)))
+    → scan_brought found part ≡ unbrought found (Err End)
+unfolding scan_brought
+header-stops found f h part more e written parts some =
+    let short = short-ends more _ _ (scan_written f h) (sos-stays more f part)
+    (ap (sos_at f) (sym parts ∙ sym (append-nil (with_length (scan_payload h)))) ∙ sos-read f h [] written) some in
+    ap (by_header found) (then-ok (needed found.said.frame) _ f (Err End) (ap needed e)
+    (ap (λ (o : Outcome Scan). o >>= with_frame f) short))
 
 -- ---- what is found of a stream that is cut
+
+-- A walk at whose end the bytes end has found this, and these rows of a scan are whole.
+pub record EndsSo (w : Walked) (found : Found) (rows : Option ℕ) : Type 0 where
+  pub found_is : w.found ≡ found
+  pub rows_are : w.rows ≡ rows
+  pub rest_is : w.rest ≡ Err End
 
 module _ (array : Coefficients) (range : (index row column : ℕ) → Is8Bit (array index row column)) where
   -- A walk comes by the whole segments and scans in the front of a stream.
@@ -150,60 +130,65 @@ module _ (array : Coefficients) (range : (index row column : ℕ) → Is8Bit (ar
       (suc (length (first ++ rest))) Elsewhere None (first ++ rest) w b (nothing-said IsDrawn)
       (holds-nothing array nothing_said unscanned) (stands-here (first ++ rest)) (omega arith))
 
-  -- what is found where the turn that comes next has a fault
-  past-fault : (said : Said) (levels : ℕ → Levels) (rest : List ℕ) (w : Walked)
-      (past : IsPast array range said levels rest w) (b : Brought) (g : Fault)
-      → turn_at Nothing past.before (beside bring said past.brought) past.met past.all ≡ b → b.turn ≡ Err g
-      → (w.found ≡ b.found) × (w.rows ≡ b.rows)
-  past-fault said levels rest w past b g e fault =
+  -- what is found where the bytes end in the turn that comes next
+  past-end : (said : Said) (levels : ℕ → Levels) (rest : List ℕ) (w : Walked)
+      (past : IsPast array range said levels rest w) (b : Brought)
+      → turn_at Nothing past.before (beside bring said past.brought) past.met past.all ≡ b → b.turn ≡ Err End
+      → EndsSo w b.found b.rows
+  past-end said levels rest w past b e fault =
       let stops = past.goes_on ∙ walk-refused Nothing past.turns false past.before (beside bring said past.brought)
-      past.met past.all g refl (same-turn _ _ e ∙ fault) ∙ ap (λ (y : Brought). refused_walk y g) e in
-      (ap (λ (y : Walked). y.found) stops, ap (λ (y : Walked). y.rows) stops)
+      past.met past.all End refl (same-turn _ _ e ∙ fault) ∙ ap (λ (y : Brought). refused_walk y End) e in
+      record {
+        found_is = ap (λ (y : Walked). y.found) stops;
+        rows_are = ap (λ (y : Walked). y.rows) stops;
+        rest_is = ap (λ (y : Walked). y.rest) stops;
+      }
 
-  -- what is found where the data of a scan have a fault, and which rows of the scan are whole
+  -- what is found where the data of a scan end, and which rows of the scan are whole
   pub scan-past : (said : Said) (levels : ℕ → Levels) (frame : Frame) (fill : ℕ) (h : ScanHeader)
       (codings : List Coding) (bytes front : List ℕ) (w : Walked)
       (past : IsPast array range said levels (marker fill 218 (with_length (scan_payload h) ++ front)) w)
       (known : KnownScan said frame array levels said.scanned past.brought (scan_written frame h) codings bytes)
-      → said.frame ≡ Some frame → IsScan frame h → (g : Fault) × ((reached_of known front).rest ≡ Err g)
-      → (w.found
-      ≡ after_scan (beside bring said past.brought) frame (scan_written frame h) codings (reached_of known front).reached)
-      × (w.rows ≡ option_map (rows_above frame (components_of codings)) (reached_of known front).unread)
-  scan-past said levels frame fill h codings bytes front w past known e written fault =
+      → said.frame ≡ Some frame → IsScan frame h → (reached_of known front).rest ≡ Err End
+      → EndsSo w
+      (after_scan (beside bring said past.brought) frame (scan_written frame h) codings
+      (reached_of known front).reached)
+      (option_map (rows_above frame (components_of codings)) (reached_of known front).unread)
+  scan-past said levels frame fill h codings bytes front w past known e written short =
       let rest = with_length (scan_payload h) ++ front in
       let now = beside bring said past.brought in
       let s = scan_written frame h in
-      past-fault said levels (marker fill 218 rest) w past
-      (stopped now frame s codings (reached_of known front) (Err fault.0)) fault.0
+      past-end said levels (marker fill 218 rest) w past
+      (stopped now frame s codings (reached_of known front) (Err End))
       (scan-next past.before now past.met past.all fill rest past.at
       ∙ scan-brings now frame s codings rest front known.shape.lossy e (sos-read frame h front written)
       (codings-found said frame s codings known.legal.are_in_force)
-      ∙ blocks-stop now frame s codings front fault.0 fault.1) refl
+      ∙ blocks-stop now frame s codings front short) refl
 
-  -- what is found where a segment has a fault: no scan lacks rows
+  -- what is found where a segment ends: no scan lacks rows
   pub segment-past : (said : Said) (levels : ℕ → Levels) (fill : ℕ) (s : Segment) (part more : List ℕ) (w : Walked)
       (past : IsPast array range said levels (marker fill (marker_code s) part) w)
       → Stands said s → with_length (payload_of s) ≡ part ++ more → (more ≡ [] → ⊥)
-      → (w.found ≡ beside bring said past.brought) × (w.rows ≡ None)
+      → EndsSo w (beside bring said past.brought) None
   segment-past said levels fill s part more w past stands parts some =
       let now = beside bring said past.brought in
-      let fault = segment-stops past.before now s part more stands parts some in
-      past-fault said levels (marker fill (marker_code s) part) w past (unbrought now (Err fault.0)) fault.0
+      past-end said levels (marker fill (marker_code s) part) w past (unbrought now (Err End))
       (turn-next past.before now past.met past.all fill (marker_code s) (marker_for s) part past.at
       (segment-marker said.frame s stands.0)
-      ∙ plain-brought s past.before now part ∙ ap (unbrought now) fault.1) refl
+      ∙ plain-brought s past.before now part
+      ∙ ap (unbrought now) (segment-stops past.before now s part more stands parts some)) refl
 
-  -- and where the header of a scan has one
+  -- and where the header of a scan ends
   pub header-past : (said : Said) (levels : ℕ → Levels) (frame : Frame) (fill : ℕ) (h : ScanHeader)
       (part more : List ℕ) (w : Walked)
       (past : IsPast array range said levels (marker fill 218 part) w)
       → said.frame ≡ Some frame → IsScan frame h → with_length (scan_payload h) ≡ part ++ more → (more ≡ [] → ⊥)
-      → (w.found ≡ beside bring said past.brought) × (w.rows ≡ None)
+      → EndsSo w (beside bring said past.brought) None
   header-past said levels frame fill h part more w past e written parts some =
       let now = beside bring said past.brought in
-      let fault = header-stops now frame h part more e written parts some in
-      past-fault said levels (marker fill 218 part) w past (unbrought now (Err fault.0)) fault.0
-      (scan-next past.before now past.met past.all fill part past.at ∙ fault.1) refl
+      past-end said levels (marker fill 218 part) w past (unbrought now (Err End))
+      (scan-next past.before now past.met past.all fill part past.at
+      ∙ header-stops now frame h part more e written parts some) refl
 
   -- where that is all that is found
   front-brought : (said : Said) (levels : ℕ → Levels) (rest : List ℕ) (w : Walked)
@@ -247,7 +232,7 @@ cut_images_bring_what_was_sent array said levels next frame first front more fil
         };
         brought = (scan-past array range said levels frame fill h sends.codings (front ++ more) front
             (all_brought nothing_found (first ++ marker fill 218 rest)) past known e written
-            (cut-stops known front more refl)).0;
+            (cut-stops known front more refl)).found_is;
         parts = sent.holds.parts;
         sent = λ y k t is here. own.sent k y (get-at y.slot sends.codings k t) is here;
         kept = λ y k t is away. own.kept k y (get-at y.slot sends.codings k t) is away;
@@ -266,7 +251,7 @@ cut_segments_add_nothing array said levels first part more fill s range w stands
     let walked = all_brought nothing_found (first ++ rest) in
     let past = past-of array range said levels first rest w (begins-segment fill said s part stands) in
     front-brought array range said levels rest walked past
-    (segment-past array range said levels fill s part more walked past stands parts some).0
+    (segment-past array range said levels fill s part more walked past stands parts some).found_is
 
 -- What is brought of a stream that is cut within the header of a scan, or right after its marker.
 pub cut_headers_add_nothing : (array : Coefficients) (said : Said) (levels : ℕ → Levels) (frame : Frame)
@@ -279,4 +264,4 @@ cut_headers_add_nothing array said levels frame first part more fill h range w e
     let walked = all_brought nothing_found (first ++ rest) in
     let past = past-of array range said levels first rest w (begins-scan fill part) in
     front-brought array range said levels rest walked past
-    (header-past array range said levels frame fill h part more walked past e written parts some).0
+    (header-past array range said levels frame fill h part more walked past e written parts some).found_is

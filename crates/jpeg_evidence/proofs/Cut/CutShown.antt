@@ -1,5 +1,6 @@
 -- What a cut stream of a writer shows is the picture of the blocks that it holds.
-use Rattle.std.proofs.Common.{◌≡◌, ℕ, List, [], ◌∷◌, ◌++◌, Some, Ok, refl, sym, ap, ap₂, ◌∙◌, subst}
+use Rattle.std.proofs.Common.{◌≡◌, ℕ, List, [], ◌∷◌, ◌++◌, Some, Ok, Err, refl, sym, ap, ap₂, ◌∙◌, subst}
+use Rattle.jpeg_bits.specs.Reading.{End}
 use Rattle.jpeg_segments.specs.Frame.{Frame}
 use Rattle.jpeg_segments.proofs.Codecs.{bind-ok, err-ok, ok-same}
 use Rattle.jpeg_streams.specs.declared.settings.Settings.{Settings}
@@ -24,6 +25,7 @@ record ShowsFound (settings : Settings) (w : Walked) (s : Shown) : Type 0 where
   framed : w.found.said.frame ≡ Some frame
   told : s.told ≡ told_of w.found.said
   picture : picture_shown settings w.found ≡ Ok s.picture
+  fault : s.fault ≡ fault_shown w.found w.rest
 
 shows-found : (settings : Settings) (w : Walked) (s : Shown) → shown_of settings w.found w.rest ≡ Ok s
     → ShowsFound settings w s
@@ -39,7 +41,13 @@ shows-found settings w s e =
       framed = f.1;
       told = ap (λ (y : Shown). y.told) (sym same);
       picture = second.1 ∙ ap (λ (y : Shown). Ok y.picture) same;
+      fault = ap (λ (y : Shown). y.fault) (sym same);
     }
+
+-- where the bytes end, that is the fault
+pub fault-end : (w : Walked) → w.rest ≡ Err End → fault_shown w.found w.rest ≡ Some End
+unfolding fault_shown
+fault-end w e = ap (fault_shown w.found) e
 
 -- A stream that shows something begins with SOI.
 starts : (settings : Settings) (after front more : List ℕ) (s : Shown) → 255 ∷ 216 ∷ after ≡ front ++ more
@@ -58,7 +66,7 @@ starts settings after (a ∷ b ∷ part) more s e h =
     = ap₂ (λ (x y : ℕ). x ∷ y ∷ part) one two in
     (part, front, cc, sym (ap (shown settings) front) ∙ h)
 
-rows-started : (part : List ℕ)
+pub rows-started : (part : List ℕ)
     → whole_rows (255 ∷ 216 ∷ part) ≡ rows_of_found (all_brought nothing_found part).rows (all_brought nothing_found part).found
 unfolding whole_rows whole_rows_rest start_at
 rows-started part = refl
@@ -69,14 +77,14 @@ pub cut_images_show_what_was_sent : (settings : Settings) (array : Coefficients)
     → WritesImage array image final last → image ≡ front ++ more → (s : Shown) → shown settings front ≡ Ok s
     → (part : List ℕ) × (front ≡ 255 ∷ 216 ∷ part) × (said : Said) × (blocks : Coefficients)
     × HoldsCut array blocks part said (whole_rows front) × (s.told ≡ told_of said)
-    × (picture_held settings said blocks ≡ Ok s.picture)
+    × (picture_held settings said blocks ≡ Ok s.picture) × ((more ≡ [] → ⊥) → s.fault ≡ Some End)
 unfolding shown_rest
 cut_images_show_what_was_sent settings array image front more final last range w parts s h =
     let a = starts settings w.after front more s (sym w.starts ∙ parts) h in
     let part = a.0 in
-    let e : EndedAt array range part
+    let e : EndedAt array range part more
     = each-front array range nothing_said final (λ k. nothing_sent) last w.after w.written [] part more
-    (end nothing_said (λ k. nothing_sent) [] refl) (nothing-there array range) a.2 in
+    (end nothing_said (λ k. nothing_sent) [] refl) (λ j. nothing-there array range j more) a.2 in
     let c = shows-found settings (all_brought nothing_found part) s a.3 in
     let said_same : (all_brought nothing_found part).found.said ≡ e.said = ap (λ (y : Found). y.said) e.found in
     let framed : e.said.frame ≡ Some c.frame = ap (λ (y : Said). y.frame) (sym said_same) ∙ c.framed in
@@ -91,4 +99,5 @@ cut_images_show_what_was_sent settings array image front more final last range w
           (sym (ap whole_rows a.1 ∙ rows-started part)) e.holds,
       c.told ∙ ap told_of said_same,
       sym same ∙ ap (picture_shown settings) (sym e.found) ∙ c.picture,
+      λ some. c.fault ∙ fault-end (all_brought nothing_found part) (e.ends some),
     )

@@ -3,6 +3,7 @@ use Rattle.std.proofs.Common.{rules, ◌≡◌, ℕ, List, [], ◌∷◌, ◌++�
 use Rattle.std.proofs.lemmas.Bool.{eq-eqb}
 use Rattle.std.specs.Prelude.{slice_index_or, unwrap_or, replicate}
 use Rattle.std.specs.List.{enumerate_from}
+use Rattle.jpeg_bits.specs.Reading.{End}
 use Rattle.jpeg_pixels.specs.Colour.{conversion_of}
 use Rattle.jpeg_pixels.specs.Pictures.{Source, image_of, sources_of}
 use Rattle.jpeg_bits.specs.declared.color_transform.ColorTransform.{ColorTransform}
@@ -15,8 +16,8 @@ use Rattle.jpeg_streams.specs.Found.{Found, Said, nothing_found, nothing_said}
 use Rattle.jpeg_streams.specs.FoundPictures.{picture_by, picture_in}
 use Rattle.jpeg_streams.specs.Levels.{Is8Bit, Levels, nothing_sent}
 use Rattle.jpeg_streams.specs.Rasters.{plane_of_blocks}
-use Rattle.jpeg_streams.specs.Shown.{Shown, fault_shown, framed_or, picture_shown, rows_of_found, shown, shown_of}
-use Rattle.jpeg_streams.specs.Shown.{shown_rest, whole_rows, whole_rows_rest}
+use Rattle.jpeg_streams.specs.Shown.{Shown, fault_shown, framed_or, picture_shown, shown, shown_of}
+use Rattle.jpeg_streams.specs.Shown.{shown_rest, whole_rows}
 use Rattle.jpeg_streams.specs.Stream.{Walked, all_brought, start_at, told_of}
 use Rattle.jpeg_streams.specs.WrittenImages.{WritesImage}
 use Rattle.jpeg_streams.specs.WrittenScans.{Coefficients}
@@ -26,6 +27,7 @@ use Rattle.jpeg_streams.proofs.Written.ReadTurns.{then-ok}
 use Rattle.jpeg_evidence.specs.CutImages.{HoldsCut, picture_held}
 use Rattle.jpeg_evidence.proofs.Cut.CutHeld.{EndedAt, nothing-there}
 use Rattle.jpeg_evidence.proofs.Cut.CutPictures.{shown-same}
+use Rattle.jpeg_evidence.proofs.Cut.CutShown.{fault-end, rows-started}
 use Rattle.jpeg_evidence.proofs.Cut.CutSplits.{each-front}
 
 -- f of each, where it is always Ok
@@ -90,11 +92,6 @@ starts-shown : (settings : Settings) (part : List ℕ)
 unfolding shown shown_rest start_at
 starts-shown settings part = refl
 
-rows-started : (part : List ℕ)
-    → whole_rows (255 ∷ 216 ∷ part) ≡ rows_of_found (all_brought nothing_found part).rows (all_brought nothing_found part).found
-unfolding whole_rows whole_rows_rest start_at
-rows-started part = refl
-
 -- A stream that is cut after its SOI holds blocks of the image, and where the settings take the picture of what its
 -- whole segments say, the picture of these is shown.
 pub cut_images_are_shown : (settings : Settings) (array : Coefficients) (image part more : List ℕ)
@@ -102,12 +99,13 @@ pub cut_images_are_shown : (settings : Settings) (array : Coefficients) (image p
     → WritesImage array image final last → image ≡ (255 ∷ 216 ∷ part) ++ more
     → (said : Said) × (blocks : Coefficients) × HoldsCut array blocks part said (whole_rows (255 ∷ 216 ∷ part))
     × (TakesPicture settings said → (s : Shown) × (shown settings (255 ∷ 216 ∷ part) ≡ Ok s)
-    × (s.told ≡ told_of said) × (picture_held settings said blocks ≡ Ok s.picture))
+    × (s.told ≡ told_of said) × (picture_held settings said blocks ≡ Ok s.picture)
+    × ((more ≡ [] → ⊥) → s.fault ≡ Some End))
 cut_images_are_shown settings array image part more final last range w parts =
     let after : w.after ≡ part ++ more = cc in
-    let e : EndedAt array range part
+    let e : EndedAt array range part more
     = each-front array range nothing_said final (λ k. nothing_sent) last w.after w.written [] part more
-    (end nothing_said (λ k. nothing_sent) [] refl) (nothing-there array range) after in
+    (end nothing_said (λ k. nothing_sent) [] refl) (λ j. nothing-there array range j more) after in
     let found_same : (all_brought nothing_found part).found.said ≡ e.said = ap (λ (y : Found). y.said) e.found in (
       e.said,
       as_sent e.image e.levels,
@@ -122,6 +120,11 @@ cut_images_are_shown settings array image part more final last range w parts =
           let framed : (all_brought nothing_found part).found.said.frame ≡ Some f
           = ap (λ (y : Said). y.frame) found_same ∙ takes.is_said in
           let shows = shown-there settings (all_brought nothing_found part) f picture.0 framed
-          (ap (picture_shown settings) e.found ∙ same ∙ picture.1) in
-          (_, starts-shown settings part ∙ shows, ap told_of found_same, picture.1),
+          (ap (picture_shown settings) e.found ∙ same ∙ picture.1) in (
+            _,
+            starts-shown settings part ∙ shows,
+            ap told_of found_same,
+            picture.1,
+            λ some. fault-end (all_brought nothing_found part) (e.ends some),
+          ),
     )

@@ -37,9 +37,9 @@ use Rattle.jpeg_evidence.specs.EarlyEnds.{BlocksEndEarly, EndsEarly, RowsEndEarl
 use Rattle.jpeg_evidence.specs.EarlyEnds.BlocksEndEarly.{here, later}
 use Rattle.jpeg_evidence.specs.EarlyEnds.EndsEarly.{by_fault, by_marker}
 use Rattle.jpeg_evidence.specs.EarlyEnds.RowsEndEarly.{here_too, later_too}
-use Rattle.jpeg_evidence.proofs.Longer.FrontReaders.{FaultIn, TakesFront, bound-fault, err-same, fault-bind}
+use Rattle.jpeg_evidence.proofs.Longer.FrontReaders.{FaultIn, TakesFront, bound-fault, broken, err-same, fault-bind}
 use Rattle.jpeg_evidence.proofs.Longer.FrontReaders.FaultIn.{rule, short}
-use Rattle.jpeg_evidence.proofs.Longer.LongerBits.{turn-front}
+use Rattle.jpeg_evidence.proofs.Longer.LongerBits.{AreSized, turn-front}
 use Rattle.jpeg_evidence.proofs.Longer.LongerRows.{Rows, after_row, row-front}
 
 -- ---- the ends of data
@@ -118,9 +118,9 @@ text-end (b ∷ c ∷ bytes) h e =
 
 -- ---- what has a fault
 
-blocks-fault : (p : Pass) (vias : List Via) (spots : List Spot) (old : Reached) (bits : List Bool) (ps : List (List ℕ))
-    (g : Fault) → (reached_from p vias spots old (text bits ps (Broken End))).rest ≡ Err g
-    → FaultIn (turns_from p vias spots old) bits g
+pub blocks-fault : (p : Pass) (vias : List Via) (spots : List Spot) (old : Reached) (bits : List Bool)
+    (ps : List (List ℕ)) (g : Fault) → (reached_from p vias spots old (text bits ps (Broken End))).rest ≡ Err g
+    → FaultIn (AreSized vias) (turns_from p vias spots old) bits g
 unfolding reached_from turns_from TakesFront
 blocks-fault p vias [] old bits ps g h = absurd (err-ok g bits (sym h))
 blocks-fault p vias (s ∷ spots) old bits ps g h =
@@ -135,7 +135,7 @@ abbrev other_rows : List (List Table) → List ℕ → Reads Rows
 other_rows rows x t = read_on (λ (ys : Rows). gives (x ∷ ys)) (rows_by rows t)
 
 rows-fault : (rows : List (List Table)) (bits : List Bool) (ps : List (List ℕ)) (g : Fault)
-    → (rows_reached rows (text bits ps (Broken End))).1 ≡ Err g → FaultIn (rows_by rows) bits g
+    → (rows_reached rows (text bits ps (Broken End))).1 ≡ Err g → FaultIn ⊥ (rows_by rows) bits g
 unfolding rows_reached each TakesFront
 rows-fault [] bits ps g h = absurd (err-ok g bits (sym h))
 rows-fault (tables ∷ rows) bits ps g h =
@@ -237,7 +237,7 @@ broken-end {S} {A} read view bytes left h e r = go (cases_lt 56 (length (drop r.
         kinds early so (inr s) =
             unmet s.0 (early, record { value = view r.value; others = _; read = so; none = s.1 })
 
-rule-fault : (e : Ending) → fault_at e Malformed ≡ Malformed
+pub rule-fault : (e : Ending) → fault_at e Malformed ≡ Malformed
 rule-fault (Found m rest) = refl
 rule-fault (Broken f) = refl
 
@@ -246,14 +246,14 @@ refused-interval : {S A : Type 0} (view : S → A) (o : Result (S × Text) Fault
 refused-interval view o k f a b = rw (a, b) refl
 
 -- an interval of which not all is read
-short-interval : {S A : Type 0} (read : Reads S) (view : S → A) (bytes : List ℕ) (f g : Fault) (e : Ending)
-    → (text_at bytes).ending ≡ e → fault_at e g ≡ f → FaultIn read (text_at bytes).bits g
+short-interval : {S A sized : Type 0} (read : Reads S) (view : S → A) (bytes : List ℕ) (f g : Fault) (e : Ending)
+    → (text_at bytes).ending ≡ e → fault_at e g ≡ f → FaultIn sized read (text_at bytes).bits g
     → IntervalFault (closed_by view (read (upcoming fresh bytes))) (EndsEarly bytes (Err g)) f
 unfolding upcoming
 short-interval read view bytes f g e is h (rule m breaks_so) =
     let t = text_at bytes in
-    same (refused-interval view (read (upcoming fresh bytes)) Malformed f (breaks_so t.ending (drop 56 t.following))
-    (sym (ap (fault_at e) m ∙ rule-fault e) ∙ h))
+    same (refused-interval view (read (upcoming fresh bytes)) Malformed f
+    (broken read t.bits t.ending (drop 56 t.following) breaks_so) (sym (ap (fault_at e) m ∙ rule-fault e) ∙ h))
 short-interval read view bytes f g (Found k rest) is h (short m lacks_so) =
     other (by_marker k rest is (ap Err m)) (sym (sym (ap (fault_at (Found k rest)) m) ∙ h))
 short-interval read view bytes f g (Broken k) is h (short m lacks_so) =
@@ -263,8 +263,8 @@ short-interval read view bytes f g (Broken k) is h (short m lacks_so) =
     (sym (ap (fault_at (Broken k)) m) ∙ h))
 
 -- an interval that has a fault
-interval-by : {S A : Type 0} (read : Reads S) (view : S → A) (bytes : List ℕ) (f : Fault)
-    (o : Result (List Bool) Fault) → ((g : Fault) → o ≡ Err g → FaultIn read (text_at bytes).bits g)
+interval-by : {S A sized : Type 0} (read : Reads S) (view : S → A) (bytes : List ℕ) (f : Fault)
+    (o : Result (List Bool) Fault) → ((g : Fault) → o ≡ Err g → FaultIn sized read (text_at bytes).bits g)
     → ((left : List Bool) → o ≡ Ok left → ReadsAll read (text_at bytes).bits left) → (e : Ending)
     → (text_at bytes).ending ≡ e → interval_end e o ≡ Err f
     → IntervalFault (closed_by view (read (upcoming fresh bytes))) (EndsEarly bytes o) f

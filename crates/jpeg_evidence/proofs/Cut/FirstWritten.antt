@@ -26,7 +26,7 @@ use Rattle.jpeg_evidence.specs.FirstBlocks.{BeginsInterval, BeginsIntervals}
 use Rattle.jpeg_evidence.specs.FirstBlocks.BeginsIntervals.{beyond, within}
 use Rattle.jpeg_evidence.proofs.Longer.FrontReaders.{Front, TakesFront, bind-front, fault-read, gives-front}
 use Rattle.jpeg_evidence.proofs.Longer.FrontReaders.Front.{failed, gave}
-use Rattle.jpeg_evidence.proofs.Longer.LongerBits.{turn-front}
+use Rattle.jpeg_evidence.proofs.Longer.LongerBits.{AreSized, turn-front}
 use Rattle.jpeg_evidence.proofs.Longer.LongerData.{CanReadOf, Met, both, interval-stays, text-grows}
 use Rattle.jpeg_evidence.proofs.Longer.LongerScans.{CanReach, CanReachOf}
 use Rattle.jpeg_evidence.proofs.Longer.LongerScans.CanReach.{here, later}
@@ -39,15 +39,15 @@ use Rattle.jpeg_evidence.proofs.Cut.WrittenCuts.{stays-ready}
 -- ---- an interval
 
 turns-front : (p : Pass) (vias : List Via) (spots : List Spot) (old : Reached)
-    → TakesFront (turns_from p vias spots old)
+    → TakesFront (AreSized vias) (turns_from p vias spots old)
 unfolding turns_from
-turns-front p vias [] old = gives-front old
+turns-front p vias [] old = gives-front _ old
 turns-front p vias (s ∷ spots) old =
-    bind-front _ (turns_from p vias spots) (turn-front p vias s old) (λ x. turns-front p vias spots x)
+    bind-front _ _ (turns_from p vias spots) (turn-front p vias s old) (λ x. turns-front p vias spots x)
 
 -- What is read of bits, and of longer ones that begin with the bits that it was written in, begins with these.
 own-bits : (p : Pass) (vias : List Via) (spots : List Spot) (old : Reached) (bits more own others : List Bool)
-    → Front (turns_from p vias spots old) bits
+    → Front (AreSized vias) (turns_from p vias spots old) bits
     → (r : Reached × Text) × (turns_from p vias spots old (text bits [] (Broken End)) ≡ Ok r)
     → (r : Reached × Text) × (turns_from p vias spots old (text (own ++ others) [] (Broken End)) ≡ Ok r)
     × (r.1.bits ≡ others)

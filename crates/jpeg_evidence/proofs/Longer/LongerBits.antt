@@ -10,15 +10,27 @@ use Rattle.jpeg_segments.proofs.Codecs.{err-ok}
 use Rattle.jpeg_streams.specs.Brought.{Through, reached_from}
 use Rattle.jpeg_streams.specs.InTurn.{Reached, turn_from, turns_from}
 use Rattle.jpeg_streams.specs.Order.{Spot}
+use Rattle.jpeg_streams.specs.Scans.{via_at}
 use Rattle.jpeg_streams.proofs.Partial.ReachedIntervals.{after_turn}
 use Rattle.jpeg_evidence.specs.LongerStreams.{GoesOn}
 use Rattle.jpeg_evidence.proofs.Longer.FrontReaders.{Front, TakesFront, bind-front, block-front, fault-read, gives-front}
 use Rattle.jpeg_evidence.proofs.Longer.FrontReaders.{own-read}
 use Rattle.jpeg_evidence.proofs.Longer.FrontReaders.Front.{gave, failed}
 
-pub turn-front : (p : Pass) (vias : List Via) (s : Spot) (old : Reached) → TakesFront (turn_from p vias s old)
+-- the tables of a component have 16 counts, and those of all
+abbrev pub HasSized : Via → Type 0
+HasSized v = (length v.dc.counts ≡ 16) × (length v.ac.counts ≡ 16)
+
+abbrev pub AreSized : List Via → Type 0
+AreSized vias = (slot : ℕ) → HasSized (via_at vias slot)
+
+pub turn-front : (p : Pass) (vias : List Via) (s : Spot) (old : Reached)
+    → TakesFront (AreSized vias) (turn_from p vias s old)
 unfolding turn_from
-turn-front p vias s old = search (rules, bind-front, block-front, gives-front)
+turn-front p vias s old =
+    let dc : AreSized vias → length (via_at vias s.slot).dc.counts ≡ 16 = λ sized. (sized s.slot).0 in
+    let ac : AreSized vias → length (via_at vias s.slot).ac.counts ≡ 16 = λ sized. (sized s.slot).1 in
+    search (rules, bind-front, block-front, gives-front)
 
 -- The first of these blocks, so many, can be read of the bits alone.
 pub record CanRead (p : Pass) (vias : List Via) (spots : List Spot) (old : Reached) (bits : List Bool) (count : ℕ)
@@ -190,8 +202,8 @@ stops p vias [] old bits = none-stops p vias old bits
 stops p vias (s ∷ spots) old bits =
     go (turn-front p vias s old bits) (λ x left. stops p vias spots x left)
   where
-    go : Front (turn_from p vias s old) bits → ((x : Reached) (left : List Bool) → Stops p vias spots x left)
-        → Stops p vias (s ∷ spots) old bits
+    go : Front (AreSized vias) (turn_from p vias s old) bits
+        → ((x : Reached) (left : List Bool) → Stops p vias spots x left) → Stops p vias (s ∷ spots) old bits
     go (failed g is) others = failed-stops p vias s spots old bits g (λ ps. fault-read _ bits g ps is)
     go (gave own left x e r) others = next-stops p vias s spots old x own left bits e r (others x left)
 

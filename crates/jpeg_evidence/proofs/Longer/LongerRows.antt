@@ -24,13 +24,14 @@ Rows = List (List ℕ)
 
 -- ---- rows of bits
 
-difference-front : (table : Table) → TakesFront (sample_difference table)
+difference-front : (table : Table) → TakesFront ⊥ (sample_difference table)
 unfolding sample_difference
 difference-front table =
-    search (rules, bind-front, symbol-front, if-front, signed-front, gives-front, refused-front ℕ)
+    let none : ⊥ → length table.counts ≡ 16 = λ n. absurd n in
+    search (rules, bind-front, symbol-front, if-front, signed-front, gives-front, refused-front ⊥ ℕ)
 
-pub row-front : (tables : List Table) → TakesFront (each sample_difference tables)
-row-front tables = each-front sample_difference tables difference-front
+pub row-front : (tables : List Table) → TakesFront ⊥ (each sample_difference tables)
+row-front tables = each-front ⊥ sample_difference tables difference-front
 
 -- the others go on after these
 abbrev pub GoOn : {A : Type 0} → List A → List A → Type 0
@@ -97,7 +98,7 @@ unfolding TakesFront
 stops [] bits = none-stops bits
 stops (tables ∷ rows) bits = go (row-front tables bits) (λ left. stops rows left)
   where
-    go : Front (each sample_difference tables) bits → ((left : List Bool) → Stops rows left)
+    go : Front ⊥ (each sample_difference tables) bits → ((left : List Bool) → Stops rows left)
         → Stops (tables ∷ rows) bits
     go (failed g is) others = failed-stops tables rows bits g (λ ps. fault-read _ bits g ps is)
     go (gave own left x e r) others = next-stops tables rows x own left bits e r (others left)

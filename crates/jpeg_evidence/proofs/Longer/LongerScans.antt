@@ -24,7 +24,7 @@ use Rattle.jpeg_evidence.proofs.Longer.FirstSpots.{HasFirst, first-after, get-af
 use Rattle.jpeg_evidence.proofs.Longer.LongerData.{CanReadOf, IntervalGoes, Met, ReadsMost, StaysBrought, all-read}
 use Rattle.jpeg_evidence.proofs.Longer.LongerData.{both, interval-goes, interval-stays, puts-both, puts-of-more, puts-then}
 use Rattle.jpeg_evidence.proofs.Longer.LongerData.{reaches}
-use Rattle.jpeg_evidence.proofs.Longer.LongerSegments.{Stays, after-stays}
+use Rattle.jpeg_evidence.proofs.Longer.LongerSegments.{after-stays, stays-read}
 
 -- these spots, and those of more intervals
 abbrev pub with_groups : List Spot → List (List Spot) → List Spot
@@ -42,11 +42,10 @@ after-same k x b more h = go (x.0.0 && is_restart k x.0.1) h
 -- what follows the last interval is read so of longer data
 pub last-stays : {A B : Type 0} (more : List ℕ) (to : A → B) (r s : A × Met) → StaysBrought more r s
     → StaysBrought more (to r.0, outcomes.◌>>=◌ r.1 after_intervals) (to s.0, outcomes.◌>>=◌ s.1 after_intervals)
-unfolding Stays
 last-stays {A} {B} more to r s stays x h =
     let y = bind-ok r.1 after_intervals x h in
     ap (λ (q : A × Met). (to q.0, outcomes.◌>>=◌ q.1 after_intervals)) (stays y.0 y.1)
-    ∙ ap (λ (o : Outcome (Option Marker)). (to r.0, o)) (after-stays more y.0 x y.2)
+    ∙ ap (λ (o : Outcome (Option Marker)). (to r.0, o)) (stays-read more _ _ (after-stays more y.0) x y.2)
 
 -- and what follows another one, of the shorter data by `first` and of the longer by `second`
 pub next-stays : {A B : Type 0} (more : List ℕ) (k : ℕ)

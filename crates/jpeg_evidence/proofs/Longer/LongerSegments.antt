@@ -1,8 +1,8 @@
--- A segment that is read is read the same whatever bytes follow it.
+-- A segment that is read, or breaks a rule, does the same whatever bytes follow it.
 use Rattle.std.proofs.Common.{rules, ◌≡◌, ℕ, zero, suc, ◌≤◌, Bool, true, false, List, [], ◌∷◌, ◌++◌}
-use Rattle.std.proofs.Common.{ap, ◌∙◌, arith, length, length-append, Ok, Err, Result, Option, Some, None}
+use Rattle.std.proofs.Common.{ap, arith, length, length-append, refl, Ok, Err, Result, Option, Some, None}
 use Rattle.std.specs.Prelude.{if◌then◌else◌}
-use Rattle.jpeg_bits.specs.Reading.{Fault, Outcome, ◌>>=◌, next_byte, next_u16, length_at, skip_at, times}
+use Rattle.jpeg_bits.specs.Reading.{End, Fault, Outcome, ◌>>=◌, next_byte, next_u16, length_at, skip_at, times}
 use Rattle.jpeg_bits.specs.Marker.{found_or, marker_at, next_marker}
 use Rattle.jpeg_bits.specs.declared.marker.Marker.{Marker}
 use Rattle.jpeg_bits.specs.declared.marker.Marker.TheVariants.{RST}
@@ -13,36 +13,50 @@ use Rattle.jpeg_segments.specs.Quantization.{QuantizationTables, defined_table_a
 use Rattle.jpeg_segments.specs.ScanHeader.{Selector, band_at, count_at, selector_at, selectors_from, sos_at}
 use Rattle.jpeg_streams.specs.Brought.{after_intervals}
 use Rattle.jpeg_streams.specs.ScanSegments.{after_restarts}
-use Rattle.jpeg_segments.proofs.Codecs.{bind-ok, err-ok, ok-same}
+use Rattle.jpeg_segments.proofs.Codecs.{err-ok, ok-same}
 
 -- ---- readers of bytes
 
--- What is read of some bytes, o, is read of the same bytes with more after them.
-unfoldable pub Stays : {A : Type 0} → List ℕ → Outcome A → Outcome A → Type 0
-Stays {A} more o q = (x : A × List ℕ) → o ≡ Ok x → q ≡ Ok (x.0, x.1 ++ more)
+-- What is read of some bytes, o, is read of the same bytes with more after them, q; and so is a fault, but that the
+-- bytes end.
+pub data Stays {A : Type 0} (more : List ℕ) : Outcome A → Outcome A → Type 0 where
+  stays-ok : (x : A) (rest : List ℕ) → Stays more (Ok (x, rest)) (Ok (x, rest ++ more))
+  stays-err : (g : Fault) → Stays more (Err g) (Err g)
+  stays-end : (q : Outcome A) → Stays more (Err End) q
 
-pub stays-ok : {A : Type 0} (more : List ℕ) (x : A) (rest : List ℕ)
-    → Stays more (Ok (x, rest)) (Ok (x, rest ++ more))
-unfolding Stays
-stays-ok more x rest = λ y e. ap (λ (z : _ × List ℕ). Ok (z.0, z.1 ++ more)) (ok-same (x, rest) y e)
+-- what is read alone
+abbrev pub StaysRead : {A : Type 0} → List ℕ → Outcome A → Outcome A → Type 0
+StaysRead {A} more o q = (x : A × List ℕ) → o ≡ Ok x → q ≡ Ok (x.0, x.1 ++ more)
 
-pub stays-err : {A : Type 0} (more : List ℕ) (f : Fault) (q : Outcome A) → Stays more (Err f) q
-unfolding Stays
-stays-err more f q = λ y e. absurd (err-ok f y e)
+pub stays-read : {A : Type 0} (more : List ℕ) (o q : Outcome A) → Stays more o q → StaysRead more o q
+stays-read more o q (stays-ok x rest) y e = ap (λ (z : _ × List ℕ). Ok (z.0, z.1 ++ more)) (ok-same (x, rest) y e)
+stays-read more o q (stays-err g) y e = absurd (err-ok g y e)
+stays-read more o q (stays-end q') y e = absurd (err-ok End y e)
+
+pub nothing-left : (l more : List ℕ) → l ++ more ≡ [] → more ≡ []
+nothing-left [] more e = e
+nothing-left (a ∷ l) more e = absurd (let n : ⊥ = cc in n)
+
+-- Where longer bytes are read to their end, shorter ones end before.
+pub short-ends : {A : Type 0} (more : List ℕ) (o q : Outcome A) (x : A) → Stays more o q → q ≡ Ok (x, [])
+    → (more ≡ [] → ⊥) → o ≡ Err End
+short-ends more o q x (stays-ok y rest) e some =
+    absurd (some (nothing-left rest more (ap (λ (z : _ × List ℕ). z.1) (ok-same (y, rest ++ more) (x, []) e))))
+short-ends more o q x (stays-err g) e some = absurd (err-ok g (x, []) e)
+short-ends more o q x (stays-end q') e some = refl
 
 -- one after the other
 pub stays-bind : {A B : Type 0} (more : List ℕ) (o q : Outcome A) (f g : A × List ℕ → Outcome B) → Stays more o q
     → ((x : A × List ℕ) → Stays more (f x) (g (x.0, x.1 ++ more))) → Stays more (o >>= f) (q >>= g)
-unfolding Stays
-stays-bind more o q f g h each = λ y e.
-    let x = bind-ok o f y e in ap (λ (p : Outcome _). p >>= g) (h x.0 x.1) ∙ each x.0 y x.2
+stays-bind more o q f g (stays-ok x rest) each = each (x, rest)
+stays-bind more o q f g (stays-err e) each = stays-err e
+stays-bind more o q f g (stays-end q') each = stays-end _
 
 -- after what reads no bytes
 pub stays-after : {A B : Type 0} (more : List ℕ) (o : Result A Fault) (f g : A → Outcome B)
     → ((x : A) → Stays more (f x) (g x)) → Stays more (o >>= f) (o >>= g)
-unfolding Stays
 stays-after more (Ok x) f g each = each x
-stays-after more (Err e) f g each = λ y h. absurd (err-ok e y h)
+stays-after more (Err e) f g each = stays-err e
 
 pub stays-if : {A : Type 0} (more : List ℕ) (b : Bool) (o q u v : Outcome A) → Stays more o q → Stays more u v
     → Stays more (if b then o else u) (if b then q else v)
@@ -50,8 +64,8 @@ stays-if more true o q u v h k = h
 stays-if more false o q u v h k = k
 
 pub byte-stays : (more bytes : List ℕ) → Stays more (next_byte bytes) (next_byte (bytes ++ more))
-byte-stays more [] = stays-err more _ _
-byte-stays more (b ∷ bytes) = stays-ok more b bytes
+byte-stays more [] = stays-end _
+byte-stays more (b ∷ bytes) = stays-ok b bytes
 
 pub u16-stays : (more bytes : List ℕ) → Stays more (next_u16 bytes) (next_u16 (bytes ++ more))
 unfolding next_u16
@@ -65,7 +79,7 @@ pub times-stay : {A : Type 0} (more : List ℕ) (n : ℕ) (read : List ℕ → O
     → ((bytes : List ℕ) → Stays more (read bytes) (read (bytes ++ more)))
     → Stays more (times n read bytes) (times n read (bytes ++ more))
 unfolding times
-times-stay more zero read bytes h = stays-ok more [] bytes
+times-stay more zero read bytes h = stays-ok [] bytes
 times-stay more (suc n) read bytes h =
     let others : (bytes : List ℕ) → Stays more (times n read bytes) (times n read (bytes ++ more))
     = λ bytes. times-stay more n read bytes h in
@@ -153,7 +167,7 @@ factors-stay more lossless front bytes = search (rules, stays-bind, byte-stays, 
 components-stay : (more : List ℕ) (lossless : Bool) (n : ℕ) (front : List Factors) (bytes : List ℕ)
     → Stays more (components_from lossless n front bytes) (components_from lossless n front (bytes ++ more))
 unfolding components_from
-components-stay more lossless zero front bytes = stays-ok more front bytes
+components-stay more lossless zero front bytes = stays-ok front bytes
 components-stay more lossless (suc n) front bytes =
     let others : (front : List Factors) (bytes : List ℕ) → Stays more (components_from lossless n front bytes)
     (components_from lossless n front (bytes ++ more))
@@ -178,7 +192,7 @@ selector-stays more frame least bytes = search (rules, stays-bind, byte-stays, s
 selectors-stay : (more : List ℕ) (frame : Frame) (n : ℕ) (front : List Selector) (least : ℕ) (bytes : List ℕ)
     → Stays more (selectors_from frame n front least bytes) (selectors_from frame n front least (bytes ++ more))
 unfolding selectors_from
-selectors-stay more frame zero front least bytes = stays-ok more front bytes
+selectors-stay more frame zero front least bytes = stays-ok front bytes
 selectors-stay more frame (suc n) front least bytes =
     let others : (front : List Selector) (least : ℕ) (bytes : List ℕ) → Stays more
     (selectors_from frame n front least bytes) (selectors_from frame n front least (bytes ++ more))
@@ -205,12 +219,12 @@ sos-stays more frame bytes =
 found-stays : (more : List ℕ) (o : Option Marker) (rest : List ℕ) (p q : Outcome Marker) → Stays more p q
     → Stays more (found_or o rest p) (found_or o (rest ++ more) q)
 found-stays more None rest p q h = h
-found-stays more (Some m) rest p q h = stays-ok more m rest
+found-stays more (Some m) rest p q h = stays-ok m rest
 
 pub next-stays : (more bytes : List ℕ) → Stays more (next_marker bytes) (next_marker (bytes ++ more))
 unfolding next_marker
-next-stays more [] = stays-err more _ _
-next-stays more (a ∷ []) = stays-err more _ _
+next-stays more [] = stays-end _
+next-stays more (a ∷ []) = stays-end _
 next-stays more (a ∷ b ∷ rest) =
     found-stays more (marker_at a b) rest (next_marker (b ∷ rest)) (next_marker (b ∷ rest ++ more))
     (next-stays more (b ∷ rest))
@@ -226,14 +240,14 @@ marker-stays more met bytes = found-stays more met bytes _ _ (next-stays more by
 pub restarts-stay : (more : List ℕ) (turns others : ℕ) (met : Option Marker) (bytes : List ℕ) → turns ≤ others
     → Stays more (after_restarts turns met bytes) (after_restarts others met (bytes ++ more))
 unfolding after_restarts
-restarts-stay more zero others met bytes h = stays-err more _ _
+restarts-stay more zero others met bytes h = stays-end _
 restarts-stay more (suc turns) zero met bytes h = absurd (omega arith)
 restarts-stay more (suc turns) (suc others) (Some (RST n)) bytes h =
     stays-bind more (next_marker bytes) (next_marker (bytes ++ more))
     (λ (m : Marker × List ℕ). after_restarts turns (Some m.0) m.1)
     (λ (m : Marker × List ℕ). after_restarts others (Some m.0) m.1) (next-stays more bytes)
     (λ m. restarts-stay more turns others (Some m.0) m.1 (omega arith))
-restarts-stay more (suc turns) (suc others) met bytes h = stays-ok more met bytes
+restarts-stay more (suc turns) (suc others) met bytes h = stays-ok met bytes
 
 -- after the last interval of a scan
 pub after-stays : (more : List ℕ) (r : (Bool × Option Marker) × List ℕ)
@@ -242,4 +256,4 @@ after-stays more r =
     stays-if more r.0.0 _ _ _ _
     (restarts-stay more (suc (length r.1)) (suc (length (r.1 ++ more))) r.0.1 r.1
     (omega (arith, length-append r.1 more)))
-    (stays-ok more r.0.1 r.1)
+    (stays-ok r.0.1 r.1)

@@ -39,21 +39,22 @@ use Rattle.jpeg_evidence.specs.LongerStreams.ComesBy.{in_front, in_rows, in_scan
 use Rattle.jpeg_evidence.proofs.Longer.LongerData.{StaysBrought, both, interval-stays}
 use Rattle.jpeg_evidence.proofs.Longer.LongerRows.{longer_rows_go_on, scan-rows-stay}
 use Rattle.jpeg_evidence.proofs.Longer.LongerScans.{last-stays, longer_data_read_on, next-stays}
-use Rattle.jpeg_evidence.proofs.Longer.LongerSegments.{Stays, app-stays, dht-stays, dqt-stays, dri-stays}
+use Rattle.jpeg_evidence.proofs.Longer.LongerSegments.{Stays, StaysRead, app-stays, dht-stays, dqt-stays, dri-stays}
 use Rattle.jpeg_evidence.proofs.Longer.LongerSegments.{length-stays, marker-stays, skip-stays, sof-stays, sos-stays}
-use Rattle.jpeg_evidence.proofs.Longer.LongerSegments.{stays-after, stays-bind, stays-err, stays-if, stays-ok}
+use Rattle.jpeg_evidence.proofs.Longer.LongerSegments.{stays-after, stays-bind, stays-if, stays-read}
+use Rattle.jpeg_evidence.proofs.Longer.LongerSegments.Stays.{stays-err, stays-ok}
 use Rattle.jpeg_streams.specs.declared.beyond.Beyond.TheVariants.{Nothing}
 
 -- ---- segments
 
 -- the turn that a segment leads to, and the blocks or the rows of MCUs of a scan of which some are brought
 pub record TurnGoes (more : List ℕ) (found : Found) (b c : Brought) : Type 0 where
-  pub turn : Stays more b.turn c.turn
+  pub turn : StaysRead more b.turn c.turn
   adds : (b.found ≡ found) ⊎ (ScanGoesOn found b.found c.found ⊎ RowScanGoesOn found b.found c.found)
 
 plain-goes : (more : List ℕ) (found : Found) (o q : Outcome Turn) → Stays more o q
     → TurnGoes more found (unbrought found o) (unbrought found q)
-plain-goes more found o q h = record { turn = h; adds = inl refl }
+plain-goes more found o q h = record { turn = stays-read more o q h; adds = inl refl }
 
 -- ---- a scan of blocks
 
@@ -85,8 +86,7 @@ abbrev pub scan_led : {A : Type 0} → Found → (A → Found) → A × Outcome 
 scan_led found to r = outcomes.◌>>=◌ r.1 (λ m. Ok (scan_turn found (to r.0) m.0, m.1))
 
 led-stays : {A : Type 0} (more : List ℕ) (found : Found) (to : A → Found) (r s : A × Outcome (Option Marker))
-    → StaysBrought more r s → Stays more (scan_led found to r) (scan_led found to s)
-unfolding Stays
+    → StaysBrought more r s → StaysRead more (scan_led found to r) (scan_led found to s)
 led-stays {A} more found to r s stays = λ x h.
     let m = bind-ok r.1 (λ (m : Option Marker × List ℕ). Ok (scan_turn found (to r.0) m.0, m.1)) x h in
     ap (λ (q : A × Outcome (Option Marker)). scan_led found to q) (stays m.0 m.1)
@@ -126,7 +126,7 @@ brought_of found by o = elim o as (λ _. Brought) [ Ok x ↦ by x | Err fault �
 read-goes : {A : Type 0} (more : List ℕ) (found : Found) (o q : Result A Fault) (f g : A → Brought) (to : A → A)
     → ((x : A) → o ≡ Ok x → q ≡ Ok (to x)) → ((x : A) → TurnGoes more found (f x) (g (to x)))
     → TurnGoes more found (brought_of found f o) (brought_of found g q)
-read-goes more found (Err k) q f g to stays each = record { turn = stays-err more k _; adds = inl refl }
+read-goes more found (Err k) q f g to stays each = record { turn = λ x e. absurd (err-ok k x e); adds = inl refl }
 read-goes {A} more found (Ok x) q f g to stays each =
     subst (λ (z : Result A Fault). TurnGoes more found (f x) (brought_of found g z)) (sym (stays x refl)) (each x)
 
@@ -183,7 +183,7 @@ samples-go more found frame scan bytes =
         (if b then samples_brought_by found frame scan codings bytes else unbrought found (Err Malformed))
         (if b then samples_brought_by found frame scan codings (bytes ++ more) else unbrought found (Err Malformed))
     whole codings true = coded-rows-go more found frame scan codings bytes
-    whole codings false = plain-goes more found _ _ (stays-err more Malformed _)
+    whole codings false = plain-goes more found _ _ (stays-err Malformed)
 
 by-goes : (more : List ℕ) (process : CodingProcess) (found : Found) (frame : Frame) (scan : Scan) (bytes : List ℕ)
     → TurnGoes more found (brought_by process found frame scan bytes) (brought_by process found frame scan (bytes ++ more))
@@ -207,13 +207,13 @@ later_header more x = (x.0, (x.1.0, x.1.1 ++ more))
 
 framed-stays : (more : List ℕ) (found : Found) (bytes : List ℕ) (x : FoundHeader)
     → frame_and_scan found bytes ≡ Ok x → frame_and_scan found (bytes ++ more) ≡ Ok (later_header more x)
-unfolding Stays
 framed-stays more found bytes x h = go (needed found.said.frame) h
   where
     at : (frame : Frame) → header_by bytes frame ≡ Ok x → header_by (bytes ++ more) frame ≡ Ok (later_header more x)
     at frame h =
         let s = bind-ok (sos_at frame bytes) (with_frame frame) x h in
-        ap (λ (o : Outcome Scan). outcomes.◌>>=◌ o (with_frame frame)) (sos-stays more frame bytes s.0 s.1)
+        ap (λ (o : Outcome Scan). outcomes.◌>>=◌ o (with_frame frame))
+        (stays-read more _ _ (sos-stays more frame bytes) s.0 s.1)
         ∙ ap (λ (y : FoundHeader). Ok (later_header more y)) (ok-same (frame, s.0) x s.2)
 
     go : (o : Result Frame Fault) → outcomes.◌>>=◌ o (header_by bytes) ≡ Ok x
@@ -233,37 +233,37 @@ scan-goes more found bytes =
     read-goes more found (frame_and_scan found bytes) (frame_and_scan found (bytes ++ more)) by by (later_header more)
     (framed-stays more found bytes) (λ x. by-goes more x.0.process found x.0 x.1.0 x.1.1)
 
-pub segment-goes : (more : List ℕ) (m : Marker) (before : Before) (found : Found) (bytes : List ℕ)
+-- a segment that is no scan
+pub segment-stays : (more : List ℕ) (m : Marker) (before : Before) (found : Found) (bytes : List ℕ)
+    → Stays more (segment_at m before found bytes) (segment_at m before found (bytes ++ more))
+unfolding segment_at frame_segment end_segment
+segment-stays more (SOF n) before found bytes =
+    search (rules, stays-if, stays-err, stays-bind, sof-stays, stays-after, stays-ok) depth 12
+segment-stays more DQT before found bytes = search (rules, stays-bind, dqt-stays, stays-ok)
+segment-stays more DHT before found bytes = search (rules, stays-bind, dht-stays, stays-ok)
+segment-stays more EOI before found bytes = search (rules, stays-if, stays-ok, stays-err)
+segment-stays more DRI before found bytes = search (rules, stays-bind, dri-stays, stays-ok)
+segment-stays more (APP n) before found bytes = search (rules, stays-bind, app-stays, stays-ok)
+segment-stays more COM before found bytes = search (rules, stays-bind, length-stays, skip-stays, stays-ok)
+segment-stays more (RST n) Elsewhere found bytes = stays-err _
+segment-stays more (RST n) before found bytes = stays-ok _ bytes
+segment-stays more DNL Elsewhere found bytes = stays-err _
+segment-stays more m before found bytes = stays-err _
+
+segment-goes : (more : List ℕ) (m : Marker) (before : Before) (found : Found) (bytes : List ℕ)
     → TurnGoes more found (brought_after Nothing m before found bytes) (brought_after Nothing m before found (bytes ++ more))
-unfolding brought_after scan_turn_at segment_at frame_segment end_segment
+unfolding brought_after scan_turn_at
 segment-goes more SOS before found bytes = scan-goes more found bytes
-segment-goes more (SOF n) before found bytes = plain-goes more found _ _
-    (search (rules, stays-if, stays-err, stays-bind, sof-stays, stays-after, stays-ok) depth 12)
-segment-goes more DQT before found bytes =
-    plain-goes more found _ _ (search (rules, stays-bind, dqt-stays, stays-ok))
-segment-goes more DHT before found bytes =
-    plain-goes more found _ _ (search (rules, stays-bind, dht-stays, stays-ok))
-segment-goes more EOI before found bytes =
-    plain-goes more found _ _ (search (rules, stays-if, stays-ok, stays-err))
-segment-goes more DRI before found bytes =
-    plain-goes more found _ _ (search (rules, stays-bind, dri-stays, stays-ok))
-segment-goes more (APP n) before found bytes =
-    plain-goes more found _ _ (search (rules, stays-bind, app-stays, stays-ok))
-segment-goes more COM before found bytes =
-    plain-goes more found _ _ (search (rules, stays-bind, length-stays, skip-stays, stays-ok))
-segment-goes more (RST n) Elsewhere found bytes = plain-goes more found _ _ (stays-err more _ _)
-segment-goes more (RST n) before found bytes = plain-goes more found _ _ (stays-ok more _ bytes)
-segment-goes more DNL Elsewhere found bytes = plain-goes more found _ _ (stays-err more _ _)
-segment-goes more m before found bytes = plain-goes more found _ _ (stays-err more _ _)
+segment-goes more m before found bytes = plain-goes more found _ _ (segment-stays more m before found bytes)
 
 turn-goes : (more : List ℕ) (before : Before) (found : Found) (met : Option Marker) (bytes : List ℕ)
     → TurnGoes more found (turn_at Nothing before found met bytes) (turn_at Nothing before found met (bytes ++ more))
-unfolding turn_at Stays
+unfolding turn_at
 turn-goes more before found met bytes =
     let by : Marker × List ℕ → Brought = λ m. brought_after Nothing m.0 before found m.1 in
     read-goes more found (found_or met bytes (next_marker bytes))
     (found_or met (bytes ++ more) (next_marker (bytes ++ more))) by by (λ m. (m.0, m.1 ++ more))
-    (marker-stays more met bytes) (λ m. segment-goes more m.0 before found m.1)
+    (stays-read more _ _ (marker-stays more met bytes)) (λ m. segment-goes more m.0 before found m.1)
 
 -- ---- the walk
 
@@ -322,7 +322,6 @@ after-goes : (more : List ℕ) (n k : ℕ) (before : Before) (found : Found) (me
     ≡ walk Nothing (suc k) false before found met (bytes ++ more)
     → (o : Outcome Turn) → b.turn ≡ o
     → Goes more (walk_on n b o) (walked_after Nothing k (turn_at Nothing before found met (bytes ++ more)))
-unfolding Stays
 after-goes more n k before found met bytes b t others whole (Err g) e =
     stopped-goes more b.found b.rows g (walked_after Nothing k (turn_at Nothing before found met (bytes ++ more)))
     (fault-goes more k before found b.found met bytes _ whole t.adds)

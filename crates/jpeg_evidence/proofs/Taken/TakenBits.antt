@@ -124,7 +124,7 @@ cut-front : (P : List Bool → Type 0) (n : ℕ) (bits : List Bool) (t : Text) �
     → P (take n bits) → IsCut P bits t
 cut-front P n bits t e h = grind (arith, drop-nil, take-append-drop)
 
-front-number : (n : ℕ) (bits : List Bool) → n ≤ length bits
+pub front-number : (n : ℕ) (bits : List Bool) → n ≤ length bits
     → (low_bits n (number_of (take n bits)) ≡ take n bits) × (number_of (take n bits) < 2 ^ n)
 front-number n bits le =
     let size : length (take n bits) ≡ n = omega (arith, length-take n bits) in
