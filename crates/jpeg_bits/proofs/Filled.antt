@@ -1,12 +1,12 @@
 -- A buffer that is filled from the front by reads.
 use Rattle.jpeg_bits.specs.declared.error.Error.TheVariants as errors
 use Rattle.std.proofs.Common.{◌≡◌, ℕ, ◌<◌, ◌≤◌, ◌^◌, Bool, true, false, not, ◌&&◌, List, ◌++◌, length, take, ◌∙◌}
-use Rattle.std.proofs.Common.{Option, Result, Ok, arith, length-append, ltb, zero, suc, ◌+◌, ◌-◌, [], ◌∷◌, Err, refl, sym, ap}
+use Rattle.std.proofs.Common.{Option, Result, Ok, arith, length-append, ltb, zero, suc, ◌+◌, ◌-◌, [], ◌∷◌, Err, refl, sym, ap, subst}
 use Rattle.std.proofs.Common.{append_assoc, length-take, length-take-le}
 use Rattle.std.specs.Io.KnownBytes.{Keeps, Consumes, IsAtEnd}
 use Rattle.std.proofs.lemmas.Bool.{false≢true}
 use Rattle.jpeg_bits.specs.Stream.{Stream, stream_of}
-use Rattle.jpeg_bits.specs.Reading.{ReadsSome, Outcome, Fault, End, Answers, NamesEnd, next_byte, times, ◌>>=◌, skip_at}
+use Rattle.jpeg_bits.specs.Reading.{ReadsSome, Outcome, Fault, End, Answers, MayFail, Names, next_byte, times, ◌>>=◌, skip_at}
 use Rattle.std.proofs.lemmas.List.{append-nil, take-append-le, take_all}
 use Rattle.std.proofs.Math.Seq.{take-append-add}
 use borrow.Rule.Slice.PartMut.{put_mid}
@@ -83,24 +83,29 @@ pub filled-all : (old new : Stream) (at n : ℕ) (items : List ℕ) → length i
     → Answers (λ (u : Unit {0}). items) (times n next_byte) old (Ok tt) new
 filled-all old new at n items long full p = grind (arith, take_all, bytes-read)
 
--- the bytes end before the buffer is full
-pub filled-short : (old cur new : Stream) (at count n : ℕ) (items part : List ℕ) (e : Error)
-    → length items ≡ n → at < n → count ≡ 0 → 0 < length part → HasFilled old (take at items) cur
-    → ReadsSome cur (Ok count) part new → NamesEnd e
+-- no byte is left before the buffer is full
+named-end : (n at : ℕ) (items bytes rest : List ℕ) (e : Error) → length items ≡ n → at < n
+    → bytes ≡ take at items ++ rest → Names e (next_byte rest) → Names e (times n next_byte bytes)
+named-end n at items bytes [] (errors.Io x) long less is h =
+    let short : length bytes < n = grind (arith, append-nil, length-take-le) in
+    (bytes-end bytes n short, h.1)
+named-end n at items bytes (b ∷ rest) (errors.Io x) long less is h = grind arith
+named-end n at items bytes [] (errors.Format text) long less is h = grind arith
+named-end n at items bytes (b ∷ rest) (errors.Format text) long less is h = grind arith
+named-end n at items bytes [] (errors.Unsupported feature) long less is h = grind arith
+named-end n at items bytes (b ∷ rest) (errors.Unsupported feature) long less is h = grind arith
+named-end n at items bytes rest (errors.Internal text) long less is h = absurd h
+named-end n at items bytes rest errors.OutOfMemory long less is h = tt
+
+-- a read is refused, or the bytes end before the buffer is full
+pub filled-err : (old cur new : Stream) (at n : ℕ) (items : List ℕ) (e : Error) → length items ≡ n
+    → at < n → HasFilled old (take at items) cur → Answers (λ (b : ℕ). b) next_byte cur (Err e) new
     → Answers (λ (u : Unit {0}). items) (times n next_byte) old (Err e) new
-filled-short old cur new at count n items part e long less none some p r named =
-    grind (arith, append-nil, length-take-le, bytes-end, false≢true)
-
--- a read is refused
-pub filled-err : (n : ℕ) (old cur new : Stream) (front part : List ℕ) (e : Error) → HasFilled old front cur
-    → ReadsSome cur (Err e) part new
-    → Answers (λ (u : Unit {0}). front) (times n next_byte) old (Err e) new
-filled-err n old cur new front part e p r = grind arith
-
--- a read is not refused for lack of memory
-pub filled-room : (old cur new : Stream) (front part : List ℕ) (e : Error)
-    → HasFilled old front cur → ReadsSome cur (Err e) part new → old.known ≡ true → e ≡ errors.OutOfMemory → ⊥
-filled-room old cur new front part e p r known is = grind arith
+filled-err old cur new at n items e long less p r = (
+  subst (λ (f : Bool). MayFail e f new.failed) p.0 r.0,
+  λ known left. named-end n at items old.bytes cur.bytes e long less (p.1 known).1 (r.1 (p.1 known).0 left),
+  λ known lost. r.2 (p.1 known).0 lost,
+)
 
 -- passing over bytes is reading some, and passing over the others
 skip-bytes : (n more : ℕ) (bytes : List ℕ)

@@ -10,7 +10,7 @@ use Rattle.std.proofs.lemmas.Result.{err_from_is_err_and}
 use Rattle.std.proofs.lemmas.List.{get_or_default}
 use Rattle.jpeg_bits.proofs.PieceWalks.{at-start, at-end, clear_from, set_after, marks-later, gap-some}
 use Rattle.jpeg_bits.proofs.CodeLemmas.{first_le, index_within, row_found, row_missed, above_more, none_found}
-use Rattle.jpeg_bits.proofs.Filled.{skip-refused as bytes-refused, skip-goes, skip-none, filled-err, filled-room}
+use Rattle.jpeg_bits.proofs.Filled.{skip-refused as bytes-refused, skip-goes, skip-none, filled-err}
 use Rattle.jpeg_bits.proofs.Filled.{filled-all, reads_some, answers-after, answered-later}
 use Rattle.std.proofs.KnownBytes.{Keeps-refl, Keeps-trans}
 use Rattle.jpeg_bits.proofs.Reservoirs.{front_number, front_below}
@@ -28,7 +28,7 @@ use Rattle.jpeg_bits.proofs.TakenBytes.{takes-first}
 pub ruleset filled = (filled-less, filled-long)
 
 -- `read_exact`
-pub ruleset exact = (err_from_is_err_and, filled-err, filled-room, filled-all)
+pub ruleset exact = (err_from_is_err_and, filled-err, filled-all)
 
 -- `skip_by`
 pub ruleset passed = (common_steps, err_from_is_err_and, bytes-refused, skip-goes, skip-none)

@@ -129,18 +129,35 @@ fn read_count<R: Read + Drop>(alloc: Global, source: &mut Source<R>) -> Result<u
     }
     let count = read_u8(alloc, source)?;
     if count == 0 || count > 4 {
-        return Err(format_error_of(format!(in alloc;
-            "number of components Ns={count} in a scan, expected 1 to 4"
-        )));
+        return Err(count_error(alloc, count));
     }
     if left != 4 + 2 * u16::from(count) {
-        return Err(format_error_of(format!(in alloc;
-            "scan header length {}, expected {} for Ns={count}",
-            u32::from(left) + 2,
-            6 + 2 * u16::from(count)
-        )));
+        return Err(length_error(alloc, left, count));
     }
     Ok(count)
+}
+
+/// Returns the refusal of a scan's number of components.
+#[cold]
+#[inline(never)]
+fn count_error(alloc: Global, count: u8) -> Error
+    ensures { NamesFormat result }
+{
+    format_error_of(format!(in alloc; "number of components Ns={count} in a scan, expected 1 to 4"))
+}
+
+/// Returns the refusal of a scan header's length, which `left` bytes follow, for `count`
+/// components.
+#[cold]
+#[inline(never)]
+fn length_error(alloc: Global, left: u16, count: u8) -> Error
+    ensures { NamesFormat result }
+{
+    format_error_of(format!(in alloc;
+        "scan header length {}, expected {} for Ns={count}",
+        u32::from(left) + 2,
+        6 + 2 * u16::from(count)
+    ))
 }
 
 fn position_of(components: &[Component], identifier: u8) -> Option<usize>
@@ -248,13 +265,21 @@ fn read_selector<R: Read + Drop>(
     let identifier = read_u8(alloc, source)?;
     match index_of(&frame.components, identifier) {
         Some(index) if index >= least => read_tables(alloc, source, frame, index),
-        Some(_) => Err(format_error_of(format!(in alloc;
-            "component identifier {identifier} is out of the frame's order"
-        ))),
-        None => Err(format_error_of(format!(in alloc;
-            "component identifier {identifier} is not in the frame"
-        ))),
+        found => Err(identifier_error(alloc, identifier, found.is_some())),
     }
+}
+
+/// Returns the refusal of a component identifier, which the frame has or not.
+#[cold]
+#[inline(never)]
+fn identifier_error(alloc: Global, identifier: u8, is_known: bool) -> Error
+    ensures { NamesFormat result }
+{
+    format_error_of(if is_known {
+        format!(in alloc; "component identifier {identifier} is out of the frame's order")
+    } else {
+        format!(in alloc; "component identifier {identifier} is not in the frame")
+    })
 }
 
 /// Reads as many components as the slice has elements.
@@ -538,15 +563,32 @@ fn read_band<R: Read + Drop>(
         low: levels % 16,
     };
     if band.low >= frame.precision {
-        return Err(format_error_of(format!(in alloc;
-            "point transform Al={}, expected less than the sample precision {}",
-            band.low, frame.precision
-        )));
+        return Err(level_error(alloc, band.low, frame.precision));
     }
     if !is_band(frame.coding_process, selectors.len(), band) {
         return Err(band_error(alloc, frame.coding_process, selectors.len(), band));
     }
     Ok(header_of(frame.coding_process, selectors, band))
+}
+
+/// Returns the refusal of a level that is no less than the precision.
+#[cold]
+#[inline(never)]
+fn level_error(alloc: Global, low: u8, precision: u8) -> Error
+    ensures { NamesFormat result }
+{
+    format_error_of(format!(in alloc;
+        "point transform Al={low}, expected less than the sample precision {precision}"
+    ))
+}
+
+/// Returns the refusal of an MCU of several components with too many blocks.
+#[cold]
+#[inline(never)]
+fn blocks_error(alloc: Global, blocks: u32) -> Error
+    ensures { NamesFormat result }
+{
+    format_error_of(format!(in alloc; "{blocks} blocks in an MCU, expected at most 10"))
 }
 
 /// Reads a scan header as `parse_sos` does, with the same errors, and returns it with its lists
@@ -565,10 +607,7 @@ pub fn read_scan_header<R: Read + Drop>(
     let selectors = &mut selectors[..count];
     read_selectors(alloc, source, frame, selectors)?;
     if !is_mcu(selectors) {
-        let blocks = total(selectors);
-        return Err(format_error_of(format!(in alloc;
-            "{blocks} blocks in an MCU, expected at most 10"
-        )));
+        return Err(blocks_error(alloc, total(selectors)));
     }
     read_band(alloc, source, frame, selectors)
 }

@@ -88,7 +88,28 @@ impl Buffer {
     }
 
     /// Takes as many bytes as there are and as the buffer has room for, and returns their number.
+    #[inline(always)]
     pub(super) fn take_into(&mut self, buffer: &mut [u8]) -> usize
+        ensures len { length buffer.new ≡ length buffer.old }
+        ensures count { result ≡ min (length self.old) (length buffer.old) }
+        ensures taken { self.old ≡ take result buffer.new ++ self.new }
+    {
+        // Segments are mostly read byte by byte.
+        if buffer.len() != 1 {
+            return self.take_several(buffer);
+        }
+        match self.take() {
+            Some(byte) => {
+                buffer[0] = byte;
+                1
+            }
+            None => 0,
+        }
+    }
+
+    /// Takes as many bytes as there are and as the buffer has room for, and returns their number.
+    #[inline(never)]
+    fn take_several(&mut self, buffer: &mut [u8]) -> usize
         ensures len { length buffer.new ≡ length buffer.old }
         ensures count { result ≡ min (length self.old) (length buffer.old) }
         ensures taken { self.old ≡ take result buffer.new ++ self.new }

@@ -1,10 +1,10 @@
 //! Reads of a source: bytes, numbers and skips.
 ghost use Rattle.std.specs.Prelude.{◌≡◌, ◌<◌, true, Err, IfOk, length};
 ghost use Rattle.jpeg_bits.specs.Reading.{Answers, IsShort, Malformed, next_byte, next_u16};
-ghost use Rattle.jpeg_bits.specs.Reading.{length_at, skip_at, times};
+ghost use Rattle.jpeg_bits.specs.Reading.{NamesFormat, length_at, skip_at, times};
 ghost use Rattle.jpeg_bits.specs.declared.error.Error.TheVariants.{OutOfMemory};
 
-use crate::error::{Result, end_of_bytes, format_error_of};
+use crate::error::{Error, Result, format_error_of};
 use crate::source::Source;
 use std::alloc::Global;
 use std::io::Read;
@@ -17,19 +17,14 @@ pub fn read_u8<R: Read + Drop>(alloc: Global, source: &mut Source<R>) -> Result<
         → next_byte source.old.bytes ≡ Err Malformed }
     ensures short { IsShort source.old }
 {
-    let mut refusal = None;
-    match source.next(alloc, &mut refusal) {
-        Some(Some(byte)) => Ok(byte),
-        Some(None) => Err(end_of_bytes()),
-        None => match refusal {
-            Some(error) => Err(error),
-            None => unreachable!(),
-        },
-    }
+    let mut buffer = [0u8];
+    source.read_some(alloc, &mut buffer)?;
+    Ok(buffer[0])
 }
 
 /// Reads the next two bytes as a number, the higher first (T.81, B.1.1.1). The errors are those of
 /// `read_u8`.
+#[inline(always)]
 #[tactic(auto, unfolding(crate::specs::Reading::next_u16))]
 pub fn read_u16_be<R: Read + Drop>(alloc: Global, source: &mut Source<R>) -> Result<u16>
     ensures answers { Answers (λ n. n) next_u16 source.old result source.new }
@@ -52,15 +47,23 @@ pub fn read_length<R: Read + Drop>(alloc: Global, source: &mut Source<R>) -> Res
 {
     let length = read_u16_be(alloc, source)?;
     if length < 2 {
-        return Err(format_error_of(format!(in alloc;
-            "segment length {length}, expected at least 2"
-        )));
+        return Err(length_error(alloc, length));
     }
     Ok(length - 2)
 }
 
+/// Returns the refusal of a length field that doesn't count itself.
+#[cold]
+#[inline(never)]
+fn length_error(alloc: Global, length: u16) -> Error
+    ensures { NamesFormat result }
+{
+    format_error_of(format!(in alloc; "segment length {length}, expected at least 2"))
+}
+
 /// Fills the buffer with the next bytes, in as many reads as the reader needs for it. The errors
 /// are those of `read_u8`; the content of the buffer is then unspecified.
+#[inline(always)]
 #[tactic(auto, using(crate::proofs::Rules::exact))]
 pub fn read_exact<R: Read + Drop>(
     alloc: Global,
@@ -75,11 +78,7 @@ pub fn read_exact<R: Read + Drop>(
 {
     let mut filled = 0;
     while filled < buffer.len() {
-        let count = source.read(alloc, &mut buffer[filled..])?;
-        if count == 0 {
-            return Err(end_of_bytes());
-        }
-        filled += count;
+        filled += source.read_some(alloc, &mut buffer[filled..])?;
     }
     Ok(())
 }

@@ -70,6 +70,7 @@ impl<R: Asked + Drop> Unbuffered<R> {
     ghost use Rattle.jpeg_bits.specs.Turns.{IsAnswered, IsByTurns, read_fails};
 
     /// Reads once into the buffer, and again as long as the read is interrupted.
+    #[inline(always)]
     #[tactic(auto, using(crate::proofs::Rules::later))]
     pub(super) fn read(&mut self, alloc: Global, buffer: &mut [u8]) -> Result<usize>
         ensures len { length buffer.new ≡ length buffer.old }
@@ -77,6 +78,26 @@ impl<R: Asked + Drop> Unbuffered<R> {
         ensures short { IsShort self.old }
         ensures turns { IfErr result (IsByTurns (read_fails R.answers)) }
     {
+        match self.reader.ask(buffer) {
+            Ok(count) => Ok(count),
+            Err(e) => self.read_after(alloc, e, buffer),
+        }
+    }
+
+    /// Reads into the buffer after a read that failed, or was interrupted.
+    #[cold]
+    #[inline(never)]
+    #[tactic(auto, using(crate::proofs::Rules::later))]
+    fn read_after(&mut self, alloc: Global, error: io::Error, buffer: &mut [u8]) -> Result<usize>
+        requires { IsAnswered (read_fails R.answers) error }
+        ensures len { length buffer.new ≡ length buffer.old }
+        ensures some { ReadsSome self.old result buffer.new self.new }
+        ensures turns { IfErr result (IsByTurns (read_fails R.answers)) }
+    {
+        if error.kind() != ErrorKind::Interrupted {
+            self.failed = true;
+            return Err(Error::Io(error));
+        }
         match read_by_turns(&mut self.reader, buffer) {
             Some(answer) => match answer {
                 Ok(count) => Ok(count),
@@ -124,13 +145,8 @@ impl<R: Asked + Drop> Unbuffered<R> {
         ensures refused { IsRefused result refusal.new }
         ensures turns { IfErr (answer_of result refusal.new) (IsByTurns (read_fails R.answers)) }
     {
-        if error.kind() != ErrorKind::Interrupted {
-            self.failed = true;
-            *refusal = Some(Error::Io(error));
-            return None;
-        }
         let mut buffer = [0u8];
-        match self.read(alloc, &mut buffer) {
+        match self.read_after(alloc, error, &mut buffer) {
             Ok(count) => Some(if count == 0 { None } else { Some(buffer[0]) }),
             Err(e) => {
                 *refusal = Some(e);

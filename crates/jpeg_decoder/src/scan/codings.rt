@@ -1,5 +1,5 @@
 //! The components of a scan, and the tables that they are coded by (T.81, B.2.3).
-ghost use Rattle.std.specs.Prelude.{◌≡◌, ◌<◌, ◌≤◌, ◌==◌, IfOk, IfErr, length, nat_lt};
+ghost use Rattle.std.specs.Prelude.{◌≡◌, ◌<◌, ◌≤◌, ◌==◌, IfOk, IfErr, true, length, nat_lt};
 ghost use Rattle.std.specs.List.{AllByRecursion};
 ghost use Rattle.std.specs.Option.{option_copied};
 ghost use Rattle.jpeg_bits.specs.BlockView.{pass_in};
@@ -214,15 +214,36 @@ pub fn spare_tables(
         no_ac: HuffmanTable::without_codes(alloc, HuffmanTableClass::AC),
     };
     if is_mjpeg {
-        spare.dc = vec![in alloc; None, None, None, None]?;
-        spare.ac = vec![in alloc; None, None, None, None]?;
-        let info = header.to_info(alloc)?;
-        fill_default_mjpeg_tables(alloc, &info, &mut spare.dc, &mut spare.ac)?;
-        if is_large(frame) {
-            widen_all(alloc, &mut spare.ac, frame)?;
-        }
+        fill_spare(alloc, header, frame, &mut spare)?;
     }
     Ok(spare)
+}
+
+/// Makes the spare tables of a scan of an MJPEG stream, which are the default ones.
+#[cold]
+#[inline(never)]
+fn fill_spare(
+    alloc: Global,
+    header: &ScanHeader,
+    frame: &FrameInfo,
+    spare: &mut Spare,
+) -> Result<()>
+    ensures dc { IfOk result (λ _. spare.new.dc.items
+        ≡ default_dc true header.now.dc_destinations) }
+    ensures ac { IfOk result (λ _. spare.new.ac.items
+        ≡ default_ac true header.now.ac_destinations) }
+    ensures no_dc { spare.new.no_dc ≡ spare.old.no_dc }
+    ensures no_ac { spare.new.no_ac ≡ spare.old.no_ac }
+    ensures err { IfErr result (λ e. e ≡ OutOfMemory) }
+{
+    spare.dc = vec![in alloc; None, None, None, None]?;
+    spare.ac = vec![in alloc; None, None, None, None]?;
+    let info = header.to_info(alloc)?;
+    fill_default_mjpeg_tables(alloc, &info, &mut spare.dc, &mut spare.ac)?;
+    if is_large(frame) {
+        widen_all(alloc, &mut spare.ac, frame)?;
+    }
+    Ok(())
 }
 
 /// Returns the table in force at a destination: the one that was read, otherwise the spare one.

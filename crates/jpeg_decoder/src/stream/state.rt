@@ -1,4 +1,5 @@
 //! What the segments of a stream have said so far, and the segments (T.81, B.2).
+ghost use Rattle.jpeg_bits.specs.Reading.{NamesFormat};
 
 use crate::scan::decoded::Decoded;
 use crate::stream::frames::check_frame;
@@ -290,9 +291,18 @@ impl State {
     {
         match before {
             Before::FirstScan | Before::LaterScan => Ok(ONWARD),
-            Before::Elsewhere => Err(format_error_of(format!(in alloc;
-                "found RST{number} outside a scan, expected the marker of a segment"
-            ))),
+            Before::Elsewhere => Err(restart_error(alloc, number)),
         }
     }
+}
+
+/// Returns the refusal of a restart marker that stands outside a scan.
+#[cold]
+#[inline(never)]
+fn restart_error(alloc: Global, number: u8) -> Error
+    ensures { NamesFormat result }
+{
+    format_error_of(format!(in alloc;
+        "found RST{number} outside a scan, expected the marker of a segment"
+    ))
 }

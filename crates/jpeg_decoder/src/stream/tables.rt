@@ -4,7 +4,7 @@ ghost use Rattle.std.specs.Option.{option_copied};
 ghost use Rattle.jpeg_streams.specs.Segments.{updated};
 ghost use Rattle.jpeg_bits.specs.Reading.{NamesFormat};
 
-use jpeg_bits::error::{Result, format_error_of};
+use jpeg_bits::error::{Error, Result, format_error_of};
 use jpeg_bits::marker::Marker;
 use std::alloc::Global;
 use std::fmt;
@@ -73,6 +73,15 @@ pub fn needed<T: Drop>(alloc: Global, option: Option<T>, missing: Missing) -> Re
 {
     match option {
         Some(value) => Ok(value),
-        None => Err(format_error_of(missing.to_string(alloc))),
+        None => Err(missing_error(alloc, missing)),
     }
+}
+
+/// Returns the refusal of a stream that lacks something.
+#[cold]
+#[inline(never)]
+fn missing_error(alloc: Global, missing: Missing) -> Error
+    ensures { NamesFormat result }
+{
+    format_error_of(missing.to_string(alloc))
 }

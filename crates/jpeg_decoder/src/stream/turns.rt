@@ -1,7 +1,7 @@
 //! A stream, segment by segment, with the scans in their place (T.81, B.2).
 ghost use Rattle.std.specs.Prelude.{◌≡◌, ◌&&◌, true, is_some, None, OnOk, IfOk, suc, length};
 ghost use Rattle.jpeg_bits.specs.Marker.{found_or, next_marker};
-ghost use Rattle.jpeg_bits.specs.Reading.{Answers, IsShort};
+ghost use Rattle.jpeg_bits.specs.Reading.{Answers, IsShort, NamesFormat};
 ghost use Rattle.jpeg_streams.specs.declared.before.Before.TheVariants.{Elsewhere};
 ghost use Rattle.jpeg_streams.specs.Reported.{IsOfTurns, told_in_turns};
 ghost use Rattle.jpeg_streams.specs.Sound.{IsSound, IsUnread};
@@ -65,10 +65,17 @@ fn read_segment<R: Read + Drop>(
         Marker::DNL => Err(refused_line_count(alloc, before)),
         Marker::DAC => Err(Error::Unsupported(UnsupportedFeature::ArithmeticEntropyCoding)),
         Marker::DHP | Marker::EXP => Err(Error::Unsupported(UnsupportedFeature::Hierarchical)),
-        _ => Err(format_error_of(format!(in alloc;
-            "found {marker}, expected the marker of a segment"
-        ))),
+        _ => Err(marker_error(alloc, marker)),
     }
+}
+
+/// Returns the refusal of a marker that no segment begins with.
+#[cold]
+#[inline(never)]
+fn marker_error(alloc: Global, marker: Marker) -> Error
+    ensures { NamesFormat result }
+{
+    format_error_of(format!(in alloc; "found {marker}, expected the marker of a segment"))
 }
 
 /// Reads one marker, which may have been reached already, and what stands after it.

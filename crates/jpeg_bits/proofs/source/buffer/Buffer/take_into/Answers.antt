@@ -1,15 +1,10 @@
-use Rattle.std.proofs.Common.{◌≡◌, ◌-◌, ◌∙◌, sym, ap, arith, length, take}
-use Rattle.jpeg_bits.proofs.PlainBytes.{slice-length, taken-into}
+use Rattle.std.proofs.Common.{◌≡◌, List, ℕ, length, take, ◌++◌, ◌∷◌, [], slice_set, refl, arith, ◌∙◌}
 use Rattle.jpeg_bits.proofs.source.buffer.Buffer.take_into.Goals as goal
 
-pub returns-clause-taken : goal.returns-clause-taken
-returns-clause-taken c =
-    let s = c.self.inside in
-    let n = c.min-count.result in
-    let same = ap length c.as_slice-ahead.ensures in
-    let long : length c.args.self.now ≡ s.end - s.start
-    = ap length (sym c.self.view_is) ∙ slice-length s.bytes.items s.start s.end c.self.invariant.1 in
-    taken-into s.bytes.items c.args.self.now c.copy_from_slice.new.self c.args.buffer.now s.start s.end n
-    (omega (arith, c.min-count.ensures, same, long, c.self.invariant.0)) (sym c.self.view_is)
-    (omega (arith, c.min-count.ensures, same))
-    (c.copy_from_slice.ensures.after ∙ ap (take n) c.as_slice-ahead.ensures)
+one-put : (b : ℕ) (buffer rest : List ℕ) → length buffer ≡ 1 → b ∷ rest ≡ take 1 (slice_set buffer 0 b) ++ rest
+one-put b [] rest one = absurd (omega (arith, one))
+one-put b (x ∷ buffer) rest one = refl
+
+pub returns-in-Some-clause-taken : goal.returns-in-Some-clause-taken
+returns-in-Some-clause-taken c =
+    c.in-Some.ensures.some ∙ one-put c.in-Some.byte c.args.buffer.now c.take.new.self c.if-buffer-ne1.false
