@@ -1,7 +1,7 @@
 -- Bytes none of which is FF, eight of them in a word.
 use Rattle.std.proofs.lemmas.Bool.Decides.{nat_tests}
 use Rattle.std.proofs.Common.{◌≡◌, ℕ, zero, suc, ◌+◌, ◌-◌, ◌*◌, ◌/◌, ◌%◌, ◌^◌, ◌<◌, ◌≤◌, ◌≢◌, Bool, List, ◌∷◌}
-use Rattle.std.proofs.Common.{◌++◌, length, take, drop, slice_range, refl, sym, ap, ◌∙◌, arith, bit_and, Ok, None, Option, Some, true, nat_lt, slice_set, []}
+use Rattle.std.proofs.Common.{◌++◌, length, take, drop, slice_range, refl, sym, ap, ◌∙◌, arith, bit_and, Ok, None, Option, true}
 use Rattle.std.proofs.Common.{append_assoc, length-append, drop-drop, take_at, take-append-drop, pow-suc, pow-add}
 use Rattle.std.proofs.Common.{length-take-le, length-drop, take-take, mul_assoc, inl, inr}
 use Rattle.std.proofs.Math.Nat.{div-div-eq-div-mul}
@@ -9,8 +9,7 @@ use Rattle.std.proofs.lemmas.Nat.{div-add-mod', and_block, and_mod}
 use Rattle.std.proofs.lemmas.Bool.{cases_lt}
 use Rattle.std.proofs.lemmas.List.{append-nil, drop-take}
 use Rattle.std.specs.Int.{byte_at, bytes_high_first, to_be_bytes, w64}
-use Rattle.jpeg_bits.specs.BytesAhead.{HasNoFf, PassesPlain, stream_after}
-use Rattle.jpeg_bits.specs.Reading.{ReadsSome}
+use Rattle.jpeg_bits.specs.BytesAhead.{HasNoFf, PassesPlain}
 use Rattle.jpeg_bits.specs.Stream.{Stream}
 use Rattle.jpeg_bits.specs.Written.{low_bits}
 use Rattle.jpeg_bits.specs.Entropy.{Ahead, Takes, Text, bits_of, piece_at, same_text, upcoming, upcoming_by}
@@ -216,15 +215,3 @@ pushed-text a b old new n w count few unended still is p =
     ∙ ap (λ (l : List Bool). upcoming_by l None new.bytes) (sym is)
     ∙ ap (λ (m : Option DataEnd). upcoming_by b.bits m new.bytes) (sym still) in
     (p.1, λ known. ((p.2 known).0, ap (λ (t : Text). Ok (0, t)) (same known)))
-
--- ---- one byte that was read ahead
-
-shorter : (b : ℕ) (rest bytes : List ℕ) → nat_lt (length (b ∷ (rest ++ bytes))) (2 ^ 64) ≡ true
-    → nat_lt (length (rest ++ bytes)) (2 ^ 64) ≡ true
-shorter b rest bytes h = grind (arith, nat_tests)
-
-pub one-taken : (u : Stream) (a rest buffer : List ℕ) (b : ℕ) → a ≡ b ∷ rest → length buffer ≡ 1
-    → ReadsSome (stream_after (Some a) u) (Ok 1) (slice_set buffer 0 b) (stream_after (Some rest) u)
-one-taken u a rest [] b is one = absurd (omega (arith, one))
-one-taken u a rest (x ∷ []) b is one = rw is (grind (arith, shorter))
-one-taken u a rest (x ∷ y ∷ more) b is one = absurd (omega (arith, one))

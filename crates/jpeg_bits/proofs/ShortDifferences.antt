@@ -1,5 +1,5 @@
 -- Differences that 12 bits begin with.
-use Rattle.std.proofs.Common.{◌≡◌, ℕ, ℤ, pos, ◌+◌, ◌-◌, ◌<◌, ◌≤◌, Bool, true, false, List, ◌++◌, length, take, drop}
+use Rattle.std.proofs.Common.{◌≡◌, ℕ, ℤ, pos, ◌+◌, ◌<◌, ◌≤◌, Bool, true, false, List, ◌++◌, length, take, drop}
 use Rattle.std.proofs.Common.{replicate, Some, Ok, refl, sym, ap, ◌∙◌, arith, is_ok, nat_le, le-leb, if◌then◌else◌}
 use Rattle.std.proofs.lemmas.List.{take-append-le, take-take, take_all}
 use Rattle.jpeg_bits.specs.Entropy.{Text, Ahead, upcoming_by, upcoming, IsFilled, has_buffered, Takes, advance}
