@@ -3,10 +3,8 @@ ghost use Rattle.std.specs.Prelude.{◌≡◌, ◌≤◌, sum, IfOk};
 ghost use Rattle.jpeg_bits.specs.BlockView.{pass_in, IsPass};
 ghost use Rattle.jpeg_bits.specs.declared.huffman.codes.HuffmanTableClass.TheVariants.{AC};
 
-use crate::fault;
-use crate::fault::Fault;
-use crate::state::{Codes, State};
-use crate::words::{answer_of, byte, bytes, first_word, halves, numbers, refusal, text_of_block};
+use crate::said::{Block, Said};
+use crate::state::State;
 use jpeg_bits::blocks::{BlockCoding, Carried, Pass, read_block};
 use jpeg_bits::color_transform::ColorTransform;
 use jpeg_bits::error::{Error, UnsupportedFeature, end_of_bytes, format_error};
@@ -16,8 +14,12 @@ use jpeg_bits::scan::{Predictor, ScanInfo};
 use jpeg_bits::source::reads::{read_bytes, read_length, read_u8, read_u16_be, skip};
 use jpeg_segments::parser::DefinedTables;
 use std::alloc::{AllocError, Global};
-use std::io;
 use std::io::ErrorKind;
+use std::{fmt, io};
+use test_streams::fault;
+use test_streams::fault::Fault;
+use test_streams::streams::{ROOM, bytes_in};
+use test_streams::words::{first_word, halves};
 
 /// Returns the number of a text, which has to be from `least` to `most`.
 fn within(text: &str, least: u8, most: u8) -> fault::Result<u8>
@@ -45,20 +47,23 @@ fn total(counts: &[u8; 16]) -> u16
     total
 }
 
-/// Returns the table of some codes, of which there have to be as many as symbols.
+/// Returns the table of codes by words `COUNTS: SYMBOLS`, which have to be as many as each other.
 pub fn table_of(
     alloc: Global,
-    codes: &Codes,
+    codes: &str,
     class: HuffmanTableClass,
 ) -> fault::Result<Result<HuffmanTable, Error>>
     ensures { IfOk result (λ answer. IfOk answer (λ table. table.class ≡ class)) }
 {
-    let count = codes.symbols.len();
-    if usize::from(total(&codes.counts)) != count || count == 0 || count > 256 {
+    let (counts, symbols) = halves(codes)?;
+    let mut room = [0; ROOM];
+    let symbols = bytes_in(&mut room, symbols)?;
+    let counts = counts_of(counts)?;
+    let count = symbols.len();
+    if usize::from(total(&counts)) != count || count == 0 || count > 256 {
         return Err(Fault::Expected("a symbol for each code, 1 to 256"));
     }
-    let symbols = codes.symbols.as_slice();
-    Ok(HuffmanTable::new(alloc, &codes.counts, symbols, class))
+    Ok(HuffmanTable::new(alloc, &counts, symbols, class))
 }
 
 /// Fills the look-up tables by which large pictures are decoded.
@@ -80,18 +85,8 @@ fn class_of(name: &str) -> fault::Result<HuffmanTableClass> {
 }
 
 /// Returns the counts of words in hex.
-fn counts_of(alloc: Global, text: &str) -> fault::Result<[u8; 16]> {
-    let counts = bytes(alloc, text)?;
-    Ok(<[u8; 16]>::try_from(counts.as_slice())?)
-}
-
-/// Returns the codes of words `COUNTS: SYMBOLS`.
-fn codes_of(alloc: Global, text: &str) -> fault::Result<Codes> {
-    let (counts, symbols) = halves(text)?;
-    Ok(Codes {
-        counts: counts_of(alloc, counts)?,
-        symbols: bytes(alloc, symbols)?,
-    })
+fn counts_of(text: &str) -> fault::Result<[u8; 16]> {
+    Ok(<[u8; 16]>::try_from(bytes_in(&mut [0; ROOM], text)?)?)
 }
 
 /// Puts a table at destination 0.
@@ -101,20 +96,26 @@ fn put(tables: &mut [Option<HuffmanTable>], table: HuffmanTable) {
     }
 }
 
-/// Defines the table of a class at destination 0.
-fn define(state: &mut State<'_>, text: &str) -> fault::Result<String> {
-    let (class, text) = first_word(text);
-    let class = class_of(class)?;
-    state.codes = codes_of(state.alloc, text)?;
-    let table = match table_of(state.alloc, &state.codes, class)? {
-        Ok(table) => table,
-        Err(error) => return Ok(refusal(state.alloc, &error)?),
-    };
+/// Puts a table at destination 0 of its class.
+fn put_in_class(tables: &mut DefinedTables, table: HuffmanTable, class: HuffmanTableClass) {
     match class {
-        HuffmanTableClass::DC => put(&mut state.tables.0, table),
-        HuffmanTableClass::AC => put(&mut state.tables.1, table),
+        HuffmanTableClass::DC => put(&mut tables.0, table),
+        HuffmanTableClass::AC => put(&mut tables.1, table),
     }
-    Ok(String::new(state.alloc))
+}
+
+/// Defines the table of a class at destination 0.
+fn define<'a>(state: &mut State<'a>, said: &mut Said, text: &'a str) -> fault::Result<()> {
+    let (class, codes) = first_word(text);
+    let class = class_of(class)?;
+    state.codes = codes;
+    match table_of(state.alloc, codes, class)? {
+        Ok(table) => {
+            put_in_class(&mut state.tables, table, class);
+            Ok(())
+        }
+        Err(error) => said.refuse(&error),
+    }
 }
 
 /// Returns the table of words `CLASS DESTINATION`.
@@ -133,33 +134,41 @@ fn table<'t>(tables: &'t DefinedTables, text: &str) -> fault::Result<&'t Huffman
 /// Returns the destinations of decimal words.
 fn destinations(alloc: Global, text: &str) -> fault::Result<Vec<usize>> {
     let mut all = Vec::new(alloc);
-    for number in numbers(alloc, text)? {
-        all.push(usize::from(number))?;
+    for word in text.split_whitespace() {
+        push_destination(&mut all, word)?;
     }
     Ok(all)
 }
 
-/// Appends the class of this name and the destination of each of its tables.
-fn push_tables(
-    alloc: Global,
-    text: &mut String,
+/// Appends the destination of a decimal word.
+fn push_destination(all: &mut Vec<usize>, word: &str) -> fault::Result<()> {
+    Ok(all.push(word.parse::<usize>()?)?)
+}
+
+/// Huffman tables, of which the class and destination are written.
+#[derive(Clone, Copy)]
+pub struct Tables<'a>(pub &'a DefinedTables);
+
+/// Writes the class of this name and the destination of each of its tables.
+fn write_tables<W: fmt::Write>(
+    f: &mut fmt::Formatter<W>,
     class: &str,
     tables: &[Option<HuffmanTable>],
-) -> Result<(), AllocError> {
+) -> fmt::Result {
     for (destination, table) in tables.iter().enumerate() {
         if table.is_some() {
-            text.push_str(format!(in alloc; " {class} {destination}")?.as_str())?;
+            write!(f, " {class} {destination}")?;
         }
     }
     Ok(())
 }
 
-/// Returns the class and destination of each table.
-pub fn text_of_tables(alloc: Global, tables: &DefinedTables) -> Result<String, AllocError> {
-    let mut text = String::from_str(alloc, "tables")?;
-    push_tables(alloc, &mut text, "dc", &tables.0)?;
-    push_tables(alloc, &mut text, "ac", &tables.1)?;
-    Ok(text)
+impl fmt::Display for Tables<'_> {
+    fn fmt<W: fmt::Write>(&self, f: &mut fmt::Formatter<W>) -> fmt::Result {
+        f.write_str("tables")?;
+        write_tables(f, "dc", &self.0.0)?;
+        write_tables(f, "ac", &self.0.1)
+    }
 }
 
 /// Returns a scan that names the tables of these destinations.
@@ -176,21 +185,28 @@ fn scan_of(alloc: Global, dc: Vec<usize>, ac: Vec<usize>) -> ScanInfo {
     }
 }
 
-/// Fills in the default tables that a scan names by words `DC: AC`.
-fn fill_defaults(state: &mut State<'_>, text: &str) -> fault::Result<String> {
-    let alloc = state.alloc;
-    let (dc, ac) = halves(text)?;
-    let scan = scan_of(alloc, destinations(alloc, dc)?, destinations(alloc, ac)?);
+/// Fills in the default tables that a scan names.
+fn fill_in(state: &mut State<'_>, scan: ScanInfo) -> fault::Result<()> {
     let (dc, ac) = (&mut state.tables.0, &mut state.tables.1);
     if dc.len() < 2 || ac.len() < 2 {
         return Err(Fault::Expected("two destinations"));
     }
-    fill_default_mjpeg_tables(alloc, &scan, dc, ac)?;
-    Ok(text_of_tables(alloc, &state.tables)?)
+    Ok(fill_default_mjpeg_tables(state.alloc, &scan, dc, ac)?)
+}
+
+/// Fills in the default tables that a scan names by words `DC: AC`.
+fn fill_defaults(state: &mut State<'_>, said: &mut Said, text: &str) -> fault::Result<()> {
+    let alloc = state.alloc;
+    let (dc, ac) = halves(text)?;
+    fill_in(
+        state,
+        scan_of(alloc, destinations(alloc, dc)?, destinations(alloc, ac)?),
+    )?;
+    Ok(said.say(Tables(&state.tables))?)
 }
 
 /// Returns the pass of words `PASS SS SE AL`.
-fn pass_of(alloc: Global, text: &str) -> fault::Result<Pass>
+fn pass_of(text: &str) -> fault::Result<Pass>
     ensures { IfOk result (λ pass. IsPass (pass_in pass)) }
 {
     let (name, text) = first_word(text);
@@ -211,7 +227,7 @@ fn pass_of(alloc: Global, text: &str) -> fault::Result<Pass>
 }
 
 /// Returns the table of codes of the class AC; if `is_wide`, as blocks of large pictures are read.
-fn last_table(alloc: Global, codes: &Codes, is_wide: bool) -> fault::Result<HuffmanTable>
+fn last_table(alloc: Global, codes: &str, is_wide: bool) -> fault::Result<HuffmanTable>
     ensures { IfOk result (λ table. table.class ≡ AC) }
 {
     let mut table = table_of(alloc, codes, HuffmanTableClass::AC)??;
@@ -222,10 +238,9 @@ fn last_table(alloc: Global, codes: &Codes, is_wide: bool) -> fault::Result<Huff
 }
 
 /// Reads a block by the codes of the last table.
-fn block(state: &mut State<'_>, text: &str) -> fault::Result<String> {
-    let alloc = state.alloc;
-    let pass = pass_of(alloc, text)?;
-    let table = last_table(alloc, &state.codes, state.is_wide)?;
+fn block(state: &mut State<'_>, said: &mut Said, text: &str) -> fault::Result<()> {
+    let pass = pass_of(text)?;
+    let table = last_table(state.alloc, state.codes, state.is_wide)?;
     let coding = BlockCoding {
         pass,
         slot: 0,
@@ -235,22 +250,29 @@ fn block(state: &mut State<'_>, text: &str) -> fault::Result<String> {
     };
     let mut carried = Carried::at_start();
     let (decoder, source) = (&mut state.decoder, &mut state.source);
-    let answer = match read_block(decoder, source, &coding, &mut carried, &mut state.block) {
-        Ok(()) => text_of_block(alloc, &state.block),
-        Err(error) => refusal(alloc, &error),
-    };
-    Ok(answer?)
+    match read_block(decoder, source, &coding, &mut carried, &mut state.block) {
+        Ok(()) => Ok(said.say(Block(&state.block))?),
+        Err(error) => said.refuse(&error),
+    }
 }
 
-/// Returns what a marker code says.
-fn code(alloc: Global, text: &str) -> fault::Result<String> {
-    Ok(match Marker::from_u8(byte(alloc, text)?) {
+/// Says what a marker code says.
+fn code(said: &mut Said, text: &str) -> fault::Result<()> {
+    match Marker::from_u8(byte(text)?) {
         Some(marker) => {
             let length = if marker.has_length() { "a" } else { "no" };
-            format!(in alloc; "{marker:?}, {marker}, {length} length")?
+            Ok(said.say(format_args!("{marker:?}, {marker}, {length} length"))?)
         }
-        None => format!(in alloc; "no marker")?,
-    })
+        None => Ok(said.say("no marker")?),
+    }
+}
+
+/// Returns the byte of two hex digits.
+pub fn byte(text: &str) -> fault::Result<u8> {
+    match bytes_in(&mut [0; ROOM], text)? {
+        [byte] => Ok(*byte),
+        _ => Err(Fault::Expected("a byte")),
+    }
 }
 
 /// Returns the error of a name that has no words after it, if it is one.
@@ -279,87 +301,95 @@ fn named_error(alloc: Global, name: &str) -> fault::Result<Error> {
     }
 }
 
-/// Returns the text of an error.
-fn error(alloc: Global, name: &str) -> fault::Result<String> {
-    Ok(format!(in alloc; "{}", named_error(alloc, name)?)?)
-}
-
 /// Passes over bytes or takes them.
-fn pass(state: &mut State<'_>, verb: &str, text: &str) -> fault::Result<String> {
+fn pass(state: &mut State<'_>, said: &mut Said, verb: &str, text: &str) -> fault::Result<()> {
     let (alloc, source) = (state.alloc, &mut state.source);
     let count = text.parse::<u16>()?;
-    let answer = match verb {
-        "skip" => answer_of(alloc, &skip(alloc, source, count)),
-        _ => answer_of(alloc, &read_bytes(alloc, source, count)),
-    };
-    Ok(answer?)
+    match verb {
+        "skip" => said.tell(skip(alloc, source, count)),
+        _ => said.tell(read_bytes(alloc, source, count)),
+    }
 }
 
 /// Reads bits as a number, or as a signed one.
-fn take_bits(state: &mut State<'_>, verb: &str, text: &str) -> fault::Result<String> {
-    let (alloc, source) = (state.alloc, &mut state.source);
+fn take_bits(state: &mut State<'_>, said: &mut Said, verb: &str, text: &str) -> fault::Result<()> {
+    let (decoder, source) = (&mut state.decoder, &mut state.source);
     let most = if verb == "bits" { 16 } else { 15 };
     let count = within(text, 1, most)?;
-    let answer = match verb {
-        "bits" => answer_of(alloc, &state.decoder.get_bits(source, count)),
-        _ => answer_of(alloc, &state.decoder.receive_extend(source, count)),
-    };
-    Ok(answer?)
+    match verb {
+        "bits" => said.tell(decoder.get_bits(source, count)),
+        _ => said.tell(decoder.receive_extend(source, count)),
+    }
 }
 
 /// Reads a symbol, or a value with its code.
-fn take_code(state: &mut State<'_>, verb: &str, text: &str) -> fault::Result<String> {
-    let (alloc, source) = (state.alloc, &mut state.source);
+fn take_code(state: &mut State<'_>, said: &mut Said, verb: &str, text: &str) -> fault::Result<()> {
+    let (decoder, source) = (&mut state.decoder, &mut state.source);
     let table = table(&state.tables, text)?;
-    let answer = match verb {
-        "symbol" => answer_of(alloc, &state.decoder.decode(source, table)),
-        _ => answer_of(alloc, &state.decoder.decode_fast_ac(source, table)),
-    };
-    Ok(answer?)
+    match verb {
+        "symbol" => said.tell(decoder.decode(source, table)),
+        _ => said.tell(decoder.decode_fast_ac(source, table)),
+    }
 }
 
-/// Returns the answer to a call that reads and has no words after it, or none to another.
-fn read(state: &mut State<'_>, verb: &str) -> Option<Result<String, AllocError>> {
+/// Says whether a read has failed.
+fn say_failed(said: &mut Said, has_failed: bool) -> fault::Result<()> {
+    Ok(said.say(format_args!("failed: {has_failed}"))?)
+}
+
+/// Answers a call that reads and has no words after it. Returns whether it is one.
+fn read(state: &mut State<'_>, said: &mut Said, verb: &str) -> fault::Result<bool> {
     let (alloc, source) = (state.alloc, &mut state.source);
-    Some(match verb {
-        "u8" => answer_of(alloc, &read_u8(alloc, source)),
-        "u16" => answer_of(alloc, &read_u16_be(alloc, source)),
-        "length" => answer_of(alloc, &read_length(alloc, source)),
-        "marker" => answer_of(alloc, &read_marker(alloc, source)),
-        "failed" => format!(in alloc; "failed: {}", source.has_failed()),
-        "end" => answer_of(alloc, &state.decoder.take_marker(source)),
-        _ => return None,
-    })
+    let answered = match verb {
+        "u8" => said.tell(read_u8(alloc, source)),
+        "u16" => said.tell(read_u16_be(alloc, source)),
+        "length" => said.tell(read_length(alloc, source)),
+        "marker" => said.tell(read_marker(alloc, source)),
+        "failed" => say_failed(said, source.has_failed()),
+        "end" => said.tell(state.decoder.take_marker(source)),
+        _ => return Ok(false),
+    };
+    answered.and(Ok(true))
+}
+
+/// Says the text of an error.
+fn say_error(alloc: Global, said: &mut Said, name: &str) -> fault::Result<()> {
+    Ok(said.say(named_error(alloc, name)?)?)
 }
 
 /// Keeps this many destinations of each class.
-fn keep(state: &mut State<'_>, text: &str) -> fault::Result<String> {
+fn keep(tables: &mut DefinedTables, text: &str) -> fault::Result<()> {
     let count = text.parse::<usize>()?;
-    state.tables.0.truncate(count);
-    state.tables.1.truncate(count);
-    Ok(String::new(state.alloc))
+    tables.0.truncate(count);
+    tables.1.truncate(count);
+    Ok(())
 }
 
-/// Returns the answer to a call of `jpeg_bits`, or none to another.
-pub fn answer(state: &mut State<'_>, verb: &str, text: &str) -> fault::Result<Option<String>> {
-    if let Some(answer) = read(state, verb) {
-        return Ok(Some(answer?));
-    }
-    let answer = match verb {
-        "skip" | "take" => pass(state, verb, text),
-        "bits" | "signed" => take_bits(state, verb, text),
-        "symbol" | "value" => take_code(state, verb, text),
-        "reset" => {
-            state.decoder.reset();
-            Ok(String::new(state.alloc))
-        }
-        "table" => define(state, text),
-        "destinations" => keep(state, text),
-        "defaults" => fill_defaults(state, text),
-        "block" => block(state, text),
-        "code" => code(state.alloc, text),
-        "error" => error(state.alloc, text),
-        _ => return Ok(None),
+/// Forgets the bits that were read ahead.
+fn reset(state: &mut State<'_>) -> fault::Result<()> {
+    state.decoder.reset();
+    Ok(())
+}
+
+/// Answers a call of `jpeg_bits`. Returns whether it is one.
+pub fn answer<'a>(
+    state: &mut State<'a>,
+    said: &mut Said,
+    verb: &str,
+    text: &'a str,
+) -> fault::Result<bool> {
+    let answered = match verb {
+        "skip" | "take" => pass(state, said, verb, text),
+        "bits" | "signed" => take_bits(state, said, verb, text),
+        "symbol" | "value" => take_code(state, said, verb, text),
+        "reset" => reset(state),
+        "table" => define(state, said, text),
+        "destinations" => keep(&mut state.tables, text),
+        "defaults" => fill_defaults(state, said, text),
+        "block" => block(state, said, text),
+        "code" => code(said, text),
+        "error" => say_error(state.alloc, said, text),
+        _ => return read(state, said, verb),
     };
-    Ok(Some(answer?))
+    answered.and(Ok(true))
 }

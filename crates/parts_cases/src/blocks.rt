@@ -2,10 +2,8 @@
 ghost use Rattle.std.specs.Prelude.{◌≡◌, ◌+◌, ◌-◌, ◌*◌, ◌≤◌, length, true};
 ghost use Rattle.jpeg_pixels.specs.Scaled.{IsScale};
 
-use crate::fault;
-use crate::fault::Fault;
+use crate::said::Said;
 use crate::state::State;
-use crate::words::{change, coefficients, first_word, numbers, text_of_bytes};
 use jpeg_pixels::idct::{
     choose_idct_size, dequantize_and_idct_block, dequantize_and_idct_block_1x1,
     dequantize_and_idct_block_2x2, dequantize_and_idct_block_4x4, dequantize_and_idct_block_8x8,
@@ -13,7 +11,9 @@ use jpeg_pixels::idct::{
 use jpeg_pixels::plane::{SampleTable, append_row, crop};
 use jpeg_pixels::zigzag::values_in_order;
 use jpeg_segments::parser::Dimensions;
-use std::alloc::Global;
+use test_streams::fault;
+use test_streams::fault::Fault;
+use test_streams::words::{fill, first_word, numbers};
 
 /// Returns whether a block may give this many samples a side.
 fn is_scale(scale: usize) -> bool
@@ -36,135 +36,148 @@ fn transform(scale: usize, block: &[i16; 64], values: &[u16; 64], stride: usize,
     }
 }
 
+/// How many bytes a block's lines have at most.
+const ROOM: usize = 256;
+
 /// Transforms a block at a scale into `room` bytes, which were 7, with lines of `stride` bytes: by
 /// the function for its scale, in lanes, and as a plane's blocks are transformed.
-fn samples_of(
-    alloc: Global,
+fn say_samples(
+    said: &mut Said,
     scale: usize,
     block: &[i16; 64],
     values: &[u16; 64],
-    stride: u16,
-    room: u16,
-) -> fault::Result<String> {
-    let (stride, room) = (usize::from(stride), usize::from(room));
-    let mut one = vec![in alloc; 7; room]?;
-    let mut by_lanes = vec![in alloc; 7; room]?;
-    let mut by_table = vec![in alloc; 7; room]?;
-    if !is_scale(scale) || stride < scale || room < (scale - 1) * stride + scale {
-        return Err(Fault::Expected("a scale, and room for its lines"));
+    stride: usize,
+    room: usize,
+) -> fault::Result<()> {
+    let (mut one, mut by_lanes, mut by_table) = ([7; ROOM], [7; ROOM], [7; ROOM]);
+    if !is_scale(scale) || stride < scale || stride > ROOM {
+        return Err(Fault::Expected("a scale, and lines of it"));
     }
-    transform(scale, block, values, stride, &mut one);
-    dequantize_and_idct_block(scale, block, values, stride, &mut by_lanes);
-    SampleTable::new(values).write_block(scale, block, stride, &mut by_table);
-    if one.as_slice() != by_lanes.as_slice() {
-        return Ok(format!(in alloc; "WRONG by lanes")?);
+    if room > ROOM || room < (scale - 1) * stride + scale {
+        return Err(Fault::Expected("room for the lines of a scale"));
     }
-    if one.as_slice() != by_table.as_slice() {
-        return Ok(format!(in alloc; "WRONG in a plane")?);
+    transform(scale, block, values, stride, &mut one[..room]);
+    dequantize_and_idct_block(scale, block, values, stride, &mut by_lanes[..room]);
+    SampleTable::new(values).write_block(scale, block, stride, &mut by_table[..room]);
+    if one != by_lanes {
+        return Ok(said.say("WRONG by lanes")?);
     }
-    Ok(text_of_bytes(alloc, &one)?)
+    if one != by_table {
+        return Ok(said.say("WRONG in a plane")?);
+    }
+    said.say_bytes(&one[..room])
+}
+
+/// Returns the block with changes, by words `INDEX=VALUE`.
+fn changed(mut block: [i16; 64], text: &str) -> fault::Result<[i16; 64]> {
+    for word in text.split_whitespace() {
+        let (index, value) = word.split_once('=').ok_or(Fault::Expected("INDEX=VALUE"))?;
+        let (index, value) = (index.parse::<usize>()?, value.parse::<i16>()?);
+        match block.get_mut(index) {
+            Some(slot) => *slot = value,
+            None => return Err(Fault::Expected("an index below 64")),
+        }
+    }
+    Ok(block)
 }
 
 /// Transforms the block with changes, by words `SCALE STRIDE ROOM CHANGES`.
-fn idct(state: &mut State<'_>, text: &str) -> fault::Result<String> {
+fn idct(state: &mut State<'_>, said: &mut Said, text: &str) -> fault::Result<()> {
     let (scale, text) = first_word(text);
     let (stride, text) = first_word(text);
     let (room, changes) = first_word(text);
-    let mut block = state.block;
-    change(&mut block, changes)?;
-    samples_of(
-        state.alloc,
+    let block = changed(state.block, changes)?;
+    say_samples(
+        said,
         scale.parse::<usize>()?,
         &block,
         &state.values,
-        stride.parse::<u16>()?,
-        room.parse::<u16>()?,
+        stride.parse::<usize>()?,
+        room.parse::<usize>()?,
     )
+}
+
+/// Appends a row of blocks to the plane: the block `before` times, another one, and the block
+/// `after` times.
+fn append(
+    state: &mut State<'_>,
+    scale: usize,
+    before: u8,
+    other: [i16; 64],
+    after: u8,
+) -> fault::Result<()>
+    requires scale { IsScale scale }
+{
+    let count = usize::from(before) + 1 + usize::from(after);
+    let mut blocks = vec![in state.alloc; state.block; count]?;
+    blocks[usize::from(before)] = other;
+    Ok(append_row(&mut state.samples, scale, &blocks, &state.values)?)
 }
 
 /// Appends a row of blocks to the plane, by words `SCALE BEFORE AFTER CHANGES`: the block this
 /// often, once with changes, and again this often.
-fn row(state: &mut State<'_>, text: &str) -> fault::Result<String> {
+fn row(state: &mut State<'_>, text: &str) -> fault::Result<()> {
     let (scale, text) = first_word(text);
     let (before, text) = first_word(text);
     let (after, changes) = first_word(text);
     let scale = scale.parse::<usize>()?;
-    let mut changed = state.block;
-    change(&mut changed, changes)?;
-    let mut blocks = Vec::new(state.alloc);
-    for _ in 0..before.parse::<u8>()? {
-        blocks.push(state.block)?;
-    }
-    blocks.push(changed)?;
-    for _ in 0..after.parse::<u8>()? {
-        blocks.push(state.block)?;
-    }
-    if !is_scale(scale) || blocks.len() > 65536 {
+    let other = changed(state.block, changes)?;
+    if !is_scale(scale) {
         return Err(Fault::Expected("a scale"));
     }
-    append_row(&mut state.samples, scale, &blocks, &state.values)?;
-    Ok(String::new(state.alloc))
+    append(
+        state,
+        scale,
+        before.parse::<u8>()?,
+        other,
+        after.parse::<u8>()?,
+    )
 }
 
 /// Crops the plane, by words `STRIDE WIDTH HEIGHT`.
-fn cropped(state: &mut State<'_>, text: &str) -> fault::Result<String> {
-    let numbers = numbers(state.alloc, text)?;
-    let [stride, width, height] = numbers.as_slice() else {
-        return Err(Fault::Expected("three numbers"));
-    };
-    let (stride, width, height) = (
-        usize::from(*stride),
-        usize::from(*width),
-        usize::from(*height),
-    );
-    if width > stride || height * stride > state.samples.len() {
+fn cropped(samples: &mut Vec<u8>, said: &mut Said, text: &str) -> fault::Result<()> {
+    let [stride, width, height] = numbers::<3>(text)?;
+    let (stride, width, height) = (usize::from(stride), usize::from(width), usize::from(height));
+    if width > stride || height * stride > samples.len() {
         return Err(Fault::Expected("a part of the plane"));
     }
-    crop(&mut state.samples, stride, width, height);
-    Ok(text_of_bytes(state.alloc, &state.samples)?)
+    crop(samples, stride, width, height);
+    said.say_bytes(samples)
 }
 
 /// Chooses a scale, by words `FULL_WIDTH FULL_HEIGHT WIDTH HEIGHT`.
-fn size(alloc: Global, text: &str) -> fault::Result<String> {
-    let numbers = numbers(alloc, text)?;
-    let [full_width, full_height, width, height] = numbers.as_slice() else {
-        return Err(Fault::Expected("four numbers"));
-    };
+fn size(said: &mut Said, text: &str) -> fault::Result<()> {
+    let [full_width, full_height, width, height] = numbers::<4>(text)?;
     let full = Dimensions {
-        width: *full_width,
-        height: *full_height,
+        width: full_width,
+        height: full_height,
     };
-    let requested = Dimensions {
-        width: *width,
-        height: *height,
-    };
-    Ok(format!(in alloc; "scale {}", choose_idct_size(full, requested))?)
+    let requested = Dimensions { width, height };
+    Ok(said.say(format_args!("scale {}", choose_idct_size(full, requested)))?)
 }
 
-/// Sets the block, or the values of the quantization table.
-fn set(state: &mut State<'_>, verb: &str, text: &str) -> fault::Result<()> {
-    match verb {
-        "coefficients" => state.block = coefficients(state.alloc, text)?,
-        _ => state.values = <[u16; 64]>::try_from(numbers(state.alloc, text)?.as_slice())?,
-    }
-    Ok(())
+/// Says the values of a quantization table in block order.
+fn zigzag(said: &mut Said, values: &[u16; 64]) -> fault::Result<()> {
+    Ok(said.say(format_args!("{:?}", values_in_order(values)))?)
 }
 
-/// Returns the answer to a call about blocks and planes, or none to another.
-pub fn answer(state: &mut State<'_>, verb: &str, text: &str) -> fault::Result<Option<String>> {
-    let alloc = state.alloc;
-    let answer = match verb {
-        "coefficients" | "values" => {
-            set(state, verb, text)?;
-            Ok(String::new(alloc))
-        }
-        "zigzag" => return Ok(Some(format!(in alloc; "{:?}", values_in_order(&state.values))?)),
-        "plane" => return Ok(Some(text_of_bytes(alloc, &state.samples)?)),
-        "idct" => idct(state, text),
+/// Answers a call about blocks and planes. Returns whether it is one.
+pub fn answer(
+    state: &mut State<'_>,
+    said: &mut Said,
+    verb: &str,
+    text: &str,
+) -> fault::Result<bool> {
+    let answered = match verb {
+        "coefficients" => fill(&mut state.block, text),
+        "values" => fill(&mut state.values, text),
+        "zigzag" => zigzag(said, &state.values),
+        "plane" => said.say_bytes(&state.samples),
+        "idct" => idct(state, said, text),
         "row" => row(state, text),
-        "crop" => cropped(state, text),
-        "size" => size(alloc, text),
-        _ => return Ok(None),
+        "crop" => cropped(&mut state.samples, said, text),
+        "size" => size(said, text),
+        _ => return Ok(false),
     };
-    Ok(Some(answer?))
+    answered.and(Ok(true))
 }

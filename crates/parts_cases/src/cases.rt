@@ -1,61 +1,62 @@
 //! Case files: each case answered in pieces of each size.
 
-use crate::fault::Fault;
+use crate::said::Said;
 use crate::state::State;
-use crate::words::{bytes, first_word};
-use crate::{bits, blocks, fault, lossless, pictures, segments, workers};
+use crate::{bits, blocks, lossless, pictures, segments, workers};
 use anyhow::Context;
-use std::alloc::{AllocError, Global};
+use std::alloc::Global;
 use std::io::Write;
+use test_streams::fault;
+use test_streams::fault::Fault;
 use test_streams::readers::{Reader, STEPS, Trouble};
+use test_streams::streams::{ROOM, bytes_in};
+use test_streams::words::first_word;
 
 /// What the calls of a case read.
-#[derive(Drop)]
+#[derive(Clone, Copy)]
 struct Stream<'a> {
-    bytes: Vec<u8>,
+    bytes: &'a [u8],
     /// The call that goes wrong and the bytes of a piece, where the case says them.
     wrong: Option<(usize, usize)>,
     trouble: Trouble,
-    /// The lines of the calls.
-    calls: &'a str,
 }
 
 /// Returns what a line says of a call that goes wrong, and its bytes.
 fn wrong_stream<'a>(
-    alloc: Global,
+    room: &'a mut [u8; ROOM],
     text: &str,
     trouble: Trouble,
-    calls: &'a str,
-) -> anyhow::Result<Stream<'a>> {
+) -> fault::Result<Stream<'a>> {
     let (call, text) = first_word(text);
     let (piece, text) = first_word(text);
+    let wrong = (call.parse::<usize>()?, piece.parse::<usize>()?);
     Ok(Stream {
-        bytes: bytes(alloc, text)?,
-        wrong: Some((call.parse::<usize>()?, piece.parse::<usize>()?)),
+        bytes: bytes_in(room, text)?,
+        wrong: Some(wrong),
         trouble,
-        calls,
     })
 }
 
-/// Returns what the calls of a case read, and those calls.
-fn stream_of(alloc: Global, lines: &str) -> anyhow::Result<Stream<'_>> {
-    let (line, calls) = lines.split_once('\n').unwrap_or((lines, ""));
+/// Returns what the calls of a case read, by its first line.
+fn stream_of<'a>(room: &'a mut [u8; ROOM], line: &str) -> fault::Result<Stream<'a>> {
     let (word, text) = first_word(line);
     match word {
-        "bytes" => Ok(Stream {
-            bytes: bytes(alloc, text).context(line)?,
-            wrong: None,
-            trouble: Trouble::Fails,
-            calls,
-        }),
-        "fails" => wrong_stream(alloc, text, Trouble::Fails, calls).context(line),
-        "interrupted" => wrong_stream(alloc, text, Trouble::IsInterrupted, calls).context(line),
+        "fails" => wrong_stream(room, text, Trouble::Fails),
+        "interrupted" => wrong_stream(room, text, Trouble::IsInterrupted),
         _ => Ok(Stream {
-            bytes: Vec::new(alloc),
+            bytes: bytes_in(room, text)?,
             wrong: None,
             trouble: Trouble::Fails,
-            calls: lines,
         }),
+    }
+}
+
+/// Returns the line of what a case reads, if it has one, and those of its calls.
+fn parted(lines: &str) -> (&str, &str) {
+    let (line, calls) = lines.split_once('\n').unwrap_or((lines, ""));
+    match first_word(line) {
+        ("bytes" | "fails" | "interrupted", _) => (line, calls),
+        _ => ("", lines),
     }
 }
 
@@ -70,95 +71,116 @@ fn is_alone(verb: &str) -> bool {
     ALONE.contains(&verb)
 }
 
-/// Returns the answer to a call.
-fn answer(state: &mut State<'_>, line: &str) -> fault::Result<String> {
+/// Answers a call.
+fn answer<'a>(state: &mut State<'a>, said: &mut Said, line: &'a str) -> fault::Result<()> {
     let (verb, text) = first_word(line);
     if is_alone(verb) && !text.is_empty() {
         return Err(Fault::Expected("nothing after the call"));
     }
-    if let Some(answer) = bits::answer(state, verb, text)? {
-        return Ok(answer);
+    let is_call = bits::answer(state, said, verb, text)?
+        || segments::answer(state, said, verb, text)?
+        || blocks::answer(state, said, verb, text)?
+        || pictures::answer(state, said, verb, text)?
+        || workers::answer(state.alloc, said, verb, text)?
+        || lossless::answer(state, said, verb, text)?;
+    if is_call {
+        Ok(())
+    } else {
+        Err(Fault::Expected("a call"))
     }
-    if let Some(answer) = segments::answer(state, verb, text)? {
-        return Ok(answer);
-    }
-    if let Some(answer) = blocks::answer(state, verb, text)? {
-        return Ok(answer);
-    }
-    if let Some(answer) = pictures::answer(state, verb, text)? {
-        return Ok(answer);
-    }
-    if let Some(answer) = workers::answer(state.alloc, verb, text)? {
-        return Ok(answer);
-    }
-    if let Some(answer) = lossless::answer(state, verb, text)? {
-        return Ok(answer);
-    }
-    Err(Fault::Expected("a call"))
 }
 
-/// Appends an answer after those before it, unless it is empty.
-fn push_answer(said: &mut String, answer: &str) -> Result<(), AllocError> {
-    if !answer.is_empty() {
-        said.push_str(": ")?;
-        said.push_str(answer)?;
+/// Nothing, or why a line has no answer, and that line.
+type Answered<'a> = Result<(), (Fault, &'a str)>;
+
+/// Answers the calls of some lines.
+fn answer_all<'a>(state: &mut State<'a>, said: &mut Said, calls: &'a str) -> Answered<'a> {
+    for line in calls.lines() {
+        if let Err(fault) = answer(state, said, line) {
+            return Err((fault, line));
+        }
     }
     Ok(())
 }
 
-/// Returns the answers to the calls of some lines.
-fn answers_to(state: &mut State<'_>, calls: &str) -> anyhow::Result<String> {
-    let mut said = String::new(state.alloc);
-    for line in calls.lines() {
-        let answer = answer(state, line).context(line)?;
-        push_answer(&mut said, answer.as_str())?;
-    }
-    Ok(said)
-}
-
-/// Returns the answers to the calls of a case, in pieces of at most `step` bytes.
-fn answers_by(
+/// Answers the calls of a case, in pieces of at most `step` bytes.
+fn answer_by<'a>(
+    said: &mut Said,
     alloc: Global,
-    stream: &Stream<'_>,
+    stream: Stream<'a>,
+    calls: &'a str,
     step: usize,
     is_wide: bool,
-) -> anyhow::Result<String> {
+) -> Answered<'a> {
     let (call, piece) = stream.wrong.unwrap_or((usize::MAX, step));
-    let reader = Reader::new(&stream.bytes, piece, call, stream.trouble);
-    let mut state = State::new(alloc, reader, is_wide)?;
-    answers_to(&mut state, stream.calls)
+    let reader = Reader::new(stream.bytes, piece, call, stream.trouble);
+    match State::new(alloc, reader, is_wide) {
+        Ok(mut state) => answer_all(&mut state, said, calls),
+        Err(error) => Err((Fault::from(error), "")),
+    }
 }
 
-/// Returns the answers of a case: the same in pieces of each size, with look-up tables of values
-/// and without.
-fn answers(alloc: Global, lines: &str) -> anyhow::Result<String> {
-    let stream = stream_of(alloc, lines)?;
-    let said = answers_by(alloc, &stream, usize::MAX, false)?;
+/// Appends the answers in pieces of at most `step` bytes, if they are others.
+fn compare<'a>(
+    said: &mut Said,
+    alloc: Global,
+    stream: Stream<'a>,
+    calls: &'a str,
+    step: usize,
+    is_wide: bool,
+) -> Answered<'a> {
+    let mut other = Said::new(alloc);
+    answer_by(&mut other, alloc, stream, calls, step, is_wide)?;
+    match said.compare(&other, step) {
+        Ok(()) => Ok(()),
+        Err(fault) => Err((fault, "")),
+    }
+}
+
+/// Answers the calls of a case: the same in pieces of each size, with look-up tables of values and
+/// without.
+fn answer_alike<'a>(
+    said: &mut Said,
+    alloc: Global,
+    stream: Stream<'a>,
+    calls: &'a str,
+) -> Answered<'a> {
+    answer_by(said, alloc, stream, calls, usize::MAX, false)?;
     for step in STEPS {
         for is_wide in [false, true] {
-            let other = answers_by(alloc, &stream, step, is_wide)?;
-            if other.as_str() != said.as_str() {
-                return Ok(format!(in alloc; " WRONG in pieces of {step}:{other}")?);
-            }
+            compare(said, alloc, stream, calls, step, is_wide)?;
         }
     }
-    Ok(said)
+    Ok(())
+}
+
+/// Returns the answers of a case. Where there are none, the line that lacks something is named.
+fn answers(alloc: Global, lines: &str) -> anyhow::Result<Said> {
+    let (line, calls) = parted(lines);
+    let mut room = [0; ROOM];
+    let stream = stream_of(&mut room, line).context(line)?;
+    let mut said = Said::new(alloc);
+    match answer_alike(&mut said, alloc, stream, calls) {
+        Ok(()) => Ok(said),
+        Err((fault, line)) => Err(fault).context(line),
+    }
+}
+
+/// Writes the line of a case.
+fn write_answer<W: Write>(alloc: Global, case: &str, writer: &mut W) -> anyhow::Result<()> {
+    let (line, lines) = case
+        .split_once('\n')
+        .context("expected a case and its calls")?;
+    let name = line.strip_prefix("case ").context("expected a case")?;
+    let said = answers(alloc, lines)?;
+    writer.write_fmt(format_args!("{name}{}\n", said.as_str()))?;
+    Ok(())
 }
 
 /// Writes a line for each case of a file.
 pub fn write_answers<W: Write>(alloc: Global, text: &str, writer: &mut W) -> anyhow::Result<()> {
     for case in text.trim_end().split("\n\n") {
-        let (line, lines) = case
-            .split_once('\n')
-            .context("expected a case and its calls")
-            .context(case)?;
-        let name = line
-            .strip_prefix("case ")
-            .context("expected a case")
-            .context(line)?;
-        let said = answers(alloc, lines).context(line)?;
-        let line = format!(in alloc; "{name}{said}\n")?;
-        writer.write_all(line.as_bytes())?;
+        write_answer(alloc, case, writer).context(case)?;
     }
     Ok(())
 }

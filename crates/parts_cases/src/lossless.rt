@@ -1,18 +1,19 @@
 //! Calls of `jpeg_lossless`: predictions, and the samples of scans.
-ghost use Rattle.std.specs.Prelude.{◌≡◌, ◌<◌, ◌≤◌, map, true};
+ghost use Rattle.std.specs.Prelude.{◌≡◌, ◌<◌, ◌≤◌, IfOk, map, true};
 ghost use Rattle.std.specs.List.{AllByRecursion};
 ghost use Rattle.jpeg_lossless.specs.Codings.{IsCovered, part_in};
 
 use crate::bits::table_of;
-use crate::fault;
-use crate::fault::Fault;
+use crate::said::{Answer, Said};
 use crate::state::State;
-use crate::words::{answer_of, halves, numbers, refusal};
 use jpeg_bits::huffman::{HuffmanTable, HuffmanTableClass};
 use jpeg_bits::scan::Predictor;
 use jpeg_lossless::lossless::predict;
 use jpeg_lossless::scan::{Coding, LosslessScan, Part, RowCoding, read_scan, rows_of_interval};
 use std::alloc::Global;
+use test_streams::fault;
+use test_streams::fault::Fault;
+use test_streams::words::{halves, numbers};
 
 /// Returns the predictor of a selection (T.81, Table H.1).
 fn predictor_of(selection: u16) -> fault::Result<Predictor> {
@@ -29,56 +30,73 @@ fn predictor_of(selection: u16) -> fault::Result<Predictor> {
     })
 }
 
-/// Predicts a sample, by numbers `LEFT ABOVE CORNER SELECTION POINT PRECISION COLUMN LINE`.
-fn predicted(alloc: Global, numbers: &[u16]) -> fault::Result<String> {
-    let [ra, rb, rc, selection, point, precision, ix, iy] = numbers else {
-        return Err(Fault::Expected("eight numbers"));
-    };
-    let (point, precision) = (u8::try_from(*point)?, u8::try_from(*precision)?);
+/// Predicts a sample, by words `LEFT ABOVE CORNER SELECTION POINT PRECISION COLUMN LINE`.
+fn predicted(said: &mut Said, text: &str) -> fault::Result<()> {
+    let [ra, rb, rc, selection, point, precision, ix, iy] = numbers::<8>(text)?;
+    let (point, precision) = (u8::try_from(point)?, u8::try_from(precision)?);
     if precision < 2 || precision > 16 || point >= precision {
         return Err(Fault::Expected("a precision of 2 to 16, and a point transform below it"));
     }
     let sample = predict(
-        i32::from(*ra),
-        i32::from(*rb),
-        i32::from(*rc),
-        predictor_of(*selection)?,
+        i32::from(ra),
+        i32::from(rb),
+        i32::from(rc),
+        predictor_of(selection)?,
         point,
         precision,
-        usize::from(*ix),
-        usize::from(*iy),
+        usize::from(ix),
+        usize::from(iy),
     );
-    Ok(format!(in alloc; "{sample}")?)
+    Ok(said.say(sample)?)
 }
 
-/// Returns the coding of numbers `WIDE HIGH PRECISION SELECTION POINT INTERVAL`.
-fn coding_of(numbers: &[u16]) -> fault::Result<Coding> {
-    let [wide, high, precision, selection, point, interval] = numbers else {
-        return Err(Fault::Expected("six numbers"));
-    };
+/// Returns the coding of words `WIDE HIGH PRECISION SELECTION POINT INTERVAL`.
+fn coding_of(text: &str) -> fault::Result<Coding>
+    ensures wide { IfOk result (λ coding. 0 < coding.wide) }
+    ensures high { IfOk result (λ coding. 0 < coding.high) }
+    ensures point { IfOk result (λ coding. coding.point_transform < coding.precision) }
+    ensures precision { IfOk result (λ coding. coding.precision ≤ 16) }
+{
+    let [wide, high, precision, selection, point, interval] = numbers::<6>(text)?;
+    let (precision, point_transform) = (u8::try_from(precision)?, u8::try_from(point)?);
+    if wide == 0 || high == 0 || precision > 16 || point_transform >= precision {
+        return Err(Fault::Expected(
+            "MCUs, and a precision of at most 16 above the point transform",
+        ));
+    }
     Ok(Coding {
-        wide: *wide,
-        high: *high,
-        precision: u8::try_from(*precision)?,
-        predictor: predictor_of(*selection)?,
-        point_transform: u8::try_from(*point)?,
-        restart_interval: *interval,
+        wide,
+        high,
+        precision,
+        predictor: predictor_of(selection)?,
+        point_transform,
+        restart_interval: interval,
     })
 }
 
 /// Returns what a scan has of the component of words `ACROSS DOWN WIDTH HEIGHT`.
-fn part_of<'t>(alloc: Global, table: &'t HuffmanTable, text: &str) -> fault::Result<Part<'t>> {
-    let numbers = numbers(alloc, text)?;
-    let [across, down, width, height] = numbers.as_slice() else {
-        return Err(Fault::Expected("four numbers"));
-    };
+fn part_of<'t>(table: &'t HuffmanTable, text: &str) -> fault::Result<Part<'t>> {
+    let [across, down, width, height] = numbers::<4>(text)?;
     Ok(Part {
         table,
-        across: u8::try_from(*across)?,
-        down: u8::try_from(*down)?,
-        width: *width,
-        height: *height,
+        across: u8::try_from(across)?,
+        down: u8::try_from(down)?,
+        width,
+        height,
     })
+}
+
+/// Returns what a scan has of the components of words `PART: PART ..`.
+fn parts_of<'t>(
+    alloc: Global,
+    table: &'t HuffmanTable,
+    text: &str,
+) -> fault::Result<Vec<Part<'t>>> {
+    let mut parts = Vec::new(alloc);
+    for part in text.split(':') {
+        parts.push(part_of(table, part)?)?;
+    }
+    Ok(parts)
 }
 
 /// Returns whether the MCUs of a scan cover its components.
@@ -96,23 +114,32 @@ fn are_covered(wide: u16, high: u16, parts: &[Part<'_>]) -> bool
 }
 
 /// Reads a scan.
-fn scan_read(state: &mut State<'_>, coding: Coding, parts: &[Part<'_>]) -> fault::Result<String>
+fn scan_read(
+    state: &mut State<'_>,
+    said: &mut Said,
+    coding: Coding,
+    parts: &[Part<'_>],
+) -> fault::Result<()>
     requires wide { 0 < coding.wide }
     requires high { 0 < coding.high }
     requires point { coding.point_transform < coding.precision }
     requires precision { coding.precision ≤ 16 }
     requires covered { AllByRecursion (IsCovered coding.wide coding.high) (map part_in parts.now) }
 {
-    let alloc = state.alloc;
-    match read_scan(alloc, &mut state.source, coding, parts) {
-        Ok((planes, marker)) => Ok(format!(in alloc; "{planes:?}, {marker:?}")?),
-        Err(error) => Ok(refusal(alloc, &error)?),
+    match read_scan(state.alloc, &mut state.source, coding, parts) {
+        Ok((planes, marker)) => Ok(said.say(format_args!("{planes:?}, {marker:?}"))?),
+        Err(error) => said.refuse(&error),
     }
 }
 
 /// Reads the rows of MCUs of a restart interval as far as they go, and says the samples that are
 /// there, and the refusal.
-fn rows_read(state: &mut State<'_>, coding: Coding, parts: &[Part<'_>]) -> fault::Result<String>
+fn rows_read(
+    state: &mut State<'_>,
+    said: &mut Said,
+    coding: Coding,
+    parts: &[Part<'_>],
+) -> fault::Result<()>
     requires wide { 0 < coding.wide }
     requires high { 0 < coding.high }
     requires point { coding.point_transform < coding.precision }
@@ -127,43 +154,62 @@ fn rows_read(state: &mut State<'_>, coding: Coding, parts: &[Part<'_>]) -> fault
     let mut scan = LosslessScan::new(alloc, &coding)?;
     let read = scan.read_rows(&mut state.decoder, &mut state.source, &coding, count);
     let planes = scan.finish(&coding);
-    let told = answer_of(alloc, &read)?;
-    Ok(format!(in alloc; "{planes:?}, {told}")?)
+    Ok(said.say(format_args!("{planes:?}, {}", Answer(&read)))?)
+}
+
+/// Reads a scan, or the rows of an interval of it, of the components of words `PART: PART ..`.
+fn scan_of(
+    state: &mut State<'_>,
+    said: &mut Said,
+    is_whole: bool,
+    coding: Coding,
+    parts: &[Part<'_>],
+) -> fault::Result<()>
+    requires wide { 0 < coding.wide }
+    requires high { 0 < coding.high }
+    requires point { coding.point_transform < coding.precision }
+    requires precision { coding.precision ≤ 16 }
+{
+    if !are_covered(coding.wide, coding.high, parts) {
+        return Err(Fault::Expected("components within their MCUs"));
+    }
+    if is_whole {
+        scan_read(state, said, coding, parts)
+    } else {
+        rows_read(state, said, coding, parts)
+    }
 }
 
 /// Reads a scan by the codes of the last table, or the rows of an interval of it, by words
 /// `CODING: PART: PART ..`.
-fn scan(state: &mut State<'_>, is_whole: bool, text: &str) -> fault::Result<String> {
+fn scan(state: &mut State<'_>, said: &mut Said, is_whole: bool, text: &str) -> fault::Result<()> {
     let alloc = state.alloc;
-    let (coding, rest) = halves(text)?;
-    let coding = coding_of(&numbers(alloc, coding)?)?;
-    let table = table_of(alloc, &state.codes, HuffmanTableClass::DC)??;
-    let mut parts = Vec::new(alloc);
-    for part in rest.split(':') {
-        parts.push(part_of(alloc, &table, part)?)?;
-    }
-    if coding.wide == 0 || coding.high == 0 || coding.precision > 16 {
-        return Err(Fault::Expected("MCUs, and a precision of at most 16"));
-    }
-    if coding.point_transform >= coding.precision {
-        return Err(Fault::Expected("a point transform below the precision"));
-    }
-    if !are_covered(coding.wide, coding.high, &parts) {
-        return Err(Fault::Expected("components within their MCUs"));
-    }
-    if is_whole {
-        scan_read(state, coding, &parts)
-    } else {
-        rows_read(state, coding, &parts)
+    let (coding, parts) = halves(text)?;
+    let coding = coding_of(coding)?;
+    match table_of(alloc, state.codes, HuffmanTableClass::DC)? {
+        Ok(table) => scan_of(
+            state,
+            said,
+            is_whole,
+            coding,
+            &parts_of(alloc, &table, parts)?,
+        ),
+        Err(error) => Err(Fault::from(error)),
     }
 }
 
-/// Returns the answer to a call of `jpeg_lossless`, or none to another.
-pub fn answer(state: &mut State<'_>, verb: &str, text: &str) -> fault::Result<Option<String>> {
-    Ok(Some(match verb {
-        "predict" => predicted(state.alloc, &numbers(state.alloc, text)?)?,
-        "lossless" => scan(state, true, text)?,
-        "rows" => scan(state, false, text)?,
-        _ => return Ok(None),
-    }))
+/// Answers a call of `jpeg_lossless`. Returns whether it is one.
+pub fn answer(
+    state: &mut State<'_>,
+    said: &mut Said,
+    verb: &str,
+    text: &str,
+) -> fault::Result<bool> {
+    let answered = match verb {
+        "predict" => predicted(said, text),
+        "lossless" => scan(state, said, true, text),
+        "rows" => scan(state, said, false, text),
+        _ => return Ok(false),
+    };
+    answered.and(Ok(true))
 }

@@ -87,12 +87,11 @@
 mod bits;
 mod blocks;
 mod cases;
-mod fault;
 mod lossless;
 mod pictures;
+mod said;
 mod segments;
 mod state;
-mod words;
 mod workers;
 
 use anyhow::Context;

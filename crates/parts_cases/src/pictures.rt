@@ -6,18 +6,20 @@ ghost use Rattle.jpeg_pixels.specs.Pictures.{HaveRoom};
 ghost use Rattle.jpeg_pixels.specs.PicturesView.{IsFor};
 ghost use Rattle.jpeg_pixels.specs.Upsampling.{across, down};
 
-use crate::fault;
-use crate::fault::Fault;
+use crate::said::Said;
 use crate::segments::marker_of;
 use crate::state::State;
-use crate::words::{answer_of, bytes, first_word, halves, numbers, refusal, text_of_bytes};
 use jpeg_bits::color_transform::ColorTransform;
 use jpeg_bits::error::{Error, Result};
 use jpeg_pixels::arch::color_convert_line_ycbcr;
 use jpeg_pixels::upsampler::{ColorConvert, UpsampleRule, Upsampler};
 use jpeg_pixels::worker::compute_image_rows;
 use jpeg_segments::parser::{Component, FrameInfo, parse_sof};
-use std::alloc::{AllocError, Global};
+use std::alloc::Global;
+use test_streams::fault;
+use test_streams::fault::Fault;
+use test_streams::streams::{ROOM, bytes_in};
+use test_streams::words::{Words, first_word, halves, numbers};
 
 /// Returns the rule of this name: of `ACROSSxDOWN` the one that repeats samples.
 fn rule_of(name: &str) -> fault::Result<UpsampleRule> {
@@ -50,74 +52,73 @@ fn ratios(rule: UpsampleRule) -> (usize, usize)
 
 /// Makes a row, by words `RULE WIDTH HEIGHT STRIDE ROW OUTPUT_WIDTH ROOM: SAMPLES`, in `ROOM` bytes
 /// that were 7.
-fn upsample(alloc: Global, text: &str) -> fault::Result<String> {
+fn upsample(said: &mut Said, text: &str) -> fault::Result<()> {
     let (name, text) = first_word(text);
     let (text, samples) = halves(text)?;
     let rule = rule_of(name)?;
-    let numbers = numbers(alloc, text)?;
-    upsampled(alloc, rule, &numbers, &bytes(alloc, samples)?)
+    upsampled(
+        said,
+        rule,
+        numbers::<6>(text)?,
+        bytes_in(&mut [0; ROOM], samples)?,
+    )
 }
 
 /// Makes a row by numbers `WIDTH HEIGHT STRIDE ROW OUTPUT_WIDTH ROOM`.
 fn upsampled(
-    alloc: Global,
+    said: &mut Said,
     rule: UpsampleRule,
-    numbers: &[u16],
+    numbers: [u16; 6],
     samples: &[u8],
-) -> fault::Result<String> {
-    let [width, height, stride, row, output_width, room] = numbers else {
-        return Err(Fault::Expected("six numbers"));
-    };
-    let (width, height, stride) = (
-        usize::from(*width),
-        usize::from(*height),
-        usize::from(*stride),
-    );
-    let (row, output_width) = (usize::from(*row), usize::from(*output_width));
-    let room = usize::from(*room);
+) -> fault::Result<()> {
+    let [width, height, stride, row, output_width, room] = numbers;
+    let (width, height, stride) = (usize::from(width), usize::from(height), usize::from(stride));
+    let (row, output_width) = (usize::from(row), usize::from(output_width));
+    let room = usize::from(room);
     let (across, down) = ratios(rule);
     if across < 1 || down < 1 || width < 1 || row >= down * height {
         return Err(Fault::Expected("a row of the picture"));
     }
-    if output_width > across * width || output_width > room {
+    if output_width > across * width || output_width > room || room > ROOM {
         return Err(Fault::Expected("room for a part of a row"));
     }
     if (height - 1) * stride + width > samples.len() {
         return Err(Fault::Expected("the samples of all lines"));
     }
-    let mut output = vec![in alloc; 7; room]?;
-    rule.upsample_row(
-        samples,
-        width,
-        height,
-        stride,
-        row,
-        output_width,
-        &mut output,
-    );
-    Ok(text_of_bytes(alloc, &output)?)
+    let mut memory = [7; ROOM];
+    let output = &mut memory[..room];
+    rule.upsample_row(samples, width, height, stride, row, output_width, output);
+    said.say_bytes(output)
 }
 
 /// Converts chunks of a line, by words `ROOM: Y: CB: CR`, into `ROOM` bytes that were 7.
-fn ycbcr(alloc: Global, text: &str) -> fault::Result<String> {
+fn ycbcr(said: &mut Said, text: &str) -> fault::Result<()> {
     let (room, text) = halves(text)?;
-    let room = room.parse::<u16>()?;
-    converted(alloc, usize::from(room), &planes_of(alloc, text)?)
+    let (y, text) = halves(text)?;
+    let (cb, cr) = halves(text)?;
+    converted(
+        said,
+        room.parse::<usize>()?,
+        bytes_in(&mut [0; ROOM], y)?,
+        bytes_in(&mut [0; ROOM], cb)?,
+        bytes_in(&mut [0; ROOM], cr)?,
+    )
 }
 
 /// Converts chunks of a line of three components.
-fn converted(alloc: Global, room: usize, samples: &[Vec<u8>]) -> fault::Result<String> {
-    let [y, cb, cr] = samples else {
-        return Err(Fault::Expected("the samples of three components"));
-    };
+fn converted(said: &mut Said, room: usize, y: &[u8], cb: &[u8], cr: &[u8]) -> fault::Result<()> {
     let count = room / 3;
-    if count * 3 != room || count > y.len() || count > cb.len() || count > cr.len() {
+    if count * 3 != room || room > ROOM || count > y.len() || count > cb.len() || count > cr.len() {
         return Err(Fault::Expected("the samples of whole pixels"));
     }
-    let mut output = vec![in alloc; 7; room]?;
-    let converted = color_convert_line_ycbcr(y, cb, cr, &mut output);
-    let text = text_of_bytes(alloc, &output)?;
-    Ok(format!(in alloc; "{converted} pixels, {text}")?)
+    let mut memory = [7; ROOM];
+    let output = &mut memory[..room];
+    let converted = color_convert_line_ycbcr(y, cb, cr, output);
+    let words = Words {
+        bytes: output,
+        size: 1,
+    };
+    Ok(said.say(format_args!("{converted} pixels,{words}"))?)
 }
 
 /// Returns the colour transform of this name.
@@ -137,16 +138,16 @@ fn transform_of(name: &str) -> fault::Result<ColorTransform> {
 }
 
 /// Chooses a conversion, by words `COUNT TRANSFORM`.
-fn colours(alloc: Global, text: &str) -> fault::Result<String> {
+fn colours(alloc: Global, said: &mut Said, text: &str) -> fault::Result<()> {
     let (count, name) = first_word(text);
     let count = count.parse::<usize>()?;
-    let convert = ColorConvert::choose(alloc, count, transform_of(name)?);
-    Ok(answer_of(alloc, &convert)?)
+    let transform = transform_of(name)?;
+    said.tell(ColorConvert::choose(alloc, count, transform))
 }
 
 /// Appends the plane of some words.
 fn push_plane(alloc: Global, planes: &mut Vec<Vec<u8>>, text: &str) -> fault::Result<()> {
-    let plane = bytes(alloc, text)?;
+    let plane = Vec::from_slice(alloc, bytes_in(&mut [0; ROOM], text)?)?;
     Ok(planes.push(plane)?)
 }
 
@@ -212,41 +213,39 @@ fn picture_of(
     )
 }
 
-/// Returns the words for samples that a call returned, or its refusal.
-fn text_of(alloc: Global, samples: &Result<Vec<u8>>) -> std::result::Result<String, AllocError> {
-    match samples {
-        Ok(samples) => text_of_bytes(alloc, samples),
-        Err(error) => refusal(alloc, error),
-    }
-}
-
 /// Reads a frame of the marker of this code.
 fn frame_of(state: &mut State<'_>, code: &str) -> fault::Result<FrameInfo>
     ensures made { IfOk result (λ frame. IsFrame (frame_in frame)) }
     ensures factors { IfOk result (λ frame.
         AllHaveSampling (map component_in frame.components.items)) }
 {
-    let marker = marker_of(state.alloc, code)?;
+    let marker = marker_of(code)?;
     Ok(parse_sof(state.alloc, &mut state.source, marker)?)
 }
 
 /// Makes the picture of a frame that is read, by words `CODE TRANSFORM: PLANE: PLANE ..`.
-fn picture(state: &mut State<'_>, text: &str) -> fault::Result<String> {
+fn picture(state: &mut State<'_>, said: &mut Said, text: &str) -> fault::Result<()> {
     let (words, planes) = halves(text)?;
     let (code, name) = first_word(words);
     let transform = transform_of(name)?;
-    let planes = planes_of(state.alloc, planes)?;
     let frame = frame_of(state, code)?;
-    text_of_picture(state.alloc, &frame, &planes, transform)
+    say_picture(
+        state.alloc,
+        said,
+        &frame,
+        &planes_of(state.alloc, planes)?,
+        transform,
+    )
 }
 
-/// Returns the words for the picture of a frame's planes.
-fn text_of_picture(
+/// Says the picture of a frame's planes.
+fn say_picture(
     alloc: Global,
+    said: &mut Said,
     frame: &FrameInfo,
     planes: &[Vec<u8>],
     transform: ColorTransform,
-) -> fault::Result<String>
+) -> fault::Result<()>
     requires made { IsFrame (frame_in frame.now) }
     requires factors { AllHaveSampling (map component_in frame.now.components.items) }
 {
@@ -254,7 +253,7 @@ fn text_of_picture(
     if count < 3 || count > 4 || count != planes.len() || !have_room(&frame.components, planes) {
         return Err(Fault::Expected("the planes of three or four components"));
     }
-    Ok(text_of(alloc, &picture_of(alloc, frame, planes, transform))?)
+    said.tell_bytes(picture_of(alloc, frame, planes, transform))
 }
 
 /// Returns whether a conversion is one for this many components.
@@ -298,25 +297,32 @@ fn line_of(
 }
 
 /// Makes a line of the picture of a frame that is read, by words `CODE TRANSFORM ROW: PLANE ..`.
-fn line(state: &mut State<'_>, text: &str) -> fault::Result<String> {
+fn line(state: &mut State<'_>, said: &mut Said, text: &str) -> fault::Result<()> {
     let (words, planes) = halves(text)?;
     let (code, words) = first_word(words);
     let (name, row) = first_word(words);
     let row = row.parse::<u16>()?;
     let transform = transform_of(name)?;
-    let planes = planes_of(state.alloc, planes)?;
     let frame = frame_of(state, code)?;
-    text_of_line(state.alloc, &frame, &planes, row, transform)
+    say_line(
+        state.alloc,
+        said,
+        &frame,
+        &planes_of(state.alloc, planes)?,
+        row,
+        transform,
+    )
 }
 
-/// Returns the words for a line of the picture of a frame's planes.
-fn text_of_line(
+/// Says a line of the picture of a frame's planes.
+fn say_line(
     alloc: Global,
+    said: &mut Said,
     frame: &FrameInfo,
     planes: &[Vec<u8>],
     row: u16,
     transform: ColorTransform,
-) -> fault::Result<String>
+) -> fault::Result<()>
     requires made { IsFrame (frame_in frame.now) }
     requires factors { AllHaveSampling (map component_in frame.now.components.items) }
 {
@@ -328,22 +334,23 @@ fn text_of_line(
     if row >= frame.image_size.height || !is_for(count, convert) {
         return Err(Fault::Expected("a line of the picture"));
     }
-    Ok(text_of(
-        alloc,
-        &line_of(alloc, frame, planes, usize::from(row), convert),
-    )?)
+    said.tell_bytes(line_of(alloc, frame, planes, usize::from(row), convert))
 }
 
-/// Returns the answer to a call about pictures, or none to another.
-pub fn answer(state: &mut State<'_>, verb: &str, text: &str) -> fault::Result<Option<String>> {
-    let alloc = state.alloc;
-    let answer = match verb {
-        "upsample" => upsample(alloc, text),
-        "ycbcr" => ycbcr(alloc, text),
-        "colours" => colours(alloc, text),
-        "picture" => picture(state, text),
-        "line" => line(state, text),
-        _ => return Ok(None),
+/// Answers a call about pictures. Returns whether it is one.
+pub fn answer(
+    state: &mut State<'_>,
+    said: &mut Said,
+    verb: &str,
+    text: &str,
+) -> fault::Result<bool> {
+    let answered = match verb {
+        "upsample" => upsample(said, text),
+        "ycbcr" => ycbcr(said, text),
+        "colours" => colours(state.alloc, said, text),
+        "picture" => picture(state, said, text),
+        "line" => line(state, said, text),
+        _ => return Ok(false),
     };
-    Ok(Some(answer?))
+    answered.and(Ok(true))
 }

@@ -1,28 +1,28 @@
 //! Calls of `jpeg_segments`: each segment as its bytes give it.
-ghost use Rattle.std.specs.Prelude.{◌≡◌};
-ghost use Rattle.jpeg_segments.specs.Scales.{is_scale};
+ghost use Rattle.std.specs.Prelude.{◌≡◌, true};
+ghost use Rattle.jpeg_segments.specs.FrameView.{frame_in};
+ghost use Rattle.jpeg_segments.specs.Scales.{IsSizedFrame, is_scale};
 
-use crate::bits::text_of_tables;
-use crate::fault;
-use crate::fault::Fault;
+use crate::bits::{Tables, byte};
+use crate::said::Said;
 use crate::state::State;
-use crate::words::{answer_of, byte, first_word, refusal};
-use jpeg_bits::error::Error;
 use jpeg_bits::marker::Marker;
 use jpeg_segments::parser::{
     FrameInfo, parse_app, parse_com, parse_dht, parse_dqt, parse_dri, parse_sof, parse_sos,
 };
 use jpeg_segments::sizes::scale_frame;
-use std::alloc::{AllocError, Global};
+use test_streams::fault;
+use test_streams::fault::Fault;
+use test_streams::words::first_word;
 
 /// Returns the marker of a code.
-pub fn marker_of(alloc: Global, text: &str) -> fault::Result<Marker> {
-    Ok(Marker::from_u8(byte(alloc, text)?).ok_or(Fault::Expected("a marker code"))?)
+pub fn marker_of(text: &str) -> fault::Result<Marker> {
+    Marker::from_u8(byte(text)?).ok_or(Fault::Expected("a marker code"))
 }
 
-/// Returns the words for a frame.
-fn text_of_frame(alloc: Global, frame: &FrameInfo) -> Result<String, AllocError> {
-    format!(in alloc;
+/// Says a frame.
+fn say_frame(said: &mut Said, frame: &FrameInfo) -> fault::Result<()> {
+    Ok(said.say(format_args!(
         "baseline {}, differential {}, {:?}, {:?}, precision {}, image {:?}, output {:?}, MCUs \
          {:?}, {:?}",
         frame.is_baseline,
@@ -34,20 +34,23 @@ fn text_of_frame(alloc: Global, frame: &FrameInfo) -> Result<String, AllocError>
         frame.output_size,
         frame.mcu_size,
         frame.components
-    )
+    ))?)
 }
 
 /// Reads a frame, which is kept.
-fn sof(state: &mut State<'_>, text: &str) -> fault::Result<String> {
-    let alloc = state.alloc;
-    match parse_sof(alloc, &mut state.source, marker_of(alloc, text)?) {
-        Ok(frame) => {
-            let text = text_of_frame(alloc, &frame)?;
-            state.frame = Some(frame);
-            Ok(text)
-        }
-        Err(error) => Ok(refusal(alloc, &error)?),
+fn sof(state: &mut State<'_>, said: &mut Said, text: &str) -> fault::Result<()> {
+    let marker = marker_of(text)?;
+    match parse_sof(state.alloc, &mut state.source, marker) {
+        Ok(frame) => keep(&mut state.frame, said, frame),
+        Err(error) => said.refuse(&error),
     }
+}
+
+/// Says a frame, and keeps it.
+fn keep(kept: &mut Option<FrameInfo>, said: &mut Said, frame: FrameInfo) -> fault::Result<()> {
+    let answered = say_frame(said, &frame);
+    *kept = Some(frame);
+    answered
 }
 
 /// Returns whether a number of samples is one that a side of a block may give.
@@ -57,76 +60,81 @@ fn is_scale(scale: usize) -> bool
     scale == 1 || scale == 2 || scale == 4 || scale == 8
 }
 
+/// Sizes a frame at a scale and then at another one.
+fn sized(said: &mut Said, mut frame: FrameInfo, first: usize, second: usize) -> fault::Result<()>
+    requires made { IsSizedFrame (frame_in frame) }
+    requires first { is_scale first ≡ true }
+    requires second { is_scale second ≡ true }
+{
+    scale_frame(&mut frame, first);
+    scale_frame(&mut frame, second);
+    say_frame(said, &frame)
+}
+
 /// Reads a frame, and sizes it at a scale and then at another one.
-fn scaled(state: &mut State<'_>, text: &str) -> fault::Result<String> {
-    let alloc = state.alloc;
+fn scaled(state: &mut State<'_>, said: &mut Said, text: &str) -> fault::Result<()> {
     let (code, scales) = first_word(text);
     let (first, second) = first_word(scales);
     let (first, second) = (first.parse::<usize>()?, second.parse::<usize>()?);
+    let marker = marker_of(code)?;
     if !is_scale(first) || !is_scale(second) {
         return Err(Fault::Expected("scales of 1, 2, 4 or 8"));
     }
-    let mut frame = parse_sof(alloc, &mut state.source, marker_of(alloc, code)?)?;
-    scale_frame(&mut frame, first);
-    scale_frame(&mut frame, second);
-    Ok(text_of_frame(alloc, &frame)?)
+    match parse_sof(state.alloc, &mut state.source, marker) {
+        Ok(frame) => sized(said, frame, first, second),
+        Err(error) => Err(Fault::from(error)),
+    }
 }
 
 /// Reads the header of a scan of the frame that was read.
-fn sos(state: &mut State<'_>) -> fault::Result<String> {
-    let frame = state.frame.as_ref().ok_or(Fault::Expected("a frame"))?;
-    let scan = parse_sos(state.alloc, &mut state.source, frame);
-    Ok(answer_of(state.alloc, &scan)?)
+fn sos(state: &mut State<'_>, said: &mut Said) -> fault::Result<()> {
+    match state.frame.as_ref() {
+        Some(frame) => said.tell(parse_sos(state.alloc, &mut state.source, frame)),
+        None => Err(Fault::Expected("a frame")),
+    }
 }
 
 /// Reads Huffman tables, which are kept.
-fn dht(state: &mut State<'_>, text: &str) -> fault::Result<String> {
+fn dht(state: &mut State<'_>, said: &mut Said, text: &str) -> fault::Result<()> {
     let is_baseline = match text {
         "baseline" => Some(true),
         "other" => Some(false),
         "none" => None,
         _ => return Err(Fault::Expected("baseline, other or none")),
     };
-    let alloc = state.alloc;
-    match parse_dht(alloc, &mut state.source, is_baseline) {
+    match parse_dht(state.alloc, &mut state.source, is_baseline) {
         Ok(tables) => {
             state.tables = tables;
-            Ok(text_of_tables(alloc, &state.tables)?)
+            Ok(said.say(Tables(&state.tables))?)
         }
-        Err(error) => Ok(refusal(alloc, &error)?),
+        Err(error) => said.refuse(&error),
     }
 }
 
 /// Reads application data.
-fn app(state: &mut State<'_>, text: &str) -> fault::Result<String> {
+fn app(state: &mut State<'_>, said: &mut Said, text: &str) -> fault::Result<()> {
+    let marker = marker_of(text)?;
+    said.tell(parse_app(state.alloc, &mut state.source, marker))
+}
+
+/// Answers a call of `jpeg_segments`. Returns whether it is one.
+pub fn answer(
+    state: &mut State<'_>,
+    said: &mut Said,
+    verb: &str,
+    text: &str,
+) -> fault::Result<bool> {
     let alloc = state.alloc;
-    let marker = marker_of(alloc, text)?;
-    Ok(answer_of(alloc, &parse_app(alloc, &mut state.source, marker))?)
-}
-
-/// Returns the answer to a call that reads a segment by itself, or none to another.
-fn parsed(state: &mut State<'_>, verb: &str) -> Option<Result<String, AllocError>> {
-    let (alloc, source) = (state.alloc, &mut state.source);
-    Some(match verb {
-        "dqt" => answer_of(alloc, &parse_dqt(alloc, source)),
-        "dri" => answer_of(alloc, &parse_dri(alloc, source)),
-        "com" => answer_of(alloc, &parse_com(alloc, source)),
-        _ => return None,
-    })
-}
-
-/// Returns the answer to a call of `jpeg_segments`, or none to another.
-pub fn answer(state: &mut State<'_>, verb: &str, text: &str) -> fault::Result<Option<String>> {
-    if let Some(answer) = parsed(state, verb) {
-        return Ok(Some(answer?));
-    }
-    let answer = match verb {
-        "sof" => sof(state, text),
-        "scaled" => scaled(state, text),
-        "sos" => sos(state),
-        "dht" => dht(state, text),
-        "app" => app(state, text),
-        _ => return Ok(None),
+    let answered = match verb {
+        "sof" => sof(state, said, text),
+        "scaled" => scaled(state, said, text),
+        "sos" => sos(state, said),
+        "dht" => dht(state, said, text),
+        "app" => app(state, said, text),
+        "dqt" => said.tell(parse_dqt(alloc, &mut state.source)),
+        "dri" => said.tell(parse_dri(alloc, &mut state.source)),
+        "com" => said.tell(parse_com(alloc, &mut state.source)),
+        _ => return Ok(false),
     };
-    Ok(Some(answer?))
+    answered.and(Ok(true))
 }

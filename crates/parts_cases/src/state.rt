@@ -7,15 +7,6 @@ use jpeg_segments::parser::{DefinedTables, FrameInfo};
 use std::alloc::Global;
 use test_streams::readers::Reader;
 
-/// The codes of a table: how many there are of each length, and their symbols.
-#[derive(Drop)]
-pub struct Codes {
-    /// The counts of the lengths 1 to 16.
-    pub counts: [u8; 16],
-    /// The symbols.
-    pub symbols: Vec<u8>,
-}
-
 /// What the calls of a case work on.
 #[derive(Drop)]
 pub struct State<'a> {
@@ -29,8 +20,8 @@ pub struct State<'a> {
     pub decoder: HuffmanDecoder,
     /// The Huffman tables.
     pub tables: DefinedTables,
-    /// The codes by which blocks and lossless scans are read.
-    pub codes: Codes,
+    /// The words for the codes by which blocks and lossless scans are read.
+    pub codes: &'a str,
     /// The frame that was read last.
     pub frame: Option<FrameInfo>,
     /// The coefficients of a block, in block order.
@@ -61,10 +52,7 @@ impl<'a> State<'a> {
             source: Source::new(reader),
             decoder: HuffmanDecoder::new(alloc),
             tables,
-            codes: Codes {
-                counts: [0; 16],
-                symbols: Vec::new(alloc),
-            },
+            codes: "",
             frame: None,
             block: [0; 64],
             values: [1; 64],

@@ -6,14 +6,16 @@ ghost use Rattle.jpeg_segments.specs.FrameView.{component_in};
 ghost use Rattle.jpeg_pixels.specs.JointPlanes.{HasFrameSizes, joint_row_size};
 ghost use Rattle.jpeg_pixels.specs.Workers.{work_of};
 
-use crate::fault;
-use crate::fault::Fault;
-use crate::words::{bytes, halves, numbers, text_of_bytes};
+use crate::said::Said;
 use jpeg_bits::error::Error;
 use jpeg_pixels::joint_planes::{JointPlanes, JointShape, joint_shape};
 use jpeg_pixels::worker::{ImmediateWorker, RowData};
 use jpeg_segments::parser::{Component, Dimensions};
 use std::alloc::Global;
+use test_streams::fault;
+use test_streams::fault::Fault;
+use test_streams::streams::{ROOM, bytes_in};
+use test_streams::words::{fill, halves, numbers};
 
 /// Returns a component of two by four blocks, each of one sample, with these factors.
 fn component(horizontal: u8, vertical: u8) -> Component
@@ -64,26 +66,19 @@ fn shape_of(factors: [u8; 3], size: Dimensions, rows: u16) -> Option<JointShape>
 }
 
 /// Returns the layout of words `FIRST SECOND THIRD WIDTH HEIGHT ROWS`.
-fn shape(alloc: Global, text: &str) -> fault::Result<Option<JointShape>>
+fn shape(text: &str) -> fault::Result<Option<JointShape>>
     ensures { IfOk result (λ shape. IfSome shape HasFrameSizes) }
 {
-    let numbers = numbers(alloc, text)?;
-    let [first, second, third, width, height, rows] = numbers.as_slice() else {
-        return Err(Fault::Expected("six numbers"));
-    };
+    let [first, second, third, width, height, rows] = numbers::<6>(text)?;
     let factors = [
-        u8::try_from(*first)?,
-        u8::try_from(*second)?,
-        u8::try_from(*third)?,
+        u8::try_from(first)?,
+        u8::try_from(second)?,
+        u8::try_from(third)?,
     ];
     if factors.iter().any(|factor| *factor < 1 || *factor > 4) {
         return Err(Fault::Expected("factors of 1 to 4"));
     }
-    let size = Dimensions {
-        width: *width,
-        height: *height,
-    };
-    Ok(shape_of(factors, size, *rows))
+    Ok(shape_of(factors, Dimensions { width, height }, rows))
 }
 
 /// Returns how many samples the planes of a layout have, or none where there are too many.
@@ -95,21 +90,29 @@ fn room_of(shape: JointShape) -> Option<usize>
 }
 
 /// Takes a plane out of a buffer, by words `SHAPE: SLOT: SAMPLES`.
-fn joint(alloc: Global, text: &str) -> fault::Result<String> {
+fn joint(alloc: Global, said: &mut Said, text: &str) -> fault::Result<()> {
     let (words, text) = halves(text)?;
     let (slot, samples) = halves(text)?;
     let slot = slot.trim().parse::<usize>()?;
-    let samples = bytes(alloc, samples)?;
-    let Some(shape) = shape(alloc, words)? else {
-        return Err(Fault::Expected("components alike"));
-    };
+    match shape(words)? {
+        Some(shape) => {
+            said.say_bytes(&plane_of(alloc, shape, slot, bytes_in(&mut [0; ROOM], samples)?)?)
+        }
+        None => Err(Fault::Expected("components alike")),
+    }
+}
+
+/// Returns a plane of the samples of all.
+fn plane_of(alloc: Global, shape: JointShape, slot: usize, samples: &[u8]) -> fault::Result<Vec<u8>>
+    requires sizes { HasFrameSizes shape }
+{
     let room = room_of(shape).ok_or(Fault::Expected("fewer samples"))?;
     if slot >= shape.count || samples.len() != room {
         return Err(Fault::Expected("a slot, and the samples of all planes"));
     }
     let mut joint = JointPlanes::new(alloc, shape)?;
-    joint.samples.extend_from_slice(&samples)?;
-    Ok(text_of_bytes(alloc, &joint.plane(alloc, slot)?)?)
+    joint.samples.extend_from_slice(samples)?;
+    Ok(joint.plane(alloc, slot)?)
 }
 
 /// Returns a row of four blocks, by the first coefficient of each.
@@ -165,36 +168,41 @@ fn whole(alloc: Global, firsts: [i16; 4], seconds: [i16; 4]) -> Result<Vec<u8>, 
 }
 
 /// Returns four coefficients of words.
-fn firsts(alloc: Global, text: &str) -> fault::Result<[i16; 4]> {
-    let numbers = numbers(alloc, text)?;
-    let [first, second, third, fourth] = numbers.as_slice() else {
-        return Err(Fault::Expected("four numbers"));
-    };
-    Ok([
-        i16::try_from(*first)?,
-        i16::try_from(*second)?,
-        i16::try_from(*third)?,
-        i16::try_from(*fourth)?,
-    ])
+fn firsts(text: &str) -> fault::Result<[i16; 4]> {
+    let mut firsts = [0; 4];
+    fill(&mut firsts, text)?;
+    Ok(firsts)
 }
 
 /// Makes a plane by a worker, by words `FIRSTS` of one row, or `FIRSTS: FIRSTS` of two.
-fn worker(alloc: Global, text: &str) -> fault::Result<String> {
-    if let Some((first, second)) = text.split_once(':') {
-        let plane = whole(alloc, firsts(alloc, first)?, firsts(alloc, second)?)?;
-        return Ok(text_of_bytes(alloc, &plane)?);
+fn worker(alloc: Global, said: &mut Said, text: &str) -> fault::Result<()> {
+    match text.split_once(':') {
+        Some((first, second)) => {
+            let (first, second) = (firsts(first)?, firsts(second)?);
+            said.tell_bytes(whole(alloc, first, second))
+        }
+        None => match half(alloc, firsts(text)?) {
+            Ok([other, plane, again]) => {
+                Ok(said.say(format_args!("{other:?}, {plane:?}, {again:?}"))?)
+            }
+            Err(error) => said.refuse(&error),
+        },
     }
-    let [other, plane, again] = half(alloc, firsts(alloc, text)?)?;
-    Ok(format!(in alloc; "{other:?}, {plane:?}, {again:?}")?)
 }
 
-/// Returns the answer to a call about planes, or none to another.
-pub fn answer(alloc: Global, verb: &str, text: &str) -> fault::Result<Option<String>> {
-    let answer = match verb {
-        "shape" => return Ok(Some(format!(in alloc; "{:?}", shape(alloc, text)?)?)),
-        "joint" => joint(alloc, text),
-        "worker" => worker(alloc, text),
-        _ => return Ok(None),
+/// Says the layout of words.
+fn say_shape(said: &mut Said, text: &str) -> fault::Result<()> {
+    let shape = shape(text)?;
+    Ok(said.say(format_args!("{shape:?}"))?)
+}
+
+/// Answers a call about planes. Returns whether it is one.
+pub fn answer(alloc: Global, said: &mut Said, verb: &str, text: &str) -> fault::Result<bool> {
+    let answered = match verb {
+        "shape" => say_shape(said, text),
+        "joint" => joint(alloc, said, text),
+        "worker" => worker(alloc, said, text),
+        _ => return Ok(false),
     };
-    Ok(Some(answer?))
+    answered.and(Ok(true))
 }

@@ -1,17 +1,17 @@
-//! Why a call of a case file has no answer.
+//! Why a line of a case file has no answer.
 
 use jpeg_bits::error::Error;
 use std::alloc::{AllocError, AllocFailed};
 use std::array::TryFromSliceError;
-use std::fmt;
 use std::num::{ParseIntError, TryFromIntError};
+use std::{fmt, io};
 
-/// Why a call has no answer. It is `Copy`, so that no function has one to drop.
+/// Why a line has no answer. It is `Copy`, so that no function has one to drop.
 #[derive(Clone, Copy, Debug, PartialEq, Eq)]
 pub enum Fault {
-    /// The line lacks this.
+    /// The line isn't as `main` says: it lacks this.
     Expected(&'static str),
-    /// What the call needs first, such as its table or its frame, is refused.
+    /// What the call needs first, such as a decoder, a table or a frame, is refused.
     Refused,
     /// There is no memory.
     OutOfMemory,
@@ -46,16 +46,7 @@ impl From<TryFromIntError> for Fault {
 
 impl From<TryFromSliceError> for Fault {
     fn from(_e: TryFromSliceError) -> Fault {
-        Fault::Expected("another count of values")
-    }
-}
-
-impl From<hex::FromHexError> for Fault {
-    fn from(e: hex::FromHexError) -> Fault {
-        match e {
-            hex::FromHexError::OutOfMemory => Fault::OutOfMemory,
-            _ => Fault::Expected("bytes in hex"),
-        }
+        Fault::Expected("another count of bytes")
     }
 }
 
@@ -65,6 +56,12 @@ impl From<Error> for Fault {
             Error::OutOfMemory => Fault::OutOfMemory,
             _ => Fault::Refused,
         }
+    }
+}
+
+impl From<io::Error> for Fault {
+    fn from(_e: io::Error) -> Fault {
+        Fault::Expected("bytes in hex, of which there is room")
     }
 }
 
