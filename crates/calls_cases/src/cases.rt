@@ -1,45 +1,62 @@
 //! The lines of a case file, one after the other.
 
-use crate::calls::answer;
-use crate::fault;
+use crate::calls::say_answer;
+use crate::said::Said;
 use anyhow::Context;
 use std::alloc::Global;
 use std::io::Write;
+use test_streams::fault;
 use test_streams::streams::{ROOM, bytes_in};
+use test_streams::words::first_word;
 
-/// Returns a call with its answer.
-fn answered(alloc: Global, stream: &str, line: &str) -> fault::Result<String> {
+/// Says a line, and the answer to its call.
+fn say_answered(alloc: Global, said: &mut Said, stream: &str, line: &str) -> fault::Result<()> {
     let mut room = [0; ROOM];
     let jpeg = bytes_in(&mut room, stream)?;
-    let (call, words) = line.split_once(' ').unwrap_or((line, ""));
-    let answer = answer(alloc, jpeg, call, words)?;
-    Ok(format!(in alloc; "{line}: {answer}\n")?)
+    let (call, words) = first_word(line);
+    said.say(format_args!("{line}: "))?;
+    say_answer(alloc, said, jpeg, call, words)?;
+    Ok(said.say("\n")?)
 }
 
-/// Takes a line of a stream, or returns what is written for another one.
-fn said_of(alloc: Global, stream: &mut String, line: &str) -> fault::Result<String> {
-    let (word, rest) = line.split_once(' ').unwrap_or((line, ""));
+/// Appends the words of a stream.
+fn append(stream: &mut String, words: &str) -> fault::Result<()> {
+    stream.push(' ')?;
+    Ok(stream.push_str(words)?)
+}
+
+/// Takes a line of a stream, or says what is written for another one.
+fn read_line(alloc: Global, said: &mut Said, stream: &mut String, line: &str) -> fault::Result<()> {
+    let (word, rest) = first_word(line);
     match word {
-        "" | "#" => Ok(String::new(alloc)),
+        "" | "#" => Ok(()),
         "case" => {
             stream.clear();
-            Ok(format!(in alloc; "{line}\n")?)
+            Ok(said.say(format_args!("{line}\n"))?)
         }
-        "stream" => {
-            stream.push(' ')?;
-            stream.push_str(rest)?;
-            Ok(String::new(alloc))
-        }
-        _ => answered(alloc, stream.as_str(), line),
+        "stream" => append(stream, rest),
+        _ => say_answered(alloc, said, stream.as_str(), line),
     }
+}
+
+/// Reads a line, and writes what is said for it.
+fn write_answer<W: Write>(
+    alloc: Global,
+    stream: &mut String,
+    line: &str,
+    writer: &mut W,
+) -> anyhow::Result<()> {
+    let mut said = Said::new(alloc);
+    read_line(alloc, &mut said, stream, line)?;
+    writer.write_all(said.as_str().as_bytes())?;
+    Ok(())
 }
 
 /// Writes the answers of a case file.
 pub fn write_answers<W: Write>(alloc: Global, text: &str, writer: &mut W) -> anyhow::Result<()> {
     let mut stream = String::new(alloc);
     for line in text.lines() {
-        let said = said_of(alloc, &mut stream, line).context(line)?;
-        writer.write_all(said.as_bytes())?;
+        write_answer(alloc, &mut stream, line, writer).context(line)?;
     }
     Ok(())
 }

@@ -33,8 +33,8 @@
 
 mod calls;
 mod cases;
-mod fault;
 mod options;
+mod said;
 mod told;
 
 use anyhow::Context;

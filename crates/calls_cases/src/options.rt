@@ -1,7 +1,7 @@
 //! The options that the words of a call give.
 
-use crate::fault;
-use crate::fault::Fault;
+use test_streams::fault;
+use test_streams::fault::Fault;
 use zaxbriar_calls::options::{AS_STORED, Options};
 
 /// Makes one of the words that are zero 1.

@@ -1,6 +1,9 @@
 //! The words for what calls return.
 
-use std::alloc::{AllocError, Global};
+use crate::said::Said;
+use std::alloc::AllocError;
+use std::fmt;
+use std::fmt::{Display, Formatter, Write};
 use zaxbriar_calls::picture::Picture;
 use zaxbriar_calls::places::{Place, Places};
 use zaxbriar_calls::segments::Segment;
@@ -19,31 +22,37 @@ const NAMES: [&str; 10] = [
     "PARTIAL",
 ];
 
-/// Appends a member of a struct, unless it is 0.
-fn push_member(
-    alloc: Global,
-    text: &mut String,
-    name: &str,
-    number: u64,
-) -> Result<(), AllocError> {
-    if number == 0 {
-        return Ok(());
-    }
-    text.push_str(format!(in alloc; " {name} {number}")?.as_str())
+/// The number of a result, which is written by its name, and the members of a struct, of which those
+/// that are not 0 are written.
+#[derive(Clone, Copy)]
+struct Members<'a> {
+    code: u32,
+    members: &'a [(&'static str, u64)],
 }
 
-/// Returns the name of a result, and the members of a struct that are not 0.
-fn members_text(
-    alloc: Global,
-    code: u32,
-    members: &[(&'static str, u64)],
-) -> Result<String, AllocError> {
-    let name = NAMES.get(code as usize).unwrap_or(&"?");
-    let mut text = String::from_str(alloc, name)?;
-    for (name, number) in members {
-        push_member(alloc, &mut text, name, *number)?;
+impl Display for Members<'_> {
+    fn fmt<W: Write>(&self, f: &mut Formatter<W>) -> fmt::Result {
+        f.write_str(NAMES.get(self.code as usize).unwrap_or(&"?"))?;
+        for (name, number) in self.members {
+            if *number != 0 {
+                write!(f, " {name} {number}")?;
+            }
+        }
+        Ok(())
     }
-    Ok(text)
+}
+
+/// Bytes, which are written in hex.
+#[derive(Clone, Copy)]
+pub struct Hex<'a>(pub &'a [u8]);
+
+impl Display for Hex<'_> {
+    fn fmt<W: Write>(&self, f: &mut Formatter<W>) -> fmt::Result {
+        for byte in self.0 {
+            write!(f, "{byte:02X}")?;
+        }
+        Ok(())
+    }
 }
 
 /// Returns how many bytes the header or the image takes, after a result that says so.
@@ -83,42 +92,43 @@ fn members_of(code: u32, picture: &Picture) -> [(&'static str, u64); 23] {
     ]
 }
 
-/// Returns the words for a call that describes a picture.
-pub fn picture_text(alloc: Global, code: u32, picture: &Picture) -> Result<String, AllocError> {
-    let members = members_text(alloc, code, &members_of(code, picture))?;
-    let sampling = hex::encode_upper(alloc, picture.sampling.as_slice())?;
-    format!(in alloc; "{members}, sampling {sampling}")
+/// Says what a call tells that describes a picture.
+pub fn say_picture(said: &mut Said, code: u32, picture: &Picture) -> Result<(), AllocError> {
+    let members = &members_of(code, picture);
+    let (members, sampling) = (Members { code, members }, Hex(&picture.sampling));
+    said.say(format_args!("{members}, sampling {sampling}"))
 }
 
-/// Returns the words for a call that copies metadata.
-pub fn count_text(alloc: Global, code: u32, count: u64) -> Result<String, AllocError> {
-    members_text(alloc, code, &[("length", count)])
+/// Says what a call tells that copies metadata.
+pub fn say_count(said: &mut Said, code: u32, count: u64) -> Result<(), AllocError> {
+    let members = &[("length", count)];
+    said.say(Members { code, members })
 }
 
-/// Returns the words for a call that finds a segment.
-pub fn segment_text(alloc: Global, code: u32, segment: Segment) -> Result<String, AllocError> {
-    let members = [
+/// Says what a call tells that finds a segment.
+pub fn say_segment(said: &mut Said, code: u32, segment: Segment) -> Result<(), AllocError> {
+    let members = &[
         ("offset", segment.offset),
         ("size", segment.size),
         ("end", segment.end),
         ("needed", segment.needed),
         ("skipped", segment.skipped),
     ];
-    let text = members_text(alloc, code, &members)?;
-    format!(in alloc; "{text}, marker {:02X}", segment.marker)
+    let members = Members { code, members };
+    said.say(format_args!("{members}, marker {:02X}", segment.marker))
 }
 
-/// Appends the place of a part of a profile, if it is one.
-fn push_place(alloc: Global, text: &mut String, place: Place) -> Result<(), AllocError> {
+/// Says the place of a part of a profile, if it is one.
+fn say_place(said: &mut Said, place: Place) -> Result<(), AllocError> {
     if place.size == 0 {
         return Ok(());
     }
-    text.push_str(format!(in alloc; ", {} {}", place.offset, place.size)?.as_str())
+    said.say(format_args!(", {} {}", place.offset, place.size))
 }
 
-/// Returns the words for the places of metadata.
-pub fn places_text(alloc: Global, places: &Places) -> Result<String, AllocError> {
-    let members = [
+/// Says the places of metadata.
+pub fn say_places(said: &mut Said, places: &Places) -> Result<(), AllocError> {
+    let members = &[
         ("exif.offset", places.exif.offset),
         ("exif.size", places.exif.size),
         ("xmp.offset", places.xmp.offset),
@@ -127,9 +137,9 @@ pub fn places_text(alloc: Global, places: &Places) -> Result<String, AllocError>
         ("icc_parts", places.icc_parts as u64),
         ("ended", places.ended as u64),
     ];
-    let mut text = members_text(alloc, 0, &members)?;
+    said.say(Members { code: 0, members })?;
     for place in places.icc {
-        push_place(alloc, &mut text, place)?;
+        say_place(said, place)?;
     }
-    Ok(text)
+    Ok(())
 }

@@ -1,9 +1,9 @@
 //! What a line of a case asks for, and the words for it.
 
-use crate::fault;
-use crate::fault::Fault;
 use jpeg_decoder::{ColorTransform, Scale};
 use std::str::SplitWhitespace;
+use test_streams::fault;
+use test_streams::fault::Fault;
 
 /// A call of a decoder.
 #[derive(Clone, Copy)]

@@ -1,104 +1,124 @@
 //! The cases of a file, one after the other.
 
 use crate::calls::Request;
-use crate::fault;
-use crate::fault::Fault;
-use crate::hex_words::append_bytes;
-use crate::pieces::answers;
+use crate::pieces::say_answers;
+use crate::said::Said;
 use anyhow::Context;
 use std::alloc::Global;
 use std::io::Write;
+use test_streams::fault;
+use test_streams::fault::Fault;
+use test_streams::words::{first_word, repeated};
 
-/// A case, as far as its lines were read.
+/// A case, as far as its lines were read. Before the first it has no name.
 #[derive(Drop)]
-struct Case {
-    name: String,
+struct Case<'a> {
+    alloc: Global,
+    name: &'a str,
     has_stream: bool,
     stream: Vec<u8>,
     requests: Vec<Request>,
 }
 
-impl Case {
-    /// Returns a case of this name.
-    fn new(alloc: Global, name: &str) -> fault::Result<Case> {
-        if name.is_empty() {
-            return Err(Fault::Expected("the name of the case"));
-        }
-        Ok(Case {
-            name: String::from_str(alloc, name)?,
+/// Appends the bytes of a word in hex, as often as a star and a number after it say.
+fn append_word(alloc: Global, bytes: &mut Vec<u8>, word: &str) -> fault::Result<()> {
+    let (digits, count) = repeated(word)?;
+    match hex::decode(alloc, digits) {
+        Ok(piece) => append(bytes, &piece, count),
+        Err(_) => Err(Fault::Expected("bytes in hex")),
+    }
+}
+
+/// Appends bytes this many times.
+fn append(bytes: &mut Vec<u8>, piece: &[u8], count: u32) -> fault::Result<()> {
+    for _ in 0..count {
+        bytes.extend_from_slice(piece)?;
+    }
+    Ok(())
+}
+
+impl<'a> Case<'a> {
+    /// Returns what stands before the first case.
+    fn new(alloc: Global) -> Case<'a> {
+        Case {
+            alloc,
+            name: "",
             has_stream: false,
             stream: Vec::new(alloc),
             requests: Vec::new(alloc),
-        })
-    }
-
-    /// Reads a line of the case, which begins with this word.
-    fn read_line(&mut self, alloc: Global, word: &str, rest: &str) -> fault::Result<()> {
-        if word == "stream" {
-            if !self.requests.is_empty() {
-                return Err(Fault::Expected("no stream after a call"));
-            }
-            self.has_stream = true;
-            append_bytes(alloc, &mut self.stream, rest)
-        } else {
-            if !self.has_stream {
-                return Err(Fault::Expected("a stream before a call"));
-            }
-            self.requests.push(Request::new(word, rest)?)?;
-            Ok(())
         }
     }
 
-    /// Writes the line of the case.
-    fn answer<W: Write>(&self, alloc: Global, writer: &mut W) -> fault::Result<()> {
+    /// Begins a case of this name.
+    fn begin(&mut self, name: &'a str) -> fault::Result<()> {
+        if name.is_empty() {
+            return Err(Fault::Expected("the name of the case"));
+        }
+        self.name = name;
+        self.has_stream = false;
+        self.stream.clear();
+        self.requests.clear();
+        Ok(())
+    }
+
+    /// Reads more of the stream.
+    fn read_stream(&mut self, words: &str) -> fault::Result<()> {
+        if !self.requests.is_empty() {
+            return Err(Fault::Expected("no stream after a call"));
+        }
+        self.has_stream = true;
+        for word in words.split_whitespace() {
+            append_word(self.alloc, &mut self.stream, word)?;
+        }
+        Ok(())
+    }
+
+    /// Reads a request.
+    fn read_request(&mut self, word: &str, rest: &str) -> fault::Result<()> {
+        if !self.has_stream {
+            return Err(Fault::Expected("a stream before a call"));
+        }
+        Ok(self.requests.push(Request::new(word, rest)?)?)
+    }
+
+    /// Writes the line of the case, if there is one.
+    fn end<W: Write>(&self, writer: &mut W) -> fault::Result<()> {
+        if self.name.is_empty() {
+            return Ok(());
+        }
         if self.requests.is_empty() {
             return Err(Fault::Expected("a call of the case"));
         }
-        let answers = answers(alloc, &self.stream, &self.requests)?;
-        let line = format!(in alloc; "{}: {answers}\n", self.name)?;
-        writer.write_all(line.as_bytes())?;
-        Ok(())
-    }
-}
-
-/// Writes the line of a case that has ended, if there is one.
-fn end_case<W: Write>(alloc: Global, case: Option<Case>, writer: &mut W) -> fault::Result<()> {
-    match case {
-        Some(case) => case.answer(alloc, writer),
-        None => Ok(()),
-    }
-}
-
-/// Writes the line of a case that a line ends, and returns the case that stands then.
-fn next_case<W: Write>(
-    alloc: Global,
-    case: Option<Case>,
-    line: &str,
-    writer: &mut W,
-) -> fault::Result<Option<Case>> {
-    let (word, rest) = line.split_once(' ').unwrap_or((line, ""));
-    if line.is_empty() || word == "#" {
-        return Ok(case);
-    }
-    match (word, case) {
-        ("case", case) => {
-            end_case(alloc, case, writer)?;
-            Ok(Some(Case::new(alloc, rest)?))
+        let mut said = Said::new(self.alloc);
+        say_answers(self.alloc, &mut said, &self.stream, &self.requests)?;
+        match writer.write_fmt(format_args!("{}: {}\n", self.name, said.as_str())) {
+            Ok(()) => Ok(()),
+            Err(_) => Err(Fault::Expected("a writer that takes the answers")),
         }
-        (_, Some(mut case)) => {
-            case.read_line(alloc, word, rest)?;
-            Ok(Some(case))
+    }
+
+    /// Reads a line. If it begins another case, the line of this one is written.
+    fn read_line<W: Write>(&mut self, line: &'a str, writer: &mut W) -> fault::Result<()> {
+        match first_word(line) {
+            ("", "") | ("#", _) => Ok(()),
+            ("case", name) => {
+                self.end(writer)?;
+                self.begin(name)
+            }
+            _ if self.name.is_empty() => Err(Fault::Expected("a case before its lines")),
+            ("stream", words) => self.read_stream(words),
+            (word, rest) => self.read_request(word, rest),
         }
-        (_, None) => Err(Fault::Expected("a case before its lines")),
     }
 }
 
 /// Writes a line for each case of a file.
 pub fn answer_cases<W: Write>(alloc: Global, text: &str, writer: &mut W) -> anyhow::Result<()> {
-    let mut case = None;
+    let mut case = Case::new(alloc);
     for (index, line) in text.lines().enumerate() {
         let number = index.wrapping_add(1);
-        case = next_case(alloc, case, line, writer).context(format_args!("line {number}"))?;
+        case.read_line(line, writer)
+            .context(format_args!("line {number}"))?;
     }
-    Ok(end_case(alloc, case, writer)?)
+    Ok(case.end(writer)?)
 }

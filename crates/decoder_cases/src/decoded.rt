@@ -1,8 +1,9 @@
-//! The words for what `decode`, `decode_partial` and `decode_into` return.
+//! The words for what a decoder returns.
 
-use crate::hex_words::words_of;
-use jpeg_decoder::{Error, ImageInfo, PartialPicture, PixelFormat};
-use std::alloc::{AllocError, Global};
+use jpeg_decoder::{ColorTransform, DecodingBytes, Error, ImageInfo, PartialPicture, PixelFormat};
+use std::fmt;
+use std::fmt::{Display, Formatter, Write};
+use test_streams::words::Words;
 
 /// Returns the name of a format, as `run` writes it.
 fn format_name(format: PixelFormat) -> &'static str {
@@ -14,14 +15,19 @@ fn format_name(format: PixelFormat) -> &'static str {
     }
 }
 
-/// Returns the size and the format of a picture, as `run` writes them, or `none`.
-pub fn size_text(alloc: Global, info: Option<ImageInfo>) -> Result<String, AllocError> {
-    match info {
-        Some(info) => {
-            let name = format_name(info.pixel_format);
-            format!(in alloc; "{} {} {name}", info.width, info.height)
+/// The size and the format of a picture, which are written as `run` does, or as `none`.
+#[derive(Clone, Copy)]
+pub struct Size(pub Option<ImageInfo>);
+
+impl Display for Size {
+    fn fmt<W: Write>(&self, f: &mut Formatter<W>) -> fmt::Result {
+        match self.0 {
+            Some(info) => {
+                let name = format_name(info.pixel_format);
+                write!(f, "{} {} {name}", info.width, info.height)
+            }
+            None => f.write_str("none"),
         }
-        None => String::from_str(alloc, "none"),
     }
 }
 
@@ -36,59 +42,170 @@ fn pixel_size(info: Option<ImageInfo>, bytes: usize) -> usize {
     }
 }
 
-/// Returns the words for a picture.
-pub fn picture_text(
-    alloc: Global,
-    info: Option<ImageInfo>,
-    picture: &[u8],
-) -> Result<String, AllocError> {
-    let size = size_text(alloc, info)?;
-    let words = words_of(alloc, picture, pixel_size(info, picture.len()))?;
-    format!(in alloc; "{size}{words}")
+/// Returns the pixels of a picture as words, one for each pixel.
+fn pixels_of(info: Option<ImageInfo>, bytes: &[u8]) -> Words<'_> {
+    let size = pixel_size(info, bytes.len());
+    Words { bytes, size }
 }
 
-/// Returns the text of an error, or of a broken rule that is named its kind alone unless the whole
-/// text is wanted.
-fn error_text(alloc: Global, error: &Error, is_whole: bool) -> Result<String, AllocError> {
-    match error {
-        Error::Format(text) if !is_whole && !text.is_empty() => {
-            String::from_str(alloc, "invalid JPEG format")
-        }
-        _ => format!(in alloc; "{error}"),
+/// A picture, and what is known of it.
+#[derive(Clone, Copy)]
+pub struct Picture<'a> {
+    pub info: Option<ImageInfo>,
+    pub bytes: &'a [u8],
+}
+
+impl Display for Picture<'_> {
+    fn fmt<W: Write>(&self, f: &mut Formatter<W>) -> fmt::Result {
+        write!(f, "{}{}", Size(self.info), pixels_of(self.info, self.bytes))
     }
 }
 
-/// Returns the words for a refusal, see `error_text`.
-pub fn refusal_text(alloc: Global, error: &Error, is_whole: bool) -> Result<String, AllocError> {
-    let text = error_text(alloc, error, is_whole)?;
-    format!(in alloc; "refused: {text}")
+/// The text of an error, or of a broken rule that is named its kind alone unless the whole text is
+/// wanted.
+#[derive(Clone, Copy)]
+struct ErrorText<'a> {
+    error: &'a Error,
+    is_whole: bool,
 }
 
-/// Returns the words for a picture, how many of its rows are complete, and the first fault of its
-/// stream.
-pub fn partial_text(
-    alloc: Global,
-    info: Option<ImageInfo>,
-    partial: &PartialPicture,
-) -> Result<String, AllocError> {
-    let picture = picture_text(alloc, info, &partial.pixels)?;
-    let fault = match &partial.fault {
-        Some(error) => error_text(alloc, error, false)?,
-        None => String::from_str(alloc, "none")?,
-    };
-    let rows = partial.whole_rows;
-    format!(in alloc; "{picture}, rows {rows}, fault {fault}")
+impl Display for ErrorText<'_> {
+    fn fmt<W: Write>(&self, f: &mut Formatter<W>) -> fmt::Result {
+        match self.error {
+            Error::Format(text) if !self.is_whole && !text.is_empty() => {
+                f.write_str("invalid JPEG format")
+            }
+            error => write!(f, "{error}"),
+        }
+    }
 }
 
-/// Returns the words for the memory that a picture of `size` bytes was decoded into.
-pub fn memory_text(
-    alloc: Global,
-    info: Option<ImageInfo>,
-    size: usize,
-    memory: &[u8],
-) -> Result<String, AllocError> {
-    let (picture, rest) = memory.split_at(size.min(memory.len()));
-    let words = words_of(alloc, picture, pixel_size(info, picture.len()))?;
-    let unwritten = words_of(alloc, rest, 1)?;
-    format!(in alloc; "{size} bytes, memory{words}{unwritten}")
+/// A refusal. Unless the whole text is wanted, of a broken rule the kind alone is written.
+#[derive(Clone, Copy)]
+pub struct Refusal<'a> {
+    pub error: &'a Error,
+    pub is_whole: bool,
+}
+
+impl Display for Refusal<'_> {
+    fn fmt<W: Write>(&self, f: &mut Formatter<W>) -> fmt::Result {
+        let (error, is_whole) = (self.error, self.is_whole);
+        write!(f, "refused: {}", ErrorText { error, is_whole })
+    }
+}
+
+/// The first fault of a stream, or none.
+#[derive(Clone, Copy)]
+struct FirstFault<'a>(&'a Option<Error>);
+
+impl Display for FirstFault<'_> {
+    fn fmt<W: Write>(&self, f: &mut Formatter<W>) -> fmt::Result {
+        match self.0 {
+            Some(error) => {
+                let is_whole = false;
+                write!(f, "{}", ErrorText { error, is_whole })
+            }
+            None => f.write_str("none"),
+        }
+    }
+}
+
+/// A picture, how many of its rows are complete, and the first fault of its stream.
+#[derive(Clone, Copy)]
+pub struct Partial<'a> {
+    pub info: Option<ImageInfo>,
+    pub partial: &'a PartialPicture,
+}
+
+impl Display for Partial<'_> {
+    fn fmt<W: Write>(&self, f: &mut Formatter<W>) -> fmt::Result {
+        let picture = Picture {
+            info: self.info,
+            bytes: &self.partial.pixels,
+        };
+        let (rows, fault) = (self.partial.whole_rows, FirstFault(&self.partial.fault));
+        write!(f, "{picture}, rows {rows}, fault {fault}")
+    }
+}
+
+/// The memory that a picture of `size` bytes was decoded into.
+#[derive(Clone, Copy)]
+pub struct Memory<'a> {
+    pub info: Option<ImageInfo>,
+    pub size: usize,
+    pub memory: &'a [u8],
+}
+
+impl Display for Memory<'_> {
+    fn fmt<W: Write>(&self, f: &mut Formatter<W>) -> fmt::Result {
+        let (picture, bytes) = self.memory.split_at(self.size.min(self.memory.len()));
+        let pixels = pixels_of(self.info, picture);
+        write!(
+            f,
+            "{} bytes, memory{pixels}{}",
+            self.size,
+            Words { bytes, size: 1 }
+        )
+    }
+}
+
+/// What decoding takes.
+#[derive(Clone, Copy)]
+pub struct Bytes(pub Option<DecodingBytes>);
+
+impl Display for Bytes {
+    fn fmt<W: Write>(&self, f: &mut Formatter<W>) -> fmt::Result {
+        match self.0 {
+            Some(bytes) => {
+                let (coefficients, planes) = (bytes.coefficients, bytes.planes);
+                let (picture, peak) = (bytes.picture, bytes.peak);
+                write!(f, "{coefficients} {planes} {picture} {peak}")?;
+                write!(
+                    f,
+                    ", partial {} {}",
+                    bytes.all_coefficients, bytes.partial_peak
+                )
+            }
+            None => f.write_str("none"),
+        }
+    }
+}
+
+/// A number, if it is there.
+#[derive(Clone, Copy)]
+pub struct Number(pub Option<u8>);
+
+impl Display for Number {
+    fn fmt<W: Write>(&self, f: &mut Formatter<W>) -> fmt::Result {
+        match self.0 {
+            Some(number) => write!(f, "{number}"),
+            None => f.write_str("none"),
+        }
+    }
+}
+
+/// Data, if they are there.
+#[derive(Clone, Copy)]
+pub struct Data<'a>(pub Option<&'a [u8]>);
+
+impl Display for Data<'_> {
+    fn fmt<W: Write>(&self, f: &mut Formatter<W>) -> fmt::Result {
+        match self.0 {
+            Some(bytes) => write!(f, "{} bytes{}", bytes.len(), Words { bytes, size: 1 }),
+            None => f.write_str("none"),
+        }
+    }
+}
+
+/// A colour transform, if it is there.
+#[derive(Clone, Copy)]
+pub struct Transform(pub Option<ColorTransform>);
+
+impl Display for Transform {
+    fn fmt<W: Write>(&self, f: &mut Formatter<W>) -> fmt::Result {
+        match self.0 {
+            Some(transform) => write!(f, "{transform:?}"),
+            None => f.write_str("none"),
+        }
+    }
 }

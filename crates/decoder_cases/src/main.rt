@@ -54,9 +54,8 @@ mod answers;
 mod calls;
 mod cases;
 mod decoded;
-mod fault;
-mod hex_words;
 mod pieces;
+mod said;
 
 use anyhow::Context;
 use cases::answer_cases;

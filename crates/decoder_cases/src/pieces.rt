@@ -2,14 +2,14 @@
 
 use crate::answers::answer;
 use crate::calls::{Call, Request};
-use crate::decoded::size_text;
-use crate::fault;
-use crate::fault::Fault;
+use crate::decoded::Size;
+use crate::said::Said;
 use jpeg_decoder::run::{report, run};
 use jpeg_decoder::{Decoder, Error, ImageInfo, PartialPicture};
 use std::alloc::{AllocError, Global};
+use test_streams::fault::Fault;
 use test_streams::readers::{Counted, Counts, Reader, STEPS, Trouble};
-use test_streams::states;
+use test_streams::{fault, states};
 
 /// Returns a decoder of a stream whose reader gives at most `step` bytes a call, and counts them.
 fn decoder_of<'a>(
@@ -22,91 +22,99 @@ fn decoder_of<'a>(
     Decoder::new(alloc, Counted::new(reader, counts))
 }
 
-/// Returns the answer of a decoder to `decode`.
-fn decoded(alloc: Global, decoder: &mut Decoder<Counted<'_>>) -> Result<String, Error> {
-    let answer = answer(alloc, decoder, Call::Decode)?;
-    Ok(answer.unwrap_or(String::new(alloc)))
-}
-
-/// Returns the answer to `decode` alone.
-fn decoded_by(alloc: Global, stream: &[u8], step: usize) -> Result<String, Error> {
+/// Says the answer to `decode` alone.
+fn decoded_by(alloc: Global, said: &mut Said, stream: &[u8], step: usize) -> fault::Result<()> {
     let counts = Counts::new();
     match decoder_of(alloc, stream, step, &counts) {
-        Ok(mut decoder) => decoded(alloc, &mut decoder),
-        Err(error) => Err(error),
+        Ok(mut decoder) => Ok(answer(alloc, said, &mut decoder, Call::Decode)?),
+        Err(error) => Err(Fault::from(error)),
     }
 }
 
-/// Returns the answers to `decode` of each shorter beginning, each with the length from which on
-/// it is the answer.
-fn cuts_by(alloc: Global, stream: &[u8], step: usize) -> fault::Result<String> {
-    let mut text = String::new(alloc);
-    let mut last = String::new(alloc);
-    for length in 0..stream.len() {
-        let answer = decoded_by(alloc, &stream[..length], step)?;
-        if answer.as_str() != last.as_str() {
-            let part = format!(in alloc; "from {length} bytes {answer}")?;
-            push_answer(&mut text, part.as_str())?;
-            last = answer;
-        }
+/// Says the answer to `decode` of a beginning, unless it is the last.
+fn cut_by(
+    alloc: Global,
+    said: &mut Said,
+    last: &mut Said,
+    front: &[u8],
+    step: usize,
+) -> fault::Result<()> {
+    let mut answer = Said::new(alloc);
+    decoded_by(alloc, &mut answer, front, step)?;
+    if answer.as_str() != last.as_str() {
+        let length = front.len();
+        said.say(format_args!("from {length} bytes {}", answer.as_str()))?;
+        *last = answer;
     }
-    Ok(text)
-}
-
-/// Appends an answer after those before it.
-fn push_answer(text: &mut String, answer: &str) -> Result<(), AllocError> {
-    if !text.is_empty() {
-        text.push_str("; ")?;
-    }
-    text.push_str(answer)?;
     Ok(())
 }
 
-/// Returns the answer of a decoder to a request, with `left` bytes of the stream unread.
+/// Says the answers to `decode` of each shorter beginning, each with the length from which on it
+/// is the answer.
+fn cuts_by(alloc: Global, said: &mut Said, stream: &[u8], step: usize) -> fault::Result<()> {
+    let mut last = Said::new(alloc);
+    for length in 0..stream.len() {
+        cut_by(alloc, said, &mut last, &stream[..length], step)?;
+    }
+    Ok(())
+}
+
+/// A stream, how many bytes a read gives at most of it, and how many were given.
+#[derive(Clone, Copy)]
+struct Reading<'a> {
+    stream: &'a [u8],
+    step: usize,
+    counts: &'a Counts,
+}
+
+/// Says the answer of a decoder to a request.
 fn answer_to(
     alloc: Global,
+    said: &mut Said,
     decoder: &mut Decoder<Counted<'_>>,
-    stream: &[u8],
-    step: usize,
-    left: usize,
+    reading: Reading<'_>,
     request: Request,
-) -> fault::Result<Option<String>> {
+) -> fault::Result<()> {
     match request {
-        Request::Call(call) => Ok(answer(alloc, decoder, call)?),
-        Request::Rest => Ok(Some(format!(in alloc; "{left}")?)),
-        Request::Cuts => Ok(Some(cuts_by(alloc, stream, step)?)),
+        Request::Call(call) => Ok(answer(alloc, said, decoder, call)?),
+        Request::Rest => {
+            let given = reading.counts.given.get();
+            Ok(said.say(reading.stream.len().saturating_sub(given))?)
+        }
+        Request::Cuts => cuts_by(alloc, said, reading.stream, reading.step),
     }
 }
 
-/// Returns the answers of a decoder to requests, whose reader counts what it gives.
+/// Says the answers of a decoder to requests.
 fn answers_of(
     alloc: Global,
+    said: &mut Said,
     decoder: &mut Decoder<Counted<'_>>,
-    counts: &Counts,
-    stream: &[u8],
-    step: usize,
+    reading: Reading<'_>,
     requests: &[Request],
-) -> fault::Result<String> {
-    let mut text = String::new(alloc);
+) -> fault::Result<()> {
     for request in requests {
-        let left = stream.len().saturating_sub(counts.given.get());
-        if let Some(answer) = answer_to(alloc, decoder, stream, step, left, *request)? {
-            push_answer(&mut text, answer.as_str())?;
-        }
+        answer_to(alloc, said, decoder, reading, *request)?;
     }
-    Ok(text)
+    Ok(())
 }
 
-/// Returns the answers of one decoder, whose reader gives at most `step` bytes a call.
+/// Says the answers of one decoder, whose reader gives at most `step` bytes a call.
 fn answers_by(
     alloc: Global,
+    said: &mut Said,
     stream: &[u8],
     requests: &[Request],
     step: usize,
-) -> fault::Result<String> {
+) -> fault::Result<()> {
     let counts = Counts::new();
+    let reading = Reading {
+        stream,
+        step,
+        counts: &counts,
+    };
     match decoder_of(alloc, stream, step, &counts) {
-        Ok(mut decoder) => answers_of(alloc, &mut decoder, &counts, stream, step, requests),
+        Ok(mut decoder) => answers_of(alloc, said, &mut decoder, reading, requests),
         Err(error) => Err(Fault::from(error)),
     }
 }
@@ -126,7 +134,7 @@ fn is_picture(
     picture: &[u8],
     written: &[u8],
 ) -> Result<bool, AllocError> {
-    let header = size_text(alloc, info)?;
+    let header = format!(in alloc; "{}", Size(info))?;
     Ok(is_written(written, header.as_str(), picture))
 }
 
@@ -205,20 +213,38 @@ fn decodes_as_asked(alloc: Global, stream: &[u8], requests: &[Request]) -> bool 
     }
 }
 
-/// Returns the answers to requests of a stream, or where they are wrong.
-pub fn answers(alloc: Global, stream: &[u8], requests: &[Request]) -> fault::Result<String> {
-    let whole = answers_by(alloc, stream, requests, usize::MAX)?;
+/// Says where the answers in pieces of at most `step` bytes are others.
+fn compare_by(
+    alloc: Global,
+    said: &mut Said,
+    stream: &[u8],
+    requests: &[Request],
+    step: usize,
+) -> fault::Result<()> {
+    let mut other = Said::new(alloc);
+    answers_by(alloc, &mut other, stream, requests, step)?;
+    if other.as_str() != said.as_str() {
+        said.say(format_args!("WRONG in pieces of {step}"))?;
+    }
+    Ok(())
+}
+
+/// Says the answers to requests of a stream, and where they are wrong.
+pub fn say_answers(
+    alloc: Global,
+    said: &mut Said,
+    stream: &[u8],
+    requests: &[Request],
+) -> fault::Result<()> {
+    answers_by(alloc, said, stream, requests, usize::MAX)?;
     for step in STEPS {
-        let other = answers_by(alloc, stream, requests, step)?;
-        if other.as_str() != whole.as_str() {
-            return Ok(format!(in alloc; "WRONG in pieces of {step}")?);
-        }
+        compare_by(alloc, said, stream, requests, step)?;
     }
     if !runs_as_asked(alloc, stream, requests)? {
-        return Ok(String::from_str(alloc, "WRONG by run")?);
+        said.say("WRONG by run")?;
     }
     if !decodes_as_asked(alloc, stream, requests) {
-        return Ok(String::from_str(alloc, "WRONG by decode")?);
+        said.say("WRONG by decode")?;
     }
-    Ok(whole)
+    Ok(())
 }

@@ -1,0 +1,35 @@
+//! The answers to the requests of a case.
+
+use std::alloc::{AllocError, Global};
+use std::fmt::Display;
+
+/// The answers to the requests of a case, with `; ` between them.
+#[derive(Drop)]
+pub struct Said {
+    alloc: Global,
+    text: String,
+}
+
+impl Said {
+    /// Returns what is said before the first answer.
+    pub fn new(alloc: Global) -> Said {
+        Said {
+            alloc,
+            text: String::new(alloc),
+        }
+    }
+
+    /// Returns the answers.
+    pub fn as_str(&self) -> &str {
+        self.text.as_str()
+    }
+
+    /// Appends an answer.
+    pub fn say<D: Display + Drop>(&mut self, answer: D) -> Result<(), AllocError> {
+        if !self.text.is_empty() {
+            self.text.push_str("; ")?;
+        }
+        let text = format!(in self.alloc; "{answer}")?;
+        self.text.push_str(text.as_str())
+    }
+}
