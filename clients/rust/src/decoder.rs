@@ -2,7 +2,7 @@ use crate::color::{transform_number, ColorTransform};
 use crate::error::{Error, Result, UnsupportedFeature};
 use crate::info::{size_of, Density, ImageInfo, Scale};
 use crate::library::{self, Answer, Metadata, Options, Part, Picture, Refusal};
-use crate::stream::{Failure, Stream};
+use crate::stream::{end_of_bytes, Failure, Stream};
 use std::io::{self, Read};
 use std::ops::Range;
 
@@ -467,7 +467,7 @@ fn error_of(refusal: Refusal, failure: Option<Failure>) -> Error {
             Some(Failure::Limit(max)) => Error::Format(format!(
                 "more than {max} bytes in the stream (set_max_stream_bytes)"
             )),
-            None => Error::Io(io::ErrorKind::UnexpectedEof.into()),
+            None => Error::Io(end_of_bytes()),
         },
         Refusal::NoMemory => Error::Io(io::ErrorKind::OutOfMemory.into()),
         Refusal::TooLarge(bytes) => {

@@ -52,8 +52,10 @@ impl From<io::Error> for Stop {
     }
 }
 
-fn end_of_bytes() -> io::Error {
-    ErrorKind::UnexpectedEof.into()
+/// Returns the error for a stream that ends too soon, in the words of [`Read::read_exact`], by which
+/// the original crate reads.
+pub fn end_of_bytes() -> io::Error {
+    io::Error::new(ErrorKind::UnexpectedEof, "failed to fill whole buffer")
 }
 
 /// The bytes that were read of a stream.
@@ -270,6 +272,16 @@ fn read_run<R: Read>(reader: &mut R, room: &mut [u8]) -> (usize, io::Result<()>)
 #[cfg(test)]
 mod tests {
     use super::*;
+
+    #[test]
+    fn an_end_of_bytes_is_said_in_the_words_of_read_exact() {
+        let error = (&[][..]).read_exact(&mut [0]).unwrap_err();
+        let own = end_of_bytes();
+        assert_eq!(
+            (own.kind(), own.to_string()),
+            (error.kind(), error.to_string())
+        );
+    }
 
     #[test]
     fn the_rest_is_read_up_to_the_limit_and_on_under_a_higher_one() {

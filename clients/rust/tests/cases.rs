@@ -115,7 +115,11 @@ fn scale_named(name: &str) -> Scale {
 
 fn refusal(error: &Error, is_whole: bool) -> String {
     match error {
-        Error::Io(error) if error.kind() == io::ErrorKind::UnexpectedEof => {
+        // (the words of the original crate)
+        Error::Io(error)
+            if error.kind() == io::ErrorKind::UnexpectedEof
+                && error.to_string() == "failed to fill whole buffer" =>
+        {
             "refused: the file ends too soon".to_string()
         }
         Error::Format(_) if !is_whole => "refused: invalid JPEG format".to_string(),
