@@ -1,8 +1,8 @@
-/* node words.mjs: what the page says of files that it doesn't show: formats by their first bytes,
- * and a sentence for each fault. */
+/* node words.mjs: what the page says of files that it doesn't show, or only in part: formats by their
+ * first bytes, a sentence for each fault, and the rows that are complete. */
 import assert from 'node:assert/strict';
 import { readFileSync } from 'node:fs';
-import { formatOf, sentenceOf } from '../web/words.mjs';
+import { formatOf, rowsText, sentenceOf } from '../web/words.mjs';
 
 const bytesOf = (text) => Buffer.from(text, 'latin1');
 const FORMATS = {
@@ -56,5 +56,28 @@ const sentences = [
 assert.equal(new Set(sentences).size, sentences.length);
 for (const sentence of sentences) assert.match(sentence, /^(The|This) [^A-Z_]*(JPEG)?[^_]*\.$/);
 assert.equal(sentenceOf({ fault: 'NO_MEMORY' }), sentenceOf({ fault: 'TOO_LARGE' }));
+
+/* The rows that are complete of 24, by the process, the orientation and the lines of chroma. */
+const part = (wholeRows, process, orientation, ...lines) => {
+    const sampling = lines.map((vertical) => ({ horizontal: 2, vertical }));
+    return rowsText({ picture: { height: 24, orientation, process, sampling }, wholeRows });
+};
+const ROWS = [
+    [part(0, 'sequential', 1, 2, 1, 1), 'No row is complete.'],
+    [part(1, 'sequential', 2, 1), 'The first of 24 rows is complete.'],
+    [part(16, 'sequential', 1, 1, 1, 1), 'The first 16 of 24 rows are complete.'],
+    [
+        part(16, 'sequential', 1, 2, 1, 1),
+        'The first 16 of 24 rows are complete, but for the colours of the last.',
+    ],
+    [
+        part(16, 'progressive', 6, 2, 2, 1),
+        'The first 16 of 24 rows are complete in the scans so far, but for the colours of the ' +
+            'last, before the picture is turned.',
+    ],
+    [part(24, 'progressive', 3, 2, 1, 1), 'All rows are complete in the scans so far.'],
+];
+for (const [text, expected] of ROWS) assert.equal(text, expected);
 const formats = Object.keys(FORMATS).length;
-console.log(`words: ${formats} beginnings of other files, ${sentences.length} faults`);
+const [faults, parts] = [sentences, ROWS].map(({ length }) => length);
+console.log(`words: ${formats} beginnings of other files, ${faults} faults, ${parts} parts`);

@@ -2,6 +2,7 @@
  * and again when it is chosen: pictures that aren't shown aren't kept. The worker also draws them,
  * so that a large one doesn't hold the page. */
 import { Decoder } from './decoder.mjs';
+import { rowsText } from './words.mjs';
 
 const at = (id) => document.getElementById(id);
 const tell = (text) => (at('status').textContent = text);
@@ -103,20 +104,6 @@ function showFacts(facts) {
         return [term, text];
     });
     at('facts').replaceChildren(...lines);
-}
-
-/* How many rows of a picture in part are complete. The file stores them in this order, and an
- * orientation above 2 exchanges or reverses them. */
-function rowsText({ picture: { height, orientation, process }, wholeRows }) {
-    if (wholeRows === 0) return 'No row is complete.';
-    // (a progressive picture may lack whole scans)
-    const soFar = process === 'progressive' ? ' in the scans so far' : '';
-    if (wholeRows === height) return `All rows are complete${soFar}.`;
-    const rows =
-        wholeRows === 1
-            ? `The first of ${height} rows is complete`
-            : `The first ${wholeRows} of ${height} rows are complete`;
-    return `${rows}${soFar}${orientation > 2 ? ', before the picture is turned' : ''}.`;
 }
 
 /* What is said of a fault: what it means, what is shown, and its name and text. */

@@ -1,5 +1,5 @@
-/* What a refusal means, for people: which format a file has that is no JPEG file, and each fault in
- * a sentence. */
+/* What a refusal means, for people: which format a file has that is no JPEG file, each fault in a
+ * sentence, and how much of a picture in part is complete. */
 
 /* Formats by their first bytes, as a pattern of these as Latin-1 characters. */
 const FORMATS = [
@@ -57,4 +57,27 @@ export function sentenceOf({ fault, feature, featureArgument }, bytes) {
     if (fault !== 'UNSUPPORTED') return FAULTS[fault] ?? 'The file was refused.';
     const needed = FEATURES[feature]?.(featureArgument) ?? 'what this decoder lacks';
     return `This JPEG file needs ${needed}.`;
+}
+
+/* Whether a component has fewer lines than another: those between its lines are interpolated. */
+function isInterpolated(sampling) {
+    const factors = sampling.map(({ vertical }) => vertical);
+    return Math.min(...factors) < Math.max(...factors);
+}
+
+/* How many rows of a picture in part are complete. The file stores them in this order, and an
+ * orientation above 2 exchanges or reverses them. */
+export function rowsText({ picture: { height, orientation, process, sampling }, wholeRows }) {
+    if (wholeRows === 0) return 'No row is complete.';
+    // (a progressive picture may lack whole scans)
+    const soFar = process === 'progressive' ? ' in the scans so far' : '';
+    if (wholeRows === height) return `All rows are complete${soFar}.`;
+    const rows =
+        wholeRows === 1
+            ? `The first of ${height} rows is complete`
+            : `The first ${wholeRows} of ${height} rows are complete`;
+    const turned = orientation > 2 ? ', before the picture is turned' : '';
+    // (its chroma is a mean with that of the line below)
+    const colours = isInterpolated(sampling) ? ', but for the colours of the last' : '';
+    return `${rows}${soFar}${colours}${turned}.`;
 }
