@@ -228,7 +228,10 @@ export class Zaxbriar {
     decode(jpeg: Bytes, options?: DecodingOptions & { partial?: false }): DecodedPicture;
     decode(jpeg: Bytes, options?: DecodingOptions): DecodedPicture | PartialPicture;
 
-    /** Returns Exif data from the TIFF header on, XMP data or an ICC profile; null: none. */
+    /**
+     * Returns Exif data from the TIFF header on, XMP data or an ICC profile, of the segments before
+     * the frame header; null: none.
+     */
     metadata(jpeg: Bytes, kind: 'exif' | 'xmp' | 'icc'): Data | null;
 
     /** The bytes of the module's memory. It never shrinks. */
