@@ -38,8 +38,7 @@ pub fn parse<'a>(rt: &HostRuntime, words: &'a [String]) -> Outcome<Option<ArgMat
         Ok(matches) => Ok(Some(matches)),
         Err(error) => {
             let error = shown_error(alloc, words).unwrap_or(error);
-            arguments::print_outcome(rt, &error)?;
-            Ok(None)
+            arguments::print_outcome(rt, &error).and(Ok(None))
         }
     }
 }

@@ -1,4 +1,4 @@
-//! The options of the word `info` that take Exif, XMP and ICC data out of files.
+//! The options of the word `info` that extract Exif, XMP and ICC data.
 
 use crate::arguments;
 use crate::arguments::{Making, with};

@@ -8,7 +8,7 @@ use std::alloc::Global;
 /// The word.
 pub const NAME: &str = "info";
 
-const ABOUT: &str = "Says what JPEG files are, and takes their Exif, XMP and ICC data out of them";
+const ABOUT: &str = "Describes JPEG files, and extracts their Exif, XMP and ICC data";
 
 const OUTPUT: &str = "The file for the description; standard output by default, or for -";
 

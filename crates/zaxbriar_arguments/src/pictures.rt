@@ -16,11 +16,45 @@ const OUTPUT: &str =
     "The file to write; standard output by default, or for -; for several files DIR/%s.ppm, where \
     %s stands for each file's name without its extension, or a device";
 
-const PARTIAL: &str = "Write what there is of a truncated or damaged file; the status is then 3";
+const PARTIAL: &str =
+    "Write the part of a truncated or damaged file that can be decoded; the status is then 3";
 
 /// Returns the option `-o` of a word that may write several files.
 pub fn output_option<'a>(alloc: Global) -> Arg<'a> {
     arguments::output_option(alloc, OUTPUT)
+}
+
+/// Two files.
+type Pair<'a> = (&'a str, &'a str);
+
+/// Notes the name of a file's output, and returns the file that has it already, with this one.
+fn note_output<'a>(
+    alloc: Global,
+    written: &mut BTreeMap<String, &'a str>,
+    name: &'a str,
+    output: &str,
+) -> Result<Option<Pair<'a>>, AllocError> {
+    let output = name_for(alloc, output, files::named(name))?;
+    match written.insert(output, name)? {
+        Some(other) => Ok(Some((other, name))),
+        None => Ok(None),
+    }
+}
+
+/// Notes the names of the files' outputs, as far as the first two that are one.
+fn note_outputs<'a>(
+    alloc: Global,
+    written: &mut BTreeMap<String, &'a str>,
+    names: &[&'a str],
+    output: &str,
+) -> Result<Option<Pair<'a>>, AllocError> {
+    for name in names {
+        let alike = note_output(alloc, written, *name, output)?;
+        if alike.is_some() {
+            return Ok(alike);
+        }
+    }
+    Ok(None)
 }
 
 /// Returns the first two files whose outputs have one name, if there are any.
@@ -28,15 +62,9 @@ fn first_alike<'a>(
     alloc: Global,
     names: &[&'a str],
     output: &str,
-) -> Result<Option<(&'a str, &'a str)>, AllocError> {
+) -> Result<Option<Pair<'a>>, AllocError> {
     let mut written = BTreeMap::new(alloc);
-    for name in names {
-        let output = name_for(alloc, output, files::named(name))?;
-        if let Some(other) = written.insert(output, *name)? {
-            return Ok(Some((other, *name)));
-        }
-    }
-    Ok(None)
+    note_outputs(alloc, &mut written, names, output)
 }
 
 /// Says that the outputs of two files have one name.

@@ -288,6 +288,50 @@ fn members(alloc: Global, writer: &mut Writer, header: &Header) -> Result<(), Al
     comment(alloc, writer, header.comment.as_ref())
 }
 
+/// Writes the members of a refusal.
+fn refused(alloc: Global, writer: &mut Writer, refusal: &Refusal) -> Result<(), AllocError> {
+    match format!(in alloc; "{refusal}") {
+        Ok(reason) => text(writer, "error", reason.as_str()),
+        Err(error) => Err(error),
+    }
+}
+
+/// Writes the object of a file of this name, or of its refusal.
+fn object(
+    alloc: Global,
+    writer: &mut Writer,
+    name: Option<&str>,
+    header: &Result<Header, Refusal>,
+) -> Result<(), AllocError> {
+    writer.begin_object()?;
+    match name {
+        Some(name) => text(writer, "file", shown(name))?,
+        None => null(writer, "file")?,
+    }
+    match header {
+        Ok(header) => members(alloc, writer, header)?,
+        Err(refusal) => refused(alloc, writer, refusal)?,
+    }
+    writer.end_object()
+}
+
+/// Returns an object in one line, which ends the line of the object before it.
+fn line_of(alloc: Global, subject: Subject<'_>, object: Vec<u8>) -> Result<String, AllocError> {
+    let before = if 0 < subject.index { ",\n" } else { "" };
+    match String::from_utf8_lossy(alloc, object.as_slice()) {
+        Ok(object) => format!(in alloc; "{before}{}", JsonLine(object.as_str())),
+        Err(error) => Err(error),
+    }
+}
+
+/// Writes a text that was made.
+fn write_text(text: Result<String, AllocError>, output: &mut Output<'_>) -> Result<(), Refusal> {
+    match text {
+        Ok(text) => Ok(io::Write::write_all(output, text.as_bytes())?),
+        Err(error) => Err(Refusal::from(error)),
+    }
+}
+
 /// A file that is described: its place among those that are named, and its name, or none for
 /// standard input.
 #[derive(Clone, Copy)]
@@ -314,7 +358,21 @@ impl Form {
         }
     }
 
-    /// Returns the lines of a file. Those of several begin with its name.
+    /// Appends the lines of a file. Those of several begin with its name.
+    fn put_lines(
+        self,
+        alloc: Global,
+        subject: Subject<'_>,
+        header: &Header,
+        lines: &mut String,
+    ) -> Result<(), AllocError> {
+        if self.is_several {
+            writeln!(lines, "file: {}", Line(subject.name.unwrap_or("-")))?;
+        }
+        put_header(alloc, lines, header)
+    }
+
+    /// Returns the lines of a file.
     fn lines_of(
         self,
         alloc: Global,
@@ -322,14 +380,13 @@ impl Form {
         header: &Header,
     ) -> Result<String, AllocError> {
         let mut lines = String::new(alloc);
-        if self.is_several {
-            writeln!(lines, "file: {}", Line(subject.name.unwrap_or("-")))?;
+        match self.put_lines(alloc, subject, header, &mut lines) {
+            Ok(()) => Ok(lines),
+            Err(error) => Err(error),
         }
-        put_header(alloc, &mut lines, header)?;
-        Ok(lines)
     }
 
-    /// Returns the object of a file, or of its refusal.
+    /// Returns the object of a file, or of its refusal, behind that of the file before it.
     fn object_of(
         self,
         alloc: Global,
@@ -337,21 +394,10 @@ impl Form {
         header: &Result<Header, Refusal>,
     ) -> Result<String, AllocError> {
         let mut writer = Writer::new(Vec::new(alloc));
-        writer.begin_object()?;
-        match subject.name {
-            Some(name) => text(&mut writer, "file", shown(name))?,
-            None => null(&mut writer, "file")?,
+        match object(alloc, &mut writer, subject.name, header) {
+            Ok(()) => line_of(alloc, subject, writer.into_inner()),
+            Err(error) => Err(error),
         }
-        match header {
-            Ok(header) => members(alloc, &mut writer, header)?,
-            Err(refusal) => {
-                let reason = format!(in alloc; "{refusal}")?;
-                text(&mut writer, "error", reason.as_str())?;
-            }
-        }
-        writer.end_object()?;
-        let object = String::from_utf8_lossy(alloc, writer.into_inner().as_slice())?;
-        format!(in alloc; "{}", JsonLine(object.as_str()))
     }
 
     /// Writes what stands before the first file.
@@ -370,19 +416,11 @@ impl Form {
         header: &Result<Header, Refusal>,
         output: &mut Output<'_>,
     ) -> Result<(), Refusal> {
-        if !self.is_json {
-            if let Ok(header) = header {
-                let lines = self.lines_of(alloc, subject, header)?;
-                io::Write::write_all(output, lines.as_bytes())?;
-            }
-            return Ok(());
+        match header {
+            _ if self.is_json => write_text(self.object_of(alloc, subject, header), output),
+            Ok(header) => write_text(self.lines_of(alloc, subject, header), output),
+            Err(_) => Ok(()),
         }
-        if 0 < subject.index {
-            io::Write::write_all(output, b",\n")?;
-        }
-        let object = self.object_of(alloc, subject, header)?;
-        io::Write::write_all(output, object.as_bytes())?;
-        Ok(())
     }
 
     /// Writes what stands after the last file.

@@ -12,7 +12,7 @@ pub enum Failure {
     Refused,
     /// The arguments are wrong.
     WrongUse,
-    /// A file has a fault, and what there is of its picture was written.
+    /// A file has a fault, and the part of its picture before it was written.
     Faulty,
 }
 
@@ -31,7 +31,7 @@ pub fn worse_of(first: Outcome<()>, second: Outcome<()>) -> Outcome<()>
 }
 
 /// Returns the status that the program ends with: 0 for Ok, 1 after a refusal, 2 for wrong
-/// arguments, and 3 if what there is of a file that has a fault was written.
+/// arguments, and 3 if the part of a file before its fault was written.
 pub fn exit_code(outcome: Outcome<()>) -> ExitCode
     ensures { exit_status result ≡ status_of outcome }
 {

@@ -43,19 +43,36 @@ pub fn named(text: &str) -> Option<&str> {
 /// The reader that the program gives to a decoder.
 pub type InputReader = ByteReader<Input>;
 
+/// Opens the file of this name, or standard input if there is none.
+fn open_input(rt: &HostRuntime, name: Option<&str>) -> Result<Input, Refusal> {
+    match name {
+        Some(name) if !is_text(name) => Err(Refusal::Name),
+        Some(name) => Ok(Input::File(File::open(rt, name)?)),
+        None => Ok(Input::Standard(rt.stdin())),
+    }
+}
+
+/// Refuses bytes that begin like a file of another format, by that format's name.
+fn check_format<R: BufRead>(reader: &mut R) -> Result<(), Refusal> {
+    match FileFormat::of(reader.fill_buf()?) {
+        Some(format) => Err(Refusal::Format(format)),
+        None => Ok(()),
+    }
+}
+
+/// Returns the reader of a file that doesn't begin like one of another format.
+fn reader_of(rt: &HostRuntime, input: Input) -> Result<InputReader, Refusal> {
+    let mut reader = BufReader::new(rt.alloc(), input)?;
+    match check_format(&mut reader) {
+        Ok(()) => Ok(ByteReader::new(reader)),
+        Err(refusal) => Err(refusal),
+    }
+}
+
 /// Opens the file of this name, or standard input if there is none. A file that begins like one of
 /// another format is refused by that format's name.
 pub fn open(rt: &HostRuntime, name: Option<&str>) -> Result<InputReader, Refusal> {
-    let input = match name {
-        Some(name) if !is_text(name) => return Err(Refusal::Name),
-        Some(name) => Input::File(File::open(rt, name)?),
-        None => Input::Standard(rt.stdin()),
-    };
-    let mut reader = BufReader::new(rt.alloc(), input)?;
-    if let Some(format) = FileFormat::of(reader.fill_buf()?) {
-        return Err(Refusal::Format(format));
-    }
-    Ok(ByteReader::new(reader))
+    reader_of(rt, open_input(rt, name)?)
 }
 
 /// Opens the file of this name, or standard input if there is none, and then the output, so that
@@ -65,9 +82,9 @@ pub fn open_both(
     name: Option<&str>,
     output: &mut Output<'_>,
 ) -> Result<InputReader, Refusal> {
-    let reader = open(rt, name)?;
+    let input = open_input(rt, name)?;
     output.open()?;
-    Ok(reader)
+    reader_of(rt, input)
 }
 
 /// Returns whether the refusal is that nobody reads what is written.
@@ -105,6 +122,15 @@ fn report_refusal(
         Some(output.name().unwrap_or("standard output")),
         refusal,
     )
+}
+
+/// Reports an output that can't be written, so that nothing is decoded for it. It stays as it was.
+pub fn check_output(rt: &HostRuntime, input: Option<&str>, name: Option<&str>) -> Outcome<()> {
+    let mut output = Output::new(*rt, name);
+    match output.check() {
+        Ok(()) => Ok(()),
+        Err(error) => Err(report_refusal(rt, input, &output, &Refusal::from(error))),
+    }
 }
 
 /// Ends an output whose file was read: after an Ok, what was written is put in place; after a

@@ -19,6 +19,17 @@ pub enum FileFormat {
     Zip,
 }
 
+/// The formats, none of which begins like another.
+const FORMATS: [FileFormat; 7] = [
+    FileFormat::Png,
+    FileFormat::Gif,
+    FileFormat::WebP,
+    FileFormat::Tiff,
+    FileFormat::Bmp,
+    FileFormat::Pdf,
+    FileFormat::Zip,
+];
+
 impl FileFormat {
     /// Returns the format's name.
     pub fn name(self) -> &'static str {
@@ -33,24 +44,28 @@ impl FileFormat {
         }
     }
 
+    /// Returns whether a file with these first bytes has the format.
+    fn begins(self, start: &[u8]) -> bool {
+        match self {
+            FileFormat::Png => start.starts_with(b"\x89PNG"),
+            FileFormat::Gif => start.starts_with(b"GIF8"),
+            FileFormat::WebP => {
+                start.starts_with(b"RIFF") && start.iter().skip(8).take(4).eq(b"WEBP")
+            }
+            FileFormat::Tiff => start.starts_with(b"II*\0") || start.starts_with(b"MM\0*"),
+            FileFormat::Bmp => start.starts_with(b"BM"),
+            FileFormat::Pdf => start.starts_with(b"%PDF"),
+            FileFormat::Zip => start.starts_with(b"PK\x03\x04"),
+        }
+    }
+
     /// Returns the format that a file with these first bytes has, where it is one of these.
     pub fn of(start: &[u8]) -> Option<FileFormat> {
-        if start.starts_with(b"\x89PNG") {
-            Some(FileFormat::Png)
-        } else if start.starts_with(b"GIF8") {
-            Some(FileFormat::Gif)
-        } else if start.starts_with(b"RIFF") && start.iter().skip(8).take(4).eq(b"WEBP") {
-            Some(FileFormat::WebP)
-        } else if start.starts_with(b"II*\0") || start.starts_with(b"MM\0*") {
-            Some(FileFormat::Tiff)
-        } else if start.starts_with(b"BM") {
-            Some(FileFormat::Bmp)
-        } else if start.starts_with(b"%PDF") {
-            Some(FileFormat::Pdf)
-        } else if start.starts_with(b"PK\x03\x04") {
-            Some(FileFormat::Zip)
-        } else {
-            None
+        for format in FORMATS {
+            if format.begins(start) {
+                return Some(format);
+            }
         }
+        None
     }
 }

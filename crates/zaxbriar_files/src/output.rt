@@ -119,6 +119,14 @@ fn remove(rt: &HostRuntime, opened: &Opened) {
     }
 }
 
+/// Gives a file that was written under another name its own.
+fn rename(rt: &HostRuntime, opened: &Opened) -> io::Result<()> {
+    match &opened.temporary {
+        Some(temporary) => fs::rename(rt, temporary.name.as_str(), temporary.target.as_str()),
+        None => Ok(()),
+    }
+}
+
 impl<'a> Output<'a> {
     ghost use Rattle.std.specs.Io.{WritesAtMost};
 
@@ -160,6 +168,17 @@ impl<'a> Output<'a> {
         outcome
     }
 
+    /// Refuses a file that can't be written, and leaves it as it was. A pipe or a device isn't
+    /// opened for this: a reader of the pipe would take it for ended.
+    pub fn check(&mut self) -> io::Result<()> {
+        match self.name {
+            Some(name) if !is_direct(&self.rt, name) => self.open()?,
+            _ => return Ok(()),
+        }
+        self.discard();
+        Ok(())
+    }
+
     /// Writes some of the bytes, into the file, which is opened if it wasn't.
     fn write_some(&mut self, buf: &[u8]) -> io::Result<usize>
         ensures { WritesAtMost result buf.now }
@@ -176,24 +195,15 @@ impl<'a> Output<'a> {
 
     /// Gives the file its name, and makes it if nothing was written.
     fn place(&mut self) -> io::Result<()> {
-        let Some(name) = self.name else {
-            return Ok(());
-        };
-        let opened = match self.opened.take() {
-            Some(opened) => opened,
-            None => open(&self.rt, name)?,
-        };
-        let Some(temporary) = &opened.temporary else {
-            return Ok(());
-        };
-        let placed = fs::rename(&self.rt, temporary.name.as_str(), temporary.target.as_str());
-        if placed.is_err() {
-            remove(&self.rt, &opened);
+        self.open_file()?;
+        match &self.opened {
+            Some(opened) => rename(&self.rt, opened),
+            None => Ok(()),
         }
-        placed
     }
 
-    /// Puts what was written in its place. If nothing was written, the file is empty.
+    /// Puts what was written in its place. If nothing was written, the file is empty. After an
+    /// error, what was written is there until `discard` removes it.
     pub fn keep(&mut self) -> io::Result<()> {
         let placed = self.place();
         self.has_failed = placed.is_err();
