@@ -25,14 +25,14 @@ case "${words[2]}" in
     pnm)
         own=(
             '--scale[the scale of the width and height]:scale:(1/8 1/4 1/2 1)'
-            '--partial[write the part of a damaged file that can be decoded]'
+            '--partial[write the part before a fault]'
         )
         ;;
     thumbnail)
         own=(
             '--max[the size to fit within]:size:(160 320 640x480 1280x960)'
             '--as-stored[do not turn the picture]'
-            '--partial[write the part of a damaged file that can be decoded]'
+            '--partial[write the part before a fault]'
         )
         ;;
     info)

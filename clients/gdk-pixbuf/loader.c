@@ -60,7 +60,7 @@ static gboolean choose_scale(const load *state, zaxbriar_options *options,
     return answer == ZAXBRIAR_OK || refuse(error, answer, picture->text);
 }
 
-/* Decodes a picture, or what there is of a damaged one, as GdkPixbuf's own loader does. */
+/* Decodes a picture, or the part of one before a fault, as GdkPixbuf's own loader does. */
 static gboolean decode(const load *state, const zaxbriar_options *options, GdkPixbuf *pixbuf,
                        zaxbriar_picture *picture, GError **error) {
     guint room;

@@ -24,7 +24,7 @@ static void turn(const uint32_t *from, uint32_t width, uint32_t height, int orie
         }
 }
 
-/* Decodes a picture, or what there is of a damaged one, as imlib2's own loader does. */
+/* Decodes a picture, or the part of one before a fault, as imlib2's own loader does. */
 static int decode(const uint8_t *jpeg, size_t size, const zaxbriar_options *options,
                   uint32_t *pixels, zaxbriar_picture *picture) {
     size_t room = picture->size;

@@ -1,6 +1,6 @@
 """partial.py WHOLE CUT..: of each file CUT, which is the beginning of the file WHOLE, Pillow with
-the plugin loads what there is where LOAD_TRUNCATED_IMAGES is set, and otherwise refuses it, as
-Pillow's own decoder does.
+the plugin loads the part before the fault where LOAD_TRUNCATED_IMAGES is set, and otherwise refuses
+it, as Pillow's own decoder does.
 
 Prints for each how many of its rows are those of the whole file, with the plugin and by Pillow's
 own decoder, and the greatest difference between the two pictures in rows that both have.

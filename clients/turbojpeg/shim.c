@@ -159,7 +159,7 @@ static int is_fault(zaxbriar_result answer) {
            answer == ZAXBRIAR_TRUNCATED;
 }
 
-/* Decompresses the picture, or what there is of a damaged one, at the scale of the options. */
+/* Decompresses the picture, or the part before a fault, at the scale of the options. */
 static zaxbriar_result decode(const unsigned char *jpeg, size_t size,
                               const zaxbriar_options *options, unsigned char *pixels, int flags,
                               zaxbriar_picture *picture) {

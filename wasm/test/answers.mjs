@@ -7,7 +7,7 @@ import { ZaxbriarError, load } from '../dist/node.mjs';
 const NAMES = { grey8: 'L8', grey16: 'L16', rgb: 'RGB24', cmyk: 'CMYK32' };
 const zaxbriar = await load();
 
-/* Reads so many bytes, or what there is before the end. */
+/* Reads so many bytes, or those before the end. */
 function read(count) {
     const bytes = Buffer.alloc(count);
     let at = 0;

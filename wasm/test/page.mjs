@@ -134,7 +134,7 @@ const canvasOf = (page) =>
         return { width, height, data: [...context.getImageData(0, 0, width, height).data] };
     })()`);
 
-/* Pictures upright, and what there is of files with a fault, by the module's pixels in Node. */
+/* Pictures upright, and the parts before a fault, by the module's pixels in Node. */
 async function checkPixels(page) {
     const zaxbriar = await load();
     for (const path of [...PICTURES.slice(0, 2), ...Object.keys(PARTIAL)]) {
@@ -165,7 +165,7 @@ async function checkFault(page, fault, sentence) {
     assert.ok((await textOf('#error small')).startsWith(`${fault}: `), fault);
 }
 
-/* A fault is told beside what there is: in its alert, with the rows that are complete, the status
+/* A fault is told beside the part: in its alert, with the rows that are complete, the status
  * and the list; and the picture's name says that it is a part. */
 async function checkPartial(page) {
     for (const [path, [fault, sentence, rows]] of Object.entries(PARTIAL)) {

@@ -1,5 +1,5 @@
 /* node suite.mjs: the streams of crates/decoder_cases by the module, whose answers have to be those
- * of the suite: pictures, refusals with their texts and features, what there is of streams with a
+ * of the suite: pictures, refusals with their texts and features, the parts of streams before a
  * fault, sizes at scales, metadata, bytes left unread.
  *
  * Not asked is what the calls of JavaScript don't have: the original crate's limit, decoding into a
@@ -70,7 +70,7 @@ function isPicture({ picture, pixels }, answer) {
     );
 }
 
-/* Whether what there is of a stream is that of an answer, and its rows and its fault too. */
+/* Whether the part of a stream is that of an answer, and its rows and its fault too. */
 function isPartial({ picture, pixels, wholeRows, fault }, answer) {
     const [, whole, rows, name] = answer.match(/^(.*), rows (\d+), fault (.*)$/s);
     const isFault = fault

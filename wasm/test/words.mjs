@@ -1,5 +1,5 @@
-/* node words.mjs: what the page says of files that it doesn't show, or only in part: formats by their
- * first bytes, a sentence for each fault, and the rows that are complete. */
+/* node words.mjs: what the page says of files that it doesn't show, or only in part: formats by
+ * their first bytes, a sentence for each fault, and the rows that are complete. */
 import assert from 'node:assert/strict';
 import { readFileSync } from 'node:fs';
 import { formatOf, rowsText, sentenceOf } from '../web/words.mjs';

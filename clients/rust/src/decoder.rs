@@ -435,7 +435,7 @@ fn is_above_limit<T>(outcome: &Outcome<T>, failure: &Option<Failure>) -> bool {
     is_truncated(outcome) && matches!(failure, Some(Failure::Limit(_)))
 }
 
-/// Returns whether it ends too soon, and what there is of it may be shown.
+/// Returns whether it ends too soon, and its part before that may be shown.
 fn shows_cut(outcome: &Outcome<Part>) -> bool {
     let fault = match outcome {
         Ok(part) => part.fault.as_ref(),

@@ -313,7 +313,7 @@ pub struct Part {
     pub fault: Option<Refusal>,
 }
 
-/// Decodes what there is of a stream into `pixels`.
+/// Decodes the part of a stream before its first fault into `pixels`.
 pub fn decode_partial(jpeg: &[u8], options: &Options, pixels: &mut [u8]) -> Answer<Part> {
     let (answer, picture) = call(zaxbriar_decode_partial, jpeg, options, pixels);
     let is_cut = answer == PARTIAL;

@@ -52,8 +52,8 @@ impl From<io::Error> for Stop {
     }
 }
 
-/// Returns the error for a stream that ends too soon, in the words of [`Read::read_exact`], by which
-/// the original crate reads.
+/// Returns the error for a stream that ends too soon, in the words of [`Read::read_exact`], with
+/// which the original crate reads.
 pub fn end_of_bytes() -> io::Error {
     io::Error::new(ErrorKind::UnexpectedEof, "failed to fill whole buffer")
 }

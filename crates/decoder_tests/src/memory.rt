@@ -42,7 +42,7 @@ fn end_call<T: Drop>(alloc: Global, answer: Result<T, Error>) -> Result<T, Error
     answer
 }
 
-/// What is wanted of a decoder: its picture after a first call, or what there is of it.
+/// What is wanted of a decoder: its picture after a first call, or the part before a fault.
 #[derive(Clone, Copy)]
 enum Wanted {
     Whole(First),

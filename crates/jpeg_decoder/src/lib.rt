@@ -18,8 +18,8 @@
 //!
 //! `decode_into` writes the picture into the caller's memory, and `decode_lines` returns its
 //! [`Lines`], each of which can be written anywhere, with no picture in memory besides the planes.
-//! `decode_partial` shows what there is of a stream that may be truncated or damaged, and names its
-//! first fault.
+//! `decode_partial` shows the part before the first fault of a stream that may be truncated or
+//! damaged, and names that fault.
 //!
 //! `read_info` reads only the header. `info` then gives the size of the picture, and
 //! `decoding_bytes` all the memory that decoding it takes, so that a service can refuse it before

@@ -48,7 +48,7 @@ pub extern "C" fn zaxbriar_checked_decode(
     calls::decode(alloc, jpeg, options, pixels, picture)
 }
 
-/// Decodes what there is of a stream that may have a fault into `pixels`. What it doesn't bring is
+/// Decodes the part of a stream before its first fault into `pixels`. What it doesn't bring is
 /// mid-grey.
 #[unsafe(no_mangle)]
 pub extern "C" fn zaxbriar_checked_decode_partial(

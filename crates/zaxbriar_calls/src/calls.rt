@@ -72,7 +72,7 @@ pub fn decode(
     fill(alloc, jpeg, options, pixels, picture, Extent::Whole)
 }
 
-/// Decodes what there is of a stream that may have a fault into `pixels`. What it doesn't bring is
+/// Decodes the part of a stream before its first fault into `pixels`. What it doesn't bring is
 /// mid-grey.
 pub fn decode_partial(
     alloc: Global,

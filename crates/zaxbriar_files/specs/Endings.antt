@@ -4,7 +4,7 @@ use Rattle.zaxbriar_files.specs.declared.ending.Failure.{Failure}
 use Rattle.zaxbriar_files.specs.declared.ending.Failure.TheVariants.{Faulty, Refused, WrongUse}
 
 -- 0 where all was done, 1 where a file was refused or can't be read or written, 2 for wrong
--- arguments, and 3 where a file has a fault and what there is of its picture was written
+-- arguments, and 3 where a file has a fault and the part of its picture before it was written
 abbrev pub status_of : Result (Unit {0}) Failure → ℕ
 status_of (Ok done) = 0
 status_of (Err Refused) = 1

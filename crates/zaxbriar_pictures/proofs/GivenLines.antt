@@ -1,4 +1,4 @@
--- What a decoder gives whose header was read: the whole of its stream, or what there is of it.
+-- What a decoder gives whose header was read: the whole of its stream, or the part before a fault.
 use Rattle.std.proofs.Common.{◌≡◌, ◌∙◌, ℕ, List, Option, None, Some, Result, Ok, Err, Bool, true, false, ap, refl, subst, sym}
 use Rattle.std.specs.Prelude.{IfOk, IfSome, IsSomeAnd}
 use Rattle.std.specs.List.{concat}
