@@ -1,4 +1,4 @@
-//! What the program says of a file of which it has written what there is.
+//! What the program says of a file that has a fault, of which it has written the part before it.
 
 use jpeg_decoder::error::Error;
 use jpeg_decoder::{CodingProcess, ImageInfo};
@@ -78,7 +78,7 @@ impl fmt::Display for Part {
     }
 }
 
-/// Ends an output like `finish`, and reports the fault of a file of which what there is was
+/// Ends an output like `finish`, and reports the fault of a file of which the part before it was
 /// written, and how much of the picture is complete.
 pub fn finish_with_fault(
     rt: &HostRuntime,

@@ -386,7 +386,7 @@ impl Form {
         }
     }
 
-    /// Returns the object of a file, or of its refusal, behind that of the file before it.
+    /// Returns the object of a file, or of its refusal, after that of the file before it.
     fn object_of(
         self,
         alloc: Global,

@@ -71,8 +71,8 @@ fn refuse_of_reader(shown: PartialLines, has_failed: bool) -> Result<PartialLine
     }
 }
 
-/// Decodes what there is of the stream of a decoder, whose header was read. A read that fails is an
-/// error.
+/// Decodes the stream of a decoder, whose header was read, up to its first fault. A read that fails
+/// is an error.
 fn decode_partial<R: Read + Drop>(decoder: &mut Decoder<R>) -> Result<PartialLines>
     requires header { decoder.old.stage ≡ HeaderRead }
     requires plain { decoder.old.settings ≡ default_settings }

@@ -1,4 +1,4 @@
-//! Takes Exif, XMP and ICC data out of files, for the word `info`.
+//! Extracts Exif, XMP and ICC data, for the word `info`.
 //!
 //! The data are as they stand in the stream: Exif data from their TIFF header on, XMP data as text,
 //! and the ICC profile joined from its parts. If the header hasn't all of them, the stream is read
@@ -68,6 +68,46 @@ fn write_to<R: Read + Drop>(
     }
 }
 
+/// Returns the name of the file for data of a kind that the arguments name, or none for standard
+/// output.
+fn name_of(
+    rt: HostRuntime,
+    matches: &ArgMatches<'_>,
+    input: Option<&str>,
+    kind: Kind,
+) -> Outcome<Option<String>> {
+    let Some(name) = arguments::file_of(matches, kind.option()) else {
+        return Ok(None);
+    };
+    match names::name_for(rt.alloc(), name, input) {
+        Ok(name) => Ok(Some(name)),
+        Err(error) => Err(files::report(&rt, input, &Refusal::from(error))),
+    }
+}
+
+/// Reports the file for data of a kind if it can't be written.
+fn check_kind(
+    rt: HostRuntime,
+    matches: &ArgMatches<'_>,
+    input: Option<&str>,
+    kind: Kind,
+) -> Outcome<()> {
+    let name = name_of(rt, matches, input, kind)?;
+    files::check_output(&rt, input, name.as_deref())
+}
+
+/// Reports the files for the requested data that can't be written, before a stream is read for
+/// them.
+fn check_all(rt: HostRuntime, matches: &ArgMatches<'_>, input: Option<&str>) -> Outcome<()> {
+    let mut outcome = Ok(());
+    for kind in KINDS {
+        if matches.contains_id(kind.option()) && check_kind(rt, matches, input, kind).is_err() {
+            outcome = Err(Failure::Refused);
+        }
+    }
+    outcome
+}
+
 /// Writes the data of a kind that a decoder has read to the file that the arguments name.
 fn write_kind<R: Read + Drop>(
     rt: HostRuntime,
@@ -77,13 +117,8 @@ fn write_kind<R: Read + Drop>(
     refusal: Option<&Refusal>,
     kind: Kind,
 ) -> Outcome<()> {
-    let Some(name) = arguments::file_of(matches, kind.option()) else {
-        return write_to(rt, input, decoder, refusal, kind, None);
-    };
-    match names::name_for(rt.alloc(), name, input) {
-        Ok(name) => write_to(rt, input, decoder, refusal, kind, Some(name.as_str())),
-        Err(error) => Err(files::report(&rt, input, &Refusal::from(error))),
-    }
+    let name = name_of(rt, matches, input, kind)?;
+    write_to(rt, input, decoder, refusal, kind, name.as_deref())
 }
 
 /// Writes all requested data of a stream, as far as there are any.
@@ -94,6 +129,7 @@ fn write_all<R: Read + Drop>(
     decoder: &mut Decoder<R>,
     limits: Limits,
 ) -> Outcome<()> {
+    check_all(rt, matches, input)?;
     let refusal = read_data(decoder, matches, limits).err();
     let mut outcome = Ok(());
     for kind in KINDS {
@@ -106,7 +142,7 @@ fn write_all<R: Read + Drop>(
     outcome
 }
 
-/// Takes the requested data out of a file.
+/// Extracts the requested data of a file.
 fn extract(
     rt: HostRuntime,
     matches: &ArgMatches<'_>,
@@ -123,7 +159,7 @@ fn extract(
     }
 }
 
-/// Takes the requested data out of the files that the arguments name, and continues after one that
+/// Extracts the requested data of the files that the arguments name, and continues after one that
 /// is refused.
 pub fn run(rt: HostRuntime, matches: &ArgMatches<'_>) -> Outcome<()> {
     let limits = arguments::limits_of(&rt, matches)?;

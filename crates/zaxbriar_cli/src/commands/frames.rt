@@ -79,8 +79,17 @@ impl<'a> Job<'a> {
         }
     }
 
+    /// Reports the file of the first frame if it can't be written.
+    fn check_first(&self, names: Numbered<'_>) -> Outcome<()> {
+        match names.with_number(self.rt.alloc(), 1) {
+            Ok(name) => files::check_output(&self.rt, self.input, Some(name.as_str())),
+            Err(error) => Err(files::report(&self.rt, self.input, &Refusal::from(error))),
+        }
+    }
+
     /// Writes each frame as a file of its own.
     fn write_files(&self, frames: &mut InputFrames, names: Numbered<'_>) -> Outcome<()> {
+        self.check_first(names)?;
         for number in 1..u64::MAX {
             let Some(frame) = self.next(frames, number)? else {
                 break;
@@ -165,6 +174,7 @@ impl<'a> Job<'a> {
     /// Writes what is requested of each frame to one file. The frames before one that is refused
     /// are kept.
     fn write_stream(&self, frames: &mut InputFrames) -> Outcome<()> {
+        files::check_output(&self.rt, self.input, self.output)?;
         let mut output = Output::new(self.rt, self.output);
         match self.write_each(frames, &mut output) {
             Ok((true, outcome)) => files::finish(&self.rt, self.input, output, Ok(())).and(outcome),

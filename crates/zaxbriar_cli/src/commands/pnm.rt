@@ -2,8 +2,8 @@
 //!
 //! The picture's format decides the file's: PGM of a grey picture, PPM of red, green and blue, and
 //! PAM of cyan, magenta, yellow and black. `--scale` writes it at 1/8, 1/4 or 1/2 of its size,
-//! which takes less time than the whole picture. `--partial` writes what there is of a truncated or
-//! damaged file.
+//! which takes less time than the whole picture. `--partial` writes the part of a truncated or
+//! damaged file that can be decoded.
 
 use crate::commands::pictures;
 use clap::ArgMatches;
