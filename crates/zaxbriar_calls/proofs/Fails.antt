@@ -1,5 +1,5 @@
 -- A refusal of the header, or of what follows it, is one of the stream.
-use Rattle.std.proofs.Common.{◌≡◌, ◌⊎◌, ◌<◌, ◌^◌, ℕ, List, Ok, Err, Some, length, Result, ap, arith, refl}
+use Rattle.std.proofs.Common.{◌≡◌, ◌⊎◌, ◌∙◌, ◌<◌, ◌^◌, ℕ, List, Ok, Err, Some, length, Result, ap, arith, refl, sym}
 use Rattle.std.specs.Prelude.{IfErr, IsErrAnd, OnOk}
 use Rattle.jpeg_bits.specs.Reading.{Fault, Names}
 use Rattle.jpeg_bits.specs.declared.error.Error.{Error}
@@ -8,7 +8,8 @@ use Rattle.jpeg_streams.specs.Found.{Found, with_said}
 use Rattle.jpeg_streams.specs.Stream.{header_at, rest_at}
 use Rattle.jpeg_streams.specs.Output.{Tells}
 use Rattle.jpeg_streams.proofs.Written.ReadTurns.{then-ok}
-use Rattle.zaxbriar_calls.specs.Faults.{IsFault, IsNamed, IsOfCall, IsOfCallNumber, IsOfReading, IsOwn}
+use Rattle.zaxbriar_calls.specs.Faults.{IsFault, IsNamed, IsOfCall, IsOfCallNumber, IsOfReading, IsOfRoom, IsOfRoomNumber}
+use Rattle.zaxbriar_calls.specs.Faults.{IsOwn}
 use Rattle.zaxbriar_calls.specs.Faults.{status_of, fault_code}
 use Rattle.zaxbriar_calls.specs.Meanings.{settings_of, size_wanted, meaning_by}
 use Rattle.zaxbriar_calls.specs.declared.answers.Refusal.{Refusal}
@@ -69,6 +70,19 @@ is-too-large r e = grind arith
 
 pub has-no-room : (r : Refusal) → fault_code r ≡ 5 → r ≡ refusals.NoRoom
 has-no-room r e = grind arith
+
+room-number : (r : Refusal) → IsOfRoom r → IsOfRoomNumber (fault_code r)
+room-number r c = grind arith
+
+pub of-room-number : {X : Type 0} (outcome : Result X Refusal) (code : ℕ) → code ≡ status_of outcome
+    → IsErrAnd outcome IsOfRoom → IsOfRoomNumber code
+of-room-number outcome code e c = grind (arith, room-number)
+
+-- a refusal that isn't for lack of room has another number
+pub not-room : {X : Type 0} (outcome : Result X Refusal) (code : ℕ) → code ≡ status_of outcome
+    → IfErr outcome (λ r. r ≡ refusals.NoRoom → ⊥) → code ≡ 5 → ⊥
+not-room (Ok x) code c n z = absurd (omega (arith, c, z))
+not-room (Err r) code c n z = n (has-no-room r (sym c ∙ z))
 
 -- a kind whose number is refused doesn't exist
 pub no-kind : (kind code : ℕ) → (0 < kind → kind < 4 → code ≡ 6 → ⊥) → code ≡ 6 → (kind ≡ 0) ⊎ (3 < kind)

@@ -10,18 +10,19 @@ use Rattle.jpeg_bits.specs.declared.error.UnsupportedFeature.{UnsupportedFeature
 use Rattle.jpeg_streams.specs.Shown.{Shown}
 use Rattle.jpeg_streams.specs.Stream.{header_at}
 use Rattle.jpeg_streams.specs.declared.images.ImageInfo.{ImageInfo}
-use Rattle.zaxbriar_calls.proofs.Fails.{code-fails, has-no-room, is-too-large, named, of-call-number}
+use Rattle.zaxbriar_calls.proofs.Fails.{code-fails, has-no-room, is-too-large, named, of-call-number, of-room-number}
 use Rattle.zaxbriar_calls.proofs.Means.{images-given}
 use Rattle.zaxbriar_calls.proofs.Parts.{given-entire, given-refused}
 use Rattle.zaxbriar_calls.proofs.Told.{if-ok, if-own}
-use Rattle.zaxbriar_calls.specs.Faults.{IsArgument, IsFault, IsNamed, IsOfCall, IsOwn, IsPart, fault_code, outcome_fault, outcome_rows}
-use Rattle.zaxbriar_calls.specs.Faults.{status_of}
+use Rattle.zaxbriar_calls.specs.Faults.{IsArgument, IsFault, IsNamed, IsOfCall, IsOfRoom, IsOwn, IsPart, fault_code}
+use Rattle.zaxbriar_calls.specs.Faults.{outcome_fault, outcome_rows, status_of}
 use Rattle.zaxbriar_calls.specs.Features.{NamesFeature, feature_in, numbered, outcome_feature}
 use Rattle.zaxbriar_calls.specs.Fills.{Fills, FillsImages, greatest_code}
 use Rattle.zaxbriar_calls.specs.Given.{CountsImage, Gives, GivesPart, HasRows, TellsFault, given_by, rows_by, without_fault, without_rows}
 use Rattle.zaxbriar_calls.specs.Limits.{are_known}
 use Rattle.zaxbriar_calls.specs.Lines.{Arranged}
-use Rattle.zaxbriar_calls.specs.Meanings.{AreWrong, CountsRead, Describes, IsTooLarge, IsWithin, as_described, no_picture, uncounted}
+use Rattle.zaxbriar_calls.specs.Meanings.{AreWrong, CountsRead, Describes, IsTooLarge, IsWithin, as_described}
+use Rattle.zaxbriar_calls.specs.Meanings.{no_picture, uncounted}
 use Rattle.zaxbriar_calls.specs.declared.answers.Refusal.{Refusal}
 use Rattle.zaxbriar_calls.specs.declared.answers.Refusal.TheVariants as refusals
 use Rattle.zaxbriar_calls.specs.declared.extents.Extent.{Extent}
@@ -46,6 +47,7 @@ pub record Decoded (extent : Extent) (o : Options) (bytes old new : List ℕ) (p
   pub room : IfErr outcome (λ r. r ≡ refusals.NoRoom → IsWithin extent o bytes (uncounted picture) × (length old < picture.size))
   pub large : IfErr outcome (λ r. r ≡ refusals.TooLarge → IsTooLarge extent o bytes (uncounted picture))
   pub limited : (size : Picture) → IsTooLarge extent o bytes size → IsErrAnd outcome IsOfCall
+  pub short : (size : Picture) → IsWithin extent o bytes size → length old < size.size → IsErrAnd outcome IsOfRoom
   pub known : are_known o ≡ false → IsErrAnd outcome IsArgument
   pub wrong : IfErr outcome (λ r. IsArgument r → AreWrong o bytes)
   pub unasked : are_known o ≡ false → picture ≡ no_picture
@@ -415,6 +417,7 @@ fills extent o bytes old new picture outcome feature fault rows text code d a =
           (sym (as-told extent o bytes picture feature fault rows text (a.fault_is ∙ none.0) (a.rows_are ∙ none.1)
           w.0)) w;
       limited = λ size l. of-call-number outcome code a.code_is (d.limited size l);
+      short = λ size w l. of-room-number outcome code a.code_is (d.short size w l);
       known = λ n. argument-code outcome code a.code_is (d.known n);
       wrong = λ z. wrong-told outcome (given_by extent o bytes) _ code a.code_is d.named d.wrong z;
       unasked = λ n.

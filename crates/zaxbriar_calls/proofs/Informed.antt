@@ -2,7 +2,7 @@
 use Rattle.std.proofs.Common.{arith, ◌≡◌, ◌⊎◌, ◌∙◌, ◌≤◌, ℕ, List, Result, Ok, Err, false, ap, length, subst, sym}
 use Rattle.std.specs.Prelude.{IfErr, IfOk, IsErrAnd, OnOk, replicate, slice_index}
 use Rattle.jpeg_streams.specs.Stream.{header_at}
-use Rattle.zaxbriar_calls.proofs.Fails.{code-fails, is-too-large, named, of-call-number}
+use Rattle.zaxbriar_calls.proofs.Fails.{code-fails, is-too-large, named, not-room, of-call-number}
 use Rattle.zaxbriar_calls.proofs.Filled.{all-codes, argument-code, feature-told, few-codes, none-lacking, wrong-told}
 use Rattle.zaxbriar_calls.proofs.Told.{described, ending, if-described, large-told}
 use Rattle.zaxbriar_calls.specs.Faults.{IsArgument, IsFault, IsNamed, IsOfCall, IsOwn, IsPart, fault_code, status_of}
@@ -11,7 +11,7 @@ use Rattle.zaxbriar_calls.specs.Limits.{are_known}
 use Rattle.zaxbriar_calls.specs.Meanings.{AreWrong, CountsRead, IsTooLarge, IsWithin, as_described, no_picture, uncounted}
 use Rattle.zaxbriar_calls.specs.ReadsInfo.{ReadsInfo}
 use Rattle.zaxbriar_calls.specs.declared.answers.Refusal.{Refusal}
-use Rattle.zaxbriar_calls.specs.declared.answers.Refusal.TheVariants.{TooLarge}
+use Rattle.zaxbriar_calls.specs.declared.answers.Refusal.TheVariants.{NoRoom, TooLarge}
 use Rattle.zaxbriar_calls.specs.declared.extents.Extent.TheVariants.{Whole}
 use Rattle.zaxbriar_calls.specs.declared.features.Feature.{Feature}
 use Rattle.zaxbriar_calls.specs.declared.options.Options.{Options}
@@ -27,6 +27,7 @@ pub record Described {X : Type 0} (o : Options) (bytes : List ℕ) (picture : Pi
   pub most : picture.stream_bytes ≤ length bytes
   pub rowless : picture.whole_rows ≡ 0
   pub limited : (size : Picture) → IsTooLarge Whole o bytes size → IsErrAnd outcome IsOfCall
+  pub roomless : IfErr outcome (λ r. r ≡ NoRoom → ⊥)
   pub named : IfErr outcome (IsFault (header_at bytes))
   pub whole : IfErr outcome (λ r. IsPart r → ⊥)
   pub known : are_known o ≡ false → IsErrAnd outcome IsArgument
@@ -68,6 +69,7 @@ informs o bytes picture outcome feature text code d c f t ended said =
       large = λ z. large-told outcome Whole o bytes picture code c d.large z;
       limited = λ size l. of-call-number outcome code c (d.limited size l);
       number = (omega (arith, c, few), λ z. (all-codes outcome).1 (sym c ∙ z));
+      roomless = λ z. not-room outcome code c d.roomless z;
       rowless = d.rowless;
       malformed = names.0;
       unsupported = λ z.

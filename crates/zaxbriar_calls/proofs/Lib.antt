@@ -5,6 +5,7 @@ mod Fails
 mod Filled
 mod FoundPlaces
 mod FoundSegments
+mod Headers
 mod Informed
 mod KeptBytes
 mod Laid

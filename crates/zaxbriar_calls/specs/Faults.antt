@@ -45,6 +45,16 @@ IsOwn NoRoom = Unit {0}
 IsOwn TooLarge = Unit {0}
 IsOwn _ = ⊥
 
+-- A refusal because the buffer is too small, by the arguments, because of the reader, or for lack of
+-- memory.
+abbrev pub IsOfRoom : Refusal → Type 0
+IsOfRoom (Stream e) = e ≡ errors.OutOfMemory
+IsOfRoom (Part e rows) = ⊥
+IsOfRoom Reader = Unit {0}
+IsOfRoom (Argument text) = Unit {0}
+IsOfRoom NoRoom = Unit {0}
+IsOfRoom TooLarge = ⊥
+
 -- A refusal by the limits, by the arguments, because of the reader, or for lack of memory.
 abbrev pub IsOfCall : Refusal → Type 0
 IsOfCall (Stream e) = e ≡ errors.OutOfMemory
@@ -107,9 +117,13 @@ IsNamed code read = (code ≡ 1 → read ≡ Err Malformed)
     × (code ≡ 2 → (feature : UnsupportedFeature) × (read ≡ Err (Lacks feature)))
     × (code ≡ 3 → read ≡ Err End)
 
--- A number is that of a refusal by the limits, for lack of memory, or by the arguments.
+-- A number is that of a refusal for lack of memory, or by the arguments, or else by the limits; and
+-- that of one for lack of room in place of the limits.
 abbrev pub IsOfCallNumber : ℕ → Type 0
 IsOfCallNumber code = (code ≡ 8) ⊎ ((code ≡ 4) ⊎ (code ≡ 6))
+
+abbrev pub IsOfRoomNumber : ℕ → Type 0
+IsOfRoomNumber code = (code ≡ 5) ⊎ ((code ≡ 4) ⊎ (code ≡ 6))
 
 -- as much of a text as fits into 111 bytes, and zeros after it, 112 bytes in all
 abbrev pub padded : List ℕ → List ℕ

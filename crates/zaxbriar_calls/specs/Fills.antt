@@ -10,13 +10,14 @@ use Rattle.jpeg_streams.specs.Levels.{Is8Bit, Levels}
 use Rattle.jpeg_streams.specs.Stream.{header_at}
 use Rattle.jpeg_streams.specs.WrittenImages.{WritesImage}
 use Rattle.jpeg_streams.specs.WrittenScans.{Coefficients}
-use Rattle.zaxbriar_calls.specs.Faults.{IsOfCallNumber}
+use Rattle.zaxbriar_calls.specs.Faults.{IsOfCallNumber, IsOfRoomNumber}
 use Rattle.zaxbriar_calls.specs.Features.{LacksFeature, NamesFeature, numbered}
 use Rattle.zaxbriar_calls.specs.Given.{CountsImage, Gives, TellsFault, given_by, rows_by}
 use Rattle.zaxbriar_calls.specs.Given.{without_fault, without_rows}
 use Rattle.zaxbriar_calls.specs.Limits.{are_known}
-use Rattle.zaxbriar_calls.specs.Meanings.{AreWrong, CountsRead, IsTooLarge, IsWithin, ShowsSamples}
-use Rattle.zaxbriar_calls.specs.Meanings.{as_described, no_picture, settings_of, size_wanted}
+use Rattle.zaxbriar_calls.specs.Meanings.{AreWrong, CountsRead, IsTooLarge, IsWithin}
+use Rattle.zaxbriar_calls.specs.Meanings.{ShowsSamples, as_described, no_picture, settings_of}
+use Rattle.zaxbriar_calls.specs.Meanings.{size_wanted}
 use Rattle.zaxbriar_calls.specs.declared.extents.Extent.{Extent}
 use Rattle.zaxbriar_calls.specs.declared.extents.Extent.TheVariants.{Whole, Partial}
 use Rattle.zaxbriar_calls.specs.declared.options.Options.{Options}
@@ -84,6 +85,10 @@ pub record Fills (extent : Extent) (o : Options) (bytes old new : List ℕ) (pic
       → IsWithin extent o bytes (as_described (without_fault (without_rows picture)))
   pub room : code ≡ 5 → IsWithin extent o bytes (as_described picture)
       × (length old < picture.size)
+  -- Where the caller's memory is too short for a picture within the limits, this depends on the
+  -- header alone, too: there is no other result, unless memory or the arguments are to blame.
+  pub short : (size : Picture) → IsWithin extent o bytes size → length old < size.size
+      → IsOfRoomNumber code
   -- TOO_LARGE: `picture` describes it, and it is above a limit. This depends on the header alone:
   -- whatever follows the header of such a picture, there is no other result, unless memory or the
   -- arguments are to blame.

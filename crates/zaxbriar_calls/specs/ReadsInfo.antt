@@ -23,9 +23,10 @@ pub record ReadsInfo (o : Options) (bytes : List ℕ) (picture : Picture) (code 
   -- another result, unless memory or the arguments are to blame.
   pub large : code ≡ 8 → IsTooLarge Whole o bytes (as_described picture)
   pub limited : (size : Picture) → IsTooLarge Whole o bytes size → IsOfCallNumber code
-  -- There is no other result than OK, MALFORMED, UNSUPPORTED, TRUNCATED, NO_MEMORY, NO_ROOM,
-  -- BAD_ARGUMENT and TOO_LARGE.
+  -- There is no other result than OK, MALFORMED, UNSUPPORTED, TRUNCATED, NO_MEMORY, BAD_ARGUMENT
+  -- and TOO_LARGE.
   pub number : (code ≤ 8) × (code ≡ 7 → ⊥)
+  pub roomless : code ≡ 5 → ⊥
   -- No rows are counted, whatever is returned.
   pub rowless : picture.whole_rows ≡ 0
   -- MALFORMED, UNSUPPORTED and TRUNCATED name the header's fault. After UNSUPPORTED `picture` names

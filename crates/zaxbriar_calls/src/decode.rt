@@ -10,7 +10,7 @@ ghost use Rattle.jpeg_streams.specs.Pixels.{info_of};
 ghost use Rattle.jpeg_streams.specs.Stream.{header_at, rest_at, told_of};
 ghost use Rattle.jpeg_streams.specs.declared.progress.Progress.TheVariants.{HeaderRead};
 ghost use Rattle.zaxbriar_calls.specs.Faults.{IsArgument, IsFault, IsOfCall, IsOfDecoder};
-ghost use Rattle.zaxbriar_calls.specs.Faults.{IsOfReading, IsOwn, IsPart};
+ghost use Rattle.zaxbriar_calls.specs.Faults.{IsOfReading, IsOfRoom, IsOwn, IsPart};
 ghost use Rattle.zaxbriar_calls.specs.Given.{Brings, CountsImage, EndsImage, Gives, GivesPart};
 ghost use Rattle.zaxbriar_calls.specs.Given.{HasRows, Reaches, given_by, given_rest, outcome_of};
 ghost use Rattle.zaxbriar_calls.specs.Given.{rows_by, rows_rest};
@@ -233,6 +233,8 @@ pub fn decode_into(
         × (length pixels.old < picture.new.size)) }
     ensures large { IfErr result
         (λ r. r ≡ TooLarge → IsTooLarge extent options.now jpeg.now (uncounted picture.new)) }
+    ensures short { (size : Picture) → IsWithin extent options.now jpeg.now size
+        → length pixels.old < size.size → IsErrAnd result IsOfRoom }
     ensures limited { (size : Picture)
         → IsTooLarge extent options.now jpeg.now size → IsErrAnd result IsOfCall }
     ensures known { are_known options.now ≡ false → IsErrAnd result IsArgument }

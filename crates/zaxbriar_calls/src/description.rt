@@ -103,6 +103,7 @@ pub fn describe_stream(
     ensures whole { IfErr result (λ r. IsPart r → ⊥) }
     ensures known { are_known options.now ≡ false → IsErrAnd result IsArgument }
     ensures wrong { IfErr result (λ r. IsArgument r → AreWrong options.now jpeg.now) }
+    ensures roomless { IfErr result (λ r. r ≡ NoRoom → ⊥) }
     ensures unasked { are_known options.now ≡ false → picture.new ≡ picture.old }
     ensures kept { IfErr result
         (λ r. (r ≡ TooLarge → ⊥) → uncounted picture.new ≡ uncounted picture.old) }

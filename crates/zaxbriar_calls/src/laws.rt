@@ -5,8 +5,13 @@ ghost use Rattle.std.specs.Prelude.{false, replicate, true};
 ghost use Rattle.jpeg_bits.specs.Reading.{Fault};
 ghost use Rattle.jpeg_bits.specs.declared.color_transform.ColorTransform.TheVariants as transforms;
 ghost use Rattle.jpeg_bits.specs.declared.error.UnsupportedFeature.TheVariants as features;
+ghost use Rattle.jpeg_decoder.specs.StreamTransforms.{transform_by};
+ghost use Rattle.jpeg_segments.specs.Frame.{Factors, component_of};
+ghost use Rattle.jpeg_segments.specs.declared.application.AdobeColorTransform.TheVariants as adobe;
+ghost use Rattle.jpeg_segments.specs.declared.frame.CodingProcess.TheVariants as processes;
+ghost use Rattle.jpeg_streams.specs.Found.{no_metadata};
 ghost use Rattle.jpeg_streams.specs.Stream.{Told};
-ghost use Rattle.jpeg_streams.specs.declared.images.PixelFormat.TheVariants.{L8, RGB24};
+ghost use Rattle.jpeg_streams.specs.declared.images.PixelFormat.TheVariants.{L8, L16, RGB24};
 ghost use Rattle.jpeg_streams.specs.declared.images.PixelFormat.TheVariants.{CMYK32};
 ghost use Rattle.zaxbriar_calls.specs.Density.{density_of};
 ghost use Rattle.zaxbriar_calls.specs.Given.{faultless, given_by};
@@ -14,9 +19,12 @@ ghost use Rattle.zaxbriar_calls.specs.Features.{feature_in, numbered, transform_
 ghost use Rattle.zaxbriar_calls.specs.Layouts.{colour, conversion_to, laid_out, level, light, luma};
 ghost use Rattle.zaxbriar_calls.specs.Layouts.{layout_numbered, pixel_of, size_of_lines};
 ghost use Rattle.zaxbriar_calls.specs.Limits.{is_denominator, is_over};
+ghost use Rattle.zaxbriar_calls.specs.Lines.{format_number, process_number};
 ghost use Rattle.zaxbriar_calls.specs.Meanings.{meaning_by, number_of_transform, scale_by};
 ghost use Rattle.zaxbriar_calls.specs.Meanings.{transform_number};
 ghost use Rattle.zaxbriar_calls.specs.Metadata.{is_whole, kind_alone};
+ghost use Rattle.zaxbriar_calls.specs.Places.{no_place, no_places, place_before, with_part};
+ghost use Rattle.zaxbriar_calls.specs.Sampling.{sampling_of};
 ghost use Rattle.zaxbriar_calls.specs.declared.extents.Extent.TheVariants.{Whole};
 ghost use Rattle.zaxbriar_calls.specs.declared.options.Options.{Options};
 ghost use Rattle.zaxbriar_calls.specs.declared.layouts.Conversion.TheVariants.{InColour};
@@ -38,13 +46,15 @@ pub fn known_layouts()
         ≡ 255 ∷ 127 ∷ 0 ∷ [] }
 {}
 
-/// The luma of grey is that grey, and those of red, green and blue add up to white.
+/// The luma of grey is that grey, and those of red, green and blue add up to white. No weight that
+/// is greater or less by 1 gives the last two.
 #[tactic(auto)]
 pub fn known_lumas()
     ensures grey { map (λ n. luma (colour n n n)) (0 ∷ 1 ∷ 127 ∷ 254 ∷ 255 ∷ [])
         ≡ 0 ∷ 1 ∷ 127 ∷ 254 ∷ 255 ∷ [] }
     ensures parts { luma (colour 255 0 0) ∷ luma (colour 0 255 0) ∷ luma (colour 0 0 255) ∷ []
         ≡ 76 ∷ 150 ∷ 29 ∷ [] }
+    ensures close { luma (colour 11 170 30) ∷ luma (colour 60 250 165) ∷ [] ≡ 106 ∷ 184 ∷ [] }
 {}
 
 /// A sample above 8 bits has its lower byte first, and the greatest of each precision is 255.
@@ -100,6 +110,63 @@ pub fn known_transform_codes()
     ensures { map transform_code (transforms.None ∷ transforms.RGB ∷ transforms.YCbCr
         ∷ transforms.CMYK ∷ transforms.YCCK ∷ transforms.JcsBgYcc ∷ transforms.JcsBgRgb
         ∷ transforms.Grayscale ∷ []) ≡ 1 ∷ 2 ∷ 3 ∷ 4 ∷ 5 ∷ 6 ∷ 7 ∷ 0 ∷ [] }
+{}
+
+/// The transform that a header asks for: none for one component and for lossless pictures, and else
+/// what the identifiers say, or JFIF, or Adobe's segment.
+#[tactic(auto, unfolding(jpeg_streams::specs::ColourChoice::transform_of, jpeg_streams::specs::ColourChoice::by_identifiers))]
+pub fn known_stream_transforms()
+    ensures grey { transform_by processes.DctProgressive (82 ∷ [])
+        (record no_metadata { jfif = true; adobe = Some adobe.YCbCr }) ≡ transforms.None }
+    ensures lossless { transform_by processes.Lossless (1 ∷ 2 ∷ 3 ∷ [])
+        (record no_metadata { jfif = true; adobe = Some adobe.YCbCr }) ≡ transforms.None }
+    ensures named { transform_by processes.DctSequential (82 ∷ 71 ∷ 66 ∷ [])
+        (record no_metadata { jfif = true }) ≡ transforms.RGB }
+    ensures jfif { transform_by processes.DctSequential (0 ∷ 1 ∷ 2 ∷ [])
+        (record no_metadata { jfif = true; adobe = Some adobe.Unknown }) ≡ transforms.YCbCr }
+    ensures adobe { transform_by processes.DctProgressive (0 ∷ 1 ∷ 2 ∷ [])
+        (record no_metadata { adobe = Some adobe.Unknown }) ≡ transforms.RGB }
+    ensures four { transform_by processes.DctSequential (1 ∷ 2 ∷ 3 ∷ 4 ∷ [])
+        (record no_metadata { jfif = true; adobe = Some adobe.YCCK }) ≡ transforms.YCCK }
+    ensures plain { transform_by processes.DctSequential (1 ∷ 2 ∷ 3 ∷ 4 ∷ []) no_metadata
+        ≡ transforms.CMYK }
+{}
+
+/// The sampling factors of components, the horizontal one in the upper four bits, as a frame header
+/// has them; and the numbers of formats and processes.
+#[tactic(auto, unfolding(jpeg_segments::specs::Frame::component_of))]
+pub fn known_components()
+    ensures one { sampling_of (map (component_of 8 8 2 1)
+        (record { identifier = 1; horizontal = 2; vertical = 1; quantization = 0 } ∷ []))
+        ≡ 33 ∷ 0 ∷ 0 ∷ 0 ∷ [] }
+    ensures three { sampling_of (map (component_of 8 8 2 4)
+        (record { identifier = 1; horizontal = 2; vertical = 4; quantization = 0 }
+        ∷ record { identifier = 2; horizontal = 1; vertical = 2; quantization = 1 }
+        ∷ record { identifier = 3; horizontal = 1; vertical = 1; quantization = 1 } ∷ []))
+        ≡ 36 ∷ 18 ∷ 17 ∷ 0 ∷ [] }
+    ensures four { sampling_of (map (component_of 8 8 4 3)
+        (record { identifier = 1; horizontal = 4; vertical = 3; quantization = 0 }
+        ∷ record { identifier = 2; horizontal = 1; vertical = 3; quantization = 0 }
+        ∷ record { identifier = 3; horizontal = 3; vertical = 1; quantization = 0 }
+        ∷ record { identifier = 4; horizontal = 1; vertical = 1; quantization = 0 } ∷ []))
+        ≡ 67 ∷ 19 ∷ 49 ∷ 17 ∷ [] }
+    ensures formats { map format_number (L8 ∷ L16 ∷ RGB24 ∷ CMYK32 ∷ [])
+        ≡ 1 ∷ 2 ∷ 3 ∷ 4 ∷ [] }
+    ensures processes { map process_number (processes.DctSequential ∷ processes.DctProgressive
+        ∷ processes.Lossless ∷ []) ≡ 1 ∷ 2 ∷ 3 ∷ [] }
+{}
+
+/// The first 255 parts of a profile have a place, and all are counted.
+pub fn known_places()
+    ensures last { with_part (place_before 9 4) (record no_places { icc_parts = 254 })
+        ≡ record no_places {
+          icc_parts = 255;
+          icc = replicate 254 no_place ++ (place_before 9 4 ∷ []);
+        } }
+    ensures past { with_part (place_before 9 4) (record no_places { icc_parts = 255 })
+        ≡ record no_places { icc_parts = 256 } }
+    ensures most { with_part (place_before 9 4) (record no_places { icc_parts = 4294967295 })
+        ≡ record no_places { icc_parts = 4294967295 } }
 {}
 
 /// The whole of what a stream gives is what it means by T.81, and has no fault; and where it means

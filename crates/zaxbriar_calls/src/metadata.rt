@@ -59,6 +59,7 @@ fn copy_data(found: Option<&[u8]>, buffer: &mut [u8], count: &mut u64) -> u32
     ensures known { result ≡ 6 → ⊥ }
     ensures room { result ≡ 5
         → IsLonger (option_copied found.entry) (length buffer.old) count.new }
+    ensures uncounted { (result ≡ 0 → ⊥) → (result ≡ 5 → ⊥) → count.new ≡ count.old }
     ensures kept { (result ≡ 0 → ⊥) → buffer.new ≡ buffer.old }
 {
     match found {
@@ -92,8 +93,11 @@ fn copy_profile<R: Read + Drop>(
     ensures own { IfOk result (λ code. code < 4 → code ≡ 0) }
     ensures known { IfOk result (λ code. code ≡ 6 → ⊥) }
     ensures most { IfOk result (λ code. code ≤ 7) }
+    ensures uncounted { IfOk result (λ code. (code ≡ 0 → ⊥) → (code ≡ 5 → ⊥)
+        → count.new ≡ count.old) }
     ensures kept { IfOk result (λ code. (code ≡ 0 → ⊥) → buffer.new ≡ buffer.old) }
     ensures failed { OnErr result (buffer.new ≡ buffer.old) }
+    ensures memory { OnErr result (count.new ≡ count.old) }
 {
     match decoder.icc_profile()? {
         Some(profile) => Ok(copy_data(Some(profile.as_slice()), buffer, count)),
@@ -119,8 +123,11 @@ fn copy_kind<R: Read + Drop>(
     ensures own { IfOk result (λ code. code < 4 → code ≡ 0) }
     ensures known { IfOk result (λ code. 0 < kind → kind < 4 → code ≡ 6 → ⊥) }
     ensures most { IfOk result (λ code. code ≤ 7) }
+    ensures uncounted { IfOk result (λ code. (code ≡ 0 → ⊥) → (code ≡ 5 → ⊥)
+        → count.new ≡ count.old) }
     ensures kept { IfOk result (λ code. (code ≡ 0 → ⊥) → buffer.new ≡ buffer.old) }
     ensures failed { OnErr result (buffer.new ≡ buffer.old) }
+    ensures memory { OnErr result (count.new ≡ count.old) }
 {
     match kind {
         1 => Ok(copy_data(decoder.exif_data(), buffer, count)),
@@ -198,8 +205,12 @@ pub fn read_metadata(
     ensures named { IfOk result (λ code. IsNamed code (end_at (is_whole kind) jpeg.now)) }
     ensures known { IfOk result (λ code. code ≡ 6 → IsNoKind kind) }
     ensures most { IfOk result (λ code. code ≤ 7) }
+    ensures unsaid { IfOk result (λ code. 0 < code → code < 4 → said_of kind jpeg.now ≡ None) }
+    ensures uncounted { IfOk result (λ code. (code ≡ 0 → ⊥) → (code ≡ 5 → ⊥)
+        → count.new ≡ count.old) }
     ensures kept { IfOk result (λ code. (code ≡ 0 → ⊥) → buffer.new ≡ buffer.old) }
     ensures failed { OnErr result (buffer.new ≡ buffer.old) }
+    ensures memory { OnErr result (count.new ≡ count.old) }
 {
     let mut decoder = decoder_of(alloc, jpeg)?;
     let missing = match read_told(&mut decoder, is_whole(kind)) {

@@ -21,6 +21,7 @@ returns c =
       room = done.room;
       large = done.large;
       limited = done.limited;
+      short = done.short;
       known = done.known;
       wrong = done.wrong;
       unasked = done.unasked;

@@ -14,6 +14,7 @@ returns c =
       most = done.most refl;
       rowless = done.rowless refl;
       limited = done.limited;
+      roomless = done.roomless;
       named = done.named;
       whole = done.whole;
       known = done.known;

@@ -1,7 +1,8 @@
-use Rattle.std.proofs.Common.{◌∙◌, ℕ, List, None, Some, ap, subst, sym}
+use Rattle.std.proofs.Common.{arith, ◌≡◌, ◌∙◌, ℕ, List, None, Some, ap, subst, sym}
 use Rattle.std.proofs.lemmas.Result.{err_from_is_err_and}
 use Rattle.jpeg_streams.specs.Stream.{header_at}
 use Rattle.zaxbriar_calls.proofs.Fails.{if-err, not-own, own-large}
+use Rattle.zaxbriar_calls.proofs.Headers.{described-same, only-room}
 use Rattle.zaxbriar_calls.proofs.Means.{after-header}
 use Rattle.zaxbriar_calls.proofs.Parts.{brought-given, gives-rest, header-lacks, no-part, no-rows, none-named, reached-err, reached-ok}
 use Rattle.zaxbriar_calls.proofs.Parts.{rows-given}
@@ -84,6 +85,14 @@ pub returns-clause-header : goal.returns-clause-header
 returns-clause-header c =
     if-err c.decode_lines-decoded.result _ _ c.decode_lines-decoded.ensures.own (λ r d own. absurd (not-own r d own))
 
+pub returns-clause-short : goal.returns-clause-short
+returns-clause-short c size within short =
+    let mine = rw c.in_ok-decoder.ensures.bytes at (c.in_ok-header.ensures.within c.in_ok-decoder.ensures.known) in
+    let is = described-same c.args.extent c.args.options.now c.args.jpeg.now size c.describe-described.new.picture
+    within.0 mine.0 in
+    let long : size.size ≡ c.describe-described.new.picture.size = ap (λ (p : Picture). p.size) is in
+    absurd (omega (arith, long, short, c.if-picture-pixels.false))
+
 -- ---- there was no room
 
 pub returns-then-picture-pixels-clause-header : goal.returns-then-picture-pixels-clause-header
@@ -119,6 +128,15 @@ returns-in_err-header-clause-limited c size large =
     let p = err_from_is_err_and c.from_residual-in_err-header.result c.from_residual-in_err-header.ensures.1 in
     let limited = rw c.in_ok-decoder.ensures.bytes at (c.in_err-header.ensures.limited c.in_ok-decoder.ensures.known) in
     rw (p.1, p.2) (limited size large)
+
+pub returns-in_err-header-clause-short : goal.returns-in_err-header-clause-short
+returns-in_err-header-clause-short c size within short =
+    let p = err_from_is_err_and c.from_residual-in_err-header.result c.from_residual-in_err-header.ensures.1 in
+    let known = c.in_ok-decoder.ensures.known in
+    let named = rw c.in_ok-decoder.ensures.bytes at (c.in_err-header.ensures.named known) in
+    let large = rw c.in_ok-decoder.ensures.bytes at (c.in_err-header.ensures.large known) in
+    rw (p.1, p.2) (only-room c.args.extent c.args.options.now c.args.jpeg.now c.describe-described.new.picture size _
+    within named large c.in_err-header.ensures.other c.in_err-header.ensures.whole)
 
 pub returns-in_err-header-clause-part : goal.returns-in_err-header-clause-part
 returns-in_err-header-clause-part c =

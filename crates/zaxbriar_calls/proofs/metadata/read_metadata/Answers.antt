@@ -26,6 +26,19 @@ returns-clause-room c longer =
       | else-code-eq-NO_DATA w ↦ grind arith
     ]
 
+pub returns-clause-unsaid : goal.returns-clause-unsaid
+returns-clause-unsaid c some few =
+    let same = c.in_ok-decoder.ensures.bytes in
+    let told = c.in-Ok.ensures.told c.in_ok-decoder.ensures.known in
+    elim c.if-code-eq-NO_DATA.branch [
+      | then-code-eq-NO_DATA w ↦ grind arith
+      | else-code-eq-NO_DATA w ↦ grind arith
+    ]
+
+pub returns-clause-uncounted : goal.returns-clause-uncounted
+returns-clause-uncounted c a b =
+    grind (arith, then-code-eq-NO_DATA, else-code-eq-NO_DATA)
+
 pub returns-clause-known : goal.returns-clause-known
 returns-clause-known c unknown =
     elim c.if-code-eq-NO_DATA.branch [
