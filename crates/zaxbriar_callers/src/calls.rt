@@ -1,10 +1,11 @@
 //! Callers of what the C library does.
-ghost use Rattle.std.specs.Prelude.{◌≡◌, ◌⊎◌, None, Some, length};
+ghost use Rattle.std.specs.Prelude.{◌≡◌, ◌⊎◌, ◌<◌, None, Some, length};
 ghost use Rattle.jpeg_bits.specs.Reading.{Fault};
 ghost use Rattle.jpeg_streams.specs.Stream.{header_at};
+ghost use Rattle.zaxbriar_calls.specs.Faults.{IsOfRoomNumber};
 ghost use Rattle.zaxbriar_calls.specs.Given.{Gives, TellsFault, rows_by, without_fault};
 ghost use Rattle.zaxbriar_calls.specs.Given.{without_rows};
-ghost use Rattle.zaxbriar_calls.specs.Meanings.{CountsRead};
+ghost use Rattle.zaxbriar_calls.specs.Meanings.{CountsRead, IsWithin};
 ghost use Rattle.zaxbriar_calls.specs.Metadata.{IsCopied, IsLonger, said_of};
 ghost use Rattle.zaxbriar_calls.specs.Places.{places_of};
 ghost use Rattle.zaxbriar_calls.specs.StreamSegments.{IsCut};
@@ -17,15 +18,17 @@ use zaxbriar_calls::picture::Picture;
 use zaxbriar_calls::places::Places;
 use zaxbriar_calls::segments::Segment;
 
-/// Calls `read_info`, and says how many bytes the header takes.
+/// Calls `read_info`, and says how many bytes the header takes, and that no room is asked for.
 pub fn described(alloc: Global, jpeg: &[u8], options: &Options, picture: &mut Picture) -> u32
-    ensures { (result ≡ 0) ⊎ (result ≡ 8)
+    ensures counts { (result ≡ 0) ⊎ (result ≡ 8)
         → CountsRead (header_at jpeg.now) jpeg.now picture.new.stream_bytes }
+    ensures roomless { result ≡ 5 → ⊥ }
 {
     calls::read_info(alloc, jpeg, options, picture)
 }
 
-/// Calls `decode`, and says that an OK gives the picture.
+/// Calls `decode`, and says that an OK gives the picture, and what is returned for a picture that
+/// has no room.
 pub fn decoded(
     alloc: Global,
     jpeg: &[u8],
@@ -33,8 +36,10 @@ pub fn decoded(
     pixels: &mut [u8],
     picture: &mut Picture,
 ) -> u32
-    ensures { result ≡ 0 → Gives Whole options.now jpeg.now pixels.old pixels.new None
+    ensures given { result ≡ 0 → Gives Whole options.now jpeg.now pixels.old pixels.new None
         (without_rows picture.new) }
+    ensures short { (size : Picture) → IsWithin Whole options.now jpeg.now size
+        → length pixels.old < size.size → IsOfRoomNumber result }
 {
     calls::decode(alloc, jpeg, options, pixels, picture)
 }
@@ -57,11 +62,14 @@ pub fn decoded_part(
     calls::decode_partial(alloc, jpeg, options, pixels, picture)
 }
 
-/// Calls `metadata`, and says what is copied after OK, and how long it is after NO_ROOM.
+/// Calls `metadata`, and says what is copied after OK, how long it is after NO_ROOM, that nothing is
+/// counted otherwise, and that a fault hides no data.
 pub fn copied(alloc: Global, jpeg: &[u8], kind: u32, buffer: &mut [u8], count: &mut u64) -> u32
     ensures copies { result ≡ 0
         → IsCopied (said_of kind jpeg.now) buffer.old buffer.new count.new }
     ensures room { result ≡ 5 → IsLonger (said_of kind jpeg.now) (length buffer.old) count.new }
+    ensures uncounted { (result ≡ 0 → ⊥) → (result ≡ 5 → ⊥) → count.new ≡ 0 }
+    ensures unsaid { 0 < result → result < 4 → said_of kind jpeg.now ≡ None }
 {
     calls::metadata(alloc, jpeg, kind, buffer, count)
 }
