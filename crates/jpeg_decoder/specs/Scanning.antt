@@ -1,5 +1,5 @@
 -- What a caller sees of a scan, of what is kept of it, and of the state of an interval.
-use Rattle.std.specs.Prelude.{◌≡◌, ◌<◌, ℕ, ◌+◌, ◌-◌, List, ◌++◌, map, length, get_or}
+use Rattle.std.specs.Prelude.{◌≡◌, ◌<◌, ℕ, ◌-◌, List, ◌++◌, map, length, get_or}
 use Rattle.std.specs.Prelude.{replicate, Bool, true, false, ℤ, pos, All}
 use Rattle.jpeg_bits.specs.Codes.{Table}
 use Rattle.jpeg_segments.specs.Frame.{Component}

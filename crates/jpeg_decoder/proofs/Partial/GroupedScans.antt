@@ -19,7 +19,7 @@ use Rattle.jpeg_streams.specs.Brought.{BlocksTo, after_interval, after_intervals
 use Rattle.jpeg_streams.specs.Brought.{intervals_reached, or_first}
 use Rattle.jpeg_streams.specs.Order.{Spot}
 use Rattle.jpeg_streams.specs.Scans.{Arrays}
-use Rattle.jpeg_streams.specs.States.{IfRefused, OnTold}
+use Rattle.jpeg_streams.specs.States.{OnTold}
 use Rattle.jpeg_decoder.specs.Reaching.{after_group}
 use Rattle.jpeg_decoder.specs.Steps.{after_all}
 use Rattle.jpeg_decoder.proofs.Partial.GatheredData.{continued-answers}

@@ -10,7 +10,6 @@ use Rattle.jpeg_bits.specs.Stream.{Stream}
 use Rattle.jpeg_bits.specs.Passes.{Pass}
 use Rattle.jpeg_bits.specs.Reading.{Answers, Outcome}
 use Rattle.jpeg_bits.specs.declared.error.Error.{Error}
-use Rattle.jpeg_bits.specs.declared.error.Error.TheVariants as errors
 use Rattle.jpeg_bits.specs.declared.marker.Marker.{Marker}
 use Rattle.jpeg_segments.specs.Frame.{Frame}
 use Rattle.jpeg_streams.specs.Brought.{BlocksTo, scan_reached}
@@ -20,7 +19,6 @@ use Rattle.jpeg_streams.specs.Order.{spots_of, mcu_size}
 use Rattle.jpeg_streams.specs.Scans.{Arrays}
 use Rattle.jpeg_streams.specs.ScanSegments.{arrays_before, blocks_after, components_of, is_progressive}
 use Rattle.jpeg_streams.specs.ScanSegments.{once_scanned, put_arrays, vias_from, with_arrays, Coding}
-use Rattle.jpeg_streams.specs.States.{IfRefused, OnTold}
 use Rattle.jpeg_streams.specs.WholeRows.{rows_above}
 use Rattle.jpeg_streams.proofs.Order.Apart.{zeros-sized}
 use Rattle.jpeg_streams.proofs.Order.McuRows.{arrays-sized, kept-sized}

@@ -3,7 +3,7 @@ use Rattle.std.proofs.Common.{◌≡◌, ◌∙◌, ℕ, List, Result, Ok, Err, 
 use Rattle.jpeg_bits.specs.Reading.{Answers, Fault}
 use Rattle.jpeg_bits.specs.Stream.{Stream}
 use Rattle.jpeg_bits.specs.declared.error.Error.{Error}
-use Rattle.jpeg_streams.specs.Found.{Found, nothing_found, nothing_said}
+use Rattle.jpeg_streams.specs.Found.{Found, nothing_found}
 use Rattle.jpeg_streams.specs.States.{OnTold, OnToldRefusal}
 use Rattle.jpeg_streams.specs.Stream.{Told, all_brought, start_at, told_of}
 use Rattle.jpeg_decoder.specs.Reaching.{is_out_of_memory, without_tables}

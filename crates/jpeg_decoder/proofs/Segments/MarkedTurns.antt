@@ -1,5 +1,5 @@
 -- A turn is read: the marker that begins it, and what stands after it.
-use Rattle.std.proofs.Common.{rules, ◌≡◌, ℕ, true, Option, List, Result, None, Ok, Err, refl, ap, sym, ◌∙◌, arith}
+use Rattle.std.proofs.Common.{◌≡◌, ℕ, true, Option, List, Result, Ok, Err, refl, ap, sym, ◌∙◌, arith}
 use Rattle.jpeg_bits.specs.Marker.{found_or, next_marker}
 use Rattle.jpeg_bits.specs.Reading.{Answers, Fault, Outcome}
 use Rattle.jpeg_bits.specs.Stream.{Stream}
@@ -17,8 +17,8 @@ use Rattle.jpeg_streams.specs.declared.before.Before.{Before}
 use Rattle.jpeg_streams.specs.declared.beyond.Beyond.{Beyond}
 use Rattle.jpeg_streams.specs.declared.beyond.Beyond.TheVariants.{Nothing, Zeros}
 use Rattle.jpeg_streams.proofs.Refusals.{told-err}
-use Rattle.jpeg_decoder.specs.Reaching.{UnlessRefused, without_tables}
-use Rattle.jpeg_decoder.proofs.Partial.Refused.{if-refused, if-refused-as, unless-so}
+use Rattle.jpeg_decoder.specs.Reaching.{UnlessRefused}
+use Rattle.jpeg_decoder.proofs.Partial.Refused.{if-refused-as, unless-so}
 
 -- ---- what stands after a marker
 

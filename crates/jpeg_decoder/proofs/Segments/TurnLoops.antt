@@ -1,6 +1,6 @@
 -- A loop over the segments of a stream, a turn at a time.
-use Rattle.std.proofs.Common.{rules, ◌≡◌, ◌≤◌, ◌<◌, ◌+◌, ◌-◌, ℕ, suc, List, Result, Ok, Err, Bool, true, false, Option}
-use Rattle.std.proofs.Common.{None, ap, refl, ◌∙◌, length, arith, ◌&&◌, is_some}
+use Rattle.std.proofs.Common.{◌≡◌, ◌≤◌, ◌<◌, ◌+◌, ◌-◌, ℕ, suc, List, Result, Ok, Err, Bool, true, false, Option}
+use Rattle.std.proofs.Common.{None, ap, ◌∙◌, length, arith, ◌&&◌, is_some}
 use Rattle.jpeg_bits.specs.Reading.{Answers, Fault, Outcome, ◌>>=◌}
 use Rattle.jpeg_bits.specs.Stream.{Stream}
 use Rattle.jpeg_bits.specs.declared.error.Error.{Error}

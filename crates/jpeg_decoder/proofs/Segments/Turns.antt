@@ -1,5 +1,5 @@
 -- The segments of a stream, a turn at a time.
-use Rattle.std.proofs.Common.{◌≡◌, ◌≤◌, ◌<◌, ℕ, suc, List, Result, Ok, Err, Bool, true, false, Option, Some, None}
+use Rattle.std.proofs.Common.{◌≡◌, ◌≤◌, ◌<◌, ℕ, suc, List, Ok, Err, Bool, true, false, Option, Some, None}
 use Rattle.std.proofs.Common.{ap, ◌∙◌, length, arith}
 use Rattle.std.specs.Prelude.{◌&&◌, is_some}
 use Rattle.std.proofs.Math.Bool.{cond}
@@ -20,7 +20,7 @@ use Rattle.jpeg_streams.specs.declared.beyond.Beyond.{Beyond}
 use Rattle.jpeg_streams.specs.declared.beyond.Beyond.TheVariants.{Nothing, Zeros}
 use Rattle.jpeg_segments.specs.Checks.{needed}
 use Rattle.jpeg_streams.specs.ScanSegments.{lossless_scan, blocks_scan, codings_of, scan_by, scan_samples}
-use Rattle.jpeg_streams.specs.ScanSegments.{after_restarts, scan_arrays, scan_segment}
+use Rattle.jpeg_streams.specs.ScanSegments.{scan_arrays, scan_segment}
 use Rattle.jpeg_streams.specs.Segments.{accepted, application_segment, frame_segment, huffman_segment, onward, Turn}
 use Rattle.jpeg_streams.specs.Segments.{quantization_segment, restart_segment, skipped_segment}
 use Rattle.jpeg_streams.specs.Found.{Found, nothing_found}

@@ -1,5 +1,5 @@
 use Rattle.std.proofs.Common.{◌≡◌, ◌∙◌, ap, List, Ok, Option, refl, rules, Some, subst}
-use Rattle.std.proofs.Common.{sym, true, false, ℕ}
+use Rattle.std.proofs.Common.{sym, true, false}
 use Rattle.jpeg_streams.specs.ScanSegments.{once_scanned}
 use Rattle.jpeg_bits.specs.Reading.{Answers}
 use Rattle.jpeg_streams.specs.Brought.{scan_brought}
