@@ -109,7 +109,7 @@ def expected():
     # (the last one is the stream of frames)
     yield "docs/TRUST.md", r"([\d,]+) files and a\s+stream", sum(map(int, counts)) - 1
     gate = text("docs/GATE.md")
-    first = re.search(r"In all it takes some\s+(\d+)\s+minutes", gate, re.S)[1]
+    first = re.search(r"In\s+all\s+it\s+takes\s+some\s+(\d+)\s+minutes", gate, re.S)[1]
     yield "README.md", r"proves it first: some (\d+) minutes", first
     yield "README.md", r"info examples/rocket.jpg` \| some (\d+) minutes", first
     whole = re.search(r"takes (\d+ to \d+)\s+minutes\s+with 4", gate)[1]
