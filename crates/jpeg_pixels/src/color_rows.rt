@@ -18,7 +18,7 @@ fn inverted_row(lines: &[u8], start: usize, count: usize, row: &mut [u8; 64])
 }
 
 /// Writes red, green, blue and the inverse of the fourth component of some pixels from `start` on.
-#[inline(never)]
+#[inline(always)]
 fn write_ycck_piece(lines: &[u8], width: usize, start: usize, count: usize, output: &mut [u8])
     requires most { count ≤ 64 }
     requires inside { start + count ≤ width }
