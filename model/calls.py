@@ -1,12 +1,13 @@
 #!/usr/bin/env python3
-"""Computes what the calls of the C library answer in the cases of crates/calls_cases.
+"""Computes what the calls of the C library answer in the cases of c/test/cases.
 
-calls.py            writes crates/calls_cases/stdout
-calls.py --check    compares it
+calls.py            writes the answers of each case file
+calls.py --check    compares them
 
 Headers, samples and faults are the model's. What the structs tell of them is said here, by the
 comments of c/zaxbriar.h, T.81, T.871 (JFIF), and TIFF for the orientation.
 """
+import glob
 import os
 import sys
 
@@ -14,7 +15,7 @@ import model
 from cases import cases_of, decoding_bytes, orientation_of
 
 HERE = os.path.dirname(os.path.abspath(__file__))
-CRATE = os.path.join(os.path.dirname(HERE), 'crates', 'calls_cases')
+CASES = os.path.join(os.path.dirname(HERE), 'c', 'test', 'cases')
 
 OK, MALFORMED, UNSUPPORTED, TRUNCATED = range(4)
 NO_ROOM, BAD_ARGUMENT, NO_DATA, TOO_LARGE, PARTIAL = range(5, 10)
@@ -430,25 +431,30 @@ def lines_of(case):
         yield '%s: %s' % (' '.join([name] + words), CALLS[name](case.stream, *words))
 
 
-def main():
-    with open(os.path.join(CRATE, 'args'), encoding='utf-8') as file:
-        files = file.read().split()
-    cases = [case for name in files for case in cases_of(os.path.join(CRATE, 'data', name))]
-    wanted = [line for case in cases for line in lines_of(case)]
-    path = os.path.join(CRATE, 'stdout')
-    if '--check' not in sys.argv:
+def answers_of(path, written):
+    """The lines beside a case file, which are written first if there are some to write."""
+    path = os.path.splitext(path)[0] + '.answers'
+    if written is not None:
         with open(path, 'w', encoding='utf-8') as file:
-            file.write(''.join(line + '\n' for line in wanted))
-        return False
+            file.write(''.join(line + '\n' for line in written))
     with open(path, encoding='utf-8') as file:
-        given = file.read().splitlines()
-    faults = [
-        '%s\n    by the model: %s' % lines for lines in zip(given, wanted) if lines[0] != lines[1]
-    ]
-    if len(given) != len(wanted):
-        faults.append('%d lines, by the model %d' % (len(given), len(wanted)))
-    calls = len(wanted) - len(cases)
-    print('calls: %d cases, %d calls, %d faults' % (len(cases), calls, len(faults)))
+        return file.read().splitlines()
+
+
+def main():
+    is_written = '--check' not in sys.argv
+    faults, cases, calls = [], 0, 0
+    for path in sorted(glob.glob(os.path.join(CASES, '*.case'))):
+        of_file = cases_of(path)
+        wanted = [line for case in of_file for line in lines_of(case)]
+        given = answers_of(path, wanted if is_written else None)
+        cases, calls = cases + len(of_file), calls + len(wanted) - len(of_file)
+        faults += [
+            '%s\n    by the model: %s' % both for both in zip(given, wanted) if both[0] != both[1]
+        ]
+        if len(given) != len(wanted):
+            faults.append('%s: %d lines, by the model %d' % (path, len(given), len(wanted)))
+    print('calls: %d cases, %d calls, %d faults' % (cases, calls, len(faults)))
     for fault in faults:
         print('    ' + fault)
     return bool(faults)
