@@ -12,6 +12,7 @@ pub mod HeaderAlone
 -- what a caller sees of the blocks that are kept, and the code's own words
 pub mod Scanning
 -- the code's own words: the clauses of `Decoder`, `run` and `report` reach none of these
+pub mod Begun
 pub mod Writes
 pub mod Walk
 pub mod Strips

@@ -1,5 +1,6 @@
 //! The program's engine: a stream from a reader, its picture to a writer, and a line for a refusal.
-ghost use Rattle.std.specs.Prelude.{◌≡◌, ℕ, List, Some, None, Err, IsSome};
+ghost use Rattle.std.specs.Prelude.{◌≡◌, ℕ, List, Option, Some, None, Err, IsSome};
+ghost use Rattle.jpeg_decoder.specs.Begun.{begun};
 ghost use Rattle.std.specs.Prelude.{IsSomeAnd, OnOk, OnErr, IfErr, IfOk, IsErr, string_bytes};
 ghost use Rattle.jpeg_streams.specs.States.{IsOfBytes};
 ghost use Rattle.std.specs.Io.KnownBytes.{Appends, Keeps};
@@ -50,6 +51,40 @@ fn header_line(alloc: Global, info: Option<ImageInfo>) -> std::result::Result<St
     }
 }
 
+/// Decodes the stream of a new decoder, and writes what `run` writes.
+fn print<R: Read + Drop, W: Write>(
+    alloc: Global,
+    decoder: &mut Decoder<R>,
+    writer: &mut W,
+) -> Result<()>
+    ensures images { (remaining : Option (List ℕ)) → decoder.old ≡ begun remaining
+        → PrintsImages remaining (W.contents writer.old) result (W.contents writer.new) }
+    ensures ok { (remaining : Option (List ℕ)) → decoder.old ≡ begun remaining
+        → (bytes : List ℕ) → Tells remaining bytes
+        → OnOk result (IsSomeAnd (output_of bytes) (Appends (W.contents writer.old)
+        (W.contents writer.new))) }
+    ensures none { (remaining : Option (List ℕ)) → decoder.old ≡ begun remaining
+        → (bytes : List ℕ) → Tells remaining bytes → output_of bytes ≡ None → IsErr result
+        × Keeps (W.contents writer.old) (W.contents writer.new) }
+    ensures beginning { (remaining : Option (List ℕ)) → decoder.old ≡ begun remaining
+        → (bytes : List ℕ) → Tells remaining bytes
+        → (text : List ℕ) → output_of bytes ≡ Some text
+        → TakesBeginning (W.contents writer.old) (W.contents writer.new) text }
+    ensures refused { (remaining : Option (List ℕ)) → decoder.old ≡ begun remaining
+        → (bytes : List ℕ) → Tells remaining bytes
+        → IsSome (output_of bytes) → IfErr result IsOutsideOrMemory }
+    ensures named { (remaining : Option (List ℕ)) → decoder.old ≡ begun remaining
+        → (bytes : List ℕ) → Tells remaining bytes → IfErr result (NamesOrOutside bytes) }
+    ensures memory { result ≡ Err OutOfMemory → Keeps (W.contents writer.old)
+        (W.contents writer.new) }
+    ensures own { (remaining : Option (List ℕ)) → decoder.old ≡ begun remaining
+        → IfErr result IsOfBytes }
+{
+    let mut lines = decoder.decode_lines()?;
+    let line = header_line(alloc, decoder.info())?;
+    write_lines(alloc, line.as_bytes(), &mut lines, writer)
+}
+
 /// Decodes the stream that the reader gives, and writes the header line `WIDTH HEIGHT FORMAT` with
 /// a line feed and then the pixels, line by line from the top. Everything is decoded before
 /// anything is written.
@@ -89,9 +124,7 @@ pub fn run<R: Read + Drop, W: Write>(alloc: Global, reader: R, writer: &mut W) -
     ensures own { IfErr result IsOfBytes }
 {
     let mut decoder = Decoder::new(alloc, reader)?;
-    let mut lines = decoder.decode_lines()?;
-    let line = header_line(alloc, decoder.info())?;
-    write_lines(alloc, line.as_bytes(), &mut lines, writer)
+    print(alloc, &mut decoder, writer)
 }
 
 /// Reports a refusal in one line, and returns the program's status: 0 for `Ok`, for which nothing
