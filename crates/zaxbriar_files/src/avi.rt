@@ -61,10 +61,10 @@ fn read_chunk<R: Read>(reader: &mut R) -> Result<Option<Chunk>> {
     if reader.read(&mut first)? == 0 {
         return Ok(None);
     }
-    let mut others = [0u8; 3];
+    let mut others = [0u8; 7];
     reader.read_exact(&mut others)?;
     let name = u32::from_be_bytes([first[0], others[0], others[1], others[2]]);
-    let size = u32::from_le_bytes(read_four(reader)?);
+    let size = u32::from_le_bytes([others[3], others[4], others[5], others[6]]);
     Ok(Some(Chunk { name, size }))
 }
 
@@ -86,6 +86,15 @@ fn enter_list<R: Read>(reader: &mut R, size: u32) -> Result<()> {
         return Ok(());
     }
     skip(reader, padded(size.saturating_sub(NAME_BYTES)))
+}
+
+/// Reads the name of a list, or the bytes of another chunk.
+fn pass<R: Read>(reader: &mut R, chunk: Chunk) -> Result<()> {
+    if matches!(chunk.name, RIFF | LIST) {
+        enter_list(reader, chunk.size)
+    } else {
+        skip(reader, padded(chunk.size))
+    }
 }
 
 /// The video of an AVI file: the frames of its first stream that has any.
@@ -126,11 +135,7 @@ impl Video {
             if self.has_frame(chunk) {
                 return Ok(Some(chunk.size));
             }
-            if matches!(chunk.name, RIFF | LIST) {
-                enter_list(reader, chunk.size)?;
-            } else {
-                skip(reader, padded(chunk.size))?;
-            }
+            pass(reader, chunk)?;
         }
         Ok(None)
     }

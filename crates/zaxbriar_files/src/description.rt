@@ -137,80 +137,156 @@ fn put_comment(
     writeln!(text, "comment: {}", Line(comment.as_str()))
 }
 
-/// Appends a line about the size of some data, in bytes.
-fn put_size(text: &mut String, key: &str, size: Option<usize>) -> Result<(), AllocError> {
-    match size {
-        Some(size) => writeln!(text, "{key}: {size}"),
-        None => writeln!(text, "{key}: none"),
+/// What is said under a key.
+#[derive(Clone, Copy)]
+enum Value<'a> {
+    Number(usize),
+    Text(&'a str),
+    Nothing,
+}
+
+/// Returns the value for a number that may not be there.
+fn number_or_nothing(number: Option<usize>) -> Value<'static> {
+    match number {
+        Some(number) => Value::Number(number),
+        None => Value::Nothing,
     }
 }
 
-/// Appends the lines about the data beside the picture.
-fn put_data(text: &mut String, data: Data) -> Result<(), AllocError> {
-    put_size(text, "icc-bytes", data.icc)?;
-    put_size(text, "exif-bytes", data.exif)?;
-    put_size(text, "orientation", data.orientation.map(usize::from))?;
-    put_size(text, "xmp-bytes", data.xmp)
+/// A thing that a header says: its key in lines and in JSON, and its value.
+#[derive(Clone, Copy)]
+struct Fact {
+    line: &'static str,
+    member: &'static str,
+    value: Value<'static>,
+}
+
+/// Returns a thing whose key is one word.
+fn fact_of(key: &'static str, value: Value<'static>) -> Fact {
+    Fact {
+        line: key,
+        member: key,
+        value,
+    }
+}
+
+/// Returns what a frame header says of the picture.
+fn picture_facts(frame: &FrameInfo) -> [Fact; 6] {
+    let size = frame.image_size;
+    [
+        fact_of("width", Value::Number(usize::from(size.width))),
+        fact_of("height", Value::Number(usize::from(size.height))),
+        fact_of("format", Value::Text(format_name(frame))),
+        fact_of("process", Value::Text(process_name(frame))),
+        fact_of("coding", Value::Text(coding_name(frame.entropy_coding))),
+        fact_of("precision", Value::Number(usize::from(frame.precision))),
+    ]
+}
+
+/// Returns what a header says of the colours.
+fn colours_fact(header: &Header) -> Fact {
+    fact_of(
+        "colours",
+        Value::Text(colours_name(&header.frame, header.colours)),
+    )
+}
+
+/// Returns what a header says of restarts and of the data beside the picture.
+fn data_facts(restart_interval: u16, data: Data) -> [Fact; 5] {
+    [
+        Fact {
+            line: "restart-interval",
+            member: "restart_interval",
+            value: Value::Number(usize::from(restart_interval)),
+        },
+        Fact {
+            line: "icc-bytes",
+            member: "icc_bytes",
+            value: number_or_nothing(data.icc),
+        },
+        Fact {
+            line: "exif-bytes",
+            member: "exif_bytes",
+            value: number_or_nothing(data.exif),
+        },
+        fact_of(
+            "orientation",
+            number_or_nothing(data.orientation.map(usize::from)),
+        ),
+        Fact {
+            line: "xmp-bytes",
+            member: "xmp_bytes",
+            value: number_or_nothing(data.xmp),
+        },
+    ]
+}
+
+/// Appends a line `key: value`.
+fn put_fact(text: &mut String, fact: Fact) -> Result<(), AllocError> {
+    let key = fact.line;
+    match fact.value {
+        Value::Number(number) => writeln!(text, "{key}: {number}"),
+        Value::Text(word) => writeln!(text, "{key}: {word}"),
+        Value::Nothing => writeln!(text, "{key}: none"),
+    }
+}
+
+/// Appends a line for each of some things.
+fn put_facts(text: &mut String, facts: &[Fact]) -> Result<(), AllocError> {
+    for fact in facts {
+        put_fact(text, *fact)?;
+    }
+    Ok(())
 }
 
 /// Appends a line `key: value` for each thing that a header says.
 fn put_header(alloc: Global, text: &mut String, header: &Header) -> Result<(), AllocError> {
-    let frame = &header.frame;
-    writeln!(text, "width: {}", frame.image_size.width)?;
-    writeln!(text, "height: {}", frame.image_size.height)?;
-    writeln!(text, "format: {}", format_name(frame))?;
-    writeln!(text, "process: {}", process_name(frame))?;
-    writeln!(text, "coding: {}", coding_name(frame.entropy_coding))?;
-    writeln!(text, "precision: {}", frame.precision)?;
-    put_components(text, frame.components.as_slice())?;
-    writeln!(text, "colours: {}", colours_name(frame, header.colours))?;
+    put_facts(text, &picture_facts(&header.frame))?;
+    put_components(text, header.frame.components.as_slice())?;
+    put_fact(text, colours_fact(header))?;
     put_density(text, header.density)?;
-    writeln!(text, "restart-interval: {}", header.restart_interval)?;
-    put_data(text, header.data)?;
+    put_facts(text, &data_facts(header.restart_interval, header.data))?;
     put_comment(alloc, text, header.comment.as_ref())
 }
 
-/// Writes a member with a number.
-fn number(writer: &mut Writer, key: &str, value: usize) -> Result<(), AllocError> {
+/// Writes a member.
+fn member(writer: &mut Writer, key: &str, value: Value<'_>) -> Result<(), AllocError> {
     writer.key(key)?;
-    writer.u64(value as u64)
-}
-
-/// Writes a member with a text.
-fn text(writer: &mut Writer, key: &str, value: &str) -> Result<(), AllocError> {
-    writer.key(key)?;
-    writer.string(value)
-}
-
-/// Writes a member with a number, or null if there is none.
-fn number_or_null(writer: &mut Writer, key: &str, value: Option<usize>) -> Result<(), AllocError> {
     match value {
-        Some(value) => number(writer, key, value),
-        None => null(writer, key),
+        Value::Number(number) => writer.u64(number as u64),
+        Value::Text(text) => writer.string(text),
+        Value::Nothing => writer.null(),
     }
 }
 
-/// Writes a member that is null.
-fn null(writer: &mut Writer, key: &str) -> Result<(), AllocError> {
-    writer.key(key)?;
-    writer.null()
+/// Writes a member for each of some things.
+fn members_of(writer: &mut Writer, facts: &[Fact]) -> Result<(), AllocError> {
+    for fact in facts {
+        member(writer, fact.member, fact.value)?;
+    }
+    Ok(())
+}
+
+/// Writes an object with a member for each of some things.
+fn object_with(writer: &mut Writer, facts: &[Fact]) -> Result<(), AllocError> {
+    writer.begin_object()?;
+    members_of(writer, facts)?;
+    writer.end_object()
 }
 
 /// Writes a component as an object.
 fn component(writer: &mut Writer, component: &Component) -> Result<(), AllocError> {
-    writer.begin_object()?;
-    number(writer, "identifier", usize::from(component.identifier))?;
-    number(
-        writer,
-        "horizontal",
-        usize::from(component.horizontal_sampling_factor),
-    )?;
-    number(
-        writer,
-        "vertical",
-        usize::from(component.vertical_sampling_factor),
-    )?;
-    writer.end_object()
+    let across = usize::from(component.horizontal_sampling_factor);
+    let down = usize::from(component.vertical_sampling_factor);
+    let facts = [
+        fact_of(
+            "identifier",
+            Value::Number(usize::from(component.identifier)),
+        ),
+        fact_of("horizontal", Value::Number(across)),
+        fact_of("vertical", Value::Number(down)),
+    ];
+    object_with(writer, &facts)
 }
 
 /// Writes the member of the components.
@@ -226,14 +302,15 @@ fn components(writer: &mut Writer, components: &[Component]) -> Result<(), Alloc
 /// Writes the member of the density.
 fn density(writer: &mut Writer, density: Option<Density>) -> Result<(), AllocError> {
     let Some(density) = density else {
-        return null(writer, "density");
+        return member(writer, "density", Value::Nothing);
     };
+    let facts = [
+        fact_of("unit", Value::Text(unit_name(density.unit))),
+        fact_of("across", Value::Number(usize::from(density.across))),
+        fact_of("down", Value::Number(usize::from(density.down))),
+    ];
     writer.key("density")?;
-    writer.begin_object()?;
-    text(writer, "unit", unit_name(density.unit))?;
-    number(writer, "across", usize::from(density.across))?;
-    number(writer, "down", usize::from(density.down))?;
-    writer.end_object()
+    object_with(writer, &facts)
 }
 
 /// Writes the member of the comment, whose bytes are taken as UTF-8.
@@ -245,54 +322,40 @@ fn comment(
     match comment {
         Some(comment) => {
             let comment = String::from_utf8_lossy(alloc, comment.as_slice())?;
-            text(writer, "comment", comment.as_str())
+            member(writer, "comment", Value::Text(comment.as_str()))
         }
-        None => null(writer, "comment"),
+        None => member(writer, "comment", Value::Nothing),
     }
-}
-
-/// Writes the members of a frame.
-fn frame(writer: &mut Writer, frame: &FrameInfo) -> Result<(), AllocError> {
-    number(writer, "width", usize::from(frame.image_size.width))?;
-    number(writer, "height", usize::from(frame.image_size.height))?;
-    text(writer, "format", format_name(frame))?;
-    text(writer, "process", process_name(frame))?;
-    text(writer, "coding", coding_name(frame.entropy_coding))?;
-    number(writer, "precision", usize::from(frame.precision))?;
-    components(writer, frame.components.as_slice())
-}
-
-/// Writes the members of the data beside the picture.
-fn data(writer: &mut Writer, data: Data) -> Result<(), AllocError> {
-    number_or_null(writer, "icc_bytes", data.icc)?;
-    number_or_null(writer, "exif_bytes", data.exif)?;
-    number_or_null(writer, "orientation", data.orientation.map(usize::from))?;
-    number_or_null(writer, "xmp_bytes", data.xmp)
 }
 
 /// Writes the members of a header.
 fn members(alloc: Global, writer: &mut Writer, header: &Header) -> Result<(), AllocError> {
-    frame(writer, &header.frame)?;
-    text(
-        writer,
-        "colours",
-        colours_name(&header.frame, header.colours),
-    )?;
+    let colours = colours_fact(header);
+    members_of(writer, &picture_facts(&header.frame))?;
+    components(writer, header.frame.components.as_slice())?;
+    member(writer, colours.member, colours.value)?;
     density(writer, header.density)?;
-    number(
-        writer,
-        "restart_interval",
-        usize::from(header.restart_interval),
-    )?;
-    data(writer, header.data)?;
+    members_of(writer, &data_facts(header.restart_interval, header.data))?;
     comment(alloc, writer, header.comment.as_ref())
 }
 
 /// Writes the members of a refusal.
 fn refused(alloc: Global, writer: &mut Writer, refusal: &Refusal) -> Result<(), AllocError> {
     match format!(in alloc; "{refusal}") {
-        Ok(reason) => text(writer, "error", reason.as_str()),
+        Ok(reason) => member(writer, "error", Value::Text(reason.as_str())),
         Err(error) => Err(error),
+    }
+}
+
+/// Writes what is said about a file whose header was read, or of its refusal.
+fn described(
+    alloc: Global,
+    writer: &mut Writer,
+    header: &Result<Header, Refusal>,
+) -> Result<(), AllocError> {
+    match header {
+        Ok(header) => members(alloc, writer, header),
+        Err(refusal) => refused(alloc, writer, refusal),
     }
 }
 
@@ -303,15 +366,13 @@ fn object(
     name: Option<&str>,
     header: &Result<Header, Refusal>,
 ) -> Result<(), AllocError> {
+    let file = match name {
+        Some(name) => Value::Text(shown(name)),
+        None => Value::Nothing,
+    };
     writer.begin_object()?;
-    match name {
-        Some(name) => text(writer, "file", shown(name))?,
-        None => null(writer, "file")?,
-    }
-    match header {
-        Ok(header) => members(alloc, writer, header)?,
-        Err(refusal) => refused(alloc, writer, refusal)?,
-    }
+    member(writer, "file", file)?;
+    described(alloc, writer, header)?;
     writer.end_object()
 }
 
@@ -327,7 +388,7 @@ fn line_of(alloc: Global, subject: Subject<'_>, object: Vec<u8>) -> Result<Strin
 /// Writes a text that was made.
 fn write_text(text: Result<String, AllocError>, output: &mut Output<'_>) -> Result<(), Refusal> {
     match text {
-        Ok(text) => Ok(io::Write::write_all(output, text.as_bytes())?),
+        Ok(text) => io::Write::write_all(output, text.as_bytes()).map_err(Refusal::from),
         Err(error) => Err(Refusal::from(error)),
     }
 }

@@ -133,6 +133,28 @@ pub fn check_output(rt: &HostRuntime, input: Option<&str>, name: Option<&str>) -
     }
 }
 
+/// Puts what was written in place, unless its file is refused.
+fn keep(output: &mut Output<'_>, outcome: Result<(), Refusal>) -> Result<(), Refusal> {
+    match outcome {
+        Ok(()) => output.keep().map_err(Refusal::from),
+        refused => refused,
+    }
+}
+
+/// Removes what was written for a file that is refused, and reports it.
+fn discard_refused(
+    rt: &HostRuntime,
+    input: Option<&str>,
+    output: &mut Output<'_>,
+    outcome: &Result<(), Refusal>,
+) -> Outcome<()> {
+    let Err(refusal) = outcome else {
+        return Ok(());
+    };
+    output.discard();
+    Err(report_refusal(rt, input, output, refusal))
+}
+
 /// Ends an output whose file was read: after an Ok, what was written is put in place; after a
 /// refusal, which is reported, it is removed.
 pub fn finish(
@@ -141,15 +163,6 @@ pub fn finish(
     mut output: Output<'_>,
     outcome: Result<(), Refusal>,
 ) -> Outcome<()> {
-    let outcome = match outcome {
-        Ok(()) => output.keep().map_err(Refusal::from),
-        refused => refused,
-    };
-    match outcome {
-        Ok(()) => Ok(()),
-        Err(refusal) => {
-            output.discard();
-            Err(report_refusal(rt, input, &output, &refusal))
-        }
-    }
+    let kept = keep(&mut output, outcome);
+    discard_refused(rt, input, &mut output, &kept)
 }

@@ -133,6 +133,12 @@ fn density_in(segment: &[u8]) -> Option<Density> {
     })
 }
 
+/// Reads a segment with a length, of which nothing is said.
+fn skip_segment<R: Read + Drop>(alloc: Global, source: &mut Source<R>) -> Result<()> {
+    let length = read_length(alloc, source)?;
+    skip(alloc, source, length)
+}
+
 /// What was found before the first scan.
 #[derive(Drop)]
 struct Found {
@@ -196,6 +202,19 @@ impl Found {
         Ok(())
     }
 
+    /// Reads a comment.
+    fn read_comment<R: Read + Drop>(
+        &mut self,
+        alloc: Global,
+        source: &mut Source<R>,
+    ) -> Result<()> {
+        let comment = parse_com(alloc, source)?;
+        if self.comment.is_none() {
+            self.comment = Some(comment);
+        }
+        Ok(())
+    }
+
     /// Reads the segment after a marker.
     fn read_segment<R: Read + Drop>(
         &mut self,
@@ -206,20 +225,11 @@ impl Found {
         match marker {
             Marker::SOF(_) => self.frame = Some(parse_sof(alloc, source, marker)?),
             Marker::DRI => self.restart_interval = parse_dri(alloc, source)?,
-            Marker::APP(0) => self.read_application_0(alloc, source)?,
-            Marker::APP(_) => self.read_application(alloc, source, marker)?,
-            Marker::COM => {
-                let comment = parse_com(alloc, source)?;
-                if self.comment.is_none() {
-                    self.comment = Some(comment);
-                }
-            }
-            _ => {
-                if marker.has_length() {
-                    let length = read_length(alloc, source)?;
-                    skip(alloc, source, length)?;
-                }
-            }
+            Marker::APP(0) => return self.read_application_0(alloc, source),
+            Marker::APP(_) => return self.read_application(alloc, source, marker),
+            Marker::COM => return self.read_comment(alloc, source),
+            _ if marker.has_length() => return skip_segment(alloc, source),
+            _ => {}
         }
         Ok(())
     }
@@ -285,16 +295,28 @@ fn is_end(error: &Error) -> bool {
     }
 }
 
+/// Takes bytes that end for a stream that ends, if it has a frame header.
+fn or_end(read: Result<Marker>, has_frame: bool) -> Result<Marker> {
+    match read {
+        Err(error) if has_frame && is_end(&error) => Ok(Marker::EOI),
+        read => read,
+    }
+}
+
+/// Reads the segments that the reader gives up to the first scan, and returns the marker there.
+/// Bytes that end after a frame header are taken for a stream that ends.
+fn read_found<R: Read + Drop>(alloc: Global, reader: R, found: &mut Found) -> Result<Marker> {
+    let mut source = Source::new(reader);
+    let read = read_segments(alloc, &mut source, found);
+    or_end(read, found.frame.is_some())
+}
+
 /// Reads the segments of a stream up to its first scan, or up to its end if it has none. Bytes that
 /// end after a frame header are described as far as they go.
 pub fn read_header<R: Read + Drop>(alloc: Global, reader: R) -> Result<Header> {
-    let mut source = Source::new(reader);
     let mut found = Found::nothing();
-    match read_segments(alloc, &mut source, &mut found) {
+    match read_found(alloc, reader, &mut found) {
         Ok(marker) => found.into_header(alloc, marker),
-        Err(error) if found.frame.is_some() && is_end(&error) => {
-            found.into_header(alloc, Marker::EOI)
-        }
         Err(error) => Err(error),
     }
 }

@@ -20,6 +20,30 @@ pub fn acts(character: char) -> bool
     )
 }
 
+/// Writes a character of a line, of JSON or not.
+fn write_character<W: fmt::Write>(
+    f: &mut fmt::Formatter<W>,
+    character: char,
+    is_json: bool,
+) -> fmt::Result {
+    let number = u32::from(character);
+    if !acts(character) {
+        f.write_char(character)
+    } else if number <= 0xff && !is_json {
+        write!(f, "\\x{number:02x}")
+    } else {
+        write!(f, "\\u{number:04x}")
+    }
+}
+
+/// Writes the characters of a line, of JSON or not.
+fn write_line<W: fmt::Write>(f: &mut fmt::Formatter<W>, text: &str, is_json: bool) -> fmt::Result {
+    for character in text.chars() {
+        write_character(f, character, is_json)?;
+    }
+    Ok(())
+}
+
 /// A text as one line that acts on nothing: characters that would are written as `\xNN`, or as
 /// `\uNNNN` above U+00FF.
 #[derive(Clone, Copy)]
@@ -27,17 +51,7 @@ pub struct Line<'a>(pub &'a str);
 
 impl fmt::Display for Line<'_> {
     fn fmt<W: fmt::Write>(&self, f: &mut fmt::Formatter<W>) -> fmt::Result {
-        for character in self.0.chars() {
-            let number = u32::from(character);
-            if !acts(character) {
-                f.write_char(character)?;
-            } else if number <= 0xff {
-                write!(f, "\\x{number:02x}")?;
-            } else {
-                write!(f, "\\u{number:04x}")?;
-            }
-        }
-        Ok(())
+        write_line(f, self.0, false)
     }
 }
 
@@ -48,13 +62,6 @@ pub struct JsonLine<'a>(pub &'a str);
 
 impl fmt::Display for JsonLine<'_> {
     fn fmt<W: fmt::Write>(&self, f: &mut fmt::Formatter<W>) -> fmt::Result {
-        for character in self.0.chars() {
-            if acts(character) {
-                write!(f, "\\u{:04x}", u32::from(character))?;
-            } else {
-                f.write_char(character)?;
-            }
-        }
-        Ok(())
+        write_line(f, self.0, true)
     }
 }

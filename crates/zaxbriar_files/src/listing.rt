@@ -29,10 +29,8 @@ fn describe_file(
         report(rt, subject.name, refusal);
     }
     let is_described = header.is_ok();
-    match form.write(rt.alloc(), subject, &header, output) {
-        Ok(()) => Ok(is_described),
-        Err(refusal) => Err(refusal),
-    }
+    form.write(rt.alloc(), subject, &header, output)
+        .and(Ok(is_described))
 }
 
 /// Describes the files, and returns whether each could be described. A refusal is reported.

@@ -43,16 +43,24 @@ impl<'a> Numbered<'a> {
         })
     }
 
-    /// Returns the name with a number in it.
-    pub fn with_number(&self, alloc: Global, number: u64) -> Result<String, AllocError> {
-        let written = format!(in alloc; "{number}")?;
-        let mut name = String::from_str(alloc, self.before)?;
-        for _ in written.len()..self.digits {
+    /// Appends the name with a number in it, which is given in digits.
+    fn put_name(&self, name: &mut String, number: &str) -> Result<(), AllocError> {
+        name.push_str(self.before)?;
+        for _ in number.len()..self.digits {
             name.push('0')?;
         }
-        name.push_str(written.as_str())?;
-        name.push_str(self.after)?;
-        Ok(name)
+        name.push_str(number)?;
+        name.push_str(self.after)
+    }
+
+    /// Returns the name with a number in it.
+    pub fn with_number(&self, alloc: Global, number: u64) -> Result<String, AllocError> {
+        let number = format!(in alloc; "{number}")?;
+        let mut name = String::new(alloc);
+        match self.put_name(&mut name, number.as_str()) {
+            Ok(()) => Ok(name),
+            Err(error) => Err(error),
+        }
     }
 }
 
