@@ -1,7 +1,7 @@
 //! The program's arguments, parsed with the crate `clap`.
 
 use clap::error::ErrorKind;
-use clap::{Arg, ArgMatches, Command};
+use clap::{ArgMatches, Command};
 use std::alloc::{AllocError, Global};
 use std::env::{Env, FillError};
 use zaxbriar_files::ending::{Failure, Outcome};
@@ -19,75 +19,8 @@ const LONGEST_WORD: usize = 131_072;
 /// The name of the argument of the files that are read, of which `-` is standard input.
 pub const FILE: &str = "FILE";
 
-const MAX_PIXELS: &str =
-    "Refuse pictures with more pixels, judging by the header; suffixes k, M and G";
-
-const MAX_MEMORY: &str =
-    "Refuse pictures that need more bytes, judging by the header; suffixes k, M and G";
-
 /// A command that is being made, unless there was no memory for it.
-///
-/// What makes it passes it on as a result, which `with` and `with_word` look into: a function with
-/// a command that is alive at each of several exits takes a minute to check.
 pub type Making<'a> = Result<Command<'a>, AllocError>;
-
-/// Adds an argument to a command.
-pub fn with<'a>(command: Making<'a>, argument: Arg<'a>) -> Making<'a> {
-    command?.arg(argument)
-}
-
-/// Adds a word's command to a command.
-pub fn with_word<'a>(command: Making<'a>, word: Making<'a>) -> Making<'a> {
-    let command = command?;
-    command.subcommand(word?)
-}
-
-/// Returns a word's command, with the options that limit a picture.
-pub fn word<'a>(alloc: Global, name: &'a str, about: &'a str) -> Making<'a> {
-    let command = Command::new(alloc, name)
-        .about(about)
-        .arg(number_option(alloc, "max-pixels", "N", MAX_PIXELS));
-    with(
-        command,
-        number_option(alloc, "max-memory", "BYTES", MAX_MEMORY),
-    )
-}
-
-/// Returns the argument of the file that is read.
-pub fn file_argument<'a>(alloc: Global) -> Arg<'a> {
-    Arg::new(alloc, FILE)
-        .default_value("-")
-        .hide_default_value(true)
-        .help("The file to read; standard input by default, or for -")
-}
-
-/// Returns the argument of the files that are read.
-pub fn files_argument<'a>(alloc: Global) -> Arg<'a> {
-    Arg::new(alloc, FILE)
-        .num_args(1..)
-        .default_value("-")
-        .hide_default_value(true)
-        .help("The files to read; standard input by default, or for -")
-}
-
-/// Returns an option `--NAME VALUE`.
-pub fn value_option<'a>(alloc: Global, name: &'a str, value: &'a str, help: &'a str) -> Arg<'a> {
-    Arg::new(alloc, name)
-        .long(name)
-        .value_name(value)
-        .help(help)
-}
-
-/// Returns an option `--NAME VALUE` for a number or a size: whatever word follows it is its value,
-/// so that `-1` is a number that is refused, and no option that doesn't exist.
-pub fn number_option<'a>(alloc: Global, name: &'a str, value: &'a str, help: &'a str) -> Arg<'a> {
-    value_option(alloc, name, value, help).allow_hyphen_values(true)
-}
-
-/// Returns the option `-o`, with what it says of the file.
-pub fn output_option<'a>(alloc: Global, help: &'a str) -> Arg<'a> {
-    value_option(alloc, "output", "FILE", help).short('o')
-}
 
 /// Appends the word of an index, which is read into a buffer, and returns whether there is one.
 fn push_word(
@@ -172,18 +105,23 @@ pub fn refuse_value(rt: &HostRuntime, option: &str, expected: &str) -> Failure {
     Failure::WrongUse
 }
 
+/// What the suffixes of numbers stand for.
+const UNITS: [(char, u64); 3] = [('k', 1_000), ('M', 1_000_000), ('G', 1_000_000_000)];
+
+/// Returns a text without its suffix, and what that stands for.
+fn without_unit(text: &str) -> (&str, u64) {
+    for (suffix, unit) in UNITS {
+        if let Some(digits) = text.strip_suffix(suffix) {
+            return (digits, unit);
+        }
+    }
+    (text, 1)
+}
+
 /// Returns the number that a text is, in digits with `k`, `M` or `G` after them for thousands,
 /// millions and billions.
 fn number_in(text: &str) -> Option<u64> {
-    let (digits, unit) = if let Some(digits) = text.strip_suffix('k') {
-        (digits, 1_000)
-    } else if let Some(digits) = text.strip_suffix('M') {
-        (digits, 1_000_000)
-    } else if let Some(digits) = text.strip_suffix('G') {
-        (digits, 1_000_000_000)
-    } else {
-        (text, 1)
-    };
+    let (digits, unit) = without_unit(text);
     digits.parse::<u64>().ok()?.checked_mul(unit)
 }
 

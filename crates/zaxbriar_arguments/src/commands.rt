@@ -1,6 +1,6 @@
 //! The program's words together.
 
-use crate::arguments::{Making, with_word};
+use crate::arguments::Making;
 use crate::{arguments, frames, info, pnm, raw, thumbnail};
 use clap::{ArgMatches, Command};
 use std::alloc::Global;
@@ -9,18 +9,56 @@ use zaxbriar_files::files::NAME;
 
 const ABOUT: &str = "Decodes JPEG files: baseline, extended, progressive and lossless";
 
+/// A word of the program.
+#[derive(Clone, Copy)]
+enum Word {
+    Pnm,
+    Thumbnail,
+    Info,
+    Raw,
+    Frames,
+}
+
+const WORDS: [Word; 5] = [
+    Word::Pnm,
+    Word::Thumbnail,
+    Word::Info,
+    Word::Raw,
+    Word::Frames,
+];
+
+impl Word {
+    /// Returns what the word takes.
+    fn command<'a>(self, alloc: Global) -> Making<'a> {
+        match self {
+            Word::Pnm => pnm::command(alloc),
+            Word::Thumbnail => thumbnail::command(alloc),
+            Word::Info => info::command(alloc),
+            Word::Raw => raw::command(alloc),
+            Word::Frames => frames::command(alloc),
+        }
+    }
+}
+
+/// Adds a word's command to a command.
+fn with_word<'a>(command: Command<'a>, word: Making<'a>) -> Making<'a> {
+    match word {
+        Ok(word) => command.subcommand(word),
+        Err(error) => Err(error),
+    }
+}
+
 /// Returns what the program takes.
 pub fn command<'a>(alloc: Global) -> Making<'a> {
-    let command = Command::new(alloc, NAME)
+    let mut command = Command::new(alloc, NAME)
         .version(arguments::VERSION)
         .about(ABOUT)
         .subcommand_required(true)
         .arg_required_else_help(true);
-    let command = with_word(Ok(command), pnm::command(alloc));
-    let command = with_word(command, thumbnail::command(alloc));
-    let command = with_word(command, info::command(alloc));
-    let command = with_word(command, raw::command(alloc));
-    with_word(command, frames::command(alloc))
+    for word in WORDS {
+        command = with_word(command, word.command(alloc))?;
+    }
+    Ok(command)
 }
 
 /// Returns why words are none that the program takes, with the words as they are shown, or none

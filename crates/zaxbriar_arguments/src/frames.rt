@@ -1,8 +1,7 @@
 //! The word `frames`.
 
-use crate::arguments;
-use crate::arguments::{Making, with};
-use clap::{Arg, ArgAction};
+use crate::arguments::Making;
+use crate::parameters::{Form, INPUT, Parameter, word};
 use std::alloc::Global;
 
 /// The word.
@@ -13,14 +12,23 @@ const ABOUT: &str = "Decodes the frames of an MJPEG stream, plain or in an AVI f
 const OUTPUT: &str = "The files to write, such as frame-%04d.ppm; or one file of rawvideo; \
     rawvideo on standard output by default, or for -";
 
+const LIST: &str = "Write a line NUMBER WIDTH HEIGHT FORMAT for each frame instead of its pixels";
+
+const PARAMETERS: [Parameter; 3] = [
+    INPUT,
+    Parameter {
+        name: "output",
+        form: Form::Output,
+        help: OUTPUT,
+    },
+    Parameter {
+        name: "list",
+        form: Form::Flag,
+        help: LIST,
+    },
+];
+
 /// Returns what the word takes.
 pub fn command<'a>(alloc: Global) -> Making<'a> {
-    let list = Arg::new(alloc, "list")
-        .long("list")
-        .action(ArgAction::SetTrue)
-        .help("Write a line NUMBER WIDTH HEIGHT FORMAT for each frame instead of its pixels");
-    let command = arguments::word(alloc, NAME, ABOUT);
-    let command = with(command, arguments::file_argument(alloc));
-    let command = with(command, arguments::output_option(alloc, OUTPUT));
-    with(command, list)
+    word(alloc, NAME, ABOUT, PARAMETERS.as_slice())
 }

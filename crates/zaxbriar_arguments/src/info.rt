@@ -1,8 +1,8 @@
 //! The word `info`.
 
-use crate::arguments::{Making, with};
-use crate::{arguments, extraction};
-use clap::{Arg, ArgAction};
+use crate::arguments::Making;
+use crate::extraction;
+use crate::parameters::{Form, INPUTS, Parameter, word};
 use std::alloc::Global;
 
 /// The word.
@@ -12,15 +12,26 @@ const ABOUT: &str = "Describes JPEG files, and extracts their Exif, XMP and ICC 
 
 const OUTPUT: &str = "The file for the description; standard output by default, or for -";
 
+const JSON: &str = "Write JSON instead of lines: an array with an object for each file";
+
+const PARAMETERS: [Parameter; 6] = [
+    INPUTS,
+    Parameter {
+        name: "output",
+        form: Form::Output,
+        help: OUTPUT,
+    },
+    Parameter {
+        name: "json",
+        form: Form::Flag,
+        help: JSON,
+    },
+    extraction::EXIF,
+    extraction::XMP,
+    extraction::ICC,
+];
+
 /// Returns what the word takes.
 pub fn command<'a>(alloc: Global) -> Making<'a> {
-    let json = Arg::new(alloc, "json")
-        .long("json")
-        .action(ArgAction::SetTrue)
-        .help("Write JSON instead of lines: an array with an object for each file");
-    let command = arguments::word(alloc, NAME, ABOUT);
-    let command = with(command, arguments::files_argument(alloc));
-    let command = with(command, arguments::output_option(alloc, OUTPUT));
-    let command = with(command, json);
-    extraction::with_options(alloc, command)
+    word(alloc, NAME, ABOUT, PARAMETERS.as_slice())
 }

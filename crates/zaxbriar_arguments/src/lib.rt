@@ -10,6 +10,7 @@ pub mod commands;
 pub mod extraction;
 pub mod frames;
 pub mod info;
+pub mod parameters;
 pub mod pictures;
 pub mod pnm;
 pub mod raw;

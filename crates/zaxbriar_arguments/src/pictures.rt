@@ -1,7 +1,7 @@
 //! The options of the words `pnm` and `thumbnail`, and the names of the files that they write.
 
 use crate::arguments;
-use clap::{Arg, ArgAction};
+use crate::parameters::{Form, Parameter};
 use std::alloc::{AllocError, Global};
 use std::collections::BTreeMap;
 use zaxbriar_files::ending::{Failure, Outcome};
@@ -12,17 +12,26 @@ use zaxbriar_files::names::{has_place, name_for, shown};
 use zaxbriar_files::output::is_direct;
 use zaxbriar_files::refusal::Refusal;
 
-const OUTPUT: &str =
+const FILES: &str =
     "The file to write; standard output by default, or for -; for several files DIR/%s.ppm, where \
     %s stands for each file's name without its extension, or a device";
 
-const PARTIAL: &str =
+const PART: &str =
     "Write the part of a truncated or damaged file that can be decoded; the status is then 3";
 
-/// Returns the option `-o` of a word that may write several files.
-pub fn output_option<'a>(alloc: Global) -> Arg<'a> {
-    arguments::output_option(alloc, OUTPUT)
-}
+/// The option `-o` of a word that may write several files.
+pub const OUTPUT: Parameter = Parameter {
+    name: "output",
+    form: Form::Output,
+    help: FILES,
+};
+
+/// The option `--partial`.
+pub const PARTIAL: Parameter = Parameter {
+    name: "partial",
+    form: Form::Flag,
+    help: PART,
+};
 
 /// Two files.
 type Pair<'a> = (&'a str, &'a str);
@@ -102,12 +111,4 @@ pub fn check_output(
         Ok(Some((first, second))) => Err(refuse_alike(rt, option, first, second)),
         Err(error) => Err(files::report(rt, Some(output), &Refusal::from(error))),
     }
-}
-
-/// Returns the option `--partial`.
-pub fn partial_option<'a>(alloc: Global) -> Arg<'a> {
-    Arg::new(alloc, "partial")
-        .long("partial")
-        .action(ArgAction::SetTrue)
-        .help(PARTIAL)
 }

@@ -1,8 +1,9 @@
 //! The word `pnm`.
 
-use crate::arguments::{Making, with};
-use crate::{arguments, pictures};
-use clap::{Arg, ArgMatches};
+use crate::arguments::Making;
+use crate::parameters::{Form, INPUTS, Parameter, word};
+use crate::pictures;
+use clap::ArgMatches;
 use jpeg_segments::scale::Scale;
 use std::alloc::Global;
 
@@ -11,21 +12,17 @@ pub const NAME: &str = "pnm";
 
 const ABOUT: &str = "Converts JPEG files to netpbm files: PGM, PPM or, of CMYK, PAM";
 
-const SCALES: [&str; 4] = ["1/8", "1/4", "1/2", "1"];
+const SCALE: Parameter = Parameter {
+    name: "scale",
+    form: Form::Scale,
+    help: "The part of the picture's width and height",
+};
+
+const PARAMETERS: [Parameter; 4] = [INPUTS, pictures::OUTPUT, SCALE, pictures::PARTIAL];
 
 /// Returns what the word takes.
 pub fn command<'a>(alloc: Global) -> Making<'a> {
-    let scale = Arg::new(alloc, "scale")
-        .long("scale")
-        .value_name("SCALE")
-        .value_parser(SCALES.as_slice())
-        .default_value("1")
-        .help("The part of the picture's width and height");
-    let command = arguments::word(alloc, NAME, ABOUT);
-    let command = with(command, arguments::files_argument(alloc));
-    let command = with(command, pictures::output_option(alloc));
-    let command = with(command, scale);
-    with(command, pictures::partial_option(alloc))
+    word(alloc, NAME, ABOUT, PARAMETERS.as_slice())
 }
 
 /// Returns the requested scale.

@@ -1,7 +1,7 @@
 //! The word `raw`.
 
-use crate::arguments;
-use crate::arguments::{Making, with};
+use crate::arguments::Making;
+use crate::parameters::{Form, INPUT, Parameter, word};
 use std::alloc::Global;
 
 /// The word.
@@ -11,9 +11,16 @@ const ABOUT: &str = "Decodes a JPEG file to a line WIDTH HEIGHT FORMAT, and then
 
 const OUTPUT: &str = "The file to write; standard output by default, or for -";
 
+const PARAMETERS: [Parameter; 2] = [
+    INPUT,
+    Parameter {
+        name: "output",
+        form: Form::Output,
+        help: OUTPUT,
+    },
+];
+
 /// Returns what the word takes.
 pub fn command<'a>(alloc: Global) -> Making<'a> {
-    let command = arguments::word(alloc, NAME, ABOUT);
-    let command = with(command, arguments::file_argument(alloc));
-    with(command, arguments::output_option(alloc, OUTPUT))
+    word(alloc, NAME, ABOUT, PARAMETERS.as_slice())
 }

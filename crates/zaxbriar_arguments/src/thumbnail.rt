@@ -1,8 +1,9 @@
 //! The word `thumbnail`.
 
-use crate::arguments::{Making, with};
-use crate::{arguments, pictures};
-use clap::{Arg, ArgAction, ArgMatches};
+use crate::arguments::Making;
+use crate::parameters::{Form, INPUTS, Parameter, word};
+use crate::pictures;
+use clap::ArgMatches;
 use jpeg_segments::parser::Dimensions;
 use std::alloc::Global;
 use zaxbriar_samples::requests::{Request, Upright};
@@ -16,22 +17,30 @@ const MAX: &str =
     "The size that the picture is to fit within: 640x480, 640x or x480 for one side, 640 for both; \
     it keeps its proportions, and is never enlarged";
 
+const AS_STORED: &str = "Don't turn the picture by the orientation in its Exif data";
+
 /// What the value of the option `--max` has to be.
 pub const SIZES: &str = "WIDTHxHEIGHT, WIDTHx, xHEIGHT or SIDE, of 1 to 65535";
 
+const PARAMETERS: [Parameter; 5] = [
+    INPUTS,
+    pictures::OUTPUT,
+    Parameter {
+        name: "max",
+        form: Form::Needed("SIZE"),
+        help: MAX,
+    },
+    Parameter {
+        name: "as-stored",
+        form: Form::Flag,
+        help: AS_STORED,
+    },
+    pictures::PARTIAL,
+];
+
 /// Returns what the word takes.
 pub fn command<'a>(alloc: Global) -> Making<'a> {
-    let as_stored = Arg::new(alloc, "as-stored")
-        .long("as-stored")
-        .action(ArgAction::SetTrue)
-        .help("Don't turn the picture by the orientation in its Exif data");
-    let max = arguments::number_option(alloc, "max", "SIZE", MAX).required(true);
-    let command = arguments::word(alloc, NAME, ABOUT);
-    let command = with(command, arguments::files_argument(alloc));
-    let command = with(command, pictures::output_option(alloc));
-    let command = with(command, max);
-    let command = with(command, as_stored);
-    with(command, pictures::partial_option(alloc))
+    word(alloc, NAME, ABOUT, PARAMETERS.as_slice())
 }
 
 /// Returns the length that a text names: an empty one is that of any side.
