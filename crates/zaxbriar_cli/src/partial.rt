@@ -20,35 +20,15 @@ pub enum Rows {
 }
 
 /// The fault of a file, and how much of its picture is complete.
-#[derive(Drop)]
-pub struct Part {
-    fault: Error,
+#[derive(Clone, Copy)]
+struct Part<'a> {
+    fault: &'a Error,
     info: ImageInfo,
     whole_rows: u16,
     rows: Rows,
 }
 
-impl Part {
-    /// Returns what is to be said of a picture, or nothing if it is whole.
-    pub fn of(told: Completeness, rows: Rows) -> Option<Part> {
-        let Completeness {
-            info,
-            whole_rows,
-            fault,
-        } = told;
-        match fault {
-            Some(fault) => Some(Part {
-                fault,
-                info,
-                whole_rows,
-                rows,
-            }),
-            None => None,
-        }
-    }
-}
-
-impl fmt::Display for Part {
+impl fmt::Display for Part<'_> {
     fn fmt<W: fmt::Write>(&self, f: &mut fmt::Formatter<W>) -> fmt::Result {
         let rows = self.whole_rows;
         let height = self.info.height;
@@ -78,6 +58,26 @@ impl fmt::Display for Part {
     }
 }
 
+/// Reports the fault of a file, if it has one, and how much of its picture is complete.
+fn report_fault(
+    rt: &HostRuntime,
+    input: Option<&str>,
+    told: &Completeness,
+    rows: Rows,
+) -> Outcome<()> {
+    let Some(fault) = &told.fault else {
+        return Ok(());
+    };
+    let part = Part {
+        fault,
+        info: told.info,
+        whole_rows: told.whole_rows,
+        rows,
+    };
+    report(rt, input, &part);
+    Err(Failure::Faulty)
+}
+
 /// Ends an output like `finish`, and reports the fault of a file of which the part before it was
 /// written, and how much of the picture is complete.
 pub fn finish_with_fault(
@@ -87,16 +87,11 @@ pub fn finish_with_fault(
     written: Result<Completeness, Refusal>,
     rows: Rows,
 ) -> Outcome<()> {
-    let (outcome, part) = match written {
-        Ok(told) => (Ok(()), Part::of(told, rows)),
-        Err(refusal) => (Err(refusal), None),
-    };
-    finish(rt, input, output, outcome)?;
-    match part {
-        Some(part) => {
-            report(rt, input, &part);
-            Err(Failure::Faulty)
+    match written {
+        Ok(told) => {
+            finish(rt, input, output, Ok(()))?;
+            report_fault(rt, input, &told, rows)
         }
-        None => Ok(()),
+        Err(refusal) => finish(rt, input, output, Err(refusal)),
     }
 }

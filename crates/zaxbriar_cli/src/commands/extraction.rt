@@ -49,6 +49,19 @@ fn read_data<R: Read + Drop>(
     Ok(())
 }
 
+/// Says that there are no data of a kind, or why the stream was refused before them.
+fn report_absence(
+    rt: HostRuntime,
+    input: Option<&str>,
+    refusal: Option<&Refusal>,
+    kind: Kind,
+) -> Failure {
+    match refusal {
+        Some(refusal) => files::report(&rt, input, refusal),
+        None => files::report(&rt, input, &kind.absence()),
+    }
+}
+
 /// Writes the data of a kind that a decoder has read to a file. If there are none, says so, or why
 /// the stream was refused before them.
 fn write_to<R: Read + Drop>(
@@ -60,11 +73,10 @@ fn write_to<R: Read + Drop>(
     name: Option<&str>,
 ) -> Outcome<()> {
     let mut output = Output::new(rt, name);
-    match (write_data(decoder, kind, &mut output), refusal) {
-        (Ok(true), _) => files::finish(&rt, input, output, Ok(())),
-        (Ok(false), None) => Err(files::report(&rt, input, &kind.absence())),
-        (Ok(false), Some(refusal)) => Err(files::report(&rt, input, refusal)),
-        (Err(error), _) => files::finish(&rt, input, output, Err(Refusal::from(error))),
+    match write_data(decoder, kind, &mut output) {
+        Ok(true) => files::finish(&rt, input, output, Ok(())),
+        Ok(false) => Err(report_absence(rt, input, refusal, kind)),
+        Err(error) => files::finish(&rt, input, output, Err(Refusal::from(error))),
     }
 }
 
@@ -121,6 +133,25 @@ fn write_kind<R: Read + Drop>(
     write_to(rt, input, decoder, refusal, kind, name.as_deref())
 }
 
+/// Writes all requested data that a decoder has read.
+fn write_kinds<R: Read + Drop>(
+    rt: HostRuntime,
+    matches: &ArgMatches<'_>,
+    input: Option<&str>,
+    decoder: &Decoder<R>,
+    refusal: Option<&Refusal>,
+) -> Outcome<()> {
+    let mut outcome = Ok(());
+    for kind in KINDS {
+        if matches.contains_id(kind.option())
+            && write_kind(rt, matches, input, decoder, refusal, kind).is_err()
+        {
+            outcome = Err(Failure::Refused);
+        }
+    }
+    outcome
+}
+
 /// Writes all requested data of a stream, as far as there are any.
 fn write_all<R: Read + Drop>(
     rt: HostRuntime,
@@ -131,15 +162,7 @@ fn write_all<R: Read + Drop>(
 ) -> Outcome<()> {
     check_all(rt, matches, input)?;
     let refusal = read_data(decoder, matches, limits).err();
-    let mut outcome = Ok(());
-    for kind in KINDS {
-        if matches.contains_id(kind.option())
-            && write_kind(rt, matches, input, decoder, refusal.as_ref(), kind).is_err()
-        {
-            outcome = Err(Failure::Refused);
-        }
-    }
-    outcome
+    write_kinds(rt, matches, input, decoder, refusal.as_ref())
 }
 
 /// Extracts the requested data of a file.

@@ -109,8 +109,9 @@ impl<'a> Job<'a> {
         if self.is_list {
             write_line(self.rt.alloc(), number, frame.info, output)
         } else {
-            output.write_all(frame.pixels.as_slice())?;
-            Ok(())
+            output
+                .write_all(frame.pixels.as_slice())
+                .map_err(Refusal::from)
         }
     }
 
@@ -143,10 +144,8 @@ impl<'a> Job<'a> {
         match self.next_alike(frames, number, first) {
             Ok(Some(frame)) => {
                 let info = frame.info;
-                match self.write_frame(number, &frame, output) {
-                    Ok(()) => Ok(Ok(Some(info))),
-                    Err(refusal) => Err(refusal),
-                }
+                self.write_frame(number, &frame, output)
+                    .and(Ok(Ok(Some(info))))
             }
             Ok(None) => Ok(Ok(None)),
             Err(failure) => Ok(Err(failure)),
@@ -214,8 +213,7 @@ fn write_line<W: Write>(
     let height = info.height;
     let format = info.pixel_format;
     let line = format!(in alloc; "{number} {width} {height} {format:?}\n")?;
-    writer.write_all(line.as_bytes())?;
-    Ok(())
+    writer.write_all(line.as_bytes()).map_err(Refusal::from)
 }
 
 /// Decodes the stream that the arguments name.

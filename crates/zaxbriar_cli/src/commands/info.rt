@@ -14,6 +14,15 @@ use zaxbriar_files::files;
 use zaxbriar_files::listing::describe;
 use zaxbriar_files::output::Output;
 
+/// Returns the outcome for files of which each was described, or not.
+fn outcome_of(are_all: bool) -> Outcome<()> {
+    if are_all {
+        Ok(())
+    } else {
+        Err(Failure::Refused)
+    }
+}
+
 /// Does what the arguments request.
 pub fn run(rt: HostRuntime, matches: &ArgMatches<'_>) -> Outcome<()> {
     if is_asked_for(matches) {
@@ -28,12 +37,8 @@ pub fn run(rt: HostRuntime, matches: &ArgMatches<'_>) -> Outcome<()> {
     let form = Form::new(is_json, is_several);
     let mut output = Output::new(rt, arguments::file_of(matches, "output"));
     match describe(rt, names, form, limits, &mut output) {
-        Ok(true) => files::finish(&rt, None, output, Ok(())),
-        Ok(false) if is_json || is_several => {
-            files::finish(&rt, None, output, Ok(()))?;
-            Err(Failure::Refused)
-        }
-        Ok(false) => Err(Failure::Refused),
+        Ok(false) if !is_json && !is_several => Err(Failure::Refused),
+        Ok(are_all) => files::finish(&rt, None, output, Ok(())).and(outcome_of(are_all)),
         Err(refusal) => files::finish(&rt, None, output, Err(refusal)),
     }
 }

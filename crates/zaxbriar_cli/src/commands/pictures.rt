@@ -67,13 +67,22 @@ impl Job {
         }
     }
 
+    /// Opens a file and the output, and writes the picture.
+    fn write_opened(
+        &self,
+        input: Option<&str>,
+        output: &mut Output<'_>,
+    ) -> Result<Completeness, Refusal> {
+        match files::open_both(&self.rt, input, output) {
+            Ok(reader) => self.write_picture(reader, output),
+            Err(refusal) => Err(refusal),
+        }
+    }
+
     /// Writes the picture of a file.
     fn write(&self, input: Option<&str>, output: Option<&str>) -> Outcome<()> {
         let mut output = Output::new(self.rt, output);
-        let written = match files::open_both(&self.rt, input, &mut output) {
-            Ok(reader) => self.write_picture(reader, &mut output),
-            Err(refusal) => Err(refusal),
-        };
+        let written = self.write_opened(input, &mut output);
         finish_with_fault(&self.rt, input, output, written, self.rows())
     }
 

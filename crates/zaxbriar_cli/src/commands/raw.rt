@@ -5,17 +5,29 @@ use clap::ArgMatches;
 use zaxbriar_arguments::arguments;
 use zaxbriar_files::ending::Outcome;
 use zaxbriar_files::files;
+use zaxbriar_files::limits::Limits;
 use zaxbriar_files::output::Output;
+use zaxbriar_files::refusal::Refusal;
 use zaxbriar_pictures::raw::write_raw;
+
+/// Decodes a file.
+fn write(
+    rt: HostRuntime,
+    input: Option<&str>,
+    limits: Limits,
+    output: &mut Output<'_>,
+) -> Result<(), Refusal> {
+    match files::open_both(&rt, input, output) {
+        Ok(reader) => write_raw(rt.alloc(), reader, limits, output),
+        Err(refusal) => Err(refusal),
+    }
+}
 
 /// Decodes the file that the arguments name.
 pub fn run(rt: HostRuntime, matches: &ArgMatches<'_>) -> Outcome<()> {
     let limits = arguments::limits_of(&rt, matches)?;
     let input = arguments::file_of(matches, arguments::FILE);
     let mut output = Output::new(rt, arguments::file_of(matches, "output"));
-    let outcome = match files::open_both(&rt, input, &mut output) {
-        Ok(reader) => write_raw(rt.alloc(), reader, limits, &mut output),
-        Err(refusal) => Err(refusal),
-    };
-    files::finish(&rt, input, output, outcome)
+    let written = write(rt, input, limits, &mut output);
+    files::finish(&rt, input, output, written)
 }
