@@ -1,5 +1,5 @@
 -- What a header and the steps after it have allowed is what the stream is allowed.
-use Rattle.std.proofs.Common.{◌≡◌, ◌∙◌, ℕ, List, Ok, Option, Some, None, IfSome, option_map, subst, sym, true, false}
+use Rattle.std.proofs.Common.{◌≡◌, ℕ, List, Ok, Option, Some, None, IfSome, option_map, subst, sym, true, false}
 use Rattle.std.specs.Prelude.{unwrap_or}
 use Rattle.jpeg_segments.specs.Frame.{Frame}
 use Rattle.jpeg_segments.specs.Scales.{scaled}

@@ -1,5 +1,7 @@
 //! The bytes of a stream's picture, as the program `jpegraw` writes them.
-ghost use Rattle.std.specs.Prelude.{◌≡◌, ℕ, List, Some, IfOk, OnOk, IsSomeAnd, string_bytes, true};
+ghost use Rattle.std.specs.Prelude.{◌≡◌, ◌++◌, ℕ, List, Some, IfOk, OnOk, IsSomeAnd};
+ghost use Rattle.std.specs.Prelude.{string_bytes, true};
+ghost use Rattle.std.specs.List.{concat};
 ghost use Rattle.std.specs.Io.KnownBytes.{Appends};
 ghost use Rattle.jpeg_streams.specs.Output.{Tells, default_settings, header_line_of, name_of};
 ghost use Rattle.jpeg_streams.specs.Output.{output_of};
@@ -9,7 +11,7 @@ ghost use Rattle.zaxbriar_pictures.specs.Allowed.{allows_raw};
 use crate::extents::Extent;
 use crate::scaled::{READ_AHEAD, taken_by_lines};
 use jpeg_decoder::run::write_lines;
-use jpeg_decoder::{Decoder, ImageInfo, PixelFormat};
+use jpeg_decoder::{Decoder, ImageInfo, Lines, PixelFormat, error};
 use std::alloc::{AllocError, Global};
 use std::io::{Read, Write};
 use zaxbriar_files::limits::Limits;
@@ -37,6 +39,20 @@ fn header_line(alloc: Global, info: ImageInfo) -> Result<String, AllocError>
     format!(in alloc; "{width} {height} {format}\n")
 }
 
+/// Writes the header line of a picture and then its pixels, line by line from the top.
+fn write_pixels<W: Write>(
+    alloc: Global,
+    info: ImageInfo,
+    mut lines: Lines,
+    writer: &mut W,
+) -> error::Result<()>
+    ensures { OnOk result (Appends (W.contents writer.old) (W.contents writer.new)
+        (header_line_of (Some info) ++ concat lines)) }
+{
+    let line = header_line(alloc, info)?;
+    write_lines(alloc, line.as_bytes(), &mut lines, writer)
+}
+
 /// Decodes the stream of a decoder that has read nothing, and writes the header line and then the
 /// pixels, line by line from the top.
 fn write_decoded<R: Read + Drop, W: Write>(
@@ -57,9 +73,8 @@ fn write_decoded<R: Read + Drop, W: Write>(
     let full = decoder.info().unwrap();
     let taken = taken_by_lines(decoder, Extent::Whole);
     limits.check(full.width, full.height, taken)?;
-    let mut lines = decoder.decode_lines()?;
-    let line = header_line(alloc, decoder.info().unwrap())?;
-    write_lines(alloc, line.as_bytes(), &mut lines, writer)?;
+    let lines = decoder.decode_lines()?;
+    write_pixels(alloc, decoder.info().unwrap(), lines, writer)?;
     Ok(())
 }
 

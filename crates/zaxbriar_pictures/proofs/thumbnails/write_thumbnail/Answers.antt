@@ -1,4 +1,3 @@
-use Rattle.std.proofs.Common.{refl}
 use Rattle.zaxbriar_samples.specs.DecodedPictures.{decoded_in}
 use Rattle.zaxbriar_pictures.specs.declared.extents.Completeness.{Completeness}
 use Rattle.zaxbriar_pictures.proofs.WrittenThumbnails.{written}
