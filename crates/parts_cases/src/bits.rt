@@ -19,7 +19,7 @@ use std::{fmt, io};
 use test_streams::fault;
 use test_streams::fault::Fault;
 use test_streams::streams::{ROOM, bytes_in};
-use test_streams::words::{first_word, halves};
+use test_streams::words::{first_word, halves, numbers};
 
 /// Returns the number of a text, which has to be from `least` to `most`.
 fn within(text: &str, least: u8, most: u8) -> fault::Result<u8>
@@ -131,13 +131,12 @@ fn table<'t>(tables: &'t DefinedTables, text: &str) -> fault::Result<&'t Huffman
     }
 }
 
-/// Returns the destinations of decimal words.
-fn destinations(alloc: Global, text: &str) -> fault::Result<Vec<usize>> {
-    let mut all = Vec::new(alloc);
+/// Appends the destinations of decimal words.
+fn push_destinations(all: &mut Vec<usize>, text: &str) -> fault::Result<()> {
     for word in text.split_whitespace() {
-        push_destination(&mut all, word)?;
+        push_destination(all, word)?;
     }
-    Ok(all)
+    Ok(())
 }
 
 /// Appends the destination of a decimal word.
@@ -171,12 +170,12 @@ impl fmt::Display for Tables<'_> {
     }
 }
 
-/// Returns a scan that names the tables of these destinations.
-fn scan_of(alloc: Global, dc: Vec<usize>, ac: Vec<usize>) -> ScanInfo {
+/// Returns a scan that names no tables yet.
+fn scan_of_no_tables(alloc: Global) -> ScanInfo {
     ScanInfo {
         component_indices: Vec::new(alloc),
-        dc_table_indices: dc,
-        ac_table_indices: ac,
+        dc_table_indices: Vec::new(alloc),
+        ac_table_indices: Vec::new(alloc),
         spectral_selection: 0..64,
         predictor_selection: Predictor::NoPrediction,
         successive_approximation_high: 0,
@@ -185,24 +184,30 @@ fn scan_of(alloc: Global, dc: Vec<usize>, ac: Vec<usize>) -> ScanInfo {
     }
 }
 
+/// Has a scan name the tables of words `DC: AC`.
+fn name_tables(scan: &mut ScanInfo, text: &str) -> fault::Result<()> {
+    let (dc, ac) = halves(text)?;
+    push_destinations(&mut scan.dc_table_indices, dc)?;
+    push_destinations(&mut scan.ac_table_indices, ac)
+}
+
 /// Fills in the default tables that a scan names.
-fn fill_in(state: &mut State<'_>, scan: ScanInfo) -> fault::Result<()> {
+fn fill_in(state: &mut State<'_>, said: &mut Said, scan: &ScanInfo) -> fault::Result<()> {
     let (dc, ac) = (&mut state.tables.0, &mut state.tables.1);
     if dc.len() < 2 || ac.len() < 2 {
         return Err(Fault::Expected("two destinations"));
     }
-    Ok(fill_default_mjpeg_tables(state.alloc, &scan, dc, ac)?)
+    fill_default_mjpeg_tables(state.alloc, scan, dc, ac)?;
+    Ok(said.say(Tables(&state.tables))?)
 }
 
 /// Fills in the default tables that a scan names by words `DC: AC`.
 fn fill_defaults(state: &mut State<'_>, said: &mut Said, text: &str) -> fault::Result<()> {
-    let alloc = state.alloc;
-    let (dc, ac) = halves(text)?;
-    fill_in(
-        state,
-        scan_of(alloc, destinations(alloc, dc)?, destinations(alloc, ac)?),
-    )?;
-    Ok(said.say(Tables(&state.tables))?)
+    let mut scan = scan_of_no_tables(state.alloc);
+    match name_tables(&mut scan, text) {
+        Ok(()) => fill_in(state, said, &scan),
+        Err(fault) => Err(fault),
+    }
 }
 
 /// Returns the pass of words `PASS SS SE AL`.
@@ -215,14 +220,15 @@ fn pass_of(text: &str) -> fault::Result<Pass>
         "refined" => false,
         _ => return Err(Fault::Expected("first or refined")),
     };
-    let (ss, text) = first_word(text);
-    let (se, al) = first_word(text);
-    let se = within(se, 0, 63)?;
+    let [ss, se, al] = numbers::<3>(text)?;
+    if ss > se || se > 63 || al > 13 {
+        return Err(Fault::Expected("a band, and a bit of at most 13"));
+    }
     Ok(Pass {
         is_first,
-        ss: within(ss, 0, se)?,
-        se,
-        al: within(al, 0, 13)?,
+        ss: ss as u8,
+        se: se as u8,
+        al: al as u8,
     })
 }
 
@@ -240,12 +246,27 @@ fn last_table(alloc: Global, codes: &str, is_wide: bool) -> fault::Result<Huffma
 /// Reads a block by the codes of the last table.
 fn block(state: &mut State<'_>, said: &mut Said, text: &str) -> fault::Result<()> {
     let pass = pass_of(text)?;
-    let table = last_table(state.alloc, state.codes, state.is_wide)?;
+    match last_table(state.alloc, state.codes, state.is_wide) {
+        Ok(table) => block_by(state, said, pass, &table),
+        Err(fault) => Err(fault),
+    }
+}
+
+/// Reads a block by the codes of a table.
+fn block_by(
+    state: &mut State<'_>,
+    said: &mut Said,
+    pass: Pass,
+    table: &HuffmanTable,
+) -> fault::Result<()>
+    requires pass { IsPass (pass_in pass) }
+    requires class { table.now.class ≡ AC }
+{
     let coding = BlockCoding {
         pass,
         slot: 0,
-        dc_table: &table,
-        ac_table: &table,
+        dc_table: table,
+        ac_table: table,
         keeps_ac: true,
     };
     let mut carried = Carried::at_start();

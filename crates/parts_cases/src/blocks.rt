@@ -13,7 +13,7 @@ use jpeg_pixels::zigzag::values_in_order;
 use jpeg_segments::parser::Dimensions;
 use test_streams::fault;
 use test_streams::fault::Fault;
-use test_streams::words::{fill, first_word, numbers};
+use test_streams::words::{fill, leading, numbers};
 
 /// Returns whether a block may give this many samples a side.
 fn is_scale(scale: usize) -> bool
@@ -71,29 +71,34 @@ fn say_samples(
 /// Returns the block with changes, by words `INDEX=VALUE`.
 fn changed(mut block: [i16; 64], text: &str) -> fault::Result<[i16; 64]> {
     for word in text.split_whitespace() {
-        let (index, value) = word.split_once('=').ok_or(Fault::Expected("INDEX=VALUE"))?;
-        let (index, value) = (index.parse::<usize>()?, value.parse::<i16>()?);
-        match block.get_mut(index) {
-            Some(slot) => *slot = value,
-            None => return Err(Fault::Expected("an index below 64")),
-        }
+        change(&mut block, word)?;
     }
     Ok(block)
 }
 
+/// Makes the change of a word `INDEX=VALUE`.
+fn change(block: &mut [i16; 64], word: &str) -> fault::Result<()> {
+    let (index, value) = word.split_once('=').unwrap_or((word, ""));
+    match (index.parse::<usize>(), value.parse::<i16>()) {
+        (Ok(index), Ok(value)) if index < 64 => {
+            block[index] = value;
+            Ok(())
+        }
+        _ => Err(Fault::Expected("INDEX=VALUE, of an index below 64")),
+    }
+}
+
 /// Transforms the block with changes, by words `SCALE STRIDE ROOM CHANGES`.
 fn idct(state: &mut State<'_>, said: &mut Said, text: &str) -> fault::Result<()> {
-    let (scale, text) = first_word(text);
-    let (stride, text) = first_word(text);
-    let (room, changes) = first_word(text);
+    let ([scale, stride, room], changes) = leading::<3>(text)?;
     let block = changed(state.block, changes)?;
     say_samples(
         said,
-        scale.parse::<usize>()?,
+        usize::from(scale),
         &block,
         &state.values,
-        stride.parse::<usize>()?,
-        room.parse::<usize>()?,
+        usize::from(stride),
+        usize::from(room),
     )
 }
 
@@ -117,21 +122,13 @@ fn append(
 /// Appends a row of blocks to the plane, by words `SCALE BEFORE AFTER CHANGES`: the block this
 /// often, once with changes, and again this often.
 fn row(state: &mut State<'_>, text: &str) -> fault::Result<()> {
-    let (scale, text) = first_word(text);
-    let (before, text) = first_word(text);
-    let (after, changes) = first_word(text);
-    let scale = scale.parse::<usize>()?;
+    let ([scale, before, after], changes) = leading::<3>(text)?;
+    let scale = usize::from(scale);
     let other = changed(state.block, changes)?;
-    if !is_scale(scale) {
-        return Err(Fault::Expected("a scale"));
+    if !is_scale(scale) || before > 255 || after > 255 {
+        return Err(Fault::Expected("a scale, and counts of at most 255"));
     }
-    append(
-        state,
-        scale,
-        before.parse::<u8>()?,
-        other,
-        after.parse::<u8>()?,
-    )
+    append(state, scale, before as u8, other, after as u8)
 }
 
 /// Crops the plane, by words `STRIDE WIDTH HEIGHT`.

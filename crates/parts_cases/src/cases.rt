@@ -10,7 +10,7 @@ use test_streams::fault;
 use test_streams::fault::Fault;
 use test_streams::readers::{Reader, STEPS, Trouble};
 use test_streams::streams::{ROOM, bytes_in};
-use test_streams::words::first_word;
+use test_streams::words::{first_word, leading};
 
 /// What the calls of a case read.
 #[derive(Clone, Copy)]
@@ -27,12 +27,10 @@ fn wrong_stream<'a>(
     text: &str,
     trouble: Trouble,
 ) -> fault::Result<Stream<'a>> {
-    let (call, text) = first_word(text);
-    let (piece, text) = first_word(text);
-    let wrong = (call.parse::<usize>()?, piece.parse::<usize>()?);
+    let ([call, piece], text) = leading::<2>(text)?;
     Ok(Stream {
         bytes: bytes_in(room, text)?,
-        wrong: Some(wrong),
+        wrong: Some((usize::from(call), usize::from(piece))),
         trouble,
     })
 }
@@ -71,23 +69,59 @@ fn is_alone(verb: &str) -> bool {
     ALONE.contains(&verb)
 }
 
+/// What calls are of.
+#[derive(Clone, Copy)]
+enum Part {
+    Bits,
+    Segments,
+    Blocks,
+    Pictures,
+    Workers,
+    Lossless,
+}
+
+/// All that calls are of.
+const PARTS: [Part; 6] = [
+    Part::Bits,
+    Part::Segments,
+    Part::Blocks,
+    Part::Pictures,
+    Part::Workers,
+    Part::Lossless,
+];
+
+impl Part {
+    /// Answers a call. Returns whether it is one of this part.
+    fn answer<'a>(
+        self,
+        state: &mut State<'a>,
+        said: &mut Said,
+        verb: &str,
+        text: &'a str,
+    ) -> fault::Result<bool> {
+        match self {
+            Part::Bits => bits::answer(state, said, verb, text),
+            Part::Segments => segments::answer(state, said, verb, text),
+            Part::Blocks => blocks::answer(state, said, verb, text),
+            Part::Pictures => pictures::answer(state, said, verb, text),
+            Part::Workers => workers::answer(state.alloc, said, verb, text),
+            Part::Lossless => lossless::answer(state, said, verb, text),
+        }
+    }
+}
+
 /// Answers a call.
 fn answer<'a>(state: &mut State<'a>, said: &mut Said, line: &'a str) -> fault::Result<()> {
     let (verb, text) = first_word(line);
     if is_alone(verb) && !text.is_empty() {
         return Err(Fault::Expected("nothing after the call"));
     }
-    let is_call = bits::answer(state, said, verb, text)?
-        || segments::answer(state, said, verb, text)?
-        || blocks::answer(state, said, verb, text)?
-        || pictures::answer(state, said, verb, text)?
-        || workers::answer(state.alloc, said, verb, text)?
-        || lossless::answer(state, said, verb, text)?;
-    if is_call {
-        Ok(())
-    } else {
-        Err(Fault::Expected("a call"))
+    for part in PARTS {
+        if part.answer(state, said, verb, text)? {
+            return Ok(());
+        }
     }
+    Err(Fault::Expected("a call"))
 }
 
 /// Nothing, or why a line has no answer, and that line.

@@ -33,7 +33,6 @@ fn predictor_of(selection: u16) -> fault::Result<Predictor> {
 /// Predicts a sample, by words `LEFT ABOVE CORNER SELECTION POINT PRECISION COLUMN LINE`.
 fn predicted(said: &mut Said, text: &str) -> fault::Result<()> {
     let [ra, rb, rc, selection, point, precision, ix, iy] = numbers::<8>(text)?;
-    let (point, precision) = (u8::try_from(point)?, u8::try_from(precision)?);
     if precision < 2 || precision > 16 || point >= precision {
         return Err(Fault::Expected("a precision of 2 to 16, and a point transform below it"));
     }
@@ -42,8 +41,8 @@ fn predicted(said: &mut Said, text: &str) -> fault::Result<()> {
         i32::from(rb),
         i32::from(rc),
         predictor_of(selection)?,
-        point,
-        precision,
+        point as u8,
+        precision as u8,
         usize::from(ix),
         usize::from(iy),
     );
@@ -58,8 +57,7 @@ fn coding_of(text: &str) -> fault::Result<Coding>
     ensures precision { IfOk result (λ coding. coding.precision ≤ 16) }
 {
     let [wide, high, precision, selection, point, interval] = numbers::<6>(text)?;
-    let (precision, point_transform) = (u8::try_from(precision)?, u8::try_from(point)?);
-    if wide == 0 || high == 0 || precision > 16 || point_transform >= precision {
+    if wide == 0 || high == 0 || precision > 16 || point >= precision {
         return Err(Fault::Expected(
             "MCUs, and a precision of at most 16 above the point transform",
         ));
@@ -67,9 +65,9 @@ fn coding_of(text: &str) -> fault::Result<Coding>
     Ok(Coding {
         wide,
         high,
-        precision,
+        precision: precision as u8,
         predictor: predictor_of(selection)?,
-        point_transform,
+        point_transform: point as u8,
         restart_interval: interval,
     })
 }
@@ -77,10 +75,13 @@ fn coding_of(text: &str) -> fault::Result<Coding>
 /// Returns what a scan has of the component of words `ACROSS DOWN WIDTH HEIGHT`.
 fn part_of<'t>(table: &'t HuffmanTable, text: &str) -> fault::Result<Part<'t>> {
     let [across, down, width, height] = numbers::<4>(text)?;
+    if across > 255 || down > 255 {
+        return Err(Fault::Expected("factors of at most 255"));
+    }
     Ok(Part {
         table,
-        across: u8::try_from(across)?,
-        down: u8::try_from(down)?,
+        across: across as u8,
+        down: down as u8,
         width,
         height,
     })

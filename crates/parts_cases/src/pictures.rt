@@ -19,20 +19,27 @@ use std::alloc::Global;
 use test_streams::fault;
 use test_streams::fault::Fault;
 use test_streams::streams::{ROOM, bytes_in};
+use test_streams::transforms::transform_of;
 use test_streams::words::{Words, first_word, halves, numbers};
 
 /// Returns the rule of this name: of `ACROSSxDOWN` the one that repeats samples.
 fn rule_of(name: &str) -> fault::Result<UpsampleRule> {
-    Ok(match name {
-        "H1V1" => UpsampleRule::H1V1,
-        "H2V1" => UpsampleRule::H2V1,
-        "H1V2" => UpsampleRule::H1V2,
-        "H2V2" => UpsampleRule::H2V2,
-        _ => {
-            let (across, down) = name.split_once('x').ok_or(Fault::Expected("a rule"))?;
-            UpsampleRule::Generic(across.parse::<u8>()?, down.parse::<u8>()?)
-        }
-    })
+    match name {
+        "H1V1" => Ok(UpsampleRule::H1V1),
+        "H2V1" => Ok(UpsampleRule::H2V1),
+        "H1V2" => Ok(UpsampleRule::H1V2),
+        "H2V2" => Ok(UpsampleRule::H2V2),
+        _ => generic_rule_of(name),
+    }
+}
+
+/// Returns the rule of a name `ACROSSxDOWN`.
+fn generic_rule_of(name: &str) -> fault::Result<UpsampleRule> {
+    let (across, down) = name.split_once('x').unwrap_or((name, ""));
+    match (across.parse::<u8>(), down.parse::<u8>()) {
+        (Ok(across), Ok(down)) => Ok(UpsampleRule::Generic(across, down)),
+        _ => Err(Fault::Expected("a rule")),
+    }
 }
 
 /// Returns how many samples across and down a rule makes of one.
@@ -119,22 +126,6 @@ fn converted(said: &mut Said, room: usize, y: &[u8], cb: &[u8], cr: &[u8]) -> fa
         size: 1,
     };
     Ok(said.say(format_args!("{converted} pixels,{words}"))?)
-}
-
-/// Returns the colour transform of this name.
-fn transform_of(name: &str) -> fault::Result<ColorTransform> {
-    Ok(match name {
-        "None" => ColorTransform::None,
-        "RGB" => ColorTransform::RGB,
-        "YCbCr" => ColorTransform::YCbCr,
-        "CMYK" => ColorTransform::CMYK,
-        "YCCK" => ColorTransform::YCCK,
-        "Grayscale" => ColorTransform::Grayscale,
-        "JcsBgYcc" => ColorTransform::JcsBgYcc,
-        "JcsBgRgb" => ColorTransform::JcsBgRgb,
-        "Unknown" => ColorTransform::Unknown,
-        _ => return Err(Fault::Expected("a colour transform")),
-    })
 }
 
 /// Chooses a conversion, by words `COUNT TRANSFORM`.

@@ -3,14 +3,13 @@
 use jpeg_bits::error::Error;
 use std::alloc::{AllocError, Global};
 use std::fmt;
-use std::fmt::{Debug, Display};
+use std::fmt::{Debug, Display, Write};
 use test_streams::fault;
 use test_streams::words::Words;
 
 /// The answers to the calls of a case, each after a colon.
 #[derive(Drop)]
 pub struct Said {
-    alloc: Global,
     text: String,
 }
 
@@ -18,7 +17,6 @@ impl Said {
     /// Returns what is said before the first answer.
     pub fn new(alloc: Global) -> Said {
         Said {
-            alloc,
             text: String::new(alloc),
         }
     }
@@ -30,8 +28,7 @@ impl Said {
 
     /// Appends an answer.
     pub fn say<D: Display + Drop>(&mut self, answer: D) -> Result<(), AllocError> {
-        let text = format!(in self.alloc; ": {answer}")?;
-        self.text.push_str(text.as_str())
+        write!(self.text, ": {answer}")
     }
 
     /// Appends bytes as words in hex, unless there are none.
@@ -39,9 +36,8 @@ impl Said {
         if bytes.is_empty() {
             return Ok(());
         }
-        self.text.push(':')?;
-        let text = format!(in self.alloc; "{}", Words { bytes, size: 1 })?;
-        Ok(self.text.push_str(text.as_str())?)
+        let words = Words { bytes, size: 1 };
+        Ok(write!(self.text, ":{words}")?)
     }
 
     /// Appends a refusal.

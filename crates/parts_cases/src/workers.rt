@@ -52,15 +52,15 @@ fn component(horizontal: u8, vertical: u8) -> Component
 
 /// Returns the layout of three components with these horizontal factors.
 #[tactic(auto, unfolding(jpeg_segments::specs::Frame::AllHaveSampling))]
-fn shape_of(factors: [u8; 3], size: Dimensions, rows: u16) -> Option<JointShape>
+fn shape_of(factors: [u16; 3], size: Dimensions, rows: u16) -> Option<JointShape>
     ensures { IfSome result HasFrameSizes }
 {
     let [first, second, third] = factors;
     let (first, second, third) = (first.clamp(1, 4), second.clamp(1, 4), third.clamp(1, 4));
     let components = [
-        component(first, 1),
-        component(second, 1),
-        component(third, 1),
+        component(first as u8, 1),
+        component(second as u8, 1),
+        component(third as u8, 1),
     ];
     joint_shape(&components, size, rows)
 }
@@ -70,15 +70,10 @@ fn shape(text: &str) -> fault::Result<Option<JointShape>>
     ensures { IfOk result (λ shape. IfSome shape HasFrameSizes) }
 {
     let [first, second, third, width, height, rows] = numbers::<6>(text)?;
-    let factors = [
-        u8::try_from(first)?,
-        u8::try_from(second)?,
-        u8::try_from(third)?,
-    ];
-    if factors.iter().any(|factor| *factor < 1 || *factor > 4) {
+    if first.min(second).min(third) < 1 || first.max(second).max(third) > 4 {
         return Err(Fault::Expected("factors of 1 to 4"));
     }
-    Ok(shape_of(factors, Dimensions { width, height }, rows))
+    Ok(shape_of([first, second, third], Dimensions { width, height }, rows))
 }
 
 /// Returns how many samples the planes of a layout have, or none where there are too many.

@@ -9,6 +9,18 @@ pub fn first_word(line: &str) -> (&str, &str) {
     line.split_once(' ').unwrap_or((line, ""))
 }
 
+/// Returns the numbers of the first `N` words of a line, and the rest.
+pub fn leading<const N: usize>(line: &str) -> fault::Result<([u16; N], &str)> {
+    let mut all = [0; N];
+    let mut rest = line;
+    for slot in &mut all {
+        let (word, more) = first_word(rest);
+        *slot = u16::of(word)?;
+        rest = more;
+    }
+    Ok((all, rest))
+}
+
 /// Returns what stands before a colon, and what stands after it.
 pub fn halves(text: &str) -> fault::Result<(&str, &str)> {
     text.split_once(':').ok_or(Fault::Expected("a colon"))
