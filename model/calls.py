@@ -154,7 +154,7 @@ def density_of(stream, header_bytes):
     """Units, Hdensity and Vdensity of the first JFIF segment (T.871, 10.1)."""
     for marker, offset, end in segments(stream[:header_bytes]):
         payload = stream[offset:end]
-        if marker == 0xE0 and payload[:5] == b'JFIF\0' and len(payload) >= 14:
+        if marker == 0xE0 and payload[:5] == b'JFIF\0' and len(payload) >= 12:
             return (
                 payload[7],
                 int.from_bytes(payload[8:10], 'big'),
