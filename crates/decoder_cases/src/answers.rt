@@ -1,7 +1,7 @@
 //! What a decoder answers to a call.
 
 use crate::calls::Call;
-use crate::decoded::{Bytes, Data, Memory, Number, Partial, Picture, Refusal, Size, Transform};
+use crate::decoded::{Bytes, Data, ErrorText, Known, Memory, Partial, Picture, Size};
 use crate::said::Said;
 use exif_orientation::orientation_of;
 use jpeg_decoder::{Decoder, Error};
@@ -22,10 +22,14 @@ fn is_over<T>(answer: &Result<T, Error>, again: &Result<Vec<u8>, Error>) -> bool
     }
 }
 
+/// Says a refusal, of a broken rule the kind alone unless the whole text is wanted.
+fn refuse_by(said: &mut Said, error: &Error, is_whole: bool) -> Result<(), AllocError> {
+    said.say(format_args!("refused: {}", ErrorText { error, is_whole }))
+}
+
 /// Says a refusal, of a broken rule the kind alone.
 fn refuse(said: &mut Said, error: &Error) -> Result<(), AllocError> {
-    let is_whole = false;
-    said.say(Refusal { error, is_whole })
+    refuse_by(said, error, false)
 }
 
 /// Says the answer to `decode`.
@@ -43,7 +47,7 @@ fn decode(
             let info = decoder.info();
             said.say(Picture { info, bytes })
         }
-        Err(error) => said.say(Refusal { error, is_whole }),
+        Err(error) => refuse_by(said, error, is_whole),
     }
 }
 
@@ -80,8 +84,8 @@ fn decode_in(
 /// Says a refusal, and the memory that was to be decoded into.
 fn say_unwritten(said: &mut Said, error: &Error, bytes: &[u8]) -> Result<(), AllocError> {
     let is_whole = false;
-    let (refusal, memory) = (Refusal { error, is_whole }, Words { bytes, size: 1 });
-    said.say(format_args!("{refusal}, memory{memory}"))
+    let (text, memory) = (ErrorText { error, is_whole }, Words { bytes, size: 1 });
+    said.say(format_args!("refused: {text}, memory{memory}"))
 }
 
 /// Says the answer to `decode_into`, with memory of this many bytes.
@@ -116,7 +120,7 @@ fn say_scaled(said: &mut Said, answer: Result<(u16, u16), Error>) -> Result<(), 
 /// Says what a decoder tells of the picture.
 fn info(said: &mut Said, decoder: &Decoder<Counted<'_>>) -> Result<(), AllocError> {
     let size = Size(decoder.info());
-    let precision = Number(decoder.precision());
+    let precision = Known(decoder.precision());
     let bytes = Bytes(decoder.decoding_bytes());
     match decoder.info() {
         Some(info) => {
@@ -137,8 +141,8 @@ fn profile(said: &mut Said, decoder: &Decoder<Counted<'_>>) -> Result<(), AllocE
 }
 
 /// Returns the orientation that the Exif data give.
-fn orientation(decoder: &Decoder<Counted<'_>>) -> Number {
-    Number(orientation_of(decoder.exif_data().unwrap_or(&[])))
+fn orientation(decoder: &Decoder<Counted<'_>>) -> Known<u8> {
+    Known(orientation_of(decoder.exif_data().unwrap_or(&[])))
 }
 
 /// Makes a setter's call, or says the answer to another one.
@@ -169,6 +173,6 @@ pub fn answer(
         Call::Xmp => said.say(Data(decoder.xmp_data())),
         Call::Icc => profile(said, decoder),
         Call::Orientation => said.say(orientation(decoder)),
-        Call::StreamTransform => said.say(Transform(decoder.stream_transform())),
+        Call::StreamTransform => said.say(Known(decoder.stream_transform())),
     }
 }

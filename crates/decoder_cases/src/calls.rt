@@ -1,9 +1,10 @@
 //! What a line of a case asks for, and the words for it.
 
 use jpeg_decoder::{ColorTransform, Scale};
-use std::str::SplitWhitespace;
 use test_streams::fault;
 use test_streams::fault::Fault;
+use test_streams::transforms::transform_of;
+use test_streams::words::numbers;
 
 /// A call of a decoder.
 #[derive(Clone, Copy)]
@@ -39,22 +40,6 @@ pub enum Request {
     Cuts,
 }
 
-/// Returns the colour transform of this name.
-fn transform_of(name: &str) -> fault::Result<ColorTransform> {
-    Ok(match name {
-        "None" => ColorTransform::None,
-        "Grayscale" => ColorTransform::Grayscale,
-        "RGB" => ColorTransform::RGB,
-        "YCbCr" => ColorTransform::YCbCr,
-        "CMYK" => ColorTransform::CMYK,
-        "YCCK" => ColorTransform::YCCK,
-        "JcsBgYcc" => ColorTransform::JcsBgYcc,
-        "JcsBgRgb" => ColorTransform::JcsBgRgb,
-        "Unknown" => ColorTransform::Unknown,
-        _ => return Err(Fault::Expected("a colour transform")),
-    })
-}
-
 /// Returns the scale that a part of the size is.
 fn scale_of(part: &str) -> fault::Result<Scale> {
     Ok(match part {
@@ -66,66 +51,57 @@ fn scale_of(part: &str) -> fault::Result<Scale> {
     })
 }
 
-/// Returns the next of the words that a call takes.
-fn next_of<'a>(words: &mut SplitWhitespace<'a>) -> fault::Result<&'a str> {
-    words.next().ok_or(Fault::Expected("more words"))
-}
+/// The requests of words that stand alone on their lines.
+const ALONE: [(&str, Request); 12] = [
+    ("rest", Request::Rest),
+    ("cuts", Request::Cuts),
+    ("header", Request::Call(Call::Header)),
+    ("decode", Request::Call(Call::Decode)),
+    ("refusal", Request::Call(Call::Refusal)),
+    ("partial", Request::Call(Call::Partial)),
+    ("info", Request::Call(Call::Info)),
+    ("exif", Request::Call(Call::Exif)),
+    ("xmp", Request::Call(Call::Xmp)),
+    ("icc", Request::Call(Call::Icc)),
+    ("orientation", Request::Call(Call::Orientation)),
+    ("stream_transform", Request::Call(Call::StreamTransform)),
+];
 
-/// Returns the call of a word that takes no other words, if it is one.
-fn plain_call(word: &str) -> Option<Call> {
-    Some(match word {
-        "header" => Call::Header,
-        "decode" => Call::Decode,
-        "refusal" => Call::Refusal,
-        "partial" => Call::Partial,
-        "info" => Call::Info,
-        "exif" => Call::Exif,
-        "xmp" => Call::Xmp,
-        "icc" => Call::Icc,
-        "orientation" => Call::Orientation,
-        "stream_transform" => Call::StreamTransform,
-        _ => return None,
-    })
-}
-
-/// Returns the number that the next word says.
-fn next_number(words: &mut SplitWhitespace<'_>) -> fault::Result<usize> {
-    Ok(next_of(words)?.parse::<usize>()?)
-}
-
-/// Returns the call of `scale` with the width and the height that the next words say.
-fn scale_call(words: &mut SplitWhitespace<'_>) -> fault::Result<Call> {
-    let width = next_of(words)?.parse::<u16>()?;
-    Ok(Call::Scale(width, next_of(words)?.parse::<u16>()?))
-}
-
-/// Returns the call of a word, which takes some of the words after it.
-fn call_of(word: &str, words: &mut SplitWhitespace<'_>) -> fault::Result<Call> {
-    if let Some(call) = plain_call(word) {
-        return Ok(call);
+/// Returns the request of a word that stands alone on its line.
+fn request_alone(word: &str) -> fault::Result<Request> {
+    for (own, request) in &ALONE {
+        if *own == word {
+            return Ok(*request);
+        }
     }
+    Err(Fault::Expected("a word of a call, and what it takes"))
+}
+
+/// Returns the call of `scale` with the width and the height that words say.
+fn scale_call(words: &str) -> fault::Result<Call> {
+    let [width, height] = numbers::<2>(words)?;
+    Ok(Call::Scale(width, height))
+}
+
+/// Returns the call of a word and those after it.
+fn call_of(word: &str, words: &str) -> fault::Result<Call> {
     match word {
-        "transform" => Ok(Call::Transform(transform_of(next_of(words)?)?)),
-        "limit" => Ok(Call::Limit(next_number(words)?)),
+        "transform" => Ok(Call::Transform(transform_of(words)?)),
+        "limit" => Ok(Call::Limit(words.parse::<usize>()?)),
         "scale" => scale_call(words),
-        "at" => Ok(Call::At(scale_of(next_of(words)?)?)),
-        "into" => Ok(Call::Into(next_number(words)?)),
-        _ => Err(Fault::Expected("a word of a call")),
+        "at" => Ok(Call::At(scale_of(words)?)),
+        "into" => Ok(Call::Into(words.parse::<usize>()?)),
+        _ => Err(Fault::Expected("a word of a call, and what it takes")),
     }
 }
 
 impl Request {
     /// Returns the request of a word and all that stands after it on its line.
     pub fn new(word: &str, rest: &str) -> fault::Result<Request> {
-        let mut words = rest.split_whitespace();
-        let request = match word {
-            "rest" => Request::Rest,
-            "cuts" => Request::Cuts,
-            _ => Request::Call(call_of(word, &mut words)?),
-        };
-        match words.next() {
-            Some(_) => Err(Fault::Expected("fewer words")),
-            None => Ok(request),
+        if rest.is_empty() {
+            request_alone(word)
+        } else {
+            Ok(Request::Call(call_of(word, rest)?))
         }
     }
 }

@@ -37,6 +37,14 @@ fn append(bytes: &mut Vec<u8>, piece: &[u8], count: u32) -> fault::Result<()> {
     Ok(())
 }
 
+/// Writes the line of a case.
+fn write_line<W: Write>(writer: &mut W, name: &str, answers: &str) -> fault::Result<()> {
+    match writer.write_fmt(format_args!("{name}: {answers}\n")) {
+        Ok(()) => Ok(()),
+        Err(_) => Err(Fault::Expected("a writer that takes the answers")),
+    }
+}
+
 impl<'a> Case<'a> {
     /// Returns what stands before the first case.
     fn new(alloc: Global) -> Case<'a> {
@@ -90,10 +98,9 @@ impl<'a> Case<'a> {
             return Err(Fault::Expected("a call of the case"));
         }
         let mut said = Said::new(self.alloc);
-        say_answers(self.alloc, &mut said, &self.stream, &self.requests)?;
-        match writer.write_fmt(format_args!("{}: {}\n", self.name, said.as_str())) {
-            Ok(()) => Ok(()),
-            Err(_) => Err(Fault::Expected("a writer that takes the answers")),
+        match say_answers(self.alloc, &mut said, &self.stream, &self.requests) {
+            Ok(()) => write_line(writer, self.name, said.as_str()),
+            Err(fault) => Err(fault),
         }
     }
 

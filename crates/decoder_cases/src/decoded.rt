@@ -1,8 +1,8 @@
 //! The words for what a decoder returns.
 
-use jpeg_decoder::{ColorTransform, DecodingBytes, Error, ImageInfo, PartialPicture, PixelFormat};
+use jpeg_decoder::{DecodingBytes, Error, ImageInfo, PartialPicture, PixelFormat};
 use std::fmt;
-use std::fmt::{Display, Formatter, Write};
+use std::fmt::{Debug, Display, Formatter, Write};
 use test_streams::words::Words;
 
 /// Returns the name of a format, as `run` writes it.
@@ -64,9 +64,9 @@ impl Display for Picture<'_> {
 /// The text of an error, or of a broken rule that is named its kind alone unless the whole text is
 /// wanted.
 #[derive(Clone, Copy)]
-struct ErrorText<'a> {
-    error: &'a Error,
-    is_whole: bool,
+pub struct ErrorText<'a> {
+    pub error: &'a Error,
+    pub is_whole: bool,
 }
 
 impl Display for ErrorText<'_> {
@@ -77,20 +77,6 @@ impl Display for ErrorText<'_> {
             }
             error => write!(f, "{error}"),
         }
-    }
-}
-
-/// A refusal. Unless the whole text is wanted, of a broken rule the kind alone is written.
-#[derive(Clone, Copy)]
-pub struct Refusal<'a> {
-    pub error: &'a Error,
-    pub is_whole: bool,
-}
-
-impl Display for Refusal<'_> {
-    fn fmt<W: Write>(&self, f: &mut Formatter<W>) -> fmt::Result {
-        let (error, is_whole) = (self.error, self.is_whole);
-        write!(f, "refused: {}", ErrorText { error, is_whole })
     }
 }
 
@@ -171,14 +157,14 @@ impl Display for Bytes {
     }
 }
 
-/// A number, if it is there.
+/// A value, if it is there.
 #[derive(Clone, Copy)]
-pub struct Number(pub Option<u8>);
+pub struct Known<T>(pub Option<T>);
 
-impl Display for Number {
+impl<T: Debug> Display for Known<T> {
     fn fmt<W: Write>(&self, f: &mut Formatter<W>) -> fmt::Result {
-        match self.0 {
-            Some(number) => write!(f, "{number}"),
+        match &self.0 {
+            Some(value) => write!(f, "{value:?}"),
             None => f.write_str("none"),
         }
     }
@@ -192,19 +178,6 @@ impl Display for Data<'_> {
     fn fmt<W: Write>(&self, f: &mut Formatter<W>) -> fmt::Result {
         match self.0 {
             Some(bytes) => write!(f, "{} bytes{}", bytes.len(), Words { bytes, size: 1 }),
-            None => f.write_str("none"),
-        }
-    }
-}
-
-/// A colour transform, if it is there.
-#[derive(Clone, Copy)]
-pub struct Transform(pub Option<ColorTransform>);
-
-impl Display for Transform {
-    fn fmt<W: Write>(&self, f: &mut Formatter<W>) -> fmt::Result {
-        match self.0 {
-            Some(transform) => write!(f, "{transform:?}"),
             None => f.write_str("none"),
         }
     }

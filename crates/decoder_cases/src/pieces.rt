@@ -40,13 +40,19 @@ fn cut_by(
     step: usize,
 ) -> fault::Result<()> {
     let mut answer = Said::new(alloc);
-    decoded_by(alloc, &mut answer, front, step)?;
-    if answer.as_str() != last.as_str() {
-        let length = front.len();
-        said.say(format_args!("from {length} bytes {}", answer.as_str()))?;
-        *last = answer;
+    match decoded_by(alloc, &mut answer, front, step) {
+        Ok(()) if answer.as_str() == last.as_str() => Ok(()),
+        Ok(()) => {
+            *last = answer;
+            say_from(said, front.len(), last.as_str())
+        }
+        Err(fault) => Err(fault),
     }
-    Ok(())
+}
+
+/// Says the answer from a length on.
+fn say_from(said: &mut Said, length: usize, answer: &str) -> fault::Result<()> {
+    Ok(said.say(format_args!("from {length} bytes {answer}"))?)
 }
 
 /// Says the answers to `decode` of each shorter beginning, each with the length from which on it
@@ -222,11 +228,11 @@ fn compare_by(
     step: usize,
 ) -> fault::Result<()> {
     let mut other = Said::new(alloc);
-    answers_by(alloc, &mut other, stream, requests, step)?;
-    if other.as_str() != said.as_str() {
-        said.say(format_args!("WRONG in pieces of {step}"))?;
+    match answers_by(alloc, &mut other, stream, requests, step) {
+        Ok(()) if other.as_str() == said.as_str() => Ok(()),
+        Ok(()) => Ok(said.say(format_args!("WRONG in pieces of {step}"))?),
+        Err(fault) => Err(fault),
     }
-    Ok(())
 }
 
 /// Says the answers to requests of a stream, and where they are wrong.

@@ -1,12 +1,11 @@
 //! The answers to the requests of a case.
 
 use std::alloc::{AllocError, Global};
-use std::fmt::Display;
+use std::fmt::{Display, Write};
 
 /// The answers to the requests of a case, with `; ` between them.
 #[derive(Drop)]
 pub struct Said {
-    alloc: Global,
     text: String,
 }
 
@@ -14,7 +13,6 @@ impl Said {
     /// Returns what is said before the first answer.
     pub fn new(alloc: Global) -> Said {
         Said {
-            alloc,
             text: String::new(alloc),
         }
     }
@@ -26,10 +24,7 @@ impl Said {
 
     /// Appends an answer.
     pub fn say<D: Display + Drop>(&mut self, answer: D) -> Result<(), AllocError> {
-        if !self.text.is_empty() {
-            self.text.push_str("; ")?;
-        }
-        let text = format!(in self.alloc; "{answer}")?;
-        self.text.push_str(text.as_str())
+        let between = if self.text.is_empty() { "" } else { "; " };
+        write!(self.text, "{between}{answer}")
     }
 }
