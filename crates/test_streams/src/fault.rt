@@ -3,7 +3,7 @@
 use jpeg_bits::error::Error;
 use std::alloc::{AllocError, AllocFailed};
 use std::array::TryFromSliceError;
-use std::num::{ParseIntError, TryFromIntError};
+use std::num::ParseIntError;
 use std::{fmt, io};
 
 /// Why a line has no answer. It is `Copy`, so that no function has one to drop.
@@ -35,12 +35,6 @@ impl std::error::Error for Fault {}
 impl From<ParseIntError> for Fault {
     fn from(_e: ParseIntError) -> Fault {
         Fault::Expected("a number of the range")
-    }
-}
-
-impl From<TryFromIntError> for Fault {
-    fn from(_e: TryFromIntError) -> Fault {
-        Fault::Expected("a smaller number")
     }
 }
 
