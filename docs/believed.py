@@ -20,7 +20,8 @@ import textwrap
 from pathlib import Path
 
 ROOT = Path(__file__).resolve().parent.parent
-CRATES = "jpeg_bits jpeg_segments jpeg_pixels jpeg_lossless jpeg_streams jpeg_decoder".split()
+CRATES = """jpeg_bits jpeg_segments jpeg_pixels jpeg_lossless jpeg_streams jpeg_decoder
+    exif_orientation zaxbriar_calls""".split()
 
 # Where laws on streams and numbers that were worked by hand stand (`known_..` and `worked_..`), and
 # what those that read or write a whole stream compute beside the definitions that they name.
@@ -30,6 +31,7 @@ LAWS = {
     "jpeg_evidence/src/worked": "",
     "jpeg_decoder/src/laws/headline": "laws::headline::",
     "jpeg_decoder/src/laws/lossless": "laws::lossless::",
+    "zaxbriar_calls/src/laws": "laws::",
 }
 STREAMS = {
     "known_streams": """jpeg_bits Reading Marker Entropy Readers Codes Bands Passes Intervals,
@@ -187,14 +189,17 @@ class Specs:
 
 
 def believed(specs):
-    """What the clauses of `Decoder`, `run` and `report` reach, and what those of the laws add."""
+    """What the clauses of `Decoder`, `run` and `report` reach, and what those of the laws and those
+    of the C library's calls add."""
     of = {
         name: specs.seeds("jpeg_decoder/src/" + name, r"\w+")
         for name in ["decoder", "run", *THEOREMS]
     }
     held = specs.seeds("jpeg_decoder/src/" + HELD, "(?!)")
     calls = specs.reached(of["decoder"] | of["run"] | held)
-    return calls, specs.reached(set().union(*(of[name] for name in THEOREMS))) - calls
+    laws = specs.reached(set().union(*(of[name] for name in THEOREMS))) - calls
+    library = specs.reached(specs.seeds("zaxbriar_calls/src/calls", r"\w+"))
+    return calls, laws, library - calls - laws
 
 
 def computed_on(specs):
@@ -226,15 +231,17 @@ def rows(specs, keys, on):
 
 def table(specs):
     """What each file says, how many of its definitions are reached, and by which laws computed."""
-    calls, laws = believed(specs)
+    calls, laws, library = believed(specs)
     on = computed_on(specs)
     yield f"The clauses of `Decoder`, `run` and `report` reach {specs.total(calls)}:"
     yield from ["", *rows(specs, calls, on), ""]
     types = ", ".join(f"`{name}`" for name in specs.types(calls))
     yield from [*textwrap.wrap(f"They name these types of the code: {types}.", 100), ""]
     yield f"`laws::headline` and `laws::lossless` reach {specs.total(laws)} more:"
-    yield from ["", *rows(specs, laws, {}), "", "Neither reaches the other files:", ""]
-    files = {file for file, _ in calls | laws}
+    yield from ["", *rows(specs, laws, {}), ""]
+    yield f"The calls of the C library reach {specs.total(library)} more:"
+    yield from ["", *rows(specs, library, on), "", "None reaches the other files:", ""]
+    files = {file for file, _ in calls | laws | library}
     for crate in CRATES:
         others = [f"`{file[1]}`" for file in specs.says if file[0] == crate and file not in files]
         item = f"- {crate}: " + ", ".join(others)
@@ -275,14 +282,16 @@ def by_crate(specs, keys):
 
 def lists(specs):
     """The generated part of docs/REVIEW.md."""
-    calls, laws = believed(specs)
+    calls, laws, library = believed(specs)
     on = computed_on(specs)
-    alone = {key for key in calls if key[0] not in on}
+    alone = lambda keys: {key for key in keys if key[0] not in on}
     reader = specs.under(READER)
     for text, keys in [
         (f"The clauses of `Decoder`, `run` and `report` reach {specs.total(calls)}:", calls),
-        ("Of these files no law computes", alone),
+        ("Of these files no law computes", alone(calls)),
         (f"`laws::headline` and `laws::lossless` reach {specs.total(laws)} more:", laws),
+        (f"The calls of the C library reach {specs.total(library)} more:", library),
+        ("Of these files no law computes", alone(library)),
     ]:
         yield from [text, "", *by_crate(specs, keys), ""]
     for what, names in [("What is written", WRITER), ("The picture", PICTURE)]:
@@ -295,7 +304,7 @@ def lists(specs):
 
 
 def listing(specs):
-    parts = ["Decoder, run, report", "laws::headline, laws::lossless"]
+    parts = ["Decoder, run, report", "laws::headline, laws::lossless", "zaxbriar_calls"]
     for what, keys in zip(parts, believed(specs)):
         yield f"{what}: {specs.total(keys)}"
         for (crate, module), (names, lines) in specs.by_file(keys).items():
