@@ -1,8 +1,7 @@
 /* Makes the calls that a case file on standard input names, and writes what each answers.
  *
- * test/cases/NAME.answers has what is to be written for NAME.case; model/calls.py makes it from an
- * independent model. A case is some lines, with an empty line between cases, and `#` before what
- * says nothing:
+ * test/cases/NAME.answers is the expected output for NAME.case; model/calls.py makes it from an
+ * independent model. Empty lines and lines that begin with `#` are skipped. A case is a few lines:
  *
  *     case NAME
  *     stream WORDS                    the bytes of its stream in hex, more of them on each further
@@ -24,8 +23,7 @@
  * A case's name is written as it stands, and a call with its answer after a colon: the name of what
  * it returned, and the members of the struct that are not 0. `text` is 1 unless it is empty, and
  * `stream_bytes` is left out after refusals and parts, where the header doesn't say which bytes
- * count. The memory of a call stands after them, in hex. A line that says none of this ends the
- * program with status 2. */
+ * count. The memory of a call follows in hex. Any other line ends the program with status 2. */
 #include "common.h"
 
 static struct bytes stream;
