@@ -9,7 +9,7 @@ ghost use Rattle.jpeg_segments.specs.Application.{dri_at, passed_over, transform
 ghost use Rattle.jpeg_segments.specs.Parts.{payload_at};
 ghost use Rattle.jpeg_segments.specs.FrameView.{application_in};
 
-use jpeg_bits::error::{Result, format_error_of};
+use jpeg_bits::error::{Error, Result, format_error_of};
 use jpeg_bits::marker::Marker;
 use jpeg_bits::source::Source;
 use jpeg_bits::source::reads::{read_bytes, read_length, read_u16_be, skip};
@@ -198,11 +198,17 @@ fn read_adobe<R: Read + Drop>(
     }
     match transform_by(head[11]) {
         Some(transform) => pass_over_after(alloc, source, left - 12, transform),
-        None => Err(format_error_of(format!(in alloc;
-            "transform {} in an Adobe segment, expected 0 to 2",
-            head[11]
-        ))),
+        None => Err(transform_error(alloc, head[11])),
     }
+}
+
+/// Returns the refusal of a transform that no Adobe segment has.
+#[cold]
+#[inline(never)]
+fn transform_error(alloc: Global, transform: u8) -> Error
+    ensures { NamesFormat result }
+{
+    format_error_of(format!(in alloc; "transform {transform} in an Adobe segment, expected 0 to 2"))
 }
 
 /// Reads the payload after the marker `APP(14)`, of `left` bytes.

@@ -121,6 +121,32 @@ fn count_error(alloc: Global, number: u8, count: u8) -> Error
     ))
 }
 
+/// Returns the refusal of a frame header that `left` bytes follow, too few for any.
+#[cold]
+#[inline(never)]
+fn short_header_error(alloc: Global, left: u16) -> Error
+    ensures { NamesFormat result }
+{
+    format_error_of(format!(in alloc;
+        "frame header length {}, expected at least 11",
+        u32::from(left) + 2
+    ))
+}
+
+/// Returns the refusal of a frame header's length, which `left` bytes follow, for `count`
+/// components.
+#[cold]
+#[inline(never)]
+fn length_error(alloc: Global, left: u16, count: u8) -> Error
+    ensures { NamesFormat result }
+{
+    format_error_of(format!(in alloc;
+        "frame header length {}, expected {} for Nf={count}",
+        u32::from(left) + 2,
+        8 + 3 * u16::from(count)
+    ))
+}
+
 #[tactic(auto, unfolding(crate::specs::Parts::head_at))]
 fn read_head<R: Read + Drop>(alloc: Global, source: &mut Source<R>, number: u8) -> Result<Head>
     ensures answers { Answers (λ h.
@@ -136,10 +162,7 @@ fn read_head<R: Read + Drop>(alloc: Global, source: &mut Source<R>, number: u8) 
 {
     let left = read_length(alloc, source)?;
     if left < 7 {
-        return Err(format_error_of(format!(in alloc;
-            "frame header length {}, expected at least 11",
-            left + 2
-        )));
+        return Err(short_header_error(alloc, left));
     }
     let precision = read_u8(alloc, source)?;
     if !is_precision(number, precision) {
@@ -151,11 +174,7 @@ fn read_head<R: Read + Drop>(alloc: Global, source: &mut Source<R>, number: u8) 
         return Err(count_error(alloc, number, count));
     }
     if left != 6 + 3 * u16::from(count) {
-        return Err(format_error_of(format!(in alloc;
-            "frame header length {}, expected {} for Nf={count}",
-            u32::from(left) + 2,
-            8 + 3 * u16::from(count)
-        )));
+        return Err(length_error(alloc, left, count));
     }
     Ok(Head {
         precision,
@@ -172,6 +191,30 @@ fn is_destination(lossless: bool, destination: u8) -> bool
     } else {
         destination <= 3
     }
+}
+
+/// Returns the refusal of a sampling factor along a direction.
+#[cold]
+#[inline(never)]
+fn factor_error(alloc: Global, direction: &str, factor: u8, identifier: u8) -> Error
+    ensures { NamesFormat result }
+{
+    format_error_of(format!(in alloc;
+        "{direction} sampling factor {factor} of component {identifier}, expected 1 to 4"
+    ))
+}
+
+/// Returns the refusal of a destination of a component's quantization table.
+#[cold]
+#[inline(never)]
+fn destination_error(alloc: Global, lossless: bool, destination: u8, identifier: u8) -> Error
+    ensures { NamesFormat result }
+{
+    let expected = if lossless { "0" } else { "0 to 3" };
+    format_error_of(format!(in alloc;
+        "quantization table destination {destination} of component {identifier}, \
+         expected {expected}"
+    ))
 }
 
 /// Reads the sampling factors and the destination of the quantization table, after the
@@ -192,22 +235,14 @@ fn read_parameters<R: Read + Drop>(
     let horizontal = factors / 16;
     let vertical = factors % 16;
     if horizontal == 0 || horizontal > 4 {
-        return Err(format_error_of(format!(in alloc;
-            "horizontal sampling factor {horizontal} of component {identifier}, expected 1 to 4"
-        )));
+        return Err(factor_error(alloc, "horizontal", horizontal, identifier));
     }
     if vertical == 0 || vertical > 4 {
-        return Err(format_error_of(format!(in alloc;
-            "vertical sampling factor {vertical} of component {identifier}, expected 1 to 4"
-        )));
+        return Err(factor_error(alloc, "vertical", vertical, identifier));
     }
     let quantization = read_u8(alloc, source)?;
     if !is_destination(lossless, quantization) {
-        let expected = if lossless { "0" } else { "0 to 3" };
-        return Err(format_error_of(format!(in alloc;
-            "quantization table destination {quantization} of component {identifier}, \
-             expected {expected}"
-        )));
+        return Err(destination_error(alloc, lossless, quantization, identifier));
     }
     Ok(Factors {
         identifier,
@@ -233,6 +268,17 @@ fn is_taken(front: &[Factors], identifier: u8) -> bool
     has_identifier(front, identifier)
 }
 
+/// Returns the refusal of an identifier that an earlier component has.
+#[cold]
+#[inline(never)]
+fn identifier_error(alloc: Global, identifier: u8) -> Error
+    ensures { NamesFormat result }
+{
+    format_error_of(format!(in alloc;
+        "component identifier {identifier} twice in the frame header, expected once"
+    ))
+}
+
 /// Reads the next component, after those in `front`.
 #[tactic(auto, using(crate::proofs::PartsOfSegments::parts))]
 fn read_factors<R: Read + Drop>(
@@ -248,9 +294,7 @@ fn read_factors<R: Read + Drop>(
 {
     let identifier = read_u8(alloc, source)?;
     if is_taken(front, identifier) {
-        return Err(format_error_of(format!(in alloc;
-            "component identifier {identifier} twice in the frame header, expected once"
-        )));
+        return Err(identifier_error(alloc, identifier));
     }
     read_parameters(alloc, source, lossless, identifier)
 }

@@ -78,20 +78,36 @@ fn read_table_destination<R: Read + Drop>(
     let class = match byte / 16 {
         0 => HuffmanTableClass::DC,
         1 => HuffmanTableClass::AC,
-        class => {
-            return Err(format_error_of(format!(in alloc;
-                "Huffman table class {class}, expected 0 or 1"
-            )));
-        }
+        class => return Err(class_error(alloc, class)),
     };
-    let index = byte % 16;
-    if index > greatest {
-        let expected = expected_destinations(greatest);
-        return Err(format_error_of(format!(in alloc;
-            "{class:?} table destination {index}, expected {expected}"
-        )));
+    let destination = TableDestination {
+        class,
+        index: byte % 16,
+    };
+    if destination.index > greatest {
+        return Err(destination_error(alloc, destination, greatest));
     }
-    Ok(TableDestination { class, index })
+    Ok(destination)
+}
+
+/// Returns the refusal of a table class.
+#[cold]
+#[inline(never)]
+fn class_error(alloc: Global, class: u8) -> Error
+    ensures { NamesFormat result }
+{
+    format_error_of(format!(in alloc; "Huffman table class {class}, expected 0 or 1"))
+}
+
+/// Returns the refusal of a destination above the greatest.
+#[cold]
+#[inline(never)]
+fn destination_error(alloc: Global, destination: TableDestination, greatest: u8) -> Error
+    ensures { NamesFormat result }
+{
+    let TableDestination { class, index } = destination;
+    let expected = expected_destinations(greatest);
+    format_error_of(format!(in alloc; "{class:?} table destination {index}, expected {expected}"))
 }
 
 /// Returns the refusal of a number of codes that a table doesn't have, or for whose symbols too few
@@ -192,6 +208,17 @@ pub(crate) fn expected_destinations(greatest: u8) -> &'static str {
     }
 }
 
+/// Returns the refusal of bytes after the last table of a segment.
+#[cold]
+#[inline(never)]
+fn rest_error(alloc: Global, left: u16) -> Error
+    ensures { NamesFormat result }
+{
+    format_error_of(format!(in alloc;
+        "{left} bytes left in DHT after the last Huffman table, expected 0"
+    ))
+}
+
 /// Reads the tables of a segment as `parse_dht` does, and puts each in its destination among those
 /// in force: four of each class. Their look-up tables of values stay empty, until
 /// `HuffmanTable::fill_values` or `HuffmanTable::widen` fills one. The errors are those of
@@ -218,9 +245,7 @@ pub fn read_huffman_tables<R: Read + Drop>(
         left -= read_defined_table(alloc, reader, greatest, left, dc, ac)?;
     }
     if left > 0 {
-        return Err(format_error_of(format!(in alloc;
-            "{left} bytes left in DHT after the last Huffman table, expected 0"
-        )));
+        return Err(rest_error(alloc, left));
     }
     Ok(())
 }

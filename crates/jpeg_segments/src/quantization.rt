@@ -94,6 +94,25 @@ fn read_table<R: Read + Drop>(
     Ok(values)
 }
 
+/// Returns the refusal of a table of this precision and destination, for which `left` bytes are
+/// left in the segment: the first of them that breaks a rule.
+#[cold]
+#[inline(never)]
+fn table_error(alloc: Global, precision: u8, index: usize, left: u16) -> Error
+    ensures { NamesFormat result }
+{
+    format_error_of(if precision > 1 {
+        format!(in alloc; "quantization table element precision {precision}, expected 0 or 1")
+    } else if index > 3 {
+        format!(in alloc; "quantization table destination {index}, expected 0 to 3")
+    } else {
+        let size = 65 + 64 * u16::from(precision);
+        format!(in alloc;
+            "{left} bytes left in DQT for quantization table {index}, expected {size}"
+        )
+    })
+}
+
 /// Reads the next table, with `left` bytes left in the segment: its size and destination, and the
 /// table.
 #[tactic(auto, using(crate::proofs::PartsOfSegments::parts))]
@@ -110,21 +129,9 @@ fn read_defined_table<R: Read + Drop>(
     let byte = read_u8(alloc, source)?;
     let precision = byte / 16;
     let index = usize::from(byte % 16);
-    if precision > 1 {
-        return Err(format_error_of(format!(in alloc;
-            "quantization table element precision {precision}, expected 0 or 1"
-        )));
-    }
-    if index > 3 {
-        return Err(format_error_of(format!(in alloc;
-            "quantization table destination {index}, expected 0 to 3"
-        )));
-    }
     let size = 65 + 64 * u16::from(precision);
-    if left < size {
-        return Err(format_error_of(format!(in alloc;
-            "{left} bytes left in DQT for quantization table {index}, expected {size}"
-        )));
+    if precision > 1 || index > 3 || left < size {
+        return Err(table_error(alloc, precision, index, left));
     }
     let table = read_table(alloc, source, precision == 1, index)?;
     Ok((size, index, table))
