@@ -598,7 +598,7 @@ def run_scan(r, mcus, ri, start, unit, is_sealed=False, read=None):
 def dct_scan(r, f, s, dc, ac, ri, blocks, is_sealed, b):
     """blocks: of each component of the scan the blocks held. Each is replaced as soon as all of it
     is read, so that after a fault those before it are there. b.rows gets the rows of the picture
-    that whole rows of MCUs make, if MCUs are lacking."""
+    that need nothing of the MCUs that are lacking, nor of others in their row, if some are."""
     if len(s.comps) == 1:
         i = s.comps[0]
         c = f.comps[i]
@@ -645,7 +645,11 @@ def dct_scan(r, f, s, dc, ac, ri, blocks, is_sealed, b):
     except Refused:
         if len(read) < len(mcus):
             across, each = (wide, c.v) if len(s.comps) == 1 else (f.mcus[0], 1)
-            b.rows = len(read) // across * b.scale * f.vmax // each
+            size = f.output(b.scale)
+            b.rows = min(len(read) // across * b.scale * f.vmax // each, size[1])
+            # the last of them is blended with the line below
+            if any(rule(f.comps[i], f.hmax, f.vmax, *size) in ('H1V2', 'H2V2') for i in s.comps):
+                b.rows = max(b.rows - 1, 0)
         raise
 
 

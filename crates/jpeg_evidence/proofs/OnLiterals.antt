@@ -2,7 +2,9 @@
 use Rattle.std.specs.Prelude.{⊤}
 use Rattle.jpeg_lossless.specs.Prediction.{first_line, line_below, line_rest, residue}
 use Rattle.jpeg_pixels.specs.Colour.{blue_of, colour_of, conversion_of, green_of, red_of}
+use Rattle.jpeg_pixels.specs.Pictures.{is_blended}
 use Rattle.jpeg_pixels.specs.Samples.{basis}
+use Rattle.jpeg_pixels.specs.Upsampling.{rule_of}
 use Rattle.jpeg_segments.specs.Frame.{component_of, frame_of}
 use Rattle.jpeg_segments.specs.Scales.{component_at, frame_at}
 use Rattle.jpeg_streams.specs.ColourChoice.{by_identifiers, transform_of}
@@ -53,5 +55,9 @@ unfolding streams_on_literals samples_on_literals blocks_brought blocks_brought_
 cuts_on_literals = tt
 
 unfoldable pub rows_on_literals : ⊤
-unfolding cuts_on_literals whole_rows_rest whole_rows
+unfolding cuts_on_literals whole_rows_rest whole_rows is_blended rule_of
 rows_on_literals = tt
+
+unfoldable pub blended_on_literals : ⊤
+unfolding component_of frame_of is_blended rule_of
+blended_on_literals = tt

@@ -56,6 +56,11 @@ codings_of_two = map (λ c. record {
   ac = one_symbol AC 0;
 }) frame_of_two.components
 
+-- a frame of three components, 2 by 64 samples, with these sampling factors of the first
+abbrev pub frame_of_three : ℕ → ℕ → Frame
+frame_of_three h v =
+    frame_of 0 8 2 64 (factors_with 1 h v 0 ∷ factors_with 2 1 1 0 ∷ factors_with 3 1 1 0 ∷ [])
+
 abbrev pub blocks_of_two : Spot → Block
 blocks_of_two s = record { dc = pos (8 + 8 * s.index); acs = replicate 63 (pos 0) }
 

@@ -1,7 +1,7 @@
 //! What streams that are cut or damaged show, computed as it is checked; and, for all streams, that
 //! what is shown without a fault is what is meant, and which faults are those of the meaning.
 ghost use Rattle.std.specs.Prelude.{◌≡◌, ◌⊎◌, ℕ, List, Ok, Err, Some, None, [], ◌∷◌, ◌++◌};
-ghost use Rattle.std.specs.Prelude.{replicate, take};
+ghost use Rattle.std.specs.Prelude.{drop, replicate, take};
 ghost use Rattle.std.specs.List.{concat};
 ghost use Rattle.jpeg_bits.specs.Reading.{Fault, Malformed, End};
 ghost use Rattle.jpeg_segments.specs.Frame.{Frame};
@@ -12,7 +12,8 @@ ghost use Rattle.jpeg_streams.specs.Worked.{eight_times, picture_meant, scanned_
 ghost use Rattle.jpeg_streams.specs.declared.settings.Settings.{Settings};
 ghost use Rattle.jpeg_evidence.specs.EarlyEnds.{StreamEndsEarly};
 ghost use Rattle.jpeg_evidence.specs.CutImages.{rows_before};
-ghost use Rattle.jpeg_evidence.specs.CutStreams.{block_below, codings_of_two, frame_of_two};
+ghost use Rattle.jpeg_evidence.specs.CutStreams.{block_below, codings_of_two, frame_of_three};
+ghost use Rattle.jpeg_evidence.specs.CutStreams.{frame_of_two};
 ghost use Rattle.jpeg_evidence.specs.CutStreams.{lines_of_samples, one_of_three, run_at_end, seen};
 ghost use Rattle.jpeg_evidence.specs.CutStreams.{seen_sized, three_refined, two_blocks, two_lines};
 ghost use Rattle.jpeg_evidence.specs.CutStreams.{two_lines_twice, two_rows_of_mcus, unread_bits};
@@ -125,6 +126,29 @@ pub fn rows_above_a_block_count()
     ensures second { rows_before frame_of_two (components_of codings_of_two)
         (record { slot = 0; index = 1 } ∷ []) ≡ 8 }
     ensures none { rows_before frame_of_two (components_of codings_of_two) [] ≡ 16 }
+{}
+
+/// Where lines of a component of the scan are blended with those below them, the last of the rows
+/// above isn't complete: with all components at 4:2:0 and 4:4:0, and with the second alone. So it is
+/// not at 4:2:2, where no lines are blended, with the first alone, which has all lines, and where
+/// each line stands for four.
+#[tactic(auto, unfolding(crate::proofs::OnLiterals::blended_on_literals))]
+pub fn blended_rows_count()
+    ensures both { rows_before (frame_of_three 2 2) (frame_of_three 2 2).components
+        (record { slot = 0; index = 4 } ∷ []) ≡ 15 }
+    ensures down { rows_before (frame_of_three 1 2) (frame_of_three 1 2).components
+        (record { slot = 1; index = 2 } ∷ []) ≡ 31 }
+    ensures second { rows_before (frame_of_three 1 2)
+        (take 1 (drop 1 (frame_of_three 1 2).components)) (record { slot = 0; index = 1 } ∷ [])
+        ≡ 15 }
+    ensures first_row { rows_before (frame_of_three 1 2) (frame_of_three 1 2).components
+        (record { slot = 0; index = 0 } ∷ []) ≡ 0 }
+    ensures across { rows_before (frame_of_three 2 1) (frame_of_three 2 1).components
+        (record { slot = 0; index = 2 } ∷ []) ≡ 8 }
+    ensures first { rows_before (frame_of_three 1 2) (take 1 (frame_of_three 1 2).components)
+        (record { slot = 0; index = 1 } ∷ []) ≡ 8 }
+    ensures repeated { rows_before (frame_of_three 1 4) (frame_of_three 1 4).components
+        (record { slot = 0; index = 4 } ∷ []) ≡ 32 }
 {}
 
 /// And those of whole lines of samples: of a scan that is cut in its second line, or has a wrong

@@ -1,6 +1,6 @@
 -- The picture of several components.
 use Rattle.std.specs.Prelude.{◌≡◌, ℕ, ◌+◌, ◌-◌, ◌*◌, ◌<◌, ◌≤◌, List, [], ◌∷◌, map, length}
-use Rattle.std.specs.Prelude.{slice_index, ok_or, zip, Result, Ok}
+use Rattle.std.specs.Prelude.{slice_index, ok_or, zip, Result, Ok, Bool, true, false, Some, None}
 use Rattle.std.specs.List.{range_with_len, concat}
 use Rattle.jpeg_bits.specs.Reading.{Fault, Lacks, ◌>>=◌}
 use Rattle.jpeg_bits.specs.declared.error.UnsupportedFeature.TheVariants.{NonIntegerSubsamplingRatio}
@@ -8,6 +8,7 @@ use Rattle.jpeg_bits.specs.declared.color_transform.ColorTransform.{ColorTransfo
 use Rattle.jpeg_segments.specs.Checks.{gathered}
 use Rattle.jpeg_segments.specs.Frame.{Frame, Component, most_across, most_down}
 use Rattle.jpeg_pixels.specs.declared.upsample_rows.UpsampleRule.{UpsampleRule}
+use Rattle.jpeg_pixels.specs.declared.upsample_rows.UpsampleRule.TheVariants.{H1V2, H2V2}
 use Rattle.jpeg_pixels.specs.declared.color_convert.ColorConvert.{ColorConvert}
 use Rattle.jpeg_pixels.specs.Upsampling.{upsampled, rule_of, across, down}
 use Rattle.jpeg_pixels.specs.Colour.{line_bytes, conversion_of}
@@ -32,6 +33,21 @@ source_of most_h most_v width height c = do
 abbrev pub sources_of : List Component → ℕ → ℕ → Result (List Source) Fault
 sources_of components width height =
     gathered (source_of (most_across components) (most_down components) width height) components
+
+-- whether a rule blends a line of a component with the one below it
+abbrev pub blends_down : UpsampleRule → Bool
+blends_down H1V2 = true
+blends_down H2V2 = true
+blends_down _ = false
+
+-- whether a component's lines are blended so in the picture of a frame
+unfoldable pub is_blended : Frame → Component → Bool
+is_blended frame c = elim (rule_of c.factors.horizontal c.factors.vertical
+    (most_across frame.components) (most_down frame.components) frame.output_width
+    frame.output_height) [
+      | Some rule ↦ blends_down rule
+      | None ↦ false
+    ]
 
 -- a line of a component as wide as the picture
 abbrev pub line_of : Source → List ℕ → ℕ → ℕ → List ℕ

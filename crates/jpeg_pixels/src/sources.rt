@@ -3,14 +3,14 @@
 ghost use Rattle.std.specs.Prelude.{◌≡◌, ◌≤◌, map, Ok, MatchResult};
 ghost use Rattle.jpeg_bits.specs.Reading.{Names};
 ghost use Rattle.jpeg_segments.specs.Frame.{most_across, most_down, HasSampling, AllHaveSampling};
-ghost use Rattle.jpeg_segments.specs.FrameView.{component_in};
+ghost use Rattle.jpeg_segments.specs.FrameView.{component_in, frame_in};
 ghost use Rattle.jpeg_pixels.specs.Upsampling.{rule_of};
-ghost use Rattle.jpeg_pixels.specs.Pictures.{source_of, sources_of};
+ghost use Rattle.jpeg_pixels.specs.Pictures.{is_blended, source_of, sources_of};
 ghost use Rattle.jpeg_pixels.specs.PicturesView.{source_in};
 
 use crate::upsample_rows::UpsampleRule;
 use jpeg_bits::error::{Error, Result, UnsupportedFeature};
-use jpeg_segments::parser::Component;
+use jpeg_segments::parser::{Component, FrameInfo};
 use std::alloc::Global;
 
 /// The samples of a component: how they are upsampled, their size, and the samples that a line of
@@ -112,6 +112,22 @@ fn greatest_vertical(components: &[Component]) -> u8
         most = most.max(component.vertical_sampling_factor);
     }
     most
+}
+
+/// Returns whether lines of a component are blended with those below them in the picture of a frame:
+/// where it has half as many lines as the picture, and its samples aren't repeated.
+#[tactic(auto, unfolding(crate::specs::Upsampling::rule_of, crate::specs::Pictures::is_blended))]
+pub fn is_blended(component: &Component, frame: &FrameInfo) -> bool
+    ensures { result ≡ is_blended (frame_in frame.now) (component_in component.now) }
+{
+    let greatest_h = u16::from(greatest_horizontal(&frame.components));
+    let greatest_v = u16::from(greatest_vertical(&frame.components));
+    let h = u16::from(component.horizontal_sampling_factor);
+    let v = u16::from(component.vertical_sampling_factor);
+    let size = frame.output_size;
+    let fits_across = h == greatest_h || size.width == 1 || 2 * h == greatest_h;
+    let fits_down = v == greatest_v || size.height == 1;
+    fits_across && !fits_down && 2 * v == greatest_v
 }
 
 /// Returns how each component is upsampled for a picture of this size. Errors:

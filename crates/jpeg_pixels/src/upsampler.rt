@@ -2,8 +2,8 @@
 
 pub use crate::color_convert::ColorConvert;
 use crate::picture_lines::{Line, lines_from_above, write_line};
-pub use crate::sources::ComponentSource;
 use crate::sources::component_sources;
+pub use crate::sources::{ComponentSource, is_blended};
 pub use crate::upsample_rows::UpsampleRule;
 use jpeg_bits::error::Result;
 use jpeg_segments::parser::Component;

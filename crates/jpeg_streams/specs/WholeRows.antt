@@ -1,8 +1,10 @@
 -- How many rows of the picture, from its top, lie in rows of MCUs that are complete in a scan, which
 -- lacks blocks or lines of samples (T.81, A.2 and E.2.4).
-use Rattle.std.specs.Prelude.{ℕ, ◌*◌, ◌/◌, List, [], ◌∷◌, length, min, slice_get}
-use Rattle.std.specs.Prelude.{Option, Some, None}
+use Rattle.std.specs.Prelude.{ℕ, ◌-◌, ◌*◌, ◌/◌, List, [], ◌∷◌, length, min, slice_get}
+use Rattle.std.specs.Prelude.{Option, Some, None, if◌then◌else◌}
+use Rattle.std.specs.List.{list_any}
 use Rattle.jpeg_segments.specs.Frame.{Component, Frame, most_down}
+use Rattle.jpeg_pixels.specs.Pictures.{is_blended}
 use Rattle.jpeg_streams.specs.LosslessScans.{LosslessCoding}
 use Rattle.jpeg_streams.specs.Order.{Spot}
 
@@ -17,10 +19,18 @@ rows_above_line frame (alone ∷ []) c line = rows_of_lines frame c (line * c.sc
 rows_above_line frame components c line =
     rows_of_lines frame c (line / c.factors.vertical * c.factors.vertical * c.scale)
 
--- the rows of the picture above the row of MCUs that a block of a scan is in
+-- Of the rows above a row of MCUs, those that need nothing of it: where lines of one of the scan's
+-- components are blended with those below them, all but the last.
+abbrev pub rows_apart : Frame → List Component → ℕ → ℕ
+rows_apart frame components rows =
+    if list_any (is_blended frame) components then rows - 1 else rows
+
+-- The rows of the picture that need nothing of the row of MCUs that a block of a scan is in, nor of
+-- those below it.
 abbrev pub rows_above : Frame → List Component → Spot → ℕ
 rows_above frame components s = elim (slice_get components s.slot) [
-  | Some c ↦ min frame.output_height (rows_above_line frame components c (s.index / c.blocks_wide))
+  | Some c ↦ rows_apart frame components
+      (min frame.output_height (rows_above_line frame components c (s.index / c.blocks_wide)))
   | None ↦ 0
 ]
 

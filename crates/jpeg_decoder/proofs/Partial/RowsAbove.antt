@@ -1,12 +1,15 @@
 -- The rows of the picture above what a scan lacks, as they are counted.
 use Rattle.std.proofs.Common.{◌≡◌, ◌∙◌, ◌⊎◌, inl, inr, ◌*◌, ◌/◌, ◌<◌, ◌≤◌, ◌==◌, ℕ, zero, suc, true, false}
 use Rattle.std.proofs.Common.{List, [], ◌∷◌, length, map, min, refl, sym, ap, arith, Some, get_or}
-use Rattle.std.specs.Prelude.{option_map, slice_get}
+use Rattle.std.specs.Prelude.{◌||◌, Bool, option_map, slice_get}
+use Rattle.std.specs.List.{list_any}
 use Rattle.std.proofs.lemmas.Bool.{ne_eqb}
 use Rattle.std.proofs.lemmas.Nat.{le-div}
 use Rattle.std.proofs.lemmas.Option.{slice_get-map, slice_get_read}
 use Rattle.std.proofs.Math.Nat.{div-zero, min-eq_left}
 use Rattle.jpeg_segments.specs.Frame.{Component, Frame, most_down}
+use Rattle.jpeg_segments.specs.FrameView.{component_in}
+use Rattle.jpeg_pixels.specs.Pictures.{is_blended}
 use Rattle.jpeg_segments.proofs.FrameLemmas.{greatest-some}
 use Rattle.jpeg_streams.specs.WholeRows.{rows_above_line, rows_of_lines}
 use Rattle.jpeg_decoder.specs.declared.scan.coded.Coded.{Coded}
@@ -65,3 +68,10 @@ slot-component codings seen slot c same within is =
     ∙ ap (option_map (λ (c : Coding). c.component)) (slice_get-map coding_in seen slot)
     ∙ ap (λ (o : _). option_map (λ (c : Coding). c.component) (option_map coding_in o))
     (slice_get_read seen (length seen) slot c refl within is)
+
+-- some component of a scan's, by the scan's codings
+pub any_component : (frame : Frame) (seen : List Coded)
+    → list_any (λ (c : Coded). is_blended frame (component_in c.component.now)) seen
+    ≡ list_any (is_blended frame) (components_of (map coding_in seen))
+any_component frame [] = refl
+any_component frame (c ∷ seen) = ap (λ (b : Bool). is_blended frame (component_in c.component.now) || b) (any_component frame seen)

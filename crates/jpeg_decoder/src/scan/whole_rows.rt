@@ -1,16 +1,22 @@
 //! The complete rows of the picture, where a scan was read up to its first fault (T.81, A.2).
 ghost use Rattle.std.specs.Prelude.{◌≡◌, ◌<◌, ◌≤◌, ◌*◌, ◌/◌, All, false, get_or, length};
 ghost use Rattle.std.specs.Prelude.{List, map, min, option_map, true};
+ghost use Rattle.std.specs.List.{list_any};
 ghost use Rattle.jpeg_segments.specs.Frame.{AllHaveSampling};
 ghost use Rattle.jpeg_segments.specs.FrameView.{component_in, frame_in};
 ghost use Rattle.jpeg_streams.specs.LosslessScans.{LosslessCoding};
-ghost use Rattle.jpeg_streams.specs.WholeRows.{rows_above, rows_of_lines, rows_of_planes};
+ghost use Rattle.jpeg_pixels.specs.Pictures.{is_blended};
+ghost use Rattle.jpeg_streams.specs.ScanSegments.{components_of};
+ghost use Rattle.jpeg_streams.specs.WholeRows.{rows_above, rows_apart, rows_of_lines};
+ghost use Rattle.jpeg_streams.specs.WholeRows.{rows_of_planes};
 ghost use Rattle.jpeg_decoder.specs.LosslessParts.{no_component};
 ghost use Rattle.jpeg_decoder.specs.Scanning.{scan_components};
+ghost use Rattle.jpeg_decoder.specs.Steps.{coding_in};
 ghost use Rattle.jpeg_decoder.specs.Walk.{spot_of};
 
-use crate::scan::coded::Scan;
+use crate::scan::coded::{Coded, Scan};
 use crate::scan::spots::Spot;
+use jpeg_pixels::upsampler::is_blended;
 use jpeg_segments::parser::{Component, FrameInfo};
 use jpeg_segments::sizes::greatest_of;
 
@@ -59,7 +65,37 @@ fn lines_above(line: usize, factor: u8, is_alone: bool) -> usize
     line.checked_div(factor).unwrap_or(0) * factor
 }
 
-/// Returns how many rows of the picture lie above the row of MCUs that a block of a scan is in.
+fn has_blended(frame: &FrameInfo, codings: &[Coded<'_>]) -> bool
+    ensures { result ≡ list_any (λ c. is_blended (frame_in frame.now)
+        (component_in c.component.now)) codings.now }
+{
+    codings
+        .iter()
+        .any(|coded| is_blended(coded.component, frame))
+}
+
+/// Returns whether lines of one of these components are blended with those below them.
+fn are_blended(frame: &FrameInfo, codings: &[Coded<'_>]) -> bool
+    ensures { result ≡ list_any (is_blended (frame_in frame.now))
+        (components_of (map coding_in codings.now)) }
+{
+    has_blended(frame, codings)
+}
+
+/// Returns how many of the rows above a row of MCUs need nothing of it.
+fn rows_apart(frame: &FrameInfo, codings: &[Coded<'_>], rows: u16) -> u16
+    ensures { result ≡ rows_apart (frame_in frame.now) (components_of (map coding_in codings.now))
+        rows }
+{
+    if are_blended(frame, codings) {
+        rows.saturating_sub(1)
+    } else {
+        rows
+    }
+}
+
+/// Returns how many rows of the picture need nothing of the row of MCUs that a block of a scan is
+/// in, nor of those below it.
 fn rows_above(frame: &FrameInfo, scan: &Scan<'_>, spot: Spot) -> u16
     requires { AllHaveSampling (frame_in frame.now).components }
     ensures { result ≡ rows_above (frame_in frame.now) (scan_components scan.now) (spot_of spot) }
@@ -72,11 +108,12 @@ fn rows_above(frame: &FrameInfo, scan: &Scan<'_>, spot: Spot) -> u16
     let line = lines_before(spot.index, component.block_size.width);
     let is_alone = codings.len() == 1;
     let lines = lines_above(line, component.vertical_sampling_factor, is_alone);
-    rows_of_lines(frame, component, lines, component.dct_scale)
+    let rows = rows_of_lines(frame, component, lines, component.dct_scale);
+    rows_apart(frame, codings, rows)
 }
 
-/// Returns how many rows of the picture lie above the row of MCUs of the first block of a scan that
-/// wasn't read, if there is one.
+/// Returns how many rows of the picture need nothing of the first block of a scan that wasn't read,
+/// if there is one, nor of those after it.
 pub fn rows_above_unread(frame: &FrameInfo, scan: &Scan<'_>, unread: Option<Spot>) -> Option<u16>
     requires { AllHaveSampling (frame_in frame.now).components }
     ensures { result ≡ option_map (rows_above (frame_in frame.now) (scan_components scan.now))

@@ -4,7 +4,8 @@ use Rattle.std.proofs.lemmas.List.{length-map}
 use Rattle.jpeg_segments.specs.FrameView.{component_in, frame_in}
 use Rattle.jpeg_decoder.specs.Scanning.{scan_components}
 use Rattle.jpeg_decoder.specs.Steps.{coding_in}
-use Rattle.jpeg_streams.specs.ScanSegments.{Coding}
+use Rattle.jpeg_streams.specs.ScanSegments.{Coding, components_of}
+use Rattle.jpeg_streams.specs.WholeRows.{rows_apart}
 use Rattle.jpeg_decoder.proofs.Partial.RowsAbove.{above-line, slot-component}
 use Rattle.jpeg_decoder.proofs.scan.whole_rows.rows_above.Goals as goal
 
@@ -25,8 +26,10 @@ returns c =
     slot-component c.args.scan.now.codings seen c.args.spot.slot coded same found.3.0 found.1 in
     let line = c.args.spot.index / part.blocks_wide in
     rw component (
-    c.rows_of_lines.ensures
+    c.rows_apart.ensures
+    ∙ ap (λ (l : List Coding). rows_apart frame (components_of l) c.rows_of_lines-rows.result) same
+    ∙ ap (rows_apart frame cs) (c.rows_of_lines-rows.ensures
     ∙ ap (min frame.output_height) (above-line frame cs part line n
     (λ e. c.lines_above-lines.ensures.alone (ap (λ (k : ℕ). k == 1) (sym count) ∙ e) ∙ c.lines_before-line.ensures)
     (λ e. c.lines_above-lines.ensures.others (ap (λ (k : ℕ). k == 1) (sym count) ∙ e)
-    ∙ ap (λ (l : ℕ). l / part.factors.vertical * part.factors.vertical) c.lines_before-line.ensures)))
+    ∙ ap (λ (l : ℕ). l / part.factors.vertical * part.factors.vertical) c.lines_before-line.ensures))))
