@@ -304,8 +304,7 @@ ZAXBRIAR_CALL zaxbriar_result zaxbriar_decode(const void *jpeg, size_t jpeg_size
 /* Decodes as zaxbriar_decode does, but also a stream that is truncated or damaged: then `pixels`
  * gets the picture of what the stream brings up to its first fault, and the call returns
  * ZAXBRIAR_PARTIAL. What no scan has brought is mid-grey; the first `whole_rows` rows are complete,
- * but where chroma has fewer lines than luma, the last of them also depends on chroma below it,
- * which may be missing. ZAXBRIAR_OK means that the stream has no fault.
+ * and stay as they are if the scan goes on. ZAXBRIAR_OK means that the stream has no fault.
  *
  * MALFORMED, UNSUPPORTED and TRUNCATED are for streams without a frame header that can be decoded,
  * and for a transform that doesn't fit the picture. All other values are as for zaxbriar_decode.

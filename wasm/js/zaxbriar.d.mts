@@ -187,8 +187,7 @@ export interface DecodedPicture {
 export interface PartialPicture extends DecodedPicture {
     /**
      * How many rows of the picture, from its top, are complete in each scan that has begun: all
-     * rows if the stream has no fault. Where chroma has fewer lines than luma, the last of these
-     * rows also depends on chroma below it, which may be missing.
+     * rows if the stream has no fault.
      */
     wholeRows: number;
     fault: ZaxbriarError | null;

@@ -194,8 +194,8 @@ fn is_fresh(progress: Progress) -> Result<bool>
 pub struct PartialPicture {
     /// The picture, as `decode` returns it. What no scan has brought is mid-grey.
     pub pixels: Vec<u8>,
-    /// The number of rows, from the top, in rows of MCUs that are complete in each scan that was
-    /// begun. All rows if the stream has no fault.
+    /// The number of rows, from the top, that need nothing that a scan which was begun lacks. All
+    /// rows if the stream has no fault.
     pub whole_rows: u16,
     /// The first fault of the stream, or none if it is whole.
     pub fault: Option<Error>,

@@ -44,8 +44,8 @@ use std::io::Read;
 pub struct PartialLines {
     /// The lines of the picture. What no scan has brought is mid-grey.
     pub lines: Lines,
-    /// The number of rows, from the top, in rows of MCUs that are complete in each scan that was
-    /// begun. All rows if the stream has no fault.
+    /// The number of rows, from the top, that need nothing that a scan which was begun lacks. All
+    /// rows if the stream has no fault.
     pub whole_rows: u16,
     /// The first fault of the stream, or none if it is whole.
     pub fault: Option<Error>,
