@@ -57,25 +57,18 @@ assert.equal(new Set(sentences).size, sentences.length);
 for (const sentence of sentences) assert.match(sentence, /^(The|This) [^A-Z_]*(JPEG)?[^_]*\.$/);
 assert.equal(sentenceOf({ fault: 'NO_MEMORY' }), sentenceOf({ fault: 'TOO_LARGE' }));
 
-/* The rows that are complete of 24, by the process, the orientation and the lines of chroma. */
-const part = (wholeRows, process, orientation, ...lines) => {
-    const sampling = lines.map((vertical) => ({ horizontal: 2, vertical }));
-    return rowsText({ picture: { height: 24, orientation, process, sampling }, wholeRows });
-};
+/* The rows that are complete of 24, by the process and the orientation. */
+const part = (wholeRows, process, orientation) =>
+    rowsText({ picture: { height: 24, orientation, process }, wholeRows });
 const ROWS = [
-    [part(0, 'sequential', 1, 2, 1, 1), 'No row is complete.'],
-    [part(1, 'sequential', 2, 1), 'The first of 24 rows is complete.'],
-    [part(16, 'sequential', 1, 1, 1, 1), 'The first 16 of 24 rows are complete.'],
+    [part(0, 'sequential', 1), 'No row is complete.'],
+    [part(1, 'sequential', 2), 'The first of 24 rows is complete.'],
+    [part(16, 'sequential', 1), 'The first 16 of 24 rows are complete.'],
     [
-        part(16, 'sequential', 1, 2, 1, 1),
-        'The first 16 of 24 rows are complete, but for the colours of the last.',
+        part(15, 'progressive', 6),
+        'The first 15 of 24 rows are complete in the scans so far, before the picture is turned.',
     ],
-    [
-        part(16, 'progressive', 6, 2, 2, 1),
-        'The first 16 of 24 rows are complete in the scans so far, but for the colours of the ' +
-            'last, before the picture is turned.',
-    ],
-    [part(24, 'progressive', 3, 2, 1, 1), 'All rows are complete in the scans so far.'],
+    [part(24, 'progressive', 3), 'All rows are complete in the scans so far.'],
 ];
 for (const [text, expected] of ROWS) assert.equal(text, expected);
 const formats = Object.keys(FORMATS).length;

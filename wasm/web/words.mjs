@@ -59,15 +59,9 @@ export function sentenceOf({ fault, feature, featureArgument }, bytes) {
     return `This JPEG file needs ${needed}.`;
 }
 
-/* Whether a component has fewer lines than another: those between its lines are interpolated. */
-function isInterpolated(sampling) {
-    const factors = sampling.map(({ vertical }) => vertical);
-    return Math.min(...factors) < Math.max(...factors);
-}
-
 /* How many rows of a picture in part are complete. The file stores them in this order, and an
  * orientation above 2 exchanges or reverses them. */
-export function rowsText({ picture: { height, orientation, process, sampling }, wholeRows }) {
+export function rowsText({ picture: { height, orientation, process }, wholeRows }) {
     if (wholeRows === 0) return 'No row is complete.';
     // (a progressive picture may lack whole scans)
     const soFar = process === 'progressive' ? ' in the scans so far' : '';
@@ -77,7 +71,5 @@ export function rowsText({ picture: { height, orientation, process, sampling }, 
             ? `The first of ${height} rows is complete`
             : `The first ${wholeRows} of ${height} rows are complete`;
     const turned = orientation > 2 ? ', before the picture is turned' : '';
-    // (its chroma is a mean with that of the line below)
-    const colours = isInterpolated(sampling) ? ', but for the colours of the last' : '';
-    return `${rows}${soFar}${colours}${turned}.`;
+    return `${rows}${soFar}${turned}.`;
 }
