@@ -21,6 +21,8 @@ use Rattle.jpeg_lossless.specs.PlanesRead.{counted_rows}
 use Rattle.jpeg_lossless.specs.Rows.{with_all_rows, with_mcu_rows}
 use Rattle.jpeg_lossless.specs.Scans.{Way, is_of_rows}
 use Rattle.jpeg_lossless.specs.Scans.{rows_of_interval, scan_tables}
+use Rattle.jpeg_segments.specs.Checks.{needed}
+use Rattle.jpeg_streams.specs.Brought.{brought_by, unbrought, Brought}
 use Rattle.jpeg_streams.specs.Brought.{grey_samples, interval_rows_reached, or_fault_at}
 use Rattle.jpeg_streams.specs.Brought.{planes_brought, samples_over, scan_reached}
 use Rattle.jpeg_streams.specs.Brought.{scan_rows_reached}
@@ -152,6 +154,13 @@ rows_after (Err e) old rows = rows
 -- progressive
 abbrev pub kept_beside : Bool → List Coding → Arrays → Arrays → Arrays
 kept_beside is_kept codings arrays left = if is_kept then put_arrays codings arrays left else []
+
+-- what a scan of the frame that was found brings after its header
+abbrev pub brought_after : Found → headers.Scan → List ℕ → Brought
+brought_after found scan bytes = elim (needed found.said.frame) [
+  | Ok frame ↦ brought_by frame.process found frame scan bytes
+  | Err fault ↦ unbrought found (Err fault)
+]
 
 -- What the data of a scan bring up to their first fault: what is found, the complete rows of the
 -- picture where some lack, and the marker after them, or the fault.

@@ -30,7 +30,8 @@ use Rattle.jpeg_decoder.specs.declared.scan.codings.Spare.{Spare}
 use Rattle.jpeg_bits.specs.declared.huffman.codes.HuffmanTableClass.TheVariants as classes
 use Rattle.jpeg_segments.specs.Checks.{needed}
 use Rattle.jpeg_streams.specs.ScanSegments.{component_coding, components_of, Coding, tables_of}
-use Rattle.jpeg_streams.specs.ScanSegments.{pass_of, after_restarts, finished_by, blocks_after}
+use Rattle.jpeg_streams.specs.ScanSegments.{codings_of, pass_of, after_restarts, finished_by}
+use Rattle.jpeg_streams.specs.ScanSegments.{blocks_after}
 use Rattle.jpeg_streams.specs.ScanSegments.{with_arrays, decided, arrays_before, once_scanned}
 use Rattle.jpeg_streams.specs.ScanSegments.{is_progressive, vias_from, after_samples, scan_samples}
 use Rattle.jpeg_streams.specs.Segments.{Turn}
@@ -123,6 +124,14 @@ pub record IsSpareOf (said : Said) (scan : headers.Scan) (spare : Spare) : Type 
   pub ac : spare.ac.items ≡ default_ac said.metadata.avi1 scan.ac_destinations
   pub no_dc : spare.no_dc ≡ no_table classes.DC
   pub no_ac : spare.no_ac ≡ no_table classes.AC
+
+-- A scan of blocks as its header says, with the tables in force.
+pub record IsScanBy (said : Said) (frame : Frame) (header : headers.Scan) (s : BlockScan)
+    : Type 0 where
+  pub pass : s.pass ≡ pass_of header
+  pub restart : s.restart_interval ≡ said.restart
+  pub codings : codings_of said frame header ≡ Ok s.codings
+  pub count : length s.codings ≡ length header.components
 
 -- ---- blocks and planes
 
@@ -249,6 +258,36 @@ samples_read found frame scan bytes = do
   r ← scan_samples found frame scan codings bytes
   met ← after_all r.0.1 r.1
   Ok ((after_samples found codings r.0.0, met.0), met.1)
+
+-- a scan of blocks
+unfoldable pub blocks_read : Found → Frame → headers.Scan → List ℕ
+    → Outcome (Found × Option Marker)
+blocks_read found frame scan bytes = do
+  codings ← codings_of found.said frame scan
+  r ← scan_data found frame (pass_of scan) codings bytes
+  met ← after_all r.0.1 r.1
+  Ok ((r.0.0, met.0), met.1)
+
+-- a scan of either
+abbrev pub read_by : CodingProcess → Found → Frame → headers.Scan → List ℕ
+    → Outcome (Found × Option Marker)
+read_by Lossless found frame scan bytes = samples_read found frame scan bytes
+read_by _ found frame scan bytes = blocks_read found frame scan bytes
+
+-- the header of a scan, which needs a frame
+abbrev pub header_at : Found → List ℕ → Outcome headers.Scan
+header_at found bytes = needed found.said.frame >>= λ frame. headers.sos_at frame bytes
+
+-- what is read after it
+abbrev pub read_after : Found → headers.Scan → List ℕ → Outcome (Found × Option Marker)
+read_after found scan bytes =
+    needed found.said.frame >>= λ frame. read_by frame.process found frame scan bytes
+
+-- The frame that was found has such a scan.
+pub record IsHeaderOf (found : Found) (scan : headers.Scan) : Type 0 where
+  pub frame : Frame
+  pub framed : found.said.frame ≡ Some frame
+  pub legal : headers.IsScanOf frame scan
 
 -- ---- refusals
 

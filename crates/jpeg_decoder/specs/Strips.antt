@@ -65,15 +65,21 @@ strips_from p vias n codings (spots ∷ rows) planes old =
     strips_from p vias n codings rows (with_strips codings r.reached.arrays planes)
     (on_arrays [] r))
 
--- a scan from zeros, row by row of MCUs, in intervals of n MCUs, after the planes in `start`; where
--- there are none, nothing is made of the blocks
+-- a scan from zeros, by its blocks in each row of MCUs, in intervals of this many blocks, after the
+-- planes in `start`; where there are none, nothing is made of the blocks
+abbrev pub planes_in_order : Pass → List Via → ℕ → List Coding → List (List Spot) → List (List ℕ)
+    → List ℕ → Outcome (List (List ℕ) × Option Marker)
+planes_in_order p vias blocks codings rows start bytes =
+    reading.◌>>=◌ (strips_from p vias blocks codings rows start (counted_at_start blocks [])
+    (upcoming fresh bytes)) (λ r.
+    reading.◌>>=◌ (marker_from r.1) (λ m. Ok ((r.0, m.0), m.1)))
+
+-- one of a frame, in intervals of n MCUs
 unfoldable pub planes_by_rows : Pass → List Via → ℕ → Frame → List Coding → List (List ℕ) → List ℕ
     → Outcome (List (List ℕ) × Option Marker)
 planes_by_rows p vias n frame codings start bytes =
-    let blocks = n * mcu_size (components_of codings) in
-    reading.◌>>=◌ (strips_from p vias blocks codings (rows_of frame (components_of codings)) start
-    (counted_at_start blocks []) (upcoming fresh bytes)) (λ r.
-    reading.◌>>=◌ (marker_from r.1) (λ m. Ok ((r.0, m.0), m.1)))
+    planes_in_order p vias (n * mcu_size (components_of codings)) codings
+    (rows_of frame (components_of codings)) start bytes
 
 -- the quantization tables of a scan's components, in block order
 abbrev pub tables_of : List Coding → List (List ℕ)

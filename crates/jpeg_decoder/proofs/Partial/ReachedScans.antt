@@ -1,11 +1,10 @@
 -- The steps of a scan that is read as far as it goes, and what they are to what a stream brings.
-use Rattle.std.proofs.Common.{◌≡◌, ◌∙◌, ap, arith, Err, false, List, None, Ok, Option, refl, Result, Some}
+use Rattle.std.proofs.Common.{◌≡◌, ◌∙◌, ap, Err, false, List, None, Ok, Option, refl, Result, Some}
 use Rattle.std.proofs.Common.{subst, sym, true, Bool, ℕ, if◌then◌else◌}
-use Rattle.std.proofs.lemmas.Grind.{common_steps}
 use Rattle.std.proofs.lemmas.Result.{err_from_is_err_and}
 use Rattle.std.specs.Prelude.{IsErrAnd, OnOk}
 use Rattle.jpeg_bits.specs.Passes.{Pass}
-use Rattle.jpeg_bits.specs.Reading.{Answers, Fault, Malformed, MayFail, Names, NamesFormat, Outcome}
+use Rattle.jpeg_bits.specs.Reading.{Answers, Fault, Malformed, MayFail, Names, Outcome}
 use Rattle.jpeg_bits.specs.Reading.{◌>>=◌}
 use Rattle.jpeg_bits.specs.Stream.{Stream}
 use Rattle.jpeg_bits.specs.declared.error.Error.{Error}
@@ -17,7 +16,8 @@ use Rattle.jpeg_segments.specs.ScanHeader.{Scan, sos_at}
 use Rattle.jpeg_segments.specs.declared.frame.CodingProcess.{CodingProcess}
 use Rattle.jpeg_segments.specs.declared.frame.CodingProcess.TheVariants.{DctProgressive}
 use Rattle.jpeg_segments.specs.declared.frame.CodingProcess.TheVariants.{DctSequential, Lossless}
-use Rattle.jpeg_streams.specs.Brought.{blocks_brought, blocks_brought_by, brought_by, frame_and_scan, has_whole_rows}
+use Rattle.jpeg_segments.specs.Checks.{needed}
+use Rattle.jpeg_streams.specs.Brought.{blocks_brought, blocks_brought_by, brought_by, has_whole_rows}
 use Rattle.jpeg_streams.specs.Brought.{samples_brought, samples_brought_by, scan_brought, unbrought, Brought}
 use Rattle.jpeg_streams.specs.Found.{Found, Said}
 use Rattle.jpeg_streams.specs.LosslessScans.{LosslessCoding, lossless_codings}
@@ -32,47 +32,56 @@ use Rattle.jpeg_streams.proofs.Refusals.{told-err}
 use Rattle.jpeg_streams.specs.States.{IfRefused, OnTold, OnToldRefusal}
 use Rattle.jpeg_decoder.specs.declared.stream.state.Step.{Step}
 use Rattle.jpeg_decoder.specs.Reaching.{data_reached, sample_codings, samples_reached, whole_codings, DataBrought, IsEndOf}
-use Rattle.jpeg_decoder.specs.Reaching.{UnlessRefused, rows_after}
+use Rattle.jpeg_decoder.specs.Reaching.{UnlessRefused, brought_after, rows_after}
 use Rattle.jpeg_decoder.specs.PlanesView.{planes_in}
 use Rattle.jpeg_decoder.specs.declared.scan.decoded.Decoded.{Decoded}
-use Rattle.jpeg_decoder.specs.Steps.{blocks_before, IsRefusal, IsStep, with_decoded}
+use Rattle.jpeg_decoder.specs.Steps.{blocks_before, header_at, IsDct, IsRefusal, IsStep, with_decoded}
 use Rattle.std.specs.declared.alloc.Global.{Global}
 use Rattle.std.specs.declared.vec.Vec.{Vec}
-use Rattle.jpeg_decoder.proofs.Partial.Refused.{if-refused, if-refused-as}
+use Rattle.jpeg_decoder.proofs.Partial.Refused.{if-refused, if-refused-as, unless-so}
 use Rattle.jpeg_decoder.proofs.Scans.ScanData.{answers-err, before-as}
 use Rattle.jpeg_decoder.proofs.Scans.ScanReads.{blocks-sound, HasRead, refused, scan-steps}
-use Rattle.jpeg_decoder.proofs.Scans.SlotCodings.{format-refuses}
 
--- ---- what a stream brings, by the steps of a scan
+-- ---- what a stream brings, by the header of a scan
 
-fails-at : (found : Found) (bytes : List ℕ) (f : Fault) → frame_and_scan found bytes ≡ Err f
-    → scan_brought found bytes ≡ unbrought found (Err f)
+-- by the header
+abbrev pub brought_with_header : Found → Outcome Scan → Brought
+brought_with_header found (Ok x) = brought_after found x.0 x.1
+brought_with_header found (Err fault) = unbrought found (Err fault)
+
+-- by the frame, and by the header
+abbrev brought_by_both : Found → Result (Frame × (Scan × List ℕ)) Fault → Brought
+brought_by_both found (Ok x) = brought_by x.0.process found x.0 x.1.0 x.1.1
+brought_by_both found (Err fault) = unbrought found (Err fault)
+
+with-frame : (found : Found) (frame : Frame) (o : Outcome Scan) → found.said.frame ≡ Some frame
+    → brought_by_both found (o >>= (λ (scan : Scan × List ℕ). Ok (frame, scan))) ≡ brought_with_header found o
+with-frame found frame (Ok x) e = rw e refl
+with-frame found frame (Err fault) e = refl
+
+by-header : (found : Found) (bytes : List ℕ) (o : Option Frame) → found.said.frame ≡ o
+    → brought_by_both found (needed o >>= (λ (frame : Frame). sos_at frame bytes
+    >>= (λ (scan : Scan × List ℕ). Ok (frame, scan))))
+    ≡ brought_with_header found (needed o >>= (λ (frame : Frame). sos_at frame bytes))
+by-header found bytes None e = refl
+by-header found bytes (Some frame) e = with-frame found frame (sos_at frame bytes) e
+
+header-brought : (found : Found) (bytes : List ℕ)
+    → scan_brought found bytes ≡ brought_with_header found (header_at found bytes)
 unfolding scan_brought
-fails-at found bytes f e = rw (e, scan_brought) refl
+header-brought found bytes = by-header found bytes found.said.frame refl
 
-goes-at : (found : Found) (frame : Frame) (scan : Scan) (bytes rest : List ℕ)
-    → frame_and_scan found bytes ≡ Ok (frame, (scan, rest))
-    → scan_brought found bytes ≡ brought_by frame.process found frame scan rest
-unfolding scan_brought
-goes-at found frame scan bytes rest e = rw (e, scan_brought) refl
+-- ---- what a scan brings after its header
 
-without-frame : (found : Found) (bytes : List ℕ) → found.said.frame ≡ None
-    → frame_and_scan found bytes ≡ Err Malformed
-without-frame found bytes e = rw e refl
-
-without-header : (found : Found) (frame : Frame) (bytes : List ℕ) (f : Fault) → found.said.frame ≡ Some frame
-    → sos_at frame bytes ≡ Err f → frame_and_scan found bytes ≡ Err f
-without-header found frame bytes f e h = rw (e, h) refl
-
-with-header : (found : Found) (frame : Frame) (scan : Scan) (bytes rest : List ℕ) → found.said.frame ≡ Some frame
-    → sos_at frame bytes ≡ Ok (scan, rest) → frame_and_scan found bytes ≡ Ok (frame, (scan, rest))
-with-header found frame scan bytes rest e h = rw (e, h) refl
+is-after : (found : Found) (frame : Frame) (scan : Scan) (bytes : List ℕ) → found.said.frame ≡ Some frame
+    → brought_after found scan bytes ≡ brought_by frame.process found frame scan bytes
+is-after found frame scan bytes e = rw e refl
 
 by-blocks : (p : CodingProcess) (found : Found) (frame : Frame) (scan : Scan) (bytes : List ℕ)
-    → (p ≡ Lossless → ⊥) → brought_by p found frame scan bytes ≡ blocks_brought found frame scan bytes
+    → IsDct p → brought_by p found frame scan bytes ≡ blocks_brought found frame scan bytes
 by-blocks DctSequential found frame scan bytes h = refl
 by-blocks DctProgressive found frame scan bytes h = refl
-by-blocks Lossless found frame scan bytes h = absurd (h refl)
+by-blocks Lossless found frame scan bytes h = absurd h
 
 by-samples : (p : CodingProcess) (found : Found) (frame : Frame) (scan : Scan) (bytes : List ℕ) → p ≡ Lossless
     → brought_by p found frame scan bytes ≡ samples_brought found frame scan bytes
@@ -140,127 +149,92 @@ samples-as found frame scan bytes =
 -- ---- refusals before the data
 
 -- A refusal brings nothing.
-pub record BringsNone (found : Found) (old : Stream) (e : Error) (new : Stream) : Type 0 where
-  pub reads : Answers (λ (t : Turn). t) (λ bytes. (scan_brought found bytes).turn) old (Err e) new
-  pub stays : old.known ≡ true → new.known ≡ true → IfRefused e (found ≡ (scan_brought found old.bytes).found)
-  pub rows : old.known ≡ true → new.known ≡ true → IfRefused e (None ≡ (scan_brought found old.bytes).rows)
+pub record BringsNone (found : Found) (brought : List ℕ → Brought) (old : Stream) (e : Error) (new : Stream)
+    : Type 0 where
+  pub reads : Answers (λ (t : Turn). t) (λ bytes. (brought bytes).turn) old (Err e) new
+  pub stays : old.known ≡ true → new.known ≡ true → IfRefused e (found ≡ (brought old.bytes).found)
+  pub rows : old.known ≡ true → new.known ≡ true → IfRefused e (None ≡ (brought old.bytes).rows)
 
 -- A fault before the data brings nothing.
-none-brings : (found : Found) (old new : Stream) (e : Error)
-    → Answers (λ (t : Turn). t) (λ bytes. (scan_brought found bytes).turn) old (Err e) new
+none-brings : (found : Found) (brought : List ℕ → Brought) (old new : Stream) (e : Error)
+    → Answers (λ (t : Turn). t) (λ bytes. (brought bytes).turn) old (Err e) new
     → (old.known ≡ true → new.known ≡ true
-    → IfRefused e ((f : Fault) × (scan_brought found old.bytes ≡ unbrought found (Err f))))
-    → BringsNone found old e new
-none-brings found old new e reads none = record {
+    → IfRefused e ((f : Fault) × (brought old.bytes ≡ unbrought found (Err f))))
+    → BringsNone found brought old e new
+none-brings found brought old new e reads none = record {
   reads = reads;
   stays = λ k l. if-refused-as e (λ n. sym (ap (λ (w : Brought). w.found) n.1)) (none k l);
   rows = λ k l. if-refused-as e (λ n. sym (ap (λ (w : Brought). w.rows) n.1)) (none k l);
 }
 
-fault-brought : (found : Found) (bytes : List ℕ) (f : Fault) → scan_brought found bytes ≡ unbrought found (Err f)
-    → (scan_brought found bytes).turn ≡ Err f
-fault-brought found bytes f e = ap (λ (w : Brought). w.turn) e
+pub no-header : (found : Found) (old new : Stream) (e : Error)
+    → Answers (λ (s : Scan). s) (header_at found) old (Err e) new → BringsNone found (scan_brought found) old e new
+no-header found old new e h =
+    let at = λ (f : Fault) (is : header_at found old.bytes ≡ Err f). header-brought found old.bytes
+    ∙ ap (brought_with_header found) is in
+    none-brings found (scan_brought found) old new e
+    (answers-err (λ (s : Scan). s) (λ (t : Turn). t) (header_at found) (λ bytes. (scan_brought found bytes).turn)
+    old new e (λ f is. ap (λ (w : Brought). w.turn) (at f is)) h)
+    (λ k l. told-err e (header_at found old.bytes) _ (h.1 k l) (λ f is. (f, at f is)))
 
-pub no-frame : (found : Found) (s : Stream) (e : Error) → found.said.frame ≡ None → NamesFormat e
-    → BringsNone found s e s
-no-frame found s e lacking names =
-    let at = fails-at found s.bytes Malformed (without-frame found s.bytes lacking) in
-    let is = fault-brought found s.bytes Malformed at in
-    none-brings found s s e (grind (arith, common_steps, format-refuses)) (λ k l. if-refused e (Malformed, at))
+-- A refusal of the tables of a scan.
+no-tables : {X : Type 0} (found : Found) (brought : List ℕ → Brought) (s : Stream) (e : Error) (o : Result X Fault)
+    → IsRefusal e → Names e o → ((f : Fault) → o ≡ Err f → brought s.bytes ≡ unbrought found (Err f))
+    → BringsNone found brought s e s
+no-tables found brought s e o r n fails =
+    none-brings found brought s s e
+    (refused (λ (t : Turn). t) (λ bytes. (brought bytes).turn) (λ bytes. (brought bytes).turn) s s e o
+    (refl, λ k. (k, refl)) r n (λ f is. ap (λ (w : Brought). w.turn) (fails f is)))
+    (λ k l. told-err e o _ n (λ f is. (f, fails f is)))
 
-pub no-header : {Y : Type 0} (v : Y → Scan) (found : Found) (frame : Frame) (old new : Stream) (e : Error)
-    → found.said.frame ≡ Some frame → Answers v (sos_at frame) old (Err e) new → BringsNone found old e new
-no-header v found frame old new e framed h =
-    let at = λ (f : Fault) (is : sos_at frame old.bytes ≡ Err f). fails-at found old.bytes f
-    (without-header found frame old.bytes f framed is) in
-    none-brings found old new e
-    (answers-err v (λ (t : Turn). t) (sos_at frame) (λ bytes. (scan_brought found bytes).turn) old new e
-    (λ f is. fault-brought found old.bytes f (at f is)) h)
-    (λ k l. told-err e (sos_at frame old.bytes) _ (h.1 k l) (λ f is. (f, at f is)))
+blocks-after : (found : Found) (frame : Frame) (scan : Scan) (bytes : List ℕ) → found.said.frame ≡ Some frame
+    → IsDct frame.process → brought_after found scan bytes ≡ blocks_brought found frame scan bytes
+blocks-after found frame scan bytes framed process =
+    is-after found frame scan bytes framed ∙ by-blocks frame.process found frame scan bytes process
 
--- The header of a scan of blocks was read.
-header-blocks : (found : Found) (frame : Frame) (scan : Scan) (bytes rest : List ℕ)
-    → found.said.frame ≡ Some frame → (frame.process ≡ Lossless → ⊥)
-    → sos_at frame bytes ≡ Ok (scan, rest) → scan_brought found bytes ≡ blocks_brought found frame scan rest
-header-blocks found frame scan bytes rest framed process h =
-    goes-at found frame scan bytes rest (with-header found frame scan bytes rest framed h)
-    ∙ by-blocks frame.process found frame scan rest process
+samples-after : (found : Found) (frame : Frame) (scan : Scan) (bytes : List ℕ)
+    (o : Result (List LosslessCoding) Fault) → found.said.frame ≡ Some frame → frame.process ≡ Lossless
+    → sample_codings found.said frame scan ≡ o → brought_after found scan bytes ≡ brought_with found frame scan bytes o
+samples-after found frame scan bytes o framed process is =
+    is-after found frame scan bytes framed ∙ by-samples frame.process found frame scan bytes process
+    ∙ samples-as found frame scan bytes ∙ ap (brought_with found frame scan bytes) is
 
-header-samples : (found : Found) (frame : Frame) (scan : Scan) (bytes rest : List ℕ)
-    (o : Result (List LosslessCoding) Fault)
-    → found.said.frame ≡ Some frame → frame.process ≡ Lossless → sos_at frame bytes ≡ Ok (scan, rest)
-    → sample_codings found.said frame scan ≡ o → scan_brought found bytes ≡ brought_with found frame scan rest o
-header-samples found frame scan bytes rest o framed process h is =
-    goes-at found frame scan bytes rest (with-header found frame scan bytes rest framed h)
-    ∙ by-samples frame.process found frame scan rest process ∙ samples-as found frame scan rest
-    ∙ ap (brought_with found frame scan rest) is
+pub no-codings : (found : Found) (frame : Frame) (scan : Scan) (s : Stream) (e : Error)
+    → found.said.frame ≡ Some frame → IsDct frame.process → IsRefusal e × Names e (codings_of found.said frame scan)
+    → BringsNone found (brought_after found scan) s e s
+no-codings found frame scan s e framed process n =
+    no-tables found (brought_after found scan) s e (codings_of found.said frame scan) n.0 n.1
+    (λ f is. blocks-after found frame scan s.bytes framed process ∙ without-codings found frame scan s.bytes f is)
 
-pub no-codings : (found : Found) (frame : Frame) (scan : Scan) (old cur : Stream) (e : Error)
-    → found.said.frame ≡ Some frame → (frame.process ≡ Lossless → ⊥) → HasRead (sos_at frame) old scan cur
-    → IsRefusal e → Names e (codings_of found.said frame scan) → BringsNone found old e cur
-no-codings found frame scan old cur e framed process has r n =
-    let at = λ (k : old.known ≡ true). header-blocks found frame scan old.bytes cur.bytes framed process (has.1 k).1 in
-    let faults = λ (k : old.known ≡ true) (f : Fault) (is : codings_of found.said frame scan ≡ Err f).
-    at k ∙ without-codings found frame scan cur.bytes f is in
-    none-brings found old cur e
-    (refused (λ (t : Turn). t) (λ bytes. (scan_brought found bytes).turn)
-    (λ bytes. (blocks_brought found frame scan bytes).turn) old cur e (codings_of found.said frame scan)
-    (has.0, λ k. ((has.1 k).0, ap (λ (w : Brought). w.turn) (at k))) r n
-    (λ f is. ap (λ (w : Brought). w.turn) (without-codings found frame scan cur.bytes f is)))
-    (λ k l. told-err e (codings_of found.said frame scan) _ n (λ f is. (f, faults k f is)))
-
-pub no-samples : (found : Found) (frame : Frame) (scan : Scan) (old cur : Stream) (e : Error)
-    → found.said.frame ≡ Some frame → frame.process ≡ Lossless → HasRead (sos_at frame) old scan cur
-    → IsRefusal e → Names e (sample_codings found.said frame scan) → BringsNone found old e cur
-no-samples found frame scan old cur e framed process has r n =
-    let faults = λ (k : old.known ≡ true) (f : Fault) (is : sample_codings found.said frame scan ≡ Err f).
-    header-samples found frame scan old.bytes cur.bytes (Err f) framed process (has.1 k).1 is in
-    let at = λ (k : old.known ≡ true).
-    header-samples found frame scan old.bytes cur.bytes (sample_codings found.said frame scan) framed process
-    (has.1 k).1 refl in
-    none-brings found old cur e
-    (refused (λ (t : Turn). t) (λ bytes. (scan_brought found bytes).turn)
-    (λ bytes. (brought_with found frame scan bytes (sample_codings found.said frame scan)).turn) old cur e
-    (sample_codings found.said frame scan)
-    (has.0, λ k. ((has.1 k).0, ap (λ (w : Brought). w.turn) (at k))) r n
-    (λ f is. ap (λ (o : Result (List LosslessCoding) Fault). (brought_with found frame scan cur.bytes o).turn) is))
-    (λ k l. told-err e (sample_codings found.said frame scan) _ n (λ f is. (f, faults k f is)))
+pub no-samples : (found : Found) (frame : Frame) (scan : Scan) (s : Stream) (e : Error)
+    → found.said.frame ≡ Some frame → frame.process ≡ Lossless
+    → IsRefusal e × Names e (sample_codings found.said frame scan)
+    → BringsNone found (brought_after found scan) s e s
+no-samples found frame scan s e framed process n =
+    no-tables found (brought_after found scan) s e (sample_codings found.said frame scan) n.0 n.1
+    (λ f is. samples-after found frame scan s.bytes (Err f) framed process is)
 
 -- ---- the data of a scan
 
 abbrev pub Data : Type 0
 Data = List ℕ → DataBrought
 
--- The header of a scan was read, with its tables; what the scan brings are its data.
-pub record BeginsData (found : Found) (d : Data) (old cur : Stream) : Type 0 where
-  pub failed : cur.failed ≡ old.failed
-  pub brings : old.known ≡ true → (cur.known ≡ true)
-      × (scan_brought found old.bytes ≡ brought_of found (d cur.bytes))
+-- With its tables, what the scan brings are its data.
+abbrev pub BringsData : Found → Scan → Data → Type 0
+BringsData found scan d = (bytes : List ℕ) → brought_after found scan bytes ≡ brought_of found (d bytes)
 
-pub blocks-begin : (found : Found) (frame : Frame) (scan : Scan) (p : Pass) (codings : List Coding) (old cur : Stream)
-    → found.said.frame ≡ Some frame → (frame.process ≡ Lossless → ⊥) → HasRead (sos_at frame) old scan cur
+pub brings-blocks : (found : Found) (frame : Frame) (scan : Scan) (p : Pass) (codings : List Coding)
+    → found.said.frame ≡ Some frame → IsDct frame.process
     → codings_of found.said frame scan ≡ Ok codings → p ≡ pass_of scan
-    → BeginsData found (data_reached found frame p codings) old cur
-blocks-begin found frame scan p codings old cur framed process has e is = record {
-  failed = has.0;
-  brings = λ k. (
-    (has.1 k).0,
-    header-blocks found frame scan old.bytes cur.bytes framed process (has.1 k).1
-        ∙ with-codings found frame scan p codings cur.bytes e is,
-  );
-}
+    → BringsData found scan (data_reached found frame p codings)
+brings-blocks found frame scan p codings framed process e is bytes =
+    blocks-after found frame scan bytes framed process ∙ with-codings found frame scan p codings bytes e is
 
-pub samples-begin : (found : Found) (frame : Frame) (scan : Scan) (codings : List LosslessCoding) (old cur : Stream)
-    → found.said.frame ≡ Some frame → frame.process ≡ Lossless → HasRead (sos_at frame) old scan cur
-    → sample_codings found.said frame scan ≡ Ok codings
-    → BeginsData found (samples_reached found frame scan codings) old cur
-samples-begin found frame scan codings old cur framed process has is = record {
-  failed = has.0;
-  brings = λ k. (
-    (has.1 k).0,
-    header-samples found frame scan old.bytes cur.bytes (Ok codings) framed process (has.1 k).1 is,
-  );
-}
+pub brings-samples : (found : Found) (frame : Frame) (scan : Scan) (codings : List LosslessCoding)
+    → found.said.frame ≡ Some frame → frame.process ≡ Lossless → sample_codings found.said frame scan ≡ Ok codings
+    → BringsData found scan (samples_reached found frame scan codings)
+brings-samples found frame scan codings framed process is bytes =
+    samples-after found frame scan bytes (Ok codings) framed process is
 
 -- a fact of three things, each of which is another
 pub moved : {A B C : Type 0} {a x : A} {b y : B} {c z : C} → a ≡ x → b ≡ y → c ≡ z → (P : A → B → C → Type 0)
@@ -283,55 +257,52 @@ fault-made : (found : Found) (whole : Brought) (d : DataBrought) (f : Fault)
 fault-made found whole d f is e =
     ap (λ (w : Brought). w.turn) is ∙ ap (λ (o : Outcome (Option Marker)). o >>= after_reached found d.found) e
 
-refused-reads : {X : Type 0} (v : X → Turn) (found : Found) (d : Data) (old cur new : Stream) (e : Error)
-    → BeginsData found d old cur
-    → Answers (λ (m : Option Marker). m) (λ bytes. (d bytes).met) cur (Err e) new
-    → Answers v (λ bytes. (scan_brought found bytes).turn) old (Err e) new
-refused-reads v found d old cur new e b a = (
-  subst (λ (failed : Bool). MayFail e failed new.failed) b.failed a.0,
-  λ k l. Names-through e (d cur.bytes).met (scan_brought found old.bytes).turn
-      (λ f h. fault-made found (scan_brought found old.bytes) (d cur.bytes) f (b.brings k).1 h)
-      (a.1 (b.brings k).0 l),
-  λ k l. a.2 (b.brings k).0 l,
+refused-reads : {X : Type 0} (v : X → Turn) (found : Found) (scan : Scan) (d : Data) (old new : Stream) (e : Error)
+    → BringsData found scan d
+    → Answers (λ (m : Option Marker). m) (λ bytes. (d bytes).met) old (Err e) new
+    → Answers v (λ bytes. (brought_after found scan bytes).turn) old (Err e) new
+refused-reads v found scan d old new e b a = (
+  a.0,
+  λ k l. Names-through e (d old.bytes).met (brought_after found scan old.bytes).turn
+      (λ f h. fault-made found (brought_after found scan old.bytes) (d old.bytes) f (b old.bytes) h) (a.1 k l),
+  a.2,
 )
 
-pub ended-reads : (v : Step → Turn) (found prev : Found) (d : Data) (old cur new : Stream)
-    (reached : Result (Option Marker) Error) (result : Result Step Error) → BeginsData found d old cur
-    → scan_before prev ≡ scan_before found → OnTold cur new reached (once_scanned prev ≡ (d cur.bytes).found)
-    → UnlessRefused reached (Answers (λ (m : Option Marker). m) (λ bytes. (d bytes).met) cur reached new)
+pub ended-reads : (v : Step → Turn) (found prev : Found) (scan : Scan) (d : Data) (old new : Stream)
+    (reached : Result (Option Marker) Error) (result : Result Step Error) → BringsData found scan d
+    → scan_before prev ≡ scan_before found → OnTold old new reached (once_scanned prev ≡ (d old.bytes).found)
+    → UnlessRefused reached (Answers (λ (m : Option Marker). m) (λ bytes. (d bytes).met) old reached new)
     → IsEndOf prev v reached result
-    → UnlessRefused result (Answers v (λ bytes. (scan_brought found bytes).turn) old result new)
-ended-reads v found prev d old cur new (Ok m) (Ok step) b before after a is = (
-  a.0 ∙ b.failed,
+    → UnlessRefused result (Answers v (λ bytes. (brought_after found scan bytes).turn) old result new)
+ended-reads v found prev scan d old new (Ok m) (Ok step) b before after a is = (
+  a.0,
   λ k.
-      let at = b.brings k in
-      let read = a.1 at.0 in (
+      let read = a.1 k in (
         read.0,
-        turn-made found (once_scanned prev) (scan_brought found old.bytes) (d cur.bytes) m new.bytes at.1 (after at.0)
-            read.1
+        turn-made found (once_scanned prev) (brought_after found scan old.bytes) (d old.bytes) m new.bytes
+            (b old.bytes) (after k) read.1
             ∙ ap (λ (t : Turn). Ok (t, new.bytes))
             (ap (λ (b : Before). record { found = once_scanned prev; before = b; met = m; ended = false }) (sym before)
             ∙ sym is),
       ),
 )
-ended-reads v found prev d old cur new (Ok m) (Err f) b before after a is = absurd is
-ended-reads v found prev d old cur new (Err e) (Ok step) b before after a is = absurd is
-ended-reads v found prev d old cur new (Err e) (Err f) b before after a is =
+ended-reads v found prev scan d old new (Ok m) (Err f) b before after a is = absurd is
+ended-reads v found prev scan d old new (Err e) (Ok step) b before after a is = absurd is
+ended-reads v found prev scan d old new (Err e) (Err f) b before after a is =
     subst (λ (x : Error). UnlessRefused {X = Step} (Err x)
-    (Answers v (λ bytes. (scan_brought found bytes).turn) old (Err x) new)) (sym is)
-    (if-refused-as e (refused-reads v found d old cur new e b) a)
+    (Answers v (λ bytes. (brought_after found scan bytes).turn) old (Err x) new)) (sym is)
+    (if-refused-as e (refused-reads v found scan d old new e b) a)
 
-pub ended-found : (v : Step → Turn) (found prev : Found) (d : Data) (old cur new : Stream)
-    (reached : Result (Option Marker) Error) (result : Result Step Error) → BeginsData found d old cur
-    → OnTold cur new reached (once_scanned prev ≡ (d cur.bytes).found) → IsEndOf prev v reached result
-    → OnToldRefusal old new result (once_scanned prev ≡ (scan_brought found old.bytes).found)
-ended-found v found prev d old cur new (Ok m) (Ok step) b after is = tt
-ended-found v found prev d old cur new (Ok m) (Err f) b after is = absurd is
-ended-found v found prev d old cur new (Err e) (Ok step) b after is = absurd is
-ended-found v found prev d old cur new (Err e) (Err f) b after is = λ k l.
-    let at = b.brings k in
-    subst (λ (x : Error). IfRefused x (once_scanned prev ≡ (scan_brought found old.bytes).found)) (sym is)
-    (if-refused-as e (λ same. same ∙ sym (ap (λ (w : Brought). w.found) at.1)) (after at.0 l))
+pub ended-found : (v : Step → Turn) (found prev : Found) (scan : Scan) (d : Data) (old new : Stream)
+    (reached : Result (Option Marker) Error) (result : Result Step Error) → BringsData found scan d
+    → OnTold old new reached (once_scanned prev ≡ (d old.bytes).found) → IsEndOf prev v reached result
+    → OnToldRefusal old new result (once_scanned prev ≡ (brought_after found scan old.bytes).found)
+ended-found v found prev scan d old new (Ok m) (Ok step) b after is = tt
+ended-found v found prev scan d old new (Ok m) (Err f) b after is = absurd is
+ended-found v found prev scan d old new (Err e) (Ok step) b after is = absurd is
+ended-found v found prev scan d old new (Err e) (Err f) b after is = λ k l.
+    subst (λ (x : Error). IfRefused x (once_scanned prev ≡ (brought_after found scan old.bytes).found)) (sym is)
+    (if-refused-as e (λ same. same ∙ sym (ap (λ (w : Brought). w.found) (b old.bytes))) (after k l))
 
 pub ended-unless : (P : Type 0) (v : Step → Turn) (prev : Found) (reached : Result (Option Marker) Error)
     (result : Result Step Error) → UnlessRefused reached P → IsEndOf prev v reached result → UnlessRefused result P
@@ -356,17 +327,18 @@ ended-steps v old prev frame (Err e) (Err f) framed said sound is = record {
   unread = λ _ _. tt;
 }
 
-pub ended-rows : (v : Step → Turn) (found prev : Found) (d : Data) (old cur new : Stream) (made rows before : Option ℕ)
-    (reached : Result (Option Marker) Error) (result : Result Step Error) → BeginsData found d old cur
-    → OnTold cur new reached (made ≡ (d cur.bytes).rows) → rows ≡ rows_after reached before made
-    → IsEndOf prev v reached result → OnToldRefusal old new result (rows ≡ (scan_brought found old.bytes).rows)
-ended-rows v found prev d old cur new made rows before (Ok m) (Ok step) b told same is = tt
-ended-rows v found prev d old cur new made rows before (Ok m) (Err f) b told same is = absurd is
-ended-rows v found prev d old cur new made rows before (Err e) (Ok step) b told same is = absurd is
-ended-rows v found prev d old cur new made rows before (Err e) (Err f) b told same is = λ k l.
-    let at = b.brings k in
-    subst (λ (x : Error). IfRefused x (rows ≡ (scan_brought found old.bytes).rows)) (sym is)
-    (if-refused-as e (λ counted. same ∙ counted ∙ sym (ap (λ (w : Brought). w.rows) at.1)) (told at.0 l))
+pub ended-rows : (v : Step → Turn) (found prev : Found) (scan : Scan) (d : Data) (old new : Stream)
+    (made rows before : Option ℕ) (reached : Result (Option Marker) Error) (result : Result Step Error)
+    → BringsData found scan d
+    → OnTold old new reached (made ≡ (d old.bytes).rows) → rows ≡ rows_after reached before made
+    → IsEndOf prev v reached result
+    → OnToldRefusal old new result (rows ≡ (brought_after found scan old.bytes).rows)
+ended-rows v found prev scan d old new made rows before (Ok m) (Ok step) b told same is = tt
+ended-rows v found prev scan d old new made rows before (Ok m) (Err f) b told same is = absurd is
+ended-rows v found prev scan d old new made rows before (Err e) (Ok step) b told same is = absurd is
+ended-rows v found prev scan d old new made rows before (Err e) (Err f) b told same is = λ k l.
+    subst (λ (x : Error). IfRefused x (rows ≡ (brought_after found scan old.bytes).rows)) (sym is)
+    (if-refused-as e (λ counted. same ∙ counted ∙ sym (ap (λ (w : Brought). w.rows) (b old.bytes))) (told k l))
 
 pub ended-whole : (v : Step → Turn) (prev : Found) (made rows before : Option ℕ)
     (reached : Result (Option Marker) Error) (result : Result Step Error) → before ≡ None
@@ -379,24 +351,64 @@ ended-whole v prev made rows before (Err e) (Err f) none same is = tt
 -- ---- what a caller sees
 
 -- a refusal that brings nothing, of a state that is as before
-pub none-reads : (v : Step → Turn) (now at : Found) (old new : Stream) (r : Result Step Error) (e : Error)
-    → IsErrAnd r (λ y. y ≡ e) → now ≡ at → BringsNone now old e new
-    → UnlessRefused r (Answers v (λ bytes. (scan_brought at bytes).turn) old r new)
-none-reads v now at old new r e fails same b =
-    let p = err_from_is_err_and r fails in rw (p.1, p.2, sym same) (if-refused e b.reads)
+pub none-reads : (v : Step → Turn) (now : Found) (brought : List ℕ → Brought) (old new : Stream)
+    (r : Result Step Error) (e : Error) → IsErrAnd r (λ y. y ≡ e) → BringsNone now brought old e new
+    → UnlessRefused r (Answers v (λ bytes. (brought bytes).turn) old r new)
+none-reads v now brought old new r e fails b =
+    let p = err_from_is_err_and r fails in rw (p.1, p.2) (if-refused e b.reads)
 
-pub none-stays : (now at next : Found) (old new : Stream) (r : Result Step Error) (e : Error)
-    → IsErrAnd r (λ y. y ≡ e) → now ≡ at → next ≡ now → BringsNone now old e new
-    → OnToldRefusal old new r (next ≡ (scan_brought at old.bytes).found)
-none-stays now at next old new r e fails same is b =
-    let p = err_from_is_err_and r fails in rw (p.1, p.2, is, sym same) b.stays
+pub none-stays : (now next : Found) (brought : List ℕ → Brought) (old new : Stream) (r : Result Step Error) (e : Error)
+    → IsErrAnd r (λ y. y ≡ e) → next ≡ now → BringsNone now brought old e new
+    → OnToldRefusal old new r (next ≡ (brought old.bytes).found)
+none-stays now next brought old new r e fails is b =
+    let p = err_from_is_err_and r fails in rw (p.1, p.2, is) b.stays
 
-pub none-counted : (now at : Found) (rows : Option ℕ) (old new : Stream) (r : Result Step Error) (e : Error)
-    → IsErrAnd r (λ y. y ≡ e) → now ≡ at → rows ≡ None → BringsNone now old e new
-    → OnToldRefusal old new r (rows ≡ (scan_brought at old.bytes).rows)
-none-counted now at rows old new r e fails same none b =
-    let p = err_from_is_err_and r fails in
-    rw (p.1, p.2, none, sym same) b.rows
+pub none-counted : (now : Found) (brought : List ℕ → Brought) (rows : Option ℕ) (old new : Stream)
+    (r : Result Step Error) (e : Error) → IsErrAnd r (λ y. y ≡ e) → rows ≡ None → BringsNone now brought old e new
+    → OnToldRefusal old new r (rows ≡ (brought old.bytes).rows)
+none-counted now brought rows old new r e fails none b =
+    let p = err_from_is_err_and r fails in rw (p.1, p.2, none) b.rows
+
+-- ---- a scan after its header
+
+-- what the scan brings is what it brings after the header
+header-then : (found : Found) (scan : Scan) (old cur : Stream) → HasRead (header_at found) old scan cur
+    → old.known ≡ true → (cur.known ≡ true) × (scan_brought found old.bytes ≡ brought_after found scan cur.bytes)
+header-then found scan old cur has k =
+    let at = has.1 k in (at.0, header-brought found old.bytes ∙ ap (brought_with_header found) at.1)
+
+header-answers : {X : Type 0} (v : X → Turn) (found : Found) (scan : Scan) (old cur new : Stream) (r : Result X Error)
+    → HasRead (header_at found) old scan cur
+    → Answers v (λ bytes. (brought_after found scan bytes).turn) cur r new
+    → Answers v (λ bytes. (scan_brought found bytes).turn) old r new
+header-answers v found scan old cur new (Ok x) has a = (
+  a.0 ∙ has.0,
+  λ k.
+      let at = header-then found scan old cur has k in
+      let read = a.1 at.0 in (read.0, ap (λ (w : Brought). w.turn) at.1 ∙ read.1),
+)
+header-answers v found scan old cur new (Err e) has a = (
+  subst (λ (failed : Bool). MayFail e failed new.failed) has.0 a.0,
+  λ k l.
+      let at = header-then found scan old cur has k in
+      subst (Names e) (sym (ap (λ (w : Brought). w.turn) at.1)) (a.1 at.0 l),
+  λ k l. a.2 (header-then found scan old cur has k).0 l,
+)
+
+pub header-reads : {X : Type 0} (v : X → Turn) (found : Found) (scan : Scan) (old cur new : Stream)
+    (r : Result X Error) → HasRead (header_at found) old scan cur
+    → UnlessRefused r (Answers v (λ bytes. (brought_after found scan bytes).turn) cur r new)
+    → UnlessRefused r (Answers v (λ bytes. (scan_brought found bytes).turn) old r new)
+header-reads v found scan old cur new r has a = unless-so r _ _ (header-answers v found scan old cur new r has) a
+
+pub header-told : {X : Type 0} (P : Brought → Type 0) (found : Found) (scan : Scan) (old cur new : Stream)
+    (r : Result X Error) → HasRead (header_at found) old scan cur
+    → OnToldRefusal cur new r (P (brought_after found scan cur.bytes))
+    → OnToldRefusal old new r (P (scan_brought found old.bytes))
+header-told P found scan old cur new (Ok x) has h = tt
+header-told P found scan old cur new (Err e) has h = λ k l.
+    let at = header-then found scan old cur has k in
+    if-refused-as e (λ p. subst P (sym at.1) p) (h at.0 l)
 
 -- ---- what holds afterwards
 

@@ -1,7 +1,8 @@
 -- Scans that are ready to be read, by what was found before them.
 use Rattle.std.proofs.lemmas.Grind.{common_steps}
 use Rattle.std.proofs.Common.{◌≡◌, ◌≤◌, ◌+◌, ℕ, true, List, [], ◌∷◌, length, map, Ok, sym}
-use Rattle.std.proofs.Common.{subst, arith, ap, ◌∙◌}
+use Rattle.std.proofs.Common.{subst, arith, ap, Option, Some}
+use Rattle.std.specs.Prelude.{IfSome}
 use Rattle.std.specs.List.{AllByRecursion}
 use Rattle.jpeg_bits.specs.BlockView.{IsPass}
 use Rattle.jpeg_bits.specs.Passes.{Pass}
@@ -17,7 +18,7 @@ use Rattle.jpeg_streams.specs.Sound.{IsDecodedFrame}
 use Rattle.jpeg_streams.specs.ScanSegments.{codings_of, components_of, Coding, pass_of}
 use Rattle.jpeg_streams.specs.Found.{Found, Said}
 use Rattle.jpeg_decoder.specs.Steps.{AreRising, HasScale, IsCodingOf, IsDct, IsReadable}
-use Rattle.jpeg_decoder.specs.Steps.{IsBefore}
+use Rattle.jpeg_decoder.specs.Steps.{IsHeaderOf}
 use Rattle.jpeg_decoder.specs.Seen.{said_of}
 use Rattle.jpeg_streams.proofs.Pictures.LosslessSizes.{all-at}
 use Rattle.jpeg_streams.proofs.Written.ReadTurns.{codings-each, codings-indices}
@@ -27,13 +28,6 @@ use Rattle.jpeg_streams.proofs.Soundness.{count-few, decoded-count, decoded-fits
 -- what was said before a scan, by the fields
 pub scanned-before : (s : Inside) (said : Said) → said_of s ≡ said → said.scanned ≡ s.scanned
 scanned-before s said is = ap (λ (said : Said). said.scanned) (sym is)
-
-pub before-said : (s : Inside) (scan : BlockScan) (found : Found) → said_of s ≡ found.said
-    → scan.restart_interval ≡ s.restart_interval → IsBefore s.scanned scan found
-before-said s scan found is e = record {
-  scanned = scanned-before s found.said is;
-  restart = e ∙ ap (λ (said : Said). said.restart) is;
-}
 
 -- ---- the pass of a scan
 
@@ -106,3 +100,15 @@ ready found frame header scan decoded legal codings count =
       rising = rising-at cs 0 (subst (IsRising 0) (sym indices) legal.rising);
       sampling = sized_frames_have_factors frame (decoded-sized frame decoded);
     }
+
+-- ---- the header of a scan
+
+-- a fact of the frame that was found
+pub of-found : {A : Type 0} (P : A → Type 0) (o : Option A) (x : A) → o ≡ Some x → IfSome o P → P x
+of-found {A} P o x e h = subst (λ (o : Option A). IfSome o P) e h
+
+-- It is one of the frame that was found.
+pub header-legal : (found : Found) (frame : Frame) (scan : headers.Scan) → found.said.frame ≡ Some frame
+    → IsHeaderOf found scan → IsScanOf frame scan
+header-legal found frame scan e h = of-found (λ (f : Frame). IsScanOf f scan) found.said.frame frame e
+    (subst (λ (o : Option Frame). IfSome o (λ f. IsScanOf f scan)) (sym h.framed) h.legal)

@@ -1,16 +1,15 @@
 -- The steps of a scan that is read, and what they are to a segment of the stream.
-use Rattle.std.proofs.Common.{rules, ◌≡◌, ℕ, suc, true, false, List, length, Option, Some, None, Result}
-use Rattle.std.proofs.Common.{Ok, Err, ◌∙◌, arith}
+use Rattle.std.proofs.Common.{◌≡◌, ℕ, suc, true, false, List, length, Option, Some, None, Result}
+use Rattle.std.proofs.Common.{Ok, Err, ◌∙◌, ap, arith, refl, subst, sym}
 use Rattle.jpeg_bits.specs.Stream.{Stream}
-use Rattle.jpeg_bits.specs.Reading.{Answers, Fault, Names, NamesFormat, Outcome, ◌>>=◌}
+use Rattle.jpeg_bits.specs.Reading.{Answers, Fault, Names, Outcome, ◌>>=◌}
 use Rattle.jpeg_bits.specs.Passes.{Pass}
 use Rattle.jpeg_bits.specs.declared.error.Error.{Error}
 use Rattle.jpeg_bits.specs.declared.marker.Marker.{Marker}
 use Rattle.jpeg_bits.proofs.Loops.{Continues, Continues-err, bind_at, bind_err, still_known}
 use Rattle.jpeg_segments.specs.Frame.{Frame}
 use Rattle.jpeg_segments.specs.declared.frame.CodingProcess.{CodingProcess}
-use Rattle.jpeg_segments.specs.declared.frame.CodingProcess.TheVariants.{DctProgressive}
-use Rattle.jpeg_segments.specs.declared.frame.CodingProcess.TheVariants.{DctSequential, Lossless}
+use Rattle.jpeg_segments.specs.declared.frame.CodingProcess.TheVariants.{Lossless}
 use Rattle.jpeg_segments.specs.ScanHeader.{Scan, sos_at}
 use Rattle.jpeg_streams.specs.Scans.{Arrays}
 use Rattle.jpeg_streams.specs.ScanSegments.{scan_turn as turn_of_scan, arrays_before, blocks_scan}
@@ -19,9 +18,9 @@ use Rattle.jpeg_streams.specs.ScanSegments.{lossless_scan, scan_before, scan_arr
 use Rattle.jpeg_streams.specs.ScanSegments.{scan_segment}
 use Rattle.jpeg_streams.specs.Segments.{Turn}
 use Rattle.jpeg_streams.specs.Found.{Found}
-use Rattle.jpeg_decoder.specs.Steps.{IsDct, IsRefusal, IsStep, after_all, samples_read, scan_data}
+use Rattle.jpeg_decoder.specs.Steps.{IsDct, IsRefusal, IsStep, after_all, blocks_read, header_at, read_after}
+use Rattle.jpeg_decoder.specs.Steps.{read_by, samples_read, scan_data}
 use Rattle.jpeg_decoder.specs.declared.stream.state.Step.{Step}
-use Rattle.jpeg_decoder.proofs.Scans.SlotCodings.{format-refuses}
 use Rattle.jpeg_streams.specs.InTurn.{AreArrays}
 use Rattle.jpeg_segments.specs.Checks.{needed}
 use Rattle.jpeg_streams.specs.Sound.{ArePlanes, IsSound}
@@ -43,29 +42,6 @@ pub last-step : {X Y W : Type 0} (view : X → Y) (v : X → W) (whole rest : Li
     → ((f : Fault) → read cur.bytes ≡ Err f → rest cur.bytes ≡ Err f) → Continues whole old rest cur
     → Answers v read cur r new → Answers view whole old r new
 last-step view v whole rest read old cur new r ok err p q = grind (arith, common_steps)
-
--- ---- a scan
-
--- a scan of blocks: what is found after it, and the marker after it and its restart markers
-unfoldable pub blocks_read : Found → Frame → Scan → List ℕ → Outcome (Found × Option Marker)
-blocks_read found frame scan bytes = do
-  codings ← codings_of found.said frame scan
-  r ← scan_data found frame (pass_of scan) codings bytes
-  met ← after_all r.0.1 r.1
-  Ok ((r.0.0, met.0), met.1)
-
--- a scan of either
-abbrev pub read_by : CodingProcess → Found → Frame → Scan → List ℕ → Outcome (Found × Option Marker)
-read_by DctSequential found frame scan bytes = blocks_read found frame scan bytes
-read_by DctProgressive found frame scan bytes = blocks_read found frame scan bytes
-read_by Lossless found frame scan bytes = samples_read found frame scan bytes
-
--- a scan by what was found before it
-unfoldable pub scan_read : Found → List ℕ → Outcome (Found × Option Marker)
-scan_read found bytes = do
-  frame ← needed found.said.frame
-  scan ← sos_at frame bytes
-  read_by frame.process found frame scan.0 scan.1
 
 -- ---- the steps of a scan
 
@@ -96,77 +72,60 @@ HasRead read old y new =
 pub is-dct : (p : CodingProcess) → (p ≡ Lossless → ⊥) → IsDct p
 is-dct p h = grind (arith, common_steps)
 
--- A scan of blocks has its tables after its header.
-header-read : (found : Found) (frame : Frame) (scan : Scan) (old new : Stream)
-    → found.said.frame ≡ Some frame → (frame.process ≡ Lossless → ⊥) → HasRead (sos_at frame) old scan new
-    → Continues (scan_read found) old (after_header found frame scan) new
-unfolding scan_read blocks_read
-header-read found frame scan old new e process has = grind (arith, common_steps, bind_at)
+-- what a scan of blocks is read to be
+abbrev ReadsBlocks : Found → Found → Frame → Scan → Stream → Result (Option Marker) Error → Stream → Type 0
+ReadsBlocks next found frame scan old r new =
+    Answers (λ (m : Option Marker). (next, m)) (blocks_read found frame scan) old r new
 
--- A lossless scan is its samples after its header.
-pub samples-met : (next found : Found) (frame : Frame) (scan : Scan) (old cur new : Stream)
-    (r : Result (Option Marker) Error)
-    → found.said.frame ≡ Some frame → frame.process ≡ Lossless → HasRead (sos_at frame) old scan cur
-    → Answers (λ (m : Option Marker). (next, m)) (samples_read found frame scan) cur r new
-    → Answers (λ (m : Option Marker). (next, m)) (scan_read found) old r new
-unfolding scan_read
-samples-met next found frame scan old cur new r e process has read = search rules
+-- Tables that are not in force are refused.
+pub codings-refused : (next found : Found) (frame : Frame) (scan : Scan) (s : Stream) (e : Error)
+    → IsRefusal e → Names e (codings_of found.said frame scan) → ReadsBlocks next found frame scan s (Err e) s
+unfolding blocks_read
+codings-refused next found frame scan s e r n =
+    refused (λ (m : Option Marker). (next, m)) (blocks_read found frame scan) (after_header found frame scan) s s e _
+    (refl, λ k. (k, refl)) r n (λ f h. bind_err _ _ f h)
 
--- A scan is refused.
-abbrev ScanFails : Found → Stream → Error → Stream → Type 0
-ScanFails found old e new = Answers (λ (m : Option Marker). (found, m)) (scan_read found) old (Err e) new
-
--- A scan without a frame is refused.
-pub frame-refused : (found : Found) (s : Stream) (e : Error)
-    → found.said.frame ≡ None → NamesFormat e → ScanFails found s e s
-unfolding scan_read
-frame-refused found s e lacking names = grind (arith, common_steps, format-refuses, refused, bind_err)
-
-pub header-refused : {Y : Type 0} (v : Y → Scan) (found : Found) (frame : Frame)
-    (old new : Stream) (e : Error) → found.said.frame ≡ Some frame
-    → Answers v (sos_at frame) old (Err e) new → ScanFails found old e new
-unfolding scan_read
-header-refused v found frame old new e framed h = grind (arith, common_steps, bind_at, bind_err)
-
--- Tables that are not in force are refused after the header.
-pub codings-refused : (found : Found) (frame : Frame) (scan : Scan)
-    (old cur : Stream) (e : Error)
-    → found.said.frame ≡ Some frame → (frame.process ≡ Lossless → ⊥) → HasRead (sos_at frame) old scan cur
-    → IsRefusal e → Names e (codings_of found.said frame scan) → ScanFails found old e cur
-codings-refused found frame scan old cur e framed process has r n =
-    refused (λ (m : Option Marker). (found, m)) (scan_read found) (after_header found frame scan) old cur e _
-    (header-read found frame scan old cur framed process has) r n (λ f h. bind_err _ _ f h)
-
--- A scan of blocks has its data after its header, where tables are in force.
-blocks-begun : (found : Found) (frame : Frame) (scan : Scan) (p : Pass) (codings : List Coding)
-    (old new : Stream) → found.said.frame ≡ Some frame → (frame.process ≡ Lossless → ⊥)
-    → HasRead (sos_at frame) old scan new → codings_of found.said frame scan ≡ Ok codings → p ≡ pass_of scan
-    → Continues (scan_read found) old (after_codings found frame p codings) new
-blocks-begun found frame scan p codings old new e process has in_force is =
-    let begun = header-read found frame scan old new e process has in
-    (begun.0, λ k. let at = begun.1 k in (at.0, at.1 ∙ codings-read found frame scan p codings new.bytes in_force is))
+-- A scan of blocks has its data first, where tables are in force.
+blocks-begun : (found : Found) (frame : Frame) (scan : Scan) (p : Pass) (codings : List Coding) (s : Stream)
+    → codings_of found.said frame scan ≡ Ok codings → p ≡ pass_of scan
+    → Continues (blocks_read found frame scan) s (after_codings found frame p codings) s
+unfolding blocks_read
+blocks-begun found frame scan p codings s in_force is =
+    (refl, λ k. (k, codings-read found frame scan p codings s.bytes in_force is))
 
 -- Data that is refused.
-pub data-refused : (next found : Found) (frame : Frame) (scan : Scan) (p : Pass) (codings : List Coding) (old cur new : Stream) (e : Error)
-    → found.said.frame ≡ Some frame → (frame.process ≡ Lossless → ⊥) → HasRead (sos_at frame) old scan cur
-    → codings_of found.said frame scan ≡ Ok codings → p ≡ pass_of scan
-    → Answers (λ (m : Option Marker). (next, m)) (scan_data found frame p codings) cur (Err e) new → ScanFails found old e new
-data-refused next found frame scan p codings old cur new e framed process has in_force is read =
-    Continues-err (λ (m : Option Marker). (found, m)) (λ (m : Option Marker). (next, m)) (scan_read found) (after_codings found frame p codings) (scan_data found frame p codings)
-    old cur new e (λ f h. bind_err after_data _ f h)
-    (blocks-begun found frame scan p codings old cur framed process has in_force is) read
+pub data-refused : (next found : Found) (frame : Frame) (scan : Scan) (p : Pass) (codings : List Coding)
+    (old new : Stream) (e : Error) → codings_of found.said frame scan ≡ Ok codings → p ≡ pass_of scan
+    → Answers (λ (m : Option Marker). (next, m)) (scan_data found frame p codings) old (Err e) new
+    → ReadsBlocks next found frame scan old (Err e) new
+data-refused next found frame scan p codings old new e in_force is read =
+    Continues-err (λ (m : Option Marker). (next, m)) (λ (m : Option Marker). (next, m)) (blocks_read found frame scan)
+    (after_codings found frame p codings) (scan_data found frame p codings)
+    old old new e (λ f h. bind_err after_data _ f h)
+    (blocks-begun found frame scan p codings old in_force is) read
 
 -- The restart markers after the data are passed over, and the scan is read.
 pub scan-ends : (next found : Found) (met : Option Marker) (frame : Frame) (scan : Scan) (p : Pass)
-    (codings : List Coding) (old cur mid new : Stream) (r : Result (Option Marker) Error)
-    → found.said.frame ≡ Some frame → (frame.process ≡ Lossless → ⊥) → HasRead (sos_at frame) old scan cur
+    (codings : List Coding) (old mid new : Stream) (r : Result (Option Marker) Error)
     → codings_of found.said frame scan ≡ Ok codings → p ≡ pass_of scan
-    → HasRead (scan_data found frame p codings) cur (next, met) mid
+    → HasRead (scan_data found frame p codings) old (next, met) mid
     → Answers (λ (m : Option Marker). m) (after_all met) mid r new
-    → Answers (λ (m : Option Marker). (next, m)) (scan_read found) old r new
-scan-ends next found met frame scan p codings old cur mid new r framed process has in_force is read ends =
-    let begun = blocks-begun found frame scan p codings old cur framed process has in_force is in
+    → ReadsBlocks next found frame scan old r new
+scan-ends next found met frame scan p codings old mid new r in_force is read ends =
+    let begun = blocks-begun found frame scan p codings old in_force is in
     grind (arith, common_steps, last-step, bind_at, bind_err)
+
+-- ---- what is read after the header
+
+is-read-after : (found : Found) (frame : Frame) (scan : Scan) (bytes : List ℕ) → found.said.frame ≡ Some frame
+    → read_after found scan bytes ≡ read_by frame.process found frame scan bytes
+is-read-after found frame scan bytes e = rw e refl
+
+-- what a call answers, by what is read as it is
+pub answers-as : {X Y : Type 0} (v : X → Y) (read whole : List ℕ → Outcome Y) (old new : Stream) (r : Result X Error)
+    → whole old.bytes ≡ read old.bytes → Answers v read old r new → Answers v whole old r new
+answers-as v read whole old new (Ok x) e h = (h.0, λ k. ((h.1 k).0, e ∙ (h.1 k).1))
+answers-as v read whole old new (Err x) e h = (h.0, λ k l. subst (Names x) (sym e) (h.1 k l), h.2)
 
 -- ---- a segment of the stream
 
@@ -177,6 +136,11 @@ scan_turn found r = Ok (record { found = r.0.0; before = scan_before found; met 
 through : {A B C : Type 0} (o : Result A Fault) (s : A → Result C Fault) (r : A → Result B Fault)
     (t : B → Result C Fault) → ((x : A) → s x ≡ (r x >>= t)) → (o >>= s) ≡ ((o >>= r) >>= t)
 through o s r t h = grind (arith, common_steps)
+
+through-same : {A C : Type 0} (o : Result A Fault) (s t : A → Result C Fault) → ((x : A) → s x ≡ t x)
+    → (o >>= s) ≡ (o >>= t)
+through-same (Ok x) s t h = h x
+through-same (Err e) s t h = refl
 
 -- the last steps, where a value is made of what is read
 through-made : {A B C D : Type 0} (o : Result A Fault) (made : A → B) (k : B → Result C Fault) (s : A → Result D Fault)
@@ -197,22 +161,48 @@ pub process-parts : (p : CodingProcess) (found : Found) (frame : Frame) (scan : 
 unfolding blocks_scan blocks_read lossless_scan samples_read after_all
 process-parts p found frame scan bytes = grind (arith, common_steps, through, data-parts)
 
--- A segment of a scan is a scan that is read.
-scan-parts : (found : Found) (bytes : List ℕ) → scan_segment found bytes ≡ (scan_read found bytes >>= scan_turn found)
-unfolding scan_segment scan_read
-scan-parts found bytes = grind (arith, common_steps, through, process-parts)
+-- what is read after a header, and the turn that it leads to
+abbrev pub turn_after : Found → Scan × List ℕ → Outcome Turn
+turn_after found s = read_after found s.0 s.1 >>= scan_turn found
 
-pub segment-ends : (now at next : Found) (met : Option Marker) (old new : Stream) (turn : Turn) → now ≡ at
-    → turn ≡ record { found = next; before = scan_before now; met = met; ended = false }
-    → Answers (λ (m : Option Marker). (next, m)) (scan_read now) old (Ok met) new
-    → HasRead (scan_segment at) old turn new
-segment-ends now at next met old new turn same is p = grind (arith, common_steps, scan-parts, bind_at)
+-- A segment of a scan is its header, and what is read after it.
+scan-parts-by : (found : Found) (bytes : List ℕ) (o : Option Frame) → found.said.frame ≡ o
+    → (needed o >>= (λ (frame : Frame). sos_at frame bytes >>= (λ (s : Scan × List ℕ).
+    scan_by frame.process found frame s.0 s.1)))
+    ≡ ((needed o >>= (λ (frame : Frame). sos_at frame bytes)) >>= turn_after found)
+scan-parts-by found bytes None e = refl
+scan-parts-by found bytes (Some frame) e = through-same (sos_at frame bytes) _ _
+    (λ s. process-parts frame.process found frame s.0 s.1
+    ∙ ap (λ (o : Outcome (Found × Option Marker)). o >>= scan_turn found) (sym (is-read-after found frame s.0 s.1 e)))
 
--- A scan that is refused is a segment that is refused.
-pub segment-refused : (v : Step → Turn) (now at : Found) (old new : Stream) (r : Result Step Error) (e : Error)
-    → IsErrAnd r (λ y. y ≡ e) → now ≡ at → ScanFails now old e new → Answers v (scan_segment at) old r new
-segment-refused v now at old new r e fails same p =
+scan-parts : (found : Found) (bytes : List ℕ) → scan_segment found bytes ≡ (header_at found bytes >>= turn_after found)
+unfolding scan_segment
+scan-parts found bytes = scan-parts-by found bytes found.said.frame refl
+
+-- A header that is refused is a segment that is refused.
+pub header-refused : (v : Step → Turn) (found : Found) (old new : Stream) (r : Result Step Error) (e : Error)
+    → IsErrAnd r (λ y. y ≡ e) → Answers (λ (s : Scan). s) (header_at found) old (Err e) new
+    → Answers v (scan_segment found) old r new
+header-refused v found old new r e fails p =
     grind (arith, common_steps, err_from_is_err_and, scan-parts, bind_err)
+
+-- what is read after a header, up to a marker
+abbrev pub ReadsAfter : Found → Found → Scan → Stream → Result (Option Marker) Error → Stream → Type 0
+ReadsAfter next found scan old r new =
+    Answers (λ (m : Option Marker). (next, m)) (read_after found scan) old r new
+
+-- So is what is refused after it.
+pub segment-refused : (v : Step → Turn) (next found : Found) (scan : Scan) (old cur new : Stream)
+    (r : Result Step Error) (e : Error) → IsErrAnd r (λ y. y ≡ e) → HasRead (header_at found) old scan cur
+    → ReadsAfter next found scan cur (Err e) new → Answers v (scan_segment found) old r new
+segment-refused v next found scan old cur new r e fails has p =
+    grind (arith, common_steps, err_from_is_err_and, scan-parts, bind_at, bind_err)
+
+pub segment-ends : (next found : Found) (scan : Scan) (met : Option Marker) (old cur new : Stream) (turn : Turn)
+    → turn ≡ record { found = next; before = scan_before found; met = met; ended = false }
+    → HasRead (header_at found) old scan cur → ReadsAfter next found scan cur (Ok met) new
+    → HasRead (scan_segment found) old turn new
+segment-ends next found scan met old cur new turn is has p = grind (arith, common_steps, scan-parts, bind_at)
 
 -- ---- what holds after a scan
 

@@ -11,9 +11,12 @@ ghost use Rattle.jpeg_streams.specs.Scans.{no_table};
 ghost use Rattle.jpeg_decoder.specs.Steps.{Returns, IsSpareOf, coding_in};
 ghost use Rattle.jpeg_decoder.specs.Steps.{coding_in_slot, default_dc, default_ac, in_force};
 ghost use Rattle.jpeg_decoder.specs.Steps.{HasScale, table_if};
-ghost use Rattle.jpeg_streams.specs.ScanSegments.{codings_of, pass_of};
+ghost use Rattle.jpeg_streams.specs.ScanSegments.{codings_of, is_progressive, pass_of};
+ghost use Rattle.jpeg_streams.specs.Sound.{IsDecodedFrame};
+ghost use Rattle.jpeg_bits.specs.Reading.{Names};
+ghost use Rattle.jpeg_decoder.specs.Steps.{IsDct, IsRefusal, IsScanBy};
 
-use crate::scan::coded::{Coded, Codings, is_progressive};
+use crate::scan::coded::{Coded, Codings, Scan, is_progressive, wants_ac};
 use crate::stream::state::{Said, State};
 use crate::stream::tables::{Missing, needed, table_at};
 use jpeg_bits::blocks::Pass;
@@ -347,4 +350,36 @@ pub fn codings_of<'a>(
         codings.push(coded);
     }
     Ok(codings)
+}
+
+/// Returns the scan of blocks that a header begins, with its tables in force. The AC coefficients
+/// of its blocks are kept where they are wanted, and in any case if `keeps_ac` is set. The errors
+/// are `Format` if a table that the scan needs is unset, and `OutOfMemory`.
+pub fn block_scan_of<'a>(
+    alloc: Global,
+    said: &'a Said,
+    spare: &'a Spare,
+    frame: &'a FrameInfo,
+    header: &ScanHeader,
+    keeps_ac: bool,
+) -> Result<Scan<'a>>
+    requires frame { IsDecodedFrame (frame_in frame.now) }
+    requires process { IsDct (frame_in frame.now).process }
+    requires legal { IsScanOf (frame_in frame.now) header.now }
+    requires spare { IsSpareOf said.now header.now spare.now }
+    ensures scan { IfOk result (IsScanBy said.now (frame_in frame.now) header.now) }
+    ensures keeps { IfOk result (λ s. keeps_ac ≡ true → s.keeps_ac ≡ true) }
+    ensures progressive { IfOk result
+        (λ s. is_progressive (frame_in frame.now).process ≡ true → s.keeps_ac ≡ true) }
+    ensures refused { IfErr result (λ e. IsRefusal e
+        × Names e (codings_of said.now (frame_in frame.now) header.now)) }
+{
+    let components = codings_of(alloc, said, spare, frame, header)?;
+    let pass = pass_of(header);
+    Ok(Scan {
+        pass,
+        restart_interval: said.restart_interval,
+        keeps_ac: keeps_ac || wants_ac(frame.coding_process, pass, &components),
+        components,
+    })
 }

@@ -1,28 +1,33 @@
 //! A scan in a stream: its header, the tables in force, its data (T.81, B.2.3), and what may stand
 //! after it.
 ghost use Rattle.jpeg_bits.specs.Reading.{Answers, Names};
+ghost use Rattle.jpeg_segments.specs.FrameView.{frame_in};
+ghost use Rattle.jpeg_segments.specs.ScanHeader.{IsScanOf};
+ghost use Rattle.jpeg_segments.specs.declared.frame.CodingProcess.TheVariants.{Lossless};
 ghost use Rattle.jpeg_streams.specs.Sound.{IsSound};
-ghost use Rattle.jpeg_decoder.specs.Steps.{IsRefusal, IsStep, turn_of};
+ghost use Rattle.jpeg_decoder.specs.Seen.{found_of};
+ghost use Rattle.jpeg_decoder.specs.Steps.{IsDct, IsHeaderOf, IsRefusal, IsStep, blocks_read};
+ghost use Rattle.jpeg_decoder.specs.Steps.{header_at, read_after, turn_of};
 ghost use Rattle.jpeg_streams.specs.ScanSegments.{once_scanned, scan_segment};
 ghost use Rattle.jpeg_bits.specs.declared.marker.Marker.TheVariants.{DNL};
 ghost use Rattle.jpeg_streams.specs.Found.{Found};
 ghost use Rattle.jpeg_streams.specs.Stream.{segment_at};
-ghost use Rattle.std.specs.Prelude.{List, None, OnOk, ℕ, ◌≡◌};
+ghost use Rattle.std.specs.Prelude.{IfOk, IfSome, List, None, OnOk, Some, false, true, ℕ, ◌≡◌};
 ghost use Rattle.jpeg_streams.specs.Brought.{scan_brought};
 ghost use Rattle.jpeg_streams.specs.States.{OnToldRefusal};
-ghost use Rattle.jpeg_decoder.specs.Reaching.{IsEndOf, UnlessRefused, rows_after};
+ghost use Rattle.jpeg_decoder.specs.Reaching.{IsEndOf, UnlessRefused, brought_after, rows_after};
 
-use crate::scan::coded::{Scan, wants_ac};
-use crate::scan::codings::{codings_of, pass_of, spare_tables, widen_tables};
+use crate::scan::codings::{block_scan_of, spare_tables, widen_tables};
+use crate::scan::decoded::Decoded;
 use crate::scan::lossless::{read_lossless_scan, sample_scan_of};
 use crate::scan::reached_rows::reach_samples;
 use crate::scan::restarts::pass_restarts;
-use crate::stream::state::{State, Step};
+use crate::stream::state::{Said, State, Step};
 use crate::stream::tables::{Missing, needed};
 use jpeg_bits::error::{Error, Result, UnsupportedFeature, format_error};
 use jpeg_bits::marker::Marker;
 use jpeg_bits::source::Source;
-use jpeg_segments::parser::{CodingProcess, read_scan_header};
+use jpeg_segments::parser::{CodingProcess, FrameInfo, ScanHeader, read_scan_header};
 use jpeg_streams::before::Before;
 use std::alloc::Global;
 use std::io::Read;
@@ -65,6 +70,110 @@ fn end_reached(
     }
 }
 
+/// Reads the header of a scan, once the look-up tables of the tables in force are filled.
+fn read_header<R: Read + Drop>(
+    alloc: Global,
+    source: &mut Source<R>,
+    state: &mut State,
+) -> Result<ScanHeader>
+    ensures header { Answers (λ h. h) (header_at state.old) source.old result source.new }
+    ensures legal { IfOk result (IsHeaderOf state.old) }
+    ensures stays { state.new ≡ state.old }
+{
+    widen_tables(alloc, state)?;
+    let frame = needed(
+        alloc,
+        state.said.frame.as_ref(),
+        Missing::Frame(Marker::SOS),
+    )?;
+    read_scan_header(alloc, source, frame)
+}
+
+/// Returns whether a lossless frame was found.
+fn is_lossless(said: &Said) -> bool
+    ensures lossless { result ≡ true → IfSome said.now.frame (λ f. f.process ≡ Lossless) }
+    ensures blocks { result ≡ false → IfSome said.now.frame (λ f. IsDct f.process) }
+{
+    match &said.frame {
+        Some(frame) => frame.coding_process == CodingProcess::Lossless,
+        None => false,
+    }
+}
+
+/// Reads the blocks of a scan up to its first fault, and returns what stands after it, as
+/// `reach_scan` does.
+fn reach_block_scan<R: Read + Drop>(
+    alloc: Global,
+    source: &mut Source<R>,
+    state: &mut State,
+    header: &ScanHeader,
+    rows: &mut Option<u16>,
+) -> Result<Step>
+    requires sound { IsSound state.old }
+    requires header { IsHeaderOf state.old header.now }
+    requires process { IfSome state.old.said.frame (λ f. IsDct f.process) }
+    requires rows { rows.old ≡ None }
+    ensures whole { OnOk result (rows.new ≡ None) }
+    ensures rows { OnToldRefusal source.old source.new result (rows.new
+        ≡ (brought_after state.old header.now source.old.bytes).rows) }
+    ensures reads { UnlessRefused result (Answers (turn_of state.new) (λ bytes. (brought_after
+        state.old header.now bytes).turn) source.old result source.new) }
+    ensures found { OnToldRefusal source.old source.new result (state.new
+        ≡ (brought_after state.old header.now source.old.bytes).found) }
+    ensures sound { UnlessRefused result (IsSound state.new) }
+    ensures steps { IsStep state.old result state.new }
+{
+    let said = &state.said;
+    let Some(frame) = &said.frame else {
+        unreachable!()
+    };
+    let spare = spare_tables(alloc, header, frame, said.metadata.avi1)?;
+    let scan = block_scan_of(alloc, said, &spare, frame, header, true)?;
+    let reached = state
+        .decoded
+        .reach(alloc, source, said.scanned, frame, &scan);
+    // Ends its borrow of `state`.
+    drop(scan);
+    drop(spare);
+    let given = state.decoded.rows;
+    end_reached(state, reached, given, rows)
+}
+
+/// Reads the samples of a lossless scan up to its first fault, and returns what stands after it, as
+/// `reach_scan` does.
+fn reach_lossless_scan<R: Read + Drop>(
+    alloc: Global,
+    source: &mut Source<R>,
+    state: &mut State,
+    header: &ScanHeader,
+    rows: &mut Option<u16>,
+) -> Result<Step>
+    requires sound { IsSound state.old }
+    requires header { IsHeaderOf state.old header.now }
+    requires process { IfSome state.old.said.frame (λ f. f.process ≡ Lossless) }
+    requires rows { rows.old ≡ None }
+    ensures whole { OnOk result (rows.new ≡ None) }
+    ensures rows { OnToldRefusal source.old source.new result (rows.new
+        ≡ (brought_after state.old header.now source.old.bytes).rows) }
+    ensures reads { UnlessRefused result (Answers (turn_of state.new) (λ bytes. (brought_after
+        state.old header.now bytes).turn) source.old result source.new) }
+    ensures found { OnToldRefusal source.old source.new result (state.new
+        ≡ (brought_after state.old header.now source.old.bytes).found) }
+    ensures sound { UnlessRefused result (IsSound state.new) }
+    ensures steps { IsStep state.old result state.new }
+{
+    let said = &state.said;
+    let Some(frame) = &said.frame else {
+        unreachable!()
+    };
+    let scan = sample_scan_of(alloc, said, frame, header)?;
+    let reached = reach_samples(alloc, source, &scan, &mut state.decoded);
+    // Ends its borrow of `state`.
+    drop(scan);
+    let given = state.decoded.rows;
+    end_reached(state, reached, given, rows)
+}
+
 /// Reads a scan up to its first fault, and returns what stands after it: the marker after it and
 /// after the restart markers at its end, if one was reached.
 ///
@@ -89,33 +198,65 @@ pub fn reach_scan<R: Read + Drop>(
     ensures sound { UnlessRefused result (IsSound state.new) }
     ensures steps { IsStep state.old result state.new }
 {
-    widen_tables(alloc, state)?;
-    let said = &state.said;
-    let frame = needed(alloc, said.frame.as_ref(), Missing::Frame(Marker::SOS))?;
-    let header = read_scan_header(alloc, source, frame)?;
-    if frame.coding_process == CodingProcess::Lossless {
-        let scan = sample_scan_of(alloc, said, frame, &header)?;
-        let reached = reach_samples(alloc, source, &scan, &mut state.decoded);
-        // Ends its borrow of `state`.
-        drop(scan);
-        let given = state.decoded.rows;
-        return end_reached(state, reached, given, rows);
+    let header = read_header(alloc, source, state)?;
+    if is_lossless(&state.said) {
+        reach_lossless_scan(alloc, source, state, &header, rows)
+    } else {
+        reach_block_scan(alloc, source, state, &header, rows)
     }
-    let spare = spare_tables(alloc, &header, frame, said.metadata.avi1)?;
-    let components = codings_of(alloc, said, &spare, frame, &header)?;
-    let scan = Scan {
-        pass: pass_of(&header),
-        restart_interval: said.restart_interval,
-        keeps_ac: true,
-        components,
-    };
-    let reached = state
-        .decoded
-        .reach(alloc, source, said.scanned, frame, &scan);
-    // Ends its borrow of `state`.
+}
+
+/// Reads the blocks of a scan by what was said before it, with what the scans before it gave, and
+/// returns the marker after it and after the restart markers at its end, if one was reached.
+fn read_block_scan<R: Read + Drop>(
+    alloc: Global,
+    source: &mut Source<R>,
+    said: &Said,
+    frame: &FrameInfo,
+    header: &ScanHeader,
+    decoded: &mut Decoded,
+) -> Result<Option<Marker>>
+    requires sound { IsSound (found_of said.now decoded.old) }
+    requires frame { said.now.frame ≡ Some (frame_in frame.now) }
+    requires process { IsDct (frame_in frame.now).process }
+    requires legal { IsScanOf (frame_in frame.now) header.now }
+    ensures reads { Answers (λ m. (once_scanned (found_of said.now decoded.new), m))
+        (blocks_read (found_of said.now decoded.old) (frame_in frame.now) header.now)
+        source.old result source.new }
+    ensures sound { OnOk result (IsSound (once_scanned (found_of said.now decoded.new))) }
+{
+    let spare = spare_tables(alloc, header, frame, said.metadata.avi1)?;
+    let scan = block_scan_of(alloc, said, &spare, frame, header, false)?;
+    let met = decoded.read(alloc, source, said.scanned, frame, &scan);
     drop(scan);
-    let given = state.decoded.rows;
-    end_reached(state, reached, given, rows)
+    drop(spare);
+    pass_restarts(alloc, source, met?)
+}
+
+/// Reads what follows the header of a scan, and returns the marker after it and after the restart
+/// markers at its end, if one was reached.
+fn read_after<R: Read + Drop>(
+    alloc: Global,
+    source: &mut Source<R>,
+    state: &mut State,
+    header: &ScanHeader,
+) -> Result<Option<Marker>>
+    requires sound { IsSound state.old }
+    requires header { IsHeaderOf state.old header.now }
+    ensures reads { Answers (λ m. (once_scanned state.new, m)) (read_after state.old header.now)
+        source.old result source.new }
+    ensures said { state.new.said ≡ state.old.said }
+    ensures sound { OnOk result (IsSound (once_scanned state.new)) }
+{
+    let said = &state.said;
+    let Some(frame) = &said.frame else {
+        unreachable!()
+    };
+    if frame.coding_process == CodingProcess::Lossless {
+        read_lossless_scan(alloc, source, said, frame, header, &mut state.decoded)
+    } else {
+        read_block_scan(alloc, source, said, frame, header, &mut state.decoded)
+    }
 }
 
 /// Reads a scan, and returns what stands after it: the marker after it and after the restart
@@ -130,28 +271,7 @@ pub fn read_scan<R: Read + Drop>(
         result source.new }
     ensures steps { IsStep state.old result state.new }
 {
-    widen_tables(alloc, state)?;
-    let said = &state.said;
-    let frame = needed(alloc, said.frame.as_ref(), Missing::Frame(Marker::SOS))?;
-    let header = read_scan_header(alloc, source, frame)?;
-    if frame.coding_process == CodingProcess::Lossless {
-        let met = read_lossless_scan(alloc, source, said, frame, &header, &mut state.decoded)?;
-        return Ok(state.end_scan(met));
-    }
-    let spare = spare_tables(alloc, &header, frame, said.metadata.avi1)?;
-    let components = codings_of(alloc, said, &spare, frame, &header)?;
-    let pass = pass_of(&header);
-    let scan = Scan {
-        pass,
-        restart_interval: said.restart_interval,
-        keeps_ac: wants_ac(frame.coding_process, pass, &components),
-        components,
-    };
-    let reached = state
-        .decoded
-        .read(alloc, source, said.scanned, frame, &scan)?;
-    // Ends its borrow of `state`.
-    drop(scan);
-    let met = pass_restarts(alloc, source, reached)?;
+    let header = read_header(alloc, source, state)?;
+    let met = read_after(alloc, source, state, &header)?;
     Ok(state.end_scan(met))
 }

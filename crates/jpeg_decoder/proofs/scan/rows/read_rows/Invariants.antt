@@ -7,14 +7,14 @@ use Rattle.jpeg_decoder.specs.Scanning.{IsSpotOf, counted, down_in, sizes_of, sc
 use Rattle.jpeg_decoder.specs.GrowingView.{GrowsFor, growing_in, is_joint}
 use Rattle.jpeg_decoder.specs.Strips.{no_samples, row_sizes, strip_samples, strips_from}
 use Rattle.jpeg_decoder.specs.Walk.{walk_of_row, walks_of_rows}
-use Rattle.jpeg_decoder.proofs.scan.rows.read_planes.Given as goal
+use Rattle.jpeg_decoder.proofs.scan.rows.read_rows.Given as goal
 
 abbrev pub invariant-loop-row : goal.invariant-loop-row
 invariant-loop-row g l = record {
   sizes : sizes_of l.rows.items ≡ row_sizes l.fn.scan.codings;
   spots : AllByRecursion (AllByRecursion (IsSpotOf (length l.fn.scan.codings)
       (row_sizes l.fn.scan.codings)))
-      (map (walk_of_row l.order) (range_with_len l.row (l.order.rows - l.row)));
+      (map (walk_of_row l.fn.order) (range_with_len l.row (l.fn.order.rows - l.row)));
   growing : GrowsFor l.fn.scan.codings l.planes;
   kind : is_joint l.planes ≡ is_joint l.fn.planes;
   some : 0 < length (growing_in l.planes) → 0 < length (growing_in l.fn.planes);
@@ -22,12 +22,12 @@ invariant-loop-row g l = record {
       → map length (growing_in l.planes)
       ≡ map (λ c. strip_samples (l.row * down_in c) c) l.fn.scan.codings;
   strips : Leaves (strips_from l.fn.scan.pass
-      (scan_vias l.fn.scan) l.order.interval l.fn.scan.codings
-      (walks_of_rows l.order) (growing_in l.fn.planes) (counted_at_start l.order.interval []))
+      (scan_vias l.fn.scan) l.fn.order.interval l.fn.scan.codings
+      (walks_of_rows l.fn.order) (growing_in l.fn.planes) (counted_at_start l.fn.order.interval []))
       fresh l.fn.source
-      (strips_from l.fn.scan.pass (scan_vias l.fn.scan) l.order.interval
+      (strips_from l.fn.scan.pass (scan_vias l.fn.scan) l.fn.order.interval
       l.fn.scan.codings
-      (map (walk_of_row l.order) (range_with_len l.row (l.order.rows - l.row)))
+      (map (walk_of_row l.fn.order) (range_with_len l.row (l.fn.order.rows - l.row)))
       (growing_in l.planes) (counted l.interval []))
       l.interval.decoder l.source;
 }
