@@ -1,5 +1,5 @@
 -- What a call that copies metadata says of its outcome: a field of its record each.
-use Rattle.std.proofs.Common.{arith, ◌≡◌, ◌⊎◌, ◌∙◌, ◌<◌, ◌≤◌, ℕ, List, None, refl}
+use Rattle.std.proofs.Common.{arith, ◌≡◌, ◌<◌, ◌≤◌, ℕ, List, None, refl}
 use Rattle.std.specs.Prelude.{IsOk, length}
 use Rattle.zaxbriar_calls.specs.CopiesMetadata.{CopiesMetadata}
 use Rattle.zaxbriar_calls.specs.Faults.{IsNamed}

@@ -1,20 +1,13 @@
 -- A refusal of the header, or of what follows it, is one of the stream.
 use Rattle.std.proofs.Common.{◌≡◌, ◌⊎◌, ◌∙◌, ◌<◌, ◌^◌, ℕ, List, Ok, Err, Some, length, Result, ap, arith, refl, sym}
 use Rattle.std.specs.Prelude.{IfErr, IsErrAnd, OnOk}
-use Rattle.jpeg_bits.specs.Reading.{Fault, Names}
-use Rattle.jpeg_bits.specs.declared.error.Error.{Error}
-use Rattle.jpeg_streams.specs.DecodedImages.{at_size}
-use Rattle.jpeg_streams.specs.Found.{Found, with_said}
-use Rattle.jpeg_streams.specs.Stream.{header_at, rest_at}
+use Rattle.jpeg_bits.specs.Reading.{Fault}
 use Rattle.jpeg_streams.specs.Output.{Tells}
-use Rattle.jpeg_streams.proofs.Written.ReadTurns.{then-ok}
 use Rattle.zaxbriar_calls.specs.Faults.{IsFault, IsNamed, IsOfCall, IsOfCallNumber, IsOfReading, IsOfRoom, IsOfRoomNumber}
 use Rattle.zaxbriar_calls.specs.Faults.{IsOwn}
 use Rattle.zaxbriar_calls.specs.Faults.{status_of, fault_code}
-use Rattle.zaxbriar_calls.specs.Meanings.{settings_of, size_wanted, meaning_by}
 use Rattle.zaxbriar_calls.specs.declared.answers.Refusal.{Refusal}
 use Rattle.zaxbriar_calls.specs.declared.answers.Refusal.TheVariants as refusals
-use Rattle.zaxbriar_calls.specs.declared.options.Options.{Options}
 
 -- a reader of a slice tells its bytes
 pub tells-slice : (bytes jpeg : List ℕ) → bytes ≡ jpeg → length jpeg < 2 ^ 64 → Tells (Some bytes) jpeg

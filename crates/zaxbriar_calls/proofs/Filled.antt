@@ -1,9 +1,9 @@
 -- What a call that decodes says of its outcome: a field of its record each.
-use Rattle.std.proofs.Common.{arith, ◌≡◌, ◌⊎◌, ◌∙◌, ◌<◌, ◌≤◌, ◌++◌, ℕ, List, Option, Some, None, Result, Ok, Err, false}
-use Rattle.std.proofs.Common.{ap, inl, inr, length, refl, subst, sym}
-use Rattle.std.specs.Prelude.{IfErr, IfOk, IsErrAnd, OnOk, option_map, replicate, slice_index}
+use Rattle.std.proofs.Common.{arith, ◌≡◌, ◌⊎◌, ◌∙◌, ◌≤◌, ℕ, List, Some, None, Result, Ok, Err}
+use Rattle.std.proofs.Common.{ap, inl, inr, refl, subst, sym}
+use Rattle.std.specs.Prelude.{IfErr, IfOk, IsErrAnd, OnOk, replicate, slice_index}
 use Rattle.std.proofs.lemmas.Grind.{common_steps}
-use Rattle.jpeg_bits.specs.Reading.{◌>>=◌, End, Fault, Lacks, Malformed, Names, Outcome}
+use Rattle.jpeg_bits.specs.Reading.{Fault, Lacks, Names}
 use Rattle.jpeg_bits.specs.declared.error.Error.{Error}
 use Rattle.jpeg_bits.specs.declared.error.Error.TheVariants as errors
 use Rattle.jpeg_bits.specs.declared.error.UnsupportedFeature.{UnsupportedFeature}
@@ -14,15 +14,15 @@ use Rattle.zaxbriar_calls.proofs.Fails.{code-fails, has-no-room, is-too-large, n
 use Rattle.zaxbriar_calls.proofs.Means.{images-given}
 use Rattle.zaxbriar_calls.proofs.Parts.{given-entire, given-refused}
 use Rattle.zaxbriar_calls.proofs.Told.{if-ok, if-own}
-use Rattle.zaxbriar_calls.specs.Faults.{IsArgument, IsFault, IsNamed, IsOfCall, IsOfRoom, IsOwn, IsPart, fault_code}
+use Rattle.zaxbriar_calls.specs.Faults.{IsArgument, IsFault, IsNamed, IsOwn, IsPart, fault_code}
 use Rattle.zaxbriar_calls.specs.Faults.{outcome_fault, outcome_rows, status_of}
 use Rattle.zaxbriar_calls.specs.Features.{NamesFeature, feature_in, numbered, outcome_feature}
-use Rattle.zaxbriar_calls.specs.Fills.{Fills, FillsImages, greatest_code}
-use Rattle.zaxbriar_calls.specs.Given.{CountsImage, Gives, GivesPart, HasRows, TellsFault, given_by, rows_by, without_fault, without_rows}
-use Rattle.zaxbriar_calls.specs.Limits.{are_known}
+use Rattle.zaxbriar_calls.specs.Fills.{Fills, greatest_code}
+use Rattle.zaxbriar_calls.specs.Given.{Gives, GivesPart, HasRows, TellsFault, given_by, rows_by, without_fault, without_rows}
 use Rattle.zaxbriar_calls.specs.Lines.{Arranged}
-use Rattle.zaxbriar_calls.specs.Meanings.{AreWrong, CountsRead, Describes, IsTooLarge, IsWithin, as_described}
+use Rattle.zaxbriar_calls.specs.Meanings.{Describes, IsTooLarge, IsWithin, as_described}
 use Rattle.zaxbriar_calls.specs.Meanings.{no_picture, uncounted}
+use Rattle.zaxbriar_calls.specs.Outcomes.{DecodesInto}
 use Rattle.zaxbriar_calls.specs.declared.answers.Refusal.{Refusal}
 use Rattle.zaxbriar_calls.specs.declared.answers.Refusal.TheVariants as refusals
 use Rattle.zaxbriar_calls.specs.declared.extents.Extent.{Extent}
@@ -30,28 +30,6 @@ use Rattle.zaxbriar_calls.specs.declared.extents.Extent.TheVariants.{Whole, Part
 use Rattle.zaxbriar_calls.specs.declared.features.Feature.{Feature}
 use Rattle.zaxbriar_calls.specs.declared.options.Options.{Options}
 use Rattle.zaxbriar_calls.specs.declared.picture.Picture.{Picture}
-
--- What is known of an outcome, and of the picture that was described.
-pub record Decoded (extent : Extent) (o : Options) (bytes old new : List ℕ) (picture : Picture)
-    (outcome : Result ℕ Refusal) : Type 0 where
-  pub given : OnOk outcome (Gives extent o bytes old new None picture)
-  pub part : IfErr outcome (GivesPart extent o bytes old new picture)
-  pub rows : HasRows (rows_by extent o bytes) outcome
-  pub counts : OnOk outcome (CountsImage extent o bytes picture.stream_bytes)
-  pub header : IfErr outcome (λ r. IsOwn r → CountsRead (header_at bytes) bytes picture.stream_bytes)
-  pub most : picture.stream_bytes ≤ length bytes
-  pub named : IfErr outcome (IsFault (given_by extent o bytes))
-  pub kept : IfErr outcome (λ r. (IsPart r → ⊥) → new ≡ old)
-  pub within : OnOk outcome (IsWithin extent o bytes (uncounted picture))
-  pub described : IfErr outcome (λ r. IsPart r → IsWithin extent o bytes (uncounted picture))
-  pub room : IfErr outcome (λ r. r ≡ refusals.NoRoom → IsWithin extent o bytes (uncounted picture) × (length old < picture.size))
-  pub large : IfErr outcome (λ r. r ≡ refusals.TooLarge → IsTooLarge extent o bytes (uncounted picture))
-  pub limited : (size : Picture) → IsTooLarge extent o bytes size → IsErrAnd outcome IsOfCall
-  pub short : (size : Picture) → IsWithin extent o bytes size → length old < size.size → IsErrAnd outcome IsOfRoom
-  pub known : are_known o ≡ false → IsErrAnd outcome IsArgument
-  pub wrong : IfErr outcome (λ r. IsArgument r → AreWrong o bytes)
-  pub unasked : are_known o ≡ false → picture ≡ no_picture
-  pub undescribed : (fault : Fault) → header_at bytes ≡ Err fault → uncounted picture ≡ no_picture
 
 -- What is told of an outcome.
 pub record Answered (outcome : Result ℕ Refusal) (feature : Feature) (fault rows : ℕ) (text : List ℕ) (code : ℕ)
@@ -370,7 +348,7 @@ own-cleared outcome code c z = grind arith
 
 pub fills : (extent : Extent) (o : Options) (bytes old new : List ℕ) (picture : Picture) (outcome : Result ℕ Refusal)
     (feature : Feature) (fault rows : ℕ) (text : List ℕ) (code : ℕ)
-    → Decoded extent o bytes old new picture outcome → Answered outcome feature fault rows text code
+    → DecodesInto extent o bytes old new no_picture picture outcome → Answered outcome feature fault rows text code
     → Fills extent o bytes old new (telling picture feature fault rows text) code
 fills extent o bytes old new picture outcome feature fault rows text code d a =
     let names : IsNamed code (given_by extent o bytes) =
@@ -389,7 +367,7 @@ fills extent o bytes old new picture outcome feature fault rows text code d a =
       counts = λ z. if-ok _ outcome code a.code_is d.counts z;
       header = λ z. if-own _ outcome code a.code_is d.header z;
       unread = λ n. ap (λ (p : Picture). p.stream_bytes) (d.unasked n);
-      most = d.most;
+      most = d.most refl;
       number = codes extent o bytes old new picture outcome code a.code_is d.part;
       malformed = names.0;
       unsupported = λ z.

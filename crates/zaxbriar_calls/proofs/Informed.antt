@@ -1,39 +1,21 @@
 -- What a call that describes a stream says of its outcome: a field of its record each.
-use Rattle.std.proofs.Common.{arith, ◌≡◌, ◌⊎◌, ◌∙◌, ◌≤◌, ℕ, List, Result, Ok, Err, false, ap, length, subst, sym}
-use Rattle.std.specs.Prelude.{IfErr, IfOk, IsErrAnd, OnOk, replicate, slice_index}
+use Rattle.std.proofs.Common.{arith, ◌≡◌, ◌∙◌, ◌≤◌, ℕ, List, Result, Ok, Err, ap, refl, subst, sym}
+use Rattle.std.specs.Prelude.{IfErr, IfOk, replicate, slice_index}
 use Rattle.jpeg_streams.specs.Stream.{header_at}
-use Rattle.zaxbriar_calls.proofs.Fails.{code-fails, is-too-large, named, not-room, of-call-number}
+use Rattle.zaxbriar_calls.proofs.Fails.{is-too-large, named, not-room, of-call-number}
 use Rattle.zaxbriar_calls.proofs.Filled.{all-codes, argument-code, feature-told, few-codes, none-lacking, wrong-told}
 use Rattle.zaxbriar_calls.proofs.Told.{described, ending, if-described, large-told}
-use Rattle.zaxbriar_calls.specs.Faults.{IsArgument, IsFault, IsNamed, IsOfCall, IsOwn, IsPart, fault_code, status_of}
+use Rattle.zaxbriar_calls.specs.Faults.{IsNamed, IsOwn, fault_code, status_of}
 use Rattle.zaxbriar_calls.specs.Features.{outcome_feature}
-use Rattle.zaxbriar_calls.specs.Limits.{are_known}
-use Rattle.zaxbriar_calls.specs.Meanings.{AreWrong, CountsRead, IsTooLarge, IsWithin, as_described, no_picture, uncounted}
+use Rattle.zaxbriar_calls.specs.Meanings.{as_described, no_picture, uncounted}
 use Rattle.zaxbriar_calls.specs.ReadsInfo.{ReadsInfo}
+use Rattle.zaxbriar_calls.specs.Outcomes.{DescribesStream}
 use Rattle.zaxbriar_calls.specs.declared.answers.Refusal.{Refusal}
-use Rattle.zaxbriar_calls.specs.declared.answers.Refusal.TheVariants.{NoRoom, TooLarge}
+use Rattle.zaxbriar_calls.specs.declared.answers.Refusal.TheVariants.{TooLarge}
 use Rattle.zaxbriar_calls.specs.declared.extents.Extent.TheVariants.{Whole}
 use Rattle.zaxbriar_calls.specs.declared.features.Feature.{Feature}
 use Rattle.zaxbriar_calls.specs.declared.options.Options.{Options}
 use Rattle.zaxbriar_calls.specs.declared.picture.Picture.{Picture}
-
--- What is known of an outcome, and of the picture that was described.
-pub record Described {X : Type 0} (o : Options) (bytes : List ℕ) (picture : Picture) (outcome : Result X Refusal)
-    : Type 0 where
-  pub within : OnOk outcome (IsWithin Whole o bytes (uncounted picture))
-  pub large : IfErr outcome (λ r. r ≡ TooLarge → IsTooLarge Whole o bytes (uncounted picture))
-  pub counts : OnOk outcome (CountsRead (header_at bytes) bytes picture.stream_bytes)
-  pub header : IfErr outcome (λ r. r ≡ TooLarge → CountsRead (header_at bytes) bytes picture.stream_bytes)
-  pub most : picture.stream_bytes ≤ length bytes
-  pub rowless : picture.whole_rows ≡ 0
-  pub limited : (size : Picture) → IsTooLarge Whole o bytes size → IsErrAnd outcome IsOfCall
-  pub roomless : IfErr outcome (λ r. r ≡ NoRoom → ⊥)
-  pub named : IfErr outcome (IsFault (header_at bytes))
-  pub whole : IfErr outcome (λ r. IsPart r → ⊥)
-  pub known : are_known o ≡ false → IsErrAnd outcome IsArgument
-  pub wrong : IfErr outcome (λ r. IsArgument r → AreWrong o bytes)
-  pub unasked : are_known o ≡ false → picture ≡ no_picture
-  pub kept : IfErr outcome (λ r. (r ≡ TooLarge → ⊥) → uncounted picture ≡ no_picture)
 
 large-code : (r : Refusal) → r ≡ TooLarge → fault_code r ≡ 8
 large-code r e = ap fault_code e
@@ -54,7 +36,7 @@ said-large P (Err r) code c p z =
 
 pub informs : {X : Type 0} (o : Options) (bytes : List ℕ) (picture : Picture) (outcome : Result X Refusal)
     (feature : Feature) (text : List ℕ) (code : ℕ)
-    → Described o bytes picture outcome → code ≡ status_of outcome → feature ≡ outcome_feature outcome
+    → DescribesStream o bytes no_picture picture outcome → code ≡ status_of outcome → feature ≡ outcome_feature outcome
     → IfOk outcome (λ _. text ≡ replicate 112 0) → slice_index text 111 ≡ 0
     → IfErr outcome (λ r. IsOwn r → slice_index text 0 ≡ 0 → ⊥)
     → ReadsInfo o bytes (ending picture feature text) code
@@ -65,12 +47,12 @@ informs o bytes picture outcome feature text code d c f t ended said =
       describes = λ z. described outcome Whole o bytes picture feature text code c f t d.within z;
       counts = λ z. if-described _ outcome code c d.counts d.header z;
       unread = λ n. ap (λ (p : Picture). p.stream_bytes) (d.unasked n);
-      most = d.most;
+      most = d.most refl;
       large = λ z. large-told outcome Whole o bytes picture code c d.large z;
       limited = λ size l. of-call-number outcome code c (d.limited size l);
       number = (omega (arith, c, few), λ z. (all-codes outcome).1 (sym c ∙ z));
       roomless = λ z. not-room outcome code c d.roomless z;
-      rowless = d.rowless;
+      rowless = d.rowless refl;
       malformed = names.0;
       unsupported = λ z.
           let l = feature-told outcome (header_at bytes) code feature c f d.named z in

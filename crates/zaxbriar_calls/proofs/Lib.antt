@@ -10,6 +10,7 @@ mod Informed
 mod KeptBytes
 mod Laid
 mod Means
+mod Outcomes
 mod Parts
 mod Rests
 pub mod Rules

@@ -2,7 +2,6 @@
 use Rattle.std.proofs.Common.{arith, ◌≡◌, ◌∙◌, ◌++◌, ◌+◌, ℕ, List, [], None, Ok, Err, Result, ap, length, length-append, refl, subst, sym, true}
 use Rattle.std.proofs.lemmas.Grind.{common_steps}
 use Rattle.jpeg_bits.specs.Reading.{◌>>=◌, Fault, Outcome}
-use Rattle.jpeg_bits.specs.Stream.{Stream}
 use Rattle.jpeg_streams.specs.ArrayPictures.{meaning_of_array, picture_of_array}
 use Rattle.jpeg_streams.specs.DecodedImages.{AtLeast, AtScale, FullSize, Size, at_size, HasLeft}
 use Rattle.jpeg_streams.specs.Found.{Found, Said, with_said}

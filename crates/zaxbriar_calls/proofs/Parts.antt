@@ -5,7 +5,6 @@ use Rattle.std.specs.Prelude.{IfErr, IfOk, OnOk, option_map}
 use Rattle.std.proofs.lemmas.Grind.{common_steps}
 use Rattle.jpeg_bits.specs.Reading.{◌>>=◌, Answers, Fault, IsGivenUp, Names, Outcome}
 use Rattle.jpeg_bits.specs.declared.error.Error.{Error}
-use Rattle.jpeg_bits.specs.declared.error.Error.TheVariants as errors
 use Rattle.jpeg_decoder.specs.Reaching.{NamesFault}
 use Rattle.jpeg_decoder.specs.Shows.{Shows, ShowsJust}
 use Rattle.jpeg_streams.proofs.Written.ReadTurns.{then-ok}

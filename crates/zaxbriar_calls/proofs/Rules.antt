@@ -1,5 +1,7 @@
--- Lemmas that the proofs of functions use, by what they are about.
+-- Lemmas that the proofs of functions use, and definitions that they unfold, by what they are about.
 use Rattle.std.proofs.Common.{length-append}
+use Rattle.std.specs.Prelude.{⊤}
+use Rattle.jpeg_streams.specs.ColourChoice.{by_identifiers, transform_of}
 use Rattle.zaxbriar_calls.proofs.Densities.{density-none, density-short, density-some, first-cut, first-ended, first-jfif}
 use Rattle.zaxbriar_calls.proofs.Densities.{first-later, first-none, first-past}
 use Rattle.zaxbriar_calls.proofs.FoundSegments.{marker-filled, marker-here, marker-later, no-marker, payload-cut, payload-is}
@@ -44,3 +46,8 @@ pub ruleset densities = (density-short, density-some, density-none)
 
 -- the whole of what a stream gives
 pub ruleset wholes = (given-means, given-fails)
+
+-- the transform that a header asks for
+unfoldable pub asked_transforms : ⊤
+unfolding transform_of by_identifiers
+asked_transforms = tt

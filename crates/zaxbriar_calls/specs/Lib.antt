@@ -10,6 +10,7 @@ pub mod Limits
 pub mod Lines
 pub mod Meanings
 pub mod Metadata
+pub mod Outcomes
 pub mod Places
 pub mod ReadsInfo
 pub mod Sampling

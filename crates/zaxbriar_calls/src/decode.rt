@@ -15,6 +15,7 @@ ghost use Rattle.zaxbriar_calls.specs.Given.{Brings, CountsImage, EndsImage, Giv
 ghost use Rattle.zaxbriar_calls.specs.Given.{HasRows, Reaches, given_by, given_rest, outcome_of};
 ghost use Rattle.zaxbriar_calls.specs.Given.{rows_by, rows_rest};
 ghost use Rattle.zaxbriar_calls.specs.Layouts.{size_of_lines};
+ghost use Rattle.zaxbriar_calls.specs.Outcomes.{Continues, DecodesInto};
 ghost use Rattle.zaxbriar_calls.specs.Limits.{are_known};
 ghost use Rattle.zaxbriar_calls.specs.Lines.{HasLines};
 ghost use Rattle.zaxbriar_calls.specs.Meanings.{AreWrong, CountsRead, IsTooLarge, IsWithin};
@@ -29,7 +30,7 @@ use crate::density::density_of;
 use crate::description::describe;
 use crate::extents::Extent;
 use crate::header::Header;
-use crate::lines::{Lines, put_lines, stored_line};
+use crate::lines::{Lines, put_lines, size_of_lines, stored_line};
 use crate::options::{Options, are_known};
 use crate::picture::Picture;
 use jpeg_decoder::error::Error;
@@ -203,6 +204,34 @@ fn decode_lines<R: Read + Drop>(
     }
 }
 
+/// Decodes what is asked for of a picture that was described into the caller's memory, if it has
+/// room for its lines. Returns how many rows of a part are complete, or why the picture is refused,
+/// as it was before.
+fn decode_described<R: Read + Drop>(
+    alloc: Global,
+    decoder: &mut Decoder<R>,
+    described: std::result::Result<(Header, Lines), Refusal>,
+    pixels: &mut [u8],
+    extent: Extent,
+) -> std::result::Result<u16, Refusal>
+    requires read { OnOk described (decoder.old.stage ≡ HeaderRead) }
+    requires info { IfOk described
+        (λ a. option_map info_of decoder.old.found.said.frame ≡ Some a.0.info) }
+    requires precision { IfOk described (λ a. option_map (λ f. f.precision)
+        decoder.old.found.said.frame ≡ Some a.0.precision) }
+    requires bytes { IfOk described (λ a. option_map (decoding_bytes decoder.old.settings)
+        decoder.old.found.said.frame ≡ Some a.0.decoding_bytes) }
+    requires lines { IfOk described
+        (λ a. (options : Options) × HasLines options a.0.info a.0.precision a.1) }
+    ensures { Continues extent described result decoder.old decoder.new pixels.old pixels.new }
+{
+    let (header, lines) = described?;
+    if size_of_lines(lines) > pixels.len() as u64 {
+        return Err(Refusal::NoRoom);
+    }
+    decode_lines(alloc, decoder, header, lines, pixels, extent)
+}
+
 /// Decodes what is asked for of a stream into the caller's memory, and counts the bytes that were
 /// read. Returns how many rows of a part are complete.
 pub fn decode_into(
@@ -213,35 +242,8 @@ pub fn decode_into(
     picture: &mut Picture,
     extent: Extent,
 ) -> std::result::Result<u16, Refusal>
-    ensures given { OnOk result
-        (Gives extent options.now jpeg.now pixels.old pixels.new None picture.new) }
-    ensures part { IfErr result
-        (GivesPart extent options.now jpeg.now pixels.old pixels.new picture.new) }
-    ensures rows { HasRows (rows_by extent options.now jpeg.now) result }
-    ensures counts { OnOk result
-        (CountsImage extent options.now jpeg.now picture.new.stream_bytes) }
-    ensures header { IfErr result (λ r. IsOwn r
-        → CountsRead (header_at jpeg.now) jpeg.now picture.new.stream_bytes) }
-    ensures most { picture.old.stream_bytes ≡ 0 → picture.new.stream_bytes ≤ length jpeg.now }
-    ensures named { IfErr result (IsFault (given_by extent options.now jpeg.now)) }
-    ensures kept { IfErr result (λ r. (IsPart r → ⊥) → pixels.new ≡ pixels.old) }
-    ensures within { OnOk result (IsWithin extent options.now jpeg.now (uncounted picture.new)) }
-    ensures described { IfErr result
-        (λ r. IsPart r → IsWithin extent options.now jpeg.now (uncounted picture.new)) }
-    ensures room { IfErr result (λ r. r ≡ NoRoom
-        → IsWithin extent options.now jpeg.now (uncounted picture.new)
-        × (length pixels.old < picture.new.size)) }
-    ensures large { IfErr result
-        (λ r. r ≡ TooLarge → IsTooLarge extent options.now jpeg.now (uncounted picture.new)) }
-    ensures short { (size : Picture) → IsWithin extent options.now jpeg.now size
-        → length pixels.old < size.size → IsErrAnd result IsOfRoom }
-    ensures limited { (size : Picture)
-        → IsTooLarge extent options.now jpeg.now size → IsErrAnd result IsOfCall }
-    ensures known { are_known options.now ≡ false → IsErrAnd result IsArgument }
-    ensures wrong { IfErr result (λ r. IsArgument r → AreWrong options.now jpeg.now) }
-    ensures unasked { are_known options.now ≡ false → picture.new ≡ picture.old }
-    ensures undescribed { (fault : Fault)
-        → header_at jpeg.now ≡ Err fault → uncounted picture.new ≡ uncounted picture.old }
+    ensures { DecodesInto extent options.now jpeg.now pixels.old pixels.new picture.old picture.new
+        result }
 {
     if !are_known(options) {
         return Err(Refusal::Argument("an option doesn't exist"));
@@ -249,12 +251,7 @@ pub fn decode_into(
     let mut decoder = decoder_of(alloc, jpeg)?;
     let density = density_of(jpeg);
     let described = describe(&mut decoder, options, density, picture, extent);
-    picture.stream_bytes = bytes_read(jpeg, &decoder);
-    let (header, lines) = described?;
-    if picture.size > pixels.len() as u64 {
-        return Err(Refusal::NoRoom);
-    }
-    let decoded = decode_lines(alloc, &mut decoder, header, lines, pixels, extent);
+    let decoded = decode_described(alloc, &mut decoder, described, pixels, extent);
     picture.stream_bytes = bytes_read(jpeg, &decoder);
     decoded
 }

@@ -12,7 +12,7 @@ ghost use Rattle.zaxbriar_calls.specs.Limits.{are_known, bytes_beside};
 ghost use Rattle.zaxbriar_calls.specs.Lines.{HasLines, described_picture};
 ghost use Rattle.zaxbriar_calls.specs.Meanings.{AreWrong, CountsRead, IsMisfit, IsTooLarge};
 ghost use Rattle.zaxbriar_calls.specs.Meanings.{IsWithin, ReadsHeader, StandsAfter, uncounted};
-ghost use Rattle.zaxbriar_calls.specs.declared.extents.Extent.TheVariants.{Whole};
+ghost use Rattle.zaxbriar_calls.specs.Outcomes.{DescribesStream};
 ghost use Rattle.zaxbriar_calls.specs.declared.answers.Refusal.TheVariants.{NoRoom, TooLarge};
 
 use crate::answers::Refusal;
@@ -87,26 +87,8 @@ pub fn describe_stream(
     jpeg: &[u8],
     options: &Options,
     picture: &mut Picture,
-) -> std::result::Result<(), Refusal>
-    ensures within { OnOk result (IsWithin Whole options.now jpeg.now (uncounted picture.new)) }
-    ensures large { IfErr result
-        (λ r. r ≡ TooLarge → IsTooLarge Whole options.now jpeg.now (uncounted picture.new)) }
-    ensures counts { OnOk result
-        (CountsRead (header_at jpeg.now) jpeg.now picture.new.stream_bytes) }
-    ensures header { IfErr result (λ r. r ≡ TooLarge
-        → CountsRead (header_at jpeg.now) jpeg.now picture.new.stream_bytes) }
-    ensures most { picture.old.stream_bytes ≡ 0 → picture.new.stream_bytes ≤ length jpeg.now }
-    ensures rowless { picture.old.whole_rows ≡ 0 → picture.new.whole_rows ≡ 0 }
-    ensures limited { (size : Picture)
-        → IsTooLarge Whole options.now jpeg.now size → IsErrAnd result IsOfCall }
-    ensures named { IfErr result (IsFault (header_at jpeg.now)) }
-    ensures whole { IfErr result (λ r. IsPart r → ⊥) }
-    ensures known { are_known options.now ≡ false → IsErrAnd result IsArgument }
-    ensures wrong { IfErr result (λ r. IsArgument r → AreWrong options.now jpeg.now) }
-    ensures roomless { IfErr result (λ r. r ≡ NoRoom → ⊥) }
-    ensures unasked { are_known options.now ≡ false → picture.new ≡ picture.old }
-    ensures kept { IfErr result
-        (λ r. (r ≡ TooLarge → ⊥) → uncounted picture.new ≡ uncounted picture.old) }
+) -> std::result::Result<(Header, Lines), Refusal>
+    ensures { DescribesStream options.now jpeg.now picture.old picture.new result }
 {
     if !are_known(options) {
         return Err(Refusal::Argument("an option doesn't exist"));
@@ -115,6 +97,5 @@ pub fn describe_stream(
     let density = density_of(jpeg);
     let described = describe(&mut decoder, options, density, picture, Extent::Whole);
     picture.stream_bytes = bytes_read(jpeg, &decoder);
-    described?;
-    Ok(())
+    described
 }

@@ -114,7 +114,7 @@ pub fn known_transform_codes()
 
 /// The transform that a header asks for: none for one component and for lossless pictures, and else
 /// what the identifiers say, or JFIF, or Adobe's segment.
-#[tactic(auto, unfolding(jpeg_streams::specs::ColourChoice::transform_of, jpeg_streams::specs::ColourChoice::by_identifiers))]
+#[tactic(auto, unfolding(crate::proofs::Rules::asked_transforms))]
 pub fn known_stream_transforms()
     ensures grey { transform_by processes.DctProgressive (82 ∷ [])
         (record no_metadata { jfif = true; adobe = Some adobe.YCbCr }) ≡ transforms.None }

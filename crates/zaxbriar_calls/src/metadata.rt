@@ -188,6 +188,44 @@ fn read_told<R: Read + Drop>(decoder: &mut Decoder<R>, whole: bool) -> std::resu
     }
 }
 
+/// Reads a stream, and copies its metadata of a kind, of its header or of the whole image. The only
+/// error is `OutOfMemory`.
+fn copy_told<R: Read + Drop>(
+    decoder: &mut Decoder<R>,
+    kind: u32,
+    buffer: &mut [u8],
+    count: &mut u64,
+) -> Result<u32>
+    requires fresh { decoder.old.stage ≡ Fresh }
+    requires plain { decoder.old.settings ≡ default_settings }
+    requires known { decoder.old.source.known ≡ true }
+    ensures copied { IfOk result (λ code. code ≡ 0
+        → IsCopied (said_of kind decoder.old.source.bytes) buffer.old buffer.new count.new) }
+    ensures none { IfOk result (λ code. code ≡ 7
+        → (said_of kind decoder.old.source.bytes ≡ None)
+        × IsOk (end_at (is_whole kind) decoder.old.source.bytes)) }
+    ensures room { IfOk result (λ code. code ≡ 5
+        → IsLonger (said_of kind decoder.old.source.bytes) (length buffer.old) count.new) }
+    ensures named { IfOk result
+        (λ code. IsNamed code (end_at (is_whole kind) decoder.old.source.bytes)) }
+    ensures known { IfOk result (λ code. code ≡ 6 → IsNoKind kind) }
+    ensures most { IfOk result (λ code. code ≤ 7) }
+    ensures unsaid { IfOk result
+        (λ code. 0 < code → code < 4 → said_of kind decoder.old.source.bytes ≡ None) }
+    ensures uncounted { IfOk result (λ code. (code ≡ 0 → ⊥) → (code ≡ 5 → ⊥)
+        → count.new ≡ count.old) }
+    ensures kept { IfOk result (λ code. (code ≡ 0 → ⊥) → buffer.new ≡ buffer.old) }
+    ensures failed { OnErr result (buffer.new ≡ buffer.old) }
+    ensures memory { OnErr result (count.new ≡ count.old) }
+{
+    let missing = match read_told(decoder, is_whole(kind)) {
+        Ok(code) => code,
+        Err(code) => return Ok(code),
+    };
+    let code = copy_kind(decoder, kind_alone(kind), buffer, count)?;
+    Ok(if code == NO_DATA { missing } else { code })
+}
+
 /// Copies metadata of a kind, of a header or of a whole image. The only error is `OutOfMemory`.
 pub fn read_metadata(
     alloc: Global,
@@ -213,10 +251,5 @@ pub fn read_metadata(
     ensures memory { OnErr result (count.new ≡ count.old) }
 {
     let mut decoder = decoder_of(alloc, jpeg)?;
-    let missing = match read_told(&mut decoder, is_whole(kind)) {
-        Ok(code) => code,
-        Err(code) => return Ok(code),
-    };
-    let code = copy_kind(&decoder, kind_alone(kind), buffer, count)?;
-    Ok(if code == NO_DATA { missing } else { code })
+    copy_told(&mut decoder, kind, buffer, count)
 }

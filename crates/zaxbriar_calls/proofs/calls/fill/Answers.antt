@@ -1,32 +1,12 @@
-use Rattle.std.proofs.Common.{◌∙◌, refl}
+use Rattle.std.proofs.Common.{◌∙◌}
 use Rattle.zaxbriar_calls.proofs.Filled.{fills}
 use Rattle.zaxbriar_calls.proofs.calls.fill.Goals as goal
 
 pub returns : goal.returns
 returns c =
-    let done = c.decode_into-outcome.ensures in
     fills c.args.extent c.args.options.now c.args.jpeg.now c.args.pixels.now c.decode_into-outcome.new.pixels
     c.decode_into-outcome.new.picture c.decode_into-outcome.result c.outcome_feature-feature.result
-    c.outcome_fault-picture.result c.from-picture.result c.answer.new.text c.answer.result (record {
-      given = done.given;
-      part = done.part;
-      rows = done.rows;
-      counts = done.counts;
-      header = done.header;
-      most = done.most refl;
-      named = done.named;
-      kept = done.kept;
-      within = done.within;
-      described = done.described;
-      room = done.room;
-      large = done.large;
-      limited = done.limited;
-      short = done.short;
-      known = done.known;
-      wrong = done.wrong;
-      unasked = done.unasked;
-      undescribed = done.undescribed;
-    }) (record {
+    c.outcome_fault-picture.result c.from-picture.result c.answer.new.text c.answer.result c.decode_into-outcome.ensures (record {
       code_is = c.answer.ensures.code;
       feature_is = c.outcome_feature-feature.ensures;
       fault_is = c.outcome_fault-picture.ensures;

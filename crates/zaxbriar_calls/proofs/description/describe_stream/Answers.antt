@@ -1,36 +1,34 @@
-use Rattle.std.proofs.Common.{ℕ, List, subst}
-use Rattle.std.proofs.lemmas.Result.{err_from_is_err_and}
-use Rattle.jpeg_streams.specs.Stream.{header_at}
-use Rattle.zaxbriar_calls.proofs.Means.{after-header}
-use Rattle.zaxbriar_calls.proofs.Rests.{header-counted}
-use Rattle.zaxbriar_calls.specs.Meanings.{StandsAfter}
+use Rattle.std.proofs.Common.{arith, ◌≡◌, true}
+use Rattle.zaxbriar_calls.proofs.Outcomes.{stream-described}
+use Rattle.zaxbriar_calls.specs.Limits.{are_known}
 use Rattle.zaxbriar_calls.proofs.description.describe_stream.Goals as goal
 
-pub returns-in_err-described-clause-limited : goal.returns-in_err-described-clause-limited
-returns-in_err-described-clause-limited c size large =
-    let p = err_from_is_err_and c.from_residual-in_err-described.result c.from_residual-in_err-described.ensures.1 in
+pub returns : goal.returns
+returns c =
     let known = c.in_ok-decoder.ensures.known in
     let same = c.in_ok-decoder.ensures.bytes in
-    let limited = rw same at (c.in_err-described.ensures.limited known) in
-    rw (p.1, p.2) (limited size large)
-
-pub returns-in_err-described-clause-header : goal.returns-in_err-described-clause-header
-returns-in_err-described-clause-header c =
-    let p = err_from_is_err_and c.from_residual-in_err-described.result c.from_residual-in_err-described.ensures.1 in
-    let known = c.in_ok-decoder.ensures.known in
-    let same = c.in_ok-decoder.ensures.bytes in
-    let after = c.in_err-described.ensures.after known in
-    rw (p.1, p.2) (λ large. header-counted c.args.jpeg.now c.describe-described.new.decoder.source
-    c.bytes_read-picture.result
-    (subst (λ (b : List ℕ). StandsAfter (header_at b) c.describe-described.new.decoder.source) same (after large))
-    c.bytes_read-picture.ensures.counts)
-
-pub returns-clause-counts : goal.returns-clause-counts
-returns-clause-counts c =
-    let known = c.in_ok-decoder.ensures.known in
-    let same = c.in_ok-decoder.ensures.bytes in
-    let read = c.in_ok-described.ensures.reads in
-    let after = after-header c.args.options.now _ c.describe-described.new.decoder read known in
-    header-counted c.args.jpeg.now c.describe-described.new.decoder.source c.bytes_read-picture.result
-    (subst (λ (b : List ℕ). StandsAfter (header_at b) c.describe-described.new.decoder.source) same after)
-    c.bytes_read-picture.ensures.counts
+    let done = c.describe-described.ensures in
+    let asked : are_known c.args.options.now ≡ true = grind arith in
+    stream-described c.args.options.now c.args.jpeg.now c.density_of-density.result c.in_ok-decoder.decoder
+    c.describe-described.new.decoder c.args.picture.now c.describe-described.new.picture c.bytes_read-picture.result
+    c.describe-described.result asked (record {
+      source_known = known;
+      source_bytes = same;
+      reads = done.reads;
+      info = done.info;
+      precision = done.precision;
+      lines = done.lines;
+      told = done.told;
+      within = rw same at (done.within known);
+      large = rw same at (done.large known);
+      stands = rw same at (done.after known);
+      limited = rw same at (done.limited known);
+      named = rw same at (done.named known);
+      misfit = rw same at (done.misfit known);
+      other = done.other;
+      whole = done.whole;
+      kept = done.kept;
+    }) done.rowless (record {
+      most = c.bytes_read-picture.ensures.most;
+      counts = c.bytes_read-picture.ensures.counts;
+    })

@@ -1,0 +1,288 @@
+-- What the functions behind the calls say of their outcomes, by the outcome of each of their steps.
+use Rattle.std.proofs.Common.{arith, ◌≡◌, ◌⊎◌, ◌∙◌, ◌+◌, ◌<◌, ◌≤◌, ℕ, Bool, List, None, Some, Result, Ok, Err, false, true}
+use Rattle.std.proofs.Common.{ap, inl, inr, length, refl, subst, sym}
+use Rattle.std.specs.Prelude.{IfErr, IfOk, IsErrAnd, OnOk, option_map}
+use Rattle.jpeg_bits.specs.Reading.{Fault}
+use Rattle.jpeg_bits.specs.Stream.{Stream}
+use Rattle.jpeg_streams.specs.Pixels.{info_of}
+use Rattle.jpeg_streams.specs.States.{Decoding}
+use Rattle.jpeg_streams.specs.Stream.{header_at}
+use Rattle.zaxbriar_calls.proofs.Fails.{if-err, not-own, own-large}
+use Rattle.zaxbriar_calls.proofs.Headers.{described-same, only-room}
+use Rattle.zaxbriar_calls.proofs.Means.{after-header}
+use Rattle.zaxbriar_calls.proofs.Parts.{brought-given, gives-rest, header-lacks, no-part, no-rows, none-named, reached-err}
+use Rattle.zaxbriar_calls.proofs.Parts.{reached-ok, rows-given}
+use Rattle.zaxbriar_calls.proofs.Rests.{header-counted, image-counted}
+use Rattle.zaxbriar_calls.specs.Faults.{IsArgument, IsFault, IsOfCall, IsOfReading, IsPart}
+use Rattle.zaxbriar_calls.specs.Given.{Gives}
+use Rattle.zaxbriar_calls.specs.Limits.{are_known, bytes_beside, exceeds_limits}
+use Rattle.zaxbriar_calls.specs.Lines.{HasLines, described_picture}
+use Rattle.zaxbriar_calls.specs.Meanings.{Describes, IsMisfit, IsTooLarge, IsWithin, ReadsHeader, StandsAfter, uncounted}
+use Rattle.zaxbriar_calls.specs.Outcomes.{Continues, DecodesInto, DecodesLines, DescribesStream, LacksRoom}
+use Rattle.zaxbriar_calls.specs.declared.answers.Refusal.{Refusal}
+use Rattle.zaxbriar_calls.specs.declared.answers.Refusal.TheVariants as refusals
+use Rattle.zaxbriar_calls.specs.declared.density.Density.{Density}
+use Rattle.zaxbriar_calls.specs.declared.extents.Extent.{Extent}
+use Rattle.zaxbriar_calls.specs.declared.extents.Extent.TheVariants.{Whole}
+use Rattle.zaxbriar_calls.specs.declared.header.Header.{Header}
+use Rattle.zaxbriar_calls.specs.declared.lines.Lines.{Lines}
+use Rattle.zaxbriar_calls.specs.declared.options.Options.{Options}
+use Rattle.zaxbriar_calls.specs.declared.picture.Picture.{Picture}
+
+-- What is known of a header that was described, or refused.
+pub record HeaderDescribed (extent : Extent) (o : Options) (bytes : List ℕ) (density : Density) (first second : Decoding)
+    (old new : Picture) (r : Result (Header × Lines) Refusal) : Type 0 where
+  pub source_known : first.source.known ≡ true
+  pub source_bytes : first.source.bytes ≡ bytes
+  pub reads : OnOk r (ReadsHeader o first second)
+  pub info : IfOk r (λ a. option_map info_of second.found.said.frame ≡ Some a.0.info)
+  pub precision : IfOk r (λ a. option_map (λ f. f.precision) second.found.said.frame ≡ Some a.0.precision)
+  pub lines : IfOk r (λ a. HasLines o a.0.info a.0.precision a.1)
+  pub told : IfOk r (λ a. new ≡ described_picture o.layout a.0.info a.0.precision a.1
+      (bytes_beside extent a.0.decoding_bytes) a.0.orientation a.0.sampling a.0.transform density 0)
+  pub within : OnOk r (IsWithin extent o bytes new)
+  pub large : IfErr r (λ x. x ≡ refusals.TooLarge → IsTooLarge extent o bytes new)
+  pub stands : IfErr r (λ x. x ≡ refusals.TooLarge → StandsAfter (header_at bytes) second.source)
+  pub limited : (size : Picture) → IsTooLarge extent o bytes size → IsErrAnd r IsOfCall
+  pub named : IfErr r (IsFault (header_at bytes))
+  pub misfit : IfErr r (λ x. IsArgument x → IsMisfit o bytes)
+  pub other : IfErr r (λ x. x ≡ refusals.NoRoom → ⊥)
+  pub whole : IfErr r (λ x. IsPart x → ⊥)
+  pub kept : IfErr r (λ x. (x ≡ refusals.TooLarge → ⊥) → new ≡ old)
+
+-- The bytes that a source has taken of a stream are counted.
+pub record Counted (bytes : List ℕ) (source : Stream) (count : ℕ) : Type 0 where
+  pub most : count ≤ length bytes
+  pub counts : source.known ≡ true → length source.bytes ≤ length bytes
+      → count + length source.bytes ≡ length bytes
+
+-- a picture with a number of bytes that were read
+abbrev pub counting : Picture → ℕ → Picture
+counting picture count = record picture { stream_bytes = count }
+
+-- ---- facts that exclude each other
+
+is-known : {P : Type 0} (b : Bool) → b ≡ true → b ≡ false → P
+is-known b p q = absurd cc
+
+ok-err : {X : Type 0} (read : Result X Fault) (x : X) (fault : Fault) → read ≡ Ok x → read ≡ Err fault → ⊥
+ok-err read x fault p q = cc
+
+room-large : refusals.NoRoom ≡ refusals.TooLarge → ⊥
+room-large e = cc
+
+reading-room : (r : Refusal) → IsOfReading r → r ≡ refusals.NoRoom → ⊥
+reading-room r a e = grind arith
+
+reading-large : (r : Refusal) → IsOfReading r → r ≡ refusals.TooLarge → ⊥
+reading-large r a e = grind arith
+
+reading-argument : (r : Refusal) → IsOfReading r → IsArgument r → ⊥
+reading-argument r a e = grind arith
+
+-- ---- pictures that are described
+
+always : {X E : Type 0} (r : Result X E) (P : Type 0) → P → OnOk r P
+always (Ok x) P p = p
+always (Err e) P p = tt
+
+-- one counts no bytes
+uncounted-same : (extent : Extent) (o : Options) (bytes : List ℕ) (picture : Picture) → Describes extent o bytes picture
+    → uncounted picture ≡ picture
+uncounted-same extent o bytes picture d = ap (λ (p : Picture). uncounted p) d.picture_is ∙ sym d.picture_is
+
+counted-within : (extent : Extent) (o : Options) (bytes : List ℕ) (picture : Picture) (over : Bool)
+    → Describes extent o bytes picture × (exceeds_limits o picture ≡ over)
+    → Describes extent o bytes (uncounted picture) × (exceeds_limits o (uncounted picture) ≡ over)
+counted-within extent o bytes picture over w =
+    subst (λ (p : Picture). Describes extent o bytes p × (exceeds_limits o p ≡ over))
+    (sym (uncounted-same extent o bytes picture w.0)) w
+
+-- the decoder of one stands after its header
+header-stands : (o : Options) (bytes : List ℕ) (first second : Decoding) → ReadsHeader o first second
+    → first.source.known ≡ true → first.source.bytes ≡ bytes → StandsAfter (header_at bytes) second.source
+header-stands o bytes first second read known same =
+    subst (λ (b : List ℕ). StandsAfter (header_at b) second.source) same (after-header o first second read known)
+
+-- ---- a description
+
+pub stream-described : (o : Options) (bytes : List ℕ) (density : Density) (first second : Decoding) (old picture : Picture)
+    (count : ℕ) (r : Result (Header × Lines) Refusal)
+    → are_known o ≡ true → HeaderDescribed Whole o bytes density first second old picture r
+    → (old.whole_rows ≡ 0 → picture.whole_rows ≡ 0) → Counted bytes second.source count
+    → DescribesStream o bytes old (counting picture count) r
+stream-described o bytes density first second old picture count (Ok a) known d rowless c = record {
+  within = counted-within Whole o bytes picture false d.within;
+  large = tt;
+  counts = header-counted bytes second.source count
+      (header-stands o bytes first second d.reads d.source_known d.source_bytes) c.counts;
+  header = tt;
+  most = λ z. c.most;
+  rowless = rowless;
+  limited = d.limited;
+  roomless = tt;
+  named = tt;
+  whole = tt;
+  known = λ n. is-known (are_known o) known n;
+  wrong = tt;
+  unasked = λ n. is-known (are_known o) known n;
+  kept = tt;
+}
+stream-described o bytes density first second old picture count (Err r) known d rowless c = record {
+  within = tt;
+  large = λ e. counted-within Whole o bytes picture true (d.large e);
+  counts = tt;
+  header = λ e. header-counted bytes second.source count (d.stands e) c.counts;
+  most = λ z. c.most;
+  rowless = rowless;
+  limited = d.limited;
+  roomless = d.other;
+  named = d.named;
+  whole = d.whole;
+  known = λ n. is-known (are_known o) known n;
+  wrong = λ a. inr (d.misfit a);
+  unasked = λ n. is-known (are_known o) known n;
+  kept = λ n. ap (λ (p : Picture). uncounted p) (d.kept n);
+}
+
+-- ---- a picture in the caller's memory
+
+-- the header was refused
+refused-decoded : (extent : Extent) (o : Options) (bytes pixels : List ℕ) (density : Density) (first second : Decoding)
+    (old picture : Picture) (count : ℕ) (r : Refusal)
+    → are_known o ≡ true → HeaderDescribed extent o bytes density first second old picture (Err r)
+    → Counted bytes second.source count
+    → DecodesInto extent o bytes pixels pixels old (counting picture count) (Err r)
+refused-decoded extent o bytes pixels density first second old picture count r known d c = record {
+  given = tt;
+  part = no-part extent o bytes pixels pixels (counting picture count) r d.whole;
+  rows = no-rows _ r d.whole;
+  counts = tt;
+  header = λ own. own-large r _ own d.other (λ e. header-counted bytes second.source count (d.stands e) c.counts);
+  most = λ z. c.most;
+  named = header-lacks extent o bytes r d.named;
+  kept = λ n. refl;
+  within = tt;
+  described = λ p. absurd (d.whole p);
+  room = λ e. absurd (d.other e);
+  large = λ e. counted-within extent o bytes picture true (d.large e);
+  short = λ size w s. only-room extent o bytes picture size r w d.named d.large d.other d.whole;
+  limited = d.limited;
+  known = λ n. is-known (are_known o) known n;
+  wrong = λ a. inr (d.misfit a);
+  unasked = λ n. is-known (are_known o) known n;
+  undescribed = λ fault h. ap (λ (p : Picture). uncounted p)
+      (d.kept (λ e. ok-err (header_at bytes) _ fault (d.large e).0.reads h));
+}
+
+-- there was no room
+roomless-decoded : (extent : Extent) (o : Options) (bytes pixels : List ℕ) (density : Density) (first second : Decoding)
+    (old picture : Picture) (count : ℕ) (a : Header × Lines)
+    → are_known o ≡ true → HeaderDescribed extent o bytes density first second old picture (Ok a)
+    → length pixels < picture.size → Counted bytes second.source count
+    → DecodesInto extent o bytes pixels pixels old (counting picture count) (Err refusals.NoRoom)
+roomless-decoded extent o bytes pixels density first second old picture count a known d short c = record {
+  given = tt;
+  part = tt;
+  rows = tt;
+  counts = tt;
+  header = λ own. header-counted bytes second.source count
+      (header-stands o bytes first second d.reads d.source_known d.source_bytes) c.counts;
+  most = λ z. c.most;
+  named = tt;
+  kept = λ n. refl;
+  within = tt;
+  described = λ p. absurd p;
+  room = λ e. (counted-within extent o bytes picture false d.within, short);
+  large = λ e. absurd (room-large e);
+  short = λ size w s. tt;
+  limited = λ size l. absurd (d.limited size l);
+  known = λ n. is-known (are_known o) known n;
+  wrong = λ n. absurd n;
+  unasked = λ n. is-known (are_known o) known n;
+  undescribed = λ fault h. absurd (ok-err (header_at bytes) _ fault d.within.0.reads h);
+}
+
+-- the lines were decoded
+lines-decoded : (extent : Extent) (o : Options) (bytes before after : List ℕ) (density : Density)
+    (first second third : Decoding) (old picture : Picture) (count : ℕ) (a : Header × Lines) (outcome : Result ℕ Refusal)
+    → are_known o ≡ true → HeaderDescribed extent o bytes density first second old picture (Ok a)
+    → (size : picture.size ≤ length before) → DecodesLines extent a.1 outcome second third before after
+    → Counted bytes third.source count
+    → DecodesInto extent o bytes before after old (counting picture count) outcome
+lines-decoded extent o bytes before after density first second third old picture count a outcome known d fits l c =
+    let facts = d.reads.reads d.source_known in
+    let header_is = ap header_at (sym d.source_bytes) ∙ facts.1.1 in
+    let told = ap (λ (p : Picture). counting p count) d.told in
+    let within = counted-within extent o bytes picture false d.within in
+    record {
+      given = reached-ok extent a.1 outcome second third before after _ (l.reaches facts.0)
+          (λ b. none-named b.brings.named (λ n. Gives extent o bytes before after n (counting picture count))
+          b.brings.fault_is
+          (brought-given extent o bytes facts.1.0 a.0.info a.0.precision a.1 None second third before after
+          (counting picture count) (bytes_beside extent a.0.decoding_bytes) a.0.orientation count a.0.sampling
+          a.0.transform density header_is d.reads.settings facts.1.2 d.info d.precision d.lines told b));
+      part = reached-err extent a.1 outcome second third before after o bytes (counting picture count)
+          (l.reaches facts.0)
+          (λ e b. brought-given extent o bytes facts.1.0 a.0.info a.0.precision a.1 (Some e) second third before after
+          (counting picture count) (bytes_beside extent a.0.decoding_bytes) a.0.orientation count a.0.sampling
+          a.0.transform density header_is d.reads.settings facts.1.2 d.info d.precision d.lines told b);
+      rows = rw (rows-given extent o bytes second.source.bytes facts.1.0 header_is)
+          (rw facts.1.2 at (l.rows facts.0));
+      counts = reached-ok extent a.1 outcome second third before after _ (l.reaches facts.0)
+          (λ b. image-counted extent o bytes second third facts.1.0 count header_is d.reads.settings facts.1.2 b.ends
+          c.counts);
+      header = if-err outcome _ _ l.own (λ r own is. absurd (not-own r own is));
+      most = λ z. c.most;
+      named = rw (gives-rest extent o bytes second.source.bytes facts.1.0 header_is)
+          (rw (d.reads.settings, facts.1.2) at (l.named facts.0));
+      kept = l.kept;
+      within = always outcome _ within;
+      described = if-err outcome _ _ l.own (λ r own is. within);
+      room = if-err outcome _ _ l.own (λ r own is. absurd (reading-room r own is));
+      large = if-err outcome _ _ l.own (λ r own is. absurd (reading-large r own is));
+      short = λ size w s.
+          let same = described-same extent o bytes size picture w.0 d.within.0 in
+          let long : size.size ≡ picture.size = ap (λ (p : Picture). p.size) same in
+          absurd (omega (arith, long, s, fits));
+      limited = λ size e. absurd (d.limited size e);
+      known = λ n. is-known (are_known o) known n;
+      wrong = if-err outcome _ _ l.own (λ r own is. absurd (reading-argument r own is));
+      unasked = λ n. is-known (are_known o) known n;
+      undescribed = λ fault h. absurd (ok-err (header_at bytes) _ fault d.within.0.reads h);
+    }
+
+described-decoded : (extent : Extent) (o : Options) (bytes before after : List ℕ) (density : Density)
+    (first second third : Decoding) (old picture : Picture) (count : ℕ) (a : Header × Lines) (outcome : Result ℕ Refusal)
+    → are_known o ≡ true → HeaderDescribed extent o bytes density first second old picture (Ok a)
+    → LacksRoom a.1 outcome second third before after ⊎ DecodesLines extent a.1 outcome second third before after
+    → Counted bytes third.source count
+    → DecodesInto extent o bytes before after old (counting picture count) outcome
+described-decoded extent o bytes before after density first second third old picture count a outcome known d (inl l) c =
+    let size = ap (λ (p : Picture). p.size) d.told in
+    subst (λ (r : Result ℕ Refusal). DecodesInto extent o bytes before after old (counting picture count) r)
+    (sym l.refused)
+    (subst (λ (pixels : List ℕ). DecodesInto extent o bytes before pixels old (counting picture count) (Err refusals.NoRoom))
+    (sym l.unwritten)
+    (roomless-decoded extent o bytes before density first second old picture count a known d
+    (subst (λ (n : ℕ). length before < n) (sym size) l.short)
+    (subst (λ (x : Decoding). Counted bytes x.source count) l.unread c)))
+described-decoded extent o bytes before after density first second third old picture count a outcome known d (inr l) c =
+    let size = ap (λ (p : Picture). p.size) d.told in
+    lines-decoded extent o bytes before after density first second third old picture count a outcome known d
+    (subst (λ (n : ℕ). n ≤ length before) (sym size) l.fits) l c
+
+pub stream-decoded : (extent : Extent) (o : Options) (bytes before after : List ℕ) (density : Density)
+    (first second third : Decoding) (old picture : Picture) (count : ℕ) (r : Result (Header × Lines) Refusal)
+    (outcome : Result ℕ Refusal)
+    → are_known o ≡ true → HeaderDescribed extent o bytes density first second old picture r
+    → Continues extent r outcome second third before after → Counted bytes third.source count
+    → DecodesInto extent o bytes before after old (counting picture count) outcome
+stream-decoded extent o bytes before after density first second third old picture count (Ok a) outcome known d l c =
+    described-decoded extent o bytes before after density first second third old picture count a outcome known d l c
+stream-decoded extent o bytes before after density first second third old picture count (Err r) outcome known d l c =
+    subst (λ (x : Result ℕ Refusal). DecodesInto extent o bytes before after old (counting picture count) x) (sym l.0)
+    (subst (λ (pixels : List ℕ). DecodesInto extent o bytes before pixels old (counting picture count) (Err r))
+    (sym l.2)
+    (refused-decoded extent o bytes before density first second old picture count r known d
+    (subst (λ (x : Decoding). Counted bytes x.source count) l.1 c)))
