@@ -62,6 +62,19 @@ fn colours_by_identifiers(components: &[Component]) -> Option<&'static str> {
     }
 }
 
+/// Returns the name of the colours of this many components, as segments name them.
+fn colours_by_segments(count: usize, named: NamedColours) -> &'static str {
+    match (count, named.adobe) {
+        (3, _) if named.is_jfif => "YCbCr",
+        (3, None) => "YCbCr",
+        (3, Some(AdobeColorTransform::Unknown)) => "RGB",
+        (4, None | Some(AdobeColorTransform::Unknown)) => "CMYK",
+        (3 | 4, Some(AdobeColorTransform::YCbCr)) => "YCbCr",
+        (3 | 4, Some(AdobeColorTransform::YCCK)) => "YCCK",
+        _ => "unknown",
+    }
+}
+
 /// Returns the name of the colours of a frame's components, as the decoder takes them.
 fn colours_name(frame: &FrameInfo, named: NamedColours) -> &'static str {
     let components = frame.components.as_slice();
@@ -71,17 +84,9 @@ fn colours_name(frame: &FrameInfo, named: NamedColours) -> &'static str {
     if matches!(frame.coding_process, CodingProcess::Lossless) {
         return "as stored";
     }
-    if let Some(name) = colours_by_identifiers(components) {
-        return name;
-    }
-    match (components.len(), named.adobe) {
-        (3, _) if named.is_jfif => "YCbCr",
-        (3, None) => "YCbCr",
-        (3, Some(AdobeColorTransform::Unknown)) => "RGB",
-        (4, None | Some(AdobeColorTransform::Unknown)) => "CMYK",
-        (3 | 4, Some(AdobeColorTransform::YCbCr)) => "YCbCr",
-        (3 | 4, Some(AdobeColorTransform::YCCK)) => "YCCK",
-        _ => "unknown",
+    match colours_by_identifiers(components) {
+        Some(name) => name,
+        None => colours_by_segments(components.len(), named),
     }
 }
 

@@ -171,6 +171,14 @@ impl Found {
         }
     }
 
+    /// Adds what the segment of an application says, if it says something.
+    fn add(&mut self, said: Option<&AppData>) {
+        if let Some(said) = said {
+            self.colours.add(said);
+            self.data.add(said);
+        }
+    }
+
     /// Reads the segment of an application.
     fn read_application<R: Read + Drop>(
         &mut self,
@@ -178,11 +186,19 @@ impl Found {
         source: &mut Source<R>,
         marker: Marker,
     ) -> Result<()> {
-        if let Some(said) = parse_app(alloc, source, marker)? {
-            self.colours.add(&said);
-            self.data.add(&said);
-        }
+        let said = parse_app(alloc, source, marker)?;
+        self.add(said.as_ref());
         Ok(())
+    }
+
+    /// Adds what the segment APP0 says.
+    fn add_application_0(&mut self, segment: &[u8]) {
+        if segment.starts_with(b"JFIF\0") {
+            self.colours.is_jfif = true;
+        }
+        if self.density.is_none() {
+            self.density = density_in(segment);
+        }
     }
 
     /// Reads the segment APP0, which has the density in addition to what `parse_app` says of it.
@@ -193,12 +209,7 @@ impl Found {
     ) -> Result<()> {
         let length = read_length(alloc, source)?;
         let segment = read_bytes(alloc, source, length)?;
-        if segment.starts_with(b"JFIF\0") {
-            self.colours.is_jfif = true;
-        }
-        if self.density.is_none() {
-            self.density = density_in(&segment);
-        }
+        self.add_application_0(segment.as_slice());
         Ok(())
     }
 
@@ -215,6 +226,27 @@ impl Found {
         Ok(())
     }
 
+    /// Reads a frame header.
+    fn read_frame<R: Read + Drop>(
+        &mut self,
+        alloc: Global,
+        source: &mut Source<R>,
+        marker: Marker,
+    ) -> Result<()> {
+        self.frame = Some(parse_sof(alloc, source, marker)?);
+        Ok(())
+    }
+
+    /// Reads a restart interval.
+    fn read_restart_interval<R: Read + Drop>(
+        &mut self,
+        alloc: Global,
+        source: &mut Source<R>,
+    ) -> Result<()> {
+        self.restart_interval = parse_dri(alloc, source)?;
+        Ok(())
+    }
+
     /// Reads the segment after a marker.
     fn read_segment<R: Read + Drop>(
         &mut self,
@@ -223,15 +255,14 @@ impl Found {
         marker: Marker,
     ) -> Result<()> {
         match marker {
-            Marker::SOF(_) => self.frame = Some(parse_sof(alloc, source, marker)?),
-            Marker::DRI => self.restart_interval = parse_dri(alloc, source)?,
-            Marker::APP(0) => return self.read_application_0(alloc, source),
-            Marker::APP(_) => return self.read_application(alloc, source, marker),
-            Marker::COM => return self.read_comment(alloc, source),
-            _ if marker.has_length() => return skip_segment(alloc, source),
-            _ => {}
+            Marker::SOF(_) => self.read_frame(alloc, source, marker),
+            Marker::DRI => self.read_restart_interval(alloc, source),
+            Marker::APP(0) => self.read_application_0(alloc, source),
+            Marker::APP(_) => self.read_application(alloc, source, marker),
+            Marker::COM => self.read_comment(alloc, source),
+            _ if marker.has_length() => skip_segment(alloc, source),
+            _ => Ok(()),
         }
-        Ok(())
     }
 
     /// Returns the header that was found before a marker.
@@ -295,7 +326,8 @@ fn is_end(error: &Error) -> bool {
     }
 }
 
-/// Takes bytes that end for a stream that ends, if it has a frame header.
+/// Returns EOI in place of the error that the bytes end too soon, if a frame header was read: the
+/// header is then described as far as it goes.
 fn or_end(read: Result<Marker>, has_frame: bool) -> Result<Marker> {
     match read {
         Err(error) if has_frame && is_end(&error) => Ok(Marker::EOI),
@@ -304,7 +336,7 @@ fn or_end(read: Result<Marker>, has_frame: bool) -> Result<Marker> {
 }
 
 /// Reads the segments that the reader gives up to the first scan, and returns the marker there.
-/// Bytes that end after a frame header are taken for a stream that ends.
+/// That is EOI where the bytes end after a frame header.
 fn read_found<R: Read + Drop>(alloc: Global, reader: R, found: &mut Found) -> Result<Marker> {
     let mut source = Source::new(reader);
     let read = read_segments(alloc, &mut source, found);

@@ -20,19 +20,29 @@ pub fn acts(character: char) -> bool
     )
 }
 
+/// Writes the number of a character, for JSON or not.
+fn write_number<W: fmt::Write>(
+    f: &mut fmt::Formatter<W>,
+    number: u32,
+    is_json: bool,
+) -> fmt::Result {
+    if number <= 0xff && !is_json {
+        write!(f, "\\x{number:02x}")
+    } else {
+        write!(f, "\\u{number:04x}")
+    }
+}
+
 /// Writes a character of a line, of JSON or not.
 fn write_character<W: fmt::Write>(
     f: &mut fmt::Formatter<W>,
     character: char,
     is_json: bool,
 ) -> fmt::Result {
-    let number = u32::from(character);
-    if !acts(character) {
-        f.write_char(character)
-    } else if number <= 0xff && !is_json {
-        write!(f, "\\x{number:02x}")
+    if acts(character) {
+        write_number(f, u32::from(character), is_json)
     } else {
-        write!(f, "\\u{number:04x}")
+        f.write_char(character)
     }
 }
 
