@@ -192,6 +192,44 @@ fn choose<R: Read + Drop>(
     })
 }
 
+/// Decodes as much as is wanted of the stream of a decoder that has read nothing, at the scale for
+/// the request.
+fn read_chosen<R: Read + Drop>(
+    alloc: Global,
+    decoder: &mut Decoder<R>,
+    request: Request,
+    extent: Extent,
+    limits: Limits,
+) -> Result<ScaledPicture, Refusal>
+    requires fresh { decoder.old.stage ≡ Fresh }
+    requires plain { decoder.old.settings ≡ default_settings }
+    ensures picture { decoder.old.source.known ≡ true → IfOk result (λ made. IsGiven extent
+        made.scale decoder.old.source.bytes (decoded_in made.picture) made.whole_rows made.fault) }
+    ensures asked { (scale : _) → request ≡ At scale → IfOk result (λ made. made.scale ≡ scale) }
+    ensures chosen { decoder.old.source.known ≡ true → IfOk result (λ made.
+        IsSomeAnd (header_info decoder.old.source.bytes) (λ full. (made.full ≡ full)
+        × (made.scale ≡ scale_of_request request full made.orientation)
+        × (made.size ≡ size_for request full made.orientation))) }
+    ensures said { decoder.old.source.known ≡ true → IfOk result (λ made. made.orientation
+        ≡ orientation_for request (header_exif decoder.old.source.bytes)) }
+    ensures orientation { IfOk result (λ made. (1 ≤ made.orientation)
+        × (made.orientation ≤ 8)) }
+    ensures limited { decoder.old.source.known ≡ true → IfOk result
+        (λ _. allows request extent limits decoder.old.source.bytes ≡ true) }
+{
+    let choice = choose(decoder, request, extent, limits)?;
+    let (picture, completeness) = decode_wanted_picture(alloc, decoder, extent)?;
+    Ok(ScaledPicture {
+        picture,
+        whole_rows: completeness.whole_rows,
+        fault: completeness.fault,
+        full: choice.full,
+        scale: choice.scale,
+        size: choice.size,
+        orientation: choice.orientation,
+    })
+}
+
 /// Decodes as much as is wanted of the stream that the reader gives, at the scale for the request.
 /// A picture above the limits is refused by its header. A read that fails is an error.
 pub fn read_picture<R: Read + Drop>(
@@ -227,17 +265,7 @@ pub fn read_picture<R: Read + Drop>(
         → IfOk result (λ _. allows request extent limits bytes ≡ true) }
 {
     let mut decoder = Decoder::with_capacity(alloc, READ_AHEAD, reader)?;
-    let choice = choose(&mut decoder, request, extent, limits)?;
-    let (picture, completeness) = decode_wanted_picture(alloc, &mut decoder, extent)?;
-    Ok(ScaledPicture {
-        picture,
-        whole_rows: completeness.whole_rows,
-        fault: completeness.fault,
-        full: choice.full,
-        scale: choice.scale,
-        size: choice.size,
-        orientation: choice.orientation,
-    })
+    read_chosen(alloc, &mut decoder, request, extent, limits)
 }
 
 /// Writes the lines of a picture as a file: some lines at a time, unless its greatest sample has to
@@ -289,6 +317,27 @@ fn write_decoded<R: Read + Drop, W: Write>(
     })
 }
 
+/// Decodes as much as is wanted of the stream of a decoder that has read nothing, writes its
+/// picture at a scale, and returns how much of it is complete.
+fn write_chosen<R: Read + Drop, W: Write>(
+    alloc: Global,
+    decoder: &mut Decoder<R>,
+    scale: Scale,
+    extent: Extent,
+    limits: Limits,
+    writer: &mut W,
+) -> Result<Completeness, Refusal>
+    requires fresh { decoder.old.stage ≡ Fresh }
+    requires plain { decoder.old.settings ≡ default_settings }
+    ensures written { decoder.old.source.known ≡ true → IfOk result (WritesGiven extent scale
+        decoder.old.source.bytes (W.contents writer.old) (W.contents writer.new)) }
+    ensures limited { decoder.old.source.known ≡ true → IfOk result
+        (λ _. allows (At scale) extent limits decoder.old.source.bytes ≡ true) }
+{
+    choose(decoder, Request::At(scale), extent, limits)?;
+    Ok(write_decoded(alloc, decoder, extent, writer)?)
+}
+
 /// Decodes as much as is wanted of the stream that the reader gives, writes its picture at a scale,
 /// and returns how much of the picture is complete, with the first fault of the stream. A read that
 /// fails is an error.
@@ -307,6 +356,5 @@ pub fn write_at<R: Read + Drop, W: Write>(
         → IfOk result (λ _. allows (At scale) extent limits bytes ≡ true) }
 {
     let mut decoder = Decoder::with_capacity(alloc, READ_AHEAD, reader)?;
-    choose(&mut decoder, Request::At(scale), extent, limits)?;
-    Ok(write_decoded(alloc, &mut decoder, extent, writer)?)
+    write_chosen(alloc, &mut decoder, scale, extent, limits, writer)
 }

@@ -1,3 +1,6 @@
+use Rattle.std.proofs.Common.{refl}
+use Rattle.zaxbriar_samples.specs.Boxes.{boxed}
+use Rattle.zaxbriar_samples.specs.Turns.{upright}
 use Rattle.zaxbriar_samples.specs.DecodedPictures.{decoded_in}
 use Rattle.zaxbriar_pictures.specs.declared.extents.Completeness.{Completeness}
 use Rattle.zaxbriar_pictures.proofs.WrittenThumbnails.{written}
@@ -12,11 +15,12 @@ returns-clause-written g c bytes tells =
       fault = made.fault;
     } in
     written c.args.extent c.args.request bytes (g.W.Write.contents c.args.writer.now)
-    (g.W.Write.contents c.write_picture.new.writer) made.scale made.size made.orientation
-    made.whole_rows (decoded_in made.picture) (decoded_in c.in_ok-smaller.smaller)
-    (decoded_in c.in_ok-picture.picture) told (c.in_ok-made.ensures.said bytes tells)
-    (c.in_ok-made.ensures.picture bytes tells) c.file_rows-whole_rows.ensures (c.in_ok-made.ensures.chosen bytes tells)
-    c.in_ok-smaller.ensures c.in_ok-picture.ensures c.in_ok-write_picture.ensures.file
+    (g.W.Write.contents c.write_upright.new.writer) made.scale made.size made.orientation
+    made.whole_rows (decoded_in made.picture) (boxed made.size (decoded_in made.picture))
+    (upright made.orientation (boxed made.size (decoded_in made.picture))) told
+    (c.in_ok-made.ensures.said bytes tells) (c.in_ok-made.ensures.picture bytes tells)
+    c.file_rows-whole_rows.ensures (c.in_ok-made.ensures.chosen bytes tells) refl refl
+    c.in_ok-write_upright.ensures
 
 pub returns-clause-limited : goal.returns-clause-limited
 returns-clause-limited g c bytes tells = c.in_ok-made.ensures.limited bytes tells
