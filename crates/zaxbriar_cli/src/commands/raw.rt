@@ -10,7 +10,8 @@ use zaxbriar_files::output::Output;
 use zaxbriar_files::refusal::Refusal;
 use zaxbriar_pictures::raw::write_raw;
 
-/// Decodes a file.
+/// Opens a file and then the output, and writes to it the header line and the pixels. Returns why
+/// the file is refused, if it is.
 fn write(
     rt: HostRuntime,
     input: Option<&str>,
