@@ -110,10 +110,10 @@ def expected():
     # (the last one is the stream of frames)
     yield "docs/TRUST.md", r"([\d,]+) files and a\s+stream", sum(map(int, counts)) - 1
     gate = text("docs/GATE.md")
-    first = re.search(r"In\s+all\s+it\s+takes\s+some\s+(\d+)\s+minutes", gate, re.S)[1]
+    first = re.search(r"it\s+took\s+(\d+)\s+minutes\s+by\s+the\s+clock\s+and\s+\d", gate)[1]
     yield "README.md", r"proves it first: some (\d+) minutes", first
     yield "README.md", r"info examples/rocket.jpg` \| some (\d+) minutes", first
-    whole = re.search(r"takes (\d+ to \d+)\s+minutes\s+with 4", gate)[1]
+    whole = re.search(r"takes\s+(\d+ to \d+)\s+minutes\s+with 4", gate)[1]
     yield "README.md", r"`./test` \| (\d+ to \d+) minutes on 4", whole
     for crate in ("parts_callers", "decoder_callers", "zaxbriar_callers"):
         yield "docs/GATE.md", rf"`{crate}` with (\d+) edits", edits(crate)
