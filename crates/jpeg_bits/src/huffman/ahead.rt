@@ -211,8 +211,29 @@ impl BufferedBits {
         if self.push_plain(source) {
             return true;
         }
-        // A local's address goes to the call, so that `self` can stay in registers.
-        let mut buffered = self.copied();
+        self.refill_apart(source, refusal)
+    }
+
+    /// Does what `refill` does, where no end was reached, by a copy: a local's address goes to the
+    /// call, so that `self` can stay in registers. (The local is cleared where this begins, and so
+    /// only where a refill is needed.)
+    #[inline(always)]
+    fn refill_apart<R: Read + Drop>(
+        &mut self,
+        source: &mut Source<R>,
+        refusal: &mut Option<Error>,
+    ) -> bool
+        requires unended { self.old.met ≡ None }
+        ensures fills { Takes (λ _. 0) same_text self.old source.old (outcome_of result refusal.new)
+            self.new source.new }
+        ensures full { result ≡ true → IsFilled 57 self.new.bits self.new.met }
+        ensures refused { result ≡ false → is_some refusal.new ≡ true }
+    {
+        let mut buffered = BufferedBits {
+            alloc: self.alloc,
+            bits: self.bits.copied(),
+            end: None,
+        };
         let is_full = buffered.refill(source, refusal);
         *self = buffered;
         is_full
@@ -261,7 +282,7 @@ impl BufferedBits {
     }
 
     /// Does so from what gives bytes one by one.
-    #[inline(never)]
+    #[inline(always)]
     #[tactic(auto, unfolding(crate::specs::Entropy::upcoming))]
     fn refill_from<S: Bytes>(&mut self, source: &mut S, refusal: &mut Option<Error>) -> bool
         ensures fills { Takes (λ _. 0) same_text self.old (S.stream source.old)

@@ -159,7 +159,7 @@ impl Buffer {
 }
 
 /// Returns eight bytes as a number, the first the highest.
-#[inline(always)]
+#[inline]
 fn word_at(bytes: &[u8], at: usize) -> u64
     requires { at + 8 ≤ length bytes.now }
     ensures { to_be_bytes w64 result ≡ take 8 (drop at bytes.now) }
