@@ -1,6 +1,6 @@
 -- Short codes and values.
 use Rattle.std.proofs.lemmas.Grind.{common_steps}
-use Rattle.std.proofs.Common.{◌≡◌, length-set, set, below_more, get_or-set_other, get_or-set_same, ℕ, ℤ, zero, suc, ◌+◌}
+use Rattle.std.proofs.Common.{rules, ◌≡◌, length-set, set, below_more, get_or-set_other, get_or-set_same, ℕ, ℤ, zero, suc, ◌+◌}
 use Rattle.std.proofs.Common.{◌-◌, ◌*◌, ◌/◌, ◌%◌, ◌^◌, ◌<◌, ◌≤◌, Bool, true, false, cond, eqb, leb, ltb, ◌&&◌, List, []}
 use Rattle.std.proofs.Common.{◌∷◌, ◌++◌, length, take, drop, get_or, replicate, Option, Some, None, Ok, refl, sym, ap}
 use Rattle.std.proofs.Common.{◌∙◌, arith, inl, inr, length-append, length-take, length-drop, IfSome, is_some, pow_pos}
@@ -356,6 +356,12 @@ run-entry counts symbols first end b None counted from to few run is =
     is ∙ ap (λ (k : ℕ). short_code counts symbols (low_bits 8 k)) (sym same)
 run-entry counts symbols first end b (Some (v, l)) counted from to few run is =
     sym (same-run counts symbols first b v l counted few (run b from to) (sym is))
+
+-- one more element that is equal to those before it
+pub run-next : (xs : List ℕ) (i v : ℕ) → i < length xs
+    → set (replicate i v ++ drop i xs) i v ≡ replicate (i + 1) v ++ drop (i + 1) xs
+run-next (x ∷ xs) (suc i) v h = search (rules, run-next xs i v)
+run-next xs i v h = search rules
 
 -- where no code is packed
 pub unpacked_none : (n : ℕ) → n ≡ 0 → unpacked_code n ≡ None

@@ -776,6 +776,16 @@ fn end_of_run(first: usize, rest: u8) -> usize
     ((first >> rest) + 1) << rest
 }
 
+/// Sets each entry of a run to a code. A run of eight and more is set by whole vectors, where `fill`
+/// sets its last entry apart.
+fn set_run(run: &mut [u16], code: u16)
+    ensures { run.new ≡ replicate (length run.old) code }
+{
+    for entry in run.iter_mut() {
+        *entry = code;
+    }
+}
+
 /// Fills a look-up table with the codes of at most 8 bits, by the 8 bits that they begin.
 fn fill_short(short: &mut [u16; 256], codes: &Codes<'_>)
     requires counted { length codes.now.counts.now ≡ 16 }
@@ -791,7 +801,7 @@ fn fill_short(short: &mut [u16; 256], codes: &Codes<'_>)
     while byte < 256 && row < 8 {
         let code = short_only(codes.code_of(&mut row, (byte as u16) << 8));
         let end = end_of_run(byte, rest_of_code(code));
-        short[byte..end].fill(packed_code(code));
+        set_run(&mut short[byte..end], packed_code(code));
         byte = end;
     }
     short[byte..].fill(0);
