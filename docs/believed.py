@@ -29,6 +29,7 @@ LAWS = {
     "jpeg_pixels/src/laws": "laws::",
     "jpeg_lossless/src/laws": "laws::",
     "jpeg_evidence/src/worked": "",
+    "jpeg_evidence/src/limits": "",
     "jpeg_decoder/src/laws/headline": "laws::headline::",
     "jpeg_decoder/src/laws/lossless": "laws::lossless::",
     "zaxbriar_calls/src/laws": "laws::",

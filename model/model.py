@@ -101,13 +101,16 @@ def hx(s):
 
 
 class Settings:
-    def __init__(self, transform=None, limit=2**64 - 1, scale=None, equal_factors=False):
+    def __init__(
+        self, transform=None, limit=2**64 - 1, scale=None, equal_factors=False, max_blocks=None
+    ):
         self.transform = transform  # None, or one of the names of ColorTransform
         self.limit = limit
         self.scale = scale  # None, (requested_width, requested_height), or 1, 2, 4 or 8
         self.equal_factors = (
             equal_factors  # True: lossless scans ignore factors (the rule before the change)
         )
+        self.max_blocks = max_blocks  # what all scans may code, or None
 
 
 # ---- bytes and codes
@@ -595,28 +598,33 @@ def run_scan(r, mcus, ri, start, unit, is_sealed=False, read=None):
     return marker
 
 
+def block_mcus(f, s):
+    """the MCUs of a scan, of each the blocks in turn, with the component's place in the scan, row
+    and column; and how many MCUs stand side by side"""
+    if len(s.comps) == 1:
+        c = f.comps[s.comps[0]]
+        wide, high = ceil_div(ceil_div(f.w * c.h, f.hmax), 8), ceil_div(
+            ceil_div(f.h * c.v, f.vmax), 8
+        )
+        return [[(0, y, x)] for y in range(high) for x in range(wide)], wide
+    mcus = [
+        [
+            (j, y * f.comps[i].v + v, x * f.comps[i].h + h)
+            for j, i in enumerate(s.comps)
+            for v in range(f.comps[i].v)
+            for h in range(f.comps[i].h)
+        ]
+        for y in range(f.mcus[1])
+        for x in range(f.mcus[0])
+    ]
+    return mcus, f.mcus[0]
+
+
 def dct_scan(r, f, s, dc, ac, ri, blocks, is_sealed, b):
     """blocks: of each component of the scan the blocks held. Each is replaced as soon as all of it
     is read, so that after a fault those before it are there. b.rows gets the rows of the picture
     that need nothing of the MCUs that are lacking, nor of others in their row, if some are."""
-    if len(s.comps) == 1:
-        i = s.comps[0]
-        c = f.comps[i]
-        wide, high = ceil_div(ceil_div(f.w * c.h, f.hmax), 8), ceil_div(
-            ceil_div(f.h * c.v, f.vmax), 8
-        )
-        mcus = [[(0, y, x)] for y in range(high) for x in range(wide)]
-    else:
-        mcus = [
-            [
-                (j, y * f.comps[i].v + v, x * f.comps[i].h + h)
-                for j, i in enumerate(s.comps)
-                for v in range(f.comps[i].v)
-                for h in range(f.comps[i].h)
-            ]
-            for y in range(f.mcus[1])
-            for x in range(f.mcus[0])
-        ]
+    mcus, wide = block_mcus(f, s)
 
     def start():
         return {'pred': [0] * len(s.comps), 'run': 0}
@@ -644,9 +652,9 @@ def dct_scan(r, f, s, dc, ac, ri, blocks, is_sealed, b):
         return run_scan(r, mcus, ri, start, unit, is_sealed, read)
     except Refused:
         if len(read) < len(mcus):
-            across, each = (wide, c.v) if len(s.comps) == 1 else (f.mcus[0], 1)
+            each = f.comps[s.comps[0]].v if len(s.comps) == 1 else 1
             size = f.output(b.scale)
-            b.rows = min(len(read) // across * b.scale * f.vmax // each, size[1])
+            b.rows = min(len(read) // wide * b.scale * f.vmax // each, size[1])
             # the last of them is blended with the line below
             if any(rule(f.comps[i], f.hmax, f.vmax, *size) in ('H1V2', 'H2V2') for i in s.comps):
                 b.rows = max(b.rows - 1, 0)
@@ -666,22 +674,35 @@ def predict(ra, rb, rc, sel):
     ][sel]
 
 
+def sample_mcus(f, s, settings):
+    """how many MCUs a lossless scan has across and down, and of each component how many samples: an
+    MCU's across and down, and all across and down"""
+    if settings.equal_factors:
+        return f.w, f.h, {j: (1, 1, f.w, f.h) for j in range(len(s.comps))}
+    if len(s.comps) == 1:
+        c = f.comps[s.comps[0]]
+        cols, rows = ceil_div(f.w * c.h, f.hmax), ceil_div(f.h * c.v, f.vmax)
+        return cols, rows, {0: (1, 1, cols, rows)}
+    cols, rows = ceil_div(f.w, f.hmax), ceil_div(f.h, f.vmax)
+    grid = {
+        j: (f.comps[i].h, f.comps[i].v, cols * f.comps[i].h, rows * f.comps[i].v)
+        for j, i in enumerate(s.comps)
+    }
+    return cols, rows, grid
+
+
+def blocks_coded(f, s, settings):
+    """how many blocks a scan codes, MCU by MCU; eight samples of a lossless one count as a block"""
+    if f.process != 'lossless':
+        return sum(len(mcu) for mcu in block_mcus(f, s)[0])
+    _, _, grid = sample_mcus(f, s, settings)
+    return ceil_div(sum(wide * high for _, _, wide, high in grid.values()), 8)
+
+
 def lossless_scan(r, f, s, dc, ri, settings, b, is_sealed):
     """b.planes gets the samples of the components; after a fault those of the rows of MCUs that are
     whole, and below them the samples from before the scan, or mid-grey"""
-    if settings.equal_factors:
-        grid = {j: (1, 1, f.w, f.h) for j in range(len(s.comps))}
-        cols, rows = f.w, f.h
-    elif len(s.comps) == 1:
-        c = f.comps[s.comps[0]]
-        cols, rows = ceil_div(f.w * c.h, f.hmax), ceil_div(f.h * c.v, f.vmax)
-        grid = {0: (1, 1, cols, rows)}
-    else:
-        cols, rows = ceil_div(f.w, f.hmax), ceil_div(f.h, f.vmax)
-        grid = {
-            j: (f.comps[i].h, f.comps[i].v, cols * f.comps[i].h, rows * f.comps[i].v)
-            for j, i in enumerate(s.comps)
-        }
+    cols, rows, grid = sample_mcus(f, s, settings)
     if 0 < ri < cols * rows and ri % cols:
         raise fmt(True)
     mcus = [(x, y) for y in range(rows) for x in range(cols)]
@@ -1126,6 +1147,7 @@ def read_segments(r, settings, st, trace, b, is_partial):
     if r.u8() != 0xD8:
         raise fmt()
     f, ri, scans = None, 0, 0
+    left = settings.max_blocks
     dc, ac = [None] * 4, [None] * 4
     pending, previous = None, 0xD8
     while True:
@@ -1143,6 +1165,10 @@ def read_segments(r, settings, st, trace, b, is_partial):
             if f is None:
                 raise fmt()
             s = parse_sos(r, f)
+            if left is not None:
+                left -= blocks_coded(f, s, settings)
+                if left < 0:
+                    raise fmt()
             if f.process == 'lossless':
                 if any(dc[t] is None for t in s.dc):
                     raise fmt(True)

@@ -521,6 +521,21 @@ ok(
     hx('818080818080808180818180'),
 )
 
+# ---- a limit of the blocks that scans code
+ok('two scans of a block each, at most 2', DC_REFINED, G8, [133] * 64, max_blocks=2)
+no('two scans of a block each, at most 1', DC_REFINED, 'Format', max_blocks=1)
+no('two scans of a block each, at most 0', DC_REFINED, 'Format', max_blocks=0)
+ok('two blocks, at most 2', TWO_BLOCKS, '16 8 L8', ([129] * 8 + [127] * 8) * 8, max_blocks=2)
+no('two blocks, at most 1', TWO_BLOCKS, 'Format', max_blocks=1)
+ok('an MCU of three blocks, at most 3', THREE, '8 8 RGB24', [129, 127, 130] * 64, max_blocks=3)
+no('an MCU of three blocks, at most 2', THREE, 'Format', max_blocks=2)
+ok('four lossless samples, at most 1', LOSSLESS, '2 2 L8', [129, 128, 130, 130], max_blocks=1)
+no('four lossless samples, at most 0', LOSSLESS, 'Format', max_blocks=0)
+# the limit comes before the end of the data, and after that of the header
+no('a block without the end, at most 1', ONE_BLOCK[: -len(' FFD9')], 'Io', max_blocks=1)
+no('a block without the end, at most 0', ONE_BLOCK[: -len(' FFD9')], 'Format', max_blocks=0)
+no('a block without its data and header', ONE_BLOCK[: ONE_BLOCK.index(' S(')], 'Io', max_blocks=0)
+
 
 def main():
     args = sys.argv[1:]
@@ -529,6 +544,8 @@ def main():
     for name, data, settings, want in R:
         if program:
             if settings.transform or settings.scale or settings.limit != 2**64 - 1:
+                continue
+            if settings.max_blocks is not None:
                 continue
             p = subprocess.run(program, input=data, capture_output=True, timeout=60)
             if p.returncode == 0:

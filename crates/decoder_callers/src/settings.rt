@@ -13,3 +13,13 @@ pub fn set_limit<R: Read + Drop>(decoder: &mut Decoder<R>, max: usize)
 {
     decoder.set_max_decoding_buffer_size(max)
 }
+
+/// Calls `Decoder::set_max_blocks`.
+pub fn set_block_limit<R: Read + Drop>(decoder: &mut Decoder<R>, max: Option<u64>)
+    ensures { decoder.new ≡ record decoder.old {
+      settings = record decoder.old.settings
+          { max_blocks = max };
+    } }
+{
+    decoder.set_max_blocks(max)
+}

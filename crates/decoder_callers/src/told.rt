@@ -3,6 +3,8 @@ ghost use Rattle.std.specs.Prelude.{◌≡◌, option_map, MatchResult};
 ghost use Rattle.jpeg_bits.specs.declared.error.Error.TheVariants.{OutOfMemory};
 ghost use Rattle.jpeg_streams.specs.Pixels.{info_of};
 ghost use Rattle.jpeg_streams.specs.Profile.{profile_of};
+ghost use Rattle.jpeg_streams.specs.States.{HasHeader};
+ghost use Rattle.jpeg_streams.specs.Work.{picture_blocks};
 
 use jpeg_decoder::error::Result;
 use jpeg_decoder::{Decoder, ImageInfo};
@@ -28,4 +30,12 @@ pub fn profile<R: Read + Drop>(decoder: &Decoder<R>) -> Result<Option<Vec<u8>>>
         ≡ profile_of decoder.now.found.said.metadata.icc) (λ e. e ≡ OutOfMemory) }
 {
     decoder.icc_profile()
+}
+
+/// Calls `Decoder::picture_blocks`.
+pub fn blocks<R: Read + Drop>(decoder: &Decoder<R>) -> Option<u64>
+    ensures { HasHeader decoder.now.stage
+        → result ≡ option_map picture_blocks decoder.now.found.said.frame }
+{
+    decoder.picture_blocks()
 }

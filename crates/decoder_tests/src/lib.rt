@@ -20,6 +20,8 @@ mod failed_writes;
 #[cfg(test)]
 mod interruptions;
 #[cfg(test)]
+mod limits;
+#[cfg(test)]
 mod memory;
 #[cfg(test)]
 mod streams;

@@ -1,5 +1,7 @@
 -- Scans that are read: their tables, their data, and what they decide.
 pub mod CodedScales
+pub mod CountedWork
+pub mod LimitedHeaders
 pub mod DecidedPlanes
 pub mod DecidedScans
 pub mod ReadableScans

@@ -23,11 +23,12 @@ pub record Decodes {X : Type 0} (bytes_of : X → List ℕ) (old : Decoding) (re
   pub samples : DecodesSamples bytes_of old result new
   -- A caller is then given what the segments up to the end or the fault have said.
   pub told : IsReading old.stage → OnTold old.source new.source result
-      (told_of new.found.said ≡ told_ahead false old.stage old.found old.source.bytes)
+      (told_of new.found.said
+      ≡ told_ahead old.settings.max_blocks false old.stage old.found old.source.bytes)
   -- The same after `OutOfMemory` or a failed read, of some first segments, each whole.
   pub turns : IsReading old.stage → old.source.known ≡ true
-      → IsOfTurns (λ n. turns_ahead n false old.stage old.found old.source.bytes)
-      (told_of new.found.said)
+      → IsOfTurns (λ n. turns_ahead old.settings.max_blocks n false old.stage old.found
+      old.source.bytes) (told_of new.found.said)
   -- No blocks, planes or samples are kept.
   pub emptied : IsReading old.stage → (new.found.kept ≡ []) × (new.found.planes ≡ replicate 4 None)
       × (new.found.samples ≡ replicate 4 None)

@@ -1,5 +1,5 @@
 -- A call that has read a header and nothing of the scans after it.
-use Rattle.std.specs.Prelude.{◌≡◌, Result, Ok, Err, true, IsErrAnd}
+use Rattle.std.specs.Prelude.{◌≡◌, Result, Ok, Err, true, IsErrAnd, None}
 use Rattle.jpeg_bits.specs.Reading.{Answers}
 use Rattle.jpeg_bits.specs.declared.error.Error.{Error}
 use Rattle.jpeg_streams.specs.Reported.{IsOfTurns}
@@ -22,8 +22,8 @@ pub record ReadsHeaderAlone {X : Type 0} (old : Decoding) (result : Result X Err
   pub stage : MovesToHeader old.stage new.stage header
   pub reads : old.stage ≡ Fresh → Answers (λ u. new.found) header_at old.source header new.source
   pub told : old.stage ≡ Fresh → OnTold old.source new.source header
-      (told_of new.found.said ≡ told_ahead true old.stage old.found old.source.bytes)
+      (told_of new.found.said ≡ told_ahead None true old.stage old.found old.source.bytes)
   pub turns : old.stage ≡ Fresh → old.source.known ≡ true
-      → IsOfTurns (λ n. turns_ahead n true old.stage old.found old.source.bytes)
+      → IsOfTurns (λ n. turns_ahead None n true old.stage old.found old.source.bytes)
       (told_of new.found.said)
   pub still : (old.stage ≡ Fresh → ⊥) → new ≡ old

@@ -54,20 +54,21 @@ abbrev pub CountsRows : {X : Type 0} → (X → ℕ) → (List ℕ → ℕ) → 
 CountsRows rows_of expected old result new =
     old.known ≡ true → new.known ≡ true → IfOk result (λ x. rows_of x ≡ expected old.bytes)
 
--- What has been said up to the first fault, or the end: by the rest of a stream after its start or
--- its header, by a stream, and by what lies ahead of a decoder.
-abbrev pub told_shown_rest : Found → List ℕ → Told
-told_shown_rest found bytes = told_of (all_brought found bytes).found.said
+-- What has been said up to the first fault, or the end, where scans may code this many blocks, if
+-- there is a limit: by the rest of a stream after its start or its header, by a stream, and by what
+-- lies ahead of a decoder.
+abbrev pub told_shown_rest : Option ℕ → Found → List ℕ → Told
+told_shown_rest limit found bytes = told_of (all_brought limit found bytes).found.said
 
-unfoldable pub told_shown : List ℕ → Told
-told_shown bytes = elim (start_at bytes) [
-  | Ok start ↦ told_shown_rest nothing_found start.1
+unfoldable pub told_shown : Option ℕ → List ℕ → Told
+told_shown limit bytes = elim (start_at bytes) [
+  | Ok start ↦ told_shown_rest limit nothing_found start.1
   | Err fault ↦ told_of nothing_said
 ]
 
-abbrev pub told_shown_ahead : Progress → Found → List ℕ → Told
-told_shown_ahead Fresh found bytes = told_shown bytes
-told_shown_ahead _ found bytes = told_shown_rest found bytes
+abbrev pub told_shown_ahead : Option ℕ → Progress → Found → List ℕ → Told
+told_shown_ahead limit Fresh found bytes = told_shown limit bytes
+told_shown_ahead limit _ found bytes = told_shown_rest limit found bytes
 
 pub record Shows {X : Type 0} (bytes_of : X → List ℕ) (fault_of : X → Option Error) (old : Decoding)
     (result : Result X Error) (new : Decoding) : Type 0 where
@@ -79,7 +80,8 @@ pub record Shows {X : Type 0} (bytes_of : X → List ℕ) (fault_of : X → Opti
       bytes_of fault_of old.source result new.source (told_of new.found.said)
   -- After a refusal, too, a caller is given what the segments up to the first fault have said.
   pub told : IsReading old.stage → OnToldRefusal old.source new.source result
-      (told_of new.found.said ≡ told_shown_ahead old.stage old.found old.source.bytes)
+      (told_of new.found.said
+      ≡ told_shown_ahead old.settings.max_blocks old.stage old.found old.source.bytes)
   -- A caller can tell whether the reader was given up.
   pub given_up : IsReading old.stage → GivesUp fault_of old.source result new.source
   -- No blocks, planes or samples are kept.

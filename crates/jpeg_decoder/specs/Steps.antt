@@ -3,8 +3,8 @@
 use Rattle.std.specs.Prelude.{◌≡◌, ◌<◌, ◌≤◌, ℕ, suc, ◌&&◌, not, is_some, slice_set, ◌*◌}
 use Rattle.std.specs.Prelude.{◌/◌, min, List, [], ◌∷◌, map, set, length, replicate, get_or, Bool}
 use Rattle.std.specs.Prelude.{true, false, Option, slice_get, slice_index_or, Some, None, Result}
-use Rattle.std.specs.Prelude.{Ok, if◌then◌else◌, IfOk, MatchResult, OnErr, OnOk}
-use Rattle.jpeg_bits.specs.Reading.{Names, Outcome, Fault, ◌>>=◌}
+use Rattle.std.specs.Prelude.{Ok, Err, if◌then◌else◌, IfOk, MatchResult, OnErr, OnOk}
+use Rattle.jpeg_bits.specs.Reading.{Names, Outcome, Fault, Malformed, ◌>>=◌}
 use Rattle.jpeg_bits.specs.Codes.{Table}
 use Rattle.jpeg_bits.specs.DefaultTables.{luminance_dc, chrominance_dc, luminance_ac}
 use Rattle.jpeg_bits.specs.DefaultTables.{chrominance_ac, with_defaults}
@@ -39,6 +39,7 @@ use Rattle.jpeg_streams.specs.Found.{Found, none_finished, Said}
 use Rattle.jpeg_streams.specs.LosslessScans.{lossless_codings}
 use Rattle.jpeg_streams.specs.Sound.{IsSound, IsUnread}
 use Rattle.jpeg_streams.specs.Stream.{told_of}
+use Rattle.jpeg_streams.specs.Work.{is_above, work_of_header}
 use Rattle.jpeg_segments.specs.declared.frame.CodingProcess.{CodingProcess}
 use Rattle.jpeg_segments.specs.declared.frame.CodingProcess.TheVariants.{DctSequential}
 use Rattle.jpeg_segments.specs.declared.frame.CodingProcess.TheVariants.{DctProgressive, Lossless}
@@ -277,6 +278,11 @@ read_by _ found frame scan bytes = blocks_read found frame scan bytes
 -- the header of a scan, which needs a frame
 abbrev pub header_at : Found → List ℕ → Outcome headers.Scan
 header_at found bytes = needed found.said.frame >>= λ frame. headers.sos_at frame bytes
+
+-- that of a scan of no more blocks than are left
+abbrev pub header_within : Option ℕ → Found → List ℕ → Outcome headers.Scan
+header_within left found bytes =
+    if is_above left (work_of_header found bytes) then Err Malformed else header_at found bytes
 
 -- what is read after it
 abbrev pub read_after : Found → headers.Scan → List ℕ → Outcome (Found × Option Marker)

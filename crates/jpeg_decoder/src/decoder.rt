@@ -33,12 +33,14 @@ ghost use Rattle.jpeg_streams.specs.Output.{default_settings};
 ghost use Rattle.jpeg_streams.specs.Profile.{profile_of};
 ghost use Rattle.std.specs.Option.{option_copied};
 ghost use Rattle.jpeg_streams.specs.Shown.{whole_rows_ahead};
+ghost use Rattle.jpeg_streams.specs.Work.{picture_blocks};
 
 use crate::picture::color_choice::frame_transform;
 use crate::picture::lines::Lines;
 use crate::picture::partial::{PartialLines, show};
 use crate::picture::whole::{read_header, read_rest};
 use crate::scan::decoded::Decoded;
+use crate::scan::work::picture_blocks;
 use crate::sizes::{DecodingBytes, decoding_bytes, picture_bytes};
 use crate::stream::profile::profile;
 use crate::stream::state::State;
@@ -255,6 +257,7 @@ impl<R: Read + Drop> Decoder<R> {
             settings: Settings {
                 limit: usize::MAX,
                 color_transform: None,
+                max_blocks: None,
             },
         })
     }
@@ -377,6 +380,45 @@ impl<R: Read + Drop> Decoder<R> {
         self.settings.limit = max;
     }
 
+    /// Sets how many blocks the scans of a stream may code, all together, or `None` for no limit, as
+    /// a new decoder has it. This bounds the time that decoding takes, which a header can't do: a
+    /// scan of eleven bytes may go over all blocks of the picture.
+    ///
+    /// A scan of one component codes the blocks that cover its samples, and one of several
+    /// components the blocks of all MCUs (T.81, A.2). Eight samples of a lossless scan count as a
+    /// block. The scan that would pass the limit is refused as `Format`, after its header and before
+    /// its tables and data, so that no more blocks are ever decoded. `decode_partial` then gives
+    /// what the scans before it have brought. A stream within the limit is decoded as without one.
+    ///
+    /// [`picture_blocks`](Decoder::picture_blocks) is the unit: of files by common encoders none
+    /// codes more than 8 times as many blocks, and 20 to 100 times allow for any.
+    pub fn set_max_blocks(&mut self, max: Option<u64>)
+        ensures { self.new ≡ record self.old {
+          settings = record self.old.settings
+              { max_blocks = max };
+        } }
+    {
+        self.settings.max_blocks = max;
+    }
+
+    /// Returns how many blocks one scan of all components codes, once the header has been read:
+    /// between `read_info` or `scale` and `decode`, and after a picture. Returns `None` before that,
+    /// and after a failure. A limit for [`set_max_blocks`](Decoder::set_max_blocks) is best a
+    /// multiple of it.
+    pub fn picture_blocks(&self) -> Option<u64>
+        ensures header { HasHeader self.now.stage
+            → result ≡ option_map picture_blocks self.now.found.said.frame }
+        ensures none { (HasHeader self.now.stage → ⊥) → result ≡ None }
+    {
+        match self.progress {
+            Progress::HeaderRead | Progress::Finished => {
+                let frame = self.state.said.frame.as_ref()?;
+                Some(picture_blocks(frame))
+            }
+            Progress::Fresh | Progress::Failed => None,
+        }
+    }
+
     /// Returns the last Exif data read so far, in every state.
     pub fn exif_data(&self) -> Option<&[u8]>
         ensures { option_copied result ≡ self.now.found.said.metadata.exif }
@@ -421,10 +463,10 @@ impl<R: Read + Drop> Decoder<R> {
         ensures reads { self.old.stage ≡ Fresh → Answers (λ _. self.new.found) header_at
             self.old.source result self.new.source }
         ensures told { self.old.stage ≡ Fresh → OnTold self.old.source self.new.source result
-            (told_of self.new.found.said ≡ told_ahead true self.old.stage self.old.found
+            (told_of self.new.found.said ≡ told_ahead None true self.old.stage self.old.found
             self.old.source.bytes) }
         ensures turns { self.old.stage ≡ Fresh → self.old.source.known ≡ true
-            → IsOfTurns (λ n. turns_ahead n true self.old.stage self.old.found
+            → IsOfTurns (λ n. turns_ahead None n true self.old.stage self.old.found
             self.old.source.bytes) (told_of self.new.found.said) }
         ensures settings { self.new.settings ≡ self.old.settings }
         ensures still { (self.old.stage ≡ Fresh → ⊥) → self.new ≡ self.old }
@@ -451,10 +493,10 @@ impl<R: Read + Drop> Decoder<R> {
             (sized_header_at requested_width requested_height) self.old.source result
             self.new.source }
         ensures told { self.old.stage ≡ Fresh → OnToldRefusal self.old.source self.new.source result
-            (told_of self.new.found.said ≡ told_ahead true self.old.stage self.old.found
+            (told_of self.new.found.said ≡ told_ahead None true self.old.stage self.old.found
             self.old.source.bytes) }
         ensures turns { self.old.stage ≡ Fresh → self.old.source.known ≡ true
-            → OnErr result (IsOfTurns (λ n. turns_ahead n true self.old.stage self.old.found
+            → OnErr result (IsOfTurns (λ n. turns_ahead None n true self.old.stage self.old.found
             self.old.source.bytes) (told_of self.new.found.said)) }
         ensures scaled { (self.old.stage ≡ Fresh → ⊥)
             → OnOk result (self.new ≡ record self.old
@@ -484,10 +526,10 @@ impl<R: Read + Drop> Decoder<R> {
         ensures reads { self.old.stage ≡ Fresh → Answers (λ _. self.new.found)
             (scaled_header_at scale) self.old.source result self.new.source }
         ensures told { self.old.stage ≡ Fresh → OnToldRefusal self.old.source self.new.source result
-            (told_of self.new.found.said ≡ told_ahead true self.old.stage self.old.found
+            (told_of self.new.found.said ≡ told_ahead None true self.old.stage self.old.found
             self.old.source.bytes) }
         ensures turns { self.old.stage ≡ Fresh → self.old.source.known ≡ true
-            → OnErr result (IsOfTurns (λ n. turns_ahead n true self.old.stage self.old.found
+            → OnErr result (IsOfTurns (λ n. turns_ahead None n true self.old.stage self.old.found
             self.old.source.bytes) (told_of self.new.found.said)) }
         ensures scaled { (self.old.stage ≡ Fresh → ⊥) → OnOk result (self.new
             ≡ record self.old { found = with_said (scaled_to scale) self.old.found }) }
@@ -511,10 +553,10 @@ impl<R: Read + Drop> Decoder<R> {
         ensures reads { self.old.stage ≡ Fresh → Answers (λ _. self.new.found) header_at
             self.old.source result self.new.source }
         ensures told { self.old.stage ≡ Fresh → OnTold self.old.source self.new.source result
-            (told_of self.new.found.said ≡ told_ahead true self.old.stage self.old.found
+            (told_of self.new.found.said ≡ told_ahead None true self.old.stage self.old.found
             self.old.source.bytes) }
         ensures turns { self.old.stage ≡ Fresh → self.old.source.known ≡ true
-            → IsOfTurns (λ n. turns_ahead n true self.old.stage self.old.found
+            → IsOfTurns (λ n. turns_ahead None n true self.old.stage self.old.found
             self.old.source.bytes) (told_of self.new.found.said) }
         ensures settings { self.new.settings ≡ self.old.settings }
         ensures still { (self.old.stage ≡ Fresh → ⊥) → self.new ≡ self.old }
@@ -625,7 +667,7 @@ impl<R: Read + Drop> Decoder<R> {
 
         // For any bytes, it counts the complete rows of the picture.
         ensures rows { IsReading self.old.stage → CountsRows (λ p. p.whole_rows)
-            (whole_rows_ahead self.old.stage self.old.found) self.old.source result
+            (whole_rows_ahead self.old.settings.max_blocks self.old.stage self.old.found) self.old.source result
             self.new.source }
 
         // The settings stay.
@@ -682,7 +724,7 @@ impl<R: Read + Drop> Decoder<R> {
 
         // For any bytes, it counts the complete rows of the picture.
         ensures rows { IsReading self.old.stage → CountsRows (λ p. p.whole_rows)
-            (whole_rows_ahead self.old.stage self.old.found) self.old.source result
+            (whole_rows_ahead self.old.settings.max_blocks self.old.stage self.old.found) self.old.source result
             self.new.source }
 
         // The settings stay.

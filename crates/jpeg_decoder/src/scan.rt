@@ -22,3 +22,4 @@ pub mod segment;
 pub mod spots;
 pub mod strips;
 pub mod whole_rows;
+pub mod work;

@@ -5,3 +5,4 @@ pub mod Taken
 pub mod Longer
 pub mod Cut
 pub mod Transform
+pub mod Work

@@ -14,10 +14,12 @@ use Rattle.jpeg_streams.specs.Brought.{blocks_brought, blocks_brought_by, interv
 use Rattle.jpeg_streams.specs.Brought.{intervals_reached, reached_from, samples_brought, samples_brought_by}
 use Rattle.jpeg_streams.specs.Brought.{scan_brought, scan_rows_reached}
 use Rattle.jpeg_streams.specs.InTurn.{turn_from}
+use Rattle.jpeg_streams.specs.Limits.{work_of, work_of_walk, work_within}
 use Rattle.jpeg_streams.specs.Profile.{profile_of}
-use Rattle.jpeg_streams.specs.Shown.{completed, fault_shown, picture_shown, shown, shown_of, shown_rest, whole_rows, whole_rows_rest}
-use Rattle.jpeg_streams.specs.Shown.{with_plane_shown, with_samples_shown}
+use Rattle.jpeg_streams.specs.Shown.{completed, fault_shown, picture_shown, shown_of, shown_rest_within, shown_within}
+use Rattle.jpeg_streams.specs.Shown.{whole_rows_rest, whole_rows_within, with_plane_shown, with_samples_shown}
 use Rattle.jpeg_evidence.specs.Cosines.{cosine, is_entry, are_entries}
+use Rattle.jpeg_evidence.specs.Limits.{work_done}
 
 unfoldable pub files_on_literals : ⊤
 unfolding streams_on_literals samples_on_literals
@@ -50,13 +52,17 @@ profiles_on_literals = tt
 unfoldable pub cuts_on_literals : ⊤
 unfolding streams_on_literals samples_on_literals blocks_brought blocks_brought_by interval_reached
     interval_rows_reached intervals_reached reached_from rows_reached samples_brought samples_brought_by scan_brought
-    scan_rows_reached turn_from completed fault_shown picture_shown shown shown_of shown_rest with_plane_shown
-    with_samples_shown
+    scan_rows_reached turn_from completed fault_shown picture_shown shown_within shown_of shown_rest_within
+    with_plane_shown with_samples_shown
 cuts_on_literals = tt
 
 unfoldable pub rows_on_literals : ⊤
-unfolding cuts_on_literals whole_rows_rest whole_rows is_blended rule_of
+unfolding cuts_on_literals whole_rows_rest whole_rows_within is_blended rule_of
 rows_on_literals = tt
+
+unfoldable pub limits_on_literals : ⊤
+unfolding rows_on_literals work_of work_of_walk work_within work_done
+limits_on_literals = tt
 
 unfoldable pub blended_on_literals : ⊤
 unfolding component_of frame_of is_blended rule_of

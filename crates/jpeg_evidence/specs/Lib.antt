@@ -12,3 +12,4 @@ pub mod LongerStreams
 pub mod FirstBlocks
 pub mod CutImages
 pub mod EarlyEnds
+pub mod Limits

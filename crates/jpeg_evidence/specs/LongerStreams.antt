@@ -156,13 +156,13 @@ pub record RowScanGoesOn (before shorter longer : Found) : Type 0 where
 -- what was found before this scan, and brings of it the same blocks first, or rows of MCUs.
 pub data ComesBy (more : List ℕ) (brought : Found) (longer : Walked) : Type 0 where
   in_front : (turns : ℕ) (before : Before) (met : Option Marker) (left : List ℕ)
-      → longer ≡ walk Nothing turns false before brought met (left ++ more)
+      → longer ≡ walk None Nothing turns false before brought met (left ++ more)
       → ComesBy more brought longer
   in_scan : (turns : ℕ) (before : Before) (last : Found) (met : Option Marker) (left : List ℕ)
-      → longer ≡ walk Nothing (suc turns) false before last met (left ++ more)
+      → longer ≡ walk None Nothing (suc turns) false before last met (left ++ more)
       → ScanGoesOn last brought (turn_at Nothing before last met (left ++ more)).found
       → ComesBy more brought longer
   in_rows : (turns : ℕ) (before : Before) (last : Found) (met : Option Marker) (left : List ℕ)
-      → longer ≡ walk Nothing (suc turns) false before last met (left ++ more)
+      → longer ≡ walk None Nothing (suc turns) false before last met (left ++ more)
       → RowScanGoesOn last brought (turn_at Nothing before last met (left ++ more)).found
       → ComesBy more brought longer

@@ -36,7 +36,7 @@ pub fn cut_images_bring_what_was_sent()
         → WritesFront array said levels first → said.frame ≡ Some frame → IsScan frame h
         → (sends : WritesImageScan array said levels frame h (front ++ more) next)
         → (has : BringsCut array said levels frame (scan_written frame h) sends.codings
-        (all_brought nothing_found (first ++ marker fill 218 (with_length (scan_payload h)
+        (all_brought None nothing_found (first ++ marker fill 218 (with_length (scan_payload h)
         ++ front))).found)
         × IsMost (λ count. StandWhole frame said.restart (pass_of (scan_written frame h))
         sends.codings sends.written.sent count front) (length has.done) }
@@ -52,14 +52,14 @@ pub fn cut_segments_add_nothing()
         → WritesFront array said levels first → Stands said s
         → with_length (payload_of s) ≡ part ++ more → (more ≡ [] → ⊥)
         → BringsFront array said levels
-        (all_brought nothing_found (first ++ marker fill (marker_code s) part)).found }
+        (all_brought None nothing_found (first ++ marker fill (marker_code s) part)).found }
     ensures header { (array : Coefficients) (said : Said) (levels : ℕ → Levels) (frame : Frame)
         (first part more : List ℕ) (fill : ℕ) (h : ScanHeader)
         → ((index row column : ℕ) → Is8Bit (array index row column))
         → WritesFront array said levels first → said.frame ≡ Some frame → IsScan frame h
         → with_length (scan_payload h) ≡ part ++ more → (more ≡ [] → ⊥)
         → BringsFront array said levels
-        (all_brought nothing_found (first ++ marker fill 218 part)).found }
+        (all_brought None nothing_found (first ++ marker fill 218 part)).found }
 {}
 
 /// The data of a scan that a writer emits have its first blocks whole, however many, also where

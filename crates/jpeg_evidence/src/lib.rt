@@ -52,6 +52,7 @@ pub mod cut_streams;
 pub mod extremes;
 pub mod found_tables;
 pub mod header_rules;
+pub mod limits;
 pub mod longer_streams;
 pub mod read_back;
 pub mod worked;

@@ -120,12 +120,12 @@ pub fn cut_scans_have_what_was_sent()
 /// later segments do to these isn't said. It holds of any bytes, also of those that break a rule.
 pub fn longer_streams_go_on()
     ensures ended { (found : Found) (bytes more rest : List ℕ)
-        → (all_brought found bytes).rest ≡ Ok rest
-        → all_brought found (bytes ++ more)
-        ≡ record (all_brought found bytes) { rest = Ok (rest ++ more) } }
+        → (all_brought None found bytes).rest ≡ Ok rest
+        → all_brought None found (bytes ++ more)
+        ≡ record (all_brought None found bytes) { rest = Ok (rest ++ more) } }
     ensures stopped { (found : Found) (bytes more : List ℕ) (fault : Fault)
-        → (all_brought found bytes).rest ≡ Err fault
-        → ComesBy more (all_brought found bytes).found (all_brought found (bytes ++ more)) }
+        → (all_brought None found bytes).rest ≡ Err fault
+        → ComesBy more (all_brought None found bytes).found (all_brought None found (bytes ++ more)) }
 {}
 
 /// It is blocks that stay, not samples: a quantization table after the scans counts for all blocks

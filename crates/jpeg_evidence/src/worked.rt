@@ -81,12 +81,16 @@ pub fn known_scans()
         ≡ Ok (concat (replicate 64 (129 ∷ 127 ∷ 130 ∷ []))) }
 
     // Without a conversion the lines of the components follow one another.
-    ensures lines { picture_with (record { limit = 192; color_transform = Some transforms.None })
-        three_at_once ≡ Ok (eight_times (replicate 8 129 ++ (replicate 8 127 ++ replicate 8 130))) }
+    ensures lines { picture_with (record {
+      limit = 192;
+      color_transform = Some transforms.None;
+      max_blocks = None;
+    }) three_at_once
+        ≡ Ok (eight_times (replicate 8 129 ++ (replicate 8 127 ++ replicate 8 130))) }
 
     // A picture of more bytes than the limit is refused.
-    ensures limit { picture_with (record { limit = 191; color_transform = None }) three_at_once
-        ≡ Err Malformed }
+    ensures limit { picture_with (record { limit = 191; color_transform = None; max_blocks = None })
+        three_at_once ≡ Err Malformed }
 
     // A component has two blocks in an MCU.
     ensures factors { picture_meant two_to_one

@@ -1,6 +1,7 @@
 pub mod Shorter
 pub mod ProfileLemmas
 pub mod Refusals
+pub mod Limits
 pub mod InPlace
 pub mod OnLiterals
 pub mod Soundness

@@ -34,7 +34,8 @@ use Rattle.jpeg_streams.specs.ScanSegments.{scan_segment, tables_of, vias_from, 
 use Rattle.jpeg_streams.specs.ScanSegments.{lossless_scan}
 use Rattle.jpeg_streams.specs.Scans.{arrays_at, put_blocks, turns_of, zero_arrays}
 use Rattle.jpeg_streams.specs.Segments.{accepted, frame_segment, updated}
-use Rattle.jpeg_streams.specs.Stream.{brought_after, end_segment, header_at, meaning, rest_at, segment_at, segments_at}
+use Rattle.jpeg_streams.specs.Work.{blocks_coded, components_at, samples_coded, work_of_header, work_of_turn}
+use Rattle.jpeg_streams.specs.Stream.{brought_after, end_segment, header_at, meaning_within, rest_within, segment_at, segments_at}
 use Rattle.jpeg_streams.specs.Stream.{scan_turn_at, scaled_meaning, sized_meaning, start_at, turn_at, walk}
 use Rattle.jpeg_segments.specs.HuffmanTables as tables
 use Rattle.jpeg_segments.specs.Quantization as quantization
@@ -56,16 +57,17 @@ unfolding accepted adobe_at after_bytes after_restarts after_scan all_spots app_
     cropped dc_part dequantized difference dri_at each end_after end_segment ending_at even_part extended
     factors_at finished_by first_ac first_dc frame_at frame_of frame_segment gathered green_of
     groups header_at image_of int_wrap interval intervals is_flat_column length_at lengths_from
-    limited line_bytes lines_of marker_of mcu_size mcu_spots meaning next_marker next_u16
+    limited line_bytes lines_of marker_of mcu_size mcu_spots meaning_within next_marker next_u16
     nothing_found nothing_said odd_part own_spots part_spots pass_of picture_by picture_line picture_of
     plane_at_end plane_by plane_of plane_of_blocks put_arrays put_blocks
     quantization.defined_table_at quantization.dqt_at quantization.quantization_from
-    tables.defined_codes_at tables.dht_at red_of refined_ac refined_piece rest_at rule_of sample
+    tables.defined_codes_at tables.dht_at red_of refined_ac refined_piece rest_within rule_of sample
     sample_at sample_of_1 sample_of_2 sample_of_4 scale_for scaled_meaning scan_arrays scan_of scan_segment scan_turn_at
     segment_at segments_at selector_at selectors_from signed_from size_at sized_meaning skip_at
     sof_at sos_at source_of spots_of start_at symbol_from tables.tables_from tables_of text_at through_zero times token_at token_from transform_of transformed turn_at turns_of updated
     upsampled quantization.value_at values_in_block_order vias_from walk with_arrays with_blocks
     with_last with_plane zero_arrays zero_block zigzag_indices
+    blocks_coded components_at samples_coded work_of_header work_of_turn
 streams_on_literals = tt
 
 unfoldable pub samples_on_literals : ⊤

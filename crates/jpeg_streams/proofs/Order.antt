@@ -4,3 +4,4 @@ pub mod CountedScans
 pub mod McuRows
 pub mod OwnSpots
 pub mod FrameShapes
+pub mod SpotCounts

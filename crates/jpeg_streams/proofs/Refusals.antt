@@ -30,19 +30,19 @@ pub never-met : {X Y : Type 0} (view : X → Y) (read : List ℕ → Outcome Y) 
     → new.failed ≡ old.failed → (old.known ≡ true → ⊥) → Answers view read old (Err e) new
 never-met view read old new e n f never = search rules
 
-pub turns-no_start : (n : ℕ) (header : Bool) (bytes : List ℕ) (fault : Fault) → start_at bytes ≡ Err fault
-    → told_by_turns n header bytes ≡ told_of nothing_said
+pub turns-no_start : (limit : Option ℕ) (n : ℕ) (header : Bool) (bytes : List ℕ) (fault : Fault) → start_at bytes ≡ Err fault
+    → told_by_turns limit n header bytes ≡ told_of nothing_said
 unfolding told_by_turns
-turns-no_start n header bytes fault h = rw (h, told_by_turns) refl
+turns-no_start limit n header bytes fault h = rw (h, told_by_turns) refl
 
-pub turns-start : (n : ℕ) (header : Bool) (bytes rest : List ℕ) → start_at bytes ≡ Ok (tt, rest)
-    → told_by_turns n header bytes ≡ told_in_turns n header nothing_found rest
+pub turns-start : (limit : Option ℕ) (n : ℕ) (header : Bool) (bytes rest : List ℕ) → start_at bytes ≡ Ok (tt, rest)
+    → told_by_turns limit n header bytes ≡ told_in_turns limit n header nothing_found rest
 unfolding told_by_turns
-turns-start n header bytes rest h = rw (h, told_by_turns) refl
+turns-start limit n header bytes rest h = rw (h, told_by_turns) refl
 
-pub turns-none : (header : Bool) (bytes : List ℕ) → told_by_turns 0 header bytes ≡ told_of nothing_said
+pub turns-none : (limit : Option ℕ) (header : Bool) (bytes : List ℕ) → told_by_turns limit 0 header bytes ≡ told_of nothing_said
 unfolding told_by_turns walk nothing_found
-turns-none header bytes = search rules
+turns-none limit header bytes = search rules
 
 -- what a part of a call left
 pub told-through : {X : Type 0} (old mid new : Stream) (r : Result X Error) (P Q : Type 0)

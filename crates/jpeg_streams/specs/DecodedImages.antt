@@ -7,6 +7,7 @@ use Rattle.jpeg_bits.specs.declared.error.Error.TheVariants.{OutOfMemory}
 use Rattle.jpeg_segments.specs.declared.scale.Scale.{Scale}
 use Rattle.jpeg_streams.specs.ArrayPictures.{picture_of_array}
 use Rattle.jpeg_streams.specs.Levels.{Is8Bit, Levels}
+use Rattle.jpeg_streams.specs.Limits.{IsWithinLimit, work_ahead}
 use Rattle.jpeg_streams.specs.States.{Decoding}
 use Rattle.jpeg_streams.specs.declared.progress.Progress.{Progress}
 use Rattle.jpeg_streams.specs.declared.progress.Progress.TheVariants.{Fresh, HeaderRead}
@@ -56,7 +57,7 @@ pub record FailsOutside (e : Error) (source : Stream) : Type 0 where
   pub reader : source.known ≡ false → IsGivenUp e source.failed
 
 -- A call on a decoder whose source has a stream that is written for the coefficients of 8-bit
--- samples gives their picture, cut at the bits that were sent, and leaves what follows the image;
+-- samples, with no more blocks than its limit, if it has one, gives their picture, cut at the bits that were sent, and leaves what follows the image;
 -- or, where the settings take that picture, it fails for lack of memory or by its reader.
 abbrev pub DecodesImages :
     {X : Type 0} → (X → List ℕ) → Decoding → Result X Error → Decoding → Type 0
@@ -66,6 +67,8 @@ DecodesImages bytes_of old result new =
     ((index row column : ℕ) → Is8Bit (array index row column)) →
     WritesImage array image final last →
     HasLeft size (image ++ rest) old.stage old.found old.source.bytes →
+    IsWithinLimit old.settings.max_blocks
+    (work_ahead old.stage old.found old.source.bytes) →
     old.source.known ≡ true →
     let picture = picture_of_array old.settings (at_size size final) array last in
     MatchResult result

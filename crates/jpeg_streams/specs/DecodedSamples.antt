@@ -2,12 +2,14 @@
 use Rattle.std.specs.Prelude.{◌≡◌, ℕ, ◌++◌, List, true, Result, Ok, IsOk, MatchResult}
 use Rattle.jpeg_bits.specs.declared.error.Error.{Error}
 use Rattle.jpeg_streams.specs.DecodedImages.{FailsOutside, GivesPicture, HasLeft, Size}
+use Rattle.jpeg_streams.specs.Limits.{IsWithinLimit, work_ahead}
 use Rattle.jpeg_streams.specs.States.{Decoding}
 use Rattle.jpeg_streams.specs.Found.{Said}
 use Rattle.jpeg_streams.specs.FoundPictures.{limited}
 use Rattle.jpeg_streams.specs.WrittenLossless.{picture_of_samples, Samples, WritesSamples}
 
--- A call on a decoder whose source has a lossless stream that is written for samples: where it
+-- A call on a decoder whose source has a lossless stream that is written for samples, of no more
+-- blocks than its limit counts, if it has one: where it
 -- gives pixels, they are the picture of the samples, at full size whatever size was requested, and
 -- what follows the image is left. Where the limit takes that picture, an error is that memory is
 -- out, or the reader's own.
@@ -17,6 +19,8 @@ DecodesSamples bytes_of old result new =
     (size : Size) (samples : Samples) (image rest : List ℕ) (final : Said) →
     WritesSamples samples image final →
     HasLeft size (image ++ rest) old.stage old.found old.source.bytes →
+    IsWithinLimit old.settings.max_blocks
+    (work_ahead old.stage old.found old.source.bytes) →
     old.source.known ≡ true →
     let picture = limited old.settings final (λ frame. Ok (picture_of_samples frame samples)) in
     MatchResult result

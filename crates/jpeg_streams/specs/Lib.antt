@@ -10,6 +10,7 @@ pub mod ScanSegments
 pub mod FoundPictures
 pub mod WholeRows
 pub mod Brought
+pub mod Work
 pub mod Stream
 pub mod Reported
 pub mod States
@@ -18,6 +19,8 @@ pub mod Profile
 pub mod Output
 -- what a stream with a fault shows
 pub mod Shown
+-- a limit of blocks
+pub mod Limits
 -- what a writer emits, and its picture
 pub mod Levels
 pub mod WrittenData

@@ -16,7 +16,8 @@ use Rattle.jpeg_streams.specs.Pixels.{info_of}
 
 -- the settings of a new decoder
 abbrev pub default_settings : Settings
-default_settings = record { limit = 18446744073709551615; color_transform = None }
+default_settings =
+    record { limit = 18446744073709551615; color_transform = None; max_blocks = None }
 
 abbrev pub name_of : PixelFormat → List ℕ
 name_of L8 = codes "L8"

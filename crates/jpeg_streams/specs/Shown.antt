@@ -103,19 +103,27 @@ shown_of settings found rest = do
   picture ← picture_shown settings found
   Ok (record { told = told_of found.said; picture = picture; fault = fault_shown found rest })
 
--- What the rest of a stream shows after its start or its header.
-unfoldable pub shown_rest : Settings → Found → List ℕ → Result Shown Fault
-shown_rest settings found bytes =
-    let w = all_brought found bytes in shown_of settings w.found w.rest
+-- What the rest of a stream shows after its start or its header, where its scans may code this many
+-- blocks, if there is a limit.
+unfoldable pub shown_rest_within : Option ℕ → Settings → Found → List ℕ → Result Shown Fault
+shown_rest_within limit settings found bytes =
+    let w = all_brought limit found bytes in shown_of settings w.found w.rest
 
--- What a stream shows.
-unfoldable pub shown : Settings → List ℕ → Result Shown Fault
-shown settings bytes = start_at bytes >>= (λ start. shown_rest settings nothing_found start.1)
+abbrev pub shown_rest : Settings → Found → List ℕ → Result Shown Fault
+shown_rest settings found bytes = shown_rest_within None settings found bytes
+
+-- What a stream shows, within such a limit and without one.
+unfoldable pub shown_within : Option ℕ → Settings → List ℕ → Result Shown Fault
+shown_within limit settings bytes =
+    start_at bytes >>= (λ start. shown_rest_within limit settings nothing_found start.1)
+
+abbrev pub shown : Settings → List ℕ → Result Shown Fault
+shown settings bytes = shown_within None settings bytes
 
 -- What lies ahead of a decoder: a whole stream, or the rest of one after its header.
 abbrev pub shown_ahead : Progress → Settings → Found → List ℕ → Result Shown Fault
-shown_ahead Fresh settings found bytes = shown settings bytes
-shown_ahead _ settings found bytes = shown_rest settings found bytes
+shown_ahead Fresh settings found bytes = shown_within settings.max_blocks settings bytes
+shown_ahead _ settings found bytes = shown_rest_within settings.max_blocks settings found bytes
 
 -- ---- complete rows
 
@@ -133,18 +141,23 @@ abbrev pub rows_of_found : Option ℕ → Found → ℕ
 rows_of_found rows found =
     unwrap_or (option_map (rows_of_frame rows found) found.said.frame) 0
 
--- of the rest of a stream after its start or its header
-unfoldable pub whole_rows_rest : Found → List ℕ → ℕ
-whole_rows_rest found bytes = let w = all_brought found bytes in rows_of_found w.rows w.found
+-- of the rest of a stream after its start or its header, where its scans may code this many blocks,
+-- if there is a limit
+unfoldable pub whole_rows_rest : Option ℕ → Found → List ℕ → ℕ
+whole_rows_rest limit found bytes =
+    let w = all_brought limit found bytes in rows_of_found w.rows w.found
 
--- of a stream
-unfoldable pub whole_rows : List ℕ → ℕ
-whole_rows bytes = elim (start_at bytes) [
-  | Ok start ↦ whole_rows_rest nothing_found start.1
+-- of a stream, within such a limit and without one
+unfoldable pub whole_rows_within : Option ℕ → List ℕ → ℕ
+whole_rows_within limit bytes = elim (start_at bytes) [
+  | Ok start ↦ whole_rows_rest limit nothing_found start.1
   | Err fault ↦ 0
 ]
 
+abbrev pub whole_rows : List ℕ → ℕ
+whole_rows bytes = whole_rows_within None bytes
+
 -- of what lies ahead of a decoder: a whole stream, or the rest of one after its header
-abbrev pub whole_rows_ahead : Progress → Found → List ℕ → ℕ
-whole_rows_ahead Fresh found bytes = whole_rows bytes
-whole_rows_ahead _ found bytes = whole_rows_rest found bytes
+abbrev pub whole_rows_ahead : Option ℕ → Progress → Found → List ℕ → ℕ
+whole_rows_ahead limit Fresh found bytes = whole_rows_within limit bytes
+whole_rows_ahead limit _ found bytes = whole_rows_rest limit found bytes

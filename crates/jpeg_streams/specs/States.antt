@@ -1,6 +1,6 @@
 -- The states of a decoder, and what each call does in each.
 use Rattle.std.specs.Prelude.{◌≡◌, ℕ, suc, List, length, Result, Ok, Err, Bool, true, IsOk}
-use Rattle.std.specs.Prelude.{IsErrAnd}
+use Rattle.std.specs.Prelude.{IsErrAnd, Option}
 use Rattle.jpeg_bits.specs.Reading.{Outcome}
 use Rattle.jpeg_bits.specs.Stream.{Stream}
 use Rattle.jpeg_bits.specs.declared.error.Error.{Error}
@@ -9,7 +9,7 @@ use Rattle.jpeg_streams.specs.declared.progress.Progress.{Progress}
 use Rattle.jpeg_streams.specs.declared.progress.Progress.TheVariants.{Fresh, HeaderRead, Finished}
 use Rattle.jpeg_streams.specs.declared.progress.Progress.TheVariants.{Failed}
 use Rattle.jpeg_streams.specs.declared.settings.Settings.{Settings}
-use Rattle.jpeg_streams.specs.Stream.{Told, told_of, meaning, rest_at}
+use Rattle.jpeg_streams.specs.Stream.{Told, told_of, meaning_within, rest_within}
 use Rattle.jpeg_streams.specs.Reported.{told_by_turns, told_in_turns}
 use Rattle.jpeg_streams.specs.Found.{Found}
 
@@ -61,19 +61,21 @@ HasHeader _ = ⊥
 
 -- the meaning of what lies ahead of a decoder: a whole stream, or the rest of one after its header
 abbrev pub ahead : Progress → Settings → Found → List ℕ → Outcome (Told × List ℕ)
-ahead Fresh settings found bytes = meaning settings bytes
-ahead _ settings found bytes = rest_at settings found bytes
+ahead Fresh settings found bytes = meaning_within settings.max_blocks settings bytes
+ahead _ settings found bytes = rest_within settings.max_blocks settings found bytes
 
--- what this many turns of what lies ahead have said
-abbrev pub turns_ahead : ℕ → Bool → Progress → Found → List ℕ → Told
-turns_ahead turns header Fresh found bytes = told_by_turns turns header bytes
-turns_ahead turns header HeaderRead found bytes = told_in_turns turns header found bytes
-turns_ahead turns header _ found bytes = told_of found.said
+-- what this many turns of what lies ahead have said, within a limit of blocks, if there is one
+abbrev pub turns_ahead : Option ℕ → ℕ → Bool → Progress → Found → List ℕ → Told
+turns_ahead limit turns header Fresh found bytes = told_by_turns limit turns header bytes
+turns_ahead limit turns header HeaderRead found bytes =
+    told_in_turns limit turns header found bytes
+turns_ahead limit turns header _ found bytes = told_of found.said
 
 -- What has been said by the end, or the refusal, of what lies ahead: there are fewer turns than
 -- bytes.
-abbrev pub told_ahead : Bool → Progress → Found → List ℕ → Told
-told_ahead header stage found bytes = turns_ahead (suc (length bytes)) header stage found bytes
+abbrev pub told_ahead : Option ℕ → Bool → Progress → Found → List ℕ → Told
+told_ahead limit header stage found bytes =
+    turns_ahead limit (suc (length bytes)) header stage found bytes
 
 -- ---- calls that read
 

@@ -25,6 +25,7 @@ use Rattle.jpeg_streams.specs.Segments.{Turn, onward, frame_segment, says, updat
 use Rattle.jpeg_streams.specs.Segments.{with_application, with_huffman}
 use Rattle.jpeg_streams.specs.ScanSegments.{scan_segment}
 use Rattle.jpeg_streams.specs.FoundPictures.{picture_of}
+use Rattle.jpeg_streams.specs.Work.{brought_within, left_after, work_of_header, work_of_turn}
 
 -- the end of the image, which needs a frame
 unfoldable pub end_segment : Found → List ℕ → Outcome Turn
@@ -62,6 +63,11 @@ unfoldable pub scan_turn_at : Beyond → Found → List ℕ → Brought
 scan_turn_at Zeros found bytes = unbrought found (scan_segment found bytes)
 scan_turn_at Nothing found bytes = scan_brought found bytes
 
+-- a scan of no more blocks than are left
+abbrev pub scan_within : Option ℕ → Beyond → Found → List ℕ → Brought
+scan_within left beyond found bytes =
+    brought_within left (work_of_header found bytes) found (scan_turn_at beyond found bytes)
+
 -- After a marker. Of a segment that has a fault nothing counts.
 unfoldable pub brought_after : Beyond → Marker → Before → Found → List ℕ → Brought
 brought_after beyond SOS before found bytes = scan_turn_at beyond found bytes
@@ -74,6 +80,13 @@ turn_at beyond before found met bytes = elim (found_or met bytes (next_marker by
   | Err fault ↦ unbrought found (Err fault)
 ]
 
+-- The same where no more blocks than are left may be coded, if there is a limit: a scan of more is
+-- refused after its header, before its tables and its data.
+abbrev pub turn_within : Option ℕ → Beyond → Before → Found → Option Marker → List ℕ → Brought
+turn_within left beyond before found met bytes =
+    brought_within left (work_of_turn found met bytes) found
+    (turn_at beyond before found met bytes)
+
 -- What segments have brought by their end or their first fault; how many rows of the picture are
 -- complete, where the scan with the fault lacks some; and the bytes after them, or the fault.
 pub record Walked : Type 0 where
@@ -82,30 +95,35 @@ pub record Walked : Type 0 where
   pub rest : Result (List ℕ) Fault
 
 -- Segments in turn from a marker on, up to the end of the image, or where a header is wanted up to
--- a frame, or up to the first fault. There are at most this many turns.
-unfoldable pub walk : Beyond → ℕ → Bool → Before → Found → Option Marker → List ℕ → Walked
-walk beyond zero header before found met bytes =
+-- a frame, or up to the first fault. There are at most this many turns, and their scans code at
+-- most as many blocks as are left, if there is a limit.
+unfoldable pub walk
+    : Option ℕ → Beyond → ℕ → Bool → Before → Found → Option Marker → List ℕ → Walked
+walk left beyond zero header before found met bytes =
     record { found = found; rows = None; rest = Err End }
-walk beyond (suc turns) header before found met bytes =
+walk left beyond (suc turns) header before found met bytes =
     if header && is_some found.said.frame
     then record { found = found; rows = None; rest = Ok bytes } else
-    let b = turn_at beyond before found met bytes in
+    let b = turn_within left beyond before found met bytes in
     elim b.turn [
       | Err fault ↦ record { found = b.found; rows = b.rows; rest = Err fault }
       | Ok t ↦ if t.0.ended
           then record { found = t.0.found; rows = None; rest = Ok t.1 }
-          else walk beyond turns header t.0.before t.0.found t.0.met t.1
+          else walk (left_after left (work_of_turn found met bytes)) beyond turns header t.0.before
+          t.0.found t.0.met t.1
     ]
 
 -- As each turn takes bytes, there are fewer turns than bytes.
-unfoldable pub segments_at : Bool → Before → Found → Option Marker → List ℕ → Outcome Found
-segments_at header before found met bytes =
-    let w = walk Zeros (suc (length bytes)) header before found met bytes in
+unfoldable pub segments_at : Option ℕ → Bool → Before → Found → Option Marker → List ℕ
+    → Outcome Found
+segments_at left header before found met bytes =
+    let w = walk left Zeros (suc (length bytes)) header before found met bytes in
     w.rest >>= λ rest. Ok (w.found, rest)
 
 -- All segments from here on, where nothing follows the marker after a scan's data.
-abbrev pub all_brought : Found → List ℕ → Walked
-all_brought found bytes = walk Nothing (suc (length bytes)) false Elsewhere found None bytes
+abbrev pub all_brought : Option ℕ → Found → List ℕ → Walked
+all_brought limit found bytes =
+    walk limit Nothing (suc (length bytes)) false Elsewhere found None bytes
 
 -- A stream begins with FF D8.
 unfoldable pub start_at : List ℕ → Outcome (Unit {0})
@@ -115,11 +133,11 @@ start_at bytes = do
     second ← next_byte first.1
     if second.0 == 216 then Ok (tt, second.1) else Err Malformed) else Err Malformed
 
--- The header of a stream: all through the frame's segment.
+-- The header of a stream: all through the frame's segment. It has no scans, and so no limit.
 unfoldable pub header_at : List ℕ → Outcome Found
 header_at bytes = do
   start ← start_at bytes
-  segments_at true Elsewhere nothing_found None start.1
+  segments_at None true Elsewhere nothing_found None start.1
 
 -- What a caller is given of a decoder: the frame, and the metadata.
 pub record Told : Type 0 where
@@ -129,18 +147,31 @@ pub record Told : Type 0 where
 abbrev pub told_of : Said → Told
 told_of said = record { frame = said.frame; metadata = said.metadata }
 
--- The rest of a stream after its start or its header: what a caller is given, and its picture.
-unfoldable pub rest_at : Settings → Found → List ℕ → Outcome (Told × List ℕ)
-rest_at settings found bytes = do
-  all ← segments_at false Elsewhere found None bytes
+-- The rest of a stream after its start or its header, where its scans may code this many blocks, if
+-- there is a limit: what a caller is given, and its picture.
+unfoldable pub rest_within : Option ℕ → Settings → Found → List ℕ → Outcome (Told × List ℕ)
+rest_within limit settings found bytes = do
+  all ← segments_at limit false Elsewhere found None bytes
   picture ← picture_of settings all.0
   Ok ((told_of all.0.said, picture), all.1)
 
--- The meaning of a stream: what a caller is given, and its picture.
-unfoldable pub meaning : Settings → List ℕ → Outcome (Told × List ℕ)
-meaning settings bytes = do
+abbrev pub rest_at : Settings → Found → List ℕ → Outcome (Told × List ℕ)
+rest_at settings found bytes = rest_within None settings found bytes
+
+-- the same within the limit of the settings
+abbrev pub rest_by : Settings → Found → List ℕ → Outcome (Told × List ℕ)
+rest_by settings found bytes = rest_within settings.max_blocks settings found bytes
+
+-- The meaning of a stream whose scans may code this many blocks, if there is a limit: what a caller
+-- is given, and its picture.
+unfoldable pub meaning_within : Option ℕ → Settings → List ℕ → Outcome (Told × List ℕ)
+meaning_within limit settings bytes = do
   start ← start_at bytes
-  rest_at settings nothing_found start.1
+  rest_within limit settings nothing_found start.1
+
+-- The meaning of a stream.
+abbrev pub meaning : Settings → List ℕ → Outcome (Told × List ℕ)
+meaning settings bytes = meaning_within None settings bytes
 
 -- what was said, where the picture is to be at least that wide or that high
 abbrev pub sized_to : ℕ → ℕ → Said → Said

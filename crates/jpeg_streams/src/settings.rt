@@ -10,4 +10,7 @@ pub struct Settings {
     /// The colour transform of pictures of several components, if it overrides that of the
     /// segments.
     pub color_transform: Option<ColorTransform>,
+    /// The greatest number of blocks that the scans of a stream may code, all together, if there is
+    /// a limit. Eight samples of a lossless scan count as a block.
+    pub max_blocks: Option<u64>,
 }

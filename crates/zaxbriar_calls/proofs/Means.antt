@@ -12,7 +12,7 @@ use Rattle.jpeg_streams.specs.WrittenScans.{Coefficients}
 use Rattle.jpeg_streams.specs.declared.settings.Settings.{Settings}
 use Rattle.jpeg_streams.specs.declared.progress.Progress.TheVariants.{HeaderRead}
 use Rattle.jpeg_streams.specs.States.{Decoding}
-use Rattle.jpeg_streams.specs.Stream.{Told, header_at, rest_at, told_of}
+use Rattle.jpeg_streams.specs.Stream.{Told, header_at, rest_by, told_of}
 use Rattle.jpeg_streams.proofs.Written.ReadTurns.{then-ok}
 use Rattle.jpeg_streams.proofs.Written.SizedStreams.{stream-means_scaled, stream-means_sized}
 use Rattle.jpeg_streams.proofs.Written.WrittenPictures.{stream-means}
@@ -44,10 +44,10 @@ rest-means : (read : Outcome (Told × List ℕ)) (m : Told × List ℕ) (rest : 
 rest-means read m rest e = then-ok read _ (m, rest) _ e refl
 
 read-means : (o : Options) (header : Outcome Found) (m : Told × List ℕ) (rest : List ℕ)
-    → (header >>= (λ h. rest_at (settings_of o) (with_said (at_size (size_wanted o)) h.0) h.1)) ≡ Ok (m, rest)
+    → (header >>= (λ h. rest_by (settings_of o) (with_said (at_size (size_wanted o)) h.0) h.1)) ≡ Ok (m, rest)
     → (header >>= (λ h. given_rest Whole (settings_of o) (with_said (at_size (size_wanted o)) h.0) h.1)) ≡ Ok (faultless m)
 read-means o (Ok h) m rest e =
-    rest-means (rest_at (settings_of o) (with_said (at_size (size_wanted o)) h.0) h.1) m rest e
+    rest-means (rest_by (settings_of o) (with_said (at_size (size_wanted o)) h.0) h.1) m rest e
 read-means o (Err f) m rest e = absurd cc
 
 -- the whole of what a stream gives is its meaning
@@ -60,9 +60,9 @@ rest-fails : (read : Outcome (Told × List ℕ)) (f : Fault) → read ≡ Err f 
 rest-fails read f e = rw e refl
 
 read-fails : (o : Options) (header : Outcome Found) (f : Fault)
-    → (header >>= (λ h. rest_at (settings_of o) (with_said (at_size (size_wanted o)) h.0) h.1)) ≡ Err f
+    → (header >>= (λ h. rest_by (settings_of o) (with_said (at_size (size_wanted o)) h.0) h.1)) ≡ Err f
     → (header >>= (λ h. given_rest Whole (settings_of o) (with_said (at_size (size_wanted o)) h.0) h.1)) ≡ Err f
-read-fails o (Ok h) f e = rest-fails (rest_at (settings_of o) (with_said (at_size (size_wanted o)) h.0) h.1) f e
+read-fails o (Ok h) f e = rest-fails (rest_by (settings_of o) (with_said (at_size (size_wanted o)) h.0) h.1) f e
 read-fails o (Err g) f e = ap (λ (r : Outcome (Told × List ℕ)). refused r) e
   where
     refused : Outcome (Told × List ℕ) → Result Shown Fault
@@ -92,9 +92,9 @@ unfolding meaning_by
 image-means o (Ok h) array image rest final last m left range w e means =
     let has = has-left (size_wanted o) (image ++ rest) h.1 (with_said (at_size (size_wanted o)) h.0) h.0 e refl in
     let ahead = left-means (size_wanted o) (settings_of o) (image ++ rest) HeaderRead
-    (with_said (at_size (size_wanted o)) h.0) h.1 _ has
+    (with_said (at_size (size_wanted o)) h.0) h.1 _ has tt
     (means-array (size_wanted o) (settings_of o) array image rest final last range w) in
-    let read : meaning_by o (image ++ rest) ≡ rest_at (settings_of o) (with_said (at_size (size_wanted o)) h.0) h.1 =
+    let read : meaning_by o (image ++ rest) ≡ rest_by (settings_of o) (with_said (at_size (size_wanted o)) h.0) h.1 =
     then-ok (header_at (image ++ rest)) _ h _ e refl in
     sym ahead ∙ sym read ∙ means
 image-means o (Err f) array image rest final last m left range w e means =

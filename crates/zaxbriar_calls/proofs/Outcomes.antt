@@ -228,7 +228,7 @@ lines-decoded extent o bytes before after density first second third old picture
           (counting picture count) (bytes_beside extent a.0.decoding_bytes) a.0.orientation count a.0.sampling
           a.0.transform density header_is d.reads.settings facts.1.2 d.info d.precision d.lines told b);
       rows = rw (rows-given extent o bytes second.source.bytes facts.1.0 header_is)
-          (rw facts.1.2 at (l.rows facts.0));
+          (rw (d.reads.settings, facts.1.2) at (l.rows facts.0));
       counts = reached-ok extent a.1 outcome second third before after _ (l.reaches facts.0)
           (λ b. image-counted extent o bytes second third facts.1.0 count header_is d.reads.settings facts.1.2 b.ends
           c.counts);

@@ -11,9 +11,9 @@ use Rattle.jpeg_streams.proofs.Written.ReadTurns.{then-ok}
 use Rattle.jpeg_streams.specs.DecodedImages.{at_size}
 use Rattle.jpeg_streams.specs.Found.{Found, with_said}
 use Rattle.jpeg_streams.specs.Pixels.{info_of}
-use Rattle.jpeg_streams.specs.Shown.{Shown, shown_ahead, shown_rest}
+use Rattle.jpeg_streams.specs.Shown.{Shown, shown_ahead, shown_rest_within}
 use Rattle.jpeg_streams.specs.States.{Decoding, IfRefused, IsReading}
-use Rattle.jpeg_streams.specs.Stream.{Told, header_at, rest_at, told_of}
+use Rattle.jpeg_streams.specs.Stream.{Told, header_at, rest_by, told_of}
 use Rattle.jpeg_streams.specs.declared.images.ImageInfo.{ImageInfo}
 use Rattle.jpeg_streams.specs.declared.progress.Progress.{Progress}
 use Rattle.jpeg_streams.specs.declared.progress.Progress.TheVariants.{HeaderRead}
@@ -56,9 +56,9 @@ pub lacks-rest : {X : Type 0} (bytes_of : X → List ℕ) (fault_of : X → Opti
     → Shows {X = X} bytes_of fault_of old (Err e) new
     → (IsReading old.stage → old.source.known ≡ true → new.source.known ≡ false
     → IfRefused e ((new.source.failed ≡ true) ⊎ IsGivenUp e new.source.failed))
-    → old.source.known ≡ true → IsFault (shown_rest old.settings old.found old.source.bytes) r
+    → old.source.known ≡ true → IsFault (shown_rest_within old.settings.max_blocks old.settings old.found old.source.bytes) r
 lacks-rest {X = X} bytes_of fault_of old new e r s f for h given known =
-    lacks new.source.known new.source.failed e r (shown_rest old.settings old.found old.source.bytes) f for
+    lacks new.source.known new.source.failed e r (shown_rest_within old.settings.max_blocks old.settings old.found old.source.bytes) f for
     (λ k. (subst (λ (t : Progress). IsReading t → ShowsJust {X = X} (shown_ahead t old.settings old.found) bytes_of
     fault_of old.source (Err e) new.source (told_of new.found.said)) s h.shown tt) known k)
     (λ k. (subst (λ (t : Progress). IsReading t → old.source.known ≡ true → new.source.known ≡ false
@@ -68,13 +68,13 @@ lacks-rest {X = X} bytes_of fault_of old new e r s f for h given known =
 
 -- what was read is what is given
 whole-brings : (bytes : List ℕ) (fault : Option Error) (old new : Decoding)
-    → Answers {X = Unit {0}} (λ u. (told_of new.found.said, bytes)) (rest_at old.settings old.found) old.source (Ok tt)
+    → Answers {X = Unit {0}} (λ u. (told_of new.found.said, bytes)) (rest_by old.settings old.found) old.source (Ok tt)
     new.source
     → fault ≡ None → old.source.known ≡ true
     → Brings (given_rest Whole old.settings old.found old.source.bytes) bytes fault (told_of new.found.said)
 whole-brings bytes fault old new reads none known = record {
   named = None;
-  shown = then-ok (rest_at old.settings old.found old.source.bytes) _ ((told_of new.found.said, bytes), new.source.bytes) _
+  shown = then-ok (rest_by old.settings old.found old.source.bytes) _ ((told_of new.found.said, bytes), new.source.bytes) _
       (reads.1 known).1 refl;
   fault_is = subst (λ (f : Option Error). NamesFault f None) (sym none) tt;
   memory = λ some. no-fault (sym none ∙ some);
@@ -85,7 +85,7 @@ whole-brings bytes fault old new reads none known = record {
 
 pub lines-brought : {X : Type 0} (bytes_of : X → List ℕ) (fault_of : X → Option Error) (r : Result X Refusal)
     (old new : Decoding)
-    → IfOk r (λ x. Answers {X = Unit {0}} (λ u. (told_of new.found.said, bytes_of x)) (rest_at old.settings old.found)
+    → IfOk r (λ x. Answers {X = Unit {0}} (λ u. (told_of new.found.said, bytes_of x)) (rest_by old.settings old.found)
     old.source (Ok tt) new.source)
     → IfOk r (λ x. fault_of x ≡ None) → old.source.known ≡ true
     → IfOk r (λ x. Brings (given_rest Whole old.settings old.found old.source.bytes) (bytes_of x) (fault_of x)
@@ -95,7 +95,7 @@ lines-brought bytes_of fault_of (Ok x) old new reads none known =
 lines-brought bytes_of fault_of (Err r) old new reads none known = tt
 
 whole-ends : (bytes : List ℕ) (old new : Decoding)
-    → Answers {X = Unit {0}} (λ u. (told_of new.found.said, bytes)) (rest_at old.settings old.found) old.source (Ok tt)
+    → Answers {X = Unit {0}} (λ u. (told_of new.found.said, bytes)) (rest_by old.settings old.found) old.source (Ok tt)
     new.source
     → old.source.known ≡ true → EndsImage Whole old new
 whole-ends bytes old new reads known = record {
@@ -105,7 +105,7 @@ whole-ends bytes old new reads known = record {
 }
 
 pub lines-end : {X : Type 0} (bytes_of : X → List ℕ) (r : Result X Refusal) (old new : Decoding)
-    → IfOk r (λ x. Answers {X = Unit {0}} (λ u. (told_of new.found.said, bytes_of x)) (rest_at old.settings old.found)
+    → IfOk r (λ x. Answers {X = Unit {0}} (λ u. (told_of new.found.said, bytes_of x)) (rest_by old.settings old.found)
     old.source (Ok tt) new.source)
     → old.source.known ≡ true → OnOk r (EndsImage Whole old new)
 lines-end bytes_of (Ok x) old new reads known = whole-ends (bytes_of x) old new reads known
@@ -126,10 +126,10 @@ whole-lacks refusals.NoRoom read h = tt
 whole-lacks refusals.TooLarge read h = tt
 
 pub lines-refused : {X : Type 0} (r : Result X Refusal) (old : Decoding)
-    → IfErr r (IsFault (rest_at old.settings old.found old.source.bytes))
+    → IfErr r (IsFault (rest_by old.settings old.found old.source.bytes))
     → IfErr r (IsFault (given_rest Whole old.settings old.found old.source.bytes))
 lines-refused (Ok x) old h = tt
-lines-refused (Err r) old h = whole-lacks r (rest_at old.settings old.found old.source.bytes) h
+lines-refused (Err r) old h = whole-lacks r (rest_by old.settings old.found old.source.bytes) h
 
 -- ---- what a stream gives
 
@@ -169,7 +169,7 @@ read-entire : (o : Options) (header : Outcome Found) (s : Shown)
     → (header >>= (λ h. given_rest Whole (settings_of o) (with_said (at_size (size_wanted o)) h.0) h.1)) ≡ Ok s
     → s.fault ≡ None
 read-entire o (Ok h) s e =
-    whole-entire (rest_at (settings_of o) (with_said (at_size (size_wanted o)) h.0) h.1) s e
+    whole-entire (rest_by (settings_of o) (with_said (at_size (size_wanted o)) h.0) h.1) s e
 read-entire o (Err f) s e = absurd cc
 
 pub given-entire : (o : Options) (bytes : List ℕ) (s : Shown) → given_by Whole o bytes ≡ Ok s → s.fault ≡ None
@@ -241,7 +241,7 @@ no-part extent o bytes before after picture r n = grind (arith, common_steps)
 -- ---- rows that are complete
 
 pub rows-given : (extent : Extent) (o : Options) (bytes rest : List ℕ) (header : Found) → header_at bytes ≡ Ok (header, rest)
-    → rows_by extent o bytes ≡ rows_rest extent (with_said (at_size (size_wanted o)) header) rest
+    → rows_by extent o bytes ≡ rows_rest extent (settings_of o) (with_said (at_size (size_wanted o)) header) rest
 unfolding rows_by
 rows-given Whole o bytes rest header h = refl
 rows-given Partial o bytes rest header h = rw (h, rows_by) refl

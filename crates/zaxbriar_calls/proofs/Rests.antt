@@ -3,7 +3,7 @@ use Rattle.std.proofs.lemmas.Grind.{common_steps}
 use Rattle.std.proofs.Common.{arith, ◌≡◌, ◌∙◌, ◌+◌, ◌<◌, ◌≤◌, ℕ, zero, suc, List, Ok, Err, Result, Bool}
 use Rattle.std.proofs.Common.{Option, Some, None, true, false, length, refl, sym}
 use Rattle.std.specs.Prelude.{if◌then◌else◌, ◌&&◌, is_some}
-use Rattle.jpeg_bits.specs.Reading.{Outcome, Fault, ◌>>=◌}
+use Rattle.jpeg_bits.specs.Reading.{Outcome, Fault, Malformed, ◌>>=◌}
 use Rattle.jpeg_bits.specs.Marker.{found_or, next_marker}
 use Rattle.jpeg_bits.specs.Stream.{Stream}
 use Rattle.jpeg_bits.specs.declared.marker.Marker.{Marker}
@@ -21,8 +21,9 @@ use Rattle.jpeg_streams.specs.ScanSegments.{scan_by, scan_samples, scan_segment}
 use Rattle.jpeg_streams.specs.Segments.{Turn}
 use Rattle.jpeg_streams.specs.States.{Decoding}
 use Rattle.jpeg_streams.specs.Brought.{Brought, unbrought}
-use Rattle.jpeg_streams.specs.Stream.{Walked, brought_after, end_segment, header_at, rest_at, scan_turn_at, segment_at}
-use Rattle.jpeg_streams.specs.Stream.{segments_at, start_at, turn_at, walk}
+use Rattle.jpeg_streams.specs.Stream.{Walked, brought_after, end_segment, header_at, rest_by, rest_within, scan_turn_at, segment_at}
+use Rattle.jpeg_streams.specs.Stream.{segments_at, start_at, turn_at, turn_within, walk}
+use Rattle.jpeg_streams.specs.Work.{brought_within, is_above, left_after, work_of_turn}
 use Rattle.jpeg_streams.specs.declared.before.Before.{Before}
 use Rattle.jpeg_streams.specs.declared.before.Before.TheVariants.{Elsewhere}
 use Rattle.jpeg_streams.specs.declared.beyond.Beyond.TheVariants.{Zeros}
@@ -143,14 +144,26 @@ unfolding LeavesBelow
 after-turn limit (Ok x) f refused h p q = p x h
 after-turn limit (Err fault) f refused h p q = q fault
 
-walk-below : (limit turns : ℕ) (header : Bool) (before : Before) (found : Found) (met : Option Marker) (bytes : List ℕ)
-    → length bytes < limit → WalksBelow limit (walk Zeros turns header before found met bytes)
+-- so it does where no more blocks than are left may be coded
+within-below : (left : Option ℕ) (limit blocks : ℕ) (found : Found) (b : Brought) → LeavesBelow limit b.turn
+    → LeavesBelow limit (brought_within left blocks found b).turn
+unfolding LeavesBelow
+within-below left limit blocks found b h = go (is_above left blocks)
+  where
+    go : (above : Bool) → LeavesBelow limit (if above then unbrought found (Err Malformed) else b).turn
+    go true = tt
+    go false = h
+
+walk-below : (left : Option ℕ) (limit turns : ℕ) (header : Bool) (before : Before) (found : Found) (met : Option Marker)
+    (bytes : List ℕ) → length bytes < limit → WalksBelow limit (walk left Zeros turns header before found met bytes)
 unfolding walk LeftBelow
-walk-below limit zero header before found met bytes h = tt
-walk-below limit (suc turns) header before found met bytes h =
+walk-below left limit zero header before found met bytes h = tt
+walk-below left limit (suc turns) header before found met bytes h =
     test-below limit (header && is_some found.said.frame) _ _ h (
-    after-turn limit (turn_at Zeros before found met bytes).turn _ _ (turn-below limit before found met bytes h)
-    (λ t p. test-below limit t.0.ended _ _ p (walk-below limit turns header t.0.before t.0.found t.0.met t.1 p))
+    after-turn limit (turn_within left Zeros before found met bytes).turn _ _
+    (within-below left limit (work_of_turn found met bytes) found _ (turn-below limit before found met bytes h))
+    (λ t p. test-below limit t.0.ended _ _ p (walk-below (left_after left (work_of_turn found met bytes)) limit turns
+    header t.0.before t.0.found t.0.met t.1 p))
     (λ fault. tt))
 
 walked-below : (limit : ℕ) (r : Result (List ℕ) Fault) (found : Found) → LeftBelow limit r
@@ -159,12 +172,12 @@ unfolding LeavesBelow LeftBelow
 walked-below limit (Ok rest) found h = h
 walked-below limit (Err fault) found h = tt
 
-segments-below : (limit : ℕ) (header : Bool) (before : Before) (found : Found) (met : Option Marker) (bytes : List ℕ)
-    → length bytes < limit → LeavesBelow limit (segments_at header before found met bytes)
+segments-below : (left : Option ℕ) (limit : ℕ) (header : Bool) (before : Before) (found : Found) (met : Option Marker) (bytes : List ℕ)
+    → length bytes < limit → LeavesBelow limit (segments_at left header before found met bytes)
 unfolding segments_at
-segments-below limit header before found met bytes h =
-    walked-below limit (walk Zeros (suc (length bytes)) header before found met bytes).rest _
-    (walk-below limit (suc (length bytes)) header before found met bytes h)
+segments-below left limit header before found met bytes h =
+    walked-below limit (walk left Zeros (suc (length bytes)) header before found met bytes).rest _
+    (walk-below left limit (suc (length bytes)) header before found met bytes h)
 
 start-below : (limit : ℕ) (bytes : List ℕ) → length bytes < limit → LeavesBelow limit (start_at bytes)
 unfolding start_at
@@ -174,13 +187,13 @@ header-leaves : (limit : ℕ) (bytes : List ℕ) → length bytes < limit → Le
 unfolding header_at
 header-leaves limit bytes h =
     below-on limit (start_at bytes) _ (start-below limit bytes h) (λ start p.
-    segments-below limit true Elsewhere nothing_found _ start.1 p)
+    segments-below None limit true Elsewhere nothing_found _ start.1 p)
 
 rest-leaves : (limit : ℕ) (settings : Settings) (found : Found) (bytes : List ℕ) → length bytes < limit
-    → LeavesBelow limit (rest_at settings found bytes)
-unfolding rest_at
+    → LeavesBelow limit (rest_by settings found bytes)
+unfolding rest_within
 rest-leaves limit settings found bytes h =
-    below-on limit (segments_at _ Elsewhere found _ bytes) _ (segments-below limit _ Elsewhere found _ bytes h)
+    below-on limit (segments_at _ _ Elsewhere found _ bytes) _ (segments-below _ limit _ Elsewhere found _ bytes h)
     (λ all p.
     below-needs limit (picture_of settings all.0) _ (λ picture. below-ok limit _ all.1 p))
 
@@ -223,7 +236,7 @@ meaning-counted o bytes source count =
     counted bytes (meaning_by o bytes) source count (meaning-leaves (suc (length bytes)) o bytes (omega arith))
 
 means-rest : (o : Options) (bytes rest : List ℕ) (header : Found) → header_at bytes ≡ Ok (header, rest)
-    → meaning_by o bytes ≡ rest_at (settings_of o) (with_said (at_size (size_wanted o)) header) rest
+    → meaning_by o bytes ≡ rest_by (settings_of o) (with_said (at_size (size_wanted o)) header) rest
 unfolding meaning_by
 means-rest o bytes rest header h = then-ok (header_at bytes) _ (header, rest) _ h refl
 
@@ -239,6 +252,6 @@ image-counted Whole o bytes old new header count h s f ends counts =
       known = ends.known;
       value = ends.value;
       reads = means-rest o bytes old.source.bytes header h
-          ∙ (λ i. rest_at (sym s i) (sym f i) old.source.bytes) ∙ ends.reads;
+          ∙ (λ i. rest_by (sym s i) (sym f i) old.source.bytes) ∙ ends.reads;
     }) counts
 image-counted Partial o bytes old new header count h s f ends counts = tt

@@ -9,9 +9,9 @@ use Rattle.jpeg_decoder.specs.Reaching.{NamesFault}
 use Rattle.jpeg_streams.specs.DecodedImages.{at_size}
 use Rattle.jpeg_streams.specs.Found.{Found, with_said}
 use Rattle.jpeg_streams.specs.Pixels.{info_of}
-use Rattle.jpeg_streams.specs.Shown.{Shown, shown_rest, whole_rows_rest}
+use Rattle.jpeg_streams.specs.Shown.{Shown, shown_rest_within, whole_rows_rest}
 use Rattle.jpeg_streams.specs.States.{Decoding}
-use Rattle.jpeg_streams.specs.Stream.{Told, header_at, rest_at, told_of}
+use Rattle.jpeg_streams.specs.Stream.{Told, header_at, rest_by, told_of}
 use Rattle.jpeg_streams.specs.declared.images.ImageInfo.{ImageInfo}
 use Rattle.jpeg_streams.specs.declared.settings.Settings.{Settings}
 use Rattle.zaxbriar_calls.specs.Features.{NamesFeature, feature_in, numbered}
@@ -36,8 +36,9 @@ faultless m = record { told = m.0; picture = m.1; fault = None }
 -- else what it shows.
 abbrev pub given_rest : Extent → Settings → Found → List ℕ → Result Shown Fault
 given_rest Whole settings found bytes =
-    rest_at settings found bytes >>= (λ m. Ok (faultless m.0))
-given_rest Partial settings found bytes = shown_rest settings found bytes
+    rest_by settings found bytes >>= (λ m. Ok (faultless m.0))
+given_rest Partial settings found bytes =
+    shown_rest_within settings.max_blocks settings found bytes
 
 -- What a stream gives: what is told of it, its picture, and its first fault; or why it gives none.
 -- A whole picture has no fault.
@@ -48,14 +49,15 @@ given_by extent o bytes = do
 
 -- How many rows of what is given, from the top, are complete in each scan that the stream has
 -- begun. Those of a whole picture, which all are, aren't counted.
-abbrev pub rows_rest : Extent → Found → List ℕ → ℕ
-rows_rest Whole found bytes = 0
-rows_rest Partial found bytes = whole_rows_rest found bytes
+abbrev pub rows_rest : Extent → Settings → Found → List ℕ → ℕ
+rows_rest Whole settings found bytes = 0
+rows_rest Partial settings found bytes = whole_rows_rest settings.max_blocks found bytes
 
 unfoldable pub rows_by : Extent → Options → List ℕ → ℕ
 rows_by Whole o bytes = 0
 rows_by Partial o bytes = elim (header_at bytes) [
-  | Ok header ↦ whole_rows_rest (with_said (at_size (size_wanted o)) header.0) header.1
+  | Ok header ↦
+      rows_rest Partial (settings_of o) (with_said (at_size (size_wanted o)) header.0) header.1
   | Err fault ↦ 0
 ]
 
@@ -126,7 +128,7 @@ pub record Brings (expected : Result Shown Fault) (samples : List ℕ) (fault : 
 -- A decoder stands after the image, where it has read the whole of its picture.
 abbrev pub EndsImage : Extent → Decoding → Decoding → Type 0
 EndsImage Whole old new =
-    StandsAfter (rest_at old.settings old.found old.source.bytes) new.source
+    StandsAfter (rest_by old.settings old.found old.source.bytes) new.source
 EndsImage Partial old new = Unit {0}
 
 abbrev pub outcome_of : ℕ → Option Error → Result ℕ Refusal

@@ -13,7 +13,7 @@ use Rattle.jpeg_streams.specs.Found.{Found, with_said}
 use Rattle.jpeg_streams.specs.States.{Decoding}
 use Rattle.jpeg_streams.specs.declared.progress.Progress.TheVariants.{HeaderRead}
 use Rattle.jpeg_streams.specs.Pixels.{info_of}
-use Rattle.jpeg_streams.specs.Stream.{Told, header_at, rest_at}
+use Rattle.jpeg_streams.specs.Stream.{Told, header_at, rest_by}
 use Rattle.jpeg_streams.specs.declared.images.ImageInfo.{ImageInfo}
 use Rattle.jpeg_streams.specs.declared.settings.Settings.{Settings}
 use Rattle.jpeg_decoder.specs.Bytes.{decoding_bytes}
@@ -51,6 +51,7 @@ abbrev pub settings_of : Options → Settings
 settings_of o = record {
   limit = 18446744073709551615;
   color_transform = transform_number o.transform;
+  max_blocks = None;
 }
 
 -- The least length of a side, where one is asked for: no side is as long as 65535 but at full size,
@@ -79,7 +80,7 @@ size_wanted o = size_by (scale_by o.scale) o.min_width o.min_height
 unfoldable pub meaning_by : Options → List ℕ → Outcome (Told × List ℕ)
 meaning_by o bytes = do
   header ← header_at bytes
-  rest_at (settings_of o) (with_said (at_size (size_wanted o)) header.0) header.1
+  rest_by (settings_of o) (with_said (at_size (size_wanted o)) header.0) header.1
 
 -- A decoder of known bytes has read their header, and its picture is to have the size of the
 -- options.

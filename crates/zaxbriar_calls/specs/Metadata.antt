@@ -30,7 +30,7 @@ metadata_of kind said = if kind == 1 then said.exif
 -- what a stream says of a kind by the end or the refusal of its header, or of its image
 abbrev pub said_of : ℕ → List ℕ → Option (List ℕ)
 said_of kind stream = metadata_of (kind_alone kind)
-    (told_by_turns (suc (length stream)) (not (is_whole kind)) stream).metadata
+    (told_by_turns None (suc (length stream)) (not (is_whole kind)) stream).metadata
 
 -- whether a reading comes to its end, or the fault that it comes to
 abbrev pub end_of : {X : Type 0} → Result X Fault → Result (Unit {0}) Fault

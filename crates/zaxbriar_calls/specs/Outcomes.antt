@@ -79,7 +79,7 @@ pub record DecodesLines (extent : Extent) (lines : Lines) (outcome : Result ℕ 
   pub fits : size_of_lines lines.stride lines.row_bytes lines.height ≤ length before
   pub reaches : old.source.known ≡ true → Reaches extent lines outcome old new before after
   pub rows : old.source.known ≡ true
-      → HasRows (rows_rest extent old.found old.source.bytes) outcome
+      → HasRows (rows_rest extent old.settings old.found old.source.bytes) outcome
   pub named : old.source.known ≡ true
       → IfErr outcome (IsFault (given_rest extent old.settings old.found old.source.bytes))
   pub kept : IfErr outcome (λ r. (IsPart r → ⊥) → after ≡ before)

@@ -7,7 +7,7 @@ ghost use Rattle.jpeg_bits.specs.Reading.{Answers, Fault, IsGivenUp};
 ghost use Rattle.jpeg_bits.specs.declared.error.Error.TheVariants.{OutOfMemory};
 ghost use Rattle.jpeg_decoder.specs.Bytes.{AreLinesOf, IsCounted, decoding_bytes, shape_in};
 ghost use Rattle.jpeg_streams.specs.Pixels.{info_of};
-ghost use Rattle.jpeg_streams.specs.Stream.{header_at, rest_at, told_of};
+ghost use Rattle.jpeg_streams.specs.Stream.{header_at, rest_by, told_of};
 ghost use Rattle.jpeg_streams.specs.declared.progress.Progress.TheVariants.{HeaderRead};
 ghost use Rattle.zaxbriar_calls.specs.Faults.{IsArgument, IsFault, IsOfCall, IsOfDecoder};
 ghost use Rattle.zaxbriar_calls.specs.Faults.{IsOfReading, IsOfRoom, IsOwn, IsPart};
@@ -72,7 +72,7 @@ fn read_part<R: Read + Drop>(decoder: &mut Decoder<R>) -> std::result::Result<Pa
         (given_rest Partial decoder.old.settings decoder.old.found decoder.old.source.bytes)
         (concat p.lines) p.fault (told_of decoder.new.found.said)) }
     ensures rows { decoder.old.source.known ≡ true → IfOk result
-        (λ p. p.whole_rows ≡ rows_rest Partial decoder.old.found decoder.old.source.bytes) }
+        (λ p. p.whole_rows ≡ rows_rest Partial decoder.old.settings decoder.old.found decoder.old.source.bytes) }
     ensures named { decoder.old.source.known ≡ true → IfErr result (IsFault
         (given_rest Partial decoder.old.settings decoder.old.found decoder.old.source.bytes)) }
     ensures own { IfErr result IsOfDecoder }
@@ -110,10 +110,10 @@ fn read_whole<R: Read + Drop>(
     ensures rows { IfOk result (λ p. p.whole_rows ≡ 0) }
     ensures reads { IfOk result (λ p. Answers {X = Unit {0}}
         (λ u. (told_of decoder.new.found.said, concat p.lines))
-        (rest_at decoder.old.settings decoder.old.found) decoder.old.source (Ok tt)
+        (rest_by decoder.old.settings decoder.old.found) decoder.old.source (Ok tt)
         decoder.new.source) }
     ensures named { decoder.old.source.known ≡ true
-        → IfErr result (IsFault (rest_at decoder.old.settings decoder.old.found
+        → IfErr result (IsFault (rest_by decoder.old.settings decoder.old.found
         decoder.old.source.bytes)) }
     ensures own { IfErr result IsOfDecoder }
 {
@@ -144,7 +144,7 @@ fn read_lines<R: Read + Drop>(
     ensures ends { decoder.old.source.known ≡ true
         → OnOk result (EndsImage extent decoder.old decoder.new) }
     ensures rows { decoder.old.source.known ≡ true → IfOk result (λ p. p.whole_rows
-        ≡ rows_rest extent decoder.old.found decoder.old.source.bytes) }
+        ≡ rows_rest extent decoder.old.settings decoder.old.found decoder.old.source.bytes) }
     ensures named { decoder.old.source.known ≡ true → IfErr result (IsFault
         (given_rest extent decoder.old.settings decoder.old.found decoder.old.source.bytes)) }
     ensures own { IfErr result IsOfDecoder }
@@ -187,7 +187,7 @@ fn decode_lines<R: Read + Drop>(
     ensures reaches { decoder.old.source.known ≡ true
         → Reaches extent lines result decoder.old decoder.new pixels.old pixels.new }
     ensures rows { decoder.old.source.known ≡ true
-        → HasRows (rows_rest extent decoder.old.found decoder.old.source.bytes) result }
+        → HasRows (rows_rest extent decoder.old.settings decoder.old.found decoder.old.source.bytes) result }
     ensures named { decoder.old.source.known ≡ true → IfErr result (IsFault
         (given_rest extent decoder.old.settings decoder.old.found decoder.old.source.bytes)) }
     ensures kept { IfErr result (λ r. (IsPart r → ⊥) → pixels.new ≡ pixels.old) }

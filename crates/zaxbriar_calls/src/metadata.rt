@@ -143,7 +143,7 @@ fn read_through<R: Read + Drop>(decoder: &mut Decoder<R>, whole: bool) -> Result
     requires plain { decoder.old.settings ≡ default_settings }
     ensures told { OnTold decoder.old.source decoder.new.source result
         (told_of decoder.new.found.said
-        ≡ told_by_turns (suc (length decoder.old.source.bytes)) (not whole)
+        ≡ told_by_turns None (suc (length decoder.old.source.bytes)) (not whole)
         decoder.old.source.bytes) }
     ensures whole { decoder.old.source.known ≡ true
         → OnOk result (IsOk (end_at whole decoder.old.source.bytes)) }
@@ -167,7 +167,7 @@ fn read_told<R: Read + Drop>(decoder: &mut Decoder<R>, whole: bool) -> std::resu
     requires fresh { decoder.old.stage ≡ Fresh }
     requires plain { decoder.old.settings ≡ default_settings }
     ensures told { decoder.old.source.known ≡ true → OnOk result (told_of decoder.new.found.said
-        ≡ told_by_turns (suc (length decoder.old.source.bytes)) (not whole)
+        ≡ told_by_turns None (suc (length decoder.old.source.bytes)) (not whole)
         decoder.old.source.bytes) }
     ensures named { decoder.old.source.known ≡ true
         → IfOk result (λ code. IsNamed code (end_at whole decoder.old.source.bytes)) }

@@ -163,4 +163,4 @@ pub output-some : (bytes rest left : List ℕ) (found : Found) (told : Told) (pi
     → output_of bytes ≡ Some (header_line_of (Some info) ++ pixels)
 unfolding output_of
 output-some bytes rest left found told pixels info header picture hi =
-    rw (output_of, header-means default_settings found bytes rest header ∙ picture, hi) refl
+    rw (output_of, header-means None default_settings found bytes rest header ∙ picture, hi) refl

@@ -53,7 +53,7 @@ given_at_scale extent scale bytes = elim (header_at bytes >>= (λ header.
 -- begun; all of a whole picture, which has this height.
 abbrev pub complete_rest : Extent → Found → List ℕ → ℕ → ℕ
 complete_rest Whole found bytes height = height
-complete_rest Partial found bytes height = whole_rows_rest found bytes
+complete_rest Partial found bytes height = whole_rows_rest None found bytes
 
 -- How many rows of the picture that a stream gives at a scale are complete.
 unfoldable pub complete_rows : Extent → Scale → List ℕ → ℕ → ℕ

@@ -79,7 +79,7 @@ fn decode_partial<R: Read + Drop>(decoder: &mut Decoder<R>) -> Result<PartialLin
     ensures gives { IfOk result
         (λ p. GivesRest Partial decoder.old decoder.new (concat p.lines) p.fault) }
     ensures rows { decoder.old.source.known ≡ true → IfOk result (λ p. p.whole_rows
-        ≡ whole_rows_rest decoder.old.found decoder.old.source.bytes) }
+        ≡ whole_rows_rest None decoder.old.found decoder.old.source.bytes) }
     ensures framed { IfOk result (λ _. is_some decoder.new.found.said.frame ≡ true) }
 {
     let shown = decoder.decode_partial_lines()?;

@@ -48,4 +48,4 @@ returns-clause-images c array image rest final last range w is few =
     let known = bytes_are_known (Some bytes) bytes tells in
     let same = known_bytes_are_told (Some bytes) bytes tells in
     given (λ v. v.items) _ rest final _ c.decode.result
-    (images FullSize array image rest final last range w (same ∙ is) known)
+    (images FullSize array image rest final last range w (same ∙ is) tt known)

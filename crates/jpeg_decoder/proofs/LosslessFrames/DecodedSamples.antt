@@ -27,5 +27,5 @@ pub decodes-samples : {X : Type 0} (bytes_of : X → List ℕ) (old new : Decodi
     → Answers (λ x. (told_of new.found.said, bytes_of x))
     (ahead old.stage old.settings old.found) old.source result new.source)
     → DecodesSamples bytes_of old result new
-decodes-samples bytes_of old new result answers size samples image rest final w has known =
+decodes-samples bytes_of old new result answers size samples image rest final w has within known =
     search (rules, gives, left-reading, left-means, means-samples)

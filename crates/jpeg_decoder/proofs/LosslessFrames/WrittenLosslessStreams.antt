@@ -199,7 +199,7 @@ changed-walked change keeps settings samples bytes rest final w =
       all.0,
       then-ok (header_at (bytes ++ rest)) _ (header, left) _ r.1
           (ap (λ (s : Said). rest_at settings (beside bring_samples s (replicate 4 None)) left) (keeps said _ refl (r.0.said.shaped _ refl).1)
-          ∙ sym (header-means settings header (bytes ++ rest) left r.1) ∙ all.1),
+          ∙ sym (header-means None settings header (bytes ++ rest) left r.1) ∙ all.1),
     )
 
 pub sized-walked : (width height : ℕ) (settings : Settings) (samples : Samples) (bytes rest : List ℕ) (final : Said)

@@ -22,7 +22,9 @@ use Rattle.jpeg_streams.specs.Brought.{samples_brought, samples_brought_by, scan
 use Rattle.jpeg_streams.specs.Found.{Found, Said}
 use Rattle.jpeg_streams.specs.LosslessScans.{LosslessCoding, lossless_codings}
 use Rattle.jpeg_streams.specs.declared.before.Before.{Before}
-use Rattle.jpeg_streams.specs.Stream.{told_of}
+use Rattle.jpeg_streams.specs.Stream.{scan_turn_at, scan_within, told_of}
+use Rattle.jpeg_streams.specs.Work.{is_above, work_of_header}
+use Rattle.jpeg_streams.specs.declared.beyond.Beyond.TheVariants.{Nothing}
 use Rattle.jpeg_streams.specs.ScanSegments.{scan_turn as turn_of_scan, codings_of, Coding, pass_of}
 use Rattle.jpeg_streams.specs.ScanSegments.{after_scan, once_scanned, scan_before}
 use Rattle.jpeg_streams.specs.InTurn.{AreArrays}
@@ -35,7 +37,7 @@ use Rattle.jpeg_decoder.specs.Reaching.{data_reached, sample_codings, samples_re
 use Rattle.jpeg_decoder.specs.Reaching.{UnlessRefused, brought_after, rows_after}
 use Rattle.jpeg_decoder.specs.PlanesView.{planes_in}
 use Rattle.jpeg_decoder.specs.declared.scan.decoded.Decoded.{Decoded}
-use Rattle.jpeg_decoder.specs.Steps.{blocks_before, header_at, IsDct, IsRefusal, IsStep, with_decoded}
+use Rattle.jpeg_decoder.specs.Steps.{blocks_before, header_at, header_within, IsDct, IsRefusal, IsStep, with_decoded}
 use Rattle.std.specs.declared.alloc.Global.{Global}
 use Rattle.std.specs.declared.vec.Vec.{Vec}
 use Rattle.jpeg_decoder.proofs.Partial.Refused.{if-refused, if-refused-as, unless-so}
@@ -70,6 +72,18 @@ header-brought : (found : Found) (bytes : List ℕ)
     → scan_brought found bytes ≡ brought_with_header found (header_at found bytes)
 unfolding scan_brought
 header-brought found bytes = by-header found bytes found.said.frame refl
+
+-- so it is within a limit
+within-brought : (left : Option ℕ) (found : Found) (bytes : List ℕ)
+    → scan_within left Nothing found bytes ≡ brought_with_header found (header_within left found bytes)
+unfolding scan_turn_at
+within-brought left found bytes = go (is_above left (work_of_header found bytes))
+  where
+    go : (above : Bool)
+        → ◌≡◌ {A = Brought} (if above then unbrought found (Err Malformed) else scan_brought found bytes)
+        (brought_with_header found (if above then Err Malformed else header_at found bytes))
+    go true = refl
+    go false = header-brought found bytes
 
 -- ---- what a scan brings after its header
 
@@ -167,15 +181,15 @@ none-brings found brought old new e reads none = record {
   rows = λ k l. if-refused-as e (λ n. sym (ap (λ (w : Brought). w.rows) n.1)) (none k l);
 }
 
-pub no-header : (found : Found) (old new : Stream) (e : Error)
-    → Answers (λ (s : Scan). s) (header_at found) old (Err e) new → BringsNone found (scan_brought found) old e new
-no-header found old new e h =
-    let at = λ (f : Fault) (is : header_at found old.bytes ≡ Err f). header-brought found old.bytes
+pub no-header : (left : Option ℕ) (found : Found) (old new : Stream) (e : Error)
+    → Answers (λ (s : Scan). s) (header_within left found) old (Err e) new → BringsNone found (scan_within left Nothing found) old e new
+no-header left found old new e h =
+    let at = λ (f : Fault) (is : header_within left found old.bytes ≡ Err f). within-brought left found old.bytes
     ∙ ap (brought_with_header found) is in
-    none-brings found (scan_brought found) old new e
-    (answers-err (λ (s : Scan). s) (λ (t : Turn). t) (header_at found) (λ bytes. (scan_brought found bytes).turn)
+    none-brings found (scan_within left Nothing found) old new e
+    (answers-err (λ (s : Scan). s) (λ (t : Turn). t) (header_within left found) (λ bytes. (scan_within left Nothing found bytes).turn)
     old new e (λ f is. ap (λ (w : Brought). w.turn) (at f is)) h)
-    (λ k l. told-err e (header_at found old.bytes) _ (h.1 k l) (λ f is. (f, at f is)))
+    (λ k l. told-err e (header_within left found old.bytes) _ (h.1 k l) (λ f is. (f, at f is)))
 
 -- A refusal of the tables of a scan.
 no-tables : {X : Type 0} (found : Found) (brought : List ℕ → Brought) (s : Stream) (e : Error) (o : Result X Fault)
@@ -372,42 +386,42 @@ none-counted now brought rows old new r e fails none b =
 -- ---- a scan after its header
 
 -- what the scan brings is what it brings after the header
-header-then : (found : Found) (scan : Scan) (old cur : Stream) → HasRead (header_at found) old scan cur
-    → old.known ≡ true → (cur.known ≡ true) × (scan_brought found old.bytes ≡ brought_after found scan cur.bytes)
-header-then found scan old cur has k =
-    let at = has.1 k in (at.0, header-brought found old.bytes ∙ ap (brought_with_header found) at.1)
+header-then : (left : Option ℕ) (found : Found) (scan : Scan) (old cur : Stream) → HasRead (header_within left found) old scan cur
+    → old.known ≡ true → (cur.known ≡ true) × (scan_within left Nothing found old.bytes ≡ brought_after found scan cur.bytes)
+header-then left found scan old cur has k =
+    let at = has.1 k in (at.0, within-brought left found old.bytes ∙ ap (brought_with_header found) at.1)
 
-header-answers : {X : Type 0} (v : X → Turn) (found : Found) (scan : Scan) (old cur new : Stream) (r : Result X Error)
-    → HasRead (header_at found) old scan cur
+header-answers : {X : Type 0} (v : X → Turn) (left : Option ℕ) (found : Found) (scan : Scan) (old cur new : Stream) (r : Result X Error)
+    → HasRead (header_within left found) old scan cur
     → Answers v (λ bytes. (brought_after found scan bytes).turn) cur r new
-    → Answers v (λ bytes. (scan_brought found bytes).turn) old r new
-header-answers v found scan old cur new (Ok x) has a = (
+    → Answers v (λ bytes. (scan_within left Nothing found bytes).turn) old r new
+header-answers v left found scan old cur new (Ok x) has a = (
   a.0 ∙ has.0,
   λ k.
-      let at = header-then found scan old cur has k in
+      let at = header-then left found scan old cur has k in
       let read = a.1 at.0 in (read.0, ap (λ (w : Brought). w.turn) at.1 ∙ read.1),
 )
-header-answers v found scan old cur new (Err e) has a = (
+header-answers v left found scan old cur new (Err e) has a = (
   subst (λ (failed : Bool). MayFail e failed new.failed) has.0 a.0,
   λ k l.
-      let at = header-then found scan old cur has k in
+      let at = header-then left found scan old cur has k in
       subst (Names e) (sym (ap (λ (w : Brought). w.turn) at.1)) (a.1 at.0 l),
-  λ k l. a.2 (header-then found scan old cur has k).0 l,
+  λ k l. a.2 (header-then left found scan old cur has k).0 l,
 )
 
-pub header-reads : {X : Type 0} (v : X → Turn) (found : Found) (scan : Scan) (old cur new : Stream)
-    (r : Result X Error) → HasRead (header_at found) old scan cur
+pub header-reads : {X : Type 0} (v : X → Turn) (left : Option ℕ) (found : Found) (scan : Scan) (old cur new : Stream)
+    (r : Result X Error) → HasRead (header_within left found) old scan cur
     → UnlessRefused r (Answers v (λ bytes. (brought_after found scan bytes).turn) cur r new)
-    → UnlessRefused r (Answers v (λ bytes. (scan_brought found bytes).turn) old r new)
-header-reads v found scan old cur new r has a = unless-so r _ _ (header-answers v found scan old cur new r has) a
+    → UnlessRefused r (Answers v (λ bytes. (scan_within left Nothing found bytes).turn) old r new)
+header-reads v left found scan old cur new r has a = unless-so r _ _ (header-answers v left found scan old cur new r has) a
 
-pub header-told : {X : Type 0} (P : Brought → Type 0) (found : Found) (scan : Scan) (old cur new : Stream)
-    (r : Result X Error) → HasRead (header_at found) old scan cur
+pub header-told : {X : Type 0} (P : Brought → Type 0) (left : Option ℕ) (found : Found) (scan : Scan) (old cur new : Stream)
+    (r : Result X Error) → HasRead (header_within left found) old scan cur
     → OnToldRefusal cur new r (P (brought_after found scan cur.bytes))
-    → OnToldRefusal old new r (P (scan_brought found old.bytes))
-header-told P found scan old cur new (Ok x) has h = tt
-header-told P found scan old cur new (Err e) has h = λ k l.
-    let at = header-then found scan old cur has k in
+    → OnToldRefusal old new r (P (scan_within left Nothing found old.bytes))
+header-told P left found scan old cur new (Ok x) has h = tt
+header-told P left found scan old cur new (Err e) has h = λ k l.
+    let at = header-then left found scan old cur has k in
     if-refused-as e (λ p. subst P (sym at.1) p) (h at.0 l)
 
 -- ---- what holds afterwards

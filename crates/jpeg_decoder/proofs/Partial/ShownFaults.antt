@@ -20,8 +20,8 @@ use Rattle.jpeg_streams.specs.Found.{Found, nothing_found}
 use Rattle.jpeg_streams.specs.FoundPictures.{blocks_picture, limited, picture_by_process, picture_of, plane_at_end}
 use Rattle.jpeg_streams.specs.FoundPictures.{samples_picture}
 use Rattle.jpeg_streams.specs.Shown.{Shown, completed, fault_in, fault_shown, framed_or, picture_shown, planes_by}
-use Rattle.jpeg_streams.specs.Shown.{shown}
-use Rattle.jpeg_streams.specs.Shown.{shown_by, shown_of, shown_rest, with_plane_shown, with_samples_shown}
+use Rattle.jpeg_streams.specs.Shown.{shown_within}
+use Rattle.jpeg_streams.specs.Shown.{shown_by, shown_of, shown_rest_within, with_plane_shown, with_samples_shown}
 use Rattle.jpeg_streams.specs.States.{IfRefused, IsOfBytes, OnTold}
 use Rattle.jpeg_streams.specs.Stream.{Told, all_brought, start_at, told_of}
 use Rattle.jpeg_streams.specs.declared.settings.Settings.{Settings}
@@ -204,38 +204,38 @@ err-end e (Err fault) other n =
 
 shown-through : {X : Type 0} (bytes_of : X → List ℕ) (fault_of : X → Option Error) (settings : Settings) (old f : Found)
     (bytes : List ℕ) (fault : Option Error) (r : Result X Error) (told : Told)
-    → without_tables f ≡ without_tables (all_brought old bytes).found
-    → NamesFault fault (fault_in (all_brought old bytes).rest)
+    → without_tables f ≡ without_tables (all_brought settings.max_blocks old bytes).found
+    → NamesFault fault (fault_in (all_brought settings.max_blocks old bytes).rest)
     → ((ended : Result (List ℕ) Fault) → NamesFault fault (fault_in ended)
     → IsShown (shown_of settings f ended) bytes_of fault_of r told)
-    → IsShown (shown_rest settings old bytes) bytes_of fault_of r told
-unfolding shown_rest
+    → IsShown (shown_rest_within settings.max_blocks settings old bytes) bytes_of fault_of r told
+unfolding shown_rest_within
 shown-through bytes_of fault_of settings old f bytes fault r told same n h =
     subst (λ (o : Result Shown Fault). IsShown o bytes_of fault_of r told)
-    (shown-same settings f (all_brought old bytes).found (all_brought old bytes).rest same)
-    (h (all_brought old bytes).rest n)
+    (shown-same settings f (all_brought settings.max_blocks old bytes).found (all_brought settings.max_blocks old bytes).rest same)
+    (h (all_brought settings.max_blocks old bytes).rest n)
 
 pub rest-ok : {X : Type 0} (bytes_of : X → List ℕ) (fault_of : X → Option Error) (settings : Settings) (old f : Found)
     (s n : Stream) (r : Result X Error) (told : Told)
-    → Answers (λ (u : Unit {0}). tt) (λ bytes. walk_end (all_brought old bytes)) s (Ok tt) n
-    → (s.known ≡ true → without_tables f ≡ without_tables (all_brought old s.bytes).found)
+    → Answers (λ (u : Unit {0}). tt) (λ bytes. walk_end (all_brought settings.max_blocks old bytes)) s (Ok tt) n
+    → (s.known ≡ true → without_tables f ≡ without_tables (all_brought settings.max_blocks old s.bytes).found)
     → ((ended : Result (List ℕ) Fault) → NamesFault None (fault_in ended)
     → IsShown (shown_of settings f ended) bytes_of fault_of r told)
-    → ShowsJust (shown_rest settings old) bytes_of fault_of s r n told
+    → ShowsJust (shown_rest_within settings.max_blocks settings old) bytes_of fault_of s r n told
 rest-ok bytes_of fault_of settings old f s n r told a found h k l =
     shown-through bytes_of fault_of settings old f s.bytes None r told (found k)
-    (ok-end (all_brought old s.bytes).rest _ (a.1 k).1) h
+    (ok-end (all_brought settings.max_blocks old s.bytes).rest _ (a.1 k).1) h
 
 pub rest-err : {X : Type 0} (bytes_of : X → List ℕ) (fault_of : X → Option Error) (settings : Settings) (old f : Found)
     (s n : Stream) (e : Error) (r : Result X Error) (told : Told) → (e ≡ errors.OutOfMemory → ⊥)
-    → IfRefused e (Answers (λ (u : Unit {0}). tt) (λ bytes. walk_end (all_brought old bytes)) s (Err e) n)
-    → (s.known ≡ true → n.known ≡ true → IfRefused e (without_tables f ≡ without_tables (all_brought old s.bytes).found))
+    → IfRefused e (Answers (λ (u : Unit {0}). tt) (λ bytes. walk_end (all_brought settings.max_blocks old bytes)) s (Err e) n)
+    → (s.known ≡ true → n.known ≡ true → IfRefused e (without_tables f ≡ without_tables (all_brought settings.max_blocks old s.bytes).found))
     → ((ended : Result (List ℕ) Fault) → NamesFault (Some e) (fault_in ended)
     → IsShown (shown_of settings f ended) bytes_of fault_of r told)
-    → ShowsJust (shown_rest settings old) bytes_of fault_of s r n told
+    → ShowsJust (shown_rest_within settings.max_blocks settings old) bytes_of fault_of s r n told
 rest-err bytes_of fault_of settings old f s n e r told other a found h k l =
     shown-through bytes_of fault_of settings old f s.bytes (Some e) r told (if-there e _ other (found k l))
-    (err-end e (all_brought old s.bytes).rest other ((if-there e _ other a).1 k l)) h
+    (err-end e (all_brought settings.max_blocks old s.bytes).rest other ((if-there e _ other a).1 k l)) h
 
 not-memory : (e : Error) → is_out_of_memory {X = Unit {0}} (Err e) ≡ false → e ≡ errors.OutOfMemory → ⊥
 not-memory e h is = true≢false (sym (ap (λ (e : Error). is_out_of_memory {X = Unit {0}} (Err e)) is) ∙ h)
@@ -244,12 +244,12 @@ pub rest-shown : {X : Type 0} (bytes_of : X → List ℕ) (fault_of : X
     → Option Error) (settings : Settings) (old f g : Found)
     (s n : Stream) (ended : Result (Unit {0}) Error) (fault : Option Error) (r : Result X Error) (told : Told)
     → is_out_of_memory ended ≡ false
-    → UnlessRefused ended (Answers (λ (u : Unit {0}). tt) (λ bytes. walk_end (all_brought old bytes)) s ended n)
-    → OnTold s n ended (without_tables f ≡ without_tables (all_brought old s.bytes).found)
+    → UnlessRefused ended (Answers (λ (u : Unit {0}). tt) (λ bytes. walk_end (all_brought settings.max_blocks old bytes)) s ended n)
+    → OnTold s n ended (without_tables f ≡ without_tables (all_brought settings.max_blocks old s.bytes).found)
     → fault ≡ result_err ended → g ≡ f
     → ((w : Result (List ℕ) Fault) → NamesFault fault (fault_in w)
     → IsShown (shown_of settings g w) bytes_of fault_of r told)
-    → ShowsJust (shown_rest settings old) bytes_of fault_of s r n told
+    → ShowsJust (shown_rest_within settings.max_blocks settings old) bytes_of fault_of s r n told
 rest-shown bytes_of fault_of settings old f g s n (Ok u) fault r told m a found is e h =
     rest-ok bytes_of fault_of settings old f s n r told a found
     (λ w p. subst (λ (x : Found). IsShown (shown_of settings x w) bytes_of fault_of r told) e
@@ -334,25 +334,25 @@ start-unknown fault_of s n e a k l = refused-given e n.failed (a.2 k l)
 -- ---- a whole stream
 
 started : (settings : Settings) (bytes rest : List ℕ) → start_at bytes ≡ Ok (tt, rest)
-    → shown settings bytes ≡ shown_rest settings nothing_found rest
-unfolding shown
+    → shown_within settings.max_blocks settings bytes ≡ shown_rest_within settings.max_blocks settings nothing_found rest
+unfolding shown_within
 started settings bytes rest e =
-    ap (λ (o : Outcome (Unit {0})). o >>= (λ (start : Unit {0} × List ℕ). shown_rest settings nothing_found start.1)) e
+    ap (λ (o : Outcome (Unit {0})). o >>= (λ (start : Unit {0} × List ℕ). shown_rest_within settings.max_blocks settings nothing_found start.1)) e
 
 pub start-shown : {X : Type 0} (bytes_of : X → List ℕ) (fault_of : X → Option Error) (settings : Settings) (old : Found)
     (s m n : Stream) (r : Result X Error) (told : Told) → old ≡ nothing_found
     → Answers (λ (u : Unit {0}). u) start_at s (Ok tt) m
-    → ShowsJust (shown_rest settings old) bytes_of fault_of m r n told
-    → ShowsJust (shown settings) bytes_of fault_of s r n told
+    → ShowsJust (shown_rest_within settings.max_blocks settings old) bytes_of fault_of m r n told
+    → ShowsJust (shown_within settings.max_blocks settings) bytes_of fault_of s r n told
 start-shown bytes_of fault_of settings old s m n r told is a h k l =
     subst (λ (o : Result Shown Fault). IsShown o bytes_of fault_of r told)
-    (ap (λ (x : Found). shown_rest settings x m.bytes) is ∙ sym (started settings s.bytes m.bytes (a.1 k).1))
+    (ap (λ (x : Found). shown_rest_within settings.max_blocks settings x m.bytes) is ∙ sym (started settings s.bytes m.bytes (a.1 k).1))
     (h (a.1 k).0 l)
 
 pub start-lacks : (settings : Settings) (bytes : List ℕ) (e : Error) → Names e (start_at bytes)
-    → Names e (shown settings bytes)
-unfolding shown
+    → Names e (shown_within settings.max_blocks settings bytes)
+unfolding shown_within
 start-lacks settings bytes e n =
-    Names-through e (start_at bytes) (shown settings bytes)
+    Names-through e (start_at bytes) (shown_within settings.max_blocks settings bytes)
     (λ fault p. ap (λ (o : Outcome (Unit {0})). o >>= (λ (start : Unit {0} × List ℕ).
-    shown_rest settings nothing_found start.1)) p) n
+    shown_rest_within settings.max_blocks settings nothing_found start.1)) p) n

@@ -7,7 +7,7 @@ use Rattle.jpeg_bits.specs.Stream.{Stream}
 use Rattle.jpeg_bits.specs.declared.error.Error.{Error}
 use Rattle.jpeg_segments.specs.Frame.{Frame}
 use Rattle.jpeg_streams.specs.Found.{Found, nothing_found}
-use Rattle.jpeg_streams.specs.Shown.{fault_in, planes_by, rows_of_found, rows_of_frame, whole_rows, whole_rows_rest}
+use Rattle.jpeg_streams.specs.Shown.{fault_in, planes_by, rows_of_found, rows_of_frame, whole_rows_rest, whole_rows_within}
 use Rattle.jpeg_streams.specs.States.{OnTold}
 use Rattle.jpeg_streams.specs.Stream.{all_brought, start_at}
 use Rattle.jpeg_decoder.specs.Reaching.{NamesFault, is_out_of_memory, without_tables}
@@ -53,25 +53,26 @@ found-same rows f g e =
 
 -- ---- the rest of a stream, and a whole one
 
-pub rest-counted : {X : Type 0} (rows_of : X → ℕ) (old f g : Found) (s n : Stream) (ended : Result (Unit {0}) Error)
+pub rest-counted : {X : Type 0} (rows_of : X → ℕ) (limit : Option ℕ) (old f g : Found) (s n : Stream) (ended : Result (Unit {0}) Error)
     (rows : Option ℕ) (r : Result X Error) → is_out_of_memory ended ≡ false
-    → OnTold s n ended (without_tables f ≡ without_tables (all_brought old s.bytes).found)
-    → OnTold s n ended (rows ≡ (all_brought old s.bytes).rows) → g ≡ f
-    → IfOk r (λ x. rows_of x ≡ rows_of_found rows g) → CountsRows rows_of (whole_rows_rest old) s r n
+    → OnTold s n ended (without_tables f ≡ without_tables (all_brought limit old s.bytes).found)
+    → OnTold s n ended (rows ≡ (all_brought limit old s.bytes).rows) → g ≡ f
+    → IfOk r (λ x. rows_of x ≡ rows_of_found rows g) → CountsRows rows_of (whole_rows_rest limit old) s r n
 unfolding whole_rows_rest
-rest-counted rows_of old f g s n ended rows r m found counted same h = λ k l.
-    let all = (all_brought old s.bytes).found in
+rest-counted rows_of limit old f g s n ended rows r m found counted same h = λ k l.
+    let all = (all_brought limit old s.bytes).found in
     IfOk-weaker r _ _ (λ x is. is ∙ ap (rows_of_found rows) same
     ∙ found-same rows f all (told-holds s n ended _ m found k l)
     ∙ ap (λ (rows : Option ℕ). rows_of_found rows all) (told-holds s n ended _ m counted k l)) h
 
-started : (bytes rest : List ℕ) → start_at bytes ≡ Ok (tt, rest) → whole_rows bytes ≡ whole_rows_rest nothing_found rest
-unfolding whole_rows
-started bytes rest e = rw (e, whole_rows) refl
+started : (limit : Option ℕ) (bytes rest : List ℕ) → start_at bytes ≡ Ok (tt, rest)
+    → whole_rows_within limit bytes ≡ whole_rows_rest limit nothing_found rest
+unfolding whole_rows_within
+started limit bytes rest e = rw (e, whole_rows_within) refl
 
-pub start-counted : {X : Type 0} (rows_of : X → ℕ) (old : Found) (s m n : Stream) (r : Result X Error)
+pub start-counted : {X : Type 0} (rows_of : X → ℕ) (limit : Option ℕ) (old : Found) (s m n : Stream) (r : Result X Error)
     → old ≡ nothing_found → Answers (λ (u : Unit {0}). u) start_at s (Ok tt) m
-    → CountsRows rows_of (whole_rows_rest old) m r n → CountsRows rows_of whole_rows s r n
-start-counted rows_of old s m n r same a h = λ k l.
-    IfOk-weaker r _ _ (λ x is. is ∙ ap (λ (f : Found). whole_rows_rest f m.bytes) same
-    ∙ sym (started s.bytes m.bytes (a.1 k).1)) (h (a.1 k).0 l)
+    → CountsRows rows_of (whole_rows_rest limit old) m r n → CountsRows rows_of (whole_rows_within limit) s r n
+start-counted rows_of limit old s m n r same a h = λ k l.
+    IfOk-weaker r _ _ (λ x is. is ∙ ap (λ (f : Found). whole_rows_rest limit f m.bytes) same
+    ∙ sym (started limit s.bytes m.bytes (a.1 k).1)) (h (a.1 k).0 l)

@@ -1,5 +1,5 @@
 -- What is told after a refusal to show a stream.
-use Rattle.std.proofs.Common.{◌≡◌, ◌∙◌, ℕ, List, Result, Ok, Err, ap, false, refl, sym, true}
+use Rattle.std.proofs.Common.{◌≡◌, ◌∙◌, ℕ, List, Option, Result, Ok, Err, ap, false, refl, sym, true}
 use Rattle.jpeg_bits.specs.Reading.{Answers, Fault}
 use Rattle.jpeg_bits.specs.Stream.{Stream}
 use Rattle.jpeg_bits.specs.declared.error.Error.{Error}
@@ -19,38 +19,39 @@ refusal-any s n (Err e) h = λ k l. if-refused e (h k l)
 -- ---- the rest of a stream
 
 -- Tables aren't told.
-pub rest-told : {X : Type 0} (old f g : Found) (s n : Stream) (ended : Result (Unit {0}) Error) (r : Result X Error)
+pub rest-told : {X : Type 0} (limit : Option ℕ) (old f g : Found) (s n : Stream) (ended : Result (Unit {0}) Error) (r : Result X Error)
     → is_out_of_memory ended ≡ false
-    → OnTold s n ended (without_tables f ≡ without_tables (all_brought old s.bytes).found) → g ≡ f
-    → OnToldRefusal s n r (told_of g.said ≡ told_shown_rest old s.bytes)
-rest-told old f g s n ended r m found same =
+    → OnTold s n ended (without_tables f ≡ without_tables (all_brought limit old s.bytes).found) → g ≡ f
+    → OnToldRefusal s n r (told_of g.said ≡ told_shown_rest limit old s.bytes)
+rest-told limit old f g s n ended r m found same =
     let told : Found → Told = λ x. told_of x.said in
     refusal-any s n r (λ k l. ap told same ∙ ap told (told-holds s n ended _ m found k l))
 
 -- ---- a whole stream
 
-started : (bytes rest : List ℕ) → start_at bytes ≡ Ok (tt, rest) → told_shown bytes ≡ told_shown_rest nothing_found rest
+started : (limit : Option ℕ) (bytes rest : List ℕ) → start_at bytes ≡ Ok (tt, rest)
+    → told_shown limit bytes ≡ told_shown_rest limit nothing_found rest
 unfolding told_shown
-started bytes rest e = rw (e, told_shown) refl
+started limit bytes rest e = rw (e, told_shown) refl
 
-pub start-told : {X : Type 0} (old : Found) (told : Told) (s m n : Stream) (r : Result X Error)
+pub start-told : {X : Type 0} (limit : Option ℕ) (old : Found) (told : Told) (s m n : Stream) (r : Result X Error)
     → old ≡ nothing_found → Answers (λ (u : Unit {0}). u) start_at s (Ok tt) m
-    → OnToldRefusal m n r (told ≡ told_shown_rest old m.bytes) → OnToldRefusal s n r (told ≡ told_shown s.bytes)
-start-told old told s m n (Ok x) same a h = tt
-start-told old told s m n (Err e) same a h = λ k l.
+    → OnToldRefusal m n r (told ≡ told_shown_rest limit old m.bytes) → OnToldRefusal s n r (told ≡ told_shown limit s.bytes)
+start-told limit old told s m n (Ok x) same a h = tt
+start-told limit old told s m n (Err e) same a h = λ k l.
     if-refused-as e
-    (λ is. is ∙ ap (λ (f : Found). told_shown_rest f m.bytes) same ∙ sym (started s.bytes m.bytes (a.1 k).1))
+    (λ is. is ∙ ap (λ (f : Found). told_shown_rest limit f m.bytes) same ∙ sym (started limit s.bytes m.bytes (a.1 k).1))
     (h (a.1 k).0 l)
 
 -- Where it has no start, nothing is said.
-unstarted : (bytes : List ℕ) (fault : Fault) → start_at bytes ≡ Err fault
-    → told_of nothing_found.said ≡ told_shown bytes
+unstarted : (limit : Option ℕ) (bytes : List ℕ) (fault : Fault) → start_at bytes ≡ Err fault
+    → told_of nothing_found.said ≡ told_shown limit bytes
 unfolding told_shown nothing_found
-unstarted bytes fault e = rw (e, told_shown) refl
+unstarted limit bytes fault e = rw (e, told_shown) refl
 
-pub start-silent : (X : Type 0) (old : Found) (s n : Stream) (e : Error) → old ≡ nothing_found
+pub start-silent : (X : Type 0) (limit : Option ℕ) (old : Found) (s n : Stream) (e : Error) → old ≡ nothing_found
     → Answers (λ (u : Unit {0}). u) start_at s (Err e) n
-    → OnToldRefusal {X = X} s n (Err e) (told_of old.said ≡ told_shown s.bytes)
-start-silent X old s n e same a = λ k l.
+    → OnToldRefusal {X = X} s n (Err e) (told_of old.said ≡ told_shown limit s.bytes)
+start-silent X limit old s n e same a = λ k l.
     refused-at e (start_at s.bytes) (Unit {0}) _ (a.1 k l)
-    (λ fault lacks u. ap (λ (f : Found). told_of f.said) same ∙ unstarted s.bytes fault lacks) (if-refused e tt)
+    (λ fault lacks u. ap (λ (f : Found). told_of f.said) same ∙ unstarted limit s.bytes fault lacks) (if-refused e tt)

@@ -1,6 +1,6 @@
 -- A call that answers the meaning of what its source has left decodes images.
 use Rattle.std.proofs.Common.{rules, ◌≡◌, ℕ, List, ◌++◌, true, Result, Ok, Err, is_ok, refl, sym}
-use Rattle.std.proofs.Common.{ap, ◌∙◌, IsOk, MatchResult, arith}
+use Rattle.std.proofs.Common.{None, ap, ◌∙◌, IsOk, MatchResult, arith}
 use Rattle.std.proofs.lemmas.Bool.{false≢true}
 use Rattle.jpeg_bits.specs.Reading.{Outcome, Fault, Answers, ◌>>=◌}
 use Rattle.jpeg_bits.specs.Stream.{Stream}
@@ -12,6 +12,9 @@ use Rattle.jpeg_streams.specs.DecodedImages.{GivesPicture, HasLeft, Size, at_siz
 use Rattle.jpeg_streams.specs.Levels.{Is8Bit, Levels}
 use Rattle.jpeg_streams.specs.declared.progress.Progress.{Progress}
 use Rattle.jpeg_streams.specs.States.{Decoding, IsReading, ahead}
+use Rattle.jpeg_streams.specs.Limits.{IsWithinLimit, work_ahead}
+use Rattle.jpeg_streams.specs.declared.progress.Progress.TheVariants.{Fresh}
+use Rattle.jpeg_streams.proofs.Limits.{meaning-same, rest-same}
 use Rattle.jpeg_streams.specs.Stream.{Told, header_at, meaning, rest_at, scaled_meaning, sized_meaning, told_of}
 use Rattle.jpeg_streams.specs.Found.{Found, with_said, Said}
 use Rattle.jpeg_streams.specs.WrittenImages.{WritesImage}
@@ -47,10 +50,28 @@ scaled-begins : (scale : Scale) (settings : Settings) (found : Found) (bytes res
 unfolding scaled_meaning
 scaled-begins scale settings found bytes rest e = then-ok (header_at bytes) _ (found, rest) _ e refl
 
-pub left-means : (size : Size) (settings : Settings) (bytes : List ℕ) (stage : Progress) (found : Found) (left : List ℕ)
+-- the meaning of what lies ahead of a decoder that has no limit
+abbrev unlimited_ahead : Progress → Settings → Found → List ℕ → Outcome (Told × List ℕ)
+unlimited_ahead Fresh settings found bytes = meaning settings bytes
+unlimited_ahead _ settings found bytes = rest_at settings found bytes
+
+ahead-within : (stage : Progress) (settings : Settings) (found : Found) (left : List ℕ)
+    → IsWithinLimit settings.max_blocks (work_ahead stage found left)
+    → ahead stage settings found left ≡ unlimited_ahead stage settings found left
+ahead-within stage settings found left h = grind (arith, common_steps, meaning-same, rest-same)
+
+left-unlimited : (size : Size) (settings : Settings) (bytes : List ℕ) (stage : Progress) (found : Found) (left : List ℕ)
     (o : Outcome (Told × List ℕ))
-    → HasLeft size bytes stage found left → means_at size settings bytes ≡ o → ahead stage settings found left ≡ o
-left-means size settings bytes stage found left o h e = grind (arith, common_steps, header-means, scaled-begins, sized-begins)
+    → HasLeft size bytes stage found left → means_at size settings bytes ≡ o → unlimited_ahead stage settings found left ≡ o
+left-unlimited size settings bytes stage found left o h e =
+    grind (arith, common_steps, header-means None, scaled-begins, sized-begins)
+
+pub left-means : (size : Size) (settings : Settings) (bytes : List ℕ) (stage : Progress) (found : Found) (left : List ℕ)
+    (o : Outcome (Told × List ℕ)) → HasLeft size bytes stage found left
+    → IsWithinLimit settings.max_blocks (work_ahead stage found left) → means_at size settings bytes ≡ o
+    → ahead stage settings found left ≡ o
+left-means size settings bytes stage found left o h within e =
+    ahead-within stage settings found left within ∙ left-unlimited size settings bytes stage found left o h e
 
 -- ---- what is given
 
@@ -81,6 +102,6 @@ pub decodes-images : {X : Type 0} (bytes_of : X → List ℕ) (old new : Decodin
     → Answers (λ x. (told_of new.found.said, bytes_of x))
     (ahead old.stage old.settings old.found) old.source result new.source)
     → DecodesImages bytes_of old result new
-decodes-images bytes_of old new result answers size array image rest final last range w has known =
+decodes-images bytes_of old new result answers size array image rest final last range w has within known =
     let means = means-array size old.settings array image rest final last range w in
     search (rules, gives, left-reading, left-means)

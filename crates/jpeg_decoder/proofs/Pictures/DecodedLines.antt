@@ -14,7 +14,7 @@ use Rattle.jpeg_streams.specs.declared.progress.Progress.TheVariants.{Failed, Fi
 use Rattle.jpeg_streams.specs.Found.{Found}
 use Rattle.jpeg_streams.specs.States.{IfRefused, IsInternal, IsReading, OnTold}
 use Rattle.jpeg_streams.specs.States.{Decoding, MovesToEnd, MovesToHeader, ahead, told_ahead, turns_ahead}
-use Rattle.jpeg_streams.specs.Stream.{Told, header_at, rest_at, told_of}
+use Rattle.jpeg_streams.specs.Stream.{Told, header_at, rest_within, told_of}
 use Rattle.jpeg_streams.proofs.Refusals.{told-err, told-through}
 use Rattle.jpeg_decoder.specs.Decodes.{Decodes}
 use Rattle.jpeg_decoder.proofs.Pictures.DecodedImages.{decodes-images}
@@ -52,9 +52,9 @@ answers-then view y first next whole old mid new (Err e) means a h = (
 -- What a call says that has read the rest of a stream.
 pub record RestRead {X : Type 0} (bytes_of : X → List ℕ) (told : Told) (mid : Decoding) (r : Result X Error)
     (new : Stream) : Type 0 where
-  pub reads : Answers (λ x. (told, bytes_of x)) (rest_at mid.settings mid.found) mid.source r new
-  pub tells : OnTold mid.source new r (told ≡ told_in_turns (suc (length mid.source.bytes)) false mid.found mid.source.bytes)
-  pub turns : mid.source.known ≡ true → IsOfTurns (λ n. told_in_turns n false mid.found mid.source.bytes) told
+  pub reads : Answers (λ x. (told, bytes_of x)) (rest_within mid.settings.max_blocks mid.settings mid.found) mid.source r new
+  pub tells : OnTold mid.source new r (told ≡ told_in_turns mid.settings.max_blocks (suc (length mid.source.bytes)) false mid.found mid.source.bytes)
+  pub turns : mid.source.known ≡ true → IsOfTurns (λ n. told_in_turns mid.settings.max_blocks n false mid.found mid.source.bytes) told
 
 -- What a call says that has read what its source has left.
 pub record HasRead {X : Type 0} (bytes_of : X → List ℕ) (told : Told) (old : Decoding) (r : Result X Error)
@@ -62,9 +62,9 @@ pub record HasRead {X : Type 0} (bytes_of : X → List ℕ) (told : Told) (old :
   pub reads : IsReading old.stage
       → Answers (λ x. (told, bytes_of x)) (ahead old.stage old.settings old.found) old.source r new
   pub told_is : IsReading old.stage
-      → OnTold old.source new r (told ≡ told_ahead false old.stage old.found old.source.bytes)
+      → OnTold old.source new r (told ≡ told_ahead old.settings.max_blocks false old.stage old.found old.source.bytes)
   pub turns : IsReading old.stage → old.source.known ≡ true
-      → IsOfTurns (λ n. turns_ahead n false old.stage old.found old.source.bytes) told
+      → IsOfTurns (λ n. turns_ahead old.settings.max_blocks n false old.stage old.found old.source.bytes) told
 
 none-read : {X : Type 0} (bytes_of : X → List ℕ) (told : Told) (old : Decoding) (r : Result X Error) (new : Stream)
     → (IsReading old.stage → ⊥) → HasRead bytes_of told old r new
@@ -90,17 +90,22 @@ pub into-at : {X : Type 0} (bytes_of : X → List ℕ) (told : Told) (stage : Pr
 into-at {X} bytes_of told Fresh old mid new r b h =
     let header = b.fresh refl in
     record {
-      reads = λ _. answers-then (λ x. (told, bytes_of x)) mid.found header_at (rest_at old.settings mid.found)
+      reads = λ _. answers-then (λ x. (told, bytes_of x)) mid.found header_at
+          (rest_within old.settings.max_blocks old.settings mid.found)
           (ahead Fresh old.settings old.found) old.source mid.source new r
-          (λ rest e. header-means old.settings mid.found old.source.bytes rest e) header
-          (subst (λ (s : Settings). Answers (λ (x : X). (told, bytes_of x)) (rest_at s mid.found) mid.source r new)
+          (λ rest e. header-means old.settings.max_blocks old.settings mid.found old.source.bytes rest e) header
+          (subst (λ (s : Settings). Answers (λ (x : X). (told, bytes_of x)) (rest_within s.max_blocks s mid.found) mid.source r new)
           b.settings h.reads);
       told_is = λ _. told-through {X = X} old.source mid.source new r _ _ (λ k.
           let at = header.1 k in
-          (at.0, λ p. p ∙ sym (header-told mid.found old.source.bytes mid.source.bytes at.1))) h.tells;
+          (at.0, λ p. p ∙ sym (header-told old.settings.max_blocks mid.found old.source.bytes mid.source.bytes at.1)))
+          (subst (λ (s : Settings). OnTold mid.source new r (told ≡ told_in_turns s.max_blocks
+          (suc (length mid.source.bytes)) false mid.found mid.source.bytes)) b.settings h.tells);
       turns = λ _ k.
           let at = header.1 k in
-          header-turns mid.found old.source.bytes mid.source.bytes told at.1 (h.turns at.0);
+          header-turns old.settings.max_blocks mid.found old.source.bytes mid.source.bytes told at.1
+          (subst (λ (s : Settings). IsOfTurns (λ n. told_in_turns s.max_blocks n false mid.found mid.source.bytes) told)
+          b.settings (h.turns at.0));
     }
 into-at bytes_of told HeaderRead old mid new r b h =
     let same = subst (λ (d : Decoding). RestRead bytes_of told d r new) (b.still other-stage) h in
@@ -119,9 +124,9 @@ pub record IsUnbegun (old new : Decoding) (e : Error) : Type 0 where
   pub ended : (IsReading old.stage → ⊥) → IsInternal e
   pub reads : old.stage ≡ Fresh → Answers (λ (u : Unit {0}). new.found) header_at old.source (Err e) new.source
   pub tells : old.stage ≡ Fresh → OnTold {X = Unit {0}} old.source new.source (Err e)
-      (told_of new.found.said ≡ told_ahead true old.stage old.found old.source.bytes)
+      (told_of new.found.said ≡ told_ahead None true old.stage old.found old.source.bytes)
   pub turns : old.stage ≡ Fresh → old.source.known ≡ true
-      → IsOfTurns (λ n. turns_ahead n true old.stage old.found old.source.bytes) (told_of new.found.said)
+      → IsOfTurns (λ n. turns_ahead None n true old.stage old.found old.source.bytes) (told_of new.found.said)
   pub still : (old.stage ≡ Fresh → ⊥) → new ≡ old
   pub emptied : old.stage ≡ Fresh → IsEmptied new.found
 
@@ -132,11 +137,11 @@ refused-at : {X : Type 0} (bytes_of : X → List ℕ) (stage : Progress) (old ne
 refused-at bytes_of Fresh old new e h = record {
   reads = λ _. answers-err (λ (u : Unit {0}). new.found) (λ x. (told_of new.found.said, bytes_of x)) header_at
       (ahead Fresh old.settings old.found) old.source new.source e
-      (λ fault is. header-lacks old.settings old.source.bytes fault is) (h.reads refl);
+      (λ fault is. header-lacks old.settings.max_blocks old.settings old.source.bytes fault is) (h.reads refl);
   told_is = λ _ k l. refused-and e _ _ _ (λ p q. p ∙ q) (h.tells refl k l)
       (told-err e (header_at old.source.bytes) _ ((h.reads refl).1 k l)
-      (λ fault is. header-told_lacking old.source.bytes fault is));
-  turns = λ _ k. header-turns_lacking old.source.bytes _ (h.turns refl k);
+      (λ fault is. header-told_lacking old.settings.max_blocks old.source.bytes fault is));
+  turns = λ _ k. header-turns_lacking old.settings.max_blocks old.source.bytes _ (h.turns refl k);
 }
 refused-at bytes_of HeaderRead old new e h = absurd (false≢true (h.stage tt).1)
 refused-at bytes_of _ old new e h = none-read bytes_of _ _ _ _ (λ n. n)

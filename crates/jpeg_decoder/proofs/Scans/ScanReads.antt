@@ -2,7 +2,7 @@
 use Rattle.std.proofs.Common.{◌≡◌, ℕ, suc, true, false, List, length, Option, Some, None, Result}
 use Rattle.std.proofs.Common.{Ok, Err, ◌∙◌, ap, arith, refl, subst, sym}
 use Rattle.jpeg_bits.specs.Stream.{Stream}
-use Rattle.jpeg_bits.specs.Reading.{Answers, Fault, Names, Outcome, ◌>>=◌}
+use Rattle.jpeg_bits.specs.Reading.{Answers, Fault, Names, Outcome, ◌>>=◌, Malformed}
 use Rattle.jpeg_bits.specs.Passes.{Pass}
 use Rattle.jpeg_bits.specs.declared.error.Error.{Error}
 use Rattle.jpeg_bits.specs.declared.marker.Marker.{Marker}
@@ -18,7 +18,11 @@ use Rattle.jpeg_streams.specs.ScanSegments.{lossless_scan, scan_before, scan_arr
 use Rattle.jpeg_streams.specs.ScanSegments.{scan_segment}
 use Rattle.jpeg_streams.specs.Segments.{Turn}
 use Rattle.jpeg_streams.specs.Found.{Found}
-use Rattle.jpeg_decoder.specs.Steps.{IsDct, IsRefusal, IsStep, after_all, blocks_read, header_at, read_after}
+use Rattle.jpeg_decoder.specs.Steps.{IsDct, IsRefusal, IsStep, after_all, blocks_read, header_at, header_within, read_after}
+use Rattle.jpeg_streams.specs.Brought.{unbrought}
+use Rattle.jpeg_streams.specs.Stream.{scan_turn_at, scan_within}
+use Rattle.jpeg_streams.specs.Work.{is_above, work_of_header}
+use Rattle.jpeg_streams.specs.declared.beyond.Beyond.TheVariants.{Zeros}
 use Rattle.jpeg_decoder.specs.Steps.{read_by, samples_read, scan_data}
 use Rattle.jpeg_decoder.specs.declared.stream.state.Step.{Step}
 use Rattle.jpeg_streams.specs.InTurn.{AreArrays}
@@ -26,7 +30,7 @@ use Rattle.jpeg_segments.specs.Checks.{needed}
 use Rattle.jpeg_streams.specs.Sound.{ArePlanes, IsSound}
 use Rattle.std.proofs.lemmas.Grind.{common_steps}
 use Rattle.std.proofs.lemmas.Result.{err_from_is_err_and}
-use Rattle.std.specs.Prelude.{IsErr, IsErrAnd}
+use Rattle.std.specs.Prelude.{IsErr, IsErrAnd, Bool, if◌then◌else◌}
 
 -- ---- calls on a source
 
@@ -179,12 +183,28 @@ scan-parts : (found : Found) (bytes : List ℕ) → scan_segment found bytes ≡
 unfolding scan_segment
 scan-parts found bytes = scan-parts-by found bytes found.said.frame refl
 
+-- a scan within a limit, whose header is that of one within it
+within-parts : (left : Option ℕ) (found : Found) (bytes : List ℕ)
+    → (scan_within left Zeros found bytes).turn ≡ (header_within left found bytes >>= turn_after found)
+unfolding scan_turn_at
+within-parts left found bytes = go (is_above left (work_of_header found bytes))
+  where
+    go : (above : Bool)
+        → (if above then unbrought found (Err Malformed) else unbrought found (scan_segment found bytes)).turn
+        ≡ ((if above then Err Malformed else header_at found bytes) >>= turn_after found)
+    go true = refl
+    go false = scan-parts found bytes
+
+-- a scan within a limit, with zeros after its data
+abbrev pub whole_within : Option ℕ → Found → List ℕ → Outcome Turn
+whole_within left found bytes = (scan_within left Zeros found bytes).turn
+
 -- A header that is refused is a segment that is refused.
-pub header-refused : (v : Step → Turn) (found : Found) (old new : Stream) (r : Result Step Error) (e : Error)
-    → IsErrAnd r (λ y. y ≡ e) → Answers (λ (s : Scan). s) (header_at found) old (Err e) new
-    → Answers v (scan_segment found) old r new
-header-refused v found old new r e fails p =
-    grind (arith, common_steps, err_from_is_err_and, scan-parts, bind_err)
+pub header-refused : (v : Step → Turn) (left : Option ℕ) (found : Found) (old new : Stream) (r : Result Step Error) (e : Error)
+    → IsErrAnd r (λ y. y ≡ e) → Answers (λ (s : Scan). s) (header_within left found) old (Err e) new
+    → Answers v (whole_within left found) old r new
+header-refused v left found old new r e fails p =
+    grind (arith, common_steps, err_from_is_err_and, within-parts, bind_err)
 
 -- what is read after a header, up to a marker
 abbrev pub ReadsAfter : Found → Found → Scan → Stream → Result (Option Marker) Error → Stream → Type 0
@@ -192,17 +212,17 @@ ReadsAfter next found scan old r new =
     Answers (λ (m : Option Marker). (next, m)) (read_after found scan) old r new
 
 -- So is what is refused after it.
-pub segment-refused : (v : Step → Turn) (next found : Found) (scan : Scan) (old cur new : Stream)
-    (r : Result Step Error) (e : Error) → IsErrAnd r (λ y. y ≡ e) → HasRead (header_at found) old scan cur
-    → ReadsAfter next found scan cur (Err e) new → Answers v (scan_segment found) old r new
-segment-refused v next found scan old cur new r e fails has p =
-    grind (arith, common_steps, err_from_is_err_and, scan-parts, bind_at, bind_err)
+pub segment-refused : (v : Step → Turn) (left : Option ℕ) (next found : Found) (scan : Scan) (old cur new : Stream)
+    (r : Result Step Error) (e : Error) → IsErrAnd r (λ y. y ≡ e) → HasRead (header_within left found) old scan cur
+    → ReadsAfter next found scan cur (Err e) new → Answers v (whole_within left found) old r new
+segment-refused v left next found scan old cur new r e fails has p =
+    grind (arith, common_steps, err_from_is_err_and, within-parts, bind_at, bind_err)
 
-pub segment-ends : (next found : Found) (scan : Scan) (met : Option Marker) (old cur new : Stream) (turn : Turn)
+pub segment-ends : (left : Option ℕ) (next found : Found) (scan : Scan) (met : Option Marker) (old cur new : Stream) (turn : Turn)
     → turn ≡ record { found = next; before = scan_before found; met = met; ended = false }
-    → HasRead (header_at found) old scan cur → ReadsAfter next found scan cur (Ok met) new
-    → HasRead (scan_segment found) old turn new
-segment-ends next found scan met old cur new turn is has p = grind (arith, common_steps, scan-parts, bind_at)
+    → HasRead (header_within left found) old scan cur → ReadsAfter next found scan cur (Ok met) new
+    → HasRead (whole_within left found) old turn new
+segment-ends left next found scan met old cur new turn is has p = grind (arith, common_steps, within-parts, bind_at)
 
 -- ---- what holds after a scan
 

@@ -1,6 +1,6 @@
 -- A stream whose header is read, and then the rest of it.
 use Rattle.std.proofs.Common.{◌≡◌, ◌+◌, ℕ, zero, suc, List, Result, Ok, Err, Bool, true, false}
-use Rattle.std.proofs.Common.{None, rules, refl, sym, subst, ap, ◌∙◌, length, arith, ◌&&◌, is_some}
+use Rattle.std.proofs.Common.{None, Option, Some, refl, sym, subst, ap, ap₂, ◌∙◌, length, arith, ◌&&◌, is_some}
 use Rattle.jpeg_bits.specs.Reading.{Fault, Outcome, ◌>>=◌}
 use Rattle.jpeg_streams.specs.declared.before.Before.TheVariants.{Elsewhere}
 use Rattle.jpeg_streams.specs.declared.beyond.Beyond.{Beyond}
@@ -9,12 +9,24 @@ use Rattle.jpeg_streams.specs.declared.settings.Settings.{Settings}
 use Rattle.jpeg_streams.specs.Found.{Found, nothing_found}
 use Rattle.jpeg_streams.specs.Reported.{IsOfTurns, told_by_turns, told_in_turns}
 use Rattle.jpeg_streams.specs.Segments.{Turn}
-use Rattle.jpeg_streams.specs.Stream.{Told, Walked, header_at, meaning, rest_at, segments_at, start_at, told_of, turn_at, walk}
+use Rattle.jpeg_streams.specs.Stream.{Told, Walked, header_at, meaning_within, rest_within, segments_at, start_at}
+use Rattle.jpeg_streams.specs.Stream.{told_of, turn_at, turn_within, walk}
+use Rattle.jpeg_streams.specs.Work.{brought_within, left_after, work_after, work_of_header, work_of_scan, work_of_turn}
+use Rattle.jpeg_streams.specs.Brought.{Brought}
+use Rattle.jpeg_streams.specs.FoundPictures.{picture_of}
+use Rattle.jpeg_streams.specs.declared.before.Before.{Before}
+use Rattle.jpeg_segments.specs.Checks.{needed}
+use Rattle.jpeg_segments.specs.Frame.{Frame}
+use Rattle.jpeg_segments.specs.ScanHeader.{Scan}
+use Rattle.jpeg_bits.specs.Marker.{next_marker}
+use Rattle.jpeg_bits.specs.declared.marker.Marker.{Marker}
+use Rattle.jpeg_bits.specs.declared.marker.Marker.TheVariants.{SOS}
+use Rattle.jpeg_decoder.proofs.Segments.MarkedTurns.{nothing-taken, nothing-within}
 use Rattle.jpeg_decoder.proofs.Segments.Headers.{turn-begins}
 use Rattle.jpeg_decoder.proofs.Segments.LeftBytes.{IsElsewhere, on-at}
 use Rattle.jpeg_decoder.proofs.Segments.TurnLoops.{whole_walk}
 use Rattle.jpeg_decoder.proofs.Segments.Turns.{told-start, turns-enough}
-use Rattle.jpeg_streams.proofs.Written.ReadTurns.{bind-ok, err-ok, ok-same, then-ok, walk-on, walk-refused, walk-stop}
+use Rattle.jpeg_streams.proofs.Written.ReadTurns.{bind-ok, err-ok, ok-same, refused_walk, then-ok, walk-on, walk-refused, walk-stop}
 use Rattle.jpeg_streams.proofs.Written.ReadTurns.{walked, walked_to}
 use Rattle.jpeg_streams.proofs.Refusals.{turns-no_start, turns-start}
 use Rattle.std.proofs.lemmas.Grind.{common_steps}
@@ -22,145 +34,198 @@ use Rattle.std.proofs.lemmas.Grind.{common_steps}
 -- ---- the turns of a header and those of its stream
 
 -- After these turns of a header, a stream goes on as its rest does; or it is refused as its header is.
-Follows : Beyond → ℕ → Walked → Result (List ℕ) Fault → (ℕ → Walked) → Type 0
-Follows beyond n next (Ok rest) whole =
-    (m : ℕ) × ((k : ℕ) → whole (m + k) ≡ walk beyond k false Elsewhere next.found None rest)
-Follows beyond n next (Err fault) whole = whole n ≡ next
+Follows : Option ℕ → Beyond → ℕ → Walked → Result (List ℕ) Fault → (ℕ → Walked) → Type 0
+Follows limit beyond n next (Ok rest) whole =
+    (m : ℕ) × ((k : ℕ) → whole (m + k) ≡ walk limit beyond k false Elsewhere next.found None rest)
+Follows limit beyond n next (Err fault) whole = whole n ≡ next
 
-follows-next : (beyond : Beyond) (n : ℕ) (next : Walked) (end : Result (List ℕ) Fault) (whole others : ℕ → Walked)
-    → ((k : ℕ) → whole (suc k) ≡ others k) → Follows beyond n next end others → Follows beyond (suc n) next end whole
+follows-next : (limit : Option ℕ) (beyond : Beyond) (n : ℕ) (next : Walked) (end : Result (List ℕ) Fault)
+    (whole others : ℕ → Walked) → ((k : ℕ) → whole (suc k) ≡ others k) → Follows limit beyond n next end others
+    → Follows limit beyond (suc n) next end whole
 unfolding Follows
-follows-next beyond n next (Ok rest) whole others e h = (
+follows-next limit beyond n next (Ok rest) whole others e h = (
   suc h.0,
   λ k. let one : suc h.0 + k ≡ suc (h.0 + k) = omega arith in ap whole one ∙ e (h.0 + k) ∙ h.1 k,
 )
-follows-next beyond n next (Err fault) whole others e h = e n ∙ h
+follows-next limit beyond n next (Err fault) whole others e h = e n ∙ h
 
-walk-begun : (beyond : Beyond) (n : ℕ) (header : Bool) (found : Found) (bytes : List ℕ) (t : Turn × List ℕ)
-    → (header && is_some found.said.frame) ≡ false → (turn_at beyond Elsewhere found None bytes).turn ≡ Ok t
-    → IsElsewhere t
-    → walk beyond (suc n) header Elsewhere found None bytes ≡ walk beyond n header Elsewhere t.0.found None t.1
-walk-begun beyond n header found bytes t none is s = search (rules, walk-on)
+-- Before a frame no scan has a header, so that nothing is taken from a limit.
+unframed-header : (o : Option Frame) (f : Frame → Result (Frame × (Scan × List ℕ)) Fault) → is_some o ≡ false
+    → elim (needed o >>= f) as (λ _. ℕ) [ Ok x ↦ work_of_scan x.0 x.1.0 | Err fault ↦ 0 ] ≡ 0
+unframed-header None f e = refl
+unframed-header (Some frame) f e = absurd (grind (arith, common_steps))
+
+unframed-after : (m : Marker) (found : Found) (bytes : List ℕ) → is_some found.said.frame ≡ false
+    → work_after m found bytes ≡ 0
+unfolding work_of_header
+unframed-after SOS found bytes e = unframed-header found.said.frame _ e
+unframed-after m found bytes e = refl
+
+unframed-work : (found : Found) (bytes : List ℕ) → is_some found.said.frame ≡ false
+    → work_of_turn found None bytes ≡ 0
+unfolding work_of_turn
+unframed-work found bytes e = go (next_marker bytes)
+  where
+    go : (o : Outcome Marker)
+        → elim o as (λ _. ℕ) [ Ok m ↦ work_after m.0 found m.1 | Err fault ↦ 0 ] ≡ 0
+    go (Ok m) = unframed-after m.0 found m.1 e
+    go (Err fault) = refl
+
+-- so a turn is as without one
+unframed-turn : (limit : Option ℕ) (beyond : Beyond) (found : Found) (bytes : List ℕ)
+    → is_some found.said.frame ≡ false
+    → turn_within limit beyond Elsewhere found None bytes ≡ turn_at beyond Elsewhere found None bytes
+unframed-turn limit beyond found bytes e =
+    ap (λ (n : ℕ). brought_within limit n found (turn_at beyond Elsewhere found None bytes)) (unframed-work found bytes e)
+    ∙ nothing-within limit found _
+
+header-unread : (header : Bool) (o : Option Frame) → is_some o ≡ false → (header && is_some o) ≡ false
+header-unread header o e = grind (arith, common_steps)
+
+begun-refused : (limit : Option ℕ) (beyond : Beyond) (n : ℕ) (found : Found) (bytes : List ℕ) (fault : Fault)
+    → is_some found.said.frame ≡ false → (turn_at beyond Elsewhere found None bytes).turn ≡ Err fault
+    → walk limit beyond (suc n) false Elsewhere found None bytes
+    ≡ refused_walk (turn_at beyond Elsewhere found None bytes) fault
+begun-refused limit beyond n found bytes fault none e =
+    let same = unframed-turn limit beyond found bytes none in
+    walk-refused limit beyond n false Elsewhere found None bytes fault refl (ap (λ (b : Brought). b.turn) same ∙ e)
+    ∙ ap (λ (b : Brought). refused_walk b fault) same
+
+walk-begun : (limit : Option ℕ) (beyond : Beyond) (n : ℕ) (header : Bool) (found : Found) (bytes : List ℕ)
+    (t : Turn × List ℕ) → is_some found.said.frame ≡ false
+    → (turn_at beyond Elsewhere found None bytes).turn ≡ Ok t → IsElsewhere t
+    → walk limit beyond (suc n) header Elsewhere found None bytes
+    ≡ walk limit beyond n header Elsewhere t.0.found None t.1
+walk-begun limit beyond n header found bytes t none is s =
+    walk-on limit beyond n header Elsewhere found None bytes t.1 t.0 (header-unread header found.said.frame none)
+    (ap (λ (b : Brought). b.turn) (unframed-turn limit beyond found bytes none) ∙ is) s.0
+    ∙ ap (λ (l : Option ℕ). walk l beyond n header t.0.before t.0.found t.0.met t.1)
+    (ap (left_after limit) (unframed-work found bytes none) ∙ nothing-taken limit)
+    ∙ ap₂ (λ (b : Before) (m : Option Marker). walk limit beyond n header b t.0.found m t.1) s.1.0 s.1.1
 
 -- the header's walk, and its stream's
-FollowsAt : Beyond → ℕ → Found → List ℕ → Type 0
-FollowsAt beyond n found bytes =
-    let w = walk beyond n true Elsewhere found None bytes in
-    Follows beyond n w w.rest (λ k. walk beyond k false Elsewhere found None bytes)
+FollowsAt : Option ℕ → Beyond → ℕ → Found → List ℕ → Type 0
+FollowsAt limit beyond n found bytes =
+    let w = walk None beyond n true Elsewhere found None bytes in
+    Follows limit beyond n w w.rest (λ k. walk limit beyond k false Elsewhere found None bytes)
 
-follows-turn : (beyond : Beyond) (n : ℕ) (found : Found) (bytes : List ℕ)
-    → ((t : Turn × List ℕ) → FollowsAt beyond n t.0.found t.1) → FollowsAt beyond (suc n) found bytes
+follows-turn : (limit : Option ℕ) (beyond : Beyond) (n : ℕ) (found : Found) (bytes : List ℕ)
+    → ((t : Turn × List ℕ) → FollowsAt limit beyond n t.0.found t.1) → FollowsAt limit beyond (suc n) found bytes
 unfolding Follows FollowsAt
-follows-turn beyond n found bytes others =
+follows-turn limit beyond n found bytes others =
     go (is_some found.said.frame) refl (turn_at beyond Elsewhere found None bytes).turn refl
   where
     whole : ℕ → Walked
-    whole k = walk beyond k false Elsewhere found None bytes
+    whole k = walk limit beyond k false Elsewhere found None bytes
 
-    at : (w : Walked) → walk beyond (suc n) true Elsewhere found None bytes ≡ w
-        → Follows beyond (suc n) w w.rest whole → FollowsAt beyond (suc n) found bytes
-    at w e h = subst (λ (v : Walked). Follows beyond (suc n) v v.rest whole) (sym e) h
+    at : (w : Walked) → walk None beyond (suc n) true Elsewhere found None bytes ≡ w
+        → Follows limit beyond (suc n) w w.rest whole → FollowsAt limit beyond (suc n) found bytes
+    at w e h = subst (λ (v : Walked). Follows limit beyond (suc n) v v.rest whole) (sym e) h
 
     go : (b : Bool) → is_some found.said.frame ≡ b → (r : Outcome Turn)
-        → (turn_at beyond Elsewhere found None bytes).turn ≡ r → FollowsAt beyond (suc n) found bytes
+        → (turn_at beyond Elsewhere found None bytes).turn ≡ r → FollowsAt limit beyond (suc n) found bytes
     go true e r q = at (walked found (Ok bytes))
-        (walk-stop beyond (suc n) true Elsewhere found None bytes (omega arith) e)
+        (walk-stop None beyond (suc n) true Elsewhere found None bytes (omega arith) e)
         (0, λ k. let none : 0 + k ≡ k = omega arith in ap whole none)
     go false e (Err fault) q =
-        at _ (walk-refused beyond n true Elsewhere found None bytes fault e q)
-        (walk-refused beyond n false Elsewhere found None bytes fault refl q)
+        at _ (walk-refused None beyond n true Elsewhere found None bytes fault e q)
+        (begun-refused limit beyond n found bytes fault e q)
     go false e (Ok t) q =
         let s = on-at IsElsewhere _ t (turn-begins beyond found bytes e) q in
-        at _ (walk-begun beyond n true found bytes t e q s)
-        (follows-next beyond n _ _ whole _ (λ k. walk-begun beyond k false found bytes t refl q s) (others t))
+        at _ (walk-begun None beyond n true found bytes t e q s)
+        (follows-next limit beyond n _ _ whole _ (λ k. walk-begun limit beyond k false found bytes t e q s) (others t))
 
-follows : (beyond : Beyond) (n : ℕ) (found : Found) (bytes : List ℕ) → FollowsAt beyond n found bytes
+follows : (limit : Option ℕ) (beyond : Beyond) (n : ℕ) (found : Found) (bytes : List ℕ)
+    → FollowsAt limit beyond n found bytes
 unfolding FollowsAt Follows walk
-follows beyond zero found bytes = refl
-follows beyond (suc n) found bytes = follows-turn beyond n found bytes (λ t. follows beyond n t.0.found t.1)
+follows limit beyond zero found bytes = refl
+follows limit beyond (suc n) found bytes =
+    follows-turn limit beyond n found bytes (λ t. follows limit beyond n t.0.found t.1)
 
 -- ---- where the header is read
 
-past : (beyond : Beyond) (n : ℕ) (w : Walked) (end : Result (List ℕ) Fault) (whole : ℕ → Walked) (rest : List ℕ)
-    → end ≡ Ok rest → Follows beyond n w end whole
-    → (m : ℕ) × ((k : ℕ) → whole (m + k) ≡ walk beyond k false Elsewhere w.found None rest)
+past : (limit : Option ℕ) (beyond : Beyond) (n : ℕ) (w : Walked) (end : Result (List ℕ) Fault) (whole : ℕ → Walked)
+    (rest : List ℕ) → end ≡ Ok rest → Follows limit beyond n w end whole
+    → (m : ℕ) × ((k : ℕ) → whole (m + k) ≡ walk limit beyond k false Elsewhere w.found None rest)
 unfolding Follows
-past beyond n w (Ok left) whole rest e h = (
+past limit beyond n w (Ok left) whole rest e h = (
   h.0,
-  λ k. h.1 k ∙ ap (λ (l : List ℕ). walk beyond k false Elsewhere w.found None l) (ok-same left rest e),
+  λ k. h.1 k ∙ ap (λ (l : List ℕ). walk limit beyond k false Elsewhere w.found None l) (ok-same left rest e),
 )
-past beyond n w (Err fault) whole rest e h = absurd (err-ok fault rest e)
+past limit beyond n w (Err fault) whole rest e h = absurd (err-ok fault rest e)
 
 -- A header was read, and the turns of the stream after its start go on as those of the rest.
-pub record GoesOn (found : Found) (bytes rest : List ℕ) : Type 0 where
+pub record GoesOn (limit : Option ℕ) (found : Found) (bytes rest : List ℕ) : Type 0 where
   pub start : List ℕ
   pub starts : start_at bytes ≡ Ok (tt, start)
   pub turns : ℕ
-  pub after : (k : ℕ) → walk Zeros (turns + k) false Elsewhere nothing_found None start
-      ≡ walk Zeros k false Elsewhere found None rest
-  pub whole : whole_walk Zeros false nothing_found start ≡ whole_walk Zeros false found rest
+  pub after : (k : ℕ) → walk limit Zeros (turns + k) false Elsewhere nothing_found None start
+      ≡ walk limit Zeros k false Elsewhere found None rest
+  pub whole : whole_walk limit Zeros false nothing_found start ≡ whole_walk limit Zeros false found rest
 
-goes-on : (found : Found) (bytes rest : List ℕ) → header_at bytes ≡ Ok (found, rest) → GoesOn found bytes rest
+goes-on : (limit : Option ℕ) (found : Found) (bytes rest : List ℕ) → header_at bytes ≡ Ok (found, rest)
+    → GoesOn limit found bytes rest
 unfolding header_at segments_at FollowsAt
-goes-on found bytes rest e =
+goes-on limit found bytes rest e =
     let s = bind-ok (start_at bytes) _ (found, rest) e in
     let start = s.0.1 in
-    let w = whole_walk Zeros true nothing_found start in
+    let w = whole_walk None Zeros true nothing_found start in
     let h = bind-ok w.rest _ (found, rest) s.2 in
     let same = ok-same (w.found, h.0) (found, rest) h.2 in
-    let p = past Zeros _ w w.rest _ h.0 h.1 (follows Zeros (suc (length start)) nothing_found start) in
-    let after = λ (k : ℕ). p.1 k ∙ ap (λ (x : Found × List ℕ). walk Zeros k false Elsewhere x.0 None x.1) same in
+    let p = past limit Zeros _ w w.rest _ h.0 h.1 (follows limit Zeros (suc (length start)) nothing_found start) in
+    let after = λ (k : ℕ). p.1 k ∙ ap (λ (x : Found × List ℕ). walk limit Zeros k false Elsewhere x.0 None x.1) same in
     let enough = suc (length start + length rest) in
     record {
       start = start;
       starts = s.1;
       turns = p.0;
       after = after;
-      whole = turns-enough Zeros (suc (length start)) (p.0 + enough) false Elsewhere nothing_found None start
+      whole = turns-enough limit Zeros (suc (length start)) (p.0 + enough) false Elsewhere nothing_found None start
           (omega arith) (omega arith) ∙ after enough
-          ∙ turns-enough Zeros enough (suc (length rest)) false Elsewhere found None rest (omega arith) (omega arith);
+          ∙ turns-enough limit Zeros enough (suc (length rest)) false Elsewhere found None rest (omega arith) (omega arith);
     }
 
 -- a stream whose header was read means what its rest means
-pub header-means : (settings : Settings) (found : Found) (bytes rest : List ℕ) → header_at bytes ≡ Ok (found, rest)
-    → meaning settings bytes ≡ rest_at settings found rest
-unfolding meaning rest_at segments_at
-header-means settings found bytes rest e =
-    let g = goes-on found bytes rest e in
+pub header-means : (limit : Option ℕ) (settings : Settings) (found : Found) (bytes rest : List ℕ)
+    → header_at bytes ≡ Ok (found, rest)
+    → meaning_within limit settings bytes ≡ rest_within limit settings found rest
+unfolding meaning_within rest_within segments_at
+header-means limit settings found bytes rest e =
+    let g = goes-on limit found bytes rest e in
     then-ok (start_at bytes) _ (tt, g.start) _ g.starts (rw g.whole refl)
 
 -- and its rest tells what it does
-pub header-told : (found : Found) (bytes rest : List ℕ) → header_at bytes ≡ Ok (found, rest)
-    → told_by_turns (suc (length bytes)) false bytes ≡ told_in_turns (suc (length rest)) false found rest
-header-told found bytes rest e =
-    let g = goes-on found bytes rest e in
-    told-start false bytes g.start g.starts ∙ ap (λ (w : Walked). told_of w.found.said) g.whole
+pub header-told : (limit : Option ℕ) (found : Found) (bytes rest : List ℕ) → header_at bytes ≡ Ok (found, rest)
+    → told_by_turns limit (suc (length bytes)) false bytes ≡ told_in_turns limit (suc (length rest)) false found rest
+header-told limit found bytes rest e =
+    let g = goes-on limit found bytes rest e in
+    told-start limit false bytes g.start g.starts ∙ ap (λ (w : Walked). told_of w.found.said) g.whole
 
-pub header-turns : (found : Found) (bytes rest : List ℕ) (told : Told) → header_at bytes ≡ Ok (found, rest)
-    → IsOfTurns (λ n. told_in_turns n false found rest) told
-    → IsOfTurns (λ n. told_by_turns n false bytes) told
+pub header-turns : (limit : Option ℕ) (found : Found) (bytes rest : List ℕ) (told : Told)
+    → header_at bytes ≡ Ok (found, rest) → IsOfTurns (λ n. told_in_turns limit n false found rest) told
+    → IsOfTurns (λ n. told_by_turns limit n false bytes) told
 unfolding IsOfTurns
-header-turns found bytes rest told e of =
-    let g = goes-on found bytes rest e in (
+header-turns limit found bytes rest told e of =
+    let g = goes-on limit found bytes rest e in (
       g.turns + of.0,
-      of.1 ∙ sym (turns-start (g.turns + of.0) false bytes g.start g.starts
+      of.1 ∙ sym (turns-start limit (g.turns + of.0) false bytes g.start g.starts
           ∙ ap (λ (w : Walked). told_of w.found.said) (g.after of.0)),
     )
 
 -- ---- where the header is refused
 
 -- no frame was read: it is walked as the stream is
-segments-lack : (beyond : Beyond) (found : Found) (bytes : List ℕ) (fault : Fault)
-    → (whole_walk beyond true found bytes).rest ≡ Err fault
-    → whole_walk beyond false found bytes ≡ whole_walk beyond true found bytes
+segments-lack : (limit : Option ℕ) (beyond : Beyond) (found : Found) (bytes : List ℕ) (fault : Fault)
+    → (whole_walk None beyond true found bytes).rest ≡ Err fault
+    → whole_walk limit beyond false found bytes ≡ whole_walk None beyond true found bytes
 unfolding FollowsAt Follows
-segments-lack beyond found bytes fault e =
-    go (whole_walk beyond true found bytes).rest e (follows beyond (suc (length bytes)) found bytes)
+segments-lack limit beyond found bytes fault e =
+    go (whole_walk None beyond true found bytes).rest e (follows limit beyond (suc (length bytes)) found bytes)
   where
     go : (end : Result (List ℕ) Fault) → end ≡ Err fault
-        → Follows beyond (suc (length bytes)) (whole_walk beyond true found bytes) end
-        (λ k. walk beyond k false Elsewhere found None bytes)
-        → whole_walk beyond false found bytes ≡ whole_walk beyond true found bytes
+        → Follows limit beyond (suc (length bytes)) (whole_walk None beyond true found bytes) end
+        (λ k. walk limit beyond k false Elsewhere found None bytes)
+        → whole_walk limit beyond false found bytes ≡ whole_walk None beyond true found bytes
     go (Ok rest) e h = absurd (err-ok fault rest (sym e))
     go (Err other) e h = h
 
@@ -174,49 +239,70 @@ walked-lacks (Ok rest) found fault e = absurd (err-ok fault (found, rest) (sym e
 walked-lacks (Err other) found fault e = grind arith
 
 -- no frame was read: the header is walked as the stream is
-header-walked : (bytes : List ℕ) (fault : Fault) → segments_at true Elsewhere nothing_found None bytes ≡ Err fault
-    → whole_walk Zeros false nothing_found bytes ≡ whole_walk Zeros true nothing_found bytes
+header-walked : (limit : Option ℕ) (bytes : List ℕ) (fault : Fault)
+    → segments_at None true Elsewhere nothing_found None bytes ≡ Err fault
+    → whole_walk limit Zeros false nothing_found bytes ≡ whole_walk None Zeros true nothing_found bytes
 unfolding segments_at
-header-walked bytes fault e =
-    segments-lack Zeros nothing_found bytes fault (walked-lacks (whole_walk Zeros true nothing_found bytes).rest _ fault e)
+header-walked limit bytes fault e =
+    segments-lack limit Zeros nothing_found bytes fault
+    (walked-lacks (whole_walk None Zeros true nothing_found bytes).rest _ fault e)
 
-stream-lacks : (bytes : List ℕ) (fault : Fault) → segments_at true Elsewhere nothing_found None bytes ≡ Err fault
-    → segments_at false Elsewhere nothing_found None bytes ≡ Err fault
+stream-lacks : (limit : Option ℕ) (bytes : List ℕ) (fault : Fault)
+    → segments_at None true Elsewhere nothing_found None bytes ≡ Err fault
+    → segments_at limit false Elsewhere nothing_found None bytes ≡ Err fault
 unfolding segments_at
-stream-lacks bytes fault e = ap walked_to (header-walked bytes fault e) ∙ e
+stream-lacks limit bytes fault e = ap walked_to (header-walked limit bytes fault e) ∙ e
 
 -- a fault of the header is that of the stream
-pub header-lacks : (settings : Settings) (bytes : List ℕ) (fault : Fault) → header_at bytes ≡ Err fault
-    → meaning settings bytes ≡ Err fault
-unfolding header_at meaning rest_at
-header-lacks settings bytes fault e = grind (arith, common_steps, bind-err, stream-lacks)
+pub header-lacks : (limit : Option ℕ) (settings : Settings) (bytes : List ℕ) (fault : Fault)
+    → header_at bytes ≡ Err fault → meaning_within limit settings bytes ≡ Err fault
+unfolding header_at meaning_within rest_within
+header-lacks limit settings bytes fault e = go (start_at bytes) e
+  where
+    go : (r : Outcome (Unit {0}))
+        → r >>= (λ (start : Unit {0} × List ℕ). segments_at None true Elsewhere nothing_found None start.1) ≡ Err fault
+        → r >>= (λ (start : Unit {0} × List ℕ). rest_within limit settings nothing_found start.1) ≡ Err fault
+    go (Ok start) q =
+        ap (λ (o : Outcome Found). o >>= (λ (all : Found × List ℕ). picture_of settings all.0
+        >>= (λ (picture : List ℕ). Ok ((told_of all.0.said, picture), all.1)))) (stream-lacks limit start.1 fault q)
+    go (Err other) q = grind arith
 
-pub header-told_lacking : (bytes : List ℕ) (fault : Fault) → header_at bytes ≡ Err fault
-    → told_by_turns (suc (length bytes)) true bytes ≡ told_by_turns (suc (length bytes)) false bytes
+pub header-told_lacking : (limit : Option ℕ) (bytes : List ℕ) (fault : Fault) → header_at bytes ≡ Err fault
+    → told_by_turns None (suc (length bytes)) true bytes ≡ told_by_turns limit (suc (length bytes)) false bytes
 unfolding header_at
-header-told_lacking bytes fault e =
-    grind (arith, common_steps, bind-err, turns-no_start, told-start, header-walked)
+header-told_lacking limit bytes fault e = go (start_at bytes) refl e
+  where
+    go : (r : Outcome (Unit {0})) → start_at bytes ≡ r
+        → r >>= (λ (start : Unit {0} × List ℕ). segments_at None true Elsewhere nothing_found None start.1) ≡ Err fault
+        → told_by_turns None (suc (length bytes)) true bytes ≡ told_by_turns limit (suc (length bytes)) false bytes
+    go (Ok start) s q =
+        told-start None true bytes start.1 s
+        ∙ ap (λ (w : Walked). told_of w.found.said) (sym (header-walked limit start.1 fault q))
+        ∙ sym (told-start limit false bytes start.1 s)
+    go (Err other) s q =
+        turns-no_start None (suc (length bytes)) true bytes other s
+        ∙ sym (turns-no_start limit (suc (length bytes)) false bytes other s)
 
-said-by : (beyond : Beyond) (n : ℕ) (w : Walked) (end : Result (List ℕ) Fault) (whole : ℕ → Walked)
-    → Follows beyond n w end whole → (m : ℕ) × (w.found ≡ (whole m).found)
+said-by : (limit : Option ℕ) (beyond : Beyond) (n : ℕ) (w : Walked) (end : Result (List ℕ) Fault) (whole : ℕ → Walked)
+    → Follows limit beyond n w end whole → (m : ℕ) × (w.found ≡ (whole m).found)
 unfolding Follows walk
-said-by beyond n w (Ok rest) whole h = (h.0 + 0, ap (λ (w : Walked). w.found) (sym (h.1 0)))
-said-by beyond n w (Err fault) whole h = (n, ap (λ (w : Walked). w.found) (sym h))
+said-by limit beyond n w (Ok rest) whole h = (h.0 + 0, ap (λ (w : Walked). w.found) (sym (h.1 0)))
+said-by limit beyond n w (Err fault) whole h = (n, ap (λ (w : Walked). w.found) (sym h))
 
 -- The turns of a header, which end before the first scan, are turns of the stream.
-pub header-turns_lacking : (bytes : List ℕ) (told : Told) → IsOfTurns (λ n. told_by_turns n true bytes) told
-    → IsOfTurns (λ n. told_by_turns n false bytes) told
+pub header-turns_lacking : (limit : Option ℕ) (bytes : List ℕ) (told : Told)
+    → IsOfTurns (λ n. told_by_turns None n true bytes) told → IsOfTurns (λ n. told_by_turns limit n false bytes) told
 unfolding IsOfTurns FollowsAt
-header-turns_lacking bytes told of = go (start_at bytes) refl
+header-turns_lacking limit bytes told of = go (start_at bytes) refl
   where
-    go : (r : Outcome (Unit {0})) → start_at bytes ≡ r → (n : ℕ) × (told ≡ told_by_turns n false bytes)
+    go : (r : Outcome (Unit {0})) → start_at bytes ≡ r → (n : ℕ) × (told ≡ told_by_turns limit n false bytes)
     go (Err fault) q = (
       of.0,
-      of.1 ∙ turns-no_start of.0 true bytes fault q ∙ sym (turns-no_start of.0 false bytes fault q),
+      of.1 ∙ turns-no_start None of.0 true bytes fault q ∙ sym (turns-no_start limit of.0 false bytes fault q),
     )
     go (Ok start) q =
-        let s = said-by _ _ _ _ _ (follows Zeros of.0 nothing_found start.1) in (
+        let s = said-by limit _ _ _ _ _ (follows limit Zeros of.0 nothing_found start.1) in (
           s.0,
-          of.1 ∙ turns-start of.0 true bytes start.1 q ∙ ap (λ (f : Found). told_of f.said) s.1
-              ∙ sym (turns-start s.0 false bytes start.1 q),
+          of.1 ∙ turns-start None of.0 true bytes start.1 q ∙ ap (λ (f : Found). told_of f.said) s.1
+              ∙ sym (turns-start limit s.0 false bytes start.1 q),
         )

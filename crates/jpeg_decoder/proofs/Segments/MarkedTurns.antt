@@ -1,5 +1,7 @@
 -- A turn is read: the marker that begins it, and what stands after it.
-use Rattle.std.proofs.Common.{◌≡◌, ℕ, true, Option, List, Result, Ok, Err, refl, ap, sym, ◌∙◌, arith}
+use Rattle.std.proofs.Common.{rules, ◌≡◌, ◌-◌, ℕ, true, false, Option, Some, None, List, Result, Ok, Err, refl, ap, ap₂}
+use Rattle.std.proofs.Common.{sym, ◌∙◌, arith}
+use Rattle.std.specs.Prelude.{OnOk}
 use Rattle.jpeg_bits.specs.Marker.{found_or, next_marker}
 use Rattle.jpeg_bits.specs.Reading.{Answers, Fault, Outcome}
 use Rattle.jpeg_bits.specs.Stream.{Stream}
@@ -7,20 +9,34 @@ use Rattle.jpeg_bits.specs.declared.error.Error.{Error}
 use Rattle.jpeg_bits.specs.declared.marker.Marker.{Marker}
 use Rattle.jpeg_bits.specs.declared.marker.Marker.TheVariants.{SOS}
 use Rattle.jpeg_bits.proofs.Loops.{Continues, Continues-err}
-use Rattle.jpeg_streams.specs.Brought.{Brought, scan_brought, unbrought}
+use Rattle.jpeg_streams.specs.Brought.{Brought, unbrought}
 use Rattle.jpeg_streams.specs.Found.{Found}
-use Rattle.jpeg_streams.specs.ScanSegments.{scan_segment}
 use Rattle.jpeg_streams.specs.Segments.{Turn}
 use Rattle.jpeg_streams.specs.States.{IfRefused, OnToldRefusal}
-use Rattle.jpeg_streams.specs.Stream.{brought_after, scan_turn_at, segment_at, turn_at}
+use Rattle.jpeg_streams.specs.Stream.{brought_after, scan_within, segment_at, turn_at, turn_within}
+use Rattle.jpeg_streams.specs.Work.{brought_within, is_above, left_after, work_after, work_of_turn}
 use Rattle.jpeg_streams.specs.declared.before.Before.{Before}
 use Rattle.jpeg_streams.specs.declared.beyond.Beyond.{Beyond}
-use Rattle.jpeg_streams.specs.declared.beyond.Beyond.TheVariants.{Nothing, Zeros}
 use Rattle.jpeg_streams.proofs.Refusals.{told-err}
 use Rattle.jpeg_decoder.specs.Reaching.{UnlessRefused}
 use Rattle.jpeg_decoder.proofs.Partial.Refused.{if-refused-as, unless-so}
 
 -- ---- what stands after a marker
+
+pub none-above : (left : Option ℕ) → is_above left 0 ≡ false
+none-above left = search (rules, arith)
+
+-- no blocks are within any limit
+pub nothing-within : (left : Option ℕ) (found : Found) (b : Brought) → brought_within left 0 found b ≡ b
+nothing-within left found b = rw (none-above left) refl
+
+pub nothing-taken : (left : Option ℕ) → left_after left 0 ≡ left
+nothing-taken None = refl
+nothing-taken (Some n) = let e : n - 0 ≡ n = omega arith in ap Some e
+
+pub work-other : (m : Marker) (found : Found) (bytes : List ℕ) → (m ≡ SOS → ⊥) → work_after m found bytes ≡ 0
+work-other SOS found bytes other = absurd (other refl)
+work-other m found bytes other = refl
 
 segment-other : (beyond : Beyond) (m : Marker) (before : Before) (found : Found) (bytes : List ℕ) → (m ≡ SOS → ⊥)
     → brought_after beyond m before found bytes ≡ unbrought found (segment_at m before found bytes)
@@ -28,51 +44,55 @@ unfolding brought_after
 segment-other beyond SOS before found bytes other = absurd (other refl)
 segment-other beyond m before found bytes other = refl
 
-segment-scan : (beyond : Beyond) (m : Marker) (before : Before) (found : Found) (bytes : List ℕ) → m ≡ SOS
-    → brought_after beyond m before found bytes ≡ scan_turn_at beyond found bytes
-unfolding brought_after
-segment-scan beyond m before found bytes e = ap (λ (m : Marker). brought_after beyond m before found bytes) e
+-- what stands after a marker, within a limit
+abbrev after_within : Option ℕ → Beyond → Marker → Before → Found → List ℕ → Brought
+after_within left beyond m before found bytes =
+    brought_within left (work_after m found bytes) found (brought_after beyond m before found bytes)
 
-turn-marked : (beyond : Beyond) (before : Before) (found : Found) (met : Option Marker) (bytes rest : List ℕ)
-    (m : Marker) → found_or met bytes (next_marker bytes) ≡ Ok (m, rest)
-    → turn_at beyond before found met bytes ≡ brought_after beyond m before found rest
-unfolding turn_at
-turn-marked beyond before found met bytes rest m e = rw (e, turn_at) refl
+pub work-marked : (found : Found) (met : Option Marker) (bytes rest : List ℕ) (m : Marker)
+    → found_or met bytes (next_marker bytes) ≡ Ok (m, rest)
+    → work_of_turn found met bytes ≡ work_after m found rest
+unfolding work_of_turn
+work-marked found met bytes rest m e = rw (e, work_of_turn) refl
 
-turn-unmarked : (beyond : Beyond) (before : Before) (found : Found) (met : Option Marker) (bytes : List ℕ)
-    (fault : Fault) → found_or met bytes (next_marker bytes) ≡ Err fault
-    → turn_at beyond before found met bytes ≡ unbrought found (Err fault)
-unfolding turn_at
-turn-unmarked beyond before found met bytes fault e = rw (e, turn_at) refl
+turn-marked : (left : Option ℕ) (beyond : Beyond) (before : Before) (found : Found) (met : Option Marker)
+    (bytes rest : List ℕ) (m : Marker) → found_or met bytes (next_marker bytes) ≡ Ok (m, rest)
+    → turn_within left beyond before found met bytes ≡ after_within left beyond m before found rest
+unfolding turn_at work_of_turn
+turn-marked left beyond before found met bytes rest m e = rw (e, turn_at, work_of_turn) refl
+
+turn-unmarked : (left : Option ℕ) (beyond : Beyond) (before : Before) (found : Found) (met : Option Marker)
+    (bytes : List ℕ) (fault : Fault) → found_or met bytes (next_marker bytes) ≡ Err fault
+    → turn_within left beyond before found met bytes ≡ unbrought found (Err fault)
+unfolding turn_at work_of_turn
+turn-unmarked left beyond before found met bytes fault e = rw (e, turn_at, work_of_turn) (nothing-within left found _)
 
 -- A turn that begins with this marker is what stands after it.
-abbrev Begins : Beyond → Before → Found → Option Marker → Stream → Marker → (List ℕ → Brought) → Type 0
-Begins beyond before found met old m after =
+abbrev Begins : Option ℕ → Beyond → Before → Found → Option Marker → Stream → Marker → (List ℕ → Brought) → Type 0
+Begins left beyond before found met old m after =
     (rest : List ℕ) → found_or met old.bytes (next_marker old.bytes) ≡ Ok (m, rest)
-    → turn_at beyond before found met old.bytes ≡ after rest
+    → turn_within left beyond before found met old.bytes ≡ after rest
 
-turn-scan : (beyond : Beyond) (before : Before) (found : Found) (met : Option Marker) (old : Stream) (m : Marker)
-    → m ≡ SOS → Begins beyond before found met old m (scan_turn_at beyond found)
-turn-scan beyond before found met old m is rest e =
-    turn-marked beyond before found met old.bytes rest m e ∙ segment-scan beyond m before found rest is
+pub turn-scan : (left : Option ℕ) (beyond : Beyond) (before : Before) (found : Found) (met : Option Marker)
+    (old : Stream) (m : Marker) → m ≡ SOS → Begins left beyond before found met old m (scan_within left beyond found)
+unfolding brought_after
+turn-scan left beyond before found met old m is rest e =
+    turn-marked left beyond before found met old.bytes rest m e
+    ∙ ap (λ (m : Marker). after_within left beyond m before found rest) is
 
--- where nothing follows the marker after its data
-pub reached-scan : (before : Before) (found : Found) (met : Option Marker) (old : Stream) (m : Marker) → m ≡ SOS
-    → Begins Nothing before found met old m (scan_brought found)
-unfolding scan_turn_at
-reached-scan before found met old m is rest e = turn-scan Nothing before found met old m is rest e
+pub turn-segment : (left : Option ℕ) (beyond : Beyond) (before : Before) (found : Found) (met : Option Marker)
+    (old : Stream) (m : Marker) → (m ≡ SOS → ⊥)
+    → Begins left beyond before found met old m (λ (bytes : List ℕ). unbrought found (segment_at m before found bytes))
+turn-segment left beyond before found met old m other rest e =
+    turn-marked left beyond before found met old.bytes rest m e
+    ∙ ap₂ (λ (n : ℕ) (b : Brought). brought_within left n found b) (work-other m found rest other)
+    (segment-other beyond m before found rest other)
+    ∙ nothing-within left found _
 
--- where zeros do
-pub whole-scan : (before : Before) (found : Found) (met : Option Marker) (old : Stream) (m : Marker) → m ≡ SOS
-    → Begins Zeros before found met old m (λ (bytes : List ℕ). unbrought found (scan_segment found bytes))
-unfolding scan_turn_at
-whole-scan before found met old m is rest e = turn-scan Zeros before found met old m is rest e
-
-pub turn-segment : (beyond : Beyond) (before : Before) (found : Found) (met : Option Marker) (old : Stream) (m : Marker)
-    → (m ≡ SOS → ⊥)
-    → Begins beyond before found met old m (λ (bytes : List ℕ). unbrought found (segment_at m before found bytes))
-turn-segment beyond before found met old m other rest e =
-    turn-marked beyond before found met old.bytes rest m e ∙ segment-other beyond m before found rest other
+-- what holds holds of an Ok, too
+pub always : {X E P : Type 0} (r : Result X E) → P → OnOk r P
+always (Ok x) p = p
+always (Err e) p = tt
 
 -- ---- the marker that begins a turn is read, and what stands after it
 
@@ -86,53 +106,53 @@ refusal-after : {X : Type 0} (old mid new : Stream) (r : Result X Error) (P Q : 
 refusal-after old mid new (Ok x) P Q f h = tt
 refusal-after old mid new (Err e) P Q f h = λ k known. if-refused-as e (f k).1 (h (f k).0 known)
 
-pub marked-answers : {X : Type 0} (view : X → Turn) (beyond : Beyond) (before : Before) (found : Found)
+pub marked-answers : {X : Type 0} (view : X → Turn) (limit : Option ℕ) (beyond : Beyond) (before : Before) (found : Found)
     (met : Option Marker) (old mid new : Stream) (m : Marker) (after : List ℕ → Brought) (r : Result X Error)
-    → Begins beyond before found met old m after
+    → Begins limit beyond before found met old m after
     → Answers (λ (m : Marker). m) (λ bytes. found_or met bytes (next_marker bytes)) old (Ok m) mid
     → Answers view (λ bytes. (after bytes).turn) mid r new
-    → Answers view (λ bytes. (turn_at beyond before found met bytes).turn) old r new
-marked-answers view beyond before found met old mid new m after r begins a h =
-    answers-after view (λ bytes. (turn_at beyond before found met bytes).turn) (λ bytes. (after bytes).turn)
+    → Answers view (λ bytes. (turn_within limit beyond before found met bytes).turn) old r new
+marked-answers view limit beyond before found met old mid new m after r begins a h =
+    answers-after view (λ bytes. (turn_within limit beyond before found met bytes).turn) (λ bytes. (after bytes).turn)
     old mid new r (a.0, λ k. ((a.1 k).0, ap (λ (b : Brought). b.turn) (begins mid.bytes (a.1 k).1))) h
 
-pub marked-reads : {X : Type 0} (view : X → Turn) (beyond : Beyond) (before : Before) (found : Found)
+pub marked-reads : {X : Type 0} (view : X → Turn) (limit : Option ℕ) (beyond : Beyond) (before : Before) (found : Found)
     (met : Option Marker) (old mid new : Stream) (m : Marker) (after : List ℕ → Brought) (r : Result X Error)
-    → Begins beyond before found met old m after
+    → Begins limit beyond before found met old m after
     → Answers (λ (m : Marker). m) (λ bytes. found_or met bytes (next_marker bytes)) old (Ok m) mid
     → UnlessRefused r (Answers view (λ bytes. (after bytes).turn) mid r new)
-    → UnlessRefused r (Answers view (λ bytes. (turn_at beyond before found met bytes).turn) old r new)
-marked-reads view beyond before found met old mid new m after r begins a h =
-    unless-so r _ _ (marked-answers view beyond before found met old mid new m after r begins a) h
+    → UnlessRefused r (Answers view (λ bytes. (turn_within limit beyond before found met bytes).turn) old r new)
+marked-reads view limit beyond before found met old mid new m after r begins a h =
+    unless-so r _ _ (marked-answers view limit beyond before found met old mid new m after r begins a) h
 
 -- what a refusal of what stands after it leaves, of what the turn brings
-pub marked-brought : {X V : Type 0} (view : Brought → V) (left : V) (beyond : Beyond) (before : Before) (found : Found)
+pub marked-brought : {X V : Type 0} (view : Brought → V) (left : V) (limit : Option ℕ) (beyond : Beyond) (before : Before) (found : Found)
     (met : Option Marker) (old mid new : Stream) (m : Marker) (after : List ℕ → Brought) (r : Result X Error) (P : Type 0)
-    → Begins beyond before found met old m after
+    → Begins limit beyond before found met old m after
     → Answers (λ (m : Marker). m) (λ bytes. found_or met bytes (next_marker bytes)) old (Ok m) mid
     → (P → left ≡ view (after mid.bytes)) → OnToldRefusal mid new r P
-    → OnToldRefusal old new r (left ≡ view (turn_at beyond before found met old.bytes))
-marked-brought view left beyond before found met old mid new m after r P begins a f h =
+    → OnToldRefusal old new r (left ≡ view (turn_within limit beyond before found met old.bytes))
+marked-brought view left limit beyond before found met old mid new m after r P begins a f h =
     refusal-after old mid new r P _
     (λ k. let read = a.1 k in (read.0, λ p. f p ∙ ap view (sym (begins mid.bytes read.1)))) h
 
 -- ---- no marker begins a turn
 
-pub unmarked-reads : {X : Type 0} (view : X → Turn) (beyond : Beyond) (before : Before) (found : Found)
+pub unmarked-reads : {X : Type 0} (view : X → Turn) (limit : Option ℕ) (beyond : Beyond) (before : Before) (found : Found)
     (met : Option Marker) (old new : Stream) (e : Error)
     → Answers (λ (m : Marker). m) (λ bytes. found_or met bytes (next_marker bytes)) old (Err e) new
-    → Answers view (λ bytes. (turn_at beyond before found met bytes).turn) old (Err e) new
-unmarked-reads {X} view beyond before found met old new e a =
+    → Answers view (λ bytes. (turn_within limit beyond before found met bytes).turn) old (Err e) new
+unmarked-reads {X} view limit beyond before found met old new e a =
     Continues-err {X = X} {Z = Marker} view (λ (m : Marker). m)
-    (λ bytes. (turn_at beyond before found met bytes).turn) (λ bytes. (turn_at beyond before found met bytes).turn)
+    (λ bytes. (turn_within limit beyond before found met bytes).turn) (λ bytes. (turn_within limit beyond before found met bytes).turn)
     (λ bytes. found_or met bytes (next_marker bytes)) old old new e
-    (λ f q. ap (λ (b : Brought). b.turn) (turn-unmarked beyond before found met old.bytes f q)) (refl, λ k. (k, refl)) a
+    (λ f q. ap (λ (b : Brought). b.turn) (turn-unmarked limit beyond before found met old.bytes f q)) (refl, λ k. (k, refl)) a
 
-pub unmarked-brought : {V : Type 0} (view : Brought → V) (left : V) (beyond : Beyond) (before : Before) (found : Found)
+pub unmarked-brought : {V : Type 0} (view : Brought → V) (left : V) (limit : Option ℕ) (beyond : Beyond) (before : Before) (found : Found)
     (met : Option Marker) (old new : Stream) (e : Error) → ((fault : Fault) → left ≡ view (unbrought found (Err fault)))
     → Answers (λ (m : Marker). m) (λ bytes. found_or met bytes (next_marker bytes)) old (Err e) new
     → old.known ≡ true → new.known ≡ true
-    → IfRefused e (left ≡ view (turn_at beyond before found met old.bytes))
-unmarked-brought view left beyond before found met old new e is a k known =
+    → IfRefused e (left ≡ view (turn_within limit beyond before found met old.bytes))
+unmarked-brought view left limit beyond before found met old new e is a k known =
     told-err e (found_or met old.bytes (next_marker old.bytes)) _ (a.1 k known)
-    (λ f q. is f ∙ ap view (sym (turn-unmarked beyond before found met old.bytes f q)))
+    (λ f q. is f ∙ ap view (sym (turn-unmarked limit beyond before found met old.bytes f q)))

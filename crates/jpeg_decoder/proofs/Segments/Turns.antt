@@ -1,9 +1,9 @@
 -- The segments of a stream, a turn at a time.
 use Rattle.std.proofs.Common.{◌≡◌, ◌≤◌, ◌<◌, ℕ, suc, List, Ok, Err, Bool, true, false, Option, Some, None}
 use Rattle.std.proofs.Common.{ap, ◌∙◌, length, arith}
-use Rattle.std.specs.Prelude.{◌&&◌, is_some}
+use Rattle.std.specs.Prelude.{◌&&◌, is_some, if◌then◌else◌}
 use Rattle.std.proofs.Math.Bool.{cond}
-use Rattle.jpeg_bits.specs.Reading.{Outcome, Fault, ◌>>=◌, length_at, skip_at}
+use Rattle.jpeg_bits.specs.Reading.{Outcome, Fault, Malformed, ◌>>=◌, length_at, skip_at}
 use Rattle.jpeg_bits.specs.Marker.{next_marker}
 use Rattle.jpeg_bits.specs.declared.marker.Marker.{Marker}
 use Rattle.jpeg_bits.specs.declared.marker.Marker.TheVariants.{SOS}
@@ -25,7 +25,9 @@ use Rattle.jpeg_streams.specs.Segments.{accepted, application_segment, frame_seg
 use Rattle.jpeg_streams.specs.Segments.{quantization_segment, restart_segment, skipped_segment}
 use Rattle.jpeg_streams.specs.Found.{Found, nothing_found}
 use Rattle.jpeg_streams.specs.Stream.{Walked, brought_after, end_segment, scan_turn_at, segment_at, start_at, told_of}
-use Rattle.jpeg_streams.specs.Stream.{turn_at, walk}
+use Rattle.jpeg_streams.specs.Brought.{Brought, unbrought}
+use Rattle.jpeg_streams.specs.Stream.{turn_at, turn_within, walk}
+use Rattle.jpeg_streams.specs.Work.{brought_within, is_above, left_after, work_of_turn}
 use Rattle.jpeg_streams.specs.Reported.{told_by_turns, told_in_turns}
 use Rattle.jpeg_decoder.specs.Steps.{is_restart_marker}
 use Rattle.jpeg_streams.proofs.Shorter.{LeavesBelow, below-at, below_steps, length-below}
@@ -139,12 +141,22 @@ turn-goes beyond before found None bytes =
     let less : length m.1 < length bytes = below-at (length bytes) (next_marker bytes) m (marker-below bytes) is in
     marker-goes beyond (left_at None bytes) m.0 before found m.1 (omega (arith, less)) (λ _. omega (arith, less)))
 
+-- so it does within a limit
+pub on-within : (P : Turn × List ℕ → Type 0) (left : Option ℕ) (blocks : ℕ) (found : Found) (b : Brought) → On P b.turn
+    → On P (brought_within left blocks found b).turn
+on-within P left blocks found b h = go (is_above left blocks)
+  where
+    go : (above : Bool) → On P (if above then unbrought found (Err Malformed) else b).turn
+    go true = on-err P Malformed
+    go false = h
+
 -- A turn after which the image goes on leaves fewer bytes, where a restart marker that is met counts as one.
-pub turn-takes : (beyond : Beyond) (before : Before) (found : Found) (met : Option Marker) (bytes : List ℕ)
-    (r : Turn × List ℕ) → (turn_at beyond before found met bytes).turn ≡ Ok r → r.0.ended ≡ false
-    → left_at r.0.met r.1 < left_at met bytes
-turn-takes beyond before found met bytes r e =
-    on-at (Lowers (left_at met bytes)) _ r (turn-goes beyond before found met bytes) e
+pub turn-takes : (left : Option ℕ) (beyond : Beyond) (before : Before) (found : Found) (met : Option Marker)
+    (bytes : List ℕ) (r : Turn × List ℕ) → (turn_within left beyond before found met bytes).turn ≡ Ok r
+    → r.0.ended ≡ false → left_at r.0.met r.1 < left_at met bytes
+turn-takes left beyond before found met bytes r e =
+    on-at (Lowers (left_at met bytes)) _ r
+    (on-within (Lowers (left_at met bytes)) left _ found _ (turn-goes beyond before found met bytes)) e
 
 -- ---- turns
 
@@ -158,17 +170,18 @@ turn-same : (r : Outcome Turn) (f g : Turn × List ℕ → Walked) (refused : Fa
 turn-same r f g refused h = grind (arith, common_steps)
 
 -- more turns than bytes change nothing
-pub turns-enough : (beyond : Beyond) (m n : ℕ) (header : Bool) (before : Before) (found : Found) (met : Option Marker)
-    (bytes : List ℕ) → left_at met bytes < m → left_at met bytes < n
-    → walk beyond m header before found met bytes ≡ walk beyond n header before found met bytes
+pub turns-enough : (left : Option ℕ) (beyond : Beyond) (m n : ℕ) (header : Bool) (before : Before) (found : Found)
+    (met : Option Marker) (bytes : List ℕ) → left_at met bytes < m → left_at met bytes < n
+    → walk left beyond m header before found met bytes ≡ walk left beyond n header before found met bytes
 unfolding walk
-turns-enough beyond (suc m) (suc n) header before found met bytes p q =
+turns-enough left beyond (suc m) (suc n) header before found met bytes p q =
     cond-same (header && is_some found.said.frame) _ _ _ (λ _.
-    turn-same (turn_at beyond before found met bytes).turn _ _ _ (λ t is.
+    turn-same (turn_within left beyond before found met bytes).turn _ _ _ (λ t is.
     cond-same t.0.ended _ _ _ (λ on.
-    let less = turn-takes beyond before found met bytes t is on in
-    turns-enough beyond m n header t.0.before t.0.found t.0.met t.1 (omega (arith, p, less)) (omega (arith, q, less)))))
-turns-enough beyond _ _ header before found met bytes p q = absurd (omega arith)
+    let less = turn-takes left beyond before found met bytes t is on in
+    turns-enough (left_after left (work_of_turn found met bytes)) beyond m n header t.0.before t.0.found t.0.met t.1
+    (omega (arith, p, less)) (omega (arith, q, less)))))
+turns-enough left beyond _ _ header before found met bytes p q = absurd (omega arith)
 
 -- ---- the start
 
@@ -177,13 +190,14 @@ unfolding start_at
 start-below bytes = search below_steps
 
 -- The turns of a stream, as many as it has bytes and one more, are those of what follows its start.
-pub told-start : (header : Bool) (bytes rest : List ℕ) → start_at bytes ≡ Ok (tt, rest)
-    → told_by_turns (suc (length bytes)) header bytes ≡ told_in_turns (suc (length rest)) header nothing_found rest
-told-start header bytes rest e =
+pub told-start : (limit : Option ℕ) (header : Bool) (bytes rest : List ℕ) → start_at bytes ≡ Ok (tt, rest)
+    → told_by_turns limit (suc (length bytes)) header bytes
+    ≡ told_in_turns limit (suc (length rest)) header nothing_found rest
+told-start limit header bytes rest e =
     let few : length rest < suc (length bytes) = below-at _ _ _ (start-below bytes) e in
-    turns-start (suc (length bytes)) header bytes rest e
+    turns-start limit (suc (length bytes)) header bytes rest e
     ∙ ap (λ (w : Walked). told_of w.found.said)
-    (turns-enough Zeros (suc (length bytes)) (suc (length rest)) header Elsewhere nothing_found None rest
+    (turns-enough limit Zeros (suc (length bytes)) (suc (length rest)) header Elsewhere nothing_found None rest
     (omega (arith, few)) (omega arith))
 
 -- While a header is read on, the frame is not read yet.

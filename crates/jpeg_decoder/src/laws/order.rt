@@ -3,7 +3,7 @@
 #![tactic(auto, using(crate::proofs::Rules::streams))]
 
 ghost use Rattle.std.specs.Prelude.{◌≡◌, ◌+◌, ◌*◌, ◌<◌, ◌≤◌, ℕ, List, ◌∷◌, ◌++◌, [], length, map};
-ghost use Rattle.std.specs.Prelude.{get_or, Ok, Err, false};
+ghost use Rattle.std.specs.Prelude.{get_or, Ok, Err, false, Option};
 ghost use Rattle.std.specs.List.{AllByRecursion};
 ghost use Rattle.jpeg_bits.specs.Reading.{Fault};
 ghost use Rattle.jpeg_bits.specs.Passes.{Pass, Via, Block};
@@ -21,7 +21,7 @@ ghost use Rattle.jpeg_streams.specs.InTurn.{AreApart, AreArrays, Fits, intervals
 ghost use Rattle.jpeg_streams.specs.InTurn.{scan_from};
 ghost use Rattle.jpeg_streams.specs.McuRows.{scan_by_rows};
 ghost use Rattle.jpeg_streams.specs.Rasters.{ordered, in_raster};
-ghost use Rattle.jpeg_streams.specs.Stream.{header_at, meaning, rest_at, scaled_to, sized_to};
+ghost use Rattle.jpeg_streams.specs.Stream.{header_at, meaning_within, rest_within, scaled_to, sized_to};
 ghost use Rattle.jpeg_streams.specs.DecodedImages.{Size, at_size};
 ghost use Rattle.jpeg_streams.specs.ScanSegments.{Coding, vias_from, codings_of, pass_of};
 ghost use Rattle.jpeg_streams.specs.ScanSegments.{is_progressive, scan_arrays, arrays_before};
@@ -29,15 +29,15 @@ ghost use Rattle.jpeg_streams.specs.Found.{Found, Said};
 ghost use Rattle.jpeg_streams.specs.declared.settings.Settings.{Settings};
 ghost use Rattle.jpeg_decoder.specs.Walk.{members_from, own_member, raster, spots_at};
 
-/// A header and then the rest of its stream are the whole stream, and a refused header is a refused
-/// stream.
+/// A header and then the rest of its stream are the whole stream, within any limit of blocks, and a
+/// refused header is a refused stream.
 pub fn header_begins_stream()
-    ensures ok { (settings : Settings) (found : Found) (bytes rest : List ℕ) →
+    ensures ok { (limit : Option ℕ) (settings : Settings) (found : Found) (bytes rest : List ℕ) →
         header_at bytes ≡ Ok (found, rest) →
-        meaning settings bytes ≡ rest_at settings found rest }
-    ensures err { (settings : Settings) (fault : Fault) (bytes : List ℕ) →
+        meaning_within limit settings bytes ≡ rest_within limit settings found rest }
+    ensures err { (limit : Option ℕ) (settings : Settings) (fault : Fault) (bytes : List ℕ) →
         header_at bytes ≡ Err fault →
-        meaning settings bytes ≡ Err fault }
+        meaning_within limit settings bytes ≡ Err fault }
 {}
 
 /// A scan codes no block twice.

@@ -10,9 +10,9 @@ ghost use Rattle.jpeg_segments.specs.declared.frame.CodingProcess.TheVariants.{L
 ghost use Rattle.jpeg_streams.specs.EndPlanes.{AreBlocksOf, blocks_if, is_kept};
 ghost use Rattle.jpeg_streams.specs.Found.{Found, nothing_found};
 ghost use Rattle.jpeg_streams.specs.Rasters.{plane_by};
-ghost use Rattle.jpeg_streams.specs.Shown.{blocks_held, completed, fault_in, planes_by, shown};
-ghost use Rattle.jpeg_streams.specs.Shown.{rows_of_found, whole_rows, whole_rows_rest};
-ghost use Rattle.jpeg_streams.specs.Shown.{shown_by, shown_of, shown_rest, table_held};
+ghost use Rattle.jpeg_streams.specs.Shown.{blocks_held, completed, fault_in, planes_by, shown_within};
+ghost use Rattle.jpeg_streams.specs.Shown.{rows_of_found, whole_rows_rest, whole_rows_within};
+ghost use Rattle.jpeg_streams.specs.Shown.{shown_by, shown_of, shown_rest_within, table_held};
 ghost use Rattle.jpeg_streams.specs.Shown.{with_plane_shown, with_samples_shown};
 ghost use Rattle.jpeg_streams.specs.Sound.{HasDecodedFrame, IsDecodedFrame, IsSound};
 ghost use Rattle.jpeg_streams.specs.States.{IsOfBytes, OnToldRefusal};
@@ -306,12 +306,12 @@ fn show_rest<R: Read + Drop>(
     settings: Settings,
 ) -> Result<PartialLines>
     requires sound { IsSound state.old }
-    ensures shown { ShowsJust (shown_rest settings state.old)
+    ensures shown { ShowsJust (shown_rest_within settings.max_blocks settings state.old)
         (λ p. concat p.lines) (λ p. p.fault) source.old result source.new (told_of state.new.said) }
-    ensures rows { CountsRows (λ p. p.whole_rows) (whole_rows_rest state.old)
+    ensures rows { CountsRows (λ p. p.whole_rows) (whole_rows_rest settings.max_blocks state.old)
         source.old result source.new }
     ensures told { OnToldRefusal source.old source.new result (told_of state.new.said
-        ≡ told_shown_rest state.old source.old.bytes) }
+        ≡ told_shown_rest settings.max_blocks state.old source.old.bytes) }
     ensures given_up { GivesUp (λ p. p.fault) source.old result source.new }
     ensures refused { IfErr result IsOfBytes }
     ensures framed { IfOk result (λ _. is_some state.new.said.frame ≡ true) }
@@ -326,7 +326,7 @@ fn show_rest<R: Read + Drop>(
         × (state.new.samples ≡ replicate 4 None) }
 {
     let mut rows = None;
-    let ended = reach_segments(alloc, source, state, &mut rows);
+    let ended = reach_segments(alloc, source, state, settings.max_blocks, &mut rows);
     let mut decoded = std::mem::replace(&mut state.decoded, Decoded::new(alloc));
     if is_lost(&ended) {
         return Err(Error::OutOfMemory);
@@ -349,18 +349,19 @@ pub fn show<R: Read + Drop>(
 ) -> Result<PartialLines>
     requires sound { IsSound state.old }
     requires start { from_start ≡ true → state.old ≡ nothing_found }
-    ensures whole { from_start ≡ true → ShowsJust (shown settings) (λ p. concat p.lines)
+    ensures whole { from_start ≡ true → ShowsJust (shown_within settings.max_blocks settings) (λ p. concat p.lines)
         (λ p. p.fault) source.old result source.new (told_of state.new.said) }
-    ensures whole_rows { from_start ≡ true → CountsRows (λ p. p.whole_rows) whole_rows source.old
+    ensures whole_rows { from_start ≡ true → CountsRows (λ p. p.whole_rows)
+        (whole_rows_within settings.max_blocks) source.old
         result source.new }
     ensures rest_rows { from_start ≡ false → CountsRows (λ p. p.whole_rows)
-        (whole_rows_rest state.old) source.old result source.new }
-    ensures rest { from_start ≡ false → ShowsJust (shown_rest settings state.old)
+        (whole_rows_rest settings.max_blocks state.old) source.old result source.new }
+    ensures rest { from_start ≡ false → ShowsJust (shown_rest_within settings.max_blocks settings state.old)
         (λ p. concat p.lines) (λ p. p.fault) source.old result source.new (told_of state.new.said) }
     ensures told { from_start ≡ true → OnToldRefusal source.old source.new result
-        (told_of state.new.said ≡ told_shown source.old.bytes) }
+        (told_of state.new.said ≡ told_shown settings.max_blocks source.old.bytes) }
     ensures rest_told { from_start ≡ false → OnToldRefusal source.old source.new result
-        (told_of state.new.said ≡ told_shown_rest state.old source.old.bytes) }
+        (told_of state.new.said ≡ told_shown_rest settings.max_blocks state.old source.old.bytes) }
     ensures given_up { GivesUp (λ p. p.fault) source.old result source.new }
     ensures refused { IfErr result IsOfBytes }
     ensures framed { IfOk result (λ _. is_some state.new.said.frame ≡ true) }

@@ -21,7 +21,7 @@ ghost use Rattle.jpeg_streams.specs.Sound.{IsDecodedFrame, IsPlaneOf, IsSound, H
 ghost use Rattle.jpeg_streams.specs.Sound.{IsUnread};
 ghost use Rattle.jpeg_streams.specs.States.{OnTold};
 ghost use Rattle.jpeg_decoder.specs.Steps.{Returns, cropped_to, with_decoded};
-ghost use Rattle.jpeg_streams.specs.Stream.{header_at, rest_at, start_at, told_of};
+ghost use Rattle.jpeg_streams.specs.Stream.{header_at, rest_within, start_at, told_of};
 ghost use Rattle.jpeg_streams.specs.Reported.{IsOfTurns, told_by_turns, told_in_turns};
 ghost use Rattle.jpeg_streams.specs.FoundPictures.{blocks_picture, picture_of, picture_by};
 ghost use Rattle.jpeg_streams.specs.FoundPictures.{plane_at_end, samples_picture};
@@ -403,20 +403,20 @@ pub fn read_header<R: Read + Drop>(
     requires { state.old ≡ nothing_found }
     ensures reads { Answers (λ _. state.new) header_at source.old result source.new }
     ensures told { OnTold source.old source.new result (told_of state.new.said
-        ≡ told_by_turns (suc (length source.old.bytes)) true source.old.bytes) }
-    ensures turns { source.old.known ≡ true → IsOfTurns (λ n. told_by_turns n true source.old.bytes)
+        ≡ told_by_turns None (suc (length source.old.bytes)) true source.old.bytes) }
+    ensures turns { source.old.known ≡ true → IsOfTurns (λ n. told_by_turns None n true source.old.bytes)
         (told_of state.new.said) }
     ensures framed { IfOk result (λ _. is_some state.new.said.frame ≡ true) }
     ensures sound { OnOk result (IsSound state.new) }
     ensures unread { OnOk result (IsUnread state.new) }
 {
     read_start(alloc, source)?;
-    read_segments(alloc, source, state, true)
+    read_segments(alloc, source, state, true, None)
 }
 
 /// Reads the rest of a stream, after its header, and gives the lines of its picture. No blocks or
 /// planes are kept.
-#[tactic(auto, unfolding(jpeg_streams::specs::Stream::rest_at))]
+#[tactic(auto, unfolding(jpeg_streams::specs::Stream::rest_within))]
 pub fn read_rest<R: Read + Drop>(
     alloc: Global,
     source: &mut Source<R>,
@@ -425,11 +425,13 @@ pub fn read_rest<R: Read + Drop>(
 ) -> Result<Lines>
     requires sound { IsSound state.old }
     ensures reads { Answers (λ l. (told_of state.new.said, concat l))
-        (rest_at settings state.old) source.old result source.new }
+        (rest_within settings.max_blocks settings state.old) source.old result source.new }
     ensures told { OnTold source.old source.new result (told_of state.new.said
-        ≡ told_in_turns (suc (length source.old.bytes)) false state.old source.old.bytes) }
+        ≡ told_in_turns settings.max_blocks (suc (length source.old.bytes)) false state.old
+        source.old.bytes) }
     ensures turns { source.old.known ≡ true → IsOfTurns
-        (λ n. told_in_turns n false state.old source.old.bytes) (told_of state.new.said) }
+        (λ n. told_in_turns settings.max_blocks n false state.old source.old.bytes)
+        (told_of state.new.said) }
     ensures framed { IfOk result (λ _. is_some state.new.said.frame ≡ true) }
     ensures stays { is_some state.old.said.frame ≡ true → state.new.said.frame
         ≡ state.old.said.frame }
@@ -441,7 +443,7 @@ pub fn read_rest<R: Read + Drop>(
     ensures emptied { (state.new.kept ≡ []) × (state.new.planes ≡ replicate 4 None)
         × (state.new.samples ≡ replicate 4 None) }
 {
-    let ended = read_segments(alloc, source, state, false);
+    let ended = read_segments(alloc, source, state, false, settings.max_blocks);
     let mut decoded = std::mem::replace(&mut state.decoded, Decoded::new(alloc));
     ended?;
     picture(alloc, state, &mut decoded, settings)

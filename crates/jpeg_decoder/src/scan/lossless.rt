@@ -104,7 +104,7 @@ fn parts_of<'a>(
 
 /// Returns how many MCUs a row of a scan has, and how many rows there are: for a component alone,
 /// its samples.
-fn mcus_of(frame: &FrameInfo, indices: &[usize]) -> (u16, u16)
+pub fn mcus_of(frame: &FrameInfo, indices: &[usize]) -> (u16, u16)
     requires some { 0 < length indices.now }
     requires within { All (λ index. index < length (frame_in frame.now).components) indices.now }
     requires sampling { AllHaveSampling (frame_in frame.now).components }

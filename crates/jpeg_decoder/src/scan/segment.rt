@@ -7,13 +7,14 @@ ghost use Rattle.jpeg_segments.specs.declared.frame.CodingProcess.TheVariants.{L
 ghost use Rattle.jpeg_streams.specs.Sound.{IsSound};
 ghost use Rattle.jpeg_decoder.specs.Seen.{found_of};
 ghost use Rattle.jpeg_decoder.specs.Steps.{IsDct, IsHeaderOf, IsRefusal, IsStep, blocks_read};
-ghost use Rattle.jpeg_decoder.specs.Steps.{header_at, read_after, turn_of};
-ghost use Rattle.jpeg_streams.specs.ScanSegments.{once_scanned, scan_segment};
+ghost use Rattle.jpeg_decoder.specs.Steps.{header_within, read_after, turn_of};
+ghost use Rattle.jpeg_streams.specs.ScanSegments.{once_scanned};
 ghost use Rattle.jpeg_bits.specs.declared.marker.Marker.TheVariants.{DNL};
 ghost use Rattle.jpeg_streams.specs.Found.{Found};
-ghost use Rattle.jpeg_streams.specs.Stream.{segment_at};
+ghost use Rattle.jpeg_streams.specs.Stream.{scan_within, segment_at};
 ghost use Rattle.std.specs.Prelude.{IfOk, IfSome, List, None, OnOk, Some, false, true, ℕ, ◌≡◌};
-ghost use Rattle.jpeg_streams.specs.Brought.{scan_brought};
+ghost use Rattle.jpeg_streams.specs.Work.{left_after, work_of_header};
+ghost use Rattle.jpeg_streams.specs.declared.beyond.Beyond.TheVariants.{Nothing, Zeros};
 ghost use Rattle.jpeg_streams.specs.States.{OnToldRefusal};
 ghost use Rattle.jpeg_decoder.specs.Reaching.{IsEndOf, UnlessRefused, brought_after, rows_after};
 
@@ -22,6 +23,7 @@ use crate::scan::decoded::Decoded;
 use crate::scan::lossless::{read_lossless_scan, sample_scan_of};
 use crate::scan::reached_rows::reach_samples;
 use crate::scan::restarts::pass_restarts;
+use crate::scan::work::charge;
 use crate::stream::state::{Said, State, Step};
 use crate::stream::tables::{Missing, needed};
 use jpeg_bits::error::{Error, Result, UnsupportedFeature, format_error};
@@ -70,15 +72,21 @@ fn end_reached(
     }
 }
 
-/// Reads the header of a scan, once the look-up tables of the tables in force are filled.
+/// Reads the header of a scan, once the look-up tables of the tables in force are filled, and takes
+/// its blocks from those that are left, if there is a limit. A scan of more is refused.
 fn read_header<R: Read + Drop>(
     alloc: Global,
     source: &mut Source<R>,
     state: &mut State,
+    left: &mut Option<u64>,
 ) -> Result<ScanHeader>
-    ensures header { Answers (λ h. h) (header_at state.old) source.old result source.new }
+    requires sound { IsSound state.old }
+    ensures header { Answers (λ h. h) (header_within left.old state.old) source.old
+        result source.new }
     ensures legal { IfOk result (IsHeaderOf state.old) }
     ensures stays { state.new ≡ state.old }
+    ensures left { source.old.known ≡ true → OnOk result (left.new
+        ≡ left_after left.old (work_of_header state.old source.old.bytes)) }
 {
     widen_tables(alloc, state)?;
     let frame = needed(
@@ -86,7 +94,9 @@ fn read_header<R: Read + Drop>(
         state.said.frame.as_ref(),
         Missing::Frame(Marker::SOS),
     )?;
-    read_scan_header(alloc, source, frame)
+    let header = read_scan_header(alloc, source, frame)?;
+    charge(alloc, left, frame, &header)?;
+    Ok(header)
 }
 
 /// Returns whether a lossless frame was found.
@@ -180,25 +190,31 @@ fn reach_lossless_scan<R: Read + Drop>(
 /// Blocks that were read before an error count, or the rows of MCUs of a lossless scan, unless the
 /// error is out of memory. Where it lacks some, `rows` says how many rows of the picture are
 /// complete.
+///
+/// Its blocks are taken from those that are left, if there is a limit. A scan of more is refused
+/// after its header, and nothing of it counts.
 pub fn reach_scan<R: Read + Drop>(
     alloc: Global,
     source: &mut Source<R>,
     state: &mut State,
+    left: &mut Option<u64>,
     rows: &mut Option<u16>,
 ) -> Result<Step>
     requires sound { IsSound state.old }
     requires rows { rows.old ≡ None }
     ensures whole { OnOk result (rows.new ≡ None) }
     ensures rows { OnToldRefusal source.old source.new result (rows.new
-        ≡ (scan_brought state.old source.old.bytes).rows) }
-    ensures reads { UnlessRefused result (Answers (turn_of state.new) (λ bytes. (scan_brought
-        state.old bytes).turn) source.old result source.new) }
+        ≡ (scan_within left.old Nothing state.old source.old.bytes).rows) }
+    ensures reads { UnlessRefused result (Answers (turn_of state.new) (λ bytes. (scan_within
+        left.old Nothing state.old bytes).turn) source.old result source.new) }
     ensures found { OnToldRefusal source.old source.new result (state.new
-        ≡ (scan_brought state.old source.old.bytes).found) }
+        ≡ (scan_within left.old Nothing state.old source.old.bytes).found) }
+    ensures left { source.old.known ≡ true → OnOk result (left.new
+        ≡ left_after left.old (work_of_header state.old source.old.bytes)) }
     ensures sound { UnlessRefused result (IsSound state.new) }
     ensures steps { IsStep state.old result state.new }
 {
-    let header = read_header(alloc, source, state)?;
+    let header = read_header(alloc, source, state, left)?;
     if is_lossless(&state.said) {
         reach_lossless_scan(alloc, source, state, &header, rows)
     } else {
@@ -208,6 +224,7 @@ pub fn reach_scan<R: Read + Drop>(
 
 /// Reads the blocks of a scan by what was said before it, with what the scans before it gave, and
 /// returns the marker after it and after the restart markers at its end, if one was reached.
+#[inline(always)]
 fn read_block_scan<R: Read + Drop>(
     alloc: Global,
     source: &mut Source<R>,
@@ -235,6 +252,7 @@ fn read_block_scan<R: Read + Drop>(
 
 /// Reads what follows the header of a scan, and returns the marker after it and after the restart
 /// markers at its end, if one was reached.
+#[inline(always)]
 fn read_after<R: Read + Drop>(
     alloc: Global,
     source: &mut Source<R>,
@@ -261,17 +279,23 @@ fn read_after<R: Read + Drop>(
 
 /// Reads a scan, and returns what stands after it: the marker after it and after the restart
 /// markers at its end, if one was reached. An error may leave a part of what the scan gave.
+///
+/// Its blocks are taken from those that are left, if there is a limit. A scan of more is refused
+/// after its header.
 pub fn read_scan<R: Read + Drop>(
     alloc: Global,
     source: &mut Source<R>,
     state: &mut State,
+    left: &mut Option<u64>,
 ) -> Result<Step>
     requires sound { IsSound state.old }
-    ensures reads { Answers (turn_of state.new) (scan_segment state.old) source.old
-        result source.new }
+    ensures reads { Answers (turn_of state.new) (λ bytes. (scan_within left.old Zeros state.old
+        bytes).turn) source.old result source.new }
+    ensures left { source.old.known ≡ true → OnOk result (left.new
+        ≡ left_after left.old (work_of_header state.old source.old.bytes)) }
     ensures steps { IsStep state.old result state.new }
 {
-    let header = read_header(alloc, source, state)?;
+    let header = read_header(alloc, source, state, left)?;
     let met = read_after(alloc, source, state, &header)?;
     Ok(state.end_scan(met))
 }

@@ -85,7 +85,7 @@ pub struct Step {
 }
 
 /// What stands after a segment that ends before the next marker.
-const ONWARD: Step = Step {
+pub const ONWARD: Step = Step {
     before: Before::Elsewhere,
     met: None,
     ended: false,

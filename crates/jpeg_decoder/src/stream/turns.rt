@@ -6,14 +6,16 @@ ghost use Rattle.jpeg_streams.specs.declared.before.Before.TheVariants.{Elsewher
 ghost use Rattle.jpeg_streams.specs.Reported.{IsOfTurns, told_in_turns};
 ghost use Rattle.jpeg_streams.specs.Sound.{IsSound, IsUnread};
 ghost use Rattle.jpeg_streams.specs.States.{OnTold, OnToldRefusal};
-ghost use Rattle.jpeg_streams.specs.Stream.{all_brought, segment_at, segments_at, told_of, turn_at};
+ghost use Rattle.jpeg_streams.specs.Stream.{all_brought, segment_at, segments_at, told_of};
+ghost use Rattle.jpeg_streams.specs.Stream.{turn_within};
+ghost use Rattle.jpeg_streams.specs.Work.{left_after, work_of_turn};
 ghost use Rattle.jpeg_bits.specs.declared.marker.Marker.TheVariants.{SOS};
 ghost use Rattle.jpeg_decoder.specs.Reaching.{OnFault, UnlessRefused, walk_end, without_tables};
 ghost use Rattle.jpeg_decoder.specs.Steps.{IsStep, turn_of};
 ghost use Rattle.jpeg_streams.specs.declared.beyond.Beyond.TheVariants.{Nothing, Zeros};
 
 use crate::scan::segment::{reach_scan, read_scan, refused_line_count};
-use crate::stream::state::{State, Step};
+use crate::stream::state::{ONWARD, State, Step};
 use jpeg_bits::error::{Error, Result, UnsupportedFeature, format_error, format_error_of};
 use jpeg_bits::marker::{Marker, read_marker};
 use jpeg_bits::source::Source;
@@ -78,57 +80,62 @@ fn marker_error(alloc: Global, marker: Marker) -> Error
     format_error_of(format!(in alloc; "found {marker}, expected the marker of a segment"))
 }
 
-/// Reads one marker, which may have been reached already, and what stands after it.
+/// Reads the marker after a step, which may have been reached already, and what stands after it. The
+/// blocks of a scan are taken from those that are left, if there is a limit.
 #[tactic(auto, unfolding(crate::proofs::Rules::turns))]
 fn read_turn<R: Read + Drop>(
     alloc: Global,
     source: &mut Source<R>,
     state: &mut State,
-    before: Before,
-    met: Option<Marker>,
+    last: Step,
+    left: &mut Option<u64>,
 ) -> Result<Step>
     requires sound { IsSound state.old }
-    ensures reads { Answers (turn_of state.new) (λ bytes. (turn_at Zeros before state.old met
-        bytes).turn) source.old result source.new }
+    ensures reads { Answers (turn_of state.new) (λ bytes. (turn_within left.old Zeros last.before
+        state.old last.met bytes).turn) source.old result source.new }
+    ensures left { source.old.known ≡ true → OnOk result (left.new
+        ≡ left_after left.old (work_of_turn state.old last.met source.old.bytes)) }
     ensures steps { IsStep state.old result state.new }
-    ensures short { met ≡ None → IsShort source.old }
+    ensures short { last.met ≡ None → IsShort source.old }
 {
-    let marker = marker_or_next(alloc, source, met)?;
+    let marker = marker_or_next(alloc, source, last.met)?;
     if marker == Marker::SOS {
-        return read_scan(alloc, source, state);
+        return read_scan(alloc, source, state, left);
     }
-    read_segment(alloc, source, state, before, marker)
+    read_segment(alloc, source, state, last.before, marker)
 }
 
-/// Reads one marker, which may have been reached already, and what stands after it, a scan as far
-/// as it goes: see `reach_scan`.
+/// Reads as `read_turn` does, but a scan up to its first fault: see `reach_scan`.
 #[tactic(auto, unfolding(crate::proofs::Rules::turns))]
 fn reach_turn<R: Read + Drop>(
     alloc: Global,
     source: &mut Source<R>,
     state: &mut State,
-    before: Before,
-    met: Option<Marker>,
+    last: Step,
+    left: &mut Option<u64>,
     rows: &mut Option<u16>,
 ) -> Result<Step>
     requires sound { IsSound state.old }
     requires rows { rows.old ≡ None }
     ensures whole { OnOk result (rows.new ≡ None) }
     ensures rows { OnToldRefusal source.old source.new result (rows.new
-        ≡ (turn_at Nothing before state.old met source.old.bytes).rows) }
-    ensures reads { UnlessRefused result (Answers (turn_of state.new) (λ bytes. (turn_at Nothing
-        before state.old met bytes).turn) source.old result source.new) }
+        ≡ (turn_within left.old Nothing last.before state.old last.met source.old.bytes).rows) }
+    ensures reads { UnlessRefused result (Answers (turn_of state.new) (λ bytes. (turn_within
+        left.old Nothing last.before state.old last.met bytes).turn) source.old result source.new) }
     ensures found { OnToldRefusal source.old source.new result (without_tables state.new
-        ≡ without_tables (turn_at Nothing before state.old met source.old.bytes).found) }
+        ≡ without_tables (turn_within left.old Nothing last.before state.old last.met
+        source.old.bytes).found) }
+    ensures left { source.old.known ≡ true → OnOk result (left.new
+        ≡ left_after left.old (work_of_turn state.old last.met source.old.bytes)) }
     ensures sound { UnlessRefused result (IsSound state.new) }
     ensures steps { IsStep state.old result state.new }
-    ensures short { met ≡ None → IsShort source.old }
+    ensures short { last.met ≡ None → IsShort source.old }
 {
-    let marker = marker_or_next(alloc, source, met)?;
+    let marker = marker_or_next(alloc, source, last.met)?;
     if marker == Marker::SOS {
-        return reach_scan(alloc, source, state, rows);
+        return reach_scan(alloc, source, state, left, rows);
     }
-    read_segment(alloc, source, state, before, marker)
+    read_segment(alloc, source, state, last.before, marker)
 }
 
 /// Returns whether only the header is wanted, and the frame was read.
@@ -139,20 +146,21 @@ fn is_read_for(state: &State, header: bool) -> bool
 }
 
 /// Reads segments and scans up to the end of the image, or, if only the header is wanted, through
-/// the frame header.
+/// the frame header. The scans may code this many blocks, if there is a limit.
 pub fn read_segments<R: Read + Drop>(
     alloc: Global,
     source: &mut Source<R>,
     state: &mut State,
     header: bool,
+    limit: Option<u64>,
 ) -> Result<()>
     requires sound { IsSound state.old }
     ensures reads { Answers (λ _. state.new)
-        (segments_at header Elsewhere state.old None) source.old result source.new }
+        (segments_at limit header Elsewhere state.old None) source.old result source.new }
     ensures told { OnTold source.old source.new result (told_of state.new.said
-        ≡ told_in_turns (suc (length source.old.bytes)) header state.old source.old.bytes) }
+        ≡ told_in_turns limit (suc (length source.old.bytes)) header state.old source.old.bytes) }
     ensures turns { source.old.known ≡ true → IsOfTurns
-        (λ n. told_in_turns n header state.old source.old.bytes) (told_of state.new.said) }
+        (λ n. told_in_turns limit n header state.old source.old.bytes) (told_of state.new.said) }
     ensures framed { IfOk result (λ _. is_some state.new.said.frame ≡ true) }
     ensures stays { is_some state.old.said.frame ≡ true → state.new.said.frame
         ≡ state.old.said.frame }
@@ -160,53 +168,50 @@ pub fn read_segments<R: Read + Drop>(
     ensures unread { header ≡ true → state.old.said.frame ≡ None
         → OnOk result (IsUnread state.new) }
 {
-    let mut before = Before::Elsewhere;
-    let mut met = None;
+    let mut left = limit;
+    let mut last = ONWARD;
     for _ in 0..=u64::MAX {
         if is_read_for(state, header) {
             return Ok(());
         }
-        let step = read_turn(alloc, source, state, before, met)?;
-        if step.ended {
+        last = read_turn(alloc, source, state, last, &mut left)?;
+        if last.ended {
             return Ok(());
         }
-        before = step.before;
-        met = step.met;
     }
     Err(format_error(alloc, "found 2^64 markers, expected EOI"))
 }
 
 /// Reads segments and scans up to the end of the image or the first fault, and in the scan with the
 /// fault what stands before it. Where that scan lacks some blocks or lines, `rows` says how many
-/// rows of the picture are complete.
+/// rows of the picture are complete. The scans may code this many blocks, if there is a limit.
 pub fn reach_segments<R: Read + Drop>(
     alloc: Global,
     source: &mut Source<R>,
     state: &mut State,
+    limit: Option<u64>,
     rows: &mut Option<u16>,
 ) -> Result<()>
     requires sound { IsSound state.old }
     requires rows { rows.old ≡ None }
     ensures rows { OnTold source.old source.new result (rows.new
-        ≡ (all_brought state.old source.old.bytes).rows) }
+        ≡ (all_brought limit state.old source.old.bytes).rows) }
     ensures reads { UnlessRefused result (Answers (λ _. tt) (λ bytes. walk_end (all_brought
-        state.old bytes)) source.old result source.new) }
+        limit state.old bytes)) source.old result source.new) }
     ensures found { OnTold source.old source.new result (without_tables state.new
-        ≡ without_tables (all_brought state.old source.old.bytes).found) }
+        ≡ without_tables (all_brought limit state.old source.old.bytes).found) }
     ensures sound { UnlessRefused result (IsSound state.new) }
     ensures framed { IfOk result (λ _. is_some state.new.said.frame ≡ true) }
     ensures stays { is_some state.old.said.frame ≡ true → state.new.said.frame
         ≡ state.old.said.frame }
 {
-    let mut before = Before::Elsewhere;
-    let mut met = None;
+    let mut left = limit;
+    let mut last = ONWARD;
     for _ in 0..=u64::MAX {
-        let step = reach_turn(alloc, source, state, before, met, rows)?;
-        if step.ended {
+        last = reach_turn(alloc, source, state, last, &mut left, rows)?;
+        if last.ended {
             return Ok(());
         }
-        before = step.before;
-        met = step.met;
     }
     Err(format_error(alloc, "found 2^64 markers, expected EOI"))
 }

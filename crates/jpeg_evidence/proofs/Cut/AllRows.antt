@@ -13,7 +13,8 @@ use Rattle.jpeg_streams.specs.Brought.{Brought}
 use Rattle.jpeg_streams.specs.Found.{Found, nothing_found}
 use Rattle.jpeg_streams.specs.Segments.{Turn}
 use Rattle.jpeg_streams.specs.Shown.{Shown, framed_or, picture_shown, rows_of_found, rows_of_frame, shown, shown_of}
-use Rattle.jpeg_streams.specs.Shown.{shown_rest, whole_rows, whole_rows_rest}
+use Rattle.jpeg_streams.specs.Shown.{shown_rest, shown_rest_within, shown_within, whole_rows, whole_rows_rest}
+use Rattle.jpeg_streams.specs.Shown.{whole_rows_within}
 use Rattle.jpeg_streams.specs.Stream.{all_brought, start_at, turn_at, walk}
 use Rattle.jpeg_streams.proofs.Partial.Faultless.{faultless}
 use Rattle.jpeg_streams.proofs.Written.ReadTurns.{walked}
@@ -22,8 +23,8 @@ use Rattle.jpeg_evidence.proofs.Longer.LongerTurns.{walk_on}
 
 -- Where what a walk brings has no fault, no scan of it lacks rows.
 walk-whole : (turns : ℕ) (before : Before) (found : Found) (met : Option Marker) (bytes rest : List ℕ)
-    → (walk Nothing turns false before found met bytes).rest ≡ Ok rest
-    → (walk Nothing turns false before found met bytes).rows ≡ None
+    → (walk None Nothing turns false before found met bytes).rest ≡ Ok rest
+    → (walk None Nothing turns false before found met bytes).rows ≡ None
 unfolding walk
 walk-whole zero before found met bytes rest e = refl
 walk-whole (suc turns) before found met bytes rest e =
@@ -31,27 +32,28 @@ walk-whole (suc turns) before found met bytes rest e =
     (λ t. walk-whole turns t.0.before t.0.found t.0.met t.1 rest)
   where
     on : (t : Turn × List ℕ) (b : Bool)
-        → (if b then walked t.0.found (Ok t.1) else walk Nothing turns false t.0.before t.0.found t.0.met t.1).rest
+        → (if b then walked t.0.found (Ok t.1) else walk None Nothing turns false t.0.before t.0.found t.0.met t.1).rest
         ≡ Ok rest
-        → ((walk Nothing turns false t.0.before t.0.found t.0.met t.1).rest ≡ Ok rest
-        → (walk Nothing turns false t.0.before t.0.found t.0.met t.1).rows ≡ None)
-        → (if b then walked t.0.found (Ok t.1) else walk Nothing turns false t.0.before t.0.found t.0.met t.1).rows
+        → ((walk None Nothing turns false t.0.before t.0.found t.0.met t.1).rest ≡ Ok rest
+        → (walk None Nothing turns false t.0.before t.0.found t.0.met t.1).rows ≡ None)
+        → (if b then walked t.0.found (Ok t.1) else walk None Nothing turns false t.0.before t.0.found t.0.met t.1).rows
         ≡ None
     on t true e again = refl
     on t false e again = again e
 
     go : (b : Brought) (o : Outcome Turn) → (walk_on turns b o).rest ≡ Ok rest
-        → ((t : Turn × List ℕ) → (walk Nothing turns false t.0.before t.0.found t.0.met t.1).rest ≡ Ok rest
-        → (walk Nothing turns false t.0.before t.0.found t.0.met t.1).rows ≡ None) → (walk_on turns b o).rows ≡ None
+        → ((t : Turn × List ℕ) → (walk None Nothing turns false t.0.before t.0.found t.0.met t.1).rest ≡ Ok rest
+        → (walk None Nothing turns false t.0.before t.0.found t.0.met t.1).rows ≡ None)
+        → (walk_on turns b o).rows ≡ None
     go b (Err fault) e again = absurd (err-ok fault rest e)
     go b (Ok t) e again = on t t.0.ended e (again t)
 
 rest-whole : (settings : Settings) (bytes : List ℕ) (s : Shown) (frame : Frame)
     → shown_rest settings nothing_found bytes ≡ Ok s → s.fault ≡ None → s.told.frame ≡ Some frame
-    → whole_rows_rest nothing_found bytes ≡ frame.output_height
-unfolding shown_rest shown_of whole_rows_rest
+    → whole_rows_rest None nothing_found bytes ≡ frame.output_height
+unfolding shown_rest_within shown_of whole_rows_rest
 rest-whole settings bytes s frame e none framed =
-    let w = all_brought nothing_found bytes in
+    let w = all_brought None nothing_found bytes in
     let u = bind-ok (framed_or w.found.said.frame w.rest) _ s e in
     let p = bind-ok (picture_shown settings w.found) _ s u.2 in
     let same = ok-same _ s p.2 in
@@ -65,14 +67,15 @@ rest-whole settings bytes s frame e none framed =
       | Err fault ↦ 0
     ]) f.3
 
-started : (bytes rest : List ℕ) → start_at bytes ≡ Ok (tt, rest) → whole_rows bytes ≡ whole_rows_rest nothing_found rest
-unfolding whole_rows
-started bytes rest e = rw (e, whole_rows) refl
+started : (bytes rest : List ℕ) → start_at bytes ≡ Ok (tt, rest)
+    → whole_rows bytes ≡ whole_rows_rest None nothing_found rest
+unfolding whole_rows_within
+started bytes rest e = rw (e, whole_rows_within) refl
 
 pub faultless_streams_have_all_rows : (settings : Settings) (bytes : List ℕ) (s : Shown) (frame : Frame)
     → shown settings bytes ≡ Ok s → s.fault ≡ None → s.told.frame ≡ Some frame
     → whole_rows bytes ≡ frame.output_height
-unfolding shown
+unfolding shown_within
 faultless_streams_have_all_rows settings bytes s frame e none framed =
     let start = bind-ok (start_at bytes) _ s e in
     started bytes start.0.1 start.1 ∙ rest-whole settings start.0.1 s frame start.2 none framed

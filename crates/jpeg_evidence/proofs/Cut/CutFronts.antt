@@ -99,12 +99,12 @@ unfolding turn_at
 turn-filled before found j = rw (none-filled j, turn_at) refl
 
 pub walk-filled : (turns : ℕ) (before : Before) (found : Found) (j : ℕ)
-    → walk Nothing turns false before found None (replicate j 255) ≡ walked found (Err End)
+    → walk None Nothing turns false before found None (replicate j 255) ≡ walked found (Err End)
 unfolding walk
 walk-filled zero before found j = refl
 walk-filled (suc turns) before found j =
     let e = turn-filled before found j in
-    walk-refused Nothing turns false before found None (replicate j 255) End refl (same-turn _ _ e)
+    walk-refused None Nothing turns false before found None (replicate j 255) End refl (same-turn _ _ e)
     ∙ ap (λ (b : Brought). refused_walk b End) e
 
 -- ---- the levels of a sequential frame

@@ -123,12 +123,13 @@ module _ (array : Coefficients) (range : (index row column : ℕ) → Is8Bit (ar
 
   -- what is found where a stream is cut
   abbrev pub EndedAt : List ℕ → List ℕ → Type 0
-  EndedAt part more = Ended part more (all_brought nothing_found part)
+  EndedAt part more = Ended part more (all_brought None nothing_found part)
 
   pub nothing-there : (j : ℕ) (more : List ℕ) → EndedAt (replicate j 255) more
   nothing-there j more =
       let walk = walk-filled (suc (length (replicate j 255))) Elsewhere nothing_found j in
-      by-front (replicate j 255) more (all_brought nothing_found (replicate j 255)) [] (replicate j 255) nothing_said
+      by-front (replicate j 255) more (all_brought None nothing_found (replicate j 255)) [] (replicate j 255)
+      nothing_said
       (λ k. nothing_sent) no_progress refl (end nothing_said (λ k. nothing_sent) [] refl) (of_marker j)
       (nothing-said IsDrawn) (holds-nothing array nothing_said unscanned)
       (ap (λ (y : Walked). y.found) walk ∙ sym found-nothing) (ap (λ (y : Walked). y.rows) walk)
@@ -147,11 +148,12 @@ module _ (array : Coefficients) (range : (index row column : ℕ) → Is8Bit (ar
       (begins-segment fill said s (payload ++ replicate j 255) stands) in
       let now = beside bring said past.brought in
       let later = beside bring (said_after said s) past.brought in
-      let ends = ap (all_brought nothing_found) is ∙ past.goes_on
-      ∙ walk-on Nothing past.turns false past.before now past.met past.all (replicate j 255) (onward later) refl
+      let ends = ap (all_brought None nothing_found) is ∙ past.goes_on
+      ∙ walk-on None Nothing past.turns false past.before now past.met past.all (replicate j 255) (onward later) refl
       (segment-brings past.before now s past.met past.all fill (replicate j 255) stands past.at) refl
       ∙ walk-filled past.turns Elsewhere later j in
-      by-front part more (all_brought nothing_found part) next (replicate j 255) (said_after said s) levels past.brought
+      by-front part more (all_brought None nothing_found part) next (replicate j 255) (said_after said s) levels
+      past.brought
       parts whole (of_marker j) (segment-said MayStandInImage IsDrawn drawn-said said s stands allowed past.said)
       ((image-read array range).holds said levels past.brought s stands allowed past.held)
       (ap (λ (y : Walked). y.found) ends) (ap (λ (y : Walked). y.rows) ends) (λ some. ap (λ (y : Walked). y.rest) ends)
@@ -164,9 +166,10 @@ module _ (array : Coefficients) (range : (index row column : ℕ) → Is8Bit (ar
   segment-cut said levels first fill s part left more w stands parts some =
       let rest = marker fill (marker_code s) part in
       let past = past-of array range said levels first rest w (begins-segment fill said s part stands) in
-      let e = segment-past array range said levels fill s part left (all_brought nothing_found (first ++ rest)) past
+      let e = segment-past array range said levels fill s part left
+      (all_brought None nothing_found (first ++ rest)) past
       stands parts some in
-      by-front (first ++ rest) more (all_brought nothing_found (first ++ rest)) first rest said levels past.brought
+      by-front (first ++ rest) more (all_brought None nothing_found (first ++ rest)) first rest said levels past.brought
       refl w (of_segment fill s part left stands parts some) past.said past.held e.found_is e.rows_are
       (λ some. e.rest_is)
 
@@ -178,9 +181,10 @@ module _ (array : Coefficients) (range : (index row column : ℕ) → Is8Bit (ar
   header-cut said levels frame first fill h part left more w e written parts some =
       let rest = marker fill 218 part in
       let past = past-of array range said levels first rest w (begins-scan fill part) in
-      let ends = header-past array range said levels frame fill h part left (all_brought nothing_found (first ++ rest))
+      let ends = header-past array range said levels frame fill h part left
+      (all_brought None nothing_found (first ++ rest))
       past e written parts some in
-      by-front (first ++ rest) more (all_brought nothing_found (first ++ rest)) first rest said levels past.brought
+      by-front (first ++ rest) more (all_brought None nothing_found (first ++ rest)) first rest said levels past.brought
       refl w (of_header frame fill h part left e written parts some) past.said past.held ends.found_is ends.rows_are
       (λ some. ends.rest_is)
 
@@ -193,9 +197,9 @@ module _ (array : Coefficients) (range : (index row column : ℕ) → Is8Bit (ar
       let past = past-of array range said levels first rest w (begins-end fill []) in
       let now = beside bring said past.brought in
       let ends = past.goes_on
-      ∙ walk-end Nothing past.turns false past.before now past.met past.all [] (last_turn now) refl
+      ∙ walk-end None Nothing past.turns false past.before now past.met past.all [] (last_turn now) refl
       (end-next past.before now past.met past.all fill [] (ap is_some e) past.at) refl in
-      by-front (first ++ rest) [] (all_brought nothing_found (first ++ rest)) first rest said levels past.brought
+      by-front (first ++ rest) [] (all_brought None nothing_found (first ++ rest)) first rest said levels past.brought
       refl w (of_end fill) past.said past.held
       (ap (λ (y : Walked). y.found) ends) (ap (λ (y : Walked). y.rows) ends) (λ some. absurd (some refl))
 
@@ -261,9 +265,9 @@ module _ (array : Coefficients) (range : (index row column : ℕ) → Is8Bit (ar
             b.framed;
       } in
       let stops = scan-past array range said levels frame fill h sends.codings bytes d
-      (all_brought nothing_found (first ++ rest)) past known e written (filled-stops known j) in
-      let walk = all_brought nothing_found part in
-      let none : walk.rows ≡ None = ap (λ (l : List ℕ). (all_brought nothing_found l).rows) is ∙ stops.rows_are
+      (all_brought None nothing_found (first ++ rest)) past known e written (filled-stops known j) in
+      let walk = all_brought None nothing_found part in
+      let none : walk.rows ≡ None = ap (λ (l : List ℕ). (all_brought None nothing_found l).rows) is ∙ stops.rows_are
       ∙ ap (option_map (rows_above frame (components_of sends.codings))) (whole-unread known (replicate j 255)) in
       let rows = rows_of_found walk.rows walk.found in
       by-scan part more walk said frame array next found (λ f. f.output_height) e past.said all
@@ -273,5 +277,5 @@ module _ (array : Coefficients) (range : (index row column : ℕ) → Is8Bit (ar
       (λ has. subst (λ (p : List ℕ). HoldsCut array (as_sent array next) p (record said { scanned = true }) rows) parts
       (in_segment later (replicate j 255) (record said { scanned = true }) next rows front (of_marker j)
       (λ index row column. refl) has))
-      (ap (λ (l : List ℕ). (all_brought nothing_found l).found) is ∙ stops.found_is)
-      (ap (λ (l : List ℕ). (all_brought nothing_found l).rest) is ∙ stops.rest_is)
+      (ap (λ (l : List ℕ). (all_brought None nothing_found l).found) is ∙ stops.found_is)
+      (ap (λ (l : List ℕ). (all_brought None nothing_found l).rest) is ∙ stops.rest_is)

@@ -122,10 +122,10 @@ pub record EndsSo (w : Walked) (found : Found) (rows : Option ℕ) : Type 0 wher
 module _ (array : Coefficients) (range : (index row column : ℕ) → Is8Bit (array index row column)) where
   -- A walk comes by the whole segments and scans in the front of a stream.
   pub past-of : (said : Said) (levels : ℕ → Levels) (first rest : List ℕ) → WritesFront array said levels first
-      → Begins rest → IsPast array range said levels rest (all_brought nothing_found (first ++ rest))
+      → Begins rest → IsPast array range said levels rest (all_brought None nothing_found (first ++ rest))
   past-of said levels first rest w b =
       subst (λ (f : Found). IsPast array range said levels rest
-      (walk Nothing (suc (length (first ++ rest))) false Elsewhere f None (first ++ rest))) found-nothing
+      (walk None Nothing (suc (length (first ++ rest))) false Elsewhere f None (first ++ rest))) found-nothing
       (front-walked array range nothing_said said (λ k. nothing_sent) levels first rest no_progress
       (suc (length (first ++ rest))) Elsewhere None (first ++ rest) w b (nothing-said IsDrawn)
       (holds-nothing array nothing_said unscanned) (stands-here (first ++ rest)) (omega arith))
@@ -136,7 +136,7 @@ module _ (array : Coefficients) (range : (index row column : ℕ) → Is8Bit (ar
       → turn_at Nothing past.before (beside bring said past.brought) past.met past.all ≡ b → b.turn ≡ Err End
       → EndsSo w b.found b.rows
   past-end said levels rest w past b e fault =
-      let stops = past.goes_on ∙ walk-refused Nothing past.turns false past.before (beside bring said past.brought)
+      let stops = past.goes_on ∙ walk-refused None Nothing past.turns false past.before (beside bring said past.brought)
       past.met past.all End refl (same-turn _ _ e ∙ fault) ∙ ap (λ (y : Brought). refused_walk y End) e in
       record {
         found_is = ap (λ (y : Walked). y.found) stops;
@@ -210,7 +210,7 @@ pub cut_images_bring_what_was_sent : (array : Coefficients) (said : Said) (level
     → said.frame ≡ Some frame → IsScan frame h
     → (sends : WritesImageScan array said levels frame h (front ++ more) next)
     → (has : BringsCut array said levels frame (scan_written frame h) sends.codings
-    (all_brought nothing_found (first ++ marker fill 218 (with_length (scan_payload h) ++ front))).found)
+    (all_brought None nothing_found (first ++ marker fill 218 (with_length (scan_payload h) ++ front))).found)
     × IsMost (λ count. StandWhole frame said.restart (pass_of (scan_written frame h)) sends.codings sends.written.sent
     count front) (length has.done)
 cut_images_bring_what_was_sent array said levels next frame first front more fill h range w e written sends =
@@ -231,7 +231,7 @@ cut_images_bring_what_was_sent array said levels next frame first front more fil
               ((known.framed.kept p).each k c (get-at k frame.components c t)).each index own;
         };
         brought = (scan-past array range said levels frame fill h sends.codings (front ++ more) front
-            (all_brought nothing_found (first ++ marker fill 218 rest)) past known e written
+            (all_brought None nothing_found (first ++ marker fill 218 rest)) past known e written
             (cut-stops known front more refl)).found_is;
         parts = sent.holds.parts;
         sent = λ y k t is here. own.sent k y (get-at y.slot sends.codings k t) is here;
@@ -245,10 +245,10 @@ pub cut_segments_add_nothing : (array : Coefficients) (said : Said) (levels : �
     (fill : ℕ) (s : Segment) → ((index row column : ℕ) → Is8Bit (array index row column))
     → WritesFront array said levels first → Stands said s → with_length (payload_of s) ≡ part ++ more
     → (more ≡ [] → ⊥)
-    → BringsFront array said levels (all_brought nothing_found (first ++ marker fill (marker_code s) part)).found
+    → BringsFront array said levels (all_brought None nothing_found (first ++ marker fill (marker_code s) part)).found
 cut_segments_add_nothing array said levels first part more fill s range w stands parts some =
     let rest = marker fill (marker_code s) part in
-    let walked = all_brought nothing_found (first ++ rest) in
+    let walked = all_brought None nothing_found (first ++ rest) in
     let past = past-of array range said levels first rest w (begins-segment fill said s part stands) in
     front-brought array range said levels rest walked past
     (segment-past array range said levels fill s part more walked past stands parts some).found_is
@@ -258,10 +258,10 @@ pub cut_headers_add_nothing : (array : Coefficients) (said : Said) (levels : ℕ
     (first part more : List ℕ) (fill : ℕ) (h : ScanHeader) → ((index row column : ℕ) → Is8Bit (array index row column))
     → WritesFront array said levels first → said.frame ≡ Some frame → IsScan frame h
     → with_length (scan_payload h) ≡ part ++ more → (more ≡ [] → ⊥)
-    → BringsFront array said levels (all_brought nothing_found (first ++ marker fill 218 part)).found
+    → BringsFront array said levels (all_brought None nothing_found (first ++ marker fill 218 part)).found
 cut_headers_add_nothing array said levels frame first part more fill h range w e written parts some =
     let rest = marker fill 218 part in
-    let walked = all_brought nothing_found (first ++ rest) in
+    let walked = all_brought None nothing_found (first ++ rest) in
     let past = past-of array range said levels first rest w (begins-scan fill part) in
     front-brought array range said levels rest walked past
     (header-past array range said levels frame fill h part more walked past e written parts some).found_is

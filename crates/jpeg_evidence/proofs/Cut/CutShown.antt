@@ -1,5 +1,5 @@
 -- What a cut stream of a writer shows is the picture of the blocks that it holds.
-use Rattle.std.proofs.Common.{◌≡◌, ℕ, List, [], ◌∷◌, ◌++◌, Some, Ok, Err, refl, sym, ap, ap₂, ◌∙◌, subst}
+use Rattle.std.proofs.Common.{◌≡◌, ℕ, List, [], ◌∷◌, ◌++◌, None, Some, Ok, Err, refl, sym, ap, ap₂, ◌∙◌, subst}
 use Rattle.jpeg_bits.specs.Reading.{End}
 use Rattle.jpeg_segments.specs.Frame.{Frame}
 use Rattle.jpeg_segments.proofs.Codecs.{bind-ok, err-ok, ok-same}
@@ -8,7 +8,8 @@ use Rattle.jpeg_streams.specs.ArrayPictures.{as_sent}
 use Rattle.jpeg_streams.specs.Found.{Found, Said, nothing_found, nothing_said}
 use Rattle.jpeg_streams.specs.Levels.{Is8Bit, Levels, nothing_sent}
 use Rattle.jpeg_streams.specs.Shown.{Shown, fault_shown, framed_or, picture_shown, rows_of_found, shown, shown_of}
-use Rattle.jpeg_streams.specs.Shown.{shown_rest, whole_rows, whole_rows_rest}
+use Rattle.jpeg_streams.specs.Shown.{shown_rest, shown_rest_within, shown_within, whole_rows, whole_rows_rest}
+use Rattle.jpeg_streams.specs.Shown.{whole_rows_within}
 use Rattle.jpeg_streams.specs.Stream.{Walked, all_brought, start_at, told_of}
 use Rattle.jpeg_streams.specs.WrittenImages.{WritesImage}
 use Rattle.jpeg_streams.specs.WrittenScans.{Coefficients}
@@ -54,7 +55,7 @@ starts : (settings : Settings) (after front more : List ℕ) (s : Shown) → 255
     → shown settings front ≡ Ok s
     → (part : List ℕ) × (front ≡ 255 ∷ 216 ∷ part) × (after ≡ part ++ more)
     × (shown_rest settings nothing_found part ≡ Ok s)
-unfolding shown start_at
+unfolding shown_within start_at
 starts settings after [] more s e h = absurd (err-ok _ s h)
 starts settings after (a ∷ []) more s e h =
     let one : a ≡ 255 = cc in
@@ -67,8 +68,9 @@ starts settings after (a ∷ b ∷ part) more s e h =
     (part, front, cc, sym (ap (shown settings) front) ∙ h)
 
 pub rows-started : (part : List ℕ)
-    → whole_rows (255 ∷ 216 ∷ part) ≡ rows_of_found (all_brought nothing_found part).rows (all_brought nothing_found part).found
-unfolding whole_rows whole_rows_rest start_at
+    → whole_rows (255 ∷ 216 ∷ part)
+    ≡ rows_of_found (all_brought None nothing_found part).rows (all_brought None nothing_found part).found
+unfolding whole_rows_within whole_rows_rest start_at
 rows-started part = refl
 
 -- A cut stream of a writer shows the picture of the blocks that it holds, and has the rows above those that it lacks.
@@ -78,15 +80,15 @@ pub cut_images_show_what_was_sent : (settings : Settings) (array : Coefficients)
     → (part : List ℕ) × (front ≡ 255 ∷ 216 ∷ part) × (said : Said) × (blocks : Coefficients)
     × HoldsCut array blocks part said (whole_rows front) × (s.told ≡ told_of said)
     × (picture_held settings said blocks ≡ Ok s.picture) × ((more ≡ [] → ⊥) → s.fault ≡ Some End)
-unfolding shown_rest
+unfolding shown_rest_within
 cut_images_show_what_was_sent settings array image front more final last range w parts s h =
     let a = starts settings w.after front more s (sym w.starts ∙ parts) h in
     let part = a.0 in
     let e : EndedAt array range part more
     = each-front array range nothing_said final (λ k. nothing_sent) last w.after w.written [] part more
     (end nothing_said (λ k. nothing_sent) [] refl) (λ j. nothing-there array range j more) a.2 in
-    let c = shows-found settings (all_brought nothing_found part) s a.3 in
-    let said_same : (all_brought nothing_found part).found.said ≡ e.said = ap (λ (y : Found). y.said) e.found in
+    let c = shows-found settings (all_brought None nothing_found part) s a.3 in
+    let said_same : (all_brought None nothing_found part).found.said ≡ e.said = ap (λ (y : Found). y.said) e.found in
     let framed : e.said.frame ≡ Some c.frame = ap (λ (y : Said). y.frame) (sym said_same) ∙ c.framed in
     let shape = (e.is.shaped c.frame framed).0 in
     let same = shown-same settings e.said c.frame e.image e.levels e.brought e.counts shape framed
@@ -99,5 +101,5 @@ cut_images_show_what_was_sent settings array image front more final last range w
           (sym (ap whole_rows a.1 ∙ rows-started part)) e.holds,
       c.told ∙ ap told_of said_same,
       sym same ∙ ap (picture_shown settings) (sym e.found) ∙ c.picture,
-      λ some. c.fault ∙ fault-end (all_brought nothing_found part) (e.ends some),
+      λ some. c.fault ∙ fault-end (all_brought None nothing_found part) (e.ends some),
     )

@@ -1,6 +1,6 @@
 -- Each beginning of a written image is cut at a marker, in a segment, in a scan, or not at all.
 use Rattle.std.proofs.Common.{◌≡◌, ◌⊎◌, inl, inr, ℕ, true, List, [], ◌∷◌, ◌++◌, replicate, Some, refl, sym, ap, ◌∙◌, length}
-use Rattle.std.proofs.Common.{subst, append_assoc}
+use Rattle.std.proofs.Common.{None, subst, append_assoc}
 use Rattle.std.specs.Prelude.{option_map}
 use Rattle.jpeg_bits.specs.Written.{marker}
 use Rattle.jpeg_segments.specs.Frame.{Frame}
@@ -50,7 +50,7 @@ module _ (array : Coefficients) (range : (index row column : ℕ) → Is8Bit (ar
       let c : CutScan said frame array levels next codings sent.holds.done found
       = subst (λ (l : ℕ → Levels). CutScan said frame array levels l codings sent.holds.done found) sends.sent
       (cut-scan known sent.holds.done (reached_of known front).reached (cut-own known front left refl)) in
-      let walk = all_brought nothing_found part in
+      let walk = all_brought None nothing_found part in
       let stops = scan-past array range said levels frame fill h codings bytes front walk past known e written
       (cut-stops known front left refl) in
       let first_away = cut-unread known front left (length sent.holds.done) refl sent.most in

@@ -16,8 +16,8 @@ use Rattle.jpeg_streams.specs.Found.{Found, Said, nothing_found, nothing_said}
 use Rattle.jpeg_streams.specs.FoundPictures.{picture_by, picture_in}
 use Rattle.jpeg_streams.specs.Levels.{Is8Bit, Levels, nothing_sent}
 use Rattle.jpeg_streams.specs.Rasters.{plane_of_blocks}
-use Rattle.jpeg_streams.specs.Shown.{Shown, fault_shown, framed_or, picture_shown, shown, shown_of}
-use Rattle.jpeg_streams.specs.Shown.{shown_rest, whole_rows}
+use Rattle.jpeg_streams.specs.Shown.{Shown, fault_shown, framed_or, picture_shown, shown, shown_of, shown_rest_within}
+use Rattle.jpeg_streams.specs.Shown.{shown_within, whole_rows}
 use Rattle.jpeg_streams.specs.Stream.{Walked, all_brought, start_at, told_of}
 use Rattle.jpeg_streams.specs.WrittenImages.{WritesImage}
 use Rattle.jpeg_streams.specs.WrittenScans.{Coefficients}
@@ -88,8 +88,8 @@ shown-there settings w f picture framed e =
 
 starts-shown : (settings : Settings) (part : List ℕ)
     → shown settings (255 ∷ 216 ∷ part)
-    ≡ shown_of settings (all_brought nothing_found part).found (all_brought nothing_found part).rest
-unfolding shown shown_rest start_at
+    ≡ shown_of settings (all_brought None nothing_found part).found (all_brought None nothing_found part).rest
+unfolding shown_within shown_rest_within start_at
 starts-shown settings part = refl
 
 -- A stream that is cut after its SOI holds blocks of the image, and where the settings take the picture of what its
@@ -106,7 +106,7 @@ cut_images_are_shown settings array image part more final last range w parts =
     let e : EndedAt array range part more
     = each-front array range nothing_said final (λ k. nothing_sent) last w.after w.written [] part more
     (end nothing_said (λ k. nothing_sent) [] refl) (λ j. nothing-there array range j more) after in
-    let found_same : (all_brought nothing_found part).found.said ≡ e.said = ap (λ (y : Found). y.said) e.found in (
+    let found_same : (all_brought None nothing_found part).found.said ≡ e.said = ap (λ (y : Found). y.said) e.found in (
       e.said,
       as_sent e.image e.levels,
       subst (λ (rows : ℕ). HoldsCut array (as_sent e.image e.levels) part e.said rows)
@@ -117,14 +117,14 @@ cut_images_are_shown settings array image part more final last range w parts =
           let same = shown-same settings e.said f e.image e.levels e.brought e.counts is.0 takes.is_said
           (e.framed f takes.is_said) (e.whole f takes.is_said) in
           let picture = held-there settings e.said f (as_sent e.image e.levels) is.1.0 takes refl takes.is_said is.1.1 in
-          let framed : (all_brought nothing_found part).found.said.frame ≡ Some f
+          let framed : (all_brought None nothing_found part).found.said.frame ≡ Some f
           = ap (λ (y : Said). y.frame) found_same ∙ takes.is_said in
-          let shows = shown-there settings (all_brought nothing_found part) f picture.0 framed
+          let shows = shown-there settings (all_brought None nothing_found part) f picture.0 framed
           (ap (picture_shown settings) e.found ∙ same ∙ picture.1) in (
             _,
             starts-shown settings part ∙ shows,
             ap told_of found_same,
             picture.1,
-            λ some. fault-end (all_brought nothing_found part) (e.ends some),
+            λ some. fault-end (all_brought None nothing_found part) (e.ends some),
           ),
     )

@@ -193,7 +193,7 @@ module _ (array : Coefficients) (range : (index row column : ℕ) → Is8Bit (ar
     pub met : Option Marker
     pub all : List ℕ
     pub at : StandsAt met all rest
-    pub goes_on : w ≡ walk Nothing (suc turns) false before (beside bring next brought) met all
+    pub goes_on : w ≡ walk None Nothing (suc turns) false before (beside bring next brought) met all
 
   -- A walk comes by the whole segments and scans of an image that stand in front of a marker.
   pub front-walked : (said next : Said) (levels reached : ℕ → Levels) (front rest : List ℕ) (x : Progress)
@@ -201,7 +201,7 @@ module _ (array : Coefficients) (range : (index row column : ℕ) → Is8Bit (ar
       → Writes MayStandInImage (WritesImageScan array) (λ said sent bytes. bytes ≡ []) said levels front next reached
       → Begins rest → IsSaid IsDrawn said → Holds array said levels x → StandsAt met all (front ++ rest)
       → length (front ++ rest) < turns
-      → IsPast next reached rest (walk Nothing turns false before (beside bring said x) met all)
+      → IsPast next reached rest (walk None Nothing turns false before (beside bring said x) met all)
   unfolding scan_turn_at
   front-walked said next levels reached front rest x zero before met all w b is held at room = absurd (omega arith)
   front-walked said next levels reached front rest x (suc turns) before met all (end said' sent' bytes' none) b is held at
@@ -226,7 +226,7 @@ module _ (array : Coefficients) (range : (index row column : ℕ) → Is8Bit (ar
       ((image-read array range).holds said levels x s stands allowed held) (stands-here (more ++ rest))
       (marker-longer fill (marker_code s) turns payload (more ++ rest)
       (subst (λ (l : List ℕ). length l < suc turns) (segment-tail fill (marker_code s) payload more rest) room)) in
-      subst (IsPast next reached rest) (sym (walk-on Nothing turns false before now met all (more ++ rest)
+      subst (IsPast next reached rest) (sym (walk-on None Nothing turns false before now met all (more ++ rest)
       (onward (beside bring (said_after said s) x)) refl
       (segment-turn Nothing before now s met all fill more rest stands.0 (stands-taken said s stands) at) refl)) r
   front-walked said next levels reached front rest x (suc turns) before met all
@@ -243,7 +243,7 @@ module _ (array : Coefficients) (range : (index row column : ℕ) → Is8Bit (ar
       (subst (λ (l : List ℕ). length l < suc turns) (scan-tail fill 218 header data_bytes more rest) room) in
       let k = length-append data_bytes (more ++ rest) in
       omega arith) in
-      subst (IsPast next reached rest) (sym (walk-on Nothing turns false before now met all n.after
+      subst (IsPast next reached rest) (sym (walk-on None Nothing turns false before now met all n.after
       (scan_turn now (beside bring later c.brought) (Some n.m)) refl
       (same-turn _ _ (at.turn Nothing before now ∙ scan-turn Nothing before now fill header data_bytes more rest
       ∙ ap (λ (l : List ℕ). scan_turn_at Nothing now (header ++ (data_bytes ++ l))) n.is)

@@ -33,9 +33,9 @@ use Rattle.jpeg_streams.specs.ScanSegments.{components_of, lossless_scan, pass_o
 use Rattle.jpeg_streams.specs.ScanSegments.{scan_segment, scan_turn, vias_from}
 use Rattle.jpeg_streams.specs.Segments.{Turn}
 use Rattle.jpeg_streams.specs.Shown.{Shown, completed, fault_in, fault_shown, framed_or, picture_shown, planes_by}
-use Rattle.jpeg_streams.specs.Shown.{shown, shown_by, shown_of, shown_rest, with_samples_shown}
-use Rattle.jpeg_streams.specs.Stream.{Walked, all_brought, brought_after, meaning, rest_at, scan_turn_at, segments_at}
-use Rattle.jpeg_streams.specs.Stream.{start_at, turn_at, walk}
+use Rattle.jpeg_streams.specs.Shown.{shown, shown_by, shown_of, shown_rest_within, shown_within, with_samples_shown}
+use Rattle.jpeg_streams.specs.Stream.{Walked, all_brought, brought_after, meaning, meaning_within, rest_at, rest_within}
+use Rattle.jpeg_streams.specs.Stream.{scan_turn_at, segments_at, start_at, turn_at, walk}
 use Rattle.jpeg_streams.proofs.Order.Apart.{spots-apart}
 use Rattle.jpeg_streams.proofs.Partial.CompletedPictures.{all-stay, limited-at, within}
 use Rattle.jpeg_streams.proofs.Order.CountedScans.{scans-in-turn}
@@ -314,7 +314,8 @@ same-rest w v e = ap (λ (y : Walked). y.rest) e
 
 -- a walk that meets no marker
 walk-unmet : (turns : ℕ) (before : Before) (found : Found) (met : Option Marker) (bytes : List ℕ)
-    → found_or met bytes (next_marker bytes) ≡ Err End → (walk Zeros turns false before found met bytes).rest ≡ Err End
+    → found_or met bytes (next_marker bytes) ≡ Err End
+    → (walk None Zeros turns false before found met bytes).rest ≡ Err End
 unfolding walk turn_at
 walk-unmet zero before found met bytes e = refl
 walk-unmet (suc turns) before found met bytes e = rw e refl
@@ -322,12 +323,12 @@ walk-unmet (suc turns) before found met bytes e = rw e refl
 -- a walk whose next turn has a fault
 stopped-walk : (turns : ℕ) (before : Before) (found : Found) (met : Option Marker) (bytes : List ℕ)
     (early whole : Type 0) (f : Fault) → (early → whole) → TurnFault (turn_at Zeros before found met bytes).turn early f
-    → WalkFault (walk Zeros (suc turns) false before found met bytes) whole f
+    → WalkFault (walk None Zeros (suc turns) false before found met bytes) whole f
 stopped-walk turns before found met bytes early whole f first h =
-    fault-on (λ g e. same-rest _ _ (walk-refused Zeros turns false before found met bytes g refl e)) first
+    fault-on (λ g e. same-rest _ _ (walk-refused None Zeros turns false before found met bytes g refl e)) first
     (λ m l.
     let t = l.turn in
-    same (same-rest _ _ (walk-on Zeros turns false before found met bytes l.left t refl l.read l.going)
+    same (same-rest _ _ (walk-on None Zeros turns false before found met bytes l.left t refl l.read l.going)
     ∙ walk-unmet turns t.before t.found t.met l.left l.none ∙ ap Err (sym m))) h
 
 -- what a later turn of the walk gives
@@ -335,51 +336,52 @@ abbrev Again : ℕ → Fault → Type 0
 Again turns f =
     (x : Turn × List ℕ) (now : Option Marker) (left : List ℕ) → FoundFits x.0.found
     → found_or now left (next_marker left) ≡ found_or x.0.met x.1 (next_marker x.1)
-    → (walk Nothing turns false x.0.before x.0.found x.0.met x.1).rest ≡ Err f
-    → WalkFault (walk Zeros turns false x.0.before x.0.found now left)
+    → (walk None Nothing turns false x.0.before x.0.found x.0.met x.1).rest ≡ Err f
+    → WalkFault (walk None Zeros turns false x.0.before x.0.found now left)
     (SegmentsEndEarly x.0.before x.0.found x.0.met x.1) f
 
 -- a walk after its next turn
 going-walk : (turns : ℕ) (before : Before) (found : Found) (now : Option Marker) (left : List ℕ) (x : Turn × List ℕ)
     (whole : Type 0) (f : Fault) (t : IsTurn (turn_at Zeros before found now left).turn x.0 x.1) → FoundFits x.0.found
     → Again turns f → (SegmentsEndEarly x.0.before x.0.found x.0.met x.1 → whole) → x.0.ended ≡ false
-    → (walk Nothing turns false x.0.before x.0.found x.0.met x.1).rest ≡ Err f
-    → WalkFault (walk Zeros (suc turns) false before found now left) whole f
+    → (walk None Nothing turns false x.0.before x.0.found x.0.met x.1).rest ≡ Err f
+    → WalkFault (walk None Zeros (suc turns) false before found now left) whole f
 going-walk turns before found now left x whole f t fits again first u h =
     subst (λ (w : Walked). WalkFault w whole f)
-    (sym (walk-on Zeros turns false before found now left t.left t.now refl t.read (t.ended ∙ u)
-    ∙ ap (λ (b : Before). walk Zeros turns false b t.now.found t.now.met t.left) t.before
-    ∙ ap (λ (g : Found). walk Zeros turns false x.0.before g t.now.met t.left) t.found))
+    (sym (walk-on None Zeros turns false before found now left t.left t.now refl t.read (t.ended ∙ u)
+    ∙ ap (λ (b : Before). walk None Zeros turns false b t.now.found t.now.met t.left) t.before
+    ∙ ap (λ (g : Found). walk None Zeros turns false x.0.before g t.now.met t.left) t.found))
     (fault-earlier first (again x t.now.met t.left fits t.next h))
 
 walk-next : (turns : ℕ) (before : Before) (found : Found) (met now : Option Marker) (bytes left : List ℕ) (f : Fault)
     → FoundFits found → found_or now left (next_marker left) ≡ found_or met bytes (next_marker bytes)
-    → (walk Nothing (suc turns) false before found met bytes).rest ≡ Err f → Again turns f
+    → (walk None Nothing (suc turns) false before found met bytes).rest ≡ Err f → Again turns f
     → (o : Outcome Turn) → (turn_at Nothing before found met bytes).turn ≡ o
-    → WalkFault (walk Zeros (suc turns) false before found now left) (SegmentsEndEarly before found met bytes) f
+    → WalkFault (walk None Zeros (suc turns) false before found now left) (SegmentsEndEarly before found met bytes) f
 walk-next turns before found met now bytes left f fits next h again (Err g) e =
     let is = err-same g f
-    (sym (same-rest _ _ (walk-refused Nothing turns false before found met bytes g refl e)) ∙ h) in
+    (sym (same-rest _ _ (walk-refused None Nothing turns false before found met bytes g refl e)) ∙ h) in
     stopped-walk turns before found now left (EarlyNext found met bytes) _ f
     (λ y. at_scan before found met bytes y.0 y.1 y.2)
     (turn-fault before found met now bytes left f fits next (e ∙ ap Err is))
 walk-next turns before found met now bytes left f fits next h again (Ok x) e = go x.0.ended refl
   where
     go : (b : Bool) → x.0.ended ≡ b
-        → WalkFault (walk Zeros (suc turns) false before found now left) (SegmentsEndEarly before found met bytes) f
+        → WalkFault (walk None Zeros (suc turns) false before found now left)
+        (SegmentsEndEarly before found met bytes) f
     go true u =
         absurd (err-ok f x.1 (sym h
-        ∙ same-rest _ _ (walk-end Nothing turns false before found met bytes x.1 x.0 refl e u)))
+        ∙ same-rest _ _ (walk-end None Nothing turns false before found met bytes x.1 x.0 refl e u)))
     go false u =
         let t = turn-read before found met now bytes left x fits next e in
         let fit = subst FoundFits t.found (turn-fits before found now left (t.now, t.left) fits t.read) in
         going-walk turns before found now left x _ f t fit again (λ y. later_turn before found met bytes x.0 x.1 e u y) u
-        (sym (same-rest _ _ (walk-on Nothing turns false before found met bytes x.1 x.0 refl e u)) ∙ h)
+        (sym (same-rest _ _ (walk-on None Nothing turns false before found met bytes x.1 x.0 refl e u)) ∙ h)
 
 walk-fault : (turns : ℕ) (before : Before) (found : Found) (met now : Option Marker) (bytes left : List ℕ) (f : Fault)
     → FoundFits found → found_or now left (next_marker left) ≡ found_or met bytes (next_marker bytes)
-    → (walk Nothing turns false before found met bytes).rest ≡ Err f
-    → WalkFault (walk Zeros turns false before found now left) (SegmentsEndEarly before found met bytes) f
+    → (walk None Nothing turns false before found met bytes).rest ≡ Err f
+    → WalkFault (walk None Zeros turns false before found now left) (SegmentsEndEarly before found met bytes) f
 unfolding walk
 walk-fault zero before found met now bytes left f fits next h = same h
 walk-fault (suc turns) before found met now bytes left f fits next h =
@@ -443,22 +445,22 @@ Named settings bytes f =
     ⊎ (StreamEndsEarly bytes × ((f ≡ Malformed) ⊎ ((f ≡ End) × (meaning settings bytes ≡ Err Malformed))))
 
 abbrev segments_walked : List ℕ → Walked
-segments_walked rest = walk Zeros (suc (length rest)) false Elsewhere nothing_found None rest
+segments_walked rest = walk None Zeros (suc (length rest)) false Elsewhere nothing_found None rest
 
 walked-err : (settings : Settings) (rest : List ℕ) (g : Fault) → (segments_walked rest).rest ≡ Err g
     → rest_at settings nothing_found rest ≡ Err g
-unfolding rest_at segments_at
+unfolding rest_within segments_at
 walked-err settings rest g e = rw e refl
 
 drawn-err : (settings : Settings) (rest left : List ℕ) (found : Found) (g : Fault)
     → segments_walked rest ≡ walked found (Ok left)
     → picture_of settings found ≡ Err g → rest_at settings nothing_found rest ≡ Err g
-unfolding rest_at segments_at
+unfolding rest_within segments_at
 drawn-err settings rest left found g e p = rw (e, p) refl
 
 meant-err : (settings : Settings) (bytes : List ℕ) (start : Unit {0} × List ℕ) (g : Fault) → start_at bytes ≡ Ok start
     → rest_at settings nothing_found start.1 ≡ Err g → meaning settings bytes ≡ Err g
-unfolding meaning
+unfolding meaning_within
 meant-err settings bytes start g e r =
     ap (λ (o : Outcome (Unit {0})). o >>= (λ start. rest_at settings nothing_found start.1)) e ∙ r
 
@@ -468,10 +470,11 @@ nothing-fits = record { frame = tt; samples = refl }
 
 -- by the end of the segments
 named-by : (settings : Settings) (bytes rest picture : List ℕ) (frame : Frame) (f : Fault)
-    (ended : Result (List ℕ) Fault) → start_at bytes ≡ Ok (tt, rest) → (all_brought nothing_found rest).rest ≡ ended
-    → (all_brought nothing_found rest).found.said.frame ≡ Some frame
-    → picture_shown settings (all_brought nothing_found rest).found ≡ Ok picture
-    → fault_shown (all_brought nothing_found rest).found ended ≡ Some f → Named settings bytes f
+    (ended : Result (List ℕ) Fault) → start_at bytes ≡ Ok (tt, rest)
+    → (all_brought None nothing_found rest).rest ≡ ended
+    → (all_brought None nothing_found rest).found.said.frame ≡ Some frame
+    → picture_shown settings (all_brought None nothing_found rest).found ≡ Ok picture
+    → fault_shown (all_brought None nothing_found rest).found ended ≡ Some f → Named settings bytes f
 unfolding fault_shown
 named-by settings bytes rest picture frame f (Err g) start walked_so framed shows fault =
     go (walk-fault (suc (length rest)) Elsewhere nothing_found None None rest rest f nothing-fits refl
@@ -492,7 +495,7 @@ named-by settings bytes rest picture frame f (Err g) start walked_so framed show
         )
     go (unmet m n) = absurd n
 named-by settings bytes rest picture frame f (Ok left) start walked_so framed shows fault =
-    let found = (all_brought nothing_found rest).found in
+    let found = (all_brought None nothing_found rest).found in
     let read = walk-read (suc (length rest)) Elsewhere nothing_found None None rest rest left nothing-fits refl
     walked_so in
     inl (meant-err settings bytes (tt, rest) f start (drawn-err settings rest left found f read
@@ -512,10 +515,10 @@ named-by settings bytes rest picture frame f (Ok left) start walked_so framed sh
 -- The fault that is shown is that of the meaning, or the data of a scan end early.
 pub faults_are_the_meanings : (settings : Settings) (bytes : List ℕ) (s : Shown) (f : Fault)
     → shown settings bytes ≡ Ok s → s.fault ≡ Some f → Named settings bytes f
-unfolding shown shown_rest shown_of
+unfolding shown_within shown_rest_within shown_of
 faults_are_the_meanings settings bytes s f e fault =
     let start = bind-ok (start_at bytes) _ s e in
-    let w = all_brought nothing_found start.0.1 in
+    let w = all_brought None nothing_found start.0.1 in
     let u = bind-ok (framed_or w.found.said.frame w.rest) _ s start.2 in
     let p = bind-ok (picture_shown settings w.found) _ s u.2 in
     let same_so = ok-same _ s p.2 in

@@ -20,7 +20,7 @@ use Rattle.jpeg_streams.specs.FoundPictures.{samples_picture}
 use Rattle.jpeg_streams.specs.Levels.{Is8Bit, Levels, nothing_sent}
 use Rattle.jpeg_streams.specs.SaidSegments.{said_after}
 use Rattle.jpeg_streams.specs.Shown.{completed, fault_in, fault_shown, framed_or, picture_shown, planes_by, shown}
-use Rattle.jpeg_streams.specs.Shown.{shown_of, shown_rest}
+use Rattle.jpeg_streams.specs.Shown.{shown_of, shown_rest_within, shown_within}
 use Rattle.jpeg_streams.specs.Stream.{Walked, all_brought, start_at, told_of}
 use Rattle.jpeg_streams.specs.WrittenImages.{ClosesImage, MayStandInImage, WritesImage, WritesImageScan, WritesPart}
 use Rattle.jpeg_streams.specs.WrittenScans.{Coefficients}
@@ -87,7 +87,7 @@ record WalksWhole (array : Coefficients) (final : Said) (last : ℕ → Levels) 
 whole-walked : (array : Coefficients) → ((index row column : ℕ) → Is8Bit (array index row column))
     → (after rest : List ℕ) (final : Said) (last : ℕ → Levels)
     → WritesPart array ClosesImage nothing_said (λ k. nothing_sent) after final last
-    → WalksWhole array final last rest (all_brought nothing_found (after ++ rest))
+    → WalksWhole array final last rest (all_brought None nothing_found (after ++ rest))
 whole-walked array range after rest final last w =
     let c = closes-after array nothing_said final (λ k. nothing_sent) last after w in
     let fill = c.closes.fill in
@@ -107,8 +107,8 @@ whole-walked array range after rest final last w =
         framed = c.closes.is_said;
         ended = c.closes.ended;
       };
-      ends = ap (all_brought nothing_found) parts ∙ past.goes_on
-          ∙ walk-end Nothing past.turns false past.before now past.met past.all rest (last_turn now) refl
+      ends = ap (all_brought None nothing_found) parts ∙ past.goes_on
+          ∙ walk-end None Nothing past.turns false past.before now past.met past.all rest (last_turn now) refl
           (end-next past.before now past.met past.all fill rest (ap is_some c.closes.is_said) past.at) refl;
     }
 
@@ -163,7 +163,7 @@ pub whole_images_are_shown_whole : (settings : Settings) (array : Coefficients) 
     → WritesImage array image final last → picture_of_array settings final array last ≡ Ok picture
     → shown settings (image ++ rest)
     ≡ Ok (record { told = told_of final; picture = picture; fault = None })
-unfolding shown shown_rest start_at
+unfolding shown_within shown_rest_within start_at
 whole_images_are_shown_whole settings array image rest picture final last range w e =
     let walk = whole-walked array range w.after rest final last w.written in
     let found = beside bring final walk.read.brought in

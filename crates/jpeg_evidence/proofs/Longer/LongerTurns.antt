@@ -271,7 +271,8 @@ turn-goes more before found met bytes =
 abbrev pub walk_on : ℕ → Brought → Outcome Turn → Walked
 walk_on turns b o = elim o [
   | Err fault ↦ refused_walk b fault
-  | Ok t ↦ if t.0.ended then walked t.0.found (Ok t.1) else walk Nothing turns false t.0.before t.0.found t.0.met t.1
+  | Ok t ↦ if t.0.ended then walked t.0.found (Ok t.1)
+      else walk None Nothing turns false t.0.before t.0.found t.0.met t.1
 ]
 
 -- what a longer stream brings, by what a shorter one has brought
@@ -295,31 +296,32 @@ stopped-goes more found rows g v c =
 abbrev Others : List ℕ → ℕ → ℕ → Type 0
 Others more n k =
     (before : Before) (found : Found) (met : Option Marker) (bytes : List ℕ)
-    → Goes more (walk Nothing n false before found met bytes) (walk Nothing k false before found met (bytes ++ more))
+    → Goes more (walk None Nothing n false before found met bytes)
+    (walk None Nothing k false before found met (bytes ++ more))
 
 on-goes : (more : List ℕ) (n k : ℕ) (t : Turn × List ℕ) → Others more n k → (ended : Bool)
     → Goes more
-    (if ended then walked t.0.found (Ok t.1) else walk Nothing n false t.0.before t.0.found t.0.met t.1)
+    (if ended then walked t.0.found (Ok t.1) else walk None Nothing n false t.0.before t.0.found t.0.met t.1)
     (if ended then walked t.0.found (Ok (t.1 ++ more))
-    else walk Nothing k false t.0.before t.0.found t.0.met (t.1 ++ more))
+    else walk None Nothing k false t.0.before t.0.found t.0.met (t.1 ++ more))
 on-goes more n k t others true = ended-goes more t.0.found t.1
 on-goes more n k t others false = others t.0.before t.0.found t.0.met t.1
 
 -- where the turn has a fault
 fault-goes : (more : List ℕ) (k : ℕ) (before : Before) (found some : Found) (met : Option Marker) (bytes : List ℕ)
-    (w : Walked) → w ≡ walk Nothing (suc k) false before found met (bytes ++ more)
+    (w : Walked) → w ≡ walk None Nothing (suc k) false before found met (bytes ++ more)
     → (some ≡ found) ⊎ (ScanGoesOn found some (turn_at Nothing before found met (bytes ++ more)).found
     ⊎ RowScanGoesOn found some (turn_at Nothing before found met (bytes ++ more)).found) → ComesBy more some w
 fault-goes more k before found some met bytes w whole (inl same) =
     in_front (suc k) before met bytes
-    (whole ∙ ap (λ (f : Found). walk Nothing (suc k) false before f met (bytes ++ more)) (sym same))
+    (whole ∙ ap (λ (f : Found). walk None Nothing (suc k) false before f met (bytes ++ more)) (sym same))
 fault-goes more k before found some met bytes w whole (inr (inl adds)) = in_scan k before found met bytes whole adds
 fault-goes more k before found some met bytes w whole (inr (inr adds)) = in_rows k before found met bytes whole adds
 
 after-goes : (more : List ℕ) (n k : ℕ) (before : Before) (found : Found) (met : Option Marker) (bytes : List ℕ)
     (b : Brought) → TurnGoes more found b (turn_at Nothing before found met (bytes ++ more)) → Others more n k
     → walked_after Nothing k (turn_at Nothing before found met (bytes ++ more))
-    ≡ walk Nothing (suc k) false before found met (bytes ++ more)
+    ≡ walk None Nothing (suc k) false before found met (bytes ++ more)
     → (o : Outcome Turn) → b.turn ≡ o
     → Goes more (walk_on n b o) (walked_after Nothing k (turn_at Nothing before found met (bytes ++ more)))
 after-goes more n k before found met bytes b t others whole (Err g) e =
@@ -331,7 +333,8 @@ after-goes more n k before found met bytes b t others whole (Ok x) e =
     (on-goes more n k x others x.0.ended)
 
 walk-goes : (more : List ℕ) (n k : ℕ) → n ≤ k → (before : Before) (found : Found) (met : Option Marker) (bytes : List ℕ)
-    → Goes more (walk Nothing n false before found met bytes) (walk Nothing k false before found met (bytes ++ more))
+    → Goes more (walk None Nothing n false before found met bytes)
+    (walk None Nothing k false before found met (bytes ++ more))
 unfolding walk
 walk-goes more zero k h before found met bytes =
     stopped-goes more found None End _ (in_front k before met bytes refl)
@@ -341,18 +344,19 @@ walk-goes more (suc n) (suc k) h before found met bytes =
     after-goes more n k before found met bytes b (turn-goes more before found met bytes)
     (λ before found met bytes. walk-goes more n k (omega arith) before found met bytes) refl b.turn refl
 
-all-goes : (found : Found) (bytes more : List ℕ) → Goes more (all_brought found bytes) (all_brought found (bytes ++ more))
+all-goes : (found : Found) (bytes more : List ℕ)
+    → Goes more (all_brought None found bytes) (all_brought None found (bytes ++ more))
 all-goes found bytes more =
     walk-goes more (suc (length bytes)) (suc (length (bytes ++ more))) (omega (arith, length-append bytes more))
     Elsewhere found None bytes
 
 -- After the end of the image more bytes change nothing.
-pub ended_streams_stay : (found : Found) (bytes more rest : List ℕ) → (all_brought found bytes).rest ≡ Ok rest
-    → all_brought found (bytes ++ more) ≡ record (all_brought found bytes) { rest = Ok (rest ++ more) }
+pub ended_streams_stay : (found : Found) (bytes more rest : List ℕ) → (all_brought None found bytes).rest ≡ Ok rest
+    → all_brought None found (bytes ++ more) ≡ record (all_brought None found bytes) { rest = Ok (rest ++ more) }
 ended_streams_stay found bytes more rest e = (all-goes found bytes more).ended rest e
 
 -- A longer stream comes by what a shorter one has brought.
 pub longer_streams_go_on : (found : Found) (bytes more : List ℕ) (fault : Fault)
-    → (all_brought found bytes).rest ≡ Err fault
-    → ComesBy more (all_brought found bytes).found (all_brought found (bytes ++ more))
+    → (all_brought None found bytes).rest ≡ Err fault
+    → ComesBy more (all_brought None found bytes).found (all_brought None found (bytes ++ more))
 longer_streams_go_on found bytes more fault e = (all-goes found bytes more).stopped fault e

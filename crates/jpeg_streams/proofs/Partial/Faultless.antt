@@ -49,6 +49,8 @@ use Rattle.jpeg_streams.proofs.Partial.ScanSamples.{all-over, codings-at}
 use Rattle.jpeg_streams.proofs.Partial.ReachedIntervals.{GoesOnAt, Meets, intervals-read}
 use Rattle.jpeg_streams.specs.declared.beyond.Beyond.{Beyond}
 use Rattle.jpeg_streams.specs.declared.beyond.Beyond.TheVariants.{Nothing, Zeros}
+use Rattle.jpeg_streams.specs.Stream.{meaning_within, rest_within}
+use Rattle.jpeg_streams.specs.Shown.{shown_rest_within, shown_within}
 
 -- ---- turns
 
@@ -333,7 +335,7 @@ turn-read before found met now bytes left x fits same e =
 abbrev pub walked_after : Beyond → ℕ → Brought → Walked
 walked_after beyond turns b = elim b.turn [
   | Err fault ↦ record { found = b.found; rows = b.rows; rest = Err fault }
-  | Ok t ↦ if t.0.ended then walked t.0.found (Ok t.1) else walk beyond turns false t.0.before t.0.found t.0.met t.1
+  | Ok t ↦ if t.0.ended then walked t.0.found (Ok t.1) else walk None beyond turns false t.0.before t.0.found t.0.met t.1
 ]
 
 -- what a later turn of the walk gives
@@ -341,24 +343,24 @@ abbrev Again : ℕ → List ℕ → Type 0
 Again turns rest =
     (x : Turn × List ℕ) (now : Option Marker) (left : List ℕ) → FoundFits x.0.found
     → found_or now left (next_marker left) ≡ found_or x.0.met x.1 (next_marker x.1)
-    → (walk Nothing turns false x.0.before x.0.found x.0.met x.1).rest ≡ Ok rest
-    → walk Zeros turns false x.0.before x.0.found now left
-    ≡ walked (walk Nothing turns false x.0.before x.0.found x.0.met x.1).found (Ok rest)
+    → (walk None Nothing turns false x.0.before x.0.found x.0.met x.1).rest ≡ Ok rest
+    → walk None Zeros turns false x.0.before x.0.found now left
+    ≡ walked (walk None Nothing turns false x.0.before x.0.found x.0.met x.1).found (Ok rest)
 
 on-after : (turns : ℕ) (rest : List ℕ) (o : Outcome Turn) (x : Turn × List ℕ) (t : IsTurn o x.0 x.1)
     → FoundFits x.0.found → Again turns rest → (ended : Bool) → x.0.ended ≡ ended
     → (if ended then walked x.0.found (Ok x.1)
-    else walk Nothing turns false x.0.before x.0.found x.0.met x.1).rest ≡ Ok rest
+    else walk None Nothing turns false x.0.before x.0.found x.0.met x.1).rest ≡ Ok rest
     → (if ended then walked t.now.found (Ok t.left)
-    else walk Zeros turns false t.now.before t.now.found t.now.met t.left)
+    else walk None Zeros turns false t.now.before t.now.found t.now.met t.left)
     ≡ walked (if ended then walked x.0.found (Ok x.1)
-    else walk Nothing turns false x.0.before x.0.found x.0.met x.1).found (Ok rest)
+    else walk None Nothing turns false x.0.before x.0.found x.0.met x.1).found (Ok rest)
 on-after turns rest o x t fits again true u e =
     ap (λ (z : Found). walked z (Ok t.left)) t.found
     ∙ ap (λ (z : List ℕ). walked x.0.found (Ok z)) (t.after u ∙ ok-same x.1 rest e)
 on-after turns rest o x t fits again false u e =
-    ap (λ (b : Before). walk Zeros turns false b t.now.found t.now.met t.left) t.before
-    ∙ ap (λ (g : Found). walk Zeros turns false x.0.before g t.now.met t.left) t.found
+    ap (λ (b : Before). walk None Zeros turns false b t.now.found t.now.met t.left) t.before
+    ∙ ap (λ (g : Found). walk None Zeros turns false x.0.before g t.now.met t.left) t.found
     ∙ again x t.now.met t.left fits t.next e
 
 -- a walk after its next turn
@@ -372,18 +374,18 @@ walk-after turns rest o b turn fits again e = go b.turn refl e
     read : (r : Outcome Turn) → o.turn ≡ r → walked_after Zeros turns o ≡ (elim r as (λ _. Walked) [
       | Err fault ↦ record { found = o.found; rows = o.rows; rest = Err fault }
       | Ok t ↦ if t.0.ended then walked t.0.found (Ok t.1)
-          else walk Zeros turns false t.0.before t.0.found t.0.met t.1
+          else walk None Zeros turns false t.0.before t.0.found t.0.met t.1
     ])
     read r a = rw a refl
 
     go : (r : Outcome Turn) → b.turn ≡ r → (elim r as (λ _. Walked) [
       | Err fault ↦ record { found = b.found; rows = b.rows; rest = Err fault }
       | Ok t ↦ if t.0.ended then walked t.0.found (Ok t.1)
-          else walk Nothing turns false t.0.before t.0.found t.0.met t.1
+          else walk None Nothing turns false t.0.before t.0.found t.0.met t.1
     ]).rest ≡ Ok rest → walked_after Zeros turns o ≡ walked (elim r as (λ _. Walked) [
       | Err fault ↦ record { found = b.found; rows = b.rows; rest = Err fault }
       | Ok t ↦ if t.0.ended then walked t.0.found (Ok t.1)
-          else walk Nothing turns false t.0.before t.0.found t.0.met t.1
+          else walk None Nothing turns false t.0.before t.0.found t.0.met t.1
     ]).found (Ok rest)
     go (Err fault) a e = absurd (err-ok fault rest e)
     go (Ok x) a e =
@@ -391,15 +393,15 @@ walk-after turns rest o b turn fits again e = go b.turn refl e
         let f = subst FoundFits t.found (fits (t.now, t.left) t.read) in
         read (Ok (t.now, t.left)) t.read
         ∙ ap (λ (ended : Bool). if ended then walked t.now.found (Ok t.left)
-        else walk Zeros turns false t.now.before t.now.found t.now.met t.left) t.ended
+        else walk None Zeros turns false t.now.before t.now.found t.now.met t.left) t.ended
         ∙ on-after turns rest o.turn x t f again x.0.ended refl e
 
 -- Where a walk with nothing after its data has no fault, that with zeros comes to the same end.
 pub walk-read : (turns : ℕ) (before : Before) (found : Found) (met now : Option Marker) (bytes left rest : List ℕ)
     → FoundFits found → found_or now left (next_marker left) ≡ found_or met bytes (next_marker bytes)
-    → (walk Nothing turns false before found met bytes).rest ≡ Ok rest
-    → walk Zeros turns false before found now left
-    ≡ walked (walk Nothing turns false before found met bytes).found (Ok rest)
+    → (walk None Nothing turns false before found met bytes).rest ≡ Ok rest
+    → walk None Zeros turns false before found now left
+    ≡ walked (walk None Nothing turns false before found met bytes).found (Ok rest)
 unfolding walk
 walk-read zero before found met now bytes left rest fits same e = absurd (err-ok End rest e)
 walk-read (suc turns) before found met now bytes left rest fits same e =
@@ -444,12 +446,12 @@ pub picture-at : (settings : Settings) (found : Found) (frame : Frame) → found
 unfolding picture_shown
 picture-at settings found frame e = rw e refl
 
-rest-read : (settings : Settings) (bytes rest picture : List ℕ) (w : Walked) → all_brought nothing_found bytes ≡ w
+rest-read : (settings : Settings) (bytes rest picture : List ℕ) (w : Walked) → all_brought None nothing_found bytes ≡ w
     → w.rest ≡ Ok rest → picture_of settings w.found ≡ Ok picture
     → rest_at settings nothing_found bytes ≡ Ok ((told_of w.found.said, picture), rest)
-unfolding rest_at segments_at nothing_found nothing_said
+unfolding rest_within segments_at nothing_found nothing_said
 rest-read settings bytes rest picture w a e p =
-    let same : walk Zeros (suc (length bytes)) false Elsewhere nothing_found None bytes ≡ walked w.found (Ok rest)
+    let same : walk None Zeros (suc (length bytes)) false Elsewhere nothing_found None bytes ≡ walked w.found (Ok rest)
     = walk-read (suc (length bytes)) Elsewhere nothing_found None None bytes bytes rest
     (record { frame = tt; samples = refl }) refl
     (ap (λ (z : Walked). z.rest) a ∙ e) ∙ ap (λ (z : Walked). walked z.found (Ok rest)) a in
@@ -458,9 +460,9 @@ rest-read settings bytes rest picture w a e p =
 shown-rest : (settings : Settings) (bytes : List ℕ) (s : Shown) → shown_rest settings nothing_found bytes ≡ Ok s
     → s.fault ≡ None
     → (rest : List ℕ) × (rest_at settings nothing_found bytes ≡ Ok ((s.told, s.picture), rest))
-unfolding shown_rest shown_of
+unfolding shown_rest_within shown_of
 shown-rest settings bytes s e n =
-    let w = all_brought nothing_found bytes in
+    let w = all_brought None nothing_found bytes in
     let u = bind-ok (framed_or w.found.said.frame w.rest) _ s e in
     let p = bind-ok (picture_shown settings w.found) _ s u.2 in
     let same = ok-same _ s p.2 in
@@ -477,7 +479,7 @@ shown-rest settings bytes s e n =
 pub faultless_streams_are_meant : (settings : Settings) (bytes : List ℕ) (s : Shown)
     → shown settings bytes ≡ Ok s → s.fault ≡ None
     → (rest : List ℕ) × (meaning settings bytes ≡ Ok ((s.told, s.picture), rest))
-unfolding shown meaning
+unfolding shown_within meaning_within
 faultless_streams_are_meant settings bytes s e n =
     let start = bind-ok (start_at bytes) _ s e in
     let r = shown-rest settings start.0.1 s start.2 n in

@@ -14,7 +14,7 @@ pub use Rattle.jpeg_bits.proofs.WrittenIntervals.{marker-append}
 use Rattle.std.proofs.lemmas.Grind.{common_steps}
 use Rattle.std.proofs.lemmas.Map.Made.{keys_of-zip}
 use Rattle.std.proofs.lemmas.Slice.Zip.{length-zip}
-use Rattle.std.specs.Prelude.{zip}
+use Rattle.std.specs.Prelude.{zip, if◌then◌else◌}
 use Rattle.std.specs.List.{AllByRecursion}
 use Rattle.jpeg_bits.specs.Reading.{Fault, Malformed, Outcome, ◌>>=◌}
 use Rattle.jpeg_segments.specs.ScanHeader.{Scan, sos_at}
@@ -37,7 +37,8 @@ use Rattle.jpeg_streams.specs.declared.beyond.Beyond.{Beyond}
 use Rattle.jpeg_streams.specs.declared.beyond.Beyond.TheVariants.{Zeros}
 use Rattle.jpeg_streams.specs.Brought.{Brought, unbrought}
 use Rattle.jpeg_streams.specs.Stream.{Walked, brought_after, end_segment, scan_turn_at, segment_at, segments_at}
-use Rattle.jpeg_streams.specs.Stream.{turn_at, walk}
+use Rattle.jpeg_streams.specs.Stream.{turn_at, turn_within, walk}
+use Rattle.jpeg_streams.specs.Work.{is_above, left_after, work_of_turn}
 use Rattle.jpeg_bits.specs.declared.huffman.codes.HuffmanTableClass.TheVariants as classes
 use Rattle.jpeg_segments.specs.declared.frame.CodingProcess.TheVariants.{Lossless}
 use Rattle.jpeg_bits.specs.Written.{marker, IsMarker}
@@ -78,37 +79,39 @@ then-ok o f x y e g = ap (λ r. r >>= f) e ∙ g
 abbrev pub walked : Found → Result (List ℕ) Fault → Walked
 walked found rest = record { found = found; rows = None; rest = rest }
 
-pub walk-stop : (beyond : Beyond) (turns : ℕ) (header : Bool) (before : Before) (f : Found) (met : Option Marker)
-    (all : List ℕ) → 0 < turns → (header && is_some f.said.frame) ≡ true
-    → walk beyond turns header before f met all ≡ walked f (Ok all)
+pub walk-stop : (left : Option ℕ) (beyond : Beyond) (turns : ℕ) (header : Bool) (before : Before) (f : Found)
+    (met : Option Marker) (all : List ℕ) → 0 < turns → (header && is_some f.said.frame) ≡ true
+    → walk left beyond turns header before f met all ≡ walked f (Ok all)
 unfolding walk
-walk-stop beyond zero header before f met all h e = absurd (omega arith)
-walk-stop beyond (suc turns) header before f met all h e = rw e refl
+walk-stop left beyond zero header before f met all h e = absurd (omega arith)
+walk-stop left beyond (suc turns) header before f met all h e = rw e refl
 
 -- a walk up to the fault of a turn
 abbrev pub refused_walk : Brought → Fault → Walked
 refused_walk b fault = record { found = b.found; rows = b.rows; rest = Err fault }
 
-pub walk-refused : (beyond : Beyond) (turns : ℕ) (header : Bool) (before : Before) (f : Found) (met : Option Marker)
-    (all : List ℕ) (fault : Fault) → (header && is_some f.said.frame) ≡ false
-    → (turn_at beyond before f met all).turn ≡ Err fault → walk beyond (suc turns) header before f met all
-    ≡ refused_walk (turn_at beyond before f met all) fault
+pub walk-refused : (left : Option ℕ) (beyond : Beyond) (turns : ℕ) (header : Bool) (before : Before) (f : Found)
+    (met : Option Marker) (all : List ℕ) (fault : Fault) → (header && is_some f.said.frame) ≡ false
+    → (turn_within left beyond before f met all).turn ≡ Err fault
+    → walk left beyond (suc turns) header before f met all
+    ≡ refused_walk (turn_within left beyond before f met all) fault
 unfolding walk
-walk-refused beyond turns header before f met all fault n e = rw (n, e) refl
+walk-refused left beyond turns header before f met all fault n e = rw (n, e) refl
 
-pub walk-end : (beyond : Beyond) (turns : ℕ) (header : Bool) (before : Before) (f : Found) (met : Option Marker)
-    (all rest : List ℕ) (t : Turn) → (header && is_some f.said.frame) ≡ false
-    → (turn_at beyond before f met all).turn ≡ Ok (t, rest) → t.ended ≡ true
-    → walk beyond (suc turns) header before f met all ≡ walked t.found (Ok rest)
+pub walk-end : (left : Option ℕ) (beyond : Beyond) (turns : ℕ) (header : Bool) (before : Before) (f : Found)
+    (met : Option Marker) (all rest : List ℕ) (t : Turn) → (header && is_some f.said.frame) ≡ false
+    → (turn_within left beyond before f met all).turn ≡ Ok (t, rest) → t.ended ≡ true
+    → walk left beyond (suc turns) header before f met all ≡ walked t.found (Ok rest)
 unfolding walk
-walk-end beyond turns header before f met all rest t n e g = rw (n, e, g) refl
+walk-end left beyond turns header before f met all rest t n e g = rw (n, e, g) refl
 
-pub walk-on : (beyond : Beyond) (turns : ℕ) (header : Bool) (before : Before) (f : Found) (met : Option Marker)
-    (all rest : List ℕ) (t : Turn) → (header && is_some f.said.frame) ≡ false
-    → (turn_at beyond before f met all).turn ≡ Ok (t, rest) → t.ended ≡ false
-    → walk beyond (suc turns) header before f met all ≡ walk beyond turns header t.before t.found t.met rest
+pub walk-on : (left : Option ℕ) (beyond : Beyond) (turns : ℕ) (header : Bool) (before : Before) (f : Found)
+    (met : Option Marker) (all rest : List ℕ) (t : Turn) → (header && is_some f.said.frame) ≡ false
+    → (turn_within left beyond before f met all).turn ≡ Ok (t, rest) → t.ended ≡ false
+    → walk left beyond (suc turns) header before f met all
+    ≡ walk (left_after left (work_of_turn f met all)) beyond turns header t.before t.found t.met rest
 unfolding walk
-walk-on beyond turns header before f met all rest t n e g = rw (n, e, g) refl
+walk-on left beyond turns header before f met all rest t n e g = rw (n, e, g) refl
 
 -- With zeros after its data a turn that has a fault brings nothing.
 pub zeros-bring : (before : Before) (f : Found) (met : Option Marker) (all : List ℕ)
@@ -130,13 +133,24 @@ zeros-bring before f met all = go (found_or met all (next_marker all))
     go (Ok m) = after m.0 m.1
     go (Err fault) = refl
 
-pub zeros-refused : (turns : ℕ) (header : Bool) (before : Before) (f : Found) (met : Option Marker) (all : List ℕ)
-    (fault : Fault) → (header && is_some f.said.frame) ≡ false
-    → (turn_at Zeros before f met all).turn ≡ Err fault
-    → walk Zeros (suc turns) header before f met all ≡ walked f (Err fault)
-zeros-refused turns header before f met all fault n e =
-    walk-refused Zeros turns header before f met all fault n e
-    ∙ ap (λ (b : Brought). refused_walk b fault) (zeros-bring before f met all)
+-- so it does within a limit
+zeros-within : (left : Option ℕ) (before : Before) (f : Found) (met : Option Marker) (all : List ℕ)
+    → turn_within left Zeros before f met all ≡ unbrought f (turn_within left Zeros before f met all).turn
+zeros-within left before f met all = go (is_above left (work_of_turn f met all))
+  where
+    go : (above : Bool) → ◌≡◌ {A = Brought}
+        (if above then unbrought f (Err Malformed) else turn_at Zeros before f met all)
+        (unbrought f (if above then unbrought f (Err Malformed) else turn_at Zeros before f met all).turn)
+    go true = refl
+    go false = zeros-bring before f met all
+
+pub zeros-refused : (left : Option ℕ) (turns : ℕ) (header : Bool) (before : Before) (f : Found) (met : Option Marker)
+    (all : List ℕ) (fault : Fault) → (header && is_some f.said.frame) ≡ false
+    → (turn_within left Zeros before f met all).turn ≡ Err fault
+    → walk left Zeros (suc turns) header before f met all ≡ walked f (Err fault)
+zeros-refused left turns header before f met all fault n e =
+    walk-refused left Zeros turns header before f met all fault n e
+    ∙ ap (λ (b : Brought). refused_walk b fault) (zeros-within left before f met all)
 
 pub zeros-scan : (found : Found) (bytes : List ℕ) → (scan_turn_at Zeros found bytes).turn ≡ scan_segment found bytes
 unfolding scan_turn_at
@@ -146,10 +160,11 @@ zeros-scan found bytes = refl
 abbrev pub walked_to : Walked → Outcome Found
 walked_to w = w.rest >>= λ (rest : List ℕ). Ok (w.found, rest)
 
-pub segments-walked : (header : Bool) (before : Before) (f : Found) (met : Option Marker) (all : List ℕ) (w : Walked)
-    → walk Zeros (suc (length all)) header before f met all ≡ w → segments_at header before f met all ≡ walked_to w
+pub segments-walked : (left : Option ℕ) (header : Bool) (before : Before) (f : Found) (met : Option Marker)
+    (all : List ℕ) (w : Walked) → walk left Zeros (suc (length all)) header before f met all ≡ w
+    → segments_at left header before f met all ≡ walked_to w
 unfolding segments_at
-segments-walked header before f met all w e = ap walked_to e
+segments-walked left header before f met all w e = ap walked_to e
 
 -- ---- the turn of a marker
 

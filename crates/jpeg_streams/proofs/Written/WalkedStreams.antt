@@ -28,6 +28,7 @@ use Rattle.jpeg_streams.proofs.Written.ReadTurns.{same-turn, stands-here, stands
 use Rattle.jpeg_streams.proofs.Written.ReadTurns.{walk-on, walk-stop, walked, zeros-scan}
 use Rattle.jpeg_streams.proofs.Written.ReadTurns.{marker_for, segment-marker}
 use Rattle.jpeg_streams.proofs.Written.SaidTables.{HasTables, no-tables, segment-tables}
+use Rattle.jpeg_streams.specs.Stream.{meaning_within, rest_within}
 
 -- EOI
 pub closes : {may_end : Frame → Type 0} (said : Said) (f : Frame) (fill : ℕ) → said.frame ≡ Some f → may_end f
@@ -104,9 +105,9 @@ segment-said may P shaped said s stands allowed is =
 -- ---- the turns of a stream
 
 pub rest-by : (settings : Settings) (found all : Found) (bytes rest : List ℕ)
-    → walk Zeros (suc (length bytes)) false Elsewhere found None bytes ≡ walked all (Ok rest)
+    → walk None Zeros (suc (length bytes)) false Elsewhere found None bytes ≡ walked all (Ok rest)
     → rest_at settings found bytes ≡ (picture_of settings all >>= (λ picture. Ok ((told_of all.said, picture), rest)))
-unfolding rest_at
+unfolding rest_within
 rest-by settings found all bytes rest e = search (rules, then-ok, found, segments-walked)
 
 -- what was said, beside what scans have brought
@@ -193,10 +194,10 @@ module _ {Sent Brought : Type 0} {may : Said → Segment → Type 0}
   segment-next : (said : Said) (x : Brought) (s : Segment) (header : Bool) (turns fill : ℕ) (before : Before)
       (met : Option Marker) (all more : List ℕ) → Stands said s → (header && is_some said.frame) ≡ false
       → StandsAt met all (marker fill (marker_code s) (with_length (payload_of s) ++ more) ++ tail)
-      → walk Zeros (suc turns) header before (beside brings said x) met all
-      ≡ walk Zeros turns header Elsewhere (beside brings (said_after said s) x) None (more ++ tail)
+      → walk None Zeros (suc turns) header before (beside brings said x) met all
+      ≡ walk None Zeros turns header Elsewhere (beside brings (said_after said s) x) None (more ++ tail)
   segment-next said x s header turns fill before met all more stands goes_on at =
-      walk-on Zeros turns header before (beside brings said x) met all (more ++ tail)
+      walk-on None Zeros turns header before (beside brings said x) met all (more ++ tail)
       (onward (beside brings (said_after said s) x)) goes_on
       (segment-turn Zeros before (beside brings said x) s met all fill more tail stands.0 (stands-taken said s stands) at) refl
 
@@ -204,12 +205,12 @@ module _ {Sent Brought : Type 0} {may : Said → Segment → Type 0}
       (met : Option Marker) (all : List ℕ) → Rest said sent bytes final last → IsSaid P said → Held said sent x
       → StandsAt met all (bytes ++ tail) → length bytes < turns
       → (r : ReadTo P Held may_end final last)
-      × (walk Zeros turns false before (beside brings said x) met all ≡ walked (beside brings final r.brought) (Ok tail))
+      × (walk None Zeros turns false before (beside brings said x) met all ≡ walked (beside brings final r.brought) (Ok tail))
   reads-on said final sent last bytes x zero before met all w is held at room = absurd (omega arith)
   reads-on said final sent last bytes x (suc turns) before met all (end said' sent' bytes' c) is held at room =
       let now = beside brings said x in (
         record { brought = x; held = held; said = is; frame = c.frame; framed = c.is_said; ended = c.ended },
-        walk-end Zeros turns false before now met all tail
+        walk-end None Zeros turns false before now met all tail
             (record { found = now; before = Elsewhere; met = None; ended = true }) refl
             (same-turn _ _ (at.turn Zeros before now
             ∙ ap (λ (l : List ℕ). turn_at Zeros before now None (l ++ tail)) c.closed)
@@ -234,7 +235,7 @@ module _ {Sent Brought : Type 0} {may : Said → Segment → Type 0}
       (let l = marker-longer fill 218 turns header (data_bytes ++ more) room in let k = length-append data_bytes more in
       omega arith) in (
         r.0,
-        walk-on Zeros turns false before now met all n.after _ refl
+        walk-on None Zeros turns false before now met all n.after _ refl
             (same-turn _ _ (at.turn Zeros before now ∙ scan-turn Zeros before now fill header data_bytes more tail)
             ∙ zeros-scan now (header ++ (data_bytes ++ (more ++ tail)))
             ∙ ap (λ (l : List ℕ). scan_segment now (header ++ (data_bytes ++ l))) n.is
@@ -245,7 +246,7 @@ module _ {Sent Brought : Type 0} {may : Said → Segment → Type 0}
       → Rest said sent bytes final last → IsSaid P said → said.frame ≡ None → said.scanned ≡ false
       → length bytes < turns
       → (r : Headed may scans may_end P final sent last)
-      × (walk Zeros turns true Elsewhere (beside brings said x) None (bytes ++ tail)
+      × (walk None Zeros turns true Elsewhere (beside brings said x) None (bytes ++ tail)
       ≡ walked (beside brings (said_after r.between (Header r.number r.header)) x) (Ok (r.left ++ tail)))
   reads-header said final sent last bytes x zero w is e u room = absurd (omega arith)
   reads-header said final sent last bytes x (suc turns) (end said' sent' bytes' c) is e u room = cc
@@ -267,7 +268,7 @@ module _ {Sent Brought : Type 0} {may : Said → Segment → Type 0}
         },
         segment-next said x (Header number h) true turns fill Elsewhere None _ more stands
             (ap is_some e) (stands-here _)
-            ∙ walk-stop Zeros turns true Elsewhere _ None (more ++ tail)
+            ∙ walk-stop None Zeros turns true Elsewhere _ None (more ++ tail)
             (let l = marker-longer fill _ turns (with_length (payload_of (Header number h))) more room in omega arith)
             refl,
       )
@@ -289,7 +290,7 @@ module _ {Sent Brought : Type 0} {may : Said → Segment → Type 0}
   pub stream-read : (sent last : Sent) (bytes : List ℕ) (final : Said) (x : Brought) (settings : Settings)
       → Whole sent bytes final last → beside brings nothing_said x ≡ nothing_found → Held nothing_said sent x
       → IsMeant P brings Held may_end settings final last tail (meaning settings (bytes ++ tail))
-  unfolding meaning start_at
+  unfolding meaning_within start_at
   stream-read sent last bytes final x settings w e held =
       let long = length-append w.after tail in
       let r = reads-on nothing_said final sent last w.after x (suc (length (w.after ++ tail))) Elsewhere None
@@ -311,6 +312,6 @@ module _ {Sent Brought : Type 0} {may : Said → Segment → Type 0}
       (nothing-said P) refl refl (omega arith) in (
         r.0,
         ap (λ (l : List ℕ). header_at (l ++ tail)) w.starts
-            ∙ ap (λ (f : Found). segments_at true Elsewhere f None (w.after ++ tail)) (sym e)
-            ∙ segments-walked _ _ _ _ _ _ r.1,
+            ∙ ap (λ (f : Found). segments_at None true Elsewhere f None (w.after ++ tail)) (sym e)
+            ∙ segments-walked None _ _ _ _ _ _ r.1,
       )

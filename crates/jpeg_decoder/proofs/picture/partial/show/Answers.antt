@@ -16,7 +16,7 @@ returns-in_err-read_start-clause-whole g c =
 pub returns-in_err-read_start-clause-told : goal.returns-in_err-read_start-clause-told
 returns-in_err-read_start-clause-told g c start =
     let p = err_from_is_err_and c.from_residual.result c.from_residual.ensures.1 in
-    rw (p.1, p.2) (start-silent PartialLines c.args.state.now c.args.source.now c.read_start.new.source _
+    rw (p.1, p.2) (start-silent PartialLines c.args.settings.max_blocks c.args.state.now c.args.source.now c.read_start.new.source _
     (c.requires.start start) c.in_err-read_start.ensures)
 
 pub returns-in_err-read_start-clause-given_up : goal.returns-in_err-read_start-clause-given_up
@@ -42,13 +42,13 @@ returns-clause-whole g c start =
 
 pub returns-clause-whole_rows : goal.returns-clause-whole_rows
 returns-clause-whole_rows g c start =
-    start-counted {X = PartialLines} (λ p. p.whole_rows) c.args.state.now c.args.source.now
+    start-counted {X = PartialLines} (λ p. p.whole_rows) c.args.settings.max_blocks c.args.state.now c.args.source.now
     c.read_start.new.source c.show_rest-2.new.source c.show_rest-2.result (c.requires.start start)
     c.in_ok-read_start.ensures c.show_rest-2.ensures.rows
 
 pub returns-clause-told : goal.returns-clause-told
 returns-clause-told g c start =
-    start-told {X = PartialLines} c.args.state.now _ c.args.source.now c.read_start.new.source
+    start-told {X = PartialLines} c.args.settings.max_blocks c.args.state.now _ c.args.source.now c.read_start.new.source
     c.show_rest-2.new.source c.show_rest-2.result (c.requires.start start) c.in_ok-read_start.ensures
     c.show_rest-2.ensures.told
 

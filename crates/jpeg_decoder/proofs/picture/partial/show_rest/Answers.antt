@@ -25,7 +25,7 @@ show_found-requires g c =
           (then-holds c.reach_segments-ended.result (IsSound c.reach_segments-ended.new.state) m
           c.reach_segments-ended.ensures.sound);
       fault = ended-bytes c.reach_segments-ended.result c.err.result (λ (u : Unit {0}). tt)
-          (λ bytes. walk_end (all_brought c.args.state.now bytes)) c.args.source.now
+          (λ bytes. walk_end (all_brought c.args.settings.max_blocks c.args.state.now bytes)) c.args.source.now
           c.reach_segments-ended.new.source m c.reach_segments-ended.ensures.reads c.err.ensures.value;
     }
 
@@ -42,7 +42,7 @@ returns-clause-shown g c =
 
 pub returns-clause-rows : goal.returns-clause-rows
 returns-clause-rows g c =
-    rest-counted {X = PartialLines} (λ p. p.whole_rows) c.args.state.now
+    rest-counted {X = PartialLines} (λ p. p.whole_rows) c.args.settings.max_blocks c.args.state.now
     c.reach_segments-ended.new.state
     (found_of c.state.inside.said c.replace-decoded.result) c.args.source.now
     c.reach_segments-ended.new.source c.reach_segments-ended.result c.reach_segments-ended.new.rows
@@ -53,7 +53,7 @@ returns-clause-rows g c =
 
 pub returns-clause-told : goal.returns-clause-told
 returns-clause-told g c =
-    rest-told {X = PartialLines} c.args.state.now c.reach_segments-ended.new.state
+    rest-told {X = PartialLines} c.args.settings.max_blocks c.args.state.now c.reach_segments-ended.new.state
     (found_of c.state.inside.said c.replace-decoded.result) c.args.source.now
     c.reach_segments-ended.new.source c.reach_segments-ended.result c.show_found.result
     (c.is_lost.ensures.memory c.if-is_lost.false) c.reach_segments-ended.ensures.found
@@ -62,7 +62,7 @@ returns-clause-told g c =
 pub returns-clause-given_up : goal.returns-clause-given_up
 returns-clause-given_up g c =
     rest-given-up {X = PartialLines} (λ p. p.fault) (λ (u : Unit {0}). tt)
-    (λ bytes. walk_end (all_brought c.args.state.now bytes)) c.args.source.now
+    (λ bytes. walk_end (all_brought c.args.settings.max_blocks c.args.state.now bytes)) c.args.source.now
     c.reach_segments-ended.new.source c.reach_segments-ended.result c.err.result c.show_found.result
     (c.is_lost.ensures.memory c.if-is_lost.false) (c.is_lost.ensures.interrupted c.if-is_lost.false)
     c.reach_segments-ended.ensures.reads c.err.ensures.value c.show_found.ensures.first

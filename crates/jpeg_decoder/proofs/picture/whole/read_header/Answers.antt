@@ -1,4 +1,4 @@
-use Rattle.std.proofs.Common.{◌∙◌, rules, sym, ap}
+use Rattle.std.proofs.Common.{◌∙◌, None, rules, sym, ap}
 use Rattle.jpeg_streams.specs.Stream.{told_of}
 use Rattle.jpeg_streams.specs.Reported.{IsOfTurns}
 use Rattle.jpeg_streams.specs.Found.{Found, nothing_found}
@@ -12,7 +12,7 @@ returns-clause-told g c = search (rules, told-through, told-start)
 
 pub returns-in_err-read_start-clause-turns : goal.returns-in_err-read_start-clause-turns
 unfolding IsOfTurns nothing_found
-returns-in_err-read_start-clause-turns g c k = (0, ap (λ (f : Found). told_of f.said) c.requires ∙ sym (turns-none _ _))
+returns-in_err-read_start-clause-turns g c k = (0, ap (λ (f : Found). told_of f.said) c.requires ∙ sym (turns-none None _ _))
 
 pub returns-clause-unread : goal.returns-clause-unread
 returns-clause-unread g c = search (rules, nothing-framed)

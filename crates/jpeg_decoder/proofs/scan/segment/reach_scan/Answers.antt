@@ -1,5 +1,7 @@
 use Rattle.std.proofs.Common.{◌≡◌, subst}
-use Rattle.jpeg_streams.specs.Brought.{scan_brought, Brought}
+use Rattle.jpeg_streams.specs.Brought.{Brought}
+use Rattle.jpeg_streams.specs.Stream.{scan_within}
+use Rattle.jpeg_streams.specs.declared.beyond.Beyond.TheVariants.{Nothing}
 use Rattle.jpeg_bits.specs.Reading.{Answers}
 use Rattle.jpeg_streams.specs.Found.{Found}
 use Rattle.jpeg_streams.specs.States.{OnToldRefusal}
@@ -12,24 +14,24 @@ use Rattle.jpeg_decoder.proofs.scan.segment.reach_scan.Goals as goal
 
 pub returns-in_err-header-clause-reads : goal.returns-in_err-header-clause-reads
 returns-in_err-header-clause-reads g c =
-    none-reads _ c.args.state.now (scan_brought c.args.state.now) _ _ _ _ c.from_residual.ensures.1
-    (no-header c.args.state.now _ _ _ c.in_err-header.ensures.header)
+    none-reads _ c.args.state.now (scan_within c.args.left.now Nothing c.args.state.now) _ _ _ _ c.from_residual.ensures.1
+    (no-header c.args.left.now c.args.state.now _ _ _ c.in_err-header.ensures.header)
 
 pub returns-in_err-header-clause-found : goal.returns-in_err-header-clause-found
 returns-in_err-header-clause-found g c =
-    none-stays c.args.state.now _ (scan_brought c.args.state.now) c.args.source.now c.read_header.new.source _ _ c.from_residual.ensures.1
-    c.read_header.ensures.stays (no-header c.args.state.now _ _ _ c.in_err-header.ensures.header)
+    none-stays c.args.state.now _ (scan_within c.args.left.now Nothing c.args.state.now) c.args.source.now c.read_header.new.source _ _ c.from_residual.ensures.1
+    c.read_header.ensures.stays (no-header c.args.left.now c.args.state.now _ _ _ c.in_err-header.ensures.header)
 
 pub returns-in_err-header-clause-rows : goal.returns-in_err-header-clause-rows
 returns-in_err-header-clause-rows g c =
-    none-counted c.args.state.now (scan_brought c.args.state.now) _ c.args.source.now c.read_header.new.source _ _ c.from_residual.ensures.1
-    c.requires.rows (no-header c.args.state.now _ _ _ c.in_err-header.ensures.header)
+    none-counted c.args.state.now (scan_within c.args.left.now Nothing c.args.state.now) _ c.args.source.now c.read_header.new.source _ _ c.from_residual.ensures.1
+    c.requires.rows (no-header c.args.left.now c.args.state.now _ _ _ c.in_err-header.ensures.header)
 
 pub returns-then-is_lossless-clause-reads : goal.returns-then-is_lossless-clause-reads
 returns-then-is_lossless-clause-reads g c =
     let new = c.reach_lossless_scan.new in
     let v = λ (s : Step). turn_of new.state s in
-    header-reads v c.args.state.now c.in_ok-header.header c.args.source.now c.read_header.new.source new.source
+    header-reads v c.args.left.now c.args.state.now c.in_ok-header.header c.args.source.now c.read_header.new.source new.source
     c.reach_lossless_scan.result c.in_ok-header.ensures.header
     (subst (λ (f : Found). UnlessRefused c.reach_lossless_scan.result (Answers v (λ bytes. (brought_after f c.in_ok-header.header
     bytes).turn) c.read_header.new.source c.reach_lossless_scan.result new.source)) c.read_header.ensures.stays
@@ -38,7 +40,7 @@ returns-then-is_lossless-clause-reads g c =
 pub returns-then-is_lossless-clause-found : goal.returns-then-is_lossless-clause-found
 returns-then-is_lossless-clause-found g c =
     let new = c.reach_lossless_scan.new in
-    header-told (λ (w : Brought). new.state ≡ w.found) c.args.state.now c.in_ok-header.header c.args.source.now
+    header-told (λ (w : Brought). new.state ≡ w.found) c.args.left.now c.args.state.now c.in_ok-header.header c.args.source.now
     c.read_header.new.source new.source c.reach_lossless_scan.result c.in_ok-header.ensures.header
     (subst (λ (f : Found). OnToldRefusal c.read_header.new.source new.source c.reach_lossless_scan.result
     (new.state ≡ (brought_after f c.in_ok-header.header c.read_header.new.source.bytes).found))
@@ -47,7 +49,7 @@ returns-then-is_lossless-clause-found g c =
 pub returns-then-is_lossless-clause-rows : goal.returns-then-is_lossless-clause-rows
 returns-then-is_lossless-clause-rows g c =
     let new = c.reach_lossless_scan.new in
-    header-told (λ (w : Brought). new.rows ≡ w.rows) c.args.state.now c.in_ok-header.header c.args.source.now
+    header-told (λ (w : Brought). new.rows ≡ w.rows) c.args.left.now c.args.state.now c.in_ok-header.header c.args.source.now
     c.read_header.new.source new.source c.reach_lossless_scan.result c.in_ok-header.ensures.header
     (subst (λ (f : Found). OnToldRefusal c.read_header.new.source new.source c.reach_lossless_scan.result
     (new.rows ≡ (brought_after f c.in_ok-header.header c.read_header.new.source.bytes).rows))
@@ -57,7 +59,7 @@ pub returns-else-is_lossless-clause-reads : goal.returns-else-is_lossless-clause
 returns-else-is_lossless-clause-reads g c =
     let new = c.reach_block_scan.new in
     let v = λ (s : Step). turn_of new.state s in
-    header-reads v c.args.state.now c.in_ok-header.header c.args.source.now c.read_header.new.source new.source
+    header-reads v c.args.left.now c.args.state.now c.in_ok-header.header c.args.source.now c.read_header.new.source new.source
     c.reach_block_scan.result c.in_ok-header.ensures.header
     (subst (λ (f : Found). UnlessRefused c.reach_block_scan.result (Answers v (λ bytes. (brought_after f c.in_ok-header.header
     bytes).turn) c.read_header.new.source c.reach_block_scan.result new.source)) c.read_header.ensures.stays
@@ -66,7 +68,7 @@ returns-else-is_lossless-clause-reads g c =
 pub returns-else-is_lossless-clause-found : goal.returns-else-is_lossless-clause-found
 returns-else-is_lossless-clause-found g c =
     let new = c.reach_block_scan.new in
-    header-told (λ (w : Brought). new.state ≡ w.found) c.args.state.now c.in_ok-header.header c.args.source.now
+    header-told (λ (w : Brought). new.state ≡ w.found) c.args.left.now c.args.state.now c.in_ok-header.header c.args.source.now
     c.read_header.new.source new.source c.reach_block_scan.result c.in_ok-header.ensures.header
     (subst (λ (f : Found). OnToldRefusal c.read_header.new.source new.source c.reach_block_scan.result
     (new.state ≡ (brought_after f c.in_ok-header.header c.read_header.new.source.bytes).found))
@@ -75,7 +77,7 @@ returns-else-is_lossless-clause-found g c =
 pub returns-else-is_lossless-clause-rows : goal.returns-else-is_lossless-clause-rows
 returns-else-is_lossless-clause-rows g c =
     let new = c.reach_block_scan.new in
-    header-told (λ (w : Brought). new.rows ≡ w.rows) c.args.state.now c.in_ok-header.header c.args.source.now
+    header-told (λ (w : Brought). new.rows ≡ w.rows) c.args.left.now c.args.state.now c.in_ok-header.header c.args.source.now
     c.read_header.new.source new.source c.reach_block_scan.result c.in_ok-header.ensures.header
     (subst (λ (f : Found). OnToldRefusal c.read_header.new.source new.source c.reach_block_scan.result
     (new.rows ≡ (brought_after f c.in_ok-header.header c.read_header.new.source.bytes).rows))

@@ -11,7 +11,7 @@ use Rattle.jpeg_decoder.proofs.scan.segment.read_scan.Goals as goal
 
 pub returns-in_err-header-clause-reads : goal.returns-in_err-header-clause-reads
 returns-in_err-header-clause-reads g c =
-    header-refused _ c.args.state.now _ _ _ _ c.from_residual.ensures.1 c.in_err-header.ensures.header
+    header-refused _ c.args.left.now c.args.state.now _ _ _ _ c.from_residual.ensures.1 c.in_err-header.ensures.header
 
 pub returns-in_err-header-clause-steps : goal.returns-in_err-header-clause-steps
 returns-in_err-header-clause-steps g c =
@@ -20,7 +20,7 @@ returns-in_err-header-clause-steps g c =
 
 pub returns-in_err-met-clause-reads : goal.returns-in_err-met-clause-reads
 returns-in_err-met-clause-reads g c =
-    segment-refused _ (once_scanned c.read_after.new.state) c.args.state.now c.in_ok-header.header _ _ _ _ _
+    segment-refused _ c.args.left.now (once_scanned c.read_after.new.state) c.args.state.now c.in_ok-header.header _ _ _ _ _
     c.from_residual-in_err-met.ensures.1 c.in_ok-header.ensures.header
     (subst (λ (f : Found). Answers (λ (m : Option Marker). (once_scanned c.read_after.new.state, m))
     (read_after f c.in_ok-header.header) c.read_header.new.source (Err c.in_err-met.field-0.0) c.read_after.new.source)
@@ -37,7 +37,7 @@ returns-clause-reads g c =
     let stays = c.read_header.ensures.stays in
     let before = ap (λ (s : Said). scan_before (with_said (λ _. s) c.args.state.now))
     (c.read_after.ensures.said ∙ ap (λ (f : Found). f.said) stays) in
-    segment-ends next c.args.state.now c.in_ok-header.header c.in_ok-met.met c.args.source.now
+    segment-ends c.args.left.now next c.args.state.now c.in_ok-header.header c.in_ok-met.met c.args.source.now
     c.read_header.new.source c.read_after.new.source _
     (c.end_scan.ensures ∙ ap (λ (b : Before). record { found = next; before = b; met = c.in_ok-met.met; ended = false })
     before) c.in_ok-header.ensures.header

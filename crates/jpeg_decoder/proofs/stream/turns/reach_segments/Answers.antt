@@ -14,59 +14,59 @@ use Rattle.jpeg_decoder.proofs.Segments.Turns.{turn-takes}
 use Rattle.jpeg_decoder.proofs.stream.turns.reach_segments.Given.{Over}
 use Rattle.jpeg_decoder.proofs.stream.turns.reach_segments.Goals as goal
 use Rattle.jpeg_decoder.proofs.stream.turns.reach_segments.Goals.{else-loop-test}
-use Rattle.jpeg_decoder.proofs.stream.turns.reach_segments.Goals.{then-loop-test+in_ok-step+else-step+else-counter-lt18446744073709551615}
+use Rattle.jpeg_decoder.proofs.stream.turns.reach_segments.Goals.{then-loop-test+in_ok-last+else-last+else-counter-lt18446744073709551615}
 
 -- ---- a turn that is refused
 
-pub returns-in_err-step-clause-reads : goal.returns-in_err-step-clause-reads
-returns-in_err-step-clause-reads g c =
+pub returns-in_err-last-clause-reads : goal.returns-in_err-last-clause-reads
+returns-in_err-last-clause-reads g c =
     let p = err_from_is_err_and c.from_residual.result c.from_residual.ensures.1 in
-    rw (p.1, p.2) (if-refused-as _ (walked-err (turn_of c.reach_turn.new.state) (λ (u : Unit {0}). tt) walk_end Nothing
-    false c.args.state.now c.args.source.now c.loop.counter c.loop.before c.loop.state c.loop.met c.loop.source
-    c.reach_turn.new.source _ c.loop.invariant.walked refl (end-refused (λ f rest. (tt, rest)))) c.in_err-step.ensures.reads)
+    rw (p.1, p.2) (if-refused-as _ (walked-err (turn_of c.reach_turn.new.state) (λ (u : Unit {0}). tt) walk_end
+    c.args.limit Nothing false c.args.state.now c.args.source.now c.loop.counter c.loop.left c.loop.last c.loop.state
+    c.loop.source c.reach_turn.new.source _ c.loop.invariant.walked refl (end-refused (λ f rest. (tt, rest)))) c.in_err-last.ensures.reads)
 
-pub returns-in_err-step-clause-found : goal.returns-in_err-step-clause-found
-returns-in_err-step-clause-found g c =
+pub returns-in_err-last-clause-found : goal.returns-in_err-last-clause-found
+returns-in_err-last-clause-found g c =
     let p = err_from_is_err_and c.from_residual.result c.from_residual.ensures.1 in
     let l = c.loop in
-    rw (p.1, p.2) (told-refused (turn_of c.reach_turn.new.state) Nothing false c.args.state.now c.args.source.now
-    l.counter l.before l.state l.met l.source c.reach_turn.new.source _ _ _ l.invariant.walked
-    c.in_err-step.ensures.reads c.in_err-step.ensures.found
-    (λ k f q is. is ∙ ap (λ (w : Walked). without_tables w.found) (sym (walked-refused Nothing false c.args.state.now
-    c.args.source.now l.counter l.before l.state l.met l.source f l.invariant.walked refl q k))))
+    rw (p.1, p.2) (told-refused (turn_of c.reach_turn.new.state) c.args.limit Nothing false c.args.state.now
+    c.args.source.now l.counter l.left l.last l.state l.source c.reach_turn.new.source _ _ _ l.invariant.walked
+    c.in_err-last.ensures.reads c.in_err-last.ensures.found
+    (λ k f q is. is ∙ ap (λ (w : Walked). without_tables w.found) (sym (walked-refused c.args.limit Nothing false
+    c.args.state.now c.args.source.now l.counter l.left l.last l.state l.source f l.invariant.walked refl q k))))
 
-pub returns-in_err-step-clause-rows : goal.returns-in_err-step-clause-rows
-returns-in_err-step-clause-rows g c =
+pub returns-in_err-last-clause-rows : goal.returns-in_err-last-clause-rows
+returns-in_err-last-clause-rows g c =
     let p = err_from_is_err_and c.from_residual.result c.from_residual.ensures.1 in
     let l = c.loop in
-    rw (p.1, p.2) (told-refused (turn_of c.reach_turn.new.state) Nothing false c.args.state.now c.args.source.now
-    l.counter l.before l.state l.met l.source c.reach_turn.new.source _ _ _ l.invariant.walked
-    c.in_err-step.ensures.reads c.in_err-step.ensures.rows
-    (λ k f q is. is ∙ ap (λ (w : Walked). w.rows) (sym (walked-refused Nothing false c.args.state.now
-    c.args.source.now l.counter l.before l.state l.met l.source f l.invariant.walked refl q k))))
+    rw (p.1, p.2) (told-refused (turn_of c.reach_turn.new.state) c.args.limit Nothing false c.args.state.now
+    c.args.source.now l.counter l.left l.last l.state l.source c.reach_turn.new.source _ _ _ l.invariant.walked
+    c.in_err-last.ensures.reads c.in_err-last.ensures.rows
+    (λ k f q is. is ∙ ap (λ (w : Walked). w.rows) (sym (walked-refused c.args.limit Nothing false
+    c.args.state.now c.args.source.now l.counter l.left l.last l.state l.source f l.invariant.walked refl q k))))
 
 -- ---- the end of the image
 
-ended : (g : Over) (c : goal.Then-step g) → c.args.source.now.known ≡ true
-    → all_brought c.args.state.now c.args.source.now.bytes
+ended : (g : Over) (c : goal.Then-last g) → c.args.source.now.known ≡ true
+    → all_brought c.args.limit c.args.state.now c.args.source.now.bytes
     ≡ walked c.reach_turn.new.state (Ok c.reach_turn.new.source.bytes)
 ended g c k =
     let w = c.loop.invariant.walked in
-    walked-whole _ w (λ n. walk-end Nothing n false _ _ _ _ _ _ refl (c.in_ok-step.ensures.reads.1 (w.known k)).1
-    c.if-step.true) k
+    walked-whole _ w (λ n. walk-end c.loop.left Nothing n false _ _ _ _ _ _ refl (c.in_ok-last.ensures.reads.1 (w.known k)).1
+    c.if-last.true) k
 
-pub returns-then-step-clause-reads : goal.returns-then-step-clause-reads
-returns-then-step-clause-reads g c =
+pub returns-then-last-clause-reads : goal.returns-then-last-clause-reads
+returns-then-last-clause-reads g c =
     let w = c.loop.invariant.walked in
-    let read = c.in_ok-step.ensures.reads in
+    let read = c.in_ok-last.ensures.reads in
     (read.0 ∙ w.failed, λ k. ((read.1 (w.known k)).0, ap walk_end (ended g c k)))
 
-pub returns-then-step-clause-found : goal.returns-then-step-clause-found
-returns-then-step-clause-found g c k = ap (λ (w : Walked). without_tables w.found) (sym (ended g c k))
+pub returns-then-last-clause-found : goal.returns-then-last-clause-found
+returns-then-last-clause-found g c k = ap (λ (w : Walked). without_tables w.found) (sym (ended g c k))
 
-pub returns-then-step-clause-rows : goal.returns-then-step-clause-rows
-returns-then-step-clause-rows g c k =
-    c.in_ok-step.ensures.whole ∙ ap (λ (w : Walked). w.rows) (sym (ended g c k))
+pub returns-then-last-clause-rows : goal.returns-then-last-clause-rows
+returns-then-last-clause-rows g c k =
+    c.in_ok-last.ensures.whole ∙ ap (λ (w : Walked). w.rows) (sym (ended g c k))
 
 -- ---- one more turn
 
@@ -74,14 +74,14 @@ pub loop-preserved : goal.loop-preserved
 loop-preserved g c =
     let l = c.loop in
     record {
-      walked = walked-on Nothing false c.args.state.now c.args.source.now l.counter l.before l.state l.met l.source
-          c.reach_turn.new.source (turn_of c.reach_turn.new.state c.in_ok-step.step) l.invariant.walked refl
-          c.if-step.false c.in_ok-step.ensures.reads;
-      short = λ _. short-step l.counter l.met l.source c.args.source.now l.invariant.short
-          l.invariant.first c.in_ok-step.ensures.short;
+      walked = walked-on c.args.limit Nothing false c.args.state.now c.args.source.now l.counter l.left l.last l.state
+          l.source c.reach_turn.new.source c.reach_turn.new.left c.in_ok-last.last c.reach_turn.new.state
+          l.invariant.walked refl c.if-last.false c.in_ok-last.ensures.reads c.in_ok-last.ensures.left;
+      short = λ _. short-step l.counter l.last.met l.source c.args.source.now l.invariant.short
+          l.invariant.first c.in_ok-last.ensures.short;
       stays = λ h. grind (arith, common_steps, c.loop.invariant.stays h);
-      sound = c.in_ok-step.ensures.steps.sound l.invariant.sound;
-      rows = c.in_ok-step.ensures.whole;
+      sound = c.in_ok-last.ensures.steps.sound l.invariant.sound;
+      rows = c.in_ok-last.ensures.whole;
       first = λ e. absurd (omega arith);
     }
 
@@ -93,17 +93,17 @@ never g c k =
     let walked = c.loop.invariant.walked in
     elim c.loop-test.branch [
       | else-loop-test w ↦ omega (arith, walked.took k)
-      | then-loop-test+in_ok-step+else-step+else-counter-lt18446744073709551615 w ↦
-          let less = turn-takes Nothing c.loop.before c.loop.state c.loop.met c.loop.source.bytes
-          (turn_of w.reach_turn.new.state w.in_ok-step.step, w.reach_turn.new.source.bytes)
-          (w.in_ok-step.ensures.reads.1 (walked.known k)).1 w.if-step.false in
+      | then-loop-test+in_ok-last+else-last+else-counter-lt18446744073709551615 w ↦
+          let less = turn-takes c.loop.left Nothing c.loop.last.before c.loop.state c.loop.last.met c.loop.source.bytes
+          (turn_of w.reach_turn.new.state w.in_ok-last.last, w.reach_turn.new.source.bytes)
+          (w.in_ok-last.ensures.reads.1 (walked.known k)).1 w.if-last.false in
           omega (arith, walked.took k, less)
     ]
 
 pub returns-clause-reads : goal.returns-clause-reads
 returns-clause-reads g c =
     if-refused c.format_error.result (never-met {X = Unit {0}} (λ _. tt)
-    (λ bytes. walk_end (all_brought c.args.state.now bytes)) c.args.source.now c.loop-test.source
+    (λ bytes. walk_end (all_brought c.args.limit c.args.state.now bytes)) c.args.source.now c.loop-test.source
     c.format_error.result c.format_error.ensures (grind (arith, common_steps)) (never g c))
 
 pub returns-clause-found : goal.returns-clause-found

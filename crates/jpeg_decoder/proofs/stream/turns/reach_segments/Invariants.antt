@@ -7,11 +7,11 @@ use Rattle.jpeg_decoder.proofs.stream.turns.reach_segments.Given as goal
 
 abbrev pub invariant-loop : goal.invariant-loop
 invariant-loop g l = record {
-  walked : IsWalked Nothing false l.fn.state l.fn.source l.counter l.before l.state l.met l.source;
+  walked : IsWalked l.fn.limit Nothing false l.fn.state l.fn.source l.counter l.left l.last l.state l.source;
   short : 0 < l.counter → IsShort l.fn.source;
   stays : is_some l.fn.state.said.frame ≡ true
       → l.state.said.frame ≡ l.fn.state.said.frame;
   sound : IsSound l.state;
   rows : l.rows ≡ None;
-  first : l.counter ≡ 0 → (l.met ≡ None) × (l.source ≡ l.fn.source);
+  first : l.counter ≡ 0 → (l.last.met ≡ None) × (l.source ≡ l.fn.source);
 }

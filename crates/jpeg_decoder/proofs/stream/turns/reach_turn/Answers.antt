@@ -1,13 +1,17 @@
-use Rattle.std.proofs.Common.{rules, ◌≡◌, ap, refl}
+use Rattle.std.proofs.Common.{rules, ◌≡◌, ◌∙◌, ℕ, ap, refl, subst, sym}
+use Rattle.std.specs.Prelude.{OnOk}
+use Rattle.jpeg_bits.specs.declared.marker.Marker.{Marker}
+use Rattle.jpeg_streams.specs.Work.{left_after, work_after}
 use Rattle.std.proofs.lemmas.Result.{err_from_is_err_and}
 use Rattle.jpeg_bits.specs.declared.marker.Marker.TheVariants.{SOS}
-use Rattle.jpeg_streams.specs.Brought.{scan_brought, unbrought}
-use Rattle.jpeg_streams.specs.Stream.{segment_at}
+use Rattle.jpeg_streams.specs.Brought.{unbrought}
+use Rattle.jpeg_streams.specs.Stream.{scan_within, segment_at}
 use Rattle.jpeg_streams.specs.declared.beyond.Beyond.TheVariants.{Nothing}
 use Rattle.jpeg_decoder.specs.Reaching.{without_tables}
 use Rattle.jpeg_decoder.specs.Steps.{turn_of}
 use Rattle.jpeg_decoder.proofs.Partial.Refused.{if-refused, refusal-any, refusal-told, sound-unless, unless}
-use Rattle.jpeg_decoder.proofs.Segments.MarkedTurns.{marked-brought, marked-reads, reached-scan, turn-segment}
+use Rattle.jpeg_decoder.proofs.Segments.MarkedTurns.{always, marked-brought, marked-reads, nothing-taken, turn-scan}
+use Rattle.jpeg_decoder.proofs.Segments.MarkedTurns.{turn-segment, work-marked, work-other}
 use Rattle.jpeg_decoder.proofs.Segments.MarkedTurns.{unmarked-brought, unmarked-reads}
 use Rattle.jpeg_decoder.proofs.stream.turns.reach_turn.Goals as goal
 
@@ -16,19 +20,19 @@ use Rattle.jpeg_decoder.proofs.stream.turns.reach_turn.Goals as goal
 pub returns-in_err-marker-clause-reads : goal.returns-in_err-marker-clause-reads
 returns-in_err-marker-clause-reads g c =
     let p = err_from_is_err_and c.from_residual.result c.from_residual.ensures.1 in
-    rw (p.1, p.2) (if-refused _ (unmarked-reads (turn_of c.args.state.now) Nothing c.args.before c.args.state.now
-    c.args.met c.args.source.now c.marker_or_next.new.source _ c.in_err-marker.ensures.answers))
+    rw (p.1, p.2) (if-refused _ (unmarked-reads (turn_of c.args.state.now) c.args.left.now Nothing c.args.last.before c.args.state.now
+    c.args.last.met c.args.source.now c.marker_or_next.new.source _ c.in_err-marker.ensures.answers))
 
 pub returns-in_err-marker-clause-found : goal.returns-in_err-marker-clause-found
 returns-in_err-marker-clause-found g c =
     let p = err_from_is_err_and c.from_residual.result c.from_residual.ensures.1 in
-    rw (p.1, p.2) (unmarked-brought (λ b. without_tables b.found) _ Nothing c.args.before c.args.state.now c.args.met
+    rw (p.1, p.2) (unmarked-brought (λ b. without_tables b.found) _ c.args.left.now Nothing c.args.last.before c.args.state.now c.args.last.met
     c.args.source.now c.marker_or_next.new.source _ (λ f. refl) c.in_err-marker.ensures.answers)
 
 pub returns-in_err-marker-clause-rows : goal.returns-in_err-marker-clause-rows
 returns-in_err-marker-clause-rows g c =
     let p = err_from_is_err_and c.from_residual.result c.from_residual.ensures.1 in
-    rw (p.1, p.2) (unmarked-brought (λ b. b.rows) _ Nothing c.args.before c.args.state.now c.args.met
+    rw (p.1, p.2) (unmarked-brought (λ b. b.rows) _ c.args.left.now Nothing c.args.last.before c.args.state.now c.args.last.met
     c.args.source.now c.marker_or_next.new.source _ (λ f. c.requires.rows) c.in_err-marker.ensures.answers)
 
 -- ---- a scan
@@ -37,28 +41,28 @@ pub returns-then-eq-clause-reads : goal.returns-then-eq-clause-reads
 returns-then-eq-clause-reads g c =
     let is : c.in_ok-marker.marker ≡ SOS = search rules in
     let found = c.args.state.now in
-    marked-reads (turn_of c.reach_scan.new.state) Nothing c.args.before found c.args.met c.args.source.now
-    c.marker_or_next.new.source c.reach_scan.new.source c.in_ok-marker.marker (scan_brought found) c.reach_scan.result
-    (reached-scan c.args.before found c.args.met c.args.source.now c.in_ok-marker.marker is)
+    marked-reads (turn_of c.reach_scan.new.state) c.args.left.now Nothing c.args.last.before found c.args.last.met c.args.source.now
+    c.marker_or_next.new.source c.reach_scan.new.source c.in_ok-marker.marker (scan_within c.args.left.now Nothing found) c.reach_scan.result
+    (turn-scan c.args.left.now Nothing c.args.last.before found c.args.last.met c.args.source.now c.in_ok-marker.marker is)
     c.in_ok-marker.ensures.answers c.reach_scan.ensures.reads
 
 pub returns-then-eq-clause-found : goal.returns-then-eq-clause-found
 returns-then-eq-clause-found g c =
     let is : c.in_ok-marker.marker ≡ SOS = search rules in
     let found = c.args.state.now in
-    marked-brought (λ b. without_tables b.found) (without_tables c.reach_scan.new.state) Nothing c.args.before found
-    c.args.met c.args.source.now c.marker_or_next.new.source c.reach_scan.new.source c.in_ok-marker.marker
-    (scan_brought found) c.reach_scan.result _
-    (reached-scan c.args.before found c.args.met c.args.source.now c.in_ok-marker.marker is)
+    marked-brought (λ b. without_tables b.found) (without_tables c.reach_scan.new.state) c.args.left.now Nothing c.args.last.before found
+    c.args.last.met c.args.source.now c.marker_or_next.new.source c.reach_scan.new.source c.in_ok-marker.marker
+    (scan_within c.args.left.now Nothing found) c.reach_scan.result _
+    (turn-scan c.args.left.now Nothing c.args.last.before found c.args.last.met c.args.source.now c.in_ok-marker.marker is)
     c.in_ok-marker.ensures.answers (λ e. ap without_tables e) c.reach_scan.ensures.found
 
 pub returns-then-eq-clause-rows : goal.returns-then-eq-clause-rows
 returns-then-eq-clause-rows g c =
     let is : c.in_ok-marker.marker ≡ SOS = search rules in
     let found = c.args.state.now in
-    marked-brought (λ b. b.rows) c.reach_scan.new.rows Nothing c.args.before found c.args.met c.args.source.now
-    c.marker_or_next.new.source c.reach_scan.new.source c.in_ok-marker.marker (scan_brought found) c.reach_scan.result _
-    (reached-scan c.args.before found c.args.met c.args.source.now c.in_ok-marker.marker is)
+    marked-brought (λ b. b.rows) c.reach_scan.new.rows c.args.left.now Nothing c.args.last.before found c.args.last.met c.args.source.now
+    c.marker_or_next.new.source c.reach_scan.new.source c.in_ok-marker.marker (scan_within c.args.left.now Nothing found) c.reach_scan.result _
+    (turn-scan c.args.left.now Nothing c.args.last.before found c.args.last.met c.args.source.now c.in_ok-marker.marker is)
     c.in_ok-marker.ensures.answers (λ e. e) c.reach_scan.ensures.rows
 
 -- ---- another segment
@@ -67,20 +71,20 @@ pub returns-clause-reads : goal.returns-clause-reads
 returns-clause-reads g c =
     let other : c.in_ok-marker.marker ≡ SOS → ⊥ = search rules in
     let found = c.args.state.now in
-    marked-reads (turn_of c.read_segment.new.state) Nothing c.args.before found c.args.met c.args.source.now
+    marked-reads (turn_of c.read_segment.new.state) c.args.left.now Nothing c.args.last.before found c.args.last.met c.args.source.now
     c.marker_or_next.new.source c.read_segment.new.source c.in_ok-marker.marker
-    (λ bytes. unbrought found (segment_at c.in_ok-marker.marker c.args.before found bytes)) c.read_segment.result
-    (turn-segment Nothing c.args.before found c.args.met c.args.source.now c.in_ok-marker.marker other)
+    (λ bytes. unbrought found (segment_at c.in_ok-marker.marker c.args.last.before found bytes)) c.read_segment.result
+    (turn-segment c.args.left.now Nothing c.args.last.before found c.args.last.met c.args.source.now c.in_ok-marker.marker other)
     c.in_ok-marker.ensures.answers (unless c.read_segment.result c.read_segment.ensures.reads)
 
 pub returns-clause-found : goal.returns-clause-found
 returns-clause-found g c =
     let other : c.in_ok-marker.marker ≡ SOS → ⊥ = search rules in
     let found = c.args.state.now in
-    marked-brought (λ b. without_tables b.found) (without_tables c.read_segment.new.state) Nothing c.args.before found
-    c.args.met c.args.source.now c.marker_or_next.new.source c.read_segment.new.source c.in_ok-marker.marker
-    (λ bytes. unbrought found (segment_at c.in_ok-marker.marker c.args.before found bytes)) c.read_segment.result _
-    (turn-segment Nothing c.args.before found c.args.met c.args.source.now c.in_ok-marker.marker other)
+    marked-brought (λ b. without_tables b.found) (without_tables c.read_segment.new.state) c.args.left.now Nothing c.args.last.before found
+    c.args.last.met c.args.source.now c.marker_or_next.new.source c.read_segment.new.source c.in_ok-marker.marker
+    (λ bytes. unbrought found (segment_at c.in_ok-marker.marker c.args.last.before found bytes)) c.read_segment.result _
+    (turn-segment c.args.left.now Nothing c.args.last.before found c.args.last.met c.args.source.now c.in_ok-marker.marker other)
     c.in_ok-marker.ensures.answers (λ e. e)
     (refusal-told c.marker_or_next.new.source c.read_segment.new.source c.read_segment.result _
     c.read_segment.ensures.kept)
@@ -89,10 +93,10 @@ pub returns-clause-rows : goal.returns-clause-rows
 returns-clause-rows g c =
     let other : c.in_ok-marker.marker ≡ SOS → ⊥ = search rules in
     let found = c.args.state.now in
-    marked-brought (λ b. b.rows) c.args.rows.now Nothing c.args.before found c.args.met c.args.source.now
+    marked-brought (λ b. b.rows) c.args.rows.now c.args.left.now Nothing c.args.last.before found c.args.last.met c.args.source.now
     c.marker_or_next.new.source c.read_segment.new.source c.in_ok-marker.marker
-    (λ bytes. unbrought found (segment_at c.in_ok-marker.marker c.args.before found bytes)) c.read_segment.result _
-    (turn-segment Nothing c.args.before found c.args.met c.args.source.now c.in_ok-marker.marker other)
+    (λ bytes. unbrought found (segment_at c.in_ok-marker.marker c.args.last.before found bytes)) c.read_segment.result _
+    (turn-segment c.args.left.now Nothing c.args.last.before found c.args.last.met c.args.source.now c.in_ok-marker.marker other)
     c.in_ok-marker.ensures.answers (λ e. e)
     (refusal-any c.marker_or_next.new.source c.read_segment.new.source c.read_segment.result _ c.requires.rows)
 
@@ -100,3 +104,22 @@ pub returns-clause-sound : goal.returns-clause-sound
 returns-clause-sound g c =
     sound-unless c.read_segment.result c.args.state.now c.read_segment.new.state c.requires.sound
     (c.read_segment.ensures.steps.sound c.requires.sound) c.read_segment.ensures.kept
+
+-- ---- what is left of the limit
+
+pub returns-then-eq-clause-left : goal.returns-then-eq-clause-left
+returns-then-eq-clause-left g c k =
+    let is : c.in_ok-marker.marker ≡ SOS = search rules in
+    let marked = c.in_ok-marker.ensures.answers.1 k in
+    subst (λ (n : ℕ). OnOk c.reach_scan.result (c.reach_scan.new.left ≡ left_after c.args.left.now n))
+    (ap (λ (m : Marker). work_after m c.args.state.now c.marker_or_next.new.source.bytes) (sym is)
+    ∙ sym (work-marked c.args.state.now c.args.last.met c.args.source.now.bytes _ _ marked.1))
+    (c.reach_scan.ensures.left marked.0)
+
+pub returns-clause-left : goal.returns-clause-left
+returns-clause-left g c k =
+    let other : c.in_ok-marker.marker ≡ SOS → ⊥ = search rules in
+    let marked = c.in_ok-marker.ensures.answers.1 k in
+    always c.read_segment.result (sym (ap (left_after c.args.left.now)
+    (work-marked c.args.state.now c.args.last.met c.args.source.now.bytes _ _ marked.1
+    ∙ work-other c.in_ok-marker.marker c.args.state.now _ other) ∙ nothing-taken c.args.left.now))

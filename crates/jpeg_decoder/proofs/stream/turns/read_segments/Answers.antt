@@ -2,7 +2,7 @@ use Rattle.std.proofs.lemmas.Grind.{common_steps}
 use Rattle.std.proofs.Common.{◌≡◌, ◌∙◌, ◌+◌, ◌<◌, ◌^◌, suc, true, None, Ok, sym, ap, arith, length}
 use Rattle.std.proofs.lemmas.Result.{err_from_is_err_and}
 use Rattle.jpeg_streams.specs.declared.before.Before.TheVariants.{Elsewhere}
-use Rattle.jpeg_streams.specs.Stream.{Walked, segments_at, told_of, turn_at, walk}
+use Rattle.jpeg_streams.specs.Stream.{Walked, segments_at, told_of, turn_within, walk}
 use Rattle.jpeg_streams.specs.Reported.{IsOfTurns}
 use Rattle.jpeg_decoder.specs.Steps.{turn_of}
 use Rattle.jpeg_streams.specs.declared.beyond.Beyond.TheVariants.{Zeros}
@@ -14,48 +14,48 @@ use Rattle.jpeg_decoder.proofs.Segments.TurnLoops.{whole_walk}
 use Rattle.jpeg_decoder.proofs.stream.turns.read_segments.Given.{Over}
 use Rattle.jpeg_decoder.proofs.stream.turns.read_segments.Goals as goal
 use Rattle.jpeg_decoder.proofs.stream.turns.read_segments.Goals.{else-loop-test}
-use Rattle.jpeg_decoder.proofs.stream.turns.read_segments.Goals.{then-loop-test+else-is_read_for+in_ok-step+else-step+else-counter-lt18446744073709551615}
+use Rattle.jpeg_decoder.proofs.stream.turns.read_segments.Goals.{then-loop-test+else-is_read_for+in_ok-last+else-last+else-counter-lt18446744073709551615}
 
 -- ---- a turn that is refused
 
-pub returns-in_err-step-clause-reads : goal.returns-in_err-step-clause-reads
+pub returns-in_err-last-clause-reads : goal.returns-in_err-last-clause-reads
 unfolding segments_at
-returns-in_err-step-clause-reads g c =
+returns-in_err-last-clause-reads g c =
     let p = err_from_is_err_and c.from_residual.result c.from_residual.ensures.1 in
-    rw (p.1, p.2) (walked-err (turn_of c.read_turn.new.state) (λ (u : Unit {0}). c.read_turn.new.state) walked_to Zeros
-    c.args.header c.args.state.now c.args.source.now c.loop.counter c.loop.before c.loop.state c.loop.met c.loop.source
-    c.read_turn.new.source _ c.loop.invariant.walked (sym c.if-is_read_for.ensures) (end-refused (λ f rest. (f, rest)))
-    c.in_err-step.ensures.reads)
+    rw (p.1, p.2) (walked-err (turn_of c.read_turn.new.state) (λ (u : Unit {0}). c.read_turn.new.state) walked_to
+    c.args.limit Zeros c.args.header c.args.state.now c.args.source.now c.loop.counter c.loop.left c.loop.last c.loop.state
+    c.loop.source c.read_turn.new.source _ c.loop.invariant.walked (sym c.if-is_read_for.ensures) (end-refused (λ f rest. (f, rest)))
+    c.in_err-last.ensures.reads)
 
-pub returns-in_err-step-clause-told : goal.returns-in_err-step-clause-told
-returns-in_err-step-clause-told g c =
+pub returns-in_err-last-clause-told : goal.returns-in_err-last-clause-told
+returns-in_err-last-clause-told g c =
     let p = err_from_is_err_and c.from_residual.result c.from_residual.ensures.1 in
     let walked = c.loop.invariant.walked in
     let l = c.loop in
-    rw (p.1, p.2) (λ k known. told-err _ (turn_at Zeros l.before l.state l.met l.source.bytes).turn _
-    (c.in_err-step.ensures.reads.1 (walked.known k) known)
-    (λ f h. c.in_err-step.ensures.steps.kept ∙ ap (λ (w : Walked). told_of w.found.said) (sym (walked-whole _ walked
-    (λ n. zeros-refused n _ _ _ _ _ f (sym c.if-is_read_for.ensures) h) k))))
+    rw (p.1, p.2) (λ k known. told-err _ (turn_within l.left Zeros l.last.before l.state l.last.met l.source.bytes).turn _
+    (c.in_err-last.ensures.reads.1 (walked.known k) known)
+    (λ f h. c.in_err-last.ensures.steps.kept ∙ ap (λ (w : Walked). told_of w.found.said) (sym (walked-whole _ walked
+    (λ n. zeros-refused l.left n _ _ _ _ _ f (sym c.if-is_read_for.ensures) h) k))))
 
-pub returns-in_err-step-clause-turns : goal.returns-in_err-step-clause-turns
+pub returns-in_err-last-clause-turns : goal.returns-in_err-last-clause-turns
 unfolding IsOfTurns walk
-returns-in_err-step-clause-turns g c k = (
+returns-in_err-last-clause-turns g c k = (
   c.loop.counter + 0,
-  c.in_err-step.ensures.steps.kept ∙ ap (λ (w : Walked). told_of w.found.said) (sym (c.loop.invariant.walked.walks k 0)),
+  c.in_err-last.ensures.steps.kept ∙ ap (λ (w : Walked). told_of w.found.said) (sym (c.loop.invariant.walked.walks k 0)),
 )
 
 -- ---- a header that is read
 
 stopped : (g : Over) (c : goal.Then-is_read_for g) → c.args.source.now.known ≡ true
-    → whole_walk Zeros c.args.header c.args.state.now c.args.source.now.bytes
+    → whole_walk c.args.limit Zeros c.args.header c.args.state.now c.args.source.now.bytes
     ≡ walked c.loop.state (Ok c.loop.source.bytes)
 stopped g c k = walked-whole _ c.loop.invariant.walked
-    (λ n. walk-stop Zeros (suc n) _ _ _ _ _ (omega arith) (sym c.if-is_read_for.ensures)) k
+    (λ n. walk-stop c.loop.left Zeros (suc n) _ _ _ _ _ (omega arith) (sym c.if-is_read_for.ensures)) k
 
 pub returns-then-is_read_for-clause-reads : goal.returns-then-is_read_for-clause-reads
 returns-then-is_read_for-clause-reads g c =
     let walked = c.loop.invariant.walked in
-    (walked.failed, λ k. (walked.known k, segments-walked _ _ _ _ _ _ (stopped g c k)))
+    (walked.failed, λ k. (walked.known k, segments-walked _ _ _ _ _ _ _ (stopped g c k)))
 
 pub returns-then-is_read_for-clause-told : goal.returns-then-is_read_for-clause-told
 returns-then-is_read_for-clause-told g c k = ap (λ (w : Walked). told_of w.found.said) (sym (stopped g c k))
@@ -66,26 +66,26 @@ returns-then-is_read_for-clause-turns g c k = (_, ap (λ (w : Walked). told_of w
 
 -- ---- the end of the image
 
-ended : (g : Over) (c : goal.Then-step g) → c.args.source.now.known ≡ true
-    → whole_walk Zeros c.args.header c.args.state.now c.args.source.now.bytes
+ended : (g : Over) (c : goal.Then-last g) → c.args.source.now.known ≡ true
+    → whole_walk c.args.limit Zeros c.args.header c.args.state.now c.args.source.now.bytes
     ≡ walked c.read_turn.new.state (Ok c.read_turn.new.source.bytes)
 ended g c k =
     let walked = c.loop.invariant.walked in
-    walked-whole _ walked (λ n. walk-end Zeros n _ _ _ _ _ _ _ (sym c.if-is_read_for.ensures)
-    (c.in_ok-step.ensures.reads.1 (walked.known k)).1 c.if-step.true) k
+    walked-whole _ walked (λ n. walk-end c.loop.left Zeros n _ _ _ _ _ _ _ (sym c.if-is_read_for.ensures)
+    (c.in_ok-last.ensures.reads.1 (walked.known k)).1 c.if-last.true) k
 
-pub returns-then-step-clause-reads : goal.returns-then-step-clause-reads
-returns-then-step-clause-reads g c =
+pub returns-then-last-clause-reads : goal.returns-then-last-clause-reads
+returns-then-last-clause-reads g c =
     let walked = c.loop.invariant.walked in
-    let read = c.in_ok-step.ensures.reads in
-    (read.0 ∙ walked.failed, λ k. ((read.1 (walked.known k)).0, segments-walked _ _ _ _ _ _ (ended g c k)))
+    let read = c.in_ok-last.ensures.reads in
+    (read.0 ∙ walked.failed, λ k. ((read.1 (walked.known k)).0, segments-walked _ _ _ _ _ _ _ (ended g c k)))
 
-pub returns-then-step-clause-told : goal.returns-then-step-clause-told
-returns-then-step-clause-told g c k = ap (λ (w : Walked). told_of w.found.said) (sym (ended g c k))
+pub returns-then-last-clause-told : goal.returns-then-last-clause-told
+returns-then-last-clause-told g c k = ap (λ (w : Walked). told_of w.found.said) (sym (ended g c k))
 
-pub returns-then-step-clause-turns : goal.returns-then-step-clause-turns
+pub returns-then-last-clause-turns : goal.returns-then-last-clause-turns
 unfolding IsOfTurns
-returns-then-step-clause-turns g c k = (_, ap (λ (w : Walked). told_of w.found.said) (sym (ended g c k)))
+returns-then-last-clause-turns g c k = (_, ap (λ (w : Walked). told_of w.found.said) (sym (ended g c k)))
 
 -- ---- one more turn
 
@@ -93,14 +93,15 @@ pub loop-preserved : goal.loop-preserved
 loop-preserved g c =
     let found = c.loop.state in
     record {
-      walked = walked-on Zeros c.args.header c.args.state.now c.args.source.now c.loop.counter c.loop.before found
-          c.loop.met c.loop.source c.read_turn.new.source (turn_of c.read_turn.new.state c.in_ok-step.step)
-          c.loop.invariant.walked (sym c.if-is_read_for.ensures) c.if-step.false c.in_ok-step.ensures.reads;
-      short = λ _. short-step c.loop.counter c.loop.met c.loop.source c.args.source.now c.loop.invariant.short
-          c.loop.invariant.first c.in_ok-step.ensures.short;
+      walked = walked-on c.args.limit Zeros c.args.header c.args.state.now c.args.source.now c.loop.counter c.loop.left
+          c.loop.last found c.loop.source c.read_turn.new.source c.read_turn.new.left c.in_ok-last.last
+          c.read_turn.new.state c.loop.invariant.walked (sym c.if-is_read_for.ensures) c.if-last.false
+          c.in_ok-last.ensures.reads c.in_ok-last.ensures.left;
+      short = λ _. short-step c.loop.counter c.loop.last.met c.loop.source c.args.source.now c.loop.invariant.short
+          c.loop.invariant.first c.in_ok-last.ensures.short;
       stays = λ h. grind (arith, common_steps, c.loop.invariant.stays h);
-      sound = c.in_ok-step.ensures.steps.sound c.loop.invariant.sound;
-      unread = λ h e. c.in_ok-step.ensures.steps.unread (not-framed c.args.header found.said.frame
+      sound = c.in_ok-last.ensures.steps.sound c.loop.invariant.sound;
+      unread = λ h e. c.in_ok-last.ensures.steps.unread (not-framed c.args.header found.said.frame
           (sym c.if-is_read_for.ensures) h) (c.loop.invariant.unread h e);
       first = λ e. absurd (omega arith);
     }
@@ -113,16 +114,16 @@ never g c k =
     let walked = c.loop.invariant.walked in
     elim c.loop-test.branch [
       | else-loop-test w ↦ omega (arith, walked.took k)
-      | then-loop-test+else-is_read_for+in_ok-step+else-step+else-counter-lt18446744073709551615 w ↦
-          let less = turn-takes Zeros c.loop.before c.loop.state c.loop.met c.loop.source.bytes
-          (turn_of w.read_turn.new.state w.in_ok-step.step, w.read_turn.new.source.bytes)
-          (w.in_ok-step.ensures.reads.1 (walked.known k)).1 w.if-step.false in
+      | then-loop-test+else-is_read_for+in_ok-last+else-last+else-counter-lt18446744073709551615 w ↦
+          let less = turn-takes c.loop.left Zeros c.loop.last.before c.loop.state c.loop.last.met c.loop.source.bytes
+          (turn_of w.read_turn.new.state w.in_ok-last.last, w.read_turn.new.source.bytes)
+          (w.in_ok-last.ensures.reads.1 (walked.known k)).1 w.if-last.false in
           omega (arith, walked.took k, less)
     ]
 
 pub returns-clause-reads : goal.returns-clause-reads
 returns-clause-reads g c =
-    never-met {X = Unit {0}} (λ _. c.loop-test.state) (segments_at c.args.header Elsewhere
+    never-met {X = Unit {0}} (λ _. c.loop-test.state) (segments_at c.args.limit c.args.header Elsewhere
     c.args.state.now None) c.args.source.now c.loop-test.source c.format_error.result
     c.format_error.ensures
     (grind (arith, common_steps)) (never g c)

@@ -7,10 +7,10 @@ use Rattle.jpeg_decoder.proofs.stream.turns.read_segments.Given as goal
 
 abbrev pub invariant-loop : goal.invariant-loop
 invariant-loop g l = record {
-  walked : IsWalked Zeros l.fn.header l.fn.state l.fn.source l.counter l.before l.state l.met l.source;
+  walked : IsWalked l.fn.limit Zeros l.fn.header l.fn.state l.fn.source l.counter l.left l.last l.state l.source;
   short : 0 < l.counter → IsShort l.fn.source;
   stays : is_some l.fn.state.said.frame ≡ true → l.state.said.frame ≡ l.fn.state.said.frame;
   sound : IsSound l.state;
   unread : l.fn.header ≡ true → l.fn.state.said.frame ≡ None → IsUnread l.state;
-  first : l.counter ≡ 0 → (l.met ≡ None) × (l.source ≡ l.fn.source);
+  first : l.counter ≡ 0 → (l.last.met ≡ None) × (l.source ≡ l.fn.source);
 }

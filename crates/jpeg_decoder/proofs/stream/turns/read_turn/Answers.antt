@@ -1,36 +1,57 @@
-use Rattle.std.proofs.Common.{rules, ◌≡◌}
+use Rattle.std.proofs.Common.{rules, ◌≡◌, ◌∙◌, ℕ, ap, sym, subst}
+use Rattle.std.specs.Prelude.{OnOk}
+use Rattle.jpeg_bits.specs.declared.marker.Marker.{Marker}
+use Rattle.jpeg_streams.specs.Work.{left_after, work_after}
 use Rattle.std.proofs.lemmas.Result.{err_from_is_err_and}
 use Rattle.jpeg_bits.specs.declared.marker.Marker.TheVariants.{SOS}
 use Rattle.jpeg_streams.specs.Brought.{unbrought}
-use Rattle.jpeg_streams.specs.ScanSegments.{scan_segment}
-use Rattle.jpeg_streams.specs.Stream.{segment_at}
+use Rattle.jpeg_streams.specs.Stream.{scan_within, segment_at}
 use Rattle.jpeg_streams.specs.declared.beyond.Beyond.TheVariants.{Zeros}
 use Rattle.jpeg_decoder.specs.Steps.{turn_of}
-use Rattle.jpeg_decoder.proofs.Segments.MarkedTurns.{marked-answers, turn-segment, unmarked-reads, whole-scan}
+use Rattle.jpeg_decoder.proofs.Segments.MarkedTurns.{always, marked-answers, nothing-taken, turn-scan, turn-segment}
+use Rattle.jpeg_decoder.proofs.Segments.MarkedTurns.{unmarked-reads, work-marked, work-other}
 use Rattle.jpeg_decoder.proofs.stream.turns.read_turn.Goals as goal
 
 pub returns-in_err-marker-clause-reads : goal.returns-in_err-marker-clause-reads
 returns-in_err-marker-clause-reads g c =
     let p = err_from_is_err_and c.from_residual.result c.from_residual.ensures.1 in
-    rw (p.1, p.2) (unmarked-reads (turn_of c.args.state.now) Zeros c.args.before c.args.state.now
-    c.args.met c.args.source.now c.marker_or_next.new.source _ c.in_err-marker.ensures.answers)
+    rw (p.1, p.2) (unmarked-reads (turn_of c.args.state.now) c.args.left.now Zeros c.args.last.before c.args.state.now
+    c.args.last.met c.args.source.now c.marker_or_next.new.source _ c.in_err-marker.ensures.answers)
 
 pub returns-then-eq-clause-reads : goal.returns-then-eq-clause-reads
 returns-then-eq-clause-reads g c =
     let is : c.in_ok-marker.marker ≡ SOS = search rules in
     let found = c.args.state.now in
-    marked-answers (turn_of c.read_scan.new.state) Zeros c.args.before found c.args.met c.args.source.now
-    c.marker_or_next.new.source c.read_scan.new.source c.in_ok-marker.marker
-    (λ bytes. unbrought found (scan_segment found bytes)) c.read_scan.result
-    (whole-scan c.args.before found c.args.met c.args.source.now c.in_ok-marker.marker is)
+    marked-answers (turn_of c.read_scan.new.state) c.args.left.now Zeros c.args.last.before found c.args.last.met
+    c.args.source.now c.marker_or_next.new.source c.read_scan.new.source c.in_ok-marker.marker
+    (scan_within c.args.left.now Zeros found) c.read_scan.result
+    (turn-scan c.args.left.now Zeros c.args.last.before found c.args.last.met c.args.source.now c.in_ok-marker.marker is)
     c.in_ok-marker.ensures.answers c.read_scan.ensures.reads
 
 pub returns-clause-reads : goal.returns-clause-reads
 returns-clause-reads g c =
     let other : c.in_ok-marker.marker ≡ SOS → ⊥ = search rules in
     let found = c.args.state.now in
-    marked-answers (turn_of c.read_segment.new.state) Zeros c.args.before found c.args.met c.args.source.now
-    c.marker_or_next.new.source c.read_segment.new.source c.in_ok-marker.marker
-    (λ bytes. unbrought found (segment_at c.in_ok-marker.marker c.args.before found bytes)) c.read_segment.result
-    (turn-segment Zeros c.args.before found c.args.met c.args.source.now c.in_ok-marker.marker other)
+    marked-answers (turn_of c.read_segment.new.state) c.args.left.now Zeros c.args.last.before found c.args.last.met
+    c.args.source.now c.marker_or_next.new.source c.read_segment.new.source c.in_ok-marker.marker
+    (λ bytes. unbrought found (segment_at c.in_ok-marker.marker c.args.last.before found bytes)) c.read_segment.result
+    (turn-segment c.args.left.now Zeros c.args.last.before found c.args.last.met c.args.source.now
+    c.in_ok-marker.marker other)
     c.in_ok-marker.ensures.answers c.read_segment.ensures.reads
+
+pub returns-then-eq-clause-left : goal.returns-then-eq-clause-left
+returns-then-eq-clause-left g c k =
+    let is : c.in_ok-marker.marker ≡ SOS = search rules in
+    let marked = c.in_ok-marker.ensures.answers.1 k in
+    subst (λ (n : ℕ). OnOk c.read_scan.result (c.read_scan.new.left ≡ left_after c.args.left.now n))
+    (ap (λ (m : Marker). work_after m c.args.state.now c.marker_or_next.new.source.bytes) (sym is)
+    ∙ sym (work-marked c.args.state.now c.args.last.met c.args.source.now.bytes _ _ marked.1))
+    (c.read_scan.ensures.left marked.0)
+
+pub returns-clause-left : goal.returns-clause-left
+returns-clause-left g c k =
+    let other : c.in_ok-marker.marker ≡ SOS → ⊥ = search rules in
+    let marked = c.in_ok-marker.ensures.answers.1 k in
+    always c.read_segment.result (sym (ap (left_after c.args.left.now)
+    (work-marked c.args.state.now c.args.last.met c.args.source.now.bytes _ _ marked.1
+    ∙ work-other c.in_ok-marker.marker c.args.state.now _ other) ∙ nothing-taken c.args.left.now))
