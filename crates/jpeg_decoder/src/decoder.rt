@@ -387,11 +387,11 @@ impl<R: Read + Drop> Decoder<R> {
     /// A scan of one component codes the blocks that cover its samples, and one of several
     /// components the blocks of all MCUs (T.81, A.2). Eight samples of a lossless scan count as a
     /// block. The scan that would pass the limit is refused as `Format`, after its header and before
-    /// its tables and data, so that no more blocks are ever decoded. `decode_partial` then gives
-    /// what the scans before it have brought. A stream within the limit is decoded as without one.
+    /// its tables and data. `decode_partial` then gives what the scans before it have brought. A
+    /// stream within the limit is decoded as without one.
     ///
-    /// [`picture_blocks`](Decoder::picture_blocks) is the unit: of files by common encoders none
-    /// codes more than 8 times as many blocks, and 20 to 100 times allow for any.
+    /// [`picture_blocks`](Decoder::picture_blocks) is the unit: of the files that were counted none
+    /// codes more than 8 times as many blocks.
     pub fn set_max_blocks(&mut self, max: Option<u64>)
         ensures { self.new ≡ record self.old {
           settings = record self.old.settings
