@@ -1,6 +1,6 @@
 -- A turn is read: the marker that begins it, and what stands after it.
 use Rattle.std.proofs.Common.{rules, ◌≡◌, ◌-◌, ℕ, true, false, Option, Some, None, List, Result, Ok, Err, refl, ap, ap₂}
-use Rattle.std.proofs.Common.{sym, ◌∙◌, arith}
+use Rattle.std.proofs.Common.{sym, ◌∙◌, arith, subst}
 use Rattle.std.specs.Prelude.{OnOk}
 use Rattle.jpeg_bits.specs.Marker.{found_or, next_marker}
 use Rattle.jpeg_bits.specs.Reading.{Answers, Fault, Outcome}
@@ -14,7 +14,7 @@ use Rattle.jpeg_streams.specs.Found.{Found}
 use Rattle.jpeg_streams.specs.Segments.{Turn}
 use Rattle.jpeg_streams.specs.States.{IfRefused, OnToldRefusal}
 use Rattle.jpeg_streams.specs.Stream.{brought_after, scan_within, segment_at, turn_at, turn_within}
-use Rattle.jpeg_streams.specs.Work.{brought_within, is_above, left_after, work_after, work_of_turn}
+use Rattle.jpeg_streams.specs.Work.{brought_within, is_above, left_after, work_after, work_of_header, work_of_turn}
 use Rattle.jpeg_streams.specs.declared.before.Before.{Before}
 use Rattle.jpeg_streams.specs.declared.beyond.Beyond.{Beyond}
 use Rattle.jpeg_streams.proofs.Refusals.{told-err}
@@ -135,6 +135,29 @@ pub marked-brought : {X V : Type 0} (view : Brought → V) (left : V) (limit : O
 marked-brought view left limit beyond before found met old mid new m after r P begins a f h =
     refusal-after old mid new r P _
     (λ k. let read = a.1 k in (read.0, λ p. f p ∙ ap view (sym (begins mid.bytes read.1)))) h
+
+-- ---- what a turn leaves of a limit
+
+-- after a scan
+pub left-scan : {X : Type 0} (r : Result X Error) (left next : Option ℕ) (found : Found) (met : Option Marker)
+    (old mid : Stream) (m : Marker) → m ≡ SOS
+    → Answers (λ (m : Marker). m) (λ bytes. found_or met bytes (next_marker bytes)) old (Ok m) mid
+    → (mid.known ≡ true → OnOk r (next ≡ left_after left (work_of_header found mid.bytes)))
+    → old.known ≡ true → OnOk r (next ≡ left_after left (work_of_turn found met old.bytes))
+left-scan r left next found met old mid m is read taken k =
+    let marked = read.1 k in
+    subst (λ (n : ℕ). OnOk r (next ≡ left_after left n))
+    (ap (λ (m : Marker). work_after m found mid.bytes) (sym is)
+    ∙ sym (work-marked found met old.bytes mid.bytes m marked.1)) (taken marked.0)
+
+-- after another segment
+pub left-other : {X : Type 0} (r : Result X Error) (left : Option ℕ) (found : Found) (met : Option Marker)
+    (old mid : Stream) (m : Marker) → (m ≡ SOS → ⊥)
+    → Answers (λ (m : Marker). m) (λ bytes. found_or met bytes (next_marker bytes)) old (Ok m) mid
+    → old.known ≡ true → OnOk r (left ≡ left_after left (work_of_turn found met old.bytes))
+left-other r left found met old mid m other read k =
+    always r (sym (ap (left_after left) (work-marked found met old.bytes mid.bytes m (read.1 k).1
+    ∙ work-other m found mid.bytes other) ∙ nothing-taken left))
 
 -- ---- no marker begins a turn
 

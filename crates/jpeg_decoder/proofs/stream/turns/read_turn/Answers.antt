@@ -1,15 +1,12 @@
-use Rattle.std.proofs.Common.{rules, ◌≡◌, ◌∙◌, ℕ, ap, sym, subst}
-use Rattle.std.specs.Prelude.{OnOk}
-use Rattle.jpeg_bits.specs.declared.marker.Marker.{Marker}
-use Rattle.jpeg_streams.specs.Work.{left_after, work_after}
+use Rattle.std.proofs.Common.{rules, ◌≡◌}
 use Rattle.std.proofs.lemmas.Result.{err_from_is_err_and}
 use Rattle.jpeg_bits.specs.declared.marker.Marker.TheVariants.{SOS}
 use Rattle.jpeg_streams.specs.Brought.{unbrought}
 use Rattle.jpeg_streams.specs.Stream.{scan_within, segment_at}
 use Rattle.jpeg_streams.specs.declared.beyond.Beyond.TheVariants.{Zeros}
 use Rattle.jpeg_decoder.specs.Steps.{turn_of}
-use Rattle.jpeg_decoder.proofs.Segments.MarkedTurns.{always, marked-answers, nothing-taken, turn-scan, turn-segment}
-use Rattle.jpeg_decoder.proofs.Segments.MarkedTurns.{unmarked-reads, work-marked, work-other}
+use Rattle.jpeg_decoder.proofs.Segments.MarkedTurns.{left-other, left-scan, marked-answers, turn-scan, turn-segment}
+use Rattle.jpeg_decoder.proofs.Segments.MarkedTurns.{unmarked-reads}
 use Rattle.jpeg_decoder.proofs.stream.turns.read_turn.Goals as goal
 
 pub returns-in_err-marker-clause-reads : goal.returns-in_err-marker-clause-reads
@@ -40,18 +37,11 @@ returns-clause-reads g c =
     c.in_ok-marker.ensures.answers c.read_segment.ensures.reads
 
 pub returns-then-eq-clause-left : goal.returns-then-eq-clause-left
-returns-then-eq-clause-left g c k =
-    let is : c.in_ok-marker.marker ≡ SOS = search rules in
-    let marked = c.in_ok-marker.ensures.answers.1 k in
-    subst (λ (n : ℕ). OnOk c.read_scan.result (c.read_scan.new.left ≡ left_after c.args.left.now n))
-    (ap (λ (m : Marker). work_after m c.args.state.now c.marker_or_next.new.source.bytes) (sym is)
-    ∙ sym (work-marked c.args.state.now c.args.last.met c.args.source.now.bytes _ _ marked.1))
-    (c.read_scan.ensures.left marked.0)
+returns-then-eq-clause-left g c =
+    left-scan c.read_scan.result c.args.left.now c.read_scan.new.left c.args.state.now c.args.last.met c.args.source.now
+    c.marker_or_next.new.source c.in_ok-marker.marker (search rules) c.in_ok-marker.ensures.answers c.read_scan.ensures.left
 
 pub returns-clause-left : goal.returns-clause-left
-returns-clause-left g c k =
-    let other : c.in_ok-marker.marker ≡ SOS → ⊥ = search rules in
-    let marked = c.in_ok-marker.ensures.answers.1 k in
-    always c.read_segment.result (sym (ap (left_after c.args.left.now)
-    (work-marked c.args.state.now c.args.last.met c.args.source.now.bytes _ _ marked.1
-    ∙ work-other c.in_ok-marker.marker c.args.state.now _ other) ∙ nothing-taken c.args.left.now))
+returns-clause-left g c =
+    left-other c.read_segment.result c.args.left.now c.args.state.now c.args.last.met c.args.source.now
+    c.marker_or_next.new.source c.in_ok-marker.marker (search rules) c.in_ok-marker.ensures.answers
