@@ -1,9 +1,10 @@
 """Measures what files cost that are made to cost much: processor time, the most memory held, and
 the least stack.
 
-hostile.py JPEGRAW FOLDER [PEER..]: the program of this repository, a folder for the files, and
-programs that read a JPEG file named by their argument, `PEER FILE`. djpeg is one more. Each file is
-a few kilobytes to some megabytes; a program has 60 seconds of processor time.
+hostile.py JPEGRAW ZAXBRIAR FOLDER [PEER..]: the programs of this repository, of which the first has
+no limits and the second those that it has by default, a folder for the files, and programs that
+read a JPEG file named by their argument, `PEER FILE`. djpeg is one more. Each file is a few
+kilobytes to some megabytes; a program has 60 seconds of processor time.
 """
 
 import os
@@ -158,9 +159,9 @@ def print_stacks(programs, path):
     print("\nLeast stack (kB): " + ", ".join(stacks))
 
 
-def main(jpegraw, folder, *peers):
+def main(jpegraw, zaxbriar, folder, *peers):
     path = os.path.join(folder, "file.jpg")
-    programs = {"ours": [jpegraw]}
+    programs = {"ours": [jpegraw], "ours by default": [zaxbriar, "raw"]}
     programs |= {os.path.basename(peer): [peer, path] for peer in [*peers, "djpeg"]}
     print_costs(programs, path)
     print_stacks(programs, path)

@@ -24,6 +24,13 @@ pub fn has_read_failed<R: Read + Drop>(decoder: &Decoder<R>) -> bool
     decoder.has_read_failed()
 }
 
+/// Calls `Decoder::has_exceeded_max_blocks`.
+pub fn has_exceeded_max_blocks<R: Read + Drop>(decoder: &Decoder<R>) -> bool
+    ensures { result ≡ decoder.now.exceeded }
+{
+    decoder.has_exceeded_max_blocks()
+}
+
 /// Calls `Decoder::icc_profile`.
 pub fn profile<R: Read + Drop>(decoder: &Decoder<R>) -> Result<Option<Vec<u8>>>
     ensures { MatchResult result (λ o. option_map (λ v. v.items) o

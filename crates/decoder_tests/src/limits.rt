@@ -94,18 +94,23 @@ fn limit_of(number: usize) -> Limited {
     }
 }
 
+/// What a call gave, and whether the decoder says that its limit was exceeded.
+type Answer<T> = Result<(Result<T>, bool)>;
+
 /// Decodes a stream within a limit.
-fn decoded(alloc: Global, bytes: &[u8], limit: Option<u64>) -> Result<Vec<u8>> {
+fn decoded(alloc: Global, bytes: &[u8], limit: Option<u64>) -> Answer<Vec<u8>> {
     let mut decoder = Decoder::new(alloc, bytes)?;
     decoder.set_max_blocks(limit);
-    decoder.decode()
+    let picture = decoder.decode();
+    Ok((picture, decoder.has_exceeded_max_blocks()))
 }
 
 /// Decodes as much of a stream as a limit allows.
-fn shown(alloc: Global, bytes: &[u8], limit: Option<u64>) -> Result<PartialPicture> {
+fn shown(alloc: Global, bytes: &[u8], limit: Option<u64>) -> Answer<PartialPicture> {
     let mut decoder = Decoder::new(alloc, bytes)?;
     decoder.set_max_blocks(limit);
-    decoder.decode_partial()
+    let picture = decoder.decode_partial();
+    Ok((picture, decoder.has_exceeded_max_blocks()))
 }
 
 /// Returns whether a fault is a broken rule of this text, or there is none and the text is empty.
@@ -118,23 +123,25 @@ fn is_refusal(fault: Option<&Error>, text: &str) -> bool {
 }
 
 impl Limited {
-    /// Returns whether `decode` returns the picture, or the refusal.
-    fn is_decoded(&self, decoded: &Result<Vec<u8>>, picture: &[u8]) -> bool {
+    /// Returns whether `decode` returns the picture, or the refusal, and the decoder says which.
+    fn is_decoded(&self, decoded: &Answer<Vec<u8>>, picture: &[u8]) -> bool {
         match decoded {
-            Ok(samples) => self.refusal.is_empty() && samples.as_slice() == picture,
-            Err(error) => is_refusal(Some(error), self.refusal),
+            Ok((Ok(samples), false)) => self.refusal.is_empty() && samples.as_slice() == picture,
+            Ok((Err(error), true)) => is_refusal(Some(error), self.refusal),
+            _ => false,
         }
     }
 
     /// Returns whether `decode_partial` shows the scans before the refusal.
-    fn is_shown(&self, shown: &Result<PartialPicture>, picture: &[u8]) -> bool {
+    fn is_shown(&self, shown: &Answer<PartialPicture>, picture: &[u8]) -> bool {
         match shown {
-            Ok(shown) => {
+            Ok((Ok(shown), exceeded)) => {
                 shown.pixels.as_slice() == picture
                     && shown.whole_rows == self.whole_rows
                     && is_refusal(shown.fault.as_ref(), self.refusal)
+                    && *exceeded == shown.fault.is_some()
             }
-            Err(_) => false,
+            _ => false,
         }
     }
 

@@ -13,4 +13,5 @@ begun remaining = record {
   stage = Fresh;
   found = nothing_found;
   settings = default_settings;
+  exceeded = false;
 }

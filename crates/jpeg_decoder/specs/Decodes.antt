@@ -5,6 +5,8 @@ use Rattle.jpeg_bits.specs.Reading.{Answers}
 use Rattle.jpeg_bits.specs.declared.error.Error.{Error}
 use Rattle.jpeg_streams.specs.DecodedImages.{DecodesImages}
 use Rattle.jpeg_streams.specs.DecodedSamples.{DecodesSamples}
+use Rattle.jpeg_streams.specs.Limits.{exceeded_ahead}
+use Rattle.jpeg_streams.specs.declared.beyond.Beyond.TheVariants.{Zeros}
 use Rattle.jpeg_streams.specs.Reported.{IsOfTurns}
 use Rattle.jpeg_streams.specs.States.{Decoding, IsReading, MovesToEnd, OnTold}
 use Rattle.jpeg_streams.specs.States.{ahead, told_ahead, turns_ahead}
@@ -29,6 +31,9 @@ pub record Decodes {X : Type 0} (bytes_of : X → List ℕ) (old : Decoding) (re
   pub turns : IsReading old.stage → old.source.known ≡ true
       → IsOfTurns (λ n. turns_ahead old.settings.max_blocks n false old.stage old.found
       old.source.bytes) (told_of new.found.said)
+  -- The decoder knows whether a scan was refused since it codes more blocks than the limit leaves.
+  pub exceeded : IsReading old.stage → OnTold old.source new.source result (new.exceeded
+      ≡ exceeded_ahead old.settings.max_blocks Zeros old.stage old.found old.source.bytes)
   -- No blocks, planes or samples are kept.
   pub emptied : IsReading old.stage → (new.found.kept ≡ []) × (new.found.planes ≡ replicate 4 None)
       × (new.found.samples ≡ replicate 4 None)

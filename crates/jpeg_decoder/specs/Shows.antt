@@ -10,12 +10,14 @@ use Rattle.jpeg_segments.specs.declared.frame.CodingProcess.{CodingProcess}
 use Rattle.jpeg_segments.specs.declared.frame.CodingProcess.TheVariants.{Lossless}
 use Rattle.jpeg_streams.specs.EndPlanes.{is_kept}
 use Rattle.jpeg_streams.specs.Found.{Found, nothing_found, nothing_said}
+use Rattle.jpeg_streams.specs.Limits.{exceeded_ahead}
+use Rattle.jpeg_streams.specs.declared.beyond.Beyond.TheVariants.{Nothing}
 use Rattle.jpeg_streams.specs.Shown.{Shown, shown_ahead}
 use Rattle.jpeg_streams.specs.States.{Decoding, IfRefused, IsReading, MovesToEnd, OnToldRefusal}
 use Rattle.jpeg_streams.specs.Stream.{Told, all_brought, start_at, told_of}
 use Rattle.jpeg_streams.specs.declared.progress.Progress.{Progress}
 use Rattle.jpeg_streams.specs.declared.progress.Progress.TheVariants.{Fresh}
-use Rattle.jpeg_decoder.specs.Reaching.{NamesFault}
+use Rattle.jpeg_decoder.specs.Reaching.{NamesFault, UnlessRefused}
 
 -- Whether scans gave what the picture needs of a component: samples; or a plane, or else blocks
 -- that are kept, and a table for them. The component stands beside its index in the frame.
@@ -54,6 +56,11 @@ abbrev pub CountsRows : {X : Type 0} → (X → ℕ) → (List ℕ → ℕ) → 
 CountsRows rows_of expected old result new =
     old.known ≡ true → new.known ≡ true → IfOk result (λ x. rows_of x ≡ expected old.bytes)
 
+-- Where the bytes of a source were known to the end of a call, and memory was found, the call left
+-- a fact.
+abbrev pub Knows : {X : Type 0} → Stream → Result X Error → Stream → Type 0 → Type 0
+Knows old result new P = old.known ≡ true → new.known ≡ true → UnlessRefused result P
+
 -- What has been said up to the first fault, or the end, where scans may code this many blocks, if
 -- there is a limit: by the rest of a stream after its start or its header, by a stream, and by what
 -- lies ahead of a decoder.
@@ -82,6 +89,9 @@ pub record Shows {X : Type 0} (bytes_of : X → List ℕ) (fault_of : X → Opti
   pub told : IsReading old.stage → OnToldRefusal old.source new.source result
       (told_of new.found.said
       ≡ told_shown_ahead old.settings.max_blocks old.stage old.found old.source.bytes)
+  -- The decoder knows whether the fault is a scan of more blocks than the limit leaves.
+  pub exceeded : IsReading old.stage → Knows old.source result new.source (new.exceeded
+      ≡ exceeded_ahead old.settings.max_blocks Nothing old.stage old.found old.source.bytes)
   -- A caller can tell whether the reader was given up.
   pub given_up : IsReading old.stage → GivesUp fault_of old.source result new.source
   -- No blocks, planes or samples are kept.

@@ -211,12 +211,14 @@ pub struct Decoder<R: Read + Drop> {
     progress: Progress,
     state: State,
     settings: Settings,
+    /// Whether a scan was refused since it codes more blocks than the limit leaves.
+    exceeded: bool,
 }
 
 impl<R: Read + Drop> Model for Decoder<R> {
-    ghost use Rattle.std.specs.Prelude.{◌≡◌, is_some, true};
+    ghost use Rattle.std.specs.Prelude.{◌≡◌, false, is_some, true};
     ghost use Rattle.jpeg_streams.specs.Sound.{HasDecodedFrame, IsSound, IsUnread};
-    ghost use Rattle.jpeg_streams.specs.States.{Decoding, HasHeader};
+    ghost use Rattle.jpeg_streams.specs.States.{Decoding, HasHeader, IsReading};
     ghost use Rattle.jpeg_streams.specs.declared.progress.Progress.TheVariants.{Fresh, HeaderRead};
     ghost use Rattle.jpeg_streams.specs.Found.{nothing_found};
 
@@ -227,14 +229,16 @@ impl<R: Read + Drop> Model for Decoder<R> {
       stage = d.progress;
       found = d.state;
       settings = d.settings;
+      exceeded = d.exceeded;
     } };
 
     // A fresh decoder has found nothing. One whose header was read has a frame, which is decoded;
-    // and until it is decoded no scan was read.
+    // and until it is decoded no scan was read or refused.
     ghost invariant = { λ d. (d.progress ≡ Fresh → d.state ≡ nothing_found)
         × (HasHeader d.progress → is_some d.state.said.frame ≡ true)
         × (HasHeader d.progress → HasDecodedFrame d.state)
-        × (d.progress ≡ HeaderRead → IsSound d.state × IsUnread d.state) };
+        × (d.progress ≡ HeaderRead → IsSound d.state × IsUnread d.state)
+        × (IsReading d.progress → d.exceeded ≡ false) };
 }
 
 impl<R: Read + Drop> Decoder<R> {
@@ -246,6 +250,7 @@ impl<R: Read + Drop> Decoder<R> {
           stage = Fresh;
           found = nothing_found;
           settings = default_settings;
+          exceeded = false;
         }) }
         ensures err { IfErr result (λ e. e ≡ OutOfMemory) }
     {
@@ -259,6 +264,7 @@ impl<R: Read + Drop> Decoder<R> {
                 color_transform: None,
                 max_blocks: None,
             },
+            exceeded: false,
         })
     }
 
@@ -270,6 +276,7 @@ impl<R: Read + Drop> Decoder<R> {
           stage = Fresh;
           found = nothing_found;
           settings = default_settings;
+          exceeded = false;
         }) }
         ensures err { IfErr result (λ e. e ≡ OutOfMemory) }
     {
@@ -327,6 +334,15 @@ impl<R: Read + Drop> Decoder<R> {
         self.source.has_failed()
     }
 
+    /// Returns whether a scan was refused since it codes more blocks than the limit of
+    /// `set_max_blocks` leaves, in every state. Such a refusal is a `Format`, as those of broken
+    /// rules are; this tells them apart.
+    pub fn has_exceeded_max_blocks(&self) -> bool
+        ensures { result ≡ self.now.exceeded }
+    {
+        self.exceeded
+    }
+
     /// Returns how many bytes decoding takes, once the header has been read: between `read_info` or
     /// `scale` and `decode`, and after a picture. Returns `None` before that, and after a failure.
     ///
@@ -380,15 +396,15 @@ impl<R: Read + Drop> Decoder<R> {
         self.settings.limit = max;
     }
 
-    /// Sets how many blocks the scans of a stream may code, all together, or `None` for no limit, as
-    /// a new decoder has it. This bounds the time that decoding takes, which a header can't do: a
-    /// scan of eleven bytes may go over all blocks of the picture.
+    /// Sets how many blocks the scans of a stream may code, all together, or `None` for no limit,
+    /// as a new decoder has it. This bounds the time that decoding takes, which a header can't do:
+    /// a scan of eleven bytes may go over all blocks of the picture.
     ///
     /// A scan of one component codes the blocks that cover its samples, and one of several
     /// components the blocks of all MCUs (T.81, A.2). Eight samples of a lossless scan count as a
-    /// block. The scan that would pass the limit is refused as `Format`, after its header and before
-    /// its tables and data. `decode_partial` then gives what the scans before it have brought. A
-    /// stream within the limit is decoded as without one.
+    /// block. The scan that would pass the limit is refused as `Format`, after its header and
+    /// before its tables and data. `decode_partial` then gives what the scans before it have
+    /// brought. A stream within the limit is decoded as without one.
     ///
     /// [`picture_blocks`](Decoder::picture_blocks) is the unit: of the files that were counted none
     /// codes more than 8 times as many blocks.
@@ -402,8 +418,8 @@ impl<R: Read + Drop> Decoder<R> {
     }
 
     /// Returns how many blocks one scan of all components codes, once the header has been read:
-    /// between `read_info` or `scale` and `decode`, and after a picture. Returns `None` before that,
-    /// and after a failure. A limit for [`set_max_blocks`](Decoder::set_max_blocks) is best a
+    /// between `read_info` or `scale` and `decode`, and after a picture. Returns `None` before
+    /// that, and after a failure. A limit for [`set_max_blocks`](Decoder::set_max_blocks) is best a
     /// multiple of it.
     pub fn picture_blocks(&self) -> Option<u64>
         ensures header { HasHeader self.now.stage
@@ -469,6 +485,7 @@ impl<R: Read + Drop> Decoder<R> {
             → IsOfTurns (λ n. turns_ahead None n true self.old.stage self.old.found
             self.old.source.bytes) (told_of self.new.found.said) }
         ensures settings { self.new.settings ≡ self.old.settings }
+        ensures exceeded { self.new.exceeded ≡ self.old.exceeded }
         ensures still { (self.old.stage ≡ Fresh → ⊥) → self.new ≡ self.old }
         ensures framed { IfOk result (λ _. is_some self.new.found.said.frame ≡ true) }
     {
@@ -506,6 +523,7 @@ impl<R: Read + Drop> Decoder<R> {
             ≡ size.0) × (f.output_height ≡ size.1))) }
         ensures framed { IfOk result (λ _. is_some self.new.found.said.frame ≡ true) }
         ensures settings { self.new.settings ≡ self.old.settings }
+        ensures exceeded { self.new.exceeded ≡ self.old.exceeded }
     {
         self.read_info()?;
         let scale = scale_reaching(&self.state, requested_width, requested_height);
@@ -538,6 +556,7 @@ impl<R: Read + Drop> Decoder<R> {
             ≡ size.0) × (f.output_height ≡ size.1))) }
         ensures framed { IfOk result (λ _. is_some self.new.found.said.frame ≡ true) }
         ensures settings { self.new.settings ≡ self.old.settings }
+        ensures exceeded { self.new.exceeded ≡ self.old.exceeded }
     {
         self.read_info()?;
         Ok(scale_state(&mut self.state, scale.block_side()))
@@ -559,6 +578,7 @@ impl<R: Read + Drop> Decoder<R> {
             → IsOfTurns (λ n. turns_ahead None n true self.old.stage self.old.found
             self.old.source.bytes) (told_of self.new.found.said) }
         ensures settings { self.new.settings ≡ self.old.settings }
+        ensures exceeded { IsReading self.old.stage → self.new.exceeded ≡ false }
         ensures still { (self.old.stage ≡ Fresh → ⊥) → self.new ≡ self.old }
         ensures emptied { self.old.stage ≡ Fresh → OnErr result ((self.new.found.kept ≡ [])
             × (self.new.found.planes ≡ replicate 4 None)
@@ -607,7 +627,13 @@ impl<R: Read + Drop> Decoder<R> {
         ensures counted { IfOk result (λ _. IsCounted (shape_in self.new)) }
     {
         self.begin()?;
-        let result = read_rest(self.alloc, &mut self.source, &mut self.state, self.settings);
+        let result = read_rest(
+            self.alloc,
+            &mut self.source,
+            &mut self.state,
+            self.settings,
+            &mut self.exceeded,
+        );
         self.progress = progress_after(result.is_ok(), Progress::Finished);
         result
     }
@@ -667,8 +693,8 @@ impl<R: Read + Drop> Decoder<R> {
 
         // For any bytes, it counts the complete rows of the picture.
         ensures rows { IsReading self.old.stage → CountsRows (λ p. p.whole_rows)
-            (whole_rows_ahead self.old.settings.max_blocks self.old.stage self.old.found) self.old.source result
-            self.new.source }
+            (whole_rows_ahead self.old.settings.max_blocks self.old.stage self.old.found)
+            self.old.source result self.new.source }
 
         // The settings stay.
         ensures settings { self.new.settings ≡ self.old.settings }
@@ -699,6 +725,7 @@ impl<R: Read + Drop> Decoder<R> {
             &mut self.state,
             self.settings,
             from_start,
+            &mut self.exceeded,
         );
         self.progress = progress_after(result.is_ok(), Progress::Finished);
         result
@@ -724,8 +751,8 @@ impl<R: Read + Drop> Decoder<R> {
 
         // For any bytes, it counts the complete rows of the picture.
         ensures rows { IsReading self.old.stage → CountsRows (λ p. p.whole_rows)
-            (whole_rows_ahead self.old.settings.max_blocks self.old.stage self.old.found) self.old.source result
-            self.new.source }
+            (whole_rows_ahead self.old.settings.max_blocks self.old.stage self.old.found)
+            self.old.source result self.new.source }
 
         // The settings stay.
         ensures settings { self.new.settings ≡ self.old.settings }

@@ -14,7 +14,7 @@ use Rattle.jpeg_streams.specs.Brought.{blocks_brought, blocks_brought_by, interv
 use Rattle.jpeg_streams.specs.Brought.{intervals_reached, reached_from, samples_brought, samples_brought_by}
 use Rattle.jpeg_streams.specs.Brought.{scan_brought, scan_rows_reached}
 use Rattle.jpeg_streams.specs.InTurn.{turn_from}
-use Rattle.jpeg_streams.specs.Limits.{work_of, work_of_walk, work_within}
+use Rattle.jpeg_streams.specs.Limits.{exceeded_by, work_of, work_of_walk, work_within}
 use Rattle.jpeg_streams.specs.Profile.{profile_of}
 use Rattle.jpeg_streams.specs.Shown.{completed, fault_shown, picture_shown, shown_of, shown_rest_within, shown_within}
 use Rattle.jpeg_streams.specs.Shown.{whole_rows_rest, whole_rows_within, with_plane_shown, with_samples_shown}
@@ -61,7 +61,7 @@ unfolding cuts_on_literals whole_rows_rest whole_rows_within is_blended rule_of
 rows_on_literals = tt
 
 unfoldable pub limits_on_literals : ⊤
-unfolding rows_on_literals work_of work_of_walk work_within work_done
+unfolding rows_on_literals work_of work_of_walk work_within work_done exceeded_by
 limits_on_literals = tt
 
 unfoldable pub blended_on_literals : ⊤

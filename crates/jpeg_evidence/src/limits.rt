@@ -1,13 +1,14 @@
 //! A limit of the blocks that the scans of a stream code, all together: never more are decoded; a
 //! stream within it means and shows what it does without one, and a stream above it is refused.
 ghost use Rattle.std.specs.Prelude.{◌≡◌, ◌≤◌, ◌<◌, ℕ, Bool, true, false, List, [], ◌∷◌, length};
-ghost use Rattle.std.specs.Prelude.{drop, replicate, take, Option, Some, None, Ok, Err};
+ghost use Rattle.std.specs.Prelude.{drop, nat_lt, replicate, take, Option, Some, None, Ok, Err};
 ghost use Rattle.jpeg_bits.specs.Reading.{Malformed, End, Lacks};
 ghost use Rattle.jpeg_bits.specs.declared.error.UnsupportedFeature.TheVariants.{DNL};
 ghost use Rattle.jpeg_bits.specs.declared.marker.Marker.{Marker};
 ghost use Rattle.jpeg_segments.specs.Frame.{Component, Frame};
 ghost use Rattle.jpeg_streams.specs.Found.{Found, nothing_found};
-ghost use Rattle.jpeg_streams.specs.Limits.{IsWithinLimit, work_of, work_of_walk, work_within};
+ghost use Rattle.jpeg_streams.specs.Limits.{IsWithinLimit, exceeded_by, work_of, work_of_walk};
+ghost use Rattle.jpeg_streams.specs.Limits.{work_within};
 ghost use Rattle.jpeg_streams.specs.Order.{spots_of};
 ghost use Rattle.jpeg_streams.specs.Shown.{Shown, rows_of_found, shown, shown_of, shown_within};
 ghost use Rattle.jpeg_streams.specs.Shown.{whole_rows, whole_rows_within};
@@ -30,8 +31,8 @@ ghost use Rattle.jpeg_evidence.specs.Limits.{spots_counted, work_done};
 /// Bounds the work of any segments, from any marker on. No more blocks are decoded than are left.
 /// If the scans code no more, all are decoded, and the walk is that without a limit; if they code
 /// more, one is refused. What is found by the end or the refusal is what some first turns find
-/// without a limit, and the blocks of their scans are those that are decoded. A header has no
-/// scans.
+/// without a limit, and the blocks of their scans are those that are decoded. The walk says whether
+/// that is why it was refused. A header has no scans.
 #[tactic(auto, using(crate::proofs::Work::LimitedMeanings::limit_rules))]
 pub fn limits_bound()
     ensures bound { (left : ℕ) (beyond : Beyond) (turns : ℕ) (header : Bool) (before : Before)
@@ -51,6 +52,10 @@ pub fn limits_bound()
         (found : Found) (met : Option Marker) (bytes : List ℕ)
         → left < work_of_walk beyond turns header before found met bytes
         → (walk (Some left) beyond turns header before found met bytes).rest ≡ Err Malformed }
+    ensures exceeded { (left : ℕ) (beyond : Beyond) (turns : ℕ) (header : Bool) (before : Before)
+        (found : Found) (met : Option Marker) (bytes : List ℕ)
+        → (walk (Some left) beyond turns header before found met bytes).exceeded
+        ≡ nat_lt left (work_of_walk beyond turns header before found met bytes) }
     ensures found { (limit : Option ℕ) (beyond : Beyond) (turns : ℕ) (header : Bool)
         (before : Before) (found : Found) (met : Option Marker) (bytes : List ℕ) → (n : ℕ)
         × ((walk limit beyond turns header before found met bytes).found
@@ -66,7 +71,7 @@ pub fn limits_bound()
 /// what they mean without a limit, and `decode_partial` shows the same, with as many complete rows.
 /// If they code more, they have no meaning, and what is shown is what some first turns find, whose
 /// scans are within the limit and lack no rows; the fault is that the stream is malformed. If that
-/// has no picture, nothing is shown.
+/// has no picture, nothing is shown. A decoder knows whether they code more.
 #[tactic(auto, using(crate::proofs::Work::LimitedMeanings::limit_rules))]
 pub fn limited_meanings()
     ensures same { (limit : Option ℕ) (settings : Settings) (bytes : List ℕ)
@@ -88,6 +93,9 @@ pub fn limited_meanings()
         (walk None Nothing n false Elsewhere nothing_found None rest).found (Err Malformed))
         × (whole_rows_within (Some most) bytes ≡ rows_of_found None
         (walk None Nothing n false Elsewhere nothing_found None rest).found) }
+    ensures exceeded { (most : ℕ) (beyond : Beyond) (bytes : List ℕ)
+        → exceeded_by (Some most) beyond bytes ≡ nat_lt most (work_of beyond bytes) }
+    ensures unlimited { (beyond : Beyond) (bytes : List ℕ) → exceeded_by None beyond bytes ≡ false }
     ensures fault { (most : ℕ) (settings : Settings) (bytes : List ℕ) (s : Shown)
         → most < work_of Nothing bytes → shown_within (Some most) settings bytes ≡ Ok s
         → s.fault ≡ Some Malformed }
@@ -159,4 +167,10 @@ pub fn known_limits()
         ≡ Ok (replicate 64 128, Some Malformed) }
     ensures rows_of_first { whole_rows_within (Some 1) scanned_twice ≡ 8 }
     ensures rows_of_none { whole_rows_within (Some 0) scanned_twice ≡ 0 }
+    // The decoder knows why: not in a stream whose fault is another, although that is `Malformed`.
+    ensures known_below { exceeded_by (Some 1) Zeros scanned_twice ≡ true }
+    ensures known_at { exceeded_by (Some 2) Zeros scanned_twice ≡ false }
+    ensures known_of_others { exceeded_by (Some 0) Zeros eleven_blocks ≡ false }
+    ensures known_in_part { exceeded_by (Some 2) Nothing cut_and_scanned ≡ false }
+    ensures known_of_whole { exceeded_by (Some 2) Zeros cut_and_scanned ≡ true }
 {}

@@ -1,6 +1,6 @@
 -- A limit of blocks: within it a stream means what it means without; above it, it is refused; and
 -- never more blocks are decoded.
-use Rattle.std.proofs.Common.{rules, ◌≡◌, ◌≤◌, ◌<◌, ℕ, zero, suc, Bool, List}
+use Rattle.std.proofs.Common.{rules, ◌≡◌, ◌≤◌, ◌<◌, ℕ, zero, suc, Bool, false, nat_lt, List}
 use Rattle.std.proofs.Common.{Option, Some, None, Err, refl, arith}
 use Rattle.jpeg_bits.specs.Reading.{Malformed}
 use Rattle.jpeg_bits.specs.declared.marker.Marker.{Marker}
@@ -61,3 +61,22 @@ pub meaning-same : (limit : Option ℕ) (settings : Settings) (bytes : List ℕ)
     → IsWithinLimit limit (work_of Zeros bytes) → meaning_within limit settings bytes ≡ meaning settings bytes
 unfolding meaning_within work_of
 meaning-same limit settings bytes h = search (rules, rest-same)
+
+-- ---- whether a scan is refused for its blocks
+
+-- without a limit none is
+pub none-exceeded : (beyond : Beyond) (turns : ℕ) (header : Bool) (before : Before) (found : Found) (met : Option Marker)
+    (bytes : List ℕ) → (walk None beyond turns header before found met bytes).exceeded ≡ false
+unfolding walk
+none-exceeded beyond zero header before found met bytes = refl
+none-exceeded beyond (suc turns) header before found met bytes = search (rules, none-exceeded beyond turns)
+
+-- With a limit one is where all scans code more.
+pub exceeded-above : (left : ℕ) (beyond : Beyond) (turns : ℕ) (header : Bool) (before : Before) (found : Found)
+    (met : Option Marker) (bytes : List ℕ)
+    → (walk (Some left) beyond turns header before found met bytes).exceeded
+    ≡ nat_lt left (work_of_walk beyond turns header before found met bytes)
+unfolding walk work_of_walk
+exceeded-above left beyond zero header before found met bytes = search (rules, arith)
+exceeded-above left beyond (suc turns) header before found met bytes =
+    search (rules, arith, λ (k : ℕ). exceeded-above k beyond turns)

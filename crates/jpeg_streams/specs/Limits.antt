@@ -9,7 +9,7 @@ use Rattle.jpeg_streams.specs.declared.beyond.Beyond.TheVariants.{Zeros}
 use Rattle.jpeg_streams.specs.declared.progress.Progress.{Progress}
 use Rattle.jpeg_streams.specs.declared.progress.Progress.TheVariants.{Fresh}
 use Rattle.jpeg_streams.specs.Found.{Found, nothing_found}
-use Rattle.jpeg_streams.specs.Stream.{start_at, turn_at}
+use Rattle.jpeg_streams.specs.Stream.{start_at, turn_at, walk}
 use Rattle.jpeg_streams.specs.Work.{is_above, left_after, work_of_turn}
 
 -- The blocks of all scans from a marker on, up to the end of the image, or where a header is wanted
@@ -40,6 +40,22 @@ work_of beyond bytes = elim (start_at bytes) [
 abbrev pub work_ahead : Progress → Found → List ℕ → ℕ
 work_ahead Fresh found bytes = work_of Zeros bytes
 work_ahead _ found bytes = work_of_rest Zeros found bytes
+
+-- Whether a scan is refused since it codes more blocks than a limit leaves: of the rest of a stream
+-- after its start or its header, of a stream, and of what lies ahead of a decoder.
+abbrev pub exceeded_rest : Option ℕ → Beyond → Found → List ℕ → Bool
+exceeded_rest limit beyond found bytes =
+    (walk limit beyond (suc (length bytes)) false Elsewhere found None bytes).exceeded
+
+unfoldable pub exceeded_by : Option ℕ → Beyond → List ℕ → Bool
+exceeded_by limit beyond bytes = elim (start_at bytes) [
+  | Ok start ↦ exceeded_rest limit beyond nothing_found start.1
+  | Err fault ↦ false
+]
+
+abbrev pub exceeded_ahead : Option ℕ → Beyond → Progress → Found → List ℕ → Bool
+exceeded_ahead limit beyond Fresh found bytes = exceeded_by limit beyond bytes
+exceeded_ahead limit beyond _ found bytes = exceeded_rest limit beyond found bytes
 
 -- a limit lets this many blocks through, or there is none
 abbrev pub IsWithinLimit : Option ℕ → ℕ → Type 0

@@ -13,12 +13,14 @@ use Rattle.jpeg_streams.specs.Stream.{Told, told_of, meaning_within, rest_within
 use Rattle.jpeg_streams.specs.Reported.{told_by_turns, told_in_turns}
 use Rattle.jpeg_streams.specs.Found.{Found}
 
--- a decoder: its source, its stage, what was found, and what was set
+-- a decoder: its source, its stage, what was found, what was set, and whether it has refused a scan
+-- since that codes more blocks than the limit leaves
 pub record Decoding : Type 0 where
   pub source : Stream
   pub stage : Progress
   pub found : Found
   pub settings : Settings
+  pub exceeded : Bool
 
 -- an error of a state
 abbrev pub IsInternal : Error → Type 0

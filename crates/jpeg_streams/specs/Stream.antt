@@ -25,7 +25,8 @@ use Rattle.jpeg_streams.specs.Segments.{Turn, onward, frame_segment, says, updat
 use Rattle.jpeg_streams.specs.Segments.{with_application, with_huffman}
 use Rattle.jpeg_streams.specs.ScanSegments.{scan_segment}
 use Rattle.jpeg_streams.specs.FoundPictures.{picture_of}
-use Rattle.jpeg_streams.specs.Work.{brought_within, left_after, work_of_header, work_of_turn}
+use Rattle.jpeg_streams.specs.Work.{brought_within, is_above, left_after, work_of_header}
+use Rattle.jpeg_streams.specs.Work.{work_of_turn}
 
 -- the end of the image, which needs a frame
 unfoldable pub end_segment : Found → List ℕ → Outcome Turn
@@ -88,10 +89,12 @@ turn_within left beyond before found met bytes =
     (turn_at beyond before found met bytes)
 
 -- What segments have brought by their end or their first fault; how many rows of the picture are
--- complete, where the scan with the fault lacks some; and the bytes after them, or the fault.
+-- complete, where the scan with the fault lacks some; whether the fault is a scan of more blocks
+-- than a limit leaves; and the bytes after them, or the fault.
 pub record Walked : Type 0 where
   pub found : Found
   pub rows : Option ℕ
+  pub exceeded : Bool
   pub rest : Result (List ℕ) Fault
 
 -- Segments in turn from a marker on, up to the end of the image, or where a header is wanted up to
@@ -100,15 +103,20 @@ pub record Walked : Type 0 where
 unfoldable pub walk
     : Option ℕ → Beyond → ℕ → Bool → Before → Found → Option Marker → List ℕ → Walked
 walk left beyond zero header before found met bytes =
-    record { found = found; rows = None; rest = Err End }
+    record { found = found; rows = None; exceeded = false; rest = Err End }
 walk left beyond (suc turns) header before found met bytes =
     if header && is_some found.said.frame
-    then record { found = found; rows = None; rest = Ok bytes } else
+    then record { found = found; rows = None; exceeded = false; rest = Ok bytes } else
     let b = turn_within left beyond before found met bytes in
     elim b.turn [
-      | Err fault ↦ record { found = b.found; rows = b.rows; rest = Err fault }
+      | Err fault ↦ record {
+        found = b.found;
+        rows = b.rows;
+        exceeded = is_above left (work_of_turn found met bytes);
+        rest = Err fault;
+      }
       | Ok t ↦ if t.0.ended
-          then record { found = t.0.found; rows = None; rest = Ok t.1 }
+          then record { found = t.0.found; rows = None; exceeded = false; rest = Ok t.1 }
           else walk (left_after left (work_of_turn found met bytes)) beyond turns header t.0.before
           t.0.found t.0.met t.1
     ]

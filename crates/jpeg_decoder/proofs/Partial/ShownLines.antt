@@ -30,6 +30,7 @@ shows-lost {Y = Y} bytes_of fault_of seen_as fault_as old mid new x e is made d 
       stage = lost-stage Y old.stage mid.stage x d.stage;
       shown = λ k l m. tt;
       told = λ k l m. tt;
+      exceeded = λ k l m. tt;
       given_up = λ k l m. tt;
       emptied = d.emptied;
     }))

@@ -1,6 +1,6 @@
 -- Calls that read the header of a stream where it is to be read, and then the rest of it.
 use Rattle.std.proofs.Common.{rules}
-use Rattle.std.proofs.Common.{◌≡◌, ◌++◌, [], None, replicate, ℕ, suc, List, Result, Ok, Err, true, false, refl, sym, ap, ◌∙◌, subst, length, take}
+use Rattle.std.proofs.Common.{◌≡◌, ◌++◌, [], Bool, None, replicate, ℕ, suc, List, Result, Ok, Err, true, false, refl, sym, ap, ◌∙◌, subst, length, take}
 use Rattle.std.proofs.lemmas.Bool.{false≢true, true≢false}
 use Rattle.std.proofs.Math.Seq.{take-append_seam}
 use Rattle.jpeg_bits.specs.Reading.{Answers, MayFail, Names, Outcome}
@@ -8,6 +8,8 @@ use Rattle.jpeg_bits.specs.Stream.{Stream}
 use Rattle.jpeg_bits.specs.declared.error.Error.{Error}
 use Rattle.jpeg_bits.specs.declared.error.Error.TheVariants as errors
 use Rattle.jpeg_streams.specs.declared.settings.Settings.{Settings}
+use Rattle.jpeg_streams.specs.Limits.{exceeded_ahead, exceeded_rest}
+use Rattle.jpeg_streams.specs.declared.beyond.Beyond.TheVariants.{Zeros}
 use Rattle.jpeg_streams.specs.Reported.{IsOfTurns, told_in_turns}
 use Rattle.jpeg_streams.specs.declared.progress.Progress.{Progress}
 use Rattle.jpeg_streams.specs.declared.progress.Progress.TheVariants.{Failed, Finished, Fresh, HeaderRead}
@@ -20,7 +22,7 @@ use Rattle.jpeg_decoder.specs.Decodes.{Decodes}
 use Rattle.jpeg_decoder.proofs.Pictures.DecodedImages.{decodes-images}
 use Rattle.jpeg_decoder.proofs.LosslessFrames.DecodedSamples.{decodes-samples}
 use Rattle.jpeg_decoder.proofs.Segments.HeaderThenRest.{header-lacks, header-means, header-told, header-told_lacking}
-use Rattle.jpeg_decoder.proofs.Segments.HeaderThenRest.{header-turns, header-turns_lacking}
+use Rattle.jpeg_decoder.proofs.Segments.HeaderThenRest.{header-exceeded, header-turns, header-turns_lacking, lacking-exceeded}
 use Rattle.jpeg_decoder.proofs.Scans.ScanData.{answers-err}
 
 -- No blocks, planes or samples are kept.
@@ -50,14 +52,15 @@ answers-then view y first next whole old mid new (Err e) means a h = (
 -- ---- where the header is read
 
 -- What a call says that has read the rest of a stream.
-pub record RestRead {X : Type 0} (bytes_of : X → List ℕ) (told : Told) (mid : Decoding) (r : Result X Error)
+pub record RestRead {X : Type 0} (bytes_of : X → List ℕ) (told : Told) (more : Bool) (mid : Decoding) (r : Result X Error)
     (new : Stream) : Type 0 where
   pub reads : Answers (λ x. (told, bytes_of x)) (rest_within mid.settings.max_blocks mid.settings mid.found) mid.source r new
   pub tells : OnTold mid.source new r (told ≡ told_in_turns mid.settings.max_blocks (suc (length mid.source.bytes)) false mid.found mid.source.bytes)
   pub turns : mid.source.known ≡ true → IsOfTurns (λ n. told_in_turns mid.settings.max_blocks n false mid.found mid.source.bytes) told
+  pub exceeded : OnTold mid.source new r (more ≡ exceeded_rest mid.settings.max_blocks Zeros mid.found mid.source.bytes)
 
 -- What a call says that has read what its source has left.
-pub record HasRead {X : Type 0} (bytes_of : X → List ℕ) (told : Told) (old : Decoding) (r : Result X Error)
+pub record HasRead {X : Type 0} (bytes_of : X → List ℕ) (told : Told) (more : Bool) (old : Decoding) (r : Result X Error)
     (new : Stream) : Type 0 where
   pub reads : IsReading old.stage
       → Answers (λ x. (told, bytes_of x)) (ahead old.stage old.settings old.found) old.source r new
@@ -65,10 +68,12 @@ pub record HasRead {X : Type 0} (bytes_of : X → List ℕ) (told : Told) (old :
       → OnTold old.source new r (told ≡ told_ahead old.settings.max_blocks false old.stage old.found old.source.bytes)
   pub turns : IsReading old.stage → old.source.known ≡ true
       → IsOfTurns (λ n. turns_ahead old.settings.max_blocks n false old.stage old.found old.source.bytes) told
+  pub exceeded : IsReading old.stage → OnTold old.source new r
+      (more ≡ exceeded_ahead old.settings.max_blocks Zeros old.stage old.found old.source.bytes)
 
-none-read : {X : Type 0} (bytes_of : X → List ℕ) (told : Told) (old : Decoding) (r : Result X Error) (new : Stream)
-    → (IsReading old.stage → ⊥) → HasRead bytes_of told old r new
-none-read bytes_of told old r new n = search rules
+none-read : {X : Type 0} (bytes_of : X → List ℕ) (told : Told) (more : Bool) (old : Decoding) (r : Result X Error)
+    (new : Stream) → (IsReading old.stage → ⊥) → HasRead bytes_of told more old r new
+none-read bytes_of told more old r new n = search rules
 
 -- What was done before the rest was read: the header, where it was to be read.
 pub record IsBegun (old mid : Decoding) : Type 0 where
@@ -84,10 +89,10 @@ begun-seen old mid seen e fresh still settings = search rules
 other-stage : HeaderRead ≡ Fresh → ⊥
 other-stage e = let n : ⊥ = cc in n
 
-pub into-at : {X : Type 0} (bytes_of : X → List ℕ) (told : Told) (stage : Progress) (old mid : Decoding) (new : Stream)
-    (r : Result X Error) → IsBegun (record old { stage = stage }) mid → RestRead bytes_of told mid r new
-    → HasRead bytes_of told (record old { stage = stage }) r new
-into-at {X} bytes_of told Fresh old mid new r b h =
+pub into-at : {X : Type 0} (bytes_of : X → List ℕ) (told : Told) (more : Bool) (stage : Progress) (old mid : Decoding)
+    (new : Stream) (r : Result X Error) → IsBegun (record old { stage = stage }) mid → RestRead bytes_of told more mid r new
+    → HasRead bytes_of told more (record old { stage = stage }) r new
+into-at {X} bytes_of told more Fresh old mid new r b h =
     let header = b.fresh refl in
     record {
       reads = λ _. answers-then (λ x. (told, bytes_of x)) mid.found header_at
@@ -106,11 +111,21 @@ into-at {X} bytes_of told Fresh old mid new r b h =
           header-turns old.settings.max_blocks mid.found old.source.bytes mid.source.bytes told at.1
           (subst (λ (s : Settings). IsOfTurns (λ n. told_in_turns s.max_blocks n false mid.found mid.source.bytes) told)
           b.settings (h.turns at.0));
+      exceeded = λ _. told-through {X = X} old.source mid.source new r _ _ (λ k.
+          let at = header.1 k in
+          (at.0, λ p. p ∙ sym (header-exceeded old.settings.max_blocks mid.found old.source.bytes mid.source.bytes at.1)))
+          (subst (λ (s : Settings). OnTold mid.source new r (more ≡ exceeded_rest s.max_blocks Zeros mid.found
+          mid.source.bytes)) b.settings h.exceeded);
     }
-into-at bytes_of told HeaderRead old mid new r b h =
-    let same = subst (λ (d : Decoding). RestRead bytes_of told d r new) (b.still other-stage) h in
-    record { reads = λ _. same.reads; told_is = λ _. same.tells; turns = λ _. same.turns }
-into-at bytes_of told _ old mid new r b h = none-read bytes_of told _ r new (λ n. n)
+into-at bytes_of told more HeaderRead old mid new r b h =
+    let same = subst (λ (d : Decoding). RestRead bytes_of told more d r new) (b.still other-stage) h in
+    record {
+      reads = λ _. same.reads;
+      told_is = λ _. same.tells;
+      turns = λ _. same.turns;
+      exceeded = λ _. same.exceeded;
+    }
+into-at bytes_of told more _ old mid new r b h = none-read bytes_of told more _ r new (λ n. n)
 
 -- ---- where the header is refused
 
@@ -128,12 +143,13 @@ pub record IsUnbegun (old new : Decoding) (e : Error) : Type 0 where
   pub turns : old.stage ≡ Fresh → old.source.known ≡ true
       → IsOfTurns (λ n. turns_ahead None n true old.stage old.found old.source.bytes) (told_of new.found.said)
   pub still : (old.stage ≡ Fresh → ⊥) → new ≡ old
+  pub exceeded : IsReading old.stage → new.exceeded ≡ false
   pub emptied : old.stage ≡ Fresh → IsEmptied new.found
 
 -- only a fresh decoder's is
 refused-at : {X : Type 0} (bytes_of : X → List ℕ) (stage : Progress) (old new : Decoding) (e : Error)
     → IsUnbegun (record old { stage = stage }) new e
-    → HasRead bytes_of (told_of new.found.said) (record old { stage = stage }) (Err e) new.source
+    → HasRead bytes_of (told_of new.found.said) new.exceeded (record old { stage = stage }) (Err e) new.source
 refused-at bytes_of Fresh old new e h = record {
   reads = λ _. answers-err (λ (u : Unit {0}). new.found) (λ x. (told_of new.found.said, bytes_of x)) header_at
       (ahead Fresh old.settings old.found) old.source new.source e
@@ -142,9 +158,11 @@ refused-at bytes_of Fresh old new e h = record {
       (told-err e (header_at old.source.bytes) _ ((h.reads refl).1 k l)
       (λ fault is. header-told_lacking old.settings.max_blocks old.source.bytes fault is));
   turns = λ _ k. header-turns_lacking old.settings.max_blocks old.source.bytes _ (h.turns refl k);
+  exceeded = λ _ k l. told-err e (header_at old.source.bytes) _ ((h.reads refl).1 k l)
+      (λ fault is. h.exceeded tt ∙ sym (lacking-exceeded old.settings.max_blocks old.source.bytes fault is));
 }
 refused-at bytes_of HeaderRead old new e h = absurd (false≢true (h.stage tt).1)
-refused-at bytes_of _ old new e h = none-read bytes_of _ _ _ _ (λ n. n)
+refused-at bytes_of _ old new e h = none-read bytes_of _ _ _ _ _ (λ n. n)
 
 refused-stage : (X : Type 0) (stage : Progress) (old new : Decoding) (e : Error)
     → IsUnbegun (record old { stage = stage }) new e → MovesToEnd {X = X} stage new.stage (Err e)
@@ -165,7 +183,7 @@ refused-emptied _ old new e h k = absurd k
 
 -- What was read, the state after it, and that nothing is kept.
 pub decodes : {X : Type 0} (bytes_of : X → List ℕ) (old new : Decoding) (r : Result X Error)
-    → MovesToEnd old.stage new.stage r → HasRead bytes_of (told_of new.found.said) old r new.source
+    → MovesToEnd old.stage new.stage r → HasRead bytes_of (told_of new.found.said) new.exceeded old r new.source
     → (IsReading old.stage → IsEmptied new.found) → Decodes bytes_of old r new
 decodes bytes_of old new r stage read emptied = record {
   stage = stage;
@@ -174,6 +192,7 @@ decodes bytes_of old new r stage read emptied = record {
   samples = decodes-samples bytes_of old new r read.reads;
   told = read.told_is;
   turns = read.turns;
+  exceeded = read.exceeded;
   emptied = emptied;
 }
 
@@ -186,10 +205,10 @@ decodes-unbegun bytes_of old new e h =
 
 -- where the rest is read
 pub decodes-rest : {X : Type 0} (bytes_of : X → List ℕ) (old mid new : Decoding) (r : Result X Error) → IsBegun old mid
-    → MovesToEnd old.stage new.stage r → RestRead bytes_of (told_of new.found.said) mid r new.source
+    → MovesToEnd old.stage new.stage r → RestRead bytes_of (told_of new.found.said) new.exceeded mid r new.source
     → IsEmptied new.found → Decodes bytes_of old r new
 decodes-rest bytes_of old mid new r b stage read emptied =
-    decodes bytes_of old new r stage (into-at bytes_of _ old.stage old mid new.source r b read) (λ _. emptied)
+    decodes bytes_of old new r stage (into-at bytes_of _ _ old.stage old mid new.source r b read) (λ _. emptied)
 
 -- ---- calls that do more with what is decoded
 
@@ -203,8 +222,9 @@ begun-stage _ new r k h = absurd k
 
 begun-rest : {X : Type 0} (bytes_of : X → List ℕ) (mid new : Decoding) (r : Result X Error)
     → Decodes bytes_of (record mid { stage = HeaderRead }) r new
-    → RestRead bytes_of (told_of new.found.said) mid r new.source
-begun-rest bytes_of mid new r d = record { reads = d.reads tt; tells = d.told tt; turns = d.turns tt }
+    → RestRead bytes_of (told_of new.found.said) new.exceeded mid r new.source
+begun-rest bytes_of mid new r d =
+    record { reads = d.reads tt; tells = d.told tt; turns = d.turns tt; exceeded = d.exceeded tt }
 
 pub decodes-begun : {X : Type 0} (bytes_of : X → List ℕ) (old mid new : Decoding) (r : Result X Error)
     → IsReading old.stage → IsBegun old mid → mid.stage ≡ HeaderRead → Decodes bytes_of mid r new
@@ -235,6 +255,7 @@ decodes-as bytes_of seen_as old new x y same d =
           );
       told_is = d.told;
       turns = d.turns;
+      exceeded = d.exceeded;
     }) d.emptied
 
 err-stage : (X Y : Type 0) (old new : Progress) (e : Error) → MovesToEnd {X = X} old new (Err e)
@@ -248,7 +269,7 @@ pub decodes-err : {X Y : Type 0} (bytes_of : X → List ℕ) (seen_as : Y → Li
     → Decodes bytes_of old (Err e) new → Decodes seen_as old (Err e) new
 decodes-err bytes_of seen_as old new e d =
     decodes seen_as old new (Err e) (err-stage _ _ old.stage new.stage e d.stage)
-    (record { reads = d.reads; told_is = d.told; turns = d.turns }) d.emptied
+    (record { reads = d.reads; told_is = d.told; turns = d.turns; exceeded = d.exceeded }) d.emptied
 
 -- An image was left to decode.
 pub decoded-reading : {X : Type 0} (old new : Progress) (x : X) → MovesToEnd old new (Ok x) → IsReading old
@@ -281,6 +302,7 @@ decodes-lost {Y = Y} bytes_of seen_as old mid new x e is made d =
           );
       told_is = λ k l m. tt;
       turns = d.turns;
+      exceeded = λ k l m. tt;
     }) d.emptied))
 
 -- the front of the caller's memory

@@ -1,5 +1,5 @@
 -- The header of a scan within a limit of blocks.
-use Rattle.std.proofs.Common.{◌≡◌, ◌∙◌, ℕ, List, Option, Some, Result, Ok, Err, Bool, true, false, ap, refl}
+use Rattle.std.proofs.Common.{◌≡◌, ◌∙◌, ℕ, List, Option, None, Some, Result, Ok, Err, Bool, true, false, ap, refl, sym}
 use Rattle.std.proofs.Common.{arith}
 use Rattle.std.proofs.lemmas.Grind.{common_steps}
 use Rattle.std.specs.Prelude.{if◌then◌else◌}
@@ -13,6 +13,9 @@ use Rattle.jpeg_streams.specs.Found.{Found}
 use Rattle.jpeg_streams.specs.Work.{is_above, work_of_header, work_of_scan}
 use Rattle.jpeg_decoder.specs.Steps.{header_at, header_within}
 use Rattle.jpeg_decoder.proofs.Scans.ScanData.{answers-err}
+use Rattle.jpeg_streams.specs.States.{IfRefused, OnToldRefusal}
+use Rattle.jpeg_streams.proofs.Refusals.{told-err}
+use Rattle.jpeg_decoder.proofs.Partial.Refused.{if-refused}
 use Rattle.jpeg_decoder.proofs.Segments.MarkedTurns.{none-above}
 
 header-is : (found : Found) (frame : Frame) (bytes : List ℕ) → found.said.frame ≡ Some frame
@@ -96,3 +99,52 @@ header-within left found frame scan old new framed has few = (
       let read = has.1 k in
       (read.0, within-read left found frame old.bytes new.bytes scan framed read.1 few),
 )
+
+-- ---- whether a scan exceeds the limit
+
+-- a header that is refused for another reason doesn't
+pub lacks-exceeded : (left : Option ℕ) (found : Found) (frame : Frame) (old new : Stream) (e : Error) (exceeded : Bool)
+    → found.said.frame ≡ Some frame → exceeded ≡ false → Answers (λ (s : Scan). s) (sos_at frame) old (Err e) new
+    → old.known ≡ true → new.known ≡ true
+    → IfRefused e (exceeded ≡ is_above left (work_of_header found old.bytes))
+lacks-exceeded left found frame old new e exceeded framed none h k l =
+    told-err e (sos_at frame old.bytes) _ (h.1 k l)
+    (λ f is. none ∙ sym (ap (is_above left) (work-lacks found frame old.bytes f framed is) ∙ none-above left))
+
+-- without a frame there is no scan
+unframed-work : (found : Found) (bytes : List ℕ) → found.said.frame ≡ None → work_of_header found bytes ≡ 0
+unfolding work_of_header
+unframed-work found bytes e = rw (work_of_header, e) refl
+
+pub unframed-exceeded : (left : Option ℕ) (found : Found) (bytes : List ℕ) (e : Error) (exceeded : Bool)
+    → found.said.frame ≡ None → exceeded ≡ false
+    → IfRefused e (exceeded ≡ is_above left (work_of_header found bytes))
+unframed-exceeded left found bytes e exceeded lacks none =
+    if-refused e (none ∙ sym (ap (is_above left) (unframed-work found bytes lacks) ∙ none-above left))
+
+-- the refusal of a scan of more blocks than are left
+pub above-exceeded : (left : Option ℕ) (found : Found) (frame : Frame) (scan : Scan) (old mid : Stream) (e : Error)
+    (exceeded : Bool) → found.said.frame ≡ Some frame
+    → (mid.failed ≡ old.failed) × (old.known ≡ true → (mid.known ≡ true) × (sos_at frame old.bytes ≡ Ok (scan, mid.bytes)))
+    → is_above left (work_of_scan frame scan) ≡ true → exceeded ≡ true → old.known ≡ true
+    → IfRefused e (exceeded ≡ is_above left (work_of_header found old.bytes))
+above-exceeded left found frame scan old mid e exceeded framed has more is k =
+    if-refused e (is ∙ sym (ap (is_above left) (work-read found frame old.bytes mid.bytes scan framed (has.1 k).1) ∙ more))
+
+-- a header that was read is within the limit
+within-few : (left : Option ℕ) (found : Found) (bytes : List ℕ) (x : Scan × List ℕ)
+    → header_within left found bytes ≡ Ok x → is_above left (work_of_header found bytes) ≡ false
+within-few left found bytes x e = go (is_above left (work_of_header found bytes)) e
+  where
+    go : (above : Bool) → header_where found bytes above ≡ Ok x → above ≡ false
+    go true q = grind (arith, common_steps)
+    go false q = refl
+
+pub within-exceeded : {X : Type 0} (left : Option ℕ) (found : Found) (scan : Scan) (old mid new : Stream)
+    (r : Result X Error) (exceeded : Bool) → exceeded ≡ false
+    → (mid.failed ≡ old.failed) × (old.known ≡ true → (mid.known ≡ true)
+    × (header_within left found old.bytes ≡ Ok (scan, mid.bytes)))
+    → OnToldRefusal old new r (exceeded ≡ is_above left (work_of_header found old.bytes))
+within-exceeded left found scan old mid new (Ok x) exceeded none has = tt
+within-exceeded left found scan old mid new (Err e) exceeded none has = λ k l.
+    if-refused e (none ∙ sym (within-few left found old.bytes (scan, mid.bytes) (has.1 k).1))

@@ -8,10 +8,12 @@ use Rattle.jpeg_streams.specs.declared.beyond.Beyond.TheVariants.{Zeros}
 use Rattle.jpeg_streams.specs.declared.settings.Settings.{Settings}
 use Rattle.jpeg_streams.specs.Found.{Found, nothing_found}
 use Rattle.jpeg_streams.specs.Reported.{IsOfTurns, told_by_turns, told_in_turns}
+use Rattle.jpeg_streams.specs.Limits.{exceeded_by, exceeded_rest}
 use Rattle.jpeg_streams.specs.Segments.{Turn}
+use Rattle.jpeg_streams.proofs.Limits.{none-exceeded}
 use Rattle.jpeg_streams.specs.Stream.{Told, Walked, header_at, meaning_within, rest_within, segments_at, start_at}
 use Rattle.jpeg_streams.specs.Stream.{told_of, turn_at, turn_within, walk}
-use Rattle.jpeg_streams.specs.Work.{brought_within, left_after, work_after, work_of_header, work_of_scan, work_of_turn}
+use Rattle.jpeg_streams.specs.Work.{brought_within, is_above, left_after, work_after, work_of_header, work_of_scan, work_of_turn}
 use Rattle.jpeg_streams.specs.Brought.{Brought}
 use Rattle.jpeg_streams.specs.FoundPictures.{picture_of}
 use Rattle.jpeg_streams.specs.declared.before.Before.{Before}
@@ -21,7 +23,7 @@ use Rattle.jpeg_segments.specs.ScanHeader.{Scan}
 use Rattle.jpeg_bits.specs.Marker.{next_marker}
 use Rattle.jpeg_bits.specs.declared.marker.Marker.{Marker}
 use Rattle.jpeg_bits.specs.declared.marker.Marker.TheVariants.{SOS}
-use Rattle.jpeg_decoder.proofs.Segments.MarkedTurns.{nothing-taken, nothing-within}
+use Rattle.jpeg_decoder.proofs.Segments.MarkedTurns.{none-above, nothing-taken, nothing-within}
 use Rattle.jpeg_decoder.proofs.Segments.Headers.{turn-begins}
 use Rattle.jpeg_decoder.proofs.Segments.LeftBytes.{IsElsewhere, on-at}
 use Rattle.jpeg_decoder.proofs.Segments.TurnLoops.{whole_walk}
@@ -85,11 +87,14 @@ header-unread header o e = grind (arith, common_steps)
 begun-refused : (limit : Option ℕ) (beyond : Beyond) (n : ℕ) (found : Found) (bytes : List ℕ) (fault : Fault)
     → is_some found.said.frame ≡ false → (turn_at beyond Elsewhere found None bytes).turn ≡ Err fault
     → walk limit beyond (suc n) false Elsewhere found None bytes
-    ≡ refused_walk (turn_at beyond Elsewhere found None bytes) fault
+    ≡ refused_walk false (turn_at beyond Elsewhere found None bytes) fault
 begun-refused limit beyond n found bytes fault none e =
     let same = unframed-turn limit beyond found bytes none in
     walk-refused limit beyond n false Elsewhere found None bytes fault refl (ap (λ (b : Brought). b.turn) same ∙ e)
-    ∙ ap (λ (b : Brought). refused_walk b fault) same
+    ∙ ap (λ (n : ℕ). refused_walk (is_above limit n) (turn_within limit beyond Elsewhere found None bytes) fault)
+    (unframed-work found bytes none)
+    ∙ ap (λ (b : Brought). refused_walk (is_above limit 0) b fault) same
+    ∙ ap (λ (above : Bool). refused_walk above (turn_at beyond Elsewhere found None bytes) fault) (none-above limit)
 
 walk-begun : (limit : Option ℕ) (beyond : Beyond) (n : ℕ) (header : Bool) (found : Found) (bytes : List ℕ)
     (t : Turn × List ℕ) → is_some found.said.frame ≡ false
@@ -212,6 +217,14 @@ header-turns limit found bytes rest told e of =
           ∙ ap (λ (w : Walked). told_of w.found.said) (g.after of.0)),
     )
 
+-- and its scans exceed a limit where those of its rest do
+pub header-exceeded : (limit : Option ℕ) (found : Found) (bytes rest : List ℕ) → header_at bytes ≡ Ok (found, rest)
+    → exceeded_by limit Zeros bytes ≡ exceeded_rest limit Zeros found rest
+unfolding exceeded_by
+header-exceeded limit found bytes rest e =
+    let g = goes-on limit found bytes rest e in
+    rw (g.starts, exceeded_by) (ap (λ (w : Walked). w.exceeded) g.whole)
+
 -- ---- where the header is refused
 
 -- no frame was read: it is walked as the stream is
@@ -282,6 +295,20 @@ header-told_lacking limit bytes fault e = go (start_at bytes) refl e
     go (Err other) s q =
         turns-no_start None (suc (length bytes)) true bytes other s
         ∙ sym (turns-no_start limit (suc (length bytes)) false bytes other s)
+
+-- before its first scan nothing exceeds a limit
+pub lacking-exceeded : (limit : Option ℕ) (bytes : List ℕ) (fault : Fault) → header_at bytes ≡ Err fault
+    → exceeded_by limit Zeros bytes ≡ false
+unfolding header_at exceeded_by
+lacking-exceeded limit bytes fault e = go (start_at bytes) e
+  where
+    go : (r : Outcome (Unit {0}))
+        → r >>= (λ (start : Unit {0} × List ℕ). segments_at None true Elsewhere nothing_found None start.1) ≡ Err fault
+        → elim r as (λ _. Bool) [ Ok start ↦ exceeded_rest limit Zeros nothing_found start.1 | Err other ↦ false ] ≡ false
+    go (Ok start) q =
+        ap (λ (w : Walked). w.exceeded) (header-walked limit start.1 fault q)
+        ∙ none-exceeded Zeros (suc (length start.1)) true Elsewhere nothing_found None start.1
+    go (Err other) q = refl
 
 said-by : (limit : Option ℕ) (beyond : Beyond) (n : ℕ) (w : Walked) (end : Result (List ℕ) Fault) (whole : ℕ → Walked)
     → Follows limit beyond n w end whole → (m : ℕ) × (w.found ≡ (whole m).found)

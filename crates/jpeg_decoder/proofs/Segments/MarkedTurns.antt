@@ -1,5 +1,5 @@
 -- A turn is read: the marker that begins it, and what stands after it.
-use Rattle.std.proofs.Common.{rules, ◌≡◌, ◌-◌, ℕ, true, false, Option, Some, None, List, Result, Ok, Err, refl, ap, ap₂}
+use Rattle.std.proofs.Common.{rules, ◌≡◌, ◌-◌, ℕ, Bool, true, false, Option, Some, None, List, Result, Ok, Err, refl, ap, ap₂}
 use Rattle.std.proofs.Common.{sym, ◌∙◌, arith, subst}
 use Rattle.std.specs.Prelude.{OnOk}
 use Rattle.jpeg_bits.specs.Marker.{found_or, next_marker}
@@ -19,7 +19,7 @@ use Rattle.jpeg_streams.specs.declared.before.Before.{Before}
 use Rattle.jpeg_streams.specs.declared.beyond.Beyond.{Beyond}
 use Rattle.jpeg_streams.proofs.Refusals.{told-err}
 use Rattle.jpeg_decoder.specs.Reaching.{UnlessRefused}
-use Rattle.jpeg_decoder.proofs.Partial.Refused.{if-refused-as, unless-so}
+use Rattle.jpeg_decoder.proofs.Partial.Refused.{if-refused, if-refused-as, unless-so}
 
 -- ---- what stands after a marker
 
@@ -54,6 +54,11 @@ pub work-marked : (found : Found) (met : Option Marker) (bytes rest : List ℕ) 
     → work_of_turn found met bytes ≡ work_after m found rest
 unfolding work_of_turn
 work-marked found met bytes rest m e = rw (e, work_of_turn) refl
+
+work-unmarked : (found : Found) (met : Option Marker) (bytes : List ℕ) (fault : Fault)
+    → found_or met bytes (next_marker bytes) ≡ Err fault → work_of_turn found met bytes ≡ 0
+unfolding work_of_turn
+work-unmarked found met bytes fault e = rw (e, work_of_turn) refl
 
 turn-marked : (left : Option ℕ) (beyond : Beyond) (before : Before) (found : Found) (met : Option Marker)
     (bytes rest : List ℕ) (m : Marker) → found_or met bytes (next_marker bytes) ≡ Ok (m, rest)
@@ -179,3 +184,36 @@ pub unmarked-brought : {V : Type 0} (view : Brought → V) (left : V) (limit : O
 unmarked-brought view left limit beyond before found met old new e is a k known =
     told-err e (found_or met old.bytes (next_marker old.bytes)) _ (a.1 k known)
     (λ f q. is f ∙ ap view (sym (turn-unmarked limit beyond before found met old.bytes f q)))
+
+-- ---- whether a turn exceeds a limit
+
+pub exceeded-unmarked : (left : Option ℕ) (found : Found) (met : Option Marker) (old new : Stream) (e : Error)
+    (exceeded : Bool) → exceeded ≡ false
+    → Answers (λ (m : Marker). m) (λ bytes. found_or met bytes (next_marker bytes)) old (Err e) new
+    → old.known ≡ true → new.known ≡ true
+    → IfRefused e (exceeded ≡ is_above left (work_of_turn found met old.bytes))
+exceeded-unmarked left found met old new e exceeded none a k known =
+    told-err e (found_or met old.bytes (next_marker old.bytes)) _ (a.1 k known)
+    (λ f q. none ∙ sym (ap (is_above left) (work-unmarked found met old.bytes f q) ∙ none-above left))
+
+pub exceeded-scan : {X : Type 0} (r : Result X Error) (left : Option ℕ) (exceeded : Bool) (found : Found)
+    (met : Option Marker) (old mid new : Stream) (m : Marker) → m ≡ SOS
+    → Answers (λ (m : Marker). m) (λ bytes. found_or met bytes (next_marker bytes)) old (Ok m) mid
+    → OnToldRefusal mid new r (exceeded ≡ is_above left (work_of_header found mid.bytes))
+    → OnToldRefusal old new r (exceeded ≡ is_above left (work_of_turn found met old.bytes))
+exceeded-scan r left exceeded found met old mid new m is read h =
+    refusal-after old mid new r _ _ (λ k.
+    let marked = read.1 k in (
+      marked.0,
+      λ p. p ∙ sym (ap (is_above left) (work-marked found met old.bytes mid.bytes m marked.1
+          ∙ ap (λ (m : Marker). work_after m found mid.bytes) is)),
+    )) h
+
+pub exceeded-other : {X : Type 0} (r : Result X Error) (left : Option ℕ) (exceeded : Bool) (found : Found)
+    (met : Option Marker) (old mid new : Stream) (m : Marker) → (m ≡ SOS → ⊥) → exceeded ≡ false
+    → Answers (λ (m : Marker). m) (λ bytes. found_or met bytes (next_marker bytes)) old (Ok m) mid
+    → OnToldRefusal old new r (exceeded ≡ is_above left (work_of_turn found met old.bytes))
+exceeded-other (Ok x) left exceeded found met old mid new m other none read = tt
+exceeded-other (Err e) left exceeded found met old mid new m other none read = λ k l.
+    if-refused e (none ∙ sym (ap (is_above left) (work-marked found met old.bytes mid.bytes m (read.1 k).1
+    ∙ work-other m found mid.bytes other) ∙ none-above left))

@@ -11,7 +11,7 @@ use Rattle.jpeg_streams.specs.Found.{Found}
 use Rattle.jpeg_streams.specs.Segments.{Turn}
 use Rattle.jpeg_streams.specs.States.{IfRefused}
 use Rattle.jpeg_streams.specs.Stream.{Walked, turn_within, walk}
-use Rattle.jpeg_streams.specs.Work.{left_after, work_of_turn}
+use Rattle.jpeg_streams.specs.Work.{is_above, left_after, work_of_turn}
 use Rattle.jpeg_decoder.specs.Steps.{turn_of}
 use Rattle.jpeg_decoder.specs.declared.stream.state.Step.{Step}
 use Rattle.jpeg_streams.proofs.Written.ReadTurns.{refused_walk, walk-on, walk-refused}
@@ -86,7 +86,8 @@ pub walked-refused : (limit : Option ℕ) (beyond : Beyond) (header : Bool) (fou
     → IsWalked limit beyond header found old turns left last now cur → (header && is_some now.said.frame) ≡ false
     → (turn_within left beyond last.before now last.met cur.bytes).turn ≡ Err fault → old.known ≡ true
     → whole_walk limit beyond header found old.bytes
-    ≡ refused_walk (turn_within left beyond last.before now last.met cur.bytes) fault
+    ≡ refused_walk (is_above left (work_of_turn now last.met cur.bytes))
+    (turn_within left beyond last.before now last.met cur.bytes) fault
 walked-refused limit beyond header found old turns left last now cur fault w none e k =
     walked-whole _ w (λ n. walk-refused left beyond n header last.before now last.met cur.bytes fault none e) k
 

@@ -10,18 +10,21 @@ ghost use Rattle.jpeg_segments.specs.declared.frame.CodingProcess.TheVariants.{L
 ghost use Rattle.jpeg_streams.specs.EndPlanes.{AreBlocksOf, blocks_if, is_kept};
 ghost use Rattle.jpeg_streams.specs.Found.{Found, nothing_found};
 ghost use Rattle.jpeg_streams.specs.Rasters.{plane_by};
-ghost use Rattle.jpeg_streams.specs.Shown.{blocks_held, completed, fault_in, planes_by, shown_within};
+ghost use Rattle.jpeg_streams.specs.Shown.{blocks_held, completed, fault_in, planes_by};
 ghost use Rattle.jpeg_streams.specs.Shown.{rows_of_found, whole_rows_rest, whole_rows_within};
-ghost use Rattle.jpeg_streams.specs.Shown.{shown_by, shown_of, shown_rest_within, table_held};
+ghost use Rattle.jpeg_streams.specs.Shown.{shown_by, shown_of, shown_rest_within, shown_within};
+ghost use Rattle.jpeg_streams.specs.Shown.{table_held};
 ghost use Rattle.jpeg_streams.specs.Shown.{with_plane_shown, with_samples_shown};
 ghost use Rattle.jpeg_streams.specs.Sound.{HasDecodedFrame, IsDecodedFrame, IsSound};
 ghost use Rattle.jpeg_streams.specs.States.{IsOfBytes, OnToldRefusal};
+ghost use Rattle.jpeg_streams.specs.Limits.{exceeded_by, exceeded_rest};
+ghost use Rattle.jpeg_streams.specs.declared.beyond.Beyond.TheVariants.{Nothing};
 ghost use Rattle.jpeg_streams.specs.Stream.{told_of};
 ghost use Rattle.jpeg_decoder.specs.Bytes.{AreLinesOf, IsWhole, shape_of};
 ghost use Rattle.jpeg_decoder.specs.Reaching.{NamesFault, is_out_of_memory};
 ghost use Rattle.jpeg_decoder.specs.Scanning.{arrays_in};
-ghost use Rattle.jpeg_decoder.specs.Shows.{CountsRows, GivesUp, IsShown, ShowsJust, is_there};
-ghost use Rattle.jpeg_decoder.specs.Shows.{told_shown, told_shown_rest};
+ghost use Rattle.jpeg_decoder.specs.Shows.{CountsRows, GivesUp, IsShown, Knows, ShowsJust};
+ghost use Rattle.jpeg_decoder.specs.Shows.{is_there, told_shown, told_shown_rest};
 ghost use Rattle.jpeg_decoder.specs.Steps.{with_decoded};
 
 use crate::picture::lines::Lines;
@@ -29,6 +32,7 @@ use crate::picture::whole::{are_kept, picture, read_start};
 use crate::scan::block_array::BlockArray;
 use crate::scan::decoded::{Decoded, render, zero_blocks};
 use crate::scan::samples::grey_samples;
+use crate::scan::work::Budget;
 use crate::stream::state::State;
 use crate::stream::tables::table_at;
 use crate::stream::turns::reach_segments;
@@ -304,6 +308,7 @@ fn show_rest<R: Read + Drop>(
     source: &mut Source<R>,
     state: &mut State,
     settings: Settings,
+    exceeded: &mut bool,
 ) -> Result<PartialLines>
     requires sound { IsSound state.old }
     ensures shown { ShowsJust (shown_rest_within settings.max_blocks settings state.old)
@@ -312,6 +317,8 @@ fn show_rest<R: Read + Drop>(
         source.old result source.new }
     ensures told { OnToldRefusal source.old source.new result (told_of state.new.said
         ≡ told_shown_rest settings.max_blocks state.old source.old.bytes) }
+    ensures exceeded { Knows source.old result source.new (exceeded.new
+        ≡ exceeded_rest settings.max_blocks Nothing state.old source.old.bytes) }
     ensures given_up { GivesUp (λ p. p.fault) source.old result source.new }
     ensures refused { IfErr result IsOfBytes }
     ensures framed { IfOk result (λ _. is_some state.new.said.frame ≡ true) }
@@ -326,7 +333,12 @@ fn show_rest<R: Read + Drop>(
         × (state.new.samples ≡ replicate 4 None) }
 {
     let mut rows = None;
-    let ended = reach_segments(alloc, source, state, settings.max_blocks, &mut rows);
+    let mut budget = Budget {
+        left: settings.max_blocks,
+        exceeded: false,
+    };
+    let ended = reach_segments(alloc, source, state, &mut budget, &mut rows);
+    *exceeded = budget.exceeded;
     let mut decoded = std::mem::replace(&mut state.decoded, Decoded::new(alloc));
     if is_lost(&ended) {
         return Err(Error::OutOfMemory);
@@ -336,7 +348,8 @@ fn show_rest<R: Read + Drop>(
 
 /// Reads a stream, or the rest of one after its header, up to its first fault, and returns the
 /// lines of the picture that it has brought, how many of them are complete, and its first fault. No
-/// blocks or planes are kept.
+/// blocks or planes are kept. `exceeded` says whether the fault is a scan of more blocks than the
+/// limit leaves.
 ///
 /// The error is the fault if the stream has no frame, `Format` if the picture is above the limit or
 /// the transform doesn't fit it, and out of memory.
@@ -346,22 +359,30 @@ pub fn show<R: Read + Drop>(
     state: &mut State,
     settings: Settings,
     from_start: bool,
+    exceeded: &mut bool,
 ) -> Result<PartialLines>
     requires sound { IsSound state.old }
     requires start { from_start ≡ true → state.old ≡ nothing_found }
-    ensures whole { from_start ≡ true → ShowsJust (shown_within settings.max_blocks settings) (λ p. concat p.lines)
-        (λ p. p.fault) source.old result source.new (told_of state.new.said) }
+    requires within { exceeded.old ≡ false }
+    ensures whole { from_start ≡ true → ShowsJust (shown_within settings.max_blocks settings)
+        (λ p. concat p.lines) (λ p. p.fault) source.old result source.new
+        (told_of state.new.said) }
     ensures whole_rows { from_start ≡ true → CountsRows (λ p. p.whole_rows)
         (whole_rows_within settings.max_blocks) source.old
         result source.new }
     ensures rest_rows { from_start ≡ false → CountsRows (λ p. p.whole_rows)
         (whole_rows_rest settings.max_blocks state.old) source.old result source.new }
-    ensures rest { from_start ≡ false → ShowsJust (shown_rest_within settings.max_blocks settings state.old)
-        (λ p. concat p.lines) (λ p. p.fault) source.old result source.new (told_of state.new.said) }
+    ensures rest { from_start ≡ false → ShowsJust
+        (shown_rest_within settings.max_blocks settings state.old) (λ p. concat p.lines)
+        (λ p. p.fault) source.old result source.new (told_of state.new.said) }
     ensures told { from_start ≡ true → OnToldRefusal source.old source.new result
         (told_of state.new.said ≡ told_shown settings.max_blocks source.old.bytes) }
     ensures rest_told { from_start ≡ false → OnToldRefusal source.old source.new result
         (told_of state.new.said ≡ told_shown_rest settings.max_blocks state.old source.old.bytes) }
+    ensures exceeded { from_start ≡ true → Knows source.old result source.new
+        (exceeded.new ≡ exceeded_by settings.max_blocks Nothing source.old.bytes) }
+    ensures rest_exceeded { from_start ≡ false → Knows source.old result source.new
+        (exceeded.new ≡ exceeded_rest settings.max_blocks Nothing state.old source.old.bytes) }
     ensures given_up { GivesUp (λ p. p.fault) source.old result source.new }
     ensures refused { IfErr result IsOfBytes }
     ensures framed { IfOk result (λ _. is_some state.new.said.frame ≡ true) }
@@ -376,8 +397,8 @@ pub fn show<R: Read + Drop>(
         × (state.new.samples ≡ replicate 4 None) }
 {
     if !from_start {
-        return show_rest(alloc, source, state, settings);
+        return show_rest(alloc, source, state, settings, exceeded);
     }
     read_start(alloc, source)?;
-    show_rest(alloc, source, state, settings)
+    show_rest(alloc, source, state, settings, exceeded)
 }

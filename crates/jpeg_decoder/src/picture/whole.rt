@@ -23,6 +23,8 @@ ghost use Rattle.jpeg_streams.specs.States.{OnTold};
 ghost use Rattle.jpeg_decoder.specs.Steps.{Returns, cropped_to, with_decoded};
 ghost use Rattle.jpeg_streams.specs.Stream.{header_at, rest_within, start_at, told_of};
 ghost use Rattle.jpeg_streams.specs.Reported.{IsOfTurns, told_by_turns, told_in_turns};
+ghost use Rattle.jpeg_streams.specs.Limits.{exceeded_rest};
+ghost use Rattle.jpeg_streams.specs.declared.beyond.Beyond.TheVariants.{Zeros};
 ghost use Rattle.jpeg_streams.specs.FoundPictures.{blocks_picture, picture_of, picture_by};
 ghost use Rattle.jpeg_streams.specs.FoundPictures.{plane_at_end, samples_picture};
 ghost use Rattle.jpeg_streams.specs.Found.{nothing_found};
@@ -33,6 +35,7 @@ use crate::picture::lines::Lines;
 use crate::scan::block_array::BlockArray;
 use crate::scan::coded::is_progressive;
 use crate::scan::decoded::{Decoded, render};
+use crate::scan::work::Budget;
 use crate::sizes::line_bytes;
 use crate::stream::state::State;
 use crate::stream::tables::{Missing, needed, table_at};
@@ -404,24 +407,30 @@ pub fn read_header<R: Read + Drop>(
     ensures reads { Answers (λ _. state.new) header_at source.old result source.new }
     ensures told { OnTold source.old source.new result (told_of state.new.said
         ≡ told_by_turns None (suc (length source.old.bytes)) true source.old.bytes) }
-    ensures turns { source.old.known ≡ true → IsOfTurns (λ n. told_by_turns None n true source.old.bytes)
-        (told_of state.new.said) }
+    ensures turns { source.old.known ≡ true → IsOfTurns
+        (λ n. told_by_turns None n true source.old.bytes) (told_of state.new.said) }
     ensures framed { IfOk result (λ _. is_some state.new.said.frame ≡ true) }
     ensures sound { OnOk result (IsSound state.new) }
     ensures unread { OnOk result (IsUnread state.new) }
 {
     read_start(alloc, source)?;
-    read_segments(alloc, source, state, true, None)
+    let mut budget = Budget {
+        left: None,
+        exceeded: false,
+    };
+    read_segments(alloc, source, state, true, &mut budget)
 }
 
 /// Reads the rest of a stream, after its header, and gives the lines of its picture. No blocks or
-/// planes are kept.
+/// planes are kept. `exceeded` says whether a scan was refused since it codes more blocks than the
+/// limit leaves.
 #[tactic(auto, unfolding(jpeg_streams::specs::Stream::rest_within))]
 pub fn read_rest<R: Read + Drop>(
     alloc: Global,
     source: &mut Source<R>,
     state: &mut State,
     settings: Settings,
+    exceeded: &mut bool,
 ) -> Result<Lines>
     requires sound { IsSound state.old }
     ensures reads { Answers (λ l. (told_of state.new.said, concat l))
@@ -432,6 +441,8 @@ pub fn read_rest<R: Read + Drop>(
     ensures turns { source.old.known ≡ true → IsOfTurns
         (λ n. told_in_turns settings.max_blocks n false state.old source.old.bytes)
         (told_of state.new.said) }
+    ensures exceeded { OnTold source.old source.new result (exceeded.new
+        ≡ exceeded_rest settings.max_blocks Zeros state.old source.old.bytes) }
     ensures framed { IfOk result (λ _. is_some state.new.said.frame ≡ true) }
     ensures stays { is_some state.old.said.frame ≡ true → state.new.said.frame
         ≡ state.old.said.frame }
@@ -443,7 +454,12 @@ pub fn read_rest<R: Read + Drop>(
     ensures emptied { (state.new.kept ≡ []) × (state.new.planes ≡ replicate 4 None)
         × (state.new.samples ≡ replicate 4 None) }
 {
-    let ended = read_segments(alloc, source, state, false, settings.max_blocks);
+    let mut budget = Budget {
+        left: settings.max_blocks,
+        exceeded: false,
+    };
+    let ended = read_segments(alloc, source, state, false, &mut budget);
+    *exceeded = budget.exceeded;
     let mut decoded = std::mem::replace(&mut state.decoded, Decoded::new(alloc));
     ended?;
     picture(alloc, state, &mut decoded, settings)

@@ -13,7 +13,7 @@ ghost use Rattle.jpeg_bits.specs.declared.marker.Marker.TheVariants.{DNL};
 ghost use Rattle.jpeg_streams.specs.Found.{Found};
 ghost use Rattle.jpeg_streams.specs.Stream.{scan_within, segment_at};
 ghost use Rattle.std.specs.Prelude.{IfOk, IfSome, List, None, OnOk, Some, false, true, ℕ, ◌≡◌};
-ghost use Rattle.jpeg_streams.specs.Work.{left_after, work_of_header};
+ghost use Rattle.jpeg_streams.specs.Work.{is_above, left_after, work_of_header};
 ghost use Rattle.jpeg_streams.specs.declared.beyond.Beyond.TheVariants.{Nothing, Zeros};
 ghost use Rattle.jpeg_streams.specs.States.{OnToldRefusal};
 ghost use Rattle.jpeg_decoder.specs.Reaching.{IsEndOf, UnlessRefused, brought_after, rows_after};
@@ -23,7 +23,7 @@ use crate::scan::decoded::Decoded;
 use crate::scan::lossless::{read_lossless_scan, sample_scan_of};
 use crate::scan::reached_rows::reach_samples;
 use crate::scan::restarts::pass_restarts;
-use crate::scan::work::charge;
+use crate::scan::work::Budget;
 use crate::stream::state::{Said, State, Step};
 use crate::stream::tables::{Missing, needed};
 use jpeg_bits::error::{Error, Result, UnsupportedFeature, format_error};
@@ -78,15 +78,19 @@ fn read_header<R: Read + Drop>(
     alloc: Global,
     source: &mut Source<R>,
     state: &mut State,
-    left: &mut Option<u64>,
+    budget: &mut Budget,
 ) -> Result<ScanHeader>
     requires sound { IsSound state.old }
-    ensures header { Answers (λ h. h) (header_within left.old state.old) source.old
+    requires within { budget.old.exceeded ≡ false }
+    ensures header { Answers (λ h. h) (header_within budget.old.left state.old) source.old
         result source.new }
     ensures legal { IfOk result (IsHeaderOf state.old) }
     ensures stays { state.new ≡ state.old }
-    ensures left { source.old.known ≡ true → OnOk result (left.new
-        ≡ left_after left.old (work_of_header state.old source.old.bytes)) }
+    ensures left { source.old.known ≡ true → OnOk result (budget.new.left
+        ≡ left_after budget.old.left (work_of_header state.old source.old.bytes)) }
+    ensures within { OnOk result (budget.new.exceeded ≡ false) }
+    ensures exceeded { OnToldRefusal source.old source.new result (budget.new.exceeded
+        ≡ is_above budget.old.left (work_of_header state.old source.old.bytes)) }
 {
     widen_tables(alloc, state)?;
     let frame = needed(
@@ -95,7 +99,7 @@ fn read_header<R: Read + Drop>(
         Missing::Frame(Marker::SOS),
     )?;
     let header = read_scan_header(alloc, source, frame)?;
-    charge(alloc, left, frame, &header)?;
+    budget.charge(alloc, frame, &header)?;
     Ok(header)
 }
 
@@ -197,24 +201,28 @@ pub fn reach_scan<R: Read + Drop>(
     alloc: Global,
     source: &mut Source<R>,
     state: &mut State,
-    left: &mut Option<u64>,
+    budget: &mut Budget,
     rows: &mut Option<u16>,
 ) -> Result<Step>
     requires sound { IsSound state.old }
+    requires within { budget.old.exceeded ≡ false }
     requires rows { rows.old ≡ None }
     ensures whole { OnOk result (rows.new ≡ None) }
     ensures rows { OnToldRefusal source.old source.new result (rows.new
-        ≡ (scan_within left.old Nothing state.old source.old.bytes).rows) }
+        ≡ (scan_within budget.old.left Nothing state.old source.old.bytes).rows) }
     ensures reads { UnlessRefused result (Answers (turn_of state.new) (λ bytes. (scan_within
-        left.old Nothing state.old bytes).turn) source.old result source.new) }
+        budget.old.left Nothing state.old bytes).turn) source.old result source.new) }
     ensures found { OnToldRefusal source.old source.new result (state.new
-        ≡ (scan_within left.old Nothing state.old source.old.bytes).found) }
-    ensures left { source.old.known ≡ true → OnOk result (left.new
-        ≡ left_after left.old (work_of_header state.old source.old.bytes)) }
+        ≡ (scan_within budget.old.left Nothing state.old source.old.bytes).found) }
+    ensures left { source.old.known ≡ true → OnOk result (budget.new.left
+        ≡ left_after budget.old.left (work_of_header state.old source.old.bytes)) }
+    ensures within { OnOk result (budget.new.exceeded ≡ false) }
+    ensures exceeded { OnToldRefusal source.old source.new result (budget.new.exceeded
+        ≡ is_above budget.old.left (work_of_header state.old source.old.bytes)) }
     ensures sound { UnlessRefused result (IsSound state.new) }
     ensures steps { IsStep state.old result state.new }
 {
-    let header = read_header(alloc, source, state, left)?;
+    let header = read_header(alloc, source, state, budget)?;
     if is_lossless(&state.said) {
         reach_lossless_scan(alloc, source, state, &header, rows)
     } else {
@@ -286,16 +294,20 @@ pub fn read_scan<R: Read + Drop>(
     alloc: Global,
     source: &mut Source<R>,
     state: &mut State,
-    left: &mut Option<u64>,
+    budget: &mut Budget,
 ) -> Result<Step>
     requires sound { IsSound state.old }
-    ensures reads { Answers (turn_of state.new) (λ bytes. (scan_within left.old Zeros state.old
-        bytes).turn) source.old result source.new }
-    ensures left { source.old.known ≡ true → OnOk result (left.new
-        ≡ left_after left.old (work_of_header state.old source.old.bytes)) }
+    requires within { budget.old.exceeded ≡ false }
+    ensures reads { Answers (turn_of state.new) (λ bytes. (scan_within budget.old.left Zeros
+        state.old bytes).turn) source.old result source.new }
+    ensures left { source.old.known ≡ true → OnOk result (budget.new.left
+        ≡ left_after budget.old.left (work_of_header state.old source.old.bytes)) }
+    ensures within { OnOk result (budget.new.exceeded ≡ false) }
+    ensures exceeded { OnToldRefusal source.old source.new result (budget.new.exceeded
+        ≡ is_above budget.old.left (work_of_header state.old source.old.bytes)) }
     ensures steps { IsStep state.old result state.new }
 {
-    let header = read_header(alloc, source, state, left)?;
+    let header = read_header(alloc, source, state, budget)?;
     let met = read_after(alloc, source, state, &header)?;
     Ok(state.end_scan(met))
 }

@@ -89,28 +89,36 @@ fn work_error(alloc: Global, blocks: u64, left: u64) -> Error
     ))
 }
 
-/// Takes the blocks of a scan from those that are left, if there is a limit. A scan of more is
-/// refused.
-pub fn charge(
-    alloc: Global,
-    left: &mut Option<u64>,
-    frame: &FrameInfo,
-    header: &ScanHeader,
-) -> Result<()>
-    requires frame { IsDecodedFrame (frame_in frame.now) }
-    requires legal { IsScanOf (frame_in frame.now) header.now }
-    ensures { let blocks = work_of_scan (frame_in frame.now) header.now in
-        MatchResult result (λ _. (is_above left.old blocks ≡ false)
-        × (left.new ≡ left_after left.old blocks))
-        (λ e. (is_above left.old blocks ≡ true) × NamesFormat e) }
-{
-    let Some(most) = *left else {
-        return Ok(());
-    };
-    let blocks = blocks_coded(frame, header.components());
-    if blocks > most {
-        return Err(work_error(alloc, blocks, most));
+/// The blocks that the scans of a stream may code.
+#[derive(Clone, Copy)]
+pub struct Budget {
+    /// How many are left, if there is a limit.
+    pub left: Option<u64>,
+    /// Whether a scan was refused since it codes more.
+    pub exceeded: bool,
+}
+
+impl Budget {
+    /// Takes the blocks of a scan from those that are left, if there is a limit. A scan of more is
+    /// refused.
+    pub fn charge(&mut self, alloc: Global, frame: &FrameInfo, header: &ScanHeader) -> Result<()>
+        requires frame { IsDecodedFrame (frame_in frame.now) }
+        requires legal { IsScanOf (frame_in frame.now) header.now }
+        ensures { let blocks = work_of_scan (frame_in frame.now) header.now in
+            MatchResult result (λ _. (is_above self.old.left blocks ≡ false)
+            × (self.new ≡ record self.old { left = left_after self.old.left blocks }))
+            (λ e. (is_above self.old.left blocks ≡ true) × NamesFormat e
+            × (self.new ≡ record self.old { exceeded = true })) }
+    {
+        let Some(most) = self.left else {
+            return Ok(());
+        };
+        let blocks = blocks_coded(frame, header.components());
+        if blocks > most {
+            self.exceeded = true;
+            return Err(work_error(alloc, blocks, most));
+        }
+        self.left = Some(most - blocks);
+        Ok(())
     }
-    *left = Some(most - blocks);
-    Ok(())
 }

@@ -1,5 +1,5 @@
 //! A stream, segment by segment, with the scans in their place (T.81, B.2).
-ghost use Rattle.std.specs.Prelude.{◌≡◌, ◌&&◌, true, is_some, None, OnOk, IfOk, suc, length};
+ghost use Rattle.std.specs.Prelude.{◌≡◌, ◌&&◌, false, true, is_some, None, OnOk, IfOk, suc, length};
 ghost use Rattle.jpeg_bits.specs.Marker.{found_or, next_marker};
 ghost use Rattle.jpeg_bits.specs.Reading.{Answers, IsShort, NamesFormat};
 ghost use Rattle.jpeg_streams.specs.declared.before.Before.TheVariants.{Elsewhere};
@@ -8,13 +8,15 @@ ghost use Rattle.jpeg_streams.specs.Sound.{IsSound, IsUnread};
 ghost use Rattle.jpeg_streams.specs.States.{OnTold, OnToldRefusal};
 ghost use Rattle.jpeg_streams.specs.Stream.{all_brought, segment_at, segments_at, told_of};
 ghost use Rattle.jpeg_streams.specs.Stream.{turn_within};
-ghost use Rattle.jpeg_streams.specs.Work.{left_after, work_of_turn};
+ghost use Rattle.jpeg_streams.specs.Work.{is_above, left_after, work_of_turn};
+ghost use Rattle.jpeg_streams.specs.Limits.{exceeded_rest};
 ghost use Rattle.jpeg_bits.specs.declared.marker.Marker.TheVariants.{SOS};
 ghost use Rattle.jpeg_decoder.specs.Reaching.{OnFault, UnlessRefused, walk_end, without_tables};
 ghost use Rattle.jpeg_decoder.specs.Steps.{IsStep, turn_of};
 ghost use Rattle.jpeg_streams.specs.declared.beyond.Beyond.TheVariants.{Nothing, Zeros};
 
 use crate::scan::segment::{reach_scan, read_scan, refused_line_count};
+use crate::scan::work::Budget;
 use crate::stream::state::{ONWARD, State, Step};
 use jpeg_bits::error::{Error, Result, UnsupportedFeature, format_error, format_error_of};
 use jpeg_bits::marker::{Marker, read_marker};
@@ -80,27 +82,31 @@ fn marker_error(alloc: Global, marker: Marker) -> Error
     format_error_of(format!(in alloc; "found {marker}, expected the marker of a segment"))
 }
 
-/// Reads the marker after a step, which may have been reached already, and what stands after it. The
-/// blocks of a scan are taken from those that are left, if there is a limit.
+/// Reads the marker after a step, which may have been reached already, and what stands after it.
+/// The blocks of a scan are taken from those that are left, if there is a limit.
 #[tactic(auto, unfolding(crate::proofs::Rules::turns))]
 fn read_turn<R: Read + Drop>(
     alloc: Global,
     source: &mut Source<R>,
     state: &mut State,
     last: Step,
-    left: &mut Option<u64>,
+    budget: &mut Budget,
 ) -> Result<Step>
     requires sound { IsSound state.old }
-    ensures reads { Answers (turn_of state.new) (λ bytes. (turn_within left.old Zeros last.before
-        state.old last.met bytes).turn) source.old result source.new }
-    ensures left { source.old.known ≡ true → OnOk result (left.new
-        ≡ left_after left.old (work_of_turn state.old last.met source.old.bytes)) }
+    requires within { budget.old.exceeded ≡ false }
+    ensures reads { Answers (turn_of state.new) (λ bytes. (turn_within budget.old.left Zeros
+        last.before state.old last.met bytes).turn) source.old result source.new }
+    ensures left { source.old.known ≡ true → OnOk result (budget.new.left
+        ≡ left_after budget.old.left (work_of_turn state.old last.met source.old.bytes)) }
+    ensures within { OnOk result (budget.new.exceeded ≡ false) }
+    ensures exceeded { OnToldRefusal source.old source.new result (budget.new.exceeded
+        ≡ is_above budget.old.left (work_of_turn state.old last.met source.old.bytes)) }
     ensures steps { IsStep state.old result state.new }
     ensures short { last.met ≡ None → IsShort source.old }
 {
     let marker = marker_or_next(alloc, source, last.met)?;
     if marker == Marker::SOS {
-        return read_scan(alloc, source, state, left);
+        return read_scan(alloc, source, state, budget);
     }
     read_segment(alloc, source, state, last.before, marker)
 }
@@ -112,28 +118,34 @@ fn reach_turn<R: Read + Drop>(
     source: &mut Source<R>,
     state: &mut State,
     last: Step,
-    left: &mut Option<u64>,
+    budget: &mut Budget,
     rows: &mut Option<u16>,
 ) -> Result<Step>
     requires sound { IsSound state.old }
+    requires within { budget.old.exceeded ≡ false }
     requires rows { rows.old ≡ None }
     ensures whole { OnOk result (rows.new ≡ None) }
     ensures rows { OnToldRefusal source.old source.new result (rows.new
-        ≡ (turn_within left.old Nothing last.before state.old last.met source.old.bytes).rows) }
+        ≡ (turn_within budget.old.left Nothing last.before state.old last.met
+        source.old.bytes).rows) }
     ensures reads { UnlessRefused result (Answers (turn_of state.new) (λ bytes. (turn_within
-        left.old Nothing last.before state.old last.met bytes).turn) source.old result source.new) }
+        budget.old.left Nothing last.before state.old last.met bytes).turn) source.old result
+        source.new) }
     ensures found { OnToldRefusal source.old source.new result (without_tables state.new
-        ≡ without_tables (turn_within left.old Nothing last.before state.old last.met
+        ≡ without_tables (turn_within budget.old.left Nothing last.before state.old last.met
         source.old.bytes).found) }
-    ensures left { source.old.known ≡ true → OnOk result (left.new
-        ≡ left_after left.old (work_of_turn state.old last.met source.old.bytes)) }
+    ensures left { source.old.known ≡ true → OnOk result (budget.new.left
+        ≡ left_after budget.old.left (work_of_turn state.old last.met source.old.bytes)) }
+    ensures within { OnOk result (budget.new.exceeded ≡ false) }
+    ensures exceeded { OnToldRefusal source.old source.new result (budget.new.exceeded
+        ≡ is_above budget.old.left (work_of_turn state.old last.met source.old.bytes)) }
     ensures sound { UnlessRefused result (IsSound state.new) }
     ensures steps { IsStep state.old result state.new }
     ensures short { last.met ≡ None → IsShort source.old }
 {
     let marker = marker_or_next(alloc, source, last.met)?;
     if marker == Marker::SOS {
-        return reach_scan(alloc, source, state, left, rows);
+        return reach_scan(alloc, source, state, budget, rows);
     }
     read_segment(alloc, source, state, last.before, marker)
 }
@@ -152,15 +164,20 @@ pub fn read_segments<R: Read + Drop>(
     source: &mut Source<R>,
     state: &mut State,
     header: bool,
-    limit: Option<u64>,
+    budget: &mut Budget,
 ) -> Result<()>
     requires sound { IsSound state.old }
+    requires within { budget.old.exceeded ≡ false }
     ensures reads { Answers (λ _. state.new)
-        (segments_at limit header Elsewhere state.old None) source.old result source.new }
+        (segments_at budget.old.left header Elsewhere state.old None) source.old result source.new }
     ensures told { OnTold source.old source.new result (told_of state.new.said
-        ≡ told_in_turns limit (suc (length source.old.bytes)) header state.old source.old.bytes) }
+        ≡ told_in_turns budget.old.left (suc (length source.old.bytes)) header state.old
+        source.old.bytes) }
     ensures turns { source.old.known ≡ true → IsOfTurns
-        (λ n. told_in_turns limit n header state.old source.old.bytes) (told_of state.new.said) }
+        (λ n. told_in_turns budget.old.left n header state.old source.old.bytes)
+        (told_of state.new.said) }
+    ensures exceeded { header ≡ false → OnTold source.old source.new result (budget.new.exceeded
+        ≡ exceeded_rest budget.old.left Zeros state.old source.old.bytes) }
     ensures framed { IfOk result (λ _. is_some state.new.said.frame ≡ true) }
     ensures stays { is_some state.old.said.frame ≡ true → state.new.said.frame
         ≡ state.old.said.frame }
@@ -168,13 +185,12 @@ pub fn read_segments<R: Read + Drop>(
     ensures unread { header ≡ true → state.old.said.frame ≡ None
         → OnOk result (IsUnread state.new) }
 {
-    let mut left = limit;
     let mut last = ONWARD;
     for _ in 0..=u64::MAX {
         if is_read_for(state, header) {
             return Ok(());
         }
-        last = read_turn(alloc, source, state, last, &mut left)?;
+        last = read_turn(alloc, source, state, last, budget)?;
         if last.ended {
             return Ok(());
         }
@@ -189,26 +205,28 @@ pub fn reach_segments<R: Read + Drop>(
     alloc: Global,
     source: &mut Source<R>,
     state: &mut State,
-    limit: Option<u64>,
+    budget: &mut Budget,
     rows: &mut Option<u16>,
 ) -> Result<()>
     requires sound { IsSound state.old }
+    requires within { budget.old.exceeded ≡ false }
     requires rows { rows.old ≡ None }
     ensures rows { OnTold source.old source.new result (rows.new
-        ≡ (all_brought limit state.old source.old.bytes).rows) }
+        ≡ (all_brought budget.old.left state.old source.old.bytes).rows) }
     ensures reads { UnlessRefused result (Answers (λ _. tt) (λ bytes. walk_end (all_brought
-        limit state.old bytes)) source.old result source.new) }
+        budget.old.left state.old bytes)) source.old result source.new) }
     ensures found { OnTold source.old source.new result (without_tables state.new
-        ≡ without_tables (all_brought limit state.old source.old.bytes).found) }
+        ≡ without_tables (all_brought budget.old.left state.old source.old.bytes).found) }
+    ensures exceeded { OnTold source.old source.new result (budget.new.exceeded
+        ≡ exceeded_rest budget.old.left Nothing state.old source.old.bytes) }
     ensures sound { UnlessRefused result (IsSound state.new) }
     ensures framed { IfOk result (λ _. is_some state.new.said.frame ≡ true) }
     ensures stays { is_some state.old.said.frame ≡ true → state.new.said.frame
         ≡ state.old.said.frame }
 {
-    let mut left = limit;
     let mut last = ONWARD;
     for _ in 0..=u64::MAX {
-        last = reach_turn(alloc, source, state, last, &mut left, rows)?;
+        last = reach_turn(alloc, source, state, last, budget, rows)?;
         if last.ended {
             return Ok(());
         }

@@ -105,7 +105,7 @@ walk-filled zero before found j = refl
 walk-filled (suc turns) before found j =
     let e = turn-filled before found j in
     walk-refused None Nothing turns false before found None (replicate j 255) End refl (same-turn _ _ e)
-    ∙ ap (λ (b : Brought). refused_walk b End) e
+    ∙ ap (λ (b : Brought). refused_walk false b End) e
 
 -- ---- the levels of a sequential frame
 

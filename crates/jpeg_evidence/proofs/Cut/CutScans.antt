@@ -137,7 +137,7 @@ module _ (array : Coefficients) (range : (index row column : ℕ) → Is8Bit (ar
       → EndsSo w b.found b.rows
   past-end said levels rest w past b e fault =
       let stops = past.goes_on ∙ walk-refused None Nothing past.turns false past.before (beside bring said past.brought)
-      past.met past.all End refl (same-turn _ _ e ∙ fault) ∙ ap (λ (y : Brought). refused_walk y End) e in
+      past.met past.all End refl (same-turn _ _ e ∙ fault) ∙ ap (λ (y : Brought). refused_walk false y End) e in
       record {
         found_is = ap (λ (y : Walked). y.found) stops;
         rows_are = ap (λ (y : Walked). y.rows) stops;

@@ -270,7 +270,7 @@ turn-goes more before found met bytes =
 -- after a turn of this that led so
 abbrev pub walk_on : ℕ → Brought → Outcome Turn → Walked
 walk_on turns b o = elim o [
-  | Err fault ↦ refused_walk b fault
+  | Err fault ↦ refused_walk false b fault
   | Ok t ↦ if t.0.ended then walked t.0.found (Ok t.1)
       else walk None Nothing turns false t.0.before t.0.found t.0.met t.1
 ]
@@ -288,7 +288,7 @@ ended-goes more found rest = record {
 }
 
 stopped-goes : (more : List ℕ) (found : Found) (rows : Option ℕ) (g : Fault) (v : Walked) → ComesBy more found v
-    → Goes more (record { found = found; rows = rows; rest = Err g }) v
+    → Goes more (record { found = found; rows = rows; exceeded = false; rest = Err g }) v
 stopped-goes more found rows g v c =
     record { ended = λ rest e. absurd (err-ok g rest e); stopped = λ f e. c }
 

@@ -1,18 +1,20 @@
 -- Streams whose scans may code so many blocks: within the limit they mean and show what they do without one, and above
 -- it they are refused, or show what was brought before.
-use Rattle.std.proofs.Common.{rules, ◌≡◌, ◌≤◌, ◌<◌, ℕ, suc, false, List, length, Option, Some, None, Result, Ok, Err}
+use Rattle.std.proofs.Common.{rules, ◌≡◌, ◌≤◌, ◌<◌, ℕ, suc, false, nat_lt, List, length, Option, Some, None, Result, Ok, Err}
 use Rattle.std.proofs.Common.{refl, sym, ap, ◌∙◌, arith, subst}
 use Rattle.jpeg_bits.specs.Reading.{Fault, Malformed, Outcome, ◌>>=◌}
 use Rattle.jpeg_streams.specs.declared.before.Before.TheVariants.{Elsewhere}
+use Rattle.jpeg_streams.specs.declared.beyond.Beyond.{Beyond}
 use Rattle.jpeg_streams.specs.declared.beyond.Beyond.TheVariants.{Nothing, Zeros}
 use Rattle.jpeg_streams.specs.declared.settings.Settings.{Settings}
 use Rattle.jpeg_streams.specs.Found.{Found, nothing_found}
-use Rattle.jpeg_streams.specs.Limits.{IsWithinLimit, work_of, work_of_rest, work_of_walk}
+use Rattle.jpeg_streams.specs.Limits.{IsWithinLimit, exceeded_by, work_of, work_of_rest, work_of_walk}
 use Rattle.jpeg_streams.specs.Shown.{Shown, fault_shown, shown, shown_of, shown_rest_within, shown_within, whole_rows}
 use Rattle.jpeg_streams.specs.Shown.{framed_or, picture_shown, rows_of_found, whole_rows_rest, whole_rows_within}
 use Rattle.jpeg_streams.specs.Stream.{meaning_within, rest_within, segments_at, start_at, walk}
 use Rattle.jpeg_segments.proofs.Codecs.{bind-ok, ok-same}
-use Rattle.jpeg_streams.proofs.Limits.{above-refused, decoded-most, limit-same, meaning-same}
+use Rattle.jpeg_streams.proofs.Limits.{above-refused, decoded-most, exceeded-above, limit-same, meaning-same}
+use Rattle.jpeg_streams.proofs.Limits.{none-exceeded}
 use Rattle.jpeg_evidence.proofs.Work.LimitedWalks.{above-rows, found-first, header-free, work-counted}
 
 pub meaning-above : (most : ℕ) (settings : Settings) (bytes : List ℕ) → most < work_of Zeros bytes
@@ -99,8 +101,22 @@ above-fault most settings bytes s h e =
     fault-of settings (walk None Nothing r.0 false Elsewhere nothing_found None start.0.1).found Malformed s
     (sym r.2 ∙ e)
 
+-- ---- whether a scan is refused for its blocks
+
+pub exceeded-work : (most : ℕ) (beyond : Beyond) (bytes : List ℕ)
+    → exceeded_by (Some most) beyond bytes ≡ nat_lt most (work_of beyond bytes)
+unfolding exceeded_by work_of
+exceeded-work most beyond bytes = search (rules, arith, exceeded-above)
+
+pub unlimited : (beyond : Beyond) (bytes : List ℕ) → exceeded_by None beyond bytes ≡ false
+unfolding exceeded_by
+unlimited beyond bytes = search (rules, none-exceeded)
+
 pub ruleset limit_rules = (
   rules,
+  exceeded-above,
+  exceeded-work,
+  unlimited,
   decoded-most,
   limit-same,
   work-counted,

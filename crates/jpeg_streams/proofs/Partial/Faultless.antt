@@ -334,7 +334,7 @@ turn-read before found met now bytes left x fits same e =
 -- after a turn
 abbrev pub walked_after : Beyond → ℕ → Brought → Walked
 walked_after beyond turns b = elim b.turn [
-  | Err fault ↦ record { found = b.found; rows = b.rows; rest = Err fault }
+  | Err fault ↦ record { found = b.found; rows = b.rows; exceeded = false; rest = Err fault }
   | Ok t ↦ if t.0.ended then walked t.0.found (Ok t.1) else walk None beyond turns false t.0.before t.0.found t.0.met t.1
 ]
 
@@ -372,18 +372,18 @@ walk-after : (turns : ℕ) (rest : List ℕ) (o b : Brought)
 walk-after turns rest o b turn fits again e = go b.turn refl e
   where
     read : (r : Outcome Turn) → o.turn ≡ r → walked_after Zeros turns o ≡ (elim r as (λ _. Walked) [
-      | Err fault ↦ record { found = o.found; rows = o.rows; rest = Err fault }
+      | Err fault ↦ record { found = o.found; rows = o.rows; exceeded = false; rest = Err fault }
       | Ok t ↦ if t.0.ended then walked t.0.found (Ok t.1)
           else walk None Zeros turns false t.0.before t.0.found t.0.met t.1
     ])
     read r a = rw a refl
 
     go : (r : Outcome Turn) → b.turn ≡ r → (elim r as (λ _. Walked) [
-      | Err fault ↦ record { found = b.found; rows = b.rows; rest = Err fault }
+      | Err fault ↦ record { found = b.found; rows = b.rows; exceeded = false; rest = Err fault }
       | Ok t ↦ if t.0.ended then walked t.0.found (Ok t.1)
           else walk None Nothing turns false t.0.before t.0.found t.0.met t.1
     ]).rest ≡ Ok rest → walked_after Zeros turns o ≡ walked (elim r as (λ _. Walked) [
-      | Err fault ↦ record { found = b.found; rows = b.rows; rest = Err fault }
+      | Err fault ↦ record { found = b.found; rows = b.rows; exceeded = false; rest = Err fault }
       | Ok t ↦ if t.0.ended then walked t.0.found (Ok t.1)
           else walk None Nothing turns false t.0.before t.0.found t.0.met t.1
     ]).found (Ok rest)

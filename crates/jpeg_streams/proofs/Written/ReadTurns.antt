@@ -77,7 +77,7 @@ then-ok o f x y e g = ap (λ r. r >>= f) e ∙ g
 
 -- a walk to an end or to its fault, where no scan lacks rows
 abbrev pub walked : Found → Result (List ℕ) Fault → Walked
-walked found rest = record { found = found; rows = None; rest = rest }
+walked found rest = record { found = found; rows = None; exceeded = false; rest = rest }
 
 pub walk-stop : (left : Option ℕ) (beyond : Beyond) (turns : ℕ) (header : Bool) (before : Before) (f : Found)
     (met : Option Marker) (all : List ℕ) → 0 < turns → (header && is_some f.said.frame) ≡ true
@@ -86,15 +86,15 @@ unfolding walk
 walk-stop left beyond zero header before f met all h e = absurd (omega arith)
 walk-stop left beyond (suc turns) header before f met all h e = rw e refl
 
--- a walk up to the fault of a turn
-abbrev pub refused_walk : Brought → Fault → Walked
-refused_walk b fault = record { found = b.found; rows = b.rows; rest = Err fault }
+-- a walk up to the fault of a turn, which exceeds a limit or doesn't
+abbrev pub refused_walk : Bool → Brought → Fault → Walked
+refused_walk exceeded b fault = record { found = b.found; rows = b.rows; exceeded = exceeded; rest = Err fault }
 
 pub walk-refused : (left : Option ℕ) (beyond : Beyond) (turns : ℕ) (header : Bool) (before : Before) (f : Found)
     (met : Option Marker) (all : List ℕ) (fault : Fault) → (header && is_some f.said.frame) ≡ false
     → (turn_within left beyond before f met all).turn ≡ Err fault
     → walk left beyond (suc turns) header before f met all
-    ≡ refused_walk (turn_within left beyond before f met all) fault
+    ≡ refused_walk (is_above left (work_of_turn f met all)) (turn_within left beyond before f met all) fault
 unfolding walk
 walk-refused left beyond turns header before f met all fault n e = rw (n, e) refl
 
@@ -147,10 +147,11 @@ zeros-within left before f met all = go (is_above left (work_of_turn f met all))
 pub zeros-refused : (left : Option ℕ) (turns : ℕ) (header : Bool) (before : Before) (f : Found) (met : Option Marker)
     (all : List ℕ) (fault : Fault) → (header && is_some f.said.frame) ≡ false
     → (turn_within left Zeros before f met all).turn ≡ Err fault
-    → walk left Zeros (suc turns) header before f met all ≡ walked f (Err fault)
+    → walk left Zeros (suc turns) header before f met all
+    ≡ record (walked f (Err fault)) { exceeded = is_above left (work_of_turn f met all) }
 zeros-refused left turns header before f met all fault n e =
     walk-refused left Zeros turns header before f met all fault n e
-    ∙ ap (λ (b : Brought). refused_walk b fault) (zeros-within left before f met all)
+    ∙ ap (λ (b : Brought). refused_walk (is_above left (work_of_turn f met all)) b fault) (zeros-within left before f met all)
 
 pub zeros-scan : (found : Found) (bytes : List ℕ) → (scan_turn_at Zeros found bytes).turn ≡ scan_segment found bytes
 unfolding scan_turn_at

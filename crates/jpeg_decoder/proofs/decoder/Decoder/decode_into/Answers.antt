@@ -18,6 +18,7 @@ returns-in_err-begin-clause-decodes g c room =
       tells = c.in_err-begin.ensures.told;
       turns = c.in_err-begin.ensures.turns;
       still = c.in_err-begin.ensures.still;
+      exceeded = c.in_err-begin.ensures.exceeded;
       emptied = c.in_err-begin.ensures.emptied;
     }))
 

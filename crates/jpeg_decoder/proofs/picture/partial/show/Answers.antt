@@ -5,7 +5,7 @@ use Rattle.jpeg_streams.specs.Found.{Found, nothing_found}
 use Rattle.jpeg_decoder.specs.declared.picture.partial.PartialLines.{PartialLines}
 use Rattle.jpeg_decoder.proofs.Partial.ShownFaults.{start-given-up, start-lacks, start-shown, start-unknown}
 use Rattle.jpeg_decoder.proofs.Partial.ShownRows.{start-counted}
-use Rattle.jpeg_decoder.proofs.Partial.ShownTold.{start-silent, start-told}
+use Rattle.jpeg_decoder.proofs.Partial.ShownTold.{start-exceeded, start-silent, start-told, start-within}
 use Rattle.jpeg_decoder.proofs.picture.partial.show.Goals as goal
 
 pub returns-in_err-read_start-clause-whole : goal.returns-in_err-read_start-clause-whole
@@ -56,3 +56,15 @@ pub returns-clause-given_up : goal.returns-clause-given_up
 returns-clause-given_up g c =
     start-given-up {X = PartialLines} (λ p. p.fault) c.args.source.now c.read_start.new.source
     c.show_rest-2.new.source c.show_rest-2.result c.in_ok-read_start.ensures c.show_rest-2.ensures.given_up
+
+pub returns-in_err-read_start-clause-exceeded : goal.returns-in_err-read_start-clause-exceeded
+returns-in_err-read_start-clause-exceeded g c start k l =
+    let p = err_from_is_err_and c.from_residual.result c.from_residual.ensures.1 in
+    rw (p.1, p.2) (start-within c.args.settings.max_blocks c.args.source.now c.read_start.new.source _ _
+    c.requires.within c.in_err-read_start.ensures k l)
+
+pub returns-clause-exceeded : goal.returns-clause-exceeded
+returns-clause-exceeded g c start =
+    start-exceeded {X = PartialLines} c.args.settings.max_blocks c.args.state.now _ c.args.source.now
+    c.read_start.new.source c.show_rest-2.new.source c.show_rest-2.result (c.requires.start start)
+    c.in_ok-read_start.ensures c.show_rest-2.ensures.exceeded

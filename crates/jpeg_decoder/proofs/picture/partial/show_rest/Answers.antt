@@ -8,7 +8,8 @@ use Rattle.jpeg_decoder.specs.declared.picture.partial.PartialLines.{PartialLine
 use Rattle.jpeg_decoder.specs.declared.scan.decoded.Decoded.{Decoded}
 use Rattle.jpeg_decoder.proofs.LosslessFrames.LosslessReads.{on-ok}
 use Rattle.jpeg_decoder.proofs.Pictures.PictureSizes.{lines-whole}
-use Rattle.jpeg_decoder.proofs.Partial.ShownFaults.{ended-bytes, rest-given-up, rest-shown, then-holds}
+use Rattle.jpeg_decoder.proofs.Partial.ShownFaults.{ended-bytes, rest-given-up, rest-shown, then-holds, told-holds}
+use Rattle.jpeg_decoder.proofs.Partial.Refused.{unless}
 use Rattle.jpeg_decoder.proofs.Partial.ShownRows.{rest-counted}
 use Rattle.jpeg_decoder.proofs.Partial.ShownTold.{rest-told}
 use Rattle.jpeg_decoder.proofs.picture.partial.show_rest.Given as given
@@ -85,3 +86,9 @@ returns-clause-size g c =
     (λ p h. lines-whole (found_of c.state.inside.said c.state.inside.decoded) p.lines _
     (decoded g (goal.at.returns-clause-size g c).After-show_found) h refl)
     c.show_found.ensures.lines
+
+pub returns-clause-exceeded : goal.returns-clause-exceeded
+returns-clause-exceeded g c k l =
+    unless c.show_found.result (told-holds c.args.source.now c.reach_segments-ended.new.source
+    c.reach_segments-ended.result _ (c.is_lost.ensures.memory c.if-is_lost.false)
+    c.reach_segments-ended.ensures.exceeded k l)

@@ -22,37 +22,37 @@ pub returns-in_err-last-clause-reads : goal.returns-in_err-last-clause-reads
 returns-in_err-last-clause-reads g c =
     let p = err_from_is_err_and c.from_residual.result c.from_residual.ensures.1 in
     rw (p.1, p.2) (if-refused-as _ (walked-err (turn_of c.reach_turn.new.state) (λ (u : Unit {0}). tt) walk_end
-    c.args.limit Nothing false c.args.state.now c.args.source.now c.loop.counter c.loop.left c.loop.last c.loop.state
+    c.args.budget.now.left Nothing false c.args.state.now c.args.source.now c.loop.counter c.loop.budget.left c.loop.last c.loop.state
     c.loop.source c.reach_turn.new.source _ c.loop.invariant.walked refl (end-refused (λ f rest. (tt, rest)))) c.in_err-last.ensures.reads)
 
 pub returns-in_err-last-clause-found : goal.returns-in_err-last-clause-found
 returns-in_err-last-clause-found g c =
     let p = err_from_is_err_and c.from_residual.result c.from_residual.ensures.1 in
     let l = c.loop in
-    rw (p.1, p.2) (told-refused (turn_of c.reach_turn.new.state) c.args.limit Nothing false c.args.state.now
-    c.args.source.now l.counter l.left l.last l.state l.source c.reach_turn.new.source _ _ _ l.invariant.walked
+    rw (p.1, p.2) (told-refused (turn_of c.reach_turn.new.state) c.args.budget.now.left Nothing false c.args.state.now
+    c.args.source.now l.counter l.budget.left l.last l.state l.source c.reach_turn.new.source _ _ _ l.invariant.walked
     c.in_err-last.ensures.reads c.in_err-last.ensures.found
-    (λ k f q is. is ∙ ap (λ (w : Walked). without_tables w.found) (sym (walked-refused c.args.limit Nothing false
-    c.args.state.now c.args.source.now l.counter l.left l.last l.state l.source f l.invariant.walked refl q k))))
+    (λ k f q is. is ∙ ap (λ (w : Walked). without_tables w.found) (sym (walked-refused c.args.budget.now.left Nothing false
+    c.args.state.now c.args.source.now l.counter l.budget.left l.last l.state l.source f l.invariant.walked refl q k))))
 
 pub returns-in_err-last-clause-rows : goal.returns-in_err-last-clause-rows
 returns-in_err-last-clause-rows g c =
     let p = err_from_is_err_and c.from_residual.result c.from_residual.ensures.1 in
     let l = c.loop in
-    rw (p.1, p.2) (told-refused (turn_of c.reach_turn.new.state) c.args.limit Nothing false c.args.state.now
-    c.args.source.now l.counter l.left l.last l.state l.source c.reach_turn.new.source _ _ _ l.invariant.walked
+    rw (p.1, p.2) (told-refused (turn_of c.reach_turn.new.state) c.args.budget.now.left Nothing false c.args.state.now
+    c.args.source.now l.counter l.budget.left l.last l.state l.source c.reach_turn.new.source _ _ _ l.invariant.walked
     c.in_err-last.ensures.reads c.in_err-last.ensures.rows
-    (λ k f q is. is ∙ ap (λ (w : Walked). w.rows) (sym (walked-refused c.args.limit Nothing false
-    c.args.state.now c.args.source.now l.counter l.left l.last l.state l.source f l.invariant.walked refl q k))))
+    (λ k f q is. is ∙ ap (λ (w : Walked). w.rows) (sym (walked-refused c.args.budget.now.left Nothing false
+    c.args.state.now c.args.source.now l.counter l.budget.left l.last l.state l.source f l.invariant.walked refl q k))))
 
 -- ---- the end of the image
 
 ended : (g : Over) (c : goal.Then-last g) → c.args.source.now.known ≡ true
-    → all_brought c.args.limit c.args.state.now c.args.source.now.bytes
+    → all_brought c.args.budget.now.left c.args.state.now c.args.source.now.bytes
     ≡ walked c.reach_turn.new.state (Ok c.reach_turn.new.source.bytes)
 ended g c k =
     let w = c.loop.invariant.walked in
-    walked-whole _ w (λ n. walk-end c.loop.left Nothing n false _ _ _ _ _ _ refl (c.in_ok-last.ensures.reads.1 (w.known k)).1
+    walked-whole _ w (λ n. walk-end c.loop.budget.left Nothing n false _ _ _ _ _ _ refl (c.in_ok-last.ensures.reads.1 (w.known k)).1
     c.if-last.true) k
 
 pub returns-then-last-clause-reads : goal.returns-then-last-clause-reads
@@ -74,8 +74,8 @@ pub loop-preserved : goal.loop-preserved
 loop-preserved g c =
     let l = c.loop in
     record {
-      walked = walked-on c.args.limit Nothing false c.args.state.now c.args.source.now l.counter l.left l.last l.state
-          l.source c.reach_turn.new.source c.reach_turn.new.left c.in_ok-last.last c.reach_turn.new.state
+      walked = walked-on c.args.budget.now.left Nothing false c.args.state.now c.args.source.now l.counter l.budget.left l.last l.state
+          l.source c.reach_turn.new.source c.reach_turn.new.budget.left c.in_ok-last.last c.reach_turn.new.state
           l.invariant.walked refl c.if-last.false c.in_ok-last.ensures.reads c.in_ok-last.ensures.left;
       short = λ _. short-step l.counter l.last.met l.source c.args.source.now l.invariant.short
           l.invariant.first c.in_ok-last.ensures.short;
@@ -83,6 +83,7 @@ loop-preserved g c =
       sound = c.in_ok-last.ensures.steps.sound l.invariant.sound;
       rows = c.in_ok-last.ensures.whole;
       first = λ e. absurd (omega arith);
+      within = c.in_ok-last.ensures.within;
     }
 
 -- a stream of known bytes has fewer segments than turns
@@ -94,7 +95,7 @@ never g c k =
     elim c.loop-test.branch [
       | else-loop-test w ↦ omega (arith, walked.took k)
       | then-loop-test+in_ok-last+else-last+else-counter-lt18446744073709551615 w ↦
-          let less = turn-takes c.loop.left Nothing c.loop.last.before c.loop.state c.loop.last.met c.loop.source.bytes
+          let less = turn-takes c.loop.budget.left Nothing c.loop.last.before c.loop.state c.loop.last.met c.loop.source.bytes
           (turn_of w.reach_turn.new.state w.in_ok-last.last, w.reach_turn.new.source.bytes)
           (w.in_ok-last.ensures.reads.1 (walked.known k)).1 w.if-last.false in
           omega (arith, walked.took k, less)
@@ -103,7 +104,7 @@ never g c k =
 pub returns-clause-reads : goal.returns-clause-reads
 returns-clause-reads g c =
     if-refused c.format_error.result (never-met {X = Unit {0}} (λ _. tt)
-    (λ bytes. walk_end (all_brought c.args.limit c.args.state.now bytes)) c.args.source.now c.loop-test.source
+    (λ bytes. walk_end (all_brought c.args.budget.now.left c.args.state.now bytes)) c.args.source.now c.loop-test.source
     c.format_error.result c.format_error.ensures (grind (arith, common_steps)) (never g c))
 
 pub returns-clause-found : goal.returns-clause-found
@@ -111,3 +112,22 @@ returns-clause-found g c k = absurd (never g c k)
 
 pub returns-clause-rows : goal.returns-clause-rows
 returns-clause-rows g c k = absurd (never g c k)
+
+-- ---- whether a scan exceeds the limit
+
+pub returns-in_err-last-clause-exceeded : goal.returns-in_err-last-clause-exceeded
+returns-in_err-last-clause-exceeded g c =
+    let p = err_from_is_err_and c.from_residual.result c.from_residual.ensures.1 in
+    let l = c.loop in
+    rw (p.1, p.2) (told-refused (turn_of c.reach_turn.new.state) c.args.budget.now.left Nothing false c.args.state.now
+    c.args.source.now l.counter l.budget.left l.last l.state l.source c.reach_turn.new.source _ _ _ l.invariant.walked
+    c.in_err-last.ensures.reads c.in_err-last.ensures.exceeded
+    (λ k f q is. is ∙ ap (λ (w : Walked). w.exceeded) (sym (walked-refused c.args.budget.now.left Nothing false
+    c.args.state.now c.args.source.now l.counter l.budget.left l.last l.state l.source f l.invariant.walked refl q k))))
+
+pub returns-then-last-clause-exceeded : goal.returns-then-last-clause-exceeded
+returns-then-last-clause-exceeded g c k =
+    c.in_ok-last.ensures.within ∙ ap (λ (w : Walked). w.exceeded) (sym (ended g c k))
+
+pub returns-clause-exceeded : goal.returns-clause-exceeded
+returns-clause-exceeded g c k = absurd (never g c k)

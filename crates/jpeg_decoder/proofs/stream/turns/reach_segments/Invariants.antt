@@ -7,7 +7,8 @@ use Rattle.jpeg_decoder.proofs.stream.turns.reach_segments.Given as goal
 
 abbrev pub invariant-loop : goal.invariant-loop
 invariant-loop g l = record {
-  walked : IsWalked l.fn.limit Nothing false l.fn.state l.fn.source l.counter l.left l.last l.state l.source;
+  walked : IsWalked l.fn.budget.left Nothing false l.fn.state l.fn.source l.counter l.budget.left l.last l.state l.source;
+  within : l.budget.exceeded ≡ false;
   short : 0 < l.counter → IsShort l.fn.source;
   stays : is_some l.fn.state.said.frame ≡ true
       → l.state.said.frame ≡ l.fn.state.said.frame;

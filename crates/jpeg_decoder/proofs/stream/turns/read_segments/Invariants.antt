@@ -1,4 +1,4 @@
-use Rattle.std.proofs.Common.{◌≡◌, ◌<◌, true, None, is_some}
+use Rattle.std.proofs.Common.{◌≡◌, ◌<◌, false, true, None, is_some}
 use Rattle.jpeg_bits.specs.Reading.{IsShort}
 use Rattle.jpeg_streams.specs.Sound.{IsSound, IsUnread}
 use Rattle.jpeg_streams.specs.declared.beyond.Beyond.TheVariants.{Zeros}
@@ -7,7 +7,8 @@ use Rattle.jpeg_decoder.proofs.stream.turns.read_segments.Given as goal
 
 abbrev pub invariant-loop : goal.invariant-loop
 invariant-loop g l = record {
-  walked : IsWalked l.fn.limit Zeros l.fn.header l.fn.state l.fn.source l.counter l.left l.last l.state l.source;
+  walked : IsWalked l.fn.budget.left Zeros l.fn.header l.fn.state l.fn.source l.counter l.budget.left l.last l.state l.source;
+  within : l.budget.exceeded ≡ false;
   short : 0 < l.counter → IsShort l.fn.source;
   stays : is_some l.fn.state.said.frame ≡ true → l.state.said.frame ≡ l.fn.state.said.frame;
   sound : IsSound l.state;
