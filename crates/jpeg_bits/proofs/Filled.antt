@@ -2,7 +2,7 @@
 use Rattle.jpeg_bits.specs.declared.error.Error.TheVariants as errors
 use Rattle.std.proofs.Common.{◌≡◌, ℕ, ◌<◌, ◌≤◌, ◌^◌, Bool, true, false, not, ◌&&◌, List, ◌++◌, length, take, ◌∙◌}
 use Rattle.std.proofs.Common.{Option, Result, Ok, arith, length-append, ltb, zero, suc, ◌+◌, ◌-◌, [], ◌∷◌, Err, refl, sym, ap, subst}
-use Rattle.std.proofs.Common.{append_assoc, length-take, length-take-le}
+use Rattle.std.proofs.Common.{append_assoc, drop, length-take, length-take-le}
 use Rattle.std.specs.Io.KnownBytes.{Keeps, Consumes, IsAtEnd}
 use Rattle.std.proofs.lemmas.Bool.{false≢true}
 use Rattle.jpeg_bits.specs.Stream.{Stream, stream_of}
@@ -139,3 +139,14 @@ skip-goes n left bytes front rest le e =
 pub skip-none : (n : ℕ) (bytes : List ℕ) → n ≤ 0 → skip_at n bytes ≡ Ok (tt, bytes)
 unfolding skip_at times
 skip-none n bytes h = grind arith
+
+-- bytes that are there are passed over
+pub skip-front : (n : ℕ) (bytes rest : List ℕ) → n ≤ length bytes → skip_at n (bytes ++ rest)
+    ≡ Ok (tt, drop n bytes ++ rest)
+unfolding skip_at times
+skip-front zero bytes rest h = refl
+skip-front (suc n) [] rest h = absurd (omega (arith, h))
+skip-front (suc n) (b ∷ bytes) rest h =
+    let e : suc n - 1 ≡ n = omega arith in
+    skip-goes 1 (suc n) (b ∷ (bytes ++ rest)) (b ∷ []) (bytes ++ rest) (omega arith) refl
+    ∙ ap (λ m. skip_at m (bytes ++ rest)) e ∙ skip-front n bytes rest (omega (arith, h))

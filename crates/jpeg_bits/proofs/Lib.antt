@@ -1,5 +1,6 @@
 pub mod TakenBytes
 pub mod Loops
+mod MarkerSearch
 pub mod BufferedBits
 pub mod PlainBytes
 pub mod CodeLemmas

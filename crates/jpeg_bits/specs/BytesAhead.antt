@@ -1,5 +1,6 @@
 -- Bytes that were read ahead of a source and not taken yet (this project's own form).
-use Rattle.std.specs.Prelude.{◌≡◌, ◌≢◌, ℕ, ◌<◌, ◌^◌, ◌++◌, List, [], length, take, true, ◌&&◌}
+use Rattle.std.specs.Prelude.{◌≡◌, ◌≢◌, ℕ, ◌<◌, ◌^◌, ◌++◌, List, [], ◌∷◌, length, take}
+use Rattle.std.specs.Prelude.{true, ◌&&◌}
 use Rattle.std.specs.Prelude.{nat_lt, Option, Some, None, Result, Ok, Err}
 use Rattle.std.specs.Int.{byte_at, to_be_bytes, w64}
 use Rattle.jpeg_bits.specs.Stream.{Stream}
@@ -29,6 +30,12 @@ abbrev pub PassesPlain : ℕ → ℕ → Stream → Stream → Type 0
 PassesPlain word count old new =
     HasNoFf word × (new.failed ≡ old.failed) × (old.known ≡ true → (new.known ≡ true)
     × (old.bytes ≡ take count (to_be_bytes w64 word) ++ new.bytes))
+
+-- two bytes were taken off a source
+abbrev pub TakesTwo : ℕ → ℕ → Stream → Stream → Type 0
+TakesTwo first second old new =
+    (new.failed ≡ old.failed) × (old.known ≡ true → (new.known ≡ true)
+    × (old.bytes ≡ first ∷ (second ∷ new.bytes)))
 
 -- One read put the front of the bytes ahead, and none only at their end.
 abbrev pub FillsFrom : Stream → Result (Unit {0}) Error → List ℕ → Stream → Type 0

@@ -8,3 +8,4 @@ pub mod Headers
 pub mod HeaderThenRest
 pub mod ScaledHeaders
 pub mod ReplacedTables
+pub mod SkippedApplications

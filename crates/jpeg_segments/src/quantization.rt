@@ -76,6 +76,7 @@ fn zero_error(alloc: Global, destination: usize, values: &[u16; 64]) -> Error
     ))
 }
 
+#[inline(never)]
 #[tactic(auto, unfolding(crate::specs::Parts::table_at))]
 fn read_table<R: Read + Drop>(
     alloc: Global,
@@ -115,6 +116,7 @@ fn table_error(alloc: Global, precision: u8, index: usize, left: u16) -> Error
 
 /// Reads the next table, with `left` bytes left in the segment: its size and destination, and the
 /// table.
+#[inline(never)]
 #[tactic(auto, using(crate::proofs::PartsOfSegments::parts))]
 fn read_defined_table<R: Read + Drop>(
     alloc: Global,
@@ -142,6 +144,7 @@ fn read_defined_table<R: Read + Drop>(
 ///
 /// Errors: `Format` if the length, a precision, a destination or a value of 0 breaks a rule; `Io`
 /// if the bytes end or a read fails; `OutOfMemory`.
+#[inline(never)]
 #[tactic(auto, unfolding(crate::proofs::Rules::tables_read), using(crate::proofs::Rules::tables))]
 pub fn parse_dqt<R: Read + Drop>(
     alloc: Global,

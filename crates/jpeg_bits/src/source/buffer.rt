@@ -1,7 +1,9 @@
 //! Bytes that are read ahead of what is taken.
-ghost use Rattle.std.specs.Prelude.{◌≡◌, ◌+◌, ◌≤◌, length, drop, take, true};
+ghost use Rattle.std.specs.Prelude.{◌≡◌, ◌+◌, ◌≤◌, ℕ, List, ◌++◌, ◌∷◌, length, drop, take, true};
+ghost use Rattle.std.specs.Prelude.{false, None};
 ghost use Rattle.std.specs.Int.{to_be_bytes, w64};
 ghost use Rattle.jpeg_bits.specs.BytesAhead.{HasNoFf};
+ghost use Rattle.jpeg_bits.specs.Marker.{marker_at, next_marker};
 
 use crate::error::Result;
 use crate::source::turns::Asked;
@@ -30,8 +32,11 @@ impl Model for Buffer {
 
 impl Buffer {
     ghost use Rattle.std.specs.Prelude.{◌≡◌, ◌≤◌, ◌<◌, ◌++◌, [], ◌∷◌, length, take, drop, min};
-    ghost use Rattle.std.specs.Prelude.{◌↔◌, true, IfOk, IfErr, IfSome, IfNone};
+    ghost use Rattle.std.specs.Prelude.{ℕ, List, Ok};
+    ghost use Rattle.std.specs.Prelude.{◌↔◌, true, false, IfOk, IfErr, IfSome, IfNone};
     ghost use Rattle.jpeg_bits.specs.BytesAhead.{FillsFrom, TakesPlain};
+    ghost use Rattle.jpeg_bits.specs.Marker.{next_marker};
+    ghost use Rattle.jpeg_bits.specs.Reading.{skip_at};
     ghost use Rattle.jpeg_bits.specs.Turns.{IsByTurns, read_fails};
     ghost use Rattle.jpeg_bits.specs.declared.error.Error.TheVariants.{OutOfMemory};
 
@@ -85,6 +90,48 @@ impl Buffer {
         let byte = self.bytes[self.start];
         self.start += 1;
         Some(byte)
+    }
+
+    /// Takes the next two bytes, if there are two, or else none.
+    #[inline(always)]
+    pub(super) fn take_two(&mut self) -> Option<(u8, u8)>
+        ensures some { IfSome result (λ pair. self.old ≡ pair.0 ∷ (pair.1 ∷ self.new)) }
+        ensures none { IfNone result (self.new ≡ self.old) }
+    {
+        if self.end - self.start < 2 {
+            return None;
+        }
+        let first = self.bytes[self.start];
+        let second = self.bytes[self.start + 1];
+        self.start += 2;
+        Some((first, second))
+    }
+
+    /// Passes over the next `count` bytes, if there are as many, or else over none.
+    #[inline(always)]
+    pub(super) fn pass(&mut self, count: usize) -> bool
+        ensures passed { result ≡ true → (rest : List ℕ) → skip_at count (self.old ++ rest)
+            ≡ Ok (tt, self.new ++ rest) }
+        ensures left { length self.new ≤ length self.old }
+        ensures none { result ≡ false → self.new ≡ self.old }
+    {
+        if self.end - self.start < count {
+            return false;
+        }
+        self.start += count;
+        true
+    }
+
+    /// Passes over bytes that no marker ends with, where `previous` stands before them. Returns the
+    /// byte that stands before those that are left.
+    pub(super) fn pass_unmarked(&mut self, previous: u8) -> u8
+        ensures same { (rest : List ℕ) → next_marker (previous ∷ (self.old ++ rest))
+            ≡ next_marker (result ∷ (self.new ++ rest)) }
+        ensures left { length self.new ≤ length self.old }
+    {
+        let (count, last) = unmarked(self.as_slice(), previous);
+        self.start += count;
+        last
     }
 
     /// Takes as many bytes as there are and as the buffer has room for, and returns their number.
@@ -156,6 +203,34 @@ impl Buffer {
         self.end = count;
         Ok(())
     }
+}
+
+/// Returns how many bytes stand before the first that makes a marker with a byte FF before it, where
+/// `first` stands before all of them, and the last of these.
+#[inline(always)]
+fn unmarked(bytes: &[u8], first: u8) -> (usize, u8)
+    ensures count { result.0 ≤ length bytes.now }
+    ensures same { (rest : List ℕ) → next_marker (first ∷ (bytes.now ++ rest))
+        ≡ next_marker (result.1 ∷ (drop result.0 bytes.now ++ rest)) }
+{
+    let mut previous = first;
+    for i in 0..bytes.len() {
+        let byte = bytes[i];
+        if is_marked(previous, byte) {
+            return (i, previous);
+        }
+        previous = byte;
+    }
+    (bytes.len(), previous)
+}
+
+/// Returns whether two bytes may make a marker.
+#[inline(always)]
+#[tactic(auto, unfolding(crate::specs::Marker::marker_of))]
+fn is_marked(first: u8, second: u8) -> bool
+    ensures { result ≡ false → marker_at first second ≡ None }
+{
+    first == 0xff && second != 0 && second != 0xff
 }
 
 /// Returns eight bytes as a number, the first the highest.

@@ -31,6 +31,20 @@ pub fn read_u16_be<R: Read + Drop>(alloc: Global, source: &mut Source<R>) -> Res
     ensures room { source.old.known ≡ true → result ≡ Err OutOfMemory
         → next_u16 source.old.bytes ≡ Err Malformed }
 {
+    match source.take_two() {
+        Some((high, low)) => Ok(256 * u16::from(high) + u16::from(low)),
+        None => read_u16_by_bytes(alloc, source),
+    }
+}
+
+/// Reads the next two bytes as `read_u16_be` does, where they weren't both read ahead.
+#[inline(never)]
+#[tactic(auto, unfolding(crate::specs::Reading::next_u16))]
+fn read_u16_by_bytes<R: Read + Drop>(alloc: Global, source: &mut Source<R>) -> Result<u16>
+    ensures answers { Answers (λ n. n) next_u16 source.old result source.new }
+    ensures room { source.old.known ≡ true → result ≡ Err OutOfMemory
+        → next_u16 source.old.bytes ≡ Err Malformed }
+{
     let high = read_u8(alloc, source)?;
     let low = read_u8(alloc, source)?;
     Ok(256 * u16::from(high) + u16::from(low))
@@ -122,7 +136,22 @@ fn skip_by<R: Read + Drop>(
 }
 
 /// Skips `count` bytes. The errors are those of `read_u8`.
+#[inline(always)]
+#[tactic(auto, using(crate::proofs::Rules::passed))]
 pub fn skip<R: Read + Drop>(alloc: Global, source: &mut Source<R>, count: u16) -> Result<()>
+    ensures answers { Answers (λ u. u) (skip_at count) source.old result source.new }
+    ensures room { source.old.known ≡ true → result ≡ Err OutOfMemory
+        → skip_at count source.old.bytes ≡ Err Malformed }
+{
+    if source.pass(usize::from(count)) || count == 0 {
+        return Ok(());
+    }
+    skip_apart(alloc, source, count)
+}
+
+/// Skips `count` bytes that weren't all read ahead.
+#[inline(never)]
+fn skip_apart<R: Read + Drop>(alloc: Global, source: &mut Source<R>, count: u16) -> Result<()>
     ensures answers { Answers (λ u. u) (skip_at count) source.old result source.new }
     ensures room { source.old.known ≡ true → result ≡ Err OutOfMemory
         → skip_at count source.old.bytes ≡ Err Malformed }

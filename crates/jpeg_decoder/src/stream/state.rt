@@ -124,6 +124,7 @@ impl State {
     }
 
     /// Reads a frame header (T.81, B.2.2).
+    #[inline(never)]
     #[tactic(auto, unfolding(jpeg_streams::specs::Segments::frame_segment))]
     pub fn read_frame<R: Read + Drop>(
         &mut self,
@@ -147,6 +148,7 @@ impl State {
     }
 
     /// Reads quantization tables (T.81, B.2.4.1).
+    #[inline(never)]
     #[tactic(auto, using(jpeg_streams::proofs::Soundness::sound_kept))]
     pub fn read_quantization<R: Read + Drop>(
         &mut self,
@@ -164,6 +166,7 @@ impl State {
     }
 
     /// Reads Huffman tables (T.81, B.2.4.2).
+    #[inline(never)]
     #[tactic(auto, using(crate::proofs::Rules::replaced))]
     pub fn read_huffman<R: Read + Drop>(
         &mut self,
@@ -188,6 +191,7 @@ impl State {
     }
 
     /// Reads a restart interval (T.81, B.2.4.4).
+    #[inline(never)]
     #[tactic(auto, using(jpeg_streams::proofs::Soundness::sound_kept))]
     pub fn read_restart_interval<R: Read + Drop>(
         &mut self,
@@ -203,9 +207,29 @@ impl State {
         Ok(ONWARD)
     }
 
-    /// Reads data of an application (T.81, B.2.4.6).
-    #[tactic(auto, using(jpeg_streams::proofs::Soundness::sound_kept))]
+    /// Reads data of an application (T.81, B.2.4.6). A segment that says nothing that is known, by
+    /// its number alone, is skipped.
     pub fn read_application<R: Read + Drop>(
+        &mut self,
+        alloc: Global,
+        source: &mut Source<R>,
+        number: u8,
+    ) -> Result<Step>
+        ensures reads { Answers (turn_of self.new) (application_segment number self.old)
+            source.old result source.new }
+        ensures steps { IsStep self.old result self.new }
+        ensures kept { OnFault result (self.new ≡ self.old) }
+    {
+        if number > 2 && number != 13 && number != 14 {
+            return self.skip_segment(alloc, source);
+        }
+        self.add_application(alloc, source, number)
+    }
+
+    /// Reads data of an application, and adds what it says.
+    #[inline(never)]
+    #[tactic(auto, using(jpeg_streams::proofs::Soundness::sound_kept))]
+    fn add_application<R: Read + Drop>(
         &mut self,
         alloc: Global,
         source: &mut Source<R>,
@@ -222,6 +246,7 @@ impl State {
     }
 
     /// Skips a segment.
+    #[inline(never)]
     pub fn skip_segment<R: Read + Drop>(
         &self,
         alloc: Global,
