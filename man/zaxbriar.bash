@@ -1,7 +1,7 @@
 # Completes the commands, options and files of zaxbriar.
 _zaxbriar() {
     local word="${COMP_WORDS[COMP_CWORD]}" before="${COMP_WORDS[COMP_CWORD - 1]}"
-    local options='-h --help -o --output --max-pixels --max-memory'
+    local options='-h --help -o --output --max-pixels --max-memory --max-passes'
     local words='pnm thumbnail info raw frames'
     if [ "$COMP_CWORD" -eq 1 ]; then
         mapfile -t COMPREPLY < <(compgen -W "$words help --help --version" -- "$word")
@@ -22,6 +22,7 @@ _zaxbriar() {
         --max) options='160 320 640x480 1280x960' ;;
         --max-pixels) options='10M 100M' ;;
         --max-memory) options='100M 1G' ;;
+        --max-passes) options='0 20 100' ;;
         *)
             if [ "${word#-}" = "$word" ]; then
                 mapfile -t COMPREPLY < <(compgen -f -- "$word")

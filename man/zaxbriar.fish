@@ -18,6 +18,7 @@ complete -c zaxbriar -n "$first; and not __fish_seen_subcommand_from help" -f -a
 complete -c zaxbriar -n $later -s o -l output -r -d 'The file to write'
 complete -c zaxbriar -n $later -l max-pixels -x -d 'Refuse pictures with more pixels'
 complete -c zaxbriar -n $later -l max-memory -x -d 'Refuse pictures that need more bytes'
+complete -c zaxbriar -n $later -l max-passes -x -d 'Refuse files with more scans over all blocks'
 complete -c zaxbriar -n $pnm -l scale -x -a '1/8 1/4 1/2 1' -d 'The scale of the width and height'
 complete -c zaxbriar -n $thumbnail -l max -x -d 'The size to fit within'
 complete -c zaxbriar -n $thumbnail -l as-stored -d 'Do not turn the picture'

@@ -5,6 +5,7 @@ common=(
     '(-h --help)'{-h,--help}'[print help]'
     '--max-pixels[refuse pictures with more pixels]:number:(10M 100M)'
     '--max-memory[refuse pictures that need more bytes]:bytes:(100M 1G)'
+    '--max-passes[refuse files with more scans over all blocks]:number:(0 20 100)'
     '(-o --output)'{-o,--output}'[the file to write]:file:_files'
 )
 if ((CURRENT == 2)); then

@@ -8,6 +8,7 @@ use zaxbriar_files::ending::{Failure, Outcome};
 use zaxbriar_files::files::NAME;
 use zaxbriar_files::limits::Limits;
 use zaxbriar_files::lines::Line;
+use zaxbriar_files::machine;
 use zaxbriar_files::names::{shown, word_of};
 
 /// The version that the program names.
@@ -136,10 +137,28 @@ fn limit_of(rt: &HostRuntime, matches: &ArgMatches<'_>, id: &str) -> Outcome<Opt
     }
 }
 
-/// Returns the limits of a picture that the options set.
+/// How many times the blocks of its picture the scans of a file may code, unless the option says
+/// it: far more than files do that weren't made to take time.
+const MOST_PASSES: u64 = 100;
+
+/// Returns how many times it is, where 0 is no limit.
+fn passes_of(given: Option<u64>) -> Option<u64> {
+    match given {
+        Some(0) => None,
+        Some(passes) => Some(passes),
+        None => Some(MOST_PASSES),
+    }
+}
+
+/// Returns the limits of a picture that the options set, or else those of the program.
 pub fn limits_of(rt: &HostRuntime, matches: &ArgMatches<'_>) -> Outcome<Limits> {
+    let pixels = limit_of(rt, matches, "max-pixels")?;
+    let memory = limit_of(rt, matches, "max-memory")?;
+    let passes = passes_of(limit_of(rt, matches, "max-passes")?);
     Ok(Limits {
-        pixels: limit_of(rt, matches, "max-pixels")?,
-        memory: limit_of(rt, matches, "max-memory")?,
+        pixels,
+        memory: memory.or(machine::share(rt)),
+        is_share: memory.is_none(),
+        passes,
     })
 }

@@ -12,10 +12,15 @@ const MAX_PIXELS: &str =
     "Refuse pictures with more pixels, judging by the header; suffixes k, M and G";
 
 const MAX_MEMORY: &str =
-    "Refuse pictures that need more bytes, judging by the header; suffixes k, M and G";
+    "Refuse pictures that need more bytes, judging by the header; suffixes k, M and G; \
+    half of the machine's memory by default";
 
-/// The options of each word, which limit a picture.
-const LIMITS: [Parameter; 2] = [
+const MAX_PASSES: &str =
+    "Refuse files whose scans code more than N times the blocks of their picture, 100 by default; \
+    0 for no limit";
+
+/// The options of each word, which limit a picture and the time that it takes.
+const LIMITS: [Parameter; 3] = [
     Parameter {
         name: "max-pixels",
         form: Form::Number("N"),
@@ -25,6 +30,11 @@ const LIMITS: [Parameter; 2] = [
         name: "max-memory",
         form: Form::Number("BYTES"),
         help: MAX_MEMORY,
+    },
+    Parameter {
+        name: "max-passes",
+        form: Form::Number("N"),
+        help: MAX_PASSES,
     },
 ];
 

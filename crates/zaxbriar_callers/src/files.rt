@@ -2,7 +2,7 @@
 ghost use Rattle.std.specs.Prelude.{ℕ, List, IfOk, IsSomeAnd, OnOk};
 ghost use Rattle.std.specs.Io.KnownBytes.{Appends};
 ghost use Rattle.jpeg_streams.specs.Output.{Tells, output_of};
-ghost use Rattle.zaxbriar_pictures.specs.Given.{WritesGiven};
+ghost use Rattle.zaxbriar_pictures.specs.Given.{CodesWithin, WritesGiven};
 ghost use Rattle.zaxbriar_samples.specs.Netpbm.{file_of};
 ghost use Rattle.zaxbriar_pictures.specs.Thumbnails.{WritesThumbnail};
 
@@ -36,7 +36,7 @@ pub fn picture_at<R: Read + Drop, W: Write>(
     writer: &mut W,
 ) -> Result<Completeness, Refusal>
     ensures { (bytes : List ℕ) → Tells (R.remaining reader) bytes
-        → IfOk result (WritesGiven extent scale bytes (W.contents writer.old)
+        → IfOk result (WritesGiven extent limits scale bytes (W.contents writer.old)
         (W.contents writer.new)) }
 {
     write_at(alloc, reader, scale, extent, limits, writer)
@@ -52,22 +52,24 @@ pub fn thumbnail<R: Read + Drop, W: Write>(
     writer: &mut W,
 ) -> Result<Completeness, Refusal>
     ensures { (bytes : List ℕ) → Tells (R.remaining reader) bytes
-        → IfOk result (WritesThumbnail extent request bytes (W.contents writer.old)
+        → IfOk result (WritesThumbnail extent limits request bytes (W.contents writer.old)
         (W.contents writer.new)) }
 {
     write_thumbnail(alloc, reader, request, extent, limits, writer)
 }
 
-/// Calls `write_raw`.
+/// Calls `write_raw`, and says what an Ok wrote, and how many blocks the scans code.
 pub fn pixels<R: Read + Drop, W: Write>(
     alloc: Global,
     reader: R,
     limits: Limits,
     writer: &mut W,
 ) -> Result<(), Refusal>
-    ensures { (bytes : List ℕ) → Tells (R.remaining reader) bytes
+    ensures written { (bytes : List ℕ) → Tells (R.remaining reader) bytes
         → OnOk result (IsSomeAnd (output_of bytes) (Appends (W.contents writer.old)
         (W.contents writer.new))) }
+    ensures bounded { (bytes : List ℕ) → Tells (R.remaining reader) bytes
+        → OnOk result (CodesWithin limits bytes) }
 {
     write_raw(alloc, reader, limits, writer)
 }

@@ -1,21 +1,23 @@
 //! Callers that read a picture.
 ghost use Rattle.std.specs.Prelude.{◌≡◌, ℕ, List, Some, IfOk};
 ghost use Rattle.jpeg_streams.specs.Output.{Tells};
-ghost use Rattle.zaxbriar_pictures.specs.Given.{IsGiven};
+ghost use Rattle.jpeg_streams.specs.States.{HasHeader};
+ghost use Rattle.zaxbriar_pictures.specs.Given.{IsGiven, most_after};
 ghost use Rattle.zaxbriar_samples.specs.DecodedPictures.{decoded};
 ghost use Rattle.zaxbriar_pictures.specs.ScaledPictures.{picture_at_scale};
 ghost use Rattle.zaxbriar_samples.specs.DecodedPictures.{decoded_in};
 
+use jpeg_decoder::Decoder;
 use std::alloc::Global;
 use std::io::Read;
 use zaxbriar_files::limits::Limits;
 use zaxbriar_files::refusal::Refusal;
 use zaxbriar_pictures::extents::Extent;
-use zaxbriar_pictures::scaled::{ScaledPicture, read_picture};
+use zaxbriar_pictures::scaled::{ScaledPicture, limit_blocks, read_picture};
 use zaxbriar_samples::requests::Request;
 
 /// Calls `read_picture`, and says that picture, complete rows and fault are those that the stream
-/// gives at its scale.
+/// gives at its scale within the limits.
 pub fn scaled_picture<R: Read + Drop>(
     alloc: Global,
     reader: R,
@@ -24,13 +26,14 @@ pub fn scaled_picture<R: Read + Drop>(
     limits: Limits,
 ) -> Result<ScaledPicture, Refusal>
     ensures { (bytes : List ℕ) → Tells (R.remaining reader) bytes
-        → IfOk result (λ made. IsGiven extent made.scale bytes (decoded_in made.picture)
-        made.whole_rows made.fault) }
+        → IfOk result (λ made. IsGiven extent limits made.scale bytes
+        (decoded_in made.picture) made.whole_rows made.fault) }
 {
     read_picture(alloc, reader, request, extent, limits)
 }
 
-/// Reads a whole picture, and says that it is the one that the stream means at its scale.
+/// Reads a whole picture, and says that it is the one that the stream means at its scale, whatever
+/// the limits.
 pub fn whole_picture<R: Read + Drop>(
     alloc: Global,
     reader: R,
@@ -42,4 +45,14 @@ pub fn whole_picture<R: Read + Drop>(
         ≡ Some (decoded made.picture.info made.picture.precision made.picture.pixels.items)) }
 {
     scaled_picture(alloc, reader, request, Extent::Whole, limits)
+}
+
+/// Calls `limit_blocks`, and says which limit it sets.
+pub fn limited<R: Read + Drop>(decoder: &mut Decoder<R>, limits: Limits)
+    ensures { HasHeader decoder.old.stage → decoder.new ≡ record decoder.old {
+      settings = record decoder.old.settings
+          { max_blocks = most_after limits decoder.old.found };
+    } }
+{
+    limit_blocks(decoder, limits);
 }

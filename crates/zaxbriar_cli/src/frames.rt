@@ -8,7 +8,7 @@ use zaxbriar_files::avi::{Video, is_avi, skip_rest};
 use zaxbriar_files::limits::Limits;
 use zaxbriar_files::refusal::Refusal;
 use zaxbriar_pictures::extents::Extent;
-use zaxbriar_pictures::scaled::{decode_picture, taken_by};
+use zaxbriar_pictures::scaled::{decode_picture, limit_blocks, taken_by};
 use zaxbriar_samples::netpbm::Picture;
 
 /// Why a frame isn't written.
@@ -90,6 +90,7 @@ fn decode_within<R: Read + Drop>(
     decoder.read_info()?;
     let info = decoder.info().unwrap();
     limits.check(info.width, info.height, taken_by(decoder, Extent::Whole))?;
+    limit_blocks(decoder, limits);
     Ok(decode_picture(decoder)?)
 }
 

@@ -6,7 +6,7 @@ use std::fmt;
 use zaxbriar_files::ending::{Failure, Outcome};
 use zaxbriar_files::files::{finish, report};
 use zaxbriar_files::output::Output;
-use zaxbriar_files::refusal::Refusal;
+use zaxbriar_files::refusal::{Reason, Refusal};
 use zaxbriar_pictures::extents::Completeness;
 
 /// Whose rows are counted that are complete.
@@ -37,7 +37,7 @@ impl fmt::Display for Part<'_> {
             CodingProcess::DctProgressive => " in the scans so far",
             _ => "",
         };
-        write!(f, "{}; ", self.fault)?;
+        write!(f, "{}; ", Reason(self.fault))?;
         if rows == 0 {
             return write!(f, "no row is complete");
         }

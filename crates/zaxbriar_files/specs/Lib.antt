@@ -1,3 +1,4 @@
 pub mod Endings
 pub mod Limits
 pub mod Lines
+pub mod Machine

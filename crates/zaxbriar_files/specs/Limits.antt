@@ -1,5 +1,6 @@
 -- The limits of a picture that is decoded.
-use Rattle.std.specs.Prelude.{ℕ, ◌*◌, ◌&&◌, Bool, true, Option, None, Some, nat_le}
+use Rattle.std.specs.Prelude.{ℕ, ◌-◌, ◌*◌, ◌^◌, ◌&&◌, Bool, true, Option, None, Some, min, nat_le}
+use Rattle.std.specs.Prelude.{option_map}
 use Rattle.zaxbriar_files.specs.declared.limits.Limits.{Limits}
 
 -- whether a number is at most what is allowed, if there is a limit
@@ -11,3 +12,9 @@ is_at_most (Some most) n = nat_le n most
 abbrev pub is_allowed : Limits → ℕ → ℕ → ℕ → Bool
 is_allowed limits width height bytes =
     is_at_most limits.pixels (width * height) && is_at_most limits.memory bytes
+
+-- How many blocks the scans of a file may code whose picture has this many, if there is a limit: as
+-- far as 64 bits count them.
+abbrev pub most_blocks : Limits → ℕ → Option ℕ
+most_blocks limits blocks =
+    option_map (λ passes. min (passes * blocks) (2 ^ 64 - 1)) limits.passes

@@ -14,6 +14,7 @@ pub mod kinds;
 pub mod limits;
 pub mod lines;
 pub mod listing;
+pub mod machine;
 pub mod names;
 pub mod output;
 pub mod refusal;

@@ -31,13 +31,34 @@ pub enum Refusal {
         bytes: u64,
         /// How many are allowed.
         most: u64,
+        /// Whether that is the machine's share, which no option has set.
+        is_share: bool,
     },
+}
+
+/// What the decoder's refusal of a scan for the limit of blocks ends with.
+const ABOVE_PASSES: &str = "that the limit leaves";
+
+/// An error of the decoder, and which option of the program lifts the limit that it names.
+#[derive(Clone, Copy)]
+pub struct Reason<'a>(pub &'a Error);
+
+impl fmt::Display for Reason<'_> {
+    fn fmt<W: fmt::Write>(&self, f: &mut fmt::Formatter<W>) -> fmt::Result {
+        let error = self.0;
+        match error {
+            Error::Format(text) if text.ends_with(ABOVE_PASSES) => {
+                write!(f, "{error}, which --max-passes sets")
+            }
+            _ => write!(f, "{error}"),
+        }
+    }
 }
 
 impl fmt::Display for Refusal {
     fn fmt<W: fmt::Write>(&self, f: &mut fmt::Formatter<W>) -> fmt::Result {
         match self {
-            Refusal::Decoding(error) => write!(f, "{error}"),
+            Refusal::Decoding(error) => write!(f, "{}", Reason(error)),
             Refusal::Format(format) => write!(f, "a {} file, not a JPEG file", format.name()),
             Refusal::Name => write!(f, "{NOT_TEXT}"),
             Refusal::Pixels { pixels, most } => {
@@ -46,10 +67,25 @@ impl fmt::Display for Refusal {
                     "the picture has {pixels} pixels, and --max-pixels is {most}"
                 )
             }
-            Refusal::Memory { bytes, most } => {
+            Refusal::Memory {
+                bytes,
+                most,
+                is_share: false,
+            } => {
                 write!(
                     f,
                     "the picture takes {bytes} bytes, and --max-memory is {most}"
+                )
+            }
+            Refusal::Memory {
+                bytes,
+                most,
+                is_share: true,
+            } => {
+                write!(
+                    f,
+                    "the picture takes {bytes} bytes, and half of the machine's memory is {most}; \
+                    --max-memory {bytes} allows it"
                 )
             }
         }

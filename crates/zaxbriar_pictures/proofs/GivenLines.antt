@@ -4,13 +4,11 @@ use Rattle.std.specs.Prelude.{IfOk, IfSome, IsSomeAnd}
 use Rattle.std.specs.List.{concat}
 use Rattle.jpeg_bits.specs.Reading.{IsGivenUp, Outcome, ◌>>=◌}
 use Rattle.jpeg_bits.specs.declared.error.Error.{Error}
-use Rattle.jpeg_streams.specs.Output.{default_settings}
-use Rattle.jpeg_streams.specs.Shown.{shown_ahead, shown_rest_within, whole_rows_ahead, whole_rows_rest}
+use Rattle.jpeg_streams.specs.Shown.{shown_ahead, whole_rows_ahead, whole_rows_rest}
 use Rattle.jpeg_streams.specs.States.{Decoding, IsReading, ahead}
-use Rattle.jpeg_streams.specs.Stream.{Told, rest_by, told_of}
+use Rattle.jpeg_streams.specs.Stream.{Told, told_of}
 use Rattle.jpeg_streams.specs.declared.progress.Progress.{Progress}
 use Rattle.jpeg_streams.specs.declared.progress.Progress.TheVariants.{HeaderRead}
-use Rattle.jpeg_streams.specs.declared.settings.Settings.{Settings}
 use Rattle.jpeg_decoder.specs.Decodes.{Decodes}
 use Rattle.jpeg_decoder.specs.Shows.{Shows}
 use Rattle.zaxbriar_pictures.specs.Given.{without_fault}
@@ -22,11 +20,10 @@ reading : (stage : Progress) → stage ≡ HeaderRead → IsReading stage
 reading stage at = subst IsReading (sym at) tt
 
 pub whole-gives : {X : Type 0} (bytes_of : X → List ℕ) (old new : Decoding) (x : X) → old.stage ≡ HeaderRead
-    → old.settings ≡ default_settings → Decodes bytes_of old (Ok x) new → GivesRest Whole old new (bytes_of x) None
-whole-gives bytes_of old new x at plain d known =
+    → Decodes bytes_of old (Ok x) new → GivesRest Whole old new (bytes_of x) None
+whole-gives bytes_of old new x at d known =
     let means = ((d.reads (reading old.stage at)).1 known).1 in
-    let rest = ap (λ (s : Settings). rest_by s old.found old.source.bytes) (sym plain)
-    ∙ ap (λ (p : Progress). ahead p old.settings old.found old.source.bytes) (sym at) ∙ means in (
+    let rest = ap (λ (p : Progress). ahead p old.settings old.found old.source.bytes) (sym at) ∙ means in (
       without_fault (told_of new.found.said, bytes_of x),
       ap (λ (o : Outcome (Told × List ℕ)). o >>= (λ m. Ok (without_fault m.0))) rest,
       refl,
@@ -54,19 +51,18 @@ still-read lines_of fault_of old new shown p failed now d seen same none known =
 
 pub partial-gives : {X : Type 0} (lines_of : X → List (List ℕ)) (fault_of : X → Option Error) (old new : Decoding)
     (shown : X) (failed : Bool) (r : Result X Error) → old.stage ≡ HeaderRead
-    → old.settings ≡ default_settings → Shows (λ x. concat (lines_of x)) fault_of old (Ok shown) new
+    → Shows (λ x. concat (lines_of x)) fault_of old (Ok shown) new
     → failed ≡ new.source.failed → IfOk r (λ p. p ≡ shown)
     → IfOk r (λ p. IfSome (fault_of p) (λ e. IsGivenUp e failed → ⊥))
     → IfOk r (λ p. GivesRest Partial old new (concat (lines_of p)) (fault_of p))
-partial-gives lines_of fault_of old new shown failed (Err e) at plain d seen same none = tt
-partial-gives {X} lines_of fault_of old new shown failed (Ok p) at plain d seen same none =
+partial-gives lines_of fault_of old new shown failed (Err e) at d seen same none = tt
+partial-gives {X} lines_of fault_of old new shown failed (Ok p) at d seen same none =
     subst (λ (x : X). GivesRest Partial old new (concat (lines_of x)) (fault_of x)) (sym same) (λ known.
     let now = reading old.stage at in
     let still = still-read lines_of fault_of old new shown p failed now d seen same none known in
     let s = d.shown now known still in (
       s.0,
-      ap (λ (s : Settings). shown_rest_within s.max_blocks s old.found old.source.bytes) (sym plain)
-          ∙ ap (λ (p : Progress). shown_ahead p old.settings old.found old.source.bytes) (sym at) ∙ s.1,
+      ap (λ (p : Progress). shown_ahead p old.settings old.found old.source.bytes) (sym at) ∙ s.1,
       s.2,
       s.3,
       s.4,
@@ -74,16 +70,15 @@ partial-gives {X} lines_of fault_of old new shown failed (Ok p) at plain d seen 
 
 pub partial-counts : {X : Type 0} (lines_of : X → List (List ℕ)) (fault_of : X → Option Error) (rows_of : X → ℕ)
     (old new : Decoding) (shown : X) (failed : Bool) (r : Result X Error) → old.stage ≡ HeaderRead
-    → old.settings ≡ default_settings → Shows (λ x. concat (lines_of x)) fault_of old (Ok shown) new
+    → Shows (λ x. concat (lines_of x)) fault_of old (Ok shown) new
     → (IsReading old.stage → old.source.known ≡ true → new.source.known ≡ true
     → rows_of shown ≡ whole_rows_ahead old.settings.max_blocks old.stage old.found old.source.bytes)
     → failed ≡ new.source.failed → IfOk r (λ p. p ≡ shown)
     → IfOk r (λ p. IfSome (fault_of p) (λ e. IsGivenUp e failed → ⊥)) → old.source.known ≡ true
-    → IfOk r (λ p. rows_of p ≡ whole_rows_rest None old.found old.source.bytes)
-partial-counts lines_of fault_of rows_of old new shown failed (Err e) at plain d counted seen same none known = tt
-partial-counts lines_of fault_of rows_of old new shown failed (Ok p) at plain d counted seen same none known =
+    → IfOk r (λ p. rows_of p ≡ whole_rows_rest old.settings.max_blocks old.found old.source.bytes)
+partial-counts lines_of fault_of rows_of old new shown failed (Err e) at d counted seen same none known = tt
+partial-counts lines_of fault_of rows_of old new shown failed (Ok p) at d counted seen same none known =
     let now = reading old.stage at in
     let still = still-read lines_of fault_of old new shown p failed now d seen same none known in
     ap rows_of same ∙ counted now known still
     ∙ ap (λ (p : Progress). whole_rows_ahead old.settings.max_blocks p old.found old.source.bytes) at
-    ∙ ap (λ (s : Settings). whole_rows_rest s.max_blocks old.found old.source.bytes) plain

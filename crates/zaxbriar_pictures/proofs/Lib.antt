@@ -1,4 +1,5 @@
 mod Allowances
+mod AllowedRests
 mod GivenLines
 pub mod ScaledStreams
 mod WrittenThumbnails

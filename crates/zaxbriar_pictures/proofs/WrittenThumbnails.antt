@@ -4,6 +4,7 @@ use Rattle.std.specs.Io.KnownBytes.{Appends}
 use Rattle.jpeg_segments.specs.declared.frame.Dimensions.{Dimensions}
 use Rattle.zaxbriar_samples.specs.Boxes.{boxed}
 use Rattle.jpeg_streams.specs.declared.images.ImageInfo.{ImageInfo}
+use Rattle.zaxbriar_files.specs.declared.limits.Limits.{Limits}
 use Rattle.zaxbriar_pictures.specs.Given.{Given, IsGiven, complete_rows, file_in, given_at_scale}
 use Rattle.zaxbriar_samples.specs.DecodedPictures.{Decoded}
 use Rattle.zaxbriar_pictures.specs.ScaledPictures.{header_exif, header_info}
@@ -24,32 +25,32 @@ moved : (before after : Option (List ℕ)) (made p : Decoded) → made ≡ p →
     → Appends before after (file_in p)
 moved before after made p same h = rw (← same) h
 
-pub written : (extent : Extent) (request : Request) (bytes : List ℕ) (before after : Option (List ℕ)) (scale : Scale)
+pub written : (extent : Extent) (limits : Limits) (request : Request) (bytes : List ℕ) (before after : Option (List ℕ)) (scale : Scale)
     (size : Dimensions) (orientation rows : ℕ) (p smaller made : Decoded) (told : Completeness)
     → orientation ≡ orientation_for request (header_exif bytes)
-    → IsGiven extent scale bytes p rows told.fault
+    → IsGiven extent limits scale bytes p rows told.fault
     → told.whole_rows ≡ file_rows scale told.info.height p.info.height rows
     → IsSomeAnd (header_info bytes)
     (λ full. (told.info ≡ full) × (scale ≡ scale_of_request request full orientation)
     × (size ≡ size_for request full orientation))
     → smaller ≡ boxed size p → made ≡ upright orientation smaller
     → Appends before after (file_in made)
-    → WritesThumbnail extent request bytes before after told
-written extent request bytes before after scale size orientation rows p smaller made told turn is counted chosen less same appended =
+    → WritesThumbnail extent limits request bytes before after told
+written extent limits request bytes before after scale size orientation rows p smaller made told turn is counted chosen less same appended =
     let header = held (header_info bytes) _ chosen in
     let full = header.0 in
-    let gives = held (given_at_scale extent scale bytes) _ is in
+    let gives = held (given_at_scale extent limits scale bytes) _ is in
     let g : Given = gives.0 in
-    let at_scale : given_at_scale extent (scale_of_request request full orientation) bytes ≡ Some g
+    let at_scale : given_at_scale extent limits (scale_of_request request full orientation) bytes ≡ Some g
     = rw (← header.2.1) gives.1 in
     let known : made ≡ upright orientation (boxed (size_for request full orientation) g.picture)
     = same ∙ ap (upright orientation) (less ∙ ap (λ (s : Dimensions). boxed s p) header.2.2
     ∙ ap (boxed (size_for request full orientation)) gives.2.0) in
     let rows_are : told.whole_rows ≡ file_rows scale full.height g.picture.info.height
-    (complete_rows extent scale bytes g.picture.info.height)
+    (complete_rows extent limits scale bytes g.picture.info.height)
     = counted ∙ ap (λ (i : ImageInfo). file_rows scale i.height p.info.height rows) header.2.0
     ∙ ap (λ (d : Decoded). file_rows scale full.height d.info.height rows) gives.2.0
     ∙ ap (file_rows scale full.height g.picture.info.height) gives.2.2 in
-    let tells : TellsOfFile full extent (scale_of_request request full orientation) bytes g told
+    let tells : TellsOfFile full extent limits (scale_of_request request full orientation) bytes g told
     = rw (← header.2.1) (header.2.0, rows_are, gives.2.1) in
     rw (← turn) (full, g, header.1, at_scale, moved before after made _ known appended, tells)

@@ -1,15 +1,22 @@
 -- What is given of a stream: the whole of its picture, or what it has brought up to its first
 -- fault.
 use Rattle.std.specs.Prelude.{◌≡◌, ℕ, List, Result, Ok, Err, Option, None, option_map, IsSomeAnd}
+use Rattle.std.specs.Prelude.{IsOkAnd, unwrap_or}
 use Rattle.std.specs.Io.KnownBytes.{Appends}
 use Rattle.jpeg_bits.specs.Reading.{Fault, ◌>>=◌}
 use Rattle.jpeg_bits.specs.declared.error.Error.{Error}
 use Rattle.jpeg_streams.specs.Found.{Found, with_said}
+use Rattle.jpeg_streams.specs.Limits.{IsWithinLimit, work_of_rest}
 use Rattle.jpeg_streams.specs.Output.{default_settings}
 use Rattle.jpeg_streams.specs.Pixels.{info_of}
-use Rattle.jpeg_streams.specs.Shown.{Shown, shown_rest, whole_rows_rest}
-use Rattle.jpeg_streams.specs.Stream.{Told, header_at, rest_at, scaled_to}
+use Rattle.jpeg_streams.specs.Shown.{Shown, shown_rest_within, whole_rows_rest}
+use Rattle.jpeg_streams.specs.Stream.{Told, header_at, rest_by, scaled_to}
+use Rattle.jpeg_streams.specs.Work.{picture_blocks}
+use Rattle.jpeg_streams.specs.declared.beyond.Beyond.TheVariants.{Zeros}
+use Rattle.jpeg_streams.specs.declared.settings.Settings.{Settings}
 use Rattle.jpeg_decoder.specs.Reaching.{NamesFault}
+use Rattle.zaxbriar_files.specs.Limits.{most_blocks}
+use Rattle.zaxbriar_files.specs.declared.limits.Limits.{Limits}
 use Rattle.zaxbriar_samples.specs.Netpbm.{file_of}
 use Rattle.zaxbriar_samples.specs.DecodedPictures.{Decoded, decoded}
 use Rattle.zaxbriar_pictures.specs.declared.extents.Completeness.{Completeness}
@@ -29,36 +36,58 @@ given picture fault = record { picture = picture; fault = fault }
 abbrev pub without_fault : Told × List ℕ → Shown
 without_fault m = record { told = m.0; picture = m.1; fault = None }
 
--- What the rest of a stream gives after its header: its meaning, where the whole is wanted, or else
--- what it shows.
-abbrev pub given_rest : Extent → Found → List ℕ → Result Shown Fault
-given_rest Whole found bytes =
-    rest_at default_settings found bytes >>= (λ m. Ok (without_fault m.0))
-given_rest Partial found bytes = shown_rest default_settings found bytes
+-- How many blocks the scans of a stream may code after its header, if there is a limit: so many
+-- times those of the picture as the limits say.
+abbrev pub most_after : Limits → Found → Option ℕ
+most_after limits header =
+    most_blocks limits (unwrap_or (option_map picture_blocks header.said.frame) 0)
+
+-- the settings of a new decoder, with that limit
+abbrev pub settings_within : Limits → Found → Settings
+settings_within limits header =
+    record default_settings { max_blocks = most_after limits header }
+
+-- What the rest of a stream gives after its header, by some settings: its meaning, where the whole
+-- is wanted, or else what it shows.
+abbrev pub given_rest : Extent → Settings → Found → List ℕ → Result Shown Fault
+given_rest Whole settings found bytes =
+    rest_by settings found bytes >>= (λ m. Ok (without_fault m.0))
+given_rest Partial settings found bytes =
+    shown_rest_within settings.max_blocks settings found bytes
+
+abbrev pub given_within : Extent → Limits → Found → List ℕ → Result Shown Fault
+given_within extent limits found bytes =
+    given_rest extent (settings_within limits found) found bytes
 
 -- the picture of what is given, where there is a frame
 abbrev pub given_of : Shown → Option Given
 given_of s =
     option_map (λ f. given (decoded (info_of f) f.precision s.picture) s.fault) s.told.frame
 
--- What a stream gives at a scale.
-unfoldable pub given_at_scale : Extent → Scale → List ℕ → Option Given
-given_at_scale extent scale bytes = elim (header_at bytes >>= (λ header.
-    given_rest extent (with_said (scaled_to scale) header.0) header.1)) [
+-- What a stream gives at a scale, within the limits.
+unfoldable pub given_at_scale : Extent → Limits → Scale → List ℕ → Option Given
+given_at_scale extent limits scale bytes = elim (header_at bytes >>= (λ header.
+    given_within extent limits (with_said (scaled_to scale) header.0) header.1)) [
       | Ok s ↦ given_of s
       | Err fault ↦ None
     ]
 
 -- How many rows of such a picture, from its top, are complete in each scan that the stream has
 -- begun; all of a whole picture, which has this height.
-abbrev pub complete_rest : Extent → Found → List ℕ → ℕ → ℕ
-complete_rest Whole found bytes height = height
-complete_rest Partial found bytes height = whole_rows_rest None found bytes
+abbrev pub complete_rest : Extent → Settings → Found → List ℕ → ℕ → ℕ
+complete_rest Whole settings found bytes height = height
+complete_rest Partial settings found bytes height =
+    whole_rows_rest settings.max_blocks found bytes
 
--- How many rows of the picture that a stream gives at a scale are complete.
-unfoldable pub complete_rows : Extent → Scale → List ℕ → ℕ → ℕ
-complete_rows extent scale bytes height = elim (header_at bytes) [
-  | Ok header ↦ complete_rest extent (with_said (scaled_to scale) header.0) header.1 height
+abbrev pub complete_within : Extent → Limits → Found → List ℕ → ℕ → ℕ
+complete_within extent limits found bytes height =
+    complete_rest extent (settings_within limits found) found bytes height
+
+-- How many rows of the picture that a stream gives at a scale, within the limits, are complete.
+unfoldable pub complete_rows : Extent → Limits → Scale → List ℕ → ℕ → ℕ
+complete_rows extent limits scale bytes height = elim (header_at bytes) [
+  | Ok header ↦
+      complete_within extent limits (with_said (scaled_to scale) header.0) header.1 height
   | Err fault ↦ 0
 ]
 
@@ -66,23 +95,33 @@ complete_rows extent scale bytes height = elim (header_at bytes) [
 abbrev pub file_in : Decoded → List ℕ
 file_in p = file_of p.info p.precision p.pixels
 
--- A stream gives a picture at a scale, of which this many rows are complete, and the fault that an
--- error names, or none.
-abbrev pub IsGiven : Extent → Scale → List ℕ → Decoded → ℕ → Option Error → Type 0
-IsGiven extent scale bytes picture rows fault = IsSomeAnd (given_at_scale extent scale bytes)
+-- A stream gives a picture at a scale, within the limits, of which this many rows are complete, and
+-- the fault that an error names, or none.
+abbrev pub IsGiven : Extent → Limits → Scale → List ℕ → Decoded → ℕ → Option Error → Type 0
+IsGiven extent limits scale bytes picture rows fault =
+    IsSomeAnd (given_at_scale extent limits scale bytes)
     (λ g. (picture ≡ g.picture) × NamesFault fault g.fault
-    × (rows ≡ complete_rows extent scale bytes g.picture.info.height))
+    × (rows ≡ complete_rows extent limits scale bytes g.picture.info.height))
 
 -- A caller is told how much of the picture that a stream gives at a scale is complete: what is said
 -- of it, how many of its rows are complete, and the name of the fault.
-abbrev pub TellsGiven : Extent → Scale → List ℕ → Given → Completeness → Type 0
-TellsGiven extent scale bytes g told = (told.info ≡ g.picture.info)
-    × (told.whole_rows ≡ complete_rows extent scale bytes told.info.height)
+abbrev pub TellsGiven : Extent → Limits → Scale → List ℕ → Given → Completeness → Type 0
+TellsGiven extent limits scale bytes g told = (told.info ≡ g.picture.info)
+    × (told.whole_rows ≡ complete_rows extent limits scale bytes told.info.height)
     × NamesFault told.fault g.fault
 
--- A writer is given the file of the picture of a stream at a scale, and its caller is told how much
--- of it is complete.
-abbrev pub WritesGiven : Extent → Scale → List ℕ → Option (List ℕ) → Option (List ℕ)
+-- A writer is given the file of the picture of a stream at a scale, within the limits, and its
+-- caller is told how much of it is complete.
+abbrev pub WritesGiven : Extent → Limits → Scale → List ℕ → Option (List ℕ) → Option (List ℕ)
     → Completeness → Type 0
-WritesGiven extent scale bytes before after told = IsSomeAnd (given_at_scale extent scale bytes)
-    (λ g. Appends before after (file_in g.picture) × TellsGiven extent scale bytes g told)
+WritesGiven extent limits scale bytes before after told =
+    IsSomeAnd (given_at_scale extent limits scale bytes)
+    (λ g. Appends before after (file_in g.picture)
+    × TellsGiven extent limits scale bytes g told)
+
+-- ---- a whole stream
+
+-- The scans of a stream code no more blocks than the limits allow.
+abbrev pub CodesWithin : Limits → List ℕ → Type 0
+CodesWithin limits bytes = IsOkAnd (header_at bytes)
+    (λ header. IsWithinLimit (most_after limits header.0) (work_of_rest Zeros header.0 header.1))

@@ -4,14 +4,14 @@ use Rattle.std.specs.Prelude.{◌≡◌, ℕ, List, Ok, Option, Some, option_map
 use Rattle.std.specs.Io.KnownBytes.{Appends}
 use Rattle.jpeg_bits.specs.declared.error.Error.{Error}
 use Rattle.jpeg_streams.specs.Found.{Found, with_said}
-use Rattle.jpeg_streams.specs.Output.{default_settings}
 use Rattle.jpeg_streams.specs.Pixels.{info_of}
 use Rattle.jpeg_streams.specs.Shown.{Shown}
 use Rattle.jpeg_streams.specs.States.{Decoding}
 use Rattle.jpeg_streams.specs.Stream.{header_at, scaled_to, told_of}
 use Rattle.jpeg_streams.specs.declared.progress.Progress.TheVariants.{HeaderRead}
 use Rattle.jpeg_decoder.specs.Reaching.{NamesFault}
-use Rattle.zaxbriar_pictures.specs.Given.{complete_rest, file_in, given_rest}
+use Rattle.zaxbriar_files.specs.declared.limits.Limits.{Limits}
+use Rattle.zaxbriar_pictures.specs.Given.{complete_rest, file_in, given_rest, settings_within}
 use Rattle.zaxbriar_samples.specs.DecodedPictures.{Decoded}
 use Rattle.zaxbriar_samples.specs.Sizes.{orientation_for, scale_of_request, size_for}
 use Rattle.zaxbriar_pictures.specs.declared.extents.Completeness.{Completeness}
@@ -26,27 +26,28 @@ pub record IsChoice (request : Request) (header : Found) (choice : Choice) : Typ
       × (choice.size ≡ size_for request full choice.orientation))
   pub turned : choice.orientation ≡ orientation_for request header.said.metadata.exif
 
--- A decoder of known bytes has read their header, and its picture is to have the scale of a choice,
--- which is the one for a request.
-pub record ReadsForRequest (request : Request) (choice : Choice) (old new : Decoding) : Type 0 where
+-- A decoder of known bytes has read their header, its picture is to have the scale of a choice,
+-- which is the one for a request, and its scans may code as many blocks as the limits allow.
+pub record ReadsForRequest (request : Request) (limits : Limits) (choice : Choice)
+    (old new : Decoding) : Type 0 where
   pub stage : new.stage ≡ HeaderRead
-  pub settings : new.settings ≡ default_settings
+  pub settings : new.settings ≡ settings_within limits new.found
   pub reads : old.source.known ≡ true → (new.source.known ≡ true) × ((header : Found)
       × (header_at old.source.bytes ≡ Ok (header, new.source.bytes))
       × (new.found ≡ with_said (scaled_to choice.scale) header)
       × IsChoice request header choice)
 
--- A decoder of known bytes, which had read their header, has given what the rest gives: samples,
--- and an error for the fault.
+-- A decoder of known bytes, which had read their header, has given what the rest gives by its
+-- settings: samples, and an error for the fault.
 abbrev pub GivesRest : Extent → Decoding → Decoding → List ℕ → Option Error → Type 0
 GivesRest extent old new samples fault = old.source.known ≡ true → (s : Shown)
-    × (given_rest extent old.found old.source.bytes ≡ Ok s) × (samples ≡ s.picture)
-    × (told_of new.found.said ≡ s.told) × NamesFault fault s.fault
+    × (given_rest extent old.settings old.found old.source.bytes ≡ Ok s)
+    × (samples ≡ s.picture) × (told_of new.found.said ≡ s.told) × NamesFault fault s.fault
 
 -- Such a decoder has counted the complete rows of what it gave, which has this height.
 abbrev pub CountsRest : Extent → Decoding → ℕ → ℕ → Type 0
 CountsRest extent old height rows = old.source.known ≡ true
-    → rows ≡ complete_rest extent old.found old.source.bytes height
+    → rows ≡ complete_rest extent old.settings old.found old.source.bytes height
 
 -- Such a decoder has given a picture, and has told how much of it is complete.
 pub record GivesPicture (extent : Extent) (old new : Decoding) (picture : Decoded)

@@ -5,6 +5,7 @@ use Rattle.jpeg_streams.specs.declared.images.ImageInfo.{ImageInfo}
 use Rattle.jpeg_decoder.specs.Reaching.{NamesFault}
 use Rattle.jpeg_segments.specs.declared.scale.Scale.{Scale}
 use Rattle.jpeg_segments.specs.declared.scale.Scale.TheVariants.{Eighth, Quarter, Half, Full}
+use Rattle.zaxbriar_files.specs.declared.limits.Limits.{Limits}
 use Rattle.zaxbriar_pictures.specs.Given.{Given, complete_rows, file_in, given_at_scale}
 use Rattle.zaxbriar_pictures.specs.ScaledPictures.{header_exif, header_info}
 use Rattle.zaxbriar_samples.specs.Sizes.{orientation_for, scale_of_request, size_for}
@@ -30,22 +31,23 @@ file_rows scale full height rows =
 -- A caller is told how much is complete of the whole picture, as the file stores it: what its
 -- header says, for how many rows those stand that are complete at the scale, and the name of the
 -- fault.
-abbrev pub TellsOfFile : ImageInfo → Extent → Scale → List ℕ → Given → Completeness → Type 0
-TellsOfFile full extent scale bytes g told = (told.info ≡ full)
+abbrev pub TellsOfFile : ImageInfo → Extent → Limits → Scale → List ℕ → Given → Completeness
+    → Type 0
+TellsOfFile full extent limits scale bytes g told = (told.info ≡ full)
     × (told.whole_rows ≡ file_rows scale full.height g.picture.info.height
-    (complete_rows extent scale bytes g.picture.info.height))
+    (complete_rows extent limits scale bytes g.picture.info.height))
     × NamesFault told.fault g.fault
 
 -- A writer is given the file of the picture that the stream gives at the scale for the request,
--- boxed down to the requested size, and turned upright by the orientation for the request: the one
--- that the Exif data of the header say, or 1. Its caller is told how much of the file's picture is
--- complete.
-abbrev pub WritesThumbnail : Extent → Request → List ℕ → Option (List ℕ) → Option (List ℕ)
-    → Completeness → Type 0
-WritesThumbnail extent request bytes before after told =
+-- within the limits, boxed down to the requested size, and turned upright by the orientation for
+-- the request: the one that the Exif data of the header say, or 1. Its caller is told how much of
+-- the file's picture is complete.
+abbrev pub WritesThumbnail : Extent → Limits → Request → List ℕ → Option (List ℕ)
+    → Option (List ℕ) → Completeness → Type 0
+WritesThumbnail extent limits request bytes before after told =
     let orientation = orientation_for request (header_exif bytes) in
     (full : ImageInfo) × (g : Given) × (header_info bytes ≡ Some full)
-    × (given_at_scale extent (scale_of_request request full orientation) bytes ≡ Some g)
+    × (given_at_scale extent limits (scale_of_request request full orientation) bytes ≡ Some g)
     × Appends before after
     (file_in (upright orientation (boxed (size_for request full orientation) g.picture)))
-    × TellsOfFile full extent (scale_of_request request full orientation) bytes g told
+    × TellsOfFile full extent limits (scale_of_request request full orientation) bytes g told

@@ -3,7 +3,6 @@
 ghost use Rattle.std.specs.Prelude.{◌≡◌, IfOk, IfSome, Some, is_some, option_map, true};
 ghost use Rattle.std.specs.List.{concat};
 ghost use Rattle.jpeg_bits.specs.Reading.{IsGivenUp};
-ghost use Rattle.jpeg_streams.specs.Output.{default_settings};
 ghost use Rattle.jpeg_streams.specs.Pixels.{info_of};
 ghost use Rattle.jpeg_streams.specs.declared.progress.Progress.TheVariants.{HeaderRead};
 ghost use Rattle.zaxbriar_pictures.specs.Steps.{CountsRest, GivesPicture, GivesRest};
@@ -75,11 +74,11 @@ fn refuse_of_reader(shown: PartialLines, has_failed: bool) -> Result<PartialLine
 /// is an error.
 fn decode_partial<R: Read + Drop>(decoder: &mut Decoder<R>) -> Result<PartialLines>
     requires header { decoder.old.stage ≡ HeaderRead }
-    requires plain { decoder.old.settings ≡ default_settings }
     ensures gives { IfOk result
         (λ p. GivesRest Partial decoder.old decoder.new (concat p.lines) p.fault) }
     ensures rows { decoder.old.source.known ≡ true → IfOk result (λ p. p.whole_rows
-        ≡ whole_rows_rest None decoder.old.found decoder.old.source.bytes) }
+        ≡ whole_rows_rest decoder.old.settings.max_blocks decoder.old.found
+        decoder.old.source.bytes) }
     ensures framed { IfOk result (λ _. is_some decoder.new.found.said.frame ≡ true) }
 {
     let shown = decoder.decode_partial_lines()?;
@@ -89,7 +88,6 @@ fn decode_partial<R: Read + Drop>(decoder: &mut Decoder<R>) -> Result<PartialLin
 /// Decodes the whole stream of a decoder, whose header was read.
 fn decode_whole<R: Read + Drop>(decoder: &mut Decoder<R>) -> Result<PartialLines>
     requires header { decoder.old.stage ≡ HeaderRead }
-    requires plain { decoder.old.settings ≡ default_settings }
     ensures gives { IfOk result
         (λ p. GivesRest Whole decoder.old decoder.new (concat p.lines) p.fault) }
     ensures rows { IfOk result (λ p. (info : ImageInfo)
@@ -114,7 +112,6 @@ pub(crate) fn decode_wanted_lines<R: Read + Drop>(
     extent: Extent,
 ) -> Result<PartialLines>
     requires header { decoder.old.stage ≡ HeaderRead }
-    requires plain { decoder.old.settings ≡ default_settings }
     ensures gives { IfOk result
         (λ p. GivesRest extent decoder.old decoder.new (concat p.lines) p.fault) }
     ensures rows { IfOk result (λ p. (info : ImageInfo)
@@ -136,7 +133,6 @@ pub(crate) fn decode_wanted_picture<R: Read + Drop>(
     extent: Extent,
 ) -> Result<(Picture, Completeness)>
     requires header { decoder.old.stage ≡ HeaderRead }
-    requires plain { decoder.old.settings ≡ default_settings }
     ensures { IfOk result (λ p. GivesPicture extent decoder.old decoder.new (decoded_in p.0) p.1) }
 {
     let decoded = decode_wanted_lines(decoder, extent)?;

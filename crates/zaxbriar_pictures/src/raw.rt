@@ -7,9 +7,10 @@ ghost use Rattle.jpeg_streams.specs.Output.{Tells, default_settings, header_line
 ghost use Rattle.jpeg_streams.specs.Output.{output_of};
 ghost use Rattle.jpeg_streams.specs.declared.progress.Progress.TheVariants.{Fresh};
 ghost use Rattle.zaxbriar_pictures.specs.Allowed.{allows_raw};
+ghost use Rattle.zaxbriar_pictures.specs.Given.{CodesWithin};
 
 use crate::extents::Extent;
-use crate::scaled::{READ_AHEAD, taken_by_lines};
+use crate::scaled::{READ_AHEAD, limit_blocks, taken_by_lines};
 use jpeg_decoder::run::write_lines;
 use jpeg_decoder::{Decoder, ImageInfo, Lines, PixelFormat, error};
 use std::alloc::{AllocError, Global};
@@ -68,11 +69,14 @@ fn write_decoded<R: Read + Drop, W: Write>(
         (W.contents writer.old) (W.contents writer.new))) }
     ensures limited { decoder.old.source.known ≡ true
         → OnOk result (allows_raw limits decoder.old.source.bytes ≡ true) }
+    ensures bounded { decoder.old.source.known ≡ true
+        → OnOk result (CodesWithin limits decoder.old.source.bytes) }
 {
     decoder.read_info()?;
     let full = decoder.info().unwrap();
     let taken = taken_by_lines(decoder, Extent::Whole);
     limits.check(full.width, full.height, taken)?;
+    limit_blocks(decoder, limits);
     let lines = decoder.decode_lines()?;
     write_pixels(alloc, decoder.info().unwrap(), lines, writer)?;
     Ok(())
@@ -91,6 +95,8 @@ pub fn write_raw<R: Read + Drop, W: Write>(
         (W.contents writer.new))) }
     ensures limited { (bytes : List ℕ) → Tells (R.remaining reader) bytes
         → OnOk result (allows_raw limits bytes ≡ true) }
+    ensures bounded { (bytes : List ℕ) → Tells (R.remaining reader) bytes
+        → OnOk result (CodesWithin limits bytes) }
 {
     let mut decoder = Decoder::with_capacity(alloc, READ_AHEAD, reader)?;
     write_decoded(alloc, &mut decoder, limits, writer)

@@ -14,7 +14,7 @@ ghost use Rattle.zaxbriar_pictures.specs.Allowed.{allows, made_bytes, taken_for,
 ghost use Rattle.zaxbriar_pictures.specs.Allowed.{taken_in_lines};
 ghost use Rattle.jpeg_streams.specs.Output.{default_settings};
 ghost use Rattle.jpeg_streams.specs.declared.progress.Progress.TheVariants.{Fresh, HeaderRead};
-ghost use Rattle.zaxbriar_pictures.specs.Given.{IsGiven, WritesGiven};
+ghost use Rattle.zaxbriar_pictures.specs.Given.{IsGiven, WritesGiven, most_after};
 ghost use Rattle.zaxbriar_samples.specs.Netpbm.{file_of};
 ghost use Rattle.zaxbriar_pictures.specs.ScaledPictures.{header_exif, header_info};
 ghost use Rattle.zaxbriar_samples.specs.DecodedPictures.{decoded_in};
@@ -155,8 +155,20 @@ fn bytes_for<R: Read + Drop>(
     }
 }
 
-/// Reads the header of the stream of a decoder, and sets the scale for the request. A picture above
-/// the limits is refused.
+/// Lets the scans of the stream of a decoder, whose header was read, code as many blocks as the
+/// limits allow for its picture.
+pub fn limit_blocks<R: Read + Drop>(decoder: &mut Decoder<R>, limits: Limits)
+    ensures { HasHeader decoder.old.stage → decoder.new ≡ record decoder.old {
+      settings = record decoder.old.settings
+          { max_blocks = most_after limits decoder.old.found };
+    } }
+{
+    let blocks = decoder.picture_blocks().unwrap_or(0);
+    decoder.set_max_blocks(limits.most_blocks(blocks));
+}
+
+/// Reads the header of the stream of a decoder, and sets the scale for the request and the limit of
+/// blocks. A picture above the limits is refused.
 fn choose<R: Read + Drop>(
     decoder: &mut Decoder<R>,
     request: Request,
@@ -165,7 +177,8 @@ fn choose<R: Read + Drop>(
 ) -> Result<Choice, Refusal>
     requires fresh { decoder.old.stage ≡ Fresh }
     requires plain { decoder.old.settings ≡ default_settings }
-    ensures reads { IfOk result (λ choice. ReadsForRequest request choice decoder.old decoder.new) }
+    ensures reads { IfOk result (λ choice. ReadsForRequest request limits choice decoder.old
+        decoder.new) }
     ensures asked { (scale : _) → request ≡ At scale
         → IfOk result (λ choice. choice.scale ≡ scale) }
     ensures orientation { IfOk result (λ choice. (1 ≤ choice.orientation)
@@ -184,6 +197,7 @@ fn choose<R: Read + Drop>(
         full.height,
         bytes_for(decoder, request, extent, full, size),
     )?;
+    limit_blocks(decoder, limits);
     Ok(Choice {
         full,
         scale,
@@ -204,7 +218,8 @@ fn read_chosen<R: Read + Drop>(
     requires fresh { decoder.old.stage ≡ Fresh }
     requires plain { decoder.old.settings ≡ default_settings }
     ensures picture { decoder.old.source.known ≡ true → IfOk result (λ made. IsGiven extent
-        made.scale decoder.old.source.bytes (decoded_in made.picture) made.whole_rows made.fault) }
+        limits made.scale decoder.old.source.bytes (decoded_in made.picture) made.whole_rows
+        made.fault) }
     ensures asked { (scale : _) → request ≡ At scale → IfOk result (λ made. made.scale ≡ scale) }
     ensures chosen { decoder.old.source.known ≡ true → IfOk result (λ made.
         IsSomeAnd (header_info decoder.old.source.bytes) (λ full. (made.full ≡ full)
@@ -239,11 +254,11 @@ pub fn read_picture<R: Read + Drop>(
     extent: Extent,
     limits: Limits,
 ) -> Result<ScaledPicture, Refusal>
-    // The picture is the one that the bytes give at its scale, its complete rows are counted, and
-    // the fault is named.
+    // The picture is the one that the bytes give at its scale within the limits, its complete rows
+    // are counted, and the fault is named.
     ensures picture { (bytes : List ℕ) → Tells (R.remaining reader) bytes
-        → IfOk result (λ made. IsGiven extent made.scale bytes (decoded_in made.picture)
-        made.whole_rows made.fault) }
+        → IfOk result (λ made. IsGiven extent limits made.scale bytes
+        (decoded_in made.picture) made.whole_rows made.fault) }
 
     // A requested scale is the scale.
     ensures asked { (scale : _) → request ≡ At scale → IfOk result (λ made. made.scale ≡ scale) }
@@ -302,7 +317,6 @@ fn write_decoded<R: Read + Drop, W: Write>(
     writer: &mut W,
 ) -> error::Result<Completeness>
     requires header { decoder.old.stage ≡ HeaderRead }
-    requires plain { decoder.old.settings ≡ default_settings }
     ensures { IfOk result (λ told. WritesFile extent decoder.old decoder.new
         (W.contents writer.old) (W.contents writer.new) told) }
 {
@@ -329,8 +343,8 @@ fn write_chosen<R: Read + Drop, W: Write>(
 ) -> Result<Completeness, Refusal>
     requires fresh { decoder.old.stage ≡ Fresh }
     requires plain { decoder.old.settings ≡ default_settings }
-    ensures written { decoder.old.source.known ≡ true → IfOk result (WritesGiven extent scale
-        decoder.old.source.bytes (W.contents writer.old) (W.contents writer.new)) }
+    ensures written { decoder.old.source.known ≡ true → IfOk result (WritesGiven extent limits
+        scale decoder.old.source.bytes (W.contents writer.old) (W.contents writer.new)) }
     ensures limited { decoder.old.source.known ≡ true → IfOk result
         (λ _. allows (At scale) extent limits decoder.old.source.bytes ≡ true) }
 {
@@ -350,7 +364,7 @@ pub fn write_at<R: Read + Drop, W: Write>(
     writer: &mut W,
 ) -> Result<Completeness, Refusal>
     ensures written { (bytes : List ℕ) → Tells (R.remaining reader) bytes
-        → IfOk result (WritesGiven extent scale bytes (W.contents writer.old)
+        → IfOk result (WritesGiven extent limits scale bytes (W.contents writer.old)
         (W.contents writer.new)) }
     ensures limited { (bytes : List ℕ) → Tells (R.remaining reader) bytes
         → IfOk result (λ _. allows (At scale) extent limits bytes ≡ true) }

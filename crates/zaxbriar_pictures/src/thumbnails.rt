@@ -81,7 +81,7 @@ pub fn write_thumbnail<R: Read + Drop, W: Write>(
     writer: &mut W,
 ) -> Result<Completeness, Refusal>
     ensures written { (bytes : List ℕ) → Tells (R.remaining reader) bytes
-        → IfOk result (WritesThumbnail extent request bytes (W.contents writer.old)
+        → IfOk result (WritesThumbnail extent limits request bytes (W.contents writer.old)
         (W.contents writer.new)) }
     ensures limited { (bytes : List ℕ) → Tells (R.remaining reader) bytes
         → IfOk result (λ _. allows request extent limits bytes ≡ true) }

@@ -6,5 +6,5 @@ use Rattle.zaxbriar_callers.proofs.pictures.whole_picture.Goals as goal
 pub returns : goal.returns
 returns g c bytes tells =
     IfOk-weaker c.scaled_picture.result _ _
-    (λ made h. whole-given made.scale bytes (decoded_in made.picture) made.whole_rows made.fault h)
+    (λ made h. whole-given c.args.limits made.scale bytes (decoded_in made.picture) made.whole_rows made.fault h)
     (c.scaled_picture.ensures bytes tells)

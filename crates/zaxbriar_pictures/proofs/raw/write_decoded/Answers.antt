@@ -1,8 +1,9 @@
-use Rattle.std.proofs.Common.{◌∙◌, rules, sym}
+use Rattle.std.proofs.Common.{◌∙◌, rules, subst, sym}
 use Rattle.std.specs.List.{concat}
+use Rattle.jpeg_streams.specs.States.{HasHeader}
 use Rattle.jpeg_streams.specs.Stream.{told_of}
 use Rattle.zaxbriar_pictures.proofs.Allowances.{lines-allowed}
-use Rattle.zaxbriar_pictures.proofs.ScaledStreams.{output-some}
+use Rattle.zaxbriar_pictures.proofs.ScaledStreams.{codes-within, output-some}
 use Rattle.zaxbriar_pictures.proofs.raw.write_decoded.Goals as goal
 
 pub returns-clause-written : goal.returns-clause-written
@@ -10,10 +11,11 @@ returns-clause-written g c known =
     let header = c.in_ok-read_info.ensures.reads c.requires.fresh in
     let stage = rw c.requires.fresh at c.in_ok-read_info.ensures.stage in
     let settings = c.in_ok-read_info.ensures.settings ∙ c.requires.plain in
+    let limited = c.limit_blocks.ensures (subst HasHeader (sym stage) tt) in
     let first = header.1 known in
-    let picture = (rw (stage, settings) at c.in_ok-lines.ensures.decodes.reads) tt in
+    let picture = (rw (limited, stage, settings) at c.in_ok-lines.ensures.decodes.reads) tt in
     let second = picture.1 first.0 in
-    let is = output-some c.args.decoder.now.source.bytes c.read_info.new.self.source.bytes
+    let is = output-some c.args.limits c.args.decoder.now.source.bytes c.read_info.new.self.source.bytes
     c.decode_lines.new.self.source.bytes c.read_info.new.self.found
     (told_of c.decode_lines.new.self.found.said) (concat c.in_ok-lines.lines)
     c.unwrap.result first.1 second.1 (sym c.info-2.ensures ∙ c.unwrap.ensures) in
@@ -28,3 +30,14 @@ returns-clause-limited g c known =
     c.read_info.new.self.found c.unwrap-full.result c.taken_by_lines-taken.result first.1
     (sym c.info.ensures ∙ c.unwrap-full.ensures) ((rw stage at c.taken_by_lines-taken.ensures) tt)
     c.in_ok-check.ensures
+
+pub returns-clause-bounded : goal.returns-clause-bounded
+returns-clause-bounded g c known =
+    let header = c.in_ok-read_info.ensures.reads c.requires.fresh in
+    let stage = rw c.requires.fresh at c.in_ok-read_info.ensures.stage in
+    let settings = c.in_ok-read_info.ensures.settings ∙ c.requires.plain in
+    let limited = c.limit_blocks.ensures (subst HasHeader (sym stage) tt) in
+    let first = header.1 known in
+    let picture = (rw (limited, stage, settings) at c.in_ok-lines.ensures.decodes.reads) tt in
+    codes-within c.args.limits c.args.decoder.now.source.bytes c.read_info.new.self.source.bytes
+    c.read_info.new.self.found _ first.1 (picture.1 first.0).1

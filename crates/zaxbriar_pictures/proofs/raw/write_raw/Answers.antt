@@ -14,3 +14,10 @@ returns-clause-limited g c bytes tells =
     let same = known_bytes_are_told (g.R.Read.remaining c.args.reader) bytes tells in
     let limited = rw c.in_ok-decoder.ensures.ok at c.write_decoded.ensures.limited in
     rw same at limited known
+
+pub returns-clause-bounded : goal.returns-clause-bounded
+returns-clause-bounded g c bytes tells =
+    let known = bytes_are_known (g.R.Read.remaining c.args.reader) bytes tells in
+    let same = known_bytes_are_told (g.R.Read.remaining c.args.reader) bytes tells in
+    let bounded = rw c.in_ok-decoder.ensures.ok at c.write_decoded.ensures.bounded in
+    rw same at bounded known

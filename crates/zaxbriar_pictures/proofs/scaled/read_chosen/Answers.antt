@@ -6,9 +6,9 @@ pub returns-clause-picture : goal.returns-clause-picture
 returns-clause-picture g c known =
     let begun = c.in_ok-choice.ensures.reads in
     let read = begun.reads known in
-    is-given c.args.extent c.in_ok-choice.choice.scale c.args.decoder.now.source.bytes read.1.0 c.choose.new.decoder
+    is-given c.args.extent c.args.limits c.in_ok-choice.choice.scale c.args.decoder.now.source.bytes read.1.0 c.choose.new.decoder
     c.decode_wanted_picture.new.decoder (decoded_in c.in_ok-picture.picture) c.in_ok-picture.completeness
-    read.1.1 read.0 read.1.2 c.in_ok-picture.ensures
+    read.1.1 read.0 read.1.2 begun.settings c.in_ok-picture.ensures
 
 pub returns-clause-chosen : goal.returns-clause-chosen
 returns-clause-chosen g c known =
