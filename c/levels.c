@@ -37,10 +37,11 @@ uint32_t zaxbriar_checked_decode_partial(const uint8_t *jpeg, size_t jpeg_size,
 }
 
 uint32_t zaxbriar_checked_metadata(const uint8_t *jpeg, size_t jpeg_size, uint32_t kind,
-                                   uint8_t *data, size_t data_size, uint64_t *length) {
+                                   uint64_t max_passes, uint8_t *data, size_t data_size,
+                                   uint64_t *length) {
     if (zaxbriar_is_v3())
-        return zaxbriar_v3_metadata(jpeg, jpeg_size, kind, data, data_size, length);
-    return zaxbriar_v2_metadata(jpeg, jpeg_size, kind, data, data_size, length);
+        return zaxbriar_v3_metadata(jpeg, jpeg_size, kind, max_passes, data, data_size, length);
+    return zaxbriar_v2_metadata(jpeg, jpeg_size, kind, max_passes, data, data_size, length);
 }
 
 void zaxbriar_checked_find_metadata(const uint8_t *jpeg, size_t jpeg_size,

@@ -16,7 +16,8 @@ _Static_assert(offsetof(zaxbriar_options, scale) == 22, "options");
 _Static_assert(offsetof(zaxbriar_options, max_bytes) == 24, "options");
 _Static_assert(offsetof(zaxbriar_options, memory) == 32, "options");
 _Static_assert(offsetof(zaxbriar_options, places) == 40, "options");
-_Static_assert(offsetof(zaxbriar_options, reserved_words) == 48, "options");
+_Static_assert(offsetof(zaxbriar_options, max_passes) == 48, "options");
+_Static_assert(offsetof(zaxbriar_options, reserved_words) == 56, "options");
 _Static_assert(sizeof(zaxbriar_picture) == 320, "picture");
 _Static_assert(offsetof(zaxbriar_picture, width) == 32, "picture");
 _Static_assert(offsetof(zaxbriar_picture, whole_rows) == 40, "picture");
@@ -147,16 +148,23 @@ zaxbriar_result zaxbriar_decode_partial(const void *jpeg, size_t jpeg_size,
                      pixels_size, picture);
 }
 
-zaxbriar_result zaxbriar_metadata(const void *jpeg, size_t jpeg_size, int kind, void *data,
-                                  size_t data_size, size_t *length) {
+/* Copies metadata of an image whose scans may go so many times over its picture. */
+static zaxbriar_result metadata_by(const void *jpeg, size_t jpeg_size, int kind,
+                                   uint64_t max_passes, void *data, size_t data_size,
+                                   size_t *length) {
     uint64_t found = 0;
     zaxbriar_result answer = ZAXBRIAR_BAD_ARGUMENT;
     if (is_slice(jpeg, jpeg_size) && is_slice(data, data_size))
         answer = (zaxbriar_result)zaxbriar_checked_metadata(
-            jpeg ? jpeg : &nothing, jpeg_size, (uint32_t)kind, data ? data : &nothing, data_size,
-            &found);
+            jpeg ? jpeg : &nothing, jpeg_size, (uint32_t)kind, max_passes, data ? data : &nothing,
+            data_size, &found);
     if (length) *length = (size_t)found;
     return answer;
+}
+
+zaxbriar_result zaxbriar_metadata(const void *jpeg, size_t jpeg_size, int kind, void *data,
+                                  size_t data_size, size_t *length) {
+    return metadata_by(jpeg, jpeg_size, kind, 0, data, data_size, length);
 }
 
 zaxbriar_result zaxbriar_metadata_within(const void *jpeg, size_t jpeg_size,
@@ -174,7 +182,8 @@ zaxbriar_result zaxbriar_metadata_within(const void *jpeg, size_t jpeg_size,
         if (answer == ZAXBRIAR_TOO_LARGE || answer == ZAXBRIAR_NO_MEMORY) return answer;
     }
     const zaxbriar_memory *before = zaxbriar_exchange_memory(memory_of(options));
-    answer = zaxbriar_metadata(jpeg, jpeg_size, kind, data, data_size, length);
+    answer = metadata_by(jpeg, jpeg_size, kind, options ? options->max_passes : 0, data, data_size,
+                         length);
     zaxbriar_exchange_memory(before);
     return answer;
 }
@@ -209,6 +218,7 @@ const char *zaxbriar_answer_name(int answer) {
     case ZAXBRIAR_NO_DATA: return "no such metadata";
     case ZAXBRIAR_TOO_LARGE: return "picture too large";
     case ZAXBRIAR_PARTIAL: return "partial picture";
+    case ZAXBRIAR_TOO_MANY_PASSES: return "too many passes over the picture";
     default: return "unknown answer";
     }
 }

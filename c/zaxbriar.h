@@ -58,8 +58,10 @@ typedef enum zaxbriar_result {
                                   shorter than a line of the picture or above 2^32 */
     ZAXBRIAR_NO_DATA = 7,      /* the header, or the whole image, has no such metadata */
     ZAXBRIAR_TOO_LARGE = 8,    /* according to its header, the picture exceeds a limit */
-    ZAXBRIAR_PARTIAL = 9       /* only of zaxbriar_decode_partial: the stream has a fault, and
+    ZAXBRIAR_PARTIAL = 9,      /* only of zaxbriar_decode_partial: the stream has a fault, and
                                   `pixels` has what it brings up to it: picture.fault */
+    ZAXBRIAR_TOO_MANY_PASSES = 10 /* only of zaxbriar_decode: the scans code the blocks of the
+                                     picture more often than max_passes allows */
 } zaxbriar_result;
 
 /* How the pixels are arranged. Every picture can be decoded into every layout. In all but
@@ -206,8 +208,16 @@ typedef struct zaxbriar_segment {
  * the struct will keep its size of 128 bytes. Values that a version doesn't know, in reserved
  * members too, are a ZAXBRIAR_BAD_ARGUMENT.
  *
- * The limits are checked against the header, before anything is allocated for the picture and
- * before any byte after the header is read. A picture that exceeds one is ZAXBRIAR_TOO_LARGE. */
+ * `max_samples` and `max_bytes` are checked against the header, before anything is allocated for
+ * the picture and before any byte after the header is read. A picture that exceeds one is
+ * ZAXBRIAR_TOO_LARGE.
+ *
+ * `max_passes` bounds the time: each scan, of eleven bytes or more, may go over all blocks of the
+ * picture again. All together they may code `max_passes` times the blocks that one scan of all
+ * components codes, at full size (eight samples of a lossless picture count as a block). The scan
+ * that would exceed this is refused after its header, before its data, as ZAXBRIAR_TOO_MANY_PASSES
+ * (as ZAXBRIAR_MALFORMED by zaxbriar_metadata_within); zaxbriar_decode_partial gives what the scans
+ * before it bring. */
 typedef struct zaxbriar_options {
     uint64_t max_samples; /* limits width * height * components, at the scale; 0: no limit */
     uint64_t stride;      /* bytes from one line to the next, at most 2^32; 0: no gaps */
@@ -228,7 +238,10 @@ typedef struct zaxbriar_options {
                                 zaxbriar_decode_partial store what zaxbriar_find_metadata finds,
                                 whatever they return but ZAXBRIAR_BAD_ARGUMENT; the limits don't
                                 affect it */
-    uint64_t reserved_words[10]; /* zero */
+    uint64_t max_passes; /* limits how many times the scans may code the blocks of the picture, all
+                            together; 0: no limit. Few files need more than 8; 100 is a limit for
+                            untrusted ones */
+    uint64_t reserved_words[9]; /* zero */
 } zaxbriar_options;
 
 /* Describes a picture as it is decoded with the options, also after ZAXBRIAR_NO_ROOM and
@@ -268,8 +281,8 @@ typedef struct zaxbriar_picture {
                                  upper four bits, the vertical one in the lower; 0 for a component
                                  that it doesn't have */
     uint8_t fault;            /* after ZAXBRIAR_PARTIAL: the stream's first fault, which is
-                                 ZAXBRIAR_MALFORMED, ZAXBRIAR_UNSUPPORTED or ZAXBRIAR_TRUNCATED;
-                                 otherwise 0 */
+                                 ZAXBRIAR_MALFORMED, ZAXBRIAR_UNSUPPORTED, ZAXBRIAR_TRUNCATED or
+                                 ZAXBRIAR_TOO_MANY_PASSES; otherwise 0 */
     uint8_t density_unit;     /* of the stream: zaxbriar_density_unit, and then the pixels per unit
                                  across and down, at full size, as the first JFIF segment before
                                  the frame header gives them; zeros if none does */
@@ -334,8 +347,9 @@ ZAXBRIAR_CALL zaxbriar_result zaxbriar_metadata(const void *jpeg, size_t jpeg_si
                                                 void *data, size_t data_size, size_t *length);
 
 /* Copies metadata as zaxbriar_metadata does, within the limits of some options (`max_samples` and
- * `max_bytes`, at full size) and with their `memory`; the other options are ignored. A picture
- * above a limit is ZAXBRIAR_TOO_LARGE if `kind` has ZAXBRIAR_WHOLE_IMAGE: its scans aren't read. */
+ * `max_bytes`, at full size, and `max_passes`) and with their `memory`; the other options are
+ * ignored. A picture above a limit is ZAXBRIAR_TOO_LARGE if `kind` has ZAXBRIAR_WHOLE_IMAGE: its
+ * scans aren't read. */
 ZAXBRIAR_CALL zaxbriar_result zaxbriar_metadata_within(const void *jpeg, size_t jpeg_size,
                                                        const zaxbriar_options *options, int kind,
                                                        void *data, size_t data_size,

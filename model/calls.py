@@ -10,6 +10,7 @@ comments of c/zaxbriar.h, T.81, T.871 (JFIF), and TIFF for the orientation.
 import glob
 import os
 import sys
+from types import SimpleNamespace
 
 import model
 from cases import cases_of, decoding_bytes, orientation_of
@@ -18,9 +19,10 @@ HERE = os.path.dirname(os.path.abspath(__file__))
 CASES = os.path.join(os.path.dirname(HERE), 'c', 'test', 'cases')
 
 OK, MALFORMED, UNSUPPORTED, TRUNCATED = range(4)
-NO_ROOM, BAD_ARGUMENT, NO_DATA, TOO_LARGE, PARTIAL = range(5, 10)
+NO_ROOM, BAD_ARGUMENT, NO_DATA, TOO_LARGE, PARTIAL, TOO_MANY_PASSES = range(5, 11)
 NAMES = (
-    'OK MALFORMED UNSUPPORTED TRUNCATED NO_MEMORY NO_ROOM BAD_ARGUMENT NO_DATA TOO_LARGE PARTIAL'
+    'OK MALFORMED UNSUPPORTED TRUNCATED NO_MEMORY NO_ROOM BAD_ARGUMENT NO_DATA TOO_LARGE PARTIAL '
+    'TOO_MANY_PASSES'
 ).split()
 GREY, RGB, RGBA, BGRA, BGR, XRGB = range(1, 7)
 PIXEL_BYTES = {GREY: 1, RGB: 3, RGBA: 4, BGRA: 4, BGR: 3, XRGB: 4}
@@ -73,6 +75,11 @@ def fault_of(kind):
     return UNSUPPORTED, {'feature': feature, 'feature_argument': argument}
 
 
+def with_passes(code, trace):
+    """The number of a fault: of a scan that codes more blocks than the limit leaves its own."""
+    return TOO_MANY_PASSES if code == MALFORMED and trace.get('exceeded') else code
+
+
 def refusal(kind):
     code, named = fault_of(kind)
     return Refusal(code, **named)
@@ -93,7 +100,7 @@ class Options:
 
     def __init__(self, words):
         self.max_samples = self.stride = self.min_width = self.min_height = self.transform = 0
-        self.layout = self.scale = self.reserved = self.max_bytes = 0
+        self.layout = self.scale = self.reserved = self.max_bytes = self.max_passes = 0
         self.is_reserved = False
         for word in words:
             name, number = word.split('=')
@@ -119,8 +126,18 @@ class Options:
             return self.min_width or 65536, self.min_height or 65536
         return None
 
-    def settings(self):
-        return model.Settings(transform=TRANSFORMS[self.transform], scale=self.wanted())
+    def max_blocks(self, frame):
+        """How many blocks all scans may code: those of one of all components, so many times."""
+        one = SimpleNamespace(comps=range(len(frame.comps)))
+        blocks = self.max_passes * model.blocks_coded(frame, one, model.Settings())
+        return min(blocks, 2**64 - 1) if self.max_passes else None
+
+    def settings(self, frame):
+        return model.Settings(
+            transform=TRANSFORMS[self.transform],
+            scale=self.wanted(),
+            max_blocks=self.max_blocks(frame),
+        )
 
 
 # ---- headers
@@ -296,26 +313,26 @@ def fill(stream, options, memory, is_partial):
     """Decodes into memory, and returns what is told."""
     if not options.are_known():
         raise Refusal(BAD_ARGUMENT)
-    told = described(stream, options, is_partial)[2]
+    frame, _, told = described(stream, options, is_partial)
     if is_too_large(options, told):
         raise Refusal(TOO_LARGE, **told)
     if len(memory) < told['size']:
         raise Refusal(NO_ROOM, **told)
     trace = {}
     if is_partial:
-        got = model.shown(stream, options.settings(), trace)
+        got = model.shown(stream, options.settings(frame), trace)
     else:
-        got = settled(model.meaning(stream, options.settings(), trace))
+        got = settled(model.meaning(stream, options.settings(frame), trace))
     if got[0] == 'err':
         code, named = fault_of(got[1])
-        raise Refusal(code, **told, **named)
+        raise Refusal(code if is_partial else with_passes(code, trace), **told, **named)
     put_lines(memory, got[4], options, told)
     told['stream_bytes'] = trace.get('end', 0)
     if is_partial:
         told['whole_rows'] = got[6]
     if is_partial and got[5]:
         fault, named = fault_of(got[5])
-        raise Refusal(PARTIAL, **told, **named, fault=fault)
+        raise Refusal(PARTIAL, **told, **named, fault=with_passes(fault, trace))
     return told
 
 
@@ -336,11 +353,32 @@ def decode_partial(stream, room, *words):
     return filled(stream, room, words, True)
 
 
-def data_of(stream, kind):
+def meaning_within(stream, options, trace):
+    """The meaning of a stream within the limits that count for metadata, at full size."""
+    limits = Options([])
+    limits.max_samples, limits.max_bytes = options.max_samples, options.max_bytes
+    limits.max_passes = options.max_passes
+    settings = model.Settings()
+    try:
+        frame, _, told = described(stream, limits, False)
+        if is_too_large(limits, told):
+            raise Refusal(TOO_LARGE)
+        settings = limits.settings(frame)
+    except Refusal as found:
+        # (a header that is refused has no scans)
+        if found.code == TOO_LARGE:
+            raise
+    return model.meaning(stream, settings, trace)
+
+
+def data_of(stream, kind, options):
     """The metadata of a kind, or the value that a call returns."""
     is_whole, kind = kind >= 16, kind % 16
     trace = {}
-    meaning = model.meaning(stream, model.Settings(), trace)
+    if is_whole:
+        meaning = meaning_within(stream, options, trace)
+    else:
+        meaning = model.meaning(stream, model.Settings(), trace)
     said = trace['state'] if is_whole or 'header' not in trace else trace['header'][1]
     data = {1: said['exif'], 2: said['xmp'], 3: model.icc_profile(said['icc'])}[kind]
     if data is not None:
@@ -350,12 +388,12 @@ def data_of(stream, kind):
     raise Refusal(NO_DATA)
 
 
-def metadata(stream, kind, room):
+def metadata(stream, kind, room, *words):
     memory, length = bytearray([BEFORE] * int(room)), 0
     try:
         if int(kind) not in (1, 2, 3, 17, 18, 19):
             raise Refusal(BAD_ARGUMENT)
-        data = data_of(stream, int(kind))
+        data = data_of(stream, int(kind), Options(words))
         code, length = OK, len(data)
         if length > len(memory):
             raise Refusal(NO_ROOM)

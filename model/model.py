@@ -1168,6 +1168,8 @@ def read_segments(r, settings, st, trace, b, is_partial):
             if left is not None:
                 left -= blocks_coded(f, s, settings)
                 if left < 0:
+                    if trace is not None:
+                        trace['exceeded'] = True
                     raise fmt()
             if f.process == 'lossless':
                 if any(dc[t] is None for t in s.dc):

@@ -13,12 +13,12 @@
  *     read_info OPTION=NUMBER ..
  *     decode ROOM OPTION=NUMBER ..    into ROOM bytes, each 07 before the call
  *     decode_partial ROOM OPTION=NUMBER ..
- *     metadata KIND ROOM              into ROOM bytes, as above
+ *     metadata KIND ROOM OPTION=NUMBER ..     into ROOM bytes, as above
  *     find_metadata
  *     next_segment AT                 of the bytes from this place on
  *
  * An option is a member of zaxbriar_options, and 0 unless it is named. reserved_word=N makes
- * reserved_words[N] 1.
+ * reserved_words[N] 1. With options, metadata is metadata_within.
  *
  * A case's name is written as it stands, and a call with its answer after a colon: the name of what
  * it returned, and the members of the struct that are not 0. `text` is 1 unless it is empty, and
@@ -79,10 +79,11 @@ static void set(zaxbriar_options *options, char *word) {
 #define SET(member) else if (!strcmp(word, #member)) options->member = number
 #define SET16(member) else if (!strcmp(word, #member)) options->member = (uint16_t)number
 #define SET8(member) else if (!strcmp(word, #member)) options->member = (uint8_t)number
-    if (!strcmp(word, "reserved_word") && number < 10) options->reserved_words[number] = 1;
+    if (!strcmp(word, "reserved_word") && number < 9) options->reserved_words[number] = 1;
     SET(max_samples);
     SET(stride);
     SET(max_bytes);
+    SET(max_passes);
     SET16(min_width);
     SET16(min_height);
     SET8(transform);
@@ -102,8 +103,8 @@ static zaxbriar_options options_of(void) {
 static void write_result(zaxbriar_result result) {
     static const char *const names[] = {"OK",        "MALFORMED", "UNSUPPORTED",  "TRUNCATED",
                                         "NO_MEMORY", "NO_ROOM",   "BAD_ARGUMENT", "NO_DATA",
-                                        "TOO_LARGE", "PARTIAL"};
-    printf(": %s", (unsigned)result < 10 ? names[result] : "?");
+                                        "TOO_LARGE", "PARTIAL",   "TOO_MANY_PASSES"};
+    printf(": %s", (unsigned)result < 11 ? names[result] : "?");
 }
 
 static void write_member(const char *name, uint64_t number) {
@@ -178,8 +179,13 @@ static void decode_by(decoding *call) {
 static void metadata(void) {
     int kind = (int)number_of(strtok(NULL, " "));
     size_t room = number_of(strtok(NULL, " ")), length = 0;
+    zaxbriar_options options = {0}, none = {0};
+    for (char *word; (word = strtok(NULL, " "));) set(&options, word);
     unsigned char *memory = memory_of(room);
-    write_result(zaxbriar_metadata(stream.start, stream.size, kind, memory, room, &length));
+    write_result(memcmp(&options, &none, sizeof none)
+                     ? zaxbriar_metadata_within(stream.start, stream.size, &options, kind, memory,
+                                                room, &length)
+                     : zaxbriar_metadata(stream.start, stream.size, kind, memory, room, &length));
     write_member("length", length);
     write_memory(memory, room);
     free(memory);

@@ -37,10 +37,10 @@ static uint32_t called(int of, uint32_t number, int right) {
         return called(N, 3, j == bytes && n == 3 && o == &options && x == bytes + 1 && m == 2 &&   \
                                 p == &picture);                                                    \
     }                                                                                              \
-    uint32_t zaxbriar_v##N##_metadata(const uint8_t *j, size_t n, uint32_t k, uint8_t *d, size_t m,\
-                                      uint64_t *l) {                                               \
-        return called(N, 4, j == bytes && n == 3 && k == 257 && d == bytes + 1 && m == 2 &&        \
-                                l == &length);                                                     \
+    uint32_t zaxbriar_v##N##_metadata(const uint8_t *j, size_t n, uint32_t k, uint64_t x,          \
+                                      uint8_t *d, size_t m, uint64_t *l) {                         \
+        return called(N, 4, j == bytes && n == 3 && k == 257 && x == UINT64_MAX &&                 \
+                                d == bytes + 1 && m == 2 && l == &length);                         \
     }                                                                                              \
     void zaxbriar_v##N##_find_metadata(const uint8_t *j, size_t n, zaxbriar_places *p) {           \
         called(N, 5, j == bytes && n == 3 && p == &places);                                        \
@@ -59,7 +59,8 @@ int main(void) {
         CHECK(zaxbriar_checked_decode(bytes, 3, &options, bytes + 1, 2, &picture) == base + 2);
         CHECK(zaxbriar_checked_decode_partial(bytes, 3, &options, bytes + 1, 2, &picture) ==
               base + 3);
-        CHECK(zaxbriar_checked_metadata(bytes, 3, 257, bytes + 1, 2, &length) == base + 4);
+        CHECK(zaxbriar_checked_metadata(bytes, 3, 257, UINT64_MAX, bytes + 1, 2, &length) ==
+              base + 4);
         zaxbriar_checked_find_metadata(bytes, 3, &places);
         CHECK(zaxbriar_checked_next_segment(bytes, 3, &segment) == base + 6);
     }

@@ -5,6 +5,9 @@
 #include <string.h>
 #include <zaxbriar.h>
 
+/* How many times the scans of a file may code the blocks of its picture. */
+enum { MAX_PASSES = 100 };
+
 /* A file that is being loaded: the bytes that have come, with how many of them the header is read
  * next, and the size that the program wants, if it was asked. */
 typedef struct {
@@ -68,7 +71,7 @@ static gboolean decode(const load *state, const zaxbriar_options *options, GdkPi
     zaxbriar_result answer =
         zaxbriar_decode(state->jpeg, state->size, options, pixels, room, picture);
     if (answer == ZAXBRIAR_MALFORMED || answer == ZAXBRIAR_UNSUPPORTED ||
-        answer == ZAXBRIAR_TRUNCATED)
+        answer == ZAXBRIAR_TRUNCATED || answer == ZAXBRIAR_TOO_MANY_PASSES)
         answer = zaxbriar_decode_partial(state->jpeg, state->size, options, pixels, room, picture);
     if (answer == ZAXBRIAR_OK || answer == ZAXBRIAR_PARTIAL) return TRUE;
     return refuse(error, answer, picture->text);
@@ -121,7 +124,7 @@ static void set_options(const load *state, const zaxbriar_picture *picture, GdkP
 }
 
 static gboolean load_pixels(load *state, GError **error) {
-    zaxbriar_options options = {.layout = ZAXBRIAR_RGB};
+    zaxbriar_options options = {.layout = ZAXBRIAR_RGB, .max_passes = MAX_PASSES};
     zaxbriar_picture picture;
     if (!choose_scale(state, &options, &picture, error)) return FALSE;
     int width = (int)picture.width, height = (int)picture.height;

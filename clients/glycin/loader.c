@@ -21,6 +21,9 @@
 /* Numbers of glycin's memory formats. */
 enum { R8G8B8 = 7, G8 = 19 };
 
+/* How many times the scans of a file may code the blocks of its picture. */
+enum { MAX_PASSES = 100 };
+
 /* The bytes of a message that say how long it is, and how many descriptors one may bring. */
 enum { HEAD_BYTES = 16, MOST_DESCRIPTORS = 16 };
 
@@ -32,7 +35,7 @@ union control {
 
 /* The file that was given, and its picture. */
 static GByteArray *jpeg;
-static zaxbriar_options options;
+static zaxbriar_options options = {.max_passes = MAX_PASSES};
 static zaxbriar_picture picture;
 
 /* Ends the program by a call that the sandbox allows. */

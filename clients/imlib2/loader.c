@@ -7,6 +7,9 @@
 #include <string.h>
 #include <zaxbriar.h>
 
+/* How many times the scans of a file may code the blocks of its picture. */
+enum { MAX_PASSES = 100 };
+
 static const char *const _formats[] = {"jpg", "jpeg", "jfif", "jfi"};
 
 static int answer_of(int answer) { return answer == ZAXBRIAR_NO_MEMORY ? LOAD_OOM : LOAD_BADIMAGE; }
@@ -30,7 +33,7 @@ static int decode(const uint8_t *jpeg, size_t size, const zaxbriar_options *opti
     size_t room = picture->size;
     zaxbriar_result answer = zaxbriar_decode(jpeg, size, options, pixels, room, picture);
     if (answer == ZAXBRIAR_MALFORMED || answer == ZAXBRIAR_UNSUPPORTED ||
-        answer == ZAXBRIAR_TRUNCATED)
+        answer == ZAXBRIAR_TRUNCATED || answer == ZAXBRIAR_TOO_MANY_PASSES)
         answer = zaxbriar_decode_partial(jpeg, size, options, pixels, room, picture);
     return answer == ZAXBRIAR_PARTIAL ? ZAXBRIAR_OK : answer;
 }
@@ -50,7 +53,7 @@ static int load_pixels(ImlibImage *image, const uint8_t *jpeg, size_t size,
 }
 
 static int load_copied(ImlibImage *image, const uint8_t *jpeg, size_t size, int load_data) {
-    zaxbriar_options options = {.layout = ZAXBRIAR_BGRA};
+    zaxbriar_options options = {.layout = ZAXBRIAR_BGRA, .max_passes = MAX_PASSES};
     zaxbriar_picture picture;
     int answer = zaxbriar_read_info(jpeg, size, &options, &picture);
     if (answer != ZAXBRIAR_OK) return answer_of(answer);

@@ -153,10 +153,13 @@ static void reverse_lines(const zaxbriar_picture *picture, unsigned char *pixels
             swap(pixels + y * pitch + i, pixels + (picture->height - 1 - y) * pitch + i);
 }
 
+/* How many times the scans of a file may code the blocks of its picture. */
+enum { MAX_PASSES = 100 };
+
 /* Whether an answer is a fault of the stream's. */
 static int is_fault(zaxbriar_result answer) {
     return answer == ZAXBRIAR_MALFORMED || answer == ZAXBRIAR_UNSUPPORTED ||
-           answer == ZAXBRIAR_TRUNCATED;
+           answer == ZAXBRIAR_TRUNCATED || answer == ZAXBRIAR_TOO_MANY_PASSES;
 }
 
 /* Decompresses the picture, or the part before a fault, at the scale of the options. */
@@ -173,7 +176,7 @@ static zaxbriar_result decode(const unsigned char *jpeg, size_t size,
 static int decompress(struct handle *handle, const unsigned char *jpeg, size_t size,
                       unsigned char *pixels, const int sides[2], size_t pitch, int format,
                       int flags) {
-    zaxbriar_options options = {0};
+    zaxbriar_options options = {.max_passes = MAX_PASSES};
     zaxbriar_picture picture;
     if (format < 0 || (size_t)format >= sizeof formats / sizeof *formats ||
         !formats[format].is_known)

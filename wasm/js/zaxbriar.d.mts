@@ -71,8 +71,17 @@ export interface Options {
     colorTransform?: ColorTransform;
     /** The most pixels that the picture may have, at its scale; 0: any number. */
     maxPixels?: number;
-    /** The most bytes that decoding may take beside the stream and the picture; 0: any number. */
+    /**
+     * The most bytes that decoding may take beside the stream and the picture; 0: any number. The
+     * default of `decode` is 1 GiB, and `readInfo` has none.
+     */
     maxBytes?: number;
+    /**
+     * How many times the scans may code the blocks of the picture, all together; 0: any number. The
+     * default of `decode` is 100, and few files need more than 8. This bounds the time: a scan of
+     * eleven bytes can go over all blocks again. The scan that would exceed it is TOO_MANY_PASSES.
+     */
+    maxPasses?: number;
 }
 
 /** The options of `decode`. */
@@ -167,7 +176,8 @@ export class ZaxbriarError extends Error {
         | 'NO_ROOM'
         | 'BAD_ARGUMENT'
         | 'NO_DATA'
-        | 'TOO_LARGE';
+        | 'TOO_LARGE'
+        | 'TOO_MANY_PASSES';
     /** Where the code is UNSUPPORTED. */
     readonly feature?: Feature;
     /**

@@ -36,8 +36,11 @@ export const OPTIONS = [
     'colorTransform',
     'maxPixels',
     'maxBytes',
+    'maxPasses',
     'partial',
 ];
+/* The limits of `decode` where none are given: of its memory, and of its time. */
+const LIMITS = { maxBytes: 2 ** 30, maxPasses: 100 };
 export const DECODER_OPTIONS = ['maxMemory'];
 const BUFFERS = ['ArrayBuffer', 'SharedArrayBuffer'];
 /* The features that come with a number. */
@@ -59,6 +62,8 @@ const CODES = [
     'BAD_ARGUMENT',
     'NO_DATA',
     'TOO_LARGE',
+    'PARTIAL',
+    'TOO_MANY_PASSES',
 ];
 
 /* The structs zaxbriar_options and zaxbriar_picture of c/zaxbriar.h. */
@@ -128,11 +133,11 @@ export function bytesOf(source) {
     throw new TypeError('jpeg: an ArrayBuffer or a view of one');
 }
 
-/* The options as the bytes of zaxbriar_options. */
-function optionsOf(options) {
+/* The options as the bytes of zaxbriar_options, with these limits where they give none. */
+function optionsOf(options, limits = {}) {
     const bytes = new Uint8Array(OPTIONS_BYTES);
     const view = new DataView(bytes.buffer);
-    const number = (name, most) => wholeNumber(options[name] ?? 0, most, name);
+    const number = (name, most) => wholeNumber(options[name] ?? limits[name] ?? 0, most, name);
     view.setBigUint64(8, BigInt(number('stride', 2 ** 32)), true);
     view.setUint16(16, number('minWidth', 65535), true);
     view.setUint16(18, number('minHeight', 65535), true);
@@ -140,6 +145,7 @@ function optionsOf(options) {
     view.setUint8(21, numberOf(LAYOUTS, options.layout ?? 'stored', 'layout'));
     view.setUint8(22, number('scale', 255));
     view.setBigUint64(24, BigInt(number('maxBytes', Number.MAX_SAFE_INTEGER)), true);
+    view.setBigUint64(48, BigInt(number('maxPasses', Number.MAX_SAFE_INTEGER)), true);
     return bytes;
 }
 
@@ -312,10 +318,10 @@ export class Zaxbriar {
     }
 
     /* Puts a stream and its options into the module's memory, and gives the words of a call. */
-    #stream(allocate, jpeg, options) {
+    #stream(allocate, jpeg, options, limits) {
         const bytes = bytesOf(jpeg);
         pixelLimit(options);
-        const given = optionsOf(options);
+        const given = optionsOf(options, limits);
         const at = this.#put(allocate, bytes);
         return [at, bytes.length, this.#put(allocate, given)].map(BigInt);
     }
@@ -333,7 +339,7 @@ export class Zaxbriar {
         const isPartial = isSet(options, 'partial');
         const name = isPartial ? 'zaxbriar_decode_partial' : 'zaxbriar_decode';
         return this.#with((allocate) => {
-            const stream = this.#stream(allocate, jpeg, options);
+            const stream = this.#stream(allocate, jpeg, options, LIMITS);
             const at = allocate(PICTURE_BYTES);
             const { size } = this.#describe(stream, at, options);
             const pixels = allocate(size);

@@ -63,6 +63,7 @@ async function checkAnswers() {
         { minWidth: 9, minHeight: 9, stride: 200, colorTransform: 'rgb', partial: false },
         { maxPixels: 9 },
         { maxBytes: 9 },
+        { maxPasses: 1 },
         Object.create({ maxPixels: 9 }),
         { scale: 3 },
         { scale: -1 },
@@ -155,8 +156,8 @@ async function checkSignals() {
     const [running, waiting] = [new AbortController(), new AbortController()];
     const calls = [
         zaxbriar.decodeAsync(jpeg),
-        zaxbriar.decodeAsync(endless(), { signal: running.signal }),
-        zaxbriar.decodeAsync(endless(), { signal: waiting.signal }),
+        zaxbriar.decodeAsync(endless(), { signal: running.signal, maxPasses: 0 }),
+        zaxbriar.decodeAsync(endless(), { signal: waiting.signal, maxPasses: 0 }),
         zaxbriar.decodeAsync(jpeg),
     ].map((call) => call.catch((error) => error));
     assert.deepEqual((await calls[0]).pixels, pixels);
@@ -173,9 +174,11 @@ async function checkSignals() {
     // A deadline.
     const time = performance.now();
     const signal = AbortSignal.timeout(200);
-    const options = { signal, maxPixels: 20e6, maxBytes: 100e6 };
+    const options = { signal, maxPixels: 20e6, maxBytes: 100e6, maxPasses: 0 };
     await assert.rejects(zaxbriar.decodeAsync(endless(), options), { name: 'TimeoutError' });
     assert.ok(performance.now() - time < 2000);
+    // By default its passes are limited, also in the worker.
+    await assert.rejects(zaxbriar.decodeAsync(endless()), { code: 'TOO_MANY_PASSES' });
     // A signal that comes too late ends nothing, and is listened to no longer.
     const late = new AbortController();
     let listeners = 0;

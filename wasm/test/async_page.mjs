@@ -92,7 +92,7 @@ async function checkSignal(page) {
         const clock = setInterval(() => ++ticks === 50 && controller.abort(), 4);
         const signals = [controller.signal, AbortSignal.timeout(100)];
         const calls = signals.map((signal) =>
-            zaxbriar.decodeAsync(endless, { signal }).catch(({ name }) => name));
+            zaxbriar.decodeAsync(endless, { signal, maxPasses: 0 }).catch(({ name }) => name));
         const last = zaxbriar.decodeAsync(jpeg);
         const names = await Promise.all(calls);
         clearInterval(clock);

@@ -5,6 +5,7 @@ import assert from 'node:assert/strict';
 import { readFileSync } from 'node:fs';
 import { Worker } from 'node:worker_threads';
 import { Zaxbriar, ZaxbriarError, compile, load } from '../dist/node.mjs';
+import { endless } from './endless.mjs';
 
 const path = process.argv[2];
 const jpeg = readFileSync(path);
@@ -196,6 +197,8 @@ for (const options of [
     { minWidth: 65536 },
     { stride: 2 ** 33 },
     { maxBytes: Infinity },
+    { maxPasses: -1 },
+    { maxPasses: 2 ** 53 },
     { maxPixels: '9' },
 ]) {
     assert.throws(() => zaxbriar.decode(jpeg, options), RangeError);
@@ -214,6 +217,39 @@ for (const options of [{ maxPixels: count - 1 }, { maxBytes: picture.decodingByt
     assert.throws(() => zaxbriar.decode(jpeg, options), code('TOO_LARGE'));
     assert.throws(() => zaxbriar.readInfo(jpeg, options), code('TOO_LARGE'));
 }
+
+// A scan is a pass: by default there may be 100. readInfo has no limits of its own.
+const passes = (count) => endless(count, [8, 8]);
+zaxbriar.decode(passes(100));
+for (const [count, maxPasses] of [
+    [1, 1],
+    [3, 3],
+    [100, undefined],
+    [101, 101],
+    [1000, 0],
+]) {
+    const { picture: many, pixels: samples } = zaxbriar.decode(passes(count), { maxPasses });
+    assert.equal(many.streamBytes, passes(count).length);
+    assert.ok(samples.length === 192 && samples.every((sample) => sample === samples[0]));
+}
+for (const [count, maxPasses] of [
+    [2, 1],
+    [4, 3],
+    [101, undefined],
+    [102, 101],
+]) {
+    assert.throws(() => zaxbriar.decode(passes(count), { maxPasses }), code('TOO_MANY_PASSES'));
+    const part = zaxbriar.decode(passes(count), { maxPasses, partial: true });
+    assert.ok(code('TOO_MANY_PASSES')(part.fault) && part.wholeRows === 8);
+    assert.equal(zaxbriar.readInfo(passes(count), { maxPasses }).height, 8);
+}
+// A picture that takes more than 1 GiB is refused by default; its header isn't.
+const vast = passes(1);
+vast.set([0xff, 0xff, 0xff, 0xff], vast.indexOf(0xc0) + 4);
+assert.ok(zaxbriar.readInfo(vast).decodingBytes > 2 ** 30);
+assert.throws(() => zaxbriar.decode(vast), code('TOO_LARGE'));
+assert.throws(() => zaxbriar.readInfo(vast, { maxBytes: 2 ** 30 }), code('TOO_LARGE'));
+assert.throws(() => zaxbriar.decode(vast, { maxBytes: 0 }), code('NO_MEMORY'));
 
 // What there is of a stream: of one that is cut after its header, in its scan, and before its end.
 const scan = jpeg.indexOf(Buffer.from([0xff, 0xda]));

@@ -21,7 +21,7 @@ const FEATURES = ['', 'hierarchical', 'arithmetic', 'precision', 'components', '
 FEATURES.push('subsampling', 'factors', 'transform');
 const NUMBERED = [3, 4, 8];
 const CODES = ['', 'MALFORMED', 'UNSUPPORTED', 'TRUNCATED', 'NO_MEMORY', 'NO_ROOM', 'BAD_ARGUMENT'];
-CODES.push('NO_DATA', 'TOO_LARGE');
+CODES.push('NO_DATA', 'TOO_LARGE', 'PARTIAL', 'TOO_MANY_PASSES');
 const PARTIAL = 9;
 
 const ALL_OPTIONS = [
@@ -42,7 +42,9 @@ const ALL_OPTIONS = [
     { colorTransform: 'cmyk' },
     { colorTransform: 'ycck' },
     { maxBytes: 1000 },
-].map((options) => ({ maxBytes: MOST_BYTES, ...options }));
+    { maxPasses: 1 },
+    { maxPasses: 2, layout: 'grey' },
+].map((options) => ({ maxBytes: MOST_BYTES, maxPasses: 0, ...options }));
 
 const lineOf = (options) =>
     [
@@ -53,6 +55,7 @@ const lineOf = (options) =>
         options.minHeight ?? 0,
         options.stride ?? 0,
         options.maxBytes,
+        options.maxPasses,
     ].join(' ');
 const INPUT = ALL_OPTIONS.map((options) => `${lineOf(options)}\n`).join('');
 

@@ -62,6 +62,7 @@ const OPTIONS = {
     colorTransform: 'stream',
     maxPixels: 1e9,
     maxBytes: 1e9,
+    maxPasses: 100,
     partial: false,
 };
 zaxbriar.readInfo(jpeg, OPTIONS);
@@ -71,7 +72,7 @@ for (const name of Object.keys(OPTIONS)) zaxbriar.decode(jpeg, { [name]: undefin
 
 // Others are named, before anything is read: a limit that is misspelt would be none.
 const named = (name) => (error) => error instanceof TypeError && error.message.includes(name);
-for (const name of ['maxpixels', 'maxPixel', 'max_bytes', 'maxMemory', 'Layout', 'toString']) {
+for (const name of ['maxpixels', 'maxPixel', 'max_bytes', 'maxMemory', 'maxPass', 'toString']) {
     for (const options of [{ [name]: 1 }, { [name]: undefined }, Object.create({ [name]: 1 })]) {
         assert.throws(() => zaxbriar.readInfo(jpeg, options), named(name), name);
         assert.throws(() => zaxbriar.decode(jpeg, options), named(name), name);

@@ -219,10 +219,11 @@ async function checkOrder(page, url) {
     assert.ok(label.startsWith(others.at(-1)), label);
 }
 
-/* A file that takes half a minute is put off for one that is chosen. */
+/* A file that takes seconds, with as many passes as are allowed, is put off for one that is
+ * chosen. */
 async function checkPatience(page, url) {
     const slow = `${folder}/endless.jpg`;
-    writeFileSync(slow, endless());
+    writeFileSync(slow, endless(100, [10000, 8000]));
     await page.open(url);
     await page.until(`document.body?.dataset.state === 'ready'`);
     await page.choose('#file', [slow, PICTURES[0]]);

@@ -21,6 +21,7 @@ load(module, { maxMemory: '1 GB' });
 
 // Pictures and their pixels, for a canvas or a file.
 const options: Options = { layout: 'rgba', scale: 2, colorTransform: 'rgb', maxPixels: 1e6 };
+const limits: Options = { maxBytes: 1 << 30, maxPasses: 100 };
 const { picture, pixels } = zaxbriar.decode(streams[0], options);
 const data = new ImageData(pixels, picture.width, picture.height);
 const samples: Uint8ClampedArray = pixels;

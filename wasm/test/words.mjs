@@ -41,7 +41,7 @@ assert.equal(formatOf(jpeg), null);
 assert.equal(sentenceOf({ fault: 'TRUNCATED' }, new Uint8Array(0)), 'The file is empty.');
 
 /* Each fault of a JPEG file has a sentence, which isn't that of another. */
-const FAULTS = ['MALFORMED', 'TRUNCATED', 'NO_MEMORY', 'NOT SHOWN', 'FAILED'];
+const FAULTS = ['MALFORMED', 'TRUNCATED', 'TOO_MANY_PASSES', 'NO_MEMORY', 'NOT SHOWN', 'FAILED'];
 const FEATURES = ['hierarchical', 'arithmetic', 'dnl', 'factors', 'transform'];
 const sentences = [
     ...FAULTS.map((fault) => sentenceOf({ fault }, jpeg)),

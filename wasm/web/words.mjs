@@ -42,6 +42,7 @@ const FEATURES = {
 const FAULTS = {
     MALFORMED: 'The file is damaged, or it breaks a rule of JPEG.',
     TRUNCATED: 'The file ends too soon: a part of it is missing.',
+    TOO_MANY_PASSES: 'The file goes over its picture again and again: a part is left out.',
     NO_MEMORY: 'The picture is too large for this page.',
     TOO_LARGE: 'The picture is too large for this page.',
     'NOT SHOWN': 'The picture is too large for this browser to show.',

@@ -11,7 +11,7 @@ const loaded = load(new URL('zaxbriar.wasm', import.meta.url), { maxMemory: MAX_
 loaded.catch(() => {});
 
 /* What names a fault of the stream's, of which there may be a part. */
-const FAULTS = ['MALFORMED', 'UNSUPPORTED', 'TRUNCATED'];
+const FAULTS = ['MALFORMED', 'UNSUPPORTED', 'TRUNCATED', 'TOO_MANY_PASSES'];
 
 /* The picture, or the part of it that comes before a fault of the stream, and that fault. */
 function pictureOf(zaxbriar, jpeg) {

@@ -12,6 +12,10 @@ from PIL import Image, ImageFile, JpegImagePlugin
 
 from . import library
 
+# How many times the scans of a file may code the blocks of its picture, all together: a program may
+# set another number, or 0 for any. A file with more is damaged at the scan that would exceed it.
+max_passes = 100
+
 # How many pictures were decoded so, how many of them right into the image's memory, and of how many
 # there was only a part, since their files are truncated or damaged.
 decoded = 0
@@ -167,7 +171,7 @@ class ZaxbriarDecoder(ImageFile.PyDecoder):
         global decoded
         mode = self.args[0].partition(";")[0]
         scale = self.args[2] if len(self.args) > 2 else 1
-        options = {"scale": scale, "is_partial": is_partial}
+        options = {"scale": scale, "max_passes": max_passes, "is_partial": is_partial}
         picture = library.read_info(stream, scale=scale)
         is_scaled = (picture.width, picture.height) == (self.state.xsize, self.state.ysize)
         formats, layout, pixel_bytes, packed = _MODES.get(mode, ((), None, None, None))

@@ -29,7 +29,8 @@ NAME = "libzaxbriar.so.0"
     NO_DATA,
     TOO_LARGE,
     PARTIAL,
-) = range(10)
+    TOO_MANY_PASSES,
+) = range(11)
 AS_STORED, GREY, RGB, RGBA, BGRA, BGR, XRGB = range(7)
 FORMAT_GREY8, FORMAT_GREY16, FORMAT_RGB, FORMAT_CMYK = range(1, 5)
 
@@ -47,7 +48,9 @@ class Options(Structure):
         ("scale", c_uint8),
         ("reserved", c_uint8),
         ("max_bytes", c_uint64),
-        ("reserved_words", c_uint64 * 12),
+        ("pointers", c_void_p * 2),
+        ("max_passes", c_uint64),
+        ("reserved_words", c_uint64 * 9),
     ]
 
 

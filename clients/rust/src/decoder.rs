@@ -56,7 +56,7 @@ pub struct Decoder<R> {
     picture: Option<Picture>,
     metadata: Metadata,
     color_transform: Option<ColorTransform>,
-    /// The scale; the rest is as the library has it.
+    /// The scale, and the limit of passes; the rest is as the library has it.
     options: Options,
     max_samples: u64,
     max_bytes: u64,
@@ -225,6 +225,32 @@ impl<R: Read> Decoder<R> {
     pub fn set_max_stream_bytes(&mut self, max: u64) {
         self.max_stream_bytes = Some(max);
         self.limit_stream();
+    }
+
+    /// Sets how many times the scans may code the blocks of the picture, all together, or 0 for any
+    /// number, as a new decoder has it. This bounds the time: a scan of eleven bytes can go over all
+    /// blocks again. Few files need more than 8; 100 is a limit for files that aren't trusted.
+    ///
+    /// [`decode`](Decoder::decode) refuses a scan that would exceed it as [`Error::Format`], and
+    /// [`decode_partial`](Decoder::decode_partial) shows what the scans before it have brought.
+    ///
+    /// ```
+    /// # let grey = &std::fs::read("tests/grey.jpg").unwrap()[..];
+    /// # let scan = grey.windows(2).position(|two| two == [0xFF, 0xDA]).unwrap();
+    /// # let (head, end) = (&grey[..scan], &grey[grey.len() - 2..]);
+    /// # let twice = [&grey[scan..grey.len() - 2]; 2].concat();
+    /// # let jpeg = &[head, &twice, end].concat()[..];
+    /// use zaxbriar::{Decoder, Error};
+    ///
+    /// let mut decoder = Decoder::new(jpeg);
+    /// decoder.set_max_passes(1);
+    /// assert!(matches!(decoder.decode(), Err(Error::Format(_))));
+    /// let mut decoder = Decoder::new(jpeg);
+    /// decoder.set_max_passes(2);
+    /// assert!(decoder.decode().is_ok());
+    /// ```
+    pub fn set_max_passes(&mut self, max: u64) {
+        self.options.max_passes = max;
     }
 
     /// Returns the most memory that decoding takes at a time for the picture, its planes and its

@@ -12,6 +12,7 @@ const TRUNCATED: c_int = 3;
 const NO_MEMORY: c_int = 4;
 const TOO_LARGE: c_int = 8;
 const PARTIAL: c_int = 9;
+const TOO_MANY_PASSES: c_int = 10;
 
 /// A picture's coding process.
 const LOSSLESS: u8 = 3;
@@ -39,7 +40,10 @@ pub struct Options {
     pub scale: u8,
     reserved: u8,
     pub max_bytes: u64,
-    reserved_words: [u64; 12],
+    /// Null.
+    pointers: [u64; 2],
+    pub max_passes: u64,
+    reserved_words: [u64; 9],
 }
 
 /// `zaxbriar_picture`.
@@ -189,7 +193,7 @@ fn refusal_of(answer: c_int, picture: &Picture) -> Option<Refusal> {
     };
     match answer {
         OK => None,
-        MALFORMED => Some(Refusal::Malformed(text())),
+        MALFORMED | TOO_MANY_PASSES => Some(Refusal::Malformed(text())),
         UNSUPPORTED => Some(Refusal::Unsupported {
             feature: picture.feature,
             argument: picture.feature_argument,

@@ -64,18 +64,20 @@ pub extern "C" fn zaxbriar_checked_decode_partial(
 }
 
 /// Copies the Exif data, the XMP data or the ICC profile of a header or of a whole image, and
-/// writes how many bytes they have.
+/// writes how many bytes they have. The scans of the image may go `max_passes` times over its
+/// picture; 0 for any number.
 #[unsafe(no_mangle)]
 pub extern "C" fn zaxbriar_checked_metadata(
     alloc: Global,
     jpeg: &[u8],
     kind: u32,
+    max_passes: u64,
     buffer: &mut [u8],
     count: &mut u64,
 ) -> u32
-    ensures { CopiesMetadata jpeg.now kind buffer.old buffer.new count.new result }
+    ensures { CopiesMetadata jpeg.now kind max_passes buffer.old buffer.new count.new result }
 {
-    calls::metadata(alloc, jpeg, kind, buffer, count)
+    calls::metadata(alloc, jpeg, kind, max_passes, buffer, count)
 }
 
 /// Finds the first segment in some bytes, whatever stands before its marker.

@@ -55,23 +55,31 @@ pub fn decoded_part(
 ) -> u32
     ensures part { result ≡ 9 → (fault : Fault)
         × Gives Partial options.now jpeg.now pixels.old pixels.new (Some fault)
-        (without_fault (without_rows picture.new)) × TellsFault picture.new fault }
+        (without_fault (without_rows picture.new)) × TellsFault options.now picture.new fault }
     ensures rows { (result ≡ 0) ⊎ (result ≡ 9)
         → picture.new.whole_rows ≡ rows_by Partial options.now jpeg.now }
 {
     calls::decode_partial(alloc, jpeg, options, pixels, picture)
 }
 
-/// Calls `metadata`, and says what is copied after OK, how long it is after NO_ROOM, that nothing is
-/// counted otherwise, and that a fault hides no data.
-pub fn copied(alloc: Global, jpeg: &[u8], kind: u32, buffer: &mut [u8], count: &mut u64) -> u32
+/// Calls `metadata`, and says what is copied after OK, how long it is after NO_ROOM, that nothing
+/// is counted otherwise, and that a fault hides no data.
+pub fn copied(
+    alloc: Global,
+    jpeg: &[u8],
+    kind: u32,
+    max_passes: u64,
+    buffer: &mut [u8],
+    count: &mut u64,
+) -> u32
     ensures copies { result ≡ 0
-        → IsCopied (said_of kind jpeg.now) buffer.old buffer.new count.new }
-    ensures room { result ≡ 5 → IsLonger (said_of kind jpeg.now) (length buffer.old) count.new }
+        → IsCopied (said_of max_passes kind jpeg.now) buffer.old buffer.new count.new }
+    ensures room { result ≡ 5
+        → IsLonger (said_of max_passes kind jpeg.now) (length buffer.old) count.new }
     ensures uncounted { (result ≡ 0 → ⊥) → (result ≡ 5 → ⊥) → count.new ≡ 0 }
-    ensures unsaid { 0 < result → result < 4 → said_of kind jpeg.now ≡ None }
+    ensures unsaid { 0 < result → result < 4 → said_of max_passes kind jpeg.now ≡ None }
 {
-    calls::metadata(alloc, jpeg, kind, buffer, count)
+    calls::metadata(alloc, jpeg, kind, max_passes, buffer, count)
 }
 
 /// Calls `next_segment`, and says what a segment needs that is cut.

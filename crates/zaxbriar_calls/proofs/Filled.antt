@@ -1,9 +1,9 @@
 -- What a call that decodes says of its outcome: a field of its record each.
-use Rattle.std.proofs.Common.{arith, ◌≡◌, ◌⊎◌, ◌∙◌, ◌≤◌, ℕ, List, Some, None, Result, Ok, Err}
+use Rattle.std.proofs.Common.{arith, ◌≡◌, ◌⊎◌, ◌∙◌, ◌≤◌, ◌==◌, ℕ, Bool, true, false, List, Some, None, Result, Ok, Err}
 use Rattle.std.proofs.Common.{ap, inl, inr, refl, subst, sym}
 use Rattle.std.specs.Prelude.{IfErr, IfOk, IsErrAnd, OnOk, replicate, slice_index}
 use Rattle.std.proofs.lemmas.Grind.{common_steps}
-use Rattle.jpeg_bits.specs.Reading.{Fault, Lacks, Names}
+use Rattle.jpeg_bits.specs.Reading.{End, Fault, Lacks, Malformed, Names}
 use Rattle.jpeg_bits.specs.declared.error.Error.{Error}
 use Rattle.jpeg_bits.specs.declared.error.Error.TheVariants as errors
 use Rattle.jpeg_bits.specs.declared.error.UnsupportedFeature.{UnsupportedFeature}
@@ -15,9 +15,9 @@ use Rattle.zaxbriar_calls.proofs.Means.{images-given}
 use Rattle.zaxbriar_calls.proofs.Parts.{given-entire, given-refused}
 use Rattle.zaxbriar_calls.proofs.Told.{if-ok, if-own}
 use Rattle.zaxbriar_calls.specs.Faults.{IsArgument, IsFault, IsNamed, IsOwn, IsPart, fault_code}
-use Rattle.zaxbriar_calls.specs.Faults.{outcome_fault, outcome_rows, status_of}
+use Rattle.zaxbriar_calls.specs.Faults.{IsOfCallNumber, IsOfRoomNumber, outcome_fault, outcome_rows, status_of, with_passes}
 use Rattle.zaxbriar_calls.specs.Features.{NamesFeature, feature_in, numbered, outcome_feature}
-use Rattle.zaxbriar_calls.specs.Fills.{Fills, greatest_code}
+use Rattle.zaxbriar_calls.specs.Fills.{Fills, IsAnswer}
 use Rattle.zaxbriar_calls.specs.Given.{Gives, GivesPart, HasRows, TellsFault, given_by, rows_by, without_fault, without_rows}
 use Rattle.zaxbriar_calls.specs.Lines.{Arranged}
 use Rattle.zaxbriar_calls.specs.Meanings.{Describes, IsTooLarge, IsWithin, as_described}
@@ -32,11 +32,11 @@ use Rattle.zaxbriar_calls.specs.declared.options.Options.{Options}
 use Rattle.zaxbriar_calls.specs.declared.picture.Picture.{Picture}
 
 -- What is told of an outcome.
-pub record Answered (outcome : Result ℕ Refusal) (feature : Feature) (fault rows : ℕ) (text : List ℕ) (code : ℕ)
-    : Type 0 where
+pub record Answered (outcome : Result ℕ Refusal) (exceeded : Bool) (feature : Feature) (fault rows : ℕ) (text : List ℕ)
+    (code : ℕ) : Type 0 where
   pub code_is : code ≡ status_of outcome
   pub feature_is : feature ≡ outcome_feature outcome
-  pub fault_is : fault ≡ outcome_fault outcome
+  pub fault_is : fault ≡ with_passes exceeded (outcome_fault outcome)
   pub rows_are : rows ≡ outcome_rows outcome
   pub text_is : IfOk outcome (λ _. text ≡ replicate 112 0)
   pub ended : slice_index text 111 ≡ 0
@@ -51,6 +51,26 @@ telling picture feature fault rows text = record picture {
   whole_rows = rows;
   text = text;
 }
+
+-- ---- the number of too many passes
+
+none-passed : (exceeded : Bool) → with_passes exceeded 0 ≡ 0
+none-passed true = refl
+none-passed false = refl
+
+-- any other number is that of the answer
+other-code : (exceeded : Bool) (s code n : ℕ) → code ≡ with_passes exceeded s → (n ≡ 10 → ⊥) → code ≡ n → s ≡ n
+other-code true s code n c other z = grind (arith, common_steps)
+other-code false s code n c other z = sym c ∙ z
+
+same-code : (exceeded : Bool) (s code n : ℕ) → code ≡ with_passes exceeded s → (n ≡ 1 → ⊥) → s ≡ n → code ≡ n
+same-code true s code n c other z = grind (arith, common_steps)
+same-code false s code n c other z = c ∙ z
+
+passed-code : (exceeded : Bool) (s code : ℕ) → code ≡ with_passes exceeded s → s ≤ 9 → code ≡ 10
+    → (exceeded ≡ true) × (s ≡ 1)
+passed-code true s code c few z = grind (arith, common_steps)
+passed-code false s code c few z = absurd (omega (arith, c, few, z))
 
 -- ---- OK and PARTIAL
 
@@ -82,12 +102,13 @@ ok-given extent o bytes old new picture feature fault rows text lacks none t s =
 
 whole-told : (extent : Extent) (outcome : Result ℕ Refusal) (o : Options) (bytes old new : List ℕ) (picture : Picture)
     (feature : Feature) (fault rows : ℕ) (text : List ℕ) (code : ℕ)
-    → Answered outcome feature fault rows text code
+    → (exceeded : Bool) → Answered outcome exceeded feature fault rows text code
     → OnOk outcome (Gives extent o bytes old new None picture) → code ≡ 0
     → Gives extent o bytes old new None (without_rows (telling picture feature fault rows text))
-whole-told extent (Ok x) o bytes old new picture feature fault rows text code a s z =
-    ok-given extent o bytes old new picture feature fault rows text a.feature_is a.fault_is a.text_is s
-whole-told extent (Err r) o bytes old new picture feature fault rows text code a s z =
+whole-told extent (Ok x) o bytes old new picture feature fault rows text code exceeded a s z =
+    ok-given extent o bytes old new picture feature fault rows text a.feature_is (a.fault_is ∙ none-passed exceeded)
+    a.text_is s
+whole-told extent (Err r) o bytes old new picture feature fault rows text code exceeded a s z =
     absurd (code-fails r (sym a.code_is ∙ z))
 
 -- a picture that is described tells of no fault
@@ -97,50 +118,57 @@ without-same : (o : Options) (info : ImageInfo) (precision : ℕ) (samples old n
 without-same o info precision samples old new picture feature fault rows text a =
     a.picture_is ∙ sym (ap (λ (p : Picture). without_fault (without_rows p)) a.picture_is)
 
-numbers : (e : Error) (n : ℕ) (f : Fault) → Names {Y = Unit {0}} e (Err f) → (e ≡ errors.OutOfMemory → ⊥)
-    → (picture : Picture) → picture.fault ≡ outcome_fault {X = ℕ} (Err (refusals.Part e n))
-    → NamesFeature picture (outcome_feature {X = ℕ} (Err (refusals.Part e n))) → TellsFault picture f
-numbers (errors.Format t) rows f n m picture p q = grind (arith, common_steps)
-numbers (errors.Unsupported feature) rows f n m picture p q = grind (arith, common_steps)
-numbers (errors.Io e) rows f n m picture p q = grind (arith, common_steps)
-numbers (errors.Internal t) rows f n m picture p q = absurd n
-numbers errors.OutOfMemory rows f n m picture p q = absurd (m refl)
+numbers : (o : Options) (exceeded : Bool) (e : Error) (n : ℕ) (f : Fault) → (exceeded ≡ true → o.max_passes ≡ 0 → ⊥)
+    → Names {Y = Unit {0}} e (Err f) → (e ≡ errors.OutOfMemory → ⊥)
+    → (picture : Picture) → picture.fault ≡ with_passes exceeded (outcome_fault {X = ℕ} (Err (refusals.Part e n)))
+    → NamesFeature picture (outcome_feature {X = ℕ} (Err (refusals.Part e n))) → TellsFault o picture f
+numbers o true (errors.Format t) rows Malformed l n m picture p q = (inr (p, l refl), q)
+numbers o false (errors.Format t) rows Malformed l n m picture p q = (inl p, q)
+numbers o exceeded (errors.Format t) rows (Lacks feature) l n m picture p q = absurd (grind (arith, common_steps))
+numbers o exceeded (errors.Format t) rows End l n m picture p q = absurd (grind (arith, common_steps))
+numbers o true (errors.Unsupported feature) rows f l n m picture p q = grind (arith, common_steps)
+numbers o false (errors.Unsupported feature) rows f l n m picture p q = grind (arith, common_steps)
+numbers o true (errors.Io e) rows f l n m picture p q = grind (arith, common_steps)
+numbers o false (errors.Io e) rows f l n m picture p q = grind (arith, common_steps)
+numbers o exceeded (errors.Internal t) rows f l n m picture p q = absurd n
+numbers o exceeded errors.OutOfMemory rows f l n m picture p q = absurd (m refl)
 
 -- the number of a part is its own
 is-part : (r : Refusal) → fault_code r ≡ 9 → IsPart r
 is-part r e = grind arith
 
 error-told : (extent : Extent) (r : Refusal) (o : Options) (bytes old new : List ℕ) (picture : Picture)
-    (feature : Feature) (fault rows : ℕ) (text : List ℕ)
-    → feature ≡ outcome_feature {X = ℕ} (Err r) → fault ≡ outcome_fault {X = ℕ} (Err r)
+    (exceeded : Bool) (feature : Feature) (fault rows : ℕ) (text : List ℕ) → (exceeded ≡ true → o.max_passes ≡ 0 → ⊥)
+    → feature ≡ outcome_feature {X = ℕ} (Err r) → fault ≡ with_passes exceeded (outcome_fault {X = ℕ} (Err r))
     → GivesPart extent o bytes old new picture r → IsPart r
     → (f : Fault)
     × Gives extent o bytes old new (Some f) (without_fault (without_rows (telling picture feature fault rows text)))
-    × TellsFault (telling picture feature fault rows text) f
-error-told extent (refusals.Part e n) o bytes old new picture feature fault rows text is names s p = (
+    × TellsFault o (telling picture feature fault rows text) f
+error-told extent (refusals.Part e n) o bytes old new picture exceeded feature fault rows text l is names s p = (
   s.0,
   subst (λ (p : Picture). Gives extent o bytes old new (Some s.0) p)
       (without-same o s.3.info s.3.precision s.3.samples old new picture feature fault rows text s.3.arranged) s.3,
-  numbers e n s.0 s.1 s.2 (telling picture feature fault rows text) names
+  numbers o exceeded e n s.0 l s.1 s.2 (telling picture feature fault rows text) names
       (ap (λ (f : Feature). f.number) is, ap (λ (f : Feature). f.argument) is),
 )
-error-told extent (refusals.Stream e) o bytes old new picture feature fault rows text is names s p = absurd p
-error-told extent refusals.Reader o bytes old new picture feature fault rows text is names s p = absurd p
-error-told extent (refusals.Argument t) o bytes old new picture feature fault rows text is names s p = absurd p
-error-told extent refusals.NoRoom o bytes old new picture feature fault rows text is names s p = absurd p
-error-told extent refusals.TooLarge o bytes old new picture feature fault rows text is names s p = absurd p
+error-told extent (refusals.Stream e) o bytes old new picture exceeded feature fault rows text l is names s p = absurd p
+error-told extent refusals.Reader o bytes old new picture exceeded feature fault rows text l is names s p = absurd p
+error-told extent (refusals.Argument t) o bytes old new picture exceeded feature fault rows text l is names s p = absurd p
+error-told extent refusals.NoRoom o bytes old new picture exceeded feature fault rows text l is names s p = absurd p
+error-told extent refusals.TooLarge o bytes old new picture exceeded feature fault rows text l is names s p = absurd p
 
 part-told : (extent : Extent) (outcome : Result ℕ Refusal) (o : Options) (bytes old new : List ℕ) (picture : Picture)
     (feature : Feature) (fault rows : ℕ) (text : List ℕ) (code : ℕ)
-    → Answered outcome feature fault rows text code
+    → (exceeded : Bool) → (exceeded ≡ true → o.max_passes ≡ 0 → ⊥)
+    → Answered outcome exceeded feature fault rows text code
     → IfErr outcome (GivesPart extent o bytes old new picture) → code ≡ 9
     → (f : Fault)
     × Gives extent o bytes old new (Some f) (without_fault (without_rows (telling picture feature fault rows text)))
-    × TellsFault (telling picture feature fault rows text) f
-part-told extent (Ok x) o bytes old new picture feature fault rows text code a s z =
+    × TellsFault o (telling picture feature fault rows text) f
+part-told extent (Ok x) o bytes old new picture feature fault rows text code exceeded l a s z =
     absurd (omega (arith, a.code_is, z))
-part-told extent (Err r) o bytes old new picture feature fault rows text code a s z =
-    error-told extent r o bytes old new picture feature fault rows text a.feature_is a.fault_is s
+part-told extent (Err r) o bytes old new picture feature fault rows text code exceeded l a s z =
+    error-told extent r o bytes old new picture exceeded feature fault rows text l a.feature_is a.fault_is s
     (is-part r (sym a.code_is ∙ z))
 
 -- ---- numbers
@@ -215,12 +243,27 @@ whole-codes o bytes old new picture (Err r) s =
     few-codes {X = ℕ} (Err r) (λ p. no-part-given Whole o bytes old new picture r s p refl)
 
 codes : (extent : Extent) (o : Options) (bytes old new : List ℕ) (picture : Picture) (outcome : Result ℕ Refusal)
-    (code : ℕ) → code ≡ status_of outcome → IfErr outcome (GivesPart extent o bytes old new picture)
-    → (code ≤ greatest_code extent) × (code ≡ 7 → ⊥)
-codes Whole o bytes old new picture outcome code c s =
+    (passed : Bool) (code : ℕ) → (passed ≡ true → extent ≡ Whole) → code ≡ with_passes passed (status_of outcome)
+    → IfErr outcome (GivesPart extent o bytes old new picture) → IsAnswer extent code × (code ≡ 7 → ⊥)
+codes Whole o bytes old new picture outcome passed code w c s =
     let few = whole-codes o bytes old new picture outcome s in
-    let all = all-codes outcome in (omega (arith, c, few), λ z. all.1 (sym c ∙ z))
-codes Partial o bytes old new picture outcome code c s =
+    let all = all-codes outcome in (
+      within passed (status_of outcome) code c few,
+      λ z. all.1 (other-code passed (status_of outcome) code 7 c (λ e. omega (arith, e)) z),
+    )
+  where
+    within : (passed : Bool) (n code : ℕ) → code ≡ with_passes passed n → n ≤ 8 → (code ≤ 8) ⊎ (code ≡ 10)
+    within false n code c few = inl (omega (arith, c, few))
+    within true n code c few = is-one n code c few (n == 1) refl
+      where
+        is-one : (n code : ℕ) → code ≡ with_passes true n → n ≤ 8 → (b : Bool) → (n == 1) ≡ b → (code ≤ 8) ⊎ (code ≡ 10)
+        is-one n code c few true e = inr (grind (arith, common_steps))
+        is-one n code c few false e = inl (grind (arith, common_steps))
+codes Partial o bytes old new picture outcome true code w c s = absurd (part-whole (w refl))
+  where
+    part-whole : Partial ≡ Whole → ⊥
+    part-whole e = cc
+codes Partial o bytes old new picture outcome false code w c s =
     let all = all-codes outcome in (omega (arith, c, all.0), λ z. all.1 (sym c ∙ z))
 
 -- ---- what is described
@@ -347,64 +390,98 @@ own-cleared outcome code c z = grind arith
 -- ---- all of it
 
 pub fills : (extent : Extent) (o : Options) (bytes old new : List ℕ) (picture : Picture) (outcome : Result ℕ Refusal)
-    (feature : Feature) (fault rows : ℕ) (text : List ℕ) (code : ℕ)
-    → DecodesInto extent o bytes old new no_picture picture outcome → Answered outcome feature fault rows text code
-    → Fills extent o bytes old new (telling picture feature fault rows text) code
-fills extent o bytes old new picture outcome feature fault rows text code d a =
+    (exceeded : Bool) (feature : Feature) (fault rows : ℕ) (text : List ℕ) (code : ℕ) (passed : Bool) (answer : ℕ)
+    → DecodesInto extent o bytes old new no_picture picture outcome
+    → Answered outcome exceeded feature fault rows text code → (exceeded ≡ true → o.max_passes ≡ 0 → ⊥)
+    → (passed ≡ true → (exceeded ≡ true) × (extent ≡ Whole)) → answer ≡ with_passes passed code
+    → Fills extent o bytes old new (telling picture feature fault rows text) answer
+fills extent o bytes old new picture outcome exceeded feature fault rows text code passed answer d a limits whole is =
     let names : IsNamed code (given_by extent o bytes) =
     named outcome (given_by extent o bytes) code a.code_is d.named in
     let shown : code ≡ 0 → Gives extent o bytes old new None (without_rows (telling picture feature fault rows text)) =
-    whole-told extent outcome o bytes old new picture feature fault rows text code a d.given in
+    whole-told extent outcome o bytes old new picture feature fault rows text code exceeded a d.given in
+    let faultless : outcome_fault outcome ≡ 0 → fault ≡ 0 = λ e.
+    a.fault_is ∙ ap (with_passes exceeded) e ∙ none-passed exceeded in
+    let back : (n : ℕ) → (n ≡ 10 → ⊥) → answer ≡ n → code ≡ n = λ n m z. other-code passed code answer n is m z in
+    let on : (n : ℕ) → (n ≡ 1 → ⊥) → code ≡ n → answer ≡ n = λ n m z. same-code passed code answer n is m z in
+    let to0 = back 0 (λ e. omega (arith, e)) in
+    let to9 = back 9 (λ e. omega (arith, e)) in
+    let to5 = back 5 (λ e. omega (arith, e)) in
+    let to8 = back 8 (λ e. omega (arith, e)) in
+    let as0 : (answer ≡ 0 → ⊥) → code ≡ 0 → ⊥ = λ n z. n (on 0 (λ e. omega (arith, e)) z) in
+    let as9 : (answer ≡ 9 → ⊥) → code ≡ 9 → ⊥ = λ n z. n (on 9 (λ e. omega (arith, e)) z) in
+    let as2 : (answer ≡ 2 → ⊥) → code ≡ 2 → ⊥ = λ n z. n (on 2 (λ e. omega (arith, e)) z) in
+    let either : (answer ≡ 0) ⊎ (answer ≡ 9) → (code ≡ 0) ⊎ (code ≡ 9) = λ z. elim z [ inl e ↦ inl (to0 e) | inr e ↦ inr (to9 e) ] in
+    let own : (answer ≡ 5) ⊎ (answer ≡ 8) → (code ≡ 5) ⊎ (code ≡ 8) = λ z. elim z [ inl e ↦ inl (to5 e) | inr e ↦ inr (to8 e) ] in
     record {
-      given = shown;
-      part = part-told extent outcome o bytes old new picture feature fault rows text code a d.part;
-      entire = λ n. a.fault_is ∙ no-fault outcome code a.code_is n;
-      images = λ z. images-given extent o bytes old new (telling picture feature fault rows text) (shown z)
-          (a.rows_are ∙ told-rows outcome (rows_by extent o bytes) code a.code_is d.rows (inl z))
-          (if-ok _ outcome code a.code_is d.counts z);
-      rows = λ z. a.rows_are ∙ told-rows outcome (rows_by extent o bytes) code a.code_is d.rows z;
-      rowless = λ n m. a.rows_are ∙ none-told outcome code a.code_is n m;
-      counts = λ z. if-ok _ outcome code a.code_is d.counts z;
-      header = λ z. if-own _ outcome code a.code_is d.header z;
+      given = λ z. shown (to0 z);
+      part = λ z. part-told extent outcome o bytes old new picture feature fault rows text code exceeded limits a d.part (to9 z);
+      entire = λ n. faultless (no-fault outcome code a.code_is (as9 n));
+      images = λ z. images-given extent o bytes old new (telling picture feature fault rows text) (shown (to0 z))
+          (a.rows_are ∙ told-rows outcome (rows_by extent o bytes) code a.code_is d.rows (inl (to0 z)))
+          (if-ok _ outcome code a.code_is d.counts (to0 z));
+      rows = λ z. a.rows_are ∙ told-rows outcome (rows_by extent o bytes) code a.code_is d.rows (either z);
+      rowless = λ n m. a.rows_are ∙ none-told outcome code a.code_is (as0 n) (as9 m);
+      counts = λ z. if-ok _ outcome code a.code_is d.counts (to0 z);
+      header = λ z. if-own _ outcome code a.code_is d.header (own z);
       unread = λ n. ap (λ (p : Picture). p.stream_bytes) (d.unasked n);
       most = d.most refl;
-      number = codes extent o bytes old new picture outcome code a.code_is d.part;
-      malformed = names.0;
+      number = codes extent o bytes old new picture outcome passed answer (λ p. (whole p).1)
+          (is ∙ ap (with_passes passed) a.code_is) d.part;
+      malformed = λ z. names.0 (back 1 (λ e. omega (arith, e)) z);
+      passes = λ z.
+          let all = all-codes outcome in
+          let p = passed-code passed code answer is (omega (arith, a.code_is, all.0)) z in
+          (names.0 p.1, limits (whole p.0).0);
       unsupported = λ z.
-          let l = feature-told outcome (given_by extent o bytes) code feature a.code_is a.feature_is d.named z in
+          let l = feature-told outcome (given_by extent o bytes) code feature a.code_is a.feature_is d.named
+          (back 2 (λ e. omega (arith, e)) z) in
           (l.0, l.1, (ap (λ (f : Feature). f.number) l.2, ap (λ (f : Feature). f.argument) l.2));
-      truncated = names.2;
+      truncated = λ z. names.2 (back 3 (λ e. omega (arith, e)) z);
       unnamed = λ n m.
-          let l = a.feature_is ∙ none-lacking outcome code a.code_is n m in
+          let l = a.feature_is ∙ none-lacking outcome code a.code_is (as2 n) (as9 m) in
           (ap (λ (f : Feature). f.number) l, ap (λ (f : Feature). f.argument) l);
-      kept = λ n m. kept-told _ outcome code a.code_is d.kept n m;
+      kept = λ n m. kept-told _ outcome code a.code_is d.kept (as0 n) (as9 m);
       describes = λ z. described-shown extent o bytes picture feature fault rows text
-          (within-told _ outcome code a.code_is d.within d.described z);
+          (within-told _ outcome code a.code_is d.within d.described (either z));
       room = λ z.
-          let w = room-at _ outcome code a.code_is d.room z in
-          let none = own-cleared outcome code a.code_is (inl z) in (
+          let w = room-at _ outcome code a.code_is d.room (to5 z) in
+          let none = own-cleared outcome code a.code_is (inl (to5 z)) in (
             subst (λ (p : Picture). IsWithin extent o bytes p)
-                (sym (as-told extent o bytes picture feature fault rows text (a.fault_is ∙ none.0) (a.rows_are ∙ none.1)
+                (sym (as-told extent o bytes picture feature fault rows text (faultless none.0) (a.rows_are ∙ none.1)
                 w.0.0)) w.0,
             w.1,
           );
       large = λ z.
-          let w = large-at _ outcome code a.code_is d.large z in
-          let none = own-cleared outcome code a.code_is (inr z) in
+          let w = large-at _ outcome code a.code_is d.large (to8 z) in
+          let none = own-cleared outcome code a.code_is (inr (to8 z)) in
           subst (λ (p : Picture). IsTooLarge extent o bytes p)
-          (sym (as-told extent o bytes picture feature fault rows text (a.fault_is ∙ none.0) (a.rows_are ∙ none.1)
+          (sym (as-told extent o bytes picture feature fault rows text (faultless none.0) (a.rows_are ∙ none.1)
           w.0)) w;
-      limited = λ size l. of-call-number outcome code a.code_is (d.limited size l);
-      short = λ size w l. of-room-number outcome code a.code_is (d.short size w l);
-      known = λ n. argument-code outcome code a.code_is (d.known n);
-      wrong = λ z. wrong-told outcome (given_by extent o bytes) _ code a.code_is d.named d.wrong z;
+      limited = λ size l. kept-number (of-call-number outcome code a.code_is (d.limited size l)) on;
+      short = λ size w l. kept-room (of-room-number outcome code a.code_is (d.short size w l)) on;
+      known = λ n. on 6 (λ e. omega (arith, e)) (argument-code outcome code a.code_is (d.known n));
+      wrong = λ z. wrong-told outcome (given_by extent o bytes) _ code a.code_is d.named d.wrong
+          (back 6 (λ e. omega (arith, e)) z);
       unasked = λ n.
           let none = argument-cleared outcome (d.known n) in
-          cleared picture feature fault rows text (a.fault_is ∙ none.0) (a.rows_are ∙ none.1)
+          cleared picture feature fault rows text (faultless none.0) (a.rows_are ∙ none.1)
           (ap (λ (p : Picture). uncounted p) (d.unasked n));
       cleared = λ f h.
           let none = header-cleared extent o bytes old new picture outcome f h d.given d.part in
-          cleared picture feature fault rows text (a.fault_is ∙ none.0) (a.rows_are ∙ none.1) (d.undescribed f h);
+          cleared picture feature fault rows text (faultless none.0) (a.rows_are ∙ none.1) (d.undescribed f h);
       ended = a.ended;
-      said = λ z. if-own _ outcome code a.code_is a.said z;
+      said = λ z. if-own _ outcome code a.code_is a.said (own z);
     }
+  where
+    kept-number : {code answer : ℕ} → IsOfCallNumber code → ((n : ℕ) → (n ≡ 1 → ⊥) → code ≡ n → answer ≡ n)
+        → IsOfCallNumber answer
+    kept-number (inl e) on = inl (on 8 (λ f. omega (arith, f)) e)
+    kept-number (inr (inl e)) on = inr (inl (on 4 (λ f. omega (arith, f)) e))
+    kept-number (inr (inr e)) on = inr (inr (on 6 (λ f. omega (arith, f)) e))
+
+    kept-room : {code answer : ℕ} → IsOfRoomNumber code → ((n : ℕ) → (n ≡ 1 → ⊥) → code ≡ n → answer ≡ n)
+        → IsOfRoomNumber answer
+    kept-room (inl e) on = inl (on 5 (λ f. omega (arith, f)) e)
+    kept-room (inr (inl e)) on = inr (inl (on 4 (λ f. omega (arith, f)) e))
+    kept-room (inr (inr e)) on = inr (inr (on 6 (λ f. omega (arith, f)) e))

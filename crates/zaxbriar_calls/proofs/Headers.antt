@@ -1,27 +1,31 @@
 -- What a header determines: one description of its picture, and why one within the limits is refused.
-use Rattle.std.proofs.Common.{arith, ◌≡◌, ◌∙◌, ℕ, List, Some, Ok, Result, ap, false, refl, sym, true}
-use Rattle.std.specs.Prelude.{option_map}
+use Rattle.std.proofs.Common.{arith, ◌≡◌, ◌∙◌, ◌*◌, ℕ, Bool, List, Some, Ok, Result, ap, false, refl, sym, true}
+use Rattle.std.specs.Prelude.{◌||◌, option_map}
 use Rattle.std.proofs.lemmas.Grind.{common_steps}
 use Rattle.jpeg_bits.specs.Reading.{Fault, Names, Outcome}
 use Rattle.jpeg_bits.specs.declared.error.Error.{Error}
 use Rattle.jpeg_bits.specs.declared.error.Error.TheVariants as errors
-use Rattle.jpeg_decoder.specs.Bytes.{decoding_bytes}
+use Rattle.jpeg_decoder.specs.Bytes.{decoding_bytes, samples_a_pixel}
 use Rattle.jpeg_decoder.specs.StreamTransforms.{frame_transform}
-use Rattle.jpeg_streams.specs.DecodedImages.{at_size}
-use Rattle.jpeg_streams.specs.Found.{Found}
+use Rattle.jpeg_streams.specs.DecodedImages.{AtLeast, AtScale, FullSize, Size, at_size}
+use Rattle.jpeg_streams.specs.Found.{Found, Said}
 use Rattle.jpeg_streams.specs.Pixels.{info_of}
+use Rattle.jpeg_streams.specs.States.{Decoding}
 use Rattle.jpeg_streams.specs.Stream.{header_at}
 use Rattle.zaxbriar_calls.specs.Density.{density_of}
 use Rattle.zaxbriar_calls.specs.Layouts.{conversion_to}
 use Rattle.zaxbriar_calls.specs.Faults.{IsFault, IsOfRoom, IsPart}
-use Rattle.zaxbriar_calls.specs.Limits.{bytes_beside, exceeds_limits}
-use Rattle.zaxbriar_calls.specs.Lines.{described_picture, lines_by}
+use Rattle.zaxbriar_calls.specs.Limits.{bytes_beside, exceeds_limits, is_over}
+use Rattle.zaxbriar_calls.specs.Lines.{HasLines, described_picture, lines_by}
 use Rattle.zaxbriar_calls.specs.Meanings.{Describes, IsTooLarge, IsWithin, number_of_transform, orientation_by}
-use Rattle.zaxbriar_calls.specs.Meanings.{settings_of, size_wanted}
+use Rattle.zaxbriar_calls.specs.Meanings.{ReadsHeader, settings_of, size_wanted}
 use Rattle.zaxbriar_calls.specs.Sampling.{sampling_of}
 use Rattle.zaxbriar_calls.specs.declared.answers.Refusal.{Refusal}
 use Rattle.zaxbriar_calls.specs.declared.answers.Refusal.TheVariants as refusals
+use Rattle.zaxbriar_calls.specs.declared.density.Density.{Density}
 use Rattle.zaxbriar_calls.specs.declared.extents.Extent.{Extent}
+use Rattle.zaxbriar_calls.specs.declared.header.Header.{Header}
+use Rattle.zaxbriar_calls.specs.declared.lines.Lines.{Lines}
 use Rattle.zaxbriar_calls.specs.declared.options.Options.{Options}
 use Rattle.zaxbriar_calls.specs.declared.picture.Picture.{Picture}
 
@@ -81,3 +85,69 @@ only-room extent o bytes picture size refusals.TooLarge w named large room part 
   where
     true-false : true ≡ false → ⊥
     true-false h = cc
+
+-- ---- a description
+
+sized-metadata : (size : Size) (said : Said) → (at_size size said).metadata ≡ said.metadata
+sized-metadata FullSize said = refl
+sized-metadata (AtLeast width height) said = refl
+sized-metadata (AtScale scale) said = refl
+
+-- a picture is described by its header
+pub describes : (extent : Extent) (o : Options) (old new : Decoding) (h : Header) (lines : Lines) (density : Density)
+    (picture : Picture) → ReadsHeader o old new → old.source.known ≡ true
+    → option_map info_of new.found.said.frame ≡ Some h.info
+    → option_map (λ f. f.precision) new.found.said.frame ≡ Some h.precision
+    → h.orientation ≡ orientation_by new.found.said.metadata.exif
+    → option_map (λ f. sampling_of f.components) new.found.said.frame ≡ Some h.sampling
+    → option_map (λ f. number_of_transform (frame_transform new.found.said.metadata f)) new.found.said.frame
+    ≡ Some h.transform
+    → option_map (decoding_bytes new.settings) new.found.said.frame ≡ Some h.decoding_bytes
+    → HasLines o h.info h.precision lines → density ≡ density_of old.source.bytes
+    → picture ≡ described_picture o.layout h.info h.precision lines (bytes_beside extent h.decoding_bytes) h.orientation
+    h.sampling h.transform density 0
+    → Describes extent o old.source.bytes picture
+describes extent o old new h lines density picture r known info precision oriented sampling transform bytes l d w =
+    let facts = r.reads known in
+    let header = facts.1.0 in
+    let same : new.found.said ≡ at_size (size_wanted o) header.said = ap (λ (f : Found). f.said) facts.1.2 in
+    let metadata : new.found.said.metadata ≡ header.said.metadata =
+    ap (λ (s : Said). s.metadata) same ∙ sized-metadata (size_wanted o) header.said in
+    record {
+      header = header;
+      rest = new.source.bytes;
+      info = h.info;
+      precision = h.precision;
+      decoding = h.decoding_bytes;
+      conversion = l.conversion;
+      sampling = h.sampling;
+      transform = h.transform;
+      reads = facts.1.1;
+      info_is = ap (λ (s : Said). option_map info_of s.frame) (sym same) ∙ info;
+      precision_is = ap (λ (s : Said). option_map (λ f. f.precision) s.frame) (sym same) ∙ precision;
+      decoding_is = ap (λ (s : Said). option_map (decoding_bytes (settings_of o)) s.frame) (sym same) ∙ bytes;
+      conversion_is = l.is;
+      sampling_is = ap (λ (s : Said). option_map (λ f. sampling_of f.components) s.frame) (sym same) ∙ sampling;
+      transform_is = (λ i. option_map (λ f. number_of_transform (frame_transform (sym metadata i) f)) (sym same i).frame)
+          ∙ transform;
+      picture_is = w ∙ (λ i. described_picture o.layout h.info h.precision (l.lines_are i)
+          (bytes_beside extent h.decoding_bytes)
+          ((oriented ∙ ap (λ (s : Said). orientation_by s.metadata.exif) same) i) h.sampling h.transform (d i) 0);
+    }
+
+-- and compared with the limits
+pub exceeds-described : (extent : Extent) (o : Options) (h : Header) (lines : Lines) (density : Density)
+    (picture : Picture) (over : Bool) → HasLines o h.info h.precision lines
+    → picture ≡ described_picture o.layout h.info h.precision lines (bytes_beside extent h.decoding_bytes) h.orientation
+    h.sampling h.transform density 0
+    → over ≡ (is_over o.max_samples (h.info.width * h.info.height * samples_a_pixel h.info.pixel_format)
+    || is_over o.max_bytes picture.decoding_bytes)
+    → exceeds_limits o picture ≡ over
+exceeds-described extent o h lines density picture over l w e =
+    let width : picture.width ≡ h.info.width =
+    ap (λ (p : Picture). p.width) w ∙ ap (λ (l : Lines). l.width) l.lines_are in
+    let height : picture.height ≡ h.info.height =
+    ap (λ (p : Picture). p.height) w ∙ ap (λ (l : Lines). l.height) l.lines_are in
+    let components : picture.components ≡ samples_a_pixel h.info.pixel_format = ap (λ (p : Picture). p.components) w in
+    (λ i. is_over o.max_samples (width i * height i * components i) || is_over o.max_bytes picture.decoding_bytes)
+    ∙ sym e

@@ -6,9 +6,11 @@ mod Filled
 mod FoundPlaces
 mod FoundSegments
 mod Headers
+mod Images
 mod Informed
 mod KeptBytes
 mod Laid
+mod Limited
 mod Means
 mod Outcomes
 mod Parts

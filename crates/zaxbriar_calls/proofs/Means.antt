@@ -20,7 +20,9 @@ use Rattle.jpeg_decoder.proofs.Pictures.DecodedImages.{left-means, means_at}
 use Rattle.zaxbriar_calls.specs.Fills.{FillsImages}
 use Rattle.zaxbriar_calls.specs.Given.{CountsImage, Gives, faultless, given_by, given_rest, rows_by, without_rows}
 use Rattle.zaxbriar_calls.specs.Lines.{Arranged}
-use Rattle.zaxbriar_calls.specs.Meanings.{CountsRead, ReadsHeader, ShowsSamples, StandsAfter, settings_of, size_wanted, meaning_by}
+use Rattle.zaxbriar_calls.proofs.Limited.{rest-same, rest-unlimited}
+use Rattle.zaxbriar_calls.specs.Limits.{blocks_of_passes}
+use Rattle.zaxbriar_calls.specs.Meanings.{CountsRead, ReadsHeader, ShowsSamples, StandsAfter, found_at, meaning_by, settings_at, settings_of, size_wanted}
 use Rattle.zaxbriar_calls.specs.declared.extents.Extent.{Extent}
 use Rattle.zaxbriar_calls.specs.declared.extents.Extent.TheVariants.{Whole, Partial}
 use Rattle.zaxbriar_calls.specs.declared.options.Options.{Options}
@@ -44,10 +46,10 @@ rest-means : (read : Outcome (Told × List ℕ)) (m : Told × List ℕ) (rest : 
 rest-means read m rest e = then-ok read _ (m, rest) _ e refl
 
 read-means : (o : Options) (header : Outcome Found) (m : Told × List ℕ) (rest : List ℕ)
-    → (header >>= (λ h. rest_by (settings_of o) (with_said (at_size (size_wanted o)) h.0) h.1)) ≡ Ok (m, rest)
-    → (header >>= (λ h. given_rest Whole (settings_of o) (with_said (at_size (size_wanted o)) h.0) h.1)) ≡ Ok (faultless m)
+    → (header >>= (λ h. rest_by (settings_at o (found_at o h.0)) (found_at o h.0) h.1)) ≡ Ok (m, rest)
+    → (header >>= (λ h. given_rest Whole (settings_at o (found_at o h.0)) (found_at o h.0) h.1)) ≡ Ok (faultless m)
 read-means o (Ok h) m rest e =
-    rest-means (rest_by (settings_of o) (with_said (at_size (size_wanted o)) h.0) h.1) m rest e
+    rest-means (rest_by (settings_at o (found_at o h.0)) (found_at o h.0) h.1) m rest e
 read-means o (Err f) m rest e = absurd cc
 
 -- the whole of what a stream gives is its meaning
@@ -60,9 +62,9 @@ rest-fails : (read : Outcome (Told × List ℕ)) (f : Fault) → read ≡ Err f 
 rest-fails read f e = rw e refl
 
 read-fails : (o : Options) (header : Outcome Found) (f : Fault)
-    → (header >>= (λ h. rest_by (settings_of o) (with_said (at_size (size_wanted o)) h.0) h.1)) ≡ Err f
-    → (header >>= (λ h. given_rest Whole (settings_of o) (with_said (at_size (size_wanted o)) h.0) h.1)) ≡ Err f
-read-fails o (Ok h) f e = rest-fails (rest_by (settings_of o) (with_said (at_size (size_wanted o)) h.0) h.1) f e
+    → (header >>= (λ h. rest_by (settings_at o (found_at o h.0)) (found_at o h.0) h.1)) ≡ Err f
+    → (header >>= (λ h. given_rest Whole (settings_at o (found_at o h.0)) (found_at o h.0) h.1)) ≡ Err f
+read-fails o (Ok h) f e = rest-fails (rest_by (settings_at o (found_at o h.0)) (found_at o h.0) h.1) f e
 read-fails o (Err g) f e = ap (λ (r : Outcome (Told × List ℕ)). refused r) e
   where
     refused : Outcome (Told × List ℕ) → Result Shown Fault
@@ -82,7 +84,7 @@ means-array FullSize = stream-means
 means-array (AtLeast width height) = stream-means_sized width height
 means-array (AtScale scale) = stream-means_scaled scale
 
--- that of an image that is written is its picture
+-- that of an image that is written is its picture, where it isn't refused for the blocks of its scans
 image-means : (o : Options) (header : Outcome Found) (array : Coefficients) (image rest : List ℕ) (final : Said)
     (last : ℕ → Levels) (m : Told × List ℕ) (left : List ℕ)
     → ((index row column : ℕ) → Is8Bit (array index row column)) → WritesImage array image final last
@@ -90,13 +92,15 @@ image-means : (o : Options) (header : Outcome Found) (array : Coefficients) (ima
     → meaning_of_array (settings_of o) (at_size (size_wanted o) final) array last rest ≡ Ok (m, left)
 unfolding meaning_by
 image-means o (Ok h) array image rest final last m left range w e means =
-    let has = has-left (size_wanted o) (image ++ rest) h.1 (with_said (at_size (size_wanted o)) h.0) h.0 e refl in
-    let ahead = left-means (size_wanted o) (settings_of o) (image ++ rest) HeaderRead
-    (with_said (at_size (size_wanted o)) h.0) h.1 _ has tt
+    let found = found_at o h.0 in
+    let has = has-left (size_wanted o) (image ++ rest) h.1 found h.0 e refl in
+    let ahead = left-means (size_wanted o) (settings_of o) (image ++ rest) HeaderRead found h.1 _ has tt
     (means-array (size_wanted o) (settings_of o) array image rest final last range w) in
-    let read : meaning_by o (image ++ rest) ≡ rest_by (settings_of o) (with_said (at_size (size_wanted o)) h.0) h.1 =
+    let read : meaning_by o (image ++ rest) ≡ rest_by (settings_at o found) found h.1 =
     then-ok (header_at (image ++ rest)) _ h _ e refl in
-    sym ahead ∙ sym read ∙ means
+    let limit = blocks_of_passes o.max_passes found.said.frame in
+    sym ahead ∙ sym (rest-same None limit (settings_of o) found h.1)
+    ∙ rest-unlimited limit (settings_at o found) found h.1 (m, left) (sym read ∙ means)
 image-means o (Err f) array image rest final last m left range w e means =
     let none : meaning_by o (image ++ rest) ≡ Err f = rw e refl in
     absurd cc

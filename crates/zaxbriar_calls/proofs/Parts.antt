@@ -8,8 +8,7 @@ use Rattle.jpeg_bits.specs.declared.error.Error.{Error}
 use Rattle.jpeg_decoder.specs.Reaching.{NamesFault}
 use Rattle.jpeg_decoder.specs.Shows.{Shows, ShowsJust}
 use Rattle.jpeg_streams.proofs.Written.ReadTurns.{then-ok}
-use Rattle.jpeg_streams.specs.DecodedImages.{at_size}
-use Rattle.jpeg_streams.specs.Found.{Found, with_said}
+use Rattle.jpeg_streams.specs.Found.{Found}
 use Rattle.jpeg_streams.specs.Pixels.{info_of}
 use Rattle.jpeg_streams.specs.Shown.{Shown, shown_ahead, shown_rest_within}
 use Rattle.jpeg_streams.specs.States.{Decoding, IfRefused, IsReading}
@@ -22,7 +21,7 @@ use Rattle.zaxbriar_calls.specs.Faults.{IsFault, IsPart, StandsFor}
 use Rattle.zaxbriar_calls.specs.Given.{Brings, BringsLines, EndsImage, Gives, GivesPart, HasRows, Reaches, faultless}
 use Rattle.zaxbriar_calls.specs.Given.{given_by, given_rest, rows_by, rows_rest}
 use Rattle.zaxbriar_calls.specs.Lines.{HasLines, described_picture}
-use Rattle.zaxbriar_calls.specs.Meanings.{settings_of, size_wanted}
+use Rattle.zaxbriar_calls.specs.Meanings.{found_at, settings_at}
 use Rattle.zaxbriar_calls.specs.declared.answers.Refusal.{Refusal}
 use Rattle.zaxbriar_calls.specs.declared.answers.Refusal.TheVariants as refusals
 use Rattle.zaxbriar_calls.specs.declared.density.Density.{Density}
@@ -152,7 +151,7 @@ header-lacks extent o bytes refusals.NoRoom h = tt
 header-lacks extent o bytes refusals.TooLarge h = tt
 
 pub gives-rest : (extent : Extent) (o : Options) (bytes rest : List ℕ) (header : Found) → header_at bytes ≡ Ok (header, rest)
-    → given_by extent o bytes ≡ given_rest extent (settings_of o) (with_said (at_size (size_wanted o)) header) rest
+    → given_by extent o bytes ≡ given_rest extent (settings_at o (found_at o header)) (found_at o header) rest
 unfolding given_by
 gives-rest extent o bytes rest header h = then-ok (header_at bytes) _ (header, rest) _ h refl
 
@@ -166,10 +165,10 @@ whole-entire (Ok m) s e = ap (λ (r : Result Shown Fault). fault_in r) (sym e)
 whole-entire (Err f) s e = absurd cc
 
 read-entire : (o : Options) (header : Outcome Found) (s : Shown)
-    → (header >>= (λ h. given_rest Whole (settings_of o) (with_said (at_size (size_wanted o)) h.0) h.1)) ≡ Ok s
+    → (header >>= (λ h. given_rest Whole (settings_at o (found_at o h.0)) (found_at o h.0) h.1)) ≡ Ok s
     → s.fault ≡ None
 read-entire o (Ok h) s e =
-    whole-entire (rest_by (settings_of o) (with_said (at_size (size_wanted o)) h.0) h.1) s e
+    whole-entire (rest_by (settings_at o (found_at o h.0)) (found_at o h.0) h.1) s e
 read-entire o (Err f) s e = absurd cc
 
 pub given-entire : (o : Options) (bytes : List ℕ) (s : Shown) → given_by Whole o bytes ≡ Ok s → s.fault ≡ None
@@ -181,8 +180,8 @@ given-entire o bytes s e = read-entire o (header_at bytes) s e
 pub brought-given : (extent : Extent) (o : Options) (bytes : List ℕ) (header : Found) (info : ImageInfo) (precision : ℕ)
     (lines : Lines) (fault : Option Error) (old new : Decoding) (before after : List ℕ) (picture : Picture)
     (decoding orientation stream : ℕ) (sampling : List ℕ) (transform : ℕ) (density : Density)
-    → header_at bytes ≡ Ok (header, old.source.bytes) → old.settings ≡ settings_of o
-    → old.found ≡ with_said (at_size (size_wanted o)) header
+    → header_at bytes ≡ Ok (header, old.source.bytes) → old.settings ≡ settings_at o old.found
+    → old.found ≡ found_at o header
     → option_map info_of old.found.said.frame ≡ Some info
     → option_map (λ f. f.precision) old.found.said.frame ≡ Some precision → HasLines o info precision lines
     → picture ≡ described_picture o.layout info precision lines decoding orientation sampling transform density
@@ -196,7 +195,8 @@ brought-given extent o bytes header info precision lines fault old new before af
       info = info;
       precision = precision;
       are = gives-rest extent o bytes old.source.bytes header h
-          ∙ (λ i. given_rest extent (sym s i) (sym f i) old.source.bytes) ∙ b.brings.shown;
+          ∙ (λ i. given_rest extent (settings_at o (sym f i)) (sym f i) old.source.bytes)
+          ∙ (λ i. given_rest extent (sym s i) old.found old.source.bytes) ∙ b.brings.shown;
       info_is = ap (λ f. option_map info_of f) b.frame ∙ i;
       precision_is = ap (λ f. option_map (λ f. f.precision) f) b.frame ∙ p;
       arranged = arranged-of o info precision b.samples before after picture lines decoding orientation stream sampling
@@ -241,7 +241,7 @@ no-part extent o bytes before after picture r n = grind (arith, common_steps)
 -- ---- rows that are complete
 
 pub rows-given : (extent : Extent) (o : Options) (bytes rest : List ℕ) (header : Found) → header_at bytes ≡ Ok (header, rest)
-    → rows_by extent o bytes ≡ rows_rest extent (settings_of o) (with_said (at_size (size_wanted o)) header) rest
+    → rows_by extent o bytes ≡ rows_rest extent (settings_at o (found_at o header)) (found_at o header) rest
 unfolding rows_by
 rows-given Whole o bytes rest header h = refl
 rows-given Partial o bytes rest header h = rw (h, rows_by) refl

@@ -12,8 +12,7 @@ use Rattle.jpeg_segments.specs.Frame.{Frame}
 use Rattle.jpeg_segments.specs.ScanHeader.{Scan, sos_at}
 use Rattle.jpeg_segments.specs.Checks.{needed}
 use Rattle.jpeg_segments.specs.declared.frame.CodingProcess.{CodingProcess}
-use Rattle.jpeg_streams.specs.DecodedImages.{at_size}
-use Rattle.jpeg_streams.specs.Found.{Found, nothing_found, with_said}
+use Rattle.jpeg_streams.specs.Found.{Found, nothing_found}
 use Rattle.jpeg_streams.specs.FoundPictures.{picture_of}
 use Rattle.jpeg_streams.specs.LosslessScans.{lossless_codings}
 use Rattle.jpeg_streams.specs.ScanSegments.{after_restarts, blocks_scan, codings_of, lossless_scan, scan_arrays}
@@ -35,7 +34,7 @@ use Rattle.jpeg_decoder.proofs.Segments.PassedRestarts.{Passes, after-passes}
 use Rattle.jpeg_decoder.proofs.Segments.LeftBytes.{IsOnward, On}
 use Rattle.jpeg_decoder.proofs.Segments.Turns.{onward_rules}
 use Rattle.zaxbriar_calls.specs.Given.{CountsImage, EndsImage}
-use Rattle.zaxbriar_calls.specs.Meanings.{CountsRead, StandsAfter, meaning_by, settings_of, size_wanted}
+use Rattle.zaxbriar_calls.specs.Meanings.{CountsRead, StandsAfter, found_at, meaning_by, settings_at}
 use Rattle.zaxbriar_calls.specs.declared.extents.Extent.{Extent}
 use Rattle.zaxbriar_calls.specs.declared.extents.Extent.TheVariants.{Whole, Partial}
 use Rattle.zaxbriar_calls.specs.declared.options.Options.{Options}
@@ -202,7 +201,7 @@ meaning-leaves : (limit : ℕ) (o : Options) (bytes : List ℕ) → length bytes
 unfolding meaning_by
 meaning-leaves limit o bytes h =
     below-on limit (header_at bytes) _ (header-leaves limit bytes h) (λ header p.
-    rest-leaves limit (settings_of o) (with_said (at_size (size_wanted o)) header.0) header.1 p)
+    rest-leaves limit (settings_at o (found_at o header.0)) (found_at o header.0) header.1 p)
 
 -- ---- what was read
 
@@ -236,14 +235,14 @@ meaning-counted o bytes source count =
     counted bytes (meaning_by o bytes) source count (meaning-leaves (suc (length bytes)) o bytes (omega arith))
 
 means-rest : (o : Options) (bytes rest : List ℕ) (header : Found) → header_at bytes ≡ Ok (header, rest)
-    → meaning_by o bytes ≡ rest_by (settings_of o) (with_said (at_size (size_wanted o)) header) rest
+    → meaning_by o bytes ≡ rest_by (settings_at o (found_at o header)) (found_at o header) rest
 unfolding meaning_by
 means-rest o bytes rest header h = then-ok (header_at bytes) _ (header, rest) _ h refl
 
 -- where the whole of a picture was read, its decoder has read the image
 pub image-counted : (extent : Extent) (o : Options) (bytes : List ℕ) (old new : Decoding) (header : Found) (count : ℕ)
-    → header_at bytes ≡ Ok (header, old.source.bytes) → old.settings ≡ settings_of o
-    → old.found ≡ with_said (at_size (size_wanted o)) header → EndsImage extent old new
+    → header_at bytes ≡ Ok (header, old.source.bytes) → old.settings ≡ settings_at o old.found
+    → old.found ≡ found_at o header → EndsImage extent old new
     → (new.source.known ≡ true → length new.source.bytes ≤ length bytes
     → count + length new.source.bytes ≡ length bytes)
     → CountsImage extent o bytes count
@@ -252,6 +251,7 @@ image-counted Whole o bytes old new header count h s f ends counts =
       known = ends.known;
       value = ends.value;
       reads = means-rest o bytes old.source.bytes header h
-          ∙ (λ i. rest_by (sym s i) (sym f i) old.source.bytes) ∙ ends.reads;
+          ∙ (λ i. rest_by (settings_at o (sym f i)) (sym f i) old.source.bytes)
+          ∙ (λ i. rest_by (sym s i) old.found old.source.bytes) ∙ ends.reads;
     }) counts
 image-counted Partial o bytes old new header count h s f ends counts = tt

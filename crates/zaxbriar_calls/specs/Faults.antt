@@ -1,6 +1,6 @@
 -- What a refusal says of the bytes of a stream, and its number.
 use Rattle.std.specs.Prelude.{◌≡◌, ◌⊎◌, ◌++◌, ℕ, Bool, List, Result, Ok, Err, drop}
-use Rattle.std.specs.Prelude.{length, min, replicate, take}
+use Rattle.std.specs.Prelude.{length, min, replicate, take, ◌==◌, ◌&&◌, if◌then◌else◌}
 use Rattle.jpeg_bits.specs.Reading.{Fault, Malformed, Lacks, End, IsGivenUp, Names}
 use Rattle.jpeg_bits.specs.declared.error.Error.{Error}
 use Rattle.jpeg_bits.specs.declared.error.Error.TheVariants as errors
@@ -45,8 +45,8 @@ IsOwn NoRoom = Unit {0}
 IsOwn TooLarge = Unit {0}
 IsOwn _ = ⊥
 
--- A refusal because the buffer is too small, by the arguments, because of the reader, or for lack of
--- memory.
+-- A refusal because the buffer is too small, by the arguments, because of the reader, or for lack
+-- of memory.
 abbrev pub IsOfRoom : Refusal → Type 0
 IsOfRoom (Stream e) = e ≡ errors.OutOfMemory
 IsOfRoom (Part e rows) = ⊥
@@ -88,6 +88,11 @@ fault_code Reader = 4
 fault_code (Argument text) = 6
 fault_code NoRoom = 5
 fault_code TooLarge = 8
+
+-- The number of an answer: that of a broken rule is 10, TOO_MANY_PASSES, where the decoder says
+-- that it refused a scan for its blocks.
+abbrev pub with_passes : Bool → ℕ → ℕ
+with_passes exceeded code = if exceeded && code == 1 then 10 else code
 
 abbrev pub status_of : {X : Type 0} → Result X Refusal → ℕ
 status_of (Ok x) = 0

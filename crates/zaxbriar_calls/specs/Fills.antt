@@ -36,10 +36,10 @@ FillsImages Whole o bytes old new picture =
     × (picture.stream_bytes ≡ length image)
 FillsImages Partial o bytes old new picture = Unit {0}
 
--- the greatest number that a call returns: PARTIAL, for a part alone, or else TOO_LARGE
-abbrev pub greatest_code : Extent → ℕ
-greatest_code Whole = 8
-greatest_code Partial = 9
+-- the numbers that a call returns: PARTIAL for a part alone, and TOO_MANY_PASSES for the whole
+abbrev pub IsAnswer : Extent → ℕ → Type 0
+IsAnswer Whole code = (code ≤ 8) ⊎ (code ≡ 10)
+IsAnswer Partial code = code ≤ 9
 
 pub record Fills (extent : Extent) (o : Options) (bytes old new : List ℕ) (picture : Picture)
     (code : ℕ) : Type 0 where
@@ -50,7 +50,7 @@ pub record Fills (extent : Extent) (o : Options) (bytes old new : List ℕ) (pic
   -- `picture` names beside describing the picture. After any other result it names no fault.
   pub part : code ≡ 9 → (fault : Fault)
       × Gives extent o bytes old new (Some fault) (without_fault (without_rows picture))
-      × TellsFault picture fault
+      × TellsFault o picture fault
   pub entire : (code ≡ 9 → ⊥) → picture.fault ≡ 0
   -- Where the bytes are written for the coefficients of an image, it is their picture.
   pub images : code ≡ 0 → FillsImages extent o bytes old new picture
@@ -66,12 +66,15 @@ pub record Fills (extent : Extent) (o : Options) (bytes old new : List ℕ) (pic
   pub unread : are_known o ≡ false → picture.stream_bytes ≡ 0
   pub most : picture.stream_bytes ≤ length bytes
   -- There is no other result than OK, MALFORMED, UNSUPPORTED, TRUNCATED, NO_MEMORY, NO_ROOM,
-  -- BAD_ARGUMENT and TOO_LARGE, and PARTIAL for a part.
-  pub number : (code ≤ greatest_code extent) × (code ≡ 7 → ⊥)
+  -- BAD_ARGUMENT and TOO_LARGE, TOO_MANY_PASSES for the whole, and PARTIAL for a part.
+  pub number : IsAnswer extent code × (code ≡ 7 → ⊥)
   -- MALFORMED, UNSUPPORTED and TRUNCATED name the fault for which nothing is given: for a part,
   -- that of a stream without an accepted frame header, or a transform that doesn't fit the picture.
   -- After UNSUPPORTED `picture` names the feature, and after any other result but PARTIAL none.
   pub malformed : code ≡ 1 → given_by extent o bytes ≡ Err Malformed
+  -- TOO_MANY_PASSES: passes are limited, and within the limit nothing is given.
+  pub passes : code ≡ 10
+      → (given_by extent o bytes ≡ Err Malformed) × (o.max_passes ≡ 0 → ⊥)
   pub unsupported : code ≡ 2 → LacksFeature (given_by extent o bytes) picture
   pub truncated : code ≡ 3 → given_by extent o bytes ≡ Err End
   pub unnamed : (code ≡ 2 → ⊥) → (code ≡ 9 → ⊥) → NamesFeature picture (numbered 0 0)

@@ -1,13 +1,12 @@
 -- What a call with some options gives of a stream: the whole of its picture, or what it has brought
 -- up to its first fault.
-use Rattle.std.specs.Prelude.{◌≡◌, ℕ, ◌*◌, List, Option, Some, None, Ok, Err, Result, option_map}
-use Rattle.std.specs.Prelude.{replicate}
+use Rattle.std.specs.Prelude.{◌≡◌, ◌⊎◌, ℕ, ◌*◌, List, Option, Some, None, Ok, Err, Result}
+use Rattle.std.specs.Prelude.{option_map, replicate}
 use Rattle.jpeg_bits.specs.Reading.{◌>>=◌, Fault, Malformed, Lacks, End, Names}
 use Rattle.jpeg_bits.specs.declared.error.Error.{Error}
 use Rattle.jpeg_bits.specs.declared.error.Error.TheVariants as errors
 use Rattle.jpeg_decoder.specs.Reaching.{NamesFault}
-use Rattle.jpeg_streams.specs.DecodedImages.{at_size}
-use Rattle.jpeg_streams.specs.Found.{Found, with_said}
+use Rattle.jpeg_streams.specs.Found.{Found}
 use Rattle.jpeg_streams.specs.Pixels.{info_of}
 use Rattle.jpeg_streams.specs.Shown.{Shown, shown_rest_within, whole_rows_rest}
 use Rattle.jpeg_streams.specs.States.{Decoding}
@@ -17,8 +16,8 @@ use Rattle.jpeg_streams.specs.declared.settings.Settings.{Settings}
 use Rattle.zaxbriar_calls.specs.Features.{NamesFeature, feature_in, numbered}
 use Rattle.zaxbriar_calls.specs.Layouts.{laid_out, layout_line}
 use Rattle.zaxbriar_calls.specs.Lines.{Arranged}
-use Rattle.zaxbriar_calls.specs.Meanings.{CountsRead, StandsAfter, meaning_by, settings_of}
-use Rattle.zaxbriar_calls.specs.Meanings.{size_wanted}
+use Rattle.zaxbriar_calls.specs.Meanings.{CountsRead, StandsAfter, found_at, meaning_by}
+use Rattle.zaxbriar_calls.specs.Meanings.{settings_at}
 use Rattle.zaxbriar_calls.specs.declared.answers.Refusal.{Refusal}
 use Rattle.zaxbriar_calls.specs.declared.answers.Refusal.TheVariants.{Part}
 use Rattle.zaxbriar_calls.specs.declared.extents.Extent.{Extent}
@@ -45,7 +44,7 @@ given_rest Partial settings found bytes =
 unfoldable pub given_by : Extent → Options → List ℕ → Result Shown Fault
 given_by extent o bytes = do
   header ← header_at bytes
-  given_rest extent (settings_of o) (with_said (at_size (size_wanted o)) header.0) header.1
+  let found = found_at o header.0 in given_rest extent (settings_at o found) found header.1
 
 -- How many rows of what is given, from the top, are complete in each scan that the stream has
 -- begun. Those of a whole picture, which all are, aren't counted.
@@ -57,7 +56,7 @@ unfoldable pub rows_by : Extent → Options → List ℕ → ℕ
 rows_by Whole o bytes = 0
 rows_by Partial o bytes = elim (header_at bytes) [
   | Ok header ↦
-      rows_rest Partial (settings_of o) (with_said (at_size (size_wanted o)) header.0) header.1
+      let found = found_at o header.0 in rows_rest Partial (settings_at o found) found header.1
   | Err fault ↦ 0
 ]
 
@@ -78,20 +77,22 @@ abbrev pub CountsImage : Extent → Options → List ℕ → ℕ → Type 0
 CountsImage Whole o bytes count = CountsRead (meaning_by o bytes) bytes count
 CountsImage Partial o bytes count = Unit {0}
 
--- the number of a fault, and the feature that it names
-abbrev pub fault_number : Fault → ℕ
-fault_number Malformed = 1
-fault_number (Lacks feature) = 2
-fault_number End = 3
+-- A number is that of a fault: MALFORMED, or TOO_MANY_PASSES where the options limit them,
+-- UNSUPPORTED, and TRUNCATED.
+abbrev pub IsNumberOf : Options → Fault → ℕ → Type 0
+IsNumberOf o Malformed n = (n ≡ 1) ⊎ ((n ≡ 10) × (o.max_passes ≡ 0 → ⊥))
+IsNumberOf o (Lacks feature) n = n ≡ 2
+IsNumberOf o End n = n ≡ 3
 
+-- the feature that a fault names
 abbrev pub feature_lacking : Fault → Feature
 feature_lacking (Lacks feature) = feature_in feature
 feature_lacking _ = numbered 0 0
 
 -- A picture names a fault.
-abbrev pub TellsFault : Picture → Fault → Type 0
-TellsFault picture fault =
-    (picture.fault ≡ fault_number fault) × NamesFeature picture (feature_lacking fault)
+abbrev pub TellsFault : Options → Picture → Fault → Type 0
+TellsFault o picture fault =
+    IsNumberOf o fault picture.fault × NamesFeature picture (feature_lacking fault)
 
 -- a picture without the number of rows that are complete
 abbrev pub without_rows : Picture → Picture

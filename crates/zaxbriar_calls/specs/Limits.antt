@@ -1,7 +1,10 @@
 -- The limits of some options, and the memory that they are compared with.
-use Rattle.std.specs.Prelude.{◌==◌, ◌&&◌, ◌||◌, ◌+◌, ◌*◌, ℕ, Bool, not, nat_le, nat_lt}
+use Rattle.std.specs.Prelude.{◌==◌, ◌&&◌, ◌||◌, ◌+◌, ◌*◌, ℕ, Bool, not, min, nat_le, nat_lt}
+use Rattle.std.specs.Prelude.{Option, None, option_map, if◌then◌else◌}
 use Rattle.std.specs.List.{list_all}
 use Rattle.jpeg_decoder.specs.declared.sizes.DecodingBytes.{DecodingBytes}
+use Rattle.jpeg_segments.specs.Frame.{Frame}
+use Rattle.jpeg_streams.specs.Work.{picture_blocks}
 use Rattle.zaxbriar_calls.specs.declared.extents.Extent.{Extent}
 use Rattle.zaxbriar_calls.specs.declared.extents.Extent.TheVariants.{Whole, Partial}
 use Rattle.zaxbriar_calls.specs.declared.options.Options.{Options}
@@ -16,7 +19,8 @@ is_denominator n = n == 0 || (n == 1 || (n == 2 || (n == 4 || n == 8)))
 abbrev pub are_known : Options → Bool
 are_known o = (not (o.transform == 1) || o.layout == 0) && (nat_le o.transform 5
     && (is_denominator o.scale
-    && (o.reserved == 0 && list_all (λ word. word == 0) o.reserved_words)))
+    && (o.reserved == 0 && (list_all (λ word. word == 0) o.pointer_words
+    && list_all (λ word. word == 0) o.reserved_words))))
 
 -- The most memory for samples that decoding takes at a time beside the caller's: blocks and planes,
 -- from which the lines are written. Of a picture in part all blocks are kept.
@@ -33,3 +37,10 @@ abbrev pub exceeds_limits : Options → Picture → Bool
 exceeds_limits o picture =
     is_over o.max_samples (picture.width * picture.height * picture.components)
     || is_over o.max_bytes picture.decoding_bytes
+
+-- How many blocks the scans of a stream may code that go so many times over the picture of its
+-- frame, at most 2^64 - 1, where 0 is no limit.
+abbrev pub blocks_of_passes : ℕ → Option Frame → Option ℕ
+blocks_of_passes passes frame = if passes == 0 then None
+    else option_map (λ blocks. min (passes * blocks) 18446744073709551615)
+    (option_map picture_blocks frame)

@@ -21,7 +21,7 @@ use Rattle.jpeg_decoder.specs.StreamTransforms.{frame_transform}
 use Rattle.jpeg_decoder.specs.declared.sizes.DecodingBytes.{DecodingBytes}
 use Rattle.zaxbriar_calls.specs.Density.{density_of}
 use Rattle.zaxbriar_calls.specs.Layouts.{conversion_to}
-use Rattle.zaxbriar_calls.specs.Limits.{are_known, bytes_beside, exceeds_limits}
+use Rattle.zaxbriar_calls.specs.Limits.{are_known, blocks_of_passes, bytes_beside, exceeds_limits}
 use Rattle.zaxbriar_calls.specs.Lines.{Arranged, FitLines, lines_by, described_picture}
 use Rattle.zaxbriar_calls.specs.Sampling.{sampling_of}
 use Rattle.zaxbriar_calls.specs.declared.layouts.Conversion.{Conversion}
@@ -46,7 +46,7 @@ number_of_transform transforms.CMYK = 4
 number_of_transform transforms.YCCK = 5
 number_of_transform _ = 0
 
--- the settings of a decoder
+-- the settings of a decoder of which the header was not read
 abbrev pub settings_of : Options → Settings
 settings_of o = record {
   limit = 18446744073709551615;
@@ -76,20 +76,30 @@ size_by None width height = if width == 0 && height == 0 then FullSize
 abbrev pub size_wanted : Options → Size
 size_wanted o = size_by (scale_by o.scale) o.min_width o.min_height
 
+-- what is found in a header, of which the picture is to have that size
+abbrev pub found_at : Options → Found → Found
+found_at o header = with_said (at_size (size_wanted o)) header
+
+-- the settings after a header: its scans are limited, too
+abbrev pub settings_at : Options → Found → Settings
+settings_at o found = record (settings_of o) {
+  max_blocks = blocks_of_passes o.max_passes found.said.frame;
+}
+
 -- what is told of a stream, its picture, and the bytes after it
 unfoldable pub meaning_by : Options → List ℕ → Outcome (Told × List ℕ)
 meaning_by o bytes = do
   header ← header_at bytes
-  rest_by (settings_of o) (with_said (at_size (size_wanted o)) header.0) header.1
+  let found = found_at o header.0 in rest_by (settings_at o found) found header.1
 
--- A decoder of known bytes has read their header, and its picture is to have the size of the
--- options.
+-- A decoder of known bytes has read their header, its picture is to have the size of the options,
+-- and its scans are limited by them.
 pub record ReadsHeader (o : Options) (old new : Decoding) : Type 0 where
   pub stage : new.stage ≡ HeaderRead
-  pub settings : new.settings ≡ settings_of o
+  pub settings : new.settings ≡ settings_at o new.found
   pub reads : old.source.known ≡ true → (new.source.known ≡ true) × ((header : Found)
       × (header_at old.source.bytes ≡ Ok (header, new.source.bytes))
-      × (new.found ≡ with_said (at_size (size_wanted o)) header))
+      × (new.found ≡ found_at o header))
 
 -- A source stands after what a reading has read.
 pub record StandsAfter {X : Type 0} (read : Outcome X) (source : Stream) : Type 0 where

@@ -2,6 +2,7 @@
 ghost use Rattle.std.specs.Prelude.{◌≡◌, ◌≤◌, IfOk, IfErr, IsErrAnd, replicate, slice_index};
 ghost use Rattle.zaxbriar_calls.specs.Faults.{IsOwn, IsPart, StandsFor, error_code, fault_code};
 ghost use Rattle.zaxbriar_calls.specs.Faults.{outcome_fault, outcome_rows, padded, status_of};
+ghost use Rattle.zaxbriar_calls.specs.Faults.{with_passes};
 
 use jpeg_decoder::Decoder;
 use jpeg_decoder::error::Error;
@@ -27,6 +28,8 @@ pub const NO_DATA: u32 = 7;
 pub const TOO_LARGE: u32 = 8;
 
 pub const PARTIAL: u32 = 9;
+
+pub const TOO_MANY_PASSES: u32 = 10;
 
 /// The bytes of a refusal's text, with the zero that ends it.
 pub const TEXT_BYTES: usize = 112;
@@ -86,6 +89,18 @@ fn error_code(error: &Error) -> u32
     }
 }
 
+/// Returns the number of an answer, which is TOO_MANY_PASSES for a broken rule where the decoder
+/// says that it refused a scan for its blocks.
+pub fn with_passes(exceeded: bool, code: u32) -> u32
+    ensures { result ≡ with_passes exceeded code }
+{
+    if exceeded && code == MALFORMED {
+        TOO_MANY_PASSES
+    } else {
+        code
+    }
+}
+
 /// Returns the number of a refusal.
 pub fn code_of(refusal: &Refusal) -> u32
     ensures number { result ≡ fault_code refusal.now }
@@ -105,11 +120,11 @@ pub fn code_of(refusal: &Refusal) -> u32
 }
 
 /// Returns the number of the fault of a stream of which a part was written, or 0.
-pub fn outcome_fault<T>(outcome: &std::result::Result<T, Refusal>) -> u8
+pub fn outcome_fault<T>(outcome: &std::result::Result<T, Refusal>) -> u32
     ensures { result ≡ outcome_fault outcome.now }
 {
     match outcome {
-        Err(Refusal::Part(error, _)) => error_code(error) as u8,
+        Err(Refusal::Part(error, _)) => error_code(error),
         _ => 0,
     }
 }

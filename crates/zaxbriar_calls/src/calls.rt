@@ -3,8 +3,8 @@
 //! They keep no state and share nothing: each reads its stream from the start, writes only through
 //! its arguments, and has freed all of its memory when it returns. The number that a call returns
 //! is one of `c/zaxbriar.h`: 0 OK, 1 MALFORMED, 2 UNSUPPORTED, 3 TRUNCATED, 4 NO_MEMORY, 5 NO_ROOM,
-//! 6 BAD_ARGUMENT, 7 NO_DATA, 8 TOO_LARGE, 9 PARTIAL.
-ghost use Rattle.std.specs.Prelude.{◌≡◌};
+//! 6 BAD_ARGUMENT, 7 NO_DATA, 8 TOO_LARGE, 9 PARTIAL, 10 TOO_MANY_PASSES.
+ghost use Rattle.std.specs.Prelude.{◌≡◌, true};
 ghost use Rattle.zaxbriar_calls.specs.CopiesMetadata.{CopiesMetadata};
 ghost use Rattle.zaxbriar_calls.specs.Fills.{Fills};
 ghost use Rattle.zaxbriar_calls.specs.FindsSegment.{FindsSegment};
@@ -14,6 +14,7 @@ ghost use Rattle.zaxbriar_calls.specs.declared.extents.Extent.TheVariants.{Whole
 
 use crate::answers::{
     BAD_ARGUMENT, MALFORMED, NO_MEMORY, OK, TRUNCATED, answer, outcome_fault, outcome_rows,
+    with_passes,
 };
 use crate::decode::decode_into;
 use crate::description::describe_stream;
@@ -38,6 +39,16 @@ pub fn read_info(alloc: Global, jpeg: &[u8], options: &Options, picture: &mut Pi
     answer(alloc, outcome, &mut picture.text)
 }
 
+/// Returns whether the whole of a picture is asked for.
+fn is_whole(extent: Extent) -> bool
+    ensures { result ≡ true → extent ≡ Whole }
+{
+    match extent {
+        Extent::Whole => true,
+        Extent::Partial => false,
+    }
+}
+
 /// Decodes what is asked for of a stream into `pixels`, and describes it.
 fn fill(
     alloc: Global,
@@ -50,13 +61,15 @@ fn fill(
     ensures { Fills extent options.now jpeg.now pixels.old pixels.new picture.new result }
 {
     *picture = NO_PICTURE;
-    let outcome = decode_into(alloc, jpeg, options, pixels, picture, extent);
+    let (outcome, exceeded) = decode_into(alloc, jpeg, options, pixels, picture, extent);
+    let exceeded = exceeded && options.max_passes != 0;
     let feature = outcome_feature(&outcome);
     picture.feature = feature.number;
     picture.feature_argument = feature.argument;
-    picture.fault = outcome_fault(&outcome);
+    picture.fault = with_passes(exceeded, outcome_fault(&outcome)) as u8;
     picture.whole_rows = u32::from(outcome_rows(&outcome));
-    answer(alloc, outcome, &mut picture.text)
+    let code = answer(alloc, outcome, &mut picture.text);
+    with_passes(exceeded && is_whole(extent), code)
 }
 
 /// Decodes a stream into `pixels`.
@@ -87,15 +100,23 @@ pub fn decode_partial(
 }
 
 /// Copies the Exif data, the XMP data or the ICC profile of a header or of a whole image, and
-/// writes how many bytes they have.
-pub fn metadata(alloc: Global, jpeg: &[u8], kind: u32, buffer: &mut [u8], count: &mut u64) -> u32
-    ensures { CopiesMetadata jpeg.now kind buffer.old buffer.new count.new result }
+/// writes how many bytes they have. The scans of the image may go `max_passes` times over its
+/// picture; 0 for any number.
+pub fn metadata(
+    alloc: Global,
+    jpeg: &[u8],
+    kind: u32,
+    max_passes: u64,
+    buffer: &mut [u8],
+    count: &mut u64,
+) -> u32
+    ensures { CopiesMetadata jpeg.now kind max_passes buffer.old buffer.new count.new result }
 {
     *count = 0;
     if is_no_kind(kind) {
         return BAD_ARGUMENT;
     }
-    let Ok(code) = read_metadata(alloc, jpeg, kind, buffer, count) else {
+    let Ok(code) = read_metadata(alloc, jpeg, kind, max_passes, buffer, count) else {
         return NO_MEMORY;
     };
     code

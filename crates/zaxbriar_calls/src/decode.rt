@@ -72,7 +72,8 @@ fn read_part<R: Read + Drop>(decoder: &mut Decoder<R>) -> std::result::Result<Pa
         (given_rest Partial decoder.old.settings decoder.old.found decoder.old.source.bytes)
         (concat p.lines) p.fault (told_of decoder.new.found.said)) }
     ensures rows { decoder.old.source.known ≡ true → IfOk result
-        (λ p. p.whole_rows ≡ rows_rest Partial decoder.old.settings decoder.old.found decoder.old.source.bytes) }
+        (λ p. p.whole_rows ≡ rows_rest Partial decoder.old.settings decoder.old.found
+        decoder.old.source.bytes) }
     ensures named { decoder.old.source.known ≡ true → IfErr result (IsFault
         (given_rest Partial decoder.old.settings decoder.old.found decoder.old.source.bytes)) }
     ensures own { IfErr result IsOfDecoder }
@@ -187,7 +188,8 @@ fn decode_lines<R: Read + Drop>(
     ensures reaches { decoder.old.source.known ≡ true
         → Reaches extent lines result decoder.old decoder.new pixels.old pixels.new }
     ensures rows { decoder.old.source.known ≡ true
-        → HasRows (rows_rest extent decoder.old.settings decoder.old.found decoder.old.source.bytes) result }
+        → HasRows (rows_rest extent decoder.old.settings decoder.old.found
+        decoder.old.source.bytes) result }
     ensures named { decoder.old.source.known ≡ true → IfErr result (IsFault
         (given_rest extent decoder.old.settings decoder.old.found decoder.old.source.bytes)) }
     ensures kept { IfErr result (λ r. (IsPart r → ⊥) → pixels.new ≡ pixels.old) }
@@ -233,7 +235,8 @@ fn decode_described<R: Read + Drop>(
 }
 
 /// Decodes what is asked for of a stream into the caller's memory, and counts the bytes that were
-/// read. Returns how many rows of a part are complete.
+/// read. Returns how many rows of a part are complete, and whether the decoder says that it refused
+/// a scan for its blocks.
 pub fn decode_into(
     alloc: Global,
     jpeg: &[u8],
@@ -241,17 +244,20 @@ pub fn decode_into(
     pixels: &mut [u8],
     picture: &mut Picture,
     extent: Extent,
-) -> std::result::Result<u16, Refusal>
+) -> (std::result::Result<u16, Refusal>, bool)
     ensures { DecodesInto extent options.now jpeg.now pixels.old pixels.new picture.old picture.new
-        result }
+        result.0 }
 {
     if !are_known(options) {
-        return Err(Refusal::Argument("an option doesn't exist"));
+        return (Err(Refusal::Argument("an option doesn't exist")), false);
     }
-    let mut decoder = decoder_of(alloc, jpeg)?;
+    let mut decoder = match decoder_of(alloc, jpeg) {
+        Ok(decoder) => decoder,
+        Err(error) => return (Err(Refusal::from(error)), false),
+    };
     let density = density_of(jpeg);
     let described = describe(&mut decoder, options, density, picture, extent);
     let decoded = decode_described(alloc, &mut decoder, described, pixels, extent);
     picture.stream_bytes = bytes_read(jpeg, &decoder);
-    decoded
+    (decoded, decoder.has_exceeded_max_blocks())
 }

@@ -12,7 +12,7 @@ ghost use Rattle.zaxbriar_calls.specs.Meanings.{ReadsHeader, number_of_transform
 ghost use Rattle.zaxbriar_calls.specs.Sampling.{sampling_of};
 
 use crate::answers::{Refusal, refusal_of};
-use crate::options::{Options, apply, apply_size, number_of_transform};
+use crate::options::{Options, apply, apply_to_header, number_of_transform};
 use crate::sampling::sampling_of;
 use exif_orientation::orientation_of;
 use jpeg_decoder::{Decoder, DecodingBytes, ImageInfo};
@@ -48,7 +48,7 @@ fn orientation_in(exif: Option<&[u8]>) -> u8
     }
 }
 
-/// Reads the header, and chooses the scale of the picture.
+/// Reads the header, chooses the scale of the picture, and limits its scans.
 pub fn read_header<R: Read + Drop>(
     decoder: &mut Decoder<R>,
     options: &Options,
@@ -82,7 +82,7 @@ pub fn read_header<R: Read + Drop>(
     if let Err(error) = decoder.read_info() {
         return Err(refusal_of(decoder, error));
     }
-    apply_size(decoder, options)?;
+    apply_to_header(decoder, options)?;
     let (Some(info), Some(precision), Some(components), Some(transform), Some(decoding_bytes)) = (
         decoder.info(),
         decoder.precision(),

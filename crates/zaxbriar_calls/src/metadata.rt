@@ -1,19 +1,21 @@
 //! The metadata of a header or of a whole image.
-ghost use Rattle.std.specs.Prelude.{◌≡◌, ◌<◌, ◌≤◌, suc, length, None, true, false, not};
+ghost use Rattle.std.specs.Prelude.{◌≡◌, ◌<◌, ◌≤◌, suc, length, None, true, false};
 ghost use Rattle.std.specs.Prelude.{IfErr, IfOk, IsOk, OnErr, OnOk};
 ghost use Rattle.std.specs.Option.{option_copied};
 ghost use Rattle.jpeg_bits.specs.Reading.{IsGivenUp, Names};
 ghost use Rattle.jpeg_streams.specs.Output.{default_settings};
-ghost use Rattle.jpeg_streams.specs.Reported.{told_by_turns};
-ghost use Rattle.jpeg_streams.specs.declared.progress.Progress.TheVariants.{Fresh};
+ghost use Rattle.jpeg_streams.specs.Reported.{told_in_turns};
+ghost use Rattle.jpeg_streams.specs.declared.progress.Progress.TheVariants.{Fresh, HeaderRead};
 ghost use Rattle.jpeg_streams.specs.States.{IsOfBytes, OnTold};
-ghost use Rattle.jpeg_streams.specs.Stream.{told_of};
+ghost use Rattle.jpeg_streams.specs.Stream.{rest_by, told_of};
 ghost use Rattle.zaxbriar_calls.specs.Faults.{IsNamed};
+ghost use Rattle.zaxbriar_calls.specs.Limits.{blocks_of_passes};
 ghost use Rattle.zaxbriar_calls.specs.Metadata.{IsCopied, IsLonger, IsNoKind, end_at, is_whole};
-ghost use Rattle.zaxbriar_calls.specs.Metadata.{kind_alone, metadata_of, said_of};
+ghost use Rattle.zaxbriar_calls.specs.Metadata.{kind_alone, metadata_of, said_of, told_at};
 
 use crate::answers::{BAD_ARGUMENT, NO_DATA, NO_ROOM, OK, TRUNCATED, code_of, refusal_of};
 use crate::decoders::decoder_of;
+use crate::options::blocks_of_passes;
 use jpeg_decoder::Decoder;
 use jpeg_decoder::error::Result;
 use std::alloc::Global;
@@ -137,47 +139,81 @@ fn copy_kind<R: Read + Drop>(
     }
 }
 
-/// Reads a whole image, whose lines aren't kept, or its header alone.
-fn read_through<R: Read + Drop>(decoder: &mut Decoder<R>, whole: bool) -> Result<()>
-    requires fresh { decoder.old.stage ≡ Fresh }
-    requires plain { decoder.old.settings ≡ default_settings }
+/// Reads the rest of an image, whose lines aren't kept, after its header. Its scans may go this
+/// many times over its picture; 0 for any number.
+fn read_scans<R: Read + Drop>(decoder: &mut Decoder<R>, max_passes: u64) -> Result<()>
+    requires read { decoder.old.stage ≡ HeaderRead }
     ensures told { OnTold decoder.old.source decoder.new.source result
-        (told_of decoder.new.found.said
-        ≡ told_by_turns None (suc (length decoder.old.source.bytes)) (not whole)
-        decoder.old.source.bytes) }
-    ensures whole { decoder.old.source.known ≡ true
-        → OnOk result (IsOk (end_at whole decoder.old.source.bytes)) }
+        (told_of decoder.new.found.said ≡ told_in_turns (blocks_of_passes max_passes
+        decoder.old.found.said.frame) (suc (length decoder.old.source.bytes)) false
+        decoder.old.found decoder.old.source.bytes) }
+    ensures ends { decoder.old.source.known ≡ true → OnOk result (IsOk (rest_by
+        (record decoder.old.settings
+        { max_blocks = blocks_of_passes max_passes decoder.old.found.said.frame })
+        decoder.old.found decoder.old.source.bytes)) }
     ensures named { decoder.old.source.known ≡ true → IfErr result
-        (λ e. decoder.new.source.known ≡ true → Names e (end_at whole decoder.old.source.bytes)) }
+        (λ e. decoder.new.source.known ≡ true → Names e (rest_by
+        (record decoder.old.settings
+        { max_blocks = blocks_of_passes max_passes decoder.old.found.said.frame })
+        decoder.old.found decoder.old.source.bytes)) }
     ensures given_up { decoder.old.source.known ≡ true → IfErr result
         (λ e. decoder.new.source.known ≡ false → IsGivenUp e decoder.new.source.failed) }
     ensures own { IfErr result IsOfBytes }
 {
-    if whole {
-        decoder.decode_lines()?;
-        Ok(())
-    } else {
-        decoder.read_info()
-    }
+    let max_blocks = blocks_of_passes(decoder, max_passes);
+    decoder.set_max_blocks(max_blocks);
+    decoder.decode_lines()?;
+    Ok(())
 }
 
-/// Reads a whole image, or its header alone, also one that is refused, and returns the number of a
-/// call that finds no data in it. Where memory or the reader fails, that number is the error.
-fn read_told<R: Read + Drop>(decoder: &mut Decoder<R>, whole: bool) -> std::result::Result<u32, u32>
+/// Reads a whole image with so many passes, or its header alone.
+fn read_through<R: Read + Drop>(
+    decoder: &mut Decoder<R>,
+    whole: bool,
+    max_passes: u64,
+) -> Result<()>
+    requires fresh { decoder.old.stage ≡ Fresh }
+    requires plain { decoder.old.settings ≡ default_settings }
+    ensures told { OnTold decoder.old.source decoder.new.source result
+        (told_of decoder.new.found.said
+        ≡ told_at max_passes whole decoder.old.source.bytes) }
+    ensures whole { decoder.old.source.known ≡ true
+        → OnOk result (IsOk (end_at max_passes whole decoder.old.source.bytes)) }
+    ensures named { decoder.old.source.known ≡ true → IfErr result
+        (λ e. decoder.new.source.known ≡ true
+        → Names e (end_at max_passes whole decoder.old.source.bytes)) }
+    ensures given_up { decoder.old.source.known ≡ true → IfErr result
+        (λ e. decoder.new.source.known ≡ false → IsGivenUp e decoder.new.source.failed) }
+    ensures own { IfErr result IsOfBytes }
+{
+    decoder.read_info()?;
+    if whole {
+        read_scans(decoder, max_passes)?;
+    }
+    Ok(())
+}
+
+/// Reads a whole image with so many passes, or its header alone, also one that is refused, and
+/// returns the number of a call that finds no data in it. Where memory or the reader fails, that
+/// number is the error.
+fn read_told<R: Read + Drop>(
+    decoder: &mut Decoder<R>,
+    whole: bool,
+    max_passes: u64,
+) -> std::result::Result<u32, u32>
     requires fresh { decoder.old.stage ≡ Fresh }
     requires plain { decoder.old.settings ≡ default_settings }
     ensures told { decoder.old.source.known ≡ true → OnOk result (told_of decoder.new.found.said
-        ≡ told_by_turns None (suc (length decoder.old.source.bytes)) (not whole)
-        decoder.old.source.bytes) }
+        ≡ told_at max_passes whole decoder.old.source.bytes) }
     ensures named { decoder.old.source.known ≡ true
-        → IfOk result (λ code. IsNamed code (end_at whole decoder.old.source.bytes)) }
+        → IfOk result (λ code. IsNamed code (end_at max_passes whole decoder.old.source.bytes)) }
     ensures whole { decoder.old.source.known ≡ true
-        → IfOk result (λ code. code ≡ 7 → IsOk (end_at whole decoder.old.source.bytes)) }
+        → IfOk result (λ code. code ≡ 7 → IsOk (end_at max_passes whole decoder.old.source.bytes)) }
     ensures fails { IfOk result (λ code. (code ≡ 0 → ⊥) × (code ≡ 5 → ⊥) × (code ≡ 6 → ⊥)) }
     ensures most { IfOk result (λ code. code ≤ 7) }
     ensures other { IfErr result (λ code. code ≡ 4) }
 {
-    let Err(error) = read_through(decoder, whole) else {
+    let Err(error) = read_through(decoder, whole, max_passes) else {
         return Ok(NO_DATA);
     };
     let code = code_of(&refusal_of(decoder, error));
@@ -193,6 +229,7 @@ fn read_told<R: Read + Drop>(decoder: &mut Decoder<R>, whole: bool) -> std::resu
 fn copy_told<R: Read + Drop>(
     decoder: &mut Decoder<R>,
     kind: u32,
+    max_passes: u64,
     buffer: &mut [u8],
     count: &mut u64,
 ) -> Result<u32>
@@ -200,25 +237,27 @@ fn copy_told<R: Read + Drop>(
     requires plain { decoder.old.settings ≡ default_settings }
     requires known { decoder.old.source.known ≡ true }
     ensures copied { IfOk result (λ code. code ≡ 0
-        → IsCopied (said_of kind decoder.old.source.bytes) buffer.old buffer.new count.new) }
+        → IsCopied (said_of max_passes kind decoder.old.source.bytes) buffer.old buffer.new
+        count.new) }
     ensures none { IfOk result (λ code. code ≡ 7
-        → (said_of kind decoder.old.source.bytes ≡ None)
-        × IsOk (end_at (is_whole kind) decoder.old.source.bytes)) }
+        → (said_of max_passes kind decoder.old.source.bytes ≡ None)
+        × IsOk (end_at max_passes (is_whole kind) decoder.old.source.bytes)) }
     ensures room { IfOk result (λ code. code ≡ 5
-        → IsLonger (said_of kind decoder.old.source.bytes) (length buffer.old) count.new) }
+        → IsLonger (said_of max_passes kind decoder.old.source.bytes) (length buffer.old)
+        count.new) }
     ensures named { IfOk result
-        (λ code. IsNamed code (end_at (is_whole kind) decoder.old.source.bytes)) }
+        (λ code. IsNamed code (end_at max_passes (is_whole kind) decoder.old.source.bytes)) }
     ensures known { IfOk result (λ code. code ≡ 6 → IsNoKind kind) }
     ensures most { IfOk result (λ code. code ≤ 7) }
     ensures unsaid { IfOk result
-        (λ code. 0 < code → code < 4 → said_of kind decoder.old.source.bytes ≡ None) }
+        (λ code. 0 < code → code < 4 → said_of max_passes kind decoder.old.source.bytes ≡ None) }
     ensures uncounted { IfOk result (λ code. (code ≡ 0 → ⊥) → (code ≡ 5 → ⊥)
         → count.new ≡ count.old) }
     ensures kept { IfOk result (λ code. (code ≡ 0 → ⊥) → buffer.new ≡ buffer.old) }
     ensures failed { OnErr result (buffer.new ≡ buffer.old) }
     ensures memory { OnErr result (count.new ≡ count.old) }
 {
-    let missing = match read_told(decoder, is_whole(kind)) {
+    let missing = match read_told(decoder, is_whole(kind), max_passes) {
         Ok(code) => code,
         Err(code) => return Ok(code),
     };
@@ -226,24 +265,29 @@ fn copy_told<R: Read + Drop>(
     Ok(if code == NO_DATA { missing } else { code })
 }
 
-/// Copies metadata of a kind, of a header or of a whole image. The only error is `OutOfMemory`.
+/// Copies metadata of a kind, of a header or of a whole image, whose scans may go this many times
+/// over its picture; 0 for any number. The only error is `OutOfMemory`.
 pub fn read_metadata(
     alloc: Global,
     jpeg: &[u8],
     kind: u32,
+    max_passes: u64,
     buffer: &mut [u8],
     count: &mut u64,
 ) -> Result<u32>
     ensures copied { IfOk result (λ code. code ≡ 0
-        → IsCopied (said_of kind jpeg.now) buffer.old buffer.new count.new) }
+        → IsCopied (said_of max_passes kind jpeg.now) buffer.old buffer.new count.new) }
     ensures none { IfOk result (λ code. code ≡ 7
-        → (said_of kind jpeg.now ≡ None) × IsOk (end_at (is_whole kind) jpeg.now)) }
+        → (said_of max_passes kind jpeg.now ≡ None)
+        × IsOk (end_at max_passes (is_whole kind) jpeg.now)) }
     ensures room { IfOk result (λ code. code ≡ 5
-        → IsLonger (said_of kind jpeg.now) (length buffer.old) count.new) }
-    ensures named { IfOk result (λ code. IsNamed code (end_at (is_whole kind) jpeg.now)) }
+        → IsLonger (said_of max_passes kind jpeg.now) (length buffer.old) count.new) }
+    ensures named { IfOk result
+        (λ code. IsNamed code (end_at max_passes (is_whole kind) jpeg.now)) }
     ensures known { IfOk result (λ code. code ≡ 6 → IsNoKind kind) }
     ensures most { IfOk result (λ code. code ≤ 7) }
-    ensures unsaid { IfOk result (λ code. 0 < code → code < 4 → said_of kind jpeg.now ≡ None) }
+    ensures unsaid { IfOk result
+        (λ code. 0 < code → code < 4 → said_of max_passes kind jpeg.now ≡ None) }
     ensures uncounted { IfOk result (λ code. (code ≡ 0 → ⊥) → (code ≡ 5 → ⊥)
         → count.new ≡ count.old) }
     ensures kept { IfOk result (λ code. (code ≡ 0 → ⊥) → buffer.new ≡ buffer.old) }
@@ -251,5 +295,5 @@ pub fn read_metadata(
     ensures memory { OnErr result (count.new ≡ count.old) }
 {
     let mut decoder = decoder_of(alloc, jpeg)?;
-    copy_told(&mut decoder, kind, buffer, count)
+    copy_told(&mut decoder, kind, max_passes, buffer, count)
 }

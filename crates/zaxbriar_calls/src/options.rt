@@ -5,9 +5,10 @@ ghost use Rattle.jpeg_streams.specs.DecodedImages.{at_size};
 ghost use Rattle.jpeg_streams.specs.Found.{with_said};
 ghost use Rattle.jpeg_streams.specs.Output.{default_settings};
 ghost use Rattle.jpeg_streams.specs.declared.progress.Progress.TheVariants.{HeaderRead};
-ghost use Rattle.zaxbriar_calls.specs.Limits.{are_known, is_denominator};
-ghost use Rattle.zaxbriar_calls.specs.Meanings.{least_side, scale_by, settings_of, size_wanted};
-ghost use Rattle.zaxbriar_calls.specs.Meanings.{number_of_transform, transform_number};
+ghost use Rattle.zaxbriar_calls.specs.Limits.{are_known, blocks_of_passes, is_denominator};
+ghost use Rattle.zaxbriar_calls.specs.Meanings.{least_side, scale_by, settings_at, settings_of};
+ghost use Rattle.zaxbriar_calls.specs.Meanings.{number_of_transform, size_wanted};
+ghost use Rattle.zaxbriar_calls.specs.Meanings.{transform_number};
 
 use jpeg_decoder::error::Result;
 use jpeg_decoder::{ColorTransform, Decoder, Scale};
@@ -41,8 +42,13 @@ pub struct Options {
     /// The most bytes that decoding may take beside the caller's memory, as `decoding_bytes` of the
     /// picture counts them; 0 for any number.
     pub max_bytes: u64,
-    /// Zero. The first two are where the C struct has pointers, which only C code reads.
-    pub reserved_words: [u64; 12],
+    /// Zero: where the C struct has pointers, which only C code reads.
+    pub pointer_words: [u64; 2],
+    /// How many times the scans of a stream may code the blocks of its picture, all together; 0 for
+    /// any number.
+    pub max_passes: u64,
+    /// Zero.
+    pub reserved_words: [u64; 9],
 }
 
 /// The picture as it is stored, at full size and without gaps, whatever its size is.
@@ -56,7 +62,9 @@ pub const AS_STORED: Options = Options {
     scale: 0,
     reserved: 0,
     max_bytes: 0,
-    reserved_words: [0; 12],
+    pointer_words: [0; 2],
+    max_passes: 0,
+    reserved_words: [0; 9],
 };
 
 /// Returns whether a number is the denominator of a scale, or 0.
@@ -81,6 +89,7 @@ pub fn are_known(options: &Options) -> bool
         && options.transform <= 5
         && is_denominator(options.scale)
         && options.reserved == 0
+        && are_zero(&options.pointer_words)
         && are_zero(&options.reserved_words)
 }
 
@@ -144,7 +153,7 @@ fn least_side(side: u16) -> u16
 }
 
 /// Chooses the scale of the picture whose header was read.
-pub fn apply_size<R: Read + Drop>(decoder: &mut Decoder<R>, options: &Options) -> Result<()>
+fn apply_size<R: Read + Drop>(decoder: &mut Decoder<R>, options: &Options) -> Result<()>
     requires read { decoder.old.stage ≡ HeaderRead }
     ensures sized { OnOk result (decoder.new ≡ record decoder.old
         { found = with_said (at_size (size_wanted options.now)) decoder.old.found }) }
@@ -158,5 +167,37 @@ pub fn apply_size<R: Read + Drop>(decoder: &mut Decoder<R>, options: &Options) -
             least_side(options.min_height),
         )?;
     }
+    Ok(())
+}
+
+/// Returns how many blocks the scans may code that go this many times over the picture whose header
+/// was read, or none for 0, which is no limit.
+pub fn blocks_of_passes<R: Read + Drop>(decoder: &Decoder<R>, max_passes: u64) -> Option<u64>
+    requires read { decoder.now.stage ≡ HeaderRead }
+    ensures { result ≡ blocks_of_passes max_passes decoder.now.found.said.frame }
+{
+    if max_passes == 0 {
+        return None;
+    }
+    match decoder.picture_blocks() {
+        Some(blocks) => Some(max_passes.saturating_mul(blocks)),
+        None => None,
+    }
+}
+
+/// Chooses the scale of the picture whose header was read, and limits its scans.
+pub fn apply_to_header<R: Read + Drop>(decoder: &mut Decoder<R>, options: &Options) -> Result<()>
+    requires read { decoder.old.stage ≡ HeaderRead }
+    requires plain { decoder.old.settings ≡ settings_of options.now }
+    ensures applied { OnOk result (decoder.new ≡ record decoder.old {
+      found = with_said (at_size (size_wanted options.now)) decoder.old.found;
+      settings = settings_at options.now
+          (with_said (at_size (size_wanted options.now)) decoder.old.found);
+    }) }
+    ensures ok { IsOk result }
+{
+    apply_size(decoder, options)?;
+    let max_blocks = blocks_of_passes(decoder, options.max_passes);
+    decoder.set_max_blocks(max_blocks);
     Ok(())
 }

@@ -6,6 +6,9 @@ use image::{ColorType, ImageError, ImageFormat, ImageResult};
 use std::io::{ErrorKind, Read};
 use zaxbriar::{Decoder, Error, ImageInfo, PixelFormat};
 
+/// How many times the scans may code the blocks of a picture (`Decoder::set_max_passes`).
+const MAX_PASSES: u64 = 100;
+
 /// A decoder of the JPEG picture that a reader gives, for
 /// [`DynamicImage::from_decoder`](image::DynamicImage::from_decoder).
 ///
@@ -18,12 +21,16 @@ pub struct ZaxbriarDecoder<R> {
 }
 
 impl<R: Read> ZaxbriarDecoder<R> {
-    /// Returns a decoder of what a reader gives, whose header is read.
+    /// Returns a decoder of what a reader gives, whose header is read. Its scans may go 100 times
+    /// over the picture, which bounds the time that decoding takes.
     pub fn new(reader: R) -> ImageResult<ZaxbriarDecoder<R>> {
-        ZaxbriarDecoder::from_decoder(Decoder::new(reader))
+        let mut decoder = Decoder::new(reader);
+        decoder.set_max_passes(MAX_PASSES);
+        ZaxbriarDecoder::from_decoder(decoder)
     }
 
-    /// Returns the same of a decoder whose settings were made, and reads its header.
+    /// Returns the same of a decoder whose settings were made, and reads its header. It has no limit
+    /// of passes but its own.
     ///
     /// ```
     /// # let tests = ["tests", "../tests"].map(|folder| format!("{folder}/colour.jpg"));

@@ -5,12 +5,12 @@ use Rattle.zaxbriar_calls.proofs.decode.decode_into.Goals as goal
 
 pub returns : goal.returns
 returns c =
-    let known = c.in_ok-decoder.ensures.known in
-    let same = c.in_ok-decoder.ensures.bytes in
+    let known = c.in-Ok.ensures.known in
+    let same = c.in-Ok.ensures.bytes in
     let done = c.describe-described.ensures in
     let asked : are_known c.args.options.now ≡ true = grind arith in
     stream-decoded c.args.extent c.args.options.now c.args.jpeg.now c.args.pixels.now
-    c.decode_described-decoded.new.pixels c.density_of-density.result c.in_ok-decoder.decoder
+    c.decode_described-decoded.new.pixels c.density_of-density.result c.in-Ok.decoder
     c.describe-described.new.decoder c.decode_described-decoded.new.decoder c.args.picture.now
     c.describe-described.new.picture c.bytes_read-picture.result c.describe-described.result
     c.decode_described-decoded.result asked (record {
