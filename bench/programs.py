@@ -91,6 +91,10 @@ def repeated_programs(bench_decode, tools, peers):
         )
     yield Repeated(TURBO, of("turbo"))
     yield Repeated("the same without SIMD", of("turbo"), NO_SIMD)
+    # The same program over a later library.
+    run = tools / "turbo3" / "run"
+    if run.exists():
+        yield Repeated("libjpeg-turbo 3", lambda case: [str(run), *of("turbo")(case)])
     yield Repeated("stb_image", of("stb"))
     if (tools / "go_image").exists():
         yield Repeated("Go", of("go_image"))
