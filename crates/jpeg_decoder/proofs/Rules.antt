@@ -5,7 +5,7 @@ use Rattle.jpeg_streams.specs.FoundPictures.{limited, picture_of, samples_pictur
 use Rattle.jpeg_streams.specs.Rasters.{plane_by, plane_of_blocks}
 use Rattle.jpeg_streams.specs.Reported.{told_by_turns}
 use Rattle.jpeg_streams.specs.ScanSegments.{put_arrays}
-use Rattle.jpeg_streams.specs.Stream.{header_at, segment_at, turn_at}
+use Rattle.jpeg_streams.specs.Stream.{header_at, rest_within, segment_at, segments_at, turn_at}
 use Rattle.std.proofs.lemmas.Grind.{common_steps}
 use Rattle.std.proofs.lemmas.List.{drop-set-lt, get_or-map, length-map, map-set}
 use Rattle.std.proofs.lemmas.List.Folds.{list_all-map}
@@ -121,8 +121,12 @@ pub ruleset starts = (
 )
 
 unfoldable pub headers : ⊤
-unfolding header_at told_by_turns nothing_found
+unfolding header_at told_by_turns nothing_found segments_at
 headers = tt
+
+unfoldable pub rests : ⊤
+unfolding rest_within segments_at
+rests = tt
 
 unfoldable pub nothing : ⊤
 unfolding nothing_found nothing_said

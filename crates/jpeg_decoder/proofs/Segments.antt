@@ -2,6 +2,7 @@
 pub mod PassedRestarts
 pub mod LeftBytes
 pub mod Turns
+pub mod WalkedScans
 pub mod MarkedTurns
 pub mod TurnLoops
 pub mod Headers

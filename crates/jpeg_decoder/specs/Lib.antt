@@ -20,3 +20,4 @@ pub mod GrowingView
 pub mod Steps
 pub mod LosslessParts
 pub mod Reaching
+pub mod Walks

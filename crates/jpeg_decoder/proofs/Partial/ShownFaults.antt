@@ -23,9 +23,10 @@ use Rattle.jpeg_streams.specs.Shown.{Shown, completed, fault_in, fault_shown, fr
 use Rattle.jpeg_streams.specs.Shown.{shown_within}
 use Rattle.jpeg_streams.specs.Shown.{shown_by, shown_of, shown_rest_within, with_plane_shown, with_samples_shown}
 use Rattle.jpeg_streams.specs.States.{IfRefused, IsOfBytes, OnTold}
-use Rattle.jpeg_streams.specs.Stream.{Told, all_brought, start_at, told_of}
+use Rattle.jpeg_streams.specs.Stream.{Told, Walked, all_brought, start_at, told_of}
 use Rattle.jpeg_streams.specs.declared.settings.Settings.{Settings}
 use Rattle.jpeg_decoder.specs.Reaching.{NamesFault, UnlessRefused, is_out_of_memory, walk_end, without_tables}
+use Rattle.jpeg_decoder.specs.Walks.{walked_to}
 use Rattle.jpeg_decoder.proofs.Partial.Refused.{if-there}
 use Rattle.jpeg_decoder.specs.Shows.{GivesUp, IsShown, ShowsJust}
 
@@ -277,6 +278,31 @@ of-bytes (errors.Format t) a b h = tt
 of-bytes (errors.Unsupported t) a b h = tt
 of-bytes (errors.Io t) a b h = tt
 of-bytes (errors.Internal t) a b h = h
+
+-- where segments were read to their end, or refused, whatever was found
+ended-alone : (f g : Found) (o : Result (List ℕ) Fault) (rest : List ℕ)
+    → ◌>>=◌ {B = Found × List ℕ} o (λ (rest : List ℕ). Ok (f, rest)) ≡ Ok (g, rest)
+    → ◌>>=◌ {B = Unit {0} × List ℕ} o (λ (rest : List ℕ). Ok (tt, rest)) ≡ Ok (tt, rest)
+ended-alone f g (Ok x) rest e = grind arith
+ended-alone f g (Err fault) rest e = grind arith
+
+fault-alone : (f : Found) (o : Result (List ℕ) Fault) (fault : Fault)
+    → ◌>>=◌ {B = Found × List ℕ} o (λ (rest : List ℕ). Ok (f, rest)) ≡ Err fault
+    → ◌>>=◌ {B = Unit {0} × List ℕ} o (λ (rest : List ℕ). Ok (tt, rest)) ≡ Err fault
+fault-alone f (Ok x) fault e = grind arith
+fault-alone f (Err g) fault e = grind arith
+
+pub end-alone : (v : Unit {0} → Found) (walk : List ℕ → Walked) (old new : Stream) (r : Result (Unit {0}) Error)
+    → Answers v (λ bytes. walked_to (walk bytes)) old r new
+    → Answers (λ (u : Unit {0}). tt) (λ bytes. walk_end (walk bytes)) old r new
+end-alone v walk old new (Ok u) a =
+    (a.0, λ k. let p = a.1 k in (p.0, ended-alone (walk old.bytes).found (v u) (walk old.bytes).rest new.bytes p.1))
+end-alone v walk old new (Err e) a = (
+  a.0,
+  (λ k l. Names-through e (walked_to (walk old.bytes)) (walk_end (walk old.bytes))
+      (fault-alone (walk old.bytes).found (walk old.bytes).rest) (a.1 k l)),
+  a.2,
+)
 
 pub ended-bytes : (ended : Result (Unit {0}) Error) (fault : Option Error) (view : Unit {0} → Unit {0})
     (read : List ℕ → Outcome (Unit {0})) (s n : Stream) → is_out_of_memory ended ≡ false

@@ -26,7 +26,7 @@ use Rattle.jpeg_bits.specs.declared.marker.Marker.TheVariants.{SOS}
 use Rattle.jpeg_decoder.proofs.Segments.MarkedTurns.{none-above, nothing-taken, nothing-within}
 use Rattle.jpeg_decoder.proofs.Segments.Headers.{turn-begins}
 use Rattle.jpeg_decoder.proofs.Segments.LeftBytes.{IsElsewhere, on-at}
-use Rattle.jpeg_decoder.proofs.Segments.TurnLoops.{whole_walk}
+use Rattle.jpeg_decoder.specs.Walks.{walk_over}
 use Rattle.jpeg_decoder.proofs.Segments.Turns.{told-start, turns-enough}
 use Rattle.jpeg_streams.proofs.Written.ReadTurns.{bind-ok, err-ok, ok-same, refused_walk, then-ok, walk-on, walk-refused, walk-stop}
 use Rattle.jpeg_streams.proofs.Written.ReadTurns.{walked, walked_to}
@@ -166,7 +166,7 @@ pub record GoesOn (limit : Option ℕ) (found : Found) (bytes rest : List ℕ) :
   pub turns : ℕ
   pub after : (k : ℕ) → walk limit Zeros (turns + k) false Elsewhere nothing_found None start
       ≡ walk limit Zeros k false Elsewhere found None rest
-  pub whole : whole_walk limit Zeros false nothing_found start ≡ whole_walk limit Zeros false found rest
+  pub whole : walk_over limit Zeros false nothing_found start ≡ walk_over limit Zeros false found rest
 
 goes-on : (limit : Option ℕ) (found : Found) (bytes rest : List ℕ) → header_at bytes ≡ Ok (found, rest)
     → GoesOn limit found bytes rest
@@ -174,7 +174,7 @@ unfolding header_at segments_at FollowsAt
 goes-on limit found bytes rest e =
     let s = bind-ok (start_at bytes) _ (found, rest) e in
     let start = s.0.1 in
-    let w = whole_walk None Zeros true nothing_found start in
+    let w = walk_over None Zeros true nothing_found start in
     let h = bind-ok w.rest _ (found, rest) s.2 in
     let same = ok-same (w.found, h.0) (found, rest) h.2 in
     let p = past limit Zeros _ w w.rest _ h.0 h.1 (follows limit Zeros (suc (length start)) nothing_found start) in
@@ -229,16 +229,16 @@ header-exceeded limit found bytes rest e =
 
 -- no frame was read: it is walked as the stream is
 segments-lack : (limit : Option ℕ) (beyond : Beyond) (found : Found) (bytes : List ℕ) (fault : Fault)
-    → (whole_walk None beyond true found bytes).rest ≡ Err fault
-    → whole_walk limit beyond false found bytes ≡ whole_walk None beyond true found bytes
+    → (walk_over None beyond true found bytes).rest ≡ Err fault
+    → walk_over limit beyond false found bytes ≡ walk_over None beyond true found bytes
 unfolding FollowsAt Follows
 segments-lack limit beyond found bytes fault e =
-    go (whole_walk None beyond true found bytes).rest e (follows limit beyond (suc (length bytes)) found bytes)
+    go (walk_over None beyond true found bytes).rest e (follows limit beyond (suc (length bytes)) found bytes)
   where
     go : (end : Result (List ℕ) Fault) → end ≡ Err fault
-        → Follows limit beyond (suc (length bytes)) (whole_walk None beyond true found bytes) end
+        → Follows limit beyond (suc (length bytes)) (walk_over None beyond true found bytes) end
         (λ k. walk limit beyond k false Elsewhere found None bytes)
-        → whole_walk limit beyond false found bytes ≡ whole_walk None beyond true found bytes
+        → walk_over limit beyond false found bytes ≡ walk_over None beyond true found bytes
     go (Ok rest) e h = absurd (err-ok fault rest (sym e))
     go (Err other) e h = h
 
@@ -254,11 +254,11 @@ walked-lacks (Err other) found fault e = grind arith
 -- no frame was read: the header is walked as the stream is
 header-walked : (limit : Option ℕ) (bytes : List ℕ) (fault : Fault)
     → segments_at None true Elsewhere nothing_found None bytes ≡ Err fault
-    → whole_walk limit Zeros false nothing_found bytes ≡ whole_walk None Zeros true nothing_found bytes
+    → walk_over limit Zeros false nothing_found bytes ≡ walk_over None Zeros true nothing_found bytes
 unfolding segments_at
 header-walked limit bytes fault e =
     segments-lack limit Zeros nothing_found bytes fault
-    (walked-lacks (whole_walk None Zeros true nothing_found bytes).rest _ fault e)
+    (walked-lacks (walk_over None Zeros true nothing_found bytes).rest _ fault e)
 
 stream-lacks : (limit : Option ℕ) (bytes : List ℕ) (fault : Fault)
     → segments_at None true Elsewhere nothing_found None bytes ≡ Err fault

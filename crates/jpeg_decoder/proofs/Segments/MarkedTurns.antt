@@ -18,8 +18,9 @@ use Rattle.jpeg_streams.specs.Work.{brought_within, is_above, left_after, work_a
 use Rattle.jpeg_streams.specs.declared.before.Before.{Before}
 use Rattle.jpeg_streams.specs.declared.beyond.Beyond.{Beyond}
 use Rattle.jpeg_streams.proofs.Refusals.{told-err}
-use Rattle.jpeg_decoder.specs.Reaching.{UnlessRefused}
-use Rattle.jpeg_decoder.proofs.Partial.Refused.{if-refused, if-refused-as, unless-so}
+use Rattle.jpeg_decoder.specs.Walks.{OfWalk}
+use Rattle.jpeg_decoder.proofs.Partial.Refused.{if-refused, if-refused-as}
+use Rattle.jpeg_decoder.proofs.Segments.WalkedScans.{of-walk-so}
 
 -- ---- what stands after a marker
 
@@ -125,21 +126,21 @@ pub marked-reads : {X : Type 0} (view : X → Turn) (limit : Option ℕ) (beyond
     (met : Option Marker) (old mid new : Stream) (m : Marker) (after : List ℕ → Brought) (r : Result X Error)
     → Begins limit beyond before found met old m after
     → Answers (λ (m : Marker). m) (λ bytes. found_or met bytes (next_marker bytes)) old (Ok m) mid
-    → UnlessRefused r (Answers view (λ bytes. (after bytes).turn) mid r new)
-    → UnlessRefused r (Answers view (λ bytes. (turn_within limit beyond before found met bytes).turn) old r new)
+    → OfWalk beyond r (Answers view (λ bytes. (after bytes).turn) mid r new)
+    → OfWalk beyond r (Answers view (λ bytes. (turn_within limit beyond before found met bytes).turn) old r new)
 marked-reads view limit beyond before found met old mid new m after r begins a h =
-    unless-so r _ _ (marked-answers view limit beyond before found met old mid new m after r begins a) h
+    of-walk-so beyond r (marked-answers view limit beyond before found met old mid new m after r begins a) h
 
--- what a refusal of what stands after it leaves, of what the turn brings
-pub marked-brought : {X V : Type 0} (view : Brought → V) (left : V) (limit : Option ℕ) (beyond : Beyond) (before : Before) (found : Found)
-    (met : Option Marker) (old mid new : Stream) (m : Marker) (after : List ℕ → Brought) (r : Result X Error) (P : Type 0)
+-- what holds of a refusal of what stands after it holds of the turn
+pub marked-holds : {X : Type 0} (P : Brought → Type 0) (limit : Option ℕ) (beyond : Beyond) (before : Before) (found : Found)
+    (met : Option Marker) (old mid new : Stream) (m : Marker) (after : List ℕ → Brought) (r : Result X Error)
     → Begins limit beyond before found met old m after
     → Answers (λ (m : Marker). m) (λ bytes. found_or met bytes (next_marker bytes)) old (Ok m) mid
-    → (P → left ≡ view (after mid.bytes)) → OnToldRefusal mid new r P
-    → OnToldRefusal old new r (left ≡ view (turn_within limit beyond before found met old.bytes))
-marked-brought view left limit beyond before found met old mid new m after r P begins a f h =
-    refusal-after old mid new r P _
-    (λ k. let read = a.1 k in (read.0, λ p. f p ∙ ap view (sym (begins mid.bytes read.1)))) h
+    → OnToldRefusal mid new r (P (after mid.bytes))
+    → OnToldRefusal old new r (P (turn_within limit beyond before found met old.bytes))
+marked-holds P limit beyond before found met old mid new m after r begins a h =
+    refusal-after old mid new r (P (after mid.bytes)) _
+    (λ k. let read = a.1 k in (read.0, λ p. subst P (sym (begins mid.bytes read.1)) p)) h
 
 -- ---- what a turn leaves of a limit
 
@@ -176,14 +177,13 @@ unmarked-reads {X} view limit beyond before found met old new e a =
     (λ bytes. found_or met bytes (next_marker bytes)) old old new e
     (λ f q. ap (λ (b : Brought). b.turn) (turn-unmarked limit beyond before found met old.bytes f q)) (refl, λ k. (k, refl)) a
 
-pub unmarked-brought : {V : Type 0} (view : Brought → V) (left : V) (limit : Option ℕ) (beyond : Beyond) (before : Before) (found : Found)
-    (met : Option Marker) (old new : Stream) (e : Error) → ((fault : Fault) → left ≡ view (unbrought found (Err fault)))
+pub unmarked-holds : (P : Brought → Type 0) (limit : Option ℕ) (beyond : Beyond) (before : Before) (found : Found)
+    (met : Option Marker) (old new : Stream) (e : Error) → ((fault : Fault) → P (unbrought found (Err fault)))
     → Answers (λ (m : Marker). m) (λ bytes. found_or met bytes (next_marker bytes)) old (Err e) new
-    → old.known ≡ true → new.known ≡ true
-    → IfRefused e (left ≡ view (turn_within limit beyond before found met old.bytes))
-unmarked-brought view left limit beyond before found met old new e is a k known =
+    → old.known ≡ true → new.known ≡ true → IfRefused e (P (turn_within limit beyond before found met old.bytes))
+unmarked-holds P limit beyond before found met old new e is a k known =
     told-err e (found_or met old.bytes (next_marker old.bytes)) _ (a.1 k known)
-    (λ f q. is f ∙ ap view (sym (turn-unmarked limit beyond before found met old.bytes f q)))
+    (λ f q. subst P (sym (turn-unmarked limit beyond before found met old.bytes f q)) (is f))
 
 -- ---- whether a turn exceeds a limit
 

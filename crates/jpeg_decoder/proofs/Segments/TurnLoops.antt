@@ -13,16 +13,12 @@ use Rattle.jpeg_streams.specs.States.{IfRefused}
 use Rattle.jpeg_streams.specs.Stream.{Walked, turn_within, walk}
 use Rattle.jpeg_streams.specs.Work.{is_above, left_after, work_of_turn}
 use Rattle.jpeg_decoder.specs.Steps.{turn_of}
+use Rattle.jpeg_decoder.specs.Walks.{walk_over}
 use Rattle.jpeg_decoder.specs.declared.stream.state.Step.{Step}
 use Rattle.jpeg_streams.proofs.Written.ReadTurns.{refused_walk, walk-on, walk-refused}
 use Rattle.jpeg_decoder.proofs.Partial.Refused.{refused-at, refused-then}
 use Rattle.jpeg_decoder.proofs.Segments.LeftBytes.{left_at}
 use Rattle.jpeg_decoder.proofs.Segments.Turns.{turn-takes}
-
--- a walk over all of some bytes
-abbrev pub whole_walk : Option ℕ → Beyond → Bool → Found → List ℕ → Walked
-whole_walk limit beyond header found bytes =
-    walk limit beyond (suc (length bytes)) header Elsewhere found None bytes
 
 -- After these turns, the walk over the bytes of old is one over those of new, with what is left of its limit.
 pub record IsWalked (limit : Option ℕ) (beyond : Beyond) (header : Bool) (found : Found) (old : Stream) (turns : ℕ)
@@ -62,7 +58,7 @@ walked-on limit beyond header found old turns left last now cur new next step af
 walk-left : {limit : Option ℕ} {beyond : Beyond} {header : Bool} {found : Found} {old : Stream} {turns : ℕ}
     {left : Option ℕ} {last : Step} {now : Found} {cur : Stream}
     → IsWalked limit beyond header found old turns left last now cur → old.known ≡ true
-    → whole_walk limit beyond header found old.bytes
+    → walk_over limit beyond header found old.bytes
     ≡ walk left beyond (suc (length old.bytes - turns)) header last.before now last.met cur.bytes
 walk-left {limit} {beyond} {header} {found} {old} {turns} w k =
     let few = w.took k in
@@ -75,7 +71,7 @@ pub walked-whole : {limit : Option ℕ} {beyond : Beyond} {header : Bool} {found
     {left : Option ℕ} {last : Step} {now : Found} {cur : Stream} (end : Walked)
     → IsWalked limit beyond header found old turns left last now cur
     → ((n : ℕ) → walk left beyond (suc n) header last.before now last.met cur.bytes ≡ end) → old.known ≡ true
-    → whole_walk limit beyond header found old.bytes ≡ end
+    → walk_over limit beyond header found old.bytes ≡ end
 walked-whole {old = old} {turns = turns} end w is k = walk-left w k ∙ is (length old.bytes - turns)
 
 -- ---- a turn is refused
@@ -85,7 +81,7 @@ pub walked-refused : (limit : Option ℕ) (beyond : Beyond) (header : Bool) (fou
     (left : Option ℕ) (last : Step) (now : Found) (cur : Stream) (fault : Fault)
     → IsWalked limit beyond header found old turns left last now cur → (header && is_some now.said.frame) ≡ false
     → (turn_within left beyond last.before now last.met cur.bytes).turn ≡ Err fault → old.known ≡ true
-    → whole_walk limit beyond header found old.bytes
+    → walk_over limit beyond header found old.bytes
     ≡ refused_walk (is_above left (work_of_turn now last.met cur.bytes))
     (turn_within left beyond last.before now last.met cur.bytes) fault
 walked-refused limit beyond header found old turns left last now cur fault w none e k =
@@ -103,10 +99,10 @@ pub walked-err : {X Y : Type 0} (view : X → Turn) (see : Unit {0} → Y) (end 
     → (header && is_some now.said.frame) ≡ false
     → ((w : Walked) (fault : Fault) → w.rest ≡ Err fault → end w ≡ Err fault)
     → Answers view (λ bytes. (turn_within left beyond last.before now last.met bytes).turn) cur (Err e) new
-    → Answers see (λ bytes. end (whole_walk limit beyond header found bytes)) old (Err e) new
+    → Answers see (λ bytes. end (walk_over limit beyond header found bytes)) old (Err e) new
 walked-err {X} view see end limit beyond header found old turns left last now cur new e w none ends a =
     let n = suc (length old.bytes - turns) in
-    Continues-err {X = Unit {0}} {Z = X} see view (λ bytes. end (whole_walk limit beyond header found bytes))
+    Continues-err {X = Unit {0}} {Z = X} see view (λ bytes. end (walk_over limit beyond header found bytes))
     (λ bytes. end (walk left beyond n header last.before now last.met bytes))
     (λ bytes. (turn_within left beyond last.before now last.met bytes).turn) old cur new e
     (λ f q. ends _ f (ap (λ (w : Walked). w.rest)

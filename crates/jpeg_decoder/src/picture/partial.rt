@@ -32,13 +32,14 @@ use crate::picture::whole::{are_kept, picture, read_start};
 use crate::scan::block_array::BlockArray;
 use crate::scan::decoded::{Decoded, render, zero_blocks};
 use crate::scan::samples::grey_samples;
-use crate::scan::work::Budget;
+use crate::scan::work::{Budget, Walk};
 use crate::stream::state::State;
 use crate::stream::tables::table_at;
-use crate::stream::turns::reach_segments;
+use crate::stream::turns::read_segments;
 use jpeg_bits::error::{Error, Result, format_error};
 use jpeg_bits::source::Source;
 use jpeg_segments::parser::{CodingProcess, Component, FrameInfo};
+use jpeg_streams::beyond::Beyond;
 use jpeg_streams::settings::Settings;
 use std::alloc::{AllocError, Global};
 use std::io::Read;
@@ -332,18 +333,20 @@ fn show_rest<R: Read + Drop>(
     ensures emptied { (state.new.kept ≡ []) × (state.new.planes ≡ replicate 4 None)
         × (state.new.samples ≡ replicate 4 None) }
 {
-    let mut rows = None;
-    let mut budget = Budget {
-        left: settings.max_blocks,
-        exceeded: false,
+    let mut walk = Walk {
+        budget: Budget {
+            left: settings.max_blocks,
+            exceeded: false,
+        },
+        rows: None,
     };
-    let ended = reach_segments(alloc, source, state, &mut budget, &mut rows);
-    *exceeded = budget.exceeded;
+    let ended = read_segments(alloc, source, state, false, Beyond::Nothing, &mut walk);
+    *exceeded = walk.budget.exceeded;
     let mut decoded = std::mem::replace(&mut state.decoded, Decoded::new(alloc));
     if is_lost(&ended) {
         return Err(Error::OutOfMemory);
     }
-    show_found(alloc, state, &mut decoded, settings, ended.err(), rows)
+    show_found(alloc, state, &mut decoded, settings, ended.err(), walk.rows)
 }
 
 /// Reads a stream, or the rest of one after its header, up to its first fault, and returns the

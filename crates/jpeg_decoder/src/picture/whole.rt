@@ -35,7 +35,7 @@ use crate::picture::lines::Lines;
 use crate::scan::block_array::BlockArray;
 use crate::scan::coded::is_progressive;
 use crate::scan::decoded::{Decoded, render};
-use crate::scan::work::Budget;
+use crate::scan::work::{Budget, Walk};
 use crate::sizes::line_bytes;
 use crate::stream::state::State;
 use crate::stream::tables::{Missing, needed, table_at};
@@ -49,6 +49,7 @@ use jpeg_lossless::lossless::{SampleLines, sample_lines};
 use jpeg_pixels::joint_planes::{JointPlanes, JointShape, joint_shape};
 use jpeg_pixels::lines::{PictureLines, cropped_lines, joint_lines, plane_lines};
 use jpeg_segments::parser::{CodingProcess, Component, Dimensions, FrameInfo};
+use jpeg_streams::beyond::Beyond;
 use jpeg_streams::settings::Settings;
 use std::alloc::Global;
 use std::io::Read;
@@ -414,17 +415,20 @@ pub fn read_header<R: Read + Drop>(
     ensures unread { OnOk result (IsUnread state.new) }
 {
     read_start(alloc, source)?;
-    let mut budget = Budget {
-        left: None,
-        exceeded: false,
+    let mut walk = Walk {
+        budget: Budget {
+            left: None,
+            exceeded: false,
+        },
+        rows: None,
     };
-    read_segments(alloc, source, state, true, &mut budget)
+    read_segments(alloc, source, state, true, Beyond::Zeros, &mut walk)
 }
 
 /// Reads the rest of a stream, after its header, and gives the lines of its picture. No blocks or
 /// planes are kept. `exceeded` says whether a scan was refused since it codes more blocks than the
 /// limit leaves.
-#[tactic(auto, unfolding(jpeg_streams::specs::Stream::rest_within))]
+#[tactic(auto, unfolding(crate::proofs::Rules::rests))]
 pub fn read_rest<R: Read + Drop>(
     alloc: Global,
     source: &mut Source<R>,
@@ -454,12 +458,15 @@ pub fn read_rest<R: Read + Drop>(
     ensures emptied { (state.new.kept ≡ []) × (state.new.planes ≡ replicate 4 None)
         × (state.new.samples ≡ replicate 4 None) }
 {
-    let mut budget = Budget {
-        left: settings.max_blocks,
-        exceeded: false,
+    let mut walk = Walk {
+        budget: Budget {
+            left: settings.max_blocks,
+            exceeded: false,
+        },
+        rows: None,
     };
-    let ended = read_segments(alloc, source, state, false, &mut budget);
-    *exceeded = budget.exceeded;
+    let ended = read_segments(alloc, source, state, false, Beyond::Zeros, &mut walk);
+    *exceeded = walk.budget.exceeded;
     let mut decoded = std::mem::replace(&mut state.decoded, Decoded::new(alloc));
     ended?;
     picture(alloc, state, &mut decoded, settings)

@@ -14,7 +14,7 @@ ghost use Rattle.jpeg_streams.specs.Found.{Found};
 ghost use Rattle.jpeg_streams.specs.Stream.{scan_within, segment_at};
 ghost use Rattle.std.specs.Prelude.{IfOk, IfSome, List, None, OnOk, Some, false, true, ℕ, ◌≡◌};
 ghost use Rattle.jpeg_streams.specs.Work.{is_above, left_after, work_of_header};
-ghost use Rattle.jpeg_streams.specs.declared.beyond.Beyond.TheVariants.{Nothing, Zeros};
+ghost use Rattle.jpeg_decoder.specs.Walks.{AfterWalk, IsGoing, Leaves, OfWalk};
 ghost use Rattle.jpeg_streams.specs.States.{OnToldRefusal};
 ghost use Rattle.jpeg_decoder.specs.Reaching.{IsEndOf, UnlessRefused, brought_after, rows_after};
 
@@ -23,7 +23,7 @@ use crate::scan::decoded::Decoded;
 use crate::scan::lossless::{read_lossless_scan, sample_scan_of};
 use crate::scan::reached_rows::reach_samples;
 use crate::scan::restarts::pass_restarts;
-use crate::scan::work::Budget;
+use crate::scan::work::{Budget, Walk};
 use crate::stream::state::{Said, State, Step};
 use crate::stream::tables::{Missing, needed};
 use jpeg_bits::error::{Error, Result, UnsupportedFeature, format_error};
@@ -31,6 +31,7 @@ use jpeg_bits::marker::Marker;
 use jpeg_bits::source::Source;
 use jpeg_segments::parser::{CodingProcess, FrameInfo, ScanHeader, read_scan_header};
 use jpeg_streams::before::Before;
+use jpeg_streams::beyond::Beyond;
 use std::alloc::Global;
 use std::io::Read;
 
@@ -115,7 +116,7 @@ fn is_lossless(said: &Said) -> bool
 }
 
 /// Reads the blocks of a scan up to its first fault, and returns what stands after it, as
-/// `reach_scan` does.
+/// `reach_after` does.
 fn reach_block_scan<R: Read + Drop>(
     alloc: Global,
     source: &mut Source<R>,
@@ -154,7 +155,7 @@ fn reach_block_scan<R: Read + Drop>(
 }
 
 /// Reads the samples of a lossless scan up to its first fault, and returns what stands after it, as
-/// `reach_scan` does.
+/// `reach_after` does.
 fn reach_lossless_scan<R: Read + Drop>(
     alloc: Global,
     source: &mut Source<R>,
@@ -188,45 +189,36 @@ fn reach_lossless_scan<R: Read + Drop>(
     end_reached(state, reached, given, rows)
 }
 
-/// Reads a scan up to its first fault, and returns what stands after it: the marker after it and
-/// after the restart markers at its end, if one was reached.
+/// Reads the data of a scan up to their first fault, and returns what stands after it: the marker
+/// after it and after the restart markers at its end, if one was reached.
 ///
 /// Blocks that were read before an error count, or the rows of MCUs of a lossless scan, unless the
 /// error is out of memory. Where it lacks some, `rows` says how many rows of the picture are
 /// complete.
-///
-/// Its blocks are taken from those that are left, if there is a limit. A scan of more is refused
-/// after its header, and nothing of it counts.
-pub fn reach_scan<R: Read + Drop>(
+fn reach_after<R: Read + Drop>(
     alloc: Global,
     source: &mut Source<R>,
     state: &mut State,
-    budget: &mut Budget,
+    header: &ScanHeader,
     rows: &mut Option<u16>,
 ) -> Result<Step>
     requires sound { IsSound state.old }
-    requires within { budget.old.exceeded ≡ false }
+    requires header { IsHeaderOf state.old header.now }
     requires rows { rows.old ≡ None }
     ensures whole { OnOk result (rows.new ≡ None) }
     ensures rows { OnToldRefusal source.old source.new result (rows.new
-        ≡ (scan_within budget.old.left Nothing state.old source.old.bytes).rows) }
-    ensures reads { UnlessRefused result (Answers (turn_of state.new) (λ bytes. (scan_within
-        budget.old.left Nothing state.old bytes).turn) source.old result source.new) }
+        ≡ (brought_after state.old header.now source.old.bytes).rows) }
+    ensures reads { UnlessRefused result (Answers (turn_of state.new) (λ bytes. (brought_after
+        state.old header.now bytes).turn) source.old result source.new) }
     ensures found { OnToldRefusal source.old source.new result (state.new
-        ≡ (scan_within budget.old.left Nothing state.old source.old.bytes).found) }
-    ensures left { source.old.known ≡ true → OnOk result (budget.new.left
-        ≡ left_after budget.old.left (work_of_header state.old source.old.bytes)) }
-    ensures within { OnOk result (budget.new.exceeded ≡ false) }
-    ensures exceeded { OnToldRefusal source.old source.new result (budget.new.exceeded
-        ≡ is_above budget.old.left (work_of_header state.old source.old.bytes)) }
+        ≡ (brought_after state.old header.now source.old.bytes).found) }
     ensures sound { UnlessRefused result (IsSound state.new) }
     ensures steps { IsStep state.old result state.new }
 {
-    let header = read_header(alloc, source, state, budget)?;
     if is_lossless(&state.said) {
-        reach_lossless_scan(alloc, source, state, &header, rows)
+        reach_lossless_scan(alloc, source, state, header, rows)
     } else {
-        reach_block_scan(alloc, source, state, &header, rows)
+        reach_block_scan(alloc, source, state, header, rows)
     }
 }
 
@@ -286,28 +278,38 @@ fn read_after<R: Read + Drop>(
 }
 
 /// Reads a scan, and returns what stands after it: the marker after it and after the restart
-/// markers at its end, if one was reached. An error may leave a part of what the scan gave.
+/// markers at its end, if one was reached. An error may leave a part of what the scan gave, which
+/// counts where nothing follows the marker after its data: see `reach_after`.
 ///
 /// Its blocks are taken from those that are left, if there is a limit. A scan of more is refused
-/// after its header.
+/// after its header, and nothing of it counts.
 pub fn read_scan<R: Read + Drop>(
     alloc: Global,
     source: &mut Source<R>,
     state: &mut State,
-    budget: &mut Budget,
+    beyond: Beyond,
+    walk: &mut Walk,
 ) -> Result<Step>
     requires sound { IsSound state.old }
-    requires within { budget.old.exceeded ≡ false }
-    ensures reads { Answers (turn_of state.new) (λ bytes. (scan_within budget.old.left Zeros
-        state.old bytes).turn) source.old result source.new }
-    ensures left { source.old.known ≡ true → OnOk result (budget.new.left
-        ≡ left_after budget.old.left (work_of_header state.old source.old.bytes)) }
-    ensures within { OnOk result (budget.new.exceeded ≡ false) }
-    ensures exceeded { OnToldRefusal source.old source.new result (budget.new.exceeded
-        ≡ is_above budget.old.left (work_of_header state.old source.old.bytes)) }
+    requires going { IsGoing walk.old }
+    ensures reads { OfWalk beyond result (Answers (turn_of state.new) (λ bytes.
+        (scan_within walk.old.budget.left beyond state.old bytes).turn) source.old result
+        source.new) }
+    ensures leaves { OnToldRefusal source.old source.new result (let b = scan_within
+        walk.old.budget.left beyond state.old source.old.bytes in
+        Leaves beyond state.new walk.new.rows b.found b.rows) }
+    ensures left { source.old.known ≡ true → OnOk result (walk.new.budget.left
+        ≡ left_after walk.old.budget.left (work_of_header state.old source.old.bytes)) }
+    ensures exceeded { OnToldRefusal source.old source.new result (walk.new.budget.exceeded
+        ≡ is_above walk.old.budget.left (work_of_header state.old source.old.bytes)) }
+    ensures going { OnOk result (IsGoing walk.new) }
+    ensures sound { AfterWalk beyond result (IsSound state.new) }
     ensures steps { IsStep state.old result state.new }
 {
-    let header = read_header(alloc, source, state, budget)?;
+    let header = read_header(alloc, source, state, &mut walk.budget)?;
+    if beyond == Beyond::Nothing {
+        return reach_after(alloc, source, state, &header, &mut walk.rows);
+    }
     let met = read_after(alloc, source, state, &header)?;
     Ok(state.end_scan(met))
 }

@@ -1,4 +1,4 @@
-//! The work that a scan asks for, counted in blocks, and a limit of it (T.81, A.2).
+//! The work that scans ask for, counted in blocks, and a limit of it (T.81, A.2).
 ghost use Rattle.std.specs.Prelude.{◌≡◌, ◌≤◌, ◌<◌, ◌*◌, All, MatchResult, false, length, true};
 ghost use Rattle.std.specs.List.{AllByRecursion};
 ghost use Rattle.jpeg_segments.specs.FrameView.{frame_in};
@@ -121,4 +121,14 @@ impl Budget {
         self.left = Some(most - blocks);
         Ok(())
     }
+}
+
+/// How far a walk over the segments of a stream has come.
+#[derive(Clone, Copy)]
+pub struct Walk {
+    /// The blocks that scans may still code.
+    pub budget: Budget,
+    /// How many rows of the picture are complete, if a scan that counts up to its first fault lacks
+    /// some blocks or lines.
+    pub rows: Option<u16>,
 }

@@ -1,27 +1,27 @@
 //! A stream, segment by segment, with the scans in their place (T.81, B.2).
-ghost use Rattle.std.specs.Prelude.{◌≡◌, ◌&&◌, false, true, is_some, None, OnOk, IfOk, suc, length};
+ghost use Rattle.std.specs.Prelude.{◌≡◌, ◌&&◌, true, is_some, None, OnOk, IfOk};
 ghost use Rattle.jpeg_bits.specs.Marker.{found_or, next_marker};
 ghost use Rattle.jpeg_bits.specs.Reading.{Answers, IsShort, NamesFormat};
-ghost use Rattle.jpeg_streams.specs.declared.before.Before.TheVariants.{Elsewhere};
-ghost use Rattle.jpeg_streams.specs.Reported.{IsOfTurns, told_in_turns};
+ghost use Rattle.jpeg_streams.specs.Reported.{IsOfTurns};
 ghost use Rattle.jpeg_streams.specs.Sound.{IsSound, IsUnread};
 ghost use Rattle.jpeg_streams.specs.States.{OnTold, OnToldRefusal};
-ghost use Rattle.jpeg_streams.specs.Stream.{all_brought, segment_at, segments_at, told_of};
+ghost use Rattle.jpeg_streams.specs.Stream.{segment_at, told_of};
 ghost use Rattle.jpeg_streams.specs.Stream.{turn_within};
 ghost use Rattle.jpeg_streams.specs.Work.{is_above, left_after, work_of_turn};
-ghost use Rattle.jpeg_streams.specs.Limits.{exceeded_rest};
 ghost use Rattle.jpeg_bits.specs.declared.marker.Marker.TheVariants.{SOS};
-ghost use Rattle.jpeg_decoder.specs.Reaching.{OnFault, UnlessRefused, walk_end, without_tables};
+ghost use Rattle.jpeg_decoder.specs.Reaching.{OnFault, without_tables};
 ghost use Rattle.jpeg_decoder.specs.Steps.{IsStep, turn_of};
-ghost use Rattle.jpeg_streams.specs.declared.beyond.Beyond.TheVariants.{Nothing, Zeros};
+ghost use Rattle.jpeg_decoder.specs.Walks.{AfterWalk, IsGoing, Leaves, OfWalk, walk_for};
+ghost use Rattle.jpeg_decoder.specs.Walks.{walk_over, walked_to};
 
-use crate::scan::segment::{reach_scan, read_scan, refused_line_count};
-use crate::scan::work::Budget;
+use crate::scan::segment::{read_scan, refused_line_count};
+use crate::scan::work::Walk;
 use crate::stream::state::{ONWARD, State, Step};
 use jpeg_bits::error::{Error, Result, UnsupportedFeature, format_error, format_error_of};
 use jpeg_bits::marker::{Marker, read_marker};
 use jpeg_bits::source::Source;
 use jpeg_streams::before::Before;
+use jpeg_streams::beyond::Beyond;
 use std::alloc::Global;
 use std::io::Read;
 
@@ -82,70 +82,37 @@ fn marker_error(alloc: Global, marker: Marker) -> Error
     format_error_of(format!(in alloc; "found {marker}, expected the marker of a segment"))
 }
 
-/// Reads the marker after a step, which may have been reached already, and what stands after it.
-/// The blocks of a scan are taken from those that are left, if there is a limit.
+/// Reads the marker after a step, which may have been reached already, and what stands after it:
+/// see `read_scan` for a scan.
 #[tactic(auto, unfolding(crate::proofs::Rules::turns))]
 fn read_turn<R: Read + Drop>(
     alloc: Global,
     source: &mut Source<R>,
     state: &mut State,
     last: Step,
-    budget: &mut Budget,
+    beyond: Beyond,
+    walk: &mut Walk,
 ) -> Result<Step>
     requires sound { IsSound state.old }
-    requires within { budget.old.exceeded ≡ false }
-    ensures reads { Answers (turn_of state.new) (λ bytes. (turn_within budget.old.left Zeros
-        last.before state.old last.met bytes).turn) source.old result source.new }
-    ensures left { source.old.known ≡ true → OnOk result (budget.new.left
-        ≡ left_after budget.old.left (work_of_turn state.old last.met source.old.bytes)) }
-    ensures within { OnOk result (budget.new.exceeded ≡ false) }
-    ensures exceeded { OnToldRefusal source.old source.new result (budget.new.exceeded
-        ≡ is_above budget.old.left (work_of_turn state.old last.met source.old.bytes)) }
+    requires going { IsGoing walk.old }
+    ensures reads { OfWalk beyond result (Answers (turn_of state.new) (λ bytes.
+        (turn_within walk.old.budget.left beyond last.before state.old last.met
+        bytes).turn) source.old result source.new) }
+    ensures leaves { OnToldRefusal source.old source.new result (let b = turn_within
+        walk.old.budget.left beyond last.before state.old last.met source.old.bytes in
+        Leaves beyond state.new walk.new.rows b.found b.rows) }
+    ensures left { source.old.known ≡ true → OnOk result (walk.new.budget.left
+        ≡ left_after walk.old.budget.left (work_of_turn state.old last.met source.old.bytes)) }
+    ensures exceeded { OnToldRefusal source.old source.new result (walk.new.budget.exceeded
+        ≡ is_above walk.old.budget.left (work_of_turn state.old last.met source.old.bytes)) }
+    ensures going { OnOk result (IsGoing walk.new) }
+    ensures sound { AfterWalk beyond result (IsSound state.new) }
     ensures steps { IsStep state.old result state.new }
     ensures short { last.met ≡ None → IsShort source.old }
 {
     let marker = marker_or_next(alloc, source, last.met)?;
     if marker == Marker::SOS {
-        return read_scan(alloc, source, state, budget);
-    }
-    read_segment(alloc, source, state, last.before, marker)
-}
-
-/// Reads as `read_turn` does, but a scan up to its first fault: see `reach_scan`.
-#[tactic(auto, unfolding(crate::proofs::Rules::turns))]
-fn reach_turn<R: Read + Drop>(
-    alloc: Global,
-    source: &mut Source<R>,
-    state: &mut State,
-    last: Step,
-    budget: &mut Budget,
-    rows: &mut Option<u16>,
-) -> Result<Step>
-    requires sound { IsSound state.old }
-    requires within { budget.old.exceeded ≡ false }
-    requires rows { rows.old ≡ None }
-    ensures whole { OnOk result (rows.new ≡ None) }
-    ensures rows { OnToldRefusal source.old source.new result (rows.new
-        ≡ (turn_within budget.old.left Nothing last.before state.old last.met
-        source.old.bytes).rows) }
-    ensures reads { UnlessRefused result (Answers (turn_of state.new) (λ bytes. (turn_within
-        budget.old.left Nothing last.before state.old last.met bytes).turn) source.old result
-        source.new) }
-    ensures found { OnToldRefusal source.old source.new result (without_tables state.new
-        ≡ without_tables (turn_within budget.old.left Nothing last.before state.old last.met
-        source.old.bytes).found) }
-    ensures left { source.old.known ≡ true → OnOk result (budget.new.left
-        ≡ left_after budget.old.left (work_of_turn state.old last.met source.old.bytes)) }
-    ensures within { OnOk result (budget.new.exceeded ≡ false) }
-    ensures exceeded { OnToldRefusal source.old source.new result (budget.new.exceeded
-        ≡ is_above budget.old.left (work_of_turn state.old last.met source.old.bytes)) }
-    ensures sound { UnlessRefused result (IsSound state.new) }
-    ensures steps { IsStep state.old result state.new }
-    ensures short { last.met ≡ None → IsShort source.old }
-{
-    let marker = marker_or_next(alloc, source, last.met)?;
-    if marker == Marker::SOS {
-        return reach_scan(alloc, source, state, budget, rows);
+        return read_scan(alloc, source, state, beyond, walk);
     }
     read_segment(alloc, source, state, last.before, marker)
 }
@@ -157,31 +124,35 @@ fn is_read_for(state: &State, header: bool) -> bool
     header && state.said.frame.is_some()
 }
 
-/// Reads segments and scans up to the end of the image, or, if only the header is wanted, through
-/// the frame header. The scans may code this many blocks, if there is a limit.
+/// Reads segments and scans up to the end of the image or the first fault, or, if only the header
+/// is wanted, through the frame header. Where what is read of a scan before its first fault counts
+/// and lacks some blocks or lines, `walk` says how many rows of the picture are complete.
 pub fn read_segments<R: Read + Drop>(
     alloc: Global,
     source: &mut Source<R>,
     state: &mut State,
     header: bool,
-    budget: &mut Budget,
+    beyond: Beyond,
+    walk: &mut Walk,
 ) -> Result<()>
     requires sound { IsSound state.old }
-    requires within { budget.old.exceeded ≡ false }
-    ensures reads { Answers (λ _. state.new)
-        (segments_at budget.old.left header Elsewhere state.old None) source.old result source.new }
-    ensures told { OnTold source.old source.new result (told_of state.new.said
-        ≡ told_in_turns budget.old.left (suc (length source.old.bytes)) header state.old
-        source.old.bytes) }
+    requires going { IsGoing walk.old }
+    ensures reads { OfWalk beyond result (Answers (λ _. state.new)
+        (λ bytes. walked_to (walk_over walk.old.budget.left beyond header state.old bytes))
+        source.old result source.new) }
+    ensures leaves { OnTold source.old source.new result (let w = walk_over walk.old.budget.left
+        beyond header state.old source.old.bytes in Leaves beyond state.new walk.new.rows w.found
+        w.rows) }
     ensures turns { source.old.known ≡ true → IsOfTurns
-        (λ n. told_in_turns budget.old.left n header state.old source.old.bytes)
+        (λ n. told_of (walk_for walk.old.budget.left beyond n header state.old
+        source.old.bytes).found.said)
         (told_of state.new.said) }
-    ensures exceeded { header ≡ false → OnTold source.old source.new result (budget.new.exceeded
-        ≡ exceeded_rest budget.old.left Zeros state.old source.old.bytes) }
+    ensures exceeded { OnTold source.old source.new result (walk.new.budget.exceeded
+        ≡ (walk_over walk.old.budget.left beyond header state.old source.old.bytes).exceeded) }
     ensures framed { IfOk result (λ _. is_some state.new.said.frame ≡ true) }
     ensures stays { is_some state.old.said.frame ≡ true → state.new.said.frame
         ≡ state.old.said.frame }
-    ensures sound { IsSound state.old → OnOk result (IsSound state.new) }
+    ensures sound { AfterWalk beyond result (IsSound state.new) }
     ensures unread { header ≡ true → state.old.said.frame ≡ None
         → OnOk result (IsUnread state.new) }
 {
@@ -190,43 +161,7 @@ pub fn read_segments<R: Read + Drop>(
         if is_read_for(state, header) {
             return Ok(());
         }
-        last = read_turn(alloc, source, state, last, budget)?;
-        if last.ended {
-            return Ok(());
-        }
-    }
-    Err(format_error(alloc, "found 2^64 markers, expected EOI"))
-}
-
-/// Reads segments and scans up to the end of the image or the first fault, and in the scan with the
-/// fault what stands before it. Where that scan lacks some blocks or lines, `rows` says how many
-/// rows of the picture are complete. The scans may code this many blocks, if there is a limit.
-pub fn reach_segments<R: Read + Drop>(
-    alloc: Global,
-    source: &mut Source<R>,
-    state: &mut State,
-    budget: &mut Budget,
-    rows: &mut Option<u16>,
-) -> Result<()>
-    requires sound { IsSound state.old }
-    requires within { budget.old.exceeded ≡ false }
-    requires rows { rows.old ≡ None }
-    ensures rows { OnTold source.old source.new result (rows.new
-        ≡ (all_brought budget.old.left state.old source.old.bytes).rows) }
-    ensures reads { UnlessRefused result (Answers (λ _. tt) (λ bytes. walk_end (all_brought
-        budget.old.left state.old bytes)) source.old result source.new) }
-    ensures found { OnTold source.old source.new result (without_tables state.new
-        ≡ without_tables (all_brought budget.old.left state.old source.old.bytes).found) }
-    ensures exceeded { OnTold source.old source.new result (budget.new.exceeded
-        ≡ exceeded_rest budget.old.left Nothing state.old source.old.bytes) }
-    ensures sound { UnlessRefused result (IsSound state.new) }
-    ensures framed { IfOk result (λ _. is_some state.new.said.frame ≡ true) }
-    ensures stays { is_some state.old.said.frame ≡ true → state.new.said.frame
-        ≡ state.old.said.frame }
-{
-    let mut last = ONWARD;
-    for _ in 0..=u64::MAX {
-        last = reach_turn(alloc, source, state, last, budget, rows)?;
+        last = read_turn(alloc, source, state, last, beyond, walk)?;
         if last.ended {
             return Ok(());
         }

@@ -4,11 +4,15 @@ use Rattle.jpeg_streams.specs.Reported.{IsOfTurns}
 use Rattle.jpeg_streams.specs.Found.{Found, nothing_found}
 use Rattle.jpeg_streams.proofs.Soundness.{nothing-framed}
 use Rattle.jpeg_streams.proofs.Refusals.{told-through, turns-none}
+use Rattle.jpeg_decoder.proofs.Partial.Refused.{on-told}
 use Rattle.jpeg_decoder.proofs.Segments.Turns.{told-start}
 use Rattle.jpeg_decoder.proofs.picture.whole.read_header.Goals as goal
 
 pub returns-clause-told : goal.returns-clause-told
-returns-clause-told g c = search (rules, told-through, told-start)
+returns-clause-told g c =
+    let told = on-told c.read_start.new.source c.read_segments.new.source c.read_segments.result (λ l. l.0)
+    c.read_segments.ensures.leaves in
+    search (rules, told-through, told-start, told)
 
 pub returns-in_err-read_start-clause-turns : goal.returns-in_err-read_start-clause-turns
 unfolding IsOfTurns nothing_found

@@ -7,7 +7,7 @@ use Rattle.jpeg_decoder.proofs.picture.whole.read_rest.Goals as goal
 
 pub returns-clause-size : goal.returns-clause-size
 returns-clause-size g c =
-    let decoded = subst HasDecodedFrame (sym c.state.view_is) (c.in_ok-ended.ensures.sound c.requires.sound).frames in
+    let decoded = subst HasDecodedFrame (sym c.state.view_is) c.in_ok-ended.ensures.sound.frames in
     IfOk-weaker c.picture.result _ _
     (λ l h. lines-whole (found_of c.state.inside.said c.state.inside.decoded) l _ decoded h refl)
     c.picture.ensures.lines

@@ -1,14 +1,15 @@
-use Rattle.std.proofs.Common.{◌≡◌, ◌<◌, false, true, None, is_some}
+use Rattle.std.proofs.Common.{◌≡◌, ◌<◌, true, None, is_some}
 use Rattle.jpeg_bits.specs.Reading.{IsShort}
 use Rattle.jpeg_streams.specs.Sound.{IsSound, IsUnread}
-use Rattle.jpeg_streams.specs.declared.beyond.Beyond.TheVariants.{Zeros}
+use Rattle.jpeg_decoder.specs.Walks.{IsGoing}
 use Rattle.jpeg_decoder.proofs.Segments.TurnLoops.{IsWalked}
 use Rattle.jpeg_decoder.proofs.stream.turns.read_segments.Given as goal
 
 abbrev pub invariant-loop : goal.invariant-loop
 invariant-loop g l = record {
-  walked : IsWalked l.fn.budget.left Zeros l.fn.header l.fn.state l.fn.source l.counter l.budget.left l.last l.state l.source;
-  within : l.budget.exceeded ≡ false;
+  walked : IsWalked l.fn.walk.budget.left l.fn.beyond l.fn.header l.fn.state l.fn.source l.counter l.walk.budget.left
+      l.last l.state l.source;
+  going : IsGoing l.walk;
   short : 0 < l.counter → IsShort l.fn.source;
   stays : is_some l.fn.state.said.frame ≡ true → l.state.said.frame ≡ l.fn.state.said.frame;
   sound : IsSound l.state;

@@ -1,0 +1,51 @@
+-- What the decoder's own clauses say of a walk over segments, by what follows the marker that ends
+-- the data of a scan: zeros, where nothing of a scan with a fault counts; or nothing, where what is
+-- read of it before its fault does.
+use Rattle.std.specs.Prelude.{◌≡◌, ℕ, suc, List, length, Bool, false, Option, None, Result, Ok}
+use Rattle.std.specs.Prelude.{OnOk}
+use Rattle.jpeg_bits.specs.Reading.{Outcome, ◌>>=◌}
+use Rattle.jpeg_bits.specs.declared.error.Error.{Error}
+use Rattle.jpeg_streams.specs.Found.{Found}
+use Rattle.jpeg_streams.specs.Stream.{Walked, told_of, walk}
+use Rattle.jpeg_streams.specs.declared.before.Before.TheVariants.{Elsewhere}
+use Rattle.jpeg_streams.specs.declared.beyond.Beyond.{Beyond}
+use Rattle.jpeg_streams.specs.declared.beyond.Beyond.TheVariants.{Nothing, Zeros}
+use Rattle.jpeg_decoder.specs.Reaching.{UnlessRefused, without_tables}
+use Rattle.jpeg_decoder.specs.declared.scan.work.Walk.{Walk}
+
+-- What a result says of the bytes. Where what is read before a fault counts, memory may run out
+-- after a fault of the reader.
+abbrev pub OfWalk : {X : Type 0} → Beyond → Result X Error → Type 0 → Type 0
+OfWalk Zeros result P = P
+OfWalk Nothing result P = UnlessRefused result P
+
+-- A fact of what is found after a call: after a refusal, too, where what is read before it counts.
+abbrev pub AfterWalk : {X : Type 0} → Beyond → Result X Error → Type 0 → Type 0
+AfterWalk Zeros result P = OnOk result P
+AfterWalk Nothing result P = UnlessRefused result P
+
+-- What is found is what was to be found, as far as a picture shows it, or as a caller is told.
+abbrev pub IsLeft : Beyond → Found → Found → Type 0
+IsLeft Zeros new found = told_of new.said ≡ told_of found.said
+IsLeft Nothing new found = without_tables new ≡ without_tables found
+
+-- the same, and the complete rows of the picture, where some lack
+abbrev pub Leaves : Beyond → Found → Option ℕ → Found → Option ℕ → Type 0
+Leaves beyond new rows found complete = IsLeft beyond new found × (rows ≡ complete)
+
+-- no scan was refused for its blocks, or lacks some
+abbrev pub IsGoing : Walk → Type 0
+IsGoing w = (w.budget.exceeded ≡ false) × (w.rows ≡ None)
+
+-- this many turns of a walk, and all
+abbrev pub walk_for : Option ℕ → Beyond → ℕ → Bool → Found → List ℕ → Walked
+walk_for left beyond turns header found bytes =
+    walk left beyond turns header Elsewhere found None bytes
+
+abbrev pub walk_over : Option ℕ → Beyond → Bool → Found → List ℕ → Walked
+walk_over left beyond header found bytes =
+    walk_for left beyond (suc (length bytes)) header found bytes
+
+-- what is found by it, where it has no fault
+abbrev pub walked_to : Walked → Outcome Found
+walked_to w = w.rest >>= λ rest. Ok (w.found, rest)
