@@ -13,4 +13,5 @@ pub mod ShownParts
 pub mod ShownFaults
 pub mod ShownRows
 pub mod ShownTold
+pub mod ShownBegun
 pub mod ShownLines

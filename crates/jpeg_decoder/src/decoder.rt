@@ -37,7 +37,7 @@ ghost use Rattle.jpeg_streams.specs.Work.{picture_blocks};
 
 use crate::picture::color_choice::frame_transform;
 use crate::picture::lines::Lines;
-use crate::picture::partial::{PartialLines, show};
+use crate::picture::partial::{PartialLines, show_rest};
 use crate::picture::whole::{read_header, read_rest};
 use crate::scan::decoded::Decoded;
 use crate::scan::work::picture_blocks;
@@ -175,20 +175,6 @@ fn progress_after(is_ok: bool, progress: Progress) -> Progress
     ensures { result ≡ (if is_ok then progress else Failed) }
 {
     if is_ok { progress } else { Progress::Failed }
-}
-
-/// Returns whether a decoder is to read from the start of a stream. Where no image is left to
-/// decode it is `Internal`.
-fn is_fresh(progress: Progress) -> Result<bool>
-    ensures { MatchResult result (λ is_start. progress ≡ (if is_start then Fresh else HeaderRead))
-        (λ e. IsInternal e × (IsReading progress → ⊥)) }
-{
-    match progress {
-        Progress::Fresh => Ok(true),
-        Progress::HeaderRead => Ok(false),
-        Progress::Finished => Err(Error::Internal("image was already decoded")),
-        Progress::Failed => Err(Error::Internal("decoder has failed")),
-    }
 }
 
 /// The picture that a stream has brought up to its first fault, and that fault.
@@ -718,13 +704,12 @@ impl<R: Read + Drop> Decoder<R> {
         // There are as many samples as the format of `info` says.
         ensures counted { IfOk result (λ _. IsCounted (shape_in self.new)) }
     {
-        let from_start = is_fresh(self.progress)?;
-        let result = show(
+        self.begin()?;
+        let result = show_rest(
             self.alloc,
             &mut self.source,
             &mut self.state,
             self.settings,
-            from_start,
             &mut self.exceeded,
         );
         self.progress = progress_after(result.is_ok(), Progress::Finished);

@@ -16,14 +16,13 @@ use Rattle.jpeg_segments.specs.Checks.{needed}
 use Rattle.jpeg_segments.specs.Frame.{Component, Frame}
 use Rattle.jpeg_segments.specs.declared.frame.CodingProcess.{CodingProcess}
 use Rattle.jpeg_segments.specs.declared.frame.CodingProcess.TheVariants.{DctProgressive, DctSequential, Lossless}
-use Rattle.jpeg_streams.specs.Found.{Found, nothing_found}
+use Rattle.jpeg_streams.specs.Found.{Found}
 use Rattle.jpeg_streams.specs.FoundPictures.{blocks_picture, limited, picture_by_process, picture_of, plane_at_end}
 use Rattle.jpeg_streams.specs.FoundPictures.{samples_picture}
 use Rattle.jpeg_streams.specs.Shown.{Shown, completed, fault_in, fault_shown, framed_or, picture_shown, planes_by}
-use Rattle.jpeg_streams.specs.Shown.{shown_within}
 use Rattle.jpeg_streams.specs.Shown.{shown_by, shown_of, shown_rest_within, with_plane_shown, with_samples_shown}
 use Rattle.jpeg_streams.specs.States.{IfRefused, IsOfBytes, OnTold}
-use Rattle.jpeg_streams.specs.Stream.{Told, Walked, all_brought, start_at, told_of}
+use Rattle.jpeg_streams.specs.Stream.{Told, Walked, all_brought, told_of}
 use Rattle.jpeg_streams.specs.declared.settings.Settings.{Settings}
 use Rattle.jpeg_decoder.specs.Reaching.{NamesFault, UnlessRefused, is_out_of_memory, walk_end, without_tables}
 use Rattle.jpeg_decoder.specs.Walks.{walked_to}
@@ -327,7 +326,7 @@ failed-read e false g other = absurd (other g)
 refused-or : (e : Error) (failed : Bool) → failed ≡ true → IfRefused e ((failed ≡ true) ⊎ IsGivenUp e failed)
 refused-or e failed h = grind (arith, common_steps)
 
-refused-given : (e : Error) (failed : Bool) → IsGivenUp e failed → IfRefused e ((failed ≡ true) ⊎ IsGivenUp e failed)
+pub refused-given : (e : Error) (failed : Bool) → IsGivenUp e failed → IfRefused e ((failed ≡ true) ⊎ IsGivenUp e failed)
 refused-given e failed h = grind (arith, common_steps)
 
 pub rest-given-up : {X : Type 0} (fault_of : X → Option Error) (view : Unit {0} → Unit {0})
@@ -347,38 +346,3 @@ rest-given-up fault_of view read s n (Err e) fault (Ok x) m other a is first = �
     subst (λ (o : Option Error). IfSome o (λ (e : Error). fault_of x ≡ Some e)) is first in
     subst (λ (o : Option Error). IsSomeAnd o (λ (e : Error). IsGivenUp e n.failed)) (sym same)
     ((if-there e _ (not-memory e m) a).2 k l)
-
-pub start-given-up : {X : Type 0} (fault_of : X → Option Error) (s m n : Stream) (r : Result X Error)
-    → Answers (λ (u : Unit {0}). u) start_at s (Ok tt) m → GivesUp fault_of m r n → GivesUp fault_of s r n
-start-given-up fault_of s m n (Ok x) a h = λ k l. h (a.1 k).0 l
-start-given-up fault_of s m n (Err e) a h = λ k l. h (a.1 k).0 l
-
-pub start-unknown : {X : Type 0} (fault_of : X → Option Error) (s n : Stream) (e : Error)
-    → Answers (λ (u : Unit {0}). u) start_at s (Err e) n → GivesUp {X = X} fault_of s (Err e) n
-start-unknown fault_of s n e a k l = refused-given e n.failed (a.2 k l)
-
--- ---- a whole stream
-
-started : (settings : Settings) (bytes rest : List ℕ) → start_at bytes ≡ Ok (tt, rest)
-    → shown_within settings.max_blocks settings bytes ≡ shown_rest_within settings.max_blocks settings nothing_found rest
-unfolding shown_within
-started settings bytes rest e =
-    ap (λ (o : Outcome (Unit {0})). o >>= (λ (start : Unit {0} × List ℕ). shown_rest_within settings.max_blocks settings nothing_found start.1)) e
-
-pub start-shown : {X : Type 0} (bytes_of : X → List ℕ) (fault_of : X → Option Error) (settings : Settings) (old : Found)
-    (s m n : Stream) (r : Result X Error) (told : Told) → old ≡ nothing_found
-    → Answers (λ (u : Unit {0}). u) start_at s (Ok tt) m
-    → ShowsJust (shown_rest_within settings.max_blocks settings old) bytes_of fault_of m r n told
-    → ShowsJust (shown_within settings.max_blocks settings) bytes_of fault_of s r n told
-start-shown bytes_of fault_of settings old s m n r told is a h k l =
-    subst (λ (o : Result Shown Fault). IsShown o bytes_of fault_of r told)
-    (ap (λ (x : Found). shown_rest_within settings.max_blocks settings x m.bytes) is ∙ sym (started settings s.bytes m.bytes (a.1 k).1))
-    (h (a.1 k).0 l)
-
-pub start-lacks : (settings : Settings) (bytes : List ℕ) (e : Error) → Names e (start_at bytes)
-    → Names e (shown_within settings.max_blocks settings bytes)
-unfolding shown_within
-start-lacks settings bytes e n =
-    Names-through e (start_at bytes) (shown_within settings.max_blocks settings bytes)
-    (λ fault p. ap (λ (o : Outcome (Unit {0})). o >>= (λ (start : Unit {0} × List ℕ).
-    shown_rest_within settings.max_blocks settings nothing_found start.1)) p) n

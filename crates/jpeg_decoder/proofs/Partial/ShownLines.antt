@@ -1,22 +1,11 @@
 -- Calls that show what a stream has brought up to its first fault: the state before, and where memory runs out.
-use Rattle.std.proofs.Common.{◌≡◌, ℕ, List, Option, Ok, Err, Bool, true, false, subst, sym}
-use Rattle.std.specs.Prelude.{if◌then◌else◌}
+use Rattle.std.proofs.Common.{◌≡◌, ℕ, List, Option, Ok, Err, subst, sym}
 use Rattle.jpeg_bits.specs.declared.error.Error.{Error}
 use Rattle.jpeg_bits.specs.declared.error.Error.TheVariants as errors
-use Rattle.jpeg_streams.proofs.Soundness.{sound-nothing}
-use Rattle.jpeg_streams.specs.Found.{Found, nothing_found}
-use Rattle.jpeg_streams.specs.Sound.{IsSound, IsUnread}
 use Rattle.jpeg_streams.specs.States.{Decoding}
-use Rattle.jpeg_streams.specs.declared.progress.Progress.{Progress}
-use Rattle.jpeg_streams.specs.declared.progress.Progress.TheVariants.{Failed, Fresh, HeaderRead}
+use Rattle.jpeg_streams.specs.declared.progress.Progress.TheVariants.{Failed}
 use Rattle.jpeg_decoder.specs.Shows.{Shows}
 use Rattle.jpeg_decoder.proofs.Pictures.DecodedLines.{lost-stage}
-
--- what a decoder that is to read has found
-pub start-sound : (is_start : Bool) (p : Progress) (found : Found) → p ≡ (if is_start then Fresh else HeaderRead)
-    → (p ≡ Fresh → found ≡ nothing_found) → (p ≡ HeaderRead → IsSound found × IsUnread found) → IsSound found
-start-sound true p found e fresh read = sound-nothing found (fresh e)
-start-sound false p found e fresh read = (read e).0
 
 -- no memory is left for what is shown
 pub shows-lost : {X Y : Type 0} (bytes_of : X → List ℕ) (fault_of : X → Option Error) (seen_as : Y → List ℕ)

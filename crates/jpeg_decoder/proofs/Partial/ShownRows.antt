@@ -2,14 +2,14 @@
 use Rattle.std.proofs.Common.{◌≡◌, ◌∙◌, ℕ, List, Option, Some, None, Result, Ok, Err, ap, refl, sym, true, false}
 use Rattle.std.specs.Prelude.{IfOk, is_some, option_map, unwrap_or}
 use Rattle.std.proofs.lemmas.Result.{IfOk-weaker}
-use Rattle.jpeg_bits.specs.Reading.{Answers, Fault}
+use Rattle.jpeg_bits.specs.Reading.{Fault}
 use Rattle.jpeg_bits.specs.Stream.{Stream}
 use Rattle.jpeg_bits.specs.declared.error.Error.{Error}
 use Rattle.jpeg_segments.specs.Frame.{Frame}
-use Rattle.jpeg_streams.specs.Found.{Found, nothing_found}
-use Rattle.jpeg_streams.specs.Shown.{fault_in, planes_by, rows_of_found, rows_of_frame, whole_rows_rest, whole_rows_within}
+use Rattle.jpeg_streams.specs.Found.{Found}
+use Rattle.jpeg_streams.specs.Shown.{fault_in, planes_by, rows_of_found, rows_of_frame, whole_rows_rest}
 use Rattle.jpeg_streams.specs.States.{OnTold}
-use Rattle.jpeg_streams.specs.Stream.{all_brought, start_at}
+use Rattle.jpeg_streams.specs.Stream.{all_brought}
 use Rattle.jpeg_decoder.specs.Reaching.{NamesFault, is_out_of_memory, without_tables}
 use Rattle.jpeg_decoder.specs.Shows.{CountsRows}
 use Rattle.jpeg_decoder.proofs.Partial.ShownFaults.{planes-tables, told-holds}
@@ -64,15 +64,3 @@ rest-counted rows_of limit old f g s n ended rows r m found counted same h = λ 
     IfOk-weaker r _ _ (λ x is. is ∙ ap (rows_of_found rows) same
     ∙ found-same rows f all (told-holds s n ended _ m found k l)
     ∙ ap (λ (rows : Option ℕ). rows_of_found rows all) (told-holds s n ended _ m counted k l)) h
-
-started : (limit : Option ℕ) (bytes rest : List ℕ) → start_at bytes ≡ Ok (tt, rest)
-    → whole_rows_within limit bytes ≡ whole_rows_rest limit nothing_found rest
-unfolding whole_rows_within
-started limit bytes rest e = rw (e, whole_rows_within) refl
-
-pub start-counted : {X : Type 0} (rows_of : X → ℕ) (limit : Option ℕ) (old : Found) (s m n : Stream) (r : Result X Error)
-    → old ≡ nothing_found → Answers (λ (u : Unit {0}). u) start_at s (Ok tt) m
-    → CountsRows rows_of (whole_rows_rest limit old) m r n → CountsRows rows_of (whole_rows_within limit) s r n
-start-counted rows_of limit old s m n r same a h = λ k l.
-    IfOk-weaker r _ _ (λ x is. is ∙ ap (λ (f : Found). whole_rows_rest limit f m.bytes) same
-    ∙ sym (started limit s.bytes m.bytes (a.1 k).1)) (h (a.1 k).0 l)

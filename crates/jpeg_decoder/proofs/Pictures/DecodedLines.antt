@@ -1,5 +1,5 @@
 -- Calls that read the header of a stream where it is to be read, and then the rest of it.
-use Rattle.std.proofs.Common.{rules}
+use Rattle.std.proofs.Common.{rules, IfOk, OnOk, if◌then◌else◌, is_ok, is_some}
 use Rattle.std.proofs.Common.{◌≡◌, ◌++◌, [], Bool, None, replicate, ℕ, suc, List, Result, Ok, Err, true, false, refl, sym, ap, ◌∙◌, subst, length, take}
 use Rattle.std.proofs.lemmas.Bool.{false≢true, true≢false}
 use Rattle.std.proofs.Math.Seq.{take-append_seam}
@@ -13,8 +13,9 @@ use Rattle.jpeg_streams.specs.declared.beyond.Beyond.TheVariants.{Zeros}
 use Rattle.jpeg_streams.specs.Reported.{IsOfTurns, told_in_turns}
 use Rattle.jpeg_streams.specs.declared.progress.Progress.{Progress}
 use Rattle.jpeg_streams.specs.declared.progress.Progress.TheVariants.{Failed, Finished, Fresh, HeaderRead}
-use Rattle.jpeg_streams.specs.Found.{Found}
-use Rattle.jpeg_streams.specs.States.{IfRefused, IsInternal, IsReading, OnTold}
+use Rattle.jpeg_streams.specs.Found.{Found, nothing_found}
+use Rattle.jpeg_streams.specs.Sound.{HasDecodedFrame, IsSound, IsUnread}
+use Rattle.jpeg_streams.specs.States.{HasHeader, IfRefused, IsInternal, IsReading, OnTold}
 use Rattle.jpeg_streams.specs.States.{Decoding, MovesToEnd, MovesToHeader, ahead, told_ahead, turns_ahead}
 use Rattle.jpeg_streams.specs.Stream.{Told, header_at, rest_within, told_of}
 use Rattle.jpeg_streams.proofs.Refusals.{told-err, told-through}
@@ -86,7 +87,7 @@ pub begun-seen : (old mid seen : Decoding) → seen ≡ mid
     → ((old.stage ≡ Fresh → ⊥) → mid ≡ old) → mid.settings ≡ old.settings → IsBegun old seen
 begun-seen old mid seen e fresh still settings = search rules
 
-other-stage : HeaderRead ≡ Fresh → ⊥
+pub other-stage : HeaderRead ≡ Fresh → ⊥
 other-stage e = let n : ⊥ = cc in n
 
 pub into-at : {X : Type 0} (bytes_of : X → List ℕ) (told : Told) (more : Bool) (stage : Progress) (old mid : Decoding)
@@ -113,7 +114,7 @@ into-at {X} bytes_of told more Fresh old mid new r b h =
           b.settings (h.turns at.0));
       exceeded = λ _. told-through {X = X} old.source mid.source new r _ _ (λ k.
           let at = header.1 k in
-          (at.0, λ p. p ∙ sym (header-exceeded old.settings.max_blocks mid.found old.source.bytes mid.source.bytes at.1)))
+          (at.0, λ p. p ∙ sym (header-exceeded old.settings.max_blocks Zeros mid.found old.source.bytes mid.source.bytes at.1)))
           (subst (λ (s : Settings). OnTold mid.source new r (more ≡ exceeded_rest s.max_blocks Zeros mid.found
           mid.source.bytes)) b.settings h.exceeded);
     }
@@ -129,7 +130,7 @@ into-at bytes_of told more _ old mid new r b h = none-read bytes_of told more _ 
 
 -- ---- where the header is refused
 
-refused-and : (e : Error) (P Q R : Type 0) → (P → Q → R) → IfRefused e P → IfRefused e Q → IfRefused e R
+pub refused-and : (e : Error) (P Q R : Type 0) → (P → Q → R) → IfRefused e P → IfRefused e Q → IfRefused e R
 refused-and errors.OutOfMemory P Q R f p q = tt
 refused-and _ _ _ _ f p q = f p q
 
@@ -159,12 +160,12 @@ refused-at bytes_of Fresh old new e h = record {
       (λ fault is. header-told_lacking old.settings.max_blocks old.source.bytes fault is));
   turns = λ _ k. header-turns_lacking old.settings.max_blocks old.source.bytes _ (h.turns refl k);
   exceeded = λ _ k l. told-err e (header_at old.source.bytes) _ ((h.reads refl).1 k l)
-      (λ fault is. h.exceeded tt ∙ sym (lacking-exceeded old.settings.max_blocks old.source.bytes fault is));
+      (λ fault is. h.exceeded tt ∙ sym (lacking-exceeded old.settings.max_blocks Zeros old.source.bytes fault is));
 }
 refused-at bytes_of HeaderRead old new e h = absurd (false≢true (h.stage tt).1)
 refused-at bytes_of _ old new e h = none-read bytes_of _ _ _ _ _ (λ n. n)
 
-refused-stage : (X : Type 0) (stage : Progress) (old new : Decoding) (e : Error)
+pub refused-stage : (X : Type 0) (stage : Progress) (old new : Decoding) (e : Error)
     → IsUnbegun (record old { stage = stage }) new e → MovesToEnd {X = X} stage new.stage (Err e)
 refused-stage X Fresh old new e h = h.stage tt
 refused-stage X HeaderRead old new e h = absurd (false≢true (h.stage tt).1)
@@ -173,7 +174,7 @@ refused-stage X Finished old new e h =
 refused-stage X Failed old new e h =
     (ap (λ (d : Decoding). d.stage) (h.still (λ k. let n : ⊥ = cc in n)), h.ended (λ n. n))
 
-refused-emptied : (stage : Progress) (old new : Decoding) (e : Error)
+pub refused-emptied : (stage : Progress) (old new : Decoding) (e : Error)
     → IsUnbegun (record old { stage = stage }) new e → IsReading stage → IsEmptied new.found
 refused-emptied Fresh old new e h k = h.emptied refl
 refused-emptied HeaderRead old new e h k = absurd (false≢true (h.stage tt).1)
@@ -308,3 +309,12 @@ decodes-lost {Y = Y} bytes_of seen_as old mid new x e is made d =
 -- the front of the caller's memory
 pub front-of : (n : ℕ) (ys more : List ℕ) → length ys ≡ n → take n (ys ++ more) ≡ ys
 front-of n ys more h = ap (λ (k : ℕ). take k (ys ++ more)) (sym h) ∙ take-append_seam ys more
+
+-- what holds between calls
+pub read-holds : {X : Type 0} (found : Found) (exceeded : Bool) (r : Result X Error) (b : Bool) (p : Progress) → b ≡ is_ok r
+    → p ≡ (if b then Finished else Failed) → IfOk r (λ _. is_some found.said.frame ≡ true)
+    → OnOk r (HasDecodedFrame found) → (p ≡ Fresh → found ≡ nothing_found)
+    × (HasHeader p → is_some found.said.frame ≡ true) × (HasHeader p → HasDecodedFrame found)
+    × (p ≡ HeaderRead → IsSound found × IsUnread found) × (IsReading p → exceeded ≡ false)
+read-holds found exceeded (Ok x) b p e q framed frames = rw (q, e) (search rules)
+read-holds found exceeded (Err x) b p e q framed frames = rw (q, e) (search rules)

@@ -107,7 +107,7 @@ answers-after : {X Y : Type 0} (view : X → Y) (whole rest : List ℕ → Outco
 answers-after view whole rest old mid new (Ok x) p q = grind arith
 answers-after view whole rest old mid new (Err e) p q = grind arith
 
-refusal-after : {X : Type 0} (old mid new : Stream) (r : Result X Error) (P Q : Type 0)
+pub refusal-after : {X : Type 0} (old mid new : Stream) (r : Result X Error) (P Q : Type 0)
     → (old.known ≡ true → (mid.known ≡ true) × (P → Q)) → OnToldRefusal mid new r P → OnToldRefusal old new r Q
 refusal-after old mid new (Ok x) P Q f h = tt
 refusal-after old mid new (Err e) P Q f h = λ k known. if-refused-as e (f k).1 (h (f k).0 known)

@@ -1,15 +1,13 @@
 -- What a call says of a walk, by what follows the marker after a scan's data; and a scan in it.
 use Rattle.std.proofs.Common.{rules, ap, ◌≡◌, ℕ, false, true, Bool, List, None, Option, Result, Ok, Err, if◌then◌else◌, refl, subst, sym}
-use Rattle.std.proofs.lemmas.Result.{err_from_is_err_and}
 use Rattle.std.specs.Prelude.{IsErrAnd, OnErr, OnOk}
-use Rattle.jpeg_bits.specs.Reading.{Answers, Fault, Malformed}
+use Rattle.jpeg_bits.specs.Reading.{Answers, Malformed}
 use Rattle.jpeg_bits.specs.Stream.{Stream}
 use Rattle.jpeg_bits.specs.declared.error.Error.{Error}
 use Rattle.jpeg_bits.specs.declared.error.Error.TheVariants as errors
 use Rattle.jpeg_segments.specs.ScanHeader.{Scan}
 use Rattle.jpeg_streams.specs.Brought.{Brought, unbrought}
 use Rattle.jpeg_streams.specs.Found.{Found}
-use Rattle.jpeg_streams.specs.ScanSegments.{scan_segment}
 use Rattle.jpeg_streams.specs.Segments.{Turn}
 use Rattle.jpeg_streams.specs.Sound.{IsSound}
 use Rattle.jpeg_streams.specs.States.{IfRefused, OnToldRefusal}

@@ -304,7 +304,11 @@ fn is_lost(ended: &Result<()>) -> bool
 
 /// Reads the rest of a stream up to its first fault, and returns the lines of the picture that it
 /// has brought, how many of them are complete, and its first fault. No blocks or planes are kept.
-fn show_rest<R: Read + Drop>(
+/// `exceeded` says whether the fault is a scan of more blocks than the limit leaves.
+///
+/// The error is the fault if the stream has no frame, `Format` if the picture is above the limit or
+/// the transform doesn't fit it, and out of memory.
+pub fn show_rest<R: Read + Drop>(
     alloc: Global,
     source: &mut Source<R>,
     state: &mut State,
@@ -347,61 +351,4 @@ fn show_rest<R: Read + Drop>(
         return Err(Error::OutOfMemory);
     }
     show_found(alloc, state, &mut decoded, settings, ended.err(), walk.rows)
-}
-
-/// Reads a stream, or the rest of one after its header, up to its first fault, and returns the
-/// lines of the picture that it has brought, how many of them are complete, and its first fault. No
-/// blocks or planes are kept. `exceeded` says whether the fault is a scan of more blocks than the
-/// limit leaves.
-///
-/// The error is the fault if the stream has no frame, `Format` if the picture is above the limit or
-/// the transform doesn't fit it, and out of memory.
-pub fn show<R: Read + Drop>(
-    alloc: Global,
-    source: &mut Source<R>,
-    state: &mut State,
-    settings: Settings,
-    from_start: bool,
-    exceeded: &mut bool,
-) -> Result<PartialLines>
-    requires sound { IsSound state.old }
-    requires start { from_start ≡ true → state.old ≡ nothing_found }
-    requires within { exceeded.old ≡ false }
-    ensures whole { from_start ≡ true → ShowsJust (shown_within settings.max_blocks settings)
-        (λ p. concat p.lines) (λ p. p.fault) source.old result source.new
-        (told_of state.new.said) }
-    ensures whole_rows { from_start ≡ true → CountsRows (λ p. p.whole_rows)
-        (whole_rows_within settings.max_blocks) source.old
-        result source.new }
-    ensures rest_rows { from_start ≡ false → CountsRows (λ p. p.whole_rows)
-        (whole_rows_rest settings.max_blocks state.old) source.old result source.new }
-    ensures rest { from_start ≡ false → ShowsJust
-        (shown_rest_within settings.max_blocks settings state.old) (λ p. concat p.lines)
-        (λ p. p.fault) source.old result source.new (told_of state.new.said) }
-    ensures told { from_start ≡ true → OnToldRefusal source.old source.new result
-        (told_of state.new.said ≡ told_shown settings.max_blocks source.old.bytes) }
-    ensures rest_told { from_start ≡ false → OnToldRefusal source.old source.new result
-        (told_of state.new.said ≡ told_shown_rest settings.max_blocks state.old source.old.bytes) }
-    ensures exceeded { from_start ≡ true → Knows source.old result source.new
-        (exceeded.new ≡ exceeded_by settings.max_blocks Nothing source.old.bytes) }
-    ensures rest_exceeded { from_start ≡ false → Knows source.old result source.new
-        (exceeded.new ≡ exceeded_rest settings.max_blocks Nothing state.old source.old.bytes) }
-    ensures given_up { GivesUp (λ p. p.fault) source.old result source.new }
-    ensures refused { IfErr result IsOfBytes }
-    ensures framed { IfOk result (λ _. is_some state.new.said.frame ≡ true) }
-    ensures frames { OnOk result (HasDecodedFrame state.new) }
-    ensures stays { is_some state.old.said.frame ≡ true → state.new.said.frame
-        ≡ state.old.said.frame }
-    ensures lines { IfOk result (λ p. AreLinesOf
-        (option_map (shape_of settings) state.new.said.frame) p.lines) }
-    ensures size { IfOk result (λ p. IsWhole
-        (option_map (shape_of settings) state.new.said.frame) (concat p.lines)) }
-    ensures emptied { (state.new.kept ≡ []) × (state.new.planes ≡ replicate 4 None)
-        × (state.new.samples ≡ replicate 4 None) }
-{
-    if !from_start {
-        return show_rest(alloc, source, state, settings, exceeded);
-    }
-    read_start(alloc, source)?;
-    show_rest(alloc, source, state, settings, exceeded)
 }

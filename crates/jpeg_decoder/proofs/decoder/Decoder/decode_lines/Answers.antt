@@ -1,14 +1,7 @@
-use Rattle.std.proofs.Common.{◌≡◌, Bool, false, Err, Ok, Result, rules, true, IfOk, OnOk}
-use Rattle.std.proofs.Common.{if◌then◌else◌, is_ok, is_some}
+use Rattle.std.proofs.Common.{rules}
 use Rattle.std.proofs.lemmas.Result.{err_from_is_err_and}
 use Rattle.std.specs.List.{concat}
-use Rattle.jpeg_bits.specs.declared.error.Error.{Error}
-use Rattle.jpeg_streams.specs.Found.{Found, nothing_found}
-use Rattle.jpeg_streams.specs.Sound.{HasDecodedFrame, IsSound, IsUnread}
-use Rattle.jpeg_streams.specs.States.{HasHeader, IsReading}
-use Rattle.jpeg_streams.specs.declared.progress.Progress.{Progress}
-use Rattle.jpeg_streams.specs.declared.progress.Progress.TheVariants.{Failed, Finished, Fresh, HeaderRead}
-use Rattle.jpeg_decoder.proofs.Pictures.DecodedLines.{begun-seen, decodes-rest, decodes-unbegun}
+use Rattle.jpeg_decoder.proofs.Pictures.DecodedLines.{begun-seen, decodes-rest, decodes-unbegun, read-holds}
 use Rattle.jpeg_decoder.proofs.Pictures.PictureSizes.{if-counted}
 use Rattle.jpeg_decoder.proofs.decoder.Decoder.decode_lines.Goals as goal
 
@@ -44,17 +37,8 @@ returns-clause-decodes g c =
 pub returns-clause-counted : goal.returns-clause-counted
 returns-clause-counted g c = search (rules, if-counted)
 
--- what holds between calls
-holds : {X : Type 0} (found : Found) (exceeded : Bool) (r : Result X Error) (b : Bool) (p : Progress) → b ≡ is_ok r
-    → p ≡ (if b then Finished else Failed) → IfOk r (λ _. is_some found.said.frame ≡ true)
-    → OnOk r (HasDecodedFrame found) → (p ≡ Fresh → found ≡ nothing_found)
-    × (HasHeader p → is_some found.said.frame ≡ true) × (HasHeader p → HasDecodedFrame found)
-    × (p ≡ HeaderRead → IsSound found × IsUnread found) × (IsReading p → exceeded ≡ false)
-holds found exceeded (Ok x) b p e q framed frames = rw (q, e) (search rules)
-holds found exceeded (Err x) b p e q framed frames = rw (q, e) (search rules)
-
 pub invariant_of-self : goal.invariant_of-self
 invariant_of-self g c =
-    holds c.read_rest-result.new.state c.read_rest-result.new.exceeded c.read_rest-result.result _ c.progress_after-self-inside.result
+    read-holds c.read_rest-result.new.state c.read_rest-result.new.exceeded c.read_rest-result.result _ c.progress_after-self-inside.result
     c.is_ok.ensures.value c.progress_after-self-inside.ensures c.read_rest-result.ensures.framed
     c.read_rest-result.ensures.frames
