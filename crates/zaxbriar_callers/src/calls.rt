@@ -1,5 +1,5 @@
 //! Callers of what the C library does.
-ghost use Rattle.std.specs.Prelude.{◌≡◌, ◌⊎◌, ◌<◌, None, Some, length};
+ghost use Rattle.std.specs.Prelude.{◌≡◌, ◌⊎◌, ◌<◌, None, Some, false, length, true};
 ghost use Rattle.jpeg_bits.specs.Reading.{Fault};
 ghost use Rattle.jpeg_streams.specs.Stream.{header_at};
 ghost use Rattle.zaxbriar_calls.specs.Faults.{IsOfRoomNumber};
@@ -7,6 +7,7 @@ ghost use Rattle.zaxbriar_calls.specs.Given.{Gives, TellsFault, rows_by, without
 ghost use Rattle.zaxbriar_calls.specs.Given.{without_rows};
 ghost use Rattle.zaxbriar_calls.specs.Meanings.{CountsRead, IsWithin};
 ghost use Rattle.zaxbriar_calls.specs.Metadata.{IsCopied, IsLonger, said_of};
+ghost use Rattle.zaxbriar_calls.specs.Passes.{exceeds};
 ghost use Rattle.zaxbriar_calls.specs.Places.{places_of};
 ghost use Rattle.zaxbriar_calls.specs.StreamSegments.{IsCut};
 ghost use Rattle.zaxbriar_calls.specs.declared.extents.Extent.TheVariants.{Whole, Partial};
@@ -27,8 +28,8 @@ pub fn described(alloc: Global, jpeg: &[u8], options: &Options, picture: &mut Pi
     calls::read_info(alloc, jpeg, options, picture)
 }
 
-/// Calls `decode`, and says that an OK gives the picture, and what is returned for a picture that
-/// has no room.
+/// Calls `decode`, and says that an OK gives the picture, what is returned for a picture that has
+/// no room, and that TOO_MANY_PASSES is no other fault, and MALFORMED not that one.
 pub fn decoded(
     alloc: Global,
     jpeg: &[u8],
@@ -40,6 +41,8 @@ pub fn decoded(
         (without_rows picture.new) }
     ensures short { (size : Picture) → IsWithin Whole options.now jpeg.now size
         → length pixels.old < size.size → IsOfRoomNumber result }
+    ensures passes { result ≡ 10 → exceeds Whole options.now jpeg.now ≡ true }
+    ensures malformed { result ≡ 1 → exceeds Whole options.now jpeg.now ≡ false }
 {
     calls::decode(alloc, jpeg, options, pixels, picture)
 }
@@ -55,7 +58,8 @@ pub fn decoded_part(
 ) -> u32
     ensures part { result ≡ 9 → (fault : Fault)
         × Gives Partial options.now jpeg.now pixels.old pixels.new (Some fault)
-        (without_fault (without_rows picture.new)) × TellsFault options.now picture.new fault }
+        (without_fault (without_rows picture.new)) × TellsFault Partial options.now jpeg.now
+        picture.new fault }
     ensures rows { (result ≡ 0) ⊎ (result ≡ 9)
         → picture.new.whole_rows ≡ rows_by Partial options.now jpeg.now }
 {

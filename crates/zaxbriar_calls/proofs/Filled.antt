@@ -1,7 +1,7 @@
 -- What a call that decodes says of its outcome: a field of its record each.
 use Rattle.std.proofs.Common.{arith, ◌≡◌, ◌⊎◌, ◌∙◌, ◌≤◌, ◌==◌, ℕ, Bool, true, false, List, Some, None, Result, Ok, Err}
 use Rattle.std.proofs.Common.{ap, inl, inr, refl, subst, sym}
-use Rattle.std.specs.Prelude.{IfErr, IfOk, IsErrAnd, OnOk, replicate, slice_index}
+use Rattle.std.specs.Prelude.{IfErr, IfOk, IsErrAnd, OnOk, replicate, slice_index, ◌&&◌}
 use Rattle.std.proofs.lemmas.Grind.{common_steps}
 use Rattle.jpeg_bits.specs.Reading.{End, Fault, Lacks, Malformed, Names}
 use Rattle.jpeg_bits.specs.declared.error.Error.{Error}
@@ -10,19 +10,23 @@ use Rattle.jpeg_bits.specs.declared.error.UnsupportedFeature.{UnsupportedFeature
 use Rattle.jpeg_streams.specs.Shown.{Shown}
 use Rattle.jpeg_streams.specs.Stream.{header_at}
 use Rattle.jpeg_streams.specs.declared.images.ImageInfo.{ImageInfo}
+use Rattle.zaxbriar_calls.proofs.Exceeded.{are-limited, is-within, known-at}
 use Rattle.zaxbriar_calls.proofs.Fails.{code-fails, has-no-room, is-too-large, named, of-call-number, of-room-number}
 use Rattle.zaxbriar_calls.proofs.Means.{images-given}
 use Rattle.zaxbriar_calls.proofs.Parts.{given-entire, given-refused}
 use Rattle.zaxbriar_calls.proofs.Told.{if-ok, if-own}
 use Rattle.zaxbriar_calls.specs.Faults.{IsArgument, IsFault, IsNamed, IsOwn, IsPart, fault_code}
-use Rattle.zaxbriar_calls.specs.Faults.{IsOfCallNumber, IsOfRoomNumber, outcome_fault, outcome_rows, status_of, with_passes}
+use Rattle.zaxbriar_calls.specs.Faults.{IsOfCallNumber, IsOfRoomNumber, outcome_fault, outcome_rows, reading_code, status_of}
+use Rattle.zaxbriar_calls.specs.Faults.{with_passes}
 use Rattle.zaxbriar_calls.specs.Features.{NamesFeature, feature_in, numbered, outcome_feature}
 use Rattle.zaxbriar_calls.specs.Fills.{Fills, IsAnswer}
-use Rattle.zaxbriar_calls.specs.Given.{Gives, GivesPart, HasRows, TellsFault, given_by, rows_by, without_fault, without_rows}
+use Rattle.zaxbriar_calls.specs.Given.{Gives, GivesPart, HasRows, KnowsExceeded, TellsFault, feature_lacking, given_by}
+use Rattle.zaxbriar_calls.specs.Given.{rows_by, without_fault, without_rows}
 use Rattle.zaxbriar_calls.specs.Lines.{Arranged}
 use Rattle.zaxbriar_calls.specs.Meanings.{Describes, IsTooLarge, IsWithin, as_described}
 use Rattle.zaxbriar_calls.specs.Meanings.{no_picture, uncounted}
 use Rattle.zaxbriar_calls.specs.Outcomes.{DecodesInto}
+use Rattle.zaxbriar_calls.specs.Passes.{exceeds, is_whole}
 use Rattle.zaxbriar_calls.specs.declared.answers.Refusal.{Refusal}
 use Rattle.zaxbriar_calls.specs.declared.answers.Refusal.TheVariants as refusals
 use Rattle.zaxbriar_calls.specs.declared.extents.Extent.{Extent}
@@ -118,37 +122,45 @@ without-same : (o : Options) (info : ImageInfo) (precision : ℕ) (samples old n
 without-same o info precision samples old new picture feature fault rows text a =
     a.picture_is ∙ sym (ap (λ (p : Picture). without_fault (without_rows p)) a.picture_is)
 
-numbers : (o : Options) (exceeded : Bool) (e : Error) (n : ℕ) (f : Fault) → (exceeded ≡ true → o.max_passes ≡ 0 → ⊥)
-    → Names {Y = Unit {0}} e (Err f) → (e ≡ errors.OutOfMemory → ⊥)
+-- an error that names a fault has its number and its feature
+error-number : (e : Error) (n : ℕ) (f : Fault) → Names {Y = Unit {0}} e (Err f) → (e ≡ errors.OutOfMemory → ⊥)
+    → (outcome_fault {X = ℕ} (Err (refusals.Part e n)) ≡ reading_code {X = Unit {0}} (Err f))
+    × (outcome_feature {X = ℕ} (Err (refusals.Part e n)) ≡ feature_lacking f)
+error-number (errors.Format t) rows Malformed n m = (refl, refl)
+error-number (errors.Format t) rows (Lacks feature) n m = absurd (grind (arith, common_steps))
+error-number (errors.Format t) rows End n m = absurd (grind (arith, common_steps))
+error-number (errors.Unsupported feature) rows f n m = grind (arith, common_steps)
+error-number (errors.Io e) rows f n m = grind (arith, common_steps)
+error-number (errors.Internal t) rows f n m = absurd n
+error-number errors.OutOfMemory rows f n m = absurd (m refl)
+
+numbers : (extent : Extent) (o : Options) (bytes : List ℕ) (exceeded : Bool) (e : Error) (n : ℕ) (f : Fault)
+    → exceeded ≡ exceeds extent o bytes → Names {Y = Unit {0}} e (Err f) → (e ≡ errors.OutOfMemory → ⊥)
     → (picture : Picture) → picture.fault ≡ with_passes exceeded (outcome_fault {X = ℕ} (Err (refusals.Part e n)))
-    → NamesFeature picture (outcome_feature {X = ℕ} (Err (refusals.Part e n))) → TellsFault o picture f
-numbers o true (errors.Format t) rows Malformed l n m picture p q = (inr (p, l refl), q)
-numbers o false (errors.Format t) rows Malformed l n m picture p q = (inl p, q)
-numbers o exceeded (errors.Format t) rows (Lacks feature) l n m picture p q = absurd (grind (arith, common_steps))
-numbers o exceeded (errors.Format t) rows End l n m picture p q = absurd (grind (arith, common_steps))
-numbers o true (errors.Unsupported feature) rows f l n m picture p q = grind (arith, common_steps)
-numbers o false (errors.Unsupported feature) rows f l n m picture p q = grind (arith, common_steps)
-numbers o true (errors.Io e) rows f l n m picture p q = grind (arith, common_steps)
-numbers o false (errors.Io e) rows f l n m picture p q = grind (arith, common_steps)
-numbers o exceeded (errors.Internal t) rows f l n m picture p q = absurd n
-numbers o exceeded errors.OutOfMemory rows f l n m picture p q = absurd (m refl)
+    → NamesFeature picture (outcome_feature {X = ℕ} (Err (refusals.Part e n)))
+    → TellsFault extent o bytes picture f
+numbers extent o bytes exceeded e rows f k n m picture p q =
+    let same = error-number e rows f n m in (
+      p ∙ (λ i. with_passes (k i) (same.0 i)),
+      subst (λ (x : Feature). NamesFeature picture x) same.1 q,
+    )
 
 -- the number of a part is its own
 is-part : (r : Refusal) → fault_code r ≡ 9 → IsPart r
 is-part r e = grind arith
 
 error-told : (extent : Extent) (r : Refusal) (o : Options) (bytes old new : List ℕ) (picture : Picture)
-    (exceeded : Bool) (feature : Feature) (fault rows : ℕ) (text : List ℕ) → (exceeded ≡ true → o.max_passes ≡ 0 → ⊥)
-    → feature ≡ outcome_feature {X = ℕ} (Err r) → fault ≡ with_passes exceeded (outcome_fault {X = ℕ} (Err r))
+    (exceeded : Bool) (feature : Feature) (fault rows : ℕ) (text : List ℕ)
+    → KnowsExceeded {X = ℕ} (exceeds extent o bytes) (Err r) exceeded → feature ≡ outcome_feature {X = ℕ} (Err r) → fault ≡ with_passes exceeded (outcome_fault {X = ℕ} (Err r))
     → GivesPart extent o bytes old new picture r → IsPart r
     → (f : Fault)
     × Gives extent o bytes old new (Some f) (without_fault (without_rows (telling picture feature fault rows text)))
-    × TellsFault o (telling picture feature fault rows text) f
+    × TellsFault extent o bytes (telling picture feature fault rows text) f
 error-told extent (refusals.Part e n) o bytes old new picture exceeded feature fault rows text l is names s p = (
   s.0,
   subst (λ (p : Picture). Gives extent o bytes old new (Some s.0) p)
       (without-same o s.3.info s.3.precision s.3.samples old new picture feature fault rows text s.3.arranged) s.3,
-  numbers o exceeded e n s.0 l s.1 s.2 (telling picture feature fault rows text) names
+  numbers extent o bytes exceeded e n s.0 l s.1 s.2 (telling picture feature fault rows text) names
       (ap (λ (f : Feature). f.number) is, ap (λ (f : Feature). f.argument) is),
 )
 error-told extent (refusals.Stream e) o bytes old new picture exceeded feature fault rows text l is names s p = absurd p
@@ -159,12 +171,12 @@ error-told extent refusals.TooLarge o bytes old new picture exceeded feature fau
 
 part-told : (extent : Extent) (outcome : Result ℕ Refusal) (o : Options) (bytes old new : List ℕ) (picture : Picture)
     (feature : Feature) (fault rows : ℕ) (text : List ℕ) (code : ℕ)
-    → (exceeded : Bool) → (exceeded ≡ true → o.max_passes ≡ 0 → ⊥)
+    → (exceeded : Bool) → KnowsExceeded (exceeds extent o bytes) outcome exceeded
     → Answered outcome exceeded feature fault rows text code
     → IfErr outcome (GivesPart extent o bytes old new picture) → code ≡ 9
     → (f : Fault)
     × Gives extent o bytes old new (Some f) (without_fault (without_rows (telling picture feature fault rows text)))
-    × TellsFault o (telling picture feature fault rows text) f
+    × TellsFault extent o bytes (telling picture feature fault rows text) f
 part-told extent (Ok x) o bytes old new picture feature fault rows text code exceeded l a s z =
     absurd (omega (arith, a.code_is, z))
 part-told extent (Err r) o bytes old new picture feature fault rows text code exceeded l a s z =
@@ -387,15 +399,26 @@ own-cleared : (outcome : Result ℕ Refusal) (code : ℕ) → code ≡ status_of
     → (outcome_fault outcome ≡ 0) × (outcome_rows outcome ≡ 0)
 own-cleared outcome code c z = grind arith
 
+-- TOO_MANY_PASSES is returned of a whole picture alone
+are-whole : (exceeded : Bool) (extent : Extent) → (exceeded && is_whole extent) ≡ true
+    → (exceeded ≡ true) × (extent ≡ Whole)
+are-whole true Whole h = (refl, refl)
+are-whole true Partial h = absurd cc
+are-whole false extent h = absurd cc
+
 -- ---- all of it
 
 pub fills : (extent : Extent) (o : Options) (bytes old new : List ℕ) (picture : Picture) (outcome : Result ℕ Refusal)
-    (exceeded : Bool) (feature : Feature) (fault rows : ℕ) (text : List ℕ) (code : ℕ) (passed : Bool) (answer : ℕ)
-    → DecodesInto extent o bytes old new no_picture picture outcome
-    → Answered outcome exceeded feature fault rows text code → (exceeded ≡ true → o.max_passes ≡ 0 → ⊥)
-    → (passed ≡ true → (exceeded ≡ true) × (extent ≡ Whole)) → answer ≡ with_passes passed code
+    (exceeded : Bool) (feature : Feature) (fault rows : ℕ) (text : List ℕ) (code answer : ℕ)
+    → DecodesInto extent o bytes old new no_picture picture outcome exceeded
+    → Answered outcome exceeded feature fault rows text code
+    → answer ≡ with_passes (exceeded && is_whole extent) code
     → Fills extent o bytes old new (telling picture feature fault rows text) answer
-fills extent o bytes old new picture outcome exceeded feature fault rows text code passed answer d a limits whole is =
+fills extent o bytes old new picture outcome exceeded feature fault rows text code answer d a is =
+    let passed = exceeded && is_whole extent in
+    let whole : passed ≡ true → (exceeded ≡ true) × (extent ≡ Whole) = are-whole exceeded extent in
+    let known : code ≡ 1 → exceeded ≡ exceeds extent o bytes =
+    known-at outcome (exceeds extent o bytes) exceeded code a.code_is d.passes in
     let names : IsNamed code (given_by extent o bytes) =
     named outcome (given_by extent o bytes) code a.code_is d.named in
     let shown : code ≡ 0 → Gives extent o bytes old new None (without_rows (telling picture feature fault rows text)) =
@@ -415,7 +438,8 @@ fills extent o bytes old new picture outcome exceeded feature fault rows text co
     let own : (answer ≡ 5) ⊎ (answer ≡ 8) → (code ≡ 5) ⊎ (code ≡ 8) = λ z. elim z [ inl e ↦ inl (to5 e) | inr e ↦ inr (to8 e) ] in
     record {
       given = λ z. shown (to0 z);
-      part = λ z. part-told extent outcome o bytes old new picture feature fault rows text code exceeded limits a d.part (to9 z);
+      part = λ z. part-told extent outcome o bytes old new picture feature fault rows text code exceeded d.passes a d.part
+          (to9 z);
       entire = λ n. faultless (no-fault outcome code a.code_is (as9 n));
       images = λ z. images-given extent o bytes old new (telling picture feature fault rows text) (shown (to0 z))
           (a.rows_are ∙ told-rows outcome (rows_by extent o bytes) code a.code_is d.rows (inl (to0 z)))
@@ -428,11 +452,14 @@ fills extent o bytes old new picture outcome exceeded feature fault rows text co
       most = d.most refl;
       number = codes extent o bytes old new picture outcome passed answer (λ p. (whole p).1)
           (is ∙ ap (with_passes passed) a.code_is) d.part;
-      malformed = λ z. names.0 (back 1 (λ e. omega (arith, e)) z);
+      malformed = λ z.
+          let one = back 1 (λ e. omega (arith, e)) z in
+          (names.0 one, is-within extent o bytes exceeded code answer is z one (known one));
       passes = λ z.
           let all = all-codes outcome in
           let p = passed-code passed code answer is (omega (arith, a.code_is, all.0)) z in
-          (names.0 p.1, limits (whole p.0).0);
+          let above = sym (known p.1) ∙ (whole p.0).0 in
+          (names.0 p.1, above, are-limited extent o bytes above);
       unsupported = λ z.
           let l = feature-told outcome (given_by extent o bytes) code feature a.code_is a.feature_is d.named
           (back 2 (λ e. omega (arith, e)) z) in

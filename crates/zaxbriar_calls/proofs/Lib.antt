@@ -1,6 +1,7 @@
 mod Copied
 mod Decoded
 mod Densities
+mod Exceeded
 mod Fails
 mod Filled
 mod FoundPlaces

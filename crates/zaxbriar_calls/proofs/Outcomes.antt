@@ -7,6 +7,7 @@ use Rattle.jpeg_bits.specs.Stream.{Stream}
 use Rattle.jpeg_streams.specs.Pixels.{info_of}
 use Rattle.jpeg_streams.specs.States.{Decoding}
 use Rattle.jpeg_streams.specs.Stream.{header_at}
+use Rattle.zaxbriar_calls.proofs.Exceeded.{exceeds-given, header-known}
 use Rattle.zaxbriar_calls.proofs.Fails.{if-err, not-own, own-large}
 use Rattle.zaxbriar_calls.proofs.Headers.{described-same, only-room}
 use Rattle.zaxbriar_calls.proofs.Means.{after-header}
@@ -35,6 +36,7 @@ pub record HeaderDescribed (extent : Extent) (o : Options) (bytes : List ℕ) (d
   pub source_known : first.source.known ≡ true
   pub source_bytes : first.source.bytes ≡ bytes
   pub reads : OnOk r (ReadsHeader o first second)
+  pub unexceeded : second.exceeded ≡ false
   pub info : IfOk r (λ a. option_map info_of second.found.said.frame ≡ Some a.0.info)
   pub precision : IfOk r (λ a. option_map (λ f. f.precision) second.found.said.frame ≡ Some a.0.precision)
   pub lines : IfOk r (λ a. HasLines o a.0.info a.0.precision a.1)
@@ -152,7 +154,7 @@ refused-decoded : (extent : Extent) (o : Options) (bytes pixels : List ℕ) (den
     (old picture : Picture) (count : ℕ) (r : Refusal)
     → are_known o ≡ true → HeaderDescribed extent o bytes density first second old picture (Err r)
     → Counted bytes second.source count
-    → DecodesInto extent o bytes pixels pixels old (counting picture count) (Err r)
+    → DecodesInto extent o bytes pixels pixels old (counting picture count) (Err r) second.exceeded
 refused-decoded extent o bytes pixels density first second old picture count r known d c = record {
   given = tt;
   part = no-part extent o bytes pixels pixels (counting picture count) r d.whole;
@@ -161,6 +163,7 @@ refused-decoded extent o bytes pixels density first second old picture count r k
   header = λ own. own-large r _ own d.other (λ e. header-counted bytes second.source count (d.stands e) c.counts);
   most = λ z. c.most;
   named = header-lacks extent o bytes r d.named;
+  passes = header-known ℕ extent o bytes r second.exceeded d.unexceeded d.named d.whole;
   kept = λ n. refl;
   within = tt;
   described = λ p. absurd (d.whole p);
@@ -177,11 +180,11 @@ refused-decoded extent o bytes pixels density first second old picture count r k
 
 -- there was no room
 roomless-decoded : (extent : Extent) (o : Options) (bytes pixels : List ℕ) (density : Density) (first second : Decoding)
-    (old picture : Picture) (count : ℕ) (a : Header × Lines)
+    (old picture : Picture) (count : ℕ) (a : Header × Lines) (exceeded : Bool)
     → are_known o ≡ true → HeaderDescribed extent o bytes density first second old picture (Ok a)
     → length pixels < picture.size → Counted bytes second.source count
-    → DecodesInto extent o bytes pixels pixels old (counting picture count) (Err refusals.NoRoom)
-roomless-decoded extent o bytes pixels density first second old picture count a known d short c = record {
+    → DecodesInto extent o bytes pixels pixels old (counting picture count) (Err refusals.NoRoom) exceeded
+roomless-decoded extent o bytes pixels density first second old picture count a exceeded known d short c = record {
   given = tt;
   part = tt;
   rows = tt;
@@ -190,6 +193,7 @@ roomless-decoded extent o bytes pixels density first second old picture count a 
       (header-stands o bytes first second d.reads d.source_known d.source_bytes) c.counts;
   most = λ z. c.most;
   named = tt;
+  passes = tt;
   kept = λ n. refl;
   within = tt;
   described = λ p. absurd p;
@@ -209,7 +213,7 @@ lines-decoded : (extent : Extent) (o : Options) (bytes before after : List ℕ) 
     → are_known o ≡ true → HeaderDescribed extent o bytes density first second old picture (Ok a)
     → (size : picture.size ≤ length before) → DecodesLines extent a.1 outcome second third before after
     → Counted bytes third.source count
-    → DecodesInto extent o bytes before after old (counting picture count) outcome
+    → DecodesInto extent o bytes before after old (counting picture count) outcome third.exceeded
 lines-decoded extent o bytes before after density first second third old picture count a outcome known d fits l c =
     let facts = d.reads.reads d.source_known in
     let header_is = ap header_at (sym d.source_bytes) ∙ facts.1.1 in
@@ -236,6 +240,8 @@ lines-decoded extent o bytes before after density first second third old picture
       most = λ z. c.most;
       named = rw (gives-rest extent o bytes second.source.bytes facts.1.0 header_is)
           (rw (d.reads.settings, facts.1.2) at (l.named facts.0));
+      passes = rw (exceeds-given extent o bytes second.source.bytes facts.1.0 header_is)
+          (rw (d.reads.settings, facts.1.2) at (l.exceeded facts.0));
       kept = l.kept;
       within = always outcome _ within;
       described = if-err outcome _ _ l.own (λ r own is. within);
@@ -257,14 +263,15 @@ described-decoded : (extent : Extent) (o : Options) (bytes before after : List �
     → are_known o ≡ true → HeaderDescribed extent o bytes density first second old picture (Ok a)
     → LacksRoom a.1 outcome second third before after ⊎ DecodesLines extent a.1 outcome second third before after
     → Counted bytes third.source count
-    → DecodesInto extent o bytes before after old (counting picture count) outcome
+    → DecodesInto extent o bytes before after old (counting picture count) outcome third.exceeded
 described-decoded extent o bytes before after density first second third old picture count a outcome known d (inl l) c =
     let size = ap (λ (p : Picture). p.size) d.told in
-    subst (λ (r : Result ℕ Refusal). DecodesInto extent o bytes before after old (counting picture count) r)
+    subst (λ (r : Result ℕ Refusal). DecodesInto extent o bytes before after old (counting picture count) r third.exceeded)
     (sym l.refused)
-    (subst (λ (pixels : List ℕ). DecodesInto extent o bytes before pixels old (counting picture count) (Err refusals.NoRoom))
+    (subst (λ (pixels : List ℕ). DecodesInto extent o bytes before pixels old (counting picture count) (Err refusals.NoRoom)
+    third.exceeded)
     (sym l.unwritten)
-    (roomless-decoded extent o bytes before density first second old picture count a known d
+    (roomless-decoded extent o bytes before density first second old picture count a third.exceeded known d
     (subst (λ (n : ℕ). length before < n) (sym size) l.short)
     (subst (λ (x : Decoding). Counted bytes x.source count) l.unread c)))
 described-decoded extent o bytes before after density first second third old picture count a outcome known d (inr l) c =
@@ -277,12 +284,15 @@ pub stream-decoded : (extent : Extent) (o : Options) (bytes before after : List 
     (outcome : Result ℕ Refusal)
     → are_known o ≡ true → HeaderDescribed extent o bytes density first second old picture r
     → Continues extent r outcome second third before after → Counted bytes third.source count
-    → DecodesInto extent o bytes before after old (counting picture count) outcome
+    → DecodesInto extent o bytes before after old (counting picture count) outcome third.exceeded
 stream-decoded extent o bytes before after density first second third old picture count (Ok a) outcome known d l c =
     described-decoded extent o bytes before after density first second third old picture count a outcome known d l c
 stream-decoded extent o bytes before after density first second third old picture count (Err r) outcome known d l c =
-    subst (λ (x : Result ℕ Refusal). DecodesInto extent o bytes before after old (counting picture count) x) (sym l.0)
-    (subst (λ (pixels : List ℕ). DecodesInto extent o bytes before pixels old (counting picture count) (Err r))
+    subst (λ (x : Result ℕ Refusal). DecodesInto extent o bytes before after old (counting picture count) x third.exceeded)
+    (sym l.0)
+    (subst (λ (pixels : List ℕ). DecodesInto extent o bytes before pixels old (counting picture count) (Err r) third.exceeded)
     (sym l.2)
+    (subst (λ (x : Decoding). DecodesInto extent o bytes before before old (counting picture count) (Err r) x.exceeded)
+    (sym l.1)
     (refused-decoded extent o bytes before density first second old picture count r known d
-    (subst (λ (x : Decoding). Counted bytes x.source count) l.1 c)))
+    (subst (λ (x : Decoding). Counted bytes x.source count) l.1 c))))

@@ -1,14 +1,17 @@
 -- Lemmas that the proofs of functions use, and definitions that they unfold, by what they are about.
 use Rattle.std.proofs.Common.{length-append}
 use Rattle.std.specs.Prelude.{⊤}
+use Rattle.jpeg_streams.proofs.OnLiterals.{streams_on_literals}
 use Rattle.jpeg_streams.specs.ColourChoice.{by_identifiers, transform_of}
 use Rattle.zaxbriar_calls.proofs.Densities.{density-none, density-short, density-some, first-cut, first-ended, first-jfif}
 use Rattle.zaxbriar_calls.proofs.Densities.{first-later, first-none, first-past}
+use Rattle.zaxbriar_calls.proofs.Exceeded.{too-many-refused, unlimited}
 use Rattle.zaxbriar_calls.proofs.FoundSegments.{marker-filled, marker-here, marker-later, no-marker, payload-cut, payload-is}
 use Rattle.zaxbriar_calls.proofs.FoundSegments.{few-refused, marked-long, payload-short, payload-unsized, sized}
 use Rattle.zaxbriar_calls.proofs.FoundSegments.{some-left, unsized}
 use Rattle.zaxbriar_calls.proofs.KeptBytes.{marker-long, segment-cut, segment-found, segment-none}
 use Rattle.zaxbriar_calls.proofs.Means.{given-fails, given-means}
+use Rattle.zaxbriar_calls.specs.Passes.{exceeds}
 use Rattle.zaxbriar_calls.proofs.FoundPlaces.{other-said, places-are, places-ended, places-later, places-none, places-past}
 
 -- how many bytes were read
@@ -47,7 +50,15 @@ pub ruleset densities = (density-short, density-some, density-none)
 -- the whole of what a stream gives
 pub ruleset wholes = (given-means, given-fails)
 
+-- the passes that options allow
+pub ruleset limits = (unlimited, too-many-refused)
+
 -- the transform that a header asks for
 unfoldable pub asked_transforms : ⊤
 unfolding transform_of by_identifiers
 asked_transforms = tt
+
+-- the passes of streams that were worked by hand
+unfoldable pub streams : ⊤
+unfolding streams_on_literals exceeds
+streams = tt

@@ -1,7 +1,7 @@
 -- What a call does that decodes a stream into the caller's memory: `decode`, which takes the whole
 -- of its picture, and `decode_partial`, which takes what it brings up to its first fault.
 use Rattle.std.specs.Prelude.{◌≡◌, ◌⊎◌, ◌++◌, ◌<◌, ◌≤◌, ℕ, List, Err, None, Some, false, length}
-use Rattle.std.specs.Prelude.{slice_index}
+use Rattle.std.specs.Prelude.{slice_index, true}
 use Rattle.jpeg_bits.specs.Reading.{End, Fault, Malformed}
 use Rattle.jpeg_streams.specs.ArrayPictures.{picture_of_array}
 use Rattle.jpeg_streams.specs.DecodedImages.{at_size}
@@ -18,6 +18,7 @@ use Rattle.zaxbriar_calls.specs.Limits.{are_known}
 use Rattle.zaxbriar_calls.specs.Meanings.{AreWrong, CountsRead, IsTooLarge, IsWithin}
 use Rattle.zaxbriar_calls.specs.Meanings.{ShowsSamples, as_described, no_picture, settings_of}
 use Rattle.zaxbriar_calls.specs.Meanings.{size_wanted}
+use Rattle.zaxbriar_calls.specs.Passes.{exceeds}
 use Rattle.zaxbriar_calls.specs.declared.extents.Extent.{Extent}
 use Rattle.zaxbriar_calls.specs.declared.extents.Extent.TheVariants.{Whole, Partial}
 use Rattle.zaxbriar_calls.specs.declared.options.Options.{Options}
@@ -41,6 +42,12 @@ abbrev pub IsAnswer : Extent → ℕ → Type 0
 IsAnswer Whole code = (code ≤ 8) ⊎ (code ≡ 10)
 IsAnswer Partial code = code ≤ 9
 
+-- No scan of a whole picture is refused for its blocks. A part that isn't given has another fault
+-- than that of the stream.
+abbrev pub IsWithinPasses : Extent → Options → List ℕ → Type 0
+IsWithinPasses Whole o bytes = exceeds Whole o bytes ≡ false
+IsWithinPasses Partial o bytes = Unit {0}
+
 pub record Fills (extent : Extent) (o : Options) (bytes old new : List ℕ) (picture : Picture)
     (code : ℕ) : Type 0 where
   -- After OK, the caller's memory has the picture that the stream gives, which has no fault, in the
@@ -50,7 +57,7 @@ pub record Fills (extent : Extent) (o : Options) (bytes old new : List ℕ) (pic
   -- `picture` names beside describing the picture. After any other result it names no fault.
   pub part : code ≡ 9 → (fault : Fault)
       × Gives extent o bytes old new (Some fault) (without_fault (without_rows picture))
-      × TellsFault o picture fault
+      × TellsFault extent o bytes picture fault
   pub entire : (code ≡ 9 → ⊥) → picture.fault ≡ 0
   -- Where the bytes are written for the coefficients of an image, it is their picture.
   pub images : code ≡ 0 → FillsImages extent o bytes old new picture
@@ -71,10 +78,11 @@ pub record Fills (extent : Extent) (o : Options) (bytes old new : List ℕ) (pic
   -- MALFORMED, UNSUPPORTED and TRUNCATED name the fault for which nothing is given: for a part,
   -- that of a stream without an accepted frame header, or a transform that doesn't fit the picture.
   -- After UNSUPPORTED `picture` names the feature, and after any other result but PARTIAL none.
-  pub malformed : code ≡ 1 → given_by extent o bytes ≡ Err Malformed
-  -- TOO_MANY_PASSES: passes are limited, and within the limit nothing is given.
-  pub passes : code ≡ 10
-      → (given_by extent o bytes ≡ Err Malformed) × (o.max_passes ≡ 0 → ⊥)
+  pub malformed : code ≡ 1
+      → (given_by extent o bytes ≡ Err Malformed) × IsWithinPasses extent o bytes
+  -- TOO_MANY_PASSES: passes are limited, and the fault is a scan of more blocks than that allows.
+  pub passes : code ≡ 10 → (given_by extent o bytes ≡ Err Malformed)
+      × (exceeds extent o bytes ≡ true) × (o.max_passes ≡ 0 → ⊥)
   pub unsupported : code ≡ 2 → LacksFeature (given_by extent o bytes) picture
   pub truncated : code ≡ 3 → given_by extent o bytes ≡ Err End
   pub unnamed : (code ≡ 2 → ⊥) → (code ≡ 9 → ⊥) → NamesFeature picture (numbered 0 0)

@@ -1,15 +1,15 @@
 -- What a call with some options gives of a stream: the whole of its picture, or what it has brought
 -- up to its first fault.
-use Rattle.std.specs.Prelude.{◌≡◌, ◌⊎◌, ℕ, ◌*◌, List, Option, Some, None, Ok, Err, Result}
+use Rattle.std.specs.Prelude.{◌≡◌, ℕ, ◌*◌, Bool, List, Option, Some, None, Ok, Err, Result}
 use Rattle.std.specs.Prelude.{option_map, replicate}
-use Rattle.jpeg_bits.specs.Reading.{◌>>=◌, Fault, Malformed, Lacks, End, Names}
+use Rattle.jpeg_bits.specs.Reading.{◌>>=◌, Fault, Lacks, Names}
 use Rattle.jpeg_bits.specs.declared.error.Error.{Error}
 use Rattle.jpeg_bits.specs.declared.error.Error.TheVariants as errors
 use Rattle.jpeg_decoder.specs.Reaching.{NamesFault}
 use Rattle.jpeg_streams.specs.Found.{Found}
 use Rattle.jpeg_streams.specs.Pixels.{info_of}
 use Rattle.jpeg_streams.specs.Shown.{Shown, shown_rest_within, whole_rows_rest}
-use Rattle.jpeg_streams.specs.States.{Decoding}
+use Rattle.jpeg_streams.specs.States.{Decoding, IfRefused}
 use Rattle.jpeg_streams.specs.Stream.{Told, header_at, rest_by, told_of}
 use Rattle.jpeg_streams.specs.declared.images.ImageInfo.{ImageInfo}
 use Rattle.jpeg_streams.specs.declared.settings.Settings.{Settings}
@@ -18,8 +18,9 @@ use Rattle.zaxbriar_calls.specs.Layouts.{laid_out, layout_line}
 use Rattle.zaxbriar_calls.specs.Lines.{Arranged}
 use Rattle.zaxbriar_calls.specs.Meanings.{CountsRead, StandsAfter, found_at, meaning_by}
 use Rattle.zaxbriar_calls.specs.Meanings.{settings_at}
+use Rattle.zaxbriar_calls.specs.Passes.{fault_number}
 use Rattle.zaxbriar_calls.specs.declared.answers.Refusal.{Refusal}
-use Rattle.zaxbriar_calls.specs.declared.answers.Refusal.TheVariants.{Part}
+use Rattle.zaxbriar_calls.specs.declared.answers.Refusal.TheVariants.{Part, Stream}
 use Rattle.zaxbriar_calls.specs.declared.extents.Extent.{Extent}
 use Rattle.zaxbriar_calls.specs.declared.extents.Extent.TheVariants.{Whole, Partial}
 use Rattle.zaxbriar_calls.specs.declared.features.Feature.{Feature}
@@ -77,22 +78,15 @@ abbrev pub CountsImage : Extent → Options → List ℕ → ℕ → Type 0
 CountsImage Whole o bytes count = CountsRead (meaning_by o bytes) bytes count
 CountsImage Partial o bytes count = Unit {0}
 
--- A number is that of a fault: MALFORMED, or TOO_MANY_PASSES where the options limit them,
--- UNSUPPORTED, and TRUNCATED.
-abbrev pub IsNumberOf : Options → Fault → ℕ → Type 0
-IsNumberOf o Malformed n = (n ≡ 1) ⊎ ((n ≡ 10) × (o.max_passes ≡ 0 → ⊥))
-IsNumberOf o (Lacks feature) n = n ≡ 2
-IsNumberOf o End n = n ≡ 3
-
 -- the feature that a fault names
 abbrev pub feature_lacking : Fault → Feature
 feature_lacking (Lacks feature) = feature_in feature
 feature_lacking _ = numbered 0 0
 
--- A picture names a fault.
-abbrev pub TellsFault : Options → Picture → Fault → Type 0
-TellsFault o picture fault =
-    IsNumberOf o fault picture.fault × NamesFeature picture (feature_lacking fault)
+-- A picture names the fault of a stream.
+abbrev pub TellsFault : Extent → Options → List ℕ → Picture → Fault → Type 0
+TellsFault extent o bytes picture fault = (picture.fault ≡ fault_number extent o bytes fault)
+    × NamesFeature picture (feature_lacking fault)
 
 -- a picture without the number of rows that are complete
 abbrev pub without_rows : Picture → Picture
@@ -141,6 +135,14 @@ abbrev pub HasRows : ℕ → Result ℕ Refusal → Type 0
 HasRows complete (Ok rows) = rows ≡ complete
 HasRows complete (Err (Part e rows)) = rows ≡ complete
 HasRows complete (Err r) = Unit {0}
+
+-- A decoder knows whether a scan was refused for its blocks, unless memory ran out, or the call was
+-- refused for what isn't of the stream.
+abbrev pub KnowsExceeded : {X : Type 0} → Bool → Result X Refusal → Bool → Type 0
+KnowsExceeded expected (Ok x) exceeded = exceeded ≡ expected
+KnowsExceeded expected (Err (Stream e)) exceeded = IfRefused e (exceeded ≡ expected)
+KnowsExceeded expected (Err (Part e rows)) exceeded = exceeded ≡ expected
+KnowsExceeded expected (Err r) exceeded = Unit {0}
 
 -- A decoder whose header was read has brought what a stream gives, and the lines of it are in the
 -- caller's memory.

@@ -11,7 +11,9 @@ pub mod Lines
 pub mod Meanings
 pub mod Metadata
 pub mod Outcomes
+pub mod Passes
 pub mod Places
 pub mod ReadsInfo
 pub mod Sampling
 pub mod StreamSegments
+pub mod Worked

@@ -1,17 +1,18 @@
 -- What the functions behind the calls say of their outcomes: of a description, and of a picture
 -- that was decoded into the caller's memory.
-use Rattle.std.specs.Prelude.{◌≡◌, ◌⊎◌, ◌<◌, ◌≤◌, ℕ, List, None, Result, Ok, Err, false, length}
-use Rattle.std.specs.Prelude.{IfErr, IsErrAnd, OnOk, true}
+use Rattle.std.specs.Prelude.{◌≡◌, ◌⊎◌, ◌<◌, ◌≤◌, ℕ, Bool, List, None, Result, Ok, Err, false}
+use Rattle.std.specs.Prelude.{IfErr, IsErrAnd, OnOk, length, true}
 use Rattle.jpeg_bits.specs.Reading.{Fault}
 use Rattle.jpeg_streams.specs.States.{Decoding}
 use Rattle.jpeg_streams.specs.Stream.{header_at}
 use Rattle.zaxbriar_calls.specs.Faults.{IsArgument, IsFault, IsOfCall, IsOfReading, IsOfRoom}
 use Rattle.zaxbriar_calls.specs.Faults.{IsOwn, IsPart}
-use Rattle.zaxbriar_calls.specs.Given.{CountsImage, Gives, GivesPart, HasRows, Reaches, given_by}
-use Rattle.zaxbriar_calls.specs.Given.{given_rest, rows_by, rows_rest}
+use Rattle.zaxbriar_calls.specs.Given.{CountsImage, Gives, GivesPart, HasRows, KnowsExceeded}
+use Rattle.zaxbriar_calls.specs.Given.{Reaches, given_by, given_rest, rows_by, rows_rest}
 use Rattle.zaxbriar_calls.specs.Layouts.{size_of_lines}
 use Rattle.zaxbriar_calls.specs.Limits.{are_known}
 use Rattle.zaxbriar_calls.specs.Meanings.{AreWrong, CountsRead, IsTooLarge, IsWithin, uncounted}
+use Rattle.zaxbriar_calls.specs.Passes.{exceeds, exceeds_rest}
 use Rattle.zaxbriar_calls.specs.declared.answers.Refusal.{Refusal}
 use Rattle.zaxbriar_calls.specs.declared.answers.Refusal.TheVariants.{NoRoom, TooLarge}
 use Rattle.zaxbriar_calls.specs.declared.extents.Extent.{Extent}
@@ -42,7 +43,7 @@ pub record DescribesStream {X : Type 0} (o : Options) (bytes : List ℕ) (old ne
 
 -- What is asked for of a stream was decoded into the caller's memory.
 pub record DecodesInto (extent : Extent) (o : Options) (bytes before after : List ℕ)
-    (old new : Picture) (outcome : Result ℕ Refusal) : Type 0 where
+    (old new : Picture) (outcome : Result ℕ Refusal) (exceeded : Bool) : Type 0 where
   pub given : OnOk outcome (Gives extent o bytes before after None new)
   pub part : IfErr outcome (GivesPart extent o bytes before after new)
   pub rows : HasRows (rows_by extent o bytes) outcome
@@ -51,6 +52,7 @@ pub record DecodesInto (extent : Extent) (o : Options) (bytes before after : Lis
       (λ r. IsOwn r → CountsRead (header_at bytes) bytes new.stream_bytes)
   pub most : old.stream_bytes ≡ 0 → new.stream_bytes ≤ length bytes
   pub named : IfErr outcome (IsFault (given_by extent o bytes))
+  pub passes : KnowsExceeded (exceeds extent o bytes) outcome exceeded
   pub kept : IfErr outcome (λ r. (IsPart r → ⊥) → after ≡ before)
   pub within : OnOk outcome (IsWithin extent o bytes (uncounted new))
   pub described : IfErr outcome (λ r. IsPart r → IsWithin extent o bytes (uncounted new))
@@ -82,6 +84,8 @@ pub record DecodesLines (extent : Extent) (lines : Lines) (outcome : Result ℕ 
       → HasRows (rows_rest extent old.settings old.found old.source.bytes) outcome
   pub named : old.source.known ≡ true
       → IfErr outcome (IsFault (given_rest extent old.settings old.found old.source.bytes))
+  pub exceeded : old.source.known ≡ true → KnowsExceeded
+      (exceeds_rest extent old.settings old.found old.source.bytes) outcome new.exceeded
   pub kept : IfErr outcome (λ r. (IsPart r → ⊥) → after ≡ before)
   pub own : IfErr outcome IsOfReading
 

@@ -4,10 +4,11 @@
 //! its arguments, and has freed all of its memory when it returns. The number that a call returns
 //! is one of `c/zaxbriar.h`: 0 OK, 1 MALFORMED, 2 UNSUPPORTED, 3 TRUNCATED, 4 NO_MEMORY, 5 NO_ROOM,
 //! 6 BAD_ARGUMENT, 7 NO_DATA, 8 TOO_LARGE, 9 PARTIAL, 10 TOO_MANY_PASSES.
-ghost use Rattle.std.specs.Prelude.{◌≡◌, true};
+ghost use Rattle.std.specs.Prelude.{◌≡◌};
 ghost use Rattle.zaxbriar_calls.specs.CopiesMetadata.{CopiesMetadata};
 ghost use Rattle.zaxbriar_calls.specs.Fills.{Fills};
 ghost use Rattle.zaxbriar_calls.specs.FindsSegment.{FindsSegment};
+ghost use Rattle.zaxbriar_calls.specs.Passes.{is_whole};
 ghost use Rattle.zaxbriar_calls.specs.Places.{places_of};
 ghost use Rattle.zaxbriar_calls.specs.ReadsInfo.{ReadsInfo};
 ghost use Rattle.zaxbriar_calls.specs.declared.extents.Extent.TheVariants.{Whole, Partial};
@@ -41,7 +42,7 @@ pub fn read_info(alloc: Global, jpeg: &[u8], options: &Options, picture: &mut Pi
 
 /// Returns whether the whole of a picture is asked for.
 fn is_whole(extent: Extent) -> bool
-    ensures { result ≡ true → extent ≡ Whole }
+    ensures { result ≡ is_whole extent }
 {
     match extent {
         Extent::Whole => true,
@@ -62,7 +63,6 @@ fn fill(
 {
     *picture = NO_PICTURE;
     let (outcome, exceeded) = decode_into(alloc, jpeg, options, pixels, picture, extent);
-    let exceeded = exceeded && options.max_passes != 0;
     let feature = outcome_feature(&outcome);
     picture.feature = feature.number;
     picture.feature_argument = feature.argument;

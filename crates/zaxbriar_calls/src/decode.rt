@@ -12,16 +12,17 @@ ghost use Rattle.jpeg_streams.specs.declared.progress.Progress.TheVariants.{Head
 ghost use Rattle.zaxbriar_calls.specs.Faults.{IsArgument, IsFault, IsOfCall, IsOfDecoder};
 ghost use Rattle.zaxbriar_calls.specs.Faults.{IsOfReading, IsOfRoom, IsOwn, IsPart};
 ghost use Rattle.zaxbriar_calls.specs.Given.{Brings, CountsImage, EndsImage, Gives, GivesPart};
-ghost use Rattle.zaxbriar_calls.specs.Given.{HasRows, Reaches, given_by, given_rest, outcome_of};
-ghost use Rattle.zaxbriar_calls.specs.Given.{rows_by, rows_rest};
+ghost use Rattle.zaxbriar_calls.specs.Given.{HasRows, KnowsExceeded, Reaches, given_by, given_rest};
+ghost use Rattle.zaxbriar_calls.specs.Given.{outcome_of, rows_by, rows_rest};
 ghost use Rattle.zaxbriar_calls.specs.Layouts.{size_of_lines};
 ghost use Rattle.zaxbriar_calls.specs.Outcomes.{Continues, DecodesInto};
 ghost use Rattle.zaxbriar_calls.specs.Limits.{are_known};
 ghost use Rattle.zaxbriar_calls.specs.Lines.{HasLines};
 ghost use Rattle.zaxbriar_calls.specs.Meanings.{AreWrong, CountsRead, IsTooLarge, IsWithin};
 ghost use Rattle.zaxbriar_calls.specs.Meanings.{uncounted};
+ghost use Rattle.zaxbriar_calls.specs.Passes.{exceeds_rest};
 ghost use Rattle.zaxbriar_calls.specs.declared.answers.Refusal.TheVariants.{NoRoom, TooLarge};
-ghost use Rattle.zaxbriar_calls.specs.declared.extents.Extent.TheVariants.{Partial};
+ghost use Rattle.zaxbriar_calls.specs.declared.extents.Extent.TheVariants.{Partial, Whole};
 
 use crate::answers::{Refusal, refusal_of};
 use crate::counts::bytes_read;
@@ -76,6 +77,9 @@ fn read_part<R: Read + Drop>(decoder: &mut Decoder<R>) -> std::result::Result<Pa
         decoder.old.source.bytes) }
     ensures named { decoder.old.source.known ≡ true → IfErr result (IsFault
         (given_rest Partial decoder.old.settings decoder.old.found decoder.old.source.bytes)) }
+    ensures exceeded { decoder.old.source.known ≡ true → KnowsExceeded
+        (exceeds_rest Partial decoder.old.settings decoder.old.found decoder.old.source.bytes)
+        result decoder.new.exceeded }
     ensures own { IfErr result IsOfDecoder }
 {
     match decoder.decode_partial_lines() {
@@ -116,6 +120,9 @@ fn read_whole<R: Read + Drop>(
     ensures named { decoder.old.source.known ≡ true
         → IfErr result (IsFault (rest_by decoder.old.settings decoder.old.found
         decoder.old.source.bytes)) }
+    ensures exceeded { decoder.old.source.known ≡ true → KnowsExceeded
+        (exceeds_rest Whole decoder.old.settings decoder.old.found decoder.old.source.bytes)
+        result decoder.new.exceeded }
     ensures own { IfErr result IsOfDecoder }
 {
     match decoder.decode_lines() {
@@ -148,6 +155,9 @@ fn read_lines<R: Read + Drop>(
         ≡ rows_rest extent decoder.old.settings decoder.old.found decoder.old.source.bytes) }
     ensures named { decoder.old.source.known ≡ true → IfErr result (IsFault
         (given_rest extent decoder.old.settings decoder.old.found decoder.old.source.bytes)) }
+    ensures exceeded { decoder.old.source.known ≡ true → KnowsExceeded
+        (exceeds_rest extent decoder.old.settings decoder.old.found decoder.old.source.bytes)
+        result decoder.new.exceeded }
     ensures own { IfErr result IsOfDecoder }
 {
     match extent {
@@ -192,6 +202,9 @@ fn decode_lines<R: Read + Drop>(
         decoder.old.source.bytes) result }
     ensures named { decoder.old.source.known ≡ true → IfErr result (IsFault
         (given_rest extent decoder.old.settings decoder.old.found decoder.old.source.bytes)) }
+    ensures exceeded { decoder.old.source.known ≡ true → KnowsExceeded
+        (exceeds_rest extent decoder.old.settings decoder.old.found decoder.old.source.bytes)
+        result decoder.new.exceeded }
     ensures kept { IfErr result (λ r. (IsPart r → ⊥) → pixels.new ≡ pixels.old) }
     ensures own { IfErr result IsOfReading }
 {
@@ -246,7 +259,7 @@ pub fn decode_into(
     extent: Extent,
 ) -> (std::result::Result<u16, Refusal>, bool)
     ensures { DecodesInto extent options.now jpeg.now pixels.old pixels.new picture.old picture.new
-        result.0 }
+        result.0 result.1 }
 {
     if !are_known(options) {
         return (Err(Refusal::Argument("an option doesn't exist")), false);

@@ -1,5 +1,5 @@
 //! Decoders of streams in memory.
-ghost use Rattle.std.specs.Prelude.{◌≡◌, IfErr, IfOk, true};
+ghost use Rattle.std.specs.Prelude.{◌≡◌, IfErr, IfOk, false, true};
 ghost use Rattle.jpeg_bits.specs.declared.error.Error.TheVariants.{OutOfMemory};
 ghost use Rattle.jpeg_streams.specs.Output.{default_settings};
 ghost use Rattle.jpeg_streams.specs.declared.progress.Progress.TheVariants.{Fresh};
@@ -18,6 +18,7 @@ const LONG: usize = 1024;
 pub fn decoder_of(alloc: Global, jpeg: &[u8]) -> Result<Decoder<SliceReader<'_>>>
     ensures stage { IfOk result (λ d. d.stage ≡ Fresh) }
     ensures settings { IfOk result (λ d. d.settings ≡ default_settings) }
+    ensures exceeded { IfOk result (λ d. d.exceeded ≡ false) }
     ensures known { IfOk result (λ d. d.source.known ≡ true) }
     ensures bytes { IfOk result (λ d. d.source.bytes ≡ jpeg.now) }
     ensures memory { IfErr result (λ e. e ≡ OutOfMemory) }

@@ -43,6 +43,7 @@ pub fn describe<R: Read + Drop>(
     requires dense { decoder.old.source.known ≡ true
         → density ≡ density_of decoder.old.source.bytes }
     ensures reads { OnOk result (ReadsHeader options.now decoder.old decoder.new) }
+    ensures exceeded { decoder.new.exceeded ≡ decoder.old.exceeded }
     ensures info { IfOk result
         (λ a. option_map info_of decoder.new.found.said.frame ≡ Some a.0.info) }
     ensures precision { IfOk result (λ a. option_map (λ f. f.precision) decoder.new.found.said.frame

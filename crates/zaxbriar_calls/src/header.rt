@@ -59,6 +59,7 @@ pub fn read_header<R: Read + Drop>(
     ensures named { decoder.old.source.known ≡ true
         → IfErr result (IsFault (header_at decoder.old.source.bytes)) }
     ensures own { IfErr result IsOfDecoder }
+    ensures exceeded { decoder.new.exceeded ≡ decoder.old.exceeded }
     ensures info { IfOk result
         (λ h. option_map info_of decoder.new.found.said.frame ≡ Some h.info) }
     ensures precision { IfOk result (λ h. option_map (λ f. f.precision) decoder.new.found.said.frame

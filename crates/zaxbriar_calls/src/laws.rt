@@ -2,7 +2,7 @@
 //! of a picture is. Nothing here is code that runs.
 ghost use Rattle.std.specs.Prelude.{◌≡◌, ◌++◌, ℕ, List, [], ◌∷◌, Err, None, Ok, Some, codes, map};
 ghost use Rattle.std.specs.Prelude.{false, replicate, true};
-ghost use Rattle.jpeg_bits.specs.Reading.{Fault};
+ghost use Rattle.jpeg_bits.specs.Reading.{End, Fault, Malformed};
 ghost use Rattle.jpeg_bits.specs.declared.color_transform.ColorTransform.TheVariants as transforms;
 ghost use Rattle.jpeg_bits.specs.declared.error.UnsupportedFeature.TheVariants as features;
 ghost use Rattle.jpeg_decoder.specs.StreamTransforms.{transform_by};
@@ -11,6 +11,7 @@ ghost use Rattle.jpeg_segments.specs.declared.application.AdobeColorTransform.Th
 ghost use Rattle.jpeg_segments.specs.declared.frame.CodingProcess.TheVariants as processes;
 ghost use Rattle.jpeg_streams.specs.Found.{no_metadata};
 ghost use Rattle.jpeg_streams.specs.Stream.{Told};
+ghost use Rattle.jpeg_streams.specs.Worked.{eleven_blocks, scanned_twice};
 ghost use Rattle.jpeg_streams.specs.declared.images.PixelFormat.TheVariants.{L8, L16, RGB24};
 ghost use Rattle.jpeg_streams.specs.declared.images.PixelFormat.TheVariants.{CMYK32};
 ghost use Rattle.zaxbriar_calls.specs.Density.{density_of};
@@ -23,8 +24,11 @@ ghost use Rattle.zaxbriar_calls.specs.Lines.{format_number, process_number};
 ghost use Rattle.zaxbriar_calls.specs.Meanings.{meaning_by, number_of_transform, scale_by};
 ghost use Rattle.zaxbriar_calls.specs.Meanings.{transform_number};
 ghost use Rattle.zaxbriar_calls.specs.Metadata.{is_whole, kind_alone};
+ghost use Rattle.zaxbriar_calls.specs.Passes.{exceeds, fault_number};
 ghost use Rattle.zaxbriar_calls.specs.Places.{no_place, no_places, place_before, with_part};
 ghost use Rattle.zaxbriar_calls.specs.Sampling.{sampling_of};
+ghost use Rattle.zaxbriar_calls.specs.Worked.{passes_alone};
+ghost use Rattle.zaxbriar_calls.specs.declared.extents.Extent.{Extent};
 ghost use Rattle.zaxbriar_calls.specs.declared.extents.Extent.TheVariants.{Whole};
 ghost use Rattle.zaxbriar_calls.specs.declared.options.Options.{Options};
 ghost use Rattle.zaxbriar_calls.specs.declared.layouts.Conversion.TheVariants.{InColour};
@@ -177,4 +181,27 @@ pub fn the_whole_is_the_meaning()
         → meaning_by o bytes ≡ Ok (m, rest) → given_by Whole o bytes ≡ Ok (faultless m) }
     ensures refused { (o : Options) (bytes : List ℕ) (fault : Fault)
         → meaning_by o bytes ≡ Err fault → given_by Whole o bytes ≡ Err fault }
+{}
+
+/// Of two scans of a picture of one block the second is too many for one pass, whose number is that
+/// of a broken rule after no other fault.
+#[tactic(auto, unfolding(crate::proofs::Rules::streams))]
+pub fn known_passes()
+    ensures scans { map (λ n. exceeds Whole (passes_alone n) scanned_twice) (0 ∷ 1 ∷ 2 ∷ [])
+        ≡ false ∷ true ∷ false ∷ [] }
+    ensures other { exceeds Whole (passes_alone 1) eleven_blocks ≡ false }
+    ensures header { exceeds Whole (passes_alone 1) [] ≡ false }
+    ensures numbers { map (fault_number Whole (passes_alone 1) scanned_twice)
+        (Malformed ∷ End ∷ []) ≡ 10 ∷ 3 ∷ [] }
+    ensures within { fault_number Whole (passes_alone 2) scanned_twice Malformed ≡ 1 }
+{}
+
+/// Where the options don't limit the passes, no fault is a scan of too many blocks. With such a
+/// fault the whole of a stream gives nothing, as after a broken rule.
+#[tactic(auto, using(crate::proofs::Rules::limits))]
+pub fn passes_are_limited_by_options()
+    ensures unlimited { (extent : Extent) (o : Options) (bytes : List ℕ)
+        → o.max_passes ≡ 0 → exceeds extent o bytes ≡ false }
+    ensures refused { (o : Options) (bytes : List ℕ)
+        → exceeds Whole o bytes ≡ true → given_by Whole o bytes ≡ Err Malformed }
 {}

@@ -1,4 +1,4 @@
-use Rattle.std.proofs.Common.{arith, ◌≡◌, true}
+use Rattle.std.proofs.Common.{arith, ◌≡◌, ◌∙◌, true}
 use Rattle.zaxbriar_calls.proofs.Outcomes.{stream-decoded}
 use Rattle.zaxbriar_calls.specs.Limits.{are_known}
 use Rattle.zaxbriar_calls.proofs.decode.decode_into.Goals as goal
@@ -9,7 +9,7 @@ returns c =
     let same = c.in-Ok.ensures.bytes in
     let done = c.describe-described.ensures in
     let asked : are_known c.args.options.now ≡ true = grind arith in
-    stream-decoded c.args.extent c.args.options.now c.args.jpeg.now c.args.pixels.now
+    rw c.has_exceeded_max_blocks.ensures (stream-decoded c.args.extent c.args.options.now c.args.jpeg.now c.args.pixels.now
     c.decode_described-decoded.new.pixels c.density_of-density.result c.in-Ok.decoder
     c.describe-described.new.decoder c.decode_described-decoded.new.decoder c.args.picture.now
     c.describe-described.new.picture c.bytes_read-picture.result c.describe-described.result
@@ -17,6 +17,7 @@ returns c =
       source_known = known;
       source_bytes = same;
       reads = done.reads;
+      unexceeded = done.exceeded ∙ c.in-Ok.ensures.exceeded;
       info = done.info;
       precision = done.precision;
       lines = done.lines;
@@ -33,4 +34,4 @@ returns c =
     }) c.decode_described-decoded.ensures (record {
       most = c.bytes_read-picture.ensures.most;
       counts = c.bytes_read-picture.ensures.counts;
-    })
+    }))

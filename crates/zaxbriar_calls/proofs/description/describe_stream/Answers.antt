@@ -1,4 +1,4 @@
-use Rattle.std.proofs.Common.{arith, ◌≡◌, true}
+use Rattle.std.proofs.Common.{arith, ◌≡◌, ◌∙◌, true}
 use Rattle.zaxbriar_calls.proofs.Outcomes.{stream-described}
 use Rattle.zaxbriar_calls.specs.Limits.{are_known}
 use Rattle.zaxbriar_calls.proofs.description.describe_stream.Goals as goal
@@ -15,6 +15,7 @@ returns c =
       source_known = known;
       source_bytes = same;
       reads = done.reads;
+      unexceeded = done.exceeded ∙ c.in_ok-decoder.ensures.exceeded;
       info = done.info;
       precision = done.precision;
       lines = done.lines;
