@@ -2,7 +2,7 @@
 _zaxbriar() {
     local word="${COMP_WORDS[COMP_CWORD]}" before="${COMP_WORDS[COMP_CWORD - 1]}"
     local options='-h --help -o --output --max-pixels --max-memory --max-passes'
-    local words='pnm thumbnail info raw frames'
+    local words='pnm thumbnail info check raw frames'
     if [ "$COMP_CWORD" -eq 1 ]; then
         mapfile -t COMPREPLY < <(compgen -W "$words help --help --version" -- "$word")
         return
@@ -15,6 +15,7 @@ _zaxbriar() {
         pnm) options+=' --scale --partial' ;;
         thumbnail) options+=' --max --as-stored --partial' ;;
         info) options+=' --json --exif --xmp --icc' ;;
+        check) options+=' --json --quiet' ;;
         frames) options+=' --list' ;;
     esac
     case "$before" in

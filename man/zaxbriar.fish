@@ -1,16 +1,18 @@
 # Completes the commands, options and files of zaxbriar.
-set -l words pnm thumbnail info raw frames
+set -l words pnm thumbnail info check raw frames
 set -l first "not __fish_seen_subcommand_from $words"
 set -l later "__fish_seen_subcommand_from $words"
 set -l pnm '__fish_seen_subcommand_from pnm'
 set -l thumbnail '__fish_seen_subcommand_from thumbnail'
 set -l info '__fish_seen_subcommand_from info'
+set -l check '__fish_seen_subcommand_from check'
 set -l frames '__fish_seen_subcommand_from frames'
 complete -c zaxbriar -s h -l help -d 'Print help'
 complete -c zaxbriar -n $first -s V -l version -d 'Print the version'
 complete -c zaxbriar -n $first -f -a pnm -d 'Convert files to netpbm files'
 complete -c zaxbriar -n $first -f -a thumbnail -d 'Write pictures that fit within a size'
 complete -c zaxbriar -n $first -f -a info -d 'Describe files'
+complete -c zaxbriar -n $first -f -a check -d 'Say which files are whole'
 complete -c zaxbriar -n $first -f -a raw -d 'Write the bytes of a picture'
 complete -c zaxbriar -n $first -f -a frames -d 'Decode the frames of an MJPEG stream'
 complete -c zaxbriar -n "$first; and not __fish_seen_subcommand_from help" -f -a help \
@@ -28,4 +30,6 @@ complete -c zaxbriar -n $info -l json -d 'Write JSON'
 complete -c zaxbriar -n $info -l exif -r -d 'Write the Exif data to a file'
 complete -c zaxbriar -n $info -l xmp -r -d 'Write the XMP data to a file'
 complete -c zaxbriar -n $info -l icc -r -d 'Write the ICC profile to a file'
+complete -c zaxbriar -n $check -l json -d 'Write JSON'
+complete -c zaxbriar -n $check -l quiet -d 'Say nothing of whole files'
 complete -c zaxbriar -n $frames -l list -d 'Write a line for each frame'

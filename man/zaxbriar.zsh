@@ -13,13 +13,14 @@ if ((CURRENT == 2)); then
         'pnm[convert files to netpbm files]' \
         'thumbnail[write pictures that fit within a size]' \
         'info[describe files]' \
+        'check[say which files are whole]' \
         'raw[write the bytes of a picture]' \
         'frames[decode the frames of an MJPEG stream]' \
         'help[print the options of a command]'
     return
 fi
 if [[ "${words[2]}" == help ]]; then
-    _values word pnm thumbnail info raw frames
+    _values word pnm thumbnail info check raw frames
     return
 fi
 case "${words[2]}" in
@@ -42,6 +43,12 @@ case "${words[2]}" in
             '--exif[write the Exif data to a file]:file:_files'
             '--xmp[write the XMP data to a file]:file:_files'
             '--icc[write the ICC profile to a file]:file:_files'
+        )
+        ;;
+    check)
+        own=(
+            '--json[write JSON]'
+            '--quiet[say nothing of whole files]'
         )
         ;;
     frames) own=('--list[write a line for each frame]') ;;

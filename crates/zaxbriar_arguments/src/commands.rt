@@ -1,7 +1,7 @@
 //! The program's words together.
 
 use crate::arguments::Making;
-use crate::{arguments, frames, info, pnm, raw, thumbnail};
+use crate::{arguments, check, frames, info, pnm, raw, thumbnail};
 use clap::{ArgMatches, Command};
 use std::alloc::Global;
 use zaxbriar_files::ending::Outcome;
@@ -15,14 +15,16 @@ enum Word {
     Pnm,
     Thumbnail,
     Info,
+    Check,
     Raw,
     Frames,
 }
 
-const WORDS: [Word; 5] = [
+const WORDS: [Word; 6] = [
     Word::Pnm,
     Word::Thumbnail,
     Word::Info,
+    Word::Check,
     Word::Raw,
     Word::Frames,
 ];
@@ -34,6 +36,7 @@ impl Word {
             Word::Pnm => pnm::command(alloc),
             Word::Thumbnail => thumbnail::command(alloc),
             Word::Info => info::command(alloc),
+            Word::Check => check::command(alloc),
             Word::Raw => raw::command(alloc),
             Word::Frames => frames::command(alloc),
         }

@@ -6,6 +6,7 @@
 #![tactic(auto)]
 
 pub mod arguments;
+pub mod check;
 pub mod commands;
 pub mod extraction;
 pub mod frames;

@@ -1,8 +1,8 @@
-//! Callers that read a picture.
-ghost use Rattle.std.specs.Prelude.{◌≡◌, ℕ, List, Some, IfOk};
+//! Callers that read a picture, or check a stream.
+ghost use Rattle.std.specs.Prelude.{◌≡◌, ℕ, List, Some, IfOk, is_some, not};
 ghost use Rattle.jpeg_streams.specs.Output.{Tells};
 ghost use Rattle.jpeg_streams.specs.States.{HasHeader};
-ghost use Rattle.zaxbriar_pictures.specs.Given.{IsGiven, most_after};
+ghost use Rattle.zaxbriar_pictures.specs.Given.{IsGiven, TellsOfStream, is_whole, most_after};
 ghost use Rattle.zaxbriar_samples.specs.DecodedPictures.{decoded};
 ghost use Rattle.zaxbriar_pictures.specs.ScaledPictures.{picture_at_scale};
 ghost use Rattle.zaxbriar_samples.specs.DecodedPictures.{decoded_in};
@@ -12,7 +12,8 @@ use std::alloc::Global;
 use std::io::Read;
 use zaxbriar_files::limits::Limits;
 use zaxbriar_files::refusal::Refusal;
-use zaxbriar_pictures::extents::Extent;
+use zaxbriar_pictures::check::check_stream;
+use zaxbriar_pictures::extents::{Completeness, Extent};
 use zaxbriar_pictures::scaled::{ScaledPicture, limit_blocks, read_picture};
 use zaxbriar_samples::requests::Request;
 
@@ -55,4 +56,19 @@ pub fn limited<R: Read + Drop>(decoder: &mut Decoder<R>, limits: Limits)
     } }
 {
     limit_blocks(decoder, limits);
+}
+
+/// Calls `check_stream`, and says what is told of the picture that the stream shows, and that it is
+/// whole exactly where that has no fault.
+pub fn checked<R: Read + Drop>(
+    alloc: Global,
+    reader: R,
+    limits: Limits,
+) -> Result<Completeness, Refusal>
+    ensures told { (bytes : List ℕ) → Tells (R.remaining reader) bytes
+        → IfOk result (TellsOfStream limits bytes) }
+    ensures whole { (bytes : List ℕ) → Tells (R.remaining reader) bytes
+        → IfOk result (λ told. not (is_some told.fault) ≡ is_whole limits bytes) }
+{
+    check_stream(alloc, reader, limits)
 }

@@ -1,5 +1,6 @@
 //! The program's words.
 
+mod check;
 mod extraction;
 mod frames;
 mod info;
@@ -19,6 +20,7 @@ fn run_word(rt: HostRuntime, matches: &ArgMatches<'_>) -> Outcome<()> {
         Some((zaxbriar_arguments::pnm::NAME, matches)) => pnm::run(rt, matches),
         Some((zaxbriar_arguments::thumbnail::NAME, matches)) => thumbnail::run(rt, matches),
         Some((zaxbriar_arguments::info::NAME, matches)) => info::run(rt, matches),
+        Some((zaxbriar_arguments::check::NAME, matches)) => check::run(rt, matches),
         Some((zaxbriar_arguments::raw::NAME, matches)) => raw::run(rt, matches),
         Some((zaxbriar_arguments::frames::NAME, matches)) => frames::run(rt, matches),
         _ => Ok(()),

@@ -28,15 +28,20 @@ struct Part<'a> {
     rows: Rows,
 }
 
+/// Returns what is said behind the complete rows of a picture: a progressive one may lack whole
+/// scans.
+pub fn scans_so_far(info: ImageInfo) -> &'static str {
+    match info.coding_process {
+        CodingProcess::DctProgressive => " in the scans so far",
+        _ => "",
+    }
+}
+
 impl fmt::Display for Part<'_> {
     fn fmt<W: fmt::Write>(&self, f: &mut fmt::Formatter<W>) -> fmt::Result {
         let rows = self.whole_rows;
         let height = self.info.height;
-        // A progressive picture may lack whole scans.
-        let so_far = match self.info.coding_process {
-            CodingProcess::DctProgressive => " in the scans so far",
-            _ => "",
-        };
+        let so_far = scans_so_far(self.info);
         write!(f, "{}; ", Reason(self.fault))?;
         if rows == 0 {
             return write!(f, "no row is complete");

@@ -144,9 +144,12 @@ fn put_comment(
 
 /// What is said under a key.
 #[derive(Clone, Copy)]
-enum Value<'a> {
+pub enum Value<'a> {
+    /// A number.
     Number(usize),
+    /// A text.
     Text(&'a str),
+    /// That there is none.
     Nothing,
 }
 
@@ -255,7 +258,7 @@ fn put_header(alloc: Global, text: &mut String, header: &Header) -> Result<(), A
 }
 
 /// Writes a member.
-fn member(writer: &mut Writer, key: &str, value: Value<'_>) -> Result<(), AllocError> {
+pub fn member(writer: &mut Writer, key: &str, value: Value<'_>) -> Result<(), AllocError> {
     writer.key(key)?;
     match value {
         Value::Number(number) => writer.u64(number as u64),
@@ -364,6 +367,16 @@ fn described(
     }
 }
 
+/// Begins the object of a file of this name, or of standard input if there is none.
+pub fn begin_object(writer: &mut Writer, name: Option<&str>) -> Result<(), AllocError> {
+    let file = match name {
+        Some(name) => Value::Text(shown(name)),
+        None => Value::Nothing,
+    };
+    writer.begin_object()?;
+    member(writer, "file", file)
+}
+
 /// Writes the object of a file of this name, or of its refusal.
 fn object(
     alloc: Global,
@@ -371,18 +384,13 @@ fn object(
     name: Option<&str>,
     header: &Result<Header, Refusal>,
 ) -> Result<(), AllocError> {
-    let file = match name {
-        Some(name) => Value::Text(shown(name)),
-        None => Value::Nothing,
-    };
-    writer.begin_object()?;
-    member(writer, "file", file)?;
+    begin_object(writer, name)?;
     described(alloc, writer, header)?;
     writer.end_object()
 }
 
 /// Returns an object in one line, which ends the line of the object before it.
-fn line_of(alloc: Global, subject: Subject<'_>, object: Vec<u8>) -> Result<String, AllocError> {
+pub fn line_of(alloc: Global, subject: Subject<'_>, object: Vec<u8>) -> Result<String, AllocError> {
     let before = if 0 < subject.index { ",\n" } else { "" };
     match String::from_utf8_lossy(alloc, object.as_slice()) {
         Ok(object) => format!(in alloc; "{before}{}", JsonLine(object.as_str())),
@@ -391,7 +399,10 @@ fn line_of(alloc: Global, subject: Subject<'_>, object: Vec<u8>) -> Result<Strin
 }
 
 /// Writes a text that was made.
-fn write_text(text: Result<String, AllocError>, output: &mut Output<'_>) -> Result<(), Refusal> {
+pub fn write_text(
+    text: Result<String, AllocError>,
+    output: &mut Output<'_>,
+) -> Result<(), Refusal> {
     match text {
         Ok(text) => io::Write::write_all(output, text.as_bytes()).map_err(Refusal::from),
         Err(error) => Err(Refusal::from(error)),

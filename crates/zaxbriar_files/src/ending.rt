@@ -1,5 +1,5 @@
 //! How the program ends.
-ghost use Rattle.std.specs.Prelude.{◌≡◌};
+ghost use Rattle.std.specs.Prelude.{◌≡◌, if◌then◌else◌};
 ghost use Rattle.std.specs.Process.{exit_status};
 ghost use Rattle.zaxbriar_files.specs.Endings.{status_of, worse_status};
 
@@ -27,6 +27,17 @@ pub fn worse_of(first: Outcome<()>, second: Outcome<()>) -> Outcome<()>
         (Ok(()), other) => other,
         (Err(Failure::Faulty), Err(failure)) => Err(failure),
         _ => first,
+    }
+}
+
+/// Returns how the program ends after files of which all are as they are to be, or not.
+pub fn outcome_of(are_all: bool) -> Outcome<()>
+    ensures { status_of result ≡ (if are_all then 0 else 1) }
+{
+    if are_all {
+        Ok(())
+    } else {
+        Err(Failure::Refused)
     }
 }
 

@@ -1,7 +1,7 @@
 -- What is given of a stream: the whole of its picture, or what it has brought up to its first
 -- fault.
 use Rattle.std.specs.Prelude.{◌≡◌, ℕ, List, Result, Ok, Err, Option, None, option_map, IsSomeAnd}
-use Rattle.std.specs.Prelude.{IsOkAnd, unwrap_or}
+use Rattle.std.specs.Prelude.{Bool, IsOkAnd, false, is_some, not, unwrap_or}
 use Rattle.std.specs.Io.KnownBytes.{Appends}
 use Rattle.jpeg_bits.specs.Reading.{Fault, ◌>>=◌}
 use Rattle.jpeg_bits.specs.declared.error.Error.{Error}
@@ -23,6 +23,7 @@ use Rattle.zaxbriar_pictures.specs.declared.extents.Completeness.{Completeness}
 use Rattle.zaxbriar_pictures.specs.declared.extents.Extent.{Extent}
 use Rattle.zaxbriar_pictures.specs.declared.extents.Extent.TheVariants.{Whole, Partial}
 use Rattle.jpeg_segments.specs.declared.scale.Scale.{Scale}
+use Rattle.jpeg_segments.specs.declared.scale.Scale.TheVariants.{Full}
 
 -- a picture, and the first fault of its stream, if it has one
 pub record Given : Type 0 where
@@ -119,7 +120,18 @@ WritesGiven extent limits scale bytes before after told =
     (λ g. Appends before after (file_in g.picture)
     × TellsGiven extent limits scale bytes g told)
 
+-- A caller is told how much of the picture that a stream shows is complete, at full size and within
+-- the limits.
+abbrev pub TellsOfStream : Limits → List ℕ → Completeness → Type 0
+TellsOfStream limits bytes told = IsSomeAnd (given_at_scale Partial limits Full bytes)
+    (λ g. TellsGiven Partial limits Full bytes g told)
+
 -- ---- a whole stream
+
+-- Whether a stream shows a picture without fault, at full size and within the limits.
+unfoldable pub is_whole : Limits → List ℕ → Bool
+is_whole limits bytes = unwrap_or (option_map (λ g. not (is_some g.fault))
+    (given_at_scale Partial limits Full bytes)) false
 
 -- The scans of a stream code no more blocks than the limits allow.
 abbrev pub CodesWithin : Limits → List ℕ → Type 0

@@ -1,6 +1,6 @@
 //! How much of a stream's picture is decoded: the whole, or what a stream that has a fault has
 //! brought up to it.
-ghost use Rattle.std.specs.Prelude.{◌≡◌, IfOk, IfSome, Some, is_some, option_map, true};
+ghost use Rattle.std.specs.Prelude.{◌≡◌, IfOk, IfSome, Some, is_some, not, option_map, true};
 ghost use Rattle.std.specs.List.{concat};
 ghost use Rattle.jpeg_bits.specs.Reading.{IsGivenUp};
 ghost use Rattle.jpeg_streams.specs.Pixels.{info_of};
@@ -36,6 +36,15 @@ pub struct Completeness {
     pub whole_rows: u16,
     /// The first fault of the stream, or none if it is whole.
     pub fault: Option<Error>,
+}
+
+impl Completeness {
+    /// Returns whether the stream has no fault.
+    pub fn is_whole(&self) -> bool
+        ensures { result ≡ not (is_some self.now.fault) }
+    {
+        self.fault.is_none()
+    }
 }
 
 /// Returns whether a fault is none of the bytes: the reader has failed, or was interrupted without

@@ -169,7 +169,7 @@ pub fn limit_blocks<R: Read + Drop>(decoder: &mut Decoder<R>, limits: Limits)
 
 /// Reads the header of the stream of a decoder, and sets the scale for the request and the limit of
 /// blocks. A picture above the limits is refused.
-fn choose<R: Read + Drop>(
+pub(crate) fn choose<R: Read + Drop>(
     decoder: &mut Decoder<R>,
     request: Request,
     extent: Extent,

@@ -9,19 +9,10 @@ use clap::ArgMatches;
 use zaxbriar_arguments::arguments;
 use zaxbriar_arguments::extraction::is_asked_for;
 use zaxbriar_files::description::Form;
-use zaxbriar_files::ending::{Failure, Outcome};
+use zaxbriar_files::ending::{Failure, Outcome, outcome_of};
 use zaxbriar_files::files;
 use zaxbriar_files::listing::describe;
 use zaxbriar_files::output::Output;
-
-/// Returns the outcome for files of which each was described, or not.
-fn outcome_of(are_all: bool) -> Outcome<()> {
-    if are_all {
-        Ok(())
-    } else {
-        Err(Failure::Refused)
-    }
-}
 
 /// Does what the arguments request.
 pub fn run(rt: HostRuntime, matches: &ArgMatches<'_>) -> Outcome<()> {

@@ -1,0 +1,40 @@
+//! The word `check`.
+
+use crate::arguments::Making;
+use crate::parameters::{Form, INPUTS, Parameter, word};
+use std::alloc::Global;
+
+/// The word.
+pub const NAME: &str = "check";
+
+const ABOUT: &str = "Says which JPEG files are whole, and what is wrong with the others";
+
+const OUTPUT: &str = "The file for what is said; standard output by default, or for -";
+
+const JSON: &str = "Write JSON instead of lines: an array with an object for each file";
+
+const QUIET: &str = "Say nothing of the files that are whole";
+
+const PARAMETERS: [Parameter; 4] = [
+    INPUTS,
+    Parameter {
+        name: "output",
+        form: Form::Output,
+        help: OUTPUT,
+    },
+    Parameter {
+        name: "json",
+        form: Form::Flag,
+        help: JSON,
+    },
+    Parameter {
+        name: "quiet",
+        form: Form::Flag,
+        help: QUIET,
+    },
+];
+
+/// Returns what the word takes.
+pub fn command<'a>(alloc: Global) -> Making<'a> {
+    word(alloc, NAME, ABOUT, PARAMETERS.as_slice())
+}
