@@ -77,6 +77,10 @@ def expected():
     every = sum(cases(it.stem) for it in CASES.glob("*.case"))
     for page in ("README.md", "docs/CONFORMANCE.md", "CHANGELOG.md"):
         yield page, r"([\d,]+) (?:streams|cases) as text", every
+    classes = text("crates/decoder_cases/classes.jsonl")
+    for name in ("must", "may", "own"):
+        figure = len(re.findall(rf'(?m)"file": "\w+", "class": "{name}"', classes))
+        yield "docs/CONFORMANCE.md", rf"(?m)^\| \*{name}\* \| (\d+) \|", figure
     drawn = sum(map(cases, ("random", "extreme", "partial_random")))
     yield "docs/CONFORMANCE.md", r"(\d+) are random streams", drawn
     yield "docs/TRUST.md", r"(\d+) random\s+streams", drawn
