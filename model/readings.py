@@ -1,0 +1,127 @@
+#!/usr/bin/env python3
+"""The pictures that count as right where T.81 leaves the colours open, and the spreading of samples.
+
+T.81 gives the samples of components, each of its own size (A.1.1). How those of a smaller one are
+spread over the picture, and which colours they are, it doesn't say. So a picture is right if each
+pixel takes a value between the samples around it, and if it is one of the readings of its
+components: the samples themselves, and what T.871 or Adobe's programs make of them.
+
+readings_of(stream, is_partial) -> [Reading], of which each pixel has a least and a greatest value
+"""
+import collections
+
+import model
+
+# How far two conforming transforms may be apart in a sample: each is within 1 of the real number,
+# rounded (IEEE 1180). T.83 compares coefficients, which allows more.
+TOLERANCE = 2
+
+Reading = collections.namedtuple('Reading', 'colours depth low high')
+Picture = collections.namedtuple('Picture', 'frame components')
+
+
+def picture_of(stream, is_partial):
+    """The frame of a stream, and of each component the width, the height and a function of place."""
+    brought = model.Brought()
+    said, settings = model.nothing_said(None), model.Settings()
+    try:
+        model.read_segments(model.Bytes(stream), settings, said, None, brought, is_partial)
+    except model.Refused:
+        if not is_partial:
+            raise
+    brought.end()
+    brought.complete()
+    frame, components = brought.frame, []
+    for i in range(len(frame.comps)):
+        if frame.process == 'lossless':
+            width, height, plane = brought.planes[i]
+            components.append((width, height, lambda x, y, p=plane, w=width: p[y * w + x]))
+        else:
+            samples = model.plane_of(frame, i, *brought.planes[i], 8)
+            components.append((*frame.sizes(8)[i], samples))
+    return Picture(frame, components)
+
+
+def around(place, factor, greatest, size):
+    """The places of the samples around one of a picture."""
+    if factor == greatest:
+        return [place]
+    middle = place * factor // greatest
+    return sorted({min(max(at, 0), size - 1) for at in (middle - 1, middle, middle + 1)})
+
+
+def spread(picture, i, tolerance):
+    """Of each pixel the least and the greatest value that component i may have there."""
+    frame, (width, height, sample) = picture.frame, picture.components[i]
+    component = frame.comps[i]
+    most = (1 << frame.precision) - 1
+    low, high = [], []
+    for y in range(frame.h):
+        rows = around(y, component.v, frame.vmax, height)
+        for x in range(frame.w):
+            columns = around(x, component.h, frame.hmax, width)
+            near = [sample(column, row) for row in rows for column in columns]
+            low.append(max(min(near) - tolerance, 0))
+            high.append(min(max(near) + tolerance, max(most, max(near))))
+    return low, high
+
+
+def converted(low, high):
+    """T.871: red, green and blue of Y, Cb and Cr, each between its least and its greatest, and one
+    more for how they are rounded."""
+    out_low, out_high = [], []
+    for at in range(len(low[0])):
+        y0, b0, r0 = (plane[at] for plane in low)
+        y1, b1, r1 = (plane[at] for plane in high)
+        ends = (
+            (y0 + 1.402 * (r0 - 128), y1 + 1.402 * (r1 - 128)),
+            (
+                y0 - 0.344136 * (b1 - 128) - 0.714136 * (r1 - 128),
+                y1 - 0.344136 * (b0 - 128) - 0.714136 * (r0 - 128),
+            ),
+            (y0 + 1.772 * (b0 - 128), y1 + 1.772 * (b1 - 128)),
+        )
+        out_low.append([min(max(int(round(end)) - 1, 0), 255) for end, _ in ends])
+        out_high.append([min(max(int(round(end)) + 1, 0), 255) for _, end in ends])
+    return [list(plane) for plane in zip(*out_low)], [list(plane) for plane in zip(*out_high)]
+
+
+def inverted(low, high, most):
+    return [[most - v for v in plane] for plane in high], [
+        [most - v for v in plane] for plane in low
+    ]
+
+
+def interleaved(planes):
+    return [value for pixel in zip(*planes) for value in pixel]
+
+
+def readings_of(stream, is_partial=False):
+    """The readings of a stream's picture."""
+    picture = picture_of(stream, is_partial)
+    frame, count = picture.frame, len(picture.components)
+    tolerance = 0 if frame.process == 'lossless' else TOLERANCE
+    most = (1 << frame.precision) - 1
+    ends = [spread(picture, i, tolerance) for i in range(count)]
+    low, high = [end[0] for end in ends], [end[1] for end in ends]
+    found = {'samples': (low, high)}
+    if count == 4:
+        found['inverted'] = inverted(low, high, most)
+    if count >= 3 and frame.precision == 8:
+        colours = converted(low[:3], high[:3])
+        if count == 3:
+            found['T.871'] = colours
+        else:
+            black, white = (low[3:], high[3:]), inverted(low[3:], high[3:], most)
+            others = inverted(*colours, most)
+            for name, first, last in (
+                ('YCCK', colours, black),
+                ('YCCK, black inverted', colours, white),
+                ('YCCK, colours inverted', others, black),
+                ('YCCK, inverted', others, white),
+            ):
+                found[name] = first[0] + last[0], first[1] + last[1]
+    return [
+        Reading(name, count, interleaved(planes[0]), interleaved(planes[1]))
+        for name, planes in found.items()
+    ]
