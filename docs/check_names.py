@@ -13,13 +13,14 @@ from pathlib import Path
 ROOT = Path(__file__).resolve().parent.parent
 # Names of other programs, of T.81 and of Rust, and words that a page explains itself.
 OTHERS = """
-    __xpg_strerror_r Al assets axioms Box ceil clone coef_bits compute_image_parallel cur_comp_info
-    DCT_scaled_size doc dyn EOBRUN ERREXIT HEX Hmax JBLOCK jpeg_decompress_struct last_dc_val ljpeg
-    LOSSLESS lseek malloc MCU_membership non_exhaustive optimizeDeps perf PILLOW_ALIGNMENT plant Pt
-    rattle_alloc rattle_dealloc rattle_errno rattle_realloc read_markers realloc ROW Se Ss tbl_no
-    test_DCT_scaling_edges test_get_child_images test_load_blp1 test_strip_ycbcr_jpeg_1x1_sampling
-    test_tiled_ycbcr_jpeg_1x1_sampling tj3 TJFLAG_LIMITSCANS tmp try type9_rotation_exif_tag ulimit
-    unread_marker Upsample Vmax WORD WRONG
+    __xpg_strerror_r Al assets axioms Box ceil clone coef_bits compute_image_parallel
+    cur_comp_info DCT_scaled_size doc dyn EOBRUN ERREXIT HEX Hmax JBLOCK jpeg_decompress_struct
+    last_dc_val ljpeg LOSSLESS lseek malloc MCU_membership non_exhaustive optimizeDeps perf
+    PILLOW_ALIGNMENT plant Pt rattle_alloc rattle_dealloc rattle_errno rattle_realloc
+    read_markers realloc ROW Se Ss SUITE_CMYK_AS_RGB tbl_no test_DCT_scaling_edges
+    test_get_child_images test_load_blp1 test_strip_ycbcr_jpeg_1x1_sampling
+    test_tiled_ycbcr_jpeg_1x1_sampling tj3 TJFLAG_LIMITSCANS tmp try type9_rotation_exif_tag
+    ulimit unread_marker Upsample Vmax WORD WRONG
 """.split()
 C_COMMENTS = r'/\*[\s\S]*?\*/|"(?:\\.|[^"\\\n])*"'
 COMMENTS = {
@@ -31,6 +32,7 @@ COMMENTS = {
     ".h": C_COMMENTS,
     ".rs": r'//.*|"(?:\\.|[^"\\\n])*"',
     ".toml": r"(?m)^\s*#.*",
+    ".go": r'//.*|"(?:\\.|[^"\\\n])*"',
     ".mjs": C_COMMENTS,
     ".ts": C_COMMENTS,
 }

@@ -1,5 +1,5 @@
 #!/usr/bin/env python3
-"""The pictures that count as right where T.81 leaves the colours open, and the spreading of samples.
+"""The pictures that count as right where T.81 leaves open the colours and how samples are spread.
 
 T.81 gives the samples of components, each of its own size (A.1.1). How those of a smaller one are
 spread over the picture, and which colours they are, it doesn't say. So a picture is right if each
@@ -21,7 +21,7 @@ Picture = collections.namedtuple('Picture', 'frame components')
 
 
 def picture_of(stream, is_partial):
-    """The frame of a stream, and of each component the width, the height and a function of place."""
+    """The frame of a stream, and of each component the width, the height, and samples by place."""
     brought = model.Brought()
     said, settings = model.nothing_said(None), model.Settings()
     try:

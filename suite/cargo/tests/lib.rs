@@ -1,0 +1,1 @@
+//! The conformance suite as tests: see `tests/suite.rs`.
