@@ -66,23 +66,23 @@ def spread(picture, i, tolerance):
     return low, high
 
 
-def converted(low, high):
+def converted(low, high, most):
     """T.871: red, green and blue of Y, Cb and Cr, each between its least and its greatest, and one
-    more for how they are rounded."""
-    out_low, out_high = [], []
+    more for how they are rounded; and the same for samples of any other precision."""
+    out_low, out_high, middle = [], [], (0, most // 2 + 1, most // 2 + 1)
     for at in range(len(low[0])):
-        y0, b0, r0 = (plane[at] for plane in low)
-        y1, b1, r1 = (plane[at] for plane in high)
+        y0, b0, r0 = (plane[at] - grey for plane, grey in zip(low, middle))
+        y1, b1, r1 = (plane[at] - grey for plane, grey in zip(high, middle))
         ends = (
-            (y0 + 1.402 * (r0 - 128), y1 + 1.402 * (r1 - 128)),
+            (y0 + 1.402 * r0, y1 + 1.402 * r1),
             (
-                y0 - 0.344136 * (b1 - 128) - 0.714136 * (r1 - 128),
-                y1 - 0.344136 * (b0 - 128) - 0.714136 * (r0 - 128),
+                y0 - 0.344136 * b1 - 0.714136 * r1,
+                y1 - 0.344136 * b0 - 0.714136 * r0,
             ),
-            (y0 + 1.772 * (b0 - 128), y1 + 1.772 * (b1 - 128)),
+            (y0 + 1.772 * b0, y1 + 1.772 * b1),
         )
-        out_low.append([min(max(int(round(end)) - 1, 0), 255) for end, _ in ends])
-        out_high.append([min(max(int(round(end)) + 1, 0), 255) for _, end in ends])
+        out_low.append([min(max(int(round(end)) - 1, 0), most) for end, _ in ends])
+        out_high.append([min(max(int(round(end)) + 1, 0), most) for _, end in ends])
     return [list(plane) for plane in zip(*out_low)], [list(plane) for plane in zip(*out_high)]
 
 
@@ -107,8 +107,8 @@ def readings_of(stream, is_partial=False):
     found = {'samples': (low, high)}
     if count == 4:
         found['inverted'] = inverted(low, high, most)
-    if count >= 3 and frame.precision == 8:
-        colours = converted(low[:3], high[:3])
+    if count >= 3:
+        colours = converted(low[:3], high[:3], most)
         if count == 3:
             found['T.871'] = colours
         else:

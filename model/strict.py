@@ -322,10 +322,10 @@ class Reader:
 
     def read(self):
         try:
-            if self.stream[:2] != b'\xff\xd8':
-                self.note('pictureless', 'B.2.1', 'no SOI at the start (Figure E.6)')
-                return self.verdict
-            self.place = 2
+            # (B.1.1.2: fill bytes may stand before any marker)
+            self.place = max(len(self.stream) - len(self.stream.lstrip(b'\xff')) - 1, 0)
+            if self.take(2) != b'\xff\xd8':
+                raise Stopped('B.2.1', 'no SOI at the start (Figure E.6)')
             self.read_segments()
         except Stopped as stopped:
             if not self.verdict.unread:
@@ -336,7 +336,7 @@ class Reader:
 
     def has_frame_header(self):
         """Whether any bytes could be a frame header, also behind what can't be read."""
-        for at in range(2, len(self.stream) - 3):
+        for at in range(len(self.stream) - 3):
             marker, code = self.stream[at : at + 2]
             if marker == 0xFF and 0xC0 <= code <= 0xCF and code not in (0xC4, 0xC8, 0xCC):
                 length = int.from_bytes(self.stream[at + 2 : at + 4], 'big')
@@ -478,6 +478,8 @@ class ScanReader:
 
     def expect_restart(self, number):
         """E.1.4, B.2.1: the restart markers stand in order."""
+        if self.reader.stream[self.reader.place + 1 : self.reader.place + 2] == b'\xff':
+            self.verdict.facts.add('filled restarts')
         if self.reader.marker() != 0xD0 + number % 8:
             raise Stopped('E.2.4', 'another marker than the next restart marker')
 

@@ -40,7 +40,7 @@ def picture_of(data):
     head = re.match(rb'P7\n((?:[A-Z#].*\n)*?)ENDHDR\n', data)
     is_high_first = True
     if head:
-        words = dict(line.split(None, 1) for line in head[1].splitlines() if line[:1] != b'#')
+        words = dict((line + b' ').split(b' ', 1) for line in head[1].splitlines())
         names = (b'WIDTH', b'HEIGHT', b'DEPTH', b'MAXVAL')
         width, height, depth, most = (int(words[name]) for name in names)
     else:
@@ -75,12 +75,22 @@ def with_depth(picture, depth):
     return picture._replace(depth=depth, samples=samples)
 
 
-def with_most(picture, most):
-    """The picture with samples up to another greatest value, where it has a greater one."""
-    if picture.most <= most or max(picture.samples) <= most:
-        return picture
-    samples = [(value * most + picture.most // 2) // picture.most for value in picture.samples]
-    return picture._replace(most=most, samples=samples)
+def forms_of(picture, most):
+    """What a picture may stand for, of which the greatest value is another: its samples as they
+    are, shifted down from whole bytes, or divided; and with or without the last of two or four,
+    which may be a component or how opaque a pixel is."""
+    forms, step = [picture], (picture.most + 1) // (most + 1)
+    if picture.most > most:
+        if all(value % step == 0 for value in picture.samples):
+            forms.append(picture._replace(samples=[value // step for value in picture.samples]))
+        half = picture.most // 2
+        samples = [(value * most + half) // picture.most for value in picture.samples]
+        forms.append(picture._replace(samples=samples))
+    for form in forms[:] if picture.depth in (2, 4) else ():
+        depth = picture.depth - 1
+        samples = [value for at, value in enumerate(form.samples) if at % (depth + 1) != depth]
+        forms.append(form._replace(depth=depth, samples=samples))
+    return forms
 
 
 def as_inks(low, high):
@@ -93,6 +103,18 @@ def as_inks(low, high):
             values += [(255 - ink) * black // 255 + sign for ink in samples[at : at + 3]]
         ends.append(picture._replace(depth=3, samples=values))
     return ends
+
+
+def is_between(picture, low, high, tolerance, rows):
+    """Whether the first rows of a picture lie between those of two others."""
+    it = with_depth(picture, low.depth)
+    if it is None or (it.width, it.height) != (low.width, low.height):
+        return False
+    count = it.width * it.depth * rows
+    return all(
+        a - tolerance <= value <= b + tolerance
+        for a, value, b in zip(low.samples[:count], it.samples, high.samples)
+    )
 
 
 class Judge:
@@ -108,18 +130,13 @@ class Judge:
         """Whether a picture is one of those that are right."""
         for picture in case['pictures']:
             low, high = self.file(picture['low']), self.file(picture['high'])
-            if low.depth == 4 and shown.depth in (1, 3) and self.takes_inks:
-                low, high = as_inks(low, high)
-            it = with_depth(with_most(shown, low.most), low.depth)
-            if it is None or (it.width, it.height) != (low.width, low.height):
-                continue
-            count = it.width * it.depth * picture.get('rows', it.height)
-            least = picture['tolerance']
-            if all(
-                a - least <= value <= b + least
-                for a, value, b in zip(low.samples[:count], it.samples, high.samples)
-            ):
-                return True
+            ends = [(low, high)]
+            if low.depth == 4 and self.takes_inks:
+                ends.append(as_inks(low, high))
+            rows = picture.get('rows', low.height)
+            for form in forms_of(shown, low.most):
+                if any(is_between(form, *end, picture['tolerance'], rows) for end in ends):
+                    return True
         return False
 
     def distance(self, case, shown):
@@ -127,10 +144,15 @@ class Judge:
         if not case['expected'].endswith('.pam'):
             return None
         wanted = self.file(case['expected'])
-        it = with_depth(with_most(shown, wanted.most), wanted.depth)
-        if it is None or (it.width, it.height) != (wanted.width, wanted.height):
-            return None
-        return max(abs(a - b) for a, b in zip(it.samples, wanted.samples))
+        forms = [with_depth(form, wanted.depth) for form in forms_of(shown, wanted.most)]
+        return min(
+            (
+                max(abs(a - b) for a, b in zip(form.samples, wanted.samples))
+                for form in forms
+                if form and (form.width, form.height) == (wanted.width, wanted.height)
+            ),
+            default=None,
+        )
 
     def outcome(self, case, shown):
         """What is to be said of an answer: a Picture, or None for a refusal."""

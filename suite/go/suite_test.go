@@ -16,6 +16,7 @@ import (
 var (
 	folder  = flag.String("suite", "..", "the suite's folder")
 	asRGB   = flag.Bool("cmyk-as-rgb", false, "the decoder shows four components in RGB")
+	results = flag.String("results", "", "a file to which a line of JSON of each case is added")
 	without = flag.String("without", "", "processes that the decoder doesn't have")
 )
 
@@ -183,6 +184,19 @@ func outcome(t *testing.T, it testCase, shown *Picture) (bool, string, int) {
 	return it.Any, "other", apart
 }
 
+// keep adds what became of a case to the file of results.
+func keep(t *testing.T, name string, good bool, how string) {
+	if *results == "" {
+		return
+	}
+	file, err := os.OpenFile(*results, os.O_APPEND|os.O_CREATE|os.O_WRONLY, 0o644)
+	if err != nil {
+		t.Fatal(err)
+	}
+	defer file.Close()
+	fmt.Fprintf(file, "{\"name\": %q, \"is_right\": %t, \"how\": %q}\n", name, good, how)
+}
+
 // runClass runs the decoder on each case of a class.
 func runClass(t *testing.T, class string) {
 	counts, furthest := map[string]int{}, 0
@@ -196,6 +210,7 @@ func runClass(t *testing.T, class string) {
 				t.Skip("a setting of another decoder")
 			}
 			good, how, apart := outcome(t, it, decode(filepath.Join(*folder, it.Stream)))
+			keep(t, it.Name, good, how)
 			if how == "near" && apart > furthest {
 				furthest = apart
 			}

@@ -1,5 +1,6 @@
 """The options of the tests, and a summary by class."""
 import collections
+import json
 import sys
 from pathlib import Path
 
@@ -11,11 +12,12 @@ sys.path.insert(0, str(SUITE / 'command'))
 import judge  # noqa: E402
 
 CASES = judge.cases_of(SUITE)
-FOUND = collections.defaultdict(list)
+FOUND, RESULTS = collections.defaultdict(list), []
 
 
 def pytest_addoption(parser):
     parser.addoption('--cmyk-as-rgb', action='store_true', help='RGB for four components')
+    parser.addoption('--results', type=Path, help='a file for a line of JSON of each case')
     parser.addoption('--without', action='append', default=[], help='a process that is lacking')
 
 
@@ -33,6 +35,7 @@ def judged(request):
     def outcome(case, shown):
         found = suite.outcome(case, shown)
         FOUND[case['class']].append(found)
+        RESULTS.append({'name': case['name'], **found._asdict()})
         return found
 
     return outcome
@@ -46,6 +49,12 @@ def stream(case, request):
     if case['class'] == 'own' and case['settings']:
         pytest.skip('a setting of another decoder')
     return SUITE / case['stream']
+
+
+def pytest_sessionfinish(session):
+    path = session.config.getoption('--results')
+    if path:
+        path.write_text(''.join(json.dumps(result) + '\n' for result in RESULTS), encoding='utf-8')
 
 
 def pytest_terminal_summary(terminalreporter):
