@@ -4,7 +4,7 @@
 judge(bytes) -> Verdict
 
 A reader that takes nothing which T.81 doesn't define. It isn't a decoder, and knows nothing of the
-choices of this one: of each stream it tells which clauses it departs from, and of which kind each
+choices of this one: of each stream it says which clauses it departs from, and of which kind each
 departure is:
 
 wider        T.81 doesn't allow it, and what is meant is plain all the same
@@ -12,7 +12,7 @@ range        no samples have such coefficients
 open         T.81 doesn't say which picture it is: bits are unsent, or a component was sent twice
 surplus      bytes of data are left before a marker
 broken       what is meant can't be told from there on
-pictureless  nothing tells a picture's size, so that there is none to show
+pictureless  nothing gives a picture's size, so that there is none to show
 
 strict.py < JPEG     prints the verdict on a stream
 """
@@ -39,8 +39,8 @@ class Verdict:
 
     def __init__(self):
         self.departures, self.frame, self.process = [], None, None
-        self.end = None  # the place behind EOI
-        self.edits = {}  # the bytes that a strict writer has in another's place, by their places
+        self.end = None  # the offset after EOI
+        self.edits = {}  # the bytes that a strict writer has instead, by their offsets
         self.facts = set()
         self.unread = None  # a legal process that isn't read here
 
@@ -61,7 +61,7 @@ class Table:
 
 
 class Data:
-    """The entropy-coded data from a place on to the marker behind it (B.1.1.5)."""
+    """The entropy-coded data from an offset to the marker after them (B.1.1.5)."""
 
     def __init__(self, stream, place):
         self.bytes, self.places, self.at = [], [], 0
@@ -248,7 +248,7 @@ class Reader:
         frame.vmax = max(component.v for component in frame.components)
 
     def read_scan(self, data):
-        """B.2.3, Table B.3, and the data behind the header"""
+        """B.2.3, Table B.3, and the data after the header"""
         frame = self.verdict.frame
         if frame is None:
             raise Stopped('B.2.1', 'a scan before the frame header')
@@ -335,7 +335,7 @@ class Reader:
         return self.verdict
 
     def has_frame_header(self):
-        """Whether any bytes could be a frame header, also behind what can't be read."""
+        """Returns whether any bytes could be a frame header, also after what can't be read."""
         for at in range(len(self.stream) - 3):
             marker, code = self.stream[at : at + 2]
             if marker == 0xFF and 0xC0 <= code <= 0xCF and code not in (0xC4, 0xC8, 0xCC):
@@ -684,7 +684,7 @@ class LosslessScan(ScanReader):
 
 
 def judge(stream):
-    """Tells what a stream is by T.81."""
+    """Prints what a stream is by T.81."""
     return Reader(stream).read()
 
 
