@@ -1,7 +1,7 @@
 //! The word `check`.
 
 use crate::arguments::Making;
-use crate::parameters::{Form, INPUTS, Parameter, word};
+use crate::parameters::{Form, INPUTS, JSON, Parameter, word};
 use std::alloc::Global;
 
 /// The word.
@@ -9,11 +9,9 @@ pub const NAME: &str = "check";
 
 const ABOUT: &str = "Says which JPEG files are whole, and what is wrong with the others";
 
-const OUTPUT: &str = "The file for what is said; standard output by default, or for -";
+const OUTPUT: &str = "The file for the report; standard output by default, or for -";
 
-const JSON: &str = "Write JSON instead of lines: an array with an object for each file";
-
-const QUIET: &str = "Say nothing of the files that are whole";
+const QUIET: &str = "Print nothing for files that are whole";
 
 const PARAMETERS: [Parameter; 4] = [
     INPUTS,
@@ -22,11 +20,7 @@ const PARAMETERS: [Parameter; 4] = [
         form: Form::Output,
         help: OUTPUT,
     },
-    Parameter {
-        name: "json",
-        form: Form::Flag,
-        help: JSON,
-    },
+    JSON,
     Parameter {
         name: "quiet",
         form: Form::Flag,

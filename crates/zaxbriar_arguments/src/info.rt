@@ -2,7 +2,7 @@
 
 use crate::arguments::Making;
 use crate::extraction;
-use crate::parameters::{Form, INPUTS, Parameter, word};
+use crate::parameters::{Form, INPUTS, JSON, Parameter, word};
 use std::alloc::Global;
 
 /// The word.
@@ -12,8 +12,6 @@ const ABOUT: &str = "Describes JPEG files, and extracts their Exif, XMP and ICC 
 
 const OUTPUT: &str = "The file for the description; standard output by default, or for -";
 
-const JSON: &str = "Write JSON instead of lines: an array with an object for each file";
-
 const PARAMETERS: [Parameter; 6] = [
     INPUTS,
     Parameter {
@@ -21,11 +19,7 @@ const PARAMETERS: [Parameter; 6] = [
         form: Form::Output,
         help: OUTPUT,
     },
-    Parameter {
-        name: "json",
-        form: Form::Flag,
-        help: JSON,
-    },
+    JSON,
     extraction::EXIF,
     extraction::XMP,
     extraction::ICC,

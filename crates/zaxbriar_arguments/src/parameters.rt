@@ -52,6 +52,13 @@ pub const INPUTS: Parameter = Parameter {
     help: MANY_FILES,
 };
 
+/// The option for JSON, of the words that describe files.
+pub const JSON: Parameter = Parameter {
+    name: "json",
+    form: Form::Flag,
+    help: "Write JSON instead of lines: an array with an object for each file",
+};
+
 /// The parts of a picture's width and height that can be requested.
 const SCALES: [&str; 4] = ["1/8", "1/4", "1/2", "1"];
 

@@ -28,8 +28,7 @@ struct Part<'a> {
     rows: Rows,
 }
 
-/// Returns what is said behind the complete rows of a picture: a progressive one may lack whole
-/// scans.
+/// Returns the words after the number of complete rows: a progressive picture may lack whole scans.
 pub fn scans_so_far(info: ImageInfo) -> &'static str {
     match info.coding_process {
         CodingProcess::DctProgressive => " in the scans so far",

@@ -1,7 +1,7 @@
 //! Whether streams are whole.
 //!
 //! A stream is whole where the picture of its blocks is there to the end of the image, without any
-//! fault. What stands behind that end makes no difference.
+//! fault. Bytes after that end make no difference.
 ghost use Rattle.std.specs.Prelude.{◌≡◌, List, ℕ, IfOk, is_some, not, true};
 ghost use Rattle.jpeg_streams.specs.Output.{Tells, default_settings};
 ghost use Rattle.jpeg_streams.specs.declared.progress.Progress.TheVariants.{Fresh};
