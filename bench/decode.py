@@ -11,9 +11,10 @@ import shutil
 import sys
 from pathlib import Path
 
-from files import SIZES, cases, program_cases, written
+from files import AS_STORED, SIZES, cases, layout_cases, pillow_cases, program_cases, written
 from markdown import head, line
-from programs import TURBO, bytes_by_header, repeated_programs, whole_programs
+from programs import TURBO, bytes_by_header, library_programs, pillow_programs
+from programs import programs_for_v2, repeated_programs, whole_programs
 from ranges import least_times, ranges_of_ours, ranges_to
 from samples import print_profile
 from timing import ratio, times_from_memory, times_of_programs
@@ -37,38 +38,50 @@ def print_times(titles, times):
     print(line([*titles, figures, *(ratio(ours, theirs) for theirs in others)]), flush=True)
 
 
-def time_from_memory(programs, folder):
+def time_from_memory(programs, folder, decoded):
     """The times of decodings from memory of each case."""
     results = {}
-    for case in cases():
+    for case in decoded:
         results[case] = times_from_memory(programs, case, written(case, folder))
-        print(case.title(), case.coding(), file=sys.stderr)
+        print(case.title(), case.coding(), case.layout, file=sys.stderr)
     return results
 
 
-def print_from_memory(programs, folder, results):
+def print_from_memory(heading, programs, folder, results):
     """Prints the table of decodings from memory."""
-    titles = ["coding", "file (kB)", "ours (ms)", *ratio_titles(programs)]
-    print_head("From memory", "picture", *titles)
+    titles = ["coding", "file (kB)", f"{programs[0].name} (ms)", *ratio_titles(programs)]
+    print_head(heading, "picture", *titles)
     for case, times in results.items():
         size = f"{written(case, folder).stat().st_size / 1e3:.1f}"
         print_times([case.title(), case.coding(), size], times)
 
 
-def print_ranges(programs, results):
-    """Prints for each kind of case the range of our ratios to each program's least times, and then
-    that of each program's to libjpeg-turbo's."""
-    kinds = least_times(results)
-    print_head("Ranges, from memory", "ours", *ratio_titles(programs))
-    for kind, rows in kinds.items():
-        print(line([kind, *ranges_of_ours(rows)]))
+def print_ranges_of_ours(heading, programs, results):
+    """Prints for each kind of case the range of our ratios to each program's least times."""
+    print_head(heading, programs[0].name, *ratio_titles(programs))
+    for kind, rows in least_times(results).items():
+        print(line([kind, *ranges_of_ours(rows)]), flush=True)
+
+
+def print_ranges_to_turbo(programs, results):
+    """Prints for each kind of case the range of each program's least times to libjpeg-turbo's."""
     names = [program.name for program in programs]
     turbo = names.index(TURBO)
     print("\n" + head([f"to {TURBO}", *names[:turbo], *names[turbo + 1 :]]))
-    for kind, rows in kinds.items():
+    for kind, rows in least_times(results).items():
         ranges = ranges_to(turbo, rows)
         if ranges:
             print(line([kind, *ranges]))
+
+
+def print_layouts(programs, results):
+    """Prints the table of layouts: the C library's times, beside those of libjpeg-turbo, which has
+    these layouts too, and beside its own for the picture as it is stored."""
+    titles = [f"{programs[0].name} (ms)", *ratio_titles(programs), "to the same, as stored"]
+    print_head("Layouts, from memory", "picture", "coding", "layout", *titles)
+    for case, times in results.items():
+        stored = results[case._replace(layout=AS_STORED)][0]
+        print_times([case.title(), case.coding(), case.layout], [*times, stored])
 
 
 def time_programs(programs, folder):
@@ -101,9 +114,17 @@ def main(crates, tools, folder, *peers):
     bench_decode = f"{crates}/bench_decode/out/bench_decode"
     tools, folder = Path(tools), Path(folder)
     from_memory = list(repeated_programs(bench_decode, tools, peers))
-    results = time_from_memory(from_memory, folder)
-    print_ranges(from_memory, results)
-    print_from_memory(from_memory, folder, results)
+    results = time_from_memory(from_memory, folder, cases())
+    print_ranges_of_ours("Ranges, from memory", from_memory, results)
+    print_ranges_to_turbo(from_memory, results)
+    print_from_memory("From memory", from_memory, folder, results)
+    with_layouts = list(library_programs(tools))
+    print_layouts(with_layouts, time_from_memory(with_layouts, folder, layout_cases()))
+    pillow = list(pillow_programs(Path(crates).parent / "clients"))
+    results = time_from_memory(pillow, folder, pillow_cases())
+    print_from_memory("By Pillow, from memory", pillow, folder, results)
+    for_v2 = list(programs_for_v2(tools, peers))
+    print_ranges_of_ours("Builds for x86-64-v2", for_v2, time_from_memory(for_v2, folder, cases()))
     whole = list(whole_programs(zaxbriar, jpegraw, peers))
     time_programs(whole, folder)
     print_memory(whole, zaxbriar, folder)

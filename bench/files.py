@@ -30,18 +30,22 @@ AT_EACH_SIZE = ["grey", "4:2:0", "4:4:4", "4:2:0, progressive"]
 AT_EACH_QUALITY = ["4:2:0", "4:4:4"]
 OF_GRAIN = [*AT_EACH_SIZE, "4:4:4, progressive"]
 SCALED = {"4:2:0": [2, 4, 8], "4:2:0, progressive": [8]}
+AS_STORED = "as stored"
+LAYOUTS = ["RGBA", "BGRA", "XRGB", "grey"]
+LAYOUTS_AT = [(200, 150), (512, 384), (2000, 1500)]
 # Of these whole programs are measured, at the greatest size.
 OF_PROGRAMS = [way for way in WAYS if way not in ("4:4:0", "4:1:1", "4:2:0, restarts")]
 
 
 class Case(NamedTuple):
-    """What is decoded, and at which part of its size."""
+    """What is decoded, at which part of its size and in which layout."""
 
     picture: str
     size: tuple[int, int]
     way: str
     quality: int = QUALITY
     scale: int = 1
+    layout: str = AS_STORED
 
     def title(self):
         grain = "" if self.picture == "photograph" else f", {self.picture}"
@@ -73,6 +77,20 @@ def cases_of(size):
 
 def cases():
     return [case for size in SIZES for case in cases_of(size)]
+
+
+def layout_cases():
+    """What is decoded in each layout, and as it is stored."""
+    for size in LAYOUTS_AT:
+        for way in AT_EACH_SIZE:
+            for layout in (AS_STORED, *LAYOUTS):
+                yield Case("photograph", size, way, layout=layout)
+
+
+def pillow_cases():
+    """What Pillow decodes."""
+    for size in SIZES[SIZES.index(ALL_WAYS_AT[0]) :]:
+        yield from (Case("photograph", size, way) for way in AT_EACH_SIZE)
 
 
 def program_cases():

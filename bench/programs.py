@@ -5,6 +5,8 @@ import re
 import subprocess
 from pathlib import Path
 
+from files import AS_STORED
+
 TURBO = "libjpeg-turbo"
 NO_SIMD = {"JSIMD_FORCENONE": "1"}
 # What ./use asks of the C library.
@@ -73,31 +75,77 @@ def peer_words(peer, case, *more):
     return [peer, *scale, *more, "FILE"]
 
 
+def clocked(tools):
+    """The environment of a program that prints no times of the processor itself."""
+    return {"LD_PRELOAD": str(tools / "clock.so")}
+
+
+def words_of_tool(path):
+    """A call that makes the words of a program with repeat.c in it."""
+
+    def words(case):
+        layout = [] if case.layout == AS_STORED else [case.layout]
+        return [str(path), "N", str(case.scale), *layout]
+
+    return words
+
+
+def peer_programs(tools, peers):
+    """The programs that are given."""
+    for peer in peers:
+        yield Repeated(
+            Path(peer).name,
+            lambda case, peer=peer: peer_words(peer, case, "--repeat", "N"),
+            clocked(tools),
+        )
+
+
+def later_turbo(tools):
+    """The program of libjpeg-turbo over a later library, where that is there."""
+    run, turbo = tools / "turbo3" / "run", words_of_tool(tools / "turbo")
+    if run.exists():
+        yield Repeated("libjpeg-turbo 3", lambda case: [str(run), *turbo(case)])
+
+
 def repeated_programs(bench_decode, tools, peers):
     """The programs that decode from memory."""
-    # What prints no times of the processor itself.
-    clock = {"LD_PRELOAD": str(tools / "clock.so")}
 
     def ours(case):
         return [bench_decode, "N", *(map(str, case.scaled_size()) if case.scale > 1 else [])]
 
-    def of(tool):
-        return lambda case: [str(tools / tool), "N", str(case.scale)]
-
-    yield Repeated("ours", ours, clock)
-    for peer in peers:
-        yield Repeated(
-            Path(peer).name, lambda case, peer=peer: peer_words(peer, case, "--repeat", "N"), clock
-        )
-    yield Repeated(TURBO, of("turbo"))
-    yield Repeated("the same without SIMD", of("turbo"), NO_SIMD)
-    # The same program over a later library.
-    run = tools / "turbo3" / "run"
-    if run.exists():
-        yield Repeated("libjpeg-turbo 3", lambda case: [str(run), *of("turbo")(case)])
-    yield Repeated("stb_image", of("stb"))
+    turbo = words_of_tool(tools / "turbo")
+    yield Repeated("ours", ours, clocked(tools))
+    yield from peer_programs(tools, peers)
+    yield Repeated(TURBO, turbo)
+    yield Repeated("the same without SIMD", turbo, NO_SIMD)
+    yield from later_turbo(tools)
+    yield Repeated("stb_image", words_of_tool(tools / "stb"))
     if (tools / "go_image").exists():
-        yield Repeated("Go", of("go_image"))
+        yield Repeated("Go", words_of_tool(tools / "go_image"))
+
+
+def library_programs(tools):
+    """The C library, which has layouts, and libjpeg-turbo."""
+    yield Repeated("the C library", words_of_tool(tools / "library"))
+    yield Repeated(TURBO, words_of_tool(tools / "turbo"))
+
+
+def pillow_programs(clients):
+    """Pillow with the plugin over the C library, and Pillow as it is."""
+    library = str(clients.parent / "c" / "out")
+    modules = os.pathsep.join(str(clients / name) for name in ("pillow", "python"))
+    with_plugin = {"LD_LIBRARY_PATH": library, "PYTHONPATH": modules}
+    decode = ["/usr/bin/python3", "-B", str(Path(__file__).with_name("pillow.py")), "N", "1"]
+    yield Repeated("Pillow with the plugin", lambda _: [*decode, "zaxbriar_pillow"], with_plugin)
+    yield Repeated("Pillow", lambda _: decode)
+
+
+def programs_for_v2(tools, peers):
+    """The C library as it runs on a processor without AVX2, and other programs."""
+    yield Repeated("ours, for x86-64-v2", words_of_tool(tools / "library_v2"))
+    yield from peer_programs(tools, peers)
+    yield Repeated(TURBO, words_of_tool(tools / "turbo"))
+    yield from later_turbo(tools)
 
 
 def pnm_words(zaxbriar, case):
