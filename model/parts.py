@@ -159,6 +159,9 @@ def read_bits(case, verb, text):
             raise Unknown('a reset before a marker is reached')
         t.data, t.k = [], 0
         return ''
+    if verb == 'stop':
+        case.text = model.Text(case.r.b, case.r.p, is_sealed=True)
+        return ''
     if verb == 'end':
         marker, case.r.p = case.bits().finish()
         case.text = None

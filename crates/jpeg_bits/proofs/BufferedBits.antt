@@ -10,6 +10,8 @@ use Rattle.jpeg_bits.specs.Entropy.{Ending, Text, upcoming_by, upcoming, bits_fr
 use Rattle.jpeg_bits.specs.Entropy.{number_of, advance, IsFilled, Ahead, Takes, same_text, IsWithin}
 use Rattle.jpeg_bits.specs.Entropy.{has_buffered, ending_of, marker_at_end, marker_from, text_at}
 use Rattle.jpeg_bits.specs.Stream.{Stream}
+use Rattle.jpeg_bits.specs.Entropy.{At, IsUnmet, Met, Unmet, met_of}
+use Rattle.jpeg_bits.specs.declared.beyond.Beyond.{Beyond}
 use Rattle.jpeg_bits.specs.declared.huffman.ahead.DataEnd.{DataEnd}
 use Rattle.std.proofs.lemmas.Bool.{false≢true}
 use Rattle.jpeg_bits.specs.declared.error.Error.{Error}
@@ -34,7 +36,7 @@ after n l x ys h =
     ∙ ap (λ zs. zs ++ ys) (drop-replicate n l x))
 
 -- the text after bits that are buffered
-pub advance-buffered : (n : ℕ) (bits : List Bool) (met : Option DataEnd) (bytes : List ℕ) →
+pub advance-buffered : (n : ℕ) (bits : List Bool) (met : Met) (bytes : List ℕ) →
     IsFilled n bits met
     → advance n (upcoming_by bits met bytes) ≡ upcoming_by (drop n bits) met bytes
 advance-buffered n bits met bytes h =
@@ -45,13 +47,13 @@ has_bits-same : (n : ℕ) (bits : List Bool) (end : DataEnd) (bytes : List ℕ) 
 has_bits-same n bits end bytes = grind arith
 
 -- whether bits can be taken is seen from those that are buffered
-pub has_bits-buffered : (n : ℕ) (bits : List Bool) (met : Option DataEnd) (bytes : List ℕ) →
+pub has_bits-buffered : (n : ℕ) (bits : List Bool) (met : Met) (bytes : List ℕ) →
     IsFilled n bits met
     → has_bits n (upcoming_by bits met bytes).bits (upcoming_by bits met bytes).ending ≡
     has_buffered n bits met
 has_bits-buffered n bits met bytes h = grind (arith, has_enough, length-append, has_bits-same)
 
-front-buffered : (n : ℕ) (bits : List Bool) (met : Option DataEnd) (bytes : List ℕ) → IsFilled n
+front-buffered : (n : ℕ) (bits : List Bool) (met : Met) (bytes : List ℕ) → IsFilled n
     bits met
     → take n ((upcoming_by bits met bytes).bits ++ replicate n false) ≡ take n (bits ++ replicate n false)
 front-buffered n bits met bytes h = grind (arith, take-append-le, length-append)
@@ -60,7 +62,7 @@ pub ok_unit : (r : Result (Unit {0}) Fault) → is_ok r ≡ true → r ≡ Ok tt
 ok_unit r h = grind (arith, false≢true)
 
 -- taking bits that are buffered
-pub bits_from-buffered : (n : ℕ) (bits : List Bool) (met : Option DataEnd) (bytes : List ℕ) →
+pub bits_from-buffered : (n : ℕ) (bits : List Bool) (met : Met) (bytes : List ℕ) →
     IsFilled n bits met
     → bits_from n (upcoming_by bits met bytes) ≡ (has_buffered n bits met
     >>= λ (u : Unit {0}). Ok (number_of (take n (bits ++ replicate n false)), upcoming_by (drop n bits) met bytes))
@@ -87,11 +89,11 @@ pub MayFail-same : {Y : Type 0} (e : Error) (o : Result Y Fault) (b : Bool) → 
 MayFail-same e o b n = grind arith
 
 -- enough bits are buffered for fewer
-pub filled-less : (n m : ℕ) (bits : List Bool) (met : Option DataEnd) → n ≤ m → IsFilled m bits met
+pub filled-less : (n m : ℕ) (bits : List Bool) (met : Met) → n ≤ m → IsFilled m bits met
     → IsFilled n bits met
 filled-less n m bits met h f = grind arith
 
-pub filled-long : (n : ℕ) (bits : List Bool) (met : Option DataEnd) → n ≤ length bits → IsWithin (length bits) met
+pub filled-long : (n : ℕ) (bits : List Bool) (met : Met) → n ≤ length bits → IsWithin (length bits) met
     → IsFilled n bits met
 filled-long n bits met h w = grind arith
 
@@ -101,7 +103,7 @@ bit_le b = grind arith
 pub pow_more : (i : ℕ) → 2 ^ (i + 1) ≡ 2 * 2 ^ i
 pow_more i = rw add-one (omega (arith, pow-suc 2 i))
 
-pub takes_end : (u : Unit {0}) (a b : Ahead) (old new : Stream) (met : Option DataEnd)
+pub takes_end : (u : Unit {0}) (a b : Ahead) (old new : Stream) (met : Met)
     (r : Result (Option Marker) Error) → IsFilled 57 b.bits b.met → b.met ≡ met → Gives
     (marker_at_end met) r
     → Takes (λ (x : Unit {0}). 0) same_text a old (Ok u) b new
@@ -112,32 +114,42 @@ takes_end u a b old new met (Err e) h is g p =
 
 -- after a marker zeros come without end
 pub none_buffered : (bits : List Bool) (m : Marker) (bytes : List ℕ) → length bits ≡ 0
-    → bits_from 1 (upcoming_by bits (Some (ends.Marker m)) bytes)
-    ≡ Ok (0, upcoming_by bits (Some (ends.Marker m)) bytes)
+    → bits_from 1 (upcoming_by bits (At (ends.Marker m)) bytes)
+    ≡ Ok (0, upcoming_by bits (At (ends.Marker m)) bytes)
 unfolding bits_from
 none_buffered bits m bytes e = grind arith
 
-abbrev pub GivesZero : List Bool → Option DataEnd → List ℕ → Type 0
+abbrev pub GivesZero : List Bool → Met → List ℕ → Type 0
 GivesZero bits met bytes = bits_from 1 (upcoming_by bits met bytes) ≡ Ok (0, upcoming_by bits met bytes)
 
-pub zero_next : (a b : Ahead) (bytes : List ℕ) → b ≡ a → length b.bits ≡ 0
-    → ((bits : List Bool) (bytes : List ℕ) → length bits ≡ 0 → GivesZero bits b.met bytes)
+pub zero_next : (a b : Ahead) (beyond : Beyond) (end : Option DataEnd) (bytes : List ℕ) → b ≡ a
+    → b.met ≡ met_of beyond end → length b.bits ≡ 0
+    → ((beyond : Beyond) (bits : List Bool) (bytes : List ℕ) → length bits ≡ 0
+    → GivesZero bits (met_of beyond end) bytes)
     → bits_from 1 (upcoming a bytes) ≡ Ok (0, upcoming a bytes)
 unfolding upcoming
-zero_next a b bytes e none h = subst (λ (a : Ahead). GivesZero a.bits a.met bytes) e (h b.bits bytes none)
+zero_next a b beyond end bytes e is none h =
+    subst (λ (a : Ahead). GivesZero a.bits a.met bytes) e
+    (subst (λ (m : Met). GivesZero b.bits m bytes) (sym is) (h beyond b.bits bytes none))
+
+-- where no end was met, none is kept
+pub unmet : (beyond : Beyond) (end : Option DataEnd) → IsUnmet (met_of beyond end)
+    → met_of beyond end ≡ Unmet beyond
+unmet beyond None h = refl
+unmet beyond (Some e) h = absurd h
 
 -- ---- taking a symbol of bits that are buffered
 
-pub next_buffered : (bits : List Bool) (met : Option DataEnd) (bytes : List ℕ) → IsFilled 16 bits
+pub next_buffered : (bits : List Bool) (met : Met) (bytes : List ℕ) → IsFilled 16 bits
     met
     → next_16 (upcoming_by bits met bytes).bits ≡ next_16 bits
-next_buffered bits None bytes h =
+next_buffered bits (Unmet beyond) bytes h =
     let t = text_at bytes in
     take-append-le 16 (bits ++ t.bits) (replicate 16 false) (omega (arith, length-append bits t.bits))
     ∙ take-append-le 16 bits t.bits h ∙ sym (take-append-le 16 bits (replicate 16 false) h)
-next_buffered bits (Some m) bytes h = refl
+next_buffered bits (At m) bytes h = refl
 
-pub code_from-buffered : (table : Table) (bits : List Bool) (met : Option DataEnd) (bytes : List ℕ)
+pub code_from-buffered : (table : Table) (bits : List Bool) (met : Met) (bytes : List ℕ)
     (c : ℕ × ℕ)
     → IsFilled 16 bits met → c.1 ≤ 16 → code_in (code_lengths table.counts) (next_16 bits) ≡ Some c
     → code_from table (upcoming_by bits met bytes)
@@ -147,7 +159,7 @@ unfolding code_from
 code_from-buffered table bits met bytes c h le e =
     grind (arith, filled-less, next_buffered, has_bits-buffered, advance-buffered)
 
-pub code_from-none : (table : Table) (bits : List Bool) (met : Option DataEnd) (bytes : List ℕ) → IsFilled 16 bits met
+pub code_from-none : (table : Table) (bits : List Bool) (met : Met) (bytes : List ℕ) → IsFilled 16 bits met
     → code_in (code_lengths table.counts) (next_16 bits) ≡ None → code_from table (upcoming_by bits met bytes)
     ≡ Err Malformed
 unfolding code_from

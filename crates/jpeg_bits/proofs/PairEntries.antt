@@ -18,7 +18,7 @@ use Rattle.jpeg_bits.specs.BlockView.{IsPass}
 use Rattle.jpeg_bits.specs.ZigzagParts.{band_start, band_end, band_in}
 use Rattle.jpeg_bits.specs.Pairs.{pair_of, after_values, end_alone, with_end, ended}
 use Rattle.jpeg_bits.specs.Pairs.{EndsAfter, IsPairOf, IsWithinPassed, Nothing, Values, Ended, Alone}
-use Rattle.jpeg_bits.specs.declared.huffman.ahead.DataEnd.{DataEnd}
+use Rattle.jpeg_bits.specs.Entropy.{Met}
 use Rattle.jpeg_bits.specs.declared.huffman.pairs.Pair.{Pair}
 use Rattle.jpeg_bits.specs.declared.blocks.tokens.Token.{Token}
 use Rattle.jpeg_bits.specs.declared.blocks.tokens.Token.TheVariants.{Rest}
@@ -68,7 +68,7 @@ end-found table bits p (Alone size e) h = e
 -- ---- how the end of a block is read
 
 -- the end of a block after the first of the next 11 bits
-end-buffered : (table : Table) (room : ℕ) (bits : List Bool) (met : Option DataEnd) (bytes : List ℕ) (n size : ℕ)
+end-buffered : (table : Table) (room : ℕ) (bits : List Bool) (met : Met) (bytes : List ℕ) (n size : ℕ)
     → length table.counts ≡ 16 → IsFilled 16 bits met → EndsAfter table (next_bits 11 bits) n size
     → has_buffered (n + size) bits met ≡ Ok tt
     → token_from table room (upcoming_by (drop n bits) met bytes)

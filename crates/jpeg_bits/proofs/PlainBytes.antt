@@ -13,7 +13,8 @@ use Rattle.jpeg_bits.specs.BytesAhead.{HasNoFf, PassesPlain}
 use Rattle.jpeg_bits.specs.Stream.{Stream}
 use Rattle.jpeg_bits.specs.Written.{low_bits}
 use Rattle.jpeg_bits.specs.Entropy.{Ahead, Takes, Text, bits_of, piece_at, same_text, upcoming, upcoming_by}
-use Rattle.jpeg_bits.specs.declared.huffman.ahead.DataEnd.{DataEnd}
+use Rattle.jpeg_bits.specs.Entropy.{Met, Unmet}
+use Rattle.jpeg_bits.specs.declared.beyond.Beyond.{Beyond}
 use Rattle.jpeg_bits.proofs.WrittenBits.{length_low_bits}
 use Rattle.jpeg_bits.specs.declared.huffman.ahead.Piece.TheVariants.{Byte}
 use Rattle.jpeg_bits.proofs.Reservoirs.{low_bits-high, low_bits-split, byte_bits}
@@ -136,27 +137,27 @@ plain-byte : (b : ℕ) (rest : List ℕ) → b ≢ 255 → piece_at (b ∷ rest)
 unfolding piece_at
 plain-byte b rest is = grind (arith, nat_tests)
 
-pub plain-text : (k c w : ℕ) (bits : List Bool) (bytes rest : List ℕ) → c ≤ k
+pub plain-text : (beyond : Beyond) (k c w : ℕ) (bits : List Bool) (bytes rest : List ℕ) → c ≤ k
     → ((j : ℕ) → j < k → byte_at j w ≢ 255) → length bits + 8 * c ≤ 64
     → bytes ≡ take c (bytes_high_first k w) ++ rest
-    → upcoming_by (bits ++ low_bits (8 * c) (w / 2 ^ (8 * (k - c)))) None rest ≡ upcoming_by bits None bytes
+    → upcoming_by (bits ++ low_bits (8 * c) (w / 2 ^ (8 * (k - c)))) (Unmet beyond) rest ≡ upcoming_by bits (Unmet beyond) bytes
 unfolding low_bits
-plain-text k zero w bits bytes rest le plain room is =
-    ap (λ (b : List Bool). upcoming_by b None rest) (append-nil bits)
-    ∙ ap (λ (r : List ℕ). upcoming_by bits None r) (sym is)
-plain-text zero (suc c) w bits bytes rest le plain room is = absurd (omega (arith, le))
-plain-text (suc k) (suc c) w bits bytes rest le plain room is =
+plain-text beyond k zero w bits bytes rest le plain room is =
+    ap (λ (b : List Bool). upcoming_by b (Unmet beyond) rest) (append-nil bits)
+    ∙ ap (λ (r : List ℕ). upcoming_by bits (Unmet beyond) r) (sym is)
+plain-text beyond zero (suc c) w bits bytes rest le plain room is = absurd (omega (arith, le))
+plain-text beyond (suc k) (suc c) w bits bytes rest le plain room is =
     let b = byte_at k w in
     let mid = take c (bytes_high_first k w) ++ rest in
-    let first : upcoming_by (bits ++ bits_of b) None mid ≡ upcoming_by bits None bytes
-    = upcoming-byte bits bytes mid b (omega (arith, room))
+    let first : upcoming_by (bits ++ bits_of b) (Unmet beyond) mid ≡ upcoming_by bits (Unmet beyond) bytes
+    = upcoming-byte beyond bits bytes mid b (omega (arith, room))
     (ap piece_at is ∙ plain-byte b mid (plain k (omega arith))) in
     let longer : length (bits ++ bits_of b) ≡ length bits + 8 = length-append bits (bits_of b) in
-    let more = plain-text k c w (bits ++ bits_of b) mid rest (omega (arith, le)) (λ j l. plain j (omega (arith, l)))
+    let more = plain-text beyond k c w (bits ++ bits_of b) mid rest (omega (arith, le)) (λ j l. plain j (omega (arith, l)))
     (omega (arith, longer, room)) refl in
     let others = low_bits (8 * c) (w / 2 ^ (8 * (k - c))) in
-    ap (λ (l : List Bool). upcoming_by (bits ++ l) None rest) (byte-front k c w (omega (arith, le)))
-    ∙ ap (λ (l : List Bool). upcoming_by l None rest) (sym (append_assoc bits (bits_of b) others))
+    ap (λ (l : List Bool). upcoming_by (bits ++ l) (Unmet beyond) rest) (byte-front k c w (omega (arith, le)))
+    ∙ ap (λ (l : List Bool). upcoming_by l (Unmet beyond) rest) (sym (append_assoc bits (bits_of b) others))
     ∙ more ∙ first
 
 -- ---- what is taken of a buffer
@@ -200,18 +201,18 @@ pushed-length bits more n x count few is =
     ∙ ap (λ (k : ℕ). length bits + k) (length_low_bits c x) in
     (omega (arith, long, count, few), omega (arith, long, count, few))
 
-pub pushed-text : (a b : Ahead) (old new : Stream) (n w : ℕ) → n ≡ length a.bits → n ≤ 56 → a.met ≡ None
-    → b.met ≡ None
+pub pushed-text : (beyond : Beyond) (a b : Ahead) (old new : Stream) (n w : ℕ) → n ≡ length a.bits → n ≤ 56
+    → a.met ≡ Unmet beyond → b.met ≡ Unmet beyond
     → b.bits ≡ a.bits ++ low_bits (8 * ((64 - n) / 8)) (w / 2 ^ (64 - 8 * ((64 - n) / 8)))
     → PassesPlain w ((64 - n) / 8) old new → Takes {X = Unit {0}} (λ _. 0) same_text a old (Ok tt) b new
 unfolding upcoming
-pushed-text a b old new n w count few unended still is p =
+pushed-text beyond a b old new n w count few unended still is p =
     let c = (64 - n) / 8 in
     let e : 64 - 8 * c ≡ 8 * (8 - c) = omega arith in
     let same : old.known ≡ true → upcoming a old.bytes ≡ upcoming b new.bytes
-    = λ known. ap (λ (m : Option DataEnd). upcoming_by a.bits m old.bytes) unended
-    ∙ sym (plain-text 8 c w a.bits old.bytes new.bytes (omega arith) p.0 (omega (arith, count, few)) (p.2 known).1)
-    ∙ ap (λ (k : ℕ). upcoming_by (a.bits ++ low_bits (8 * c) (w / 2 ^ k)) None new.bytes) (sym e)
-    ∙ ap (λ (l : List Bool). upcoming_by l None new.bytes) (sym is)
-    ∙ ap (λ (m : Option DataEnd). upcoming_by b.bits m new.bytes) (sym still) in
+    = λ known. ap (λ (m : Met). upcoming_by a.bits m old.bytes) unended
+    ∙ sym (plain-text beyond 8 c w a.bits old.bytes new.bytes (omega arith) p.0 (omega (arith, count, few)) (p.2 known).1)
+    ∙ ap (λ (k : ℕ). upcoming_by (a.bits ++ low_bits (8 * c) (w / 2 ^ k)) (Unmet beyond) new.bytes) (sym e)
+    ∙ ap (λ (l : List Bool). upcoming_by l (Unmet beyond) new.bytes) (sym is)
+    ∙ ap (λ (m : Met). upcoming_by b.bits m new.bytes) (sym still) in
     (p.1, λ known. ((p.2 known).0, ap (λ (t : Text). Ok (0, t)) (same known)))

@@ -26,7 +26,7 @@ use Rattle.jpeg_bits.specs.ShortCodes.{unpacked_code, HoldsValues}
 use Rattle.jpeg_bits.specs.declared.huffman.codes.HuffmanTableClass.{HuffmanTableClass}
 use Rattle.jpeg_bits.specs.declared.huffman.codes.HuffmanTableClass.TheVariants.{DC}
 use Rattle.jpeg_bits.specs.declared.huffman.codes.Row.{Row}
-use Rattle.jpeg_bits.specs.declared.huffman.ahead.DataEnd.{DataEnd}
+use Rattle.jpeg_bits.specs.Entropy.{At, Met, Unmet}
 use Rattle.std.proofs.Math.Nat.{mod-lt, div-mul-le_self, div-eq_of_lt-le, mul-le-mul_right}
 use Rattle.jpeg_bits.proofs.CodeLemmas.{first_from, passed-none, still-passed, tried-at}
 use Rattle.jpeg_bits.proofs.WrittenBits.{length_low_bits, number_of-low_bits}
@@ -167,16 +167,16 @@ none_short counts symbols bits h none c le found = grind (arith, short_of_16, fa
 -- ---- values by their first n bits
 
 -- the next n bits of a text of which n are buffered
-pub next-buffered : (n : ℕ) (bits : List Bool) (met : Option DataEnd) (bytes : List ℕ) → n ≤ 16 →
+pub next-buffered : (n : ℕ) (bits : List Bool) (met : Met) (bytes : List ℕ) → n ≤ 16 →
     IsFilled n bits met
     → take n (next_16 (upcoming_by bits met bytes).bits) ≡ next_bits n bits
-next-buffered n bits None bytes le h =
+next-buffered n bits (Unmet beyond) bytes le h =
     let t = (text_at bytes).bits in
     let z = replicate 16 false in
     take-take n 16 ((bits ++ t) ++ z) le
     ∙ take-append-le n (bits ++ t) z (omega (arith, length-append bits t)) ∙ take-append-le n bits t h
     ∙ sym (take-append-le n bits (replicate n false) h)
-next-buffered n bits (Some end) bytes le h =
+next-buffered n bits (At end) bytes le h =
     take-take n 16 (bits ++ replicate 16 false) le ∙ same_zeros bits n 16 n (omega arith) (omega arith)
 
 pub length-next_bits : (n : ℕ) (bits : List Bool) → length (next_bits n bits) ≡ n
@@ -190,17 +190,17 @@ eleven_front number bits e =
     ∙ same_zeros bits 11 16 11 (omega arith) (omega arith)
 
 -- whether the rest of some bits can be taken
-pub rest-buffered : (l n : ℕ) (bits : List Bool) (met : Option DataEnd) → l + n ≤ length bits
+pub rest-buffered : (l n : ℕ) (bits : List Bool) (met : Met) → l + n ≤ length bits
     → has_buffered n (drop l bits) met ≡ Ok tt
 rest-buffered l n bits met h = grind (arith, length-drop)
 
-both-buffered : (l n : ℕ) (bits : List Bool) (met : Option DataEnd) → has_buffered (l + n) bits met
+both-buffered : (l n : ℕ) (bits : List Bool) (met : Met) → has_buffered (l + n) bits met
     ≡ Ok tt
     → has_buffered n (drop l bits) met ≡ Ok tt
 both-buffered l n bits met h = grind (arith, rest-buffered, false≢true)
 
 -- fewer bits can be taken too
-pub fewer-buffered : (few n : ℕ) (bits : List Bool) (met : Option DataEnd) → few ≤ n → has_buffered
+pub fewer-buffered : (few n : ℕ) (bits : List Bool) (met : Met) → few ≤ n → has_buffered
     n bits met ≡ Ok tt
     → has_buffered few bits met ≡ Ok tt
 fewer-buffered few n bits met le h = grind (arith, rest-buffered, false≢true)
@@ -243,11 +243,11 @@ pub short_some : (most : ℕ) (table : Table) (c : ℕ × ℕ) (bits : List Bool
     → IsShort most table c bits v r n
 short_some most table c bits v r n h = grind (arith, false≢true, all_short)
 
-filled-rest : (m l n : ℕ) (bits : List Bool) (met : Option DataEnd) → l + n ≤ m → IsFilled m bits met
+filled-rest : (m l n : ℕ) (bits : List Bool) (met : Met) → l + n ≤ m → IsFilled m bits met
     → IsFilled n (drop l bits) met
 filled-rest m l n bits met h f = grind (arith, length-drop)
 
-module _ (most : ℕ) (table : Table) (bits : List Bool) (met : Option DataEnd) (bytes : List ℕ) (few : most ≤ 16)
+module _ (most : ℕ) (table : Table) (bits : List Bool) (met : Met) (bytes : List ℕ) (few : most ≤ 16)
     (filled : IsFilled most bits met) where
   -- what the buffered bits begin with is seen from the text
   pub value-text : length table.counts ≡ 16 → short_value_of most table (next_bits most bits)
@@ -263,7 +263,7 @@ module _ (most : ℕ) (table : Table) (bits : List Bool) (met : Option DataEnd) 
   value-read l s le buffered =
       grind (arith, filled-rest, drop-drop, bits_from-buffered, both-buffered, value-bits)
 
-module _ (table : Table) (bits : List Bool) (met : Option DataEnd) (bytes : List ℕ) (filled : IsFilled 8 bits met)
+module _ (table : Table) (bits : List Bool) (met : Met) (bytes : List ℕ) (filled : IsFilled 8 bits met)
     (counted : length table.counts ≡ 16) where
   token-text : (c : ℕ × ℕ) (v : ℤ) (r n : ℕ) → IsShort 8 table c (next_bits 8 bits) v r n
       → read_on short_value (after_code c.1 (upcoming_by bits met bytes) (short_token table c)) ≡
@@ -559,7 +559,7 @@ no_code_of : (table : Table) (bits : List Bool) → symbol_in table bits ≡ Non
     ≡ None
 no_code_of table bits h = grind (arith, false≢true)
 
-code_from-named : (table : Table) (bits : List Bool) (met : Option DataEnd) (bytes : List ℕ) (symbol size : ℕ)
+code_from-named : (table : Table) (bits : List Bool) (met : Met) (bytes : List ℕ) (symbol size : ℕ)
     → IsFilled 16 bits met → size ≤ 16 → symbol_in table (next_16 bits) ≡ Some (symbol, size)
     → code_from table (upcoming_by bits met bytes)
     ≡ if_buffered (size, symbol) (upcoming_by (drop size bits) met bytes) (has_buffered size bits met)

@@ -18,7 +18,7 @@ use Rattle.jpeg_bits.specs.ShortCodes.{named, symbol_in, short_value_by, short_v
 use Rattle.jpeg_bits.specs.ShortCodes.{packed, HoldsWideValues}
 use Rattle.jpeg_bits.specs.Readers.{read_on, gives, signed_from, Reads}
 use Rattle.jpeg_bits.specs.Bands.{token_at, token_from, Band, IsWithinRoom, before_more, wrapped, after_token, first_ac}
-use Rattle.jpeg_bits.specs.declared.huffman.ahead.DataEnd.{DataEnd}
+use Rattle.jpeg_bits.specs.Entropy.{Met}
 use Rattle.jpeg_bits.specs.declared.blocks.tokens.Token.{Token}
 use Rattle.jpeg_bits.specs.declared.blocks.tokens.Token.TheVariants.{Value, Rest, Sixteen, Overlong}
 use Rattle.jpeg_bits.proofs.BufferedBits.{has_bits-buffered, advance-buffered, filled-less, ok_unit}
@@ -152,12 +152,12 @@ module _ (table : Table) (room : ℕ) (t : Text) (used : ℕ) (more : List Bool)
       go (Some c) e w = at-value c e (short_some _ _ _ _ _ _ _ w)
 
 -- the next bits of a text are seen from those that are buffered
-pub front-text : (n : ℕ) (bits : List Bool) (met : Option DataEnd) (bytes : List ℕ) → n ≤ 16 → IsFilled n bits met
+pub front-text : (n : ℕ) (bits : List Bool) (met : Met) (bytes : List ℕ) → n ≤ 16 → IsFilled n bits met
     → next_bits n (upcoming_by bits met bytes).bits ≡ next_bits n bits
 front-text n bits met bytes le filled = grind (arith, common_steps, nat_tests, same_zeros, take-take, next-buffered)
 
 -- a value that is seen after the first of the next 11 bits
-pub value-buffered : (table : Table) (room : ℕ) (bits : List Bool) (met : Option DataEnd) (bytes : List ℕ) (used : ℕ)
+pub value-buffered : (table : Table) (room : ℕ) (bits : List Bool) (met : Met) (bytes : List ℕ) (used : ℕ)
     (more : List Bool) (v : ℤ) (r n : ℕ) → length table.counts ≡ 16 → IsFilled 16 bits met → used + n ≤ 11
     → has_buffered (used + n) bits met ≡ Ok tt → r < room
     → short_value_of 11 table (drop used (next_bits 11 bits) ++ more) ≡ Some (v, r, n)
@@ -426,8 +426,7 @@ set-holds P xs i v d lt below here k h = grind (arith, cases_lt, get_or-set_othe
 
 -- ---- steps of the loop that passes over the tokens of a band
 
-after-buffered : (table : Table) (left n passed : ℕ) (last : Bool) (bits : List Bool) (met : Option
-    DataEnd)
+after-buffered : (table : Table) (left n passed : ℕ) (last : Bool) (bits : List Bool) (met : Met)
     (bytes : List ℕ) → IsFilled 16 bits met → IsSkip table (next_bits 12 bits) (n, passed, last) → passed < left
     → left ≤ 63 → is_ok (has_buffered n bits met) ≡ true
     → run_of table left (upcoming_by bits met bytes)
@@ -475,7 +474,7 @@ module _ (table : Table) (room left : ℕ) (a b d e : Ahead) (old cur mid new : 
         advance-buffered n d.bits d.met bytes (filled-less n 16 d.bits d.met (omega (arith, skip.few)) filled)
         ∙ ap (λ (k : ℕ). upcoming_by (drop k d.bits) d.met bytes) (sym counted)
         ∙ sym (ap (λ (l : List Bool). upcoming_by l e.met bytes) bits
-        ∙ ap (λ (m : Option DataEnd). upcoming_by (drop count d.bits) m bytes) met)
+        ∙ ap (λ (m : Met). upcoming_by (drop count d.bits) m bytes) met)
 
     skipped : (l : Bool) → last ≡ l → Leaves (run_of table room) a old (after_skip table left (n, passed, l)) d mid
     skipped l is-last =

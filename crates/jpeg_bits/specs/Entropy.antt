@@ -7,6 +7,8 @@ use Rattle.jpeg_bits.specs.Reading.{Outcome, Fault, Malformed, End, Names, MayFa
 use Rattle.jpeg_bits.specs.Reading.{◌>>=◌}
 use Rattle.jpeg_bits.specs.Marker.{marker_of}
 use Rattle.jpeg_bits.specs.Stream.{Stream}
+use Rattle.jpeg_bits.specs.declared.beyond.Beyond.{Beyond}
+use Rattle.jpeg_bits.specs.declared.beyond.Beyond.TheVariants.{Nothing, Zeros}
 use Rattle.jpeg_bits.specs.declared.marker.Marker.{Marker}
 use Rattle.jpeg_bits.specs.declared.error.Error.{Error}
 use Rattle.jpeg_bits.specs.declared.huffman.ahead.Piece.{Piece}
@@ -14,9 +16,11 @@ use Rattle.jpeg_bits.specs.declared.huffman.ahead.Piece.TheVariants.{Byte, Data}
 use Rattle.jpeg_bits.specs.declared.huffman.ahead.DataEnd.{DataEnd}
 use Rattle.jpeg_bits.specs.declared.huffman.ahead.DataEnd.TheVariants as ends
 
--- how a text ends: with a marker, and the bytes after it, or with a fault
+-- How a text ends: with a marker, and the bytes after it, where zeros without end follow the bits
+-- (`Found`) or nothing does (`Stops`), or with a fault.
 pub data Ending : Type 0 where
   Found : Marker → List ℕ → Ending
+  Stops : Marker → List ℕ → Ending
   Broken : Fault → Ending
 
 -- the bits of a text, for each of them the bytes after the byte that has it, and the end
@@ -57,6 +61,12 @@ text_at (b ∷ c ∷ rest) =
     else no_bits (ending_at (c ∷ rest)))
     else add_byte b (c ∷ rest) (text_at (c ∷ rest))
 
+-- how a text ends by what follows the bits where a marker ends them
+abbrev pub closed : Beyond → Ending → Ending
+closed Zeros e = e
+closed Nothing (Found m rest) = Stops m rest
+closed Nothing e = e
+
 -- the text after its first n bits
 abbrev pub advance : ℕ → Text → Text
 advance n t = record { bits = drop n t.bits; following = drop n t.following; ending = t.ending }
@@ -65,9 +75,10 @@ advance n t = record { bits = drop n t.bits; following = drop n t.following; end
 abbrev pub number_of : List Bool → ℕ
 number_of bits = fold (λ n b. 2 * n + (if b then 1 else 0)) 0 bits
 
--- n bits can be taken: after a marker zeros come without end
+-- n bits can be taken: after a marker zeros come without end, unless the bits stop there
 abbrev pub has_bits : ℕ → List Bool → Ending → Result (Unit {0}) Fault
 has_bits n bits (Found m rest) = Ok tt
+has_bits n bits (Stops m rest) = if nat_le n (length bits) then Ok tt else Err Malformed
 has_bits n bits (Broken f) = if nat_le n (length bits) then Ok tt else Err f
 
 -- the first n bits as a number
@@ -81,6 +92,7 @@ bits_from n t = do
 -- how the data ended, where rest stands after it
 abbrev pub ending_of : DataEnd → List ℕ → Ending
 ending_of (ends.Marker m) rest = Found m rest
+ending_of (ends.Stop m) rest = Stops m rest
 ending_of ends.Malformed rest = Broken Malformed
 ending_of ends.Ended rest = Broken End
 
@@ -89,32 +101,56 @@ abbrev pub end_by : Option Marker → DataEnd
 end_by None = ends.Malformed
 end_by (Some m) = ends.Marker m
 
+-- the same by what follows the bits where a marker ends them
+abbrev pub closed_end : Beyond → DataEnd → DataEnd
+closed_end Zeros e = e
+closed_end Nothing (ends.Marker m) = ends.Stop m
+closed_end Nothing e = e
+
 -- after FF, where no stuffing stands: any more FF, and a marker; and what stands after it
 unfoldable pub filled_end : List ℕ → DataEnd × List ℕ
 filled_end [] = (ends.Ended, [])
 filled_end (c ∷ rest) = if c == 255 then filled_end rest else (end_by (marker_of c), rest)
 
--- What a decoder holds: the bits read ahead, and how the data ended where that was met and not
+-- Whether a decoder has met the end of the data: not yet, and what follows the bits where a marker
+-- ends them; or how they ended.
+pub data Met : Type 0 where
+  Unmet : Beyond → Met
+  At : DataEnd → Met
+
+abbrev pub met_of : Beyond → Option DataEnd → Met
+met_of beyond None = Unmet beyond
+met_of beyond (Some e) = At e
+
+-- no end was met
+abbrev pub IsUnmet : Met → Type 0
+IsUnmet (Unmet beyond) = Unit {0}
+IsUnmet (At e) = ⊥
+
+-- What a decoder holds: the bits read ahead, and the end of the data where that was met and not
 -- taken.
 pub record Ahead : Type 0 where
   pub bits : List Bool
-  pub met : Option DataEnd
+  pub met : Met
 
 -- nothing is buffered
+abbrev pub fresh_before : Beyond → Ahead
+fresh_before beyond = record { bits = []; met = Unmet beyond }
+
 abbrev pub fresh : Ahead
-fresh = record { bits = []; met = None }
+fresh = fresh_before Zeros
 
 -- The text that buffered bits, a marker that was met and the bytes after them stand for. Up to 56
 -- bits are read ahead, so what follows is given of the bits from the 57th on: only there can
 -- reading go on before the end is met.
-abbrev pub upcoming_by : List Bool → Option DataEnd → List ℕ → Text
-upcoming_by bits None bytes =
+abbrev pub upcoming_by : List Bool → Met → List ℕ → Text
+upcoming_by bits (Unmet beyond) bytes =
     record {
       bits = bits ++ (text_at bytes).bits;
       following = drop 56 (replicate (length bits) bytes ++ (text_at bytes).following);
-      ending = (text_at bytes).ending;
+      ending = closed beyond (text_at bytes).ending;
     }
-upcoming_by bits (Some e) bytes =
+upcoming_by bits (At e) bytes =
     record {
       bits = bits;
       following = drop 56 (replicate (length bits) bytes);
@@ -129,6 +165,7 @@ upcoming a bytes = upcoming_by a.bits a.met bytes
 abbrev pub marker_by : List (List ℕ) → Ending → Outcome (Option Marker)
 marker_by (rest ∷ rests) e = Ok (None, rest)
 marker_by [] (Found m rest) = Ok (Some m, rest)
+marker_by [] (Stops m rest) = Ok (Some m, rest)
 marker_by [] (Broken f) = Err f
 
 abbrev pub marker_from : Text → Outcome (Option Marker)
@@ -147,14 +184,14 @@ Takes view read a old (Err e) b new =
     × (old.known ≡ true → new.known ≡ false → IsGivenUp e new.failed)
 
 -- how many bits are buffered
-abbrev pub IsWithin : ℕ → Option DataEnd → Type 0
-IsWithin n None = n ≤ 64
-IsWithin n (Some e) = n ≤ 56
+abbrev pub IsWithin : ℕ → Met → Type 0
+IsWithin n (Unmet beyond) = n ≤ 64
+IsWithin n (At e) = n ≤ 56
 
 -- at least n bits are buffered, or the end was met
-abbrev pub IsFilled : ℕ → List Bool → Option DataEnd → Type 0
-IsFilled n bits None = n ≤ length bits
-IsFilled n bits (Some e) = length bits ≤ 56
+abbrev pub IsFilled : ℕ → List Bool → Met → Type 0
+IsFilled n bits (Unmet beyond) = n ≤ length bits
+IsFilled n bits (At e) = length bits ≤ 56
 
 abbrev pub same_text : Text → Result (ℕ × Text) Fault
 same_text t = Ok (0, t)
@@ -180,16 +217,17 @@ byte_or_end [] = Ok (None, [])
 byte_or_end (b ∷ bs) = Ok (Some b, bs)
 
 -- whether n bits can be taken of those buffered
-abbrev pub has_buffered : ℕ → List Bool → Option DataEnd → Result (Unit {0}) Fault
-has_buffered n bits None = Ok tt
-has_buffered n bits (Some e) = has_bits n bits (ending_of e [])
+abbrev pub has_buffered : ℕ → List Bool → Met → Result (Unit {0}) Fault
+has_buffered n bits (Unmet beyond) = Ok tt
+has_buffered n bits (At e) = has_bits n bits (ending_of e [])
 
 -- the marker of an end
-abbrev pub marker_at_end : Option DataEnd → Result (Option Marker) Fault
-marker_at_end None = Ok None
-marker_at_end (Some (ends.Marker m)) = Ok (Some m)
-marker_at_end (Some ends.Malformed) = Err Malformed
-marker_at_end (Some ends.Ended) = Err End
+abbrev pub marker_at_end : Met → Result (Option Marker) Fault
+marker_at_end (Unmet beyond) = Ok None
+marker_at_end (At (ends.Marker m)) = Ok (Some m)
+marker_at_end (At (ends.Stop m)) = Ok (Some m)
+marker_at_end (At ends.Malformed) = Err Malformed
+marker_at_end (At ends.Ended) = Err End
 
 -- a value of s bits as a signed number (F.2.2.1)
 unfoldable pub extended : ℕ → ℕ → ℤ

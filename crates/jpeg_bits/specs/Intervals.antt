@@ -3,7 +3,7 @@ use Rattle.std.specs.Prelude.{ℕ, zero, suc, ◌+◌, ◌-◌, ◌/◌, ◌%◌
 use Rattle.std.specs.Prelude.{if◌then◌else◌, List, [], ◌∷◌, ◌++◌, length, take, drop}
 use Rattle.std.specs.Prelude.{Option, Some, None, Ok, Err}
 use Rattle.jpeg_bits.specs.Reading.{Outcome, Malformed, ◌>>=◌}
-use Rattle.jpeg_bits.specs.Entropy.{Ending, Found, Broken, text_at}
+use Rattle.jpeg_bits.specs.Entropy.{Ending, Found, Stops, Broken, text_at}
 use Rattle.jpeg_bits.specs.Readers.{Reads}
 use Rattle.jpeg_bits.specs.declared.marker.Marker.{Marker}
 use Rattle.jpeg_bits.specs.declared.marker.Marker.TheVariants as markers
@@ -19,6 +19,7 @@ after_bytes (suc n) (b ∷ c ∷ bytes) =
 -- the end that is met: its marker and the bytes after it, or its fault
 abbrev pub met : Ending → Outcome (Option Marker)
 met (Found m rest) = Ok (Some m, rest)
+met (Stops m rest) = Ok (Some m, rest)
 met (Broken f) = Err f
 
 -- Where k bits were taken of a text and these are left: the end, where at most 56 bits are left

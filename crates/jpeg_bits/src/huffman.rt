@@ -8,6 +8,7 @@ mod default_tables;
 mod packed_codes;
 mod pairs;
 
+use crate::beyond::Beyond;
 use crate::error::{Error, Result, take_refusal};
 use crate::huffman::ahead::{BufferedBits, marker_of_end};
 use crate::huffman::bits::extend;
@@ -20,9 +21,9 @@ use std::io::Read;
 use std::marker::Model;
 
 /// A reader of entropy-coded bits (T.81, F.2.2): those read ahead of a source, at most 64, and the
-/// end that was reached. Stuffing is removed (B.1.1.5). After a marker, endless zeros follow. A
-/// fault in the data is reported only when a bit after it is taken; a failed read at once, by the
-/// call that reads.
+/// end that was reached. Stuffing is removed (B.1.1.5). After a marker, endless zeros follow, or
+/// nothing. A fault in the data is reported only when a bit after it is taken; a failed read at
+/// once, by the call that reads.
 #[derive(Debug, Drop)]
 pub struct HuffmanDecoder {
     alloc: Global,
@@ -46,15 +47,24 @@ impl HuffmanDecoder {
     ghost use Rattle.jpeg_bits.specs.Reading.{Answers};
     ghost use Rattle.jpeg_bits.specs.Readers.{signed_from};
     ghost use Rattle.jpeg_bits.specs.ShortDifferences.{TakesShort};
-    ghost use Rattle.jpeg_bits.specs.Entropy.{Takes, fresh, bits_from, marker_from, upcoming};
+    ghost use Rattle.jpeg_bits.specs.Entropy.{Takes, fresh, fresh_before, bits_from, marker_from};
+    ghost use Rattle.jpeg_bits.specs.Entropy.{upcoming};
 
-    /// Returns a decoder with no buffered bits.
+    /// Returns a decoder with no buffered bits. Endless zeros follow a marker.
     pub fn new(alloc: Global) -> HuffmanDecoder
         ensures { result ≡ fresh }
     {
+        HuffmanDecoder::with_beyond(alloc, Beyond::Zeros)
+    }
+
+    /// Returns a decoder with no buffered bits. `beyond` follows the next marker: zeros without end,
+    /// or nothing.
+    pub fn with_beyond(alloc: Global, beyond: Beyond) -> HuffmanDecoder
+        ensures { result ≡ fresh_before beyond }
+    {
         HuffmanDecoder {
             alloc,
-            buffered: BufferedBits::new(alloc),
+            buffered: BufferedBits::new(alloc, beyond),
             refusal: None,
         }
     }
@@ -82,7 +92,8 @@ impl HuffmanDecoder {
 
     /// Reads the next `count` bits, from 1 to 16, as a number, the highest bit first. After a
     /// marker they are zeros. The error is `Format` if FF 00 occurs in place of a marker before
-    /// them, and `Io` if the bytes end before them or a read fails.
+    /// them, or a marker after which nothing follows, and `Io` if the bytes end before them or a
+    /// read fails.
     #[inline(always)]
     pub fn get_bits<R: Read + Drop>(&mut self, source: &mut Source<R>, count: u8) -> Result<u16>
         requires some { 1 ≤ count }
@@ -163,8 +174,9 @@ impl HuffmanDecoder {
 
     /// Reads the marker after the bits taken, if at most 56 bits precede it: no bits are buffered
     /// then, and the source continues after the marker. Otherwise returns none, and the source
-    /// continues after the byte of the 57th bit. The error is `Format` if FF 00 occurs in place of
-    /// the marker, and `Io` if the bytes end first or a read fails.
+    /// continues after the byte of the 57th bit. Either way endless zeros follow the next marker.
+    /// The error is `Format` if FF 00 occurs in place of the marker, and `Io` if the bytes end first
+    /// or a read fails.
     pub fn take_marker<R: Read + Drop>(&mut self, source: &mut Source<R>) -> Result<Option<Marker>>
         ensures answers { Answers (λ m. m) (λ bytes. marker_from (upcoming self.old bytes))
             source.old result source.new }

@@ -1,6 +1,7 @@
 //! The bytes of a JPEG stream: errors, markers and entropy-coded bits.
 #![tactic(auto)]
 
+pub mod beyond;
 pub mod blocks;
 pub mod color_transform;
 pub mod error;

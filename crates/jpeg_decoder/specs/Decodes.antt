@@ -6,7 +6,7 @@ use Rattle.jpeg_bits.specs.declared.error.Error.{Error}
 use Rattle.jpeg_streams.specs.DecodedImages.{DecodesImages}
 use Rattle.jpeg_streams.specs.DecodedSamples.{DecodesSamples}
 use Rattle.jpeg_streams.specs.Limits.{exceeded_ahead}
-use Rattle.jpeg_streams.specs.declared.beyond.Beyond.TheVariants.{Zeros}
+use Rattle.jpeg_bits.specs.declared.beyond.Beyond.TheVariants.{Zeros}
 use Rattle.jpeg_streams.specs.Reported.{IsOfTurns}
 use Rattle.jpeg_streams.specs.States.{Decoding, IsReading, MovesToEnd, OnTold}
 use Rattle.jpeg_streams.specs.States.{ahead, told_ahead, turns_ahead}

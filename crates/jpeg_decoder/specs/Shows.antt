@@ -11,7 +11,7 @@ use Rattle.jpeg_segments.specs.declared.frame.CodingProcess.TheVariants.{Lossles
 use Rattle.jpeg_streams.specs.EndPlanes.{is_kept}
 use Rattle.jpeg_streams.specs.Found.{Found, nothing_found, nothing_said}
 use Rattle.jpeg_streams.specs.Limits.{exceeded_ahead}
-use Rattle.jpeg_streams.specs.declared.beyond.Beyond.TheVariants.{Nothing}
+use Rattle.jpeg_bits.specs.declared.beyond.Beyond.TheVariants.{Nothing}
 use Rattle.jpeg_streams.specs.Shown.{Shown, shown_ahead}
 use Rattle.jpeg_streams.specs.States.{Decoding, IfRefused, IsReading, MovesToEnd, OnToldRefusal}
 use Rattle.jpeg_streams.specs.Stream.{Told, all_brought, start_at, told_of}

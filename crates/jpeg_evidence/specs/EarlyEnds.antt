@@ -17,7 +17,7 @@ use Rattle.jpeg_segments.specs.Frame.{Frame}
 use Rattle.jpeg_segments.specs.ScanHeader.{Scan}
 use Rattle.jpeg_streams.specs.declared.before.Before.{Before}
 use Rattle.jpeg_streams.specs.declared.before.Before.TheVariants.{Elsewhere}
-use Rattle.jpeg_streams.specs.declared.beyond.Beyond.TheVariants.{Nothing}
+use Rattle.jpeg_bits.specs.declared.beyond.Beyond.TheVariants.{Nothing}
 use Rattle.jpeg_streams.specs.Brought.{after_interval, frame_and_scan, has_whole_rows}
 use Rattle.jpeg_streams.specs.Brought.{interval_reached, interval_rows_reached, reached_from}
 use Rattle.jpeg_streams.specs.Brought.{sealed}

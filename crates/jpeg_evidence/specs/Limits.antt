@@ -5,7 +5,7 @@ use Rattle.std.specs.Prelude.{Err}
 use Rattle.jpeg_bits.specs.Reading.{Fault}
 use Rattle.jpeg_segments.specs.Frame.{Component, Frame}
 use Rattle.jpeg_streams.specs.declared.before.Before.TheVariants.{Elsewhere}
-use Rattle.jpeg_streams.specs.declared.beyond.Beyond.{Beyond}
+use Rattle.jpeg_bits.specs.declared.beyond.Beyond.{Beyond}
 use Rattle.jpeg_streams.specs.Found.{nothing_found}
 use Rattle.jpeg_streams.specs.Limits.{work_within}
 use Rattle.jpeg_streams.specs.Order.{grid_of, mcu_size}

@@ -9,7 +9,7 @@ use Rattle.jpeg_bits.specs.declared.marker.Marker.{Marker}
 use Rattle.jpeg_segments.specs.Frame.{Frame}
 use Rattle.jpeg_segments.specs.ScanHeader.{Scan}
 use Rattle.jpeg_streams.specs.declared.before.Before.{Before}
-use Rattle.jpeg_streams.specs.declared.beyond.Beyond.TheVariants.{Nothing}
+use Rattle.jpeg_bits.specs.declared.beyond.Beyond.TheVariants.{Nothing}
 use Rattle.jpeg_lossless.specs.Scans.{lines_by_component, planes_of}
 use Rattle.jpeg_streams.specs.Brought.{reached_from, samples_over}
 use Rattle.jpeg_streams.specs.Found.{Found}

@@ -11,7 +11,7 @@ use Rattle.jpeg_segments.specs.ScanHeader.{Selector, count_at, selector_at, sele
 use Rattle.jpeg_segments.specs.Application.{Application, adobe_at, app_at, dri_at, passed_over}
 use Rattle.jpeg_segments.specs.Quantization.{value_at, defined_table_at, dqt_at}
 use Rattle.jpeg_segments.specs.HuffmanTables.{defined_codes_at, dht_at}
-use Rattle.jpeg_bits.specs.Entropy.{Broken, Ending, Found, ending_at, text_at}
+use Rattle.jpeg_bits.specs.Entropy.{Broken, Ending, Found, Stops, ending_at, text_at}
 use Rattle.jpeg_bits.specs.Intervals.{after_bytes, end_after, interval, intervals}
 use Rattle.jpeg_bits.specs.Passes.{Pass, Via}
 use Rattle.jpeg_bits.specs.Readers.{Reads}
@@ -212,6 +212,7 @@ dri-below limit bytes h = search (below_steps) depth 12
 -- fewer bytes stand after the end than the limit
 abbrev EndsBelow : ℕ → Ending → Type 0
 EndsBelow limit (Found m rest) = length rest < limit
+EndsBelow limit (Stops m rest) = length rest < limit
 EndsBelow limit (Broken f) = Unit {0}
 
 ending-below : (limit : ℕ) (bytes : List ℕ) → length bytes < limit → EndsBelow limit (ending_at bytes)

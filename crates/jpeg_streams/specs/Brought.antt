@@ -61,6 +61,7 @@ reached_from p vias (s ∷ spots) old t = elim (turn_from p vias s old t) [
 -- data end with a fault of their own.
 abbrev pub fault_at : Ending → Fault → Fault
 fault_at (entropy.Found m rest) End = Malformed
+fault_at (entropy.Stops m rest) End = Malformed
 fault_at (entropy.Broken fault) End = fault
 fault_at _ fault = fault
 

@@ -1,7 +1,7 @@
 -- What a caller is given of a stream: by its end, its fault, or where memory ran out.
 use Rattle.std.specs.Prelude.{◌≡◌, ℕ, Bool, List, Option, None, Ok, Err}
 use Rattle.jpeg_streams.specs.declared.before.Before.TheVariants.{Elsewhere}
-use Rattle.jpeg_streams.specs.declared.beyond.Beyond.TheVariants.{Zeros}
+use Rattle.jpeg_bits.specs.declared.beyond.Beyond.TheVariants.{Zeros}
 use Rattle.jpeg_streams.specs.Found.{Found, nothing_found, nothing_said}
 use Rattle.jpeg_streams.specs.Stream.{start_at, Told, told_of, walk}
 

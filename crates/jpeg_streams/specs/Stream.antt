@@ -17,8 +17,8 @@ use Rattle.jpeg_segments.specs.declared.scale.Scale.{Scale}
 use Rattle.jpeg_streams.specs.declared.settings.Settings.{Settings}
 use Rattle.jpeg_streams.specs.declared.before.Before.{Before}
 use Rattle.jpeg_streams.specs.declared.before.Before.TheVariants.{FirstScan, Elsewhere}
-use Rattle.jpeg_streams.specs.declared.beyond.Beyond.{Beyond}
-use Rattle.jpeg_streams.specs.declared.beyond.Beyond.TheVariants.{Zeros, Nothing}
+use Rattle.jpeg_bits.specs.declared.beyond.Beyond.{Beyond}
+use Rattle.jpeg_bits.specs.declared.beyond.Beyond.TheVariants.{Zeros, Nothing}
 use Rattle.jpeg_streams.specs.Brought.{Brought, scan_brought, unbrought}
 use Rattle.jpeg_streams.specs.Found.{Metadata, Found, nothing_found, Said, with_said}
 use Rattle.jpeg_streams.specs.Segments.{Turn, onward, frame_segment, says, updated}

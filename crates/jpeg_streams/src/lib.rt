@@ -7,7 +7,6 @@
 #![tactic(auto)]
 
 pub mod before;
-pub mod beyond;
 pub mod grids;
 pub mod images;
 pub mod progress;

@@ -4,7 +4,7 @@ ghost use Rattle.std.specs.Io.Buffered.{reader_remaining};
 ghost use Rattle.std.specs.Io.KnownBytes.{ReadConsumes};
 ghost use Rattle.jpeg_bits.specs.BlockView.{to_block, pass_in, predictor_at};
 ghost use Rattle.jpeg_bits.specs.Codes.{fast_from, symbol_from};
-ghost use Rattle.jpeg_bits.specs.Entropy.{Takes, bits_from, marker_from, upcoming};
+ghost use Rattle.jpeg_bits.specs.Entropy.{Takes, bits_from, fresh_before, marker_from, upcoming};
 ghost use Rattle.jpeg_bits.specs.Marker.{HasLength};
 ghost use Rattle.jpeg_bits.specs.Passes.{block_from, predictors_at_start};
 ghost use Rattle.jpeg_bits.specs.Readers.{signed_from};
@@ -12,6 +12,7 @@ ghost use Rattle.jpeg_bits.specs.Reading.{Answers, next_byte};
 ghost use Rattle.jpeg_bits.specs.declared.error.Error.TheVariants.{Io};
 ghost use Rattle.jpeg_bits.specs.Skips.{kept, kept_from};
 
+use jpeg_bits::beyond::Beyond;
 use jpeg_bits::blocks::{BlockCoding, Carried, read_block};
 use jpeg_bits::error::{Error, Result};
 use jpeg_bits::huffman::{HuffmanDecoder, HuffmanTable, HuffmanTableClass};
@@ -93,6 +94,13 @@ pub fn table(
         { class = class; counts = bits.now; symbols = values.now }) }
 {
     HuffmanTable::new(alloc, bits, values, class)
+}
+
+/// Calls `HuffmanDecoder::with_beyond`.
+pub fn bits_before(alloc: Global, beyond: Beyond) -> HuffmanDecoder
+    ensures { result ≡ fresh_before beyond }
+{
+    HuffmanDecoder::with_beyond(alloc, beyond)
 }
 
 /// Calls `HuffmanDecoder::get_bits`.

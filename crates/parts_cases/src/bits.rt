@@ -5,10 +5,13 @@ ghost use Rattle.jpeg_bits.specs.declared.huffman.codes.HuffmanTableClass.TheVar
 
 use crate::said::{Block, Said};
 use crate::state::State;
+use jpeg_bits::beyond::Beyond;
 use jpeg_bits::blocks::{BlockCoding, Carried, Pass, read_block};
 use jpeg_bits::color_transform::ColorTransform;
 use jpeg_bits::error::{Error, UnsupportedFeature, end_of_bytes, format_error};
-use jpeg_bits::huffman::{HuffmanTable, HuffmanTableClass, fill_default_mjpeg_tables};
+use jpeg_bits::huffman::{
+    HuffmanDecoder, HuffmanTable, HuffmanTableClass, fill_default_mjpeg_tables,
+};
 use jpeg_bits::marker::{Marker, read_marker};
 use jpeg_bits::scan::{Predictor, ScanInfo};
 use jpeg_bits::source::reads::{read_bytes, read_length, read_u8, read_u16_be, skip};
@@ -392,6 +395,12 @@ fn reset(state: &mut State<'_>) -> fault::Result<()> {
     Ok(())
 }
 
+/// Begins to read bits that stop at the next marker.
+fn stop(state: &mut State<'_>) -> fault::Result<()> {
+    state.decoder = HuffmanDecoder::with_beyond(state.alloc, Beyond::Nothing);
+    Ok(())
+}
+
 /// Answers a call of `jpeg_bits`. Returns whether it is one.
 pub fn answer<'a>(
     state: &mut State<'a>,
@@ -404,6 +413,7 @@ pub fn answer<'a>(
         "bits" | "signed" => take_bits(state, said, verb, text),
         "symbol" | "value" => take_code(state, said, verb, text),
         "reset" => reset(state),
+        "stop" => stop(state),
         "table" => define(state, said, text),
         "destinations" => keep(&mut state.tables, text),
         "defaults" => fill_defaults(state, said, text),

@@ -59,9 +59,9 @@ fn parted(lines: &str) -> (&str, &str) {
 }
 
 /// The calls that have no words after them.
-const ALONE: [&str; 13] = [
-    "u8", "u16", "length", "marker", "failed", "end", "reset", "sos", "dqt", "dri", "com", "plane",
-    "zigzag",
+const ALONE: [&str; 14] = [
+    "u8", "u16", "length", "marker", "failed", "end", "reset", "stop", "sos", "dqt", "dri", "com",
+    "plane", "zigzag",
 ];
 
 /// Returns whether a call has no words after it.

@@ -28,6 +28,7 @@
 //! symbol TABLE, value TABLE       a symbol; a value of at most 8 bits with its code. TABLE is dc
 //!                                 or ac and a destination
 //! end, reset                      the marker that ends the bits; the bits ahead are forgotten
+//! stop                            from here on bits stop at the marker that ends them
 //! table dc|ac COUNTS: SYMBOLS     table 0 of its class, and the one that `block` and `lossless`
 //!                                 take; both lists in hex
 //! destinations COUNT              each class has this many

@@ -13,8 +13,8 @@ use Rattle.jpeg_streams.specs.States.{IfRefused}
 use Rattle.jpeg_streams.specs.Stream.{header_at, rest_by, rest_within, segments_at, walk}
 use Rattle.jpeg_streams.specs.declared.before.Before.{Before}
 use Rattle.jpeg_streams.specs.declared.before.Before.TheVariants.{Elsewhere}
-use Rattle.jpeg_streams.specs.declared.beyond.Beyond.{Beyond}
-use Rattle.jpeg_streams.specs.declared.beyond.Beyond.TheVariants.{Zeros}
+use Rattle.jpeg_bits.specs.declared.beyond.Beyond.{Beyond}
+use Rattle.jpeg_bits.specs.declared.beyond.Beyond.TheVariants.{Zeros}
 use Rattle.jpeg_streams.specs.declared.settings.Settings.{Settings}
 use Rattle.zaxbriar_calls.specs.Faults.{IsFault, IsPart, status_of, with_passes}
 use Rattle.zaxbriar_calls.specs.Fills.{IsWithinPasses}

@@ -17,7 +17,7 @@ use Rattle.jpeg_streams.specs.FoundPictures.{plane_at_end}
 use Rattle.jpeg_streams.specs.Limits.{work_of_rest}
 use Rattle.jpeg_streams.specs.Stream.{Told, rest_at, rest_within, segments_at, told_of, walk}
 use Rattle.jpeg_streams.specs.declared.before.Before.TheVariants.{Elsewhere}
-use Rattle.jpeg_streams.specs.declared.beyond.Beyond.TheVariants.{Zeros}
+use Rattle.jpeg_bits.specs.declared.beyond.Beyond.TheVariants.{Zeros}
 use Rattle.jpeg_streams.specs.declared.settings.Settings.{Settings}
 
 -- ---- a reading that isn't refused for its blocks

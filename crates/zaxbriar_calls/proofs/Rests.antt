@@ -25,7 +25,7 @@ use Rattle.jpeg_streams.specs.Stream.{segments_at, start_at, turn_at, turn_withi
 use Rattle.jpeg_streams.specs.Work.{brought_within, is_above, left_after, work_of_turn}
 use Rattle.jpeg_streams.specs.declared.before.Before.{Before}
 use Rattle.jpeg_streams.specs.declared.before.Before.TheVariants.{Elsewhere}
-use Rattle.jpeg_streams.specs.declared.beyond.Beyond.TheVariants.{Zeros}
+use Rattle.jpeg_bits.specs.declared.beyond.Beyond.TheVariants.{Zeros}
 use Rattle.jpeg_streams.specs.declared.settings.Settings.{Settings}
 use Rattle.jpeg_streams.proofs.Written.ReadTurns.{then-ok}
 use Rattle.jpeg_streams.proofs.Shorter.{LeavesBelow, arrays-below, below-at, below-err, below-more, below-ok, below-on}

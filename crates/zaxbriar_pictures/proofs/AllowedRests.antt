@@ -15,7 +15,7 @@ use Rattle.jpeg_streams.specs.Limits.{IsWithinLimit, work_of_rest}
 use Rattle.jpeg_streams.specs.Output.{default_settings}
 use Rattle.jpeg_streams.specs.Stream.{Told, rest_at, rest_by, rest_within, segments_at, told_of}
 use Rattle.jpeg_streams.specs.declared.before.Before.TheVariants.{Elsewhere}
-use Rattle.jpeg_streams.specs.declared.beyond.Beyond.TheVariants.{Zeros}
+use Rattle.jpeg_bits.specs.declared.beyond.Beyond.TheVariants.{Zeros}
 use Rattle.jpeg_streams.specs.declared.settings.Settings.{Settings}
 use Rattle.jpeg_streams.proofs.Limits.{above-refused, rest-same}
 use Rattle.zaxbriar_files.specs.declared.limits.Limits.{Limits}

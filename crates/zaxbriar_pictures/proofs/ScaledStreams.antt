@@ -12,7 +12,7 @@ use Rattle.jpeg_streams.specs.Shown.{Shown}
 use Rattle.jpeg_streams.specs.States.{Decoding}
 use Rattle.jpeg_streams.specs.Limits.{IsWithinLimit, work_of_rest}
 use Rattle.jpeg_streams.specs.Stream.{Told, header_at, rest_at, rest_by, scaled_meaning, scaled_to}
-use Rattle.jpeg_streams.specs.declared.beyond.Beyond.TheVariants.{Zeros}
+use Rattle.jpeg_bits.specs.declared.beyond.Beyond.TheVariants.{Zeros}
 use Rattle.jpeg_streams.specs.declared.settings.Settings.{Settings}
 use Rattle.jpeg_streams.specs.Found.{Found, with_said}
 use Rattle.jpeg_streams.proofs.Written.ReadTurns.{then-ok}

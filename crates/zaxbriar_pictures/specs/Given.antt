@@ -12,7 +12,7 @@ use Rattle.jpeg_streams.specs.Pixels.{info_of}
 use Rattle.jpeg_streams.specs.Shown.{Shown, shown_rest_within, whole_rows_rest}
 use Rattle.jpeg_streams.specs.Stream.{Told, header_at, rest_by, scaled_to}
 use Rattle.jpeg_streams.specs.Work.{picture_blocks}
-use Rattle.jpeg_streams.specs.declared.beyond.Beyond.TheVariants.{Zeros}
+use Rattle.jpeg_bits.specs.declared.beyond.Beyond.TheVariants.{Zeros}
 use Rattle.jpeg_streams.specs.declared.settings.Settings.{Settings}
 use Rattle.jpeg_decoder.specs.Reaching.{NamesFault}
 use Rattle.zaxbriar_files.specs.Limits.{most_blocks}

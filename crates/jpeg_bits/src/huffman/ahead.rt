@@ -5,8 +5,10 @@ ghost use Rattle.jpeg_bits.specs.Stream.{Stream};
 ghost use Rattle.jpeg_bits.specs.Reading.{Answers, IsShort, Gives, NamesFormat, Names};
 ghost use Rattle.jpeg_bits.specs.Refusals.{kept_refusal, answer_of, IsRefused};
 ghost use Rattle.jpeg_bits.specs.Entropy.{piece_at, after_ff, byte_or_end, marker_at_end};
-ghost use Rattle.jpeg_bits.specs.Entropy.{has_buffered, bits_from, upcoming_by};
+ghost use Rattle.jpeg_bits.specs.Entropy.{bits_from, closed_end, has_buffered, met_of, upcoming_by};
+ghost use Rattle.jpeg_bits.specs.declared.beyond.Beyond.{Beyond};
 
+use crate::beyond::Beyond;
 use crate::error::{Error, Result, end_of_bytes, format_error, set_format_error};
 use crate::huffman::bits::{Bits, extend};
 use crate::huffman::codes::HuffmanTable;
@@ -21,12 +23,24 @@ use std::marker::Model;
 /// How entropy-coded data ends (T.81, B.1.1.5).
 #[derive(Clone, Copy, Debug, PartialEq)]
 pub enum DataEnd {
-    /// A marker follows.
+    /// A marker follows, and endless zeros stand for the bits after it.
     Marker(Marker),
+    /// A marker follows, and no bits after it.
+    Stop(Marker),
     /// FF 00 after fill bytes.
     Malformed,
     /// The bytes end.
     Ended,
+}
+
+/// Returns how data end by what follows the bits where a marker ends them.
+fn end_before(beyond: Beyond, end: DataEnd) -> DataEnd
+    ensures { result ≡ closed_end beyond end }
+{
+    match (beyond, end) {
+        (Beyond::Nothing, DataEnd::Marker(marker)) => DataEnd::Stop(marker),
+        _ => end,
+    }
 }
 
 /// What comes next in entropy-coded data.
@@ -125,27 +139,29 @@ fn read_or_end<S: Bytes>(alloc: Global, source: &mut S) -> Result<Option<u8>>
     }
 }
 
-/// The bits read ahead of a source, and the end that was reached.
+/// The bits read ahead of a source, and the end that was reached, or what follows the bits where a
+/// marker will end them.
 #[derive(Debug, Drop)]
 pub(crate) struct BufferedBits {
     alloc: Global,
     bits: Bits,
     end: Option<DataEnd>,
+    beyond: Beyond,
 }
 
 impl Model for BufferedBits {
     ghost use Rattle.std.specs.Prelude.{length};
-    ghost use Rattle.jpeg_bits.specs.Entropy.{Ahead, IsWithin};
+    ghost use Rattle.jpeg_bits.specs.Entropy.{Ahead, IsWithin, met_of};
 
     ghost Value = { Ahead };
 
-    ghost view = { λ h. record { bits = h.bits; met = h.end } };
+    ghost view = { λ h. record { bits = h.bits; met = met_of h.beyond h.end } };
 
-    ghost invariant = { λ h. IsWithin (length h.bits) h.end };
+    ghost invariant = { λ h. IsWithin (length h.bits) (met_of h.beyond h.end) };
 }
 
 impl BufferedBits {
-    ghost use Rattle.std.specs.Prelude.{◌≡◌, ◌≤◌, ◌<◌, ◌^◌, ◌++◌, ℕ, [], None, IfSome, true, false};
+    ghost use Rattle.std.specs.Prelude.{◌≡◌, ◌≤◌, ◌<◌, ◌^◌, ◌++◌, ℕ, [], IfSome, true, false};
     ghost use Rattle.std.specs.Prelude.{Some, Ok, List, is_ok, is_some, length, take, drop};
     ghost use Rattle.std.specs.Prelude.{replicate};
     ghost use Rattle.jpeg_bits.specs.Stream.{Stream};
@@ -157,16 +173,19 @@ impl BufferedBits {
     ghost use Rattle.jpeg_bits.specs.Reading.{Names, Gives};
     ghost use Rattle.jpeg_bits.specs.Readers.{signed_from};
     ghost use Rattle.jpeg_bits.specs.Refusals.{outcome_of, answer_of, IsRefused};
-    ghost use Rattle.jpeg_bits.specs.Entropy.{Takes, fresh, same_text, has_buffered, marker_at_end};
-    ghost use Rattle.jpeg_bits.specs.Entropy.{number_of, IsFilled, bits_from, upcoming};
+    ghost use Rattle.jpeg_bits.specs.Entropy.{Takes, fresh, fresh_before, same_text, has_buffered};
+    ghost use Rattle.jpeg_bits.specs.Entropy.{marker_at_end, met_of, number_of, bits_from, upcoming};
+    ghost use Rattle.jpeg_bits.specs.Entropy.{IsFilled, IsUnmet};
+    ghost use Rattle.jpeg_bits.specs.declared.beyond.Beyond.{Beyond};
 
-    pub(crate) fn new(alloc: Global) -> BufferedBits
-        ensures { result ≡ fresh }
+    pub(crate) fn new(alloc: Global, beyond: Beyond) -> BufferedBits
+        ensures { result ≡ fresh_before beyond }
     {
         BufferedBits {
             alloc,
             bits: Bits::new(),
             end: None,
+            beyond,
         }
     }
 
@@ -185,6 +204,7 @@ impl BufferedBits {
             alloc: self.alloc,
             bits: self.bits.copied(),
             end: self.end,
+            beyond: self.beyond,
         }
     }
 
@@ -223,7 +243,7 @@ impl BufferedBits {
         source: &mut Source<R>,
         refusal: &mut Option<Error>,
     ) -> bool
-        requires unended { self.old.met ≡ None }
+        requires unended { IsUnmet self.old.met }
         ensures fills { Takes (λ _. 0) same_text self.old source.old (outcome_of result refusal.new)
             self.new source.new }
         ensures full { result ≡ true → IsFilled 57 self.new.bits self.new.met }
@@ -233,6 +253,7 @@ impl BufferedBits {
             alloc: self.alloc,
             bits: self.bits.copied(),
             end: None,
+            beyond: self.beyond,
         };
         let is_full = buffered.refill(source, refusal);
         *self = buffered;
@@ -244,7 +265,7 @@ impl BufferedBits {
     #[inline(always)]
     fn push_plain<R: Read + Drop>(&mut self, source: &mut Source<R>) -> bool
         requires few { length self.old.bits ≤ 56 }
-        requires unended { self.old.met ≡ None }
+        requires unended { IsUnmet self.old.met }
         ensures pushed { result ≡ true → Takes {X = Unit {0}} (λ _. 0) same_text self.old source.old
             (Ok tt) self.new source.new }
         ensures full { result ≡ true → IsFilled 57 self.new.bits self.new.met }
@@ -310,7 +331,7 @@ impl BufferedBits {
                 Some(Piece::Byte(byte)) => bits.push(byte),
                 Some(Piece::Data(end)) => {
                     self.bits = bits;
-                    self.end = Some(end);
+                    self.end = Some(end_before(self.beyond, end));
                     return true;
                 }
                 None => {
@@ -333,7 +354,6 @@ impl BufferedBits {
 
     /// Returns whether a marker was reached and no bit is buffered: endless zeros follow then.
     #[inline(always)]
-    #[tactic(auto, using(crate::proofs::BufferedBits::zero_next))]
     pub(crate) fn is_past_marker(&self) -> bool
         ensures { result ≡ true → (bytes : List ℕ) → bits_from 1 (upcoming self.now bytes)
             ≡ Ok (0, upcoming self.now bytes) }
@@ -598,12 +618,13 @@ impl BufferedBits {
         self.bits.clear();
     }
 
-    /// Takes the end that was reached. Nothing is buffered any more.
+    /// Takes the end that was reached. Nothing is buffered any more, and after the next marker zeros
+    /// follow.
     pub(crate) fn take_end(&mut self) -> Option<DataEnd>
-        ensures end { result ≡ self.old.met }
+        ensures end { (beyond : Beyond) × (self.old.met ≡ met_of beyond result) }
         ensures none { self.new ≡ fresh }
     {
-        let empty = BufferedBits::new(self.alloc);
+        let empty = BufferedBits::new(self.alloc, Beyond::Zeros);
         std::mem::replace(self, empty).end
     }
 }
@@ -611,8 +632,9 @@ impl BufferedBits {
 /// Returns whether a marker was reached.
 #[inline(always)]
 fn is_marker(end: Option<DataEnd>) -> bool
-    ensures { result ≡ true → (bits : List Bool) (bytes : List ℕ) → length bits ≡ 0 →
-        bits_from 1 (upcoming_by bits end bytes) ≡ Ok (0, upcoming_by bits end bytes) }
+    ensures { result ≡ true → (beyond : Beyond) (bits : List Bool) (bytes : List ℕ)
+        → length bits ≡ 0 → bits_from 1 (upcoming_by bits (met_of beyond end) bytes)
+        ≡ Ok (0, upcoming_by bits (met_of beyond end) bytes) }
 {
     match end {
         Some(DataEnd::Marker(_)) => true,
@@ -624,8 +646,8 @@ fn is_marker(end: Option<DataEnd>) -> bool
 #[cold]
 #[inline(never)]
 fn is_padded(end: Option<DataEnd>) -> bool
-    ensures { (count : ℕ) (bits : List Bool) → length bits < count → result
-        ≡ is_ok (has_buffered count bits end) }
+    ensures { (beyond : Beyond) (count : ℕ) (bits : List Bool) → length bits < count → result
+        ≡ is_ok (has_buffered count bits (met_of beyond end)) }
 {
     match end {
         None | Some(DataEnd::Marker(_)) => true,
@@ -637,12 +659,14 @@ fn is_padded(end: Option<DataEnd>) -> bool
 #[cold]
 #[inline(never)]
 fn set_fault(alloc: Global, end: Option<DataEnd>, refusal: &mut Option<Error>)
-    ensures names { (count : ℕ) (bits : List Bool) → is_ok (has_buffered count bits end) ≡ false
-        → Names (kept_refusal refusal.new) (has_buffered count bits end) }
+    ensures names { (beyond : Beyond) (count : ℕ) (bits : List Bool)
+        → is_ok (has_buffered count bits (met_of beyond end)) ≡ false
+        → Names (kept_refusal refusal.new) (has_buffered count bits (met_of beyond end)) }
     ensures refused { is_some refusal.new ≡ true }
 {
     *refusal = Some(match end {
         Some(DataEnd::Malformed) => malformed_end(alloc),
+        Some(DataEnd::Stop(_)) => early_marker(alloc),
         _ => end_of_bytes(),
     });
 }
@@ -670,13 +694,22 @@ fn malformed_end(alloc: Global) -> Error
     format_error(alloc, "found FF00 after fill bytes, expected a marker")
 }
 
+/// Returns the refusal of a marker in place of bits.
+#[cold]
+#[inline(never)]
+fn early_marker(alloc: Global) -> Error
+    ensures { NamesFormat result }
+{
+    format_error(alloc, "found a marker, expected more bits")
+}
+
 /// Returns the marker of an end that was reached, or its refusal.
 pub(crate) fn marker_of_end(alloc: Global, end: Option<DataEnd>) -> Result<Option<Marker>>
-    ensures { Gives (marker_at_end end) result }
+    ensures { (beyond : Beyond) → Gives (marker_at_end (met_of beyond end)) result }
 {
     match end {
         None => Ok(None),
-        Some(DataEnd::Marker(marker)) => Ok(Some(marker)),
+        Some(DataEnd::Marker(marker) | DataEnd::Stop(marker)) => Ok(Some(marker)),
         Some(DataEnd::Malformed) => Err(malformed_end(alloc)),
         Some(DataEnd::Ended) => Err(end_of_bytes()),
     }

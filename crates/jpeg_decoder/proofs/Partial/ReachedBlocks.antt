@@ -8,7 +8,7 @@ use Rattle.std.proofs.lemmas.Grind.{common_steps}
 use Rattle.std.proofs.Math.Seq.{map-set_same}
 use Rattle.std.proofs.lemmas.List.{set-get_or}
 use Rattle.jpeg_bits.specs.Reading.{Fault, IsGivenUp, Names}
-use Rattle.jpeg_bits.specs.Entropy.{Ahead, Broken, Ending, Found, Text, fresh, marker_by, marker_from}
+use Rattle.jpeg_bits.specs.Entropy.{Ahead, Broken, Ending, Found, Stops, Text, fresh, marker_by, marker_from}
 use Rattle.jpeg_bits.specs.Entropy.{text_at, upcoming}
 use Rattle.jpeg_bits.specs.Readers.{Reads, read_on, text}
 use Rattle.jpeg_bits.specs.Passes.{Pass, Via}
@@ -292,6 +292,7 @@ met-near t m rest h e = go t.following t.ending (length t.bits) h e
     go : (ps : List (List ℕ)) (e : Ending) (n : ℕ) → length ps ≡ n - 56 → marker_by ps e ≡ Ok (m, rest)
         → is_some m ≡ nat_le n 56
     go [] (Found x r) n h e = let near : n ≤ 56 = omega arith in grind (arith, common_steps, le-leb n 56 near)
+    go [] (Stops x r) n h e = let near : n ≤ 56 = omega arith in grind (arith, common_steps, le-leb n 56 near)
     go [] (Broken f) n h e = cc
     go (r ∷ rs) end n h e = let far : 56 < n = omega arith in grind (arith, common_steps, lt-leb n 56 far)
 

@@ -60,9 +60,12 @@ named-may-fail (errors.Io t) o old new same n = (λ h. same ∙ h, λ h. n.1)
 named-may-fail (errors.Internal t) o old new same n = absurd n
 named-may-fail errors.OutOfMemory o old new same n = same
 
-still-found : (e : Ending) (m : Marker) (rest : List ℕ) → met e ≡ Ok (Some m, rest) → e ≡ entropy.Found m rest
-still-found (entropy.Found n others) m rest h = grind arith
-still-found (Broken f) m rest h = grind arith
+still-found : (e : Ending) (m : Marker) (rest : List ℕ) (r : Result (List Bool) Fault)
+    → met e ≡ Ok (Some m, rest) → outcome_by r (entropy.Found m rest) ≡ outcome_by r e
+still-found (entropy.Found n others) m rest r h = grind arith
+still-found (entropy.Stops n others) m rest (Ok left) h = grind arith
+still-found (entropy.Stops n others) m rest (Err f) h = grind arith
+still-found (Broken f) m rest r h = grind arith
 
 or-fault-first : (r : Result (List Bool) Fault) (e : Ending) (f : Fault) → or_fault_at e r ≡ Err f
     → outcome_by r e ≡ Err f
@@ -70,14 +73,17 @@ or-fault-first r e f h = ap (λ (o : Result (List Bool) Fault). o >>= is_near e)
 
 malformed-stays : (e : Ending) → fault_at e Malformed ≡ Malformed
 malformed-stays (entropy.Found m rest) = refl
+malformed-stays (entropy.Stops m rest) = refl
 malformed-stays (Broken f) = refl
 
 end-as : (e : Ending) (f : Fault) → met e ≡ Err f → fault_at e End ≡ f
 end-as (entropy.Found m rest) f h = grind arith
+end-as (entropy.Stops m rest) f h = grind arith
 end-as (Broken g) f h = grind arith
 
 lacks-stays : (e : Ending) (feature : UnsupportedFeature) → fault_at e (Lacks feature) ≡ Lacks feature
 lacks-stays (entropy.Found m rest) feature = refl
+lacks-stays (entropy.Stops m rest) feature = refl
 lacks-stays (Broken f) feature = refl
 
 -- the refusal of a block stays, whatever ends the data
@@ -98,8 +104,7 @@ marker-ok r e near m rest t h =
 marker-names : (e result : Error) (r : Result (List Bool) Fault) (end : Ending) (m : Marker) (rest : List ℕ)
     → IsAtMarker e result → Names e r → met end ≡ Ok (Some m, rest) → Names result (outcome_by r end)
 marker-names e result r end m rest before n h =
-    let is = still-found end m rest h in
-    subst (λ (x : Ending). Names result (outcome_by r x)) (sym is)
+    subst (λ (o : Outcome (Bool × Option Marker)). Names result o) (still-found end m rest r h)
     (Names-through result (or_fault_at (entropy.Found m rest) r) (outcome_by r (entropy.Found m rest))
     (or-fault-first r (entropy.Found m rest)) (before.names r m rest n))
 

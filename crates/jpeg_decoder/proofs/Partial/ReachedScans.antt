@@ -24,7 +24,7 @@ use Rattle.jpeg_streams.specs.LosslessScans.{LosslessCoding, lossless_codings}
 use Rattle.jpeg_streams.specs.declared.before.Before.{Before}
 use Rattle.jpeg_streams.specs.Stream.{scan_turn_at, scan_within, told_of}
 use Rattle.jpeg_streams.specs.Work.{is_above, work_of_header}
-use Rattle.jpeg_streams.specs.declared.beyond.Beyond.TheVariants.{Nothing}
+use Rattle.jpeg_bits.specs.declared.beyond.Beyond.TheVariants.{Nothing}
 use Rattle.jpeg_streams.specs.ScanSegments.{scan_turn as turn_of_scan, codings_of, Coding, pass_of}
 use Rattle.jpeg_streams.specs.ScanSegments.{after_scan, once_scanned, scan_before}
 use Rattle.jpeg_streams.specs.InTurn.{AreArrays}

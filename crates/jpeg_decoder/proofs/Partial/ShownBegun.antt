@@ -11,7 +11,7 @@ use Rattle.jpeg_streams.specs.Limits.{exceeded_ahead, exceeded_rest}
 use Rattle.jpeg_streams.specs.Shown.{Shown, shown_ahead, shown_rest_within, shown_within, whole_rows_ahead, whole_rows_rest}
 use Rattle.jpeg_streams.specs.States.{Decoding, IsReading, MovesToEnd, OnToldRefusal}
 use Rattle.jpeg_streams.specs.Stream.{Told, header_at, told_of}
-use Rattle.jpeg_streams.specs.declared.beyond.Beyond.TheVariants.{Nothing}
+use Rattle.jpeg_bits.specs.declared.beyond.Beyond.TheVariants.{Nothing}
 use Rattle.jpeg_streams.specs.declared.progress.Progress.{Progress}
 use Rattle.jpeg_streams.specs.declared.progress.Progress.TheVariants.{Fresh, HeaderRead}
 use Rattle.jpeg_streams.specs.declared.settings.Settings.{Settings}

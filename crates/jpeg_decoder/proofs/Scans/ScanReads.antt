@@ -22,7 +22,7 @@ use Rattle.jpeg_decoder.specs.Steps.{IsDct, IsRefusal, IsStep, after_all, blocks
 use Rattle.jpeg_streams.specs.Brought.{unbrought}
 use Rattle.jpeg_streams.specs.Stream.{scan_turn_at, scan_within}
 use Rattle.jpeg_streams.specs.Work.{is_above, work_of_header}
-use Rattle.jpeg_streams.specs.declared.beyond.Beyond.TheVariants.{Zeros}
+use Rattle.jpeg_bits.specs.declared.beyond.Beyond.TheVariants.{Zeros}
 use Rattle.jpeg_decoder.specs.Steps.{read_by, samples_read, scan_data}
 use Rattle.jpeg_decoder.specs.declared.stream.state.Step.{Step}
 use Rattle.jpeg_streams.specs.InTurn.{AreArrays}

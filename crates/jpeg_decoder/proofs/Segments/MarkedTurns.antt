@@ -16,7 +16,7 @@ use Rattle.jpeg_streams.specs.States.{IfRefused, OnToldRefusal}
 use Rattle.jpeg_streams.specs.Stream.{brought_after, scan_within, segment_at, turn_at, turn_within}
 use Rattle.jpeg_streams.specs.Work.{brought_within, is_above, left_after, work_after, work_of_header, work_of_turn}
 use Rattle.jpeg_streams.specs.declared.before.Before.{Before}
-use Rattle.jpeg_streams.specs.declared.beyond.Beyond.{Beyond}
+use Rattle.jpeg_bits.specs.declared.beyond.Beyond.{Beyond}
 use Rattle.jpeg_streams.proofs.Refusals.{told-err}
 use Rattle.jpeg_decoder.specs.Walks.{OfWalk}
 use Rattle.jpeg_decoder.proofs.Partial.Refused.{if-refused, if-refused-as}

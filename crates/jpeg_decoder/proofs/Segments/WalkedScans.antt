@@ -13,8 +13,8 @@ use Rattle.jpeg_streams.specs.Sound.{IsSound}
 use Rattle.jpeg_streams.specs.States.{IfRefused, OnToldRefusal}
 use Rattle.jpeg_streams.specs.Stream.{scan_turn_at, scan_within, told_of}
 use Rattle.jpeg_streams.specs.Work.{is_above, work_of_header}
-use Rattle.jpeg_streams.specs.declared.beyond.Beyond.{Beyond}
-use Rattle.jpeg_streams.specs.declared.beyond.Beyond.TheVariants.{Nothing, Zeros}
+use Rattle.jpeg_bits.specs.declared.beyond.Beyond.{Beyond}
+use Rattle.jpeg_bits.specs.declared.beyond.Beyond.TheVariants.{Nothing, Zeros}
 use Rattle.jpeg_decoder.specs.Reaching.{OnFault, UnlessRefused, brought_after, without_tables}
 use Rattle.jpeg_decoder.specs.Steps.{header_within}
 use Rattle.jpeg_decoder.specs.Walks.{AfterWalk, IsLeft, Leaves, OfWalk}

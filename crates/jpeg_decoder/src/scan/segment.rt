@@ -26,12 +26,12 @@ use crate::scan::restarts::pass_restarts;
 use crate::scan::work::{Budget, Walk};
 use crate::stream::state::{Said, State, Step};
 use crate::stream::tables::{Missing, needed};
+use jpeg_bits::beyond::Beyond;
 use jpeg_bits::error::{Error, Result, UnsupportedFeature, format_error};
 use jpeg_bits::marker::Marker;
 use jpeg_bits::source::Source;
 use jpeg_segments::parser::{CodingProcess, FrameInfo, ScanHeader, read_scan_header};
 use jpeg_streams::before::Before;
-use jpeg_streams::beyond::Beyond;
 use std::alloc::Global;
 use std::io::Read;
 

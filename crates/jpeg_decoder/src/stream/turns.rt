@@ -17,11 +17,11 @@ ghost use Rattle.jpeg_decoder.specs.Walks.{walk_over, walked_to};
 use crate::scan::segment::{read_scan, refused_line_count};
 use crate::scan::work::Walk;
 use crate::stream::state::{ONWARD, State, Step};
+use jpeg_bits::beyond::Beyond;
 use jpeg_bits::error::{Error, Result, UnsupportedFeature, format_error, format_error_of};
 use jpeg_bits::marker::{Marker, read_marker};
 use jpeg_bits::source::Source;
 use jpeg_streams::before::Before;
-use jpeg_streams::beyond::Beyond;
 use std::alloc::Global;
 use std::io::Read;
 

@@ -18,7 +18,7 @@ use Rattle.jpeg_streams.specs.Shown.{whole_rows_within}
 use Rattle.jpeg_streams.specs.Stream.{all_brought, start_at, turn_at, walk}
 use Rattle.jpeg_streams.proofs.Partial.Faultless.{faultless}
 use Rattle.jpeg_streams.proofs.Written.ReadTurns.{walked}
-use Rattle.jpeg_streams.specs.declared.beyond.Beyond.TheVariants.{Nothing}
+use Rattle.jpeg_bits.specs.declared.beyond.Beyond.TheVariants.{Nothing}
 use Rattle.jpeg_evidence.proofs.Longer.LongerTurns.{walk_on}
 
 -- Where what a walk brings has no fault, no scan of it lacks rows.

@@ -4,7 +4,7 @@ use Rattle.std.proofs.Common.{refl, sym, ap, ◌∙◌, subst, Ok, Err, Result, 
 use Rattle.std.specs.Prelude.{if◌then◌else◌, ◌&&◌}
 use Rattle.std.specs.List.{AllByRecursion}
 use Rattle.jpeg_bits.specs.Codes.{IsTable}
-use Rattle.jpeg_bits.specs.Entropy.{Broken, Ending, Found, Text, text_at}
+use Rattle.jpeg_bits.specs.Entropy.{Broken, Ending, Found, Stops, Text, text_at}
 use Rattle.jpeg_bits.specs.Intervals.{is_restart}
 use Rattle.jpeg_bits.specs.Passes.{Pass, Via}
 use Rattle.jpeg_bits.specs.Reading.{End, Fault, Malformed}
@@ -63,6 +63,9 @@ end-stays : (more : List ℕ) (e : Ending) (o : Result (List Bool) Fault)
 end-stays more (Found m rest) (Ok left) = stays-ok _ rest
 end-stays more (Found m rest) (Err End) = stays-err _
 end-stays more (Found m rest) (Err g) = stays-err _
+end-stays more (Stops m rest) (Ok left) = stays-ok _ rest
+end-stays more (Stops m rest) (Err End) = stays-err _
+end-stays more (Stops m rest) (Err g) = stays-err _
 end-stays more (Broken f) (Ok left) = stays-err f
 end-stays more (Broken f) (Err g) = stays-err _
 

@@ -30,7 +30,7 @@ use Rattle.jpeg_evidence.proofs.Cut.CutBlocks.{NoneOrAll, all_sent, whole-after}
 use Rattle.jpeg_evidence.proofs.Cut.CutPictures.{AllOrNone}
 use Rattle.jpeg_evidence.proofs.Taken.TakenBits.{some-is}
 use Rattle.jpeg_streams.specs.Stream.{turn_at, walk}
-use Rattle.jpeg_streams.specs.declared.beyond.Beyond.TheVariants.{Nothing}
+use Rattle.jpeg_bits.specs.declared.beyond.Beyond.TheVariants.{Nothing}
 
 -- ---- beginnings of bytes
 

@@ -41,7 +41,7 @@ use Rattle.jpeg_evidence.proofs.Cut.CutScans.{past-of, scan-past, segment-past, 
 use Rattle.jpeg_evidence.proofs.Cut.CutWalks.{segment-brings, turn-next}
 use Rattle.jpeg_evidence.proofs.Cut.WrittenCuts.{eoi_code}
 use Rattle.jpeg_streams.specs.Shown.{rows_of_found}
-use Rattle.jpeg_streams.specs.declared.beyond.Beyond.TheVariants.{Nothing}
+use Rattle.jpeg_bits.specs.declared.beyond.Beyond.TheVariants.{Nothing}
 
 -- ---- the end of an image
 

@@ -19,7 +19,7 @@ use Rattle.jpeg_streams.proofs.Written.ReadTurns.{refused_walk, segment-ends, se
 use Rattle.jpeg_streams.proofs.Written.ReadTurns.{walk-refused}
 use Rattle.jpeg_streams.specs.declared.before.Before.{Before}
 use Rattle.jpeg_streams.specs.declared.before.Before.TheVariants.{Elsewhere}
-use Rattle.jpeg_streams.specs.declared.beyond.Beyond.TheVariants.{Nothing}
+use Rattle.jpeg_bits.specs.declared.beyond.Beyond.TheVariants.{Nothing}
 use Rattle.jpeg_streams.specs.Found.{Found, Said, nothing_found, nothing_said}
 use Rattle.jpeg_streams.specs.Levels.{Is8Bit, Levels, nothing_sent}
 use Rattle.jpeg_streams.specs.ScanSegments.{Coding, after_restarts, after_scan, components_of, pass_of}

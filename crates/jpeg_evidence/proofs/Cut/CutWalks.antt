@@ -30,7 +30,7 @@ use Rattle.jpeg_streams.specs.WrittenScans.{Coefficients}
 use Rattle.jpeg_streams.specs.WrittenStreams.{Writes, end, scan, segment}
 use Rattle.jpeg_streams.specs.declared.before.Before.{Before}
 use Rattle.jpeg_streams.specs.declared.before.Before.TheVariants.{Elsewhere}
-use Rattle.jpeg_streams.specs.declared.beyond.Beyond.TheVariants.{Nothing}
+use Rattle.jpeg_bits.specs.declared.beyond.Beyond.TheVariants.{Nothing}
 use Rattle.jpeg_streams.proofs.Written.CodingsInForce.{codings-found}
 use Rattle.jpeg_streams.proofs.Partial.Faultless.{scan_of_codings}
 use Rattle.jpeg_streams.proofs.Pictures.DecodedHeaders.{stands-taken}

@@ -6,7 +6,7 @@ use Rattle.std.specs.Prelude.{◌==◌, ◌&&◌, if◌then◌else◌}
 use Rattle.std.proofs.lemmas.Bool.{cases_lt, eqb-true, lt-leb}
 use Rattle.jpeg_bits.specs.Reading.{Outcome, Fault, Malformed, End, ◌>>=◌}
 use Rattle.jpeg_bits.specs.Codes.{Table}
-use Rattle.jpeg_bits.specs.Entropy.{Text, Ending, Found, Broken, text_at, add_byte, no_bits, ending_at, ended_by}
+use Rattle.jpeg_bits.specs.Entropy.{Text, Ending, Found, Stops, Broken, text_at, add_byte, no_bits, ending_at, ended_by}
 use Rattle.jpeg_bits.specs.Entropy.{upcoming, fresh, advance, marker_from}
 use Rattle.jpeg_bits.specs.Intervals.{after_bytes, end_after, interval, intervals, is_restart}
 use Rattle.jpeg_bits.specs.Marker.{marker_of, next_marker}
@@ -30,7 +30,7 @@ use Rattle.jpeg_streams.specs.Scans.{Arrays}
 use Rattle.jpeg_streams.specs.ScanSegments.{after_restarts}
 use Rattle.jpeg_streams.proofs.Partial.ReachedIntervals as blocks
 use Rattle.jpeg_streams.proofs.Partial.ReachedIntervals.{Follows, Meets, interval-read, later-ending, reached-read}
-use Rattle.jpeg_streams.proofs.Partial.ReachedIntervals.{restart-follows, after_turn, next_reached}
+use Rattle.jpeg_streams.proofs.Partial.ReachedIntervals.{after_turn, never-stops, next_reached, restart-follows}
 use Rattle.jpeg_streams.proofs.Partial.RowIntervals.{interval-rows-read, with_others}
 use Rattle.jpeg_streams.proofs.Partial.RowIntervals as row_intervals
 use Rattle.jpeg_evidence.specs.EarlyEnds.{BlocksEndEarly, EndsEarly, RowsEndEarly}
@@ -239,6 +239,7 @@ broken-end {S} {A} read view bytes left h e r = go (cases_lt 56 (length (drop r.
 
 pub rule-fault : (e : Ending) → fault_at e Malformed ≡ Malformed
 rule-fault (Found m rest) = refl
+rule-fault (Stops m rest) = refl
 rule-fault (Broken f) = refl
 
 refused-interval : {S A : Type 0} (view : S → A) (o : Result (S × Text) Fault) (k f : Fault) → o ≡ Err k → k ≡ f
@@ -256,6 +257,7 @@ short-interval read view bytes f g e is h (rule m breaks_so) =
     (broken read t.bits t.ending (drop 56 t.following) breaks_so) (sym (ap (fault_at e) m ∙ rule-fault e) ∙ h))
 short-interval read view bytes f g (Found k rest) is h (short m lacks_so) =
     other (by_marker k rest is (ap Err m)) (sym (sym (ap (fault_at (Found k rest)) m) ∙ h))
+short-interval read view bytes f g (Stops k rest) is h (short m lacks_so) = absurd (never-stops bytes rest k is)
 short-interval read view bytes f g (Broken k) is h (short m lacks_so) =
     let t = text_at bytes in
     same (refused-interval view (read (upcoming fresh bytes)) k f
@@ -269,6 +271,7 @@ interval-by : {S A sized : Type 0} (read : Reads S) (view : S → A) (bytes : Li
     → (text_at bytes).ending ≡ e → interval_end e o ≡ Err f
     → IntervalFault (closed_by view (read (upcoming fresh bytes))) (EndsEarly bytes o) f
 interval-by read view bytes f (Ok left) faults reads (Found m rest) e h = absurd (err-ok f _ (sym h))
+interval-by read view bytes f (Ok left) faults reads (Stops m rest) e h = absurd (err-ok f _ (sym h))
 interval-by read view bytes f (Ok left) faults reads (Broken k) e h =
     subst (IntervalFault (closed_by view (read (upcoming fresh bytes))) (EndsEarly bytes (Ok left))) (err-same k f h)
     (broken-end read view bytes left k e (reads left refl))

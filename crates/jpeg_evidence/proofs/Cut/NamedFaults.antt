@@ -54,7 +54,7 @@ use Rattle.jpeg_evidence.proofs.Longer.FrontReaders.{err-same}
 use Rattle.jpeg_evidence.proofs.Longer.LongerTurns.{FoundHeader, brought_of}
 use Rattle.jpeg_evidence.proofs.Taken.TakenBits.{some-is}
 use Rattle.jpeg_evidence.proofs.Cut.EarlyEnds.FaultOf.{other, refused, same, unmet}
-use Rattle.jpeg_streams.specs.declared.beyond.Beyond.TheVariants.{Nothing, Zeros}
+use Rattle.jpeg_bits.specs.declared.beyond.Beyond.TheVariants.{Nothing, Zeros}
 
 -- ---- a scan
 

@@ -9,7 +9,7 @@ use Rattle.std.proofs.lemmas.Bool.Decides.{nat_tests}
 use Rattle.std.proofs.lemmas.Simd.{map-map}
 use Rattle.jpeg_bits.specs.Reading.{End, Fault, Outcome}
 use Rattle.jpeg_bits.specs.Reading as outcomes
-use Rattle.jpeg_bits.specs.Entropy.{Broken, Ending, Found, Text, text_at}
+use Rattle.jpeg_bits.specs.Entropy.{Broken, Ending, Found, Stops, Text, text_at}
 use Rattle.jpeg_bits.specs.Intervals.{end_after, first_group, interval, met, other_groups}
 use Rattle.jpeg_bits.specs.Marker.{marker_of}
 use Rattle.jpeg_bits.specs.Passes.{Block, Pass, Via, blocks_of, predictors_at_start}
@@ -136,6 +136,11 @@ some-marker : (e : Ending) (arrays x : Arrays) (m : Marker) (rest : List ℕ)
     → (arrays ≡ x) × (met e ≡ Ok (Some m, rest))
 some-marker (Broken f) arrays x m rest h = absurd (err-ok f _ h)
 some-marker (Found n others) arrays x m rest h =
+    let s = ok-same ((arrays, Some n), others) ((x, Some m), rest) h in (
+      ap (λ (y : (Arrays × Option Marker) × List ℕ). y.0.0) s,
+      ap (λ (y : (Arrays × Option Marker) × List ℕ). Ok (y.0.1, y.1)) s,
+    )
+some-marker (Stops n others) arrays x m rest h =
     let s = ok-same ((arrays, Some n), others) ((x, Some m), rest) h in (
       ap (λ (y : (Arrays × Option Marker) × List ℕ). y.0.0) s,
       ap (λ (y : (Arrays × Option Marker) × List ℕ). Ok (y.0.1, y.1)) s,

@@ -3,6 +3,7 @@ use Rattle.std.proofs.Common.{◌≡◌, ◌⊎◌, inl, inr, ℕ, ◌≤◌, Bo
 use Rattle.std.proofs.Common.{refl, sym, ap, ◌∙◌, subst, Ok, Err, Result, Option, Some, None, append_assoc, append-nil}
 use Rattle.std.proofs.Common.{eqb, ℤ, pos, get_or, set, slice_get}
 use Rattle.jpeg_bits.specs.Reading.{End, Fault, Outcome}
+use Rattle.jpeg_bits.specs.Entropy as entropy
 use Rattle.jpeg_bits.specs.Entropy.{Broken, Ending, Found, Text, add_byte, bits_of, ended_by, ending_at, no_bits}
 use Rattle.jpeg_bits.specs.Entropy.{text_at}
 use Rattle.jpeg_bits.specs.Marker.{marker_of}
@@ -98,6 +99,7 @@ reaches p vias (s ∷ spots) old t =
 -- an end that stands before more bytes
 abbrev pub later : Ending → List ℕ → Ending
 later (Found m rest) more = Found m (rest ++ more)
+later (entropy.Stops m rest) more = entropy.Stops m (rest ++ more)
 later (Broken f) more = Broken f
 
 -- The text u of longer data: bits after those of t, where t ends with its bytes, or else the same.
@@ -267,6 +269,8 @@ pub ending-met : (e : Ending) (r : Result (List Bool) Fault) (x : (Bool × Optio
 ending-met (Broken f) (Ok left) x more h = absurd (err-ok f x h)
 ending-met e (Err g) x more h = absurd (err-ok _ x h)
 ending-met (Found m rest) (Ok left) x more h =
+    (λ n. let b : ⊥ = cc in b, ap (λ (y : (Bool × Option Marker) × List ℕ). Ok (y.0, y.1 ++ more)) (ok-same _ x h))
+ending-met (entropy.Stops m rest) (Ok left) x more h =
     (λ n. let b : ⊥ = cc in b, ap (λ (y : (Bool × Option Marker) × List ℕ). Ok (y.0, y.1 ++ more)) (ok-same _ x h))
 
 -- what an interval brings by what is reached of its bits, and its end

@@ -43,7 +43,7 @@ use Rattle.jpeg_evidence.proofs.Longer.LongerSegments.{Stays, StaysRead, app-sta
 use Rattle.jpeg_evidence.proofs.Longer.LongerSegments.{length-stays, marker-stays, skip-stays, sof-stays, sos-stays}
 use Rattle.jpeg_evidence.proofs.Longer.LongerSegments.{stays-after, stays-bind, stays-if, stays-read}
 use Rattle.jpeg_evidence.proofs.Longer.LongerSegments.Stays.{stays-err, stays-ok}
-use Rattle.jpeg_streams.specs.declared.beyond.Beyond.TheVariants.{Nothing}
+use Rattle.jpeg_bits.specs.declared.beyond.Beyond.TheVariants.{Nothing}
 
 -- ---- segments
 

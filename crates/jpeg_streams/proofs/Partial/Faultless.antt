@@ -47,8 +47,8 @@ use Rattle.jpeg_streams.proofs.Partial.FittingFrames.{FoundFits, FrameFits, Samp
 use Rattle.jpeg_streams.proofs.Partial.RowIntervals.{scan-rows-read}
 use Rattle.jpeg_streams.proofs.Partial.ScanSamples.{all-over, codings-at}
 use Rattle.jpeg_streams.proofs.Partial.ReachedIntervals.{GoesOnAt, Meets, intervals-read}
-use Rattle.jpeg_streams.specs.declared.beyond.Beyond.{Beyond}
-use Rattle.jpeg_streams.specs.declared.beyond.Beyond.TheVariants.{Nothing, Zeros}
+use Rattle.jpeg_bits.specs.declared.beyond.Beyond.{Beyond}
+use Rattle.jpeg_bits.specs.declared.beyond.Beyond.TheVariants.{Nothing, Zeros}
 use Rattle.jpeg_streams.specs.Stream.{meaning_within, rest_within}
 use Rattle.jpeg_streams.specs.Shown.{shown_rest_within, shown_within}
 

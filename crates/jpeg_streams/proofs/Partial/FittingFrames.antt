@@ -36,7 +36,7 @@ use Rattle.jpeg_streams.specs.Sound.{AreSampled}
 use Rattle.jpeg_streams.specs.Segments.{Turn, accepted, frame_segment, onward}
 use Rattle.jpeg_bits.specs.Passes.{Block}
 use Rattle.jpeg_streams.specs.Brought.{Brought, unbrought}
-use Rattle.jpeg_streams.specs.declared.beyond.Beyond.TheVariants.{Zeros}
+use Rattle.jpeg_bits.specs.declared.beyond.Beyond.TheVariants.{Zeros}
 use Rattle.jpeg_streams.specs.Stream.{brought_after, end_segment, scan_turn_at, segment_at, turn_at}
 use Rattle.jpeg_streams.proofs.Order.FrameShapes.{accepted-few, frames-fit}
 pub use Rattle.jpeg_streams.proofs.Written.ReadTurns.{needed-some}

@@ -7,7 +7,7 @@ use Rattle.std.proofs.lemmas.Bool.{eqb-true, le-leb}
 use Rattle.std.proofs.lemmas.Grind.{common_steps}
 use Rattle.std.proofs.lemmas.List.{drop-drop}
 use Rattle.jpeg_bits.specs.Reading.{Outcome, Fault, Malformed, End, ◌>>=◌}
-use Rattle.jpeg_bits.specs.Entropy.{Text, Ending, Found, Broken, text_at, add_byte, no_bits, ending_at, ended_by}
+use Rattle.jpeg_bits.specs.Entropy.{Text, Ending, Found, Stops, Broken, text_at, add_byte, no_bits, ending_at, ended_by}
 use Rattle.jpeg_bits.specs.Entropy.{upcoming, fresh, advance, marker_from}
 use Rattle.jpeg_bits.specs.Intervals.{after_bytes, met, end_after, is_restart}
 use Rattle.jpeg_bits.specs.Marker.{marker_of, found_or, next_marker}
@@ -168,6 +168,38 @@ ending-next (b ∷ c ∷ bytes) rest m e =
         (after-fill (c ∷ bytes) rest m e)
     go false t y u e p q = next-skips b (c ∷ bytes) (m, rest) t (q e)
 
+end-never-stops : (bytes rest : List ℕ) (m : Marker) → ending_at bytes ≡ Stops m rest → ⊥
+unfolding ending_at
+end-never-stops [] rest m e = cc
+end-never-stops (c ∷ bytes) rest m e = go (c == 255) e (marker_of c) refl (end-never-stops bytes rest m)
+  where
+    go : (x : Bool) → (if x then ending_at bytes else ended_by (marker_of c) bytes) ≡ Stops m rest
+        → (o : Option Marker) → marker_of c ≡ o → (ending_at bytes ≡ Stops m rest → ⊥) → ⊥
+    go true e o t h = h e
+    go false e None t h = let d = sym (ap (λ (o : Option Marker). ended_by o bytes) t) ∙ e in cc
+    go false e (Some k) t h = let d = sym (ap (λ (o : Option Marker). ended_by o bytes) t) ∙ e in cc
+
+-- By themselves bits never stop at a marker: that is how they are read.
+pub never-stops : (bytes rest : List ℕ) (m : Marker) → (text_at bytes).ending ≡ Stops m rest → ⊥
+unfolding text_at
+never-stops [] rest m e = cc
+never-stops (b ∷ []) rest m e = go (b == 255) e
+  where
+    go : (x : Bool) → (if x then no_bits (Broken End) else add_byte b [] (no_bits (Broken End))).ending ≡ Stops m rest
+        → ⊥
+    go true e = cc
+    go false e = cc
+never-stops (b ∷ c ∷ bytes) rest m e =
+    go (b == 255) (c == 0) e (never-stops bytes rest m) (never-stops (c ∷ bytes) rest m)
+  where
+    go : (x y : Bool)
+        → (if x then (if y then add_byte 255 bytes (text_at bytes) else no_bits (ending_at (c ∷ bytes)))
+        else add_byte b (c ∷ bytes) (text_at (c ∷ bytes))).ending ≡ Stops m rest
+        → ((text_at bytes).ending ≡ Stops m rest → ⊥) → ((text_at (c ∷ bytes)).ending ≡ Stops m rest → ⊥) → ⊥
+    go true true e p q = p e
+    go true false e p q = end-never-stops (c ∷ bytes) rest m e
+    go false y e p q = q e
+
 -- Data that are read on after k bytes end as they did.
 pub later-ending : (k : ℕ) (bytes : List ℕ) → 8 * k < length (text_at bytes).bits + 8
     → (text_at (after_bytes k bytes)).ending ≡ (text_at bytes).ending
@@ -269,6 +301,7 @@ interval-read p vias spots arrays bytes x h =
         (reached_from p vias spots (at_start arrays) (sealed (text_at bytes))).reached.arrays (Follows x.0.0 x.0.1 x.1)
     go (Err g) a e b h = absurd (err-ok _ x h)
     go (Ok left) a (Broken f) b h = absurd (err-ok f x h)
+    go (Ok left) a (Stops m rest) b h = absurd (never-stops bytes rest m b)
     go (Ok left) a (Found m rest) b h =
         subst (λ (y : (Bool × Option Marker) × List ℕ). Meets (interval_from p vias spots arrays bytes)
         (reached_from p vias spots (at_start arrays) (sealed (text_at bytes))).reached.arrays (Follows y.0.0 y.0.1 y.1))

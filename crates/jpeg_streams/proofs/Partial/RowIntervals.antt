@@ -4,7 +4,7 @@ use Rattle.std.proofs.Common.{Result, Ok, Err, refl, sym, ap, ◌∙◌, subst}
 use Rattle.std.specs.Prelude.{nat_le, if◌then◌else◌}
 use Rattle.jpeg_bits.specs.Reading.{Outcome, Fault, Malformed, ◌>>=◌}
 use Rattle.jpeg_bits.specs.Codes.{Table}
-use Rattle.jpeg_bits.specs.Entropy.{Ending, Found, Broken, text_at}
+use Rattle.jpeg_bits.specs.Entropy.{Ending, Found, Stops, Broken, text_at}
 use Rattle.jpeg_bits.specs.Intervals.{end_after, interval, intervals, is_restart}
 use Rattle.jpeg_bits.specs.declared.marker.Marker.{Marker}
 use Rattle.jpeg_segments.proofs.Codecs.{err-ok, ok-same, bind-ok}
@@ -14,7 +14,8 @@ use Rattle.jpeg_lossless.proofs.LineSums.{Grid, Grids}
 use Rattle.jpeg_lossless.proofs.ReachedRows.{interval-rows, left-after, rows-are-read, with_end}
 use Rattle.jpeg_streams.specs.Brought.{after_interval, after_intervals, interval_end, interval_rows_reached}
 use Rattle.jpeg_streams.specs.Brought.{scan_rows_reached, sealed}
-use Rattle.jpeg_streams.proofs.Partial.ReachedIntervals.{Follows, GoesOnAt, Meets, end-follows, last-follows, restart-follows}
+use Rattle.jpeg_streams.proofs.Partial.ReachedIntervals.{Follows, GoesOnAt, Meets, end-follows, last-follows}
+use Rattle.jpeg_streams.proofs.Partial.ReachedIntervals.{never-stops, restart-follows}
 
 -- ---- an interval
 
@@ -58,6 +59,7 @@ interval-rows-read rows bytes x h =
         (Follows x.0.0 x.0.1 x.1)
     go (Err g) a e b h = absurd (err-ok _ x h)
     go (Ok left) a (Broken f) b h = absurd (err-ok f x h)
+    go (Ok left) a (Stops m rest) b h = absurd (never-stops bytes rest m b)
     go (Ok left) a (Found m rest) b h =
         subst (λ (y : (Bool × Option Marker) × List ℕ). Meets (interval (interval_rows rows) bytes)
         (as_interval (rows_reached rows (sealed (text_at bytes))).0) (Follows y.0.0 y.0.1 y.1)) (ok-same _ x h)

@@ -33,8 +33,8 @@ use Rattle.jpeg_streams.specs.ScanSegments.{scan_arrays, codings_of, scan_segmen
 use Rattle.jpeg_streams.specs.Segments.{accepted, onward, Turn, frame_segment}
 use Rattle.jpeg_streams.specs.Found.{Found, Said}
 use Rattle.jpeg_streams.specs.SaidSegments.{said_after}
-use Rattle.jpeg_streams.specs.declared.beyond.Beyond.{Beyond}
-use Rattle.jpeg_streams.specs.declared.beyond.Beyond.TheVariants.{Zeros}
+use Rattle.jpeg_bits.specs.declared.beyond.Beyond.{Beyond}
+use Rattle.jpeg_bits.specs.declared.beyond.Beyond.TheVariants.{Zeros}
 use Rattle.jpeg_streams.specs.Brought.{Brought, unbrought}
 use Rattle.jpeg_streams.specs.Stream.{Walked, brought_after, end_segment, scan_turn_at, segment_at, segments_at}
 use Rattle.jpeg_streams.specs.Stream.{turn_at, turn_within, walk}

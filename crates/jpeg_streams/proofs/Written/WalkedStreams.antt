@@ -15,7 +15,7 @@ use Rattle.jpeg_streams.specs.FoundPictures.{picture_of}
 use Rattle.jpeg_streams.specs.SaidSegments.{said_after, Stands}
 use Rattle.jpeg_streams.specs.ScanSegments.{after_restarts, scan_before, scan_segment, scan_turn}
 use Rattle.jpeg_streams.specs.Segments.{onward}
-use Rattle.jpeg_streams.specs.declared.beyond.Beyond.TheVariants.{Zeros}
+use Rattle.jpeg_bits.specs.declared.beyond.Beyond.TheVariants.{Zeros}
 use Rattle.jpeg_streams.specs.Stream.{header_at, meaning, rest_at, segments_at, start_at, Told, told_of, turn_at, walk}
 use Rattle.jpeg_streams.specs.WrittenStreams.{Closes, end, scan, segment, Starts, Writes}
 use Rattle.jpeg_streams.specs.declared.before.Before.{Before}

@@ -18,5 +18,5 @@ returns-then-not-has-clause-bits g c =
     rw c.from-count.ensures at (Takes-refused c.from-count.result tt c.args.self.now
     c.fill.new.self c.fill.new.self c.args.source.now c.fill.new.source (kept_refusal c.set_fault.new.refusal)
     (c.if-not-fill.ensures.full refl) (rw (ap (λ (a : Ahead). a.met) c.self.view_is) at
-    (c.set_fault.ensures.names c.from-count.result c.fill.new.self.bits) (sym c.has.ensures ∙
+    (c.set_fault.ensures.names c.self.inside.beyond c.from-count.result c.fill.new.self.bits) (sym c.has.ensures ∙
     c.if-not-has.true)) (grind (arith, MayFail-same)) p)
