@@ -1,0 +1,35 @@
+"""A program that uses the types of the module: mypy --strict has nothing against it, and needs each
+`ignore`, behind which stands a misuse. It isn't run."""
+
+import mmap
+from typing import Optional
+
+import zaxbriar
+
+
+def sizes(data: bytes, mapped: mmap.mmap, room: bytearray) -> tuple[int, Optional[str]]:
+    picture: zaxbriar.Picture = zaxbriar.decode(data, layout="rgb", scale=2, max_passes=10)
+    flat: memoryview = memoryview(picture).cast("B")
+    zaxbriar.decode(mapped, out=room, stride=64)
+    zaxbriar.decode(memoryview(data), out=zaxbriar.decode(data))
+    part = zaxbriar.decode_partial(data, min_width=100)
+    rows: int = part.whole_rows
+    if isinstance(part.fault, zaxbriar.UnsupportedError):
+        feature: Optional[str] = part.fault.feature
+    exif: Optional[bytes] = zaxbriar.metadata(data, "exif", whole_image=True, max_bytes=1 << 20)
+    place: Optional[slice] = zaxbriar.find_metadata(data).exif
+    info: zaxbriar.Info = zaxbriar.read_info(data)
+    options: zaxbriar.Options = {"layout": "bgra", "max_samples": 10}
+    zaxbriar.decode(data, **options)
+    end: int = zaxbriar.next_segment(data).end
+    return len(flat) + rows + info.width + len(exif or b"") + end, info.process
+
+
+def misuses(data: bytes) -> None:
+    zaxbriar.decode("text")  # type: ignore[arg-type]
+    zaxbriar.decode(data, layout="RGB")  # type: ignore[arg-type]
+    zaxbriar.decode(data, scale="2")  # type: ignore[arg-type]
+    zaxbriar.decode(data, max_pases=3)  # type: ignore[call-arg]
+    zaxbriar.metadata(data, "iptc")  # type: ignore[arg-type]
+    zaxbriar.metadata(data, "exif", layout="rgb")  # type: ignore[call-arg]
+    zaxbriar.read_info(data).width = 3  # type: ignore[misc]

@@ -1,0 +1,62 @@
+"""Decodes JPEG pictures by zaxbriar, a decoder whose calls are proved.
+
+    picture = zaxbriar.decode(data, layout="rgb")
+    picture.shape, memoryview(picture), numpy.asarray(picture)
+
+`data` is bytes, or any buffer of bytes, such as a bytearray, an mmap or an array of numpy. It is
+read where it is, unless there are gaps between its bytes, and mustn't change during a call, while
+other threads run. The options are those of the class Options.
+"""
+
+from .calls import (
+    decode,
+    decode_partial,
+    find_metadata,
+    metadata,
+    next_segment,
+    read_info,
+    version,
+)
+from .errors import (
+    BadArgumentError,
+    Error,
+    MalformedError,
+    NoMemoryError,
+    NoRoomError,
+    TooLargeError,
+    TooManyPassesError,
+    TruncatedError,
+    UnsupportedError,
+)
+from .options import MAX_PASSES, Layout, Limits, Options, Transform
+from .picture import Info, Partial, Picture, Places, Segment
+
+__version__ = "0.1.0"
+__all__ = [
+    "BadArgumentError",
+    "Error",
+    "Info",
+    "Layout",
+    "Limits",
+    "MAX_PASSES",
+    "MalformedError",
+    "NoMemoryError",
+    "NoRoomError",
+    "Options",
+    "Partial",
+    "Picture",
+    "Places",
+    "Segment",
+    "TooLargeError",
+    "TooManyPassesError",
+    "Transform",
+    "TruncatedError",
+    "UnsupportedError",
+    "decode",
+    "decode_partial",
+    "find_metadata",
+    "metadata",
+    "next_segment",
+    "read_info",
+    "version",
+]

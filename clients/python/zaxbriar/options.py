@@ -1,0 +1,87 @@
+"""The options, as keyword arguments and as the library has them."""
+
+from __future__ import annotations
+
+from operator import index
+from typing import Any, Literal, Mapping, TypedDict
+
+from . import library
+from .errors import BadArgumentError
+
+MAX_PASSES = 100
+
+Layout = Literal["as_stored", "grey", "rgb", "rgba", "bgra", "bgr", "xrgb"]
+Transform = Literal["of_stream", "none", "rgb", "ycbcr", "cmyk", "ycck"]
+
+
+class Limits(TypedDict, total=False):
+    """What a picture may cost; 0 is no limit.
+
+    max_samples: the most samples, width * height * components at the scale, by the header alone.
+    max_bytes: the most memory that decoding may use besides the picture (`Info.decoding_bytes`), by
+        the header alone.
+    max_passes: how many times the scans may code the blocks of the picture, all together, which
+        bounds the time: 100 unless it is given.
+    """
+
+    max_samples: int
+    max_bytes: int
+    max_passes: int
+
+
+class Options(Limits, total=False):
+    """How to decode: the options of zaxbriar.h. The limits are those of the class Limits.
+
+    layout: how the samples of a pixel are arranged, "as_stored" unless it is given.
+    scale: 1, 2, 4 or 8, for exactly 1 / scale of each side, rounded up.
+    min_width, min_height: for the least of 1/8, 1/4, 1/2 and 1 of the size at which the picture is
+        at least that wide or that high; 0: that side doesn't matter. `scale` goes before both.
+    transform: how the components are to be understood, "of_stream" unless it is given.
+    stride: the bytes from one line to the next, for an `out` of one dimension; 0: no gaps.
+    """
+
+    layout: Layout
+    scale: int
+    min_width: int
+    min_height: int
+    transform: Transform
+    stride: int
+
+
+LIMITS = ("max_samples", "max_bytes", "max_passes")
+NAMES = {"layout": library.LAYOUTS, "transform": library.TRANSFORMS}
+MOST = {
+    "scale": 2**8 - 1,
+    "min_width": 2**16 - 1,
+    "min_height": 2**16 - 1,
+    **dict.fromkeys(("stride", *LIMITS), 2**64 - 1),
+}
+
+
+def number_of(name: str, value: Any, names: tuple[str | None, ...]) -> int:
+    """The library's number for the name of a value."""
+    if value is None or value not in names:
+        there_are = ", ".join(filter(None, names))
+        raise BadArgumentError(f"{name} is one of {there_are}, and not {value!r}")
+    return names.index(value)
+
+
+def _whole(name: str, value: Any) -> int:
+    number = index(value)
+    if not 0 <= number <= MOST[name]:
+        raise BadArgumentError(f"{name} is a number from 0 to {MOST[name]}, and not {number}")
+    return number
+
+
+def options_of(
+    given: Mapping[str, Any], known: tuple[str, ...] = (*NAMES, *MOST)
+) -> library.Options:
+    """The library's options for keyword arguments, which are among those known."""
+    options = library.Options(max_passes=MAX_PASSES)
+    for name, value in given.items():
+        if name not in known:
+            raise TypeError(f"there is no option {name}; there are {', '.join(known)}")
+        is_named = name in NAMES
+        number = number_of(name, value, NAMES[name]) if is_named else _whole(name, value)
+        setattr(options, name, number)
+    return options
