@@ -12,8 +12,9 @@ import subprocess
 import sys
 
 import PIL
+import zaxbriar
 import zaxbriar_pillow
-from PIL import Image
+from PIL import Image, ImageFile
 
 SIZES = ((1, 1), (7, 5), (640, 480), (2000, 1500), (2900, 2000))
 LOADER = """
@@ -82,6 +83,24 @@ def in_place():
                 yield f"{mode} {size}: another picture in lines with gaps"
 
 
+def is_memory_error(stream):
+    """Whether memory that is refused is a MemoryError, also where files may be damaged."""
+
+    def refuse(*_, **__):
+        raise zaxbriar.NoMemoryError("")
+
+    kept = zaxbriar.decode, zaxbriar.decode_partial, ImageFile.LOAD_TRUNCATED_IMAGES
+    zaxbriar.decode = zaxbriar.decode_partial = refuse
+    ImageFile.LOAD_TRUNCATED_IMAGES = True
+    try:
+        loaded(stream)
+    except MemoryError:
+        return True
+    finally:
+        zaxbriar.decode, zaxbriar.decode_partial, ImageFile.LOAD_TRUNCATED_IMAGES = kept
+    return False
+
+
 def main():
     blocks = Image.core.get_block_size()
     faults = list(in_place())
@@ -90,6 +109,8 @@ def main():
     stream = jpeg_of("RGB", (99, 66))
     if loaded(b"".join(in_two(stream)))[0].tobytes() != loaded(stream)[0].tobytes():
         faults.append("tables in a stream of their own: another picture")
+    if not is_memory_error(stream):
+        faults.append("refused memory isn't a MemoryError")
     resident = []
     stream = jpeg_of("RGB", (6000, 4000))
     for plugin in ("import zaxbriar_pillow", ""):
@@ -97,7 +118,7 @@ def main():
         run = [python, "-W", "error", "-c", LOADER.format(plugin)]
         done = subprocess.run(run, input=stream, stdout=subprocess.PIPE, check=True)
         resident.append(int(done.stdout))
-    own = zaxbriar_pillow.library.read_info(stream).decoding_bytes >> 20
+    own = zaxbriar.read_info(stream).decoding_bytes >> 20
     if resident[0] > resident[1] + own + 16:
         faults.append("24 megapixels take more memory than Pillow's own and the library's buffers")
     print(

@@ -5,8 +5,8 @@ import subprocess
 import sys
 from collections import Counter
 
+import zaxbriar
 import zaxbriar_pillow
-from zaxbriar_pillow import library
 from PIL import Image, UnidentifiedImageError
 
 FORMATS = {"L8": "L", "RGB24": "RGB", "CMYK32": "CMYK"}
@@ -41,7 +41,7 @@ def densities(name):
     the numbers across and down, or zeros. Pillow's own looks for it after the frame header, too."""
     with open(name, "rb") as file:
         stream = file.read()
-    picture = library.read_info(stream)
+    picture = zaxbriar.read_info(stream)
     own = 0, 0, 0
     if b"JFIF" in stream[: picture.stream_bytes]:
         with Image.open(name) as image:

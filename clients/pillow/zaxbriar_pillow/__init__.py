@@ -4,17 +4,17 @@ Pillow's own Python code still reads the header and the metadata, and libjpeg st
 """
 
 import ctypes
+import functools
 import threading
 import warnings
 from array import array
 
+import zaxbriar
 from PIL import Image, ImageFile, JpegImagePlugin
-
-from . import library
 
 # How many times the scans of a file may code the blocks of its picture, all together: a program may
 # set another number, or 0 for any. A file with more is damaged at the scan that would exceed it.
-max_passes = 100
+max_passes = zaxbriar.MAX_PASSES
 
 # How many pictures were decoded so, how many of them right into the image's memory, and of how many
 # there was only a part, since their files are truncated or damaged.
@@ -25,9 +25,9 @@ decoded_partially = 0
 # For each mode of Pillow's: the formats that the library decodes to it, its layout in the memory of
 # an image with the bytes of a pixel, and its layout without padding.
 _MODES = {
-    "L": ((library.FORMAT_GREY8, library.FORMAT_RGB), library.GREY, 1, library.GREY),
-    "RGB": ((library.FORMAT_GREY8, library.FORMAT_RGB), library.RGBA, 4, library.RGB),
-    "CMYK": ((library.FORMAT_CMYK,), library.AS_STORED, 4, library.AS_STORED),
+    "L": (("grey8", "rgb"), "grey", 1, "grey"),
+    "RGB": (("grey8", "rgb"), "rgba", 4, "rgb"),
+    "CMYK": (("cmyk",), "as_stored", 4, "as_stored"),
 }
 
 
@@ -127,6 +127,11 @@ def _joined(stream):
     return stream[:at] + stream[at + 4 :]
 
 
+def _decode_partially(stream, **options):
+    """The picture of what a stream brings up to its first fault."""
+    return zaxbriar.decode_partial(stream, **options).picture
+
+
 class ZaxbriarDecoder(ImageFile.PyDecoder):
     """Pillow's decoder `jpeg`: its arguments are the raw mode, the mode of the colours in the file,
     and a scale."""
@@ -139,7 +144,7 @@ class ZaxbriarDecoder(ImageFile.PyDecoder):
             raise ValueError("invalid extents")
         super().setimage(im, extents)
 
-    def _in_place(self, stream, layout, pixel_bytes, options):
+    def _in_place(self, decode, layout, pixel_bytes):
         """Decodes right into the image, and says whether that was possible."""
         global decoded_in_place
         if self.state.extents() != (0, 0, *self.im.size):
@@ -150,29 +155,30 @@ class ZaxbriarDecoder(ImageFile.PyDecoder):
         address, stride = memory
         width, height = self.im.size
         size = stride * (height - 1) + width * pixel_bytes
-        library.decode_at(stream, address, size, layout=layout, stride=stride, **options)
+        lines = (ctypes.c_uint8 * size).from_address(address)
+        decode(out=lines, layout=layout, stride=stride)
         decoded_in_place += 1
         return True
 
-    def _converted(self, stream, mode, options):
+    def _converted(self, decode, mode):
         """Decodes into memory of its own, as the picture is stored, and converts it to the mode and
         the size."""
-        picture, pixels = library.decode(stream, **options)
-        if picture.sample_bytes != 1:
-            raise OSError(f"samples of {picture.precision} bits")
-        stored = {1: "L", 3: "RGB", 4: "CMYK"}[picture.components]
-        image = Image.frombytes(stored, (picture.width, picture.height), bytes(pixels))
+        picture = decode()
+        if picture.info.sample_bytes != 1:
+            raise OSError(f"samples of {picture.info.precision} bits")
+        stored = {1: "L", 3: "RGB", 4: "CMYK"}[picture.info.components]
+        image = Image.frombytes(stored, (picture.width, picture.height), bytes(picture))
         if image.size != (self.state.xsize, self.state.ysize):  # a lossless picture isn't scaled
             image = image.reduce(max(1, round(picture.width / self.state.xsize)))
         self.set_as_raw(image.convert(mode).tobytes(), mode)
 
-    def _load(self, stream, is_partial):
-        """Decodes into the image. Where `is_partial`, a stream with a fault gives what there is."""
+    def _load(self, stream, call):
+        """Decodes into the image, by a call like zaxbriar's own."""
         global decoded
         mode = self.args[0].partition(";")[0]
         scale = self.args[2] if len(self.args) > 2 else 1
-        options = {"scale": scale, "max_passes": max_passes, "is_partial": is_partial}
-        picture = library.read_info(stream, scale=scale)
+        decode = functools.partial(call, stream, scale=scale, max_passes=max_passes)
+        picture = zaxbriar.read_info(stream, scale=scale)
         is_scaled = (picture.width, picture.height) == (self.state.xsize, self.state.ysize)
         formats, layout, pixel_bytes, packed = _MODES.get(mode, ((), None, None, None))
         is_plain = (
@@ -182,10 +188,9 @@ class ZaxbriarDecoder(ImageFile.PyDecoder):
             and self.im.mode == mode
         )
         if not is_plain:
-            self._converted(stream, mode, options)
-        elif not self._in_place(stream, layout, pixel_bytes, options):
-            _, pixels = library.decode(stream, layout=packed, **options)
-            self.set_as_raw(bytes(pixels), mode)
+            self._converted(decode, mode)
+        elif not self._in_place(decode, layout, pixel_bytes):
+            self.set_as_raw(bytes(decode(layout=packed)), mode)
         decoded += 1
 
     def _load_partially(self, stream):
@@ -193,8 +198,10 @@ class ZaxbriarDecoder(ImageFile.PyDecoder):
         stays blank."""
         global decoded_partially
         try:
-            self._load(stream, is_partial=True)
-        except library.Error:
+            self._load(stream, _decode_partially)
+        except zaxbriar.NoMemoryError:
+            raise
+        except zaxbriar.Error:
             return -1, -2
         decoded_partially += 1
         return -1, 0
@@ -202,8 +209,10 @@ class ZaxbriarDecoder(ImageFile.PyDecoder):
     def decode(self, buffer):
         stream = _joined(self.fd.read())
         try:
-            self._load(stream, is_partial=False)
-        except library.Error as error:
+            self._load(stream, zaxbriar.decode)
+        except zaxbriar.NoMemoryError:
+            raise
+        except zaxbriar.Error as error:
             if ImageFile.LOAD_TRUNCATED_IMAGES:
                 return self._load_partially(stream)
             raise OSError(f"zaxbriar: {error}") from error
