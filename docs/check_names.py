@@ -17,7 +17,7 @@ OTHERS = """
     cur_comp_info DCT_scaled_size doc dyn EOBRUN ERREXIT HEX Hmax JBLOCK jpeg_decompress_struct
     last_dc_val ljpeg LOSSLESS lseek malloc MCU_membership non_exhaustive optimizeDeps perf
     PILLOW_ALIGNMENT plant Pt rattle_alloc rattle_dealloc rattle_errno rattle_realloc
-    read_markers realloc ROW Se Ss SUITE_CMYK_AS_RGB tbl_no test_DCT_scaling_edges
+    read_markers realloc ROW Se Ss SUITE_AT SUITE_CMYK_AS_RGB tbl_no test_DCT_scaling_edges
     test_get_child_images test_load_blp1 test_strip_ycbcr_jpeg_1x1_sampling
     test_tiled_ycbcr_jpeg_1x1_sampling tj3 TJFLAG_LIMITSCANS tmp try type9_rotation_exif_tag
     ulimit unread_marker Upsample Vmax WORD WRONG

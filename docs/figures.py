@@ -81,13 +81,13 @@ def expected():
     for name in ("must", "may", "own"):
         figure = len(re.findall(rf'(?m)"file": "\w+", "class": "{name}"', classes))
         yield "docs/CONFORMANCE.md", rf"(?m)^\| \*{name}\* \| (\d+) \|", figure
-    drawn = sum(map(cases, ("random", "extreme", "partial_random")))
+    drawn = sum(map(cases, ("random", "extreme", "partial_random", "partial_rows")))
     yield "docs/CONFORMANCE.md", r"(\d+) are random streams", drawn
     yield "docs/TRUST.md", r"(\d+) random\s+streams", drawn
     damaged = len(re.findall(r"(?m)^case .*(?:flipped|at byte \d+)$", text(PARTIAL)))
     yield "docs/CONFORMANCE.md", r"those of (\d+)\s+damaged", damaged
     yield "docs/TRUST.md", r"of (\d+) damaged", damaged
-    partial = cases("partial") + cases("partial_random")
+    partial = sum(map(cases, ("partial", "partial_random", "partial_rows")))
     yield "docs/TRUST.md", r"of (\d+)\s+cut or\s+damaged streams", partial
     parts = len(text("crates/parts_cases/stdout").splitlines())
     yield "docs/CONFORMANCE.md", r"each of its (\d+) cases", parts

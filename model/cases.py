@@ -53,19 +53,24 @@ def words_of(data, size=1):
     )
 
 
+def cases_in(lines):
+    """The cases of the lines of a file."""
+    cases = []
+    for line in lines:
+        word, _, rest = line.rstrip('\n').partition(' ')
+        if word == 'case':
+            cases.append(Case(rest))
+        elif word == 'stream':
+            cases[-1].stream += bytes_of(rest)
+        elif word not in ('', '#'):
+            cases[-1].calls.append([word] + rest.split())
+    return cases
+
+
 def cases_of(path):
     """The cases of a file."""
-    cases = []
     with open(path, encoding='utf-8') as file:
-        for line in file:
-            word, _, rest = line.rstrip('\n').partition(' ')
-            if word == 'case':
-                cases.append(Case(rest))
-            elif word == 'stream':
-                cases[-1].stream += bytes_of(rest)
-            elif word not in ('', '#'):
-                cases[-1].calls.append([word] + rest.split())
-    return cases
+        return cases_in(file)
 
 
 def orientation_of(exif):

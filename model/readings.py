@@ -6,11 +6,16 @@ spread over the picture, and which colours they are, it doesn't say. So a pictur
 pixel takes a value between the samples around it, and if it is one of the readings of its
 components: the samples themselves, and what T.871 or Adobe's programs make of them.
 
+Samples of 12 bits, which the model doesn't have, come of the coefficients that strict.py reads, by
+A.3.3 in floating point.
+
 readings_of(stream, is_partial) -> [Reading], of which each pixel has a least and a greatest value
 """
 import collections
+import math
 
 import model
+import strict
 
 # How far two conforming transforms may be apart in a sample: each is within 1 of the real number,
 # rounded (IEEE 1180). T.83 compares coefficients, which allows more.
@@ -18,6 +23,44 @@ TOLERANCE = 2
 
 Reading = collections.namedtuple('Reading', 'colours depth low high')
 Picture = collections.namedtuple('Picture', 'frame components')
+
+
+# Of each frequency its values at the eight samples of a row (A.3.3).
+WAVES = [
+    [math.cos((2 * x + 1) * u * math.pi / 16) * math.sqrt(1 if u else 0.5) / 2 for x in range(8)]
+    for u in range(8)
+]
+
+
+def transformed(coefficients, steps, precision):
+    """The samples of a block, row by row, of coefficients in zigzag order (A.3.3)."""
+    rows = [[0] * 8 for _ in range(8)]
+    for place, value, step in zip(model.ZIGZAG, coefficients, steps):
+        rows[place >> 3][place & 7] = value * step
+    rows = [[sum(v * WAVES[u][x] for u, v in enumerate(row)) for x in range(8)] for row in rows]
+    most, samples = (1 << precision) - 1, []
+    for y in range(8):
+        for x in range(8):
+            value = sum(rows[v][x] * WAVES[v][y] for v in range(8)) + (most + 1) // 2
+            samples.append(min(max(round(value), 0), most))
+    return samples
+
+
+def picture_of_coefficients(stream):
+    """As picture_of, of the coefficients that strict.py reads of a legal stream."""
+    frame, components = strict.judge(stream).frame, []
+    frame.comps, frame.process = frame.components, 'transformed'
+    for component in frame.comps:
+        blocks = {
+            place: transformed(block, component.quantization, frame.precision)
+            for place, block in component.blocks.items()
+        }
+        width = model.ceil_div(frame.w * component.h, frame.hmax)
+        height = model.ceil_div(frame.h * component.v, frame.vmax)
+        components.append(
+            (width, height, lambda x, y, b=blocks: b[y >> 3, x >> 3][(y & 7) * 8 + (x & 7)])
+        )
+    return Picture(frame, components)
 
 
 def picture_of(stream, is_partial):
@@ -96,9 +139,9 @@ def interleaved(planes):
     return [value for pixel in zip(*planes) for value in pixel]
 
 
-def readings_of(stream, is_partial=False):
-    """The readings of a stream's picture."""
-    picture = picture_of(stream, is_partial)
+def readings_of(stream, is_partial=False, is_deep=False):
+    """The readings of a stream's picture. `is_deep` says that its samples have 12 bits."""
+    picture = picture_of_coefficients(stream) if is_deep else picture_of(stream, is_partial)
     frame, count = picture.frame, len(picture.components)
     tolerance = 0 if frame.process == 'lossless' else TOLERANCE
     most = (1 << frame.precision) - 1

@@ -11,6 +11,8 @@ wider        T.81 doesn't allow it, and what is meant is plain all the same
 range        no samples have such coefficients
 open         T.81 doesn't say which picture it is: bits are unsent, or a component was sent twice
 surplus      bytes of data are left before a marker
+series       another image follows, or its start
+abbreviated  no Huffman tables are there, so they are to be known from elsewhere
 broken       what is meant can't be told from there on
 pictureless  nothing gives a picture's size, so that there is none to show
 
@@ -157,14 +159,14 @@ class Reader:
     # ---- tables
 
     def read_quantization(self, data):
-        """B.2.4.1, Table B.4"""
+        """B.2.4.1"""
         if not data:
             self.wider('B.2.4.1', 'a DQT segment without a table')
         while data:
             precision, place = data[0] >> 4, data[0] & 15
             size = 64 << precision if precision <= 1 else 0
             if precision > 1 or place > 3 or len(data) < 1 + size:
-                raise Stopped('B.2.4.1', 'a quantization table that Table B.4 does not have')
+                raise Stopped('B.2.4.1', 'a quantization table that B.2.4.1 does not have')
             step = 1 + precision
             values = [
                 int.from_bytes(data[at : at + step], 'big') for at in range(1, 1 + size, step)
@@ -183,12 +185,12 @@ class Reader:
                 self.verdict.facts.add('respecified')
 
     def read_codes(self, data):
-        """B.2.4.2, Table B.5, and Annex C"""
+        """B.2.4.2 and Annex C"""
         if not data:
             self.wider('B.2.4.2', 'a DHT segment without a table')
         while data:
             if len(data) < 17 or data[0] >> 4 > 1 or data[0] & 15 > 3:
-                raise Stopped('B.2.4.2', 'a Huffman table that Table B.5 does not have')
+                raise Stopped('B.2.4.2', 'a Huffman table that B.2.4.2 does not have')
             counts = list(data[1:17])
             values = list(data[17 : 17 + sum(counts)])
             if sum(counts) > 256 or len(values) < sum(counts):
@@ -223,7 +225,7 @@ class Reader:
         if code > 3:
             self.verdict.unread = 'hierarchical' if code in (5, 6, 7, 13, 14, 15) else 'arithmetic'
             raise Stopped('', '')
-        self.verdict.process = PROCESSES[code]
+        self.verdict.process = frame.process = PROCESSES[code]
         self.check_frame(frame, [data[6 + 3 * at : 9 + 3 * at] for at in range(count)])
 
     def check_frame(self, frame, rows):
@@ -309,13 +311,13 @@ class Reader:
         if first and len(scan.members) > 1:
             raise Stopped('G.1.1.1.1', 'AC coefficients of several components in one scan')
         if scan.high > 13 or scan.low > 13 or (scan.high and scan.high != scan.low + 1):
-            raise Stopped('G.1.1.1.2', 'an approximation that does not follow the one before')
+            raise Stopped('G.1.1.1', 'an approximation that does not follow the one before')
         for component, _, _ in scan.members:
             if first and 0 not in component.levels:
                 self.note('broken', 'G.1.1.1.1', 'AC coefficients before DC')
             for k in range(first, last + 1):
                 if component.levels.get(k) != (scan.high if scan.high else None):
-                    self.note('broken', 'G.1.1.1.2', 'a band sent again, or refined before it')
+                    self.note('broken', 'G.1.1.1', 'a band sent again, or refined before it')
                 component.levels[k] = scan.low
 
     # ---- the whole
@@ -325,7 +327,7 @@ class Reader:
             # (B.1.1.2: fill bytes may stand before any marker)
             self.place = max(len(self.stream) - len(self.stream.lstrip(b'\xff')) - 1, 0)
             if self.take(2) != b'\xff\xd8':
-                raise Stopped('B.2.1', 'no SOI at the start (Figure E.6)')
+                raise Stopped('B.2.1', 'no SOI at the start')
             self.read_segments()
         except Stopped as stopped:
             if not self.verdict.unread:
@@ -395,7 +397,10 @@ class Reader:
         if verdict.process != 'lossless':
             self.check_ranges()
             self.check_precisions()
-        if self.place < len(self.stream):
+        rest = self.stream[self.place :]
+        if rest[:1] == b'\xff' and rest.lstrip(b'\xff')[:1] == b'\xd8':
+            self.note('series', 'B.2.1', 'another SOI after EOI')
+        elif rest:
             self.wider('B.2.1', 'bytes after EOI')
 
     def check_precisions(self):
@@ -405,7 +410,7 @@ class Reader:
             self.wider('B.2.4.1', 'a quantization table of 16 bits for samples of 8')
 
     def check_ranges(self):
-        """A.3.3 and F.2.1.5: whether samples of a picture may give these coefficients."""
+        """A.3.3: whether samples of a picture may give these coefficients."""
         unit = 1 << (self.verdict.frame.precision - 8)
         for component in self.verdict.frame.components:
             steps = component.quantization
@@ -502,6 +507,8 @@ class ScanReader:
     def table(self, kind, place):
         """B.2.3: a table is installed by the time of its scan"""
         table = self.reader.tables.get(kind << 4 | place)
+        if not self.reader.tables:
+            self.reader.note('abbreviated', 'B.2.3', 'no Huffman tables in the stream')
         if table is None:
             raise Stopped('B.2.3', 'a Huffman table that has not been installed')
         if table.has_all_ones:
@@ -532,7 +539,7 @@ class TransformScan(ScanReader):
             self.dc.append(self.table(0, dc) if scan.first == 0 else None)
             self.ac.append(self.table(1, ac) if scan.last else None)
         if any(table and max(table.values, default=0) > self.most_dc for table in self.dc):
-            reader.wider('F.1.2.1', 'a DC table with a category that Table F.1 does not have')
+            reader.wider('F.1.2.1', 'a DC table with a category that F.1.2.1 does not have')
         if scan.high:
             self.verdict.facts.add('refinement')
         if scan.low or scan.high:
@@ -565,7 +572,7 @@ class TransformScan(ScanReader):
         """F.2.2.1"""
         size = data.symbol(self.dc[member])
         if size > self.most_dc:
-            raise Stopped('F.1.2.1', 'a DC category that Table F.1 does not have')
+            raise Stopped('F.1.2.1', 'a DC category that F.1.2.1 does not have')
         self.predictions[member] += extend(data.bits(size), size) if size else 0
         block[0] = self.predictions[member] << self.scan.low
 
@@ -653,7 +660,7 @@ class LosslessScan(ScanReader):
         self.dc = [self.table(0, dc) for _, dc, _ in self.scan.members]
         self.planes = [{} for _ in self.scan.members]
         if any(max(table.values, default=0) > 16 for table in self.dc):
-            self.reader.wider('H.1.2.2', 'a table with a category that Table H.2 does not have')
+            self.reader.wider('H.1.2.2', 'a table with a category that H.1.2.2 does not have')
         if self.scan.low:
             self.verdict.facts.add('point transform')
 
@@ -663,7 +670,7 @@ class LosslessScan(ScanReader):
     def read_unit(self, data, member, row, column):
         size = data.symbol(self.dc[member])
         if size > 16:
-            raise Stopped('H.1.2.2', 'a category that Table H.2 does not have')
+            raise Stopped('H.1.2.2', 'a category that H.1.2.2 does not have')
         difference = 32768 if size == 16 else extend(data.bits(size), size) if size else 0
         first, plane = self.first_rows.setdefault(member, row), self.planes[member]
         bits = self.frame.precision - self.scan.low
