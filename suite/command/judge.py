@@ -133,7 +133,7 @@ class Judge:
             ends = [(low, high)]
             if low.depth == 4 and self.takes_inks:
                 ends.append(as_inks(low, high))
-            rows = picture.get('rows', low.height)
+            rows = case['complete_rows'] or low.height
             for form in forms_of(shown, low.most):
                 if any(is_between(form, *end, picture['tolerance'], rows) for end in ends):
                     return True
@@ -161,9 +161,7 @@ class Judge:
         distance = self.distance(case, shown)
         if distance == 0:
             return Outcome(True, 'exact', 0)
-        if self.is_one_of(case, shown):
+        if case['any'] or self.is_one_of(case, shown):
             is_near = distance is not None and distance <= NEAR
             return Outcome(True, 'near' if is_near else 'other', distance)
-        if case['any']:
-            return Outcome(True, 'other', distance)
         return Outcome(False, 'picture' if case['pictures'] else 'shown', distance)

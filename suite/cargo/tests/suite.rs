@@ -34,8 +34,9 @@ fn distance(shown: &Picture, wanted: &Picture) -> Option<i32> {
     pairs.map(|(a, b)| (a - b).abs()).max()
 }
 
-/// Whether a picture lies between the least and the greatest samples of one that is right.
-fn is_right(shown: &Picture, right: &Value) -> bool {
+/// Whether the first rows of a picture, or all, lie between the least and the greatest samples of
+/// one that is right.
+fn is_right(shown: &Picture, right: &Value, rows: Option<i64>) -> bool {
     let mut low = picture_of(right.get("low").text());
     let mut high = picture_of(right.get("high").text());
     if low.depth == 4 && shown.depth != 4 && std::env::var("SUITE_CMYK_AS_RGB").is_ok() {
@@ -48,10 +49,7 @@ fn is_right(shown: &Picture, right: &Value) -> bool {
     else {
         return false;
     };
-    let rows = right
-        .get("rows")
-        .number()
-        .map_or(low.height, |it| it as usize);
+    let rows = rows.map_or(low.height, |it| it as usize);
     let ends = low.samples.iter().zip(&high.samples);
     let mut samples = shown
         .samples
@@ -74,18 +72,29 @@ fn outcome(case: &Value, shown: Option<Picture>) -> (bool, &'static str, i32) {
     if apart == Some(0) {
         return (true, "exact", 0);
     }
-    if case
-        .get("pictures")
-        .list()
-        .iter()
-        .any(|it| is_right(&shown, it))
-    {
-        return match apart {
-            Some(far) if far <= NEAR => (true, "near", far),
-            _ => (true, "other", 0),
-        };
+    let rows = case.get("complete_rows").number();
+    let mut pictures = case.get("pictures").list().iter();
+    let good = case.get("any").is_true() || pictures.any(|it| is_right(&shown, it, rows));
+    match apart {
+        Some(far) if good && far <= NEAR => (true, "near", far),
+        _ => (good, "other", 0),
     }
-    (case.get("any").is_true(), "other", 0)
+}
+
+/// The words for the settings of a case: those of SUITE_AT for a scale, and None for any other
+/// setting, or where SUITE_AT isn't given.
+fn words_of(case: &Value) -> Option<String> {
+    let settings = case.get("settings").list();
+    if case.get("class").text() != "own" || settings.is_empty() {
+        return Some(String::new());
+    }
+    let template = std::env::var("SUITE_AT").ok()?;
+    let is_scale = |it: &Value| matches!(it.list()[0].text(), "scale" | "at");
+    let words = match case.get("scale") {
+        Value::Text(part) => template.replace("{}", part),
+        _ => String::new(),
+    };
+    settings.iter().all(is_scale).then_some(words)
 }
 
 /// Runs the decoder on each case of a class.
@@ -97,12 +106,14 @@ fn run(class: &str) {
         let case = json::value(line, &mut 0);
         let process = case.get("process").text();
         let is_lacking = !process.is_empty() && without.split(',').any(|it| it == process);
-        let is_set = class == "own" && !case.get("settings").list().is_empty();
-        if case.get("class").text() != class || is_lacking || is_set {
+        if case.get("class").text() != class || is_lacking {
             continue;
         }
+        let Some(words) = words_of(&case) else {
+            continue;
+        };
         let stream = folder().join(case.get("stream").text());
-        let (good, how, far) = outcome(&case, decode::decode(&stream));
+        let (good, how, far) = outcome(&case, decode::decode(&stream, &words));
         furthest = furthest.max(far);
         let said = if good {
             how.to_string()
