@@ -1,34 +1,21 @@
 /* The TurboJPEG calls that don't decode to pixels: libturbojpeg makes them. */
-#define _GNU_SOURCE /* RTLD_DEEPBIND */
 #include "shim.h"
 
-#include <dlfcn.h>
 #include <pthread.h>
 #include <stdio.h>
 #include <stdlib.h>
 
 static void *library;
 
-static function *found(const char *name) {
-    function *function;
-    *(void **)&function = dlsym(library, name);
-    return function;
-}
-
-/* Loads libturbojpeg by its path, since its name is this library's, too. By RTLD_DEEPBIND its own
- * calls stay in it. */
+/* Loads libturbojpeg by its path, since its name is this library's, too. */
 static void load(void) {
-    library = dlopen(OWN_LIBRARY, RTLD_NOW | RTLD_LOCAL | RTLD_DEEPBIND);
-    if (library && found("tjInitTransform") == (function *)tjInitTransform) {
-        dlclose(library); /* this library, installed in its place */
-        library = NULL;
-    }
+    library = open_other(OWN_LIBRARY, "tjInitTransform", (function *)tjInitTransform);
 }
 
 function *own_function(const char *name) {
     static pthread_once_t is_loaded = PTHREAD_ONCE_INIT;
     pthread_once(&is_loaded, load);
-    return library ? found(name) : NULL;
+    return library ? function_of(library, name) : NULL;
 }
 
 const char handle_mark;

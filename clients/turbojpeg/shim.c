@@ -41,42 +41,35 @@ static int sampling_of(const zaxbriar_picture *picture) {
     return TJSAMP_444;
 }
 
-static int colours_of(const zaxbriar_picture *picture) {
-    switch (picture->transform) {
-        case ZAXBRIAR_TRANSFORM_RGB: return TJCS_RGB;
-        case ZAXBRIAR_TRANSFORM_YCBCR: return TJCS_YCbCr;
-        case ZAXBRIAR_TRANSFORM_CMYK: return TJCS_CMYK;
-        case ZAXBRIAR_TRANSFORM_YCCK: return TJCS_YCCK;
-        default:
-            return picture->components == 1   ? TJCS_GRAY
-                   : picture->components == 3 ? TJCS_RGB
-                                              : TJCS_CMYK;
-    }
-}
+static const int colours[] = {
+    [ZAXBRIAR_TRANSFORM_NONE] = TJCS_GRAY,   [ZAXBRIAR_TRANSFORM_RGB] = TJCS_RGB,
+    [ZAXBRIAR_TRANSFORM_YCBCR] = TJCS_YCbCr, [ZAXBRIAR_TRANSFORM_CMYK] = TJCS_CMYK,
+    [ZAXBRIAR_TRANSFORM_YCCK] = TJCS_YCCK,
+};
 
 int tjDecompressHeader3(tjhandle given, const unsigned char *jpeg, unsigned long size, int *width,
-                        int *height, int *sampling, int *colours) {
+                        int *height, int *sampling, int *space) {
     struct handle *handle = decompressor_of(given);
     zaxbriar_picture picture;
     if (!given) return fail(NULL, "Invalid handle");
     if (!handle)
         return OWN(tjDecompressHeader3) ? OWN(tjDecompressHeader3)(own_handle(given), jpeg, size,
-                                                                   width, height, sampling, colours)
+                                                                   width, height, sampling, space)
                                         : -1;
-    if (!width || !height || !sampling || !colours) return fail(handle, "a null pointer");
+    if (!width || !height || !sampling || !space) return fail(handle, "a null pointer");
     if (zaxbriar_read_info(jpeg, size, NULL, &picture) != ZAXBRIAR_OK)
         return fail(handle, picture.text);
     *width = (int)picture.width;
     *height = (int)picture.height;
     *sampling = sampling_of(&picture);
-    *colours = colours_of(&picture);
+    *space = colours[colours_of(&picture)];
     return 0;
 }
 
 int tjDecompressHeader2(tjhandle handle, unsigned char *jpeg, unsigned long size, int *width,
                         int *height, int *sampling) {
-    int colours;
-    return tjDecompressHeader3(handle, jpeg, size, width, height, sampling, &colours);
+    int space;
+    return tjDecompressHeader3(handle, jpeg, size, width, height, sampling, &space);
 }
 
 int tjDecompressHeader(tjhandle handle, unsigned char *jpeg, unsigned long size, int *width,
@@ -124,42 +117,20 @@ static int options_for(const unsigned char *jpeg, size_t size, int width, int he
     return 0;
 }
 
-static void swap(unsigned char *a, unsigned char *b) {
-    unsigned char kept = *a;
-    *a = *b;
-    *b = kept;
-}
-
-/* Reverses the bytes of each pixel. */
-static void reverse_pixels(const zaxbriar_picture *picture, unsigned char *pixels, size_t pitch) {
+/* Puts the samples of each line into the order of a pixel format. */
+static void change_lines(const zaxbriar_picture *picture, unsigned char *pixels, size_t pitch,
+                         int change) {
     for (size_t y = 0; y < picture->height; y++)
-        for (size_t x = 0; x < picture->width; x++) {
-            unsigned char *pixel = pixels + y * pitch + 4 * x;
-            swap(pixel, pixel + 3);
-            swap(pixel + 1, pixel + 2);
-        }
-}
-
-/* Replaces each sample by its complement. */
-static void complement(const zaxbriar_picture *picture, unsigned char *pixels, size_t pitch) {
-    for (size_t y = 0; y < picture->height; y++)
-        for (size_t i = 0; i < picture->row_bytes; i++) pixels[y * pitch + i] ^= 255;
+        if (change == REVERSED) reverse_pixels(pixels + y * pitch, picture->width);
+        else if (change == COMPLEMENTED) complement_samples(pixels + y * pitch, picture->row_bytes);
 }
 
 /* Exchanges the first line and the last, the second and the last but one, and so on. */
 static void reverse_lines(const zaxbriar_picture *picture, unsigned char *pixels, size_t pitch) {
     for (size_t y = 0; y < picture->height / 2; y++)
         for (size_t i = 0; i < picture->row_bytes; i++)
-            swap(pixels + y * pitch + i, pixels + (picture->height - 1 - y) * pitch + i);
-}
-
-/* How many times the scans of a file may code the blocks of its picture. */
-enum { MAX_PASSES = 100 };
-
-/* Whether an answer is a fault of the stream's. */
-static int is_fault(zaxbriar_result answer) {
-    return answer == ZAXBRIAR_MALFORMED || answer == ZAXBRIAR_UNSUPPORTED ||
-           answer == ZAXBRIAR_TRUNCATED || answer == ZAXBRIAR_TOO_MANY_PASSES;
+            swap_samples(pixels + y * pitch + i,
+                         pixels + (picture->height - 1 - y) * pitch + i);
 }
 
 /* Decompresses the picture, or the part before a fault, at the scale of the options. */
@@ -167,10 +138,9 @@ static zaxbriar_result decode(const unsigned char *jpeg, size_t size,
                               const zaxbriar_options *options, unsigned char *pixels, int flags,
                               zaxbriar_picture *picture) {
     size_t room = options->stride * (picture->height - 1) + picture->row_bytes;
-    zaxbriar_result answer = zaxbriar_decode(jpeg, size, options, pixels, room, picture);
-    if (is_fault(answer) && !(flags & TJFLAG_STOPONWARNING))
-        answer = zaxbriar_decode_partial(jpeg, size, options, pixels, room, picture);
-    return answer;
+    if (flags & TJFLAG_STOPONWARNING)
+        return zaxbriar_decode(jpeg, size, options, pixels, room, picture);
+    return decode_until_fault(jpeg, size, options, pixels, room, picture);
 }
 
 static int decompress(struct handle *handle, const unsigned char *jpeg, size_t size,
@@ -191,8 +161,7 @@ static int decompress(struct handle *handle, const unsigned char *jpeg, size_t s
     zaxbriar_result answer = decode(jpeg, size, &options, pixels, flags, &picture);
     if (is_fault(answer) && flags & TJFLAG_STOPONWARNING) return warn(handle, picture.text);
     if (answer != ZAXBRIAR_OK && answer != ZAXBRIAR_PARTIAL) return fail(handle, picture.text);
-    if (formats[format].change == REVERSED) reverse_pixels(&picture, pixels, options.stride);
-    if (formats[format].change == COMPLEMENTED) complement(&picture, pixels, options.stride);
+    change_lines(&picture, pixels, options.stride, formats[format].change);
     if (flags & TJFLAG_BOTTOMUP) reverse_lines(&picture, pixels, options.stride);
     return answer == ZAXBRIAR_PARTIAL ? warn(handle, picture.text) : 0;
 }

@@ -1,8 +1,9 @@
 /* What the decoding calls (shim.c) and those that are handed on (own.c) share. */
 #ifndef SHIM_H
 #define SHIM_H
+#include "../decode.h"
+
 #include <turbojpeg.h>
-#include <zaxbriar.h>
 
 /* What a handle of this library points to. */
 struct handle {
@@ -27,7 +28,6 @@ struct handle *handle_of(tjhandle given);
 int fail(struct handle *handle, const char *text);
 
 /* libturbojpeg's function of a name, or null where there is no libturbojpeg beside this library. */
-typedef void function(void);
 function *own_function(const char *name);
 
 /* libturbojpeg's handle for one that a program gives, for a call that is handed on. */
