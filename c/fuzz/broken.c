@@ -1,0 +1,121 @@
+/* The library with a fault, FAULT, that the target has to find (fuzz/try): each call that has none
+ * is the library's own. Linked with --wrap for the calls below. */
+#include "processor.h"
+#include "zaxbriar.h"
+
+typedef zaxbriar_result decoding(const void *jpeg, size_t jpeg_size,
+                                 const zaxbriar_options *options, void *pixels, size_t pixels_size,
+                                 zaxbriar_picture *picture);
+typedef zaxbriar_result describing(const void *jpeg, size_t jpeg_size,
+                                   const zaxbriar_options *options, zaxbriar_picture *picture);
+typedef zaxbriar_result listing(const void *jpeg, size_t jpeg_size, zaxbriar_segment *segment);
+typedef zaxbriar_result copying(const void *jpeg, size_t jpeg_size, const zaxbriar_options *options,
+                                int kind, void *data, size_t data_size, size_t *length);
+decoding __real_zaxbriar_decode, __real_zaxbriar_decode_partial;
+decoding __wrap_zaxbriar_decode, __wrap_zaxbriar_decode_partial;
+describing __real_zaxbriar_read_info, __wrap_zaxbriar_read_info;
+copying __real_zaxbriar_metadata_within, __wrap_zaxbriar_metadata_within;
+listing __real_zaxbriar_next_segment, __wrap_zaxbriar_next_segment;
+
+/* The faults of decoding. */
+enum {
+    BYTE_PAST_PICTURE = 1, /* writes a byte too many, which may be past the buffer */
+    BYTE_IN_GAP,           /* writes between two lines */
+    BYTE_BEFORE,           /* writes right before the buffer */
+    SPOILS,                /* writes a byte and refuses the stream */
+    SHOWS_TRUNCATED,       /* answers OK for a truncated file, with what there is */
+    LEAKS,                 /* keeps a block of the caller's memory */
+    TAKES_TOO_MUCH,        /* takes more memory than it says, for a while */
+    CHANGES,               /* gives other pixels from time to time */
+    LACKS_BYTE,            /* leaves the last byte as it was */
+    DIFFERS,               /* gives other pixels by the code for x86-64-v3 */
+    READS_PAST,            /* reads a byte past the stream */
+    COUNTS_ROWS,           /* names a row more as complete than there is */
+    HIDES_FAULT,           /* answers OK for a part */
+    WRONG_BYTES,           /* says that an image takes a byte more */
+    PAST_DATA,             /* metadata_within writes a byte too many */
+    WRONG_SIZE,            /* read_info says that a picture takes a byte more */
+    WRONG_NEED,            /* next_segment asks for a byte more than it needs */
+};
+
+static int is_now(int fault) { return FAULT == fault; }
+
+static void write_wrongly(unsigned char *pixels, const zaxbriar_options *options,
+                          const zaxbriar_picture *picture) {
+    static unsigned count;
+    if (is_now(BYTE_PAST_PICTURE)) pixels[picture->size] ^= 1;
+    if (is_now(BYTE_IN_GAP) && options->stride > picture->row_bytes && picture->height > 1)
+        pixels[picture->row_bytes] ^= 1;
+    if (is_now(BYTE_BEFORE)) pixels[-1] ^= 1;
+    if (is_now(CHANGES) && ++count % 3 == 0) pixels[0] ^= 1;
+    if (is_now(DIFFERS) && zaxbriar_is_v3()) pixels[0] ^= 1;
+}
+
+static void take_memory(const zaxbriar_options *options, const zaxbriar_picture *picture) {
+    const zaxbriar_memory *memory = options->memory;
+    if (is_now(LEAKS) && memory) (void)memory->allocate(memory->context, 16);
+    if (!is_now(TAKES_TOO_MUCH) || !memory) return;
+    void *block = memory->allocate(memory->context, picture->decoding_bytes + (1 << 20));
+    if (block) memory->release(memory->context, block);
+}
+
+zaxbriar_result __wrap_zaxbriar_decode(const void *jpeg, size_t jpeg_size,
+                                       const zaxbriar_options *options, void *pixels,
+                                       size_t pixels_size, zaxbriar_picture *picture) {
+    unsigned char *end = (unsigned char *)pixels + pixels_size, last = pixels_size ? end[-1] : 0;
+    zaxbriar_result result =
+        __real_zaxbriar_decode(jpeg, jpeg_size, options, pixels, pixels_size, picture);
+    if (result == ZAXBRIAR_OK) write_wrongly(pixels, options, picture);
+    if (result == ZAXBRIAR_OK) take_memory(options, picture);
+    if (is_now(LACKS_BYTE) && result == ZAXBRIAR_OK && picture->size == pixels_size) end[-1] = last;
+    if (is_now(READS_PAST)) (void)((const volatile unsigned char *)jpeg)[jpeg_size];
+    if (is_now(SPOILS) && result == ZAXBRIAR_MALFORMED && pixels_size) *(char *)pixels ^= 1;
+    if (is_now(WRONG_BYTES) && result == ZAXBRIAR_OK && picture->stream_bytes < jpeg_size)
+        picture->stream_bytes++;
+    if (!is_now(SHOWS_TRUNCATED) || result != ZAXBRIAR_TRUNCATED) return result;
+    if (__real_zaxbriar_decode_partial(jpeg, jpeg_size, options, pixels, pixels_size, picture) !=
+        ZAXBRIAR_PARTIAL)
+        return result;
+    picture->fault = 0;
+    picture->whole_rows = 0;
+    picture->text[0] = 0;
+    return ZAXBRIAR_OK;
+}
+
+zaxbriar_result __wrap_zaxbriar_decode_partial(const void *jpeg, size_t jpeg_size,
+                                               const zaxbriar_options *options, void *pixels,
+                                               size_t pixels_size, zaxbriar_picture *picture) {
+    zaxbriar_result result =
+        __real_zaxbriar_decode_partial(jpeg, jpeg_size, options, pixels, pixels_size, picture);
+    if (result != ZAXBRIAR_PARTIAL) return result;
+    if (is_now(COUNTS_ROWS) && picture->whole_rows < picture->height) picture->whole_rows++;
+    if (!is_now(HIDES_FAULT)) return result;
+    picture->fault = picture->feature = picture->feature_argument = 0;
+    picture->whole_rows = picture->height;
+    picture->text[0] = 0;
+    return ZAXBRIAR_OK;
+}
+
+zaxbriar_result __wrap_zaxbriar_metadata_within(const void *jpeg, size_t jpeg_size,
+                                                const zaxbriar_options *options, int kind,
+                                                void *data, size_t data_size, size_t *length) {
+    zaxbriar_result result = __real_zaxbriar_metadata_within(jpeg, jpeg_size, options, kind, data,
+                                                             data_size, length);
+    if (is_now(PAST_DATA) && result == ZAXBRIAR_OK) ((unsigned char *)data)[*length] ^= 1;
+    return result;
+}
+
+zaxbriar_result __wrap_zaxbriar_read_info(const void *jpeg, size_t jpeg_size,
+                                          const zaxbriar_options *options,
+                                          zaxbriar_picture *picture) {
+    zaxbriar_result result = __real_zaxbriar_read_info(jpeg, jpeg_size, options, picture);
+    if (is_now(WRONG_SIZE) && result == ZAXBRIAR_OK) picture->size++;
+    return result;
+}
+
+zaxbriar_result __wrap_zaxbriar_next_segment(const void *jpeg, size_t jpeg_size,
+                                             zaxbriar_segment *segment) {
+    zaxbriar_result result = __real_zaxbriar_next_segment(jpeg, jpeg_size, segment);
+    if (is_now(WRONG_NEED) && result == ZAXBRIAR_TRUNCATED) segment->needed++;
+    return result;
+}

@@ -1,0 +1,578 @@
+/* A fuzz target over the C library: each input is settings and a stream, for which the target makes
+ * the calls of zaxbriar.h, and ends the process where one of them breaks a promise.
+ *
+ * README.md says what is checked. The calls keep no state, so each check is a step of its own, and
+ * the steps come in an order that the settings choose. */
+#include <stdlib.h>
+#include <string.h>
+
+#include "answers.h"
+#include "kind.h"
+#include "room.h"
+
+/* The settings: a byte each, and two bytes for each place where the stream is cut. */
+enum {
+    LAYOUT,
+    TRANSFORM,
+    SCALE,
+    MIN_WIDTH,
+    MIN_HEIGHT,
+    PASSES,
+    STRIDE,
+    GAP,
+    FLAGS,
+    REFUSED,
+    LIMIT,
+    KIND,
+    FIRST_CUT,
+    SECOND_CUT = FIRST_CUT + 2,
+    SETTINGS = SECOND_CUT + 2
+};
+enum { HAS_PLACES = 1, BY_MALLOC = 2, ONE_KIND = 4, OLD_KIND_FIRST = 8, HAS_EXTRA = 16 };
+
+/* Larger pictures are only refused, by a limit. */
+enum { MOST_SAMPLES = 1 << 18, MOST_WORK = 1 << 22 };
+/* What a call may take for tables, and for a segment that is cut, whose length it is told. */
+enum { MOST_FOR_TABLES = 1 << 16, MOST_FOR_SEGMENT = 1 << 16 };
+enum { GUARD = 64, BYTE = 0xA7 };
+
+int LLVMFuzzerTestOneInput(const uint8_t *data, size_t size);
+
+/* The input. */
+static struct {
+    const uint8_t *settings, *jpeg;
+    size_t size;
+    zaxbriar_options options;
+    struct answer full; /* the header without options */
+    struct answer info; /* with them, before the limits */
+    zaxbriar_places places;
+    int is_small;
+} of;
+
+static struct fenced jpeg_pages, part_pages, pixel_pages;
+
+static int has(int flag) { return of.settings[FLAGS] & flag; }
+
+static size_t cut_at(int setting) {
+    return of.size * (of.settings[setting] * 256u + of.settings[setting + 1]) >> 16;
+}
+
+/* Returns the first bytes of the stream, right before a page that can't be read. */
+static const uint8_t *beginning(size_t size) {
+    if (size == of.size) return of.jpeg;
+    unsigned char *copy = room_in(&part_pages, size);
+    memcpy(copy, of.jpeg, size);
+    return copy;
+}
+
+/* A picture with guards around it, and all of its bytes set. */
+static struct {
+    unsigned char before[16];
+    zaxbriar_picture picture;
+    unsigned char after[16];
+} told;
+
+static zaxbriar_picture *to_tell(void) {
+    memset(&told, BYTE, sizeof told);
+    return &told.picture;
+}
+
+static struct answer answered(zaxbriar_result result) {
+    CHECK(is_all(told.before, sizeof told.before, BYTE));
+    CHECK(is_all(told.after, sizeof told.after, BYTE));
+    return (struct answer){result, told.picture};
+}
+
+static void begin_call(const zaxbriar_options *options) {
+    begin_counting(0);
+    if (options && options->places) memset(options->places, BYTE, sizeof *options->places);
+}
+
+/* The places that the options ask for are those that zaxbriar_find_metadata finds. */
+static void check_places_of(const zaxbriar_options *options, const uint8_t *jpeg, size_t size,
+                            zaxbriar_result result) {
+    static zaxbriar_places found;
+    if (!options || !options->places) return;
+    if (result == ZAXBRIAR_BAD_ARGUMENT) return;
+    CHECK(zaxbriar_find_metadata(jpeg, size, &found) == ZAXBRIAR_OK);
+    CHECK(!memcmp(&found, options->places, sizeof found));
+}
+
+static struct answer read_info(const uint8_t *jpeg, size_t size, const zaxbriar_options *options) {
+    static const zaxbriar_options none;
+    begin_call(options);
+    struct answer answer = answered(zaxbriar_read_info(jpeg, size, options, to_tell()));
+    end_counting(2);
+    check_answer(INFO, &answer, options ? options : &none, size);
+    CHECK(answer.result != ZAXBRIAR_NO_MEMORY);
+    check_places_of(options, jpeg, size, answer.result);
+    return answer;
+}
+
+/* The pixels of the last decoding, of which the bytes before the call were all `fill`. */
+static struct {
+    unsigned char *start, fill;
+    size_t room;
+} pixels;
+
+/* Only the lines of a picture may have changed, and without one nothing. */
+static void check_unwritten(const struct answer *answer) {
+    const zaxbriar_picture *picture = &answer->picture;
+    size_t stride = of.options.stride ? of.options.stride : picture->row_bytes, written = 0;
+    CHECK(is_all(pixels.start - GUARD, GUARD, pixels.fill));
+    if (is_decoded(answer->result)) {
+        CHECK(picture->size <= pixels.room);
+        for (uint32_t row = 0; row + 1 < picture->height; row++)
+            CHECK(is_all(pixels.start + row * stride + picture->row_bytes,
+                         stride - picture->row_bytes, pixels.fill));
+        written = picture->size;
+    }
+    CHECK(is_all(pixels.start + written, pixels.room - written, pixels.fill));
+}
+
+/* Whether the stream has more than one scan. */
+static int has_scans(void) {
+    zaxbriar_segment segment;
+    int scans = 0;
+    for (size_t start = 0; scans < 2; start += segment.end) {
+        if (first_segment(of.jpeg + start, of.size - start, &segment) != ZAXBRIAR_OK) break;
+        scans += segment.marker == 0xDA;
+    }
+    return scans > 1;
+}
+
+/* The memory that a call has taken is no more than `decoding_bytes`, tables, metadata, a few lines
+ * and, of a scan that is cut, a row of blocks and the data of a restart interval. A scan of several
+ * components may have planes of its own, beside those of scans before it. */
+static void check_memory(enum call call, const struct answer *answer, size_t size) {
+    const zaxbriar_picture *picture = &of.info.picture, *full = &of.full.picture;
+    size_t metadata = (call == PART ? 6 : 4) * size, counted = 0;
+    size_t row_of_blocks = (full->width / 8 + 4) * (size_t)128;
+    if (is_decoded(answer->result)) counted = answer->picture.decoding_bytes;
+    else if (of.is_small && !is_described(answer->result)) counted = picture->decoding_bytes;
+    if (full->components > 1 && has_scans()) counted *= 2;
+    size_t beside = MOST_FOR_TABLES + MOST_FOR_SEGMENT + 4 * (size_t)picture->row_bytes;
+    CHECK(counts.peak_bytes <= counted + beside + metadata + row_of_blocks);
+}
+
+static size_t room_wanted(void) {
+    size_t extra = has(HAS_EXTRA) ? of.settings[GAP] % 32u : 0;
+    return of.is_small ? of.info.picture.size + extra : GUARD;
+}
+
+/* Decodes the first bytes of the stream into so much room, in which each byte is `fill`. */
+static struct answer decode_into(enum call call, size_t size, size_t room, unsigned char fill) {
+    const uint8_t *jpeg = beginning(size);
+    pixels.start = room_in(&pixel_pages, GUARD + room) + GUARD;
+    pixels.room = room;
+    pixels.fill = fill;
+    memset(pixels.start - GUARD, fill, GUARD + room);
+    begin_call(&of.options);
+    struct answer answer = answered((call == PART ? zaxbriar_decode_partial : zaxbriar_decode)(
+        jpeg, size, &of.options, pixels.start, room, to_tell()));
+    check_memory(call, &answer, size);
+    end_counting(4 + (unsigned)call);
+    check_answer(call, &answer, &of.options, size);
+    check_unwritten(&answer);
+    CHECK(answer.result != ZAXBRIAR_NO_MEMORY);
+    check_places_of(&of.options, jpeg, size, answer.result);
+    return answer;
+}
+
+/* An answer and its pixels, which are the caller's to free. */
+struct shown {
+    size_t size;
+    struct answer answer;
+    unsigned char *pixels;
+};
+
+static struct shown shown_of(enum call call, size_t size, unsigned char fill) {
+    struct shown shown = {size, decode_into(call, size, room_wanted(), fill), NULL};
+    shown.pixels = block(pixels.room);
+    memcpy(shown.pixels, pixels.start, pixels.room);
+    return shown;
+}
+
+/* Whether so many first rows of two pictures of one size are the same. */
+static int are_same_rows(const struct shown *one, const struct shown *other, uint32_t rows) {
+    const zaxbriar_picture *picture = &one->answer.picture;
+    size_t stride = of.options.stride ? of.options.stride : picture->row_bytes;
+    for (uint32_t row = 0; row < rows; row++)
+        if (memcmp(one->pixels + row * stride, other->pixels + row * stride, picture->row_bytes))
+            return 0;
+    return 1;
+}
+
+static void check_same(const struct shown *one, const struct shown *other) {
+    CHECK(one->answer.result == other->answer.result);
+    CHECK(!memcmp(&one->answer.picture, &other->answer.picture, sizeof one->answer.picture));
+    if (is_decoded(one->answer.result))
+        CHECK(are_same_rows(one, other, one->answer.picture.height));
+}
+
+/* Tells the fuzzer what an answer shows of the way that the decoder has gone. */
+static void note_answer(unsigned kind, const struct answer *answer) {
+    const zaxbriar_picture *picture = &answer->picture;
+    note_text(kind, picture->text);
+    note(kind + 1, (uint64_t)answer->result << 16 | (uint64_t)picture->feature << 8 |
+                       bits_of(picture->stream_bytes));
+    note(kind + 2, (uint64_t)picture->process << 8 | (uint64_t)picture->components << 4 |
+                       bits_of(picture->precision));
+    note(kind + 3, (uint64_t)picture->sampling[0] << 24 | (uint64_t)picture->sampling[1] << 16 |
+                       (uint64_t)picture->sampling[2] << 8 | picture->sampling[3]);
+    note(kind + 4, (uint64_t)bits_of(picture->width) << 8 | bits_of(picture->height));
+    if (picture->height) note(kind + 5, picture->whole_rows * (uint64_t)16 / picture->height);
+}
+
+/* The stream's segments are those that the standard has, and it can be read piece by piece. */
+static void walk_segments(void) {
+    zaxbriar_segment segment, wanted;
+    unsigned before = 0;
+    for (size_t start = 0;; start += segment.end) {
+        memset(&segment, BYTE, sizeof segment);
+        const uint8_t *jpeg = of.jpeg + start;
+        size_t left = of.size - start;
+        zaxbriar_result result = zaxbriar_next_segment(jpeg, left, &segment);
+        CHECK(result == first_segment(jpeg, left, &wanted));
+        CHECK(!memcmp(&segment, &wanted, sizeof segment));
+        note(10, (uint64_t)result << 16 | before << 8 | segment.marker);
+        before = segment.marker;
+        if (result != ZAXBRIAR_OK) break;
+    }
+    for (int setting = FIRST_CUT; setting <= SECOND_CUT; setting += 2) {
+        size_t cut = cut_at(setting);
+        zaxbriar_result result = zaxbriar_next_segment(beginning(cut), cut, &segment);
+        CHECK(result == first_segment(of.jpeg, cut, &wanted));
+        CHECK(!memcmp(&segment, &wanted, sizeof segment));
+        if (result != ZAXBRIAR_TRUNCATED || segment.needed > of.size - cut) continue;
+        cut += segment.needed - 1;
+        CHECK(zaxbriar_next_segment(beginning(cut), cut, &segment) == ZAXBRIAR_TRUNCATED);
+    }
+}
+
+static void find_places(void) {
+    static zaxbriar_places found, again;
+    memset(&found, BYTE, sizeof found);
+    CHECK(zaxbriar_find_metadata(of.jpeg, of.size, &found) == ZAXBRIAR_OK);
+    check_places(&found, of.size);
+    allow_v3(0);
+    CHECK(zaxbriar_find_metadata(of.jpeg, of.size, &again) == ZAXBRIAR_OK);
+    allow_v3(1);
+    CHECK(!memcmp(&found, &again, sizeof found));
+    note(11, (uint64_t)found.ended << 16 | bits_of(found.exif.size) << 8 | bits_of(found.xmp.size));
+    note(12, bits_of(found.icc_parts));
+}
+
+/* Describes the picture, again after all of its options are known. */
+static void describe(void) {
+    struct answer answer = read_info(of.jpeg, of.size, &of.options);
+    note_answer(20, &answer);
+    allow_v3(0);
+    struct answer other = read_info(of.jpeg, of.size, &of.options);
+    allow_v3(1);
+    CHECK(answer.result == other.result);
+    CHECK(!memcmp(&answer.picture, &other.picture, sizeof other.picture));
+    int is_refused = of.info.result != ZAXBRIAR_OK;
+    if (is_refused) CHECK(answer.result == of.info.result);
+    else CHECK(answer.result == ZAXBRIAR_OK || answer.result == ZAXBRIAR_TOO_LARGE);
+    if (!is_described(answer.result)) return;
+    check_scale(&answer.picture, &of.options, &of.full.picture);
+    CHECK(answer.picture.decoding_bytes == of.info.picture.decoding_bytes);
+    CHECK(answer.picture.stream_bytes == of.full.picture.stream_bytes);
+}
+
+/* A decoding says of the picture what the header does, with the bytes that it takes itself. */
+static void check_described(const struct answer *answer) {
+    if (!is_described(answer->result)) return;
+    zaxbriar_picture wanted = of.info.picture, found = answer->picture;
+    CHECK(found.decoding_bytes >= wanted.decoding_bytes);
+    wanted.decoding_bytes = found.decoding_bytes;
+    if (!is_decoded(answer->result)) CHECK(found.stream_bytes == wanted.stream_bytes);
+    wanted.stream_bytes = found.stream_bytes;
+    wanted.whole_rows = found.whole_rows;
+    wanted.fault = found.fault;
+    wanted.feature = found.feature;
+    wanted.feature_argument = found.feature_argument;
+    memcpy(wanted.text, found.text, sizeof found.text);
+    CHECK(!memcmp(&wanted, &found, sizeof found));
+}
+
+/* Decodes with either kind of processor's code: twice the same answer and the same pixels. */
+static struct shown shown_twice(enum call call, size_t size) {
+    allow_v3(!has(OLD_KIND_FIRST));
+    struct shown shown = shown_of(call, size, 0x5A);
+    allow_v3(has(ONE_KIND) ? !has(OLD_KIND_FIRST) : has(OLD_KIND_FIRST));
+    struct shown other = shown_of(call, size, 0xA5);
+    allow_v3(1);
+    check_same(&shown, &other);
+    free(other.pixels);
+    if (of.info.result != ZAXBRIAR_OK) CHECK(shown.answer.result == of.info.result);
+    check_described(&shown.answer);
+    if (is_misfit(&of.options, &of.full.picture)) CHECK(!is_decoded(shown.answer.result));
+    return shown;
+}
+
+/* Decodes the image, also without what follows it, and without its last byte. */
+static void decode_whole(void) {
+    struct shown shown = shown_twice(WHOLE, of.size);
+    note_answer(30, &shown.answer);
+    size_t size = shown.answer.picture.stream_bytes;
+    if (shown.answer.result == ZAXBRIAR_OK) {
+        CHECK(size > 0);
+        struct shown alone = shown_of(WHOLE, size, 0xA5);
+        check_same(&shown, &alone);
+        free(alone.pixels);
+        CHECK(decode_into(WHOLE, size - 1, room_wanted(), 0xA5).result == ZAXBRIAR_TRUNCATED);
+    }
+    free(shown.pixels);
+}
+
+/* Decodes the part before the first fault, beside the whole image. */
+static void decode_part(void) {
+    struct shown part = shown_twice(PART, of.size), whole = shown_of(WHOLE, of.size, 0xA5);
+    note_answer(40, &part.answer);
+    zaxbriar_result result = whole.answer.result;
+    if (part.answer.result == ZAXBRIAR_OK) {
+        CHECK(result == ZAXBRIAR_OK);
+        CHECK(are_same_rows(&part, &whole, part.answer.picture.height));
+        CHECK(part.answer.picture.stream_bytes == whole.answer.picture.stream_bytes);
+    } else if (part.answer.result == ZAXBRIAR_PARTIAL) {
+        CHECK(result == ZAXBRIAR_OK || !is_described(result));
+        note(50, (uint64_t)part.answer.picture.fault << 8 | result);
+    } else if (part.answer.result != ZAXBRIAR_TOO_LARGE) {
+        CHECK(result == part.answer.result || !is_described(result));
+    }
+    free(part.pixels);
+    free(whole.pixels);
+}
+
+/* Whether the bytes from one cut to another go on with one scan alone: the first is in its data,
+ * and no marker comes between them but RST. */
+static int is_in_scan(size_t from, size_t to) {
+    zaxbriar_segment segment;
+    int is_scan = 0;
+    for (size_t start = 0;; start += segment.end) {
+        if (first_segment(of.jpeg + start, from - start, &segment) != ZAXBRIAR_OK) break;
+        if (segment.marker < 0xD0 || segment.marker > 0xD7) is_scan = segment.marker == 0xDA;
+    }
+    if (!is_scan || segment.marker) return 0;
+    for (size_t at = from; at < to; at++) {
+        unsigned char byte = of.jpeg[at];
+        if (of.jpeg[at - 1] == 0xFF && byte != 0 && byte != 0xFF && (byte < 0xD0 || byte > 0xD7))
+            return 0;
+    }
+    return 1;
+}
+
+/* Whether more bytes can't change the answer. (The colours of a part that is cut may be refused,
+ * and a segment after the cut ask for others.) */
+static int is_settled(enum call call, const struct answer *answer) {
+    if (answer->result == ZAXBRIAR_PARTIAL) return answer->picture.fault != ZAXBRIAR_TRUNCATED;
+    if (call == PART && of.info.result == ZAXBRIAR_OK) return is_described(answer->result);
+    return answer->result != ZAXBRIAR_TRUNCATED;
+}
+
+/* What a longer beginning of the stream shows goes on from what a shorter one shows. */
+static void check_growth(enum call call, struct shown *shorter, struct shown *longer) {
+    uint32_t rows = shorter->answer.picture.whole_rows;
+    if (is_settled(call, &shorter->answer)) {
+        /* (of a fault they may have read more bytes) */
+        if (shorter->answer.result == ZAXBRIAR_PARTIAL || !is_described(shorter->answer.result))
+            shorter->answer.picture.stream_bytes = longer->answer.picture.stream_bytes;
+        check_same(shorter, longer);
+    } else if (is_decoded(shorter->answer.result) && is_in_scan(shorter->size, longer->size)) {
+        CHECK(is_decoded(longer->answer.result));
+        CHECK(longer->answer.picture.whole_rows >= rows);
+        CHECK(are_same_rows(shorter, longer, rows));
+        note(51, bits_of(rows));
+    }
+}
+
+/* Feeds the stream in pieces: what is there is decoded again as it grows. */
+static void feed(void) {
+    size_t one = cut_at(FIRST_CUT), other = cut_at(SECOND_CUT);
+    size_t sizes[] = {one < other ? one : other, one < other ? other : one, of.size};
+    for (enum call call = WHOLE; call <= PART; call++) {
+        struct shown before = shown_of(call, sizes[0], 0x5A);
+        for (int i = 1; i < 3; i++) {
+            allow_v3(i == 2);
+            struct shown after = shown_of(call, sizes[i], 0xA5);
+            check_growth(call, &before, &after);
+            free(before.pixels);
+            before = after;
+        }
+        free(before.pixels);
+    }
+}
+
+/* A buffer that is a byte too short is refused, also where nobody wants to know of the picture. */
+static void decode_short(void) {
+    if (!of.is_small || of.info.result != ZAXBRIAR_OK) return;
+    enum call call = of.settings[GAP] & 1 ? PART : WHOLE;
+    struct answer answer = decode_into(call, of.size, of.info.picture.size - 1, 0x5A);
+    CHECK(answer.result == ZAXBRIAR_NO_ROOM || answer.result == ZAXBRIAR_TOO_LARGE);
+    check_described(&answer);
+    CHECK((call == PART ? zaxbriar_decode_partial : zaxbriar_decode)(
+              of.jpeg, of.size, &of.options, pixels.start, pixels.room, NULL) == answer.result);
+    check_unwritten(&answer);
+}
+
+/* A call for metadata of a kind, into so much room; by which code depends on what fills that. */
+static zaxbriar_result copy(int kind, size_t room, unsigned char fill, size_t *length) {
+    pixels.start = room_in(&pixel_pages, GUARD + room) + GUARD;
+    memset(pixels.start - GUARD, fill, GUARD + room);
+    begin_counting(0);
+    *length = SIZE_MAX;
+    allow_v3(fill == 0x5A);
+    zaxbriar_result result = zaxbriar_metadata_within(of.jpeg, of.size, &of.options, kind,
+                                                      pixels.start, room, length);
+    allow_v3(1);
+    end_counting(7);
+    size_t written = result == ZAXBRIAR_OK ? *length : 0;
+    CHECK(written <= room && is_all(pixels.start - GUARD, GUARD, fill));
+    CHECK(is_all(pixels.start + written, room - written, fill));
+    return result;
+}
+
+enum {
+    WHOLE_EXIF = ZAXBRIAR_EXIF | ZAXBRIAR_WHOLE_IMAGE,
+    WHOLE_XMP = ZAXBRIAR_XMP | ZAXBRIAR_WHOLE_IMAGE,
+    WHOLE_ICC = ZAXBRIAR_ICC | ZAXBRIAR_WHOLE_IMAGE
+};
+
+/* The metadata of an image without a fault are where zaxbriar_find_metadata finds them. (The limits
+ * are those of the picture at its scale, and metadata are limited by its full size.) */
+static void check_found(int kind, zaxbriar_result result, size_t length) {
+    static zaxbriar_places places;
+    if (kind != WHOLE_EXIF && kind != WHOLE_XMP) return;
+    if (result == ZAXBRIAR_TOO_LARGE || of.options.transform || !of.is_small) return;
+    if (decode_into(PART, of.size, room_wanted(), 0x5A).result != ZAXBRIAR_OK) return;
+    CHECK(zaxbriar_find_metadata(of.jpeg, of.size, &places) == ZAXBRIAR_OK);
+    zaxbriar_place place = kind == WHOLE_EXIF ? places.exif : places.xmp;
+    CHECK(places.ended && place.size == length);
+    CHECK(result == (place.offset ? ZAXBRIAR_OK : ZAXBRIAR_NO_DATA));
+    if (length == 0) return;
+    CHECK(copy(kind, length, 0xA5, &length) == ZAXBRIAR_OK);
+    CHECK(!memcmp(pixels.start, of.jpeg + place.offset, length));
+}
+
+static void copy_metadata(void) {
+    static const int kinds[] = {ZAXBRIAR_EXIF, ZAXBRIAR_XMP, ZAXBRIAR_ICC, WHOLE_EXIF,
+                                WHOLE_XMP,     WHOLE_ICC,    0,            WHOLE_ICC * 2};
+    int kind = kinds[of.settings[KIND] % 8], is_whole = kind & ZAXBRIAR_WHOLE_IMAGE;
+    int is_kind = kind >= ZAXBRIAR_EXIF && kind <= WHOLE_ICC;
+    size_t length, again;
+    zaxbriar_result result = copy(kind, 0, 0x5A, &length);
+    CHECK((result == ZAXBRIAR_BAD_ARGUMENT) == !is_kind);
+    CHECK(result != ZAXBRIAR_TOO_LARGE || is_whole);
+    CHECK(result < ZAXBRIAR_PARTIAL && result != ZAXBRIAR_NO_MEMORY);
+    CHECK(length <= of.size && (length != 0) == (result == ZAXBRIAR_NO_ROOM));
+    note(13, (uint64_t)kind << 16 | (uint64_t)result << 8 | bits_of(length));
+    if (is_kind && !is_whole) {
+        CHECK(zaxbriar_metadata(of.jpeg, of.size, kind, NULL, 0, &again) == result);
+        CHECK(again == length);
+    }
+    if (result == ZAXBRIAR_NO_ROOM) {
+        CHECK(copy(kind, length - 1, 0xA5, &again) == ZAXBRIAR_NO_ROOM && again == length);
+        result = copy(kind, length + of.settings[GAP] % 2, 0xA5, &again);
+        CHECK(result == ZAXBRIAR_OK && again == length);
+    }
+    check_found(kind, result, length);
+}
+
+/* With an allocation refused a call gives up, or gives the answer that needs no more memory. */
+static void refuse_memory(void) {
+    long refused = of.settings[REFUSED];
+    if (!of.options.memory || !refused) return;
+    for (enum call call = INFO; call <= PART; call++) {
+        struct answer answer = call == INFO ? read_info(of.jpeg, of.size, &of.options)
+                                            : decode_into(call, of.size, room_wanted(), 0x5A);
+        begin_counting(refused);
+        if (call != INFO) memset(pixels.start - GUARD, pixels.fill, GUARD + pixels.room);
+        zaxbriar_result result =
+            call == INFO ? zaxbriar_read_info(of.jpeg, of.size, &of.options, to_tell())
+                         : (call == PART ? zaxbriar_decode_partial : zaxbriar_decode)(
+                               of.jpeg, of.size, &of.options, pixels.start, pixels.room, to_tell());
+        int is_refused = counts.allocations >= refused;
+        end_counting(8);
+        struct answer other = answered(result);
+        check_answer(call, &other, &of.options, of.size);
+        if (call != INFO) check_unwritten(&other);
+        CHECK(result == answer.result || (is_refused && result == ZAXBRIAR_NO_MEMORY));
+    }
+}
+
+/* The options of the settings, before the limits. */
+static void choose_options(void) {
+    static const uint8_t scales[] = {0, 1, 2, 4, 8, 0, 8, 3};
+    const uint8_t *settings = of.settings;
+    of.options = (zaxbriar_options){.layout = settings[LAYOUT] % 8,
+                                    .transform = settings[TRANSFORM] % 7,
+                                    .scale = scales[settings[SCALE] % 8],
+                                    .min_width = settings[MIN_WIDTH],
+                                    .min_height = settings[MIN_HEIGHT],
+                                    .max_passes = 1 + settings[PASSES] % 8,
+                                    .memory = has(BY_MALLOC) ? NULL : &counted_memory,
+                                    .places = has(HAS_PLACES) ? &of.places : NULL};
+}
+
+/* Limits the picture, so that an input takes well under a second, or by the settings. */
+static void choose_limits(void) {
+    const zaxbriar_picture *full = &of.full.picture, *picture = &of.info.picture;
+    uint64_t most = (uint64_t)full->width * full->height * full->components;
+    uint64_t samples = (uint64_t)picture->width * picture->height * picture->components;
+    if (most > MOST_SAMPLES) {
+        of.options.max_samples = 1;
+        return;
+    }
+    of.is_small = of.info.result == ZAXBRIAR_OK;
+    if (most * of.size <= MOST_WORK && of.settings[PASSES] >= 128) of.options.max_passes = 0;
+    switch (of.settings[LIMIT] % 8) {
+    case 1: of.options.max_samples = samples; break;
+    case 2: of.options.max_samples = samples - 1; break;
+    case 3: of.options.max_bytes = picture->decoding_bytes; break;
+    case 4: of.options.max_bytes = picture->decoding_bytes - 1; break;
+    default: break;
+    }
+}
+
+/* The stride: none, one with gaps, or one that is too short or too long. */
+static void choose_stride(void) {
+    uint64_t row_bytes = of.info.picture.row_bytes;
+    if (of.info.result != ZAXBRIAR_OK) return;
+    switch (of.settings[STRIDE] % 8) {
+    case 5: of.options.stride = row_bytes + of.settings[GAP] % 16; break;
+    case 6: of.options.stride = row_bytes - 1; break;
+    case 7: of.options.stride = ((uint64_t)1 << 32) + 1; break;
+    default: return;
+    }
+    int is_wrong = of.settings[STRIDE] % 8 > 5 && of.options.stride;
+    of.info = read_info(of.jpeg, of.size, &of.options);
+    CHECK(of.info.result == (is_wrong ? ZAXBRIAR_BAD_ARGUMENT : ZAXBRIAR_OK));
+}
+
+int LLVMFuzzerTestOneInput(const uint8_t *data, size_t size) {
+    typedef void step(void);
+    static step *const steps[] = {walk_segments, find_places,   describe,      decode_whole,
+                                  decode_part,   feed,          decode_short,  copy_metadata,
+                                  refuse_memory, walk_segments, decode_whole};
+    enum { STEPS = sizeof steps / sizeof *steps };
+    _Static_assert(STEPS == 11, "a prime number, so that each distance comes to all steps");
+    if (size < SETTINGS) return 0;
+    of.settings = data;
+    of.size = size - SETTINGS;
+    unsigned char *jpeg = room_in(&jpeg_pages, of.size);
+    allow_writing(&jpeg_pages, 1);
+    memcpy(jpeg, data + SETTINGS, of.size);
+    allow_writing(&jpeg_pages, 0);
+    of.jpeg = jpeg;
+    of.is_small = 0;
+    choose_options();
+    of.full = read_info(of.jpeg, of.size, NULL);
+    of.info = read_info(of.jpeg, of.size, &of.options);
+    choose_stride();
+    choose_limits();
+    size_t at = data[FLAGS] >> 5, distance = 1 + data[GAP] % (STEPS - 1u);
+    for (int i = 0; i < STEPS; i++, at += distance) steps[at % STEPS]();
+    return 0;
+}
