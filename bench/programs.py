@@ -9,6 +9,7 @@ from files import AS_STORED
 
 TURBO = "libjpeg-turbo"
 NO_SIMD = {"JSIMD_FORCENONE": "1"}
+NO_AVX2 = {"JSIMD_FORCESSE2": "1"}
 # What ./use asks of the C library.
 LARGE_PAGES = {"GLIBC_TUNABLES": "glibc.malloc.hugetlb=1"}
 TIMES = re.compile(r"process time: best ([\d.]+) ms, median ([\d.]+) ms")
@@ -100,11 +101,11 @@ def peer_programs(tools, peers):
         )
 
 
-def later_turbo(tools):
+def later_turbo(tools, environment=None):
     """The program of libjpeg-turbo over a later library, where that is there."""
     run, turbo = tools / "turbo3" / "run", words_of_tool(tools / "turbo")
     if run.exists():
-        yield Repeated("libjpeg-turbo 3", lambda case: [str(run), *turbo(case)])
+        yield Repeated("libjpeg-turbo 3", lambda case: [str(run), *turbo(case)], environment)
 
 
 def repeated_programs(bench_decode, tools, peers):
@@ -141,11 +142,11 @@ def pillow_programs(clients):
 
 
 def programs_for_v2(tools, peers):
-    """The C library as it runs on a processor without AVX2, and other programs."""
+    """The C library and libjpeg-turbo as they run on a processor without AVX2, and others."""
     yield Repeated("ours, for x86-64-v2", words_of_tool(tools / "library_v2"))
     yield from peer_programs(tools, peers)
-    yield Repeated(TURBO, words_of_tool(tools / "turbo"))
-    yield from later_turbo(tools)
+    yield Repeated(TURBO, words_of_tool(tools / "turbo"), NO_AVX2)
+    yield from later_turbo(tools, NO_AVX2)
 
 
 def pnm_words(zaxbriar, case):
