@@ -271,11 +271,13 @@ def shared(specs):
         yield from ["", *APART, ""] if what != "The picture" else []
 
 
-def by_crate(specs, keys):
-    """A list of the files of some definitions by crate, with the number of definitions of each."""
+def by_crate(specs, keys, on):
+    """A list of the files of some definitions by crate, in bold those that no law of a table of
+    laws computes, if there is one."""
     files = specs.by_file(keys)
+    bold = lambda file: "" if on is None or file in on else "**"
     for crate in CRATES:
-        named = [f"`{file[1]}` {len(files[file][0])}" for file in files if file[0] == crate]
+        named = [f"{bold(file)}`{file[1]}`{bold(file)}" for file in files if file[0] == crate]
         if named:
             item = f"- {crate}: " + ", ".join(named)
             yield from textwrap.wrap(item, 100, subsequent_indent="  ")
@@ -285,22 +287,19 @@ def lists(specs):
     """The generated part of docs/REVIEW.md."""
     calls, laws, library = believed(specs)
     on = computed_on(specs)
-    alone = lambda keys: {key for key in keys if key[0] not in on}
     reader = specs.under(READER)
-    for text, keys in [
-        (f"The clauses of `Decoder`, `run` and `report` reach {specs.total(calls)}:", calls),
-        ("Of these files no law computes", alone(calls)),
-        (f"`laws::headline` and `laws::lossless` reach {specs.total(laws)} more:", laws),
-        (f"The calls of the C library reach {specs.total(library)} more:", library),
-        ("Of these files no law computes", alone(library)),
+    for text, keys, table in [
+        (f"The clauses of `Decoder`, `run` and `report` reach {specs.total(calls)}:", calls, on),
+        (f"`laws::headline` and `laws::lossless` reach {specs.total(laws)} more:", laws, None),
+        (f"The calls of the C library reach {specs.total(library)} more:", library, on),
     ]:
-        yield from [text, "", *by_crate(specs, keys), ""]
+        yield from [text, "", *by_crate(specs, keys, table), ""]
     for what, names in [("What is written", WRITER), ("The picture", PICTURE)]:
         under = specs.under(names)
         roots = ", ".join(f"`{name.split('.')[2]}`" for name in names)
         text = f"{what} ({roots}) rests on {specs.total(under)}. "
         text += f"Of these {specs.total(under & reader)} are under `meaning` too:"
-        yield from [*textwrap.wrap(text, 100), "", *by_crate(specs, under & reader), ""]
+        yield from [*textwrap.wrap(text, 100), "", *by_crate(specs, under & reader, None), ""]
     yield from textwrap.wrap(" ".join(APART), 100)
 
 
