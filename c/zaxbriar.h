@@ -212,7 +212,7 @@ typedef struct zaxbriar_segment {
  * the picture and before any byte after the header is read. A picture that exceeds one is
  * ZAXBRIAR_TOO_LARGE.
  *
- * `max_passes` bounds the time: each scan, of eleven bytes or more, may go over all blocks of the
+ * `max_passes` bounds the time: each scan, of ten bytes or more, may go over all blocks of the
  * picture again. All together they may code `max_passes` times the blocks that one scan of all
  * components codes, at full size (eight samples of a lossless picture count as a block). The scan
  * that would exceed this is refused after its header, before its data, as ZAXBRIAR_TOO_MANY_PASSES
