@@ -89,15 +89,15 @@ def is_memory_error(stream):
     def refuse(*_, **__):
         raise zaxbriar.NoMemoryError("")
 
-    kept = zaxbriar.decode, zaxbriar.decode_partial, ImageFile.LOAD_TRUNCATED_IMAGES
-    zaxbriar.decode = zaxbriar.decode_partial = refuse
+    kept = zaxbriar.calls.decode_at, ImageFile.LOAD_TRUNCATED_IMAGES
+    zaxbriar.calls.decode_at = refuse
     ImageFile.LOAD_TRUNCATED_IMAGES = True
     try:
         loaded(stream)
     except MemoryError:
         return True
     finally:
-        zaxbriar.decode, zaxbriar.decode_partial, ImageFile.LOAD_TRUNCATED_IMAGES = kept
+        zaxbriar.calls.decode_at, ImageFile.LOAD_TRUNCATED_IMAGES = kept
     return False
 
 

@@ -4,13 +4,13 @@ Pillow's own Python code still reads the header and the metadata, and libjpeg st
 """
 
 import ctypes
-import functools
 import threading
 import warnings
 from array import array
 
 import zaxbriar
 from PIL import Image, ImageFile, JpegImagePlugin
+from zaxbriar import calls, library
 
 # How many times the scans of a file may code the blocks of its picture, all together: a program may
 # set another number, or 0 for any. A file with more is damaged at the scan that would exceed it.
@@ -127,9 +127,11 @@ def _joined(stream):
     return stream[:at] + stream[at + 4 :]
 
 
-def _decode_partially(stream, **options):
-    """The picture of what a stream brings up to its first fault."""
-    return zaxbriar.decode_partial(stream, **options).picture
+def _decoded(data, is_partial, **options):
+    """The picture of a stream, or of what it brings up to its first fault."""
+    if is_partial:
+        return zaxbriar.decode_partial(data, **options).picture
+    return zaxbriar.decode(data, **options)
 
 
 class ZaxbriarDecoder(ImageFile.PyDecoder):
@@ -144,7 +146,7 @@ class ZaxbriarDecoder(ImageFile.PyDecoder):
             raise ValueError("invalid extents")
         super().setimage(im, extents)
 
-    def _in_place(self, decode, layout, pixel_bytes):
+    def _in_place(self, stream, call, options, layout, pixel_bytes):
         """Decodes right into the image, and says whether that was possible."""
         global decoded_in_place
         if self.state.extents() != (0, 0, *self.im.size):
@@ -152,18 +154,18 @@ class ZaxbriarDecoder(ImageFile.PyDecoder):
         memory = _memory_of(self.im, pixel_bytes)
         if memory is None:
             return False
-        address, stride = memory
+        address, options.stride = memory
+        options.layout = library.LAYOUTS.index(layout)
         width, height = self.im.size
-        size = stride * (height - 1) + width * pixel_bytes
-        lines = (ctypes.c_uint8 * size).from_address(address)
-        decode(out=lines, layout=layout, stride=stride)
+        room = options.stride * (height - 1) + width * pixel_bytes
+        calls.decode_at(call, stream, address, room, options)
         decoded_in_place += 1
         return True
 
-    def _converted(self, decode, mode):
+    def _converted(self, data, is_partial, scale, mode):
         """Decodes into memory of its own, as the picture is stored, and converts it to the mode and
         the size."""
-        picture = decode()
+        picture = _decoded(data, is_partial, scale=scale, max_passes=max_passes)
         if picture.info.sample_bytes != 1:
             raise OSError(f"samples of {picture.info.precision} bits")
         stored = {1: "L", 3: "RGB", 4: "CMYK"}[picture.info.components]
@@ -172,25 +174,29 @@ class ZaxbriarDecoder(ImageFile.PyDecoder):
             image = image.reduce(max(1, round(picture.width / self.state.xsize)))
         self.set_as_raw(image.convert(mode).tobytes(), mode)
 
-    def _load(self, stream, call):
-        """Decodes into the image, by a call like zaxbriar's own."""
+    def _load(self, data, is_partial=False):
+        """Decodes a stream into the image, or what it brings up to its first fault."""
         global decoded
         mode = self.args[0].partition(";")[0]
         scale = self.args[2] if len(self.args) > 2 else 1
-        decode = functools.partial(call, stream, scale=scale, max_passes=max_passes)
-        picture = zaxbriar.read_info(stream, scale=scale)
-        is_scaled = (picture.width, picture.height) == (self.state.xsize, self.state.ysize)
+        options = library.Options(scale=scale, max_passes=max_passes)
         formats, layout, pixel_bytes, packed = _MODES.get(mode, ((), None, None, None))
-        is_plain = (
-            is_scaled
-            and picture.precision == 8
-            and picture.format in formats
-            and self.im.mode == mode
-        )
-        if not is_plain:
-            self._converted(decode, mode)
-        elif not self._in_place(decode, layout, pixel_bytes):
-            self.set_as_raw(bytes(decode(layout=packed)), mode)
+        with calls.stream_of(data) as stream:
+            told = calls.describe(stream, options)
+            is_plain = (
+                (told.width, told.height) == (self.state.xsize, self.state.ysize)
+                and told.precision == 8
+                and library.FORMATS[told.format] in formats
+                and self.im.mode == mode
+            )
+            call = library.decode_partial if is_partial else library.decode
+            if is_plain and self._in_place(stream, call, options, layout, pixel_bytes):
+                pass
+            elif is_plain:
+                wanted = {"scale": scale, "layout": packed, "max_passes": max_passes}
+                self.set_as_raw(bytes(_decoded(data, is_partial, **wanted)), mode)
+            else:
+                self._converted(data, is_partial, scale, mode)
         decoded += 1
 
     def _load_partially(self, stream):
@@ -198,7 +204,7 @@ class ZaxbriarDecoder(ImageFile.PyDecoder):
         stays blank."""
         global decoded_partially
         try:
-            self._load(stream, _decode_partially)
+            self._load(stream, is_partial=True)
         except zaxbriar.NoMemoryError:
             raise
         except zaxbriar.Error:
@@ -209,7 +215,7 @@ class ZaxbriarDecoder(ImageFile.PyDecoder):
     def decode(self, buffer):
         stream = _joined(self.fd.read())
         try:
-            self._load(stream, zaxbriar.decode)
+            self._load(stream)
         except zaxbriar.NoMemoryError:
             raise
         except zaxbriar.Error as error:

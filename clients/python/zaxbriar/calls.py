@@ -26,7 +26,7 @@ if TYPE_CHECKING:
 
 
 @contextmanager
-def _stream(data: Buffer) -> Iterator[tuple[int, int]]:
+def stream_of(data: Buffer) -> Iterator[tuple[int, int]]:
     """Gives the address of a stream, and how many bytes it has."""
     view = memoryview(data)
     if view.itemsize != 1:
@@ -46,18 +46,19 @@ def _check(answer: int, told: library.Description, options: library.Options) -> 
     raise error
 
 
-def _described(stream: tuple[int, int], options: library.Options) -> Info:
+def describe(stream: tuple[int, int], options: library.Options) -> library.Description:
+    """Describes the picture of a stream, in the library's values."""
     told = library.Description()
     _check(library.read_info(*stream, byref(options), byref(told)), told, options)
-    return info_of(told, options)
+    return told
 
 
 def read_info(data: Buffer, **options: Unpack[Options]) -> Info:
     """Describes the picture of a stream, as decode with these options gives it, by its header. The
     options are those of the class Options."""
     wanted = options_of(options)
-    with _stream(data) as stream:
-        return _described(stream, wanted)
+    with stream_of(data) as stream:
+        return info_of(describe(stream, wanted), wanted)
 
 
 def _new_memory(size: int) -> memoryview:
@@ -67,14 +68,19 @@ def _new_memory(size: int) -> memoryview:
         raise NoMemoryError(f"a picture of {size} bytes") from None
 
 
-def _memory_of(out: Buffer, info: Info, options: library.Options) -> memoryview:
-    """The memory that a caller gives for a picture. Where it has several dimensions, the options
-    get its stride."""
+def _memory_of(
+    out: Buffer | None, stream: tuple[int, int], options: library.Options
+) -> memoryview:
+    """The memory for a picture: new, or that of a caller. Where that has several dimensions, the
+    options get its stride."""
+    if out is None:
+        return _new_memory(describe(stream, options).size)
     view = memoryview(out)
     if view.readonly:
         raise BadArgumentError("out can't be written to")
     if view.ndim == 1 and view.itemsize == 1 and view.contiguous:
         return view
+    info = info_of(describe(stream, options), options)
     if (view.shape, view.itemsize) != (info.shape, info.item_bytes):
         raise BadArgumentError(
             f"out has the shape {view.shape}, of items of {view.itemsize} bytes;"
@@ -89,22 +95,32 @@ def _memory_of(out: Buffer, info: Info, options: library.Options) -> memoryview:
     return view
 
 
+def decode_at(
+    call: Any, stream: tuple[int, int], address: int, room: int, options: library.Options
+) -> library.Description:
+    """Decodes the picture of a stream, by a call of the library, into `room` bytes of memory at an
+    address, and returns what the library says of it. The caller holds both."""
+    if address < sum(stream) and stream[0] < address + room:
+        raise BadArgumentError("out overlaps data")
+    told = library.Description()
+    _check(call(*stream, byref(options), address, room, byref(told)), told, options)
+    return told
+
+
 def _decoded(
     call: Any, data: Buffer, out: Buffer | None, given: Options
 ) -> tuple[Picture, library.Description]:
     """The picture that a call of the library decodes, and what it says of it."""
-    options, told = options_of(given), library.Description()
-    with _stream(data) as stream:
-        info = _described(stream, options)
-        memory = _new_memory(info.size) if out is None else _memory_of(out, info, options)
+    options = options_of(given)
+    with stream_of(data) as stream:
+        memory = _memory_of(out, stream, options)
         with library.held(memory) as address:
-            gap = max(0, options.stride - info.row_bytes)
-            room = memory.nbytes if memory.ndim == 1 else memory.nbytes + gap * (info.height - 1)
-            if address < sum(stream) and stream[0] < address + room:
-                raise BadArgumentError("out overlaps data")
-            _check(call(*stream, byref(options), address, room, byref(told)), told, options)
+            room = memory.nbytes
+            if memory.ndim > 1 and options.stride:
+                room = options.stride * (len(memory) - 1) + memory.nbytes // len(memory)
+            told = decode_at(call, stream, address, room, options)
             info = info_of(told, options)
-            if gap:
+            if options.stride > info.row_bytes:
                 return picture_with_gaps(memory, address, options.stride, info), told
     return picture_over(memory, info), told
 
@@ -149,7 +165,7 @@ def metadata(
     options, found = options_of(limits, LIMITS), c_size_t()
     number = number_of("kind", kind, library.KINDS)
     number |= library.WHOLE_IMAGE if whole_image else 0
-    with _stream(data) as stream:
+    with stream_of(data) as stream:
         memory = _new_memory(stream[1])
         with library.held(memory) as address:
             answer = library.metadata_within(
@@ -172,7 +188,7 @@ def find_metadata(data: Buffer) -> Places:
     """Finds where the metadata of a whole image are, by its markers alone, as fast as a search for
     bytes. In a damaged image it may find more than metadata, since the scans aren't read."""
     found = library.Places()
-    with _stream(data) as stream:
+    with stream_of(data) as stream:
         answer = library.find_metadata(*stream, byref(found))
     if answer != library.OK:
         raise error_of(answer)
@@ -194,7 +210,7 @@ def next_segment(data: Buffer, start: int = 0) -> Segment:
     `needed` and `skipped`; a length field less than 2 is a MalformedError.
     """
     found = library.Segment()
-    with _stream(data) as (address, size):
+    with stream_of(data) as (address, size):
         if not 0 <= start <= size:
             raise BadArgumentError(f"start is a number from 0 to {size}, and not {start}")
         answer = library.next_segment(address + start, size - start, byref(found))
