@@ -1,0 +1,89 @@
+//! Bytes of a stream, markers and segments (T.81, B.1.1).
+
+use crate::rule::{Rule, Stop};
+
+/// The marker EOI.
+pub(crate) const EOI: u8 = 0xd9;
+
+/// Bytes that are still to be read, of a stream or of a segment.
+#[derive(Clone, Copy)]
+pub(crate) struct Cursor<'a> {
+    pub(crate) rest: &'a [u8],
+    /// The offset of the first byte after them.
+    end: usize,
+}
+
+impl<'a> Cursor<'a> {
+    pub(crate) fn new(stream: &'a [u8]) -> Cursor<'a> {
+        Cursor {
+            rest: stream,
+            end: stream.len(),
+        }
+    }
+
+    /// Returns the offset of the next byte.
+    pub(crate) fn offset(&self) -> usize {
+        self.end.saturating_sub(self.rest.len())
+    }
+
+    /// Returns the stop of a stream that breaks a rule at the next byte.
+    pub(crate) fn breaks(&self, rule: Rule) -> Stop {
+        rule.at(self.offset())
+    }
+
+    /// Takes the next byte, if there is one.
+    pub(crate) fn byte(&mut self) -> Option<u8> {
+        let [byte, rest @ ..] = self.rest else {
+            return None;
+        };
+        self.rest = rest;
+        Some(*byte)
+    }
+
+    /// Takes the next two bytes as a number, the higher byte first, if they are there.
+    pub(crate) fn number(&mut self) -> Option<u16> {
+        let [high, low, rest @ ..] = self.rest else {
+            return None;
+        };
+        self.rest = rest;
+        Some(256 * u16::from(*high) + u16::from(*low))
+    }
+
+    /// Takes the next marker, before which fill bytes may stand (B.1.1.2), and returns its code.
+    pub(crate) fn marker(&mut self) -> Result<u8, Stop> {
+        for _ in 0..self.rest.len() {
+            match self.rest {
+                [0xff, 0xff, ..] => {
+                    let _ = self.byte();
+                }
+                [0xff] => return Err(self.breaks(Rule::Truncated)),
+                [0xff, code, rest @ ..] if *code != 0 => {
+                    self.rest = rest;
+                    return Ok(*code);
+                }
+                _ => return Err(self.breaks(Rule::Stray)),
+            }
+        }
+        Err(self.breaks(Rule::Truncated))
+    }
+
+    /// Takes a segment from its length on (B.1.1.4), and returns what follows its length.
+    pub(crate) fn segment(&mut self) -> Result<Cursor<'a>, Stop> {
+        let start = self.offset();
+        let Some(length) = self.number() else {
+            return Err(Rule::Truncated.at(self.end));
+        };
+        let Some(length) = usize::from(length).checked_sub(2) else {
+            return Err(Rule::Length.at(start));
+        };
+        let offset = self.offset();
+        let Some((data, rest)) = self.rest.split_at_checked(length) else {
+            return Err(Rule::Truncated.at(self.end));
+        };
+        self.rest = rest;
+        Ok(Cursor {
+            rest: data,
+            end: offset.saturating_add(length),
+        })
+    }
+}

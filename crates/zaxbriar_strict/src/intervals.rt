@@ -1,0 +1,52 @@
+//! Restart intervals (T.81, B.2.1 and E.2.4).
+
+use crate::bits::Bits;
+use crate::cursor::Cursor;
+use crate::rule::{Rule, Stop};
+
+/// The intervals of a scan's data.
+#[derive(Drop)]
+pub(crate) struct Intervals<'a> {
+    /// The bits of the interval that is read.
+    pub(crate) bits: Bits<'a>,
+    /// How many MCUs an interval has, 0 where there is but one interval.
+    every: u16,
+    /// How many of them are to come.
+    left: u16,
+    /// The number of the next restart marker.
+    next: u8,
+}
+
+impl<'a> Intervals<'a> {
+    pub(crate) fn new(start: Cursor<'a>, every: u16) -> Intervals<'a> {
+        Intervals {
+            bits: Bits::new(start),
+            every,
+            left: every,
+            next: 0,
+        }
+    }
+
+    /// Returns whether the interval's MCUs were all counted, so that another one follows.
+    pub(crate) fn is_over(&self) -> bool {
+        self.every != 0 && self.left == 0
+    }
+
+    /// Counts an MCU.
+    pub(crate) fn count(&mut self) {
+        self.left = self.left.saturating_sub(1);
+    }
+
+    /// Ends the interval, and begins the one after the restart marker that follows.
+    pub(crate) fn restart(&mut self) -> Result<(), Stop> {
+        let place = self.bits.end()?;
+        let mut rest = place;
+        if rest.marker()? != 0xd0 + self.next % 8 {
+            return Err(place.breaks(Rule::OtherRestart));
+        }
+        self.next = (self.next % 8 + 1) % 8;
+        self.left = self.every;
+        self.bits = Bits::new(rest);
+        Ok(())
+    }
+}

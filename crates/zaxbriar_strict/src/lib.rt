@@ -1,0 +1,90 @@
+//! Judges whether a stream is exactly what T.81 (ITU-T Rec. T.81, the JPEG standard) defines.
+//!
+//! This is no decoder, and shares nothing with one: it reads a stream by the standard's clauses,
+//! takes nothing that they don't define, and makes no picture.
+#![tactic(auto)]
+
+ghost use Rattle.std.specs.Prelude.{IfOk, length};
+ghost use Rattle.zaxbriar_strict.specs.Verdicts.{IsWithin};
+
+mod bits;
+mod blocks;
+mod cursor;
+mod frame;
+mod huffman;
+mod intervals;
+mod lossless;
+mod quantization;
+mod rule;
+mod scan;
+mod tables;
+mod transform;
+mod walk;
+
+use crate::rule::Stop;
+use crate::walk::read_stream;
+use std::alloc::Global;
+
+/// Where a stream departs from T.81.
+#[derive(Clone, Copy, Debug, PartialEq)]
+pub struct Departure {
+    /// The clause, as `B.2.3`.
+    pub section: &'static str,
+    /// What the stream has that the clause doesn't allow, as `components out of the order of the
+    /// frame`.
+    pub rule: &'static str,
+    /// The offset of the byte at which it does, or the length of the stream where it ends too soon.
+    pub offset: u64,
+}
+
+/// What a stream is by T.81.
+#[derive(Clone, Copy, Debug, PartialEq)]
+pub enum Verdict {
+    /// It is exactly what the standard defines, from SOI to EOI, and nothing of it is lacking.
+    Strict,
+    /// It breaks a rule: the first one in the order of the stream. What is known only at the end,
+    /// as that a component has no scan, counts as broken there.
+    Departs(Departure),
+    /// It breaks no rule up to a feature of the standard that isn't read, which is named:
+    /// arithmetic coding, hierarchical coding, or a number of lines that DNL gives.
+    Unread(&'static str),
+}
+
+/// Why a stream isn't judged.
+#[derive(Clone, Copy, Debug, PartialEq)]
+pub enum Refusal {
+    /// There is no memory.
+    OutOfMemory,
+    /// More than the limit would be needed beside the stream: this many bytes.
+    Memory(u64),
+}
+
+/// Judges whether a stream is exactly what T.81 defines, in the interchange format: one image from
+/// SOI to EOI, with all its tables, all blocks or samples of all components and all their bits.
+///
+/// Baseline, extended and progressive frames of 8 and 12 bits and lossless ones of 2 to 16 bits are
+/// read, with Huffman coding. Of each segment, header and code it is checked what the clauses of
+/// T.81 demand of it: which tables there are and what they hold, which scans may follow each other,
+/// where markers stand, that no bits lack and none are left, that what fills a byte is ones, and
+/// that samples can have the coefficients. What applications put into their segments is not asked.
+///
+/// Beside the stream at most `most_bytes` are used, 0 for no limit: 160 KiB, and of a progressive
+/// frame 128 bytes for each block. It is checked before memory is taken. The time follows the bytes
+/// of the stream and the blocks that scans have data for, and not the size that a header claims.
+pub fn judge(alloc: Global, stream: &[u8], most_bytes: u64) -> Result<Verdict, Refusal>
+    ensures within { IfOk result (IsWithin (length stream.now)) }
+{
+    match read_stream(alloc, stream, most_bytes) {
+        Ok(()) => Ok(Verdict::Strict),
+        Err(Stop::Departs(rule, offset)) => {
+            let (section, rule) = rule.words();
+            Ok(Verdict::Departs(Departure {
+                section,
+                rule,
+                offset: offset.min(stream.len()) as u64,
+            }))
+        }
+        Err(Stop::Unread(feature)) => Ok(Verdict::Unread(feature)),
+        Err(Stop::Refused(refusal)) => Err(refusal),
+    }
+}

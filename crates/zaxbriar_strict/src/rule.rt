@@ -1,0 +1,192 @@
+//! The rules of T.81 that are checked, and why reading stops.
+
+use crate::Refusal;
+use std::alloc::AllocError;
+
+/// A rule that a stream breaks.
+#[derive(Clone, Copy)]
+pub(crate) enum Rule {
+    NoImage,
+    Truncated,
+    Stray,
+    Length,
+    Misplaced,
+    Restart,
+    SecondFrame,
+    NoFrame,
+    NoScan,
+    ComponentWithoutScan,
+    AfterEnd,
+    SecondImage,
+    Interval,
+    Lines,
+    NoQuantization,
+    Quantization,
+    ZeroStep,
+    WideStep,
+    NoCodes,
+    Codes,
+    CodeCount,
+    Overfull,
+    EmptyTable,
+    BaselineTable,
+    LosslessTable,
+    NoPicture,
+    FrameLength,
+    Precision,
+    Factor,
+    Selector,
+    Identifier,
+    FrameComponents,
+    ScanHeader,
+    UnknownComponent,
+    ComponentOrder,
+    UnitSize,
+    EntropySelector,
+    LosslessSelector,
+    SecondScan,
+    PredictorOrTransform,
+    NoPrediction,
+    SequentialBand,
+    Band,
+    SharedBand,
+    Approximation,
+    BandBeforeDc,
+    BandOrder,
+    UnsentBits,
+    NoStepTable,
+    ChangedStepTable,
+    NoCodeTable,
+    OnesAlone,
+    DcCategories,
+    LosslessCategories,
+    PartialRows,
+    DataEnd,
+    NoCode,
+    DcCategory,
+    AcCategory,
+    PastBand,
+    RunInSequential,
+    ZerosBeforeEnd,
+    ZerosAtEnd,
+    RefinedValue,
+    RefinedZerosBeforeEnd,
+    RefinedZerosAtEnd,
+    PastRefinedBand,
+    RunBeyond,
+    Category,
+    SampleBeyond,
+    Range,
+    Surplus,
+    Padding,
+    OtherRestart,
+}
+
+impl Rule {
+    /// Returns the clause that has the rule, and what a stream that breaks it has.
+    pub(crate) fn words(self) -> (&'static str, &'static str) {
+        match self {
+            Rule::NoImage => ("B.2.1", "no SOI at the start"),
+            Rule::Truncated => ("B.2.1", "the stream ends before EOI"),
+            Rule::Stray => ("B.1.1.4", "bytes that belong to no segment"),
+            Rule::Length => (
+                "B.1.1.4",
+                "a length of less than the two bytes that give it",
+            ),
+            Rule::Misplaced => ("B.1.1.3", "a marker that has no place here"),
+            Rule::Restart => ("B.2.1", "a restart marker outside the data of a scan"),
+            Rule::SecondFrame => ("B.2.1", "a second frame without a DHP segment"),
+            Rule::NoFrame => ("B.2.1", "no frame header"),
+            Rule::NoScan => ("B.2.1", "segments before EOI that no scan follows"),
+            Rule::ComponentWithoutScan => ("B.2.1", "a component without a scan"),
+            Rule::AfterEnd => ("B.2.1", "bytes after EOI"),
+            Rule::SecondImage => ("B.2.1", "another SOI after EOI"),
+            Rule::Interval => ("B.2.4.4", "a DRI segment of another length than 4"),
+            Rule::Lines => ("B.2.5", "a DNL segment without a place or a number"),
+            Rule::NoQuantization => ("B.2.4.1", "a DQT segment without a table"),
+            Rule::Quantization => ("B.2.4.1", "no such quantization table"),
+            Rule::ZeroStep => ("B.2.4.1", "a quantization table with a 0"),
+            Rule::WideStep => ("B.2.4.1", "a table of 16 bits for samples of 8"),
+            Rule::NoCodes => ("B.2.4.2", "a DHT segment without a table"),
+            Rule::Codes => ("B.2.4.2", "no such Huffman table"),
+            Rule::CodeCount => ("B.2.4.2", "a Huffman table with too few or too many values"),
+            Rule::Overfull => ("C.2", "more codes than their lengths have room for"),
+            Rule::EmptyTable => ("B.2.4.2", "a Huffman table without a code"),
+            Rule::BaselineTable => ("B.2.4.2", "a Huffman table 2 or 3 in a baseline frame"),
+            Rule::LosslessTable => ("B.2.4.2", "a table of AC codes in a lossless frame"),
+            Rule::NoPicture => ("B.2.2", "a frame without a column or a component"),
+            Rule::FrameLength => ("B.2.2", "a frame header of the wrong length"),
+            Rule::Precision => ("B.2.2", "a precision that the process doesn't have"),
+            Rule::Factor => ("B.2.2", "a sampling factor that is not 1 to 4"),
+            Rule::Selector => (
+                "B.2.2",
+                "a quantization table that the process doesn't have",
+            ),
+            Rule::Identifier => ("B.2.2", "two components with one identifier"),
+            Rule::FrameComponents => ("B.2.2", "over four components in a progressive frame"),
+            Rule::ScanHeader => ("B.2.3", "a scan header of the wrong length"),
+            Rule::UnknownComponent => ("B.2.3", "a component that the frame has not"),
+            Rule::ComponentOrder => ("B.2.3", "components out of the order of the frame"),
+            Rule::UnitSize => ("B.2.3", "an MCU of more than ten blocks"),
+            Rule::EntropySelector => ("B.2.3", "a Huffman table that the process doesn't have"),
+            Rule::LosslessSelector => ("B.2.3", "an AC table in a lossless scan"),
+            Rule::SecondScan => ("A.2", "a component in two scans"),
+            Rule::PredictorOrTransform => ("B.2.3", "no such predictor or point transform"),
+            Rule::NoPrediction => ("H.1.2.1", "selection 0, which is for differential frames"),
+            Rule::SequentialBand => ("B.2.3", "a band or an approximation in a sequential scan"),
+            Rule::Band => ("G.1.1.1.1", "a band that is none, or DC and AC in one scan"),
+            Rule::SharedBand => ("G.1.1.1.1", "AC of several components in one scan"),
+            Rule::Approximation => ("G.1.1.1", "an approximation that doesn't follow another"),
+            Rule::BandBeforeDc => ("G.1.1.1.1", "AC coefficients before DC"),
+            Rule::BandOrder => ("G.1.1.1", "a band sent again, or refined before it is sent"),
+            Rule::UnsentBits => ("G.1.1.1", "bits of coefficients that no scan has sent"),
+            Rule::NoStepTable => ("B.2.2", "a quantization table that isn't installed"),
+            Rule::ChangedStepTable => ("B.2.2", "a quantization table changed between two scans"),
+            Rule::NoCodeTable => ("B.2.3", "a Huffman table that isn't installed"),
+            Rule::OnesAlone => ("C.2", "a code of ones alone"),
+            Rule::DcCategories => ("F.1.2.1", "a table with a category beyond those of DC"),
+            Rule::LosslessCategories => ("H.1.2.2", "a table with a category above 16"),
+            Rule::PartialRows => ("H.1.1", "a restart interval that isn't of whole rows"),
+            Rule::DataEnd => ("F.2.2.5", "the data end before the last block or sample"),
+            Rule::NoCode => ("F.2.2.3", "bits that are no code of their table"),
+            Rule::DcCategory => ("F.1.2.1", "a DC category beyond those of the process"),
+            Rule::AcCategory => ("F.1.2.2", "an AC category beyond those of the process"),
+            Rule::PastBand => ("F.2.2.2", "a run of zeros past the end of the band"),
+            Rule::RunInSequential => ("F.1.2.2", "an end-of-band run in a sequential scan"),
+            Rule::ZerosBeforeEnd => ("F.1.2.2", "sixteen zeros before an end of block"),
+            Rule::ZerosAtEnd => ("F.1.2.2", "sixteen zeros at the end of a block"),
+            Rule::RefinedValue => ("G.1.2.3", "a refinement by more than one bit"),
+            Rule::RefinedZerosBeforeEnd => ("G.1.2.3", "sixteen zeros before an end of band"),
+            Rule::RefinedZerosAtEnd => ("G.1.2.3", "sixteen zeros at the end of a band"),
+            Rule::PastRefinedBand => ("G.1.2.3", "a run of zeros past the end of the band"),
+            Rule::RunBeyond => ("G.1.2.2", "an end-of-band run beyond its interval"),
+            Rule::Category => ("H.1.2.2", "a category above 16"),
+            Rule::SampleBeyond => ("H.1.2.1", "a sample beyond its precision"),
+            Rule::Range => ("A.3.3", "coefficients beyond those of any samples"),
+            Rule::Surplus => ("E.2.4", "bytes of data after the last block of an interval"),
+            Rule::Padding => ("F.1.2.3", "padding that isn't of ones"),
+            Rule::OtherRestart => ("E.2.4", "another marker than the next restart marker"),
+        }
+    }
+
+    /// Returns the stop of a stream that breaks the rule at an offset.
+    pub(crate) fn at(self, offset: usize) -> Stop {
+        Stop::Departs(self, offset)
+    }
+}
+
+/// Why reading stops before the end of a strict stream.
+#[derive(Clone, Copy)]
+pub(crate) enum Stop {
+    /// The stream breaks a rule at an offset.
+    Departs(Rule, usize),
+    /// It has this feature of T.81, which isn't read.
+    Unread(&'static str),
+    Refused(Refusal),
+}
+
+impl From<AllocError> for Stop {
+    fn from(_: AllocError) -> Stop {
+        Stop::Refused(Refusal::OutOfMemory)
+    }
+}
