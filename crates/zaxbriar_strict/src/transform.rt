@@ -8,7 +8,7 @@ use crate::huffman::HuffmanTable;
 use crate::intervals::Intervals;
 use crate::quantization::{Block, is_in_range};
 use crate::rule::{Rule, Stop};
-use crate::scan::{Member, Scan};
+use crate::scan::Scan;
 use crate::tables::Tables;
 use std::alloc::Global;
 
@@ -105,15 +105,17 @@ fn codes_of(tables: &Tables, class: u8, destination: u8) -> Result<&HuffmanTable
 }
 
 impl Context<'_> {
-    /// Reads what the scan sends of a block. `slot` is its component's place in the scan.
+    /// Reads what the scan sends of a block of the component at this place in the scan.
     fn read_coefficients(
         &self,
-        member: Member,
-        dc: &mut i32,
-        run: &mut Run,
+        slot: usize,
+        past: &mut Past,
         bits: &mut Bits<'_>,
         block: &mut Block,
     ) -> Result<(), Rule> {
+        let (Some(member), Some(dc)) = (self.scan.members().get(slot), past.dc.get_mut(slot)) else {
+            return Err(Rule::UnknownComponent);
+        };
         let band = &self.band;
         if band.has_dc() {
             if band.is_refined {
@@ -128,9 +130,9 @@ impl Context<'_> {
         }
         let table = codes_of(self.tables, 1, member.ac)?;
         if band.is_refined {
-            band.refine_ac(bits, table, run, block)
+            band.refine_ac(bits, table, &mut past.run, block)
         } else {
-            band.read_ac(bits, table, run, block)
+            band.read_ac(bits, table, &mut past.run, block)
         }
     }
 
@@ -138,13 +140,12 @@ impl Context<'_> {
     fn read_whole(
         &self,
         component: &Component,
-        member: Member,
-        dc: &mut i32,
+        slot: usize,
+        past: &mut Past,
         bits: &mut Bits<'_>,
     ) -> Result<(), Rule> {
         let mut block = [0i16; 64];
-        let mut run = 0;
-        self.read_coefficients(member, dc, &mut run, bits, &mut block)?;
+        self.read_coefficients(slot, past, bits, &mut block)?;
         match &component.steps {
             Some(steps) if !is_in_range(&block, steps, self.is_deep) => Err(Rule::Range),
             _ => Ok(()),
@@ -155,18 +156,17 @@ impl Context<'_> {
     fn read_block(
         &self,
         component: &mut Component,
-        member: Member,
-        dc: &mut i32,
-        run: &mut Run,
+        slot: usize,
+        past: &mut Past,
         bits: &mut Bits<'_>,
         place: (u32, u32),
     ) -> Result<(), Stop> {
         let read = if self.is_progressive {
             let columns = self.whole.0.saturating_mul(u32::from(component.across));
             let block = component.block_at(self.alloc, place, columns)?;
-            self.read_coefficients(member, dc, run, bits, block)
+            self.read_coefficients(slot, past, bits, block)
         } else {
-            self.read_whole(component, member, dc, bits)
+            self.read_whole(component, slot, past, bits)
         };
         match read {
             Ok(()) => Ok(()),
@@ -183,7 +183,7 @@ impl Context<'_> {
         place: (u32, u32),
     ) -> Result<(), Stop> {
         let (column, row) = place;
-        for (member, dc) in self.scan.members().iter().zip(past.dc.iter_mut()) {
+        for (slot, member) in self.scan.members().iter().enumerate() {
             let Some(component) = frame.components.get_mut(member.component) else {
                 continue;
             };
@@ -192,11 +192,21 @@ impl Context<'_> {
             for below in 0..down {
                 for beside in 0..across {
                     let place = (left.saturating_add(beside), top.saturating_add(below));
-                    self.read_block(component, *member, dc, &mut past.run, bits, place)?;
+                    self.read_block(component, slot, past, bits, place)?;
                 }
             }
         }
         Ok(())
+    }
+}
+
+/// Returns which coefficients a scan sends.
+fn band_of(frame: &Frame, scan: &Scan) -> Band {
+    let is_deep = frame.is_deep();
+    if frame.process == Process::Progressive {
+        Band::sent(scan.first, scan.last, scan.low, scan.high != 0, is_deep)
+    } else {
+        Band::whole(is_deep)
     }
 }
 
@@ -208,18 +218,7 @@ pub(crate) fn read_scan<'a>(
     scan: &Scan,
     start: Cursor<'a>,
 ) -> Result<Cursor<'a>, Stop> {
-    let is_progressive = frame.process == Process::Progressive;
-    let band = if is_progressive {
-        Band::sent(
-            scan.first,
-            scan.last,
-            scan.low,
-            scan.high != 0,
-            frame.is_deep(),
-        )
-    } else {
-        Band::whole(frame.is_deep())
-    };
+    let band = band_of(frame, scan);
     if let Err(rule) = check_tables(tables, frame, scan, &band) {
         return Err(start.breaks(rule));
     }
@@ -228,7 +227,7 @@ pub(crate) fn read_scan<'a>(
         tables,
         scan,
         band,
-        is_progressive,
+        is_progressive: frame.process == Process::Progressive,
         is_deep: frame.is_deep(),
         whole: frame.units(8),
     };
