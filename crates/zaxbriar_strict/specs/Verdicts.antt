@@ -1,7 +1,7 @@
 -- What is said of a verdict on a stream of this many bytes.
 use Rattle.std.specs.Prelude.{ℕ, ◌≤◌}
-use Rattle.zaxbriar_strict.specs.declared.Verdict.{Verdict}
-use Rattle.zaxbriar_strict.specs.declared.Verdict.TheVariants.{Strict, Departs, Unread}
+use Rattle.zaxbriar_strict.specs.declared.verdict.Verdict.{Verdict}
+use Rattle.zaxbriar_strict.specs.declared.verdict.Verdict.TheVariants.{Strict, Departs, Unread}
 
 -- A departure is at one of the bytes, or at their end.
 abbrev pub IsWithin : ℕ → Verdict → Type 0

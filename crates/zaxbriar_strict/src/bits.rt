@@ -1,5 +1,5 @@
 //! The bits of entropy-coded data (T.81, B.1.1.5 and F.2.2).
-ghost use Rattle.std.specs.Prelude.{◌≤◌, ◌<◌, ◌^◌, IfOk};
+ghost use Rattle.std.specs.Prelude.{◌≤◌};
 
 use crate::cursor::Cursor;
 use crate::huffman::HuffmanTable;
@@ -108,6 +108,7 @@ impl<'a> Bits<'a> {
     pub(crate) fn end(&mut self) -> Result<Cursor<'a>, Stop> {
         self.load();
         if self.left >= 8 {
+            // (The first of them breaks the rule.)
             let _ = self.take(1);
             return Err(self.breaks(Rule::Surplus));
         }

@@ -1,9 +1,9 @@
 //! Frame headers (T.81, B.2.2), and what scans have brought of their components.
 
-use crate::Refusal;
 use crate::cursor::Cursor;
 use crate::quantization::{Block, Steps, is_in_range};
 use crate::rule::{Rule, Stop};
+use crate::verdict::Refusal;
 use std::alloc::{AllocError, Global};
 
 /// The coding processes that are read.
@@ -117,7 +117,7 @@ impl Frame {
         for component in self.components.iter() {
             let across = u64::from(columns).saturating_mul(u64::from(component.across));
             let down = u64::from(rows).saturating_mul(u64::from(component.down));
-            let row = across.saturating_mul(128).saturating_add(64);
+            let row = across.saturating_mul(128).saturating_add(128);
             bytes = bytes.saturating_add(down.saturating_mul(row));
         }
         bytes
@@ -137,6 +137,18 @@ impl Frame {
             }
         }
         true
+    }
+}
+
+/// Returns the process of a frame header's marker, or why it isn't read (Table B.1).
+fn process_of(code: u8) -> Result<Process, Stop> {
+    match code {
+        0xc0 => Ok(Process::Baseline),
+        0xc1 => Ok(Process::Extended),
+        0xc2 => Ok(Process::Progressive),
+        0xc3 => Ok(Process::Lossless),
+        0xc9 | 0xca | 0xcb => Err(Stop::Unread("arithmetic coding")),
+        _ => Err(Stop::Unread("hierarchical coding")),
     }
 }
 
@@ -205,42 +217,65 @@ fn take_components(alloc: Global, frame: &mut Frame, data: &mut Cursor<'_>) -> R
     Ok(())
 }
 
-/// Reads a frame header (B.2.2). A frame whose number of lines is 0, so that DNL gives it, is not
-/// read.
-pub(crate) fn read_frame(alloc: Global, process: Process, data: Cursor<'_>) -> Result<Frame, Stop> {
-    let start = data;
-    let mut data = data;
+/// What a frame header says before its components.
+#[derive(Clone, Copy)]
+struct Size {
+    precision: u8,
+    height: u16,
+    width: u16,
+    count: u8,
+}
+
+/// Takes what a header says before its components, and checks that these are there.
+fn take_size(data: &mut Cursor<'_>) -> Result<Size, Rule> {
     let (Some(precision), Some(height), Some(width), Some(count)) = (
         data.byte(),
         data.number(),
         data.number(),
         data.byte(),
     ) else {
-        return Err(start.breaks(Rule::FrameLength));
+        return Err(Rule::FrameLength);
     };
     if width == 0 || count == 0 {
-        return Err(start.breaks(Rule::NoPicture));
+        return Err(Rule::NoPicture);
     }
     if data.rest.len() != 3 * usize::from(count) {
-        return Err(start.breaks(Rule::FrameLength));
+        return Err(Rule::FrameLength);
     }
-    if !has_precision(process, precision) {
-        return Err(start.breaks(Rule::Precision));
+    Ok(Size {
+        precision,
+        height,
+        width,
+        count,
+    })
+}
+
+/// Reads the frame header (B.2.2) after the marker of this code. A frame of another process, or
+/// whose number of lines is 0, so that DNL gives it, is not read.
+pub(crate) fn read_frame(alloc: Global, code: u8, data: Cursor<'_>) -> Result<Frame, Stop> {
+    let mut rest = data;
+    let size = match take_size(&mut rest) {
+        Ok(size) => size,
+        Err(rule) => return Err(data.breaks(rule)),
+    };
+    let process = process_of(code)?;
+    if !has_precision(process, size.precision) {
+        return Err(data.breaks(Rule::Precision));
     }
     let mut frame = Frame {
         process,
-        precision,
-        height: u32::from(height),
-        width: u32::from(width),
+        precision: size.precision,
+        height: u32::from(size.height),
+        width: u32::from(size.width),
         most_across: 1,
         most_down: 1,
-        components: Vec::with_capacity(alloc, usize::from(count))?,
+        components: Vec::with_capacity(alloc, usize::from(size.count))?,
     };
-    take_components(alloc, &mut frame, &mut data)?;
-    if process == Process::Progressive && count > 4 {
-        return Err(start.breaks(Rule::FrameComponents));
+    take_components(alloc, &mut frame, &mut rest)?;
+    if process == Process::Progressive && size.count > 4 {
+        return Err(data.breaks(Rule::FrameComponents));
     }
-    if height == 0 {
+    if size.height == 0 {
         return Err(Stop::Unread("a number of lines that DNL gives"));
     }
     Ok(frame)

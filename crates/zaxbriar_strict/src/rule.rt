@@ -1,6 +1,6 @@
 //! The rules of T.81 that are checked, and why reading stops.
 
-use crate::Refusal;
+use crate::verdict::Refusal;
 use std::alloc::AllocError;
 
 /// A rule that a stream breaks.

@@ -19,9 +19,6 @@ pub(crate) struct Tables {
 }
 
 impl Tables {
-    /// How many bytes they take at most.
-    pub(crate) const BYTES: u64 = 16384;
-
     pub(crate) fn new(alloc: Global) -> Result<Tables, Stop> {
         Ok(Tables {
             steps: [None; 4],

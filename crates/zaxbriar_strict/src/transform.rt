@@ -36,7 +36,8 @@ struct Past {
 
 const NOTHING: Past = Past { dc: [0; 4], run: 0 };
 
-/// Checks that a Huffman table is installed and has no code of ones alone.
+/// Checks that a Huffman table is installed and has no code of ones alone, and returns whether its
+/// symbols are at most this one.
 pub(crate) fn check_codes(
     tables: &Tables,
     class: u8,

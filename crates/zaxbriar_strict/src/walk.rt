@@ -4,7 +4,8 @@ use crate::cursor::{Cursor, EOI};
 use crate::frame::{Frame, Process, read_frame};
 use crate::rule::{Rule, Stop};
 use crate::tables::Tables;
-use crate::{Refusal, lossless, scan, transform};
+use crate::verdict::Refusal;
+use crate::{lossless, scan, transform};
 use std::alloc::Global;
 
 /// How many bytes are taken at most beside the blocks of a progressive frame, or the lines of a
@@ -33,18 +34,6 @@ fn check_memory(bytes: u64, most_bytes: u64) -> Result<(), Stop> {
     Ok(())
 }
 
-/// Returns the process of a frame header's marker, or why it isn't read (Table B.1).
-fn process_of(code: u8) -> Result<Process, Stop> {
-    match code {
-        0xc0 => Ok(Process::Baseline),
-        0xc1 => Ok(Process::Extended),
-        0xc2 => Ok(Process::Progressive),
-        0xc3 => Ok(Process::Lossless),
-        0xc9 | 0xca | 0xcb => Err(Stop::Unread("arithmetic coding")),
-        _ => Err(Stop::Unread("hierarchical coding")),
-    }
-}
-
 impl Walk {
     fn new(alloc: Global, most_bytes: u64) -> Result<Walk, Stop> {
         check_memory(BASE_BYTES, most_bytes)?;
@@ -63,9 +52,8 @@ impl Walk {
         if self.frame.is_some() {
             return Err(data.breaks(Rule::SecondFrame));
         }
-        let process = process_of(code)?;
-        let frame = read_frame(self.alloc, process, data)?;
-        if process == Process::Progressive {
+        let frame = read_frame(self.alloc, code, data)?;
+        if frame.process == Process::Progressive {
             let bytes = frame.block_bytes().saturating_add(BASE_BYTES);
             check_memory(bytes, self.most_bytes)?;
         }
