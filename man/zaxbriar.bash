@@ -15,7 +15,7 @@ _zaxbriar() {
         pnm) options+=' --scale --partial' ;;
         thumbnail) options+=' --max --as-stored --partial' ;;
         info) options+=' --json --exif --xmp --icc' ;;
-        check) options+=' --json --quiet' ;;
+        check) options+=' --json --quiet --strict' ;;
         frames) options+=' --list' ;;
     esac
     case "$before" in

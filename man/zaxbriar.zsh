@@ -49,6 +49,7 @@ case "${words[2]}" in
         own=(
             '--json[write JSON]'
             '--quiet[say nothing of whole files]'
+            '--strict[judge by T.81 instead]'
         )
         ;;
     frames) own=('--list[write a line for each frame]') ;;

@@ -13,7 +13,10 @@ const OUTPUT: &str = "The file for the report; standard output by default, or fo
 
 const QUIET: &str = "Print nothing for files that are whole";
 
-const PARAMETERS: [Parameter; 4] = [
+const STRICT: &str =
+    "Say instead which files are exactly what T.81 defines, and where the others depart from it";
+
+const PARAMETERS: [Parameter; 5] = [
     INPUTS,
     Parameter {
         name: "output",
@@ -25,6 +28,11 @@ const PARAMETERS: [Parameter; 4] = [
         name: "quiet",
         form: Form::Flag,
         help: QUIET,
+    },
+    Parameter {
+        name: "strict",
+        form: Form::Flag,
+        help: STRICT,
     },
 ];
 

@@ -14,6 +14,7 @@ mod findings;
 mod frames;
 mod metadata;
 mod partial;
+mod strictness;
 
 use std::process::ExitCode;
 use zaxbriar_files::ending::exit_code;
