@@ -1,3 +1,4 @@
 mod BoxSums
 mod Greatest
+mod PngSteps
 mod Turned

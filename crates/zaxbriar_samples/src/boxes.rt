@@ -179,7 +179,7 @@ fn reduced_bytes(alloc: Global, pixels: &[u8], reduction: Reduction) -> Result<V
 }
 
 /// Returns how many samples a pixel has.
-fn components_of(format: PixelFormat) -> u8
+pub(crate) fn components_of(format: PixelFormat) -> u8
     ensures { result ≡ components_a_pixel format }
 {
     match format {

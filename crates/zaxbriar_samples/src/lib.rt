@@ -1,11 +1,13 @@
 //! The samples of decoded pictures, for the program `zaxbriar`: pictures made smaller and turned
-//! upright, the sizes and scales for that, and netpbm files.
+//! upright, the sizes and scales for that, and netpbm and PNG files.
 //!
 //! It knows no decoder, so that the gate proves both at the same time.
 #![tactic(auto)]
 
 pub mod boxes;
+pub mod files;
 pub mod netpbm;
+pub mod png;
 pub mod requests;
 pub mod samples;
 pub mod sizes;

@@ -36,7 +36,7 @@ fn greatest_of_bits(precision: u8) -> Result<u16>
 }
 
 /// Returns the greatest value of a sample that takes as many bytes as one of this many bits.
-fn greatest_of_bytes(precision: u8) -> u16
+pub(crate) fn greatest_of_bytes(precision: u8) -> u16
     ensures { result ≡ (if is_wide precision then 65535 else 255) }
 {
     if is_wide(precision) { 65535 } else { 255 }
