@@ -15,6 +15,7 @@ use zaxbriar_pictures::extents::{Completeness, Extent};
 use zaxbriar_pictures::raw::write_raw;
 use zaxbriar_pictures::scaled::write_at;
 use zaxbriar_pictures::thumbnails::write_thumbnail;
+use zaxbriar_samples::files::PictureFormat;
 use zaxbriar_samples::netpbm::{Picture, write_picture};
 use zaxbriar_samples::requests::Request;
 
@@ -49,13 +50,14 @@ pub fn thumbnail<R: Read + Drop, W: Write>(
     request: Request,
     extent: Extent,
     limits: Limits,
+    format: PictureFormat,
     writer: &mut W,
 ) -> Result<Completeness, Refusal>
     ensures { (bytes : List ℕ) → Tells (R.remaining reader) bytes
-        → IfOk result (WritesThumbnail extent limits request bytes (W.contents writer.old)
+        → IfOk result (WritesThumbnail extent limits request format bytes (W.contents writer.old)
         (W.contents writer.new)) }
 {
-    write_thumbnail(alloc, reader, request, extent, limits, writer)
+    write_thumbnail(alloc, reader, request, extent, limits, format, writer)
 }
 
 /// Calls `write_raw`, and says what an Ok wrote, and how many blocks the scans code.

@@ -1,6 +1,6 @@
 //! Decodes JPEG files: `zaxbriar pnm photo.jpg -o photo.ppm`.
 //!
-//! Its words are `pnm` and `thumbnail`, which write pictures as netpbm files, `raw`, which writes
+//! Its words are `pnm` and `thumbnail`, which write pictures as files, `raw`, which writes
 //! their bytes, `info`, which describes files and extracts their metadata, `check`, which says
 //! whether they are whole, and `frames`, which decodes MJPEG streams. Each reads the files that are
 //! named, or standard input, and writes to `-o` or standard output. It is silent on success. A

@@ -18,6 +18,8 @@ pub enum Refusal {
     Format(FileFormat),
     /// Its name is not UTF-8 text.
     Name,
+    /// It is to be a PNG file, and its picture is CMYK, which PNG doesn't have.
+    Cmyk,
     /// Its picture has more pixels than are allowed.
     Pixels {
         /// How many it has.
@@ -61,6 +63,7 @@ impl fmt::Display for Refusal {
             Refusal::Decoding(error) => write!(f, "{}", Reason(error)),
             Refusal::Format(format) => write!(f, "a {} file, not a JPEG file", format.name()),
             Refusal::Name => write!(f, "{NOT_TEXT}"),
+            Refusal::Cmyk => write!(f, "PNG has no CMYK: write PAM"),
             Refusal::Pixels { pixels, most } => {
                 write!(
                     f,

@@ -5,7 +5,7 @@ use Rattle.jpeg_segments.specs.declared.frame.Dimensions.{Dimensions}
 use Rattle.zaxbriar_samples.specs.Boxes.{boxed}
 use Rattle.jpeg_streams.specs.declared.images.ImageInfo.{ImageInfo}
 use Rattle.zaxbriar_files.specs.declared.limits.Limits.{Limits}
-use Rattle.zaxbriar_pictures.specs.Given.{Given, IsGiven, complete_rows, file_in, given_at_scale}
+use Rattle.zaxbriar_pictures.specs.Given.{Given, IsGiven, complete_rows, given_at_scale}
 use Rattle.zaxbriar_samples.specs.DecodedPictures.{Decoded}
 use Rattle.zaxbriar_pictures.specs.ScaledPictures.{header_exif, header_info}
 use Rattle.zaxbriar_samples.specs.Sizes.{orientation_for, scale_of_request, size_for}
@@ -13,7 +13,9 @@ use Rattle.zaxbriar_pictures.specs.Thumbnails.{TellsOfFile, WritesThumbnail, fil
 use Rattle.zaxbriar_samples.specs.Turns.{upright}
 use Rattle.zaxbriar_pictures.specs.declared.extents.Completeness.{Completeness}
 use Rattle.zaxbriar_pictures.specs.declared.extents.Extent.{Extent}
+use Rattle.zaxbriar_samples.specs.declared.files.PictureFormat.{PictureFormat}
 use Rattle.zaxbriar_samples.specs.declared.requests.Request.{Request}
+use Rattle.zaxbriar_samples.specs.Files.{file_as}
 use Rattle.jpeg_segments.specs.declared.scale.Scale.{Scale}
 
 -- what is there, where something holds of it
@@ -21,11 +23,12 @@ held : {A : Type 0} (o : Option A) (P : A → Type 0) → IsSomeAnd o P → (x :
 held (Some x) P h = (x, refl, h)
 held None P h = absurd h
 
-moved : (before after : Option (List ℕ)) (made p : Decoded) → made ≡ p → Appends before after (file_in made)
-    → Appends before after (file_in p)
-moved before after made p same h = rw (← same) h
+moved : (format : PictureFormat) (before after : Option (List ℕ)) (made p : Decoded) → made ≡ p
+    → IsSomeAnd (file_as format made) (Appends before after)
+    → IsSomeAnd (file_as format p) (Appends before after)
+moved format before after made p same h = rw (← same) h
 
-pub written : (extent : Extent) (limits : Limits) (request : Request) (bytes : List ℕ) (before after : Option (List ℕ)) (scale : Scale)
+pub written : (extent : Extent) (limits : Limits) (request : Request) (format : PictureFormat) (bytes : List ℕ) (before after : Option (List ℕ)) (scale : Scale)
     (size : Dimensions) (orientation rows : ℕ) (p smaller made : Decoded) (told : Completeness)
     → orientation ≡ orientation_for request (header_exif bytes)
     → IsGiven extent limits scale bytes p rows told.fault
@@ -34,9 +37,9 @@ pub written : (extent : Extent) (limits : Limits) (request : Request) (bytes : L
     (λ full. (told.info ≡ full) × (scale ≡ scale_of_request request full orientation)
     × (size ≡ size_for request full orientation))
     → smaller ≡ boxed size p → made ≡ upright orientation smaller
-    → Appends before after (file_in made)
-    → WritesThumbnail extent limits request bytes before after told
-written extent limits request bytes before after scale size orientation rows p smaller made told turn is counted chosen less same appended =
+    → IsSomeAnd (file_as format made) (Appends before after)
+    → WritesThumbnail extent limits request format bytes before after told
+written extent limits request format bytes before after scale size orientation rows p smaller made told turn is counted chosen less same appended =
     let header = held (header_info bytes) _ chosen in
     let full = header.0 in
     let gives = held (given_at_scale extent limits scale bytes) _ is in
@@ -53,4 +56,4 @@ written extent limits request bytes before after scale size orientation rows p s
     ∙ ap (file_rows scale full.height g.picture.info.height) gives.2.2 in
     let tells : TellsOfFile full extent limits (scale_of_request request full orientation) bytes g told
     = rw (← header.2.1) (header.2.0, rows_are, gives.2.1) in
-    rw (← turn) (full, g, header.1, at_scale, moved before after made _ known appended, tells)
+    rw (← turn) (full, g, header.1, at_scale, moved format before after made _ known appended, tells)

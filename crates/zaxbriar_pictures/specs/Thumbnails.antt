@@ -1,18 +1,21 @@
 -- The file of a small picture of a stream.
 use Rattle.std.specs.Prelude.{ℕ, List, Option, ◌≡◌, ◌==◌, ◌*◌, Some, min, if◌then◌else◌}
+use Rattle.std.specs.Prelude.{IsSomeAnd}
 use Rattle.std.specs.Io.KnownBytes.{Appends}
 use Rattle.jpeg_streams.specs.declared.images.ImageInfo.{ImageInfo}
 use Rattle.jpeg_decoder.specs.Reaching.{NamesFault}
 use Rattle.jpeg_segments.specs.declared.scale.Scale.{Scale}
 use Rattle.jpeg_segments.specs.declared.scale.Scale.TheVariants.{Eighth, Quarter, Half, Full}
 use Rattle.zaxbriar_files.specs.declared.limits.Limits.{Limits}
-use Rattle.zaxbriar_pictures.specs.Given.{Given, complete_rows, file_in, given_at_scale}
+use Rattle.zaxbriar_pictures.specs.Given.{Given, complete_rows, given_at_scale}
 use Rattle.zaxbriar_pictures.specs.ScaledPictures.{header_exif, header_info}
 use Rattle.zaxbriar_samples.specs.Sizes.{orientation_for, scale_of_request, size_for}
 use Rattle.zaxbriar_pictures.specs.declared.extents.Completeness.{Completeness}
 use Rattle.zaxbriar_pictures.specs.declared.extents.Extent.{Extent}
+use Rattle.zaxbriar_samples.specs.declared.files.PictureFormat.{PictureFormat}
 use Rattle.zaxbriar_samples.specs.declared.requests.Request.{Request}
 use Rattle.zaxbriar_samples.specs.Boxes.{boxed}
+use Rattle.zaxbriar_samples.specs.Files.{file_as}
 use Rattle.zaxbriar_samples.specs.Turns.{upright}
 
 -- how many rows of the whole picture a row of the picture at a scale stands for
@@ -38,16 +41,17 @@ TellsOfFile full extent limits scale bytes g told = (told.info ≡ full)
     (complete_rows extent limits scale bytes g.picture.info.height))
     × NamesFault told.fault g.fault
 
--- A writer is given the file of the picture that the stream gives at the scale for the request,
--- within the limits, boxed down to the requested size, and turned upright by the orientation for
+-- A writer is given the file, in a format that has one, of the picture that the stream gives at the
+-- scale for the request, within the limits, boxed down to the requested size, and turned upright by the orientation for
 -- the request: the one that the Exif data of the header say, or 1. Its caller is told how much of
 -- the file's picture is complete.
-abbrev pub WritesThumbnail : Extent → Limits → Request → List ℕ → Option (List ℕ)
-    → Option (List ℕ) → Completeness → Type 0
-WritesThumbnail extent limits request bytes before after told =
+abbrev pub WritesThumbnail : Extent → Limits → Request → PictureFormat → List ℕ
+    → Option (List ℕ) → Option (List ℕ) → Completeness → Type 0
+WritesThumbnail extent limits request format bytes before after told =
     let orientation = orientation_for request (header_exif bytes) in
     (full : ImageInfo) × (g : Given) × (header_info bytes ≡ Some full)
     × (given_at_scale extent limits (scale_of_request request full orientation) bytes ≡ Some g)
-    × Appends before after
-    (file_in (upright orientation (boxed (size_for request full orientation) g.picture)))
+    × IsSomeAnd
+    (file_as format (upright orientation (boxed (size_for request full orientation) g.picture)))
+    (Appends before after)
     × TellsOfFile full extent limits (scale_of_request request full orientation) bytes g told

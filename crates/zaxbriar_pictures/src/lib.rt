@@ -1,5 +1,5 @@
 //! The pictures that the program `zaxbriar` writes: a stream's picture at a scale or within a size,
-//! upright, as a netpbm file or as its bytes.
+//! upright, as a netpbm or a PNG file or as its bytes.
 //!
 //! `write_at`, `write_thumbnail` and `write_raw` read a stream and write its picture, which they
 //! refuse after its header where it is above the limits. Where nothing has to be made of the

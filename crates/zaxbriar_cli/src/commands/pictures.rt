@@ -13,6 +13,7 @@ use zaxbriar_files::{files, names};
 use zaxbriar_pictures::extents::{Completeness, Extent};
 use zaxbriar_pictures::scaled::write_at;
 use zaxbriar_pictures::thumbnails::write_thumbnail;
+use zaxbriar_samples::files::PictureFormat;
 use zaxbriar_samples::requests::Request;
 
 /// Returns how much of a picture is requested.
@@ -31,6 +32,7 @@ struct Job {
     request: Request,
     extent: Extent,
     limits: Limits,
+    format: PictureFormat,
 }
 
 impl Job {
@@ -53,6 +55,7 @@ impl Job {
                     self.request,
                     self.extent,
                     self.limits,
+                    self.format,
                     writer,
                 )
             }
@@ -98,9 +101,14 @@ impl Job {
     }
 }
 
-/// Writes the requested pictures of the files that the arguments name, and continues after one that
-/// is refused or has a fault.
-pub fn write_all(rt: HostRuntime, matches: &ArgMatches<'_>, request: Request) -> Outcome<()> {
+/// Writes the requested pictures of the files that the arguments name, a thumbnail in this format,
+/// and continues after a file that is refused or has a fault.
+pub fn write_all(
+    rt: HostRuntime,
+    matches: &ArgMatches<'_>,
+    request: Request,
+    format: PictureFormat,
+) -> Outcome<()> {
     let limits = arguments::limits_of(&rt, matches)?;
     let Some(names) = matches.get_strs(arguments::FILE) else {
         return Ok(());
@@ -112,6 +120,7 @@ pub fn write_all(rt: HostRuntime, matches: &ArgMatches<'_>, request: Request) ->
         request,
         extent: extent_of(matches),
         limits,
+        format,
     };
     let mut outcome = Ok(());
     for name in names {

@@ -9,9 +9,11 @@ use crate::commands::pictures;
 use clap::ArgMatches;
 use zaxbriar_arguments::pnm::scale_of;
 use zaxbriar_files::ending::Outcome;
+use zaxbriar_samples::files::PictureFormat;
 use zaxbriar_samples::requests::Request;
 
 /// Converts the files that the arguments name.
 pub fn run(rt: HostRuntime, matches: &ArgMatches<'_>) -> Outcome<()> {
-    pictures::write_all(rt, matches, Request::At(scale_of(matches)))
+    let request = Request::At(scale_of(matches));
+    pictures::write_all(rt, matches, request, PictureFormat::Netpbm)
 }

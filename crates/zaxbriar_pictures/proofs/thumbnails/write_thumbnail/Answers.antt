@@ -14,7 +14,7 @@ returns-clause-written g c bytes tells =
       whole_rows = c.file_rows-whole_rows.result;
       fault = made.fault;
     } in
-    written c.args.extent c.args.limits c.args.request bytes (g.W.Write.contents c.args.writer.now)
+    written c.args.extent c.args.limits c.args.request c.args.format bytes (g.W.Write.contents c.args.writer.now)
     (g.W.Write.contents c.write_upright.new.writer) made.scale made.size made.orientation
     made.whole_rows (decoded_in made.picture) (boxed made.size (decoded_in made.picture))
     (upright made.orientation (boxed made.size (decoded_in made.picture))) told
