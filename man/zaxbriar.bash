@@ -13,7 +13,7 @@ _zaxbriar() {
     fi
     case "${COMP_WORDS[1]}" in
         pnm) options+=' --scale --partial' ;;
-        thumbnail) options+=' --max --as-stored --partial' ;;
+        thumbnail) options+=' --max --png --as-stored --partial' ;;
         info) options+=' --json --exif --xmp --icc' ;;
         check) options+=' --json --quiet --strict' ;;
         frames) options+=' --list' ;;

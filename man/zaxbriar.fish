@@ -23,6 +23,7 @@ complete -c zaxbriar -n $later -l max-memory -x -d 'Refuse pictures that need mo
 complete -c zaxbriar -n $later -l max-passes -x -d 'Refuse files with more scans over all blocks'
 complete -c zaxbriar -n $pnm -l scale -x -a '1/8 1/4 1/2 1' -d 'The scale of the width and height'
 complete -c zaxbriar -n $thumbnail -l max -x -d 'The size to fit within'
+complete -c zaxbriar -n $thumbnail -l png -d 'Write PNG'
 complete -c zaxbriar -n $thumbnail -l as-stored -d 'Do not turn the picture'
 complete -c zaxbriar -n $pnm -l partial -d 'Write the part before a fault'
 complete -c zaxbriar -n $thumbnail -l partial -d 'Write the part before a fault'

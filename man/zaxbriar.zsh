@@ -33,6 +33,7 @@ case "${words[2]}" in
     thumbnail)
         own=(
             '--max[the size to fit within]:size:(160 320 640x480 1280x960)'
+            '--png[write PNG]'
             '--as-stored[do not turn the picture]'
             '--partial[write the part before a fault]'
         )
