@@ -42,9 +42,9 @@ TellsOfFile full extent limits scale bytes g told = (told.info ≡ full)
     × NamesFault told.fault g.fault
 
 -- A writer is given the file, in a format that has one, of the picture that the stream gives at the
--- scale for the request, within the limits, boxed down to the requested size, and turned upright by the orientation for
--- the request: the one that the Exif data of the header say, or 1. Its caller is told how much of
--- the file's picture is complete.
+-- scale for the request, within the limits, boxed down to the requested size, and turned upright by
+-- the orientation for the request: the one that the Exif data of the header say, or 1. Its caller
+-- is told how much of the file's picture is complete.
 abbrev pub WritesThumbnail : Extent → Limits → Request → PictureFormat → List ℕ
     → Option (List ℕ) → Option (List ℕ) → Completeness → Type 0
 WritesThumbnail extent limits request format bytes before after told =
