@@ -13,6 +13,7 @@ _Static_assert(offsetof(zaxbriar_options, min_width) == 16, "options");
 _Static_assert(offsetof(zaxbriar_options, transform) == 20, "options");
 _Static_assert(offsetof(zaxbriar_options, layout) == 21, "options");
 _Static_assert(offsetof(zaxbriar_options, scale) == 22, "options");
+_Static_assert(offsetof(zaxbriar_options, bottom_up) == 23, "options");
 _Static_assert(offsetof(zaxbriar_options, max_bytes) == 24, "options");
 _Static_assert(offsetof(zaxbriar_options, memory) == 32, "options");
 _Static_assert(offsetof(zaxbriar_options, places) == 40, "options");
@@ -89,7 +90,7 @@ static const char *fault_of(const void *jpeg, size_t jpeg_size, const zaxbriar_o
 static const char *fault_of_decoding(const void *jpeg, size_t jpeg_size,
                                      const zaxbriar_options *options) {
     const char *fault = fault_of(jpeg, jpeg_size, options);
-    if (!fault && options && options->layout > ZAXBRIAR_XRGB) fault = "the layout doesn't exist";
+    if (!fault && options && options->layout > ZAXBRIAR_RGB565) fault = "the layout doesn't exist";
     return fault;
 }
 

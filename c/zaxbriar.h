@@ -18,10 +18,11 @@
  * - at least 64 kB of stack are left;
  * - the system has 64-bit pointers.
  *
- * A picture is returned as the stream stores it, or in 8-bit grey or colour (`layout`). As stored
- * it has 1, 3 or 4 components: grey; red, green and blue; or cyan, magenta, yellow and black, of
- * which the greatest value is full ink. A sample of at most 8 bits takes one byte; a sample of more
- * bits takes two, the lower byte first (only lossless pictures have other than 8 bits).
+ * A picture is returned as the stream stores it, or converted to grey or colour (`layout`). As
+ * stored it has 1, 3 or 4 components: grey; red, green and blue; or cyan, magenta, yellow and
+ * black, of which the greatest value is full ink. A sample of at most 8 bits takes one byte; a
+ * sample of more bits takes two, the lower byte first (only lossless pictures have other than 8
+ * bits).
  */
 #ifndef ZAXBRIAR_H
 #define ZAXBRIAR_H
@@ -80,7 +81,10 @@ typedef enum zaxbriar_layout {
     ZAXBRIAR_RGBA = 3,      /* 4 bytes, the last of which is 255 */
     ZAXBRIAR_BGRA = 4,      /* 4 bytes, the last of which is 255 */
     ZAXBRIAR_BGR = 5,       /* 3 bytes */
-    ZAXBRIAR_XRGB = 6       /* 4 bytes, the first of which is 255 */
+    ZAXBRIAR_XRGB = 6,      /* 4 bytes, the first of which is 255 */
+    ZAXBRIAR_ABGR = 7,      /* 4 bytes, the first of which is 255 */
+    ZAXBRIAR_RGB565 = 8     /* 2 bytes, the lower first: red / 8 * 2048 + green / 4 * 32 + blue / 8,
+                               each division rounded down */
 } zaxbriar_layout;
 
 /* The coding process of a picture. */
@@ -231,7 +235,8 @@ typedef struct zaxbriar_options {
     uint8_t layout;     /* zaxbriar_layout */
     uint8_t scale;      /* 1, 2, 4 or 8: request exactly 1 / scale of each side, rounded up, and
                            ignore the two minima; 0: the minima count */
-    uint8_t reserved;   /* zero */
+    uint8_t bottom_up;  /* 1: the first row is the last in memory: row y of the picture begins at
+                           stride * (height - 1 - y) of `pixels`; 0: at stride * y */
     uint64_t max_bytes; /* limits picture.decoding_bytes; 0: no limit */
     const zaxbriar_memory *memory; /* null: malloc, realloc and free */
     zaxbriar_places *places; /* null, or where zaxbriar_read_info, zaxbriar_decode and

@@ -24,8 +24,8 @@ NAMES = (
     'OK MALFORMED UNSUPPORTED TRUNCATED NO_MEMORY NO_ROOM BAD_ARGUMENT NO_DATA TOO_LARGE PARTIAL '
     'TOO_MANY_PASSES'
 ).split()
-GREY, RGB, RGBA, BGRA, BGR, XRGB = range(1, 7)
-PIXEL_BYTES = {GREY: 1, RGB: 3, RGBA: 4, BGRA: 4, BGR: 3, XRGB: 4}
+GREY, RGB, RGBA, BGRA, BGR, XRGB, ABGR, RGB565 = range(1, 9)
+PIXEL_BYTES = {GREY: 1, RGB: 3, RGBA: 4, BGRA: 4, BGR: 3, XRGB: 4, ABGR: 4, RGB565: 2}
 TRANSFORMS = [None, 'None', 'RGB', 'YCbCr', 'CMYK', 'YCCK']
 PROCESSES = {'seq': 1, 'prog': 2, 'lossless': 3}
 FEATURES = [
@@ -100,7 +100,7 @@ class Options:
 
     def __init__(self, words):
         self.max_samples = self.stride = self.min_width = self.min_height = self.transform = 0
-        self.layout = self.scale = self.reserved = self.max_bytes = self.max_passes = 0
+        self.layout = self.scale = self.bottom_up = self.max_bytes = self.max_passes = 0
         self.is_reserved = False
         for word in words:
             name, number = word.split('=')
@@ -114,7 +114,7 @@ class Options:
         """Whether they exist, whatever the picture is."""
         if self.transform == TRANSFORMS.index('None') and self.layout:
             return False
-        if self.is_reserved or self.reserved:
+        if self.is_reserved or self.bottom_up > 1:
             return False
         return self.transform < len(TRANSFORMS) and self.scale in (0, 1, 2, 4, 8)
 
@@ -194,7 +194,7 @@ def described(stream, options, is_partial):
     scale = model.pick_scale(frame, options.wanted())
     width, height, _ = model.info(frame, scale)
     components, is_wide = len(frame.comps), frame.precision > 8
-    if options.layout > XRGB:
+    if options.layout > RGB565:
         raise Refusal(BAD_ARGUMENT)
     pixel_bytes = PIXEL_BYTES.get(options.layout, components * (1 + is_wide))
     row_bytes = width * pixel_bytes
@@ -248,6 +248,11 @@ def rgb_of(samples, precision):
     return samples
 
 
+def packed(red, green, blue):
+    """The upper 5, 6 and 5 bits in a number of 16 bits."""
+    return (red >> 3) << 11 | (green >> 2) << 5 | blue >> 3
+
+
 def pixel_in(layout, samples, precision):
     red, green, blue = rgb_of(samples, precision)
     if layout == GREY:
@@ -260,6 +265,8 @@ def pixel_in(layout, samples, precision):
         BGRA: [blue, green, red, 255],
         BGR: [blue, green, red],
         XRGB: [255, red, green, blue],
+        ABGR: [255, blue, green, red],
+        RGB565: packed(red, green, blue).to_bytes(2, 'little'),
     }[layout]
 
 
@@ -278,7 +285,8 @@ def put_lines(memory, stored, options, told):
             for byte in pixel_in(options.layout, samples[at : at + count], told['precision'])
         )
     for line in range(height):
-        start = line * (options.stride or row)
+        place = height - 1 - line if options.bottom_up else line
+        start = place * (options.stride or row)
         memory[start : start + row] = stored[line * row : (line + 1) * row]
 
 

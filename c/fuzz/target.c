@@ -28,7 +28,14 @@ enum {
     SECOND_CUT = FIRST_CUT + 2,
     SETTINGS = SECOND_CUT + 2
 };
-enum { HAS_PLACES = 1, BY_MALLOC = 2, ONE_KIND = 4, OLD_KIND_FIRST = 8, HAS_EXTRA = 16 };
+enum {
+    HAS_PLACES = 1,
+    BY_MALLOC = 2,
+    ONE_KIND = 4,
+    OLD_KIND_FIRST = 8,
+    HAS_EXTRA = 16,
+    BOTTOM_UP = 32
+};
 
 /* Larger pictures are only refused, by a limit. */
 enum { MOST_SAMPLES = 1 << 18, MOST_WORK = 1 << 22 };
@@ -197,9 +204,10 @@ static struct shown shown_of(enum call call, size_t size, unsigned char fill) {
 static int are_same_rows(const struct shown *one, const struct shown *other, uint32_t rows) {
     const zaxbriar_picture *picture = &one->answer.picture;
     size_t stride = of.options.stride ? of.options.stride : picture->row_bytes;
-    for (uint32_t row = 0; row < rows; row++)
-        if (memcmp(one->pixels + row * stride, other->pixels + row * stride, picture->row_bytes))
-            return 0;
+    for (uint32_t row = 0; row < rows; row++) {
+        size_t at = (of.options.bottom_up ? picture->height - 1 - row : row) * stride;
+        if (memcmp(one->pixels + at, other->pixels + at, picture->row_bytes)) return 0;
+    }
     return 1;
 }
 
@@ -506,9 +514,10 @@ static void refuse_memory(void) {
 static void choose_options(void) {
     static const uint8_t scales[] = {0, 1, 2, 4, 8, 0, 8, 3};
     const uint8_t *settings = of.settings;
-    of.options = (zaxbriar_options){.layout = settings[LAYOUT] % 8,
+    of.options = (zaxbriar_options){.layout = settings[LAYOUT] % 10,
                                     .transform = settings[TRANSFORM] % 7,
                                     .scale = scales[settings[SCALE] % 8],
+                                    .bottom_up = has(BOTTOM_UP) != 0,
                                     .min_width = settings[MIN_WIDTH],
                                     .min_height = settings[MIN_HEIGHT],
                                     .max_passes = 1 + settings[PASSES] % 8,

@@ -48,7 +48,7 @@ static void null_segments(void) {
     CHECK(is_all((unsigned char *)&places, sizeof places, 0));
 
     /* Places that are asked for by options stay as they were after a bad argument. */
-    zaxbriar_options options = {.layout = ZAXBRIAR_XRGB + 1, .places = &places};
+    zaxbriar_options options = {.layout = ZAXBRIAR_RGB565 + 1, .places = &places};
     memset(&places, 1, sizeof places);
     CHECK(zaxbriar_read_info(jpeg.start, jpeg.size, &options, &picture) == ZAXBRIAR_BAD_ARGUMENT);
     CHECK(zaxbriar_decode(NULL, 1, &options, NULL, 0, NULL) == ZAXBRIAR_BAD_ARGUMENT);
@@ -70,11 +70,11 @@ static void unknown_options(void) {
     size_t length;
     for (int which = 0; which < 5; which++) {
         zaxbriar_options options = {0};
-        if (which == 0) options.layout = ZAXBRIAR_XRGB + 1;
+        if (which == 0) options.layout = ZAXBRIAR_RGB565 + 1;
         if (which == 1) options.transform = ZAXBRIAR_TRANSFORM_YCCK + 1;
         if (which == 2) options.layout = UINT8_MAX;
         if (which == 3) options.layout = ZAXBRIAR_RGB, options.transform = ZAXBRIAR_TRANSFORM_NONE;
-        if (which == 4) options.reserved = 1;
+        if (which == 4) options.bottom_up = 2;
         CHECK(zaxbriar_read_info(jpeg.start, jpeg.size, &options, &picture) ==
               ZAXBRIAR_BAD_ARGUMENT);
         CHECK(picture.text[0] != 0 && picture.stream_bytes == 0);
@@ -93,6 +93,11 @@ static void unknown_options(void) {
         int is_there = scale == 0 || scale == 1 || scale == 2 || scale == 4 || scale == 8;
         CHECK(zaxbriar_read_info(jpeg.start, jpeg.size, &scaled, &picture) ==
               (is_there ? ZAXBRIAR_OK : ZAXBRIAR_BAD_ARGUMENT));
+    }
+    for (int bottom_up = 0; bottom_up <= UINT8_MAX; bottom_up++) {
+        zaxbriar_options turned = {.bottom_up = (uint8_t)bottom_up};
+        CHECK(zaxbriar_read_info(jpeg.start, jpeg.size, &turned, &picture) ==
+              (bottom_up <= 1 ? ZAXBRIAR_OK : ZAXBRIAR_BAD_ARGUMENT));
     }
     zaxbriar_options narrow = {.stride = 1};
     CHECK(zaxbriar_read_info(jpeg.start, jpeg.size, &narrow, &picture) == ZAXBRIAR_BAD_ARGUMENT);
@@ -114,12 +119,9 @@ static void unknown_options(void) {
 /* Each reserved byte of the options has to be zero, and those of a picture become zero. */
 static void reserved_bytes(void) {
     int count = 0;
-    for (size_t at = offsetof(zaxbriar_options, reserved); at < sizeof(zaxbriar_options); at++) {
+    for (size_t at = offsetof(zaxbriar_options, reserved_words); at < sizeof(zaxbriar_options);
+         at++) {
         zaxbriar_options options = {0};
-        /* (max_bytes, the pointers and max_passes may be other than 0) */
-        if (at > offsetof(zaxbriar_options, reserved) &&
-            at < offsetof(zaxbriar_options, reserved_words))
-            continue;
         ((unsigned char *)&options)[at] = 1;
         count++;
         memset(&picture, 1, sizeof picture);
@@ -131,7 +133,7 @@ static void reserved_bytes(void) {
         CHECK(zaxbriar_decode_partial(jpeg.start, jpeg.size, &options, NULL, 0, NULL) ==
               ZAXBRIAR_BAD_ARGUMENT);
     }
-    CHECK(count == 73 && sizeof picture.reserved == 143);
+    CHECK(count == 72 && sizeof picture.reserved == 143);
     memset(&picture, 1, sizeof picture);
     CHECK(zaxbriar_read_info(jpeg.start, jpeg.size, NULL, &picture) == ZAXBRIAR_OK);
     CHECK(is_all(picture.reserved, sizeof picture.reserved, 0));

@@ -89,7 +89,7 @@ static void set(zaxbriar_options *options, char *word) {
     SET8(transform);
     SET8(layout);
     SET8(scale);
-    SET8(reserved);
+    SET8(bottom_up);
     else fail(word);
     *is = '=';
 }

@@ -119,6 +119,10 @@ static int same_pixel(int layout, const zaxbriar_picture *whole, const unsigned 
     case ZAXBRIAR_RGBA: return got[0] == red && got[1] == green && got[2] == blue && got[3] == 255;
     case ZAXBRIAR_BGRA: return got[2] == red && got[1] == green && got[0] == blue && got[3] == 255;
     case ZAXBRIAR_BGR: return got[2] == red && got[1] == green && got[0] == blue;
+    case ZAXBRIAR_ABGR: return got[0] == 255 && got[3] == red && got[2] == green && got[1] == blue;
+    case ZAXBRIAR_RGB565:
+        return (got[0] | (unsigned)got[1] << 8) ==
+               ((red & 0xf8) << 8 | (green & 0xfc) << 3 | blue >> 3);
     default: return got[0] == 255 && got[1] == red && got[2] == green && got[3] == blue;
     }
 }
@@ -157,6 +161,14 @@ static void in_layout(int layout, const zaxbriar_picture *whole, const unsigned 
         CHECK(!memcmp(joined + y * head.row_bytes, rows + y * ((uint64_t)whole->width * 8 + 13),
                       head.row_bytes));
     add_to_sum(joined, head.size);
+    /* and from the bottom */
+    options.bottom_up = 1;
+    memset(joined, 0xA5, head.size);
+    CHECK(zaxbriar_decode(jpeg.start, jpeg.size, &options, joined, head.size, &picture) ==
+          ZAXBRIAR_OK);
+    for (size_t y = 0; y < head.height; y++)
+        CHECK(!memcmp(joined + (head.height - 1 - y) * head.row_bytes,
+                      rows + y * ((uint64_t)whole->width * 8 + 13), head.row_bytes));
     free(joined);
     free(rows);
     arranged++;
@@ -282,7 +294,7 @@ static void of_file(const char *name, const char *jpegraw) {
         CHECK(picture.pixel_bytes == picture.components * picture.sample_bytes);
         CHECK(picture.sample_bytes == (picture.precision > 8 ? 2 : 1));
         of_part(&picture, pixels);
-        for (int layout = ZAXBRIAR_AS_STORED; layout <= ZAXBRIAR_XRGB; layout++)
+        for (int layout = ZAXBRIAR_AS_STORED; layout <= ZAXBRIAR_RGB565; layout++)
             in_layout(layout, &picture, pixels);
         for (unsigned part = 1; part <= 8; part *= 2) at_scale(part, &picture);
         limited(&picture);

@@ -119,11 +119,14 @@ static void layouts_of_colours(void) {
         [ZAXBRIAR_BGRA] = {0x7f, 0x81, 0x80, 255, 7},
         [ZAXBRIAR_BGR] = {0x7f, 0x81, 0x80, 7, 7},
         [ZAXBRIAR_XRGB] = {255, 0x80, 0x81, 0x7f, 7},
+        [ZAXBRIAR_ABGR] = {255, 0x7f, 0x81, 0x80, 7},
+        /* 16 * 2048 + 32 * 32 + 15, the lower byte first */
+        [ZAXBRIAR_RGB565] = {0x0f, 0x84, 7, 7, 7},
     };
     unsigned char stream[sizeof deep];
     memcpy(stream, deep, sizeof deep);
     stream[6] = 8; /* samples of 8 bits are predicted as 2^7 */
-    for (uint8_t layout = ZAXBRIAR_GREY; layout <= ZAXBRIAR_XRGB; layout++) {
+    for (uint8_t layout = ZAXBRIAR_GREY; layout <= ZAXBRIAR_RGB565; layout++) {
         zaxbriar_options options = {.layout = layout};
         CHECK(decode(stream, sizeof stream, options, 5) == ZAXBRIAR_OK);
         CHECK(!memcmp(pixels, wanted[layout], 5) && picture.process == ZAXBRIAR_LOSSLESS);
@@ -132,11 +135,11 @@ static void layouts_of_colours(void) {
 
 static void refusals(void) {
     static const unsigned char arithmetic[] = {0xff, 0xd8, 0xff, 0xcc};
-    static const zaxbriar_options wrong[] = {{.layout = 7},
+    static const zaxbriar_options wrong[] = {{.layout = 9},
                                              {.stride = 7},
                                              {.transform = 6},
                                              {.transform = 1, .layout = ZAXBRIAR_GREY},
-                                             {.reserved = 1}};
+                                             {.bottom_up = 2}};
     for (size_t i = 0; i < sizeof wrong / sizeof *wrong; i++) {
         CHECK(zaxbriar_read_info(grey, sizeof grey, &wrong[i], &picture) == ZAXBRIAR_BAD_ARGUMENT);
         CHECK(picture.text[0] != 0 && picture.feature == ZAXBRIAR_NO_FEATURE);

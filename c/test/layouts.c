@@ -1,5 +1,6 @@
-/* layouts: lossless pictures of known samples in each layout, whose widths, heights and strides
- * are all small ones, in memory of exactly the picture's size and of one byte more. */
+/* layouts: lossless pictures of known samples in each layout, from the top and from the bottom,
+ * whose widths, heights and strides are all small ones, in memory of exactly the picture's size and
+ * of one byte more. */
 #include "common.h"
 
 enum { MOST_WIDTH = 17, MOST_HEIGHT = 5, MOST_SAMPLES = MOST_WIDTH * MOST_HEIGHT * 4 };
@@ -87,15 +88,22 @@ static unsigned convert(int layout, const unsigned char *stored, unsigned char p
     case ZAXBRIAR_BGR: return memcpy(pixel, (unsigned char[]){blue, green, red}, 3), 3;
     case ZAXBRIAR_RGBA: return memcpy(pixel, (unsigned char[]){red, green, blue, 255}, 4), 4;
     case ZAXBRIAR_BGRA: return memcpy(pixel, (unsigned char[]){blue, green, red, 255}, 4), 4;
+    case ZAXBRIAR_ABGR: return memcpy(pixel, (unsigned char[]){255, blue, green, red}, 4), 4;
+    case ZAXBRIAR_RGB565:
+        pixel[0] = (unsigned char)((green << 3 & 0xe0) | blue >> 3);
+        pixel[1] = (unsigned char)((red & 0xf8) | green >> 5);
+        return 2;
     default: return memcpy(pixel, (unsigned char[]){255, red, green, blue}, 4), 4;
     }
 }
 
-static void in_layout(int layout, unsigned gap, unsigned more) {
+static void in_layout(int layout, unsigned gap, unsigned more, int is_bottom_up) {
     unsigned char pixel[4];
     unsigned pixel_bytes = convert(layout, samples, pixel), row_bytes = width * pixel_bytes;
     unsigned stride = row_bytes + gap;
-    zaxbriar_options options = {.layout = (uint8_t)layout, .stride = gap ? stride : 0};
+    zaxbriar_options options = {.layout = (uint8_t)layout,
+                                .stride = gap ? stride : 0,
+                                .bottom_up = (uint8_t)is_bottom_up};
     zaxbriar_picture picture;
     size_t size = (size_t)stride * (height - 1) + row_bytes;
     unsigned char *wanted = block(size + more), *pixels = block(size + more);
@@ -103,7 +111,8 @@ static void in_layout(int layout, unsigned gap, unsigned more) {
     for (unsigned y = 0; y < height; y++)
         for (unsigned x = 0; x < width; x++) {
             convert(layout, samples + ((size_t)y * width + x) * components, pixel);
-            memcpy(wanted + (size_t)y * stride + x * pixel_bytes, pixel, pixel_bytes);
+            memcpy(wanted + (size_t)(is_bottom_up ? height - 1 - y : y) * stride + x * pixel_bytes,
+                   pixel, pixel_bytes);
         }
     CHECK(zaxbriar_decode(stream, stream_bytes, &options, pixels, size + more, &picture) ==
           ZAXBRIAR_OK);
@@ -135,10 +144,9 @@ int main(void) {
                     samples[i] = (unsigned char)(chance >> 24);
                 }
                 write_stream();
-                for (int layout = ZAXBRIAR_AS_STORED; layout <= ZAXBRIAR_XRGB; layout++)
-                    for (int i = 0; i < 3; i++)
-                        for (unsigned more = 0; more < 2; more++)
-                            in_layout(layout, gaps[i], more);
+                for (int layout = ZAXBRIAR_AS_STORED; layout <= ZAXBRIAR_RGB565; layout++)
+                    for (int i = 0; i < 12; i++)
+                        in_layout(layout, gaps[i % 3], i / 3 % 2, i / 6);
             }
     printf("layouts: %ld pictures; %d faults\n", pictures, faults);
     return faults != 0;

@@ -16,9 +16,20 @@ export type Bytes = ArrayBuffer | SharedArrayBuffer | ArrayBufferView;
  * How the pixels are arranged. `stored` has each pixel's samples in the order of the components.
  * The others have 8 bits a sample, and every picture can be decoded into each of them: samples of
  * other precisions are scaled, grey is repeated, and ink is converted by the simple formula of
- * viewers. The fourth sample of `rgba` and `bgra`, and the first of `xrgb`, is 255.
+ * viewers. The fourth sample of `rgba` and `bgra`, and the first of `xrgb` and `abgr`, is 255.
+ * `rgb565` has the upper 5 bits of red, 6 of green and 5 of blue, red uppermost, in two bytes, the
+ * lower first: unless the `stride` is odd, `new Uint16Array(pixels.buffer)` has a number a pixel.
  */
-export type Layout = 'stored' | 'grey' | 'rgb' | 'rgba' | 'bgra' | 'bgr' | 'xrgb';
+export type Layout =
+    | 'stored'
+    | 'grey'
+    | 'rgb'
+    | 'rgba'
+    | 'bgra'
+    | 'bgr'
+    | 'xrgb'
+    | 'abgr'
+    | 'rgb565';
 
 /**
  * How the components are to be understood: as the stream says, or as these. `rgb` and `ycbcr` are
@@ -68,6 +79,8 @@ export interface Options {
     minHeight?: number;
     /** The bytes from a line to the next; 0: no gaps. The gaps are zeros. */
     stride?: number;
+    /** Whether the rows come from the bottom: the picture's first row last. */
+    bottomUp?: boolean;
     colorTransform?: ColorTransform;
     /** The most pixels that the picture may have, at its scale; 0: any number. */
     maxPixels?: number;

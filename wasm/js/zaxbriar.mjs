@@ -10,7 +10,17 @@
 
 /* Names of the numbers of c/zaxbriar.h. The module says which of them fit a picture: others are
  * BAD_ARGUMENT. */
-const LAYOUTS = { stored: 0, grey: 1, rgb: 2, rgba: 3, bgra: 4, bgr: 5, xrgb: 6 };
+const LAYOUTS = {
+    stored: 0,
+    grey: 1,
+    rgb: 2,
+    rgba: 3,
+    bgra: 4,
+    bgr: 5,
+    xrgb: 6,
+    abgr: 7,
+    rgb565: 8,
+};
 const TRANSFORMS = { stream: 0, none: 1, rgb: 2, ycbcr: 3, cmyk: 4, ycck: 5 };
 const KINDS = { exif: 1, xmp: 2, icc: 3 };
 const PROCESSES = ['', 'sequential', 'progressive', 'lossless'];
@@ -33,6 +43,7 @@ export const OPTIONS = [
     'minWidth',
     'minHeight',
     'stride',
+    'bottomUp',
     'colorTransform',
     'maxPixels',
     'maxBytes',
@@ -144,6 +155,7 @@ function optionsOf(options, limits = {}) {
     view.setUint8(20, numberOf(TRANSFORMS, options.colorTransform ?? 'stream', 'colorTransform'));
     view.setUint8(21, numberOf(LAYOUTS, options.layout ?? 'stored', 'layout'));
     view.setUint8(22, number('scale', 255));
+    view.setUint8(23, isSet(options, 'bottomUp') ? 1 : 0);
     view.setBigUint64(24, BigInt(number('maxBytes', Number.MAX_SAFE_INTEGER)), true);
     view.setBigUint64(48, BigInt(number('maxPasses', Number.MAX_SAFE_INTEGER)), true);
     return bytes;

@@ -166,8 +166,27 @@ for (const [layout, order] of Object.entries({
     bgra: [2, 1, 0, 3],
     bgr: [2, 1, 0],
     xrgb: [3, 0, 1, 2],
+    abgr: [3, 2, 1, 0],
 })) {
     assert.deepEqual(zaxbriar.decode(jpeg, { layout }).pixels, laidOut(order));
+}
+const packed = zaxbriar.decode(jpeg, { layout: 'rgb565' }).pixels;
+new Uint16Array(packed.buffer).forEach((number, index) => {
+    const [red, green, blue] = pixels.subarray(3 * index);
+    assert.equal(number, ((red >> 3) << 11) | ((green >> 2) << 5) | (blue >> 3));
+});
+
+// Rows from the bottom.
+for (const options of [{}, { layout: 'abgr' }, { layout: 'grey', partial: true, scale: 2 }]) {
+    const down = zaxbriar.decode(jpeg, { ...options, bottomUp: false });
+    const up = zaxbriar.decode(jpeg, { ...options, bottomUp: true });
+    const { rowBytes, height } = down.picture;
+    const row = (y) => down.pixels.subarray(y * rowBytes, (y + 1) * rowBytes);
+    assert.deepEqual(up.picture, down.picture);
+    for (let y = 0; y < height; y++) {
+        const place = (height - 1 - y) * rowBytes;
+        assert.deepEqual(up.pixels.subarray(place, place + rowBytes), row(y));
+    }
 }
 
 // Gaps are zeros, also in memory that was used before.
@@ -188,7 +207,12 @@ for (const scale of [1, 2, 4, 8]) {
 }
 
 // Options that don't exist.
-for (const options of [{ layout: 'rbg' }, { colorTransform: 'grey' }, { layout: 'toString' }]) {
+for (const options of [
+    { layout: 'rbg' },
+    { colorTransform: 'grey' },
+    { layout: 'toString' },
+    { bottomUp: 1 },
+]) {
     assert.throws(() => zaxbriar.decode(jpeg, options), TypeError);
 }
 for (const options of [
@@ -295,9 +319,10 @@ assert.equal(zaxbriar.memoryBytes, before);
 const larger = Buffer.from(jpeg);
 larger.writeUInt32BE(1000 * 65536 + 1600, larger.indexOf(Buffer.from([0xff, 0xc0])) + 5);
 const ROOM = 512 * 1024;
-for (const layout of ['stored', 'grey', 'rgb', 'rgba', 'bgra', 'bgr', 'xrgb']) {
+const layouts = ['stored', 'grey', 'rgb', 'rgba', 'bgra', 'bgr', 'xrgb', 'abgr', 'rgb565'];
+for (const layout of layouts) {
     const decoder = new Zaxbriar(module);
-    const { size, decodingBytes } = decoder.decode(larger, { layout }).picture;
+    const { size, decodingBytes } = decoder.decode(larger, { layout, bottomUp: true }).picture;
     assert.ok(size >= 1600 * 1000);
     assert.ok(decoder.memoryBytes <= size + decodingBytes + larger.length + ROOM, layout);
 }

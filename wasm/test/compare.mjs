@@ -13,7 +13,7 @@ const zaxbriar = await load();
 const MOST_SIZE = 2 ** 28;
 const MOST_PART = 2 ** 26;
 const MOST_BYTES = 400000000;
-const LAYOUTS = ['stored', 'grey', 'rgb', 'rgba', 'bgra', 'bgr', 'xrgb'];
+const LAYOUTS = ['stored', 'grey', 'rgb', 'rgba', 'bgra', 'bgr', 'xrgb', 'abgr', 'rgb565'];
 const TRANSFORMS = ['stream', 'none', 'rgb', 'ycbcr', 'cmyk', 'ycck'];
 const PROCESSES = ['', 'sequential', 'progressive', 'lossless'];
 const FORMATS = ['', 'grey8', 'grey16', 'rgb', 'cmyk'];
@@ -28,6 +28,7 @@ const ALL_OPTIONS = [
     {},
     ...LAYOUTS.slice(1).map((layout) => ({ layout })),
     { scale: 1, layout: 'bgra', stride: 300 },
+    { layout: 'rgb', stride: 300, bottomUp: true },
     { scale: 2 },
     { scale: 4, layout: 'rgb' },
     { scale: 8, layout: 'rgba' },
@@ -54,6 +55,7 @@ const lineOf = (options) =>
         options.minWidth ?? 0,
         options.minHeight ?? 0,
         options.stride ?? 0,
+        options.bottomUp ? 1 : 0,
         options.maxBytes,
         options.maxPasses,
     ].join(' ');

@@ -59,6 +59,7 @@ const OPTIONS = {
     minWidth: 0,
     minHeight: 0,
     stride: 0,
+    bottomUp: false,
     colorTransform: 'stream',
     maxPixels: 1e9,
     maxBytes: 1e9,

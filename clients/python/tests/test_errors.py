@@ -141,6 +141,7 @@ class Options(unittest.TestCase):
             ({"scale": -1}, "scale"),
             ({"min_width": 65536}, "min_width"),
             ({"max_passes": 2**64}, "max_passes"),
+            ({"bottom_up": 2}, "bottom_up is a number from 0 to 1, and not 2"),
             ({"max_bytes": -1}, "max_bytes"),
         ):
             with self.subTest(options), self.assertRaisesRegex(zaxbriar.BadArgumentError, text):

@@ -142,6 +142,22 @@ class Pictures(unittest.TestCase):
         self.assertEqual(list(picture[0][0]), [0x8000, 0x8001, 0x7FFF])
         self.assertEqual(zaxbriar.decode(DEEP, layout="rgb")[0][0][:], [128, 128, 127])
 
+    def test_of_16_bits_a_pixel(self):
+        picture, colours = (zaxbriar.decode(STREAM, layout=it) for it in ("rgb565", "rgb"))
+        view = memoryview(picture)
+        self.assertEqual(picture.shape, (picture.height, picture.width))
+        self.assertEqual((view.itemsize, view.format.strip("<=@")), (2, "H"))
+        for y in range(picture.height):
+            wanted = [r >> 3 << 11 | g >> 2 << 5 | b >> 3 for r, g, b in colours[y]]
+            self.assertEqual(list(picture[y]), wanted)
+
+    def test_from_the_bottom(self):
+        for options in ({}, {"layout": "abgr", "scale": 2}):
+            down = zaxbriar.decode(STREAM, **options, bottom_up=False)
+            up = zaxbriar.decode(STREAM, **options, bottom_up=True)
+            self.assertEqual(up.info, down.info)
+            self.assertEqual([bytes(row) for row in up], [bytes(row) for row in down][::-1])
+
     def test_by_components(self):
         planes = zaxbriar.decode(STREAM, transform="none")
         self.assertEqual(planes.shape, (planes.height, 3, planes.width))

@@ -77,6 +77,8 @@ def arranged(colours, layout, is_grey):
         "bgra": lambda r, g, b: (b, g, r, 255),
         "bgr": lambda r, g, b: (b, g, r),
         "xrgb": lambda r, g, b: (255, r, g, b),
+        "abgr": lambda r, g, b: (255, b, g, r),
+        "rgb565": lambda r, g, b: ((r >> 3 << 11 | g >> 2 << 5 | b >> 3).to_bytes(2, "little")),
     }[layout]
     return b"".join(bytes(arrange(*colour)) for colour in colours)
 
@@ -98,9 +100,9 @@ class Suite(unittest.TestCase):
         for layout in zaxbriar.Layout.__args__[1:]:
             found = zaxbriar.decode(stream, layout=layout, scale=scale, max_passes=0)
             self.assertEqual(bytes(found), arranged(colours, layout, is_grey), layout)
-            channels = {"grey": (), "rgb": (3,), "bgr": (3,)}.get(layout, (4,))
+            channels = {"grey": (), "rgb565": (), "rgb": (3,), "bgr": (3,)}.get(layout, (4,))
             self.assertEqual(found.shape, (*stored.shape[:2], *channels))
-            self.assertEqual(found.info.item_bytes, 1)
+            self.assertEqual(found.info.item_bytes, 2 if layout == "rgb565" else 1)
 
     def check_refusal(self, decode, expected):
         told = next(kinds for text, kinds in REFUSALS.items() if expected.startswith(text))

@@ -19,7 +19,7 @@ def sizes(data: bytes, mapped: mmap.mmap, room: bytearray) -> tuple[int, Optiona
     exif: Optional[bytes] = zaxbriar.metadata(data, "exif", whole_image=True, max_bytes=1 << 20)
     place: Optional[slice] = zaxbriar.find_metadata(data).exif
     info: zaxbriar.Info = zaxbriar.read_info(data)
-    options: zaxbriar.Options = {"layout": "bgra", "max_samples": 10}
+    options: zaxbriar.Options = {"layout": "bgra", "max_samples": 10, "bottom_up": True}
     zaxbriar.decode(data, **options)
     end: int = zaxbriar.next_segment(data).end
     return len(flat) + rows + info.width + len(exif or b"") + end, info.process

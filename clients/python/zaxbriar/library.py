@@ -41,7 +41,7 @@ NAME = "libzaxbriar.so.0"
 WHOLE_IMAGE = 16
 
 # The names of the library's numbers, each in its place.
-LAYOUTS = ("as_stored", "grey", "rgb", "rgba", "bgra", "bgr", "xrgb")
+LAYOUTS = ("as_stored", "grey", "rgb", "rgba", "bgra", "bgr", "xrgb", "abgr", "rgb565")
 TRANSFORMS = ("of_stream", "none", "rgb", "ycbcr", "cmyk", "ycck")
 PROCESSES = (None, "sequential", "progressive", "lossless")
 FORMATS = (None, "grey8", "grey16", "rgb", "cmyk")
@@ -70,7 +70,7 @@ class Options(Structure):
         ("transform", c_uint8),
         ("layout", c_uint8),
         ("scale", c_uint8),
-        ("reserved", c_uint8),
+        ("bottom_up", c_uint8),
         ("max_bytes", c_uint64),
         ("memory", c_void_p),
         ("places", c_void_p),

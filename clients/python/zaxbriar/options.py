@@ -10,7 +10,7 @@ from .errors import BadArgumentError
 
 MAX_PASSES = 100
 
-Layout = Literal["as_stored", "grey", "rgb", "rgba", "bgra", "bgr", "xrgb"]
+Layout = Literal["as_stored", "grey", "rgb", "rgba", "bgra", "bgr", "xrgb", "abgr", "rgb565"]
 Transform = Literal["of_stream", "none", "rgb", "ycbcr", "cmyk", "ycck"]
 
 
@@ -38,6 +38,7 @@ class Options(Limits, total=False):
         at least that wide or that high; 0: that side doesn't matter. `scale` goes before both.
     transform: how the components are to be understood, "of_stream" unless it is given.
     stride: the bytes from one line to the next, for an `out` of one dimension; 0: no gaps.
+    bottom_up: whether the picture's first row comes last in the buffer.
     """
 
     layout: Layout
@@ -46,6 +47,7 @@ class Options(Limits, total=False):
     min_height: int
     transform: Transform
     stride: int
+    bottom_up: bool
 
 
 LIMITS = ("max_samples", "max_bytes", "max_passes")
@@ -54,6 +56,7 @@ MOST = {
     "scale": 2**8 - 1,
     "min_width": 2**16 - 1,
     "min_height": 2**16 - 1,
+    "bottom_up": 1,
     **dict.fromkeys(("stride", *LIMITS), 2**64 - 1),
 }
 

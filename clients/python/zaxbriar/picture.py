@@ -20,7 +20,7 @@ class Info:
 
     shape: (height, width), or (height, width, channels) if a pixel has several samples; with the
         transform "none" (height, components, width).
-    item_bytes: the bytes of a sample in this layout, 1 or 2.
+    item_bytes: the bytes of a sample in this layout, 1 or 2; in "rgb565" those of a pixel, 2.
     size: the bytes of the picture, with the gaps between lines.
     row_bytes, pixel_bytes: those of a line without its gap, and of a pixel.
     decoding_bytes: the most memory that decoding uses for coefficients and samples.
@@ -72,10 +72,14 @@ _NUMBERS = (
 ).split()
 
 
+# The layouts whose items have other than 8 bits.
+_ITEM_BYTES = {"rgb565": 2}
+
+
 def info_of(told: library.Description, options: library.Options) -> Info:
     """The library's description in Python's values."""
     layout, process = library.LAYOUTS[told.layout], library.PROCESSES[told.process]
-    item_bytes = told.sample_bytes if layout == "as_stored" else 1
+    item_bytes = _ITEM_BYTES.get(layout, 1) if told.layout else told.sample_bytes
     channels = told.pixel_bytes // item_bytes
     shape = (told.height, told.width) if channels == 1 else (told.height, told.width, channels)
     if library.TRANSFORMS[options.transform] == "none" and channels > 1 and process != "lossless":
@@ -102,8 +106,9 @@ def strides_of(info: Info) -> tuple[int, ...]:
 
 class Picture:
     """A decoded picture: a writable buffer of `shape`, row by row, of unsigned samples of 8 bits;
-    or of 16, where it is stored with more than 8. memoryview, bytes, numpy.asarray and whatever
-    takes a buffer read it, without a copy except by bytes; `picture[y][x]` is a pixel.
+    or of 16, where it is stored with more than 8, or has a layout of 16 bits. memoryview, bytes,
+    numpy.asarray and whatever takes a buffer read it, without a copy except by bytes;
+    `picture[y][x]` is a pixel.
 
     With gaps between its lines (decode's `out`), it isn't a buffer, but numpy.asarray takes it.
     """

@@ -38,7 +38,7 @@ pub struct Options {
     pub transform: u8,
     layout: u8,
     pub scale: u8,
-    reserved: u8,
+    bottom_up: u8,
     pub max_bytes: u64,
     /// Null.
     pointers: [u64; 2],

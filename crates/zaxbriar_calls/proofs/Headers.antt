@@ -59,7 +59,7 @@ described-same extent o bytes a b d e =
     (at_size (size_wanted o) h.said).frame) h ∙ e.transform_is) in
     d.picture_is
     ∙ (λ i. described_picture o.layout (info i) (precision i)
-    (lines_by o.stride (info i) (precision i) (conversion i)) (bytes_beside extent (decoding i))
+    (lines_by o (info i) (precision i) (conversion i)) (bytes_beside extent (decoding i))
     (orientation_by (at_size (size_wanted o) (h i).said).metadata.exif) (sampling i) (transform i) (density_of bytes) 0)
     ∙ sym e.picture_is
 

@@ -1,7 +1,8 @@
 -- Pixels and lines that are written one after the other.
 use Rattle.std.proofs.Common.{◌≡◌, ◌∙◌, ℕ, zero, suc, ◌+◌, ◌-◌, ◌*◌, ◌/◌, ◌<◌, ◌≤◌, List, [], ◌∷◌, ◌++◌, length, take}
-use Rattle.std.proofs.Common.{drop, refl, sym, ap, arith, add-mul, append_assoc, length-append, length-drop, length-take, replicate, true}
-use Rattle.std.proofs.Math.Seq.{take-append_seam, drop-append_seam, take-append-add, drop-append-add}
+use Rattle.std.proofs.Common.{drop, refl, sym, ap, arith, add-mul, append_assoc, length-append, length-drop, length-take}
+use Rattle.std.proofs.Common.{Bool, false, replicate, subst, true}
+use Rattle.std.proofs.Math.Seq.{take-add, take-append_seam, drop-append_seam, take-append-add, drop-append-add}
 use Rattle.std.proofs.lemmas.List.{append-nil, drop_all, drop-append-le, drop-drop, take-append-drop}
 use Rattle.std.proofs.lemmas.Simd.{put_chunk_is}
 use Rattle.std.specs.List.{AllByRecursion, concat}
@@ -16,7 +17,7 @@ use Rattle.zaxbriar_calls.specs.declared.layouts.Conversion.{Conversion}
 use Rattle.zaxbriar_calls.specs.declared.layouts.Conversion.TheVariants.{Stored, InColour}
 use Rattle.zaxbriar_calls.specs.declared.layouts.Colour.{Colour}
 use Rattle.zaxbriar_calls.specs.declared.layouts.Layout.{Layout}
-use Rattle.zaxbriar_calls.specs.declared.layouts.Layout.TheVariants.{Grey, Rgb, Rgba, Bgra, Bgr, Xrgb}
+use Rattle.zaxbriar_calls.specs.declared.layouts.Layout.TheVariants.{Grey, Rgb, Rgba, Bgra, Bgr, Xrgb, Abgr, Rgb565}
 
 -- a piece that is written after others over what was there
 piece-put : (before old piece : List ℕ) (a k : ℕ) → length before ≡ a
@@ -108,6 +109,8 @@ colour-bytes Rgba c = refl
 colour-bytes Bgra c = refl
 colour-bytes Bgr c = refl
 colour-bytes Xrgb c = refl
+colour-bytes Abgr c = refl
+colour-bytes Rgb565 c = refl
 
 -- the first pixel of a line
 pub none-put : (pixel : List ℕ → List ℕ) (stored bytes : ℕ) (row old : List ℕ)
@@ -188,15 +191,26 @@ shuffled_xrgb row room = sixteen_given
     ≡ layout_line (InColour RGB24 8 Xrgb) (pixel_bytes RGB24 8) 4 r)
     (λ a b c d e f g h i j k l m n o p more. refl) row room
 
--- the only layout of four bytes that is not one of the two others
-pub rgba_left : (layout : Layout) → layout_bytes layout ≡ 4 → (layout ≡ Bgra → ⊥) → (layout ≡ Xrgb → ⊥)
-    → layout ≡ Rgba
-rgba_left Grey four not_bgra not_xrgb = absurd (omega (arith, four))
-rgba_left Rgb four not_bgra not_xrgb = absurd (omega (arith, four))
-rgba_left Rgba four not_bgra not_xrgb = refl
-rgba_left Bgra four not_bgra not_xrgb = absurd (not_bgra refl)
-rgba_left Bgr four not_bgra not_xrgb = absurd (omega (arith, four))
-rgba_left Xrgb four not_bgra not_xrgb = absurd (not_xrgb refl)
+pub shuffled_abgr : (row : List ℕ) → 16 ≤ length row
+    → shuffled row (16 ∷ 2 ∷ 1 ∷ 0 ∷ 16 ∷ 5 ∷ 4 ∷ 3 ∷ 16 ∷ 8 ∷ 7 ∷ 6 ∷ 16 ∷ 11 ∷ 10 ∷ 9 ∷ [])
+    ≡ layout_line (InColour RGB24 8 Abgr) (pixel_bytes RGB24 8) 4 row
+unfolding pixels_of level
+shuffled_abgr row room = sixteen_given
+    (λ r. shuffled r (16 ∷ 2 ∷ 1 ∷ 0 ∷ 16 ∷ 5 ∷ 4 ∷ 3 ∷ 16 ∷ 8 ∷ 7 ∷ 6 ∷ 16 ∷ 11 ∷ 10 ∷ 9 ∷ [])
+    ≡ layout_line (InColour RGB24 8 Abgr) (pixel_bytes RGB24 8) 4 r)
+    (λ a b c d e f g h i j k l m n o p more. refl) row room
+
+-- the only layout of four bytes that is not one of the three others
+pub rgba_left : (layout : Layout) → layout_bytes layout ≡ 4 → (layout ≡ Abgr → ⊥) → (layout ≡ Bgra → ⊥)
+    → (layout ≡ Xrgb → ⊥) → layout ≡ Rgba
+rgba_left Grey four not_abgr not_bgra not_xrgb = absurd (omega (arith, four))
+rgba_left Rgb four not_abgr not_bgra not_xrgb = absurd (omega (arith, four))
+rgba_left Rgba four not_abgr not_bgra not_xrgb = refl
+rgba_left Bgra four not_abgr not_bgra not_xrgb = absurd (not_bgra refl)
+rgba_left Bgr four not_abgr not_bgra not_xrgb = absurd (omega (arith, four))
+rgba_left Xrgb four not_abgr not_bgra not_xrgb = absurd (not_xrgb refl)
+rgba_left Abgr four not_abgr not_bgra not_xrgb = absurd (not_abgr refl)
+rgba_left Rgb565 four not_abgr not_bgra not_xrgb = absurd (omega (arith, four))
 
 abbrev pub rgb_pixels : Layout → ℕ → List ℕ → List ℕ
 rgb_pixels layout width row = layout_line (InColour RGB24 8 layout) (pixel_bytes RGB24 8) width row
@@ -285,11 +299,15 @@ kept-line (InColour L8 precision Rgba) stored width row kept fits e = absurd (cc
 kept-line (InColour L8 precision Bgra) stored width row kept fits e = absurd (cc)
 kept-line (InColour L8 precision Bgr) stored width row kept fits e = absurd (cc)
 kept-line (InColour L8 precision Xrgb) stored width row kept fits e = absurd (cc)
+kept-line (InColour L8 precision Abgr) stored width row kept fits e = absurd (cc)
+kept-line (InColour L8 precision Rgb565) stored width row kept fits e = absurd (cc)
 kept-line (InColour RGB24 precision Grey) stored width row kept fits e = absurd (cc)
 kept-line (InColour RGB24 precision Rgba) stored width row kept fits e = absurd (cc)
 kept-line (InColour RGB24 precision Bgra) stored width row kept fits e = absurd (cc)
 kept-line (InColour RGB24 precision Bgr) stored width row kept fits e = absurd (cc)
 kept-line (InColour RGB24 precision Xrgb) stored width row kept fits e = absurd (cc)
+kept-line (InColour RGB24 precision Abgr) stored width row kept fits e = absurd (cc)
+kept-line (InColour RGB24 precision Rgb565) stored width row kept fits e = absurd (cc)
 kept-line (InColour L16 precision layout) stored width row kept fits e = absurd (cc)
 kept-line (InColour CMYK32 precision layout) stored width row kept fits e = absurd (cc)
 
@@ -324,13 +342,13 @@ put-past front back new a k =
     (λ i. first i ++ (new ++ drop k (last i)))
     ∙ append_assoc front (take a back) (new ++ drop k (drop a back))
 
--- one more line of a picture
-pub line-put : (line : List ℕ → List ℕ) (row bytes stride y k : ℕ) (samples old new : List ℕ)
+-- one more line after those that stand before it
+line-put : (line : List ℕ → List ℕ) (row bytes stride y k : ℕ) (samples old new : List ℕ)
     → ((p : List ℕ) → length p ≡ row → length (line p) ≡ bytes)
     → (y + 1) * row ≤ length samples → bytes ≤ stride → y * stride + bytes ≤ length old → k ≡ bytes
     → new ≡ line (take row (drop (y * row) samples))
-    → put_mid (y * stride) k (laid_out line row stride y samples old) new
-    ≡ laid_out line row stride (y + 1) samples old
+    → put_mid (y * stride) k (laid_out line row stride false y samples old) new
+    ≡ laid_out line row stride false (y + 1) samples old
 unfolding laid_out
 line-put line row bytes stride zero k samples old new each few le room e is =
     let none : 0 * stride ≡ 0 = omega arith in
@@ -363,12 +381,87 @@ line-put line row bytes stride (suc y) k samples old new each few le room e is =
     ∙ ap (λ (l : List ℕ). line (take row l)) (sym (drop-drop (y * row) row samples ∙ ap (λ n. drop n samples) at')) in
     let next : suc (y + 1) ≡ suc y + 1 = omega arith in
     ap (λ n. put_mid n k (over (line (take row samples)) (take stride old)
-    ++ laid_out line row stride y (drop row samples) (drop stride old)) new) at
+    ++ laid_out line row stride false y (drop row samples) (drop stride old)) new) at
     ∙ put-past (over (line (take row samples)) (take stride old))
-    (laid_out line row stride y (drop row samples) (drop stride old)) new (y * stride) k
+    (laid_out line row stride false y (drop row samples) (drop stride old)) new (y * stride) k
     ∙ ap (λ (l : List ℕ). over (line (take row samples)) (take stride old) ++ l)
     (line-put line row bytes stride y k (drop row samples) (drop stride old) new each few' le room' e is')
-    ∙ ap (λ n. laid_out line row stride n samples old) next
+    ∙ ap (λ n. laid_out line row stride false n samples old) next
+
+-- what the memory has after the first lines: those alone, or from the bottom those at its end
+abbrev pub laid_so_far : (List ℕ → List ℕ) → ℕ → ℕ → Bool → ℕ → ℕ → List ℕ → List ℕ → List ℕ
+laid_so_far line row stride false height y samples old = laid_out line row stride false y samples old
+laid_so_far line row stride true height y samples old =
+    take ((height - y) * stride) old ++ laid_out line row stride true y samples (drop ((height - y) * stride) old)
+
+pub none-laid : (line : List ℕ → List ℕ) (row stride : ℕ) (bottom_up : Bool) (height : ℕ) (samples old : List ℕ)
+    → old ≡ laid_so_far line row stride bottom_up height 0 samples old
+unfolding laid_out
+none-laid line row stride false height samples old = refl
+none-laid line row stride true height samples old = sym (take-append-drop ((height - 0) * stride) old)
+
+pub all-laid : (line : List ℕ → List ℕ) (row stride : ℕ) (bottom_up : Bool) (height : ℕ) (samples old : List ℕ)
+    → laid_so_far line row stride bottom_up height height samples old
+    ≡ laid_out line row stride bottom_up height samples old
+all-laid line row stride false height samples old = refl
+all-laid line row stride true height samples old =
+    let none : height - height ≡ 0 = omega arith in
+    let none' : 0 * stride ≡ 0 = omega arith in
+    ap (λ n. take n old ++ laid_out line row stride true height samples (drop n old))
+    (ap (λ n. n * stride) none ∙ none')
+
+-- a line that is written before those that stand after it
+put-before : (old others new : List ℕ) (a stride k : ℕ) → a ≤ length old → k ≤ length (take stride (drop a old))
+    → k ≡ length new → put_mid a k ((take a old ++ take stride (drop a old)) ++ others) new
+    ≡ take a old ++ (over new (take stride (drop a old)) ++ others)
+put-before old others new a stride k inside fits e =
+    let front : length (take a old) ≡ a = omega (arith, inside, length-take {A = ℕ}) in
+    let at : a ≡ length (take a old) + 0 = omega (arith, front) in
+    ap (λ (l : List ℕ). put_mid a k l new) (append_assoc (take a old) (take stride (drop a old)) others)
+    ∙ ap (λ n. put_mid n k (take a old ++ (take stride (drop a old) ++ others)) new) at
+    ∙ put-past (take a old) (take stride (drop a old) ++ others) new 0 k
+    ∙ ap (λ (l : List ℕ). take a old ++ (new ++ l)) (drop-append-le k (take stride (drop a old)) others fits)
+    ∙ ap (λ (l : List ℕ). take a old ++ l) (sym (append_assoc new (drop k (take stride (drop a old))) others))
+    ∙ ap (λ n. take a old ++ ((new ++ drop n (take stride (drop a old))) ++ others)) e
+
+-- one more line of a picture, at its place
+pub line-laid : (line : List ℕ → List ℕ) (row bytes stride : ℕ) (bottom_up : Bool) (height y place k : ℕ)
+    (samples old new : List ℕ) → ((p : List ℕ) → length p ≡ row → length (line p) ≡ bytes)
+    → (y + 1) * row ≤ length samples → bytes ≤ stride → place * stride + bytes ≤ length old → k ≡ bytes
+    → (bottom_up ≡ false → place ≡ y) → (bottom_up ≡ true → place + y + 1 ≡ height)
+    → new ≡ line (take row (drop (y * row) samples))
+    → put_mid (place * stride) k (laid_so_far line row stride bottom_up height y samples old) new
+    ≡ laid_so_far line row stride bottom_up height (y + 1) samples old
+unfolding laid_out
+line-laid line row bytes stride false height y place k samples old new each few le room e down up is =
+    let at : place ≡ y = down refl in
+    let room' : y * stride + bytes ≤ length old = subst (λ n. n * stride + bytes ≤ length old) at room in
+    ap (λ n. put_mid (n * stride) k (laid_out line row stride false y samples old) new) at
+    ∙ line-put line row bytes stride y k samples old new each few le room' e is
+line-laid line row bytes stride true height y place k samples old new each few le room e down up is =
+    let sum : place + y + 1 ≡ height = up refl in
+    let left : height - y ≡ place + 1 = omega (arith, sum) in
+    let left' : height - (y + 1) ≡ place = omega (arith, sum) in
+    let next : suc y ≡ y + 1 = omega arith in
+    let more : (place + 1) * stride ≡ place * stride + stride = omega (arith, add-mul place 1 stride) in
+    let a : (height - y) * stride ≡ place * stride + stride = ap (λ n. n * stride) left ∙ more in
+    let inside : place * stride ≤ length old = omega (arith, room) in
+    let behind : bytes ≤ length (drop (place * stride) old) = omega (arith, room, length-drop {A = ℕ}) in
+    let room' : k ≤ length (take stride (drop (place * stride) old)) =
+    omega (arith, e, le, behind, length-take {A = ℕ}) in
+    let long : row ≤ length (drop (y * row) samples) = omega (arith, few, add-mul y 1 row, length-drop {A = ℕ}) in
+    let whole : length (take row (drop (y * row) samples)) ≡ row = omega (arith, long, length-take {A = ℕ}) in
+    let count : length new ≡ bytes = ap (λ (l : List ℕ). length l) is
+    ∙ each (take row (drop (y * row) samples)) whole in
+    ap (λ n. put_mid (place * stride) k (take n old ++ laid_out line row stride true y samples (drop n old)) new) a
+    ∙ (λ i. put_mid (place * stride) k (take-add (place * stride) stride old i
+    ++ laid_out line row stride true y samples (sym (drop-drop stride (place * stride) old) i)) new)
+    ∙ put-before old (laid_out line row stride true y samples (drop stride (drop (place * stride) old))) new
+    (place * stride) stride k inside room' (e ∙ sym count)
+    ∙ ap (λ (l : List ℕ). take (place * stride) old ++ (over l (take stride (drop (place * stride) old))
+    ++ laid_out line row stride true y samples (drop stride (drop (place * stride) old)))) is
+    ∙ ap (λ n. take (place * stride) old ++ laid_out line row stride true n samples (drop (place * stride) old)) next
+    ∙ ap (λ n. take (n * stride) old ++ laid_out line row stride true (y + 1) samples (drop (n * stride) old)) (sym left')
 
 -- ---- lines that are put together
 

@@ -21,8 +21,7 @@ pub arranged-of : (o : Options) (info : ImageInfo) (precision : ℕ) (samples ol
     (lines : Lines) (decoding orientation stream : ℕ) (sampling : List ℕ) (transform : ℕ) (density : Density)
     → HasLines o info precision lines
     → new ≡ laid_out (layout_line lines.conversion lines.stored lines.width) (lines.width * lines.stored)
-    lines.stride lines.height
-    samples old
+    lines.stride lines.bottom_up lines.height samples old
     → picture ≡ described_picture o.layout info precision lines decoding orientation sampling transform density
     stream
     → Arranged o info precision samples old new picture
@@ -31,7 +30,8 @@ arranged-of o info precision samples old new picture lines decoding orientation 
       conversion = h.conversion;
       is = h.is;
       pixels = e ∙ (λ i. laid_out (layout_line (h.lines_are i).conversion (h.lines_are i).stored (h.lines_are i).width)
-          ((h.lines_are i).width * (h.lines_are i).stored) (h.lines_are i).stride (h.lines_are i).height samples old);
+          ((h.lines_are i).width * (h.lines_are i).stored) (h.lines_are i).stride (h.lines_are i).bottom_up
+          (h.lines_are i).height samples old);
       decoding = decoding;
       orientation = orientation;
       sampling = sampling;

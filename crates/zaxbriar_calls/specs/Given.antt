@@ -154,7 +154,7 @@ pub record BringsLines (extent : Extent) (lines : Lines) (fault : Option Error) 
       (told_of new.found.said)
   pub ends : EndsImage extent old new
   pub pixels : after ≡ laid_out (layout_line lines.conversion lines.stored lines.width)
-      (lines.width * lines.stored) lines.stride lines.height samples before
+      (lines.width * lines.stored) lines.stride lines.bottom_up lines.height samples before
 
 abbrev pub Reaches : Extent → Lines → Result ℕ Refusal → Decoding → Decoding → List ℕ → List ℕ
     → Type 0

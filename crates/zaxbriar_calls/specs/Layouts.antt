@@ -1,5 +1,6 @@
 -- How the samples of a picture become the lines of a layout.
-use Rattle.std.specs.Prelude.{◌≡◌, ℕ, zero, suc, ◌+◌, ◌-◌, ◌*◌, ◌/◌, ◌^◌, ◌==◌, if◌then◌else◌, List}
+use Rattle.std.specs.Prelude.{◌≡◌, ℕ, zero, suc, ◌+◌, ◌-◌, ◌*◌, ◌/◌, ◌%◌, ◌^◌, ◌==◌, List}
+use Rattle.std.specs.Prelude.{if◌then◌else◌}
 use Rattle.std.specs.Prelude.{[], ◌∷◌, Bool, true, false, max, min, nat_le, option_map}
 use Rattle.std.specs.Prelude.{◌++◌, drop, take, length, slice_index, Option, Some, None}
 use Rattle.jpeg_decoder.specs.Bytes.{bytes_a_sample, samples_a_pixel}
@@ -10,7 +11,7 @@ use Rattle.zaxbriar_calls.specs.declared.layouts.Conversion.{Conversion}
 use Rattle.zaxbriar_calls.specs.declared.layouts.Conversion.TheVariants.{Stored, InColour}
 use Rattle.zaxbriar_calls.specs.declared.layouts.Layout.{Layout}
 use Rattle.zaxbriar_calls.specs.declared.layouts.Layout.TheVariants.{Grey, Rgb, Rgba, Bgra, Bgr}
-use Rattle.zaxbriar_calls.specs.declared.layouts.Layout.TheVariants.{Xrgb}
+use Rattle.zaxbriar_calls.specs.declared.layouts.Layout.TheVariants.{Xrgb, Abgr, Rgb565}
 
 -- ---- a pixel as it is stored becomes a colour
 
@@ -60,6 +61,14 @@ colour_of _ precision p = colour (level precision p 0) (level precision p 0) (le
 abbrev pub luma : Colour → ℕ
 luma c = (19595 * c.red + 38470 * c.green + 7471 * c.blue + 32768) / 65536
 
+-- a number of 16 bits as two bytes, the lower first
+abbrev pub word : ℕ → List ℕ
+word n = n % 256 ∷ n / 256 ∷ []
+
+-- the upper 5 bits of red, 6 of green and 5 of blue, red uppermost
+abbrev pub packed : Colour → ℕ
+packed c = c.red / 8 * 2048 + c.green / 4 * 32 + c.blue / 8
+
 abbrev pub bytes_of : Layout → Colour → List ℕ
 bytes_of Grey c = luma c ∷ []
 bytes_of Rgb c = c.red ∷ c.green ∷ c.blue ∷ []
@@ -67,6 +76,8 @@ bytes_of Rgba c = c.red ∷ c.green ∷ c.blue ∷ 255 ∷ []
 bytes_of Bgra c = c.blue ∷ c.green ∷ c.red ∷ 255 ∷ []
 bytes_of Bgr c = c.blue ∷ c.green ∷ c.red ∷ []
 bytes_of Xrgb c = 255 ∷ c.red ∷ c.green ∷ c.blue ∷ []
+bytes_of Abgr c = 255 ∷ c.blue ∷ c.green ∷ c.red ∷ []
+bytes_of Rgb565 c = word (packed c)
 
 -- ---- pixels and lines
 
@@ -89,6 +100,7 @@ abbrev pub layout_bytes : Layout → ℕ
 layout_bytes Grey = 1
 layout_bytes Rgb = 3
 layout_bytes Bgr = 3
+layout_bytes Rgb565 = 2
 layout_bytes _ = 4
 
 abbrev pub converted_bytes : Conversion → ℕ → ℕ
@@ -96,14 +108,16 @@ converted_bytes Stored stored = stored
 converted_bytes (InColour format precision layout) stored = layout_bytes layout
 
 -- the layout of a number, and the conversion to it: 0 as stored, 1 grey, 2 RGB, 3 RGBA, 4 BGRA,
--- 5 BGR, 6 XRGB
+-- 5 BGR, 6 XRGB, 7 ABGR, 8 RGB565
 abbrev pub layout_numbered : ℕ → Option Layout
 layout_numbered n = if n == 1 then Some Grey
     else (if n == 2 then Some Rgb
     else (if n == 3 then Some Rgba
     else (if n == 4 then Some Bgra
     else (if n == 5 then Some Bgr
-    else (if n == 6 then Some Xrgb else None)))))
+    else (if n == 6 then Some Xrgb
+    else (if n == 7 then Some Abgr
+    else (if n == 8 then Some Rgb565 else None)))))))
 
 abbrev pub conversion_to : ℕ → PixelFormat → ℕ → Option Conversion
 conversion_to layout format precision = if layout == 0 then Some Stored
@@ -120,13 +134,24 @@ size_of_lines stride row_bytes height =
 abbrev pub over : List ℕ → List ℕ → List ℕ
 over new old = new ++ drop (length new) old
 
+-- Of a row and so many others, that of the line that stands first in memory, and the others: the
+-- first row, or from the bottom the last.
+abbrev pub nearest_row : Bool → ℕ → ℕ → List ℕ → List ℕ
+nearest_row bottom_up row others samples =
+    take row (if bottom_up then drop (others * row) samples else samples)
+
+abbrev pub other_rows : Bool → ℕ → List ℕ → List ℕ
+other_rows bottom_up row samples = if bottom_up then samples else drop row samples
+
 -- So many rows of samples, each as a line, one stride after the other, in the place of old bytes:
--- those between the lines, and those after the last, stay.
-unfoldable pub laid_out : (List ℕ → List ℕ) → ℕ → ℕ → ℕ → List ℕ → List ℕ → List ℕ
-laid_out line row stride zero samples old = old
-laid_out line row stride (suc height) samples old =
-    over (line (take row samples)) (take stride old)
-    ++ laid_out line row stride height (drop row samples) (drop stride old)
+-- those between the lines, and those after the last, stay. The first row stands first, or from the
+-- bottom last.
+unfoldable pub laid_out : (List ℕ → List ℕ) → ℕ → ℕ → Bool → ℕ → List ℕ → List ℕ → List ℕ
+laid_out line row stride bottom_up zero samples old = old
+laid_out line row stride bottom_up (suc height) samples old =
+    over (line (nearest_row bottom_up row height samples)) (take stride old)
+    ++ laid_out line row stride bottom_up height (other_rows bottom_up row samples)
+    (drop stride old)
 
 -- ---- what the code asks of them
 

@@ -15,11 +15,11 @@ abbrev pub is_denominator : ℕ → Bool
 is_denominator n = n == 0 || (n == 1 || (n == 2 || (n == 4 || n == 8)))
 
 -- whether all options exist whatever the picture is: the transform, of which 1, none, goes with
--- layout 0 alone, the scale, and what is reserved
+-- layout 0 alone, the scale, whether the rows stand from the bottom, 1 or 0, and what is reserved
 abbrev pub are_known : Options → Bool
 are_known o = (not (o.transform == 1) || o.layout == 0) && (nat_le o.transform 5
     && (is_denominator o.scale
-    && (o.reserved == 0 && (list_all (λ word. word == 0) o.pointer_words
+    && (nat_le o.bottom_up 1 && (list_all (λ word. word == 0) o.pointer_words
     && list_all (λ word. word == 0) o.reserved_words))))
 
 -- The most memory for samples that decoding takes at a time beside the caller's: blocks and planes,

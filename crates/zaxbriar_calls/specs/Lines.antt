@@ -1,5 +1,6 @@
 -- The lines of a picture, and what a caller is told of it.
-use Rattle.std.specs.Prelude.{◌≡◌, ◌==◌, ◌≤◌, ℕ, ◌*◌, List, replicate, if◌then◌else◌, Some}
+use Rattle.std.specs.Prelude.{◌≡◌, ◌==◌, ◌≤◌, ℕ, ◌*◌, Bool, List, replicate, Some}
+use Rattle.std.specs.Prelude.{if◌then◌else◌}
 use Rattle.jpeg_decoder.specs.Bytes.{bytes_a_sample, samples_a_pixel}
 use Rattle.jpeg_segments.specs.declared.frame.CodingProcess.{CodingProcess}
 use Rattle.jpeg_segments.specs.declared.frame.CodingProcess.TheVariants.{DctSequential}
@@ -31,16 +32,21 @@ row_bytes info precision conversion = info.width * layout_pixel_bytes info preci
 abbrev pub stride_of : ℕ → ℕ → ℕ
 stride_of stride row = if stride == 0 then row else stride
 
+-- whether the rows stand in memory from the bottom
+abbrev pub is_bottom_up : Options → Bool
+is_bottom_up o = o.bottom_up == 1
+
 -- the lines of a picture
-abbrev pub lines_by : ℕ → ImageInfo → ℕ → Conversion → Lines
-lines_by stride info precision conversion = record {
+abbrev pub lines_by : Options → ImageInfo → ℕ → Conversion → Lines
+lines_by o info precision conversion = record {
   conversion = conversion;
   width = info.width;
   height = info.height;
   stored = stored_bytes info precision;
   pixel_bytes = layout_pixel_bytes info precision conversion;
   row_bytes = row_bytes info precision conversion;
-  stride = stride_of stride (row_bytes info precision conversion);
+  stride = stride_of o.stride (row_bytes info precision conversion);
+  bottom_up = is_bottom_up o;
 }
 
 -- Lines are those that the options ask for.
@@ -48,7 +54,7 @@ pub record HasLines (o : Options) (info : ImageInfo) (precision : ℕ) (lines : 
   pub conversion : Conversion
   pub is : conversion_to o.layout info.pixel_format precision ≡ Some conversion
   pub fits : TakesStored conversion (stored_bytes info precision)
-  pub lines_are : lines ≡ lines_by o.stride info precision conversion
+  pub lines_are : lines ≡ lines_by o info precision conversion
   pub wide : lines.row_bytes ≤ lines.stride
   pub narrow : lines.stride ≤ 4294967296
 
@@ -115,12 +121,13 @@ pub record Arranged (o : Options) (info : ImageInfo) (precision : ℕ) (samples 
   pub is : conversion_to o.layout info.pixel_format precision ≡ Some conversion
   pub pixels : new ≡ laid_out (layout_line conversion (stored_bytes info precision) info.width)
       (info.width * stored_bytes info precision)
-      (stride_of o.stride (row_bytes info precision conversion)) info.height samples old
+      (stride_of o.stride (row_bytes info precision conversion)) (is_bottom_up o) info.height
+      samples old
   pub decoding : ℕ
   pub orientation : ℕ
   pub sampling : List ℕ
   pub transform : ℕ
   pub density : Density
   pub picture_is : picture ≡ described_picture o.layout info precision
-      (lines_by o.stride info precision conversion) decoding orientation sampling transform
-      density picture.stream_bytes
+      (lines_by o info precision conversion) decoding orientation sampling transform density
+      picture.stream_bytes

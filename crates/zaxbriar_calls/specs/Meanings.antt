@@ -148,7 +148,7 @@ pub record Describes (extent : Extent) (o : Options) (bytes : List ℕ) (picture
       (frame_transform header.said.metadata f)) (at_size (size_wanted o) header.said).frame
       ≡ Some transform
   pub picture_is : picture ≡ described_picture o.layout info precision
-      (lines_by o.stride info precision conversion)
+      (lines_by o info precision conversion)
       (bytes_beside extent decoding)
       (orientation_by (at_size (size_wanted o) header.said).metadata.exif) sampling
       transform (density_of bytes) 0

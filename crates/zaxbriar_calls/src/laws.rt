@@ -35,16 +35,23 @@ ghost use Rattle.zaxbriar_calls.specs.declared.layouts.Conversion.TheVariants.{I
 ghost use Rattle.zaxbriar_calls.specs.declared.layouts.Layout.TheVariants as layouts;
 ghost use Rattle.jpeg_segments.specs.declared.scale.Scale.TheVariants as scales;
 
-/// The numbers of the layouts, and the bytes of a pixel of red 10, green 20 and blue 30 in each.
+/// The numbers of the layouts, and the bytes of a pixel of red 10, green 20 and blue 30 in each. In
+/// RGB565 that is 1 * 2048 + 5 * 32 + 3, and no part reaches the bits of another.
 #[tactic(auto, unfolding(crate::specs::Layouts::level))]
 pub fn known_layouts()
-    ensures numbers { map layout_numbered (0 ∷ 1 ∷ 2 ∷ 3 ∷ 4 ∷ 5 ∷ 6 ∷ 7 ∷ []) ≡ None
+    ensures numbers { map layout_numbered (0 ∷ 1 ∷ 2 ∷ 3 ∷ 4 ∷ 5 ∷ 6 ∷ 7 ∷ 8 ∷ 9 ∷ []) ≡ None
         ∷ Some layouts.Grey ∷ Some layouts.Rgb ∷ Some layouts.Rgba ∷ Some layouts.Bgra
-        ∷ Some layouts.Bgr ∷ Some layouts.Xrgb ∷ None ∷ [] }
+        ∷ Some layouts.Bgr ∷ Some layouts.Xrgb ∷ Some layouts.Abgr ∷ Some layouts.Rgb565 ∷ None
+        ∷ [] }
     ensures pixels { map (λ l. pixel_of (InColour RGB24 8 l) (10 ∷ 20 ∷ 30 ∷ []))
-        (layouts.Grey ∷ layouts.Rgb ∷ layouts.Rgba ∷ layouts.Bgra ∷ layouts.Bgr ∷ layouts.Xrgb ∷ [])
+        (layouts.Grey ∷ layouts.Rgb ∷ layouts.Rgba ∷ layouts.Bgra ∷ layouts.Bgr ∷ layouts.Xrgb
+        ∷ layouts.Abgr ∷ layouts.Rgb565 ∷ [])
         ≡ (18 ∷ []) ∷ (10 ∷ 20 ∷ 30 ∷ []) ∷ (10 ∷ 20 ∷ 30 ∷ 255 ∷ []) ∷ (30 ∷ 20 ∷ 10 ∷ 255 ∷ [])
-        ∷ (30 ∷ 20 ∷ 10 ∷ []) ∷ (255 ∷ 10 ∷ 20 ∷ 30 ∷ []) ∷ [] }
+        ∷ (30 ∷ 20 ∷ 10 ∷ []) ∷ (255 ∷ 10 ∷ 20 ∷ 30 ∷ []) ∷ (255 ∷ 30 ∷ 20 ∷ 10 ∷ [])
+        ∷ (163 ∷ 8 ∷ []) ∷ [] }
+    ensures bits { map (λ p. pixel_of (InColour RGB24 8 layouts.Rgb565) p)
+        ((255 ∷ 7 ∷ 3 ∷ []) ∷ (7 ∷ 255 ∷ 7 ∷ []) ∷ (7 ∷ 3 ∷ 255 ∷ []) ∷ [])
+        ≡ (32 ∷ 248 ∷ []) ∷ (224 ∷ 7 ∷ []) ∷ (31 ∷ 0 ∷ []) ∷ [] }
     ensures grey { pixel_of (InColour L8 8 layouts.Rgba) (77 ∷ []) ≡ 77 ∷ 77 ∷ 77 ∷ 255 ∷ [] }
     ensures ink { pixel_of (InColour CMYK32 8 layouts.Rgb) (0 ∷ 128 ∷ 255 ∷ 0 ∷ [])
         ≡ 255 ∷ 127 ∷ 0 ∷ [] }
@@ -70,11 +77,14 @@ pub fn known_levels()
     ensures second { level 8 (1 ∷ 2 ∷ 3 ∷ []) 1 ≡ 2 }
 {}
 
-/// Lines have a gap between them where the stride is longer, which stays as it was.
+/// Lines have a gap between them where the stride is longer, which stays as it was. From the bottom
+/// the first row stands last.
 #[tactic(auto, unfolding(crate::specs::Layouts::laid_out))]
 pub fn known_lines()
-    ensures gap { laid_out (λ line. line) 2 3 2 (1 ∷ 2 ∷ 3 ∷ 4 ∷ []) (9 ∷ 9 ∷ 9 ∷ 9 ∷ 9 ∷ 9 ∷ [])
+    ensures gap { laid_out (λ line. line) 2 3 false 2 (1 ∷ 2 ∷ 3 ∷ 4 ∷ []) (replicate 6 9)
         ≡ 1 ∷ 2 ∷ 9 ∷ 3 ∷ 4 ∷ 9 ∷ [] }
+    ensures bottom_up { laid_out (λ line. line) 1 2 true 3 (1 ∷ 2 ∷ 3 ∷ []) (replicate 6 9)
+        ≡ 3 ∷ 9 ∷ 2 ∷ 9 ∷ 1 ∷ 9 ∷ [] }
     ensures size { size_of_lines 3 2 2 ≡ 5 }
     ensures none { size_of_lines 3 2 0 ≡ 0 }
 {}

@@ -4,14 +4,14 @@ ghost use Rattle.jpeg_decoder.specs.Bytes.{bytes_a_sample, samples_a_pixel};
 ghost use Rattle.zaxbriar_calls.specs.Layouts.{TakesStored, bytes_of, colour_of, conversion_to};
 ghost use Rattle.zaxbriar_calls.specs.Layouts.{converted_bytes, greatest, is_stored, layout_bytes};
 ghost use Rattle.zaxbriar_calls.specs.Layouts.{layout_line, layout_numbered, level, light, luma};
-ghost use Rattle.zaxbriar_calls.specs.Layouts.{pixel_bytes, sample_at};
+ghost use Rattle.zaxbriar_calls.specs.Layouts.{packed, pixel_bytes, sample_at, word};
 ghost use Rattle.jpeg_streams.specs.declared.images.PixelFormat.TheVariants.{L8, RGB24, CMYK32};
 ghost use Rattle.zaxbriar_calls.specs.declared.layouts.Conversion.TheVariants.{InColour};
 
 use jpeg_decoder::PixelFormat;
 use std::simd::prelude::*;
 
-/// How a colour becomes the bytes of a pixel, of 8 bits a sample.
+/// How a colour becomes the bytes of a pixel.
 #[derive(Clone, Copy)]
 pub enum Layout {
     /// Its luma.
@@ -26,6 +26,11 @@ pub enum Layout {
     Bgr,
     /// 255, and then red, green and blue.
     Xrgb,
+    /// 255, and then blue, green and red.
+    Abgr,
+    /// The upper 5 bits of red, 6 of green and 5 of blue in a number of 16 bits, red uppermost; its
+    /// lower byte is first.
+    Rgb565,
 }
 
 /// How the samples of a pixel become its bytes.
@@ -45,7 +50,7 @@ pub struct Colour {
     blue: u8,
 }
 
-/// Returns the layout of a number, 1 to 6.
+/// Returns the layout of a number, 1 to 8.
 fn layout_numbered(number: u8) -> Option<Layout>
     ensures { result ≡ layout_numbered number }
 {
@@ -56,6 +61,8 @@ fn layout_numbered(number: u8) -> Option<Layout>
         4 => Some(Layout::Bgra),
         5 => Some(Layout::Bgr),
         6 => Some(Layout::Xrgb),
+        7 => Some(Layout::Abgr),
+        8 => Some(Layout::Rgb565),
         _ => None,
     }
 }
@@ -99,8 +106,9 @@ fn layout_bytes(layout: Layout) -> u8
 {
     match layout {
         Layout::Grey => 1,
+        Layout::Rgb565 => 2,
         Layout::Rgb | Layout::Bgr => 3,
-        Layout::Rgba | Layout::Bgra | Layout::Xrgb => 4,
+        Layout::Rgba | Layout::Bgra | Layout::Xrgb | Layout::Abgr => 4,
     }
 }
 
@@ -216,6 +224,25 @@ fn luma(colour: Colour) -> u8
     ((red + green + blue + 32768) / 65536) as u8
 }
 
+/// Returns the upper 5 bits of red, 6 of green and 5 of blue, red uppermost.
+#[inline]
+fn packed(colour: Colour) -> u16
+    ensures { result ≡ packed colour }
+{
+    let red = u16::from(colour.red) / 8 * 2048;
+    let green = u16::from(colour.green) / 4 * 32;
+    red + green + u16::from(colour.blue) / 8
+}
+
+/// Writes a number as two bytes, the lower first.
+#[inline]
+fn put_word(number: u16, bytes: &mut [u8])
+    requires room { length bytes.old ≡ 2 }
+    ensures { bytes.new ≡ word number }
+{
+    bytes.copy_from_slice(&[(number % 256) as u8, (number / 256) as u8]);
+}
+
 /// Writes a colour as the bytes of a layout.
 #[inline(always)]
 fn put_colour(colour: Colour, layout: Layout, pixel: &mut [u8])
@@ -230,6 +257,8 @@ fn put_colour(colour: Colour, layout: Layout, pixel: &mut [u8])
         Layout::Bgra => pixel.copy_from_slice(&[blue, green, red, 255]),
         Layout::Bgr => pixel.copy_from_slice(&[blue, green, red]),
         Layout::Xrgb => pixel.copy_from_slice(&[255, red, green, blue]),
+        Layout::Abgr => pixel.copy_from_slice(&[255, blue, green, red]),
+        Layout::Rgb565 => put_word(packed(colour), pixel),
     }
 }
 
@@ -280,6 +309,8 @@ fn put_in_layout(
         Layout::Bgra => put_pixels(row, format, precision, Layout::Bgra, width, line),
         Layout::Bgr => put_pixels(row, format, precision, Layout::Bgr, width, line),
         Layout::Xrgb => put_pixels(row, format, precision, Layout::Xrgb, width, line),
+        Layout::Abgr => put_pixels(row, format, precision, Layout::Abgr, width, line),
+        Layout::Rgb565 => put_pixels(row, format, precision, Layout::Rgb565, width, line),
     }
 }
 
@@ -296,6 +327,9 @@ fn four_pixels(row: &[u8], layout: Layout) -> u8x16
     match layout {
         Layout::Xrgb => {
             samples.shuffle(full, [16, 0, 1, 2, 16, 3, 4, 5, 16, 6, 7, 8, 16, 9, 10, 11])
+        }
+        Layout::Abgr => {
+            samples.shuffle(full, [16, 2, 1, 0, 16, 5, 4, 3, 16, 8, 7, 6, 16, 11, 10, 9])
         }
         Layout::Bgra => {
             samples.shuffle(full, [2, 1, 0, 16, 5, 4, 3, 16, 8, 7, 6, 16, 11, 10, 9, 16])
@@ -342,6 +376,8 @@ fn put_grey(row: &[u8], layout: Layout, width: usize, line: &mut [u8])
         Layout::Bgra => put_pixels(row, PixelFormat::L8, 8, Layout::Bgra, width, line),
         Layout::Bgr => put_pixels(row, PixelFormat::L8, 8, Layout::Bgr, width, line),
         Layout::Xrgb => put_pixels(row, PixelFormat::L8, 8, Layout::Xrgb, width, line),
+        Layout::Abgr => put_pixels(row, PixelFormat::L8, 8, Layout::Abgr, width, line),
+        Layout::Rgb565 => put_pixels(row, PixelFormat::L8, 8, Layout::Rgb565, width, line),
     }
 }
 
@@ -358,6 +394,8 @@ fn put_rgb(row: &[u8], layout: Layout, width: usize, line: &mut [u8])
         Layout::Bgra => put_fours(row, Layout::Bgra, width, line),
         Layout::Bgr => put_pixels(row, PixelFormat::RGB24, 8, Layout::Bgr, width, line),
         Layout::Xrgb => put_fours(row, Layout::Xrgb, width, line),
+        Layout::Abgr => put_fours(row, Layout::Abgr, width, line),
+        Layout::Rgb565 => put_pixels(row, PixelFormat::RGB24, 8, Layout::Rgb565, width, line),
     }
 }
 
@@ -375,6 +413,8 @@ fn put_cmyk(row: &[u8], layout: Layout, width: usize, line: &mut [u8])
         Layout::Bgra => put_pixels(row, PixelFormat::CMYK32, 8, Layout::Bgra, width, line),
         Layout::Bgr => put_pixels(row, PixelFormat::CMYK32, 8, Layout::Bgr, width, line),
         Layout::Xrgb => put_pixels(row, PixelFormat::CMYK32, 8, Layout::Xrgb, width, line),
+        Layout::Abgr => put_pixels(row, PixelFormat::CMYK32, 8, Layout::Abgr, width, line),
+        Layout::Rgb565 => put_pixels(row, PixelFormat::CMYK32, 8, Layout::Rgb565, width, line),
     }
 }
 

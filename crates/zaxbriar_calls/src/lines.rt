@@ -1,6 +1,6 @@
 //! Where the lines of a picture are in the caller's memory.
 ghost use Rattle.std.specs.Prelude.{◌≡◌, ◌+◌, ◌*◌, ◌<◌, ◌≤◌, ℕ, [], false, length, IfOk, IfErr};
-ghost use Rattle.std.specs.Prelude.{slice_index_or};
+ghost use Rattle.std.specs.Prelude.{slice_index_or, true};
 ghost use Rattle.std.specs.List.{AllByRecursion, concat};
 ghost use Rattle.jpeg_bits.specs.declared.error.Error.TheVariants.{OutOfMemory};
 ghost use Rattle.zaxbriar_calls.specs.Faults.{IsArgument};
@@ -31,6 +31,8 @@ pub struct Lines {
     pub row_bytes: u64,
     /// The bytes from one line to the next.
     pub stride: u64,
+    /// Whether the first row stands last.
+    pub bottom_up: bool,
 }
 
 /// The greatest stride that is accepted.
@@ -68,6 +70,7 @@ pub fn lines_of(
         pixel_bytes,
         row_bytes,
         stride,
+        bottom_up: options.bottom_up == 1,
     })
 }
 
@@ -95,6 +98,20 @@ pub fn stored_line(alloc: Global, lines: Lines) -> Result<Vec<u8>>
     }
     let stored_bytes = usize::from(lines.width) * usize::from(lines.stored);
     Ok(vec![in alloc; 0; stored_bytes]?)
+}
+
+/// Returns at which place among the lines in memory row `y` stands.
+fn place_of(lines: Lines, y: usize) -> usize
+    requires y { y < lines.height }
+    ensures down { lines.bottom_up ≡ false → result ≡ y }
+    ensures up { lines.bottom_up ≡ true → result + y + 1 ≡ lines.height }
+    ensures inside { result < lines.height }
+{
+    if lines.bottom_up {
+        usize::from(lines.height) - 1 - y
+    } else {
+        y
+    }
 }
 
 /// Writes line `y` of a decoded picture in its layout, through `row` unless it stays as it is
@@ -140,12 +157,14 @@ pub fn put_lines(picture: &mut Decoded, lines: Lines, row: &mut [u8], pixels: &m
     requires wide { lines.row_bytes ≤ lines.stride }
     requires fits { TakesStored lines.conversion lines.stored }
     ensures { pixels.new ≡ laid_out (layout_line lines.conversion lines.stored lines.width)
-        (lines.width * lines.stored) lines.stride lines.height (concat picture.old) pixels.old }
+        (lines.width * lines.stored) lines.stride lines.bottom_up lines.height
+        (concat picture.old) pixels.old }
 {
     let row_bytes = lines.row_bytes as usize;
     let stride = lines.stride as usize;
     for y in 0..usize::from(lines.height) {
-        let start = y * stride;
+        let place = place_of(lines, y);
+        let start = place * stride;
         put_line(
             picture,
             lines,

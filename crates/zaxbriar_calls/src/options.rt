@@ -37,8 +37,8 @@ pub struct Options {
     /// The denominator of the scale: 1, 2, 4 or 8 for exactly that part of each side, rounded up,
     /// whatever the two above are; 0 for what they say.
     pub scale: u8,
-    /// Zero.
-    pub reserved: u8,
+    /// 1 where the rows stand from the bottom: the first one last in memory; and else 0.
+    pub bottom_up: u8,
     /// The most bytes that decoding may take beside the caller's memory, as `decoding_bytes` of the
     /// picture counts them; 0 for any number.
     pub max_bytes: u64,
@@ -60,7 +60,7 @@ pub const AS_STORED: Options = Options {
     transform: 0,
     layout: 0,
     scale: 0,
-    reserved: 0,
+    bottom_up: 0,
     max_bytes: 0,
     pointer_words: [0; 2],
     max_passes: 0,
@@ -88,7 +88,7 @@ pub fn are_known(options: &Options) -> bool
     (options.transform != 1 || options.layout == 0)
         && options.transform <= 5
         && is_denominator(options.scale)
-        && options.reserved == 0
+        && options.bottom_up <= 1
         && are_zero(&options.pointer_words)
         && are_zero(&options.reserved_words)
 }

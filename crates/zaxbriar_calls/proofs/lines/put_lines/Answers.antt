@@ -4,13 +4,19 @@ use Rattle.std.specs.List.{concat}
 use Rattle.std.specs.Prelude.{slice_index_or}
 use borrow.Rule.Slice.PartMut.{put_mid}
 use Rattle.jpeg_decoder.proofs.Pictures.LinesTogether.{line-long, together-length}
-use Rattle.zaxbriar_calls.specs.Layouts.{laid_out, layout_line}
-use Rattle.zaxbriar_calls.proofs.Laid.{line-length, line-of-all, line-put}
+use Rattle.zaxbriar_calls.specs.Layouts.{layout_line}
+use Rattle.zaxbriar_calls.proofs.Laid.{all-laid, laid_so_far, line-laid, line-length, line-of-all, none-laid}
 use Rattle.zaxbriar_calls.proofs.lines.put_lines.Goals as goal
 
 pub loop-y-init : goal.loop-y-init
-unfolding laid_out
-loop-y-init c = record { lines = refl; picture = refl; row = refl }
+loop-y-init c =
+    let lines = c.args.lines in
+    record {
+      lines = none-laid (layout_line lines.conversion lines.stored lines.width) (lines.width * lines.stored)
+          lines.stride lines.bottom_up lines.height (concat c.args.picture.now) c.args.pixels.now;
+      picture = refl;
+      row = refl;
+    }
 
 pub put_line-requires-clause-y : goal.put_line-requires-clause-y
 put_line-requires-clause-y c = grind arith
@@ -41,15 +47,29 @@ loop-y-preserved c =
     ∙ ap (λ (l : List (List ℕ)). layout_line lines.conversion lines.stored lines.width (slice_index_or l y []))
     c.loop-y.invariant.picture
     ∙ ap (λ (l : List ℕ). layout_line lines.conversion lines.stored lines.width l) (sym one) in
-    let room : y * lines.stride + lines.row_bytes ≤ length c.args.pixels.now = c.requires.room y (grind arith) in
-    let k : y * lines.stride + lines.row_bytes - y * lines.stride ≡ lines.row_bytes = omega arith in
+    let place : ℕ = c.place_of-place.result in
+    let room : place * lines.stride + lines.row_bytes ≤ length c.args.pixels.now =
+    c.requires.room place c.place_of-place.ensures.inside in
+    let k : place * lines.stride + lines.row_bytes - place * lines.stride ≡ lines.row_bytes = omega arith in
     record {
-      lines = ap (λ (l : List ℕ). put_mid (y * lines.stride) (y * lines.stride + lines.row_bytes - y * lines.stride) l
-          c.put_line.new.line) c.loop-y.invariant.lines
-          ∙ line-put (layout_line lines.conversion lines.stored lines.width) bytes lines.row_bytes lines.stride y
-          (y * lines.stride + lines.row_bytes - y * lines.stride) samples c.args.pixels.now c.put_line.new.line
+      lines = ap (λ (l : List ℕ). put_mid (place * lines.stride)
+          (place * lines.stride + lines.row_bytes - place * lines.stride) l c.put_line.new.line)
+          c.loop-y.invariant.lines
+          ∙ line-laid (layout_line lines.conversion lines.stored lines.width) bytes lines.row_bytes lines.stride
+          lines.bottom_up lines.height y place (place * lines.stride + lines.row_bytes - place * lines.stride) samples
+          c.args.pixels.now c.put_line.new.line
           (λ p whole. line-length lines.conversion lines.stored lines.width p whole ∙ sym c.requires.line)
-          few' c.requires.wide room k is;
+          few' c.requires.wide room k c.place_of-place.ensures.down c.place_of-place.ensures.up is;
       picture = c.put_line.ensures.same ∙ c.loop-y.invariant.picture;
       row = c.put_line.auto.row ∙ c.loop-y.invariant.row;
     }
+
+pub returns : goal.returns
+returns c =
+    let lines = c.args.lines in
+    let last : c.loop-y.y ≡ lines.height = grind arith in
+    c.loop-y.invariant.lines
+    ∙ ap (λ y. laid_so_far (layout_line lines.conversion lines.stored lines.width) (lines.width * lines.stored)
+    lines.stride lines.bottom_up lines.height y (concat c.args.picture.now) c.args.pixels.now) last
+    ∙ all-laid (layout_line lines.conversion lines.stored lines.width) (lines.width * lines.stored) lines.stride
+    lines.bottom_up lines.height (concat c.args.picture.now) c.args.pixels.now
