@@ -90,7 +90,7 @@ static const char *fault_of(const void *jpeg, size_t jpeg_size, const zaxbriar_o
 static const char *fault_of_decoding(const void *jpeg, size_t jpeg_size,
                                      const zaxbriar_options *options) {
     const char *fault = fault_of(jpeg, jpeg_size, options);
-    if (!fault && options && options->layout > ZAXBRIAR_RGB565) fault = "the layout doesn't exist";
+    if (!fault && options && options->layout > ZAXBRIAR_RGB16) fault = "the layout doesn't exist";
     return fault;
 }
 

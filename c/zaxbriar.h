@@ -66,13 +66,16 @@ typedef enum zaxbriar_result {
 } zaxbriar_result;
 
 /* How the pixels are arranged. Every picture can be decoded into every layout. In all but
- * AS_STORED a pixel is first converted to 8-bit red, green and blue, by integer arithmetic:
- * - a sample of a precision P other than 8 bits becomes (sample * 255 + most / 2) / most, where
- *   most = 2^P - 1; a greater sample, which a lossless picture may have, becomes 255;
+ * AS_STORED a pixel is first converted to red, green and blue from 0 to `full`, which is 65535 in
+ * GREY16 and RGB16 and 255 in the others, by integer arithmetic:
+ * - a sample of a precision of P bits becomes (sample * full + most / 2) / most, where most =
+ *   2^P - 1, so that one of 8 or of 16 bits stays as it is where full is 255 or 65535; a greater
+ *   sample, which a lossless picture may have, becomes full;
  * - a grey sample is repeated;
- * - cyan, magenta and yellow become red, green and blue by ((255 - ink) * (255 - black) + 127) /
- *   255 each. This is the simple formula of viewers; for exact colours use AS_STORED and the ICC
- *   profile. */
+ * - cyan, magenta and yellow become red, green and blue by ((full - ink) * (full - black) + full /
+ *   2) / full each. This is the simple formula of viewers; for exact colours use AS_STORED and the
+ *   ICC profile.
+ * A number of two bytes has the lower one first, as x86-64, arm64 and WebAssembly have theirs. */
 typedef enum zaxbriar_layout {
     ZAXBRIAR_AS_STORED = 0, /* the samples of each pixel, in the order of the components */
     ZAXBRIAR_GREY = 1,      /* 1 byte: the grey sample; for a colour its luma, which is
@@ -83,8 +86,10 @@ typedef enum zaxbriar_layout {
     ZAXBRIAR_BGR = 5,       /* 3 bytes */
     ZAXBRIAR_XRGB = 6,      /* 4 bytes, the first of which is 255 */
     ZAXBRIAR_ABGR = 7,      /* 4 bytes, the first of which is 255 */
-    ZAXBRIAR_RGB565 = 8     /* 2 bytes, the lower first: red / 8 * 2048 + green / 4 * 32 + blue / 8,
-                               each division rounded down */
+    ZAXBRIAR_RGB565 = 8,    /* 2 bytes: red / 8 * 2048 + green / 4 * 32 + blue / 8, each division
+                               rounded down */
+    ZAXBRIAR_GREY16 = 9,    /* 2 bytes: as GREY, of 16 bits */
+    ZAXBRIAR_RGB16 = 10     /* 6 bytes: as RGB, of 16 bits each */
 } zaxbriar_layout;
 
 /* The coding process of a picture. */

@@ -24,8 +24,11 @@ NAMES = (
     'OK MALFORMED UNSUPPORTED TRUNCATED NO_MEMORY NO_ROOM BAD_ARGUMENT NO_DATA TOO_LARGE PARTIAL '
     'TOO_MANY_PASSES'
 ).split()
-GREY, RGB, RGBA, BGRA, BGR, XRGB, ABGR, RGB565 = range(1, 9)
-PIXEL_BYTES = {GREY: 1, RGB: 3, RGBA: 4, BGRA: 4, BGR: 3, XRGB: 4, ABGR: 4, RGB565: 2}
+GREY, RGB, RGBA, BGRA, BGR, XRGB, ABGR, RGB565, GREY16, RGB16 = range(1, 11)
+PIXEL_BYTES = {
+    **{GREY: 1, RGB: 3, RGBA: 4, BGRA: 4, BGR: 3},
+    **{XRGB: 4, ABGR: 4, RGB565: 2, GREY16: 2, RGB16: 6},
+}
 TRANSFORMS = [None, 'None', 'RGB', 'YCbCr', 'CMYK', 'YCCK']
 PROCESSES = {'seq': 1, 'prog': 2, 'lossless': 3}
 FEATURES = [
@@ -194,7 +197,7 @@ def described(stream, options, is_partial):
     scale = model.pick_scale(frame, options.wanted())
     width, height, _ = model.info(frame, scale)
     components, is_wide = len(frame.comps), frame.precision > 8
-    if options.layout > RGB565:
+    if options.layout > RGB16:
         raise Refusal(BAD_ARGUMENT)
     pixel_bytes = PIXEL_BYTES.get(options.layout, components * (1 + is_wide))
     row_bytes = width * pixel_bytes
@@ -235,16 +238,15 @@ def is_too_large(options, told):
 # ---- samples
 
 
-def rgb_of(samples, precision):
-    """The 8-bit red, green and blue of a pixel of 1, 3 or 4 components."""
+def rgb_of(samples, precision, full):
+    """Red, green and blue of a pixel of 1, 3 or 4 components, of which `full` is the greatest."""
     most = 2**precision - 1
-    if precision != 8:
-        samples = [min(255, (sample * 255 + most // 2) // most) for sample in samples]
+    samples = [min(full, (sample * full + most // 2) // most) for sample in samples]
     if len(samples) == 1:
         return samples * 3
     if len(samples) == 4:
         black = samples[3]
-        return [((255 - ink) * (255 - black) + 127) // 255 for ink in samples[:3]]
+        return [((full - ink) * (full - black) + full // 2) // full for ink in samples[:3]]
     return samples
 
 
@@ -253,20 +255,27 @@ def packed(red, green, blue):
     return (red >> 3) << 11 | (green >> 2) << 5 | blue >> 3
 
 
+def words(*numbers):
+    """Numbers of two bytes, the lower first."""
+    return b''.join(number.to_bytes(2, 'little') for number in numbers)
+
+
 def pixel_in(layout, samples, precision):
-    red, green, blue = rgb_of(samples, precision)
-    if layout == GREY:
-        if len(samples) == 1:
-            return [red]
-        return [(19595 * red + 38470 * green + 7471 * blue + 32768) // 65536]
+    is_wide = layout in (GREY16, RGB16)
+    red, green, blue = rgb_of(samples, precision, 65535 if is_wide else 255)
+    luma = (19595 * red + 38470 * green + 7471 * blue + 32768) // 65536
+    grey = red if len(samples) == 1 else luma
+    if is_wide:
+        return words(grey) if layout == GREY16 else words(red, green, blue)
     return {
+        GREY: [grey],
         RGB: [red, green, blue],
         RGBA: [red, green, blue, 255],
         BGRA: [blue, green, red, 255],
         BGR: [blue, green, red],
         XRGB: [255, red, green, blue],
         ABGR: [255, blue, green, red],
-        RGB565: packed(red, green, blue).to_bytes(2, 'little'),
+        RGB565: words(packed(red, green, blue)),
     }[layout]
 
 

@@ -12,7 +12,7 @@ int is_described(zaxbriar_result result) {
 
 int are_known(const zaxbriar_options *options) {
     int scale = options->scale;
-    return options->layout <= ZAXBRIAR_RGB565 &&
+    return options->layout <= ZAXBRIAR_RGB16 &&
            options->transform <= ZAXBRIAR_TRANSFORM_YCCK && options->bottom_up <= 1 &&
            (scale == 0 || scale == 1 || scale == 2 || scale == 4 || scale == 8) &&
            (options->transform != ZAXBRIAR_TRANSFORM_NONE || options->layout == ZAXBRIAR_AS_STORED);
@@ -89,8 +89,8 @@ static void check_frame(const zaxbriar_picture *picture) {
 /* What follows from the options. */
 static void check_sizes(const zaxbriar_picture *picture, const zaxbriar_options *options) {
     unsigned stored = (unsigned)picture->components * picture->sample_bytes;
-    const unsigned pixel_bytes[] = {stored, 1, 3, 4, 4, 3, 4, 4, 2};
-    CHECK(picture->layout == options->layout && picture->layout <= ZAXBRIAR_RGB565);
+    const unsigned pixel_bytes[] = {stored, 1, 3, 4, 4, 3, 4, 4, 2, 2, 6};
+    CHECK(picture->layout == options->layout && picture->layout <= ZAXBRIAR_RGB16);
     CHECK(picture->pixel_bytes == pixel_bytes[picture->layout]);
     CHECK(picture->width > 0 && picture->height > 0);
     CHECK(picture->row_bytes == (uint64_t)picture->width * picture->pixel_bytes);

@@ -24,7 +24,7 @@ def settings_of(name):
     number = zlib.crc32(name.encode())
     # (no transform, no refused memory and no limit, which would refuse most of them)
     settings = [
-        number % 9,
+        number % 11,
         0,
         number >> 3 & 7,
         number >> 6 & 31,

@@ -514,7 +514,7 @@ static void refuse_memory(void) {
 static void choose_options(void) {
     static const uint8_t scales[] = {0, 1, 2, 4, 8, 0, 8, 3};
     const uint8_t *settings = of.settings;
-    of.options = (zaxbriar_options){.layout = settings[LAYOUT] % 10,
+    of.options = (zaxbriar_options){.layout = settings[LAYOUT] % 12,
                                     .transform = settings[TRANSFORM] % 7,
                                     .scale = scales[settings[SCALE] % 8],
                                     .bottom_up = has(BOTTOM_UP) != 0,

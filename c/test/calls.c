@@ -48,7 +48,7 @@ static void null_segments(void) {
     CHECK(is_all((unsigned char *)&places, sizeof places, 0));
 
     /* Places that are asked for by options stay as they were after a bad argument. */
-    zaxbriar_options options = {.layout = ZAXBRIAR_RGB565 + 1, .places = &places};
+    zaxbriar_options options = {.layout = ZAXBRIAR_RGB16 + 1, .places = &places};
     memset(&places, 1, sizeof places);
     CHECK(zaxbriar_read_info(jpeg.start, jpeg.size, &options, &picture) == ZAXBRIAR_BAD_ARGUMENT);
     CHECK(zaxbriar_decode(NULL, 1, &options, NULL, 0, NULL) == ZAXBRIAR_BAD_ARGUMENT);
@@ -70,7 +70,7 @@ static void unknown_options(void) {
     size_t length;
     for (int which = 0; which < 5; which++) {
         zaxbriar_options options = {0};
-        if (which == 0) options.layout = ZAXBRIAR_RGB565 + 1;
+        if (which == 0) options.layout = ZAXBRIAR_RGB16 + 1;
         if (which == 1) options.transform = ZAXBRIAR_TRANSFORM_YCCK + 1;
         if (which == 2) options.layout = UINT8_MAX;
         if (which == 3) options.layout = ZAXBRIAR_RGB, options.transform = ZAXBRIAR_TRANSFORM_NONE;

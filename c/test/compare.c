@@ -83,46 +83,53 @@ static void of_part(const zaxbriar_picture *whole, const unsigned char *pixels) 
     free(part);
 }
 
-/* A stored sample on the scale of 0 to 255. */
-static unsigned level(const zaxbriar_picture *whole, const unsigned char *sample) {
+/* A stored sample on the scale of 0 to `full`. */
+static uint64_t level(unsigned full, const zaxbriar_picture *whole, const unsigned char *sample) {
     unsigned most = (1u << whole->precision) - 1;
-    unsigned value = whole->sample_bytes == 2 ? sample[0] | (unsigned)sample[1] << 8 : sample[0];
-    return (value * 255 + most / 2) / most;
+    uint64_t value = whole->sample_bytes == 2 ? sample[0] | (unsigned)sample[1] << 8 : sample[0];
+    return (value * full + most / 2) / most;
 }
 
-/* Red, green and blue of a pixel as it is stored. */
-static void colour_of(const zaxbriar_picture *whole, const unsigned char *stored,
-                      unsigned colour[3]) {
+/* Red, green and blue of a pixel as it is stored, from 0 to `full`. */
+static void colour_of(unsigned full, const zaxbriar_picture *whole, const unsigned char *stored,
+                      uint64_t colour[3]) {
     for (int i = 0; i < 3; i++) {
         int component = whole->components == 1 ? 0 : i;
-        colour[i] = level(whole, stored + component * whole->sample_bytes);
+        colour[i] = level(full, whole, stored + component * whole->sample_bytes);
         if (whole->components == 4)
-            colour[i] = ((255 - colour[i]) *
-                             (255 - level(whole, stored + 3 * whole->sample_bytes)) +
-                         127) /
-                        255;
+            colour[i] = ((full - colour[i]) *
+                             (full - level(full, whole, stored + 3 * whole->sample_bytes)) +
+                         full / 2) /
+                        full;
     }
+}
+
+/* Whether a number of two bytes is this one. */
+static int is_word(const unsigned char *got, uint64_t number) {
+    return got[0] == number % 256 && got[1] == number / 256;
 }
 
 static int same_pixel(int layout, const zaxbriar_picture *whole, const unsigned char *got,
                       const unsigned char *stored) {
-    unsigned colour[3], red, green, blue;
-    colour_of(whole, stored, colour);
+    unsigned full = layout == ZAXBRIAR_GREY16 || layout == ZAXBRIAR_RGB16 ? 65535 : 255;
+    uint64_t colour[3], red, green, blue, luma;
+    colour_of(full, whole, stored, colour);
     red = colour[0], green = colour[1], blue = colour[2];
+    luma = whole->components == 1 ? red
+                                  : (19595 * red + 38470 * green + 7471 * blue + 32768) / 65536;
     switch (layout) {
     case ZAXBRIAR_AS_STORED: return !memcmp(got, stored, whole->pixel_bytes);
-    case ZAXBRIAR_GREY:
-        return got[0] == (whole->components == 1
-                              ? red
-                              : (19595 * red + 38470 * green + 7471 * blue + 32768) / 65536);
+    case ZAXBRIAR_GREY: return got[0] == luma;
+    case ZAXBRIAR_GREY16: return is_word(got, luma);
+    case ZAXBRIAR_RGB16:
+        return is_word(got, red) && is_word(got + 2, green) && is_word(got + 4, blue);
     case ZAXBRIAR_RGB: return got[0] == red && got[1] == green && got[2] == blue;
     case ZAXBRIAR_RGBA: return got[0] == red && got[1] == green && got[2] == blue && got[3] == 255;
     case ZAXBRIAR_BGRA: return got[2] == red && got[1] == green && got[0] == blue && got[3] == 255;
     case ZAXBRIAR_BGR: return got[2] == red && got[1] == green && got[0] == blue;
     case ZAXBRIAR_ABGR: return got[0] == 255 && got[3] == red && got[2] == green && got[1] == blue;
     case ZAXBRIAR_RGB565:
-        return (got[0] | (unsigned)got[1] << 8) ==
-               ((red & 0xf8) << 8 | (green & 0xfc) << 3 | blue >> 3);
+        return is_word(got, (red & 0xf8) << 8 | (green & 0xfc) << 3 | blue >> 3);
     default: return got[0] == 255 && got[1] == red && got[2] == green && got[3] == blue;
     }
 }
@@ -294,7 +301,7 @@ static void of_file(const char *name, const char *jpegraw) {
         CHECK(picture.pixel_bytes == picture.components * picture.sample_bytes);
         CHECK(picture.sample_bytes == (picture.precision > 8 ? 2 : 1));
         of_part(&picture, pixels);
-        for (int layout = ZAXBRIAR_AS_STORED; layout <= ZAXBRIAR_RGB565; layout++)
+        for (int layout = ZAXBRIAR_AS_STORED; layout <= ZAXBRIAR_RGB16; layout++)
             in_layout(layout, &picture, pixels);
         for (unsigned part = 1; part <= 8; part *= 2) at_scale(part, &picture);
         limited(&picture);

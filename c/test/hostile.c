@@ -209,8 +209,8 @@ static void found(const unsigned char *jpeg, size_t size) {
 
 static void of_stream(const unsigned char *bytes, size_t size, int is_whole) {
     static const uint8_t layouts[] = {
-        ZAXBRIAR_AS_STORED, ZAXBRIAR_RGB565, ZAXBRIAR_BGRA, ZAXBRIAR_RGB,
-        ZAXBRIAR_RGBA,      ZAXBRIAR_GREY,   ZAXBRIAR_BGR,  ZAXBRIAR_XRGB};
+        ZAXBRIAR_AS_STORED, ZAXBRIAR_RGB565, ZAXBRIAR_BGRA,  ZAXBRIAR_RGB,
+        ZAXBRIAR_RGBA,      ZAXBRIAR_GREY,   ZAXBRIAR_RGB16, ZAXBRIAR_XRGB};
     zaxbriar_options options = {.layout = layouts[files % 8],
                                 .stride = files / 8 % 4 == 3 ? 70000 * 8 : 0,
                                 .bottom_up = files / 32 % 2};

@@ -98,6 +98,14 @@ static void deep_samples(void) {
     CHECK(!memcmp(pixels, (unsigned char[]){128, 128, 127, 255}, 4) && picture.pixel_bytes == 4);
     options.layout = ZAXBRIAR_GREY;
     CHECK(decode(deep, sizeof deep, options, 1) == ZAXBRIAR_OK && pixels[0] == 128);
+    /* on their own scale: as they are stored, and (19595 * 32768 + 38470 * 32769 + 7471 * 32767 +
+     * 32768) / 65536 */
+    options.layout = ZAXBRIAR_RGB16;
+    CHECK(decode(deep, sizeof deep, options, 6) == ZAXBRIAR_OK);
+    CHECK(!memcmp(pixels, (unsigned char[]){0, 0x80, 1, 0x80, 0xff, 0x7f}, 6));
+    options.layout = ZAXBRIAR_GREY16;
+    CHECK(decode(deep, sizeof deep, options, 2) == ZAXBRIAR_OK);
+    CHECK(pixels[0] == 0 && pixels[1] == 0x80 && picture.pixel_bytes == 2);
 }
 
 static void layouts_of_grey(void) {
@@ -112,30 +120,34 @@ static void layouts_of_grey(void) {
 }
 
 static void layouts_of_colours(void) {
-    static const unsigned char wanted[][5] = {
-        [ZAXBRIAR_GREY] = {0x80, 7, 7, 7, 7}, /* (19595 * 128 + 38470 * 129 + 7471 * 127) / 65536 */
-        [ZAXBRIAR_RGB] = {0x80, 0x81, 0x7f, 7, 7},
-        [ZAXBRIAR_RGBA] = {0x80, 0x81, 0x7f, 255, 7},
-        [ZAXBRIAR_BGRA] = {0x7f, 0x81, 0x80, 255, 7},
-        [ZAXBRIAR_BGR] = {0x7f, 0x81, 0x80, 7, 7},
-        [ZAXBRIAR_XRGB] = {255, 0x80, 0x81, 0x7f, 7},
-        [ZAXBRIAR_ABGR] = {255, 0x7f, 0x81, 0x80, 7},
+    static const unsigned char wanted[][7] = {
+        /* (19595 * 128 + 38470 * 129 + 7471 * 127) / 65536 */
+        [ZAXBRIAR_GREY] = {0x80, 7, 7, 7, 7, 7, 7},
+        [ZAXBRIAR_RGB] = {0x80, 0x81, 0x7f, 7, 7, 7, 7},
+        [ZAXBRIAR_RGBA] = {0x80, 0x81, 0x7f, 255, 7, 7, 7},
+        [ZAXBRIAR_BGRA] = {0x7f, 0x81, 0x80, 255, 7, 7, 7},
+        [ZAXBRIAR_BGR] = {0x7f, 0x81, 0x80, 7, 7, 7, 7},
+        [ZAXBRIAR_XRGB] = {255, 0x80, 0x81, 0x7f, 7, 7, 7},
+        [ZAXBRIAR_ABGR] = {255, 0x7f, 0x81, 0x80, 7, 7, 7},
         /* 16 * 2048 + 32 * 32 + 15, the lower byte first */
-        [ZAXBRIAR_RGB565] = {0x0f, 0x84, 7, 7, 7},
+        [ZAXBRIAR_RGB565] = {0x0f, 0x84, 7, 7, 7, 7, 7},
+        /* each times 257, and (19595 * 32896 + 38470 * 33153 + 7471 * 32639 + 32768) / 65536 */
+        [ZAXBRIAR_GREY16] = {0xfa, 0x80, 7, 7, 7, 7, 7},
+        [ZAXBRIAR_RGB16] = {0x80, 0x80, 0x81, 0x81, 0x7f, 0x7f, 7},
     };
     unsigned char stream[sizeof deep];
     memcpy(stream, deep, sizeof deep);
     stream[6] = 8; /* samples of 8 bits are predicted as 2^7 */
-    for (uint8_t layout = ZAXBRIAR_GREY; layout <= ZAXBRIAR_RGB565; layout++) {
+    for (uint8_t layout = ZAXBRIAR_GREY; layout <= ZAXBRIAR_RGB16; layout++) {
         zaxbriar_options options = {.layout = layout};
-        CHECK(decode(stream, sizeof stream, options, 5) == ZAXBRIAR_OK);
-        CHECK(!memcmp(pixels, wanted[layout], 5) && picture.process == ZAXBRIAR_LOSSLESS);
+        CHECK(decode(stream, sizeof stream, options, 7) == ZAXBRIAR_OK);
+        CHECK(!memcmp(pixels, wanted[layout], 7) && picture.process == ZAXBRIAR_LOSSLESS);
     }
 }
 
 static void refusals(void) {
     static const unsigned char arithmetic[] = {0xff, 0xd8, 0xff, 0xcc};
-    static const zaxbriar_options wrong[] = {{.layout = 9},
+    static const zaxbriar_options wrong[] = {{.layout = 11},
                                              {.stride = 7},
                                              {.transform = 6},
                                              {.transform = 1, .layout = ZAXBRIAR_GREY},

@@ -72,8 +72,30 @@ static unsigned char light(unsigned char ink, unsigned char black) {
     return (unsigned char)(((255 - ink) * (255 - black) + 127) / 255);
 }
 
+/* The same of 16 bits. */
+static unsigned wide_light(unsigned ink, unsigned black) {
+    return (unsigned)(((uint64_t)(255 - ink) * 257 * ((255 - black) * 257) + 32767) / 65535);
+}
+
+/* Writes numbers of two bytes, the lower first, and returns how many bytes they take. */
+static unsigned put_words(unsigned char *pixel, const unsigned *numbers, unsigned count) {
+    for (unsigned i = 0; i < 2 * count; i++)
+        pixel[i] = (unsigned char)(i % 2 ? numbers[i / 2] >> 8 : numbers[i / 2]);
+    return 2 * count;
+}
+
+/* The bytes of a pixel in a layout of 16 bits. */
+static unsigned convert_wide(int layout, const unsigned char *stored, unsigned char *pixel) {
+    unsigned colour[3];
+    for (int i = 0; i < 3; i++)
+        colour[i] = components == 4 ? wide_light(stored[i], stored[3])
+                                    : stored[components == 3 ? i : 0] * 257u;
+    unsigned luma = (19595 * colour[0] + 38470 * colour[1] + 7471 * colour[2] + 32768) >> 16;
+    return layout == ZAXBRIAR_RGB16 ? put_words(pixel, colour, 3) : put_words(pixel, &luma, 1);
+}
+
 /* The bytes of a pixel, of which `size` are written. */
-static unsigned convert(int layout, const unsigned char *stored, unsigned char pixel[4]) {
+static unsigned convert(int layout, const unsigned char *stored, unsigned char pixel[6]) {
     unsigned char red = stored[0], green = red, blue = red;
     if (components == 3) green = stored[1], blue = stored[2];
     if (components == 4)
@@ -93,12 +115,14 @@ static unsigned convert(int layout, const unsigned char *stored, unsigned char p
         pixel[0] = (unsigned char)((green << 3 & 0xe0) | blue >> 3);
         pixel[1] = (unsigned char)((red & 0xf8) | green >> 5);
         return 2;
+    case ZAXBRIAR_GREY16:
+    case ZAXBRIAR_RGB16: return convert_wide(layout, stored, pixel);
     default: return memcpy(pixel, (unsigned char[]){255, red, green, blue}, 4), 4;
     }
 }
 
 static void in_layout(int layout, unsigned gap, unsigned more, int is_bottom_up) {
-    unsigned char pixel[4];
+    unsigned char pixel[6];
     unsigned pixel_bytes = convert(layout, samples, pixel), row_bytes = width * pixel_bytes;
     unsigned stride = row_bytes + gap;
     zaxbriar_options options = {.layout = (uint8_t)layout,
@@ -144,7 +168,7 @@ int main(void) {
                     samples[i] = (unsigned char)(chance >> 24);
                 }
                 write_stream();
-                for (int layout = ZAXBRIAR_AS_STORED; layout <= ZAXBRIAR_RGB565; layout++)
+                for (int layout = ZAXBRIAR_AS_STORED; layout <= ZAXBRIAR_RGB16; layout++)
                     for (int i = 0; i < 12; i++)
                         in_layout(layout, gaps[i % 3], i / 3 % 2, i / 6);
             }

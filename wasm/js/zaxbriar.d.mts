@@ -14,11 +14,14 @@ export type Bytes = ArrayBuffer | SharedArrayBuffer | ArrayBufferView;
 
 /**
  * How the pixels are arranged. `stored` has each pixel's samples in the order of the components.
- * The others have 8 bits a sample, and every picture can be decoded into each of them: samples of
- * other precisions are scaled, grey is repeated, and ink is converted by the simple formula of
- * viewers. The fourth sample of `rgba` and `bgra`, and the first of `xrgb` and `abgr`, is 255.
- * `rgb565` has the upper 5 bits of red, 6 of green and 5 of blue, red uppermost, in two bytes, the
- * lower first: unless the `stride` is odd, `new Uint16Array(pixels.buffer)` has a number a pixel.
+ * Every picture can be decoded into each of the others: samples of another precision are scaled,
+ * grey is repeated, and ink is converted by the simple formula of viewers. They have 8 bits a
+ * sample, but `grey16` and `rgb16` 16. The fourth sample of `rgba` and `bgra`, and the first of
+ * `xrgb` and `abgr`, is 255. `rgb565` has the upper 5 bits of red, 6 of green and 5 of blue in a
+ * number of 16 bits, red uppermost.
+ *
+ * A number of 16 bits takes two bytes of the pixels, the lower first, as all machines that engines
+ * run on have theirs: unless a `stride` is odd, `new Uint16Array(pixels.buffer)` has these numbers.
  */
 export type Layout =
     | 'stored'
@@ -29,7 +32,9 @@ export type Layout =
     | 'bgr'
     | 'xrgb'
     | 'abgr'
-    | 'rgb565';
+    | 'rgb565'
+    | 'grey16'
+    | 'rgb16';
 
 /**
  * How the components are to be understood: as the stream says, or as these. `rgb` and `ycbcr` are

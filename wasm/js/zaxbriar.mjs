@@ -20,6 +20,8 @@ const LAYOUTS = {
     xrgb: 6,
     abgr: 7,
     rgb565: 8,
+    grey16: 9,
+    rgb16: 10,
 };
 const TRANSFORMS = { stream: 0, none: 1, rgb: 2, ycbcr: 3, cmyk: 4, ycck: 5 };
 const KINDS = { exif: 1, xmp: 2, icc: 3 };

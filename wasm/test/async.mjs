@@ -60,7 +60,7 @@ async function checkAnswers() {
         { layout: undefined, partial: undefined },
         { partial: true },
         { partial: true, layout: 'grey', scale: 2 },
-        { layout: 'rgb565', bottomUp: true },
+        { layout: 'rgb16', bottomUp: true },
         { minWidth: 9, minHeight: 9, stride: 200, colorTransform: 'rgb', partial: false },
         { maxPixels: 9 },
         { maxBytes: 9 },

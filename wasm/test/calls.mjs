@@ -175,9 +175,18 @@ new Uint16Array(packed.buffer).forEach((number, index) => {
     const [red, green, blue] = pixels.subarray(3 * index);
     assert.equal(number, ((red >> 3) << 11) | ((green >> 2) << 5) | (blue >> 3));
 });
+// (samples of 8 bits on the scale of 16 bits)
+const wide = new Uint16Array(zaxbriar.decode(jpeg, { layout: 'rgb16' }).pixels.buffer);
+assert.deepEqual(Array.from(wide), Array.from(pixels, (sample) => 257 * sample));
+const grey = new Uint16Array(zaxbriar.decode(jpeg, { layout: 'grey16' }).pixels.buffer);
+grey.forEach((number, index) => {
+    const [red, green, blue] = wide.subarray(3 * index);
+    const luma = Math.floor((19595 * red + 38470 * green + 7471 * blue + 32768) / 65536);
+    assert.equal(number, luma);
+});
 
 // Rows from the bottom.
-for (const options of [{}, { layout: 'abgr' }, { layout: 'grey', partial: true, scale: 2 }]) {
+for (const options of [{}, { layout: 'rgb16' }, { layout: 'grey', partial: true, scale: 2 }]) {
     const down = zaxbriar.decode(jpeg, { ...options, bottomUp: false });
     const up = zaxbriar.decode(jpeg, { ...options, bottomUp: true });
     const { rowBytes, height } = down.picture;
@@ -320,7 +329,7 @@ const larger = Buffer.from(jpeg);
 larger.writeUInt32BE(1000 * 65536 + 1600, larger.indexOf(Buffer.from([0xff, 0xc0])) + 5);
 const ROOM = 512 * 1024;
 const layouts = ['stored', 'grey', 'rgb', 'rgba', 'bgra', 'bgr', 'xrgb', 'abgr', 'rgb565'];
-for (const layout of layouts) {
+for (const layout of [...layouts, 'grey16', 'rgb16']) {
     const decoder = new Zaxbriar(module);
     const { size, decodingBytes } = decoder.decode(larger, { layout, bottomUp: true }).picture;
     assert.ok(size >= 1600 * 1000);

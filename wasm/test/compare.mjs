@@ -14,6 +14,7 @@ const MOST_SIZE = 2 ** 28;
 const MOST_PART = 2 ** 26;
 const MOST_BYTES = 400000000;
 const LAYOUTS = ['stored', 'grey', 'rgb', 'rgba', 'bgra', 'bgr', 'xrgb', 'abgr', 'rgb565'];
+LAYOUTS.push('grey16', 'rgb16');
 const TRANSFORMS = ['stream', 'none', 'rgb', 'ycbcr', 'cmyk', 'ycck'];
 const PROCESSES = ['', 'sequential', 'progressive', 'lossless'];
 const FORMATS = ['', 'grey8', 'grey16', 'rgb', 'cmyk'];

@@ -141,6 +141,12 @@ class Pictures(unittest.TestCase):
         self.assertEqual(memoryview(picture).itemsize, 2)
         self.assertEqual(list(picture[0][0]), [0x8000, 0x8001, 0x7FFF])
         self.assertEqual(zaxbriar.decode(DEEP, layout="rgb")[0][0][:], [128, 128, 127])
+        wide = zaxbriar.decode(DEEP, layout="rgb16")
+        self.assertEqual((wide.shape, bytes(wide)), (picture.shape, bytes(picture)))
+        self.assertEqual(zaxbriar.decode(DEEP, layout="grey16")[0][:], [0x8000])
+        samples = bytes(zaxbriar.decode(STREAM, layout="rgb"))
+        wide = memoryview(zaxbriar.decode(STREAM, layout="rgb16")).cast("B").cast("H")
+        self.assertEqual(list(wide), [257 * sample for sample in samples])
 
     def test_of_16_bits_a_pixel(self):
         picture, colours = (zaxbriar.decode(STREAM, layout=it) for it in ("rgb565", "rgb"))

@@ -47,29 +47,39 @@ def samples_of(pam):
     return (height, width) if depth == 1 else (height, width, depth), data
 
 
-def in_colours(picture):
+def in_colours(picture, full):
     """Red, green and blue of each pixel of a stored picture, by the formulas of zaxbriar.h."""
     data, most = bytes(picture), 2**picture.info.precision - 1
     if picture.info.item_bytes == 2:
         data = [low | high << 8 for low, high in zip(data[::2], data[1::2])]
-    if picture.info.precision != 8:
-        data = [min(255, (sample * 255 + most // 2) // most) for sample in data]
+    if most != full:
+        data = [min(full, (sample * full + most // 2) // most) for sample in data]
     count = picture.info.components
     if count == 1:
         return [(sample,) * 3 for sample in data]
     if count == 3:
         return list(zip(data[::3], data[1::3], data[2::3]))
-    black = [255 - sample for sample in data[3::4]]
+    black = [full - sample for sample in data[3::4]]
     parts = (data[i::4] for i in range(3))
     return list(
-        zip(*([((255 - ink) * k + 127) // 255 for ink, k in zip(part, black)] for part in parts))
+        zip(
+            *(
+                [((full - ink) * k + full // 2) // full for ink, k in zip(part, black)]
+                for part in parts
+            )
+        )
     )
+
+
+def words(*numbers):
+    return b"".join(number.to_bytes(2, "little") for number in numbers)
 
 
 def arranged(colours, layout, is_grey):
     """The bytes of a layout."""
-    if layout == "grey" and is_grey:
-        return bytes(red for red, _, _ in colours)
+    if layout.startswith("grey") and is_grey:
+        greys = [red for red, _, _ in colours]
+        return bytes(greys) if layout == "grey" else words(*greys)
     arrange = {
         "grey": lambda r, g, b: ((19595 * r + 38470 * g + 7471 * b + 32768) // 65536,),
         "rgb": lambda r, g, b: (r, g, b),
@@ -78,7 +88,9 @@ def arranged(colours, layout, is_grey):
         "bgr": lambda r, g, b: (b, g, r),
         "xrgb": lambda r, g, b: (255, r, g, b),
         "abgr": lambda r, g, b: (255, b, g, r),
-        "rgb565": lambda r, g, b: ((r >> 3 << 11 | g >> 2 << 5 | b >> 3).to_bytes(2, "little")),
+        "rgb565": lambda r, g, b: words(r >> 3 << 11 | g >> 2 << 5 | b >> 3),
+        "grey16": lambda r, g, b: words((19595 * r + 38470 * g + 7471 * b + 32768) // 65536),
+        "rgb16": words,
     }[layout]
     return b"".join(bytes(arrange(*colour)) for colour in colours)
 
@@ -96,13 +108,15 @@ class Suite(unittest.TestCase):
             yield case, *((folder / case[key]).read_bytes() for key in ("stream", "expected"))
 
     def check_layouts(self, stream, stored, scale):
-        colours, is_grey = in_colours(stored), stored.info.components == 1
+        colours, is_grey = in_colours(stored, 255), stored.info.components == 1
+        wide_colours = in_colours(stored, 65535)
+        channels = {"grey": (), "rgb": (3,), "bgr": (3,), "rgb565": (), "grey16": (), "rgb16": (3,)}
         for layout in zaxbriar.Layout.__args__[1:]:
             found = zaxbriar.decode(stream, layout=layout, scale=scale, max_passes=0)
-            self.assertEqual(bytes(found), arranged(colours, layout, is_grey), layout)
-            channels = {"grey": (), "rgb565": (), "rgb": (3,), "bgr": (3,)}.get(layout, (4,))
-            self.assertEqual(found.shape, (*stored.shape[:2], *channels))
-            self.assertEqual(found.info.item_bytes, 2 if layout == "rgb565" else 1)
+            wanted = wide_colours if layout in ("grey16", "rgb16") else colours
+            self.assertEqual(bytes(found), arranged(wanted, layout, is_grey), layout)
+            self.assertEqual(found.shape, (*stored.shape[:2], *channels.get(layout, (4,))))
+            self.assertEqual(found.info.item_bytes, 2 if "16" in layout or "565" in layout else 1)
 
     def check_refusal(self, decode, expected):
         told = next(kinds for text, kinds in REFUSALS.items() if expected.startswith(text))

@@ -41,7 +41,10 @@ NAME = "libzaxbriar.so.0"
 WHOLE_IMAGE = 16
 
 # The names of the library's numbers, each in its place.
-LAYOUTS = ("as_stored", "grey", "rgb", "rgba", "bgra", "bgr", "xrgb", "abgr", "rgb565")
+LAYOUTS = (
+    *("as_stored", "grey", "rgb", "rgba", "bgra", "bgr", "xrgb", "abgr"),
+    *("rgb565", "grey16", "rgb16"),
+)
 TRANSFORMS = ("of_stream", "none", "rgb", "ycbcr", "cmyk", "ycck")
 PROCESSES = (None, "sequential", "progressive", "lossless")
 FORMATS = (None, "grey8", "grey16", "rgb", "cmyk")

@@ -10,7 +10,9 @@ from .errors import BadArgumentError
 
 MAX_PASSES = 100
 
-Layout = Literal["as_stored", "grey", "rgb", "rgba", "bgra", "bgr", "xrgb", "abgr", "rgb565"]
+Layout = Literal[
+    "as_stored", "grey", "rgb", "rgba", "bgra", "bgr", "xrgb", "abgr", "rgb565", "grey16", "rgb16"
+]
 Transform = Literal["of_stream", "none", "rgb", "ycbcr", "cmyk", "ycck"]
 
 

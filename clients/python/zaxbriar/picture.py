@@ -73,7 +73,7 @@ _NUMBERS = (
 
 
 # The layouts whose items have other than 8 bits.
-_ITEM_BYTES = {"rgb565": 2}
+_ITEM_BYTES = {"rgb565": 2, "grey16": 2, "rgb16": 2}
 
 
 def info_of(told: library.Description, options: library.Options) -> Info:

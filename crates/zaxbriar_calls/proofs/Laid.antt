@@ -1,16 +1,19 @@
 -- Pixels and lines that are written one after the other.
-use Rattle.std.proofs.Common.{◌≡◌, ◌∙◌, ℕ, zero, suc, ◌+◌, ◌-◌, ◌*◌, ◌/◌, ◌<◌, ◌≤◌, List, [], ◌∷◌, ◌++◌, length, take}
+use Rattle.std.proofs.Common.{◌≡◌, ◌∙◌, ℕ, zero, suc, ◌+◌, ◌-◌, ◌*◌, ◌/◌, ◌%◌, ◌<◌, ◌≤◌, List, [], ◌∷◌, ◌++◌, length, take}
 use Rattle.std.proofs.Common.{drop, refl, sym, ap, arith, add-mul, append_assoc, length-append, length-drop, length-take}
 use Rattle.std.proofs.Common.{Bool, false, replicate, subst, true}
+use Rattle.std.proofs.Math.Nat.{min-eq_right}
 use Rattle.std.proofs.Math.Seq.{take-add, take-append_seam, drop-append_seam, take-append-add, drop-append-add}
 use Rattle.std.proofs.lemmas.List.{append-nil, drop_all, drop-append-le, drop-drop, take-append-drop}
 use Rattle.std.proofs.lemmas.Simd.{put_chunk_is}
 use Rattle.std.specs.List.{AllByRecursion, concat}
-use Rattle.std.specs.Prelude.{slice_index_or}
+use Rattle.std.specs.Prelude.{min, slice_index, slice_index_or}
 use borrow.Rule.Slice.PartMut.{put_mid}
 use lib.Lanes.{pick_l, put_chunk}
 use Rattle.zaxbriar_calls.specs.Layouts.{TakesStored, bytes_of, colour_of, converted_bytes, is_stored, layout_bytes}
-use Rattle.zaxbriar_calls.specs.Layouts.{laid_out, layout_line, level, over, pixel_bytes, pixel_of, pixels_of}
+use Rattle.zaxbriar_calls.specs.Layouts.{colour, full_of, laid_out, layout_line, level, luma, over, pixel_bytes}
+use Rattle.zaxbriar_calls.specs.Layouts.{pixel_of, pixels_of, scaled, word}
+use Rattle.zaxbriar_calls.proofs.Levels.{same-scale}
 use Rattle.jpeg_streams.specs.declared.images.PixelFormat.{PixelFormat}
 use Rattle.jpeg_streams.specs.declared.images.PixelFormat.TheVariants.{L8, L16, RGB24, CMYK32}
 use Rattle.zaxbriar_calls.specs.declared.layouts.Conversion.{Conversion}
@@ -18,6 +21,7 @@ use Rattle.zaxbriar_calls.specs.declared.layouts.Conversion.TheVariants.{Stored,
 use Rattle.zaxbriar_calls.specs.declared.layouts.Colour.{Colour}
 use Rattle.zaxbriar_calls.specs.declared.layouts.Layout.{Layout}
 use Rattle.zaxbriar_calls.specs.declared.layouts.Layout.TheVariants.{Grey, Rgb, Rgba, Bgra, Bgr, Xrgb, Abgr, Rgb565}
+use Rattle.zaxbriar_calls.specs.declared.layouts.Layout.TheVariants.{Grey16, Rgb16}
 
 -- a piece that is written after others over what was there
 piece-put : (before old piece : List ℕ) (a k : ℕ) → length before ≡ a
@@ -88,17 +92,29 @@ pixel-put pixel stored bytes x k row old now piece each e is before =
     pixels-put pixel stored bytes x 1 k row old now piece each one
     (is ∙ sym (append-nil (pixel (take stored (drop (x * stored) row))))) before
 
--- pixels that stay as they are
-pub pixels-same : (pixel : List ℕ → List ℕ) (stored width : ℕ) (row : List ℕ)
-    → ((p : List ℕ) → length p ≡ stored → pixel p ≡ p) → length row ≡ width * stored
-    → pixels_of pixel stored width row ≡ row
+-- items of which each is one of these, in a part of a row
+each-take : (P : ℕ → Type 0) (n : ℕ) (row : List ℕ) → AllByRecursion P row → AllByRecursion P (take n row)
+each-take P zero row all = tt
+each-take P (suc n) [] all = tt
+each-take P (suc n) (x ∷ row) all = (all.0, each-take P n row all.1)
+
+each-drop : (P : ℕ → Type 0) (n : ℕ) (row : List ℕ) → AllByRecursion P row → AllByRecursion P (drop n row)
+each-drop P zero row all = all
+each-drop P (suc n) [] all = tt
+each-drop P (suc n) (x ∷ row) all = each-drop P n row all.1
+
+-- pixels that stay as they are, where each of their bytes is one of these
+pixels-same : (P : ℕ → Type 0) (pixel : List ℕ → List ℕ) (stored width : ℕ) (row : List ℕ)
+    → ((p : List ℕ) → length p ≡ stored → AllByRecursion P p → pixel p ≡ p) → length row ≡ width * stored
+    → AllByRecursion P row → pixels_of pixel stored width row ≡ row
 unfolding pixels_of
-pixels-same pixel stored zero [] same e = refl
-pixels-same pixel stored zero (x ∷ xs) same e = absurd (omega (arith, e))
-pixels-same pixel stored (suc width) row same e =
+pixels-same P pixel stored zero [] same e all = refl
+pixels-same P pixel stored zero (x ∷ xs) same e all = absurd (omega (arith, e))
+pixels-same P pixel stored (suc width) row same e all =
     let first : length (take stored row) ≡ stored = omega (arith, e, length-take {A = ℕ}) in
     let rest : length (drop stored row) ≡ width * stored = omega (arith, e, length-drop {A = ℕ}) in
-    (λ i. same (take stored row) first i ++ pixels-same pixel stored width (drop stored row) same rest i)
+    (λ i. same (take stored row) first (each-take P stored row all) i
+    ++ pixels-same P pixel stored width (drop stored row) same rest (each-drop P stored row all) i)
     ∙ take-append-drop stored row
 
 -- the bytes of a pixel of a layout
@@ -111,6 +127,8 @@ colour-bytes Bgr c = refl
 colour-bytes Xrgb c = refl
 colour-bytes Abgr c = refl
 colour-bytes Rgb565 c = refl
+colour-bytes Grey16 c = refl
+colour-bytes Rgb16 c = refl
 
 -- the first pixel of a line
 pub none-put : (pixel : List ℕ → List ℕ) (stored bytes : ℕ) (row old : List ℕ)
@@ -123,7 +141,8 @@ none-put pixel stored bytes row old =
 -- one more pixel in colour
 pub colour-put : (format : PixelFormat) (precision : ℕ) (layout : Layout) (stored bytes x : ℕ) (row old now piece : List ℕ)
     → stored ≡ pixel_bytes format precision → bytes ≡ layout_bytes layout
-    → piece ≡ bytes_of layout (colour_of format precision (take ((x + 1) * stored - x * stored) (drop (x * stored) row)))
+    → piece ≡ bytes_of layout
+    (colour_of (full_of layout) format precision (take ((x + 1) * stored - x * stored) (drop (x * stored) row)))
     → now ≡ layout_line (InColour format precision layout) (pixel_bytes format precision) x row
     ++ drop (x * layout_bytes layout) old
     → put_mid (x * bytes) ((x + 1) * bytes - x * bytes) now piece
@@ -134,8 +153,9 @@ colour-put format precision layout stored bytes x row old now piece s b is befor
     let put : (x + 1) * bytes - x * bytes ≡ bytes = omega arith in
     (λ i. put_mid (x * b i) ((put ∙ b) i) now piece)
     ∙ pixel-put (pixel_of (InColour format precision layout)) (pixel_bytes format precision) (layout_bytes layout) x
-    (layout_bytes layout) row old now piece (λ p. colour-bytes layout (colour_of format precision p)) refl
-    (is ∙ (λ i. bytes_of layout (colour_of format precision (take ((taken ∙ s) i) (drop (x * s i) row))))) before
+    (layout_bytes layout) row old now piece (λ p. colour-bytes layout (colour_of (full_of layout) format precision p)) refl
+    (is ∙ (λ i. bytes_of layout
+    (colour_of (full_of layout) format precision (take ((taken ∙ s) i) (drop (x * s i) row))))) before
 
 -- ---- four pixels of red, green and blue at a time
 
@@ -164,41 +184,68 @@ sixteen_given P given row room = four_given (λ r. 16 ≤ length r → P r)
 abbrev pub shuffled : List ℕ → List ℕ → List ℕ
 shuffled row places = pick_l 0 (take 16 row ++ replicate 16 255) places
 
-pub shuffled_rgba : (row : List ℕ) → 16 ≤ length row
+-- a sample on its own scale
+kept-same : (full sample : ℕ) → 1 ≤ full → sample ≤ full → sample ≡ scaled full full sample
+kept-same full sample some most = sym (min-eq_right most) ∙ ap (λ n. min full n) (sym (same-scale full sample some))
+
+byte-same : (sample : ℕ) → sample < 256 → sample ≡ scaled 255 255 sample
+byte-same sample small = kept-same 255 sample (omega arith) (omega (arith, small))
+
+pub shuffled_rgba : (row : List ℕ) → 16 ≤ length row → ((k : ℕ) → slice_index row k < 256)
     → shuffled row (0 ∷ 1 ∷ 2 ∷ 16 ∷ 3 ∷ 4 ∷ 5 ∷ 16 ∷ 6 ∷ 7 ∷ 8 ∷ 16 ∷ 9 ∷ 10 ∷ 11 ∷ 16 ∷ [])
     ≡ layout_line (InColour RGB24 8 Rgba) (pixel_bytes RGB24 8) 4 row
 unfolding pixels_of level
-shuffled_rgba row room = sixteen_given
-    (λ r. shuffled r (0 ∷ 1 ∷ 2 ∷ 16 ∷ 3 ∷ 4 ∷ 5 ∷ 16 ∷ 6 ∷ 7 ∷ 8 ∷ 16 ∷ 9 ∷ 10 ∷ 11 ∷ 16 ∷ [])
+shuffled_rgba row room small = sixteen_given (λ r. ((k : ℕ) → slice_index r k < 256)
+    → shuffled r (0 ∷ 1 ∷ 2 ∷ 16 ∷ 3 ∷ 4 ∷ 5 ∷ 16 ∷ 6 ∷ 7 ∷ 8 ∷ 16 ∷ 9 ∷ 10 ∷ 11 ∷ 16 ∷ [])
     ≡ layout_line (InColour RGB24 8 Rgba) (pixel_bytes RGB24 8) 4 r)
-    (λ a b c d e f g h i j k l m n o p more. refl) row room
+    (λ a b c d e f g h i j k l m n o p more small. λ t.
+    byte-same a (small 0) t ∷ byte-same b (small 1) t ∷ byte-same c (small 2) t ∷ 255
+    ∷ byte-same d (small 3) t ∷ byte-same e (small 4) t ∷ byte-same f (small 5) t ∷ 255
+    ∷ byte-same g (small 6) t ∷ byte-same h (small 7) t ∷ byte-same i (small 8) t ∷ 255
+    ∷ byte-same j (small 9) t ∷ byte-same k (small 10) t ∷ byte-same l (small 11) t ∷ 255 ∷ [])
+    row room small
 
-pub shuffled_bgra : (row : List ℕ) → 16 ≤ length row
+pub shuffled_bgra : (row : List ℕ) → 16 ≤ length row → ((k : ℕ) → slice_index row k < 256)
     → shuffled row (2 ∷ 1 ∷ 0 ∷ 16 ∷ 5 ∷ 4 ∷ 3 ∷ 16 ∷ 8 ∷ 7 ∷ 6 ∷ 16 ∷ 11 ∷ 10 ∷ 9 ∷ 16 ∷ [])
     ≡ layout_line (InColour RGB24 8 Bgra) (pixel_bytes RGB24 8) 4 row
 unfolding pixels_of level
-shuffled_bgra row room = sixteen_given
-    (λ r. shuffled r (2 ∷ 1 ∷ 0 ∷ 16 ∷ 5 ∷ 4 ∷ 3 ∷ 16 ∷ 8 ∷ 7 ∷ 6 ∷ 16 ∷ 11 ∷ 10 ∷ 9 ∷ 16 ∷ [])
+shuffled_bgra row room small = sixteen_given (λ r. ((k : ℕ) → slice_index r k < 256)
+    → shuffled r (2 ∷ 1 ∷ 0 ∷ 16 ∷ 5 ∷ 4 ∷ 3 ∷ 16 ∷ 8 ∷ 7 ∷ 6 ∷ 16 ∷ 11 ∷ 10 ∷ 9 ∷ 16 ∷ [])
     ≡ layout_line (InColour RGB24 8 Bgra) (pixel_bytes RGB24 8) 4 r)
-    (λ a b c d e f g h i j k l m n o p more. refl) row room
+    (λ a b c d e f g h i j k l m n o p more small. λ t.
+    byte-same c (small 2) t ∷ byte-same b (small 1) t ∷ byte-same a (small 0) t ∷ 255
+    ∷ byte-same f (small 5) t ∷ byte-same e (small 4) t ∷ byte-same d (small 3) t ∷ 255
+    ∷ byte-same i (small 8) t ∷ byte-same h (small 7) t ∷ byte-same g (small 6) t ∷ 255
+    ∷ byte-same l (small 11) t ∷ byte-same k (small 10) t ∷ byte-same j (small 9) t ∷ 255 ∷ [])
+    row room small
 
-pub shuffled_xrgb : (row : List ℕ) → 16 ≤ length row
+pub shuffled_xrgb : (row : List ℕ) → 16 ≤ length row → ((k : ℕ) → slice_index row k < 256)
     → shuffled row (16 ∷ 0 ∷ 1 ∷ 2 ∷ 16 ∷ 3 ∷ 4 ∷ 5 ∷ 16 ∷ 6 ∷ 7 ∷ 8 ∷ 16 ∷ 9 ∷ 10 ∷ 11 ∷ [])
     ≡ layout_line (InColour RGB24 8 Xrgb) (pixel_bytes RGB24 8) 4 row
 unfolding pixels_of level
-shuffled_xrgb row room = sixteen_given
-    (λ r. shuffled r (16 ∷ 0 ∷ 1 ∷ 2 ∷ 16 ∷ 3 ∷ 4 ∷ 5 ∷ 16 ∷ 6 ∷ 7 ∷ 8 ∷ 16 ∷ 9 ∷ 10 ∷ 11 ∷ [])
+shuffled_xrgb row room small = sixteen_given (λ r. ((k : ℕ) → slice_index r k < 256)
+    → shuffled r (16 ∷ 0 ∷ 1 ∷ 2 ∷ 16 ∷ 3 ∷ 4 ∷ 5 ∷ 16 ∷ 6 ∷ 7 ∷ 8 ∷ 16 ∷ 9 ∷ 10 ∷ 11 ∷ [])
     ≡ layout_line (InColour RGB24 8 Xrgb) (pixel_bytes RGB24 8) 4 r)
-    (λ a b c d e f g h i j k l m n o p more. refl) row room
+    (λ a b c d e f g h i j k l m n o p more small. λ t.
+    255 ∷ byte-same a (small 0) t ∷ byte-same b (small 1) t ∷ byte-same c (small 2) t
+    ∷ 255 ∷ byte-same d (small 3) t ∷ byte-same e (small 4) t ∷ byte-same f (small 5) t
+    ∷ 255 ∷ byte-same g (small 6) t ∷ byte-same h (small 7) t ∷ byte-same i (small 8) t
+    ∷ 255 ∷ byte-same j (small 9) t ∷ byte-same k (small 10) t ∷ byte-same l (small 11) t ∷ [])
+    row room small
 
-pub shuffled_abgr : (row : List ℕ) → 16 ≤ length row
+pub shuffled_abgr : (row : List ℕ) → 16 ≤ length row → ((k : ℕ) → slice_index row k < 256)
     → shuffled row (16 ∷ 2 ∷ 1 ∷ 0 ∷ 16 ∷ 5 ∷ 4 ∷ 3 ∷ 16 ∷ 8 ∷ 7 ∷ 6 ∷ 16 ∷ 11 ∷ 10 ∷ 9 ∷ [])
     ≡ layout_line (InColour RGB24 8 Abgr) (pixel_bytes RGB24 8) 4 row
 unfolding pixels_of level
-shuffled_abgr row room = sixteen_given
-    (λ r. shuffled r (16 ∷ 2 ∷ 1 ∷ 0 ∷ 16 ∷ 5 ∷ 4 ∷ 3 ∷ 16 ∷ 8 ∷ 7 ∷ 6 ∷ 16 ∷ 11 ∷ 10 ∷ 9 ∷ [])
+shuffled_abgr row room small = sixteen_given (λ r. ((k : ℕ) → slice_index r k < 256)
+    → shuffled r (16 ∷ 2 ∷ 1 ∷ 0 ∷ 16 ∷ 5 ∷ 4 ∷ 3 ∷ 16 ∷ 8 ∷ 7 ∷ 6 ∷ 16 ∷ 11 ∷ 10 ∷ 9 ∷ [])
     ≡ layout_line (InColour RGB24 8 Abgr) (pixel_bytes RGB24 8) 4 r)
-    (λ a b c d e f g h i j k l m n o p more. refl) row room
+    (λ a b c d e f g h i j k l m n o p more small. λ t.
+    255 ∷ byte-same c (small 2) t ∷ byte-same b (small 1) t ∷ byte-same a (small 0) t
+    ∷ 255 ∷ byte-same f (small 5) t ∷ byte-same e (small 4) t ∷ byte-same d (small 3) t
+    ∷ 255 ∷ byte-same i (small 8) t ∷ byte-same h (small 7) t ∷ byte-same g (small 6) t
+    ∷ 255 ∷ byte-same l (small 11) t ∷ byte-same k (small 10) t ∷ byte-same j (small 9) t ∷ [])
+    row room small
 
 -- the only layout of four bytes that is not one of the three others
 pub rgba_left : (layout : Layout) → layout_bytes layout ≡ 4 → (layout ≡ Abgr → ⊥) → (layout ≡ Bgra → ⊥)
@@ -211,13 +258,15 @@ rgba_left Bgr four not_abgr not_bgra not_xrgb = absurd (omega (arith, four))
 rgba_left Xrgb four not_abgr not_bgra not_xrgb = absurd (not_xrgb refl)
 rgba_left Abgr four not_abgr not_bgra not_xrgb = absurd (not_abgr refl)
 rgba_left Rgb565 four not_abgr not_bgra not_xrgb = absurd (omega (arith, four))
+rgba_left Grey16 four not_abgr not_bgra not_xrgb = absurd (omega (arith, four))
+rgba_left Rgb16 four not_abgr not_bgra not_xrgb = absurd (omega (arith, four))
 
 abbrev pub rgb_pixels : Layout → ℕ → List ℕ → List ℕ
 rgb_pixels layout width row = layout_line (InColour RGB24 8 layout) (pixel_bytes RGB24 8) width row
 
 rgb_bytes : (layout : Layout) → layout_bytes layout ≡ 4 → (p : List ℕ)
     → length (pixel_of (InColour RGB24 8 layout) p) ≡ 4
-rgb_bytes layout four p = colour-bytes layout (colour_of RGB24 8 p) ∙ four
+rgb_bytes layout four p = colour-bytes layout (colour_of (full_of layout) RGB24 8 p) ∙ four
 
 -- four more pixels of a line
 pub fours-put : (layout : Layout) (k : ℕ) (row old now piece : List ℕ) → layout_bytes layout ≡ 4
@@ -259,57 +308,128 @@ fours-end layout k left room width row old now piece four is before all e whole 
     ∙ (λ i. pixels_of pixel 3 (all i) row ++ none i) ∙ append-nil (pixels_of pixel 3 width row)
 
 -- a row of pixels as they are stored
+any-item : (row : List ℕ) → AllByRecursion (λ (x : ℕ). Unit {0}) row
+any-item [] = tt
+any-item (x ∷ row) = (tt, any-item row)
+
 pub stored-line : (stored width : ℕ) (row : List ℕ) → length row ≡ width * stored
     → row ≡ layout_line Stored stored width row
-stored-line stored width row e = sym (pixels-same (λ p. p) stored width row (λ p whole. refl) e)
+stored-line stored width row e =
+    sym (pixels-same (λ (x : ℕ). Unit {0}) (λ p. p) stored width row (λ p whole all. refl) e (any-item row))
+
+-- items of which each is a byte
+abbrev pub AreBytes : List ℕ → Type 0
+AreBytes row = AllByRecursion (λ (x : ℕ). x < 256) row
+
+pub each-byte : (row : List ℕ) → ((k : ℕ) → slice_index row k < 256) → AreBytes row
+each-byte [] small = tt
+each-byte (x ∷ row) small = (small 0, each-byte row (λ k. small (suc k)))
 
 -- a grey pixel is its luma
-grey-kept : (p : List ℕ) → length p ≡ 1 → pixel_of (InColour L8 8 Grey) p ≡ p
-unfolding level
-grey-kept (g ∷ []) e =
-    let same : (19595 * g + 38470 * g + 7471 * g + 32768) / 65536 ≡ g = omega arith in
-    ap (λ n. n ∷ []) same
-grey-kept [] e = absurd (omega (arith, e))
-grey-kept (g ∷ h ∷ more) e = absurd (omega (arith, e))
+grey-luma : (n : ℕ) → luma (colour n n n) ≡ n
+grey-luma n =
+    let same : (19595 * n + 38470 * n + 7471 * n + 32768) / 65536 ≡ n = omega arith in same
 
-rgb-kept : (p : List ℕ) → length p ≡ 3 → pixel_of (InColour RGB24 8 Rgb) p ≡ p
+grey-kept : (p : List ℕ) → length p ≡ 1 → AreBytes p → pixel_of (InColour L8 8 Grey) p ≡ p
 unfolding level
-rgb-kept (r ∷ g ∷ b ∷ []) e = refl
-rgb-kept [] e = absurd (omega (arith, e))
-rgb-kept (r ∷ []) e = absurd (omega (arith, e))
-rgb-kept (r ∷ g ∷ []) e = absurd (omega (arith, e))
-rgb-kept (r ∷ g ∷ b ∷ h ∷ more) e = absurd (omega (arith, e))
+grey-kept (g ∷ []) e bytes =
+    ap (λ n. luma (colour n n n) ∷ []) (sym (byte-same g bytes.0)) ∙ ap (λ n. n ∷ []) (grey-luma g)
+grey-kept [] e bytes = absurd (omega (arith, e))
+grey-kept (g ∷ h ∷ more) e bytes = absurd (omega (arith, e))
+
+rgb-kept : (p : List ℕ) → length p ≡ 3 → AreBytes p → pixel_of (InColour RGB24 8 Rgb) p ≡ p
+unfolding level
+rgb-kept (r ∷ g ∷ b ∷ []) e bytes =
+    sym (λ i. byte-same r bytes.0 i ∷ byte-same g bytes.1.0 i ∷ byte-same b bytes.1.1.0 i ∷ [])
+rgb-kept [] e bytes = absurd (omega (arith, e))
+rgb-kept (r ∷ []) e bytes = absurd (omega (arith, e))
+rgb-kept (r ∷ g ∷ []) e bytes = absurd (omega (arith, e))
+rgb-kept (r ∷ g ∷ b ∷ h ∷ more) e bytes = absurd (omega (arith, e))
+
+-- two bytes, and their number on its own scale
+word-same : (low high : ℕ) → low < 256 → high < 256 → low + 256 * high ≡ scaled 65535 65535 (low + 256 * high)
+word-same low high l h = kept-same 65535 (low + 256 * high) (omega arith) (omega (arith, l, h))
+
+word-kept : (low high : ℕ) → low < 256 → word (low + 256 * high) ≡ low ∷ high ∷ []
+word-kept low high l =
+    let first : (low + 256 * high) % 256 ≡ low = omega (arith, l) in
+    let second : (low + 256 * high) / 256 ≡ high = omega (arith, l) in
+    λ i. first i ∷ second i ∷ []
+
+wide_grey-kept : (p : List ℕ) → length p ≡ 2 → AreBytes p → pixel_of (InColour L16 16 Grey16) p ≡ p
+unfolding level
+wide_grey-kept (l ∷ h ∷ []) e bytes =
+    ap (λ n. word (luma (colour n n n))) (sym (word-same l h bytes.0 bytes.1.0))
+    ∙ ap (λ n. word n) (grey-luma (l + 256 * h)) ∙ word-kept l h bytes.0
+wide_grey-kept [] e bytes = absurd (omega (arith, e))
+wide_grey-kept (l ∷ []) e bytes = absurd (omega (arith, e))
+wide_grey-kept (l ∷ h ∷ m ∷ more) e bytes = absurd (omega (arith, e))
+
+wide_rgb-kept : (p : List ℕ) → length p ≡ 6 → AreBytes p → pixel_of (InColour RGB24 16 Rgb16) p ≡ p
+unfolding level
+wide_rgb-kept (a ∷ b ∷ c ∷ d ∷ e ∷ f ∷ []) six bytes =
+    let first = sym (word-same a b bytes.0 bytes.1.0) in
+    let second = sym (word-same c d bytes.1.1.0 bytes.1.1.1.0) in
+    let third = sym (word-same e f bytes.1.1.1.1.0 bytes.1.1.1.1.1.0) in
+    (λ i. word (first i) ++ (word (second i) ++ word (third i)))
+    ∙ (λ i. word-kept a b bytes.0 i ++ (word-kept c d bytes.1.1.0 i ++ word-kept e f bytes.1.1.1.1.0 i))
+wide_rgb-kept [] six bytes = absurd (omega (arith, six))
+wide_rgb-kept (a ∷ []) six bytes = absurd (omega (arith, six))
+wide_rgb-kept (a ∷ b ∷ []) six bytes = absurd (omega (arith, six))
+wide_rgb-kept (a ∷ b ∷ c ∷ []) six bytes = absurd (omega (arith, six))
+wide_rgb-kept (a ∷ b ∷ c ∷ d ∷ []) six bytes = absurd (omega (arith, six))
+wide_rgb-kept (a ∷ b ∷ c ∷ d ∷ e ∷ []) six bytes = absurd (omega (arith, six))
+wide_rgb-kept (a ∷ b ∷ c ∷ d ∷ e ∷ f ∷ g ∷ more) six bytes = absurd (omega (arith, six))
 
 -- a row of pixels that stay as they are stored
+kept-row : (format : PixelFormat) (precision own : ℕ) (layout : Layout) (stored width : ℕ) (row : List ℕ)
+    → precision ≡ own → stored ≡ pixel_bytes format precision
+    → ((p : List ℕ) → length p ≡ pixel_bytes format own → AreBytes p → pixel_of (InColour format own layout) p ≡ p)
+    → length row ≡ width * stored → AreBytes row → row ≡ layout_line (InColour format precision layout) stored width row
+kept-row format precision own layout stored width row is fits same e bytes =
+    let long : stored ≡ pixel_bytes format own = fits ∙ ap (λ n. pixel_bytes format n) is in
+    sym (pixels-same (λ (x : ℕ). x < 256) (pixel_of (InColour format precision layout)) stored width row
+    (λ p whole all. ap (λ n. pixel_of (InColour format n layout) p) is ∙ same p (whole ∙ long) all) e bytes)
+
 pub kept-line : (conversion : Conversion) (stored width : ℕ) (row : List ℕ) → is_stored conversion ≡ true
-    → TakesStored conversion stored → length row ≡ width * stored → row ≡ layout_line conversion stored width row
-kept-line Stored stored width row kept fits e = stored-line stored width row e
-kept-line (InColour L8 precision Grey) stored width row kept fits e =
-    let eight : precision ≡ 8 = grind arith in
-    let one : stored ≡ 1 = fits ∙ ap (λ n. pixel_bytes L8 n) eight in
-    sym (pixels-same (pixel_of (InColour L8 precision Grey)) stored width row
-    (λ p whole. ap (λ n. pixel_of (InColour L8 n Grey) p) eight ∙ grey-kept p (whole ∙ one)) e)
-kept-line (InColour RGB24 precision Rgb) stored width row kept fits e =
-    let eight : precision ≡ 8 = grind arith in
-    let three : stored ≡ 3 = fits ∙ ap (λ n. pixel_bytes RGB24 n) eight in
-    sym (pixels-same (pixel_of (InColour RGB24 precision Rgb)) stored width row
-    (λ p whole. ap (λ n. pixel_of (InColour RGB24 n Rgb) p) eight ∙ rgb-kept p (whole ∙ three)) e)
-kept-line (InColour L8 precision Rgb) stored width row kept fits e = absurd (cc)
-kept-line (InColour L8 precision Rgba) stored width row kept fits e = absurd (cc)
-kept-line (InColour L8 precision Bgra) stored width row kept fits e = absurd (cc)
-kept-line (InColour L8 precision Bgr) stored width row kept fits e = absurd (cc)
-kept-line (InColour L8 precision Xrgb) stored width row kept fits e = absurd (cc)
-kept-line (InColour L8 precision Abgr) stored width row kept fits e = absurd (cc)
-kept-line (InColour L8 precision Rgb565) stored width row kept fits e = absurd (cc)
-kept-line (InColour RGB24 precision Grey) stored width row kept fits e = absurd (cc)
-kept-line (InColour RGB24 precision Rgba) stored width row kept fits e = absurd (cc)
-kept-line (InColour RGB24 precision Bgra) stored width row kept fits e = absurd (cc)
-kept-line (InColour RGB24 precision Bgr) stored width row kept fits e = absurd (cc)
-kept-line (InColour RGB24 precision Xrgb) stored width row kept fits e = absurd (cc)
-kept-line (InColour RGB24 precision Abgr) stored width row kept fits e = absurd (cc)
-kept-line (InColour RGB24 precision Rgb565) stored width row kept fits e = absurd (cc)
-kept-line (InColour L16 precision layout) stored width row kept fits e = absurd (cc)
-kept-line (InColour CMYK32 precision layout) stored width row kept fits e = absurd (cc)
+    → TakesStored conversion stored → length row ≡ width * stored → AreBytes row
+    → row ≡ layout_line conversion stored width row
+kept-line Stored stored width row kept fits e bytes = stored-line stored width row e
+kept-line (InColour L8 precision Grey) stored width row kept fits e bytes =
+    kept-row L8 precision 8 Grey stored width row (grind arith) fits grey-kept e bytes
+kept-line (InColour RGB24 precision Rgb) stored width row kept fits e bytes =
+    kept-row RGB24 precision 8 Rgb stored width row (grind arith) fits rgb-kept e bytes
+kept-line (InColour L16 precision Grey16) stored width row kept fits e bytes =
+    kept-row L16 precision 16 Grey16 stored width row (grind arith) fits wide_grey-kept e bytes
+kept-line (InColour RGB24 precision Rgb16) stored width row kept fits e bytes =
+    kept-row RGB24 precision 16 Rgb16 stored width row (grind arith) fits wide_rgb-kept e bytes
+kept-line (InColour L8 precision Rgb) stored width row kept fits e bytes = absurd (cc)
+kept-line (InColour L8 precision Rgba) stored width row kept fits e bytes = absurd (cc)
+kept-line (InColour L8 precision Bgra) stored width row kept fits e bytes = absurd (cc)
+kept-line (InColour L8 precision Bgr) stored width row kept fits e bytes = absurd (cc)
+kept-line (InColour L8 precision Xrgb) stored width row kept fits e bytes = absurd (cc)
+kept-line (InColour L8 precision Abgr) stored width row kept fits e bytes = absurd (cc)
+kept-line (InColour L8 precision Rgb565) stored width row kept fits e bytes = absurd (cc)
+kept-line (InColour L8 precision Grey16) stored width row kept fits e bytes = absurd (cc)
+kept-line (InColour L8 precision Rgb16) stored width row kept fits e bytes = absurd (cc)
+kept-line (InColour L16 precision Grey) stored width row kept fits e bytes = absurd (cc)
+kept-line (InColour L16 precision Rgb) stored width row kept fits e bytes = absurd (cc)
+kept-line (InColour L16 precision Rgba) stored width row kept fits e bytes = absurd (cc)
+kept-line (InColour L16 precision Bgra) stored width row kept fits e bytes = absurd (cc)
+kept-line (InColour L16 precision Bgr) stored width row kept fits e bytes = absurd (cc)
+kept-line (InColour L16 precision Xrgb) stored width row kept fits e bytes = absurd (cc)
+kept-line (InColour L16 precision Abgr) stored width row kept fits e bytes = absurd (cc)
+kept-line (InColour L16 precision Rgb565) stored width row kept fits e bytes = absurd (cc)
+kept-line (InColour L16 precision Rgb16) stored width row kept fits e bytes = absurd (cc)
+kept-line (InColour RGB24 precision Grey) stored width row kept fits e bytes = absurd (cc)
+kept-line (InColour RGB24 precision Rgba) stored width row kept fits e bytes = absurd (cc)
+kept-line (InColour RGB24 precision Bgra) stored width row kept fits e bytes = absurd (cc)
+kept-line (InColour RGB24 precision Bgr) stored width row kept fits e bytes = absurd (cc)
+kept-line (InColour RGB24 precision Xrgb) stored width row kept fits e bytes = absurd (cc)
+kept-line (InColour RGB24 precision Abgr) stored width row kept fits e bytes = absurd (cc)
+kept-line (InColour RGB24 precision Rgb565) stored width row kept fits e bytes = absurd (cc)
+kept-line (InColour RGB24 precision Grey16) stored width row kept fits e bytes = absurd (cc)
+kept-line (InColour CMYK32 precision layout) stored width row kept fits e bytes = absurd (cc)
 
 -- ---- lines
 
@@ -320,7 +440,7 @@ pub line-length : (conversion : Conversion) (stored width : ℕ) (row : List ℕ
 line-length Stored stored width row e = ap (λ (l : List ℕ). length l) (sym (stored-line stored width row e)) ∙ e
 line-length (InColour format precision layout) stored width row e =
     pixels-length (pixel_of (InColour format precision layout)) stored (layout_bytes layout) width row
-    (λ p. colour-bytes layout (colour_of format precision p))
+    (λ p. colour-bytes layout (colour_of (full_of layout) format precision p))
 
 -- bytes of a stride and after it
 gap : (old : List ℕ) (bytes stride : ℕ) → bytes ≤ stride → bytes ≤ length old

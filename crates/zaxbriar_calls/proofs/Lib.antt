@@ -11,6 +11,7 @@ mod Images
 mod Informed
 mod KeptBytes
 mod Laid
+mod Levels
 mod Limited
 mod Means
 mod Outcomes

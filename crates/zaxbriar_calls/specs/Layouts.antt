@@ -5,13 +5,14 @@ use Rattle.std.specs.Prelude.{[], ◌∷◌, Bool, true, false, max, min, nat_le
 use Rattle.std.specs.Prelude.{◌++◌, drop, take, length, slice_index, Option, Some, None}
 use Rattle.jpeg_decoder.specs.Bytes.{bytes_a_sample, samples_a_pixel}
 use Rattle.jpeg_streams.specs.declared.images.PixelFormat.{PixelFormat}
-use Rattle.jpeg_streams.specs.declared.images.PixelFormat.TheVariants.{L8, RGB24, CMYK32}
+use Rattle.jpeg_streams.specs.declared.images.PixelFormat.TheVariants.{L8, L16, RGB24, CMYK32}
 use Rattle.zaxbriar_calls.specs.declared.layouts.Colour.{Colour}
 use Rattle.zaxbriar_calls.specs.declared.layouts.Conversion.{Conversion}
 use Rattle.zaxbriar_calls.specs.declared.layouts.Conversion.TheVariants.{Stored, InColour}
 use Rattle.zaxbriar_calls.specs.declared.layouts.Layout.{Layout}
 use Rattle.zaxbriar_calls.specs.declared.layouts.Layout.TheVariants.{Grey, Rgb, Rgba, Bgra, Bgr}
 use Rattle.zaxbriar_calls.specs.declared.layouts.Layout.TheVariants.{Xrgb, Abgr, Rgb565}
+use Rattle.zaxbriar_calls.specs.declared.layouts.Layout.TheVariants.{Grey16, Rgb16}
 
 -- ---- a pixel as it is stored becomes a colour
 
@@ -29,32 +30,41 @@ sample_at precision pixel k = if nat_le precision 8 then slice_index pixel k
 abbrev pub greatest : ℕ → ℕ
 greatest precision = 2 ^ max 1 (min precision 16) - 1
 
--- a sample from 0 to the greatest on the scale from 0 to 255, rounded
-abbrev pub scaled : ℕ → ℕ → ℕ
-scaled most sample = min 255 ((sample * 255 + most / 2) / most)
+-- a sample from 0 to the greatest on the scale from 0 to `full`, rounded, and at most `full`: on its
+-- own scale a sample stays as it is
+abbrev pub scaled : ℕ → ℕ → ℕ → ℕ
+scaled full most sample = min full ((sample * full + most / 2) / most)
 
--- a sample of a pixel on the scale from 0 to 255
-unfoldable pub level : ℕ → List ℕ → ℕ → ℕ
-level precision pixel k = if precision == 8 then sample_at precision pixel k
-    else scaled (greatest precision) (sample_at precision pixel k)
+-- a sample of a pixel on the scale from 0 to `full`
+unfoldable pub level : ℕ → ℕ → List ℕ → ℕ → ℕ
+level full precision pixel k = scaled full (greatest precision) (sample_at precision pixel k)
 
--- Red, green or blue of an ink and black, where 255 is full ink, without a profile.
-abbrev pub light : ℕ → ℕ → ℕ
-light ink black = ((255 - ink) * (255 - black) + 127) / 255
+-- Red, green or blue of an ink and black, where `full` is full ink, without a profile.
+abbrev pub light : ℕ → ℕ → ℕ → ℕ
+light full ink black = ((full - ink) * (full - black) + full / 2) / full
 
 abbrev pub colour : ℕ → ℕ → ℕ → Colour
 colour red green blue = record { red = red; green = green; blue = blue }
 
--- The colour of a pixel of a format and a precision. Grey is red, green and blue alike.
-abbrev pub colour_of : PixelFormat → ℕ → List ℕ → Colour
-colour_of RGB24 precision p = colour (level precision p 0) (level precision p 1)
-    (level precision p 2)
-colour_of CMYK32 precision p = colour (light (level precision p 0) (level precision p 3))
-    (light (level precision p 1) (level precision p 3))
-    (light (level precision p 2) (level precision p 3))
-colour_of _ precision p = colour (level precision p 0) (level precision p 0) (level precision p 0)
+-- The colour of a pixel of a format and a precision, each part from 0 to `full`. Grey is red, green
+-- and blue alike.
+abbrev pub colour_of : ℕ → PixelFormat → ℕ → List ℕ → Colour
+colour_of full RGB24 precision p = colour (level full precision p 0) (level full precision p 1)
+    (level full precision p 2)
+colour_of full CMYK32 precision p =
+    colour (light full (level full precision p 0) (level full precision p 3))
+    (light full (level full precision p 1) (level full precision p 3))
+    (light full (level full precision p 2) (level full precision p 3))
+colour_of full _ precision p = colour (level full precision p 0) (level full precision p 0)
+    (level full precision p 0)
 
 -- ---- a colour becomes the bytes of a layout
+
+-- the greatest part of a layout's colours
+abbrev pub full_of : Layout → ℕ
+full_of Grey16 = 65535
+full_of Rgb16 = 65535
+full_of _ = 255
 
 -- the luma of a colour, by the weights 0.299, 0.587 and 0.114 of ITU-R BT.601 in 16 bits, rounded;
 -- that of grey is grey
@@ -78,12 +88,15 @@ bytes_of Bgr c = c.blue ∷ c.green ∷ c.red ∷ []
 bytes_of Xrgb c = 255 ∷ c.red ∷ c.green ∷ c.blue ∷ []
 bytes_of Abgr c = 255 ∷ c.blue ∷ c.green ∷ c.red ∷ []
 bytes_of Rgb565 c = word (packed c)
+bytes_of Grey16 c = word (luma c)
+bytes_of Rgb16 c = word c.red ++ (word c.green ++ word c.blue)
 
 -- ---- pixels and lines
 
 abbrev pub pixel_of : Conversion → List ℕ → List ℕ
 pixel_of Stored p = p
-pixel_of (InColour format precision layout) p = bytes_of layout (colour_of format precision p)
+pixel_of (InColour format precision layout) p =
+    bytes_of layout (colour_of (full_of layout) format precision p)
 
 -- so many pixels of a row, each of so many samples
 unfoldable pub pixels_of : (List ℕ → List ℕ) → ℕ → ℕ → List ℕ → List ℕ
@@ -101,6 +114,8 @@ layout_bytes Grey = 1
 layout_bytes Rgb = 3
 layout_bytes Bgr = 3
 layout_bytes Rgb565 = 2
+layout_bytes Grey16 = 2
+layout_bytes Rgb16 = 6
 layout_bytes _ = 4
 
 abbrev pub converted_bytes : Conversion → ℕ → ℕ
@@ -108,7 +123,7 @@ converted_bytes Stored stored = stored
 converted_bytes (InColour format precision layout) stored = layout_bytes layout
 
 -- the layout of a number, and the conversion to it: 0 as stored, 1 grey, 2 RGB, 3 RGBA, 4 BGRA,
--- 5 BGR, 6 XRGB, 7 ABGR, 8 RGB565
+-- 5 BGR, 6 XRGB, 7 ABGR, 8 RGB565, 9 grey and 10 RGB of 16 bits a sample
 abbrev pub layout_numbered : ℕ → Option Layout
 layout_numbered n = if n == 1 then Some Grey
     else (if n == 2 then Some Rgb
@@ -117,7 +132,9 @@ layout_numbered n = if n == 1 then Some Grey
     else (if n == 5 then Some Bgr
     else (if n == 6 then Some Xrgb
     else (if n == 7 then Some Abgr
-    else (if n == 8 then Some Rgb565 else None)))))))
+    else (if n == 8 then Some Rgb565
+    else (if n == 9 then Some Grey16
+    else (if n == 10 then Some Rgb16 else None)))))))))
 
 abbrev pub conversion_to : ℕ → PixelFormat → ℕ → Option Conversion
 conversion_to layout format precision = if layout == 0 then Some Stored
@@ -160,6 +177,8 @@ abbrev pub is_stored : Conversion → Bool
 is_stored Stored = true
 is_stored (InColour L8 precision Grey) = precision == 8
 is_stored (InColour RGB24 precision Rgb) = precision == 8
+is_stored (InColour L16 precision Grey16) = precision == 16
+is_stored (InColour RGB24 precision Rgb16) = precision == 16
 is_stored _ = false
 
 -- A conversion takes pixels that are stored in so many bytes.

@@ -39,10 +39,10 @@ ghost use Rattle.jpeg_segments.specs.declared.scale.Scale.TheVariants as scales;
 /// RGB565 that is 1 * 2048 + 5 * 32 + 3, and no part reaches the bits of another.
 #[tactic(auto, unfolding(crate::specs::Layouts::level))]
 pub fn known_layouts()
-    ensures numbers { map layout_numbered (0 ∷ 1 ∷ 2 ∷ 3 ∷ 4 ∷ 5 ∷ 6 ∷ 7 ∷ 8 ∷ 9 ∷ []) ≡ None
-        ∷ Some layouts.Grey ∷ Some layouts.Rgb ∷ Some layouts.Rgba ∷ Some layouts.Bgra
-        ∷ Some layouts.Bgr ∷ Some layouts.Xrgb ∷ Some layouts.Abgr ∷ Some layouts.Rgb565 ∷ None
-        ∷ [] }
+    ensures numbers { map layout_numbered (0 ∷ 1 ∷ 2 ∷ 3 ∷ 4 ∷ 5 ∷ 6 ∷ 7 ∷ 8 ∷ 9 ∷ 10 ∷ 11 ∷ [])
+        ≡ None ∷ Some layouts.Grey ∷ Some layouts.Rgb ∷ Some layouts.Rgba ∷ Some layouts.Bgra
+        ∷ Some layouts.Bgr ∷ Some layouts.Xrgb ∷ Some layouts.Abgr ∷ Some layouts.Rgb565
+        ∷ Some layouts.Grey16 ∷ Some layouts.Rgb16 ∷ None ∷ [] }
     ensures pixels { map (λ l. pixel_of (InColour RGB24 8 l) (10 ∷ 20 ∷ 30 ∷ []))
         (layouts.Grey ∷ layouts.Rgb ∷ layouts.Rgba ∷ layouts.Bgra ∷ layouts.Bgr ∷ layouts.Xrgb
         ∷ layouts.Abgr ∷ layouts.Rgb565 ∷ [])
@@ -57,6 +57,24 @@ pub fn known_layouts()
         ≡ 255 ∷ 127 ∷ 0 ∷ [] }
 {}
 
+/// Layouts of 16 bits a sample have the lower byte first: of a pixel of 16 bits its samples as they
+/// are, and of one of fewer bits its samples on the scale of 16 bits. The luma of red 10, green 20
+/// and blue 30 of 255 is 4,665 of 65,535, which isn't 18 of 255.
+#[tactic(auto, unfolding(crate::specs::Layouts::level))]
+pub fn known_wide_layouts()
+    ensures stored { pixel_of (InColour RGB24 16 layouts.Rgb16) (1 ∷ 2 ∷ 3 ∷ 4 ∷ 5 ∷ 6 ∷ [])
+        ≡ 1 ∷ 2 ∷ 3 ∷ 4 ∷ 5 ∷ 6 ∷ [] }
+    ensures grey { pixel_of (InColour L16 16 layouts.Grey16) (254 ∷ 255 ∷ []) ≡ 254 ∷ 255 ∷ [] }
+    ensures widened { map (λ l. pixel_of (InColour RGB24 8 l) (10 ∷ 20 ∷ 30 ∷ []))
+        (layouts.Grey16 ∷ layouts.Rgb16 ∷ [])
+        ≡ (57 ∷ 18 ∷ []) ∷ (10 ∷ 10 ∷ 20 ∷ 20 ∷ 30 ∷ 30 ∷ []) ∷ [] }
+    ensures twelve { pixel_of (InColour L16 12 layouts.Grey16) (0 ∷ 8 ∷ []) ≡ 8 ∷ 128 ∷ [] }
+    ensures ink { pixel_of (InColour CMYK32 8 layouts.Rgb16) (0 ∷ 128 ∷ 255 ∷ 0 ∷ [])
+        ≡ 255 ∷ 255 ∷ 127 ∷ 127 ∷ 0 ∷ 0 ∷ [] }
+    ensures black { pixel_of (InColour CMYK32 16 layouts.Rgb16)
+        (255 ∷ 127 ∷ 0 ∷ 0 ∷ 255 ∷ 255 ∷ 0 ∷ 128 ∷ []) ≡ 0 ∷ 64 ∷ 255 ∷ 127 ∷ 0 ∷ 0 ∷ [] }
+{}
+
 /// The luma of grey is that grey, and those of red, green and blue add up to white. No weight that
 /// is greater or less by 1 gives the last two.
 #[tactic(auto)]
@@ -68,13 +86,19 @@ pub fn known_lumas()
     ensures close { luma (colour 11 170 30) ∷ luma (colour 60 250 165) ∷ [] ≡ 106 ∷ 184 ∷ [] }
 {}
 
-/// A sample above 8 bits has its lower byte first, and the greatest of each precision is 255.
+/// A sample above 8 bits has its lower byte first, and the greatest of each precision is the
+/// greatest of the scale. A sample of the scale's own precision stays as it is.
 #[tactic(auto, unfolding(crate::specs::Layouts::level))]
 pub fn known_levels()
-    ensures greatest { level 2 (3 ∷ []) 0 ∷ level 8 (255 ∷ []) 0 ∷ level 12 (255 ∷ 15 ∷ []) 0
-        ∷ level 16 (255 ∷ 255 ∷ []) 0 ∷ [] ≡ replicate 4 255 }
-    ensures middle { level 12 (0 ∷ 8 ∷ []) 0 ∷ level 16 (0 ∷ 128 ∷ []) 0 ∷ [] ≡ 128 ∷ 128 ∷ [] }
-    ensures second { level 8 (1 ∷ 2 ∷ 3 ∷ []) 1 ≡ 2 }
+    ensures greatest { map (λ full. level full 2 (3 ∷ []) 0 ∷ level full 8 (255 ∷ []) 0
+        ∷ level full 12 (255 ∷ 15 ∷ []) 0 ∷ level full 16 (255 ∷ 255 ∷ []) 0 ∷ [])
+        (255 ∷ 65535 ∷ []) ≡ replicate 4 255 ∷ replicate 4 65535 ∷ [] }
+    ensures middle { level 255 12 (0 ∷ 8 ∷ []) 0 ∷ level 255 16 (0 ∷ 128 ∷ []) 0 ∷ []
+        ≡ 128 ∷ 128 ∷ [] }
+    ensures second { level 255 8 (1 ∷ 2 ∷ 3 ∷ []) 1 ≡ 2 }
+    ensures same { level 255 8 (77 ∷ []) 0 ∷ level 65535 16 (1 ∷ 2 ∷ []) 0 ∷ [] ≡ 77 ∷ 513 ∷ [] }
+    ensures above { level 255 2 (11 ∷ []) 0 ∷ level 65535 9 (0 ∷ 2 ∷ []) 0 ∷ []
+        ≡ 255 ∷ 65535 ∷ [] }
 {}
 
 /// Lines have a gap between them where the stride is longer, which stays as it was. From the bottom

@@ -4,9 +4,10 @@ ghost use Rattle.jpeg_decoder.specs.Bytes.{bytes_a_sample, samples_a_pixel};
 ghost use Rattle.zaxbriar_calls.specs.Layouts.{TakesStored, bytes_of, colour_of, conversion_to};
 ghost use Rattle.zaxbriar_calls.specs.Layouts.{converted_bytes, greatest, is_stored, layout_bytes};
 ghost use Rattle.zaxbriar_calls.specs.Layouts.{layout_line, layout_numbered, level, light, luma};
-ghost use Rattle.zaxbriar_calls.specs.Layouts.{packed, pixel_bytes, sample_at, word};
+ghost use Rattle.zaxbriar_calls.specs.Layouts.{full_of, packed, pixel_bytes, sample_at, word};
 ghost use Rattle.jpeg_streams.specs.declared.images.PixelFormat.TheVariants.{L8, RGB24, CMYK32};
 ghost use Rattle.zaxbriar_calls.specs.declared.layouts.Conversion.TheVariants.{InColour};
+ghost use Rattle.zaxbriar_calls.specs.declared.layouts.Layout.TheVariants.{Rgb565, Grey16, Rgb16};
 
 use jpeg_decoder::PixelFormat;
 use std::simd::prelude::*;
@@ -31,6 +32,10 @@ pub enum Layout {
     /// The upper 5 bits of red, 6 of green and 5 of blue in a number of 16 bits, red uppermost; its
     /// lower byte is first.
     Rgb565,
+    /// Its luma in 16 bits, the lower byte first.
+    Grey16,
+    /// Red, green and blue of 16 bits each, the lower byte of each first.
+    Rgb16,
 }
 
 /// How the samples of a pixel become its bytes.
@@ -42,15 +47,16 @@ pub enum Conversion {
     InColour(PixelFormat, u8, Layout),
 }
 
-/// A colour, each part of which is 255 at most. In grey they are alike.
+/// A colour, each part of which is at most the greatest of a scale, 255 or 65,535. In grey they are
+/// alike.
 #[derive(Clone, Copy)]
 pub struct Colour {
-    red: u8,
-    green: u8,
-    blue: u8,
+    red: u16,
+    green: u16,
+    blue: u16,
 }
 
-/// Returns the layout of a number, 1 to 8.
+/// Returns the layout of a number, 1 to 10.
 fn layout_numbered(number: u8) -> Option<Layout>
     ensures { result ≡ layout_numbered number }
 {
@@ -63,6 +69,8 @@ fn layout_numbered(number: u8) -> Option<Layout>
         6 => Some(Layout::Xrgb),
         7 => Some(Layout::Abgr),
         8 => Some(Layout::Rgb565),
+        9 => Some(Layout::Grey16),
+        10 => Some(Layout::Rgb16),
         _ => None,
     }
 }
@@ -106,9 +114,22 @@ fn layout_bytes(layout: Layout) -> u8
 {
     match layout {
         Layout::Grey => 1,
-        Layout::Rgb565 => 2,
+        Layout::Rgb565 | Layout::Grey16 => 2,
         Layout::Rgb | Layout::Bgr => 3,
         Layout::Rgba | Layout::Bgra | Layout::Xrgb | Layout::Abgr => 4,
+        Layout::Rgb16 => 6,
+    }
+}
+
+/// Returns the greatest part of a layout's colours.
+fn full_of(layout: Layout) -> u16
+    ensures full { result ≡ full_of layout }
+    ensures some { 1 ≤ result }
+{
+    match layout {
+        Layout::Grey | Layout::Rgb | Layout::Bgr | Layout::Rgb565 => 255,
+        Layout::Rgba | Layout::Bgra | Layout::Xrgb | Layout::Abgr => 255,
+        Layout::Grey16 | Layout::Rgb16 => 65535,
     }
 }
 
@@ -130,6 +151,8 @@ pub fn is_stored(conversion: Conversion) -> bool
         Conversion::Stored => true,
         Conversion::InColour(PixelFormat::L8, precision, Layout::Grey) => precision == 8,
         Conversion::InColour(PixelFormat::RGB24, precision, Layout::Rgb) => precision == 8,
+        Conversion::InColour(PixelFormat::L16, precision, Layout::Grey16) => precision == 16,
+        Conversion::InColour(PixelFormat::RGB24, precision, Layout::Rgb16) => precision == 16,
         _ => false,
     }
 }
@@ -158,39 +181,54 @@ fn greatest(precision: u8) -> u32
     (1u32 << precision.min(16).max(1)) - 1
 }
 
-/// Returns a sample of a pixel on the scale from 0 to 255.
+/// Returns a sample of a pixel on the scale from 0 to `full`.
 #[inline(always)]
-fn level(precision: u8, pixel: &[u8], place: usize) -> u8
+fn level(full: u16, precision: u8, pixel: &[u8], place: usize) -> u16
     requires inside { (place + 1) * bytes_a_sample precision ≤ length pixel.now }
     requires few { place < 4 }
-    ensures { result ≡ level precision pixel.now place }
+    requires some { 1 ≤ full }
+    ensures level { result ≡ level full precision pixel.now place }
+    ensures most { result ≤ full }
 {
-    let sample = u32::from(sample_at(precision, pixel, place));
-    if precision == 8 {
-        return sample as u8;
-    }
+    let sample = sample_at(precision, pixel, place);
     let most = greatest(precision);
-    ((sample * 255 + most / 2) / most).min(255) as u8
+    let wide = u32::from(full);
+    if most == wide {
+        return sample.min(full);
+    }
+    let product = u32::from(sample) * wide;
+    let rounded = product + most / 2;
+    (rounded / most).min(wide) as u16
 }
 
-/// Returns red, green or blue of an ink and black.
+/// Returns red, green or blue of an ink and black, where `full` is full ink.
 #[inline(always)]
-fn light(ink: u8, black: u8) -> u8
-    ensures { result ≡ light ink black }
+fn light(full: u16, ink: u16, black: u16) -> u16
+    requires some { 1 ≤ full }
+    requires ink { ink ≤ full }
+    requires black { black ≤ full }
+    ensures light { result ≡ light full ink black }
+    ensures most { result ≤ full }
 {
-    let product = (255 - u32::from(ink)) * (255 - u32::from(black));
-    ((product + 127) / 255) as u8
+    let wide = u32::from(full);
+    let product = (wide - u32::from(ink)) * (wide - u32::from(black));
+    let rounded = product + wide / 2;
+    (rounded / wide) as u16
 }
 
-/// Returns the colour of a pixel.
+/// Returns the colour of a pixel, each part from 0 to `full`.
 #[inline(always)]
-fn colour_of(format: PixelFormat, precision: u8, pixel: &[u8]) -> Colour
+fn colour_of(full: u16, format: PixelFormat, precision: u8, pixel: &[u8]) -> Colour
+    requires some { 1 ≤ full }
     requires whole { length pixel.now ≡ pixel_bytes format precision }
-    ensures { result ≡ colour_of format precision pixel.now }
+    ensures colour { result ≡ colour_of full format precision pixel.now }
+    ensures red { result.red ≤ full }
+    ensures green { result.green ≤ full }
+    ensures blue { result.blue ≤ full }
 {
     match format {
         PixelFormat::L8 | PixelFormat::L16 => {
-            let grey = level(precision, pixel, 0);
+            let grey = level(full, precision, pixel, 0);
             Colour {
                 red: grey,
                 green: grey,
@@ -198,16 +236,16 @@ fn colour_of(format: PixelFormat, precision: u8, pixel: &[u8]) -> Colour
             }
         }
         PixelFormat::RGB24 => Colour {
-            red: level(precision, pixel, 0),
-            green: level(precision, pixel, 1),
-            blue: level(precision, pixel, 2),
+            red: level(full, precision, pixel, 0),
+            green: level(full, precision, pixel, 1),
+            blue: level(full, precision, pixel, 2),
         },
         PixelFormat::CMYK32 => {
-            let black = level(precision, pixel, 3);
+            let black = level(full, precision, pixel, 3);
             Colour {
-                red: light(level(precision, pixel, 0), black),
-                green: light(level(precision, pixel, 1), black),
-                blue: light(level(precision, pixel, 2), black),
+                red: light(full, level(full, precision, pixel, 0), black),
+                green: light(full, level(full, precision, pixel, 1), black),
+                blue: light(full, level(full, precision, pixel, 2), black),
             }
         }
     }
@@ -215,23 +253,25 @@ fn colour_of(format: PixelFormat, precision: u8, pixel: &[u8]) -> Colour
 
 /// Returns the luma of a colour, by the weights of ITU-R BT.601.
 #[inline(always)]
-fn luma(colour: Colour) -> u8
-    ensures { result ≡ luma colour }
+fn luma(colour: Colour) -> u16
+    ensures luma { result ≡ luma colour }
+    ensures byte { colour.red ≤ 255 → colour.green ≤ 255 → colour.blue ≤ 255 → result ≤ 255 }
 {
     let red = 19595 * u32::from(colour.red);
     let green = 38470 * u32::from(colour.green);
     let blue = 7471 * u32::from(colour.blue);
-    ((red + green + blue + 32768) / 65536) as u8
+    ((red + green + blue + 32768) / 65536) as u16
 }
 
 /// Returns the upper 5 bits of red, 6 of green and 5 of blue, red uppermost.
 #[inline]
 fn packed(colour: Colour) -> u16
+    requires red { colour.red ≤ 255 }
+    requires green { colour.green ≤ 255 }
+    requires blue { colour.blue ≤ 255 }
     ensures { result ≡ packed colour }
 {
-    let red = u16::from(colour.red) / 8 * 2048;
-    let green = u16::from(colour.green) / 4 * 32;
-    red + green + u16::from(colour.blue) / 8
+    colour.red / 8 * 2048 + colour.green / 4 * 32 + colour.blue / 8
 }
 
 /// Writes a number as two bytes, the lower first.
@@ -243,22 +283,65 @@ fn put_word(number: u16, bytes: &mut [u8])
     bytes.copy_from_slice(&[(number % 256) as u8, (number / 256) as u8]);
 }
 
-/// Writes a colour as the bytes of a layout.
+/// Writes red, green and blue as two bytes each, the lower first.
+#[inline]
+fn put_words(colour: Colour, pixel: &mut [u8])
+    requires room { length pixel.old ≡ 6 }
+    ensures { pixel.new ≡ bytes_of Rgb16 colour }
+{
+    let Colour { red, green, blue } = colour;
+    pixel.copy_from_slice(&[
+        (red % 256) as u8,
+        (red / 256) as u8,
+        (green % 256) as u8,
+        (green / 256) as u8,
+        (blue % 256) as u8,
+        (blue / 256) as u8,
+    ]);
+}
+
+/// Writes a colour as the bytes of a layout whose samples are bytes.
 #[inline(always)]
-fn put_colour(colour: Colour, layout: Layout, pixel: &mut [u8])
+fn put_bytes(colour: Colour, layout: Layout, pixel: &mut [u8])
+    requires red { colour.red ≤ 255 }
+    requires green { colour.green ≤ 255 }
+    requires blue { colour.blue ≤ 255 }
+    requires unpacked { layout ≡ Rgb565 → ⊥ }
+    requires no_wide_grey { layout ≡ Grey16 → ⊥ }
+    requires no_wide_rgb { layout ≡ Rgb16 → ⊥ }
     requires room { length pixel.old ≡ layout_bytes layout }
     ensures { pixel.new ≡ bytes_of layout colour }
 {
-    let Colour { red, green, blue } = colour;
+    let red = colour.red as u8;
+    let green = colour.green as u8;
+    let blue = colour.blue as u8;
     match layout {
-        Layout::Grey => pixel.copy_from_slice(&[luma(colour)]),
+        Layout::Grey => pixel.copy_from_slice(&[luma(colour) as u8]),
         Layout::Rgb => pixel.copy_from_slice(&[red, green, blue]),
         Layout::Rgba => pixel.copy_from_slice(&[red, green, blue, 255]),
         Layout::Bgra => pixel.copy_from_slice(&[blue, green, red, 255]),
         Layout::Bgr => pixel.copy_from_slice(&[blue, green, red]),
         Layout::Xrgb => pixel.copy_from_slice(&[255, red, green, blue]),
         Layout::Abgr => pixel.copy_from_slice(&[255, blue, green, red]),
+        Layout::Rgb565 | Layout::Grey16 | Layout::Rgb16 => {}
+    }
+}
+
+/// Writes a colour as the bytes of a layout. (The compiler counts what it inlines by
+/// `inline(always)`, and not what it inlines by `inline`.)
+#[inline(always)]
+fn put_colour(colour: Colour, layout: Layout, pixel: &mut [u8])
+    requires red { colour.red ≤ full_of layout }
+    requires green { colour.green ≤ full_of layout }
+    requires blue { colour.blue ≤ full_of layout }
+    requires room { length pixel.old ≡ layout_bytes layout }
+    ensures { pixel.new ≡ bytes_of layout colour }
+{
+    match layout {
         Layout::Rgb565 => put_word(packed(colour), pixel),
+        Layout::Grey16 => put_word(luma(colour), pixel),
+        Layout::Rgb16 => put_words(colour, pixel),
+        _ => put_bytes(colour, layout, pixel),
     }
 }
 
@@ -279,9 +362,10 @@ fn put_pixels(
 {
     let stored = usize::from(samples_a_pixel(format) * bytes_a_sample(precision));
     let bytes = usize::from(layout_bytes(layout));
+    let full = full_of(layout);
     for x in 0..width {
         let pixel = &row[x * stored..(x + 1) * stored];
-        let colour = colour_of(format, precision, pixel);
+        let colour = colour_of(full, format, precision, pixel);
         put_colour(colour, layout, &mut line[x * bytes..(x + 1) * bytes]);
     }
 }
@@ -311,6 +395,8 @@ fn put_in_layout(
         Layout::Xrgb => put_pixels(row, format, precision, Layout::Xrgb, width, line),
         Layout::Abgr => put_pixels(row, format, precision, Layout::Abgr, width, line),
         Layout::Rgb565 => put_pixels(row, format, precision, Layout::Rgb565, width, line),
+        Layout::Grey16 => put_pixels(row, format, precision, Layout::Grey16, width, line),
+        Layout::Rgb16 => put_pixels(row, format, precision, Layout::Rgb16, width, line),
     }
 }
 
@@ -378,6 +464,8 @@ fn put_grey(row: &[u8], layout: Layout, width: usize, line: &mut [u8])
         Layout::Xrgb => put_pixels(row, PixelFormat::L8, 8, Layout::Xrgb, width, line),
         Layout::Abgr => put_pixels(row, PixelFormat::L8, 8, Layout::Abgr, width, line),
         Layout::Rgb565 => put_pixels(row, PixelFormat::L8, 8, Layout::Rgb565, width, line),
+        Layout::Grey16 => put_pixels(row, PixelFormat::L8, 8, Layout::Grey16, width, line),
+        Layout::Rgb16 => put_pixels(row, PixelFormat::L8, 8, Layout::Rgb16, width, line),
     }
 }
 
@@ -396,6 +484,8 @@ fn put_rgb(row: &[u8], layout: Layout, width: usize, line: &mut [u8])
         Layout::Xrgb => put_fours(row, Layout::Xrgb, width, line),
         Layout::Abgr => put_fours(row, Layout::Abgr, width, line),
         Layout::Rgb565 => put_pixels(row, PixelFormat::RGB24, 8, Layout::Rgb565, width, line),
+        Layout::Grey16 => put_pixels(row, PixelFormat::RGB24, 8, Layout::Grey16, width, line),
+        Layout::Rgb16 => put_pixels(row, PixelFormat::RGB24, 8, Layout::Rgb16, width, line),
     }
 }
 
@@ -415,10 +505,34 @@ fn put_cmyk(row: &[u8], layout: Layout, width: usize, line: &mut [u8])
         Layout::Xrgb => put_pixels(row, PixelFormat::CMYK32, 8, Layout::Xrgb, width, line),
         Layout::Abgr => put_pixels(row, PixelFormat::CMYK32, 8, Layout::Abgr, width, line),
         Layout::Rgb565 => put_pixels(row, PixelFormat::CMYK32, 8, Layout::Rgb565, width, line),
+        Layout::Grey16 => put_pixels(row, PixelFormat::CMYK32, 8, Layout::Grey16, width, line),
+        Layout::Rgb16 => put_pixels(row, PixelFormat::CMYK32, 8, Layout::Rgb16, width, line),
     }
 }
 
-/// Writes each pixel of a row as its colour in a layout, by a loop for each format of 8 bits.
+/// Writes pixels of 16 bits a sample in a layout, by a loop for each.
+fn put_deep(row: &[u8], format: PixelFormat, layout: Layout, width: usize, line: &mut [u8])
+    requires whole { length row.now ≡ width * pixel_bytes format 16 }
+    requires room { length line.old ≡ width * layout_bytes layout }
+    ensures { line.new ≡ layout_line (InColour format 16 layout) (pixel_bytes format 16) width
+        row.now }
+{
+    match layout {
+        Layout::Grey => put_pixels(row, format, 16, Layout::Grey, width, line),
+        Layout::Rgb => put_pixels(row, format, 16, Layout::Rgb, width, line),
+        Layout::Rgba => put_pixels(row, format, 16, Layout::Rgba, width, line),
+        Layout::Bgra => put_pixels(row, format, 16, Layout::Bgra, width, line),
+        Layout::Bgr => put_pixels(row, format, 16, Layout::Bgr, width, line),
+        Layout::Xrgb => put_pixels(row, format, 16, Layout::Xrgb, width, line),
+        Layout::Abgr => put_pixels(row, format, 16, Layout::Abgr, width, line),
+        Layout::Rgb565 => put_pixels(row, format, 16, Layout::Rgb565, width, line),
+        Layout::Grey16 => put_pixels(row, format, 16, Layout::Grey16, width, line),
+        Layout::Rgb16 => put_pixels(row, format, 16, Layout::Rgb16, width, line),
+    }
+}
+
+/// Writes each pixel of a row as its colour in a layout, by a loop for each format of 8 bits, and
+/// one for samples of 16 bits.
 fn put_in_colour(
     row: &[u8],
     format: PixelFormat,
@@ -436,6 +550,7 @@ fn put_in_colour(
         (PixelFormat::L8, 8) => put_grey(row, layout, width, line),
         (PixelFormat::RGB24, 8) => put_rgb(row, layout, width, line),
         (PixelFormat::CMYK32, 8) => put_cmyk(row, layout, width, line),
+        (_, 16) => put_deep(row, format, layout, width, line),
         _ => put_in_layout(row, format, precision, layout, width, line),
     }
 }
