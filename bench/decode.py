@@ -120,7 +120,7 @@ def main(crates, tools, folder, *peers):
     print_from_memory("From memory", from_memory, folder, results)
     with_layouts = list(library_programs(tools))
     print_layouts(with_layouts, time_from_memory(with_layouts, folder, layout_cases()))
-    pillow = list(pillow_programs(Path(crates).parent / "clients"))
+    pillow = list(pillow_programs(Path(crates).parent / "bindings/clients"))
     results = time_from_memory(pillow, folder, pillow_cases())
     print_from_memory("By Pillow, from memory", pillow, folder, results)
     for_v2 = list(programs_for_v2(tools, peers))

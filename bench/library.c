@@ -2,7 +2,7 @@
 #include <stdlib.h>
 #include <string.h>
 
-#include "../c/zaxbriar.h"
+#include "../bindings/c/zaxbriar.h"
 #include "repeat.h"
 
 /* Returns the layout of this name, or one that doesn't exist. */

@@ -92,7 +92,7 @@ def expected():
     parts = len(text("crates/parts_cases/stdout").splitlines())
     yield "docs/CONFORMANCE.md", r"each of its (\d+) cases", parts
     yield "CHANGELOG.md", r"(\d+) calls of\s+the parts", parts
-    answers = sorted((ROOT / "c/test/cases").glob("*.answers"))
+    answers = sorted((ROOT / "bindings/c/test/cases").glob("*.answers"))
     calls = sum(len(re.findall(r"(?m)^case ", it.read_text("utf8"))) for it in answers)
     yield "docs/CONFORMANCE.md", r"for its (\d+) cases", calls
     yield "CHANGELOG.md", r"and (\d+)\s+cases of the C library", calls
@@ -101,15 +101,15 @@ def expected():
     for row in re.findall(r"(?m)^\| ((?:`\w+`(?:, )?)+) \| \d+ \|", text("docs/CONFORMANCE.md")):
         names = re.findall(r"\w+", row)
         yield "docs/CONFORMANCE.md", rf"(?m)^\| {row} \| (\d+) \|", sum(map(cases, names))
-    wrong, laws, files = first_number(["wrong_definitions/try", "--check"])
-    page = "wrong_definitions/README.md"
+    wrong, laws, files = first_number(["tests/wrong_definitions/try", "--check"])
+    page = "tests/wrong_definitions/README.md"
     yield page, r"`list` has (\d+) definitions", wrong
     yield page, r"\| tried \| (\d+) \|", wrong
     yield page, r"\((\d+)\s+files\)", files
     yield page, r"of these laws \((\d+):", laws
-    least = int(re.search(r"(?m)^LEAST=(\d+)$", text("memory"))[1])
-    yield "docs/TRUST.md", r"the last, which is at least (\d+) \(`./memory`\)", least
-    table = text("real_files/README.md").split("| Files | number | refused by both |", 1)[1]
+    least = int(re.search(r"(?m)^LEAST=(\d+)$", text("tests/memory"))[1])
+    yield "docs/TRUST.md", r"the last, which is at least (\d+)\s+\(`tests/memory`\)", least
+    table = text("tests/real_files/README.md").split("| Files | number | refused by both |", 1)[1]
     counts = re.findall(r"(?m)^\| [^|]* \| (\d+) \| \d+ \| \d+ \|$", table.split("\n\n", 1)[0])
     # (the last one is the stream of frames)
     yield "docs/TRUST.md", r"([\d,]+) files and a\s+stream", sum(map(int, counts)) - 1

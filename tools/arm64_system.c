@@ -1,6 +1,6 @@
 /* What proved programs call of C beside the C library, where the kit has no C of its own for the
  * processor: the program's arguments, and errno. The kit's crate `os` states what each does, which
- * the proofs take for granted. c/heap.c has the three functions of memory. */
+ * the proofs take for granted. bindings/c/heap.c has the three functions of memory. */
 #include <errno.h>
 #include <stddef.h>
 #include <stdint.h>

@@ -5,7 +5,7 @@
 //! field of the record `Decodes`. Each edit of wrong/ puts a wrong body in place of a call, and the
 //! check has to refuse it; its twin puts a right one there, and is proved. So a clause that is
 //! weakened in its library fails a caller here, and a clause that lets a wrong body through fails
-//! the gate. wrong_bodies/README.md says more. Nothing stands on this crate.
+//! the gate. tests/wrong_bodies/README.md says more. Nothing stands on this crate.
 //!
 //! `decode`, `decode_into` and `run` have long contracts, and a failing search tries every fact: so
 //! a caller keeps one clause, and the wrong body is put into a caller of that caller.

@@ -1,8 +1,8 @@
 //! Calls that run out of memory: each returns `OutOfMemory` and nothing else, and what was read
-//! before is reported. `./memory` at the top of the repository refuses each allocation of these
-//! tests in turn, and is told where a call begins and how it ends: a call in which an allocation
-//! was refused has to return `OutOfMemory`, and no other call may. Nothing here allocates but the
-//! calls themselves, what tells of them, and a writer, which then returns an error of its own.
+//! before is reported. `tests/memory` refuses each allocation of these tests in turn, and is told
+//! where a call begins and how it ends: a call in which an allocation was refused has to return
+//! `OutOfMemory`, and no other call may. Nothing here allocates but the calls themselves, what
+//! tells of them, and a writer, which then returns an error of its own.
 
 use crate::decoders::{FIRSTS, First, begin, has_failed};
 use crate::streams::{COUNT, Stream, Written, stream_of};
@@ -13,8 +13,8 @@ use test_streams::readers::{Counted, Counts, Reader, Trouble, Writer};
 use test_streams::states::is_finished;
 use test_streams::streams::ROOM;
 
-/// The rooms by whose sizes `./memory` knows that a call begins, that it ended with an answer, and
-/// that it ran out of memory. It refuses none of them, and doesn't count them.
+/// The rooms by whose sizes `tests/memory` knows that a call begins, that it ended with an answer,
+/// and that it ran out of memory. It refuses none of them, and doesn't count them.
 const BEGINS: usize = 1_000_003;
 
 const ANSWERS: usize = 1_000_033;
@@ -27,12 +27,12 @@ fn room(alloc: Global, size: usize) -> Result<Vec<u8>, AllocError> {
     Vec::with_capacity(alloc, size)
 }
 
-/// Tells `./memory` that a call begins.
+/// Tells `tests/memory` that a call begins.
 fn begin_call(alloc: Global) {
     let _room = room(alloc, BEGINS);
 }
 
-/// Tells `./memory` how a call has ended, and returns its answer.
+/// Tells `tests/memory` how a call has ended, and returns its answer.
 fn end_call<T: Drop>(alloc: Global, answer: Result<T, Error>) -> Result<T, Error> {
     let size = match &answer {
         Err(Error::OutOfMemory) => HAS_NO_MEMORY,

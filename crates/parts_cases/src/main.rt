@@ -1,6 +1,6 @@
 //! Makes the calls of the case files that its arguments name, and writes a line for each case: its
-//! name, and after a colon each answer. `stdout` has what the lines are to be; `model/parts.py` has
-//! nearly all of them from an independent model.
+//! name, and after a colon each answer. `stdout` has what the lines are to be;
+//! `tests/model/parts.py` has nearly all of them from an independent model.
 //!
 //! A case is some lines, with an empty line between cases:
 //!

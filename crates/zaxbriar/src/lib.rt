@@ -1,9 +1,9 @@
 //! The decoder for programs in other languages: C functions over streams in memory.
 //!
 //! The calls keep no state and share nothing: each reads its stream from the start, writes only
-//! through its arguments, and has freed all of its memory when it returns. `c/zaxbriar.h` has the
-//! functions that a C program calls: they test the pointers and then call these. `zaxbriar_calls`
-//! does what each of them does.
+//! through its arguments, and has freed all of its memory when it returns. `bindings/c/zaxbriar.h`
+//! has the functions that a C program calls: they test the pointers and then call these.
+//! `zaxbriar_calls` does what each of them does.
 #![tactic(auto)]
 
 ghost use Rattle.std.specs.Prelude.{◌≡◌};

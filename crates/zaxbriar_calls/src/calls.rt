@@ -2,8 +2,8 @@
 //!
 //! They keep no state and share nothing: each reads its stream from the start, writes only through
 //! its arguments, and has freed all of its memory when it returns. The number that a call returns
-//! is one of `c/zaxbriar.h`: 0 OK, 1 MALFORMED, 2 UNSUPPORTED, 3 TRUNCATED, 4 NO_MEMORY, 5 NO_ROOM,
-//! 6 BAD_ARGUMENT, 7 NO_DATA, 8 TOO_LARGE, 9 PARTIAL, 10 TOO_MANY_PASSES.
+//! is one of `bindings/c/zaxbriar.h`: 0 OK, 1 MALFORMED, 2 UNSUPPORTED, 3 TRUNCATED, 4 NO_MEMORY,
+//! 5 NO_ROOM, 6 BAD_ARGUMENT, 7 NO_DATA, 8 TOO_LARGE, 9 PARTIAL, 10 TOO_MANY_PASSES.
 ghost use Rattle.std.specs.Prelude.{◌≡◌};
 ghost use Rattle.zaxbriar_calls.specs.CopiesMetadata.{CopiesMetadata};
 ghost use Rattle.zaxbriar_calls.specs.Fills.{Fills};

@@ -1,4 +1,5 @@
-//! What the C library does, as a library: the calls of `c/zaxbriar.h` over streams in memory.
+//! What the C library does, as a library: the calls of `bindings/c/zaxbriar.h` over streams
+//! in memory.
 //!
 //! `calls` has them. The crate `zaxbriar` exports each under its name in C, and does nothing else.
 #![tactic(auto)]

@@ -1,0 +1,412 @@
+/* The decoder for JavaScript, over zaxbriar.wasm, with synchronous calls: all that a worker needs.
+ * The package's name gives index.mjs, which adds `decodeAsync`, or node.mjs in Node.
+ *
+ *     import { load } from './zaxbriar.mjs';
+ *     const zaxbriar = await load();
+ *     const { picture, pixels } = zaxbriar.decode(bytes, { layout: 'rgba' });
+ *
+ * zaxbriar.d.mts has the types, and what each call does. Nothing in this file is proved: it copies
+ * bytes into the module's memory and out of it. */
+
+/* Names of the numbers of bindings/c/zaxbriar.h. The module says which of them fit a picture:
+ * others are BAD_ARGUMENT. */
+const LAYOUTS = {
+    stored: 0,
+    grey: 1,
+    rgb: 2,
+    rgba: 3,
+    bgra: 4,
+    bgr: 5,
+    xrgb: 6,
+    abgr: 7,
+    rgb565: 8,
+    grey16: 9,
+    rgb16: 10,
+};
+const TRANSFORMS = { stream: 0, none: 1, rgb: 2, ycbcr: 3, cmyk: 4, ycck: 5 };
+const KINDS = { exif: 1, xmp: 2, icc: 3 };
+const PROCESSES = ['', 'sequential', 'progressive', 'lossless'];
+const FORMATS = ['', 'grey8', 'grey16', 'rgb', 'cmyk'];
+const FEATURES = [
+    '',
+    'hierarchical',
+    'arithmetic',
+    'precision',
+    'components',
+    'dnl',
+    'subsampling',
+    'factors',
+    'transform',
+];
+/* What decode and readInfo take, and what a decoder takes. */
+export const OPTIONS = [
+    'layout',
+    'scale',
+    'minWidth',
+    'minHeight',
+    'stride',
+    'bottomUp',
+    'colorTransform',
+    'maxPixels',
+    'maxBytes',
+    'maxPasses',
+    'partial',
+];
+/* The limits of `decode` where none are given: of its memory, and of its time. */
+const LIMITS = { maxBytes: 2 ** 30, maxPasses: 100 };
+export const DECODER_OPTIONS = ['maxMemory'];
+const BUFFERS = ['ArrayBuffer', 'SharedArrayBuffer'];
+/* The features that come with a number. */
+const NUMBERED = ['precision', 'components', 'transform'];
+const OK = 0;
+const TRUNCATED = 3;
+const NO_MEMORY = 4;
+const NO_ROOM = 5;
+const NO_DATA = 7;
+const TOO_LARGE = 8;
+const PARTIAL = 9;
+const CODES = [
+    'OK',
+    'MALFORMED',
+    'UNSUPPORTED',
+    'TRUNCATED',
+    'NO_MEMORY',
+    'NO_ROOM',
+    'BAD_ARGUMENT',
+    'NO_DATA',
+    'TOO_LARGE',
+    'PARTIAL',
+    'TOO_MANY_PASSES',
+];
+
+/* The structs zaxbriar_options and zaxbriar_picture of bindings/c/zaxbriar.h. */
+const OPTIONS_BYTES = 128;
+const PICTURE_BYTES = 320;
+const WHOLE_ROWS_AT = 40;
+const FEATURE_AT = 52;
+const SAMPLING_AT = 54;
+const FAULT_AT = 58;
+const DENSITY_AT = 59;
+const TRANSFORM_AT = 64;
+const TEXT_AT = 208;
+const TEXT_BYTES = 112;
+
+const nameOf = (numbers, number) => Object.keys(numbers).find((name) => numbers[name] === number);
+
+export class ZaxbriarError extends Error {
+    constructor(answer, text, [feature, argument] = [0, 0]) {
+        super(text);
+        this.name = 'ZaxbriarError';
+        this.code = CODES[answer] ?? `ANSWER_${answer}`;
+        if (feature) this.feature = FEATURES[feature] ?? `FEATURE_${feature}`;
+        if (NUMBERED.includes(this.feature)) this.featureArgument = argument;
+    }
+}
+
+function numberOf(names, name, what) {
+    if (!Object.hasOwn(names, name)) {
+        throw new TypeError(`${what}: one of ${Object.keys(names).join(', ')}, not ${name}`);
+    }
+    return names[name];
+}
+
+function wholeNumber(value, most, what) {
+    if (!Number.isInteger(value) || value < 0 || value > most) {
+        throw new RangeError(`${what}: a whole number from 0 to ${most}, not ${value}`);
+    }
+    return value;
+}
+
+/* Refuses an option that doesn't exist, which may be the misspelt name of a limit. */
+function checkNames(options, names) {
+    for (const name in options) {
+        if (!names.includes(name)) {
+            throw new TypeError(`${name} is no option; there are ${names.join(', ')}`);
+        }
+    }
+}
+
+/* The options as an object's own, also those that it inherits, once their names are checked. */
+export function ownOptions(options, names) {
+    checkNames(options, names);
+    return Object.fromEntries(names.map((name) => [name, options[name]]));
+}
+
+/* The name of a value's class, which `instanceof` doesn't know where the value is of another realm,
+ * as of a frame or in a test runner. */
+const classOf = (value) => Object.prototype.toString.call(value).slice(8, -1);
+
+/* The bytes of a buffer or of any view of one. */
+export function bytesOf(source) {
+    if (source instanceof Uint8Array || source instanceof Uint8ClampedArray) return source;
+    if (ArrayBuffer.isView(source)) {
+        return new Uint8Array(source.buffer, source.byteOffset, source.byteLength);
+    }
+    if (BUFFERS.includes(classOf(source))) return new Uint8Array(source);
+    throw new TypeError('jpeg: an ArrayBuffer or a view of one');
+}
+
+/* The options as the bytes of zaxbriar_options, with these limits where they give none. */
+function optionsOf(options, limits = {}) {
+    const bytes = new Uint8Array(OPTIONS_BYTES);
+    const view = new DataView(bytes.buffer);
+    const number = (name, most) => wholeNumber(options[name] ?? limits[name] ?? 0, most, name);
+    view.setBigUint64(8, BigInt(number('stride', 2 ** 32)), true);
+    view.setUint16(16, number('minWidth', 65535), true);
+    view.setUint16(18, number('minHeight', 65535), true);
+    view.setUint8(20, numberOf(TRANSFORMS, options.colorTransform ?? 'stream', 'colorTransform'));
+    view.setUint8(21, numberOf(LAYOUTS, options.layout ?? 'stored', 'layout'));
+    view.setUint8(22, number('scale', 255));
+    view.setUint8(23, isSet(options, 'bottomUp') ? 1 : 0);
+    view.setBigUint64(24, BigInt(number('maxBytes', Number.MAX_SAFE_INTEGER)), true);
+    view.setBigUint64(48, BigInt(number('maxPasses', Number.MAX_SAFE_INTEGER)), true);
+    return bytes;
+}
+
+/* Whether an option is set that is true or false. */
+export function isSet(options, name) {
+    const { [name]: value = false } = options;
+    if (typeof value !== 'boolean') throw new TypeError(`${name}: a boolean, not ${value}`);
+    return value;
+}
+
+/* How many pixels a picture may have; 0: any number. */
+const pixelLimit = ({ maxPixels }) =>
+    wholeNumber(maxPixels ?? 0, Number.MAX_SAFE_INTEGER, 'maxPixels');
+
+/* Refuses options of `decode` whose values don't exist. */
+export function checkValues(options) {
+    optionsOf(options);
+    isSet(options, 'partial');
+    pixelLimit(options);
+}
+
+/* The sampling factors that a byte of a frame header has. */
+const factorsOf = (byte) => ({ horizontal: byte >> 4, vertical: byte & 15 });
+
+/* Compiles the module: of a URL, a response, bytes, or one that is compiled already. */
+export async function compile(source = new URL('zaxbriar.wasm', import.meta.url)) {
+    const given = await source;
+    const kind = classOf(given);
+    if (kind === 'WebAssembly.Module') return given;
+    if (kind === 'ArrayBuffer' || ArrayBuffer.isView(given)) return WebAssembly.compile(given);
+    const response = kind === 'Response' ? given : await fetch(given);
+    if (!response.ok) throw new Error(`${response.url}: ${response.status}`);
+    // (some servers don't know the type of .wasm, which compileStreaming asks for)
+    return WebAssembly.compile(await response.arrayBuffer());
+}
+
+export async function load(source, options) {
+    return new Zaxbriar(await compile(source), options);
+}
+
+export class Zaxbriar {
+    #module;
+    #maxMemory;
+    #exports;
+    /* Whether the last call into the instance has returned. */
+    #isWhole = false;
+
+    constructor(module, options = {}) {
+        checkNames(options, DECODER_OPTIONS);
+        const { maxMemory = 0 } = options;
+        this.#module = module;
+        this.#maxMemory = wholeNumber(maxMemory, 2 ** 32, 'maxMemory');
+    }
+
+    get memoryBytes() {
+        return this.#isWhole ? this.#exports.memory.buffer.byteLength : 0;
+    }
+
+    reset() {
+        this.#isWhole = false;
+        this.#exports = undefined;
+    }
+
+    /* Calls the module, whose pointers and sizes are BigInt. A call that doesn't return (a trap, or
+     * too deep a stack of the engine's) leaves an instance that is never called again. */
+    #call(name, ...words) {
+        this.#isWhole = false;
+        const result = this.#exports[name](...words);
+        this.#isWhole = true;
+        return result;
+    }
+
+    #start() {
+        if (this.#isWhole) return;
+        this.#exports = new WebAssembly.Instance(this.#module).exports;
+        this.#isWhole = true;
+        if (this.#maxMemory) this.#call('zaxbriar_limit_memory', BigInt(this.#maxMemory));
+    }
+
+    #bytes(at, count) {
+        return new Uint8Array(this.#exports.memory.buffer, at, count);
+    }
+
+    /* Runs `body`, which is given a function that allocates, and frees what that has allocated. */
+    #with(body) {
+        this.#start();
+        const blocks = [];
+        const allocate = (size) => {
+            const at = Number(this.#call('zaxbriar_malloc', BigInt(size)));
+            if (!at) throw new ZaxbriarError(NO_MEMORY, `no memory for ${size} bytes`);
+            blocks.push(at);
+            return at;
+        };
+        try {
+            return body(allocate);
+        } finally {
+            while (blocks.length > 0 && this.#isWhole) {
+                this.#call('zaxbriar_free', BigInt(blocks.pop()));
+            }
+        }
+    }
+
+    #put(allocate, bytes) {
+        const at = allocate(bytes.length);
+        this.#bytes(at, bytes.length).set(bytes);
+        return at;
+    }
+
+    #text(at, most) {
+        const bytes = this.#bytes(at, most).slice();
+        const end = bytes.indexOf(0);
+        return new TextDecoder().decode(end < 0 ? bytes : bytes.subarray(0, end));
+    }
+
+    #picture(at) {
+        const view = new DataView(this.#exports.memory.buffer, at, PICTURE_BYTES);
+        const long = (place) => Number(view.getBigUint64(place, true));
+        const layout = view.getUint8(45);
+        const components = view.getUint8(46);
+        const transform = view.getUint8(TRANSFORM_AT);
+        return {
+            width: view.getUint32(32, true),
+            height: view.getUint32(36, true),
+            size: long(0),
+            rowBytes: long(8),
+            decodingBytes: long(16),
+            streamBytes: long(24),
+            pixelBytes: view.getUint8(44),
+            layout: nameOf(LAYOUTS, layout),
+            components,
+            precision: view.getUint8(47),
+            sampleBytes: view.getUint8(48),
+            process: PROCESSES[view.getUint8(49)],
+            orientation: view.getUint8(50),
+            format: FORMATS[view.getUint8(51)],
+            sampling: Array.from(this.#bytes(at + SAMPLING_AT, components), factorsOf),
+            density: {
+                unit: view.getUint8(DENSITY_AT),
+                horizontal: view.getUint16(DENSITY_AT + 1, true),
+                vertical: view.getUint16(DENSITY_AT + 3, true),
+            },
+            colorTransform: transform === 0 ? null : nameOf(TRANSFORMS, transform),
+        };
+    }
+
+    #error(answer, picture) {
+        const text = this.#text(picture + TEXT_AT, TEXT_BYTES);
+        return new ZaxbriarError(answer, text, this.#bytes(picture + FEATURE_AT, 2));
+    }
+
+    #check(answer, picture) {
+        if (answer !== OK) throw this.#error(answer, picture);
+    }
+
+    /* Reads the header of a stream that lies in the module's memory. */
+    #readHeader(stream, picture) {
+        this.#check(this.#call('zaxbriar_read_info', ...stream, BigInt(picture)), picture);
+    }
+
+    /* The same, and compares maxPixels. */
+    #describe(stream, picture, options) {
+        this.#readHeader(stream, picture);
+        const described = this.#picture(picture);
+        const most = pixelLimit(options);
+        if (most && described.width * described.height > most) {
+            const size = `${described.width} by ${described.height} pixels`;
+            throw new ZaxbriarError(TOO_LARGE, `the picture has ${size}, above ${most}`);
+        }
+        return described;
+    }
+
+    /* Puts a stream and its options into the module's memory, and gives the words of a call. */
+    #stream(allocate, jpeg, options, limits) {
+        const bytes = bytesOf(jpeg);
+        pixelLimit(options);
+        const given = optionsOf(options, limits);
+        const at = this.#put(allocate, bytes);
+        return [at, bytes.length, this.#put(allocate, given)].map(BigInt);
+    }
+
+    readInfo(jpeg, options = {}) {
+        checkNames(options, OPTIONS);
+        return this.#with((allocate) => {
+            const stream = this.#stream(allocate, jpeg, options);
+            return this.#describe(stream, allocate(PICTURE_BYTES), options);
+        });
+    }
+
+    decode(jpeg, options = {}) {
+        checkNames(options, OPTIONS);
+        const isPartial = isSet(options, 'partial');
+        const name = isPartial ? 'zaxbriar_decode_partial' : 'zaxbriar_decode';
+        return this.#with((allocate) => {
+            const stream = this.#stream(allocate, jpeg, options, LIMITS);
+            const at = allocate(PICTURE_BYTES);
+            const { size } = this.#describe(stream, at, options);
+            const pixels = allocate(size);
+            // The bytes between lines stay as they are, and blocks are used again.
+            if (options.stride) this.#bytes(pixels, size).fill(0);
+            const words = [pixels, size, at].map(BigInt);
+            const answer = this.#call(name, ...stream, ...words);
+            if (answer !== PARTIAL) this.#check(answer, at);
+            // (engines fill what `slice` gives with zeros first, which takes as long as the copy)
+            const view = new Uint8ClampedArray(this.#exports.memory.buffer, pixels, size);
+            const decoded = { picture: this.#picture(at), pixels: new Uint8ClampedArray(view) };
+            if (!isPartial) return decoded;
+            const [fault] = this.#bytes(at + FAULT_AT, 1);
+            const struct = new DataView(this.#exports.memory.buffer, at, PICTURE_BYTES);
+            const wholeRows = struct.getUint32(WHOLE_ROWS_AT, true);
+            return { ...decoded, wholeRows, fault: fault ? this.#error(fault, at) : null };
+        });
+    }
+
+    metadata(jpeg, kind) {
+        const number = numberOf(KINDS, kind, 'kind');
+        return this.#with((allocate) => {
+            const bytes = bytesOf(jpeg);
+            const stream = [this.#put(allocate, bytes), bytes.length].map(BigInt);
+            const length = allocate(8);
+            const copy = (...room) => {
+                const words = [...room, length].map(BigInt);
+                return this.#call('zaxbriar_metadata', ...stream, number, ...words);
+            };
+            const found = () =>
+                Number(new DataView(this.#exports.memory.buffer).getBigUint64(length, true));
+            let answer = copy(0, 0);
+            let data = 0;
+            if (answer === NO_ROOM) {
+                data = allocate(found());
+                answer = copy(data, found());
+            }
+            if (answer === NO_DATA) return null;
+            // (a fault of the stream is one of its header, which the other calls name)
+            if (answer !== OK && answer <= TRUNCATED) {
+                this.#readHeader([...stream, 0n], allocate(PICTURE_BYTES));
+            }
+            if (answer !== OK) {
+                const name = Number(this.#call('zaxbriar_answer_name', answer));
+                throw new ZaxbriarError(answer, this.#text(name, 32));
+            }
+            return this.#bytes(data, found()).slice();
+        });
+    }
+
+    get version() {
+        this.#start();
+        const version = this.#call('zaxbriar_version');
+        return `${version >> 16}.${(version >> 8) & 255}.${version & 255}`;
+    }
+}

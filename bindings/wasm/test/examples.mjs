@@ -1,0 +1,357 @@
+/* node examples.mjs node|chromium|firefox FOLDER: the examples of dist/examples by their pixels:
+ * thumbnails in Node; in a browser these files, and the images of a page, by examples/images.mjs
+ * and by the service worker, which passes other files on as they come. FOLDER takes files and
+ * EXAMPLE.BROWSER.png. */
+import assert from 'node:assert/strict';
+import { spawnSync } from 'node:child_process';
+import {
+    mkdirSync,
+    readFileSync,
+    readdirSync,
+    rmSync,
+    symlinkSync,
+    writeFileSync,
+} from 'node:fs';
+import { resolve } from 'node:path';
+import { inflateSync } from 'node:zlib';
+import { load } from '../dist/node.mjs';
+import { bmpOf } from '../dist/examples/bmp.mjs';
+import { LOSSLESS as FRAME, frameOf } from '../dist/examples/frame.mjs';
+import { allCases } from './cases.mjs';
+import { Chromium } from './chromium.mjs';
+import { Firefox } from './firefox.mjs';
+import { serve } from './serve.mjs';
+
+const [browser, room] = process.argv.slice(2);
+const folder = resolve(room, 'examples');
+const pathOf = (name) => new URL(name, import.meta.url).pathname;
+const ours = (name) => readFileSync(pathOf(`../../../tests/programs/files/${name}`));
+const zaxbriar = await load();
+const cases = allCases();
+const CHANNELS = 3;
+/* The tag of the orientation, its type and its count, and the first half of its value. */
+const ORIENTATION = Buffer.from([0x01, 0x12, 0, 3, 0, 0, 0, 1, 0]);
+const streamOf = (file, name) =>
+    cases.find((it) => it.file === `${file}.case` && it.name === name).stream;
+
+/* A lossless stream with an orientation: the Exif data of turned.jpg, whose orientation is 6. */
+function turnedLossless(orientation) {
+    const turned = ours('turned.jpg');
+    const at = turned.indexOf(Buffer.from([0xff, 0xe1]));
+    const exif = Buffer.from(turned.subarray(at, at + 2 + turned.readUInt16BE(at + 2)));
+    exif[exif.indexOf(ORIENTATION) + ORIENTATION.length] = orientation;
+    const stream = streamOf('random', 'seed 299, lossless');
+    return Buffer.concat([stream.subarray(0, 2), exif, stream.subarray(2)]);
+}
+
+/* Files that browsers can't show, files that they show, and files that nobody does. */
+const LOSSLESS = {
+    'grey.jpg': streamOf('random', 'seed 127, lossless'),
+    'colours.jpg': streamOf('random', 'seed 187, lossless'),
+    'ink.jpg': streamOf('random', 'seed 227, lossless'),
+    'shallow.jpg': streamOf('random', 'seed 59, lossless'),
+};
+for (const orientation of [2, 3, 4, 5, 6, 7, 8]) {
+    LOSSLESS[`orientation-${orientation}.jpg`] = turnedLossless(orientation);
+}
+const ORDINARY = { 'picture.jpg': ours('picture.jpg'), 'turned.jpg': ours('turned.jpg') };
+const REFUSED = {
+    'cut-lossless.jpg': LOSSLESS['colours.jpg'].subarray(0, 200),
+    'none.jpg': Buffer.from('no picture'),
+};
+
+/* Photographs of which the server sends the first half, and the rest when they are released. */
+const HELD = Object.fromEntries(
+    ['held.jpg', 'held.bmp'].map((name) => {
+        let release;
+        const released = new Promise((done) => (release = done));
+        return [name, { release, released }];
+    }),
+);
+async function* halves(bytes, released) {
+    yield bytes.subarray(0, bytes.length >> 1);
+    await released;
+    yield bytes.subarray(bytes.length >> 1);
+}
+
+/* The server sends these, in pieces/, in pieces. */
+const IN_PIECES = ['colours.jpg', 'orientation-6.jpg'];
+async function* cut(bytes) {
+    for (let at = 0; at < bytes.length; at += 50) {
+        yield bytes.subarray(at, at + 50);
+        await new Promise((done) => setTimeout(done, 5));
+    }
+}
+function inPieces(path, bytes) {
+    const name = path.slice(1);
+    if (name in HELD) return halves(bytes, HELD[name].released);
+    return name.startsWith('pieces/') ? cut(bytes) : bytes;
+}
+
+/* Where the first line of a stored picture is to be seen, and its first column, by the orientation
+ * of Exif. */
+const SIDES = [
+    ,
+    ['top', 'left'],
+    ['top', 'right'],
+    ['bottom', 'right'],
+    ['bottom', 'left'],
+    ['left', 'top'],
+    ['right', 'top'],
+    ['right', 'bottom'],
+    ['left', 'bottom'],
+];
+
+/* The picture of a file, upright. */
+function uprightOf(jpeg, options) {
+    const { picture, pixels } = zaxbriar.decode(jpeg, options);
+    const { orientation, pixelBytes } = picture;
+    const [lineSide, columnSide] = SIDES[orientation];
+    const isTurned = ['left', 'right'].includes(lineSide);
+    const width = isTurned ? picture.height : picture.width;
+    const height = isTurned ? picture.width : picture.height;
+    const seen = new Uint8ClampedArray(pixels.length);
+    for (let line = 0; line < picture.height; line++) {
+        for (let column = 0; column < picture.width; column++) {
+            const away = { [lineSide]: line, [columnSide]: column };
+            const x = away.left ?? width - 1 - away.right;
+            const y = away.top ?? height - 1 - away.bottom;
+            const from = (line * picture.width + column) * pixelBytes;
+            const pixel = pixels.subarray(from, from + pixelBytes);
+            seen.set(pixel, (y * width + x) * pixelBytes);
+        }
+    }
+    return { width, height, pixels: seen };
+}
+
+/* A PNG file of 8 bits without filters, as red, green and blue. */
+function readPng(path) {
+    const file = readFileSync(path);
+    assert.equal(file.toString('latin1', 1, 4), 'PNG');
+    const chunks = {};
+    for (let at = 8; at < file.length; ) {
+        const length = file.readUInt32BE(at);
+        chunks[file.toString('latin1', at + 4, at + 8)] = file.subarray(at + 8, at + 8 + length);
+        at += 12 + length;
+    }
+    const [width, height] = [chunks.IHDR.readUInt32BE(0), chunks.IHDR.readUInt32BE(4)];
+    const lines = inflateSync(chunks.IDAT);
+    assert.equal(lines.length, height * (1 + 3 * width));
+    const pixels = lines.filter((_, at) => at % (1 + 3 * width) !== 0);
+    return { width, height, pixels: new Uint8ClampedArray(pixels) };
+}
+
+/* A smaller picture: each of its pixels is the mean of those that end in its place. */
+function smallerOf(picture, width) {
+    const height = Math.round((picture.height * width) / picture.width);
+    const sums = Array(width * height * CHANNELS).fill(0);
+    const counts = Array(width * height).fill(0);
+    for (let at = 0; at < picture.width * picture.height; at++) {
+        const [column, row] = [at % picture.width, Math.floor(at / picture.width)];
+        const x = Math.ceil(((column + 1) * width) / picture.width) - 1;
+        const y = Math.ceil(((row + 1) * height) / picture.height) - 1;
+        const to = y * width + x;
+        counts[to]++;
+        for (let channel = 0; channel < CHANNELS; channel++) {
+            sums[to * CHANNELS + channel] += picture.pixels[at * CHANNELS + channel];
+        }
+    }
+    const pixels = sums.map((sum, at) => Math.round(sum / counts[Math.floor(at / CHANNELS)]));
+    return { width, height, pixels: Uint8ClampedArray.from(pixels) };
+}
+
+/* Runs thumbnails.mjs, and gives its output and the thumbnails of what it doesn't refuse. */
+function thumbnails(pictures, width) {
+    const output = `${folder}/${width}`;
+    const program = pathOf('../dist/examples/thumbnails.mjs');
+    const words = [program, `${folder}/pictures`, output, `${width}`];
+    const { status, stderr } = spawnSync(process.execPath, words, { encoding: 'utf8' });
+    assert.equal(status, 1, stderr);
+    const told = stderr.trim().split('\n').map((line) => line.split(':', 2).join(':'));
+    assert.deepEqual(told.sort(), ['cut-lossless.jpg: TRUNCATED', 'none.jpg: MALFORMED']);
+    const names = Object.keys(pictures).map((name) => `${name}.png`);
+    assert.deepEqual(readdirSync(output).sort(), names.sort());
+    return (name) => readPng(`${output}/${name}.png`);
+}
+
+function checkThumbnails() {
+    const pictures = { ...LOSSLESS, ...ORDINARY };
+    mkdirSync(`${folder}/pictures`);
+    for (const [name, bytes] of Object.entries({ ...pictures, ...REFUSED, 'notes.txt': 'no' })) {
+        writeFileSync(`${folder}/pictures/${name}`, bytes);
+    }
+    const [wholeOf, halfOf, smallOf] = [40, 12, 10].map((it) => thumbnails(pictures, it));
+    for (const [name, bytes] of Object.entries(pictures)) {
+        const picture = uprightOf(bytes, { layout: 'rgb' });
+        const small = name in LOSSLESS && picture.width > 10 ? smallerOf(picture, 10) : null;
+        assert.deepEqual(wholeOf(name), picture, name);
+        if (small) assert.deepEqual(smallOf(name), small, name);
+    }
+    // (at half of their sizes)
+    const half = uprightOf(ORDINARY['turned.jpg'], { layout: 'rgb', scale: 2 });
+    assert.deepEqual(halfOf('turned.jpg'), half);
+    assert.equal(smallOf('turned.jpg').width, 10);
+    console.log(`thumbnails: ${Object.keys(pictures).length} files by their pixels, 2 refused`);
+}
+
+/* A site with the package, the pictures and a page for each example. */
+async function makeSite() {
+    symlinkSync(pathOf('../dist'), `${folder}/zaxbriar`);
+    const files = { ...LOSSLESS, ...ORDINARY, ...REFUSED };
+    for (const [name, bytes] of Object.entries(files)) writeFileSync(`${folder}/${name}`, bytes);
+    mkdirSync(`${folder}/pieces`);
+    for (const name of IN_PIECES) writeFileSync(`${folder}/pieces/${name}`, LOSSLESS[name]);
+    const photograph = readFileSync(pathOf('../../../examples/rocket.jpg'));
+    const bmp = bmpOf(zaxbriar.decode(photograph, { layout: 'bgra' }));
+    writeFileSync(`${folder}/held.jpg`, photograph);
+    writeFileSync(`${folder}/held.bmp`, new Uint8Array(await bmp.arrayBuffer()));
+    const images = Object.keys(files).map((name) => `<img src="${name}" alt="${name}">`);
+    const page = `<!doctype html><title>${browser}</title><body>${images.join('\n')}`;
+    const script = '<script type="module" src="zaxbriar/examples/images.mjs"></script>';
+    writeFileSync(`${folder}/plain.html`, page);
+    writeFileSync(`${folder}/images.html`, page + script);
+    writeFileSync(`${folder}/worker.mjs`, `import './zaxbriar/examples/service-worker.mjs';\n`);
+}
+
+/* The frame of each file is known from some prefix on, and that it is no JPEG file at once. */
+function checkFrames() {
+    for (const [name, bytes] of Object.entries({ ...LOSSLESS, ...ORDINARY })) {
+        const wanted = name in LOSSLESS ? FRAME : 0xc0;
+        const at = bytes.indexOf(Buffer.from([0xff, wanted]));
+        const filled = Buffer.concat([bytes.subarray(0, at), Buffer.alloc(9, 0xff)]);
+        for (const file of [bytes, Buffer.concat([filled, bytes.subarray(at)])]) {
+            const known = file.indexOf(bytes.subarray(at, at + 4)) + 4;
+            for (let length = 0; length <= file.length; length++) {
+                const frame = frameOf(file.subarray(0, length));
+                assert.equal(frame, length < known ? undefined : wanted, `${name}: ${length}`);
+            }
+        }
+    }
+    for (const text of ['6e', '89504e47', 'ff00', 'ffd86e6f2066', 'ffd8ffe00004616200000000']) {
+        assert.equal(frameOf(Buffer.from(text, 'hex')), null, text);
+    }
+    console.log('frames: each beginning of 13 files, lossless or not');
+}
+
+/* The pixels of an image of the page, or null where it shows none. */
+const shownAs = (page, name) =>
+    page.run(`(() => {
+        const image = document.querySelector('img[alt="${name}"]');
+        if (!image.complete || image.naturalWidth === 0) return null;
+        const { naturalWidth: width, naturalHeight: height } = image;
+        const context = new OffscreenCanvas(width, height).getContext('2d');
+        context.drawImage(image, 0, 0);
+        return { width, height, pixels: [...context.getImageData(0, 0, width, height).data] };
+    })()`);
+
+/* The files that nobody else shows are there by their pixels, and others as before. */
+async function checkShown(page, before) {
+    for (const [name, bytes] of Object.entries(LOSSLESS)) {
+        const { width, height, pixels } = uprightOf(bytes, { layout: 'rgba' });
+        const wanted = { width, height, pixels: [...pixels] };
+        await page.until(`document.querySelector('img[alt="${name}"]').naturalWidth > 0`);
+        assert.deepEqual(await shownAs(page, name), wanted, name);
+    }
+    for (const [name, shown] of Object.entries(before)) {
+        assert.deepEqual(await shownAs(page, name), shown, name);
+    }
+}
+
+/* The thumbnails are files that a browser shows. */
+async function checkPng(page) {
+    for (const [name, bytes] of Object.entries(LOSSLESS)) {
+        const { pixels, ...size } = uprightOf(bytes, { layout: 'rgba' });
+        await page.run(`(() => {
+            const image = Object.assign(new Image(), { src: '40/${name}.png', alt: 'thumbnail' });
+            document.body.replaceChildren(image);
+            return image.decode().then(() => true);
+        })()`);
+        assert.deepEqual(await shownAs(page, 'thumbnail'), { ...size, pixels: [...pixels] }, name);
+    }
+}
+
+const LOADED = `document.readyState === 'complete'`;
+
+/* Images of a page, of which one comes later, and one is there twice. */
+async function checkImages(page, url, before) {
+    await page.open(`${url}images.html`);
+    await page.until(LOADED);
+    await checkShown(page, before);
+    await page.run(`for (const name of ['grey.jpg', 'grey.jpg']) {
+        document.querySelector('img[alt="' + name + '"]').alt = 'earlier';
+        document.body.prepend(Object.assign(new Image(), { src: name, alt: name }));
+    }`);
+    await checkShown(page, before);
+}
+
+/* The memory of each picture that images.mjs has given is free, and the picture still shown. */
+async function checkFreed(page, before) {
+    const isFree = `fetch(it.src).then(() => false, () => true)`;
+    await page.until(`Promise.all([...document.images].filter((it) => it.src.startsWith('blob:'))
+        .map((it) => ${isFree})).then((all) => all.length > 11 && all.every(Boolean))`);
+    await checkShown(page, before);
+}
+
+/* An image is there as far as its file has come, since the service worker passes it on; and files
+ * that come in small pieces are told apart. */
+async function checkPieces(page) {
+    const add = (name) => page.run(`document.body.prepend(Object.assign(new Image(),
+        { src: '${name}', alt: '${name}' }))`);
+    for (const name of Object.keys(HELD)) {
+        await add(name);
+        const image = `document.querySelector('img[alt="${name}"]')`;
+        await page.until(`${image}.naturalWidth > 0 && !${image}.complete`);
+        HELD[name].release();
+        await page.until(`${image}.complete`);
+        assert.ok(await page.run(`${image}.decode().then(() => true)`), name);
+    }
+    for (const name of IN_PIECES) {
+        await add(`pieces/${name}`);
+        const { width, height, pixels } = uprightOf(LOSSLESS[name], { layout: 'rgba' });
+        const image = `document.querySelector('img[alt="pieces/${name}"]')`;
+        await page.until(`${image}.naturalWidth > 0`);
+        const wanted = { width, height, pixels: [...pixels] };
+        assert.deepEqual(await shownAs(page, `pieces/${name}`), wanted, name);
+    }
+}
+
+async function checkServiceWorker(page, url, before) {
+    await page.open(`${url}plain.html`);
+    await page.until(LOADED);
+    const register = `navigator.serviceWorker.register('worker.mjs', { type: 'module' })`;
+    await page.run(`${register}.then(() => true)`);
+    await page.until(`navigator.serviceWorker.controller !== null`);
+    await page.open(`${url}plain.html`);
+    await page.until(LOADED);
+    await checkShown(page, before);
+    await checkPieces(page);
+}
+
+async function checkBrowser() {
+    checkThumbnails();
+    await makeSite();
+    const { url, close } = await serve(folder, inPieces);
+    const page = await { chromium: Chromium, firefox: Firefox }[browser].browse(`${url}plain.html`);
+    await page.until(LOADED);
+    const before = {};
+    for (const name of [...Object.keys(ORDINARY), ...Object.keys(REFUSED)]) {
+        before[name] = await shownAs(page, name);
+    }
+    for (const name of Object.keys(LOSSLESS)) assert.equal(await shownAs(page, name), null, name);
+    await checkPng(page);
+    await checkImages(page, url, before);
+    await checkFreed(page, before);
+    await page.screenshot(`${room}/images.${browser}.png`);
+    await checkServiceWorker(page, url, before);
+    await page.screenshot(`${room}/service worker.${browser}.png`);
+    await page.close();
+    close();
+    const shown = Object.keys(LOSSLESS).length;
+    console.log(`examples in ${browser}: images and service worker, ${shown} lossless files each;`);
+    console.log('      the memory of given pictures is free, and files are passed on as they come');
+}
+
+rmSync(folder, { recursive: true, force: true });
+mkdirSync(folder, { recursive: true });
+if (browser === 'node') checkFrames();
+await (browser === 'node' ? checkThumbnails() : checkBrowser());
