@@ -264,8 +264,9 @@ typedef struct zaxbriar_picture {
     uint64_t decoding_bytes; /* the most memory that a call uses for coefficients and samples at a
                                 time, besides `pixels`; tables, metadata, a few lines and, where a
                                 scan is cut, a row of blocks (at most 1 MB) aren't counted, nor are
-                                the samples of a scan of several components, some of which an
-                                earlier scan has had: at most as much once more.
+                                the samples of a scan of several components, or of a lossless
+                                frame, that repeats components of an earlier scan: at most as
+                                much once more.
                                 zaxbriar_decode_partial counts all blocks, and the others what
                                 zaxbriar_decode uses */
     uint64_t stream_bytes;   /* how many bytes of `jpeg` the image takes, after ZAXBRIAR_OK of

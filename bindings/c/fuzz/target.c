@@ -150,14 +150,15 @@ static int has_scans(void) {
 
 /* The memory that a call has taken is no more than `decoding_bytes`, tables, metadata, a few lines
  * and, of a scan that is cut, a row of blocks and the data of a restart interval. A scan of several
- * components may have planes of its own, beside those of scans before it. */
+ * components, or of a lossless frame, may have planes of its own, beside those of scans before. */
 static void check_memory(enum call call, const struct answer *answer, size_t size) {
     const zaxbriar_picture *picture = &of.info.picture, *full = &of.full.picture;
     size_t metadata = (call == PART ? 6 : 4) * size, counted = 0;
     size_t row_of_blocks = (full->width / 8 + 4) * (size_t)128;
     if (is_decoded(answer->result)) counted = answer->picture.decoding_bytes;
     else if (of.is_small && !is_described(answer->result)) counted = picture->decoding_bytes;
-    if (full->components > 1 && has_scans()) counted *= 2;
+    int has_own_planes = full->components > 1 || full->process == ZAXBRIAR_LOSSLESS;
+    if (has_own_planes && has_scans()) counted *= 2;
     size_t beside = MOST_FOR_TABLES + MOST_FOR_SEGMENT + 4 * (size_t)picture->row_bytes;
     CHECK(counts.peak_bytes <= counted + beside + metadata + row_of_blocks);
 }
