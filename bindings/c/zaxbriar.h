@@ -337,8 +337,7 @@ ZAXBRIAR_CALL zaxbriar_result zaxbriar_decode(const void *jpeg, size_t jpeg_size
  *
  * The call keeps the coefficients of the blocks that it reads, 128 bytes each, also of a sequential
  * picture. Its `decoding_bytes`, with which it compares `max_bytes`, counts those of all blocks, so
- * it may be more than zaxbriar_read_info returns. Not counted are the data of one restart interval,
- * which are at most the rest of the stream. */
+ * it may be more than zaxbriar_read_info returns. */
 ZAXBRIAR_CALL zaxbriar_result zaxbriar_decode_partial(const void *jpeg, size_t jpeg_size,
                                                       const zaxbriar_options *options,
                                                       void *pixels, size_t pixels_size,

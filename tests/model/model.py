@@ -156,11 +156,11 @@ class Bytes:
 class Text:
     """D2 from place p: destuffed bytes with the place behind each, then an end.
 
-    After a marker zero bits come without end, unless the text is sealed: then there are none.
+    After a marker zero bits come without end, unless the text stops there: then there are none.
     """
 
-    def __init__(self, b, p, is_sealed=False):
-        self.data, self.behind, self.is_sealed = [], [], is_sealed
+    def __init__(self, b, p, stops=False):
+        self.data, self.behind, self.stops = [], [], stops
         n = len(b)
         while True:
             if p >= n:
@@ -193,7 +193,7 @@ class Text:
             return self.data[i >> 3] >> (7 - (i & 7)) & 1
         if self.end[0] != 'marker':
             raise Refused(self.end[1], True)
-        if self.is_sealed:
+        if self.stops:
             raise fmt(True)
         return 0
 
@@ -225,9 +225,8 @@ class Text:
         return 8 * len(self.data) - self.k
 
     def finish(self):
-        """D3: (marker or None, place where reading goes on). All bits of a sealed text are passed
-        over."""
-        if self.left() <= 56 or self.is_sealed:
+        """D3: (marker or None, place where reading goes on)"""
+        if self.left() <= 56:
             if self.end[0] == 'marker':
                 return self.end[1], self.end[2]
             raise Refused(self.end[1], True)
@@ -571,13 +570,13 @@ def intervals(total, ri):
     return out + [total]
 
 
-def run_scan(r, mcus, ri, start, unit, is_sealed=False, read=None):
+def run_scan(r, mcus, ri, start, unit, stops=False, read=None):
     """cuts the MCUs into intervals; unit(text, mcu, state); returns the pending marker or None. The
     MCUs that were read go to the list read."""
     number, at = 0, 0
     parts = intervals(len(mcus), ri)
     for j, n in enumerate(parts):
-        t = Text(r.b, r.p, is_sealed)
+        t = Text(r.b, r.p, stops)
         state = start()
         for m in mcus[at : at + n]:
             unit(t, m, state)
@@ -585,12 +584,11 @@ def run_scan(r, mcus, ri, start, unit, is_sealed=False, read=None):
                 read.append(m)
         at += n
         marker, r.p = t.finish()
-        is_near = t.left() <= 56
         if j + 1 < len(parts):
-            if not is_near or marker != 0xD0 + number % 8:
+            if marker != 0xD0 + number % 8:
                 raise fmt(True)
             number += 1
-    while is_near and 0xD0 <= marker <= 0xD7:
+    while marker is not None and 0xD0 <= marker <= 0xD7:
         try:
             marker = r.marker()
         except Refused as e:
@@ -620,7 +618,7 @@ def block_mcus(f, s):
     return mcus, f.mcus[0]
 
 
-def dct_scan(r, f, s, dc, ac, ri, blocks, is_sealed, b):
+def dct_scan(r, f, s, dc, ac, ri, blocks, stops, b):
     """blocks: of each component of the scan the blocks held. Each is replaced as soon as all of it
     is read, so that after a fault those before it are there. b.rows gets the rows of the picture
     that need nothing of the MCUs that are lacking, nor of others in their row, if some are."""
@@ -649,7 +647,7 @@ def dct_scan(r, f, s, dc, ac, ri, blocks, is_sealed, b):
 
     read = []
     try:
-        return run_scan(r, mcus, ri, start, unit, is_sealed, read)
+        return run_scan(r, mcus, ri, start, unit, stops, read)
     except Refused:
         if len(read) < len(mcus):
             each = f.comps[s.comps[0]].v if len(s.comps) == 1 else 1
@@ -699,7 +697,7 @@ def blocks_coded(f, s, settings):
     return ceil_div(sum(wide * high for _, _, wide, high in grid.values()), 8)
 
 
-def lossless_scan(r, f, s, dc, ri, settings, b, is_sealed):
+def lossless_scan(r, f, s, dc, ri, settings, b, stops):
     """b.planes gets the samples of the components; after a fault those of the rows of MCUs that are
     whole, and below them the samples from before the scan, or mid-grey"""
     cols, rows, grid = sample_mcus(f, s, settings)
@@ -739,7 +737,7 @@ def lossless_scan(r, f, s, dc, ri, settings, b, is_sealed):
             whole[0] = y + 1
 
     try:
-        return run_scan(r, mcus, ri, start, unit, is_sealed)
+        return run_scan(r, mcus, ri, start, unit, stops)
     except Refused:
         each = f.comps[s.comps[0]].v if len(s.comps) == 1 else 1
         b.rows = whole[0] if settings.equal_factors else whole[0] * f.vmax // each

@@ -161,7 +161,7 @@ def read_bits(case, verb, text):
         t.data, t.k = [], 0
         return ''
     if verb == 'stop':
-        case.text = model.Text(case.r.b, case.r.p, is_sealed=True)
+        case.text = model.Text(case.r.b, case.r.p, stops=True)
         return ''
     if verb == 'end':
         marker, case.r.p = case.bits().finish()

@@ -108,7 +108,7 @@ export interface DecodingOptions extends Options {
      * Decodes a stream that is truncated or damaged, too. What no scan has brought is mid-grey. A
      * marker in place of blocks is a fault, where decoding without `partial` takes zeros.
      * `decodingBytes`, which `maxBytes` limits, then counts the coefficients of all blocks, 128
-     * bytes each; the data of one restart interval aren't counted.
+     * bytes each.
      */
     partial?: boolean;
 }

@@ -5,8 +5,10 @@ use Rattle.std.proofs.Common.{length-append, length-drop, Ok, Option, Some, None
 use Rattle.std.proofs.lemmas.List.{length-replicate, drop-drop, drop_more, get_or_append_left, get_or-replicate}
 use Rattle.std.proofs.lemmas.Bool.{le-leb, lt-leb, cases_lt, false≢true, eqb-true, eq-eqb}
 use Rattle.jpeg_bits.specs.Reading.{Outcome, End, ◌>>=◌, Fault}
-use Rattle.jpeg_bits.specs.Entropy.{Text, Ending, Broken, bits_of, text_at, add_byte, no_bits}
-use Rattle.jpeg_bits.specs.Entropy.{ending_at, upcoming, fresh, advance, marker_from, marker_by}
+use Rattle.jpeg_bits.specs.Entropy.{Text, Ending, Broken, Found, Stops, bits_of, text_at, add_byte, no_bits}
+use Rattle.jpeg_bits.specs.Entropy.{closed, ending_at, upcoming, fresh, fresh_before, advance, marker_from, marker_by}
+use Rattle.jpeg_bits.specs.declared.beyond.Beyond.{Beyond}
+use Rattle.jpeg_bits.specs.declared.beyond.Beyond.TheVariants.{Nothing, Zeros}
 use Rattle.jpeg_bits.specs.Intervals.{after_bytes, met, end_after, interval}
 use Rattle.jpeg_bits.specs.Readers.{Reads}
 use Rattle.jpeg_bits.specs.declared.marker.Marker.{Marker}
@@ -87,27 +89,45 @@ pub end-met : (k : ℕ) (bytes : List ℕ) (left : List Bool) (e : Ending) → l
 unfolding end_after
 end-met k bytes left e few = rw (le-leb (length left) 56 few, end_after) refl
 
+-- the end is met whatever follows its marker
+pub met-closed : (beyond : Beyond) (e : Ending) → met (closed beyond e) ≡ met e
+met-closed Zeros e = refl
+met-closed Nothing (Found m rest) = refl
+met-closed Nothing (Stops m rest) = refl
+met-closed Nothing (Broken f) = refl
+
 none-follow : (following : List (List ℕ)) (e : Ending) → length following ≡ 0 → marker_by following e ≡ met e
 none-follow following e h = grind arith
 
 -- After k bits of the text that begins with bytes, the end is met where at most 56 bits are left, and otherwise
 -- reading goes on after the bytes of the bits taken and 57 more.
-pub ends-so : (k : ℕ) (bytes : List ℕ) → marker_from (advance k (upcoming fresh bytes)) ≡ end_after k bytes
-    (drop k (text_at bytes).bits) (text_at bytes).ending
+pub ends-before : (beyond : Beyond) (k : ℕ) (bytes : List ℕ)
+    → marker_from (advance k (upcoming (fresh_before beyond) bytes)) ≡ end_after k bytes (drop k (text_at bytes).bits)
+    (text_at bytes).ending
 unfolding upcoming end_after
-ends-so k bytes = go (cases_lt 56 (length (drop k t.bits)))
+ends-before beyond k bytes = go (cases_lt 56 (length (drop k t.bits)))
   where
     t : Text
     t = text_at bytes
 
     go : (56 < length (drop k (text_at bytes).bits)) ⊎ (length (drop k (text_at bytes).bits) ≤ 56)
-        → marker_by (drop k (drop 56 (text_at bytes).following)) (text_at bytes).ending ≡ end_after k bytes
-        (drop k (text_at bytes).bits) (text_at bytes).ending
+        → marker_by (drop k (drop 56 (text_at bytes).following)) (closed beyond (text_at bytes).ending)
+        ≡ end_after k bytes (drop k (text_at bytes).bits) (text_at bytes).ending
     go (inr few) =
         let t = text_at bytes in
         let is = placed bytes in
         let cut = length-drop 56 t.following in
-        grind (arith, end-met, none-follow, length-drop k (drop 56 t.following), cut, length-drop k t.bits, is.sized)
+        let same = met-closed beyond t.ending in
+        grind (
+          arith,
+          end-met,
+          none-follow,
+          length-drop k (drop 56 t.following),
+          cut,
+          length-drop k t.bits,
+          is.sized,
+          same,
+        )
     go (inl many) =
         let t = text_at bytes in
         let is = placed bytes in
@@ -119,8 +139,12 @@ ends-so k bytes = go (cases_lt 56 (length (drop k t.bits)))
         ∙ drop_more t.following (k + 56) [] (omega (arith, is.sized)) in
         grind (arith, lt-leb)
 
+pub ends-so : (k : ℕ) (bytes : List ℕ) → marker_from (advance k (upcoming fresh bytes)) ≡ end_after k bytes
+    (drop k (text_at bytes).bits) (text_at bytes).ending
+ends-so k bytes = ends-before Zeros k bytes
+
 -- Bits beyond the last don't count: after a marker zeros come without end.
-ends-within : (n : ℕ) (bits : List Bool) (bytes : List ℕ) (e : Ending)
+pub ends-within : (n : ℕ) (bits : List Bool) (bytes : List ℕ) (e : Ending)
     → end_after (length bits - length (drop n bits)) bytes (drop n bits) e ≡ end_after n bytes (drop n bits) e
 ends-within n bits bytes e = grind (arith, cases_lt n (length bits), length-drop n bits, end-met)
 

@@ -1,12 +1,13 @@
 -- Readers of entropy-coded bits go by the bits of a text and its end alone, and take some first bits.
-use Rattle.std.proofs.Common.{rules, ◌≡◌, ◌⊎◌, inl, ℕ, zero, suc, ◌+◌, Bool, false, List, [], ◌∷◌}
+use Rattle.std.proofs.Common.{rules, ◌≡◌, ◌⊎◌, inl, inr, ℕ, zero, suc, ◌+◌, Bool, false, List, [], ◌∷◌}
 use Rattle.std.proofs.Common.{◌++◌, take, drop, replicate, refl, ap, ap₂, ◌∙◌, arith, Ok, Err, Result}
 use Rattle.std.proofs.Common.{Option, Some, None, ℤ, slice_index, if◌then◌else◌}
 use Rattle.std.proofs.lemmas.List.{drop-drop}
 use Rattle.std.proofs.lemmas.Grind.{common_steps}
-use Rattle.jpeg_bits.specs.Reading.{Fault, End, Malformed}
+use Rattle.jpeg_bits.specs.Reading.{Fault, Malformed}
 use Rattle.jpeg_bits.specs.Reading as outcomes
-use Rattle.jpeg_bits.specs.Entropy.{advance, bits_from, has_bits, number_of, Broken, Ending, Text}
+use Rattle.jpeg_bits.specs.Entropy.{advance, bits_from, closed, has_bits, number_of, Broken, Ending, Found, Stops, Text}
+use Rattle.jpeg_bits.specs.declared.beyond.Beyond.TheVariants.{Nothing}
 use Rattle.jpeg_bits.specs.Readers.{Reads, each, read_on, gives, refused, signed_from, text, ◌>>=◌}
 use Rattle.jpeg_bits.specs.Codes.{Table, code_by, code_from, code_in, code_lengths, next_16, symbol_from}
 use Rattle.jpeg_bits.specs.Bands.{Band, after_token, difference, first_ac, first_dc, token_at, token_from}
@@ -17,9 +18,20 @@ use Rattle.jpeg_bits.specs.declared.blocks.tokens.Token.TheVariants.{Value}
 
 -- ---- readers
 
--- What is read before the end e is read before f: it is the same, or nothing was read of it.
+-- an end before which no bit follows those that are there
+abbrev pub IsStrict : Ending → Type 0
+IsStrict (Found m rest) = ⊥
+IsStrict (Stops m rest) = Unit {0}
+IsStrict (Broken f) = Unit {0}
+
+pub stopping-strict : (e : Ending) → IsStrict (closed Nothing e)
+stopping-strict (Found m rest) = tt
+stopping-strict (Stops m rest) = tt
+stopping-strict (Broken f) = tt
+
+-- What is read before the end e is read before f: it is the same, or no bit was read of it.
 abbrev pub IsAs : Ending → Ending → Type 0
-IsAs e f = (f ≡ e) ⊎ (e ≡ Broken End)
+IsAs e f = (f ≡ e) ⊎ IsStrict e
 
 -- What is read of these bits before this end, whatever follows the bits: n bits give x, or a fault.
 pub data Taken {A : Type 0} (p : Reads A) (bits : List Bool) (e : Ending) : Type 0 where
@@ -70,7 +82,10 @@ each-takes read (x ∷ xs) h = search (rules, bind-takes, gives-takes, each-take
 -- bits that are there can be taken whatever follows them
 has-anywhere : (n : ℕ) (bits : List Bool) (e f : Ending) (u : Unit {0}) → IsAs e f → has_bits n bits e ≡ Ok u
     → has_bits n bits f ≡ Ok tt
-has-anywhere n bits e f u c h = grind (arith, common_steps)
+has-anywhere n bits e f u (inl same) h = ap (has_bits n bits) same ∙ h
+has-anywhere n bits (Found m rest) f u (inr strict) h = absurd strict
+has-anywhere n bits (Stops m rest) f u (inr strict) h = grind (arith, common_steps)
+has-anywhere n bits (Broken g) f u (inr strict) h = grind (arith, common_steps)
 
 -- a reader that needs n bits, and takes them
 abbrev takes_bits : {A : Type 0} → ℕ → A → Text → Result (Unit {0}) Fault → Result (A × Text) Fault

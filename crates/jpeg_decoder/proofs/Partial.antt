@@ -3,10 +3,9 @@ pub mod Refused
 pub mod BroughtScans
 pub mod ReachedScans
 pub mod ReachedData
-pub mod GatheredData
 pub mod RowsAbove
+pub mod StoppedIntervals
 pub mod ReachedBlocks
-pub mod ReachedIntervals
 pub mod GroupedScans
 pub mod RowIntervals
 pub mod ShownParts

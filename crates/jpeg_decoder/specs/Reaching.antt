@@ -1,17 +1,17 @@
 -- What the decoder's own clauses need where a scan is read up to its first fault.
-use Rattle.std.specs.Prelude.{◌≡◌, ℕ, zero, suc, List, [], ◌∷◌, ◌++◌, drop, length, map, nat_le}
-use Rattle.std.specs.Prelude.{Bool, Result, Ok, Err, Option, Some, None, ◌*◌, ◌-◌, ◌⊎◌, ◌==◌}
+use Rattle.std.specs.Prelude.{◌≡◌, ℕ, zero, suc, List, [], ◌∷◌, ◌++◌, drop, length, map}
+use Rattle.std.specs.Prelude.{Bool, Result, Ok, Err, Option, Some, None, ◌*◌, ◌==◌}
 use Rattle.std.specs.Prelude.{true, false, if◌then◌else◌, IsErrAnd, IsOkAnd, get_or, slice_index_or}
 use Rattle.std.specs.Prelude.{option_map, unwrap_or, zip}
 use Rattle.jpeg_bits.specs.Codes.{Table}
-use Rattle.jpeg_bits.specs.Entropy.{Broken, Text, text_at}
-use Rattle.jpeg_bits.specs.Entropy as entropy
+use Rattle.jpeg_bits.specs.Entropy.{Text, advance}
 use Rattle.jpeg_bits.specs.Intervals.{first_group, other_groups}
 use Rattle.jpeg_bits.specs.Passes.{Pass}
-use Rattle.jpeg_bits.specs.Reading.{End, Fault, IsGivenUp, Malformed, Names, Outcome, ◌>>=◌}
+use Rattle.jpeg_bits.specs.Reading.{Fault, IsGivenUp, Malformed, MayFail, Names, Outcome}
+use Rattle.jpeg_bits.specs.Reading.{◌>>=◌}
 use Rattle.jpeg_bits.specs.Stream.{Stream}
 use Rattle.jpeg_bits.specs.declared.error.Error.{Error}
-use Rattle.jpeg_bits.specs.declared.error.Error.TheVariants.{Io, OutOfMemory}
+use Rattle.jpeg_bits.specs.declared.error.Error.TheVariants.{OutOfMemory}
 use Rattle.jpeg_bits.specs.declared.marker.Marker.{Marker}
 use Rattle.jpeg_segments.specs.Frame.{Frame}
 use Rattle.jpeg_segments.specs.HuffmanTables.{no_tables}
@@ -23,7 +23,7 @@ use Rattle.jpeg_lossless.specs.Scans.{Way, is_of_rows}
 use Rattle.jpeg_lossless.specs.Scans.{rows_of_interval, scan_tables}
 use Rattle.jpeg_segments.specs.Checks.{needed}
 use Rattle.jpeg_streams.specs.Brought.{brought_by, unbrought, Brought}
-use Rattle.jpeg_streams.specs.Brought.{grey_samples, interval_rows_reached, or_fault_at}
+use Rattle.jpeg_streams.specs.Brought.{grey_samples, interval_rows_reached}
 use Rattle.jpeg_streams.specs.Brought.{planes_brought, samples_over, scan_reached}
 use Rattle.jpeg_streams.specs.Brought.{scan_rows_reached}
 use Rattle.jpeg_streams.specs.Found.{Found, Said, with_said}
@@ -42,17 +42,6 @@ use Rattle.jpeg_decoder.specs.LosslessParts.{mcus_high, mcus_wide, no_component,
 use Rattle.jpeg_decoder.specs.Steps.{blocks_at}
 use Rattle.jpeg_decoder.specs.declared.scan.lossless.SampleScan.{SampleScan}
 use Rattle.jpeg_decoder.specs.declared.stream.state.Step.{Step}
-
--- These bytes have the bits of a text, and end after them.
-pub record HasBits (bytes : List ℕ) (t : Text) : Type 0 where
-  pub bits : (text_at bytes).bits ≡ t.bits
-  pub ending : (text_at bytes).ending ≡ Broken End
-
--- Where the bytes of a source were known to the end of a call, its error is of the bytes, and not
--- the reader's.
-abbrev pub IsOfData : {X : Type 0} → Stream → Result X Error → Stream → Type 0
-IsOfData old (Ok x) new = Unit {0}
-IsOfData old (Err e) new = old.known ≡ true → new.known ≡ true → IsGivenUp e false → ⊥
 
 -- what is left of a list after its first group of n, which is all of it where n is 0
 abbrev pub after_group : {A : Type 0} → ℕ → List A → List A
@@ -74,46 +63,17 @@ abbrev pub is_out_of_memory : {X : Type 0} → Result X Error → Bool
 is_out_of_memory (Err OutOfMemory) = true
 is_out_of_memory _ = false
 
--- Whether at most 56 bits are left after what is read, or the fault.
-abbrev pub TellsLeft : Result (List Bool) Fault → Result Bool Error → Type 0
-TellsLeft expected (Ok is_near) = (left : List Bool) × (expected ≡ Ok left)
-    × (is_near ≡ nat_le (length left) 56)
-TellsLeft expected (Err e) = Names e expected
-
--- The refusal of an interval whose data end with an error: that one, where the reader has given up,
--- and else that of a block, where it is none of lacking bits.
-abbrev pub first_of : Error → Result Bool Error → Error
-first_of OutOfMemory reached = OutOfMemory
-first_of ended (Ok x) = ended
-first_of ended (Err (Io e)) = ended
-first_of ended (Err e) = e
-
-abbrev pub IsRefusalAt : Error → Result Bool Error → Bool → Error → Type 0
-IsRefusalAt ended reached failed result = ((result ≡ ended) × IsGivenUp ended failed)
-    ⊎ ((IsGivenUp ended failed → ⊥) × (result ≡ first_of ended reached))
-
--- The error of a block or a row in data that a marker ends.
-pub record IsAtMarker (e result : Error) : Type 0 where
-  pub names : (expected : Result (List Bool) Fault) (m : Marker) (rest : List ℕ)
-      → Names e expected → Names result (or_fault_at (entropy.Found m rest) expected)
-  pub memory : e ≡ OutOfMemory → result ≡ OutOfMemory
-
--- The end of an interval whose data have ended, by what was read of them.
-abbrev pub IsIntervalEnd : Result Marker Error → Result Bool Error → Bool
-    → Result (Bool × Marker) Error → Type 0
-IsIntervalEnd (Ok m) (Ok is_near) failed result = result ≡ Ok (is_near, m)
-IsIntervalEnd (Ok m) (Err e) failed result = IsErrAnd result (IsAtMarker e)
-IsIntervalEnd (Err ended) reached failed result =
-    IsErrAnd result (IsRefusalAt ended reached failed)
-
--- The bits that are left after what is read, or the fault.
-abbrev pub TellsBits : Result (List Bool) Fault → Result (Unit {0}) Error → List Bool → Type 0
-TellsBits expected (Ok x) bits = expected ≡ Ok bits
-TellsBits expected (Err e) bits = Names e expected
-
--- What follows is given of a text's bits from the 57th on, as far as bits are read ahead.
-abbrev pub IsAhead : Text → Type 0
-IsAhead t = length t.following ≡ length t.bits - 56
+-- A call that reads of a text, from the source old to new, told what is read of it: the bits that
+-- are left, which begin the text that stands ahead then; or the fault.
+abbrev pub TellsBits : {X : Type 0} → Result (List Bool) Fault → Text → Stream → Result X Error
+    → Stream → Text → Type 0
+TellsBits expected t old (Ok x) new left =
+    (new.failed ≡ old.failed) × (old.known ≡ true → (new.known ≡ true)
+    × ((k : ℕ) × (left ≡ advance k t)) × (expected ≡ Ok left.bits))
+TellsBits expected t old (Err e) new left =
+    MayFail e old.failed new.failed
+    × (old.known ≡ true → new.known ≡ true → Names e expected)
+    × (old.known ≡ true → new.known ≡ false → IsGivenUp e new.failed)
 
 -- What was found, but for the Huffman tables and the restart interval, which no picture shows.
 abbrev pub without_tables : Found → Found
@@ -216,7 +176,7 @@ pub record IsSampleScan (said : Said) (frame : Frame) (header : headers.Scan) (s
 
 -- planes with the rows of an interval appended, as far as they can be read, and its end
 abbrev pub rows_appended : Way → List (List Table) → List (List ℕ) → List ℕ
-    → List (List ℕ) × Outcome (Bool × Option Marker)
+    → List (List ℕ) × Outcome (Option Marker)
 rows_appended w rows planes bytes =
     let r = interval_rows_reached rows bytes in (with_mcu_rows w true r.0 planes, r.1)
 

@@ -724,8 +724,7 @@ impl<R: Read + Drop> Decoder<R> {
     /// mid-grey. A marker in place of them is a fault, where `decode` takes zeros for the missing
     /// bits.
     ///
-    /// Unlike `decode`, it keeps the coefficients of a sequential picture in memory, too, and the
-    /// data of one restart interval.
+    /// Unlike `decode`, it keeps the coefficients of a sequential picture in memory, too.
     ///
     /// Errors: the fault, if no frame header was accepted before it; `Format` if the picture is
     /// above the limit, or the colour transform doesn't fit it; `OutOfMemory`; and `Internal` only

@@ -13,7 +13,6 @@ pub mod CutScans
 pub mod CutPictures
 pub mod CutLater
 pub mod CutBlocks
-pub mod CutEnds
 pub mod CutFronts
 pub mod CutRows
 pub mod CutHeld

@@ -1,13 +1,14 @@
--- Scans whose data end early, in which the fault that is shown may not be that of the meaning.
-use Rattle.std.specs.Prelude.{◌≡◌, ◌≢◌, ◌<◌, ◌*◌, ℕ, suc, List, ◌∷◌, length, Bool, true, false}
+-- Streams in whose data a marker stands where one bit more is needed, and the meaning takes zeros.
+use Rattle.std.specs.Prelude.{◌≡◌, ◌≢◌, ◌*◌, ℕ, suc, List, ◌∷◌, Bool, true, false}
 use Rattle.std.specs.Prelude.{Option, None, Result, Ok, Err}
 use Rattle.jpeg_bits.specs.Codes.{Table}
-use Rattle.jpeg_bits.specs.Entropy.{Broken, text_at}
+use Rattle.jpeg_bits.specs.Entropy.{Broken, Text, text_at}
 use Rattle.jpeg_bits.specs.Entropy as entropy
 use Rattle.jpeg_bits.specs.Intervals.{first_group, other_groups}
 use Rattle.jpeg_bits.specs.Marker.{found_or, next_marker}
 use Rattle.jpeg_bits.specs.Passes.{Pass, Via}
 use Rattle.jpeg_bits.specs.Reading.{End, Fault, ◌>>=◌}
+use Rattle.jpeg_bits.specs.declared.beyond.Beyond.TheVariants.{Nothing}
 use Rattle.jpeg_bits.specs.declared.marker.Marker.{Marker}
 use Rattle.jpeg_bits.specs.declared.marker.Marker.TheVariants.{SOS}
 use Rattle.jpeg_lossless.specs.RowsReached.{rows_reached}
@@ -17,10 +18,8 @@ use Rattle.jpeg_segments.specs.Frame.{Frame}
 use Rattle.jpeg_segments.specs.ScanHeader.{Scan}
 use Rattle.jpeg_streams.specs.declared.before.Before.{Before}
 use Rattle.jpeg_streams.specs.declared.before.Before.TheVariants.{Elsewhere}
-use Rattle.jpeg_bits.specs.declared.beyond.Beyond.TheVariants.{Nothing}
 use Rattle.jpeg_streams.specs.Brought.{after_interval, frame_and_scan, has_whole_rows}
 use Rattle.jpeg_streams.specs.Brought.{interval_reached, interval_rows_reached, reached_from}
-use Rattle.jpeg_streams.specs.Brought.{sealed}
 use Rattle.jpeg_streams.specs.Found.{Found, nothing_found}
 use Rattle.jpeg_streams.specs.InTurn.{at_start}
 use Rattle.jpeg_streams.specs.LosslessScans.{LosslessCoding, lossless_codings, mcus_down, way_of}
@@ -31,14 +30,17 @@ use Rattle.jpeg_streams.specs.Segments.{Turn}
 use Rattle.jpeg_streams.specs.Stream.{start_at, turn_at}
 use Rattle.jpeg_evidence.specs.LongerStreams.{arrays_of}
 
--- Where these bits are left after what is read of a restart interval, or with this fault, its data
--- end early: by a marker that stands where one bit more is needed; or by a fault, with more than 56
--- bits in front of it that aren't needed.
-pub data EndsEarly (bytes : List ℕ) (r : Result (List Bool) Fault) : Type 0 where
-  by_marker : (m : Marker) (rest : List ℕ) → (text_at bytes).ending ≡ entropy.Found m rest
-      → r ≡ Err End → EndsEarly bytes r
-  by_fault : (fault : Fault) (left : List Bool) → (text_at bytes).ending ≡ Broken fault
-      → r ≡ Ok left → 56 < length left → EndsEarly bytes r
+-- the bits of a text, and none after them
+abbrev pub sealed : Text → Text
+sealed t = record t { ending = Broken End }
+
+-- Where this is read of a restart interval's bits, with none after them, its data end early: they
+-- end with a marker, and one bit more is needed.
+pub record EndsEarly (bytes : List ℕ) (r : Result (List Bool) Fault) : Type 0 where
+  pub marker : Marker
+  pub rest : List ℕ
+  pub ends : (text_at bytes).ending ≡ entropy.Found marker rest
+  pub lacks : r ≡ Err End
 
 -- The data of one of the intervals of a scan of blocks end early, and those in front are read.
 pub data BlocksEndEarly (p : Pass) (vias : List Via)

@@ -1,8 +1,7 @@
 -- What more bytes add to what was brought of some: what was brought stays, and more comes after it.
 use Rattle.std.specs.Prelude.{◌≡◌, ◌≤◌, ℕ, suc, List, [], ◌∷◌, ◌++◌, length, drop, map, get_or, zip}
 use Rattle.std.specs.Prelude.{Bool, false, Option, None, Ok}
-use Rattle.jpeg_bits.specs.Reading.{End}
-use Rattle.jpeg_bits.specs.Entropy.{Broken, Ending}
+use Rattle.jpeg_bits.specs.Entropy.{Ending}
 use Rattle.jpeg_bits.specs.Passes.{Block, Pass, Via}
 use Rattle.jpeg_bits.specs.Readers.{text}
 use Rattle.jpeg_bits.specs.declared.marker.Marker.{Marker}
@@ -22,8 +21,9 @@ use Rattle.jpeg_streams.specs.ScanSegments.{Coding, after_samples, after_scan, a
 use Rattle.jpeg_streams.specs.ScanSegments.{components_of}
 use Rattle.jpeg_streams.specs.Stream.{Walked, turn_at, walk}
 
--- These bits bring the blocks at `done`, and `left` are left, of which no block more can be read.
--- Where more bits come after them, the other blocks are read from there on, before any end.
+-- These bits bring the blocks at `done`, and `left` are left, of which no block more can be read
+-- where nothing follows. Where more bits come after them, the other blocks are read from there on.
+-- Both are so before any end.
 pub record GoesOn (p : Pass) (vias : List Via) (spots : List Spot) (old : Reached)
     (bits : List Bool) (reached : Reached) : Type 0 where
   pub done : List Spot
@@ -32,8 +32,8 @@ pub record GoesOn (p : Pass) (vias : List Via) (spots : List Spot) (old : Reache
   pub left : List Bool
   pub spots_are : spots ≡ done ++ others
   pub bits_are : bits ≡ taken ++ left
-  pub brought : (following : List (List ℕ))
-      → reached_from p vias done old (text bits following (Broken End))
+  pub brought : (following : List (List ℕ)) (e : Ending)
+      → reached_from p vias done old (text bits following e)
       ≡ record { reached = reached; unread = None; rest = Ok left }
   pub longer : (more : List Bool) (following : List (List ℕ)) (e : Ending)
       → reached_from p vias spots old (text (bits ++ more) following e)

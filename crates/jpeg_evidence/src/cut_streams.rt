@@ -37,31 +37,28 @@ pub fn faultless_streams_have_all_rows()
         → whole_rows bytes ≡ frame.output_height }
 {}
 
-/// The fault that `decode_partial` names is that of `decode`, unless the data of a scan end early.
-/// They may end with a marker: then `decode` takes zeros for the bits that are lacking, and here
-/// the data are malformed. Or they end without one, after more than 56 bits that no block needs,
-/// where `decode` doesn't look: if the bytes end there and a restart is due, it calls the data
-/// malformed, and if FF and a byte that makes no marker with it stand there, it goes on. Where
-/// `decode` has a fault, one is named.
+/// The fault that `decode_partial` names is that of `decode`, unless a marker stands where the data
+/// of a scan need one bit more: then `decode` takes zeros for the bits that are lacking, and here
+/// the data are malformed. Where `decode` has a fault, one is named.
 pub fn faults_are_the_meanings()
     ensures named { (settings : Settings) (bytes : List ℕ) (s : Shown) (f : Fault)
         → shown settings bytes ≡ Ok s → s.fault ≡ Some f → (meaning settings bytes ≡ Err f)
-        ⊎ (StreamEndsEarly bytes
-        × ((f ≡ Malformed) ⊎ ((f ≡ End) × (meaning settings bytes ≡ Err Malformed)))) }
+        ⊎ (StreamEndsEarly bytes × (f ≡ Malformed)) }
     ensures shown { (settings : Settings) (bytes : List ℕ) (s : Shown) (f : Fault)
         → shown settings bytes ≡ Ok s → meaning settings bytes ≡ Err f
         → (g : Fault) × (s.fault ≡ Some g) }
 {}
 
-/// Both names of a fault occur: the first of two restart intervals has 66 bits that its block
-/// doesn't need, and the bytes end after them. Where FF FF 00 stand after such bits, in the last
-/// interval, `decode` goes on at EOI.
+/// Where more than 56 bits are left that no block needs, the end isn't looked for, and reading goes
+/// on in them, as `decode` does. The first of two restart intervals has 66 such bits, and the bytes
+/// end after them: a restart is due, and none is met. Where FF FF 00 stand after such bits, in the
+/// last interval, EOI is met after them.
 #[tactic(auto, unfolding(crate::proofs::OnLiterals::cuts_on_literals))]
-pub fn unread_bits_are_cut()
+pub fn unread_bits_are_passed()
     ensures seen { seen (without_last 2 unread_bits)
-        ≡ Ok (eight_times (replicate 8 129 ++ replicate 8 128), Some End) }
+        ≡ Ok (eight_times (replicate 8 129 ++ replicate 8 128), Some Malformed) }
     ensures meant { picture_meant (without_last 2 unread_bits) ≡ Err Malformed }
-    ensures no_marker { seen unread_end ≡ Ok (replicate 64 129, Some Malformed) }
+    ensures no_marker { seen unread_end ≡ Ok (replicate 64 129, None) }
     ensures goes_on { picture_meant unread_end ≡ Ok (replicate 64 129) }
 {}
 

@@ -2,17 +2,17 @@
 -- there, or the rows of samples, how many rows of the picture they complete, and the fault (T.81,
 -- B.1.1.5, E.2.4, F.2, G.2 and H.2).
 --
--- They are read as in a stream without fault, with one difference: where a marker ends the data no
--- zeros follow the bits. A block or a row of MCUs that needs one bit more isn't read, nor is any
--- after it.
+-- They are read as in a stream without fault, with one difference: nothing follows the bits where a
+-- marker ends the data, in place of zeros. A block or a row of MCUs that needs one bit more isn't
+-- read, nor is any after it.
 use Rattle.std.specs.Prelude.{ℕ, suc, ◌*◌, ◌-◌, ◌^◌, List, [], ◌∷◌, ◌++◌, map, length, drop}
 use Rattle.std.specs.Prelude.{zip, replicate, get_or, slice_index_or, unwrap_or, Bool}
-use Rattle.std.specs.Prelude.{Option, Some, None, option_map, slice_get, Result, Ok, Err, nat_le}
-use Rattle.std.specs.Prelude.{if◌then◌else◌, ◌&&◌}
-use Rattle.jpeg_bits.specs.Reading.{Fault, Malformed, End, Outcome, ◌>>=◌}
-use Rattle.jpeg_bits.specs.Entropy as entropy
-use Rattle.jpeg_bits.specs.Entropy.{Text, Ending, text_at, Broken}
-use Rattle.jpeg_bits.specs.Intervals.{is_restart, first_group, other_groups, met}
+use Rattle.std.specs.Prelude.{Option, Some, None, option_map, slice_get, Result, Ok, Err}
+use Rattle.std.specs.Prelude.{if◌then◌else◌}
+use Rattle.jpeg_bits.specs.Reading.{Fault, Malformed, Outcome, ◌>>=◌}
+use Rattle.jpeg_bits.specs.Entropy.{Text, closed, text_at}
+use Rattle.jpeg_bits.specs.Intervals.{end_after, is_restart, first_group, other_groups}
+use Rattle.jpeg_bits.specs.declared.beyond.Beyond.TheVariants.{Nothing}
 use Rattle.jpeg_bits.specs.Codes.{Table}
 use Rattle.jpeg_bits.specs.Passes.{Pass, Via}
 use Rattle.jpeg_bits.specs.declared.marker.Marker.{Marker}
@@ -37,9 +37,15 @@ use Rattle.jpeg_streams.specs.WholeRows.{rows_above, rows_of_planes}
 
 -- ---- a restart interval
 
--- the bits of a text, and none after them
-abbrev pub sealed : Text → Text
-sealed t = record t { ending = Broken End }
+-- the text of these bytes, where nothing follows the marker that ends it
+abbrev pub stopping : List ℕ → Text
+stopping bytes = record (text_at bytes) { ending = closed Nothing (text_at bytes).ending }
+
+-- What stands after the interval that begins these bytes, where these bits are left after what is
+-- read of it, or with this fault: its end, as where zeros follow a marker.
+abbrev pub stopped : List ℕ → Result (List Bool) Fault → Outcome (Option Marker)
+stopped bytes r = r >>= λ left. end_after (length (text_at bytes).bits - length left) bytes left
+    (text_at bytes).ending
 
 -- What is reached of some blocks: the first spot whose block isn't read, if there is one, and what
 -- stands after the last block, or the fault.
@@ -57,50 +63,26 @@ reached_from p vias (s ∷ spots) old t = elim (turn_from p vias s old t) [
   | Err fault ↦ record { reached = old; unread = Some s; rest = Err fault }
 ]
 
--- The fault of a block that needs more bits than there are: a marker stands in their place, or the
--- data end with a fault of their own.
-abbrev pub fault_at : Ending → Fault → Fault
-fault_at (entropy.Found m rest) End = Malformed
-fault_at (entropy.Stops m rest) End = Malformed
-fault_at (entropy.Broken fault) End = fault
-fault_at _ fault = fault
-
-abbrev pub or_fault_at : {A : Type 0} → Ending → Result A Fault → Result A Fault
-or_fault_at e (Ok x) = Ok x
-or_fault_at e (Err fault) = Err (fault_at e fault)
-
--- The end of an interval, where these bits are left after what is read of it, or with this fault:
--- whether at most 56 bits are left, the marker that ends it and the bytes after that, or the fault.
-abbrev pub interval_end : Ending → Result (List Bool) Fault → Outcome (Bool × Option Marker)
-interval_end e r =
-    or_fault_at e r >>= λ left. met e >>= λ m. Ok ((nat_le (length left) 56, m.0), m.1)
-
 -- blocks that are reached, and the outcome of what follows them
 abbrev pub BlocksTo : Type 0 → Type 0
 BlocksTo A = Through Arrays (A × List ℕ)
 
 -- The interval that begins these bytes: the blocks as far as they can be read; and its end.
 unfoldable pub interval_reached : Pass → List Via → List Spot → Arrays → List ℕ
-    → BlocksTo (Bool × Option Marker)
+    → BlocksTo (Option Marker)
 interval_reached p vias spots arrays bytes =
-    let r = reached_from p vias spots (at_start arrays) (sealed (text_at bytes)) in
-    record {
-      reached = r.reached.arrays;
-      unread = r.unread;
-      rest = interval_end (text_at bytes).ending r.rest;
-    }
+    let r = reached_from p vias spots (at_start arrays) (stopping bytes) in
+    record { reached = r.reached.arrays; unread = r.unread; rest = stopped bytes r.rest }
 
 -- ---- a scan
 
--- After an interval that isn't the last RST k has to stand, and at most 56 bits before it, as where
--- a scan is read without fault: the bytes after it.
-abbrev pub after_interval : ℕ → (Bool × Option Marker) × List ℕ → Result (List ℕ) Fault
-after_interval k r = if r.0.0 && is_restart k r.0.1 then Ok r.1 else Err Malformed
+-- after an interval that isn't the last RST k has to stand: the bytes after it
+abbrev pub after_interval : ℕ → Option Marker × List ℕ → Result (List ℕ) Fault
+after_interval k m = if is_restart k m.0 then Ok m.1 else Err Malformed
 
--- After the last interval: the marker that ends it, where restart markers are passed over if at
--- most 56 bits stand before them.
-abbrev pub after_intervals : (Bool × Option Marker) × List ℕ → Outcome (Option Marker)
-after_intervals r = if r.0.0 then after_restarts (suc (length r.1)) r.0.1 r.1 else Ok (r.0.1, r.1)
+-- after the last interval: the marker that ends it, where restart markers are passed over
+abbrev pub after_intervals : Option Marker × List ℕ → Outcome (Option Marker)
+after_intervals m = after_restarts (suc (length m.1)) m.0 m.1
 
 -- Where all blocks of an interval are read, and the next doesn't follow it, its first block.
 abbrev pub or_first : Option Spot → List Spot → Option Spot
@@ -166,10 +148,9 @@ blocks_brought found frame scan bytes = elim (codings_of found.said frame scan) 
 -- The interval that begins these bytes: the differences of its rows of MCUs, each by its tables, as
 -- far as rows can be read whole; and its end.
 unfoldable pub interval_rows_reached : List (List Table) → List ℕ
-    → List (List ℕ) × Outcome (Bool × Option Marker)
+    → List (List ℕ) × Outcome (Option Marker)
 interval_rows_reached rows bytes =
-    let r = rows_reached rows (sealed (text_at bytes)) in
-    (r.0, interval_end (text_at bytes).ending r.1)
+    let r = rows_reached rows (stopping bytes) in (r.0, stopped bytes r.1)
 
 -- One interval and more, between which RST stand in turn from number k on: the rows of each as far
 -- as they can be read, and the marker after the scan, or the fault.

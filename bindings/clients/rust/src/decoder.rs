@@ -273,9 +273,9 @@ impl<R: Read> Decoder<R> {
     /// above a limit or can't have the colour transform, and as `decode`'s after another call.
     ///
     /// The coefficients of the blocks that are read are in memory, 128 bytes each, those of a
-    /// sequential picture too, and the data of one restart interval.
-    /// [`decoding_bytes`](Decoder::decoding_bytes) counts neither; the limit of
-    /// [`set_max_decoding_bytes`](Decoder::set_max_decoding_bytes) is compared with all blocks.
+    /// sequential picture too. [`decoding_bytes`](Decoder::decoding_bytes) doesn't count them; the
+    /// limit of [`set_max_decoding_bytes`](Decoder::set_max_decoding_bytes) is compared with all
+    /// blocks.
     ///
     /// ```
     /// # let jpeg = &std::fs::read("tests/grey.jpg").unwrap()[..];

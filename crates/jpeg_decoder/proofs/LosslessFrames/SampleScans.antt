@@ -11,7 +11,6 @@ use Rattle.std.proofs.lemmas.Option.{get_or_from_slice_get}
 use Rattle.std.proofs.lemmas.List.{drop_all, length-append, length-drop, length-map, length-replicate, length-take}
 use Rattle.std.proofs.lemmas.List.{take_all}
 use Rattle.jpeg_bits.specs.Codes.{Table}
-use Rattle.jpeg_bits.specs.Entropy.{text_at}
 use Rattle.jpeg_bits.specs.Intervals.{first_group, groups, other_groups}
 use Rattle.jpeg_bits.specs.Reading.{Fault, Malformed, Outcome, ◌>>=◌}
 use Rattle.jpeg_bits.specs.declared.marker.Marker.{Marker}
@@ -31,12 +30,13 @@ use Rattle.jpeg_lossless.proofs.LineSums.{AreLong}
 use Rattle.jpeg_lossless.proofs.ReachedRows.{reached-long, reached-planes}
 use Rattle.jpeg_lossless.proofs.Sizes.{covered-within}
 use Rattle.jpeg_lossless.proofs.WholeScans.{all-whole}
-use Rattle.jpeg_streams.specs.Brought.{grey_samples, interval_rows_reached, samples_over, scan_rows_reached, sealed}
-use Rattle.jpeg_streams.specs.Brought.{after_interval, planes_brought}
+use Rattle.jpeg_streams.specs.Brought.{after_interval, grey_samples, interval_rows_reached, planes_brought}
+use Rattle.jpeg_streams.specs.Brought.{samples_over, scan_rows_reached, stopping}
 use Rattle.jpeg_streams.specs.Found.{Found, Said}
 use Rattle.jpeg_streams.specs.LosslessScans.{LosslessCoding, mcus_down, tables_in, way_of, with_samples}
 use Rattle.jpeg_streams.specs.ScanSegments.{after_samples, once_scanned}
 use Rattle.jpeg_streams.specs.Sound.{AreSampled, IsDecodedFrame, IsSampled, IsSound}
+use Rattle.jpeg_streams.proofs.Partial.RowIntervals.{Scanned, next_reached}
 use Rattle.jpeg_streams.proofs.Written.ReadTurns.{ok-same, then-ok}
 use Rattle.jpeg_decoder.specs.LosslessParts.{mcus_high, mcus_wide, no_component, parts_at}
 use Rattle.jpeg_decoder.specs.Reaching.{over, planes_over, planes_reached, sample_codings, samples_or_grey}
@@ -45,7 +45,7 @@ use Rattle.jpeg_decoder.specs.declared.scan.lossless.SampleScan.{SampleScan}
 use Rattle.jpeg_decoder.proofs.LosslessFrames.LosslessReads.{AreCodings, AreOf, HasMcus, coding_found, codings-by-tables}
 use Rattle.jpeg_decoder.proofs.LosslessFrames.LosslessReads.{codings-count, codings-lacking, has-mcus, mcus-are, parts-are}
 use Rattle.jpeg_decoder.proofs.LosslessFrames.LosslessReads.{parts-count, samples-sound, scan-sampled}
-use Rattle.jpeg_decoder.proofs.Partial.RowIntervals.{Planes, scanned_on}
+use Rattle.jpeg_decoder.proofs.Partial.RowIntervals.{Planes}
 use Rattle.jpeg_decoder.proofs.Partial.ShownParts.{samples-at}
 
 -- ---- the components
@@ -230,17 +230,16 @@ counted-others zero zero xs e h = absurd (omega (arith, h))
 
 -- ---- how long the rows are
 
-next-long : (n k : ℕ) (next : List (List Table)) (more : List (List (List Table))) (read : Planes)
-    (o : Result (List ℕ) Fault) → AreLong n read
-    → ((rest : List ℕ) → AllByRecursion (AreLong n) (scan_rows_reached (suc k) next more rest).0)
-    → AllByRecursion (AreLong n) (scanned_on k next more read o).0
-next-long n k next more read (Ok rest) h others = (h, others rest)
-next-long n k next more read (Err fault) h others = (h, tt)
+next-long : (n : ℕ) (others : List ℕ → Scanned) (read : Planes) (o : Result (List ℕ) Fault) → AreLong n read
+    → ((rest : List ℕ) → AllByRecursion (AreLong n) (others rest).0)
+    → AllByRecursion (AreLong n) (next_reached others read o).0
+next-long n others read (Ok rest) h more = (h, more rest)
+next-long n others read (Err fault) h more = (h, tt)
 
 interval-long : (n : ℕ) (rows : List (List Table)) (bytes : List ℕ) → AllByRecursion (λ ts. length ts ≡ n) rows
     → AreLong n (interval_rows_reached rows bytes).0
 unfolding interval_rows_reached
-interval-long n rows bytes h = reached-long n rows (sealed (text_at bytes)) h
+interval-long n rows bytes h = reached-long n rows (stopping bytes) h
 
 scan-long : (n k : ℕ) (rows : List (List Table)) (others : List (List (List Table))) (bytes : List ℕ)
     → AllByRecursion (λ ts. length ts ≡ n) rows → AllByRecursion (AllByRecursion (λ ts. length ts ≡ n)) others
@@ -248,7 +247,7 @@ scan-long : (n k : ℕ) (rows : List (List Table)) (others : List (List (List Ta
 unfolding scan_rows_reached
 scan-long n k rows [] bytes h all = (interval-long n rows bytes h, tt)
 scan-long n k rows (next ∷ more) bytes h all =
-    next-long n k next more (interval_rows_reached rows bytes).0
+    next-long n (scan_rows_reached (suc k) next more) (interval_rows_reached rows bytes).0
     ((interval_rows_reached rows bytes).1 >>= after_interval k) (interval-long n rows bytes h)
     (λ rest. scan-long n (suc k) next more rest all.0 all.1)
 

@@ -1,7 +1,7 @@
 -- The intervals of a scan are reached one after the other.
-use Rattle.std.proofs.Common.{◌≡◌, ◌∙◌, ◌⊎◌, inl, inr, ◌+◌, ◌%◌, ◌<◌, ◌≤◌, ◌==◌, ◌&&◌, ℕ, zero, suc, Bool, true}
-use Rattle.std.proofs.Common.{false, List, [], ◌∷◌, length, drop, take, refl, sym, subst, ap, ap₂, arith, Result, Ok}
-use Rattle.std.proofs.Common.{Err, Option, None, Some, if◌then◌else◌}
+use Rattle.std.proofs.Common.{◌≡◌, ◌∙◌, ◌+◌, ◌%◌, ◌<◌, ◌≤◌, ◌==◌, ℕ, zero, suc, Bool, true, false, List, [], ◌∷◌}
+use Rattle.std.proofs.Common.{length, drop, take, refl, sym, ap, arith, Result, Ok, Err, Option, None, Some}
+use Rattle.std.proofs.Common.{if◌then◌else◌}
 use Rattle.std.proofs.lemmas.List.{length-drop}
 use Rattle.std.specs.List.{AllByRecursion}
 use Rattle.jpeg_bits.specs.Stream.{Stream}
@@ -11,10 +11,10 @@ use Rattle.jpeg_bits.specs.Passes.{Pass, Via}
 use Rattle.jpeg_bits.specs.declared.error.Error.{Error}
 use Rattle.jpeg_bits.specs.declared.marker.Marker.{Marker}
 use Rattle.jpeg_bits.specs.declared.marker.Marker.TheVariants as markers
-use Rattle.jpeg_bits.proofs.Loops.{Continues, Continues-err, still_known}
+use Rattle.jpeg_bits.proofs.BufferedBits.{may_fail_format}
+use Rattle.jpeg_bits.proofs.Loops.{Continues-answers, Continues-err, still_known}
 use Rattle.jpeg_bits.proofs.ReadIntervals.{all-drop}
 use Rattle.jpeg_streams.proofs.Partial.ReachedIntervals.{next_reached}
-use Rattle.jpeg_streams.proofs.Refusals.{told-err}
 use Rattle.jpeg_streams.specs.Brought.{BlocksTo, after_interval, after_intervals, interval_reached}
 use Rattle.jpeg_streams.specs.Brought.{intervals_reached, or_first}
 use Rattle.jpeg_streams.specs.Order.{Spot}
@@ -22,9 +22,7 @@ use Rattle.jpeg_streams.specs.Scans.{Arrays}
 use Rattle.jpeg_streams.specs.States.{OnTold}
 use Rattle.jpeg_decoder.specs.Reaching.{after_group}
 use Rattle.jpeg_decoder.specs.Steps.{after_all}
-use Rattle.jpeg_decoder.proofs.Partial.GatheredData.{continued-answers}
-use Rattle.jpeg_decoder.proofs.Partial.Refused.{if-refused-as, refused-by}
-use Rattle.jpeg_decoder.proofs.Partial.ReachedIntervals.{named-may-fail, shown}
+use Rattle.jpeg_decoder.proofs.Partial.Refused.{if-refused-as, refused-at, refused-by}
 use Rattle.jpeg_decoder.proofs.Scans.SlotCodings.{format-refuses}
 
 -- ---- groups
@@ -74,7 +72,7 @@ Reaches A = A × Outcome (Option Marker)
 
 -- what follows an interval, by what the others reach
 abbrev pub goes_by : {A G : Type 0} → (ℕ → List G → List (List G) → A → List ℕ → Reaches A) → ℕ → List (List G) → A
-    → Outcome (Bool × Option Marker) → Reaches A
+    → Outcome (Option Marker) → Reaches A
 goes_by others k [] state o = (state, o >>= after_intervals)
 goes_by {A} others k (next ∷ more) state o = elim (o >>= after_interval k) as (λ _. Reaches A) [
   | Ok rest ↦ others (suc k) next more state rest
@@ -84,18 +82,18 @@ goes_by {A} others k (next ∷ more) state o = elim (o >>= after_interval k) as 
 -- What the intervals of a scan reach: each of a group of items changes a state, and then the others do.
 pub record Loop (A G : Type 0) : Type 0 where
   -- the first of some items, in groups of n
-  pub one : ℕ → List G → A → List ℕ → A × Outcome (Bool × Option Marker)
+  pub one : ℕ → List G → A → List ℕ → Reaches A
   pub all : ℕ → List G → List (List G) → A → List ℕ → Reaches A
   pub goes : (n k : ℕ) (items : List G) (state : A) (bytes : List ℕ)
       → all k (first_group n items) (other_groups n items) state bytes
       ≡ goes_by all k (left_groups n (after_group n items)) (one n items state bytes).0 (one n items state bytes).1
 
 -- what is reached after an interval
-abbrev pub goes_on : {A G : Type 0} → Loop A G → ℕ → List (List G) → A → Outcome (Bool × Option Marker) → Reaches A
+abbrev pub goes_on : {A G : Type 0} → Loop A G → ℕ → List (List G) → A → Outcome (Option Marker) → Reaches A
 goes_on s k others state o = goes_by s.all k others state o
 
 -- the end of an interval
-abbrev pub end_of_one : {A G : Type 0} → Loop A G → ℕ → List G → A → List ℕ → Outcome (Bool × Option Marker)
+abbrev pub end_of_one : {A G : Type 0} → Loop A G → ℕ → List G → A → List ℕ → Outcome (Option Marker)
 end_of_one s n items state bytes = (s.one n items state bytes).1
 
 goes-refused : {A G : Type 0} (s : Loop A G) (k : ℕ) (gs : List (List G)) (state : A) (f : Fault)
@@ -113,7 +111,7 @@ rest-refused s n k items state bytes f h =
     ∙ goes-refused s k (left_groups n (after_group n items)) (s.one n items state bytes).0 f
 
 group-goes : {A G : Type 0} (s : Loop A G) (n k : ℕ) (items left : List G) (state now : A) (bytes : List ℕ)
-    (o : Outcome (Bool × Option Marker)) → left ≡ after_group n items → now ≡ (s.one n items state bytes).0
+    (o : Outcome (Option Marker)) → left ≡ after_group n items → now ≡ (s.one n items state bytes).0
     → end_of_one s n items state bytes ≡ o
     → s.all k (first_group n items) (other_groups n items) state bytes ≡ goes_on s k (left_groups n left) now o
 group-goes s n k items left state now bytes o is same h =
@@ -135,7 +133,7 @@ abbrev pub blocks_from : Pass → List Via → ℕ → List Spot → List (List 
 blocks_from p vias k spots others state bytes = blocks_by (intervals_reached p vias k spots others state.0 bytes)
 
 -- An interval that is read whole leaves the first block after it.
-abbrev pub interval_from : Pass → List Via → ℕ → List Spot → Blocks → List ℕ → Blocks × Outcome (Bool × Option Marker)
+abbrev pub interval_from : Pass → List Via → ℕ → List Spot → Blocks → List ℕ → Reaches Blocks
 interval_from p vias n spots state bytes =
     let r = interval_reached p vias (first_group n spots) state.0 bytes in
     ((r.reached, or_first r.unread (after_group n spots)), r.rest)
@@ -194,28 +192,9 @@ blocks_loop p vias = record {
 
 -- ---- restart markers
 
-same-restart : (k : ℕ) (m : Marker) → is_restart (k % 8) (Some m) ≡ is_restart k (Some m)
-same-restart k (markers.RST n) = ap (λ r. n == r) (omega arith)
-same-restart k (markers.SOF n) = refl
-same-restart k (markers.JPG) = refl
-same-restart k (markers.DHT) = refl
-same-restart k (markers.DAC) = refl
-same-restart k (markers.SOI) = refl
-same-restart k (markers.EOI) = refl
-same-restart k (markers.SOS) = refl
-same-restart k (markers.DQT) = refl
-same-restart k (markers.DNL) = refl
-same-restart k (markers.DRI) = refl
-same-restart k (markers.DHP) = refl
-same-restart k (markers.EXP) = refl
-same-restart k (markers.APP n) = refl
-same-restart k (markers.JPGn n) = refl
-same-restart k (markers.COM) = refl
-same-restart k (markers.TEM) = refl
-same-restart k (markers.RES) = refl
-
-pub numbered : (k number : ℕ) (m : Marker) → number ≡ k % 8 → is_restart number (Some m) ≡ is_restart k (Some m)
-numbered k number m is = ap (λ (n : ℕ). is_restart n (Some m)) is ∙ same-restart k m
+numbered : (k number : ℕ) (met : Option Marker) → number ≡ k % 8 → is_restart k met ≡ is_restart number met
+numbered k number (Some (markers.RST n)) is = ap (λ r. n == r) (omega (arith, is))
+numbered k number met is = grind arith
 
 -- the next interval is reached, where the marker before it stands there
 abbrev goes_if : {A G : Type 0} → Loop A G → ℕ → List G → List (List G) → A → List ℕ → Bool → Reaches A
@@ -225,65 +204,71 @@ goes_if {A} s k next more state bytes b =
       | Err fault ↦ (state, Err fault)
     ]
 
-more-goes : {A G : Type 0} (s : Loop A G) (n k : ℕ) (items : List G) (state : A) (near : Bool) (m : Marker)
-    (bytes : List ℕ) → 0 < length items → near ≡ true → is_restart k (Some m) ≡ true
-    → goes_on s k (left_groups n items) state (Ok ((near, Some m), bytes))
-    ≡ s.all (suc k) (first_group n items) (other_groups n items) state bytes
-more-goes s n k [] state near m bytes some e f = absurd (omega arith)
-more-goes s n k (x ∷ xs) state near m bytes some e f =
-    ap (goes_if s k (first_group n (x ∷ xs)) (other_groups n (x ∷ xs)) state bytes)
-    (ap₂ (λ (a b : Bool). a && b) e f)
+more-goes : {A G : Type 0} (s : Loop A G) (n k number : ℕ) (items : List G) (state : A) (met : Option Marker)
+    (bytes : List ℕ) (b : Bool) → 0 < length items → number ≡ k % 8 → is_restart number met ≡ b
+    → goes_on s k (left_groups n items) state (Ok (met, bytes))
+    ≡ goes_if s k (first_group n items) (other_groups n items) state bytes b
+more-goes s n k number [] state met bytes b some is e = absurd (omega arith)
+more-goes s n k number (x ∷ xs) state met bytes b some is e =
+    ap (goes_if s k (first_group n (x ∷ xs)) (other_groups n (x ∷ xs)) state bytes) (numbered k number met is ∙ e)
+
+last-goes : {A G : Type 0} (s : Loop A G) (n k : ℕ) (items : List G) (state : A) (o : Outcome (Option Marker))
+    → items ≡ [] → goes_on s k (left_groups n items) state o ≡ (state, o >>= after_intervals)
+last-goes s n k items state o is = ap (λ l. goes_on s k (left_groups n l) state o) is
 
 -- ---- a loop over the intervals
 
 abbrev pub whole_of : {A G : Type 0} → Loop A G → ℕ → List G → A → List ℕ → Reaches A
 whole_of s n items state bytes = s.all 0 (first_group n items) (other_groups n items) state bytes
 
--- From old, some intervals have been reached, after the last of which a marker was met; these items are left.
-abbrev pub Runs : {A G : Type 0} → (List ℕ → Reaches A) → Loop A G → ℕ → Stream → ℕ → Bool × Marker → List G → A
+-- From old, some intervals have been reached, after the last of which this marker was met; these items are left.
+abbrev pub Runs : {A G : Type 0} → (List ℕ → Reaches A) → Loop A G → ℕ → Stream → ℕ → Option Marker → List G → A
     → Stream → Type 0
-Runs whole s n old number end items state cur =
+Runs whole s n old number met items state cur =
     (k : ℕ) × (number ≡ k % 8) × (cur.failed ≡ old.failed) × (old.known ≡ true → (cur.known ≡ true)
-    × (whole old.bytes ≡ goes_on s k (left_groups n items) state (Ok ((end.0, Some end.1), cur.bytes))))
+    × (whole old.bytes ≡ goes_on s k (left_groups n items) state (Ok (met, cur.bytes))))
 
 pub runs-first : {A G : Type 0} (s : Loop A G) (n : ℕ) (items left : List G) (state now : A) (old new : Stream)
-    (end : Bool × Marker) → left ≡ after_group n items
-    → OnTold {X = Bool × Marker} old new (Ok end)
-    (now ≡ (s.one n items state old.bytes).0)
-    → Answers {X = Bool × Marker} shown (end_of_one s n items state) old (Ok end) new
-    → Runs (whole_of s n items state) s n old 0 end left now new
-runs-first s n items left state now old new end is same a = (
+    (met : Option Marker) → left ≡ after_group n items
+    → OnTold {X = Option Marker} old new (Ok met) (now ≡ (s.one n items state old.bytes).0)
+    → Answers {X = Option Marker} (λ m. m) (end_of_one s n items state) old (Ok met) new
+    → Runs (whole_of s n items state) s n old 0 met left now new
+runs-first s n items left state now old new met is same a = (
   0,
   refl,
   a.0,
   λ k. (
     (a.1 k).0,
-    group-goes s n 0 items left state now old.bytes (Ok ((end.0, Some end.1), new.bytes)) is (same k) (a.1 k).1,
+    group-goes s n 0 items left state now old.bytes (Ok (met, new.bytes)) is (same k) (a.1 k).1,
   ),
 )
 
+-- from where the next interval begins
+next-continues : {A G : Type 0} (whole : List ℕ → Reaches A) (s : Loop A G) (n number : ℕ) (items : List G)
+    (state : A) (old cur : Stream) (met : Option Marker) → 0 < length items → is_restart number met ≡ true
+    → (r : Runs whole s n old number met items state cur) → old.known ≡ true → (cur.known ≡ true)
+    × (whole old.bytes ≡ s.all (suc r.0) (first_group n items) (other_groups n items) state cur.bytes)
+next-continues whole s n number items state old cur met some restart r = λ k.
+    let here = r.3 k in
+    (here.0, here.1 ∙ more-goes s n r.0 number items state met cur.bytes true some r.1 restart)
+
 pub runs-next : {A G : Type 0} (whole : List ℕ → Reaches A) (s : Loop A G) (n number next : ℕ) (items left : List G)
-    (state now : A) (old cur new : Stream) (end after : Bool × Marker) → 0 < length items → end.0 ≡ true
-    → is_restart number (Some end.1) ≡ true → next ≡ (number + 1) % 8
-    → Runs whole s n old number end items state cur → left ≡ after_group n items
-    → OnTold {X = Bool × Marker} cur new (Ok after)
-    (now ≡ (s.one n items state cur.bytes).0)
-    → Answers {X = Bool × Marker} shown (end_of_one s n items state) cur (Ok after) new
+    (state now : A) (old cur new : Stream) (met after : Option Marker) → 0 < length items
+    → is_restart number met ≡ true → next ≡ (number + 1) % 8 → Runs whole s n old number met items state cur
+    → left ≡ after_group n items
+    → OnTold {X = Option Marker} cur new (Ok after) (now ≡ (s.one n items state cur.bytes).0)
+    → Answers {X = Option Marker} (λ m. m) (end_of_one s n items state) cur (Ok after) new
     → Runs whole s n old next after left now new
-runs-next whole s n number next items left state now old cur new end after some near restart counts r is same a =
+runs-next whole s n number next items left state now old cur new met after some restart counts r is same a =
     let number_is = r.1 in (
       suc r.0,
       (let e : next ≡ suc r.0 % 8 = omega (arith, number_is, counts) in e),
       a.0 ∙ r.2,
       λ k.
-          let here = r.3 k in
+          let here = next-continues whole s n number items state old cur met some restart r k in
           let there = a.1 here.0 in (
             there.0,
-            here.1
-                ∙ more-goes s n r.0 items state end.0 end.1 cur.bytes some near
-                (sym (numbered r.0 number end.1 number_is) ∙ restart)
-                ∙ group-goes s n (suc r.0) items left state now cur.bytes
-                (Ok ((after.0, Some after.1), new.bytes)) is
+            here.1 ∙ group-goes s n (suc r.0) items left state now cur.bytes (Ok (after, new.bytes)) is
                 (same here.0) there.1,
           ),
     )
@@ -301,146 +286,89 @@ blocks-told old new (Err e) arrays unread state a u = λ k l.
 abbrev pub end_of : {A : Type 0} → (List ℕ → Reaches A) → List ℕ → Outcome (Option Marker)
 end_of whole bytes = (whole bytes).1
 
--- an interval can't be read, from which the whole goes on
-refused-answers : {A G : Type 0} (whole rest : List ℕ → Reaches A) (s : Loop A G) (n : ℕ) (items : List G) (state : A)
-    (old cur new : Stream) (e : Error)
-    → ((f : Fault) → end_of_one s n items state cur.bytes ≡ Err f → (rest cur.bytes).1 ≡ Err f)
-    → Continues (end_of whole) old (end_of rest) cur
-    → Answers {X = Bool × Marker} shown (end_of_one s n items state) cur (Err e) new
-    → Answers {X = Option Marker} (λ m. m) (end_of whole) old (Err e) new
-refused-answers whole rest s n items state old cur new e through c a =
-    Continues-err {X = Option Marker} {Z = Bool × Marker} (λ m. m) shown (end_of whole) (end_of rest)
-    (end_of_one s n items state) old cur new e through c a
-
 pub first-refused-answers : {A G : Type 0} (s : Loop A G) (n : ℕ) (items : List G) (state : A)
     (old new : Stream) (e : Error)
-    → Answers {X = Bool × Marker} shown (end_of_one s n items state) old (Err e) new
+    → Answers {X = Option Marker} (λ m. m) (end_of_one s n items state) old (Err e) new
     → Answers {X = Option Marker} (λ m. m) (end_of (whole_of s n items state)) old (Err e) new
 first-refused-answers {A} s n items state old new e a =
-    refused-answers (whole_of s n items state) (whole_of s n items state) s n items
-    state old old new e
-    (λ f h. ap (λ (r : Reaches A). r.1)
-    (rest-refused s n 0 items state old.bytes f h))
-    (refl, λ k. (k, refl)) a
+    let whole = end_of (whole_of s n items state) in
+    Continues-err {X = Option Marker} {Z = Option Marker} (λ m. m) (λ m. m) whole whole
+    (end_of_one s n items state) old old new e
+    (λ f h. ap (λ (r : Reaches A). r.1) (rest-refused s n 0 items state old.bytes f h)) (refl, λ k. (k, refl)) a
 
 pub first-refused-state : {A G : Type 0} (s : Loop A G) (n : ℕ) (items : List G) (state now : A)
     (old new : Stream) (e : Error)
-    → Answers {X = Bool × Marker} shown (end_of_one s n items state) old (Err e) new
-    → OnTold {X = Bool × Marker} old new (Err e)
-    (now ≡ (s.one n items state old.bytes).0)
+    → Answers {X = Option Marker} (λ m. m) (end_of_one s n items state) old (Err e) new
+    → OnTold {X = Option Marker} old new (Err e) (now ≡ (s.one n items state old.bytes).0)
     → OnTold {X = Option Marker} old new (Err e) (now ≡ (whole_of s n items state old.bytes).0)
 first-refused-state {A} s n items state now old new e a same = λ k l.
     let P = now ≡ (s.one n items state old.bytes).0 in
     let Q = now ≡ (whole_of s n items state old.bytes).0 in
-    refused-by e P Q
-    (told-err e (end_of_one s n items state old.bytes) (P → Q) (a.1 k l)
-    (λ f h is. is ∙ sym (ap (λ (r : Reaches A). r.0)
-    (rest-refused s n 0 items state old.bytes f h))))
+    refused-at e (end_of_one s n items state old.bytes) P Q (a.1 k l)
+    (λ f h is. is ∙ sym (ap (λ (r : Reaches A). r.0) (rest-refused s n 0 items state old.bytes f h)))
     (same k l)
 
--- from where the next interval begins
-next-continues : {A G : Type 0} (whole : List ℕ → Reaches A) (s : Loop A G) (n number : ℕ) (items : List G)
-    (state : A) (old cur : Stream) (end : Bool × Marker) → 0 < length items → end.0 ≡ true
-    → is_restart number (Some end.1) ≡ true → (r : Runs whole s n old number end items state cur)
-    → old.known ≡ true → (cur.known ≡ true) × (whole old.bytes
-    ≡ s.all (suc r.0) (first_group n items) (other_groups n items) state cur.bytes)
-next-continues whole s n number items state old cur end some near restart r = λ k.
-    let here = r.3 k in (
-      here.0,
-      here.1 ∙ more-goes s n r.0 items state end.0 end.1 cur.bytes some near
-          (sym (numbered r.0 number end.1 r.1) ∙ restart),
-    )
-
 pub next-refused-answers : {A G : Type 0} (whole : List ℕ → Reaches A) (s : Loop A G) (n number : ℕ) (items : List G)
-    (state : A) (old cur new : Stream) (end : Bool × Marker) (e : Error) → 0 < length items → end.0 ≡ true
-    → is_restart number (Some end.1) ≡ true → Runs whole s n old number end items state cur
-    → Answers {X = Bool × Marker} shown (end_of_one s n items state) cur (Err e) new
+    (state : A) (old cur new : Stream) (met : Option Marker) (e : Error) → 0 < length items
+    → is_restart number met ≡ true → Runs whole s n old number met items state cur
+    → Answers {X = Option Marker} (λ m. m) (end_of_one s n items state) cur (Err e) new
     → Answers {X = Option Marker} (λ m. m) (end_of whole) old (Err e) new
-next-refused-answers {A} whole s n number items state old cur new end e some near restart r a =
-    let rest = λ (bs : List ℕ).
-    s.all (suc r.0) (first_group n items) (other_groups n items) state bs in
-    let goes = next-continues whole s n number items state old cur end some near restart r in
-    refused-answers whole rest s n items state old cur new e
-    (λ f h. ap (λ (r : Reaches A). r.1)
-    (rest-refused s n (suc r.0) items state cur.bytes f h))
+next-refused-answers {A} whole s n number items state old cur new met e some restart r a =
+    let rest = λ (bs : List ℕ). s.all (suc r.0) (first_group n items) (other_groups n items) state bs in
+    let goes = next-continues whole s n number items state old cur met some restart r in
+    Continues-err {X = Option Marker} {Z = Option Marker} (λ m. m) (λ m. m) (end_of whole) (end_of rest)
+    (end_of_one s n items state) old cur new e
+    (λ f h. ap (λ (r : Reaches A). r.1) (rest-refused s n (suc r.0) items state cur.bytes f h))
     (r.2, λ k. ((goes k).0, ap (λ (r : Reaches A). r.1) (goes k).1)) a
 
 pub next-refused-state : {A G : Type 0} (whole : List ℕ → Reaches A) (s : Loop A G) (n number : ℕ) (items : List G)
-    (state now : A) (old cur new : Stream) (end : Bool × Marker) (e : Error) → 0 < length items → end.0 ≡ true
-    → is_restart number (Some end.1) ≡ true → Runs whole s n old number end items state cur
-    → Answers {X = Bool × Marker} shown (end_of_one s n items state) cur (Err e) new
-    → OnTold {X = Bool × Marker} cur new (Err e)
-    (now ≡ (s.one n items state cur.bytes).0)
+    (state now : A) (old cur new : Stream) (met : Option Marker) (e : Error) → 0 < length items
+    → is_restart number met ≡ true → Runs whole s n old number met items state cur
+    → Answers {X = Option Marker} (λ m. m) (end_of_one s n items state) cur (Err e) new
+    → OnTold {X = Option Marker} cur new (Err e) (now ≡ (s.one n items state cur.bytes).0)
     → OnTold {X = Option Marker} old new (Err e) (now ≡ (whole old.bytes).0)
-next-refused-state {A} whole s n number items state now old cur new end e some near restart r a same = λ k l.
-    let here = next-continues whole s n number items state old cur end some near restart r k in
+next-refused-state {A} whole s n number items state now old cur new met e some restart r a same = λ k l.
+    let here = next-continues whole s n number items state old cur met some restart r k in
     let P = now ≡ (s.one n items state cur.bytes).0 in
     let Q = now ≡ (whole old.bytes).0 in
-    refused-by e P Q
-    (told-err e (end_of_one s n items state cur.bytes) (P → Q) (a.1 here.0 l)
+    refused-at e (end_of_one s n items state cur.bytes) P Q (a.1 here.0 l)
     (λ f h is. is ∙ sym (ap (λ (r : Reaches A). r.0) (here.1
-    ∙ rest-refused s n (suc r.0) items state cur.bytes f h))))
+    ∙ rest-refused s n (suc r.0) items state cur.bytes f h)))
     (same here.0 l)
 
--- ---- another marker stands there
-
-and-broken : (near restart : Bool) → near ≡ false ⊎ restart ≡ false → (near && restart) ≡ false
-and-broken near restart (inl e) = ap (λ (b : Bool). b && restart) e
-and-broken true restart (inr e) = e
-and-broken false restart (inr e) = refl
-
-broken-goes : {A G : Type 0} (s : Loop A G) (n k : ℕ) (items : List G) (state : A) (near : Bool) (m : Marker)
-    (bytes : List ℕ) → 0 < length items → (near && is_restart k (Some m)) ≡ false
-    → goes_on s k (left_groups n items) state (Ok ((near, Some m), bytes)) ≡ (state, Err Malformed)
-broken-goes s n k [] state near m bytes some e = absurd (omega arith)
-broken-goes s n k (x ∷ xs) state near m bytes some e =
-    ap (goes_if s k (first_group n (x ∷ xs)) (other_groups n (x ∷ xs)) state bytes) e
-
+-- another marker stands there
 pub broken-answers : {A G : Type 0} (whole : List ℕ → Reaches A) (s : Loop A G) (n number : ℕ) (items : List G)
-    (state : A) (old cur : Stream) (end : Bool × Marker) (e : Error) → 0 < length items
-    → Runs whole s n old number end items state cur
-    → end.0 ≡ false ⊎ is_restart number (Some end.1) ≡ false → NamesFormat e
+    (state : A) (old cur : Stream) (met : Option Marker) (e : Error) → 0 < length items
+    → Runs whole s n old number met items state cur → is_restart number met ≡ false → NamesFormat e
     → Answers {X = Option Marker} (λ m. m) (end_of whole) old (Err e) cur
-broken-answers {A} whole s n number items state old cur end e some r broken f =
-    let other : end.0 ≡ false ⊎ is_restart r.0 (Some end.1) ≡ false
-    = subst (λ (b : Bool). end.0 ≡ false ⊎ b ≡ false) (numbered r.0 number end.1 r.1) broken in
-    let refused = λ (k : old.known ≡ true). ap (λ (x : Reaches A). x.1) ((r.3 k).1
-    ∙ broken-goes s n r.0 items state end.0 end.1 cur.bytes some
-    (and-broken end.0 (is_restart r.0 (Some end.1)) other)) in (
-      named-may-fail {Y = Unit {0}} e (Err Malformed) old.failed cur.failed r.2
-          (format-refuses {Y = Unit {0}} e (Err Malformed) f refl).1,
+broken-answers {A} whole s n number items state old cur met e some r broken f =
+    let refused = λ (k : old.known ≡ true). ap (λ (x : Reaches A). x.1)
+    ((r.3 k).1 ∙ more-goes s n r.0 number items state met cur.bytes false some r.1 broken) in (
+      may_fail_format e old.failed cur.failed f r.2,
       λ k l. (format-refuses e (end_of whole old.bytes) f (refused k)).1,
       λ k l. still_known e cur.failed (r.3 k).0 l,
     )
 
 -- ---- nothing is left
 
-last-goes : {A G : Type 0} (s : Loop A G) (n k : ℕ) (items : List G) (state : A)
-    (o : Outcome (Bool × Option Marker)) → items ≡ []
-    → goes_on s k (left_groups n items) state o ≡ (state, o >>= after_intervals)
-last-goes s n k items state o is = ap (λ l. goes_on s k (left_groups n l) state o) is
-
-pub passed-answers : {A G : Type 0} (whole : List ℕ → Reaches A) (s : Loop A G) (n number : ℕ)
-    (items : List G) (state : A) (old cur new : Stream) (end : Bool × Marker)
-    (r : Result (Option Marker) Error) → items ≡ [] → end.0 ≡ true → Runs whole s n old number end items state cur
-    → Answers {X = Option Marker} (λ m. m) (after_all (Some end.1)) cur r new
+pub passed-answers : {A G : Type 0} (whole : List ℕ → Reaches A) (s : Loop A G) (n number : ℕ) (items : List G)
+    (state : A) (old cur new : Stream) (met : Option Marker) (r : Result (Option Marker) Error) → items ≡ []
+    → Runs whole s n old number met items state cur
+    → Answers {X = Option Marker} (λ m. m) (after_all met) cur r new
     → Answers {X = Option Marker} (λ m. m) (end_of whole) old r new
 unfolding after_all
-passed-answers {A} whole s n number items state old cur new end r is near runs a =
-    continued-answers (λ m. m) (end_of whole) (after_all (Some end.1)) old cur new r (
+passed-answers {A} whole s n number items state old cur new met r is runs a =
+    Continues-answers (λ m. m) (end_of whole) (after_all met) old cur new r (
       runs.2,
       λ k. (
         (runs.3 k).0,
-        ap (λ (r : Reaches A). r.1) ((runs.3 k).1
-            ∙ last-goes s n runs.0 items state (Ok ((end.0, Some end.1), cur.bytes)) is)
-            ∙ ap (λ (b : Bool). after_intervals ((b, Some end.1), cur.bytes)) near,
+        ap (λ (r : Reaches A). r.1) ((runs.3 k).1 ∙ last-goes s n runs.0 items state (Ok (met, cur.bytes)) is),
       ),
     ) a
 
 -- Nothing is left: the state is that of all.
 pub last-state : {A G : Type 0} (whole : List ℕ → Reaches A) (s : Loop A G) (n number : ℕ) (items : List G) (state : A)
-    (old cur : Stream) (end : Bool × Marker) → items ≡ [] → Runs whole s n old number end items state cur
+    (old cur : Stream) (met : Option Marker) → items ≡ [] → Runs whole s n old number met items state cur
     → old.known ≡ true → state ≡ (whole old.bytes).0
-last-state {A} whole s n number items state old cur end is runs k =
-    sym (ap (λ (r : Reaches A). r.0) ((runs.3 k).1
-    ∙ last-goes s n runs.0 items state (Ok ((end.0, Some end.1), cur.bytes)) is))
+last-state {A} whole s n number items state old cur met is runs k =
+    sym (ap (λ (r : Reaches A). r.0) ((runs.3 k).1 ∙ last-goes s n runs.0 items state (Ok (met, cur.bytes)) is))

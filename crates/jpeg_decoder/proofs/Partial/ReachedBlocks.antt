@@ -1,36 +1,39 @@
 -- Blocks as far as they can be read: they go by the bits of a text and its ending alone, and block by block.
-use Rattle.std.proofs.Common.{◌≡◌, ◌⊎◌, inl, inr, ℕ, zero, suc, ◌-◌, ◌<◌, ◌≤◌, ◌==◌, nat_le, ℤ, Bool}
-use Rattle.std.proofs.Common.{true, false, List, [], ◌∷◌, take, drop, set, get_or, length, length-drop, Option}
-use Rattle.std.proofs.Common.{None, Some, Result, Ok, Err, refl, sym, ap, ◌∙◌, subst, arith}
-use Rattle.std.specs.Prelude.{MatchResult, is_some, slice_get}
-use Rattle.std.proofs.lemmas.Bool.{false≢true, le-leb, lt-leb, ne_eqb}
-use Rattle.std.proofs.lemmas.Grind.{common_steps}
+use Rattle.std.proofs.Common.{◌≡◌, ◌⊎◌, inl, inr, ℕ, zero, suc, ◌+◌, ◌-◌, ◌<◌, ◌==◌, ℤ, Bool, true, false, List}
+use Rattle.std.proofs.Common.{[], ◌∷◌, take, drop, set, get_or, Option, None, Some, Result, Ok, Err, refl, sym, ap}
+use Rattle.std.proofs.Common.{◌∙◌, subst, arith}
+use Rattle.std.specs.Prelude.{slice_get}
+use Rattle.std.proofs.lemmas.Bool.{false≢true, ne_eqb}
 use Rattle.std.proofs.Math.Seq.{map-set_same}
 use Rattle.std.proofs.lemmas.List.{set-get_or}
-use Rattle.jpeg_bits.specs.Reading.{Fault, IsGivenUp, Names}
-use Rattle.jpeg_bits.specs.Entropy.{Ahead, Broken, Ending, Found, Stops, Text, fresh, marker_by, marker_from}
-use Rattle.jpeg_bits.specs.Entropy.{text_at, upcoming}
-use Rattle.jpeg_bits.specs.Readers.{Reads, read_on, text}
+use Rattle.jpeg_bits.specs.Stream.{Stream}
+use Rattle.jpeg_bits.specs.Reading.{Fault, MayFail}
+use Rattle.jpeg_bits.specs.Entropy.{Ahead, Ending, Text, advance, closed, fresh_before, text_at, upcoming}
+use Rattle.jpeg_bits.specs.Intervals.{first_group}
+use Rattle.jpeg_bits.specs.Readers.{read_on, text}
 use Rattle.jpeg_bits.specs.Passes.{Pass, Via}
+use Rattle.jpeg_bits.specs.declared.beyond.Beyond.TheVariants.{Nothing}
 use Rattle.jpeg_bits.specs.declared.blocks.Carried.{Carried}
 use Rattle.jpeg_bits.specs.declared.error.Error.{Error}
-use Rattle.jpeg_bits.specs.declared.error.Error.TheVariants as errors
 use Rattle.jpeg_bits.specs.declared.marker.Marker.{Marker}
-use Rattle.jpeg_bits.proofs.EndLemmas.{placed}
+use Rattle.jpeg_bits.proofs.Loops.{Names-through}
 use Rattle.jpeg_bits.proofs.TakenTexts.{Taken, TakesBits}
 use Rattle.jpeg_bits.proofs.TakenTexts.Taken.{gave, failed}
-use Rattle.jpeg_streams.proofs.Partial.ReachedIntervals.{turn-takes}
-use Rattle.jpeg_streams.specs.Brought.{Through, or_first, reached_from}
-use Rattle.jpeg_streams.specs.InTurn.{Reached, turn_from}
+use Rattle.jpeg_bits.proofs.WideTokens.{advanced}
+use Rattle.jpeg_streams.proofs.Partial.ReachedIntervals.{after_turn, turn-takes}
+use Rattle.jpeg_streams.proofs.Refusals.{told-err}
+use Rattle.jpeg_streams.specs.Brought.{BlocksTo, Through, interval_reached, or_first, reached_from, stopped}
+use Rattle.jpeg_streams.specs.InTurn.{Reached, at_start, turn_from}
 use Rattle.jpeg_streams.specs.Order.{Spot}
 use Rattle.jpeg_streams.specs.Scans.{Arrays}
-use Rattle.jpeg_streams.specs.States.{IfRefused}
-use Rattle.jpeg_decoder.specs.Reaching.{IsAhead, TellsLeft}
+use Rattle.jpeg_streams.specs.States.{OnTold}
+use Rattle.jpeg_decoder.specs.Reaching.{TellsBits}
 use Rattle.jpeg_decoder.specs.Scanning.{arrays_in, blocks_in}
 use Rattle.jpeg_decoder.specs.Walk.{NextSpot}
 use Rattle.jpeg_decoder.specs.declared.scan.spots.Spot as taken
 use Rattle.jpeg_decoder.proofs.Kept.BlockArrays.{Held, seen, seen-is, with_block}
 use Rattle.jpeg_decoder.proofs.Kept.KeptScans.{kept_reached, kept_read}
+use Rattle.jpeg_decoder.proofs.Partial.StoppedIntervals.{Refuses, left-ahead}
 
 abbrev pub Read : Type 0
 Read = Through Reached (List Bool)
@@ -42,13 +45,6 @@ read_before old s fault = record { reached = old; unread = Some s; rest = Err fa
 -- what is reached after the last block
 abbrev pub read_whole : Reached → Text → Read
 read_whole old t = record { reached = old; unread = None; rest = Ok t.bits }
-
--- after the next block
-abbrev pub after_turn : Pass → List Via → Spot → List Spot → Reached → Result (Reached × Text) Fault → Read
-after_turn p vias s spots old o = elim o [
-  | Ok r ↦ reached_from p vias spots r.0 r.1
-  | Err fault ↦ read_before old s fault
-]
 
 read-next : (p : Pass) (vias : List Via) (s : Spot) (spots : List Spot) (old : Reached) (t : Text)
     → reached_from p vias (s ∷ spots) old t ≡ after_turn p vias s spots old (turn_from p vias s old t)
@@ -72,7 +68,7 @@ turn-alike p vias s spots old bits e ps qs (gave n x is) others =
     ap (after_turn p vias s spots old) (is e ps (inl refl)) ∙ others x (drop n bits) (drop n ps) (drop n qs)
     ∙ sym (ap (after_turn p vias s spots old) (is e qs (inl refl)))
 
--- whatever follows the bits
+-- whatever is given to follow the bits
 followed-alike : (p : Pass) (vias : List Via) (spots : List Spot) (old : Reached) (bits : List Bool)
     (e : Ending) (ps qs : List (List ℕ))
     → reached_from p vias spots old (text bits ps e) ≡ reached_from p vias spots old (text bits qs e)
@@ -85,14 +81,20 @@ followed-alike p vias (s ∷ spots) old bits e ps qs =
     (λ new left qs rs. followed-alike p vias spots new left e qs rs)
     ∙ sym (read-next p vias s spots old (text bits qs e))
 
--- the same bits and the same ending
-pub read-alike : (p : Pass) (vias : List Via) (spots : List Spot) (old : Reached) (t u : Text)
-    → t.bits ≡ u.bits → t.ending ≡ u.ending
-    → reached_from p vias spots old t ≡ reached_from p vias spots old u
-read-alike p vias spots old t u b e =
-    followed-alike p vias spots old t.bits t.ending t.following u.following
-    ∙ ap (λ (bits : List Bool). reached_from p vias spots old (text bits u.following t.ending)) b
-    ∙ ap (λ (end : Ending). reached_from p vias spots old (text u.bits u.following end)) e
+-- an interval by what is read of it
+abbrev pub interval_of : List ℕ → Read → BlocksTo (Option Marker)
+interval_of bytes r = record { reached = r.reached.arrays; unread = r.unread; rest = stopped bytes r.rest }
+
+-- An interval is what is read of its text.
+pub interval-is : (p : Pass) (vias : List Via) (spots : List Spot) (arrays : Arrays) (a : Ahead) (bytes : List ℕ)
+    → a ≡ fresh_before Nothing → interval_reached p vias spots arrays bytes
+    ≡ interval_of bytes (reached_from p vias spots (at_start arrays) (upcoming a bytes))
+unfolding interval_reached upcoming
+interval-is p vias spots arrays a bytes start =
+    let t = text_at bytes in
+    ap (interval_of bytes)
+    (followed-alike p vias spots (at_start arrays) t.bits (closed Nothing t.ending) t.following (drop 56 t.following)
+    ∙ ap (λ (b : Ahead). reached_from p vias spots (at_start arrays) (upcoming b bytes)) (sym start))
 
 -- ---- block by block
 
@@ -150,6 +152,14 @@ first-empty {A} (suc n) (suc left) = first-part (suc n) (suc left) [] (omega ari
 pub first-end : {A : Type 0} (n left : ℕ) (xs : List A) → xs ≡ [] → first_left n left xs ≡ []
 first-end n left xs e = ap (first_left n left) e ∙ first-empty n left
 
+-- what is reached of a group
+abbrev pub group_of : Pass → List Via → ℕ → List Spot → Arrays → Text → Read
+group_of p vias n spots arrays t = reached_from p vias (first_group n spots) (at_start arrays) t
+
+-- what is reached where some of it is left
+abbrev pub rest_of : Pass → List Via → ℕ → ℕ → List Spot → Carried → Arrays → Text → Read
+rest_of p vias n left spots c arrays t = reached_from p vias (first_left n left spots) (carried_on c arrays) t
+
 -- where no block is left of a group
 pub group-none : (p : Pass) (vias : List Via) (spots : List Spot) (old : Reached) (t : Text)
     → spots ≡ [] → reached_from p vias spots old t ≡ read_whole old t
@@ -158,7 +168,7 @@ group-none p vias spots old t e =
 
 group-turn : (p : Pass) (vias : List Via) (n left : ℕ) (spots others : List Spot) (s : Spot) (c : Carried)
     (a b : Arrays) (t : Text) → spots ≡ s ∷ others → b ≡ a → n ≡ 0 ⊎ 0 < left
-    → reached_from p vias (first_left n left spots) (carried_on c a) t
+    → rest_of p vias n left spots c a t
     ≡ after_turn p vias s (first_left n (left - 1) others) (carried_on c b) (turn_from p vias s (carried_on c b) t)
 group-turn p vias n left spots others s c a b t e f h =
     ap (λ (l : List Spot). reached_from p vias l (carried_on c a) t)
@@ -170,8 +180,7 @@ group-turn p vias n left spots others s c a b t e f h =
 pub group-next : (p : Pass) (vias : List Via) (n left : ℕ) (spots others : List Spot) (s : Spot) (c : Carried)
     (a b : Arrays) (t : Text) (new : Reached) (u : Text) → spots ≡ s ∷ others → b ≡ a → n ≡ 0 ⊎ 0 < left
     → turn_from p vias s (carried_on c b) t ≡ Ok (new, u)
-    → reached_from p vias (first_left n left spots) (carried_on c a) t
-    ≡ reached_from p vias (first_left n (left - 1) others) new u
+    → rest_of p vias n left spots c a t ≡ reached_from p vias (first_left n (left - 1) others) new u
 group-next p vias n left spots others s c a b t new u e f h k =
     group-turn p vias n left spots others s c a b t e f h
     ∙ ap (after_turn p vias s (first_left n (left - 1) others) (carried_on c b)) k
@@ -179,8 +188,7 @@ group-next p vias n left spots others s c a b t new u e f h k =
 pub group-refused : (p : Pass) (vias : List Via) (n left : ℕ) (spots others : List Spot) (s : Spot) (c : Carried)
     (a b : Arrays) (t : Text) (f : Fault) → spots ≡ s ∷ others → b ≡ a → n ≡ 0 ⊎ 0 < left
     → turn_from p vias s (carried_on c b) t ≡ Err f
-    → reached_from p vias (first_left n left spots) (carried_on c a) t
-    ≡ read_before (carried_on c b) s f
+    → rest_of p vias n left spots c a t ≡ read_before (carried_on c b) s f
 group-refused p vias n left spots others s c a b t g e f h k =
     group-turn p vias n left spots others s c a b t e f h
     ∙ ap (after_turn p vias s (first_left n (left - 1) others) (carried_on c b)) k
@@ -210,52 +218,47 @@ turn-read true (Ok q) r u e h = h
 turn-read true (Err f) r u e h = h
 turn-read false o r u e h = absurd (false≢true e)
 
--- the text after what is read, or another
-abbrev text_or : {A : Type 0} → Text → Result (A × Text) Fault → Text
-text_or t (Ok r) = r.1
-text_or t (Err f) = t
+-- A block leaves the text after its bits.
+pub turn-advances : (p : Pass) (vias : List Via) (s : Spot) (old new : Reached) (first t u : Text)
+    → turn_from p vias s old t ≡ Ok (new, u) → (k : ℕ) × (t ≡ advance k first) → (k : ℕ) × (u ≡ advance k first)
+turn-advances p vias s old new first t u e (n, before) =
+    let after = left-ahead (turn_from p vias s old) new t u (turn-takes p vias s old) e in
+    (n + after.0, after.1 ∙ ap (advance after.0) before ∙ advanced n after.0 first)
 
-ahead-taken : {A : Type 0} (p : Reads A) (x : A) (t u : Text) → Taken p t.bits t.ending → p t ≡ Ok (x, u)
-    → IsAhead t → IsAhead u
-ahead-taken p x t u (failed g is) e h = let f = is t.following in cc
-ahead-taken {A} p x t u (gave n y is) e h =
-    let left = text (drop n t.bits) (drop n t.following) t.ending in
-    let is-u : left ≡ u = ap (text_or {A = A} left) (sym (is t.ending t.following (inl refl)) ∙ e) in
-    subst IsAhead is-u (omega (arith, h, length-drop n t.following, length-drop n t.bits))
+-- ---- what a group tells
 
--- What follows is given from the 57th bit on after what is read too.
-pub ahead-after : {A : Type 0} (p : Reads A) (x : A) (t u : Text) → TakesBits p → p t ≡ Ok (x, u)
-    → IsAhead t → IsAhead u
-unfolding TakesBits
-ahead-after p x t u takes e h = ahead-taken p x t u (takes t.bits t.ending) e h
+-- From old to cur blocks of a text were read, of which this one is left: the whole reading is the rest of it.
+abbrev pub Goes : Read → Text → Stream → Read → Text → Stream → Type 0
+Goes whole first old rest left cur =
+    (cur.failed ≡ old.failed) × (old.known ≡ true → (cur.known ≡ true) × ((k : ℕ) × (left ≡ advance k first))
+    × (whole ≡ rest))
 
-pub ahead-next : (p : Pass) (vias : List Via) (s : Spot) (old new : Reached) (t u : Text)
-    → turn_from p vias s old t ≡ Ok (new, u) → IsAhead t → IsAhead u
-ahead-next p vias s old new t u e h = ahead-after (turn_from p vias s old) new t u (turn-takes p vias s old) e h
+-- No block is left.
+pub goes-whole : (whole : Read) (first : Text) (old : Stream) (rest : Read) (left : Text)
+    (cur : Stream) (reached : Reached) → Goes whole first old rest left cur → rest ≡ read_whole reached left
+    → TellsBits {X = Unit {0}} whole.rest first old (Ok tt) cur left
+goes-whole whole first old rest left cur reached g e = (
+  g.0,
+  λ k. let here = g.1 k in (here.0, here.1, ap (λ (r : Read). r.rest) (here.2 ∙ e)),
+)
 
--- ---- refusals
+-- The next block is refused.
+module _ {Y : Type 0} (whole : Read) (first : Text) (old : Stream) (rest : Read) (left : Text) (cur new : Stream)
+    (e : Error) (o : Result Y Fault) (reached : Reached) (s : Spot) (goes : Goes whole first old rest left cur)
+    (refused : Refuses e o cur new) (before : (f : Fault) → o ≡ Err f → rest ≡ read_before reached s f) where
+  pub goes-refused : (last : Text) → TellsBits {X = Unit {0}} whole.rest first old (Err e) new last
+  goes-refused last = (
+    subst (λ (b : Bool). MayFail e b new.failed) goes.0 refused.0,
+    λ k l. let here = goes.1 k in Names-through e o whole.rest
+        (λ f h. ap (λ (r : Read). r.rest) (here.2 ∙ before f h)) (refused.1 here.0 l),
+    λ k l. refused.2 (goes.1 k).0 l,
+  )
 
--- An error of bytes in memory names the fault, or is `OutOfMemory`.
-pub names-in-memory : {X : Type 0} (r e : Error) (lost known : Bool) (o : Result X Fault)
-    → IfRefused r ((r ≡ e) × (IsGivenUp e lost → ⊥)) → (known ≡ true → Names e o)
-    → (known ≡ false → IsGivenUp e lost) → Names r o
-names-in-memory errors.OutOfMemory e lost known o h names given = tt
-names-in-memory r e lost true o h names given = grind (arith, common_steps)
-names-in-memory r e lost false o h names given = grind (arith, common_steps)
-
--- What is so of what was read before a refusal, where the source's bytes were known.
-pub refused-in-memory : {P : Type 0} (r e : Error) (lost known : Bool)
-    → IfRefused r ((r ≡ e) × (IsGivenUp e lost → ⊥)) → (known ≡ true → (e ≡ errors.OutOfMemory → ⊥) → P)
-    → (known ≡ false → IsGivenUp e lost) → IfRefused r P
-refused-in-memory errors.OutOfMemory e lost known h p given = tt
-refused-in-memory (errors.Format text) e lost true h p given = p refl (λ m. let same = h.0 ∙ m in cc)
-refused-in-memory (errors.Unsupported feature) e lost true h p given = p refl (λ m. let same = h.0 ∙ m in cc)
-refused-in-memory (errors.Io x) e lost true h p given = p refl (λ m. let same = h.0 ∙ m in cc)
-refused-in-memory (errors.Internal text) e lost true h p given = p refl (λ m. let same = h.0 ∙ m in cc)
-refused-in-memory (errors.Format text) e lost false h p given = absurd (h.1 (given refl))
-refused-in-memory (errors.Unsupported feature) e lost false h p given = absurd (h.1 (given refl))
-refused-in-memory (errors.Io x) e lost false h p given = absurd (h.1 (given refl))
-refused-in-memory (errors.Internal text) e lost false h p given = absurd (h.1 (given refl))
+  pub goes-told : (P : Type 0) → ((f : Fault) → whole ≡ read_before reached s f → P)
+      → OnTold {X = Unit {0}} old new (Err e) P
+  goes-told P h = λ k l.
+      let here = goes.1 k in
+      told-err e o P (refused.1 here.0 l) (λ f is. h f (here.2 ∙ before f is))
 
 -- ---- a block is put back
 
@@ -266,46 +269,3 @@ put-back vs slot index v x e f =
     (seen-is (with_block v index x)
     ∙ ap (λ (l : List (List ℤ)). seen l v.count) (ap (set v.blocks.items index) f ∙ set-get_or v.blocks.items index x)
     ∙ sym (seen-is v) ∙ ap blocks_in e)
-
--- ---- the bits of some data
-
-pub ahead-fresh : (bytes : List ℕ) → IsAhead (upcoming fresh bytes)
-unfolding upcoming
-ahead-fresh bytes =
-    let is = placed bytes in
-    omega (arith, is.sized, length-drop 56 (text_at bytes).following)
-
-pub start-alike : (p : Pass) (vias : List Via) (spots : List Spot) (old : Reached) (a : Ahead) (bytes there : List ℕ)
-    → a ≡ fresh → bytes ≡ there
-    → reached_from p vias spots old (upcoming a bytes) ≡ reached_from p vias spots old (text_at there)
-unfolding upcoming
-start-alike p vias spots old a bytes there e f =
-    ap (λ (x : Ahead). reached_from p vias spots old (upcoming x bytes)) e
-    ∙ ap (λ (l : List ℕ). reached_from p vias spots old (upcoming fresh l)) f
-    ∙ read-alike p vias spots old (upcoming fresh there) (text_at there) refl refl
-
--- whether the end is met, of what follows
-pub met-near : (t : Text) (m : Option Marker) (rest : List ℕ) → IsAhead t → marker_from t ≡ Ok (m, rest)
-    → is_some m ≡ nat_le (length t.bits) 56
-met-near t m rest h e = go t.following t.ending (length t.bits) h e
-  where
-    go : (ps : List (List ℕ)) (e : Ending) (n : ℕ) → length ps ≡ n - 56 → marker_by ps e ≡ Ok (m, rest)
-        → is_some m ≡ nat_le n 56
-    go [] (Found x r) n h e = let near : n ≤ 56 = omega arith in grind (arith, common_steps, le-leb n 56 near)
-    go [] (Stops x r) n h e = let near : n ≤ 56 = omega arith in grind (arith, common_steps, le-leb n 56 near)
-    go [] (Broken f) n h e = cc
-    go (r ∷ rs) end n h e = let far : 56 < n = omega arith in grind (arith, common_steps, lt-leb n 56 far)
-
-pub refused-near : (t : Text) (f : Fault) → IsAhead t → marker_from t ≡ Err f → true ≡ nat_le (length t.bits) 56
-refused-near t f h e = go t.following t.ending (length t.bits) h e
-  where
-    go : (ps : List (List ℕ)) (e : Ending) (n : ℕ) → length ps ≡ n - 56 → marker_by ps e ≡ Err f
-        → true ≡ nat_le n 56
-    go [] end n h e = let near : n ≤ 56 = omega arith in sym (le-leb n 56 near)
-    go (r ∷ rs) end n h e = cc
-
--- Whether the end is near tells what is left.
-pub near-tells : (r : Result (List Bool) Fault) (left : List Bool) (near : Result Bool Error) → r ≡ Ok left
-    → MatchResult near (λ b. b ≡ nat_le (length left) 56) (λ e. e ≡ errors.OutOfMemory) → TellsLeft r near
-near-tells r left (Ok b) e h = (left, e, h)
-near-tells r left (Err e) is h = subst (λ (x : Error). Names x r) (sym h) tt

@@ -120,7 +120,8 @@ taken-sized frame codings seen kept taken before d e t of h =
     grind (arith, common_steps, taken, arrays-sized, of-frame)
 
 -- the blocks that are kept afterwards
-pub put-all : (frame : Frame) (codings : List Coding) (seen : List Coded) (kept left taken arrays put : List Held) (before : Arrays)
+pub put-all : (frame : Frame) (codings : List Coding) (seen : List Coded) (kept left taken arrays put : List Held)
+    (before : Arrays)
     → map coding_in seen ≡ codings → arrays_in kept ≡ before
     → arrays_in taken ≡ blocks_at (map coding_in seen) (arrays_in kept)
     → arrays_in left ≡ without_blocks (map coding_in seen) (arrays_in kept) → sizes_of arrays ≡ sizes_of taken

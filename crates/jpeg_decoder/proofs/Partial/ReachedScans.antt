@@ -4,13 +4,13 @@ use Rattle.std.proofs.Common.{subst, sym, true, Bool, ℕ, if◌then◌else◌}
 use Rattle.std.proofs.lemmas.Result.{err_from_is_err_and}
 use Rattle.std.specs.Prelude.{IsErrAnd, OnOk}
 use Rattle.jpeg_bits.specs.Passes.{Pass}
-use Rattle.jpeg_bits.specs.Reading.{Answers, Fault, Malformed, MayFail, Names, Outcome}
+use Rattle.jpeg_bits.specs.Reading.{Answers, Fault, Malformed, Names, Outcome}
 use Rattle.jpeg_bits.specs.Reading.{◌>>=◌}
 use Rattle.jpeg_bits.specs.Stream.{Stream}
 use Rattle.jpeg_bits.specs.declared.error.Error.{Error}
 use Rattle.jpeg_bits.specs.declared.error.Error.TheVariants as errors
 use Rattle.jpeg_bits.specs.declared.marker.Marker.{Marker}
-use Rattle.jpeg_bits.proofs.Loops.{Names-through}
+use Rattle.jpeg_bits.proofs.Loops.{Continues-answers}
 use Rattle.jpeg_segments.specs.Frame.{Frame}
 use Rattle.jpeg_segments.specs.ScanHeader.{Scan, sos_at}
 use Rattle.jpeg_segments.specs.declared.frame.CodingProcess.{CodingProcess}
@@ -275,12 +275,9 @@ refused-reads : {X : Type 0} (v : X → Turn) (found : Found) (scan : Scan) (d :
     → BringsData found scan d
     → Answers (λ (m : Option Marker). m) (λ bytes. (d bytes).met) old (Err e) new
     → Answers v (λ bytes. (brought_after found scan bytes).turn) old (Err e) new
-refused-reads v found scan d old new e b a = (
-  a.0,
-  λ k l. Names-through e (d old.bytes).met (brought_after found scan old.bytes).turn
-      (λ f h. fault-made found (brought_after found scan old.bytes) (d old.bytes) f (b old.bytes) h) (a.1 k l),
-  a.2,
-)
+refused-reads v found scan d old new e b a =
+    answers-err (λ (m : Option Marker). m) v (λ bytes. (d bytes).met) (λ bytes. (brought_after found scan bytes).turn)
+    old new e (λ f h. fault-made found (brought_after found scan old.bytes) (d old.bytes) f (b old.bytes) h) a
 
 pub ended-reads : (v : Step → Turn) (found prev : Found) (scan : Scan) (d : Data) (old new : Stream)
     (reached : Result (Option Marker) Error) (result : Result Step Error) → BringsData found scan d
@@ -395,19 +392,10 @@ header-answers : {X : Type 0} (v : X → Turn) (left : Option ℕ) (found : Foun
     → HasRead (header_within left found) old scan cur
     → Answers v (λ bytes. (brought_after found scan bytes).turn) cur r new
     → Answers v (λ bytes. (scan_within left Nothing found bytes).turn) old r new
-header-answers v left found scan old cur new (Ok x) has a = (
-  a.0 ∙ has.0,
-  λ k.
-      let at = header-then left found scan old cur has k in
-      let read = a.1 at.0 in (read.0, ap (λ (w : Brought). w.turn) at.1 ∙ read.1),
-)
-header-answers v left found scan old cur new (Err e) has a = (
-  subst (λ (failed : Bool). MayFail e failed new.failed) has.0 a.0,
-  λ k l.
-      let at = header-then left found scan old cur has k in
-      subst (Names e) (sym (ap (λ (w : Brought). w.turn) at.1)) (a.1 at.0 l),
-  λ k l. a.2 (header-then left found scan old cur has k).0 l,
-)
+header-answers v left found scan old cur new r has a =
+    Continues-answers v (λ bytes. (scan_within left Nothing found bytes).turn)
+    (λ bytes. (brought_after found scan bytes).turn) old cur new r
+    (has.0, λ k. let at = header-then left found scan old cur has k in (at.0, ap (λ (w : Brought). w.turn) at.1)) a
 
 pub header-reads : {X : Type 0} (v : X → Turn) (left : Option ℕ) (found : Found) (scan : Scan) (old cur new : Stream)
     (r : Result X Error) → HasRead (header_within left found) old scan cur

@@ -61,11 +61,6 @@ pub on-told : {X P Q : Type 0} (old new : Stream) (r : Result X Error) → (P �
 on-told old new (Ok x) h p = λ k. h (p k)
 on-told old new (Err e) h p = λ k l. if-refused-as e h (p k l)
 
-pub refusal-told : {X : Type 0} (old new : Stream) (r : Result X Error) (P : Type 0) → OnFault r P
-    → OnToldRefusal old new r P
-refusal-told old new (Ok x) P h = tt
-refusal-told old new (Err e) P h = λ _ _. h
-
 pub refusal-any : {X : Type 0} (old new : Stream) (r : Result X Error) (P : Type 0) → P → OnToldRefusal old new r P
 refusal-any old new (Ok x) P h = tt
 refusal-any old new (Err e) P h = λ _ _. if-refused e h

@@ -9,7 +9,6 @@ use Rattle.jpeg_bits.specs.declared.marker.Marker.{Marker}
 use Rattle.jpeg_bits.proofs.Loops.{Continues, Continues-err, bind_at, bind_err, still_known}
 use Rattle.jpeg_segments.specs.Frame.{Frame}
 use Rattle.jpeg_segments.specs.declared.frame.CodingProcess.{CodingProcess}
-use Rattle.jpeg_segments.specs.declared.frame.CodingProcess.TheVariants.{Lossless}
 use Rattle.jpeg_segments.specs.ScanHeader.{Scan, sos_at}
 use Rattle.jpeg_streams.specs.Scans.{Arrays}
 use Rattle.jpeg_streams.specs.ScanSegments.{scan_turn as turn_of_scan, arrays_before, blocks_scan}
@@ -18,7 +17,7 @@ use Rattle.jpeg_streams.specs.ScanSegments.{lossless_scan, scan_before, scan_arr
 use Rattle.jpeg_streams.specs.ScanSegments.{scan_segment}
 use Rattle.jpeg_streams.specs.Segments.{Turn}
 use Rattle.jpeg_streams.specs.Found.{Found}
-use Rattle.jpeg_decoder.specs.Steps.{IsDct, IsRefusal, IsStep, after_all, blocks_read, header_at, header_within, read_after}
+use Rattle.jpeg_decoder.specs.Steps.{IsRefusal, IsStep, after_all, blocks_read, header_at, header_within, read_after}
 use Rattle.jpeg_streams.specs.Brought.{unbrought}
 use Rattle.jpeg_streams.specs.Stream.{scan_turn_at, scan_within}
 use Rattle.jpeg_streams.specs.Work.{is_above, work_of_header}
@@ -72,9 +71,6 @@ codings-read found frame scan p codings bytes e is = grind (arith, common_steps,
 abbrev pub HasRead : {Y : Type 0} → (List ℕ → Outcome Y) → Stream → Y → Stream → Type 0
 HasRead read old y new =
     (new.failed ≡ old.failed) × (old.known ≡ true → (new.known ≡ true) × (read old.bytes ≡ Ok (y, new.bytes)))
-
-pub is-dct : (p : CodingProcess) → (p ≡ Lossless → ⊥) → IsDct p
-is-dct p h = grind (arith, common_steps)
 
 -- what a scan of blocks is read to be
 abbrev ReadsBlocks : Found → Found → Frame → Scan → Stream → Result (Option Marker) Error → Stream → Type 0

@@ -4,7 +4,7 @@ ghost use Rattle.std.specs.Prelude.{None, min, suc};
 ghost use Rattle.std.specs.Prelude.{OnOk, Ok, Some, drop, false, is_some, length, map, nat_lt, not};
 ghost use Rattle.std.specs.List.{concat, enumerate_from};
 ghost use Rattle.std.specs.Prelude.{option_map, replicate, slice_index_or, true, []};
-ghost use Rattle.jpeg_bits.specs.Reading.{Answers, Names, NamesFormat};
+ghost use Rattle.jpeg_bits.specs.Reading.{Answers, NamesFormat};
 ghost use Rattle.jpeg_segments.specs.FrameView.{component_in, frame_in};
 ghost use Rattle.jpeg_segments.specs.Frame.{AllHaveSampling};
 ghost use Rattle.jpeg_pixels.specs.JointPlanes.{IsShapeOf, joint_planes};

@@ -9,7 +9,7 @@ ghost use Rattle.jpeg_streams.specs.InTurn.{begun_from, blocks_from};
 ghost use Rattle.jpeg_streams.specs.Scans.{Arrays};
 ghost use Rattle.jpeg_decoder.specs.Scanning.{IsKeptBlock, IsSpotOf, IsStored};
 ghost use Rattle.jpeg_decoder.specs.Scanning.{scan_vias};
-ghost use Rattle.jpeg_decoder.specs.Scanning.{arrays_in, sizes_of, reached, counted};
+ghost use Rattle.jpeg_decoder.specs.Scanning.{arrays_in, sizes_of, counted};
 ghost use Rattle.jpeg_decoder.specs.Scanning.{kept_blocks, kept_counted};
 
 use crate::scan::block_array::BlockArray;

@@ -1,12 +1,12 @@
 //! The blocks of a scan as far as they can be read, where the stream may have a fault (T.81, A.2,
 //! E.2.4).
 //!
-//! The data of a restart interval are gathered up to the marker that ends them, and blocks are read
-//! from them alone: no zeros follow where the marker stands. `decode` never runs this.
-ghost use Rattle.std.specs.Prelude.{◌≡◌, ◌≤◌, ◌*◌, Some, length, OnOk, option_map, slice_get};
+//! Nothing follows the marker that ends the data of a restart interval, in place of zeros: a block
+//! that needs one bit more isn't read. `decode` never runs this.
+ghost use Rattle.std.specs.Prelude.{◌≡◌, ◌≤◌, ◌*◌, length, OnOk, option_map, slice_get};
 ghost use Rattle.std.specs.Prelude.{true};
 ghost use Rattle.std.specs.List.{AllByRecursion};
-ghost use Rattle.jpeg_bits.specs.Entropy.{text_at, upcoming};
+ghost use Rattle.jpeg_bits.specs.Entropy.{upcoming};
 ghost use Rattle.jpeg_bits.specs.Intervals.{first_group};
 ghost use Rattle.jpeg_bits.specs.Reading.{Answers};
 ghost use Rattle.jpeg_segments.specs.FrameView.{frame_in};
@@ -15,8 +15,7 @@ ghost use Rattle.jpeg_streams.specs.Brought.{scan_reached};
 ghost use Rattle.jpeg_streams.specs.InTurn.{AreArrays, Fits, at_start};
 ghost use Rattle.jpeg_streams.specs.Order.{mcu_size, spots_of};
 ghost use Rattle.jpeg_streams.specs.States.{OnTold};
-ghost use Rattle.jpeg_decoder.specs.Reaching.{after_group, IsAhead, TellsBits, TellsLeft};
-ghost use Rattle.jpeg_decoder.specs.Reaching.{UnlessRefused};
+ghost use Rattle.jpeg_decoder.specs.Reaching.{after_group, TellsBits};
 ghost use Rattle.jpeg_decoder.specs.Scanning.{arrays_in, sizes_of, IsSpotOf};
 ghost use Rattle.jpeg_decoder.specs.Scanning.{scan_components, scan_vias};
 ghost use Rattle.jpeg_decoder.specs.Walk.{spot_of};
@@ -24,24 +23,22 @@ ghost use Rattle.jpeg_decoder.specs.Walk.{spot_of};
 use crate::scan::block_array::BlockArray;
 use crate::scan::blocks::reach;
 use crate::scan::coded::Scan;
-use crate::scan::data::read_data;
 use crate::scan::order::ScanOrder;
-use crate::scan::refusals::{interval_end, is_near_end, refusal_in_memory};
 use crate::scan::restarts::{is_numbered, pass_restarts};
 use crate::scan::spots::{Spot, Spots};
+use jpeg_bits::beyond::Beyond;
 use jpeg_bits::blocks::{Carried, take_block};
 use jpeg_bits::error::{Result, take_refusal};
 use jpeg_bits::huffman::HuffmanDecoder;
 use jpeg_bits::marker::{Marker, restart_error};
 use jpeg_bits::source::Source;
-use jpeg_bits::source::slice_reader::SliceReader;
 use jpeg_segments::parser::FrameInfo;
 use std::alloc::Global;
 use std::io::Read;
 
-/// Reads the blocks at the next `n` spots, or at all if `n` is 0, of bytes in memory. After a
-/// refusal the blocks before it are there; the one that it is about is as before, and its spot is
-/// the first that is left.
+/// Reads the blocks at the next `n` spots, or at all if `n` is 0, from the beginning of a restart
+/// interval on. After a refusal the blocks before it are there; the one that it is about is as
+/// before, and its spot is the first that is left.
 fn reach_group<R: Read + Drop>(
     decoder: &mut HuffmanDecoder,
     source: &mut Source<R>,
@@ -53,24 +50,21 @@ fn reach_group<R: Read + Drop>(
     requires keeps { scan.now.keeps_ac ≡ true }
     requires spots { AllByRecursion (IsSpotOf (length scan.now.codings)
         (sizes_of arrays.now.items)) spots.old }
-    requires known { source.old.known ≡ true }
-    requires ahead { IsAhead (upcoming decoder.old source.old.bytes) }
     ensures sizes { sizes_of arrays.new.items ≡ sizes_of arrays.old.items }
     ensures left { OnOk result (spots.new ≡ after_group n spots.old) }
-    ensures arrays { UnlessRefused result (arrays_in arrays.new.items
+    ensures arrays { OnTold source.old source.new result (arrays_in arrays.new.items
         ≡ (reached_from scan.now.pass (scan_vias scan.now) (first_group n spots.old)
         (at_start (arrays_in arrays.old.items))
         (upcoming decoder.old source.old.bytes)).reached.arrays) }
-    ensures unread { UnlessRefused result (slice_get spots.new 0 ≡ or_first (reached_from
-        scan.now.pass (scan_vias scan.now) (first_group n spots.old)
+    ensures unread { OnTold source.old source.new result (slice_get spots.new 0 ≡ or_first
+        (reached_from scan.now.pass (scan_vias scan.now) (first_group n spots.old)
         (at_start (arrays_in arrays.old.items)) (upcoming decoder.old source.old.bytes)).unread
         (after_group n spots.old)) }
     ensures told { TellsBits (reached_from scan.now.pass (scan_vias scan.now)
         (first_group n spots.old) (at_start (arrays_in arrays.old.items))
-        (upcoming decoder.old source.old.bytes)).rest result
-        (upcoming decoder.new source.new.bytes).bits }
-    ensures known { OnOk result (source.new.known ≡ true) }
-    ensures ahead { OnOk result (IsAhead (upcoming decoder.new source.new.bytes)) }
+        (upcoming decoder.old source.old.bytes)).rest
+        (upcoming decoder.old source.old.bytes) source.old result source.new
+        (upcoming decoder.new source.new.bytes) }
 {
     let mut carried = Carried::at_start();
     let mut refusal = None;
@@ -85,7 +79,7 @@ fn reach_group<R: Read + Drop>(
         let before = *block;
         if !take_block(decoder, source, &coding, &mut carried, block, &mut refusal) {
             *block = before;
-            return Err(refusal_in_memory(take_refusal(&mut refusal), source.has_failed()));
+            return Err(take_refusal(&mut refusal));
         }
         spots.next();
         left = left.saturating_sub(1);
@@ -93,41 +87,9 @@ fn reach_group<R: Read + Drop>(
     Ok(())
 }
 
-/// Reads the blocks at the next `n` spots, or at all if `n` is 0, in the bytes of an interval, and
-/// returns whether at most 56 bits are left after them. After a refusal the blocks before it are
-/// there; the one that it is about is as before, and its spot is the first that is left.
-fn reach_spots(
-    alloc: Global,
-    bytes: &[u8],
-    scan: &Scan<'_>,
-    arrays: &mut Vec<BlockArray>,
-    n: u64,
-    spots: &mut Spots<'_>,
-) -> Result<bool>
-    requires keeps { scan.now.keeps_ac ≡ true }
-    requires spots { AllByRecursion (IsSpotOf (length scan.now.codings)
-        (sizes_of arrays.now.items)) spots.old }
-    ensures sizes { sizes_of arrays.new.items ≡ sizes_of arrays.old.items }
-    ensures left { OnOk result (spots.new ≡ after_group n spots.old) }
-    ensures arrays { UnlessRefused result (arrays_in arrays.new.items
-        ≡ (reached_from scan.now.pass (scan_vias scan.now) (first_group n spots.old)
-        (at_start (arrays_in arrays.old.items)) (text_at bytes.now)).reached.arrays) }
-    ensures unread { UnlessRefused result (slice_get spots.new 0 ≡ or_first (reached_from
-        scan.now.pass (scan_vias scan.now) (first_group n spots.old)
-        (at_start (arrays_in arrays.old.items)) (text_at bytes.now)).unread
-        (after_group n spots.old)) }
-    ensures told { TellsLeft (reached_from scan.now.pass (scan_vias scan.now)
-        (first_group n spots.old) (at_start (arrays_in arrays.old.items)) (text_at bytes.now)).rest
-        result }
-{
-    let mut source = Source::new(SliceReader::new(bytes));
-    let mut decoder = HuffmanDecoder::new(alloc);
-    reach_group(&mut decoder, &mut source, scan, arrays, n, spots)?;
-    is_near_end(&mut decoder, &mut source)
-}
-
 /// Reads the next interval, of `n` blocks or of all if `n` is 0, up to its first fault, and returns
-/// whether at most 56 bits are left after its blocks, and the marker that ends it.
+/// the marker that ends it, if it was reached. After a refusal the blocks before it are there; the
+/// one that it is about is as before, and its spot is the first that is left.
 fn reach_interval<R: Read + Drop>(
     alloc: Global,
     source: &mut Source<R>,
@@ -135,7 +97,7 @@ fn reach_interval<R: Read + Drop>(
     arrays: &mut Vec<BlockArray>,
     n: u64,
     spots: &mut Spots<'_>,
-) -> Result<(bool, Marker)>
+) -> Result<Option<Marker>>
     requires keeps { scan.now.keeps_ac ≡ true }
     requires spots { AllByRecursion (IsSpotOf (length scan.now.codings)
         (sizes_of arrays.now.items)) spots.old }
@@ -147,14 +109,13 @@ fn reach_interval<R: Read + Drop>(
     ensures unread { OnTold source.old source.new result (slice_get spots.new 0 ≡ or_first
         (interval_reached scan.now.pass (scan_vias scan.now) (first_group n spots.old)
         (arrays_in arrays.old.items) source.old.bytes).unread (after_group n spots.old)) }
-    ensures answers { Answers (λ r. (r.0, Some r.1)) (λ bytes. (interval_reached
-        scan.now.pass (scan_vias scan.now) (first_group n spots.old)
-        (arrays_in arrays.old.items) bytes).rest) source.old result source.new }
+    ensures answers { Answers (λ m. m) (λ bytes. (interval_reached scan.now.pass
+        (scan_vias scan.now) (first_group n spots.old) (arrays_in arrays.old.items) bytes).rest)
+        source.old result source.new }
 {
-    let mut data = Vec::new(alloc);
-    let ended = read_data(alloc, source, &mut data);
-    let reached = reach_spots(alloc, &data, scan, arrays, n, spots);
-    interval_end(alloc, ended, reached, source.has_failed())
+    let mut decoder = HuffmanDecoder::with_beyond(alloc, Beyond::Nothing);
+    reach_group(&mut decoder, source, scan, arrays, n, spots)?;
+    decoder.take_marker(source)
 }
 
 /// Reads the blocks at some spots up to their first fault, in restart intervals of `n` blocks, or
@@ -184,19 +145,15 @@ fn reach_intervals<R: Read + Drop>(
         source.new }
 {
     let mut number = 0u8;
-    let mut end = reach_interval(alloc, source, scan, arrays, n, spots)?;
+    let mut met = reach_interval(alloc, source, scan, arrays, n, spots)?;
     while !spots.is_done() {
-        if !end.0 || !is_numbered(Some(end.1), number) {
-            return Err(restart_error(alloc, Some(end.1), number));
+        if !is_numbered(met, number) {
+            return Err(restart_error(alloc, met, number));
         }
         number = number.wrapping_add(1) % 8;
-        end = reach_interval(alloc, source, scan, arrays, n, spots)?;
+        met = reach_interval(alloc, source, scan, arrays, n, spots)?;
     }
-    if end.0 {
-        pass_restarts(alloc, source, Some(end.1))
-    } else {
-        Ok(Some(end.1))
-    }
+    pass_restarts(alloc, source, met)
 }
 
 /// Reads a scan of a frame up to its first fault on the blocks of its components, and returns the

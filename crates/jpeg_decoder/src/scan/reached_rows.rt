@@ -1,14 +1,11 @@
 //! The rows of MCUs of a lossless scan as far as they can be read, where the stream may have a
 //! fault (T.81, E.2.4 and H.2).
 //!
-//! As of a scan of blocks, the data of a restart interval are gathered up to the marker that ends
-//! them, and rows are read of them alone. `decode` never runs this.
-ghost use Rattle.std.specs.Prelude.{◌≡◌, ◌<◌, List, Some, length, map, true};
-ghost use Rattle.jpeg_bits.specs.Entropy.{text_at};
+//! As in a scan of blocks, nothing follows the marker that ends the data of a restart interval.
+//! `decode` never runs this.
+ghost use Rattle.std.specs.Prelude.{◌≡◌, ◌<◌, List, Some, length, map};
 ghost use Rattle.jpeg_bits.specs.Reading.{Answers};
 ghost use Rattle.jpeg_lossless.specs.Codings.{part_in, way_by};
-ghost use Rattle.jpeg_lossless.specs.Rows.{with_mcu_rows};
-ghost use Rattle.jpeg_lossless.specs.RowsReached.{rows_reached};
 ghost use Rattle.jpeg_lossless.specs.Scans.{scan_tables};
 ghost use Rattle.jpeg_segments.specs.FrameView.{frame_in};
 ghost use Rattle.jpeg_segments.specs.ScanHeader.{IsScanOf};
@@ -17,64 +14,34 @@ ghost use Rattle.jpeg_streams.specs.LosslessScans.{LosslessCoding};
 ghost use Rattle.jpeg_streams.specs.ScanSegments.{once_scanned};
 ghost use Rattle.jpeg_streams.specs.Sound.{IsSound};
 ghost use Rattle.jpeg_streams.specs.States.{OnTold};
-ghost use Rattle.jpeg_streams.specs.Brought.{planes_brought};
-ghost use Rattle.jpeg_streams.specs.WholeRows.{rows_of_planes};
-ghost use Rattle.jpeg_decoder.specs.Reaching.{IsSampleScan, TellsLeft, UnlessRefused};
+ghost use Rattle.jpeg_decoder.specs.Reaching.{IsSampleScan, UnlessRefused};
 ghost use Rattle.jpeg_decoder.specs.Reaching.{planes_reached, rows_appended, sample_codings};
 ghost use Rattle.jpeg_decoder.specs.Reaching.{samples_reached};
 ghost use Rattle.jpeg_decoder.specs.Seen.{found_of};
 
-use crate::scan::data::read_data;
 use crate::scan::decoded::Decoded;
 use crate::scan::lossless::SampleScan;
-use crate::scan::refusals::{interval_end, is_near_end, refusal_in_memory};
 use crate::scan::restarts::{is_numbered, pass_restarts};
 use crate::scan::samples::complete_all;
 use crate::scan::whole_rows::rows_of_planes;
+use jpeg_bits::beyond::Beyond;
 use jpeg_bits::error::Result;
 use jpeg_bits::huffman::HuffmanDecoder;
 use jpeg_bits::marker::{Marker, restart_error};
 use jpeg_bits::source::Source;
-use jpeg_bits::source::slice_reader::SliceReader;
 use jpeg_lossless::scan::{LosslessScan, RowCoding};
 use std::alloc::Global;
 use std::io::Read;
 
-/// Reads the next `count` rows of MCUs in the bytes of an interval, and returns whether at most 56
-/// bits are left after them. After a refusal the rows before it are there.
-fn reach_rows(
-    alloc: Global,
-    bytes: &[u8],
-    coding: &RowCoding<'_, '_>,
-    rows: &mut LosslessScan,
-    count: u16,
-) -> Result<bool>
-    requires planes { length rows.old.planes.items ≡ length coding.now.parts.now }
-    ensures count { length rows.new.planes.items ≡ length rows.old.planes.items }
-    ensures planes { let w = way_by coding.now.scan (map part_in coding.now.parts.now) in
-        UnlessRefused result (map (λ v. v.items) rows.new.planes.items ≡ with_mcu_rows w true
-        (rows_reached (scan_tables w count) (text_at bytes.now)).0
-        (map (λ v. v.items) rows.old.planes.items)) }
-    ensures told { let w = way_by coding.now.scan (map part_in coding.now.parts.now) in
-        TellsLeft (rows_reached (scan_tables w count) (text_at bytes.now)).1 result }
-{
-    let mut source = Source::new(SliceReader::new(bytes));
-    let mut decoder = HuffmanDecoder::new(alloc);
-    match rows.read_rows(&mut decoder, &mut source, coding, count) {
-        Ok(()) => is_near_end(&mut decoder, &mut source),
-        Err(e) => Err(refusal_in_memory(e, source.has_failed())),
-    }
-}
-
-/// Reads the next interval, of `count` rows of MCUs, up to its first fault, and returns whether at
-/// most 56 bits are left after its rows, and the marker that ends it.
+/// Reads the next interval, of `count` rows of MCUs, up to its first fault, and returns the marker
+/// that ends it, if it was reached. After a refusal the rows before it are there.
 fn reach_interval<R: Read + Drop>(
     alloc: Global,
     source: &mut Source<R>,
     coding: &RowCoding<'_, '_>,
     rows: &mut LosslessScan,
     count: u16,
-) -> Result<(bool, Marker)>
+) -> Result<Option<Marker>>
     requires planes { length rows.old.planes.items ≡ length coding.now.parts.now }
     ensures count { length rows.new.planes.items ≡ length rows.old.planes.items }
     ensures planes { let w = way_by coding.now.scan (map part_in coding.now.parts.now) in
@@ -82,13 +49,12 @@ fn reach_interval<R: Read + Drop>(
         ≡ (rows_appended w (scan_tables w count) (map (λ v. v.items) rows.old.planes.items)
         source.old.bytes).0) }
     ensures answers { let w = way_by coding.now.scan (map part_in coding.now.parts.now) in
-        Answers (λ r. (r.0, Some r.1)) (λ bytes. (rows_appended w (scan_tables w count)
+        Answers (λ m. m) (λ bytes. (rows_appended w (scan_tables w count)
         (map (λ v. v.items) rows.old.planes.items) bytes).1) source.old result source.new }
 {
-    let mut data = Vec::new(alloc);
-    let ended = read_data(alloc, source, &mut data);
-    let reached = reach_rows(alloc, &data, coding, rows, count);
-    interval_end(alloc, ended, reached, source.has_failed())
+    let mut decoder = HuffmanDecoder::with_beyond(alloc, Beyond::Nothing);
+    rows.read_rows(&mut decoder, source, coding, count)?;
+    decoder.take_marker(source)
 }
 
 /// Reads the intervals of a scan up to their first fault, each of `n` rows of MCUs and the last of
@@ -115,21 +81,17 @@ fn reach_intervals<R: Read + Drop>(
     let mut number = 0u8;
     let mut count = n.min(coding.scan.high);
     let mut left = coding.scan.high - count;
-    let mut end = reach_interval(alloc, source, coding, rows, count)?;
+    let mut met = reach_interval(alloc, source, coding, rows, count)?;
     while left > 0 {
-        if !end.0 || !is_numbered(Some(end.1), number) {
-            return Err(restart_error(alloc, Some(end.1), number));
+        if !is_numbered(met, number) {
+            return Err(restart_error(alloc, met, number));
         }
         number = number.wrapping_add(1) % 8;
         count = n.min(left);
         left -= count;
-        end = reach_interval(alloc, source, coding, rows, count)?;
+        met = reach_interval(alloc, source, coding, rows, count)?;
     }
-    if end.0 {
-        pass_restarts(alloc, source, Some(end.1))
-    } else {
-        Ok(Some(end.1))
-    }
+    pass_restarts(alloc, source, met)
 }
 
 /// Reads the data of a lossless scan up to their first fault, and returns the marker after it and

@@ -2,7 +2,7 @@
 -- far as it has them wholly, and all others at the levels before it.
 use Rattle.std.proofs.Common.{◌≡◌, ◌⊎◌, inl, inr, ◌*◌, ◌/◌, ◌%◌, ℕ, zero, suc, Bool, true, false, List, [], ◌∷◌, ◌++◌}
 use Rattle.std.proofs.Common.{Err, append_assoc, length-append, length, map, get_or, slice_get, Option, Some, None}
-use Rattle.std.proofs.Common.{Ok, refl, sym, ap, ◌∙◌, subst, arith, ap₂, replicate}
+use Rattle.std.proofs.Common.{Ok, refl, sym, ap, ◌∙◌, subst, arith, ap₂, replicate, length-set, ◌≤◌}
 use Rattle.std.specs.List.{AllByRecursion}
 use Rattle.std.proofs.lemmas.List.{length-replicate}
 use Rattle.std.proofs.lemmas.Option.{slice_get_past}
@@ -20,7 +20,7 @@ use Rattle.jpeg_streams.specs.Found.{Found, Said}
 use Rattle.jpeg_streams.specs.InTurn.{AreApart, AreArrays, Fits, IsIn}
 use Rattle.jpeg_streams.specs.Levels.{Levels, cut, nothing_sent, numbers_at, sent_after}
 use Rattle.jpeg_streams.specs.Order.{Spot, grid_of, mcu_size, own_spots, spots_of}
-use Rattle.jpeg_streams.specs.Scans.{Arrays, block_at}
+use Rattle.jpeg_streams.specs.Scans.{Arrays, block_at, put_block, put_blocks}
 use Rattle.jpeg_streams.specs.ScanSegments.{Coding, arrays_before, components_of, is_progressive, pass_of}
 use Rattle.jpeg_streams.specs.ScanSegments.{after_restarts, scan_arrays, vias_from}
 use Rattle.jpeg_streams.specs.WrittenScans.{Coefficients, IsOwn}
@@ -30,15 +30,16 @@ use Rattle.jpeg_streams.proofs.Written.BroughtLevels.{holds-now, is-legal, low, 
 use Rattle.jpeg_streams.proofs.Written.BroughtLevels.{sequential-arrays, single, stands, unsent, zero-at, zeros-now}
 use Rattle.jpeg_streams.proofs.Order.OwnSpots.{IsOwnSpot, own-only}
 use Rattle.jpeg_streams.proofs.Written.ReadTurns.{ok-same}
-use Rattle.jpeg_streams.proofs.Written.WrittenFrameScans.{IsReadyAt, array-at, in-all, zeros-in}
+use Rattle.jpeg_streams.proofs.Written.WrittenFrameScans.{IsReadyAt, array-at, in-all, put-size, zeros-in}
 use Rattle.jpeg_evidence.specs.FirstBlocks.{IsMost, StandWhole}
-use Rattle.jpeg_evidence.specs.LongerStreams.{IsDcAlone, IsKeptBefore, arrays_of}
+use Rattle.jpeg_evidence.specs.LongerStreams.{IsDcAlone, IsKeptBefore, Puts, ReadsOn, arrays_of}
+use Rattle.jpeg_evidence.specs.LongerStreams.Puts.{finished, put}
 use Rattle.jpeg_evidence.proofs.Cut.CutBlocks.{HasOwn}
-use Rattle.jpeg_evidence.proofs.Cut.CutEnds.{puts-count, puts-size, scan-filled}
 use Rattle.jpeg_evidence.proofs.Longer.LongerBlocks.{reached_are_read}
 use Rattle.jpeg_evidence.proofs.Longer.LongerData.{both}
 use Rattle.jpeg_evidence.proofs.Cut.FirstWritten.{first_blocks_are_written}
-use Rattle.jpeg_evidence.proofs.Longer.LongerScans.{longer_data_read_most, longer_data_read_on, unread_is_next}
+use Rattle.jpeg_evidence.proofs.Longer.LongerScans.{CanReachOf, longer_data_read_most, longer_data_read_on}
+use Rattle.jpeg_evidence.proofs.Longer.LongerScans.{unread_is_next}
 use Rattle.jpeg_evidence.proofs.Longer.LongerSegments.{nothing-left, short-ends}
 use Rattle.jpeg_evidence.proofs.Cut.CutFaults.{data-stay, tables-sized}
 use Rattle.jpeg_evidence.proofs.Cut.ReachedFirst.{first_blocks_are_reached}
@@ -70,6 +71,34 @@ all-sized : (w : Said) (f : Frame) (before : Arrays) (ks : List Coding)
 unfolding AreArrays
 all-sized w f before [] sized h = tt
 all-sized w f before (k ∷ ks) sized h = (sized k.index k.component h.0.at, all-sized w f before ks sized h.1)
+
+-- ---- blocks that are put
+
+puts-count : (spots : List Spot) (before after : Arrays) → Puts spots before after → length after ≡ length before
+puts-count spots before after (finished arrays) = refl
+puts-count spots before after (put s more b old new p) =
+    puts-count more (put_block s b before) after p ∙ length-set before s.slot _
+
+puts-size : (spots : List Spot) (before after : Arrays) → Puts spots before after → (slot : ℕ)
+    → length (get_or after slot []) ≡ length (get_or before slot [])
+unfolding put_blocks
+puts-size spots before after (finished arrays) slot = refl
+puts-size spots before after (put s more b old new p) slot =
+    puts-size more (put_block s b before) after p slot ∙ put-size (λ x. b) slot (s ∷ []) before
+
+-- where no spot is left
+none-put : (spots : List Spot) (before after : Arrays) → Puts spots before after → length spots ≡ 0 → after ≡ before
+none-put spots before after (finished arrays) e = refl
+none-put spots before after (put s more b old new p) e = absurd (omega arith)
+
+-- where shorter data bring all blocks, longer ones bring no other
+nothing-further : (spots : List Spot) (before shorter longer : Arrays) (r : ReadsOn spots before shorter longer)
+    → length spots ≤ length r.done → longer ≡ shorter
+nothing-further spots before shorter longer r all =
+    let f = r.further in
+    let parts = ap (λ (l : List Spot). length l) r.parts ∙ length-append r.done r.others in
+    let more = ap (λ (l : List Spot). length l) f.parts ∙ length-append f.done f.others in
+    none-put f.done shorter longer f.puts (omega (arith, parts, more))
 
 -- ---- a scan of a frame
 
@@ -237,22 +266,29 @@ module _ {w : Said} {f : Frame} {array : Coefficients} {levels : ℕ → Levels}
             known.written.coded parts c);
       })
 
+  -- In all data all blocks stand whole.
+  all-stand : (more : List ℕ)
+      → CanReachOf p (w.restart * mcu_size (components_of codings)) (vias_from 0 codings) spots before (bytes ++ more)
+      (length spots)
+  all-stand more =
+      first_blocks_are_reached p (w.restart * mcu_size (components_of codings)) (vias_from 0 codings)
+      (λ x. numbers_at p.al (known.written.sent x)) spots before (bytes ++ more) (length spots) apart ready
+      (whole_data_have_all_blocks f w.restart p codings array bytes more (length spots) known.written (omega arith))
+
   -- Of all data there is none.
   pub whole-unread : (more : List ℕ) → (reached_of (bytes ++ more)).unread ≡ None
   whole-unread more =
-      let n = w.restart * mcu_size (components_of codings) in
-      let vias = vias_from 0 codings in
-      let u : Spot → Block = λ x. numbers_at p.al (known.written.sent x) in
-      let on = longer_data_read_most p n vias spots before (bytes ++ more) [] in
-      let sum = length-append on.on.done on.on.others in
-      let all : length spots ≡ length (on.on.done ++ on.on.others) = ap (λ (l : List Spot). length l) on.on.parts in
-      unread_is_next p n vias spots before (bytes ++ more) (length spots) (record {
-        holds = first_blocks_are_reached p n vias u spots before (bytes ++ more) (length spots) apart ready
-            (whole_data_have_all_blocks f w.restart p codings array bytes more (length spots) known.written
-            (omega arith));
-        most = λ k c. let le = on.most k c in omega arith;
-      })
-      ∙ slice_get_past spots (length spots) (omega arith)
+      let on = longer_data_read_most p (w.restart * mcu_size (components_of codings)) (vias_from 0 codings) spots before
+      (bytes ++ more) [] in
+      on.next ∙ slice_get_past spots (length on.on.done) (on.most (length spots) (all-stand more))
+
+  -- All data have the same blocks, whatever bytes come after them.
+  whole-alike : (more : List ℕ) → (reached_of (bytes ++ more)).reached ≡ (reached_of (bytes ++ [])).reached
+  whole-alike more =
+      let on = longer_data_read_most p (w.restart * mcu_size (components_of codings)) (vias_from 0 codings) spots before
+      (bytes ++ []) more in
+      ap (λ (l : List ℕ). (reached_of l).reached) (sym (append_assoc bytes [] more))
+      ∙ nothing-further spots before _ _ on.on (on.most (length spots) (all-stand []))
 
   -- Without the code of the marker after them the data end.
   short-stops : (front left : List ℕ) (fill : ℕ) → (left ≡ [] → ⊥) → front ++ left ≡ bytes ++ marker fill 217 []
@@ -279,10 +315,9 @@ module _ {w : Said} {f : Frame} {array : Coefficients} {levels : ℕ → Levels}
   -- All data and bytes FF of the marker after them bring the whole scan.
   pub whole-filled : (j : ℕ) → (reached_of (bytes ++ replicate j 255)).reached ≡ scanned.arrays
   whole-filled j =
-      let is : IsMarker 217 EOI = record { is = eoi_code } in
-      scan-filled p (vias_from 0 codings) (λ x. numbers_at p.al (known.written.sent x)) 0 217 EOI [] is j
-      (w.restart * mcu_size (components_of codings)) spots before bytes apart ready known.written.coded
-      ∙ ap (λ (y : Arrays × Outcome (Option Marker)). y.0) (whole-reached 0 217 EOI [] is eoi_ends)
+      whole-alike (replicate j 255) ∙ sym (whole-alike (marker 0 217 []))
+      ∙ ap (λ (y : Arrays × Outcome (Option Marker)). y.0)
+      (whole-reached 0 217 EOI [] (record { is = eoi_code }) eoi_ends)
 
   pub filled-stops : (j : ℕ) → (reached_of (bytes ++ replicate j 255)).rest ≡ Err End
   filled-stops zero =

@@ -1,14 +1,15 @@
 -- The picture that is shown of what was found is that of the blocks that are held.
 use Rattle.std.proofs.Common.{◌≡◌, ℕ, zero, suc, ◌+◌, ◌*◌, ◌<◌, ◌≤◌, ◌≢◌, Bool, true, false, List, [], ◌∷◌, length}
-use Rattle.std.proofs.Common.{Option, Some, None, Result, Ok, refl, sym, ap, ◌∙◌, subst, arith, replicate, get_or}
-use Rattle.std.proofs.Common.{get_or-set_same, get_or-set_other}
+use Rattle.std.proofs.Common.{Option, Some, None, Result, Ok, Err, refl, sym, ap, ◌∙◌, subst, arith, replicate, get_or}
+use Rattle.std.proofs.Common.{get_or-set_same, get_or-set_other, nat_lt}
 use Rattle.std.specs.Prelude.{◌&&◌, fold, slice_index_or, unwrap_or, if◌then◌else◌}
 use Rattle.std.specs.List.{enumerate_from}
-use Rattle.jpeg_bits.specs.Reading.{Fault}
+use Rattle.jpeg_bits.specs.Reading.{Fault, Malformed}
 use Rattle.jpeg_segments.specs.Checks.{gathered, needed}
 use Rattle.jpeg_segments.specs.Frame.{Component, Frame}
 use Rattle.jpeg_segments.specs.declared.frame.CodingProcess.{CodingProcess}
 use Rattle.jpeg_segments.specs.declared.frame.CodingProcess.TheVariants.{Lossless}
+use Rattle.jpeg_segments.proofs.Codecs.{err-ok}
 use Rattle.jpeg_streams.specs.declared.settings.Settings.{Settings}
 use Rattle.jpeg_streams.specs.ArrayPictures.{as_sent}
 use Rattle.jpeg_streams.specs.Found.{Found, Said}
@@ -23,7 +24,7 @@ use Rattle.jpeg_streams.specs.WrittenScans.{Coefficients}
 use Rattle.jpeg_streams.proofs.Order.Apart.{At}
 use Rattle.jpeg_streams.proofs.Written.BroughtLevels.{Framed, Shaped, is_whole, zero-at, zero-holds}
 use Rattle.jpeg_streams.proofs.Order.FrameShapes.{scale-made}
-use Rattle.jpeg_streams.proofs.Pictures.LimitedPictures.{limited-same}
+use Rattle.jpeg_streams.proofs.Pictures.LimitedPictures.{limited-same, within as within_limit}
 use Rattle.jpeg_streams.proofs.Written.ReadTurns.{then-ok}
 use Rattle.jpeg_streams.proofs.Pictures.UpsampledFactors.{SamePlane}
 use Rattle.jpeg_streams.proofs.Written.WalkedStreams.{beside}
@@ -32,6 +33,16 @@ use Rattle.jpeg_streams.proofs.Written.WrittenPictures.{OnePlane, Progress, brin
 use Rattle.jpeg_streams.proofs.Written.WrittenPictures.{picture-by-same, planes-of}
 use Rattle.jpeg_streams.proofs.Partial.CompletedPictures.{all-stay, all_shown, one-stays}
 use Rattle.jpeg_evidence.specs.CutImages.{picture_held}
+
+-- a picture that is within the limit
+pub limit-passed : (settings : Settings) (frame : Frame) (x y : Result (List ℕ) Fault) (picture : List ℕ)
+    → within_limit settings frame x ≡ Ok picture → within_limit settings frame y ≡ y
+limit-passed settings frame x y picture e =
+    go (nat_lt settings.limit (length frame.components * (frame.output_width * frame.output_height))) e
+  where
+    go : (b : Bool) → (if b then Err Malformed else x) ≡ Ok picture → (if b then Err Malformed else y) ≡ y
+    go true e = absurd (err-ok Malformed picture e)
+    go false e = refl
 
 -- ---- what is completed
 

@@ -1,12 +1,11 @@
 -- The first blocks of a written scan that can be read of a beginning of its data stand whole in this.
-use Rattle.std.proofs.Common.{◌≡◌, ℕ, suc, ◌+◌, ◌%◌, ◌≤◌, Bool, true, false, List, [], ◌∷◌, ◌++◌, length, map, take}
-use Rattle.std.proofs.Common.{sym, ap, ◌∙◌, subst, Ok, Err, Option, Some, append_assoc, append-nil}
+use Rattle.std.proofs.Common.{◌≡◌, ℕ, suc, ◌+◌, ◌%◌, ◌≤◌, Bool, List, [], ◌∷◌, ◌++◌, length, map, take, sym, ap, ◌∙◌}
+use Rattle.std.proofs.Common.{subst, Ok, Option, Some, append_assoc, append-nil}
 use Rattle.std.specs.List.{AllByRecursion}
 use Rattle.std.proofs.lemmas.List.{append_cancel_right}
-use Rattle.std.specs.Prelude.{if◌then◌else◌, ◌&&◌}
-use Rattle.jpeg_bits.specs.Reading.{End, Malformed}
+use Rattle.jpeg_bits.specs.Reading.{End, Outcome}
 use Rattle.jpeg_bits.specs.Entropy.{Broken, Text, text_at}
-use Rattle.jpeg_bits.specs.Intervals.{first_group, is_restart, other_groups}
+use Rattle.jpeg_bits.specs.Intervals.{first_group, other_groups}
 use Rattle.jpeg_bits.specs.Passes.{Block, Pass, Via, predictors_at_start}
 use Rattle.jpeg_bits.specs.Readers.{text}
 use Rattle.jpeg_bits.specs.Written.{WritesInterval, WritesIntervals, marker}
@@ -15,35 +14,29 @@ use Rattle.jpeg_bits.specs.declared.marker.Marker.{Marker}
 use Rattle.jpeg_bits.specs.declared.marker.Marker.TheVariants.{RST}
 use Rattle.jpeg_bits.proofs.WrittenIntervals.{all-groups, marker-append}
 use Rattle.jpeg_segments.proofs.Codecs.{bind-ok, err-ok, ok-same}
-use Rattle.jpeg_streams.specs.Brought.{BlocksTo, after_interval, interval_reached}
+use Rattle.jpeg_streams.specs.Brought.{after_interval, interval_reached}
 use Rattle.jpeg_streams.specs.InTurn.{AreApart, IsIn, Reached, at_start, turns_from}
 use Rattle.jpeg_streams.specs.Order.{Spot}
 use Rattle.jpeg_streams.specs.Scans.{Arrays, turns_of}
 use Rattle.jpeg_streams.specs.WrittenData.{WritesBlocks}
 use Rattle.jpeg_streams.proofs.Order.CountedScans.{all_of, apart-back, apart-front, in-front}
+use Rattle.jpeg_streams.proofs.Partial.ReachedIntervals.{restart-stands}
 use Rattle.jpeg_streams.proofs.Written.WrittenFrameScans.{IsReadyAt, all-in}
 use Rattle.jpeg_evidence.specs.FirstBlocks.{BeginsInterval, BeginsIntervals}
 use Rattle.jpeg_evidence.specs.FirstBlocks.BeginsIntervals.{beyond, within}
-use Rattle.jpeg_evidence.proofs.Longer.FrontReaders.{Front, TakesFront, bind-front, fault-read, gives-front}
+use Rattle.jpeg_evidence.proofs.Longer.FrontReaders.{Front, TakesFront, fault-read}
 use Rattle.jpeg_evidence.proofs.Longer.FrontReaders.Front.{failed, gave}
-use Rattle.jpeg_evidence.proofs.Longer.LongerBits.{AreSized, turn-front}
-use Rattle.jpeg_evidence.proofs.Longer.LongerData.{CanReadOf, Met, both, interval-stays, text-grows}
+use Rattle.jpeg_evidence.proofs.Longer.LongerBits.{AreSized, turns-front}
+use Rattle.jpeg_evidence.proofs.Longer.LongerData.{CanReadOf, both, interval-stays, text-grows}
 use Rattle.jpeg_evidence.proofs.Longer.LongerScans.{CanReach, CanReachOf}
 use Rattle.jpeg_evidence.proofs.Longer.LongerScans.CanReach.{here, later}
-use Rattle.jpeg_evidence.proofs.Cut.ReachedFirst.{BeginsGroups, first-taken}
+use Rattle.jpeg_evidence.proofs.Cut.ReachedFirst.{BeginsGroups, first-turns}
 use Rattle.jpeg_evidence.proofs.Cut.StandingBlocks.{front-bits, turns-length}
 use Rattle.jpeg_evidence.proofs.Taken.StuffedTexts.{stuffed-begins, unstuffed}
 use Rattle.jpeg_evidence.proofs.Cut.WrittenCuts.{after_blocks, groups-are, groups-coded, interval-written, rst-marker}
 use Rattle.jpeg_evidence.proofs.Cut.WrittenCuts.{stays-ready}
 
 -- ---- an interval
-
-turns-front : (p : Pass) (vias : List Via) (spots : List Spot) (old : Reached)
-    → TakesFront (AreSized vias) (turns_from p vias spots old)
-unfolding turns_from
-turns-front p vias [] old = gives-front _ old
-turns-front p vias (s ∷ spots) old =
-    bind-front _ _ (turns_from p vias spots) (turn-front p vias s old) (λ x. turns-front p vias spots x)
 
 -- What is read of bits, and of longer ones that begin with the bits that it was written in, begins with these.
 own-bits : (p : Pass) (vias : List Via) (spots : List Spot) (old : Reached) (bits more own others : List Bool)
@@ -86,7 +79,7 @@ module _ (p : Pass) (vias : List Via) (u : Spot → Block) where
       ∙ append_assoc f.first f.others (w.filling ++ (text_at tail).bits) in
       let own = own-bits p vias some (at_start arrays) (text_at front).bits g.bits f.first others
       (turns-front p vias some (at_start arrays) (text_at front).bits) (c.read [])
-      (first-taken p vias spots arrays u count f.first others [] apart ready f.coded) (sym g.are ∙ written) in
+      (first-turns p vias spots arrays u count f.first others [] apart ready f.coded) (sym g.are ∙ written) in
       let whole = unstuffed front in
       record {
         bits = f.first;
@@ -100,13 +93,6 @@ module _ (p : Pass) (vias : List Via) (u : Spot → Block) where
       }
 
   -- ---- the intervals
-
-  after-read : (k : ℕ) (x : (Bool × Option Marker) × List ℕ) (b : List ℕ) → after_interval k x ≡ Ok b → x.1 ≡ b
-  after-read k x b h = go (x.0.0 && is_restart k x.0.1) h
-    where
-      go : (t : Bool) → (if t then Ok x.1 else Err Malformed) ≡ Ok b → x.1 ≡ b
-      go true h = ok-same x.1 b h
-      go false h = absurd (err-ok Malformed b h)
 
   first-stand : (k : ℕ) (spots : List Spot) (groups : List (List Spot)) (arrays : Arrays)
       (bytes front more : List ℕ) (count : ℕ) → AreApart (spots ++ all_of groups)
@@ -140,12 +126,13 @@ module _ (p : Pass) (vias : List Via) (u : Spot → Block) where
       let whole = interval-written p vias spots arrays u first fill code (RST (k % 8)) after
       (apart-front spots all apart)
       (all-in (IsReadyAt p vias arrays u) spots (λ s t. ready s (in-front s spots all t))) (rst-marker k) w in
-      let same : ◌≡◌ {A = Arrays × Met} (r.reached, Ok (x.0.0, x.0.1 ++ more))
-      (now, Ok ((true, Some (RST (k % 8))), after))
-      = sym stays ∙ ap (λ (y : BlocksTo (Bool × Option Marker)). both y) (ap (interval_reached p vias spots arrays) (sym parts) ∙ whole) in
+      let same : ◌≡◌ {A = Arrays × Outcome (Option Marker)} (r.reached, Ok (x.0.0, x.0.1 ++ more))
+      (now, Ok (Some (RST (k % 8)), after))
+      = sym stays ∙ ap (λ (l : List ℕ). both (interval_reached p vias spots arrays l)) (sym parts) ∙ whole in
       let rest : after ≡ left ++ more
-      = sym (ap (λ (y : (Bool × Option Marker) × List ℕ). y.1) (ok-same _ _ (ap (λ (y : Arrays × Met). y.1) same)))
-      ∙ ap (λ (l : List ℕ). l ++ more) (after-read k x.0 left x.2) in
+      = sym (ap (λ (y : Option Marker × List ℕ). y.1)
+      (ok-same _ _ (ap (λ (y : Arrays × Outcome (Option Marker)). y.1) same)))
+      ∙ ap (λ (l : List ℕ). l ++ more) (restart-stands k x.0 left x.2).1 in
       let begun : front ≡ first ++ marker fill code left
       = append_cancel_right front (first ++ marker fill code left) more (sym parts
       ∙ ap (λ (l : List ℕ). first ++ marker fill code l) rest
@@ -154,7 +141,7 @@ module _ (p : Pass) (vias : List Via) (u : Spot → Block) where
       let on = first-stand (suc k) next groups now after left more count' (apart-back spots all apart)
       (stays-ready p vias spots all arrays u apart ready) ws rest
       (subst (λ (a : Arrays). CanReach p vias (suc k) next groups a left count')
-      (ap (λ (y : Arrays × Met). y.0) same) c) in
+      (ap (λ (y : Arrays × Outcome (Option Marker)). y.0) same) c) in
       subst (λ (n : ℕ). BeginsIntervals p k (turns_of vias spots u)
       (map (λ (g : List Spot). turns_of vias g u) (next ∷ groups)) (n + count') front) (turns-length vias spots u)
       (subst (λ (l : List ℕ). BeginsIntervals p k (turns_of vias spots u)

@@ -1,9 +1,9 @@
 -- The first blocks of a scan whose data stand whole in some bytes can be read of these.
-use Rattle.std.proofs.Common.{◌≡◌, ℕ, suc, ◌+◌, ◌%◌, ◌≤◌, Bool, true, List, [], ◌∷◌, ◌++◌, map, take, drop, refl, sym}
-use Rattle.std.proofs.Common.{ap, ◌∙◌, subst, Ok, Err, Result, Option, Some, append_assoc, take-append-drop}
+use Rattle.std.proofs.Common.{◌≡◌, ℕ, suc, ◌+◌, ◌%◌, ◌≤◌, Bool, List, [], ◌∷◌, ◌++◌, map, take, drop, refl, sym, ap}
+use Rattle.std.proofs.Common.{◌∙◌, subst, Ok, Err, Result, Option, append_assoc, take-append-drop}
 use Rattle.std.specs.List.{AllByRecursion}
 use Rattle.std.proofs.lemmas.List.{take-map}
-use Rattle.jpeg_bits.specs.Reading.{Fault, End}
+use Rattle.jpeg_bits.specs.Reading.{Fault, End, Outcome}
 use Rattle.jpeg_bits.specs.Reading as outcomes
 use Rattle.jpeg_bits.specs.Entropy.{Broken, Text, text_at}
 use Rattle.jpeg_bits.specs.Intervals.{first_group, other_groups}
@@ -15,11 +15,11 @@ use Rattle.jpeg_bits.specs.declared.marker.Marker.TheVariants.{RST}
 use Rattle.jpeg_bits.proofs.ReadIntervals.{all-take}
 use Rattle.jpeg_bits.proofs.WrittenIntervals.{all-groups}
 use Rattle.jpeg_segments.proofs.Codecs.{err-ok, ok-same}
-use Rattle.jpeg_streams.specs.Brought.{BlocksTo, after_interval, interval_reached}
+use Rattle.jpeg_streams.specs.Brought.{after_interval, interval_reached}
 use Rattle.jpeg_streams.specs.InTurn.{AreApart, IsIn, Reached, at_start, turns_from}
 use Rattle.jpeg_streams.specs.Order.{Spot}
 use Rattle.jpeg_streams.specs.Scans.{Arrays, turns_of, via_at}
-use Rattle.jpeg_streams.proofs.Order.CountedScans.{all_of, apart-back, apart-front, arrays_in, in-front, in-turn, put_in}
+use Rattle.jpeg_streams.proofs.Order.CountedScans.{all_of, apart-back, apart-front, arrays_in, in-front}
 use Rattle.jpeg_streams.proofs.Written.WrittenFrameScans.{IsReadyAt, all-in}
 use Rattle.jpeg_evidence.specs.FirstBlocks.{BeginsInterval, BeginsIntervals, WritesFirst}
 use Rattle.jpeg_evidence.specs.FirstBlocks.BeginsIntervals.{beyond, within}
@@ -28,8 +28,8 @@ use Rattle.jpeg_evidence.proofs.Longer.LongerScans.{CanReach, CanReachOf}
 use Rattle.jpeg_evidence.proofs.Longer.LongerScans.CanReach.{here, later}
 use Rattle.jpeg_evidence.proofs.Cut.StandingBlocks.{turns-length}
 use Rattle.jpeg_evidence.proofs.Taken.StuffedTexts.{stuffed-begins}
-use Rattle.jpeg_evidence.proofs.Cut.WrittenCuts.{after_blocks, first-read, groups-are, interval-written, restart-met}
-use Rattle.jpeg_evidence.proofs.Cut.WrittenCuts.{rst-marker, stays-ready, whole}
+use Rattle.jpeg_evidence.proofs.Cut.WrittenCuts.{after_blocks, first-taken, groups-are, interval-written, restart-met}
+use Rattle.jpeg_evidence.proofs.Cut.WrittenCuts.{rst-marker, stays-ready}
 
 -- ---- the blocks of an interval
 
@@ -38,31 +38,27 @@ pub turns-take : (vias : List Via) (spots : List Spot) (u : Spot → Block) (n :
 unfolding turns_of
 turns-take vias spots u n = take-map (λ (s : Spot). (via_at vias s.slot, u s)) n spots
 
+-- what is put back was read
 some-read : (o : Result (Reached × Text) Fault) (y : Arrays × Text) → arrays_in o ≡ Ok y
-    → (r : Reached × Text) × (o ≡ Ok r)
-some-read (Ok r) y e = (r, refl)
+    → (r : Reached × Text) × (o ≡ Ok r) × (r.1.bits ≡ y.1.bits)
+some-read (Ok r) y e = (r, refl, ap (λ (x : Arrays × Text). x.1.bits) (ok-same (r.0.arrays, r.1) y e))
 some-read (Err g) y e = absurd (err-ok g y e)
 
-in-arrays : (r : Reached × Text) (y : Arrays × Text) → arrays_in (Ok r) ≡ Ok y → r.1 ≡ y.1
-in-arrays r y e = ap (λ (x : Arrays × Text). x.1) (ok-same (r.0.arrays, r.1) y e)
-
 -- The first blocks of an interval are read of the bits that they are written in.
-pub first-taken : (p : Pass) (vias : List Via) (spots : List Spot) (arrays : Arrays) (u : Spot → Block) (count : ℕ)
+pub first-turns : (p : Pass) (vias : List Via) (spots : List Spot) (arrays : Arrays) (u : Spot → Block) (count : ℕ)
     (bits tail : List Bool) (ps : List (List ℕ)) → AreApart spots → AllByRecursion (IsReadyAt p vias arrays u) spots
     → WritesFirst p predictors_at_start 0 (take count (turns_of vias spots u)) bits
     → (r : Reached × Text)
     × (turns_from p vias (take count spots) (at_start arrays) (text (bits ++ tail) ps (Broken End)) ≡ Ok r)
     × (r.1.bits ≡ tail)
-first-taken p vias spots arrays u count bits tail ps apart ready coded =
+first-turns p vias spots arrays u count bits tail ps apart ready coded =
     let some = take count spots in
     let is_apart = apart-front some (drop count spots) (subst AreApart (sym (take-append-drop count spots)) apart) in
     let w = subst (λ (l : List (Via × Block)). WritesFirst p predictors_at_start 0 l bits)
     (turns-take vias spots u count) coded in
-    let r = first-read p vias some arrays u bits (all-take (IsReadyAt p vias arrays u) count spots ready) w in
-    let e = in-turn p vias some arrays predictors_at_start 0 (text (bits ++ tail) ps (Broken End)) is_apart
-    ∙ ap (put_in some arrays) (r.read tail ps (Broken End)) in
-    let read = some-read (turns_from p vias some (at_start arrays) (text (bits ++ tail) ps (Broken End))) _ e in
-    (read.0, read.1, ap (λ (t : Text). t.bits) (in-arrays read.0 _ (sym (ap arrays_in read.1) ∙ e)))
+    some-read (turns_from p vias some (at_start arrays) (text (bits ++ tail) ps (Broken End))) _
+    ((first-taken p vias some arrays u bits is_apart (all-take (IsReadyAt p vias arrays u) count spots ready) w).read
+    tail ps (Broken End))
 
 -- The first blocks of an interval, whose data stand in these bytes, can be read of them.
 first-can : (p : Pass) (vias : List Via) (spots : List Spot) (arrays : Arrays) (u : Spot → Block) (bytes : List ℕ)
@@ -78,7 +74,7 @@ first-can p vias spots arrays u bytes count apart ready b =
     record {
       are_there = subst (λ (n : ℕ). count ≤ n) (turns-length vias spots u) b.are_there;
       read = λ ps.
-          let read = first-taken p vias spots arrays u count b.bits tail ps apart ready b.coded in (
+          let read = first-turns p vias spots arrays u count b.bits tail ps apart ready b.coded in (
             read.0,
             ap (λ (l : List Bool). turns_from p vias (take count spots) (at_start arrays) (text l ps (Broken End))) bits
                 ∙ read.1,
@@ -105,12 +101,11 @@ first-reach p vias u k spots (next ∷ groups) arrays bytes count apart ready
     let others = all_of (next ∷ groups) in
     let now = after_blocks p u spots arrays in
     let all = first ++ marker fill (0xD0 + k % 8) after in
-    let is : interval_reached p vias spots arrays all ≡ whole now ((true, Some (RST (k % 8))), after)
-    = interval-written p vias spots arrays u first fill (0xD0 + k % 8) (RST (k % 8)) after
+    let is = interval-written p vias spots arrays u first fill (0xD0 + k % 8) (RST (k % 8)) after
     (apart-front spots others apart)
     (all-in (IsReadyAt p vias arrays u) spots (λ s t. ready s (in-front s spots others t))) (rst-marker k) w in
     let ends : outcomes.◌>>=◌ (interval_reached p vias spots arrays all).rest (after_interval k) ≡ Ok after
-    = ap (λ (q : BlocksTo (Bool × Option Marker)). outcomes.◌>>=◌ q.rest (after_interval k)) is
+    = ap (λ (q : Arrays × Outcome (Option Marker)). outcomes.◌>>=◌ q.1 (after_interval k)) is
     ∙ restart-met k after in
     let more = first-reach p vias u (suc k) next groups now after count' (apart-back spots others apart)
     (stays-ready p vias spots others arrays u apart ready) b in
@@ -118,7 +113,7 @@ first-reach p vias u k spots (next ∷ groups) arrays bytes count apart ready
     (sym (turns-length vias spots u))
     (later k spots next groups arrays all after count' ends
     (subst (λ (a : Arrays). CanReach p vias (suc k) next groups a after count')
-    (sym (ap (λ (q : BlocksTo (Bool × Option Marker)). q.reached) is)) more))
+    (sym (ap (λ (q : Arrays × Outcome (Option Marker)). q.0) is)) more))
 
 -- the first blocks of groups of a scan's turns stand whole in these bytes
 abbrev pub BeginsGroups : Pass → ℕ → List ℕ → List (Via × Block) × List (List (Via × Block)) → Type 0

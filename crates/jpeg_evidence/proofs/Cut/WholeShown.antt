@@ -31,8 +31,8 @@ use Rattle.jpeg_streams.proofs.Written.ReadTurns.{walked}
 use Rattle.jpeg_streams.proofs.Written.WalkedStreams.{beside}
 use Rattle.jpeg_streams.proofs.Written.WrittenPictures.{ReadImage, bring, pictures-same}
 use Rattle.jpeg_evidence.proofs.Cut.CutHeld.{begins-end, end-next, last_turn}
+use Rattle.jpeg_evidence.proofs.Cut.CutPictures.{limit-passed}
 use Rattle.jpeg_evidence.proofs.Cut.CutScans.{past-of}
-use Rattle.jpeg_evidence.proofs.Cut.NamedFaults.{limit-passed}
 
 -- ---- the walk
 

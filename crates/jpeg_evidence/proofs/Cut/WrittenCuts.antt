@@ -1,31 +1,30 @@
 -- The data of a scan that were written are reached without a fault.
-use Rattle.std.proofs.Common.{◌≡◌, ◌+◌, ◌-◌, ◌%◌, ◌<◌, ℕ, suc, Bool, true, false, List, [], ◌∷◌, ◌++◌, length, map}
-use Rattle.std.proofs.Common.{refl, sym, ap, ap₂, ◌∙◌, subst, arith, Ok, Err, Result, Option, None, Some, append_assoc, ℤ}
-use Rattle.std.proofs.Common.{set}
-use Rattle.std.specs.Prelude.{nat_le}
+use Rattle.std.proofs.Common.{◌≡◌, ◌+◌, ◌-◌, ◌%◌, ◌<◌, ℕ, suc, Bool, List, [], ◌∷◌, ◌++◌, length, map, refl, sym, ap}
+use Rattle.std.proofs.Common.{ap₂, ◌∙◌, subst, arith, Ok, Err, Result, Option, Some, append_assoc, ℤ, set}
 use Rattle.std.specs.List.{AllByRecursion}
 use Rattle.std.proofs.lemmas.Bool.{eq-eqb}
 use Rattle.std.proofs.lemmas.Bool.Decides.{nat_tests}
 use Rattle.std.proofs.lemmas.Simd.{map-map}
-use Rattle.jpeg_bits.specs.Reading.{End, Fault, Outcome}
+use Rattle.jpeg_bits.specs.Reading.{Fault, Outcome}
 use Rattle.jpeg_bits.specs.Reading as outcomes
-use Rattle.jpeg_bits.specs.Entropy.{Broken, Ending, Found, Stops, Text, text_at}
-use Rattle.jpeg_bits.specs.Intervals.{end_after, first_group, interval, met, other_groups}
+use Rattle.jpeg_bits.specs.Entropy.{Ending, Text, closed, text_at}
+use Rattle.jpeg_bits.specs.Intervals.{end_after, first_group, interval, other_groups}
 use Rattle.jpeg_bits.specs.Marker.{marker_of}
 use Rattle.jpeg_bits.specs.Passes.{Block, Pass, Via, blocks_of, predictors_at_start}
-use Rattle.jpeg_bits.specs.Readers.{Reads, ReadsJust, read_on, text}
+use Rattle.jpeg_bits.specs.Readers.{Reads, ReadsJust, text}
 use Rattle.jpeg_bits.specs.Written.{IsMarker, WritesInterval, WritesIntervals, marker}
 use Rattle.jpeg_bits.specs.Written.WritesIntervals.{last, another}
+use Rattle.jpeg_bits.specs.declared.beyond.Beyond.TheVariants.{Nothing}
 use Rattle.jpeg_bits.specs.declared.marker.Marker.{Marker}
 use Rattle.jpeg_bits.specs.declared.marker.Marker.TheVariants.{EOI, RST}
 use Rattle.jpeg_bits.proofs.ReadIntervals.{all-map}
 use Rattle.jpeg_bits.proofs.WrittenBits.{takes-gives}
 use Rattle.jpeg_bits.proofs.WrittenIntervals.{all-groups, first-map, marker-append, others-map, reads-interval}
+use Rattle.jpeg_lossless.proofs.ReachedRows.{IsReached}
 use Rattle.jpeg_segments.proofs.Codecs.{bind-ok, err-ok, ok-same}
-use Rattle.jpeg_streams.specs.Brought.{BlocksTo, Through, after_interval, after_intervals, interval_end}
-use Rattle.jpeg_streams.specs.Brought.{interval_reached, intervals_reached, or_first, reached_from, scan_reached}
-use Rattle.jpeg_streams.specs.Brought.{sealed}
-use Rattle.jpeg_streams.specs.InTurn.{AreApart, IsIn, Reached, at_start, turn_from, turns_from}
+use Rattle.jpeg_streams.specs.Brought.{BlocksTo, after_interval, after_intervals, interval_reached}
+use Rattle.jpeg_streams.specs.Brought.{intervals_reached, or_first, reached_from, scan_reached, stopped, stopping}
+use Rattle.jpeg_streams.specs.InTurn.{AreApart, IsIn, Reached, at_start, turns_from}
 use Rattle.jpeg_streams.specs.Order.{Spot}
 use Rattle.jpeg_streams.specs.Scans.{Arrays, block_at, put_blocks, turns_of, via_at}
 use Rattle.jpeg_streams.specs.ScanSegments.{after_restarts}
@@ -33,7 +32,7 @@ use Rattle.jpeg_streams.specs.WrittenData.{WritesBlocks}
 use Rattle.jpeg_streams.specs.WrittenData.WritesBlocks.{block, done}
 use Rattle.jpeg_streams.proofs.Order.CountedScans.{all_of, apart-back, apart-between, apart-front, arrays_in, in-back}
 use Rattle.jpeg_streams.proofs.Order.CountedScans.{in-front, in-turn, others-kept, put_in}
-use Rattle.jpeg_streams.proofs.Partial.ReachedIntervals.{after_turn, next_reached}
+use Rattle.jpeg_streams.proofs.Partial.ReachedIntervals.{blocks-same, next_reached}
 use Rattle.jpeg_streams.proofs.Written.SentBlocks.{Suits, after_pass, numbers_of, reads_of}
 use Rattle.jpeg_streams.proofs.Written.WrittenBlocks.{IsReady, Predicts, takes-next}
 use Rattle.jpeg_streams.proofs.Written.WrittenFrameScans.{IsReadyAt, all-in, reads-arrays, start-predicts, turn_with}
@@ -41,19 +40,19 @@ use Rattle.jpeg_evidence.specs.FirstBlocks.{WritesFirst}
 use Rattle.jpeg_evidence.specs.FirstBlocks.WritesFirst.{next_block, no_more}
 use Rattle.jpeg_evidence.proofs.Longer.LongerBlocks.{reached_are_read}
 use Rattle.jpeg_evidence.proofs.Longer.LongerBits.{After}
-use Rattle.jpeg_evidence.proofs.Longer.LongerData.{Met}
-use Rattle.jpeg_evidence.proofs.Taken.TakenBits.{none-is}
+use Rattle.jpeg_evidence.proofs.Longer.LongerData.{both}
 
 -- ---- an interval
 
--- blocks of the bits alone, before the end that follows them
-abbrev pub restored : Ending → Result (Arrays × Text) Fault → Result (Arrays × Text) Fault
+-- blocks of bits that nothing follows where a marker ends them, before the end that does
+abbrev restored : Ending → Result (Arrays × Text) Fault → Result (Arrays × Text) Fault
 restored e (Ok r) = Ok (r.0, record r.1 { ending = e })
 restored e (Err f) = Err f
 
-abbrev pub sealed_read : Pass → List Via → List Spot → Arrays → Reads Arrays
-sealed_read p vias spots arrays t =
-    restored t.ending (arrays_in (turns_from p vias spots (at_start arrays) (sealed t)))
+abbrev stopping_read : Pass → List Via → List Spot → Arrays → Reads Arrays
+stopping_read p vias spots arrays t =
+    restored t.ending
+    (arrays_in (turns_from p vias spots (at_start arrays) (record t { ending = closed Nothing t.ending })))
 
 -- the arrays after written blocks
 abbrev pub after_blocks : Pass → (Spot → Block) → List Spot → Arrays → Arrays
@@ -70,7 +69,7 @@ takes-first p (t ∷ turns) predictors run bits predict ready
     takes-next p t turns predictors next run after dc ac more predict ready.0 wd wa
     (λ range. takes-first p turns (set predictors t.0.component next) after more range ready.1 w)
 
-pub first-read : (p : Pass) (vias : List Via) (spots : List Spot) (arrays : Arrays) (u : Spot → Block) (bits : List Bool)
+first-read : (p : Pass) (vias : List Via) (spots : List Spot) (arrays : Arrays) (u : Spot → Block) (bits : List Bool)
     → AllByRecursion (IsReadyAt p vias arrays u) spots
     → WritesFirst p predictors_at_start 0 (turns_of vias spots u) bits
     → ReadsJust (blocks_of p predictors_at_start 0 (turns_of vias spots (block_at arrays))) bits
@@ -90,126 +89,78 @@ all-first p predictors run (t ∷ turns) bits (block preds run' after via u more
     next_block predictors run after via u turns dc ac left next wd wa
     (all-first p (set predictors via.component next) after turns left w)
 
-pub takes-sealed : (p : Pass) (vias : List Via) (spots : List Spot) (arrays : Arrays) (u : Spot → Block) (bits : List Bool)
-    → AreApart spots → AllByRecursion (IsReadyAt p vias arrays u) spots
-    → WritesBlocks p predictors_at_start 0 (turns_of vias spots u) bits
-    → ReadsJust (sealed_read p vias spots arrays) bits (after_blocks p u spots arrays)
-takes-sealed p vias spots arrays u bits apart ready w = record {
-  read = λ rest following e. ap (restored e)
-      (in-turn p vias spots arrays predictors_at_start 0 (text (bits ++ rest) following (Broken End)) apart
-      ∙ ap (put_in spots arrays)
-      ((first-read p vias spots arrays u bits ready (all-first p predictors_at_start 0 _ bits w)).read rest following
-      (Broken End)));
+-- the first blocks of an interval, put back
+pub first-taken : (p : Pass) (vias : List Via) (spots : List Spot) (arrays : Arrays) (u : Spot → Block)
+    (bits : List Bool) → AreApart spots → AllByRecursion (IsReadyAt p vias arrays u) spots
+    → WritesFirst p predictors_at_start 0 (turns_of vias spots u) bits
+    → ReadsJust (λ t. arrays_in (turns_from p vias spots (at_start arrays) t)) bits (after_blocks p u spots arrays)
+first-taken p vias spots arrays u bits apart ready w = record {
+  read = λ rest following e.
+      in-turn p vias spots arrays predictors_at_start 0 (text (bits ++ rest) following e) apart
+      ∙ ap (put_in spots arrays) ((first-read p vias spots arrays u bits ready w).read rest following e);
 }
 
--- what is reached whole
-abbrev pub whole : {A B : Type 0} → A → B → Through A B
-whole x rest = record { reached = x; unread = None; rest = Ok rest }
+takes-stopping : (p : Pass) (vias : List Via) (spots : List Spot) (arrays : Arrays) (u : Spot → Block)
+    (bits : List Bool) → AreApart spots → AllByRecursion (IsReadyAt p vias arrays u) spots
+    → WritesBlocks p predictors_at_start 0 (turns_of vias spots u) bits
+    → ReadsJust (stopping_read p vias spots arrays) bits (after_blocks p u spots arrays)
+takes-stopping p vias spots arrays u bits apart ready w = record {
+  read = λ rest following e. ap (restored e)
+      ((first-taken p vias spots arrays u bits apart ready (all-first p predictors_at_start 0 _ bits w)).read rest
+      following (closed Nothing e));
+}
 
--- blocks that are all read are reached
-turns-reached : (p : Pass) (vias : List Via) (spots : List Spot) (old : Reached) (t : Text) (r : Reached × Text)
-    → turns_from p vias spots old t ≡ Ok r → reached_from p vias spots old t ≡ whole r.0 r.1.bits
-unfolding turns_from reached_from
-turns-reached p vias [] old t r e = ap (λ (q : Reached × Text). whole q.0 q.1.bits) (ok-same (old, t) r e)
-turns-reached p vias (s ∷ spots) old t r e = go (turn_from p vias s old t) e
-    (λ x y h. turns-reached p vias spots x y r h)
+-- what an interval's blocks reach
+abbrev reached_so : Pass → List Via → List Spot → Arrays → List ℕ → After
+reached_so p vias spots arrays bytes = reached_from p vias spots (at_start arrays) (stopping bytes)
+
+-- blocks that are read so are reached
+read-reached : (p : Pass) (vias : List Via) (spots : List Spot) (arrays : Arrays) (bytes : List ℕ)
+    (r : Arrays × Text) → stopping_read p vias spots arrays (text_at bytes) ≡ Ok r
+    → ((reached_so p vias spots arrays bytes).reached.arrays ≡ r.0)
+    × ((reached_so p vias spots arrays bytes).rest ≡ Ok r.1.bits)
+read-reached p vias spots arrays bytes r h =
+    go (turns_from p vias spots (at_start arrays) (stopping bytes)) h
+    (blocks-same p vias spots (at_start arrays) (stopping bytes))
   where
-    go : (o : Result (Reached × Text) Fault) → read_on (turns_from p vias spots) o ≡ Ok r
-        → ((x : Reached) (y : Text) → turns_from p vias spots x y ≡ Ok r
-        → reached_from p vias spots x y ≡ whole r.0 r.1.bits)
-        → after_turn p vias s spots old o ≡ whole r.0 r.1.bits
-    go (Ok q) h more = more q.0 q.1 h
-    go (Err g) h more = absurd (err-ok g r h)
-
-abbrev Read : Type 0
-Read = Outcome (Arrays × Option Marker)
-
--- with the end that is met
-abbrev ended_with : Arrays → Option Marker × List ℕ → Read
-ended_with arrays n = Ok ((arrays, n.0), n.1)
-
-abbrev tested_with : Bool → Option Marker × List ℕ → Met
-tested_with b n = Ok ((b, n.0), n.1)
-
-some-marker : (e : Ending) (arrays x : Arrays) (m : Marker) (rest : List ℕ)
-    → outcomes.◌>>=◌ (met e) (ended_with arrays) ≡ Ok ((x, Some m), rest)
-    → (arrays ≡ x) × (met e ≡ Ok (Some m, rest))
-some-marker (Broken f) arrays x m rest h = absurd (err-ok f _ h)
-some-marker (Found n others) arrays x m rest h =
-    let s = ok-same ((arrays, Some n), others) ((x, Some m), rest) h in (
-      ap (λ (y : (Arrays × Option Marker) × List ℕ). y.0.0) s,
-      ap (λ (y : (Arrays × Option Marker) × List ℕ). Ok (y.0.1, y.1)) s,
-    )
-some-marker (Stops n others) arrays x m rest h =
-    let s = ok-same ((arrays, Some n), others) ((x, Some m), rest) h in (
-      ap (λ (y : (Arrays × Option Marker) × List ℕ). y.0.0) s,
-      ap (λ (y : (Arrays × Option Marker) × List ℕ). Ok (y.0.1, y.1)) s,
-    )
-
-end-so : (k : ℕ) (bytes : List ℕ) (left : List Bool) (e : Ending) (arrays x : Arrays) (m : Marker) (rest : List ℕ)
-    (small : Bool) → nat_le (length left) 56 ≡ small
-    → outcomes.◌>>=◌ (end_after k bytes left e) (ended_with arrays)
-    ≡ Ok ((x, Some m), rest)
-    → (arrays ≡ x) × (nat_le (length left) 56 ≡ true) × (met e ≡ Ok (Some m, rest))
-unfolding end_after
-end-so k bytes left e arrays x m rest true s h =
-    let q = some-marker e arrays x m rest (rw (s, end_after) at h) in (q.0, s, q.1)
-end-so k bytes left e arrays x m rest false s h =
-    absurd (none-is m (ap (λ (y : (Arrays × Option Marker) × List ℕ). y.0.1)
-    (ok-same _ ((x, Some m), rest) (rw (s, end_after) at h))))
-
--- blocks that are read of bits alone are reached
-pub read-reached : (p : Pass) (vias : List Via) (spots : List Spot) (arrays : Arrays) (t : Text) (r : Arrays × Text)
-    → sealed_read p vias spots arrays t ≡ Ok r
-    → (q : Reached) × (reached_from p vias spots (at_start arrays) (sealed t) ≡ whole q r.1.bits) × (q.arrays ≡ r.0)
-read-reached p vias spots arrays t r h = go (turns_from p vias spots (at_start arrays) (sealed t)) refl h
-  where
-    go : (o : Result (Reached × Text) Fault) → turns_from p vias spots (at_start arrays) (sealed t) ≡ o
-        → restored t.ending (arrays_in o) ≡ Ok r
-        → (q : Reached) × (reached_from p vias spots (at_start arrays) (sealed t) ≡ whole q r.1.bits)
-        × (q.arrays ≡ r.0)
-    go (Err g) a e = absurd (err-ok g r e)
-    go (Ok q) a e =
+    go : (o : Result (Reached × Text) Fault) → restored (text_at bytes).ending (arrays_in o) ≡ Ok r
+        → IsReached (reached_so p vias spots arrays bytes).reached (reached_so p vias spots arrays bytes).rest o
+        → ((reached_so p vias spots arrays bytes).reached.arrays ≡ r.0)
+        × ((reached_so p vias spots arrays bytes).rest ≡ Ok r.1.bits)
+    go (Err g) e is = absurd (err-ok g r e)
+    go (Ok s) e is =
         let same = ok-same _ r e in (
-          q.0,
-          turns-reached p vias spots (at_start arrays) (sealed t) q a
-              ∙ ap (λ (y : Arrays × Text). whole q.0 y.1.bits) same,
-          ap (λ (y : Arrays × Text). y.0) same,
+          ap (λ (x : Reached). x.arrays) is.0 ∙ ap (λ (y : Arrays × Text). y.0) same,
+          is.1 ∙ ap (λ (y : Arrays × Text). Ok y.1.bits) same,
         )
 
--- an interval whose bits reach this, and one with these blocks, up to an end
-abbrev ended_so : Ending → After → BlocksTo (Bool × Option Marker)
-ended_so e r = record { reached = r.reached.arrays; unread = r.unread; rest = interval_end e r.rest }
-
-abbrev met_so : Arrays → Bool → Outcome (Option Marker) → BlocksTo (Bool × Option Marker)
-met_so arrays small o = record { reached = arrays; unread = None; rest = outcomes.◌>>=◌ o (tested_with small) }
-
--- An interval of which the bits alone are read up to a marker is reached.
-interval-sealed : (p : Pass) (vias : List Via) (spots : List Spot) (arrays x : Arrays) (bytes rest : List ℕ) (m : Marker)
-    → interval (sealed_read p vias spots arrays) bytes ≡ Ok ((x, Some m), rest)
-    → interval_reached p vias spots arrays bytes ≡ whole x ((true, Some m), rest)
+-- An interval that is read so up to its end is reached.
+interval-stopping : (p : Pass) (vias : List Via) (spots : List Spot) (arrays : Arrays) (bytes : List ℕ)
+    (y : (Arrays × Option Marker) × List ℕ) → interval (stopping_read p vias spots arrays) bytes ≡ Ok y
+    → both (interval_reached p vias spots arrays bytes) ≡ (y.0.0, Ok (y.0.1, y.1))
 unfolding interval interval_reached
-interval-sealed p vias spots arrays x bytes rest m h =
+interval-stopping p vias spots arrays bytes y h =
     let t = text_at bytes in
-    let r = bind-ok (sealed_read p vias spots arrays t) _ ((x, Some m), rest) h in
+    let r = bind-ok (stopping_read p vias spots arrays t) _ y h in
     let left = r.0.1.bits in
-    let is = read-reached p vias spots arrays t r.0 r.1 in
-    let q = end-so (length t.bits - length left) bytes left t.ending r.0.0 x m rest (nat_le (length left) 56) refl
-    r.2 in
-    ap (ended_so t.ending) is.1
-    ∙ ap₂ (λ (a : Arrays) (o : Outcome (Option Marker)). met_so a (nat_le (length left) 56) o) is.2 q.2
-    ∙ ap₂ (λ (y : Arrays) (b : Bool). whole y ((b, Some m), rest)) q.0 q.1
+    let m = bind-ok (end_after (length t.bits - length left) bytes left t.ending) _ y r.2 in
+    let is = read-reached p vias spots arrays bytes r.0 r.1 in
+    ap₂ (λ (a : Arrays) (o : Outcome (Option Marker)). (a, o)) is.0 (ap (stopped bytes) is.1 ∙ m.1)
+    ∙ ap (λ (z : (Arrays × Option Marker) × List ℕ). (z.0.0, Ok (z.0.1, z.1)))
+    (ok-same ((r.0.0, m.0.0), m.0.1) y m.2)
 
-pub interval-written : (p : Pass) (vias : List Via) (spots : List Spot) (arrays : Arrays) (u : Spot → Block) (bytes : List ℕ)
-    (fill code : ℕ) (m : Marker) (rest : List ℕ) → AreApart spots → AllByRecursion (IsReadyAt p vias arrays u) spots
-    → IsMarker code m → WritesInterval (WritesBlocks p predictors_at_start 0 (turns_of vias spots u)) bytes
-    → interval_reached p vias spots arrays (bytes ++ marker fill code rest)
-    ≡ whole (after_blocks p u spots arrays) ((true, Some m), rest)
+pub interval-written : (p : Pass) (vias : List Via) (spots : List Spot) (arrays : Arrays) (u : Spot → Block)
+    (bytes : List ℕ) (fill code : ℕ) (m : Marker) (rest : List ℕ) → AreApart spots
+    → AllByRecursion (IsReadyAt p vias arrays u) spots → IsMarker code m
+    → WritesInterval (WritesBlocks p predictors_at_start 0 (turns_of vias spots u)) bytes
+    → both (interval_reached p vias spots arrays (bytes ++ marker fill code rest))
+    ≡ (after_blocks p u spots arrays, Ok (Some m, rest))
 interval-written p vias spots arrays u bytes fill code m rest apart ready is w =
-    interval-sealed p vias spots arrays (after_blocks p u spots arrays) (bytes ++ marker fill code rest) rest m
-    (reads-interval (sealed_read p vias spots arrays) (WritesBlocks p predictors_at_start 0 (turns_of vias spots u))
-    (after_blocks p u spots arrays) (λ bits c. takes-sealed p vias spots arrays u bits apart ready c) bytes fill code m
-    rest is w)
+    interval-stopping p vias spots arrays (bytes ++ marker fill code rest)
+    ((after_blocks p u spots arrays, Some m), rest)
+    (reads-interval (stopping_read p vias spots arrays) (WritesBlocks p predictors_at_start 0 (turns_of vias spots u))
+    (after_blocks p u spots arrays) (λ bits c. takes-stopping p vias spots arrays u bits apart ready c) bytes fill code
+    m rest is w)
 
 -- ---- a scan
 
@@ -221,7 +172,7 @@ pub rst-marker : (k : ℕ) → IsMarker (0xD0 + k % 8) (RST (k % 8))
 rst-marker k = record { is = rst (k % 8) (omega arith) }
 
 -- where RST k is met, the next interval begins after it
-pub restart-met : (k : ℕ) (rest : List ℕ) → after_interval k ((true, Some (RST (k % 8))), rest) ≡ Ok rest
+pub restart-met : (k : ℕ) (rest : List ℕ) → after_interval k (Some (RST (k % 8)), rest) ≡ Ok rest
 restart-met k rest = rw (eq-eqb (k % 8) (k % 8) refl) refl
 
 -- the other blocks stay ready
@@ -241,13 +192,13 @@ stays-ready p vias spots others arrays u apart ready s t =
     }
 
 -- after an interval that ends with its restart marker
-pub one-more : (k : ℕ) (r : BlocksTo (Bool × Option Marker)) (x : Arrays) (rest : List ℕ)
+pub one-more : (k : ℕ) (r : BlocksTo (Option Marker)) (x : Arrays) (rest : List ℕ)
     (reached : Arrays → List ℕ → BlocksTo (Option Marker)) (unread : Option Spot)
-    → r ≡ whole x ((true, Some (RST (k % 8))), rest)
+    → both r ≡ (x, Ok (Some (RST (k % 8)), rest))
     → next_reached reached r.reached unread (outcomes.◌>>=◌ r.rest (after_interval k)) ≡ reached x rest
 one-more k r x rest reached unread e =
-    ap (λ (q : BlocksTo (Bool × Option Marker)).
-    next_reached reached q.reached unread (outcomes.◌>>=◌ q.rest (after_interval k))) e
+    ap (λ (q : Arrays × Outcome (Option Marker)).
+    next_reached reached q.0 unread (outcomes.◌>>=◌ q.1 (after_interval k))) e
     ∙ ap (next_reached reached x unread) (restart-met k rest)
 
 -- Written intervals are reached up to the marker after them.
@@ -261,7 +212,7 @@ pub intervals-written : (p : Pass) (vias : List Via) (u : Spot → Block) (fill 
     → (intervals_reached p vias k spots groups arrays (bytes ++ marker fill code rest)).rest ≡ Ok y
 unfolding intervals_reached
 intervals-written p vias u fill code m rest y is ends k spots [] arrays bytes apart ready (last k' one bytes' w) =
-    ap (λ (r : BlocksTo (Bool × Option Marker)). outcomes.◌>>=◌ r.rest after_intervals)
+    ap (λ (q : Arrays × Outcome (Option Marker)). outcomes.◌>>=◌ q.1 after_intervals)
     (interval-written p vias spots arrays u bytes fill code m rest (apart-front spots [] apart)
     (all-in (IsReadyAt p vias arrays u) spots (λ s t. ready s (in-front s spots [] t))) is w)
     ∙ ends
@@ -278,7 +229,7 @@ intervals-written p vias u fill code m rest y is ends k spots (next ∷ groups) 
     (one-more k (interval_reached p vias spots arrays (bytes ++ marker fill code rest)) now left
     (intervals_reached p vias (suc k) next groups)
     (or_first (interval_reached p vias spots arrays (bytes ++ marker fill code rest)).unread next)
-    (ap (interval_reached p vias spots arrays) parts
+    (ap (λ (l : List ℕ). both (interval_reached p vias spots arrays l)) parts
     ∙ interval-written p vias spots arrays u first fill' (0xD0 + k % 8) (RST (k % 8)) left
     (apart-front spots others apart)
     (all-in (IsReadyAt p vias arrays u) spots (λ s t. ready s (in-front s spots others t))) (rst-marker k) w))

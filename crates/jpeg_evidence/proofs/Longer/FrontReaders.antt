@@ -11,7 +11,7 @@ use Rattle.std.proofs.lemmas.List.FromFn.{get_or-map-range_with_len}
 use Rattle.std.specs.List.{range_with_len}
 use Rattle.std.specs.Option.{option_map}
 use Rattle.jpeg_bits.specs.Reading.{Fault, End, Malformed}
-use Rattle.jpeg_bits.specs.Entropy.{bits_from, has_bits, number_of, Broken, Ending, Text}
+use Rattle.jpeg_bits.specs.Entropy.{bits_from, has_bits, number_of, Broken, Ending, Found, Stops}
 use Rattle.jpeg_bits.specs.Readers.{Reads, ReadsJust, each, read_on, gives, refused, signed_from, text, ◌>>=◌}
 use Rattle.jpeg_bits.specs.Codes.{Table, begins, code_by, code_from, code_in, code_lengths, code_value, next_16}
 use Rattle.jpeg_bits.specs.Codes.{symbol_from}
@@ -26,6 +26,7 @@ use Rattle.jpeg_bits.specs.Written.{low_bits}
 use Rattle.jpeg_bits.specs.declared.huffman.codes.Row.{Row}
 use Rattle.jpeg_bits.proofs.CodeLemmas.{first_from, none_found, passed-none, rows_passed, still-passed}
 use Rattle.jpeg_bits.proofs.Tables.{ordered, rising-lengths}
+use Rattle.jpeg_bits.proofs.TakenTexts.{IsStrict}
 use Rattle.jpeg_bits.proofs.WrittenBits.{number_onto, takes-bind, takes-bits, takes-gives}
 use Rattle.jpeg_evidence.proofs.Taken.TakenBits.{front-number, none-is, some-is}
 
@@ -38,11 +39,17 @@ Breaks sized p bits =
     (more : List Bool) → (more ≡ []) ⊎ sized → (f : Ending) (ps : List (List ℕ))
     → p (text (bits ++ more) ps f) ≡ Err Malformed
 
+-- the fault where bits lack before a strict end
+abbrev pub lack_at : Ending → Fault
+lack_at (Broken f) = f
+lack_at e = Malformed
+
 -- These bits have this fault for a reader, where nothing follows them: a rule is broken before any end; or bits lack,
--- and the fault is the one that the data end with.
+-- and the fault is that of the end.
 pub data FaultIn {A : Type 0} (sized : Type 0) (p : Reads A) (bits : List Bool) (g : Fault) : Type 0 where
   rule : g ≡ Malformed → Breaks sized p bits → FaultIn sized p bits g
-  short : g ≡ End → ((h : Fault) (ps : List (List ℕ)) → p (text bits ps (Broken h)) ≡ Err h) → FaultIn sized p bits g
+  short : g ≡ End → ((e : Ending) → IsStrict e → (ps : List (List ℕ)) → p (text bits ps e) ≡ Err (lack_at e))
+      → FaultIn sized p bits g
 
 pub broken : {A sized : Type 0} (p : Reads A) (bits : List Bool) (f : Ending) (ps : List (List ℕ)) → Breaks sized p bits
     → p (text bits ps f) ≡ Err Malformed
@@ -51,7 +58,13 @@ broken p bits f ps is = ap (λ (b : List Bool). p (text b ps f)) (sym (append-ni
 pub fault-read : {A sized : Type 0} (p : Reads A) (bits : List Bool) (g : Fault) (ps : List (List ℕ))
     → FaultIn sized p bits g → p (text bits ps (Broken End)) ≡ Err g
 fault-read p bits g ps (rule m is) = broken p bits (Broken End) ps is ∙ ap Err (sym m)
-fault-read p bits g ps (short m is) = is End ps ∙ ap Err (sym m)
+fault-read p bits g ps (short m is) = is (Broken End) tt ps ∙ ap Err (sym m)
+
+-- the fault before a strict end
+pub strict-fault : {A sized : Type 0} (p : Reads A) (bits : List Bool) (g : Fault) (e : Ending) → IsStrict e
+    → FaultIn sized p bits g → (k : Fault) × ((ps : List (List ℕ)) → p (text bits ps e) ≡ Err k)
+strict-fault p bits g e s (rule m is) = (Malformed, λ ps. broken p bits e ps is)
+strict-fault p bits g e s (short m is) = (lack_at e, λ ps. is e s ps)
 
 -- What is read of these bits: some first ones, whatever comes after them; or a fault where nothing does.
 pub data Front {A : Type 0} (sized : Type 0) (p : Reads A) (bits : List Bool) : Type 0 where
@@ -63,12 +76,12 @@ pub own-read : {A : Type 0} (p : Reads A) (own left bits : List Bool) (x : A) (p
     → bits ≡ own ++ left → ReadsJust p own x → p (text bits ps e) ≡ Ok (x, text left (drop (length own) ps) e)
 own-read p own left bits x ps e is r = ap (λ (b : List Bool). p (text b ps e)) is ∙ r.read left ps e
 
-pub fault-bind : {A B sized : Type 0} (p : Reads A) (f : A → Reads B) (bits : List Bool) (g : Fault)
+fault-bind : {A B sized : Type 0} (p : Reads A) (f : A → Reads B) (bits : List Bool) (g : Fault)
     → FaultIn sized p bits g → FaultIn sized (p >>= f) bits g
 fault-bind p f bits g (rule m is) = rule m (λ more so e ps. ap (read_on f) (is more so e ps))
-fault-bind p f bits g (short m is) = short m (λ h ps. ap (read_on f) (is h ps))
+fault-bind p f bits g (short m is) = short m (λ h s ps. ap (read_on f) (is h s ps))
 
-pub fault-after : {A B sized : Type 0} (p : Reads A) (f : A → Reads B) (own left bits : List Bool) (x : A) (g : Fault)
+fault-after : {A B sized : Type 0} (p : Reads A) (f : A → Reads B) (own left bits : List Bool) (x : A) (g : Fault)
     → bits ≡ own ++ left → ReadsJust p own x → FaultIn sized (f x) left g → FaultIn sized (p >>= f) bits g
 fault-after p f own left bits x g e r (rule m is) =
     rule m (λ more so d ps.
@@ -76,27 +89,13 @@ fault-after p f own left bits x g e r (rule m is) =
     (ap (λ (b : List Bool). b ++ more) e ∙ append_assoc own left more) r)
     ∙ is more so d (drop (length own) ps))
 fault-after p f own left bits x g e r (short m is) =
-    short m (λ h ps. ap (read_on f) (own-read p own left bits x ps (Broken h) e r) ∙ is h (drop (length own) ps))
+    short m (λ h s ps. ap (read_on f) (own-read p own left bits x ps h e r) ∙ is h s (drop (length own) ps))
 
 unfoldable pub TakesFront : {A : Type 0} → Type 0 → Reads A → Type 0
 TakesFront sized p = (bits : List Bool) → Front sized p bits
 
 pub err-same : {A : Type 0} (f g : Fault) → ◌≡◌ {A = Result A Fault} (Err f) (Err g) → f ≡ g
 err-same f g e = cc
-
--- The fault of a reader that reads on, by what is reached after its first part.
-pub bound-fault : {A B sized : Type 0} (p : Reads A) (f : A → Reads B) (bits : List Bool) (ps : List (List ℕ))
-    (g : Fault) (after : Result (A × Text) Fault → Result (List Bool) Fault) → Front sized p bits
-    → ((h : Fault) → after (Err h) ≡ Err h)
-    → ((x : A) (left : List Bool) (qs : List (List ℕ)) → after (Ok (x, text left qs (Broken End))) ≡ Err g
-    → FaultIn sized (f x) left g)
-    → after (p (text bits ps (Broken End))) ≡ Err g → FaultIn sized (p >>= f) bits g
-bound-fault {sized = sized} p f bits ps g after (failed h is) errs others e =
-    subst (FaultIn sized (p >>= f) bits) (err-same h g (sym (ap after (fault-read p bits h ps is) ∙ errs h) ∙ e))
-    (fault-bind p f bits h is)
-bound-fault p f bits ps g after (gave own left x are r) errs others e =
-    fault-after p f own left bits x g are r (others x left (drop (length own) ps)
-    (sym (ap after (own-read p own left bits x ps (Broken End) are r)) ∙ e))
 
 then-front : {A B sized : Type 0} (p : Reads A) (f : A → Reads B) → ((x : A) → TakesFront sized (f x))
     → (bits : List Bool) → Front sized p bits → Front sized (p >>= f) bits
@@ -138,13 +137,15 @@ front-long : (n : ℕ) (bits : List Bool) → n ≤ length bits → length (take
 front-long n bits h = omega (arith, length-take n bits)
 
 -- bits that aren't all there
-too-few : (n : ℕ) (bits : List Bool) (h : Fault) → length bits < n → has_bits n bits (Broken h) ≡ Err h
-too-few n bits h few = rw (lt-leb n (length bits) few) refl
+too-few : (n : ℕ) (bits : List Bool) (e : Ending) → IsStrict e → length bits < n → has_bits n bits e ≡ Err (lack_at e)
+too-few n bits (Found m rest) s few = absurd s
+too-few n bits (Stops m rest) s few = rw (lt-leb n (length bits) few) refl
+too-few n bits (Broken f) s few = rw (lt-leb n (length bits) few) refl
 
 bits-by : {sized : Type 0} (n : ℕ) (bits : List Bool) → (length bits < n) ⊎ (n ≤ length bits)
     → Front sized (bits_from n) bits
 unfolding bits_from
-bits-by n bits (inl few) = failed End (short refl (λ h ps. rw (too-few n bits h few) refl))
+bits-by n bits (inl few) = failed End (short refl (λ e s ps. rw (too-few n bits e s few) refl))
 bits-by n bits (inr le) = gave (take n bits) (drop n bits) (number_of (take n bits)) (sym (take-append-drop n bits))
     (takes-bits n (take n bits) (front-long n bits le))
 
@@ -213,8 +214,9 @@ code-index lens (Some i) c e =
     (ap (λ (x : ℕ × ℕ). Some x.0) s, sym (ap (λ (x : ℕ × ℕ). x.1) s) ∙ ap (λ (x : ℕ × ℕ). slice_index lens x.0) s)
 
 -- the code that begins some bits, where all its bits are among them, begins all that begin with it
-code-same : (counts : List ℕ) (bits rest : List Bool) (c : ℕ × ℕ) → code_in (code_lengths counts) (next_16 bits) ≡ Some c
-    → c.1 ≤ length bits → code_in (code_lengths counts) (next_16 (take c.1 bits ++ rest)) ≡ Some c
+code-same : (counts : List ℕ) (bits rest : List Bool) (c : ℕ × ℕ)
+    → code_in (code_lengths counts) (next_16 bits) ≡ Some c → c.1 ≤ length bits
+    → code_in (code_lengths counts) (next_16 (take c.1 bits ++ rest)) ≡ Some c
 unfolding code_in
 code-same counts bits rest c e le =
     let lens = code_lengths counts in
@@ -235,10 +237,11 @@ code-by : {sized : Type 0} (table : Table) (bits : List Bool) (c : ℕ × ℕ)
     → Front sized (code_from table) bits
 unfolding code_from
 code-by table bits c h (inl few) =
-    failed End (short refl (λ e ps. ap (code_by table (text bits ps (Broken e))) h ∙ rw (too-few c.1 bits e few) refl))
+    failed End (short refl (λ e s ps. ap (code_by table (text bits ps e)) h ∙ rw (too-few c.1 bits e s few) refl))
 code-by table bits c h (inr le) =
     let long = front-long c.1 bits le in
-    gave (take c.1 bits) (drop c.1 bits) (c.1, slice_index table.symbols c.0) (sym (take-append-drop c.1 bits)) (record {
+    gave (take c.1 bits) (drop c.1 bits) (c.1, slice_index table.symbols c.0)
+    (sym (take-append-drop c.1 bits)) (record {
       read = λ rest ps e.
           let own = take c.1 bits in
           ap (code_by table (text (own ++ rest) ps e)) (code-same table.counts bits rest c h le)

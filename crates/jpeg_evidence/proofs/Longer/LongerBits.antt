@@ -5,6 +5,7 @@ use Rattle.jpeg_bits.specs.Reading.{End, Fault}
 use Rattle.jpeg_bits.specs.Entropy.{Broken, Ending, Text}
 use Rattle.jpeg_bits.specs.Passes.{Pass, Via}
 use Rattle.jpeg_bits.specs.Readers.{ReadsJust, read_on, text}
+use Rattle.jpeg_bits.proofs.TakenTexts.{IsStrict}
 use Rattle.jpeg_bits.proofs.WrittenBits.{following-after}
 use Rattle.jpeg_segments.proofs.Codecs.{err-ok}
 use Rattle.jpeg_streams.specs.Brought.{Through, reached_from}
@@ -13,8 +14,8 @@ use Rattle.jpeg_streams.specs.Order.{Spot}
 use Rattle.jpeg_streams.specs.Scans.{via_at}
 use Rattle.jpeg_streams.proofs.Partial.ReachedIntervals.{after_turn}
 use Rattle.jpeg_evidence.specs.LongerStreams.{GoesOn}
-use Rattle.jpeg_evidence.proofs.Longer.FrontReaders.{Front, TakesFront, bind-front, block-front, fault-read, gives-front}
-use Rattle.jpeg_evidence.proofs.Longer.FrontReaders.{own-read}
+use Rattle.jpeg_evidence.proofs.Longer.FrontReaders.{FaultIn, Front, TakesFront, bind-front, block-front, fault-read}
+use Rattle.jpeg_evidence.proofs.Longer.FrontReaders.{gives-front, own-read, strict-fault}
 use Rattle.jpeg_evidence.proofs.Longer.FrontReaders.Front.{gave, failed}
 
 -- the tables of a component have 16 counts, and those of all
@@ -24,13 +25,20 @@ HasSized v = (length v.dc.counts ≡ 16) × (length v.ac.counts ≡ 16)
 abbrev pub AreSized : List Via → Type 0
 AreSized vias = (slot : ℕ) → HasSized (via_at vias slot)
 
-pub turn-front : (p : Pass) (vias : List Via) (s : Spot) (old : Reached)
+turn-front : (p : Pass) (vias : List Via) (s : Spot) (old : Reached)
     → TakesFront (AreSized vias) (turn_from p vias s old)
 unfolding turn_from
 turn-front p vias s old =
     let dc : AreSized vias → length (via_at vias s.slot).dc.counts ≡ 16 = λ sized. (sized s.slot).0 in
     let ac : AreSized vias → length (via_at vias s.slot).ac.counts ≡ 16 = λ sized. (sized s.slot).1 in
     search (rules, bind-front, block-front, gives-front)
+
+pub turns-front : (p : Pass) (vias : List Via) (spots : List Spot) (old : Reached)
+    → TakesFront (AreSized vias) (turns_from p vias spots old)
+unfolding turns_from
+turns-front p vias [] old = gives-front _ old
+turns-front p vias (s ∷ spots) old =
+    bind-front _ _ (turns_from p vias spots) (turn-front p vias s old) (λ x. turns-front p vias spots x)
 
 -- The first of these blocks, so many, can be read of the bits alone.
 pub record CanRead (p : Pass) (vias : List Via) (spots : List Spot) (old : Reached) (bits : List Bool) (count : ℕ)
@@ -44,11 +52,12 @@ pub record CanRead (p : Pass) (vias : List Via) (spots : List Spot) (old : Reach
 abbrev pub After : Type 0
 After = Through Reached (List Bool)
 
--- What is reached of these bits, all blocks that can be read, that more bits go on from there, and the first block that
--- isn't read.
-pub record Stops (p : Pass) (vias : List Via) (spots : List Spot) (old : Reached) (bits : List Bool) : Type 0 where
+-- What is reached of these bits before this end, all blocks that can be read, that more bits go on from there, and the
+-- first block that isn't read.
+pub record Stops (p : Pass) (vias : List Via) (spots : List Spot) (old : Reached) (bits : List Bool) (e : Ending)
+    : Type 0 where
   pub end : After
-  pub whole : (ps : List (List ℕ)) → reached_from p vias spots old (text bits ps (Broken End)) ≡ end
+  pub whole : (ps : List (List ℕ)) → reached_from p vias spots old (text bits ps e) ≡ end
   pub goes : GoesOn p vias spots old bits end.reached
   pub can : CanRead p vias spots old bits (length goes.done)
   pub most : (count : ℕ) → CanRead p vias spots old bits count → count ≤ length goes.done
@@ -72,13 +81,13 @@ none-goes p vias spots old bits = record {
   left = bits;
   spots_are = refl;
   bits_are = refl;
-  brought = λ ps. refl;
+  brought = λ ps f. refl;
   longer = λ more ps f. refl;
 }
 
-none-stops : (p : Pass) (vias : List Via) (old : Reached) (bits : List Bool) → Stops p vias [] old bits
+none-stops : (p : Pass) (vias : List Via) (old : Reached) (bits : List Bool) (e : Ending) → Stops p vias [] old bits e
 unfolding reached_from none-goes
-none-stops p vias old bits = record {
+none-stops p vias old bits e = record {
   end = record { reached = old; unread = None; rest = Ok bits };
   whole = λ ps. refl;
   goes = none-goes p vias [] old bits;
@@ -98,15 +107,15 @@ failed-most p vias s spots old bits g is (suc n) c =
     absurd (err-ok g r.0 (sym (ap (read_on (turns_from p vias (take n spots))) (is [])) ∙ r.1))
 
 failed-stops : (p : Pass) (vias : List Via) (s : Spot) (spots : List Spot) (old : Reached) (bits : List Bool)
-    (g : Fault) → ((ps : List (List ℕ)) → turn_from p vias s old (text bits ps (Broken End)) ≡ Err g)
-    → Stops p vias (s ∷ spots) old bits
+    (e : Ending) (g : Fault) → IsStrict e → FaultIn (AreSized vias) (turn_from p vias s old) bits g
+    → Stops p vias (s ∷ spots) old bits e
 unfolding reached_from none-goes
-failed-stops p vias s spots old bits g is = record {
-  end = record { reached = old; unread = Some s; rest = Err g };
-  whole = λ ps. ap (after_turn p vias s spots old) (is ps);
+failed-stops p vias s spots old bits e g strict is = record {
+  end = record { reached = old; unread = Some s; rest = Err (strict-fault _ bits g e strict is).0 };
+  whole = λ ps. ap (after_turn p vias s spots old) ((strict-fault _ bits g e strict is).1 ps);
   goes = none-goes p vias (s ∷ spots) old bits;
   can = none-can p vias (s ∷ spots) old bits;
-  most = failed-most p vias s spots old bits g is;
+  most = failed-most p vias s spots old bits g (λ ps. fault-read _ bits g ps is);
   unread = refl;
 }
 
@@ -167,14 +176,13 @@ next-most p vias s spots old x own left bits is r m most (suc n) c =
     omega arith
 
 next-stops : (p : Pass) (vias : List Via) (s : Spot) (spots : List Spot) (old x : Reached) (own left bits : List Bool)
-    → bits ≡ own ++ left → ReadsJust (turn_from p vias s old) own x → Stops p vias spots x left
-    → Stops p vias (s ∷ spots) old bits
-next-stops p vias s spots old x own left bits is r rest =
+    (e : Ending) → bits ≡ own ++ left → ReadsJust (turn_from p vias s old) own x → Stops p vias spots x left e
+    → Stops p vias (s ∷ spots) old bits e
+next-stops p vias s spots old x own left bits e is r rest =
     let g = rest.goes in
     record {
       end = rest.end;
-      whole = λ ps. next-turn p vias s spots old x own left bits ps (Broken End) is r
-          ∙ rest.whole (drop (length own) ps);
+      whole = λ ps. next-turn p vias s spots old x own left bits ps e is r ∙ rest.whole (drop (length own) ps);
       goes = record {
         done = s ∷ g.done;
         others = g.others;
@@ -182,8 +190,8 @@ next-stops p vias s spots old x own left bits is r rest =
         left = g.left;
         spots_are = ap (λ (l : List Spot). s ∷ l) g.spots_are;
         bits_are = is ∙ ap (λ (b : List Bool). own ++ b) g.bits_are ∙ sym (append_assoc own g.taken g.left);
-        brought = λ ps. next-turn p vias s g.done old x own left bits ps (Broken End) is r
-            ∙ g.brought (drop (length own) ps);
+        brought = λ ps f. next-turn p vias s g.done old x own left bits ps f is r
+            ∙ g.brought (drop (length own) ps) f;
         longer = λ more ps f. next-turn p vias s spots old x own (left ++ more) (bits ++ more) ps f
             (ap (λ (b : List Bool). b ++ more) is ∙ append_assoc own left more) r
             ∙ g.longer more (drop (length own) ps) f
@@ -195,21 +203,21 @@ next-stops p vias s spots old x own left bits is r rest =
       unread = rest.unread;
     }
 
-pub stops : (p : Pass) (vias : List Via) (spots : List Spot) (old : Reached) (bits : List Bool)
-    → Stops p vias spots old bits
+pub stops : (p : Pass) (vias : List Via) (spots : List Spot) (old : Reached) (bits : List Bool) (e : Ending)
+    → IsStrict e → Stops p vias spots old bits e
 unfolding TakesFront
-stops p vias [] old bits = none-stops p vias old bits
-stops p vias (s ∷ spots) old bits =
-    go (turn-front p vias s old bits) (λ x left. stops p vias spots x left)
+stops p vias [] old bits e strict = none-stops p vias old bits e
+stops p vias (s ∷ spots) old bits e strict =
+    go (turn-front p vias s old bits) (λ x left. stops p vias spots x left e strict)
   where
     go : Front (AreSized vias) (turn_from p vias s old) bits
-        → ((x : Reached) (left : List Bool) → Stops p vias spots x left) → Stops p vias (s ∷ spots) old bits
-    go (failed g is) others = failed-stops p vias s spots old bits g (λ ps. fault-read _ bits g ps is)
-    go (gave own left x e r) others = next-stops p vias s spots old x own left bits e r (others x left)
+        → ((x : Reached) (left : List Bool) → Stops p vias spots x left e) → Stops p vias (s ∷ spots) old bits e
+    go (failed g is) others = failed-stops p vias s spots old bits e g strict is
+    go (gave own left x are r) others = next-stops p vias s spots old x own left bits e are r (others x left)
 
 -- Bits bring blocks, and more bits go on from there.
 pub longer_bits_go_on : (p : Pass) (vias : List Via) (spots : List Spot) (old : Reached) (bits : List Bool)
     → GoesOn p vias spots old bits (reached_from p vias spots old (text bits [] (Broken End))).reached
 longer_bits_go_on p vias spots old bits =
-    let s = stops p vias spots old bits in
+    let s = stops p vias spots old bits (Broken End) tt in
     subst (λ (x : After). GoesOn p vias spots old bits x.reached) (sym (s.whole [])) s.goes

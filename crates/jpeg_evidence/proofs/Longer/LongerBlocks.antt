@@ -50,5 +50,5 @@ pub reached_are_read : (p : Pass) (n : ℕ) (vias : List Via) (spots : List Spot
     → (m : Option Marker) × (rest : List ℕ)
     × (arrays_at p n vias spots arrays bytes ≡ Ok (((scan_reached p n vias spots arrays bytes).reached, m), rest))
 reached_are_read p n vias spots arrays bytes x apart h =
-    let r = intervals-read p vias 0 (first_group n spots) (other_groups n spots) arrays bytes x.0 x.1 h in
-    (r.marker, r.others, scans-in-turn p n vias spots arrays bytes apart ∙ r.read)
+    let r = intervals-read p vias 0 (first_group n spots) (other_groups n spots) arrays bytes x h in
+    (r.0.0, r.0.1, scans-in-turn p n vias spots arrays bytes apart ∙ r.1)

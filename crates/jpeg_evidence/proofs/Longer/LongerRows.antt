@@ -1,19 +1,21 @@
 -- Longer data of a lossless scan bring the rows of MCUs that their front brings, and more after them.
 use Rattle.std.proofs.Common.{rules, ◌≡◌, ℕ, suc, Bool, List, [], ◌∷◌, ◌++◌, length, drop, refl, sym, ap, ◌∙◌, subst}
 use Rattle.std.proofs.Common.{Ok, Err, Result, append_assoc}
-use Rattle.jpeg_bits.specs.Reading.{End, Fault}
+use Rattle.jpeg_bits.specs.Reading.{Fault}
 use Rattle.jpeg_bits.specs.Reading as outcomes
-use Rattle.jpeg_bits.specs.Entropy.{Broken, Text, text_at}
+use Rattle.jpeg_bits.specs.Entropy.{Ending, Text, text_at}
 use Rattle.jpeg_bits.specs.Codes.{Table}
 use Rattle.jpeg_bits.specs.Readers.{ReadsJust, each, text}
+use Rattle.jpeg_bits.proofs.TakenTexts.{IsStrict, stopping-strict}
 use Rattle.jpeg_segments.proofs.Codecs.{bind-ok}
 use Rattle.jpeg_lossless.specs.Differences.{sample_difference}
 use Rattle.jpeg_lossless.specs.RowsReached.{rows_reached}
-use Rattle.jpeg_streams.specs.Brought.{after_interval, interval_rows_reached, scan_rows_reached}
+use Rattle.jpeg_lossless.proofs.ReachedRows.{each_row, rows-same}
+use Rattle.jpeg_streams.specs.Brought.{after_interval, interval_rows_reached, scan_rows_reached, stopping}
 use Rattle.jpeg_streams.proofs.Partial.RowIntervals.{Scanned, next_reached}
 use Rattle.jpeg_evidence.specs.LongerStreams.{RowsGoOn}
-use Rattle.jpeg_evidence.proofs.Longer.FrontReaders.{Front, TakesFront, bind-front, each-front, fault-read, gives-front}
-use Rattle.jpeg_evidence.proofs.Longer.FrontReaders.{if-front, own-read, refused-front, signed-front, symbol-front}
+use Rattle.jpeg_evidence.proofs.Longer.FrontReaders.{Front, TakesFront, bind-front, each-front, gives-front, if-front}
+use Rattle.jpeg_evidence.proofs.Longer.FrontReaders.{own-read, refused-front, signed-front, strict-fault, symbol-front}
 use Rattle.jpeg_evidence.proofs.Longer.FrontReaders.Front.{gave, failed}
 use Rattle.jpeg_evidence.proofs.Longer.LongerData.{Met, StaysBrought, text-grows, text-stays}
 use Rattle.jpeg_evidence.proofs.Longer.LongerScans.{after-same, last-stays, next-stays}
@@ -41,67 +43,48 @@ abbrev After : Type 0
 After = Rows × Result (List Bool) Fault
 
 -- what is reached after the next row
-abbrev pub after_row : List (List Table) → Result (List ℕ × Text) Fault → After
+abbrev after_row : List (List Table) → Result (List ℕ × Text) Fault → After
 after_row rows o = elim o [
   | Ok r ↦ (r.0 ∷ (rows_reached rows r.1).0, (rows_reached rows r.1).1)
   | Err fault ↦ ([], Err fault)
 ]
 
--- What is reached of these bits, whatever follows them, and first of more bits.
-record Stops (rows : List (List Table)) (bits : List Bool) : Type 0 where
-  end : After
-  whole : (ps : List (List ℕ)) → rows_reached rows (text bits ps (Broken End)) ≡ end
-  longer : (more : List Bool) (ps : List (List ℕ))
-      → GoOn end.0 (rows_reached rows (text (bits ++ more) ps (Broken End))).0
-
-none-stops : (bits : List Bool) → Stops [] bits
-unfolding rows_reached
-none-stops bits = record { end = ([], Ok bits); whole = λ ps. refl; longer = λ more ps. ([], refl) }
-
-failed-stops : (tables : List Table) (rows : List (List Table)) (bits : List Bool) (g : Fault)
-    → ((ps : List (List ℕ)) → each sample_difference tables (text bits ps (Broken End)) ≡ Err g)
-    → Stops (tables ∷ rows) bits
-unfolding rows_reached
-failed-stops tables rows bits g is = record {
-  end = ([], Err g);
-  whole = λ ps. ap (after_row rows) (is ps);
-  longer = λ more ps. (_, refl);
-}
-
 -- the next row of bits that begin with its own
 next-row : (tables : List Table) (rows : List (List Table)) (x : List ℕ) (own rest bits : List Bool)
-    (ps : List (List ℕ)) → bits ≡ own ++ rest → ReadsJust (each sample_difference tables) own x
-    → rows_reached (tables ∷ rows) (text bits ps (Broken End))
-    ≡ after_row rows (Ok (x, text rest (drop (length own) ps) (Broken End)))
+    (ps : List (List ℕ)) (e : Ending) → bits ≡ own ++ rest → ReadsJust (each sample_difference tables) own x
+    → rows_reached (tables ∷ rows) (text bits ps e) ≡ after_row rows (Ok (x, text rest (drop (length own) ps) e))
 unfolding rows_reached
-next-row tables rows x own rest bits ps is r =
-    ap (after_row rows) (own-read (each sample_difference tables) own rest bits x ps (Broken End) is r)
+next-row tables rows x own rest bits ps e is r =
+    ap (after_row rows) (own-read (each sample_difference tables) own rest bits x ps e is r)
 
-next-stops : (tables : List Table) (rows : List (List Table)) (x : List ℕ) (own left bits : List Bool)
-    → bits ≡ own ++ left → ReadsJust (each sample_difference tables) own x → Stops rows left
-    → Stops (tables ∷ rows) bits
-next-stops tables rows x own left bits is r rest = record {
-  end = (x ∷ rest.end.0, rest.end.1);
-  whole = λ ps. next-row tables rows x own left bits ps is r
-      ∙ ap (λ (a : After). (x ∷ a.0, a.1)) (rest.whole (drop (length own) ps));
-  longer = λ more ps.
-      let first = rest.longer more (drop (length own) ps) in (
-        first.0,
-        ap (λ (a : After). a.0) (next-row tables rows x own (left ++ more) (bits ++ more) ps
-            (ap (λ (b : List Bool). b ++ more) is ∙ append_assoc own left more) r)
-            ∙ ap (λ (l : Rows). x ∷ l) first.1,
-      );
-}
-
-stops : (rows : List (List Table)) (bits : List Bool) → Stops rows bits
-unfolding TakesFront
-stops [] bits = none-stops bits
-stops (tables ∷ rows) bits = go (row-front tables bits) (λ left. stops rows left)
+-- what is reached before a strict end, and first of more bits before any end
+rows-on : (rows : List (List Table)) (bits more : List Bool) (ps qs : List (List ℕ)) (e f : Ending) → IsStrict e
+    → GoOn (rows_reached rows (text bits ps e)).0 (rows_reached rows (text (bits ++ more) qs f)).0
+unfolding rows_reached TakesFront
+rows-on [] bits more ps qs e f strict = ([], refl)
+rows-on (tables ∷ rows) bits more ps qs e f strict =
+    go (row-front tables bits) (λ left ls ms. rows-on rows left more ls ms e f strict)
   where
-    go : Front ⊥ (each sample_difference tables) bits → ((left : List Bool) → Stops rows left)
-        → Stops (tables ∷ rows) bits
-    go (failed g is) others = failed-stops tables rows bits g (λ ps. fault-read _ bits g ps is)
-    go (gave own left x e r) others = next-stops tables rows x own left bits e r (others left)
+    longer : Rows
+    longer = (rows_reached (tables ∷ rows) (text (bits ++ more) qs f)).0
+
+    go : Front ⊥ (each sample_difference tables) bits
+        → ((left : List Bool) (ls ms : List (List ℕ))
+        → GoOn (rows_reached rows (text left ls e)).0 (rows_reached rows (text (left ++ more) ms f)).0)
+        → GoOn (rows_reached (tables ∷ rows) (text bits ps e)).0 longer
+    go (failed g is) others = (
+      longer,
+      ap (λ (a : After). a.0 ++ longer) (ap (after_row rows) (sym ((strict-fault _ bits g e strict is).1 ps))),
+    )
+    go (gave own left x is r) others =
+        let n = length own in
+        let first = others left (drop n ps) (drop n qs) in (
+          first.0,
+          ap (λ (a : After). a.0) (next-row tables rows x own (left ++ more) (bits ++ more) qs f
+              (ap (λ (b : List Bool). b ++ more) is ∙ append_assoc own left more) r)
+              ∙ ap (λ (l : Rows). x ∷ l) first.1
+              ∙ ap (λ (a : After). a.0 ++ first.0) (sym (next-row tables rows x own left bits ps e is r)),
+        )
 
 -- ---- an interval
 
@@ -109,25 +92,25 @@ interval-first : (rows : List (List Table)) (bytes more : List ℕ)
     → GoOn (interval_rows_reached rows bytes).0 (interval_rows_reached rows (bytes ++ more)).0
 unfolding interval_rows_reached
 interval-first rows bytes more =
-    let t = text_at bytes in
-    let u = text_at (bytes ++ more) in
+    let t = stopping bytes in
+    let u = stopping (bytes ++ more) in
     let g = text-grows bytes more in
-    let s = stops rows t.bits in
-    let first = s.longer g.bits u.following in (
-      first.0,
-      ap (λ (b : List Bool). (rows_reached rows (text b u.following (Broken End))).0) g.are ∙ first.1
-          ∙ ap (λ (a : After). a.0 ++ first.0) (sym (s.whole t.following)),
-    )
+    subst (λ (b : List Bool). GoOn (rows_reached rows t).0 (rows_reached rows (text b u.following u.ending)).0)
+    (sym g.are)
+    (rows-on rows t.bits g.bits t.following u.following t.ending u.ending (stopping-strict (text_at bytes).ending))
 
 abbrev Interval : Type 0
 Interval = Rows × Met
 
+rows-front : (rows : List (List Table)) → TakesFront ⊥ (each_row rows)
+rows-front rows = each-front ⊥ (each sample_difference) rows row-front
+
 interval-stays : (rows : List (List Table)) (bytes more : List ℕ)
     → StaysBrought more (interval_rows_reached rows bytes) (interval_rows_reached rows (bytes ++ more))
-unfolding interval_rows_reached
+unfolding interval_rows_reached TakesFront
 interval-stays rows bytes more =
-    let s = stops rows (text_at bytes).bits in
-    text-stays (λ (r : Rows). r) (rows_reached rows) s.end bytes more s.whole
+    text-stays (each_row rows) (rows_reached rows) (rows-same rows) bytes more (λ (r : Rows). r)
+    (rows-front rows (text_at bytes).bits)
 
 -- ---- a scan
 
@@ -200,6 +183,7 @@ scan-rows-stay more k rows [] bytes =
 scan-rows-stay more k rows (next ∷ groups) bytes =
     let r = interval_rows_reached rows bytes in
     let after = next_reached (scan_rows_reached (suc k) next groups) in
-    next-stays more k after after r (interval_rows_reached rows (bytes ++ more)) (λ g. refl) (interval-stays rows bytes more)
+    next-stays more k after after r (interval_rows_reached rows (bytes ++ more)) (λ g. refl)
+    (interval-stays rows bytes more)
     (λ b x h. ap (λ (z : Scanned). (r.0 ∷ z.0, z.1)) (scan-rows-stay more (suc k) next groups b x h))
     (outcomes.◌>>=◌ r.1 (after_interval k)) refl

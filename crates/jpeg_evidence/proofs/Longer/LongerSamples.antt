@@ -114,5 +114,5 @@ pub reached_rows_are_read : (k : ℕ) (rows : List (List Table)) (groups : List 
     → (m : Option Marker) × (rest : List ℕ)
     × (intervals interval_rows k rows groups bytes ≡ Ok (((scan_rows_reached k rows groups bytes).0, m), rest))
 reached_rows_are_read k rows groups bytes x h =
-    let r = scan-rows-read k rows groups bytes x.0 x.1 h in
-    (r.marker, r.others, r.read)
+    let r = scan-rows-read k rows groups bytes x h in
+    (r.0.0, r.0.1, r.1)

@@ -1,43 +1,36 @@
 -- Longer data of a scan bring the blocks that shorter ones bring, all that can be read of these, and go on from there.
-use Rattle.std.proofs.Common.{◌≡◌, ◌⊎◌, inl, inr, ℕ, suc, ◌+◌, ◌≤◌, Bool, true, false, List, [], ◌∷◌, ◌++◌, length}
+use Rattle.std.proofs.Common.{◌≡◌, ◌⊎◌, inl, inr, ℕ, suc, ◌+◌, ◌≤◌, List, [], ◌∷◌, ◌++◌, length}
 use Rattle.std.proofs.Common.{length-append, arith, refl, sym, ap, ◌∙◌, subst, Ok, Err, Result, Option, append_assoc}
 use Rattle.std.proofs.Common.{append-nil, slice_get}
-use Rattle.std.specs.Prelude.{if◌then◌else◌, ◌&&◌}
 use Rattle.std.specs.List.{AllByRecursion, flat_map}
 use Rattle.jpeg_bits.specs.Reading.{Fault, Malformed, Outcome}
 use Rattle.jpeg_bits.specs.Reading as outcomes
-use Rattle.jpeg_bits.specs.Entropy.{text_at}
-use Rattle.jpeg_bits.specs.Intervals.{first_group, is_restart, other_groups}
+use Rattle.jpeg_bits.specs.Intervals.{first_group, other_groups}
 use Rattle.jpeg_bits.specs.Passes.{Pass, Via}
 use Rattle.jpeg_bits.specs.declared.marker.Marker.{Marker}
 use Rattle.jpeg_bits.proofs.WrittenIntervals.{all-groups}
 use Rattle.jpeg_segments.proofs.Codecs.{bind-ok, err-ok, ok-same}
-use Rattle.jpeg_streams.specs.Brought.{BlocksTo, after_interval, after_intervals, interval_reached, intervals_reached}
-use Rattle.jpeg_streams.specs.Brought.{or_first, reached_from, scan_reached, sealed}
+use Rattle.jpeg_streams.specs.Brought.{after_interval, after_intervals, interval_reached, intervals_reached, or_first}
+use Rattle.jpeg_streams.specs.Brought.{reached_from, scan_reached, stopping}
 use Rattle.jpeg_streams.specs.InTurn.{at_start}
 use Rattle.jpeg_streams.specs.Order.{Spot}
 use Rattle.jpeg_streams.specs.Scans.{Arrays}
-use Rattle.jpeg_streams.proofs.Partial.ReachedIntervals.{Scanned, next_reached}
+use Rattle.jpeg_streams.proofs.Partial.ReachedIntervals.{Scanned, next_reached, restart-stands}
 use Rattle.jpeg_evidence.specs.FirstBlocks.{IsMost}
 use Rattle.jpeg_evidence.specs.LongerStreams.{Puts, PutsFirst, ReadsOn}
 use Rattle.jpeg_evidence.proofs.Longer.FirstSpots.{HasFirst, first-after, get-after, others-have}
 use Rattle.jpeg_evidence.proofs.Longer.LongerData.{CanReadOf, IntervalGoes, Met, ReadsMost, StaysBrought, all-read}
-use Rattle.jpeg_evidence.proofs.Longer.LongerData.{both, interval-goes, interval-stays, puts-both, puts-of-more, puts-then}
-use Rattle.jpeg_evidence.proofs.Longer.LongerData.{reaches}
+use Rattle.jpeg_evidence.proofs.Longer.LongerData.{both, interval-goes, interval-stays, puts-both, puts-of-more}
+use Rattle.jpeg_evidence.proofs.Longer.LongerData.{puts-then, reaches}
 use Rattle.jpeg_evidence.proofs.Longer.LongerSegments.{after-stays, stays-read}
 
 -- these spots, and those of more intervals
 abbrev pub with_groups : List Spot → List (List Spot) → List Spot
 with_groups spots more = spots ++ flat_map (λ (g : List Spot). g) more
 
-pub after-same : (k : ℕ) (x : (Bool × Option Marker) × List ℕ) (b more : List ℕ) → after_interval k x ≡ Ok b
+pub after-same : (k : ℕ) (x : Option Marker × List ℕ) (b more : List ℕ) → after_interval k x ≡ Ok b
     → after_interval k (x.0, x.1 ++ more) ≡ Ok (b ++ more)
-after-same k x b more h = go (x.0.0 && is_restart k x.0.1) h
-  where
-    go : (y : Bool) → (if y then Ok x.1 else Err Malformed) ≡ Ok b
-        → (if y then Ok (x.1 ++ more) else Err Malformed) ≡ Ok (b ++ more)
-    go true h = ap (λ (l : List ℕ). Ok (l ++ more)) (ok-same x.1 b h)
-    go false h = absurd (err-ok Malformed b h)
+after-same k x b more h = let r = restart-stands k x b h in rw (r.0, r.1) refl
 
 -- what follows the last interval is read so of longer data
 pub last-stays : {A B : Type 0} (more : List ℕ) (to : A → B) (r s : A × Met) → StaysBrought more r s
@@ -63,17 +56,16 @@ next-stays {A} more k first second r s errs stays others (Ok b) e x h =
 -- what is put of an interval's blocks, and that all are where it is read
 record IntervalPuts (spots : List Spot) (before after : Arrays) (o : Met) : Type 0 where
   first : PutsFirst spots before after
-  all : (x : (Bool × Option Marker) × List ℕ) → o ≡ Ok x → Puts spots before after
+  all : (x : Option Marker × List ℕ) → o ≡ Ok x → Puts spots before after
 
 interval-puts : (p : Pass) (vias : List Via) (spots : List Spot) (arrays : Arrays) (bytes : List ℕ)
     → IntervalPuts spots arrays (interval_reached p vias spots arrays bytes).reached
     (interval_reached p vias spots arrays bytes).rest
 unfolding interval_reached
 interval-puts p vias spots arrays bytes =
-    let t = text_at bytes in
-    let o = reached_from p vias spots (at_start arrays) (sealed t) in
-    let r = reaches p vias spots (at_start arrays) (sealed t) in
-    record { first = r.first; all = λ x h. let l = all-read t.ending o.rest x h in r.all l.0 l.1 }
+    let o = reached_from p vias spots (at_start arrays) (stopping bytes) in
+    let r = reaches p vias spots (at_start arrays) (stopping bytes) in
+    record { first = r.first; all = λ x h. let l = all-read bytes o.rest x h in r.all l.0 l.1 }
 
 -- after an interval, what the others put
 next-puts : (k : ℕ) (spots others : List Spot) (before after : Arrays) (o : Met)
@@ -184,7 +176,7 @@ stopped-goes P Q k spots others before shorter unread whole later s reached i so
 -- where it is read
 read-goes : (P Q : ℕ → Type 0) (k : ℕ) (spots others : List Spot) (before : Arrays) (later : Option Spot)
     (r s : Arrays × Met) (b more : List ℕ) (reached : Arrays → List ℕ → Scanned)
-    (x : (Bool × Option Marker) × List ℕ)
+    (x : Option Marker × List ℕ)
     → after_interval k x ≡ Ok b → Puts spots before r.0 → s ≡ (r.0, Ok (x.0, x.1 ++ more))
     → ReadsMost P others r.0 (reached r.0 b).reached (reached r.0 (b ++ more)).reached (reached r.0 b).unread
     → ((count : ℕ) → Q count → Within spots P count) → ((c : ℕ) → P c → Q (length spots + c))
@@ -206,7 +198,7 @@ record Splits (I Q : ℕ → Type 0) (O : List ℕ → ℕ → Type 0) (k : ℕ)
   after : (b : List ℕ) → outcomes.◌>>=◌ o (after_interval k) ≡ Ok b → (c : ℕ) → O b c → Q (length spots + c)
 
 next-goes : (I Q : ℕ → Type 0) (O : List ℕ → ℕ → Type 0) (k : ℕ) (spots others : List Spot) (before : Arrays)
-    (r s : BlocksTo (Bool × Option Marker)) (whole later : Option Spot) (more : List ℕ)
+    (r s : Scanned) (whole later : Option Spot) (more : List ℕ)
     (reached : Arrays → List ℕ → Scanned)
     → Splits I Q O k spots r.rest → IntervalGoes I spots before r.reached s.reached r.unread s.rest
     → IntervalPuts spots before r.reached r.rest → StaysBrought more (both r) (both s)

@@ -250,10 +250,7 @@ restarts-stay more (suc turns) (suc others) (Some (RST n)) bytes h =
 restarts-stay more (suc turns) (suc others) met bytes h = stays-ok met bytes
 
 -- after the last interval of a scan
-pub after-stays : (more : List ℕ) (r : (Bool × Option Marker) × List ℕ)
-    → Stays more (after_intervals r) (after_intervals (r.0, r.1 ++ more))
-after-stays more r =
-    stays-if more r.0.0 _ _ _ _
-    (restarts-stay more (suc (length r.1)) (suc (length (r.1 ++ more))) r.0.1 r.1
-    (omega (arith, length-append r.1 more)))
-    (stays-ok r.0.1 r.1)
+pub after-stays : (more : List ℕ) (m : Option Marker × List ℕ)
+    → Stays more (after_intervals m) (after_intervals (m.0, m.1 ++ more))
+after-stays more m =
+    restarts-stay more (suc (length m.1)) (suc (length (m.1 ++ more))) m.0 m.1 (omega (arith, length-append m.1 more))

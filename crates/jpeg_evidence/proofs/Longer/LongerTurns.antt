@@ -29,8 +29,8 @@ use Rattle.jpeg_streams.specs.Scans.{Arrays}
 use Rattle.jpeg_streams.specs.ScanSegments.{Coding, after_scan, codings_of, components_of}
 use Rattle.jpeg_streams.specs.ScanSegments.{pass_of, scan_turn, vias_from}
 use Rattle.jpeg_streams.specs.Segments.{Turn, frame_segment}
-use Rattle.jpeg_streams.specs.Stream.{Walked, all_brought, brought_after, end_segment, scan_turn_at, segment_at, turn_at}
-use Rattle.jpeg_streams.specs.Stream.{walk}
+use Rattle.jpeg_streams.specs.Stream.{Walked, all_brought, brought_after, end_segment, scan_turn_at, segment_at}
+use Rattle.jpeg_streams.specs.Stream.{turn_at, walk}
 use Rattle.jpeg_streams.proofs.Partial.Faultless.{walked_after}
 use Rattle.jpeg_streams.proofs.Partial.ReachedIntervals.{next_reached}
 use Rattle.jpeg_streams.proofs.Written.ReadTurns.{refused_walk, walked}
@@ -64,8 +64,8 @@ abbrev after_one : (Arrays → List ℕ → BlocksTo (Option Marker)) → Option
 after_one others unread arrays o = both (next_reached others arrays unread o)
 
 -- Where a scan is reached up to its end, it is so of longer data.
-pub intervals-stay : (more : List ℕ) (p : Pass) (vias : List Via) (k : ℕ) (spots : List Spot) (groups : List (List Spot))
-    (arrays : Arrays) (bytes : List ℕ)
+pub intervals-stay : (more : List ℕ) (p : Pass) (vias : List Via) (k : ℕ) (spots : List Spot)
+    (groups : List (List Spot)) (arrays : Arrays) (bytes : List ℕ)
     → StaysBrought more (both (intervals_reached p vias k spots groups arrays bytes))
     (both (intervals_reached p vias k spots groups arrays (bytes ++ more)))
 unfolding intervals_reached
@@ -186,7 +186,8 @@ samples-go more found frame scan bytes =
     whole codings false = plain-goes more found _ _ (stays-err Malformed)
 
 by-goes : (more : List ℕ) (process : CodingProcess) (found : Found) (frame : Frame) (scan : Scan) (bytes : List ℕ)
-    → TurnGoes more found (brought_by process found frame scan bytes) (brought_by process found frame scan (bytes ++ more))
+    → TurnGoes more found (brought_by process found frame scan bytes)
+    (brought_by process found frame scan (bytes ++ more))
 by-goes more Lossless found frame scan bytes = samples-go more found frame scan bytes
 by-goes more process found frame scan bytes = blocks-go more found frame scan bytes
 
@@ -251,7 +252,8 @@ segment-stays more DNL Elsewhere found bytes = stays-err _
 segment-stays more m before found bytes = stays-err _
 
 segment-goes : (more : List ℕ) (m : Marker) (before : Before) (found : Found) (bytes : List ℕ)
-    → TurnGoes more found (brought_after Nothing m before found bytes) (brought_after Nothing m before found (bytes ++ more))
+    → TurnGoes more found (brought_after Nothing m before found bytes)
+    (brought_after Nothing m before found (bytes ++ more))
 unfolding brought_after scan_turn_at
 segment-goes more SOS before found bytes = scan-goes more found bytes
 segment-goes more m before found bytes = plain-goes more found _ _ (segment-stays more m before found bytes)

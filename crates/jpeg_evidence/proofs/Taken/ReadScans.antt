@@ -36,7 +36,7 @@ interval_read p turns bytes rest m w =
     go (gave n x is) =
         let t = text_at bytes in
         let same = ok-parts x w.blocks _ (alone w.left) (sym (is (Broken End) [] (inl refl)) ∙ w.are_read) in
-        grind (arith, is t.ending t.following (inr refl), same, w.is_short, w.ends, end-met)
+        grind (arith, is t.ending t.following (inr tt), same, w.is_short, w.ends, end-met)
 
 pub interval-written : (p : Pass) (turns : List (Via × Block)) (bytes rest : List ℕ) (m : Marker)
     → (w : IntervalFits p turns bytes m rest) → IsInterval p (numbers_read p turns w.blocks) bytes m rest

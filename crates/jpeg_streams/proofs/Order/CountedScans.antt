@@ -320,8 +320,8 @@ restarts p vias n number s spots old t some =
 abbrev pub finished : Result (Counted × Text) Fault → Outcome (Arrays × Option Marker)
 finished o = reading.◌>>=◌ o (λ r. reading.◌>>=◌ (marker_from r.1) (λ m. Ok ((r.0.reached.arrays, m.0), m.1)))
 
-abbrev pub closed : Result (Reached × Text) Fault → Outcome (Arrays × Option Marker)
-closed o = reading.◌>>=◌ o (λ r. reading.◌>>=◌ (marker_from r.1) (λ m. Ok ((r.0.arrays, m.0), m.1)))
+abbrev pub shut : Result (Reached × Text) Fault → Outcome (Arrays × Option Marker)
+shut o = reading.◌>>=◌ o (λ r. reading.◌>>=◌ (marker_from r.1) (λ m. Ok ((r.0.arrays, m.0), m.1)))
 
 one-interval : (p : Pass) (vias : List Via) (n k : ℕ) (spots : List Spot) (arrays : Arrays) (bytes : List ℕ)
     → GoesOn n n (length spots)
@@ -374,7 +374,7 @@ intervals-in-blocks p vias n (suc fuel) xs (y ∷ ys) j k arrays bytes same some
         → ((r : Reached) (b : List ℕ) → finished (G r (upcoming fresh b)) ≡ F r.arrays b)
         → (o : Result (Reached × Text) Fault)
         → finished (read_on (λ r. λ v. read_on (λ (u : Unit {0}). G r) (restart_from k v)) o)
-        ≡ reading.◌>>=◌ (closed o) (next_interval k F)
+        ≡ reading.◌>>=◌ (shut o) (next_interval k F)
     close n k same l = search rules
 
 -- A scan in intervals of n blocks is the scan block by block.

@@ -11,7 +11,7 @@ invariant-loop-left g l = record {
   runs : Runs (whole_of (rows_loop (way_by l.fn.coding.scan (map part_in l.fn.coding.parts.now))) l.fn.n
       (scan_tables (way_by l.fn.coding.scan (map part_in l.fn.coding.parts.now)) l.fn.coding.scan.high)
       (map (λ v. v.items) l.fn.rows.planes.items))
-      (rows_loop (way_by l.fn.coding.scan (map part_in l.fn.coding.parts.now))) l.fn.n l.fn.source l.number l.end
+      (rows_loop (way_by l.fn.coding.scan (map part_in l.fn.coding.parts.now))) l.fn.n l.fn.source l.number l.met
       (scan_tables (way_by l.fn.coding.scan (map part_in l.fn.coding.parts.now)) l.left)
       (map (λ v. v.items) l.rows.planes.items) l.source;
 }
