@@ -20,8 +20,8 @@ import textwrap
 from pathlib import Path
 
 ROOT = Path(__file__).resolve().parent.parent
-CRATES = """jpeg_bits jpeg_segments jpeg_pixels jpeg_lossless jpeg_streams jpeg_decoder
-    exif_orientation zaxbriar_calls""".split()
+CRATES = """jpeg_bits jpeg_segments jpeg_pixels jpeg_lossless jpeg_meaning jpeg_decoder
+    jpeg_orientation zaxbriar_calls""".split()
 
 # Where laws on streams and numbers that were worked by hand stand (`known_..` and `worked_..`), and
 # what those that read or write a whole stream compute beside the definitions that they name.
@@ -37,34 +37,34 @@ LAWS = {
 STREAMS = {
     "known_streams": """jpeg_bits Reading Marker Entropy Readers Codes Bands Passes Intervals,
         jpeg_segments Checks Quantization HuffmanTables Frame ScanHeader,
-        jpeg_pixels Samples Planes, jpeg_streams Order Scans Rasters Found Segments ScanSegments
+        jpeg_pixels Samples Planes, jpeg_meaning Order Scans Rasters Found Segments ScanSegments
         FoundPictures Stream""",
     "known_scans": """jpeg_bits Refinement, jpeg_segments Scales, jpeg_pixels Scaled Upsampling
-        Pictures, jpeg_streams Order Scans ColourChoice""",
+        Pictures, jpeg_meaning Order Scans ColourChoice""",
     "known_scaled_pixels": "jpeg_segments Scales, jpeg_pixels Scaled",
     "known_images": "jpeg_bits Refinement, jpeg_pixels Upsampling Pictures",
-    "known_orders": "jpeg_streams Order Scans",
+    "known_orders": "jpeg_meaning Order Scans",
     "known_crops": "jpeg_pixels Planes",
     "known_applications": "jpeg_bits DefaultTables, jpeg_segments Application",
     "laws::known_interleaved_scans": "jpeg_lossless Prediction Differences Scans",
     "laws::headline::worked_images_are_written": """jpeg_bits Written, jpeg_segments WrittenSegments
-        ScanHeaders, jpeg_streams Levels WrittenData WrittenScans SaidSegments WrittenStreams
+        ScanHeaders, jpeg_meaning Levels WrittenData WrittenScans SaidSegments WrittenStreams
         WrittenImages""",
-    "laws::lossless::worked_samples_are_written": """jpeg_lossless Written, jpeg_streams
+    "laws::lossless::worked_samples_are_written": """jpeg_lossless Written, jpeg_meaning
         LosslessScans WrittenLossless""",
 }
 # The modules of jpeg_decoder that state the theorems.
 THEOREMS = ["laws/headline", "laws/lossless"]
 # What the parts that write, read and picture begin with.
-WRITER = ["jpeg_streams.WrittenImages.WritesImage", "jpeg_streams.WrittenLossless.WritesSamples"]
+WRITER = ["jpeg_meaning.WrittenImages.WritesImage", "jpeg_meaning.WrittenLossless.WritesSamples"]
 READER = [
-    "jpeg_streams.Stream.meaning",
-    "jpeg_streams.Stream.sized_meaning",
-    "jpeg_streams.Stream.scaled_meaning",
+    "jpeg_meaning.Stream.meaning",
+    "jpeg_meaning.Stream.sized_meaning",
+    "jpeg_meaning.Stream.scaled_meaning",
 ]
 PICTURE = [
-    "jpeg_streams.ArrayPictures.picture_of_array",
-    "jpeg_streams.WrittenLossless.picture_of_samples",
+    "jpeg_meaning.ArrayPictures.picture_of_array",
+    "jpeg_meaning.WrittenLossless.picture_of_samples",
 ]
 # Where the structs stand whose values the view of a `Decoder` shows: their views count with it.
 HELD = "stream/state"

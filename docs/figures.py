@@ -12,7 +12,7 @@ import sys
 from pathlib import Path
 
 ROOT = Path(__file__).resolve().parent.parent
-CASES = ROOT / "crates/decoder_cases/data"
+CASES = ROOT / "crates/test_decoder_cases/data"
 PARTIAL = CASES / "partial_random.case"
 
 
@@ -77,7 +77,7 @@ def expected():
     every = sum(cases(it.stem) for it in CASES.glob("*.case"))
     for page in ("README.md", "docs/CONFORMANCE.md", "CHANGELOG.md"):
         yield page, r"([\d,]+) (?:streams|cases) as text", every
-    classes = text("crates/decoder_cases/classes.jsonl")
+    classes = text("crates/test_decoder_cases/classes.jsonl")
     for name in ("must", "may", "own"):
         figure = len(re.findall(rf'(?m)"file": "\w+", "class": "{name}"', classes))
         yield "docs/CONFORMANCE.md", rf"(?m)^\| \*{name}\* \| (\d+) \|", figure
@@ -89,7 +89,7 @@ def expected():
     yield "docs/TRUST.md", r"of (\d+) damaged", damaged
     partial = sum(map(cases, ("partial", "partial_random", "partial_rows")))
     yield "docs/TRUST.md", r"of (\d+)\s+cut or\s+damaged streams", partial
-    parts = len(text("crates/parts_cases/stdout").splitlines())
+    parts = len(text("crates/test_parts_cases/stdout").splitlines())
     yield "docs/CONFORMANCE.md", r"each of its (\d+) cases", parts
     yield "CHANGELOG.md", r"(\d+) calls of\s+the parts", parts
     answers = sorted((ROOT / "bindings/c/test/cases").glob("*.answers"))
@@ -119,7 +119,7 @@ def expected():
     yield "README.md", r"info examples/rocket.jpg` \| some (\d+) minutes", first
     whole = re.search(r"takes\s+(\d+ to \d+)\s+minutes\s+with 4", gate)[1]
     yield "README.md", r"`./test` \| (\d+ to \d+) minutes on 4", whole
-    for crate in ("parts_callers", "decoder_callers", "zaxbriar_callers"):
+    for crate in ("test_parts_callers", "test_decoder_callers", "test_zaxbriar_callers"):
         yield "docs/GATE.md", rf"`{crate}` with (\d+) edits", edits(crate)
 
 

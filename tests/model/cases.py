@@ -1,5 +1,5 @@
 #!/usr/bin/env python3
-"""Checks the cases of crates/decoder_cases.
+"""Checks the cases of crates/test_decoder_cases.
 
 cases.py [--large] [FILE..]    these files, or all that its `args` names
 
@@ -16,7 +16,7 @@ import model
 from model import ceil_div
 
 HERE = os.path.dirname(os.path.abspath(__file__))
-CRATE = os.path.join(os.path.dirname(os.path.dirname(HERE)), 'crates', 'decoder_cases')
+CRATE = os.path.join(os.path.dirname(os.path.dirname(HERE)), 'crates', 'test_decoder_cases')
 
 # The decoder's words.
 FORMAT, ENDED = 'refused: invalid JPEG format', 'refused: the file ends too soon'

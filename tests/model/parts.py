@@ -1,6 +1,6 @@
 #!/usr/bin/env python3
-"""parts.py: compares what crates/parts_cases/stdout has with what the model makes of the same case
-files, line by line, and says how many lines the model can say."""
+"""parts.py: compares what crates/test_parts_cases/stdout has with what the model makes of the
+same case files, line by line, and says how many lines the model can say."""
 import os
 import sys
 
@@ -8,7 +8,7 @@ import model
 from model import Refused, ceil_div, codes, extend
 
 HERE = os.path.dirname(os.path.abspath(__file__))
-CRATE = os.path.join(HERE, '..', '..', 'crates', 'parts_cases')
+CRATE = os.path.join(HERE, '..', '..', 'crates', 'test_parts_cases')
 RULES = {'H1V1': (1, 1), 'H2V1': (2, 1), 'H1V2': (1, 2), 'H2V2': (2, 2)}
 CONVERSIONS = {'None': 'None', 'RGB': 'Rgb', 'YCbCr': 'YCbCr', 'CMYK': 'Cmyk', 'YCCK': 'Ycck'}
 PREDICTORS = ('NoPrediction', 'Ra', 'Rb', 'Rc', 'RaRbRc1', 'RaRbRc2', 'RaRbRc3', 'RaRb')

@@ -1,8 +1,8 @@
-/* The cases of crates/decoder_cases: { file, name, stream, calls, answers }, of which each call is
- * a list of words, and `answers` the text after its name (docs/CONFORMANCE.md has the format). */
+/* The cases of crates/test_decoder_cases: { file, name, stream, calls, answers }, of which each call
+ * is a list of words, and `answers` the text after its name (docs/CONFORMANCE.md has the format). */
 import { readFileSync } from 'node:fs';
 
-const CRATE = new URL('../../../crates/decoder_cases/', import.meta.url);
+const CRATE = new URL('../../../crates/test_decoder_cases/', import.meta.url);
 const linesOf = (path) => readFileSync(new URL(path, CRATE), 'utf8').split('\n');
 
 /* The bytes of words of hex digits, each with how often it stands after a star. */

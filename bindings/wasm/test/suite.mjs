@@ -1,5 +1,5 @@
-/* node suite.mjs: the streams of crates/decoder_cases by the module, whose answers have to be those
- * of the suite: pictures, refusals with their texts and features, the parts of streams before a
+/* node suite.mjs: the streams of crates/test_decoder_cases by the module, whose answers have to be
+ * those of the suite: pictures, refusals with their texts and features, the parts of streams before a
  * fault, sizes at scales, metadata, bytes left unread.
  *
  * Not asked is what the calls of JavaScript don't have: the original crate's limit, decoding into a

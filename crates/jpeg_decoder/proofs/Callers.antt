@@ -5,9 +5,9 @@ use Rattle.std.proofs.Common.{option_map, arith}
 use Rattle.std.proofs.lemmas.Bool.{lt-ltb}
 use Rattle.jpeg_bits.specs.Stream.{stream_of}
 use Rattle.jpeg_segments.specs.Frame.{Frame}
-use Rattle.jpeg_streams.specs.Output.{Tells}
-use Rattle.jpeg_streams.specs.Pixels.{info_of}
-use Rattle.jpeg_streams.specs.declared.images.ImageInfo.{ImageInfo}
+use Rattle.jpeg_meaning.specs.Output.{Tells}
+use Rattle.jpeg_meaning.specs.Pixels.{info_of}
+use Rattle.jpeg_meaning.specs.declared.images.ImageInfo.{ImageInfo}
 use Rattle.jpeg_decoder.specs.Bytes.{IsCounted, IsWhole, bytes_a_sample, picture_size}
 use Rattle.jpeg_decoder.specs.Bytes.{frame_shape, samples_a_pixel}
 use Rattle.std.proofs.lemmas.Grind.{common_steps}

@@ -9,11 +9,11 @@ use Rattle.jpeg_decoder.specs.declared.scan.coded.Coded.{Coded}
 use Rattle.jpeg_decoder.specs.Scanning.{arrays_in, blocks_in}
 use Rattle.jpeg_decoder.proofs.Kept.BlockArrays.{Held}
 use Rattle.jpeg_decoder.specs.Steps.{coding_in, with_its_plane, with_planes, decided_planes}
-use Rattle.jpeg_streams.specs.Rasters.{plane_by}
-use Rattle.jpeg_streams.specs.ScanSegments.{put_arrays, with_arrays, with_blocks, with_plane}
-use Rattle.jpeg_streams.specs.ScanSegments.{Coding, components_of}
-use Rattle.jpeg_streams.specs.Found.{Found}
-use Rattle.jpeg_streams.specs.InTurn.{AreArrays}
+use Rattle.jpeg_meaning.specs.Rasters.{plane_by}
+use Rattle.jpeg_meaning.specs.ScanSegments.{put_arrays, with_arrays, with_blocks, with_plane}
+use Rattle.jpeg_meaning.specs.ScanSegments.{Coding, components_of}
+use Rattle.jpeg_meaning.specs.Found.{Found}
+use Rattle.jpeg_meaning.specs.InTurn.{AreArrays}
 use Rattle.std.proofs.lemmas.Grind.{common_steps}
 
 -- the first of those that are left, in a list that is seen by a function

@@ -1,33 +1,33 @@
 -- Lemmas that the proofs of functions use, and definitions that they unfold, by what they are about.
 use Rattle.std.specs.Prelude.{⊤}
-use Rattle.jpeg_streams.specs.Found.{nothing_found, nothing_said}
-use Rattle.jpeg_streams.specs.FoundPictures.{limited, picture_of, samples_picture}
-use Rattle.jpeg_streams.specs.Rasters.{plane_by, plane_of_blocks}
-use Rattle.jpeg_streams.specs.Reported.{told_by_turns}
-use Rattle.jpeg_streams.specs.ScanSegments.{put_arrays}
-use Rattle.jpeg_streams.specs.Stream.{header_at, rest_within, segment_at, segments_at, turn_at}
+use Rattle.jpeg_meaning.specs.Found.{nothing_found, nothing_said}
+use Rattle.jpeg_meaning.specs.FoundPictures.{limited, picture_of, samples_picture}
+use Rattle.jpeg_meaning.specs.Rasters.{plane_by, plane_of_blocks}
+use Rattle.jpeg_meaning.specs.Reported.{told_by_turns}
+use Rattle.jpeg_meaning.specs.ScanSegments.{put_arrays}
+use Rattle.jpeg_meaning.specs.Stream.{header_at, rest_within, segment_at, segments_at, turn_at}
 use Rattle.std.proofs.lemmas.Grind.{common_steps}
 use Rattle.std.proofs.lemmas.List.{drop-set-lt, get_or-map, length-map, map-set}
 use Rattle.std.proofs.lemmas.List.Folds.{list_all-map}
 use Rattle.jpeg_segments.proofs.ScaleLemmas.{full_size}
-use Rattle.jpeg_streams.proofs.Pictures.AcceptedSamples.{accepted-picture, accepted-samples}
-use Rattle.jpeg_streams.proofs.Order.Apart.{spots-apart, spots-inside, zeros-sized}
-use Rattle.jpeg_streams.proofs.Order.CountedScans.{frame-scans, scans-in-turn}
-use Rattle.jpeg_streams.proofs.Encoded.EncodedLossless.{lossless-script-written, samples-written}
-use Rattle.jpeg_streams.proofs.Order.FrameShapes.{frames-fit, scaled-frames-fit, frames-have-sources}
-use Rattle.jpeg_streams.proofs.Pictures.LosslessSizes.{lossless-accepted}
-use Rattle.jpeg_streams.proofs.Order.McuRows.{scans-by-rows, plane-strips, codings-are-of}
-use Rattle.jpeg_streams.proofs.Order.McuRows.{sequential-scan, progressive-scan}
-use Rattle.jpeg_streams.proofs.Pictures.PaddingUnseen.{own-predicted, pictures-agree, planes-same}
-use Rattle.jpeg_streams.proofs.Pictures.PicturedFrames.{header-accepted}
-use Rattle.jpeg_streams.proofs.Soundness.{nothing-framed, scaled-again, sized-again, sound-nothing}
-use Rattle.jpeg_streams.proofs.Soundness.{sound_kept}
-use Rattle.jpeg_streams.proofs.Written.SizedStreams.{scaled-taken, sized-taken, stream-means_scaled, stream-means_sized}
-use Rattle.jpeg_streams.proofs.Written.WalkedStreams.{front-append}
-use Rattle.jpeg_streams.proofs.Pictures.WholeImages.{cut-whole}
-use Rattle.jpeg_streams.proofs.Tested.WorkedStreams.{colour-written, grey-written, padding-written, three-written}
-use Rattle.jpeg_streams.proofs.Written.WrittenParts.{front-closed}
-use Rattle.jpeg_streams.proofs.Written.WrittenPictures.{stream-means, taken-means}
+use Rattle.jpeg_meaning.proofs.Pictures.AcceptedSamples.{accepted-picture, accepted-samples}
+use Rattle.jpeg_meaning.proofs.Order.Apart.{spots-apart, spots-inside, zeros-sized}
+use Rattle.jpeg_meaning.proofs.Order.CountedScans.{frame-scans, scans-in-turn}
+use Rattle.jpeg_meaning.proofs.Encoded.EncodedLossless.{lossless-script-written, samples-written}
+use Rattle.jpeg_meaning.proofs.Order.FrameShapes.{frames-fit, scaled-frames-fit, frames-have-sources}
+use Rattle.jpeg_meaning.proofs.Pictures.LosslessSizes.{lossless-accepted}
+use Rattle.jpeg_meaning.proofs.Order.McuRows.{scans-by-rows, plane-strips, codings-are-of}
+use Rattle.jpeg_meaning.proofs.Order.McuRows.{sequential-scan, progressive-scan}
+use Rattle.jpeg_meaning.proofs.Pictures.PaddingUnseen.{own-predicted, pictures-agree, planes-same}
+use Rattle.jpeg_meaning.proofs.Pictures.PicturedFrames.{header-accepted}
+use Rattle.jpeg_meaning.proofs.Soundness.{nothing-framed, scaled-again, sized-again, sound-nothing}
+use Rattle.jpeg_meaning.proofs.Soundness.{sound_kept}
+use Rattle.jpeg_meaning.proofs.Written.SizedStreams.{scaled-taken, sized-taken, stream-means_scaled, stream-means_sized}
+use Rattle.jpeg_meaning.proofs.Written.WalkedStreams.{front-append}
+use Rattle.jpeg_meaning.proofs.Pictures.WholeImages.{cut-whole}
+use Rattle.jpeg_meaning.proofs.Tested.WorkedStreams.{colour-written, grey-written, padding-written, three-written}
+use Rattle.jpeg_meaning.proofs.Written.WrittenParts.{front-closed}
+use Rattle.jpeg_meaning.proofs.Written.WrittenPictures.{stream-means, taken-means}
 use Rattle.jpeg_decoder.proofs.Strips.StoredRows.{all-stored-long, filled-seen}
 use Rattle.jpeg_decoder.proofs.Scans.BlocksBefore.{plane_by-length}
 use Rattle.jpeg_decoder.proofs.Segments.HeaderThenRest.{header-lacks, header-means}
@@ -35,7 +35,7 @@ use Rattle.jpeg_decoder.proofs.Strips.JointDecided.{or-after, or-at, or-nothing,
 use Rattle.std.proofs.lemmas.List.FromFn.{length-enumerate_from}
 use Rattle.std.proofs.lemmas.Result.{err_from_is_err_and}
 use Rattle.jpeg_segments.proofs.Gathered.{gathers-all, gathers-none}
-use Rattle.jpeg_streams.proofs.Refusals.{told-err, turns-no_start}
+use Rattle.jpeg_meaning.proofs.Refusals.{told-err, turns-no_start}
 use Rattle.jpeg_decoder.proofs.LosslessFrames.LosslessReads.{picture-given, picture-lacks, picture-made}
 use Rattle.jpeg_decoder.proofs.Pictures.Ratios.{ratios_refused}
 use Rattle.jpeg_decoder.proofs.Segments.ReplacedTables.{dht-onto}

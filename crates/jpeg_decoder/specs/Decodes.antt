@@ -3,14 +3,14 @@
 use Rattle.std.specs.Prelude.{◌≡◌, ℕ, List, [], Result, replicate, None, true, false}
 use Rattle.jpeg_bits.specs.Reading.{Answers}
 use Rattle.jpeg_bits.specs.declared.error.Error.{Error}
-use Rattle.jpeg_streams.specs.DecodedImages.{DecodesImages}
-use Rattle.jpeg_streams.specs.DecodedSamples.{DecodesSamples}
-use Rattle.jpeg_streams.specs.Limits.{exceeded_ahead}
+use Rattle.jpeg_meaning.specs.DecodedImages.{DecodesImages}
+use Rattle.jpeg_meaning.specs.DecodedSamples.{DecodesSamples}
+use Rattle.jpeg_meaning.specs.Limits.{exceeded_ahead}
 use Rattle.jpeg_bits.specs.declared.beyond.Beyond.TheVariants.{Zeros}
-use Rattle.jpeg_streams.specs.Reported.{IsOfTurns}
-use Rattle.jpeg_streams.specs.States.{Decoding, IsReading, MovesToEnd, OnTold}
-use Rattle.jpeg_streams.specs.States.{ahead, told_ahead, turns_ahead}
-use Rattle.jpeg_streams.specs.Stream.{told_of}
+use Rattle.jpeg_meaning.specs.Reported.{IsOfTurns}
+use Rattle.jpeg_meaning.specs.States.{Decoding, IsReading, MovesToEnd, OnTold}
+use Rattle.jpeg_meaning.specs.States.{ahead, told_ahead, turns_ahead}
+use Rattle.jpeg_meaning.specs.Stream.{told_of}
 
 pub record Decodes {X : Type 0} (bytes_of : X → List ℕ) (old : Decoding) (result : Result X Error)
     (new : Decoding) : Type 0 where

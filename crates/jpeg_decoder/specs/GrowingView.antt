@@ -4,7 +4,7 @@ use Rattle.std.specs.List.{AllByRecursion}
 use Rattle.jpeg_pixels.specs.JointPlanes.{HasFrameSizes, joint_planes, joint_row_size}
 use Rattle.jpeg_pixels.specs.declared.joint_planes.JointPlanes.{JointPlanes}
 use Rattle.jpeg_pixels.specs.declared.joint_planes.JointShape.{JointShape}
-use Rattle.jpeg_streams.specs.ScanSegments.{Coding}
+use Rattle.jpeg_meaning.specs.ScanSegments.{Coding}
 use Rattle.jpeg_decoder.specs.Strips.{plane_lists}
 use Rattle.jpeg_decoder.specs.declared.scan.strips.GrowingPlanes.{GrowingPlanes}
 use Rattle.jpeg_decoder.specs.declared.scan.strips.GrowingPlanes.TheVariants as growing

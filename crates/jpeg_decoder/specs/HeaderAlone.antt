@@ -2,11 +2,11 @@
 use Rattle.std.specs.Prelude.{◌≡◌, Result, Ok, Err, true, IsErrAnd, None}
 use Rattle.jpeg_bits.specs.Reading.{Answers}
 use Rattle.jpeg_bits.specs.declared.error.Error.{Error}
-use Rattle.jpeg_streams.specs.Reported.{IsOfTurns}
-use Rattle.jpeg_streams.specs.declared.progress.Progress.TheVariants.{Fresh}
-use Rattle.jpeg_streams.specs.States.{Decoding, IsInternal, MovesToHeader, OnTold}
-use Rattle.jpeg_streams.specs.States.{told_ahead, turns_ahead}
-use Rattle.jpeg_streams.specs.Stream.{header_at, told_of}
+use Rattle.jpeg_meaning.specs.Reported.{IsOfTurns}
+use Rattle.jpeg_meaning.specs.declared.progress.Progress.TheVariants.{Fresh}
+use Rattle.jpeg_meaning.specs.States.{Decoding, IsInternal, MovesToHeader, OnTold}
+use Rattle.jpeg_meaning.specs.States.{told_ahead, turns_ahead}
+use Rattle.jpeg_meaning.specs.Stream.{header_at, told_of}
 
 -- what a call says whose header was read, or was refused
 abbrev pub RefusesAfter : {X : Type 0} → Result (Unit {0}) Error → Result X Error → Type 0

@@ -22,22 +22,22 @@ use Rattle.jpeg_lossless.specs.Rows.{with_all_rows, with_mcu_rows}
 use Rattle.jpeg_lossless.specs.Scans.{Way, is_of_rows}
 use Rattle.jpeg_lossless.specs.Scans.{rows_of_interval, scan_tables}
 use Rattle.jpeg_segments.specs.Checks.{needed}
-use Rattle.jpeg_streams.specs.Brought.{brought_by, unbrought, Brought}
-use Rattle.jpeg_streams.specs.Brought.{grey_samples, interval_rows_reached}
-use Rattle.jpeg_streams.specs.Brought.{planes_brought, samples_over, scan_reached}
-use Rattle.jpeg_streams.specs.Brought.{scan_rows_reached}
-use Rattle.jpeg_streams.specs.Found.{Found, Said, with_said}
-use Rattle.jpeg_streams.specs.LosslessScans.{LosslessCoding, lossless_codings, mcus_across}
-use Rattle.jpeg_streams.specs.LosslessScans.{mcus_down, tables_in}
-use Rattle.jpeg_streams.specs.Order.{mcu_size, spots_of}
-use Rattle.jpeg_streams.specs.ScanSegments.{after_samples, arrays_before, blocks_after}
-use Rattle.jpeg_streams.specs.ScanSegments.{components_of, scan_before, Coding}
-use Rattle.jpeg_streams.specs.ScanSegments.{once_scanned, put_arrays, vias_from, with_arrays}
-use Rattle.jpeg_streams.specs.Scans.{Arrays}
-use Rattle.jpeg_streams.specs.Segments.{Turn}
-use Rattle.jpeg_streams.specs.States.{IfRefused}
-use Rattle.jpeg_streams.specs.Stream.{Walked}
-use Rattle.jpeg_streams.specs.WholeRows.{rows_above, rows_of_planes}
+use Rattle.jpeg_meaning.specs.Brought.{brought_by, unbrought, Brought}
+use Rattle.jpeg_meaning.specs.Brought.{grey_samples, interval_rows_reached}
+use Rattle.jpeg_meaning.specs.Brought.{planes_brought, samples_over, scan_reached}
+use Rattle.jpeg_meaning.specs.Brought.{scan_rows_reached}
+use Rattle.jpeg_meaning.specs.Found.{Found, Said, with_said}
+use Rattle.jpeg_meaning.specs.LosslessScans.{LosslessCoding, lossless_codings, mcus_across}
+use Rattle.jpeg_meaning.specs.LosslessScans.{mcus_down, tables_in}
+use Rattle.jpeg_meaning.specs.Order.{mcu_size, spots_of}
+use Rattle.jpeg_meaning.specs.ScanSegments.{after_samples, arrays_before, blocks_after}
+use Rattle.jpeg_meaning.specs.ScanSegments.{components_of, scan_before, Coding}
+use Rattle.jpeg_meaning.specs.ScanSegments.{once_scanned, put_arrays, vias_from, with_arrays}
+use Rattle.jpeg_meaning.specs.Scans.{Arrays}
+use Rattle.jpeg_meaning.specs.Segments.{Turn}
+use Rattle.jpeg_meaning.specs.States.{IfRefused}
+use Rattle.jpeg_meaning.specs.Stream.{Walked}
+use Rattle.jpeg_meaning.specs.WholeRows.{rows_above, rows_of_planes}
 use Rattle.jpeg_decoder.specs.LosslessParts.{mcus_high, mcus_wide, no_component, parts_at}
 use Rattle.jpeg_decoder.specs.Steps.{blocks_at}
 use Rattle.jpeg_decoder.specs.declared.scan.lossless.SampleScan.{SampleScan}

@@ -4,16 +4,16 @@ use Rattle.std.specs.Prelude.{replicate, Bool, true, false, ℤ, pos, All}
 use Rattle.jpeg_bits.specs.Codes.{Table}
 use Rattle.jpeg_segments.specs.Frame.{Component}
 use Rattle.jpeg_bits.specs.Passes.{Pass, Via, Block, zero_block}
-use Rattle.jpeg_streams.specs.Scans.{Arrays}
-use Rattle.jpeg_streams.specs.InTurn.{Reached, Counted}
-use Rattle.jpeg_streams.specs.McuRows.{on_arrays}
+use Rattle.jpeg_meaning.specs.Scans.{Arrays}
+use Rattle.jpeg_meaning.specs.InTurn.{Reached, Counted}
+use Rattle.jpeg_meaning.specs.McuRows.{on_arrays}
 use Rattle.jpeg_bits.specs.Readers.{Reads, ◌>>=◌, gives}
 use Rattle.jpeg_bits.specs.Skips.{dc_alone}
 use Rattle.jpeg_decoder.specs.declared.scan.block_array.BlockArray.{BlockArray}
 use Rattle.jpeg_decoder.specs.declared.scan.blocks.Interval.{Interval}
-use Rattle.jpeg_streams.specs.Order.{Spot}
+use Rattle.jpeg_meaning.specs.Order.{Spot}
 use Rattle.jpeg_bits.specs.BlockView.{IsPass, to_block}
-use Rattle.jpeg_streams.specs.ScanSegments.{Coding, components_of, vias_from}
+use Rattle.jpeg_meaning.specs.ScanSegments.{Coding, components_of, vias_from}
 
 -- A scan of blocks, as it is read: what it codes, how many MCUs a restart interval has, its
 -- components with their tables, and whether the AC coefficients of its blocks are kept.

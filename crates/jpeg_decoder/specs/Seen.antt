@@ -6,7 +6,7 @@ use Rattle.jpeg_decoder.specs.declared.stream.state.Said.TheInside.{Inside}
 use Rattle.jpeg_decoder.specs.declared.stream.metadata.Metadata as declared
 use Rattle.jpeg_decoder.specs.PlanesView.{planes_in}
 use Rattle.jpeg_decoder.specs.Scanning.{arrays_in}
-use Rattle.jpeg_streams.specs.Found.{Found, Metadata, Said}
+use Rattle.jpeg_meaning.specs.Found.{Found, Metadata, Said}
 use Rattle.std.specs.declared.alloc.Global.{Global}
 use Rattle.std.specs.declared.vec.Vec.{Vec}
 

@@ -8,15 +8,15 @@ use Rattle.jpeg_bits.specs.declared.error.Error.{Error}
 use Rattle.jpeg_segments.specs.Frame.{Component, Frame}
 use Rattle.jpeg_segments.specs.declared.frame.CodingProcess.{CodingProcess}
 use Rattle.jpeg_segments.specs.declared.frame.CodingProcess.TheVariants.{Lossless}
-use Rattle.jpeg_streams.specs.EndPlanes.{is_kept}
-use Rattle.jpeg_streams.specs.Found.{Found, nothing_found, nothing_said}
-use Rattle.jpeg_streams.specs.Limits.{exceeded_ahead}
+use Rattle.jpeg_meaning.specs.EndPlanes.{is_kept}
+use Rattle.jpeg_meaning.specs.Found.{Found, nothing_found, nothing_said}
+use Rattle.jpeg_meaning.specs.Limits.{exceeded_ahead}
 use Rattle.jpeg_bits.specs.declared.beyond.Beyond.TheVariants.{Nothing}
-use Rattle.jpeg_streams.specs.Shown.{Shown, shown_ahead}
-use Rattle.jpeg_streams.specs.States.{Decoding, IfRefused, IsReading, MovesToEnd, OnToldRefusal}
-use Rattle.jpeg_streams.specs.Stream.{Told, all_brought, start_at, told_of}
-use Rattle.jpeg_streams.specs.declared.progress.Progress.{Progress}
-use Rattle.jpeg_streams.specs.declared.progress.Progress.TheVariants.{Fresh}
+use Rattle.jpeg_meaning.specs.Shown.{Shown, shown_ahead}
+use Rattle.jpeg_meaning.specs.States.{Decoding, IfRefused, IsReading, MovesToEnd, OnToldRefusal}
+use Rattle.jpeg_meaning.specs.Stream.{Told, all_brought, start_at, told_of}
+use Rattle.jpeg_meaning.specs.declared.progress.Progress.{Progress}
+use Rattle.jpeg_meaning.specs.declared.progress.Progress.TheVariants.{Fresh}
 use Rattle.jpeg_decoder.specs.Reaching.{NamesFault, UnlessRefused}
 
 -- Whether scans gave what the picture needs of a component: samples; or a plane, or else blocks

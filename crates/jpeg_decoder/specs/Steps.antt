@@ -15,31 +15,31 @@ use Rattle.jpeg_bits.specs.declared.marker.Marker.TheVariants.{RST}
 use Rattle.jpeg_segments.specs.Frame.{AllHaveSampling, Frame, Component}
 use Rattle.jpeg_pixels.specs.Planes.{cropped}
 use Rattle.jpeg_segments.specs.Scales.{is_scale}
-use Rattle.jpeg_streams.specs.Scans.{Arrays, arrays_at, no_table, zero_arrays}
+use Rattle.jpeg_meaning.specs.Scans.{Arrays, arrays_at, no_table, zero_arrays}
 use Rattle.jpeg_decoder.specs.Scanning.{arrays_in, scan_components, BlockScan}
-use Rattle.jpeg_streams.specs.Order.{spots_of, mcu_size}
+use Rattle.jpeg_meaning.specs.Order.{spots_of, mcu_size}
 use Rattle.jpeg_decoder.specs.declared.scan.decoded.Decoded.{Decoded}
 use Rattle.jpeg_bits.specs.Passes.{Pass, whole_pass}
 use Rattle.std.specs.List.{list_all, AllByRecursion}
 use Rattle.jpeg_segments.specs.FrameView.{component_in}
 use Rattle.jpeg_segments.specs.ScanHeader as headers
-use Rattle.jpeg_streams.specs.InTurn.{Fits}
+use Rattle.jpeg_meaning.specs.InTurn.{Fits}
 use Rattle.jpeg_decoder.specs.declared.stream.state.Step.{Step}
 use Rattle.jpeg_decoder.specs.declared.scan.coded.Coded.{Coded}
 use Rattle.jpeg_decoder.specs.declared.scan.codings.Spare.{Spare}
 use Rattle.jpeg_bits.specs.declared.huffman.codes.HuffmanTableClass.TheVariants as classes
 use Rattle.jpeg_segments.specs.Checks.{needed}
-use Rattle.jpeg_streams.specs.ScanSegments.{component_coding, components_of, Coding, tables_of}
-use Rattle.jpeg_streams.specs.ScanSegments.{codings_of, pass_of, after_restarts, finished_by}
-use Rattle.jpeg_streams.specs.ScanSegments.{blocks_after}
-use Rattle.jpeg_streams.specs.ScanSegments.{with_arrays, decided, arrays_before, once_scanned}
-use Rattle.jpeg_streams.specs.ScanSegments.{is_progressive, vias_from, after_samples, scan_samples}
-use Rattle.jpeg_streams.specs.Segments.{Turn}
-use Rattle.jpeg_streams.specs.Found.{Found, none_finished, Said}
-use Rattle.jpeg_streams.specs.LosslessScans.{lossless_codings}
-use Rattle.jpeg_streams.specs.Sound.{IsSound, IsUnread}
-use Rattle.jpeg_streams.specs.Stream.{told_of}
-use Rattle.jpeg_streams.specs.Work.{is_above, work_of_header}
+use Rattle.jpeg_meaning.specs.ScanSegments.{component_coding, components_of, Coding, tables_of}
+use Rattle.jpeg_meaning.specs.ScanSegments.{codings_of, pass_of, after_restarts, finished_by}
+use Rattle.jpeg_meaning.specs.ScanSegments.{blocks_after}
+use Rattle.jpeg_meaning.specs.ScanSegments.{with_arrays, decided, arrays_before, once_scanned}
+use Rattle.jpeg_meaning.specs.ScanSegments.{is_progressive, vias_from, after_samples, scan_samples}
+use Rattle.jpeg_meaning.specs.Segments.{Turn}
+use Rattle.jpeg_meaning.specs.Found.{Found, none_finished, Said}
+use Rattle.jpeg_meaning.specs.LosslessScans.{lossless_codings}
+use Rattle.jpeg_meaning.specs.Sound.{IsSound, IsUnread}
+use Rattle.jpeg_meaning.specs.Stream.{told_of}
+use Rattle.jpeg_meaning.specs.Work.{is_above, work_of_header}
 use Rattle.jpeg_segments.specs.declared.frame.CodingProcess.{CodingProcess}
 use Rattle.jpeg_segments.specs.declared.frame.CodingProcess.TheVariants.{DctSequential}
 use Rattle.jpeg_segments.specs.declared.frame.CodingProcess.TheVariants.{DctProgressive, Lossless}

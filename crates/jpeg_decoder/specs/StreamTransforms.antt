@@ -5,8 +5,8 @@ use Rattle.jpeg_bits.specs.declared.color_transform.ColorTransform.TheVariants a
 use Rattle.jpeg_segments.specs.Frame.{Frame}
 use Rattle.jpeg_segments.specs.declared.frame.CodingProcess.{CodingProcess}
 use Rattle.jpeg_segments.specs.declared.frame.CodingProcess.TheVariants.{Lossless}
-use Rattle.jpeg_streams.specs.ColourChoice.{identifiers_of, transform_of}
-use Rattle.jpeg_streams.specs.Found.{Metadata}
+use Rattle.jpeg_meaning.specs.ColourChoice.{identifiers_of, transform_of}
+use Rattle.jpeg_meaning.specs.Found.{Metadata}
 
 -- by the identifiers of the components and the segments: neither one component nor the samples of a
 -- lossless frame are converted

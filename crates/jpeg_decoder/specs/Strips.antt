@@ -12,12 +12,12 @@ use Rattle.jpeg_bits.specs.Passes.{Pass, Via, Block, zero_block}
 use Rattle.jpeg_segments.specs.Frame.{Frame}
 use Rattle.jpeg_pixels.specs.Planes.{plane_of}
 use Rattle.jpeg_bits.specs.Zigzag.{values_in_block_order}
-use Rattle.jpeg_streams.specs.Order.{Spot, spots_of, mcu_size}
-use Rattle.jpeg_streams.specs.Scans.{Arrays, zero_arrays, arrays_at}
-use Rattle.jpeg_streams.specs.Rasters.{in_raster, plane_by}
-use Rattle.jpeg_streams.specs.InTurn.{Counted, blocks_from, counted_at_start}
-use Rattle.jpeg_streams.specs.McuRows.{zero_rows, rows_of, on_arrays}
-use Rattle.jpeg_streams.specs.ScanSegments.{components_of, Coding}
+use Rattle.jpeg_meaning.specs.Order.{Spot, spots_of, mcu_size}
+use Rattle.jpeg_meaning.specs.Scans.{Arrays, zero_arrays, arrays_at}
+use Rattle.jpeg_meaning.specs.Rasters.{in_raster, plane_by}
+use Rattle.jpeg_meaning.specs.InTurn.{Counted, blocks_from, counted_at_start}
+use Rattle.jpeg_meaning.specs.McuRows.{zero_rows, rows_of, on_arrays}
+use Rattle.jpeg_meaning.specs.ScanSegments.{components_of, Coding}
 use Rattle.jpeg_decoder.specs.Scanning.{down_in, wide_in}
 
 -- the planes of a scan's components by their blocks

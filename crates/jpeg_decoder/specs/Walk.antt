@@ -4,9 +4,9 @@ use Rattle.std.specs.Prelude.{◌≡◌, ◌<◌, ℕ, ◌+◌, ◌-◌, ◌*◌
 use Rattle.std.specs.Prelude.{length, Option, Some, None}
 use Rattle.std.specs.List.{range_with_len, flat_map}
 use Rattle.jpeg_segments.specs.Frame.{Frame, Component}
-use Rattle.jpeg_streams.specs.Order.{Spot, mcu_size, spots_of}
-use Rattle.jpeg_streams.specs.McuRows.{mcu_row}
-use Rattle.jpeg_streams.specs.declared.grids.Grid.{Grid}
+use Rattle.jpeg_meaning.specs.Order.{Spot, mcu_size, spots_of}
+use Rattle.jpeg_meaning.specs.McuRows.{mcu_row}
+use Rattle.jpeg_meaning.specs.declared.grids.Grid.{Grid}
 use Rattle.jpeg_decoder.specs.declared.scan.order.ScanOrder.{ScanOrder}
 use Rattle.jpeg_decoder.specs.declared.scan.spots.Member.{Member}
 use Rattle.jpeg_decoder.specs.declared.scan.spots.Spot as taken

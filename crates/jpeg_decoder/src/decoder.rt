@@ -7,13 +7,13 @@ ghost use Rattle.std.specs.Io.KnownBytes.{prepend_known};
 ghost use Rattle.jpeg_bits.specs.Reading.{Answers};
 ghost use Rattle.jpeg_bits.specs.Stream.{stream_of};
 ghost use Rattle.jpeg_bits.specs.declared.error.Error.TheVariants.{OutOfMemory};
-ghost use Rattle.jpeg_streams.specs.Stream.{header_at, scaled_header_at, scaled_to, told_of};
-ghost use Rattle.jpeg_streams.specs.Stream.{sized_header_at, sized_to};
-ghost use Rattle.jpeg_streams.specs.Found.{nothing_found, with_said};
-ghost use Rattle.jpeg_streams.specs.Reported.{IsOfTurns};
-ghost use Rattle.jpeg_streams.specs.States.{Decoding, MovesToHeader, IsReading, ahead};
-ghost use Rattle.jpeg_streams.specs.States.{told_ahead, turns_ahead, OnTold, OnToldRefusal};
-ghost use Rattle.jpeg_streams.specs.States.{HasHeader};
+ghost use Rattle.jpeg_meaning.specs.Stream.{header_at, scaled_header_at, scaled_to, told_of};
+ghost use Rattle.jpeg_meaning.specs.Stream.{sized_header_at, sized_to};
+ghost use Rattle.jpeg_meaning.specs.Found.{nothing_found, with_said};
+ghost use Rattle.jpeg_meaning.specs.Reported.{IsOfTurns};
+ghost use Rattle.jpeg_meaning.specs.States.{Decoding, MovesToHeader, IsReading, ahead};
+ghost use Rattle.jpeg_meaning.specs.States.{told_ahead, turns_ahead, OnTold, OnToldRefusal};
+ghost use Rattle.jpeg_meaning.specs.States.{HasHeader};
 ghost use Rattle.jpeg_decoder.specs.Decodes.{Decodes};
 ghost use Rattle.jpeg_decoder.specs.Shows.{CountsRows, Shows};
 ghost use Rattle.std.specs.List.{concat};
@@ -21,19 +21,19 @@ ghost use Rattle.jpeg_decoder.specs.Bytes.{AreLinesOf, HasRoom, IsCounted, IsWho
 ghost use Rattle.jpeg_decoder.specs.Bytes.{decoding_bytes, picture_size, shape_in};
 ghost use Rattle.jpeg_decoder.specs.HeaderAlone.{ReadsHeaderAlone};
 ghost use Rattle.jpeg_decoder.specs.StreamTransforms.{frame_transform};
-ghost use Rattle.jpeg_streams.specs.States.{IsInternal};
+ghost use Rattle.jpeg_meaning.specs.States.{IsInternal};
 ghost use Rattle.std.specs.Prelude.{◌≤◌, drop, length, take};
-ghost use Rattle.jpeg_streams.specs.Pixels.{format_of, info_of};
-ghost use Rattle.jpeg_streams.specs.Sound.{HasDecodedFrame, IsSound, IsUnread};
-ghost use Rattle.jpeg_streams.specs.declared.progress.Progress.TheVariants.{Failed, Fresh};
-ghost use Rattle.jpeg_streams.specs.declared.progress.Progress.TheVariants.{HeaderRead};
+ghost use Rattle.jpeg_meaning.specs.Pixels.{format_of, info_of};
+ghost use Rattle.jpeg_meaning.specs.Sound.{HasDecodedFrame, IsSound, IsUnread};
+ghost use Rattle.jpeg_meaning.specs.declared.progress.Progress.TheVariants.{Failed, Fresh};
+ghost use Rattle.jpeg_meaning.specs.declared.progress.Progress.TheVariants.{HeaderRead};
 ghost use Rattle.jpeg_segments.specs.FrameView.{component_in, frame_in};
 ghost use Rattle.jpeg_segments.specs.Scales.{IsSizedFrame, is_scale, scale_for, scaled_by};
-ghost use Rattle.jpeg_streams.specs.Output.{default_settings};
-ghost use Rattle.jpeg_streams.specs.Profile.{profile_of};
+ghost use Rattle.jpeg_meaning.specs.Output.{default_settings};
+ghost use Rattle.jpeg_meaning.specs.Profile.{profile_of};
 ghost use Rattle.std.specs.Option.{option_copied};
-ghost use Rattle.jpeg_streams.specs.Shown.{whole_rows_ahead};
-ghost use Rattle.jpeg_streams.specs.Work.{picture_blocks};
+ghost use Rattle.jpeg_meaning.specs.Shown.{whole_rows_ahead};
+ghost use Rattle.jpeg_meaning.specs.Work.{picture_blocks};
 
 use crate::picture::color_choice::frame_transform;
 use crate::picture::lines::Lines;
@@ -48,13 +48,13 @@ pub use jpeg_bits::color_transform::ColorTransform;
 use jpeg_bits::error::{Error, Result};
 pub use jpeg_bits::scan::MAX_COMPONENTS;
 use jpeg_bits::source::Source;
+pub use jpeg_meaning::images::{ImageInfo, PixelFormat};
+use jpeg_meaning::progress::Progress;
+use jpeg_meaning::settings::Settings;
 use jpeg_pixels::idct::choose_idct_size;
 use jpeg_segments::parser::{CodingProcess, Component, Dimensions, FrameInfo};
 pub use jpeg_segments::scale::Scale;
 use jpeg_segments::sizes::{BLOCK_SIDE, scale_frame};
-pub use jpeg_streams::images::{ImageInfo, PixelFormat};
-use jpeg_streams::progress::Progress;
-use jpeg_streams::settings::Settings;
 use std::alloc::Global;
 use std::io::Read;
 use std::marker::Model;
@@ -118,7 +118,7 @@ fn scale_reaching(state: &State, width: u16, height: u16) -> usize
 }
 
 /// Sizes the frame, which was read, at a scale, and returns the size of its picture.
-#[tactic(auto, using(jpeg_streams::proofs::Soundness::scaled_rules))]
+#[tactic(auto, using(jpeg_meaning::proofs::Soundness::scaled_rules))]
 fn scale_state(state: &mut State, scale: usize) -> (u16, u16)
     requires framed { is_some state.old.said.frame ≡ true }
     requires frames { HasDecodedFrame state.old }
@@ -203,10 +203,10 @@ pub struct Decoder<R: Read + Drop> {
 
 impl<R: Read + Drop> Model for Decoder<R> {
     ghost use Rattle.std.specs.Prelude.{◌≡◌, false, is_some, true};
-    ghost use Rattle.jpeg_streams.specs.Sound.{HasDecodedFrame, IsSound, IsUnread};
-    ghost use Rattle.jpeg_streams.specs.States.{Decoding, HasHeader, IsReading};
-    ghost use Rattle.jpeg_streams.specs.declared.progress.Progress.TheVariants.{Fresh, HeaderRead};
-    ghost use Rattle.jpeg_streams.specs.Found.{nothing_found};
+    ghost use Rattle.jpeg_meaning.specs.Sound.{HasDecodedFrame, IsSound, IsUnread};
+    ghost use Rattle.jpeg_meaning.specs.States.{Decoding, HasHeader, IsReading};
+    ghost use Rattle.jpeg_meaning.specs.declared.progress.Progress.TheVariants.{Fresh, HeaderRead};
+    ghost use Rattle.jpeg_meaning.specs.Found.{nothing_found};
 
     ghost Value = { Decoding };
 

@@ -2,13 +2,13 @@
 ghost use Rattle.std.specs.Prelude.{◌≡◌, ℕ, List, Option, Some, None, Err, IsSome};
 ghost use Rattle.jpeg_decoder.specs.Begun.{begun};
 ghost use Rattle.std.specs.Prelude.{IsSomeAnd, OnOk, OnErr, IfErr, IfOk, IsErr, string_bytes};
-ghost use Rattle.jpeg_streams.specs.States.{IsOfBytes};
+ghost use Rattle.jpeg_meaning.specs.States.{IsOfBytes};
 ghost use Rattle.std.specs.Io.KnownBytes.{Appends, Keeps};
 ghost use Rattle.jpeg_bits.specs.declared.error.Error.TheVariants.{OutOfMemory};
-ghost use Rattle.jpeg_streams.specs.Output.{output_of, header_line_of, name_of, Tells};
-ghost use Rattle.jpeg_streams.specs.Output.{TakesBeginning};
-ghost use Rattle.jpeg_streams.specs.Output.{IsOutsideOrMemory, NamesOrOutside};
-ghost use Rattle.jpeg_streams.specs.PrintedImages.{PrintsImages};
+ghost use Rattle.jpeg_meaning.specs.Output.{output_of, header_line_of, name_of, Tells};
+ghost use Rattle.jpeg_meaning.specs.Output.{TakesBeginning};
+ghost use Rattle.jpeg_meaning.specs.Output.{IsOutsideOrMemory, NamesOrOutside};
+ghost use Rattle.jpeg_meaning.specs.PrintedImages.{PrintsImages};
 
 mod lines;
 mod writes;

@@ -18,9 +18,9 @@ use Rattle.jpeg_segments.specs.HuffmanTables.{greatest_destination}
 use Rattle.jpeg_segments.specs.ScanHeader.{blocks_by, index_of, is_band, scan_of, Selector}
 use Rattle.jpeg_segments.specs.ScanHeaders.{AreChoices, IsChoice, IsScan, scan_written, ScanHeader, selectors_in}
 use Rattle.jpeg_segments.specs.WrittenSegments.{AreComponents, FrameHeader, IsComponent, IsFrameHeader}
-use Rattle.jpeg_streams.proofs.Encoded.EncodedParts.{all-weaker}
-use Rattle.jpeg_streams.proofs.Encoded.EncodedScripts.{blank}
-use Rattle.jpeg_streams.proofs.Partial.FittingFrames.{factor-bounds}
+use Rattle.jpeg_meaning.proofs.Encoded.EncodedParts.{all-weaker}
+use Rattle.jpeg_meaning.proofs.Encoded.EncodedScripts.{blank}
+use Rattle.jpeg_meaning.proofs.Partial.FittingFrames.{factor-bounds}
 use Rattle.jpeg_evidence.specs.HeaderRules.{AreDistinct, AreInOrder, blocks_of, KeepsBandRules, KeepsChoiceRules}
 use Rattle.jpeg_evidence.specs.HeaderRules.{KeepsComponentRules, KeepsFrameRules, KeepsScanRules}
 

@@ -7,17 +7,17 @@ use Rattle.jpeg_pixels.specs.Samples.{basis}
 use Rattle.jpeg_pixels.specs.Upsampling.{rule_of}
 use Rattle.jpeg_segments.specs.Frame.{component_of, frame_of}
 use Rattle.jpeg_segments.specs.Scales.{component_at, frame_at}
-use Rattle.jpeg_streams.specs.ColourChoice.{by_identifiers, transform_of}
-use Rattle.jpeg_streams.proofs.OnLiterals.{samples_on_literals, streams_on_literals}
+use Rattle.jpeg_meaning.specs.ColourChoice.{by_identifiers, transform_of}
+use Rattle.jpeg_meaning.proofs.OnLiterals.{samples_on_literals, streams_on_literals}
 use Rattle.jpeg_lossless.specs.RowsReached.{rows_reached}
-use Rattle.jpeg_streams.specs.Brought.{blocks_brought, blocks_brought_by, interval_reached, interval_rows_reached}
-use Rattle.jpeg_streams.specs.Brought.{intervals_reached, reached_from, samples_brought, samples_brought_by}
-use Rattle.jpeg_streams.specs.Brought.{scan_brought, scan_rows_reached}
-use Rattle.jpeg_streams.specs.InTurn.{turn_from}
-use Rattle.jpeg_streams.specs.Limits.{exceeded_by, work_of, work_of_walk, work_within}
-use Rattle.jpeg_streams.specs.Profile.{profile_of}
-use Rattle.jpeg_streams.specs.Shown.{completed, fault_shown, picture_shown, shown_of, shown_rest_within, shown_within}
-use Rattle.jpeg_streams.specs.Shown.{whole_rows_rest, whole_rows_within, with_plane_shown, with_samples_shown}
+use Rattle.jpeg_meaning.specs.Brought.{blocks_brought, blocks_brought_by, interval_reached, interval_rows_reached}
+use Rattle.jpeg_meaning.specs.Brought.{intervals_reached, reached_from, samples_brought, samples_brought_by}
+use Rattle.jpeg_meaning.specs.Brought.{scan_brought, scan_rows_reached}
+use Rattle.jpeg_meaning.specs.InTurn.{turn_from}
+use Rattle.jpeg_meaning.specs.Limits.{exceeded_by, work_of, work_of_walk, work_within}
+use Rattle.jpeg_meaning.specs.Profile.{profile_of}
+use Rattle.jpeg_meaning.specs.Shown.{completed, fault_shown, picture_shown, shown_of, shown_rest_within, shown_within}
+use Rattle.jpeg_meaning.specs.Shown.{whole_rows_rest, whole_rows_within, with_plane_shown, with_samples_shown}
 use Rattle.jpeg_evidence.specs.Cosines.{cosine, is_entry, are_entries}
 use Rattle.jpeg_evidence.specs.Limits.{work_done}
 

@@ -12,21 +12,21 @@ use Rattle.jpeg_segments.specs.Frame.{Component, Frame}
 use Rattle.jpeg_segments.specs.ScanHeader.{Scan}
 use Rattle.jpeg_segments.specs.ScanHeaders.{IsScan, ScanHeader, scan_payload, scan_written}
 use Rattle.jpeg_segments.specs.WrittenSegments.{Segment, marker_code, payload_of, with_length}
-use Rattle.jpeg_streams.specs.declared.settings.Settings.{Settings}
-use Rattle.jpeg_streams.specs.Found.{Found, Said, nothing_said}
-use Rattle.jpeg_streams.specs.FoundPictures.{limited, picture_by}
-use Rattle.jpeg_streams.specs.InTurn.{IsIn}
-use Rattle.jpeg_streams.specs.Levels.{Levels, cut, nothing_sent, sent_after}
-use Rattle.jpeg_streams.specs.Order.{Spot, grid_of, spots_of}
-use Rattle.jpeg_streams.specs.Rasters.{plane_of_blocks}
-use Rattle.jpeg_streams.specs.SaidSegments.{Stands}
-use Rattle.jpeg_streams.specs.Scans.{Arrays, block_at}
-use Rattle.jpeg_streams.specs.ScanSegments.{Coding, after_scan, arrays_before, components_of}
-use Rattle.jpeg_streams.specs.ScanSegments.{is_progressive, pass_of}
-use Rattle.jpeg_streams.specs.WholeRows.{rows_above}
-use Rattle.jpeg_streams.specs.WrittenImages.{ClosesImage, MayStandInImage, WritesImageScan}
-use Rattle.jpeg_streams.specs.WrittenScans.{Coefficients, IsOwn}
-use Rattle.jpeg_streams.specs.WrittenStreams.{Writes}
+use Rattle.jpeg_meaning.specs.declared.settings.Settings.{Settings}
+use Rattle.jpeg_meaning.specs.Found.{Found, Said, nothing_said}
+use Rattle.jpeg_meaning.specs.FoundPictures.{limited, picture_by}
+use Rattle.jpeg_meaning.specs.InTurn.{IsIn}
+use Rattle.jpeg_meaning.specs.Levels.{Levels, cut, nothing_sent, sent_after}
+use Rattle.jpeg_meaning.specs.Order.{Spot, grid_of, spots_of}
+use Rattle.jpeg_meaning.specs.Rasters.{plane_of_blocks}
+use Rattle.jpeg_meaning.specs.SaidSegments.{Stands}
+use Rattle.jpeg_meaning.specs.Scans.{Arrays, block_at}
+use Rattle.jpeg_meaning.specs.ScanSegments.{Coding, after_scan, arrays_before, components_of}
+use Rattle.jpeg_meaning.specs.ScanSegments.{is_progressive, pass_of}
+use Rattle.jpeg_meaning.specs.WholeRows.{rows_above}
+use Rattle.jpeg_meaning.specs.WrittenImages.{ClosesImage, MayStandInImage, WritesImageScan}
+use Rattle.jpeg_meaning.specs.WrittenScans.{Coefficients, IsOwn}
+use Rattle.jpeg_meaning.specs.WrittenStreams.{Writes}
 use Rattle.jpeg_evidence.specs.FirstBlocks.{IsMost, StandWhole}
 
 -- Segments and scans of an image that are whole, without an end: what they say, and the levels

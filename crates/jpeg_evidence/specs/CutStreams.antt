@@ -5,16 +5,16 @@ use Rattle.jpeg_bits.specs.Passes.{Block}
 use Rattle.jpeg_bits.specs.Reading.{Fault, ◌>>=◌}
 use Rattle.jpeg_bits.specs.declared.huffman.codes.HuffmanTableClass.TheVariants.{DC, AC}
 use Rattle.jpeg_segments.specs.Frame.{Frame, frame_of}
-use Rattle.jpeg_streams.specs.Found.{with_said}
-use Rattle.jpeg_streams.specs.Order.{Spot}
-use Rattle.jpeg_streams.specs.ScanSegments.{Coding}
-use Rattle.jpeg_streams.specs.Output.{default_settings}
-use Rattle.jpeg_streams.specs.Shown.{Shown, shown, shown_rest}
-use Rattle.jpeg_streams.specs.Stream.{header_at, sized_to}
-use Rattle.jpeg_streams.specs.Worked.{colour_frame, grey_frame, image_with, one_code}
-use Rattle.jpeg_streams.specs.Worked.{quantization_of, restart_interval, scan_text, stream_parts}
-use Rattle.jpeg_streams.specs.Worked.{stream_with}
-use Rattle.jpeg_streams.specs.Worked.{two_codes}
+use Rattle.jpeg_meaning.specs.Found.{with_said}
+use Rattle.jpeg_meaning.specs.Order.{Spot}
+use Rattle.jpeg_meaning.specs.ScanSegments.{Coding}
+use Rattle.jpeg_meaning.specs.Output.{default_settings}
+use Rattle.jpeg_meaning.specs.Shown.{Shown, shown, shown_rest}
+use Rattle.jpeg_meaning.specs.Stream.{header_at, sized_to}
+use Rattle.jpeg_meaning.specs.Worked.{colour_frame, grey_frame, image_with, one_code}
+use Rattle.jpeg_meaning.specs.Worked.{quantization_of, restart_interval, scan_text, stream_parts}
+use Rattle.jpeg_meaning.specs.Worked.{stream_with}
+use Rattle.jpeg_meaning.specs.Worked.{two_codes}
 use Rattle.jpeg_evidence.specs.FoundTables.{factors_with, one_symbol}
 
 -- the picture and the first fault, or why there is no picture

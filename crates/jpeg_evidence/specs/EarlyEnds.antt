@@ -16,18 +16,18 @@ use Rattle.jpeg_lossless.specs.Scans.{rows_of_interval, scan_tables}
 use Rattle.jpeg_segments.specs.declared.frame.CodingProcess.TheVariants.{Lossless}
 use Rattle.jpeg_segments.specs.Frame.{Frame}
 use Rattle.jpeg_segments.specs.ScanHeader.{Scan}
-use Rattle.jpeg_streams.specs.declared.before.Before.{Before}
-use Rattle.jpeg_streams.specs.declared.before.Before.TheVariants.{Elsewhere}
-use Rattle.jpeg_streams.specs.Brought.{after_interval, frame_and_scan, has_whole_rows}
-use Rattle.jpeg_streams.specs.Brought.{interval_reached, interval_rows_reached, reached_from}
-use Rattle.jpeg_streams.specs.Found.{Found, nothing_found}
-use Rattle.jpeg_streams.specs.InTurn.{at_start}
-use Rattle.jpeg_streams.specs.LosslessScans.{LosslessCoding, lossless_codings, mcus_down, way_of}
-use Rattle.jpeg_streams.specs.Order.{Spot, mcu_size, spots_of}
-use Rattle.jpeg_streams.specs.Scans.{Arrays}
-use Rattle.jpeg_streams.specs.ScanSegments.{Coding, codings_of, components_of, pass_of, vias_from}
-use Rattle.jpeg_streams.specs.Segments.{Turn}
-use Rattle.jpeg_streams.specs.Stream.{start_at, turn_at}
+use Rattle.jpeg_meaning.specs.declared.before.Before.{Before}
+use Rattle.jpeg_meaning.specs.declared.before.Before.TheVariants.{Elsewhere}
+use Rattle.jpeg_meaning.specs.Brought.{after_interval, frame_and_scan, has_whole_rows}
+use Rattle.jpeg_meaning.specs.Brought.{interval_reached, interval_rows_reached, reached_from}
+use Rattle.jpeg_meaning.specs.Found.{Found, nothing_found}
+use Rattle.jpeg_meaning.specs.InTurn.{at_start}
+use Rattle.jpeg_meaning.specs.LosslessScans.{LosslessCoding, lossless_codings, mcus_down, way_of}
+use Rattle.jpeg_meaning.specs.Order.{Spot, mcu_size, spots_of}
+use Rattle.jpeg_meaning.specs.Scans.{Arrays}
+use Rattle.jpeg_meaning.specs.ScanSegments.{Coding, codings_of, components_of, pass_of, vias_from}
+use Rattle.jpeg_meaning.specs.Segments.{Turn}
+use Rattle.jpeg_meaning.specs.Stream.{start_at, turn_at}
 use Rattle.jpeg_evidence.specs.LongerStreams.{arrays_of}
 
 -- the bits of a text, and none after them

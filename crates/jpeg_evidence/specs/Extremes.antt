@@ -2,8 +2,8 @@
 -- level 7, and restart intervals that change between scans.
 use Rattle.std.specs.Prelude.{ℕ, List, [], ◌∷◌, replicate, pos, negsuc, get_or}
 use Rattle.jpeg_bits.specs.Passes.{Block}
-use Rattle.jpeg_streams.specs.WorkedImages.{in_column}
-use Rattle.jpeg_streams.specs.WrittenScans.{Coefficients}
+use Rattle.jpeg_meaning.specs.WorkedImages.{in_column}
+use Rattle.jpeg_meaning.specs.WrittenScans.{Coefficients}
 
 -- two blocks of one component
 abbrev pub lowest : Block

@@ -9,9 +9,9 @@ use Rattle.jpeg_bits.specs.Codes.{Table}
 use Rattle.jpeg_bits.specs.Passes.{Block}
 use Rattle.jpeg_bits.specs.Reading.{Fault}
 use Rattle.jpeg_segments.specs.HuffmanTables.{Tables, dht_at}
-use Rattle.jpeg_streams.specs.WorkedImages.{in_column}
-use Rattle.jpeg_streams.specs.WrittenLossless.{Samples}
-use Rattle.jpeg_streams.specs.WrittenScans.{Coefficients}
+use Rattle.jpeg_meaning.specs.WorkedImages.{in_column}
+use Rattle.jpeg_meaning.specs.WrittenLossless.{Samples}
+use Rattle.jpeg_meaning.specs.WrittenScans.{Coefficients}
 
 abbrev pub sequential_file : List ℕ
 sequential_file =

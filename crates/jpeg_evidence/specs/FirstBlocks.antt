@@ -7,11 +7,11 @@ use Rattle.jpeg_bits.specs.Intervals.{first_group, other_groups}
 use Rattle.jpeg_bits.specs.Passes.{Block, Pass, Via, band_of, predictors_at_start}
 use Rattle.jpeg_bits.specs.Written.{WritesInterval, bits_of_bytes, marker, stuffed}
 use Rattle.jpeg_segments.specs.Frame.{Frame}
-use Rattle.jpeg_streams.specs.Levels.{numbers_at}
-use Rattle.jpeg_streams.specs.Order.{Spot, mcu_size, spots_of}
-use Rattle.jpeg_streams.specs.Scans.{turns_of}
-use Rattle.jpeg_streams.specs.ScanSegments.{Coding, components_of, vias_from}
-use Rattle.jpeg_streams.specs.WrittenData.{WritesAc, WritesBlocks, WritesDc}
+use Rattle.jpeg_meaning.specs.Levels.{numbers_at}
+use Rattle.jpeg_meaning.specs.Order.{Spot, mcu_size, spots_of}
+use Rattle.jpeg_meaning.specs.Scans.{turns_of}
+use Rattle.jpeg_meaning.specs.ScanSegments.{Coding, components_of, vias_from}
+use Rattle.jpeg_meaning.specs.WrittenData.{WritesAc, WritesBlocks, WritesDc}
 
 -- The bits of the first of an interval's blocks, as `WritesBlocks` has those of all of them: here a
 -- run may go beyond the last.

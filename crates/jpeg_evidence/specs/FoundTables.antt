@@ -9,8 +9,8 @@ use Rattle.jpeg_segments.specs.Application.{Chunk}
 use Rattle.jpeg_segments.specs.Frame.{Factors, Frame, frame_of}
 use Rattle.jpeg_segments.specs.HuffmanTables.{no_tables}
 use Rattle.jpeg_segments.specs.ScanHeader.{Selector}
-use Rattle.jpeg_streams.specs.Found.{Said, nothing_said, no_metadata}
-use Rattle.jpeg_streams.specs.ScanSegments.{Coding}
+use Rattle.jpeg_meaning.specs.Found.{Said, nothing_said, no_metadata}
+use Rattle.jpeg_meaning.specs.ScanSegments.{Coding}
 
 -- tables with one symbol
 abbrev pub one_symbol : HuffmanTableClass → ℕ → Table

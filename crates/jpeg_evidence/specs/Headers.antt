@@ -6,7 +6,7 @@ use Rattle.jpeg_bits.specs.Reading.{End}
 use Rattle.jpeg_bits.specs.Readers.{text}
 use Rattle.jpeg_bits.specs.declared.huffman.codes.HuffmanTableClass.TheVariants.{AC}
 use Rattle.jpeg_segments.specs.Frame.{Frame, frame_of}
-use Rattle.jpeg_streams.specs.Worked.{factors_by}
+use Rattle.jpeg_meaning.specs.Worked.{factors_by}
 
 -- the numbers of the markers SOFn: 4, 8 and 12 are other markers
 abbrev pub frame_numbers : List ℕ

@@ -4,15 +4,15 @@ use Rattle.std.specs.Prelude.{ℕ, suc, ◌*◌, List, [], ◌∷◌, length, fa
 use Rattle.std.specs.Prelude.{Err}
 use Rattle.jpeg_bits.specs.Reading.{Fault}
 use Rattle.jpeg_segments.specs.Frame.{Component, Frame}
-use Rattle.jpeg_streams.specs.declared.before.Before.TheVariants.{Elsewhere}
+use Rattle.jpeg_meaning.specs.declared.before.Before.TheVariants.{Elsewhere}
 use Rattle.jpeg_bits.specs.declared.beyond.Beyond.{Beyond}
-use Rattle.jpeg_streams.specs.Found.{nothing_found}
-use Rattle.jpeg_streams.specs.Limits.{work_within}
-use Rattle.jpeg_streams.specs.Order.{grid_of, mcu_size}
-use Rattle.jpeg_streams.specs.Output.{default_settings}
-use Rattle.jpeg_streams.specs.Shown.{shown_within}
-use Rattle.jpeg_streams.specs.Stream.{meaning_within, start_at}
-use Rattle.jpeg_streams.specs.Worked.{picture_part, scan_text, stream_parts}
+use Rattle.jpeg_meaning.specs.Found.{nothing_found}
+use Rattle.jpeg_meaning.specs.Limits.{work_within}
+use Rattle.jpeg_meaning.specs.Order.{grid_of, mcu_size}
+use Rattle.jpeg_meaning.specs.Output.{default_settings}
+use Rattle.jpeg_meaning.specs.Shown.{shown_within}
+use Rattle.jpeg_meaning.specs.Stream.{meaning_within, start_at}
+use Rattle.jpeg_meaning.specs.Worked.{picture_part, scan_text, stream_parts}
 use Rattle.jpeg_evidence.specs.CutStreams.{picture_and_fault}
 
 -- ---- a stream within a limit

@@ -7,19 +7,19 @@ use Rattle.jpeg_bits.specs.Readers.{text}
 use Rattle.jpeg_bits.specs.declared.marker.Marker.{Marker}
 use Rattle.jpeg_segments.specs.Frame.{Frame}
 use Rattle.jpeg_segments.specs.ScanHeader.{Scan}
-use Rattle.jpeg_streams.specs.declared.before.Before.{Before}
+use Rattle.jpeg_meaning.specs.declared.before.Before.{Before}
 use Rattle.jpeg_bits.specs.declared.beyond.Beyond.TheVariants.{Nothing}
 use Rattle.jpeg_lossless.specs.Scans.{lines_by_component, planes_of}
-use Rattle.jpeg_streams.specs.Brought.{reached_from, samples_over}
-use Rattle.jpeg_streams.specs.Found.{Found}
-use Rattle.jpeg_streams.specs.InTurn.{IsIn, Reached}
-use Rattle.jpeg_streams.specs.Levels.{IsLegal, Levels, cut, sent_after}
-use Rattle.jpeg_streams.specs.LosslessScans.{LosslessCoding, way_of}
-use Rattle.jpeg_streams.specs.Order.{Spot, spots_of}
-use Rattle.jpeg_streams.specs.Scans.{Arrays, block_at, put_block}
-use Rattle.jpeg_streams.specs.ScanSegments.{Coding, after_samples, after_scan, arrays_before}
-use Rattle.jpeg_streams.specs.ScanSegments.{components_of}
-use Rattle.jpeg_streams.specs.Stream.{Walked, turn_at, walk}
+use Rattle.jpeg_meaning.specs.Brought.{reached_from, samples_over}
+use Rattle.jpeg_meaning.specs.Found.{Found}
+use Rattle.jpeg_meaning.specs.InTurn.{IsIn, Reached}
+use Rattle.jpeg_meaning.specs.Levels.{IsLegal, Levels, cut, sent_after}
+use Rattle.jpeg_meaning.specs.LosslessScans.{LosslessCoding, way_of}
+use Rattle.jpeg_meaning.specs.Order.{Spot, spots_of}
+use Rattle.jpeg_meaning.specs.Scans.{Arrays, block_at, put_block}
+use Rattle.jpeg_meaning.specs.ScanSegments.{Coding, after_samples, after_scan, arrays_before}
+use Rattle.jpeg_meaning.specs.ScanSegments.{components_of}
+use Rattle.jpeg_meaning.specs.Stream.{Walked, turn_at, walk}
 
 -- These bits bring the blocks at `done`, and `left` are left, of which no block more can be read
 -- where nothing follows. Where more bits come after them, the other blocks are read from there on.

@@ -5,9 +5,9 @@ use Rattle.std.specs.Prelude.{filter, true, false, length, ◌+ℤ◌, ◌∷◌
 use Rattle.std.specs.List.{AllByRecursion}
 use Rattle.jpeg_bits.specs.Refinement.{corrected, is_zero, through_zero}
 use Rattle.jpeg_bits.specs.Bands.{difference, token_from, wrapped}
-use Rattle.jpeg_streams.specs.Levels.{cut_by, floor_at, numbers_at, toward_zero}
-use Rattle.jpeg_streams.specs.WrittenData.{WritesBand, WritesDifference, WritesAc, WritesDc}
-use Rattle.jpeg_streams.specs.WrittenData.{no_numbers, WritesBlocks}
+use Rattle.jpeg_meaning.specs.Levels.{cut_by, floor_at, numbers_at, toward_zero}
+use Rattle.jpeg_meaning.specs.WrittenData.{WritesBand, WritesDifference, WritesAc, WritesDc}
+use Rattle.jpeg_meaning.specs.WrittenData.{no_numbers, WritesBlocks}
 use Rattle.jpeg_bits.specs.Written.{WritesInterval, WritesIntervals, low_bits, number_for}
 use Rattle.jpeg_bits.specs.Written.{IsCategory, IsCoded, stuffed, marker, bits_of_bytes}
 use Rattle.jpeg_bits.specs.Passes.{Block, Pass, Via, band_of, block_from, blocks_of, dc_part}

@@ -5,11 +5,11 @@ ghost use Rattle.std.specs.Prelude.{drop, replicate, take};
 ghost use Rattle.std.specs.List.{concat};
 ghost use Rattle.jpeg_bits.specs.Reading.{Fault, Malformed, End};
 ghost use Rattle.jpeg_segments.specs.Frame.{Frame};
-ghost use Rattle.jpeg_streams.specs.ScanSegments.{components_of};
-ghost use Rattle.jpeg_streams.specs.Shown.{Shown, shown, whole_rows};
-ghost use Rattle.jpeg_streams.specs.Stream.{meaning};
-ghost use Rattle.jpeg_streams.specs.Worked.{eight_times, picture_meant, scanned_twice, stream_with};
-ghost use Rattle.jpeg_streams.specs.declared.settings.Settings.{Settings};
+ghost use Rattle.jpeg_meaning.specs.ScanSegments.{components_of};
+ghost use Rattle.jpeg_meaning.specs.Shown.{Shown, shown, whole_rows};
+ghost use Rattle.jpeg_meaning.specs.Stream.{meaning};
+ghost use Rattle.jpeg_meaning.specs.Worked.{eight_times, picture_meant, scanned_twice, stream_with};
+ghost use Rattle.jpeg_meaning.specs.declared.settings.Settings.{Settings};
 ghost use Rattle.jpeg_evidence.specs.EarlyEnds.{StreamEndsEarly};
 ghost use Rattle.jpeg_evidence.specs.CutImages.{rows_before};
 ghost use Rattle.jpeg_evidence.specs.CutStreams.{block_below, codings_of_two, frame_of_three};
@@ -22,7 +22,7 @@ ghost use Rattle.jpeg_evidence.specs.CutStreams.{wrong_row_restart};
 
 /// Where `decode_partial` names no fault, `decode` gives the same: what a stream shows without a
 /// fault is what it means, picture and metadata, within the same limit.
-#[tactic(auto, using(jpeg_streams::proofs::Partial::Faultless::faultless_streams_are_meant))]
+#[tactic(auto, using(jpeg_meaning::proofs::Partial::Faultless::faultless_streams_are_meant))]
 pub fn faultless_streams_are_meant()
     ensures { (settings : Settings) (bytes : List ℕ) (s : Shown) → shown settings bytes ≡ Ok s
         → s.fault ≡ None

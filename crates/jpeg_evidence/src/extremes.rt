@@ -3,13 +3,13 @@
 ghost use Rattle.std.specs.Prelude.{ℕ, List};
 ghost use Rattle.jpeg_bits.specs.declared.color_transform.ColorTransform.TheVariants as transforms;
 ghost use Rattle.jpeg_segments.specs.WrittenSegments.{Interval};
-ghost use Rattle.jpeg_streams.specs.ArrayPictures.{IsTransformOf};
-ghost use Rattle.jpeg_streams.specs.DecodedImages.{FullSize, HasLeft};
-ghost use Rattle.jpeg_streams.specs.Found.{Found, Said};
-ghost use Rattle.jpeg_streams.specs.Levels.{Is8Bit};
-ghost use Rattle.jpeg_streams.specs.WorkedImages.{IsWhollyWritten};
-ghost use Rattle.jpeg_streams.specs.WrittenImages.{MayStandInImage};
-ghost use Rattle.jpeg_streams.specs.declared.progress.Progress.TheVariants.{Fresh};
+ghost use Rattle.jpeg_meaning.specs.ArrayPictures.{IsTransformOf};
+ghost use Rattle.jpeg_meaning.specs.DecodedImages.{FullSize, HasLeft};
+ghost use Rattle.jpeg_meaning.specs.Found.{Found, Said};
+ghost use Rattle.jpeg_meaning.specs.Levels.{Is8Bit};
+ghost use Rattle.jpeg_meaning.specs.WorkedImages.{IsWhollyWritten};
+ghost use Rattle.jpeg_meaning.specs.WrittenImages.{MayStandInImage};
+ghost use Rattle.jpeg_meaning.specs.declared.progress.Progress.TheVariants.{Fresh};
 ghost use Rattle.jpeg_evidence.specs.Extremes.{extreme_array, extreme_progressive};
 ghost use Rattle.jpeg_evidence.specs.Extremes.{extreme_sequential};
 

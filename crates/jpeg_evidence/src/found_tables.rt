@@ -20,20 +20,20 @@ ghost use Rattle.jpeg_segments.specs.Frame.{Frame, frame_of, is_count, is_destin
 ghost use Rattle.jpeg_segments.specs.HuffmanTables.{greatest_destination};
 ghost use Rattle.jpeg_segments.specs.ScanHeader.{Scan, scan_of, is_mcu, is_progressive_band};
 ghost use Rattle.jpeg_segments.specs.ScanHeader.{is_sequential_band};
-ghost use Rattle.jpeg_streams.specs.Found.{Said, no_metadata, nothing_found, with_said};
-ghost use Rattle.jpeg_streams.specs.Pixels.{format_of};
-ghost use Rattle.jpeg_streams.specs.Profile.{profile_of};
-ghost use Rattle.jpeg_streams.specs.LosslessScans.{LosslessCoding, lossless_codings};
-ghost use Rattle.jpeg_streams.specs.ScanSegments.{Coding, codings_of};
-ghost use Rattle.jpeg_streams.specs.WrittenLossless.{AreSampleCodings};
-ghost use Rattle.jpeg_streams.specs.WrittenScans.{HasCodings};
+ghost use Rattle.jpeg_meaning.specs.Found.{Said, no_metadata, nothing_found, with_said};
+ghost use Rattle.jpeg_meaning.specs.Pixels.{format_of};
+ghost use Rattle.jpeg_meaning.specs.Profile.{profile_of};
+ghost use Rattle.jpeg_meaning.specs.LosslessScans.{LosslessCoding, lossless_codings};
+ghost use Rattle.jpeg_meaning.specs.ScanSegments.{Coding, codings_of};
+ghost use Rattle.jpeg_meaning.specs.WrittenLossless.{AreSampleCodings};
+ghost use Rattle.jpeg_meaning.specs.WrittenScans.{HasCodings};
 ghost use Rattle.jpeg_bits.specs.Codes.{Table};
 ghost use Rattle.std.specs.Prelude.{Option};
-ghost use Rattle.jpeg_streams.specs.Segments.{accepted, onward, with_application};
-ghost use Rattle.jpeg_streams.specs.Stream.{segment_at};
-ghost use Rattle.jpeg_streams.specs.declared.before.Before.TheVariants.{Elsewhere, LaterScan};
-ghost use Rattle.jpeg_streams.specs.declared.images.PixelFormat.TheVariants.{L8, L16, RGB24};
-ghost use Rattle.jpeg_streams.specs.declared.images.PixelFormat.TheVariants.{CMYK32};
+ghost use Rattle.jpeg_meaning.specs.Segments.{accepted, onward, with_application};
+ghost use Rattle.jpeg_meaning.specs.Stream.{segment_at};
+ghost use Rattle.jpeg_meaning.specs.declared.before.Before.TheVariants.{Elsewhere, LaterScan};
+ghost use Rattle.jpeg_meaning.specs.declared.images.PixelFormat.TheVariants.{L8, L16, RGB24};
+ghost use Rattle.jpeg_meaning.specs.declared.images.PixelFormat.TheVariants.{CMYK32};
 ghost use Rattle.jpeg_evidence.specs.FoundTables.{ac_said, all_said, baseline_one, dc_said};
 ghost use Rattle.jpeg_evidence.specs.FoundTables.{factors_with, four_selectors, frame_of_ten};
 ghost use Rattle.jpeg_evidence.specs.FoundTables.{mjpeg_said, named, one_symbol, part_of_profile};
@@ -61,7 +61,7 @@ pub fn codings_are_those_in_force()
 /// The tables of each component are those of its own destinations, of four components, too; a scan
 /// of DC alone needs none for AC, nor one of AC alone for DC; and a refinement of DC needs one (own
 /// to the decoder). Default tables are by each component's own destinations.
-#[tactic(auto, unfolding(jpeg_streams::proofs::OnLiterals::streams_on_literals))]
+#[tactic(auto, unfolding(jpeg_meaning::proofs::OnLiterals::streams_on_literals))]
 pub fn tables_are_by_destinations()
     ensures tables { named (codings_of (all_said frame_of_ten) frame_of_ten
         (scan_of frame_of_ten four_selectors 0 63 0)) ≡ Ok ((0, 13 ∷ [], 23 ∷ [], 30 ∷ [])
@@ -81,7 +81,7 @@ pub fn tables_are_by_destinations()
 {}
 
 /// How many components, blocks and tables headers may have, and which levels.
-#[tactic(auto, unfolding(jpeg_streams::proofs::OnLiterals::streams_on_literals))]
+#[tactic(auto, unfolding(jpeg_meaning::proofs::OnLiterals::streams_on_literals))]
 pub fn headers_go_so_far()
     ensures blocks { is_mcu frame_of_ten four_selectors ≡ true }
     ensures progressive { map (is_count 2) (0 ∷ 1 ∷ 3 ∷ 4 ∷ 5 ∷ [])
@@ -97,7 +97,7 @@ pub fn headers_go_so_far()
 {}
 
 /// What is refused by name, and which markers a scan may be followed by.
-#[tactic(auto, unfolding(jpeg_streams::proofs::OnLiterals::streams_on_literals))]
+#[tactic(auto, unfolding(jpeg_meaning::proofs::OnLiterals::streams_on_literals))]
 pub fn refusals_are_named()
     ensures hierarchical { segment_at markers.DHP Elsewhere nothing_found []
         ≡ Err (Lacks features.Hierarchical) }
@@ -117,7 +117,7 @@ pub fn refusals_are_named()
 {}
 
 /// What a caller is told: the last Exif and XMP data, and the format.
-#[tactic(auto, unfolding(jpeg_streams::proofs::OnLiterals::streams_on_literals))]
+#[tactic(auto, unfolding(jpeg_meaning::proofs::OnLiterals::streams_on_literals))]
 pub fn callers_are_told()
     ensures exif { (with_application (with_application no_metadata (Some (Exif (1 ∷ []))))
         (Some (Exif (2 ∷ [])))).exif ≡ Some (2 ∷ []) }
@@ -142,7 +142,7 @@ pub fn profiles_are_joined()
 
 /// DC and AC are kept modulo 2^16, and a refinement takes no value above 1 (the first is own to the
 /// decoder).
-#[tactic(auto, unfolding(jpeg_streams::proofs::OnLiterals::streams_on_literals))]
+#[tactic(auto, unfolding(jpeg_meaning::proofs::OnLiterals::streams_on_literals))]
 pub fn numbers_go_round()
     ensures dc { first_dc (one_symbol DC 1) 7 (pos 255) (text (false ∷ true ∷ []) [] (Broken End))
         ≡ Ok ((negsuc 32767, pos 256), text [] [] (Broken End)) }

@@ -6,9 +6,9 @@ ghost use Rattle.jpeg_segments.specs.Frame.{Frame};
 ghost use Rattle.jpeg_segments.specs.ScanHeader.{Scan};
 ghost use Rattle.jpeg_segments.specs.ScanHeaders.{IsScan, ScanHeader, scan_written, selectors_in};
 ghost use Rattle.jpeg_segments.specs.WrittenSegments.{FrameHeader, IsFrameHeader};
-ghost use Rattle.jpeg_streams.specs.Found.{Said};
-ghost use Rattle.jpeg_streams.specs.ScanSegments.{pass_of, tables_of};
-ghost use Rattle.jpeg_streams.specs.Scripts.{last_in};
+ghost use Rattle.jpeg_meaning.specs.Found.{Said};
+ghost use Rattle.jpeg_meaning.specs.ScanSegments.{pass_of, tables_of};
+ghost use Rattle.jpeg_meaning.specs.Scripts.{last_in};
 ghost use Rattle.jpeg_evidence.specs.HeaderRules.{KeepsFrameRules, KeepsScanRules, pass_by};
 
 /// A frame header of SOF0 to SOF3 keeps the rules of the definitions where it keeps those of T.81,

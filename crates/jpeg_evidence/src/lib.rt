@@ -32,11 +32,11 @@ ghost use Rattle.jpeg_segments.specs.ScanHeader.{scan_of};
 ghost use Rattle.jpeg_segments.specs.declared.application.AdobeColorTransform.TheVariants as adobe;
 ghost use Rattle.jpeg_segments.specs.declared.frame.CodingProcess.TheVariants as processes;
 ghost use Rattle.jpeg_segments.specs.declared.frame.EntropyCoding.TheVariants as codings;
-ghost use Rattle.jpeg_streams.specs.ColourChoice.{by_identifiers};
-ghost use Rattle.jpeg_streams.specs.Segments.{is_decoded_count, is_decoded_precision};
-ghost use Rattle.jpeg_streams.specs.Worked.{picture_meant};
-ghost use Rattle.jpeg_streams.specs.WorkedImages.{IsWhollyWritten};
-ghost use Rattle.jpeg_streams.specs.WorkedSamples.{AreWritten};
+ghost use Rattle.jpeg_meaning.specs.ColourChoice.{by_identifiers};
+ghost use Rattle.jpeg_meaning.specs.Segments.{is_decoded_count, is_decoded_precision};
+ghost use Rattle.jpeg_meaning.specs.Worked.{picture_meant};
+ghost use Rattle.jpeg_meaning.specs.WorkedImages.{IsWhollyWritten};
+ghost use Rattle.jpeg_meaning.specs.WorkedSamples.{AreWritten};
 ghost use Rattle.jpeg_evidence.specs.Cosines.{adds, are_entries, cosine, is_positive, unit};
 ghost use Rattle.jpeg_evidence.specs.Exact.{distance, squares, unclamped, whole};
 ghost use Rattle.jpeg_evidence.specs.Files.{file_of_table_1, lossless_file, picture_of_files};
@@ -133,7 +133,7 @@ pub fn lossless_tables_are_by_td()
 {}
 
 /// The default Huffman tables of MJPEG frames are the four that `cjpeg` writes into its file.
-#[tactic(auto, unfolding(jpeg_streams::proofs::OnLiterals::streams_on_literals))]
+#[tactic(auto, unfolding(jpeg_meaning::proofs::OnLiterals::streams_on_literals))]
 pub fn default_tables_are_of_a_file()
     ensures luminance { file_tables 179 ≡ Ok (luminance_dc ∷ []) }
     ensures luminance_rest { file_tables 212 ≡ Ok (luminance_ac ∷ []) }
@@ -144,7 +144,7 @@ pub fn default_tables_are_of_a_file()
 /// What segments of applications say. Adobe's transform is the last of its twelve bytes, the data
 /// of Exif, XMP and Photoshop begin after their names, and a part of an ICC profile has its number
 /// and then the count of the parts.
-#[tactic(auto, unfolding(jpeg_streams::proofs::OnLiterals::streams_on_literals))]
+#[tactic(auto, unfolding(jpeg_meaning::proofs::OnLiterals::streams_on_literals))]
 pub fn applications_are_read()
     ensures jfif { app_at 0 (0 ∷ 7 ∷ (codes "JFIF" ++ 0 ∷ [])) ≡ Ok (Some Jfif, []) }
     ensures mjpeg { app_at 0 (0 ∷ 7 ∷ (codes "AVI1" ++ 0 ∷ [])) ≡ Ok (Some Avi1, []) }
@@ -163,7 +163,7 @@ pub fn applications_are_read()
 {}
 
 /// What the numbers of headers mean, and which are allowed (T.81, Tables B.1 to B.5 and H.1).
-#[tactic(auto, unfolding(jpeg_streams::proofs::OnLiterals::streams_on_literals))]
+#[tactic(auto, unfolding(jpeg_meaning::proofs::OnLiterals::streams_on_literals))]
 pub fn headers_are_of_tables()
     // The frames SOF0 to SOF3, SOF5 to SOF7, SOF9 to SOF11 and SOF13 to SOF15.
     ensures process { map process_of frame_numbers ≡ processes.DctSequential
@@ -216,7 +216,7 @@ pub fn headers_are_of_tables()
 
 /// Where numbers end: a refinement stays in 16 bits, and a value that is longer than the rest of
 /// its band is taken where it and its code have at most 8 bits (own to the decoder).
-#[tactic(auto, unfolding(jpeg_streams::proofs::OnLiterals::streams_on_literals))]
+#[tactic(auto, unfolding(jpeg_meaning::proofs::OnLiterals::streams_on_literals))]
 pub fn numbers_end()
     ensures refined { map fits_i16 (pos 32767 ∷ pos 32768 ∷ negsuc 32767 ∷ negsuc 32768 ∷ [])
         ≡ true ∷ false ∷ true ∷ false ∷ [] }
@@ -226,7 +226,7 @@ pub fn numbers_end()
 
 /// A symbol F0 stands for sixteen zeros, in a first pass over a band and in a refinement (T.81,
 /// F.1.2.2.1 and G.1.2.3).
-#[tactic(auto, unfolding(jpeg_streams::proofs::OnLiterals::streams_on_literals))]
+#[tactic(auto, unfolding(jpeg_meaning::proofs::OnLiterals::streams_on_literals))]
 pub fn sixteen_zeros_are_run()
     ensures first { first_ac table_of_f0 0 17 (replicate 17 (pos 0)) f0_and_one
         ≡ Ok ((replicate 16 (pos 0) ++ pos 1 ∷ [], 0), ones 0) }
@@ -237,7 +237,7 @@ pub fn sixteen_zeros_are_run()
 /// The sums of a column are rounded to the nearest, at full and at half size, and a sample at an
 /// eighth is rounded down (own to the decoder: T.81, A.3.3, leaves the accuracy open). Each of the
 /// first two blocks has a sum that ends in one half.
-#[tactic(auto, unfolding(jpeg_streams::proofs::OnLiterals::streams_on_literals))]
+#[tactic(auto, unfolding(jpeg_meaning::proofs::OnLiterals::streams_on_literals))]
 pub fn sums_are_rounded()
     ensures full { plane_of 8 (replicate 64 1) 1 1
         (λ row column. pos 3 ∷ (replicate 7 (pos 0) ++ pos 96 ∷ replicate 55 (pos 0)))
@@ -253,7 +253,7 @@ pub fn sums_are_rounded()
 
 /// A lossless sample's prediction by three others has the sample above and to the left in its own
 /// column (T.81, H.1.2.1).
-#[tactic(auto, unfolding(jpeg_streams::proofs::OnLiterals::samples_on_literals))]
+#[tactic(auto, unfolding(jpeg_meaning::proofs::OnLiterals::samples_on_literals))]
 pub fn lines_are_predicted()
     ensures corner { line_below selections.Rc 128 (10 ∷ 20 ∷ 40 ∷ 80 ∷ []) (1 ∷ 2 ∷ 3 ∷ 4 ∷ [])
         ≡ 11 ∷ 12 ∷ 23 ∷ 44 ∷ [] }
@@ -267,7 +267,7 @@ pub fn lines_are_predicted()
 
 /// A component with half the columns and a quarter of the lines is repeated twice across and four
 /// times down (own to the decoder: T.81, A.1.1, only says how many samples there are).
-#[tactic(auto, unfolding(jpeg_streams::proofs::OnLiterals::streams_on_literals))]
+#[tactic(auto, unfolding(jpeg_meaning::proofs::OnLiterals::streams_on_literals))]
 pub fn samples_are_repeated()
     ensures across { map (λ x. upsampled (rules.Generic 2 4) (λ i j. 10 * j + i) 2 2 x 5)
         (range_with_len 0 4) ≡ 10 ∷ 10 ∷ 11 ∷ 11 ∷ [] }
@@ -277,7 +277,7 @@ pub fn samples_are_repeated()
 
 /// A scale is large enough where the picture is as wide as requested, or as high (own to the
 /// decoder).
-#[tactic(auto, unfolding(jpeg_streams::proofs::OnLiterals::streams_on_literals))]
+#[tactic(auto, unfolding(jpeg_meaning::proofs::OnLiterals::streams_on_literals))]
 pub fn either_side_is_enough()
     ensures width { scale_for 500 333 63 333 ≡ 1 }
     ensures height { scale_for 500 333 500 42 ≡ 1 }

@@ -13,7 +13,7 @@ ghost use Rattle.jpeg_bits.specs.Written.{IsCoded};
 ghost use Rattle.jpeg_bits.specs.declared.marker.Marker.{Marker};
 ghost use Rattle.jpeg_bits.specs.declared.marker.Marker.TheVariants.{RST};
 ghost use Rattle.jpeg_bits.specs.declared.blocks.tokens.Token.{Token};
-ghost use Rattle.jpeg_streams.specs.WrittenData.{WritesBlocks, WritesDifference, no_numbers};
+ghost use Rattle.jpeg_meaning.specs.WrittenData.{WritesBlocks, WritesDifference, no_numbers};
 ghost use Rattle.jpeg_evidence.specs.Strict.{BlockFits, BlocksFit, HasByteSymbols, HasTables};
 ghost use Rattle.jpeg_evidence.specs.Strict.{IsBand};
 ghost use Rattle.jpeg_evidence.specs.Strict.{IsBlock, IsCut, IsData, IsDc, IsInterval, IsIntervals};

@@ -18,23 +18,23 @@ ghost use Rattle.jpeg_pixels.specs.Colour.{colour_of, conversion_of};
 ghost use Rattle.jpeg_pixels.specs.Upsampling.{rule_of};
 ghost use Rattle.jpeg_pixels.specs.declared.color_convert.ColorConvert.TheVariants as converts;
 ghost use Rattle.jpeg_pixels.specs.declared.upsample_rows.UpsampleRule.TheVariants as rules;
-ghost use Rattle.jpeg_streams.specs.ColourChoice.{transform_of};
-ghost use Rattle.jpeg_streams.specs.Found.{no_metadata};
-ghost use Rattle.jpeg_streams.specs.Levels.{floor_at, toward_zero};
-ghost use Rattle.jpeg_streams.specs.Segments.{updated, with_application};
-ghost use Rattle.jpeg_streams.specs.Worked.{picture_meant, picture_with, picture_scaled};
-ghost use Rattle.jpeg_streams.specs.Worked.{one_coefficient, picture_sized};
-ghost use Rattle.jpeg_streams.specs.Worked.{eight_times, scan_text, stream_parts, stream_with};
-ghost use Rattle.jpeg_streams.specs.Worked.{stream_without_height, stream_of_one_coefficient};
-ghost use Rattle.jpeg_streams.specs.Worked.{scanned_twice, with_restart, three_at_once};
-ghost use Rattle.jpeg_streams.specs.Worked.{three_in_turn, two_to_one, refined, run_of_blocks};
-ghost use Rattle.jpeg_streams.specs.Worked.{two_by_two, own_blocks, without_tables, stray_marker};
-ghost use Rattle.jpeg_streams.specs.Worked.{category_12, eleven_blocks, by_two_levels, odd_frame};
-ghost use Rattle.jpeg_streams.specs.WorkedImages.{colour_bytes, colour_picture};
-ghost use Rattle.jpeg_streams.specs.WorkedImages.{grey_bytes, grey_picture};
+ghost use Rattle.jpeg_meaning.specs.ColourChoice.{transform_of};
+ghost use Rattle.jpeg_meaning.specs.Found.{no_metadata};
+ghost use Rattle.jpeg_meaning.specs.Levels.{floor_at, toward_zero};
+ghost use Rattle.jpeg_meaning.specs.Segments.{updated, with_application};
+ghost use Rattle.jpeg_meaning.specs.Worked.{picture_meant, picture_with, picture_scaled};
+ghost use Rattle.jpeg_meaning.specs.Worked.{one_coefficient, picture_sized};
+ghost use Rattle.jpeg_meaning.specs.Worked.{eight_times, scan_text, stream_parts, stream_with};
+ghost use Rattle.jpeg_meaning.specs.Worked.{stream_without_height, stream_of_one_coefficient};
+ghost use Rattle.jpeg_meaning.specs.Worked.{scanned_twice, with_restart, three_at_once};
+ghost use Rattle.jpeg_meaning.specs.Worked.{three_in_turn, two_to_one, refined, run_of_blocks};
+ghost use Rattle.jpeg_meaning.specs.Worked.{two_by_two, own_blocks, without_tables, stray_marker};
+ghost use Rattle.jpeg_meaning.specs.Worked.{category_12, eleven_blocks, by_two_levels, odd_frame};
+ghost use Rattle.jpeg_meaning.specs.WorkedImages.{colour_bytes, colour_picture};
+ghost use Rattle.jpeg_meaning.specs.WorkedImages.{grey_bytes, grey_picture};
 
 /// Ten streams of one component, and what they mean.
-#[tactic(auto, unfolding(jpeg_streams::proofs::OnLiterals::streams_on_literals))]
+#[tactic(auto, unfolding(jpeg_meaning::proofs::OnLiterals::streams_on_literals))]
 pub fn known_streams()
     // A block of one coefficient, DC 8, is 64 samples of 129.
     ensures flat { picture_meant (stream_with 8 (67 ∷ [])) ≡ Ok (replicate 64 129) }
@@ -72,7 +72,7 @@ pub fn known_streams()
 {}
 
 /// Streams of several components, with restarts, or in several scans, and what they mean.
-#[tactic(auto, unfolding(jpeg_streams::proofs::OnLiterals::streams_on_literals))]
+#[tactic(auto, unfolding(jpeg_meaning::proofs::OnLiterals::streams_on_literals))]
 pub fn known_scans()
     // Three components give the same picture in one scan and in one each, in any order.
     ensures at_once { picture_meant three_at_once
@@ -144,14 +144,14 @@ pub fn known_orders()
 {}
 
 /// A height and a width that are no multiples of 8 crop the picture.
-#[tactic(auto, unfolding(jpeg_streams::proofs::OnLiterals::streams_on_literals))]
+#[tactic(auto, unfolding(jpeg_meaning::proofs::OnLiterals::streams_on_literals))]
 pub fn known_crops()
     ensures lines { picture_meant (stream_parts 5 8 (67 ∷ []) []) ≡ Ok (replicate 40 129) }
     ensures columns { picture_meant (stream_parts 8 3 (67 ∷ []) []) ≡ Ok (replicate 24 129) }
 {}
 
 /// A frame of an MJPEG stream without its Huffman tables, and what the last Adobe segment says.
-#[tactic(auto, unfolding(jpeg_streams::proofs::OnLiterals::streams_on_literals))]
+#[tactic(auto, unfolding(jpeg_meaning::proofs::OnLiterals::streams_on_literals))]
 pub fn known_applications()
     ensures defaults { picture_meant without_tables ≡ Ok (replicate 64 129) }
     ensures last_adobe { (with_application (with_application no_metadata (Some (Adobe adobe.YCbCr)))
@@ -160,7 +160,7 @@ pub fn known_applications()
 
 /// Streams that break one rule: a restart marker before the frame, a DC difference of more than 11
 /// bits, an MCU of more than 10 blocks, a refinement by two levels.
-#[tactic(auto, unfolding(jpeg_streams::proofs::OnLiterals::streams_on_literals))]
+#[tactic(auto, unfolding(jpeg_meaning::proofs::OnLiterals::streams_on_literals))]
 pub fn known_refusals()
     ensures stray { picture_meant stray_marker ≡ Err Malformed }
     ensures category { picture_meant category_12 ≡ Err Malformed }
@@ -181,7 +181,7 @@ pub fn known_scales()
 
 /// A picture of one sample at each scale, and by the requested size: it is one sample high
 /// and wide at an eighth, so that `sized` never takes more of it.
-#[tactic(auto, unfolding(jpeg_streams::proofs::OnLiterals::streams_on_literals))]
+#[tactic(auto, unfolding(jpeg_meaning::proofs::OnLiterals::streams_on_literals))]
 pub fn known_scaled_pixels()
     ensures eighth { picture_scaled scales.Eighth (one_coefficient 1 1) ≡ Ok (128 ∷ []) }
     ensures quarter { picture_scaled scales.Quarter (one_coefficient 1 1) ≡ Ok (136 ∷ []) }
@@ -225,7 +225,7 @@ pub fn known_transforms()
 {}
 
 /// Tables that are read replace those that were there.
-#[tactic(auto, unfolding(jpeg_streams::specs::Segments::updated))]
+#[tactic(auto, unfolding(jpeg_meaning::specs::Segments::updated))]
 pub fn known_tables()
     ensures { updated {A = ℕ} (Some 1 ∷ None ∷ Some 3 ∷ None ∷ [])
         (Some 4 ∷ Some 5 ∷ None ∷ None ∷ []) ≡ Some 4 ∷ Some 5 ∷ Some 3 ∷ None ∷ [] }

@@ -2,8 +2,8 @@
 use Rattle.std.proofs.Common.{◌≡◌, ◌∙◌, ◌*◌, ℕ, List, Option, Some, None, ap, sym, subst, length}
 use Rattle.std.specs.Prelude.{option_map}
 use Rattle.jpeg_segments.specs.Frame.{Frame}
-use Rattle.jpeg_streams.specs.Pixels.{info_of}
-use Rattle.jpeg_streams.specs.declared.images.ImageInfo.{ImageInfo}
+use Rattle.jpeg_meaning.specs.Pixels.{info_of}
+use Rattle.jpeg_meaning.specs.declared.images.ImageInfo.{ImageInfo}
 use Rattle.jpeg_decoder.specs.Bytes.{AreLinesOf, HaveBytes, IsCounted, bytes_a_sample}
 use Rattle.jpeg_decoder.specs.Bytes.{frame_shape, line_bytes, samples_a_pixel}
 use Rattle.zaxbriar_calls.specs.Lines.{HasLines}

@@ -6,16 +6,16 @@ use Rattle.std.proofs.lemmas.Grind.{common_steps}
 use Rattle.jpeg_bits.specs.Reading.{◌>>=◌, Fault, Malformed, Names, Outcome}
 use Rattle.jpeg_bits.specs.declared.error.Error.{Error}
 use Rattle.jpeg_bits.specs.declared.marker.Marker.{Marker}
-use Rattle.jpeg_streams.proofs.Limits.{none-exceeded}
-use Rattle.jpeg_streams.specs.Found.{Found}
-use Rattle.jpeg_streams.specs.Limits.{exceeded_rest}
-use Rattle.jpeg_streams.specs.States.{IfRefused}
-use Rattle.jpeg_streams.specs.Stream.{header_at, rest_by, rest_within, segments_at, walk}
-use Rattle.jpeg_streams.specs.declared.before.Before.{Before}
-use Rattle.jpeg_streams.specs.declared.before.Before.TheVariants.{Elsewhere}
+use Rattle.jpeg_meaning.proofs.Limits.{none-exceeded}
+use Rattle.jpeg_meaning.specs.Found.{Found}
+use Rattle.jpeg_meaning.specs.Limits.{exceeded_rest}
+use Rattle.jpeg_meaning.specs.States.{IfRefused}
+use Rattle.jpeg_meaning.specs.Stream.{header_at, rest_by, rest_within, segments_at, walk}
+use Rattle.jpeg_meaning.specs.declared.before.Before.{Before}
+use Rattle.jpeg_meaning.specs.declared.before.Before.TheVariants.{Elsewhere}
 use Rattle.jpeg_bits.specs.declared.beyond.Beyond.{Beyond}
 use Rattle.jpeg_bits.specs.declared.beyond.Beyond.TheVariants.{Zeros}
-use Rattle.jpeg_streams.specs.declared.settings.Settings.{Settings}
+use Rattle.jpeg_meaning.specs.declared.settings.Settings.{Settings}
 use Rattle.zaxbriar_calls.specs.Faults.{IsFault, IsPart, status_of, with_passes}
 use Rattle.zaxbriar_calls.specs.Fills.{IsWithinPasses}
 use Rattle.zaxbriar_calls.specs.Given.{KnowsExceeded, given_by, given_rest}

@@ -2,7 +2,7 @@
 use Rattle.std.proofs.Common.{◌≡◌, ◌⊎◌, ◌∙◌, ◌<◌, ◌^◌, ℕ, List, Ok, Err, Some, length, Result, ap, arith, refl, sym}
 use Rattle.std.specs.Prelude.{IfErr, IsErrAnd, OnOk}
 use Rattle.jpeg_bits.specs.Reading.{Fault}
-use Rattle.jpeg_streams.specs.Output.{Tells}
+use Rattle.jpeg_meaning.specs.Output.{Tells}
 use Rattle.zaxbriar_calls.specs.Faults.{IsFault, IsNamed, IsOfCall, IsOfCallNumber, IsOfReading, IsOfRoom, IsOfRoomNumber}
 use Rattle.zaxbriar_calls.specs.Faults.{IsOwn}
 use Rattle.zaxbriar_calls.specs.Faults.{status_of, fault_code}

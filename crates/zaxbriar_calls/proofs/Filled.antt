@@ -7,9 +7,9 @@ use Rattle.jpeg_bits.specs.Reading.{End, Fault, Lacks, Malformed, Names}
 use Rattle.jpeg_bits.specs.declared.error.Error.{Error}
 use Rattle.jpeg_bits.specs.declared.error.Error.TheVariants as errors
 use Rattle.jpeg_bits.specs.declared.error.UnsupportedFeature.{UnsupportedFeature}
-use Rattle.jpeg_streams.specs.Shown.{Shown}
-use Rattle.jpeg_streams.specs.Stream.{header_at}
-use Rattle.jpeg_streams.specs.declared.images.ImageInfo.{ImageInfo}
+use Rattle.jpeg_meaning.specs.Shown.{Shown}
+use Rattle.jpeg_meaning.specs.Stream.{header_at}
+use Rattle.jpeg_meaning.specs.declared.images.ImageInfo.{ImageInfo}
 use Rattle.zaxbriar_calls.proofs.Exceeded.{are-limited, is-within, known-at}
 use Rattle.zaxbriar_calls.proofs.Fails.{code-fails, has-no-room, is-too-large, named, of-call-number, of-room-number}
 use Rattle.zaxbriar_calls.proofs.Means.{images-given}

@@ -8,14 +8,14 @@ use Rattle.jpeg_bits.specs.Stream.{Stream}
 use Rattle.jpeg_bits.specs.declared.error.Error.{Error}
 use Rattle.jpeg_bits.specs.declared.error.Error.TheVariants as errors
 use Rattle.jpeg_decoder.proofs.Segments.HeaderThenRest.{header-lacks, header-means, header-told, header-told_lacking}
-use Rattle.jpeg_streams.specs.Found.{Found}
-use Rattle.jpeg_streams.specs.Output.{default_settings}
-use Rattle.jpeg_streams.specs.Reported.{told_by_turns, told_in_turns}
-use Rattle.jpeg_streams.specs.States.{IfRefused, told_ahead}
-use Rattle.jpeg_streams.specs.Stream.{Told, header_at, meaning_within, rest_by}
-use Rattle.jpeg_streams.specs.declared.progress.Progress.{Progress}
-use Rattle.jpeg_streams.specs.declared.progress.Progress.TheVariants.{Fresh}
-use Rattle.jpeg_streams.specs.declared.settings.Settings.{Settings}
+use Rattle.jpeg_meaning.specs.Found.{Found}
+use Rattle.jpeg_meaning.specs.Output.{default_settings}
+use Rattle.jpeg_meaning.specs.Reported.{told_by_turns, told_in_turns}
+use Rattle.jpeg_meaning.specs.States.{IfRefused, told_ahead}
+use Rattle.jpeg_meaning.specs.Stream.{Told, header_at, meaning_within, rest_by}
+use Rattle.jpeg_meaning.specs.declared.progress.Progress.{Progress}
+use Rattle.jpeg_meaning.specs.declared.progress.Progress.TheVariants.{Fresh}
+use Rattle.jpeg_meaning.specs.declared.settings.Settings.{Settings}
 use Rattle.zaxbriar_calls.proofs.Limited.{rest-same}
 use Rattle.zaxbriar_calls.specs.Limits.{blocks_of_passes}
 use Rattle.zaxbriar_calls.specs.Metadata.{end_at, end_of, limit_in, told_at}

@@ -1,7 +1,7 @@
 -- What a call that describes a stream says of its outcome: a field of its record each.
 use Rattle.std.proofs.Common.{arith, ◌≡◌, ◌∙◌, ◌≤◌, ℕ, List, Result, Ok, Err, ap, refl, subst, sym}
 use Rattle.std.specs.Prelude.{IfErr, IfOk, replicate, slice_index}
-use Rattle.jpeg_streams.specs.Stream.{header_at}
+use Rattle.jpeg_meaning.specs.Stream.{header_at}
 use Rattle.zaxbriar_calls.proofs.Fails.{is-too-large, named, not-room, of-call-number}
 use Rattle.zaxbriar_calls.proofs.Filled.{all-codes, argument-code, feature-told, few-codes, none-lacking, wrong-told}
 use Rattle.zaxbriar_calls.proofs.Told.{described, ending, if-described, large-told}

@@ -14,8 +14,8 @@ use Rattle.zaxbriar_calls.specs.Layouts.{TakesStored, bytes_of, colour_of, conve
 use Rattle.zaxbriar_calls.specs.Layouts.{colour, full_of, laid_out, layout_line, level, luma, over, pixel_bytes}
 use Rattle.zaxbriar_calls.specs.Layouts.{pixel_of, pixels_of, scaled, word}
 use Rattle.zaxbriar_calls.proofs.Levels.{same-scale}
-use Rattle.jpeg_streams.specs.declared.images.PixelFormat.{PixelFormat}
-use Rattle.jpeg_streams.specs.declared.images.PixelFormat.TheVariants.{L8, L16, RGB24, CMYK32}
+use Rattle.jpeg_meaning.specs.declared.images.PixelFormat.{PixelFormat}
+use Rattle.jpeg_meaning.specs.declared.images.PixelFormat.TheVariants.{L8, L16, RGB24, CMYK32}
 use Rattle.zaxbriar_calls.specs.declared.layouts.Conversion.{Conversion}
 use Rattle.zaxbriar_calls.specs.declared.layouts.Conversion.TheVariants.{Stored, InColour}
 use Rattle.zaxbriar_calls.specs.declared.layouts.Colour.{Colour}

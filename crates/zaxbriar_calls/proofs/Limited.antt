@@ -9,16 +9,16 @@ use Rattle.jpeg_segments.specs.Checks.{gathered}
 use Rattle.jpeg_segments.specs.Frame.{Component, Frame}
 use Rattle.jpeg_segments.specs.declared.frame.CodingProcess.{CodingProcess}
 use Rattle.jpeg_segments.specs.declared.frame.CodingProcess.TheVariants.{DctProgressive, DctSequential, Lossless}
-use Rattle.jpeg_streams.proofs.Limits.{above-refused, within-same}
-use Rattle.jpeg_streams.proofs.Written.ReadTurns.{then-ok}
-use Rattle.jpeg_streams.specs.Found.{Found, Metadata}
-use Rattle.jpeg_streams.specs.FoundPictures.{blocks_picture, limited, picture_by, picture_by_process, picture_of}
-use Rattle.jpeg_streams.specs.FoundPictures.{plane_at_end}
-use Rattle.jpeg_streams.specs.Limits.{work_of_rest}
-use Rattle.jpeg_streams.specs.Stream.{Told, rest_at, rest_within, segments_at, told_of, walk}
-use Rattle.jpeg_streams.specs.declared.before.Before.TheVariants.{Elsewhere}
+use Rattle.jpeg_meaning.proofs.Limits.{above-refused, within-same}
+use Rattle.jpeg_meaning.proofs.Written.ReadTurns.{then-ok}
+use Rattle.jpeg_meaning.specs.Found.{Found, Metadata}
+use Rattle.jpeg_meaning.specs.FoundPictures.{blocks_picture, limited, picture_by, picture_by_process, picture_of}
+use Rattle.jpeg_meaning.specs.FoundPictures.{plane_at_end}
+use Rattle.jpeg_meaning.specs.Limits.{work_of_rest}
+use Rattle.jpeg_meaning.specs.Stream.{Told, rest_at, rest_within, segments_at, told_of, walk}
+use Rattle.jpeg_meaning.specs.declared.before.Before.TheVariants.{Elsewhere}
 use Rattle.jpeg_bits.specs.declared.beyond.Beyond.TheVariants.{Zeros}
-use Rattle.jpeg_streams.specs.declared.settings.Settings.{Settings}
+use Rattle.jpeg_meaning.specs.declared.settings.Settings.{Settings}
 
 -- ---- a reading that isn't refused for its blocks
 

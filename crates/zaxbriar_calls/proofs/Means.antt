@@ -2,20 +2,20 @@
 use Rattle.std.proofs.Common.{arith, ◌≡◌, ◌∙◌, ◌++◌, ◌+◌, ℕ, List, [], None, Ok, Err, Result, ap, length, length-append, refl, subst, sym, true}
 use Rattle.std.proofs.lemmas.Grind.{common_steps}
 use Rattle.jpeg_bits.specs.Reading.{◌>>=◌, Fault, Outcome}
-use Rattle.jpeg_streams.specs.ArrayPictures.{meaning_of_array, picture_of_array}
-use Rattle.jpeg_streams.specs.DecodedImages.{AtLeast, AtScale, FullSize, Size, at_size, HasLeft}
-use Rattle.jpeg_streams.specs.Found.{Found, Said, with_said}
-use Rattle.jpeg_streams.specs.Levels.{Is8Bit, Levels}
-use Rattle.jpeg_streams.specs.Shown.{Shown}
-use Rattle.jpeg_streams.specs.WrittenImages.{WritesImage}
-use Rattle.jpeg_streams.specs.WrittenScans.{Coefficients}
-use Rattle.jpeg_streams.specs.declared.settings.Settings.{Settings}
-use Rattle.jpeg_streams.specs.declared.progress.Progress.TheVariants.{HeaderRead}
-use Rattle.jpeg_streams.specs.States.{Decoding}
-use Rattle.jpeg_streams.specs.Stream.{Told, header_at, rest_by, told_of}
-use Rattle.jpeg_streams.proofs.Written.ReadTurns.{then-ok}
-use Rattle.jpeg_streams.proofs.Written.SizedStreams.{stream-means_scaled, stream-means_sized}
-use Rattle.jpeg_streams.proofs.Written.WrittenPictures.{stream-means}
+use Rattle.jpeg_meaning.specs.ArrayPictures.{meaning_of_array, picture_of_array}
+use Rattle.jpeg_meaning.specs.DecodedImages.{AtLeast, AtScale, FullSize, Size, at_size, HasLeft}
+use Rattle.jpeg_meaning.specs.Found.{Found, Said, with_said}
+use Rattle.jpeg_meaning.specs.Levels.{Is8Bit, Levels}
+use Rattle.jpeg_meaning.specs.Shown.{Shown}
+use Rattle.jpeg_meaning.specs.WrittenImages.{WritesImage}
+use Rattle.jpeg_meaning.specs.WrittenScans.{Coefficients}
+use Rattle.jpeg_meaning.specs.declared.settings.Settings.{Settings}
+use Rattle.jpeg_meaning.specs.declared.progress.Progress.TheVariants.{HeaderRead}
+use Rattle.jpeg_meaning.specs.States.{Decoding}
+use Rattle.jpeg_meaning.specs.Stream.{Told, header_at, rest_by, told_of}
+use Rattle.jpeg_meaning.proofs.Written.ReadTurns.{then-ok}
+use Rattle.jpeg_meaning.proofs.Written.SizedStreams.{stream-means_scaled, stream-means_sized}
+use Rattle.jpeg_meaning.proofs.Written.WrittenPictures.{stream-means}
 use Rattle.jpeg_decoder.proofs.Pictures.DecodedImages.{left-means, means_at}
 use Rattle.zaxbriar_calls.specs.Fills.{FillsImages}
 use Rattle.zaxbriar_calls.specs.Given.{CountsImage, Gives, faultless, given_by, given_rest, rows_by, without_rows}

@@ -4,9 +4,9 @@ use Rattle.std.proofs.Common.{ap, inl, inr, length, refl, subst, sym}
 use Rattle.std.specs.Prelude.{IfErr, IfOk, IsErrAnd, OnOk, option_map}
 use Rattle.jpeg_bits.specs.Reading.{Fault}
 use Rattle.jpeg_bits.specs.Stream.{Stream}
-use Rattle.jpeg_streams.specs.Pixels.{info_of}
-use Rattle.jpeg_streams.specs.States.{Decoding}
-use Rattle.jpeg_streams.specs.Stream.{header_at}
+use Rattle.jpeg_meaning.specs.Pixels.{info_of}
+use Rattle.jpeg_meaning.specs.States.{Decoding}
+use Rattle.jpeg_meaning.specs.Stream.{header_at}
 use Rattle.zaxbriar_calls.proofs.Exceeded.{exceeds-given, header-known}
 use Rattle.zaxbriar_calls.proofs.Fails.{if-err, not-own, own-large}
 use Rattle.zaxbriar_calls.proofs.Headers.{described-same, only-room}

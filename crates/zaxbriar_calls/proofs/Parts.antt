@@ -7,15 +7,15 @@ use Rattle.jpeg_bits.specs.Reading.{◌>>=◌, Answers, Fault, IsGivenUp, Names,
 use Rattle.jpeg_bits.specs.declared.error.Error.{Error}
 use Rattle.jpeg_decoder.specs.Reaching.{NamesFault}
 use Rattle.jpeg_decoder.specs.Shows.{Shows, ShowsJust}
-use Rattle.jpeg_streams.proofs.Written.ReadTurns.{then-ok}
-use Rattle.jpeg_streams.specs.Found.{Found}
-use Rattle.jpeg_streams.specs.Pixels.{info_of}
-use Rattle.jpeg_streams.specs.Shown.{Shown, shown_ahead, shown_rest_within}
-use Rattle.jpeg_streams.specs.States.{Decoding, IfRefused, IsReading}
-use Rattle.jpeg_streams.specs.Stream.{Told, header_at, rest_by, told_of}
-use Rattle.jpeg_streams.specs.declared.images.ImageInfo.{ImageInfo}
-use Rattle.jpeg_streams.specs.declared.progress.Progress.{Progress}
-use Rattle.jpeg_streams.specs.declared.progress.Progress.TheVariants.{HeaderRead}
+use Rattle.jpeg_meaning.proofs.Written.ReadTurns.{then-ok}
+use Rattle.jpeg_meaning.specs.Found.{Found}
+use Rattle.jpeg_meaning.specs.Pixels.{info_of}
+use Rattle.jpeg_meaning.specs.Shown.{Shown, shown_ahead, shown_rest_within}
+use Rattle.jpeg_meaning.specs.States.{Decoding, IfRefused, IsReading}
+use Rattle.jpeg_meaning.specs.Stream.{Told, header_at, rest_by, told_of}
+use Rattle.jpeg_meaning.specs.declared.images.ImageInfo.{ImageInfo}
+use Rattle.jpeg_meaning.specs.declared.progress.Progress.{Progress}
+use Rattle.jpeg_meaning.specs.declared.progress.Progress.TheVariants.{HeaderRead}
 use Rattle.zaxbriar_calls.proofs.Told.{arranged-of}
 use Rattle.zaxbriar_calls.specs.Faults.{IsFault, IsPart, StandsFor}
 use Rattle.zaxbriar_calls.specs.Given.{Brings, BringsLines, EndsImage, Gives, GivesPart, HasRows, Reaches, faultless}

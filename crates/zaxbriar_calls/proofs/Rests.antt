@@ -12,24 +12,24 @@ use Rattle.jpeg_segments.specs.Frame.{Frame}
 use Rattle.jpeg_segments.specs.ScanHeader.{Scan, sos_at}
 use Rattle.jpeg_segments.specs.Checks.{needed}
 use Rattle.jpeg_segments.specs.declared.frame.CodingProcess.{CodingProcess}
-use Rattle.jpeg_streams.specs.Found.{Found, nothing_found}
-use Rattle.jpeg_streams.specs.FoundPictures.{picture_of}
-use Rattle.jpeg_streams.specs.LosslessScans.{lossless_codings}
-use Rattle.jpeg_streams.specs.ScanSegments.{after_restarts, blocks_scan, codings_of, lossless_scan, scan_arrays}
-use Rattle.jpeg_streams.specs.ScanSegments.{scan_by, scan_samples, scan_segment}
-use Rattle.jpeg_streams.specs.Segments.{Turn}
-use Rattle.jpeg_streams.specs.States.{Decoding}
-use Rattle.jpeg_streams.specs.Brought.{Brought, unbrought}
-use Rattle.jpeg_streams.specs.Stream.{Walked, brought_after, end_segment, header_at, rest_by, rest_within, scan_turn_at, segment_at}
-use Rattle.jpeg_streams.specs.Stream.{segments_at, start_at, turn_at, turn_within, walk}
-use Rattle.jpeg_streams.specs.Work.{brought_within, is_above, left_after, work_of_turn}
-use Rattle.jpeg_streams.specs.declared.before.Before.{Before}
-use Rattle.jpeg_streams.specs.declared.before.Before.TheVariants.{Elsewhere}
+use Rattle.jpeg_meaning.specs.Found.{Found, nothing_found}
+use Rattle.jpeg_meaning.specs.FoundPictures.{picture_of}
+use Rattle.jpeg_meaning.specs.LosslessScans.{lossless_codings}
+use Rattle.jpeg_meaning.specs.ScanSegments.{after_restarts, blocks_scan, codings_of, lossless_scan, scan_arrays}
+use Rattle.jpeg_meaning.specs.ScanSegments.{scan_by, scan_samples, scan_segment}
+use Rattle.jpeg_meaning.specs.Segments.{Turn}
+use Rattle.jpeg_meaning.specs.States.{Decoding}
+use Rattle.jpeg_meaning.specs.Brought.{Brought, unbrought}
+use Rattle.jpeg_meaning.specs.Stream.{Walked, brought_after, end_segment, header_at, rest_by, rest_within, scan_turn_at, segment_at}
+use Rattle.jpeg_meaning.specs.Stream.{segments_at, start_at, turn_at, turn_within, walk}
+use Rattle.jpeg_meaning.specs.Work.{brought_within, is_above, left_after, work_of_turn}
+use Rattle.jpeg_meaning.specs.declared.before.Before.{Before}
+use Rattle.jpeg_meaning.specs.declared.before.Before.TheVariants.{Elsewhere}
 use Rattle.jpeg_bits.specs.declared.beyond.Beyond.TheVariants.{Zeros}
-use Rattle.jpeg_streams.specs.declared.settings.Settings.{Settings}
-use Rattle.jpeg_streams.proofs.Written.ReadTurns.{then-ok}
-use Rattle.jpeg_streams.proofs.Shorter.{LeavesBelow, arrays-below, below-at, below-err, below-more, below-ok, below-on}
-use Rattle.jpeg_streams.proofs.Shorter.{below_steps, marker-below, samples-below, sos-below}
+use Rattle.jpeg_meaning.specs.declared.settings.Settings.{Settings}
+use Rattle.jpeg_meaning.proofs.Written.ReadTurns.{then-ok}
+use Rattle.jpeg_meaning.proofs.Shorter.{LeavesBelow, arrays-below, below-at, below-err, below-more, below-ok, below-on}
+use Rattle.jpeg_meaning.proofs.Shorter.{below_steps, marker-below, samples-below, sos-below}
 use Rattle.jpeg_decoder.proofs.Segments.PassedRestarts.{Passes, after-passes}
 use Rattle.jpeg_decoder.proofs.Segments.LeftBytes.{IsOnward, On}
 use Rattle.jpeg_decoder.proofs.Segments.Turns.{onward_rules}

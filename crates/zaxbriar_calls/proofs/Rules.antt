@@ -1,8 +1,8 @@
 -- Lemmas that the proofs of functions use, and definitions that they unfold, by what they are about.
 use Rattle.std.proofs.Common.{length-append}
 use Rattle.std.specs.Prelude.{⊤}
-use Rattle.jpeg_streams.proofs.OnLiterals.{streams_on_literals}
-use Rattle.jpeg_streams.specs.ColourChoice.{by_identifiers, transform_of}
+use Rattle.jpeg_meaning.proofs.OnLiterals.{streams_on_literals}
+use Rattle.jpeg_meaning.specs.ColourChoice.{by_identifiers, transform_of}
 use Rattle.zaxbriar_calls.proofs.Densities.{density-none, density-short, density-some, first-cut, first-ended, first-jfif}
 use Rattle.zaxbriar_calls.proofs.Densities.{first-later, first-none, first-past}
 use Rattle.zaxbriar_calls.proofs.Exceeded.{too-many-refused, unlimited}

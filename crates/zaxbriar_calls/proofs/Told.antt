@@ -1,7 +1,7 @@
 -- What a caller is given of a picture that was decoded.
 use Rattle.std.proofs.Common.{arith, ◌≡◌, ◌⊎◌, ◌∙◌, ℕ, ◌*◌, List, Result, Ok, Err, sym, ap, subst}
 use Rattle.std.specs.Prelude.{IfErr, IfOk, OnOk, replicate}
-use Rattle.jpeg_streams.specs.declared.images.ImageInfo.{ImageInfo}
+use Rattle.jpeg_meaning.specs.declared.images.ImageInfo.{ImageInfo}
 use Rattle.zaxbriar_calls.specs.Faults.{IsOwn, status_of}
 use Rattle.zaxbriar_calls.specs.Features.{outcome_feature, numbered}
 use Rattle.zaxbriar_calls.specs.Layouts.{laid_out, layout_line}

@@ -3,13 +3,13 @@
 use Rattle.std.specs.Prelude.{◌≡◌, ◌⊎◌, ◌++◌, ◌<◌, ◌≤◌, ℕ, List, Err, None, Some, false, length}
 use Rattle.std.specs.Prelude.{slice_index, true}
 use Rattle.jpeg_bits.specs.Reading.{End, Fault, Malformed}
-use Rattle.jpeg_streams.specs.ArrayPictures.{picture_of_array}
-use Rattle.jpeg_streams.specs.DecodedImages.{at_size}
-use Rattle.jpeg_streams.specs.Found.{Said}
-use Rattle.jpeg_streams.specs.Levels.{Is8Bit, Levels}
-use Rattle.jpeg_streams.specs.Stream.{header_at}
-use Rattle.jpeg_streams.specs.WrittenImages.{WritesImage}
-use Rattle.jpeg_streams.specs.WrittenScans.{Coefficients}
+use Rattle.jpeg_meaning.specs.ArrayPictures.{picture_of_array}
+use Rattle.jpeg_meaning.specs.DecodedImages.{at_size}
+use Rattle.jpeg_meaning.specs.Found.{Said}
+use Rattle.jpeg_meaning.specs.Levels.{Is8Bit, Levels}
+use Rattle.jpeg_meaning.specs.Stream.{header_at}
+use Rattle.jpeg_meaning.specs.WrittenImages.{WritesImage}
+use Rattle.jpeg_meaning.specs.WrittenScans.{Coefficients}
 use Rattle.zaxbriar_calls.specs.Faults.{IsOfCallNumber, IsOfRoomNumber}
 use Rattle.zaxbriar_calls.specs.Features.{LacksFeature, NamesFeature, numbered}
 use Rattle.zaxbriar_calls.specs.Given.{CountsImage, Gives, TellsFault, given_by, rows_by}

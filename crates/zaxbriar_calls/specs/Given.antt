@@ -6,13 +6,13 @@ use Rattle.jpeg_bits.specs.Reading.{◌>>=◌, Fault, Lacks, Names}
 use Rattle.jpeg_bits.specs.declared.error.Error.{Error}
 use Rattle.jpeg_bits.specs.declared.error.Error.TheVariants as errors
 use Rattle.jpeg_decoder.specs.Reaching.{NamesFault}
-use Rattle.jpeg_streams.specs.Found.{Found}
-use Rattle.jpeg_streams.specs.Pixels.{info_of}
-use Rattle.jpeg_streams.specs.Shown.{Shown, shown_rest_within, whole_rows_rest}
-use Rattle.jpeg_streams.specs.States.{Decoding, IfRefused}
-use Rattle.jpeg_streams.specs.Stream.{Told, header_at, rest_by, told_of}
-use Rattle.jpeg_streams.specs.declared.images.ImageInfo.{ImageInfo}
-use Rattle.jpeg_streams.specs.declared.settings.Settings.{Settings}
+use Rattle.jpeg_meaning.specs.Found.{Found}
+use Rattle.jpeg_meaning.specs.Pixels.{info_of}
+use Rattle.jpeg_meaning.specs.Shown.{Shown, shown_rest_within, whole_rows_rest}
+use Rattle.jpeg_meaning.specs.States.{Decoding, IfRefused}
+use Rattle.jpeg_meaning.specs.Stream.{Told, header_at, rest_by, told_of}
+use Rattle.jpeg_meaning.specs.declared.images.ImageInfo.{ImageInfo}
+use Rattle.jpeg_meaning.specs.declared.settings.Settings.{Settings}
 use Rattle.zaxbriar_calls.specs.Features.{NamesFeature, feature_in, numbered}
 use Rattle.zaxbriar_calls.specs.Layouts.{laid_out, layout_line}
 use Rattle.zaxbriar_calls.specs.Lines.{Arranged}

@@ -4,7 +4,7 @@ use Rattle.std.specs.Prelude.{Option, None, option_map, if◌then◌else◌}
 use Rattle.std.specs.List.{list_all}
 use Rattle.jpeg_decoder.specs.declared.sizes.DecodingBytes.{DecodingBytes}
 use Rattle.jpeg_segments.specs.Frame.{Frame}
-use Rattle.jpeg_streams.specs.Work.{picture_blocks}
+use Rattle.jpeg_meaning.specs.Work.{picture_blocks}
 use Rattle.zaxbriar_calls.specs.declared.extents.Extent.{Extent}
 use Rattle.zaxbriar_calls.specs.declared.extents.Extent.TheVariants.{Whole, Partial}
 use Rattle.zaxbriar_calls.specs.declared.options.Options.{Options}

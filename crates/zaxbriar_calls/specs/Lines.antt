@@ -5,9 +5,9 @@ use Rattle.jpeg_decoder.specs.Bytes.{bytes_a_sample, samples_a_pixel}
 use Rattle.jpeg_segments.specs.declared.frame.CodingProcess.{CodingProcess}
 use Rattle.jpeg_segments.specs.declared.frame.CodingProcess.TheVariants.{DctSequential}
 use Rattle.jpeg_segments.specs.declared.frame.CodingProcess.TheVariants.{DctProgressive, Lossless}
-use Rattle.jpeg_streams.specs.declared.images.ImageInfo.{ImageInfo}
-use Rattle.jpeg_streams.specs.declared.images.PixelFormat.{PixelFormat}
-use Rattle.jpeg_streams.specs.declared.images.PixelFormat.TheVariants.{L8, L16, RGB24, CMYK32}
+use Rattle.jpeg_meaning.specs.declared.images.ImageInfo.{ImageInfo}
+use Rattle.jpeg_meaning.specs.declared.images.PixelFormat.{PixelFormat}
+use Rattle.jpeg_meaning.specs.declared.images.PixelFormat.TheVariants.{L8, L16, RGB24, CMYK32}
 use Rattle.zaxbriar_calls.specs.Layouts.{TakesStored, conversion_to, converted_bytes, laid_out}
 use Rattle.zaxbriar_calls.specs.Layouts.{layout_line, pixel_bytes, size_of_lines}
 use Rattle.zaxbriar_calls.specs.declared.layouts.Conversion.{Conversion}

@@ -3,11 +3,11 @@ use Rattle.std.specs.Prelude.{◌≡◌, ◌⊎◌, ◌==◌, ◌-◌, ℕ, suc,
 use Rattle.std.specs.Prelude.{length}
 use Rattle.std.specs.Prelude.{Option, Some, None, Result, Ok, Err, ◌<◌, nat_le, if◌then◌else◌}
 use Rattle.jpeg_bits.specs.Reading.{Fault}
-use Rattle.jpeg_streams.specs.Found.{Metadata}
-use Rattle.jpeg_streams.specs.Output.{default_settings}
-use Rattle.jpeg_streams.specs.Profile.{profile_of}
-use Rattle.jpeg_streams.specs.Reported.{told_by_turns}
-use Rattle.jpeg_streams.specs.Stream.{Told, header_at, meaning_within}
+use Rattle.jpeg_meaning.specs.Found.{Metadata}
+use Rattle.jpeg_meaning.specs.Output.{default_settings}
+use Rattle.jpeg_meaning.specs.Profile.{profile_of}
+use Rattle.jpeg_meaning.specs.Reported.{told_by_turns}
+use Rattle.jpeg_meaning.specs.Stream.{Told, header_at, meaning_within}
 use Rattle.zaxbriar_calls.specs.Limits.{blocks_of_passes}
 
 -- whether a kind asks for the segments of a whole image, as 16 added to it does, and not for those

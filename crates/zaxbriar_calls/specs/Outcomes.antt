@@ -3,8 +3,8 @@
 use Rattle.std.specs.Prelude.{◌≡◌, ◌⊎◌, ◌<◌, ◌≤◌, ℕ, Bool, List, None, Result, Ok, Err, false}
 use Rattle.std.specs.Prelude.{IfErr, IsErrAnd, OnOk, length, true}
 use Rattle.jpeg_bits.specs.Reading.{Fault}
-use Rattle.jpeg_streams.specs.States.{Decoding}
-use Rattle.jpeg_streams.specs.Stream.{header_at}
+use Rattle.jpeg_meaning.specs.States.{Decoding}
+use Rattle.jpeg_meaning.specs.Stream.{header_at}
 use Rattle.zaxbriar_calls.specs.Faults.{IsArgument, IsFault, IsOfCall, IsOfReading, IsOfRoom}
 use Rattle.zaxbriar_calls.specs.Faults.{IsOwn, IsPart}
 use Rattle.zaxbriar_calls.specs.Given.{CountsImage, Gives, GivesPart, HasRows, KnowsExceeded}

@@ -1,12 +1,12 @@
 -- Whether the fault of a stream is a scan of more blocks than the passes of the options allow.
 use Rattle.std.specs.Prelude.{ℕ, Bool, true, false, List, Ok, Err}
 use Rattle.jpeg_bits.specs.Reading.{Fault}
-use Rattle.jpeg_streams.specs.Found.{Found}
-use Rattle.jpeg_streams.specs.Limits.{exceeded_rest}
-use Rattle.jpeg_streams.specs.Stream.{header_at}
+use Rattle.jpeg_meaning.specs.Found.{Found}
+use Rattle.jpeg_meaning.specs.Limits.{exceeded_rest}
+use Rattle.jpeg_meaning.specs.Stream.{header_at}
 use Rattle.jpeg_bits.specs.declared.beyond.Beyond.{Beyond}
 use Rattle.jpeg_bits.specs.declared.beyond.Beyond.TheVariants.{Nothing, Zeros}
-use Rattle.jpeg_streams.specs.declared.settings.Settings.{Settings}
+use Rattle.jpeg_meaning.specs.declared.settings.Settings.{Settings}
 use Rattle.zaxbriar_calls.specs.Faults.{reading_code, with_passes}
 use Rattle.zaxbriar_calls.specs.Meanings.{found_at, settings_at}
 use Rattle.zaxbriar_calls.specs.declared.extents.Extent.{Extent}

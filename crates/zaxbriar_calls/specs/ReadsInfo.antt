@@ -1,7 +1,7 @@
 -- What a call does that describes the picture of a stream, by its header: `read_info`.
 use Rattle.std.specs.Prelude.{◌≡◌, ◌⊎◌, ◌≤◌, ℕ, List, Err, false, length, slice_index}
 use Rattle.jpeg_bits.specs.Reading.{End, Malformed}
-use Rattle.jpeg_streams.specs.Stream.{header_at}
+use Rattle.jpeg_meaning.specs.Stream.{header_at}
 use Rattle.zaxbriar_calls.specs.Faults.{IsOfCallNumber}
 use Rattle.zaxbriar_calls.specs.Features.{LacksFeature, NamesFeature, numbered}
 use Rattle.zaxbriar_calls.specs.Limits.{are_known}

@@ -1,8 +1,8 @@
 //! Decoders of streams in memory.
 ghost use Rattle.std.specs.Prelude.{◌≡◌, IfErr, IfOk, false, true};
 ghost use Rattle.jpeg_bits.specs.declared.error.Error.TheVariants.{OutOfMemory};
-ghost use Rattle.jpeg_streams.specs.Output.{default_settings};
-ghost use Rattle.jpeg_streams.specs.declared.progress.Progress.TheVariants.{Fresh};
+ghost use Rattle.jpeg_meaning.specs.Output.{default_settings};
+ghost use Rattle.jpeg_meaning.specs.declared.progress.Progress.TheVariants.{Fresh};
 
 use jpeg_decoder::error::Result;
 use jpeg_decoder::{Decoder, SliceReader};

@@ -2,10 +2,10 @@
 ghost use Rattle.std.specs.Prelude.{◌≡◌, ◌≤◌, ◌<◌, ◌+◌, ◌^◌, Some, true, false, length};
 ghost use Rattle.std.specs.Prelude.{IfErr, IfOk, IsErrAnd, OnOk, option_map};
 ghost use Rattle.jpeg_decoder.specs.Bytes.{decoding_bytes};
-ghost use Rattle.jpeg_streams.specs.Output.{default_settings};
-ghost use Rattle.jpeg_streams.specs.Pixels.{info_of};
-ghost use Rattle.jpeg_streams.specs.declared.progress.Progress.TheVariants.{Fresh};
-ghost use Rattle.jpeg_streams.specs.Stream.{header_at};
+ghost use Rattle.jpeg_meaning.specs.Output.{default_settings};
+ghost use Rattle.jpeg_meaning.specs.Pixels.{info_of};
+ghost use Rattle.jpeg_meaning.specs.declared.progress.Progress.TheVariants.{Fresh};
+ghost use Rattle.jpeg_meaning.specs.Stream.{header_at};
 ghost use Rattle.zaxbriar_calls.specs.Density.{density_of};
 ghost use Rattle.zaxbriar_calls.specs.Faults.{IsArgument, IsFault, IsOfCall, IsPart};
 ghost use Rattle.zaxbriar_calls.specs.Limits.{are_known, bytes_beside};

@@ -2,10 +2,10 @@
 ghost use Rattle.std.specs.Prelude.{◌≡◌, ◌+◌, ◌≤◌, true, Some, IfOk, IfErr, OnOk, option_map};
 ghost use Rattle.jpeg_decoder.specs.Bytes.{decoding_bytes};
 ghost use Rattle.jpeg_decoder.specs.StreamTransforms.{frame_transform};
-ghost use Rattle.jpeg_streams.specs.Output.{default_settings};
-ghost use Rattle.jpeg_streams.specs.Pixels.{info_of};
-ghost use Rattle.jpeg_streams.specs.declared.progress.Progress.TheVariants.{Fresh};
-ghost use Rattle.jpeg_streams.specs.Stream.{header_at};
+ghost use Rattle.jpeg_meaning.specs.Output.{default_settings};
+ghost use Rattle.jpeg_meaning.specs.Pixels.{info_of};
+ghost use Rattle.jpeg_meaning.specs.declared.progress.Progress.TheVariants.{Fresh};
+ghost use Rattle.jpeg_meaning.specs.Stream.{header_at};
 ghost use Rattle.zaxbriar_calls.specs.Faults.{IsFault, IsOfDecoder};
 ghost use Rattle.std.specs.Option.{option_copied};
 ghost use Rattle.zaxbriar_calls.specs.Meanings.{ReadsHeader, number_of_transform, orientation_by};
@@ -14,8 +14,8 @@ ghost use Rattle.zaxbriar_calls.specs.Sampling.{sampling_of};
 use crate::answers::{Refusal, refusal_of};
 use crate::options::{Options, apply, apply_to_header, number_of_transform};
 use crate::sampling::sampling_of;
-use exif_orientation::orientation_of;
 use jpeg_decoder::{Decoder, DecodingBytes, ImageInfo};
+use jpeg_orientation::orientation_of;
 use std::io::Read;
 
 /// What a header says of its picture.

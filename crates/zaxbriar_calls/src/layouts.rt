@@ -5,7 +5,7 @@ ghost use Rattle.zaxbriar_calls.specs.Layouts.{TakesStored, bytes_of, colour_of,
 ghost use Rattle.zaxbriar_calls.specs.Layouts.{converted_bytes, greatest, is_stored, layout_bytes};
 ghost use Rattle.zaxbriar_calls.specs.Layouts.{layout_line, layout_numbered, level, light, luma};
 ghost use Rattle.zaxbriar_calls.specs.Layouts.{full_of, packed, pixel_bytes, sample_at, word};
-ghost use Rattle.jpeg_streams.specs.declared.images.PixelFormat.TheVariants.{L8, RGB24, CMYK32};
+ghost use Rattle.jpeg_meaning.specs.declared.images.PixelFormat.TheVariants.{L8, RGB24, CMYK32};
 ghost use Rattle.zaxbriar_calls.specs.declared.layouts.Conversion.TheVariants.{InColour};
 ghost use Rattle.zaxbriar_calls.specs.declared.layouts.Layout.TheVariants.{Rgb565, Grey16, Rgb16};
 

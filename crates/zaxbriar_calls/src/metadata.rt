@@ -3,11 +3,11 @@ ghost use Rattle.std.specs.Prelude.{◌≡◌, ◌<◌, ◌≤◌, suc, length, 
 ghost use Rattle.std.specs.Prelude.{IfErr, IfOk, IsOk, OnErr, OnOk};
 ghost use Rattle.std.specs.Option.{option_copied};
 ghost use Rattle.jpeg_bits.specs.Reading.{IsGivenUp, Names};
-ghost use Rattle.jpeg_streams.specs.Output.{default_settings};
-ghost use Rattle.jpeg_streams.specs.Reported.{told_in_turns};
-ghost use Rattle.jpeg_streams.specs.declared.progress.Progress.TheVariants.{Fresh, HeaderRead};
-ghost use Rattle.jpeg_streams.specs.States.{IsOfBytes, OnTold};
-ghost use Rattle.jpeg_streams.specs.Stream.{rest_by, told_of};
+ghost use Rattle.jpeg_meaning.specs.Output.{default_settings};
+ghost use Rattle.jpeg_meaning.specs.Reported.{told_in_turns};
+ghost use Rattle.jpeg_meaning.specs.declared.progress.Progress.TheVariants.{Fresh, HeaderRead};
+ghost use Rattle.jpeg_meaning.specs.States.{IsOfBytes, OnTold};
+ghost use Rattle.jpeg_meaning.specs.Stream.{rest_by, told_of};
 ghost use Rattle.zaxbriar_calls.specs.Faults.{IsNamed};
 ghost use Rattle.zaxbriar_calls.specs.Limits.{blocks_of_passes};
 ghost use Rattle.zaxbriar_calls.specs.Metadata.{IsCopied, IsLonger, IsNoKind, end_at, is_whole};

@@ -1,10 +1,10 @@
 //! How a stream is to be decoded.
 ghost use Rattle.std.specs.Prelude.{◌≡◌, ◌==◌, IsOk, OnOk, true};
 ghost use Rattle.std.specs.List.{list_all};
-ghost use Rattle.jpeg_streams.specs.DecodedImages.{at_size};
-ghost use Rattle.jpeg_streams.specs.Found.{with_said};
-ghost use Rattle.jpeg_streams.specs.Output.{default_settings};
-ghost use Rattle.jpeg_streams.specs.declared.progress.Progress.TheVariants.{HeaderRead};
+ghost use Rattle.jpeg_meaning.specs.DecodedImages.{at_size};
+ghost use Rattle.jpeg_meaning.specs.Found.{with_said};
+ghost use Rattle.jpeg_meaning.specs.Output.{default_settings};
+ghost use Rattle.jpeg_meaning.specs.declared.progress.Progress.TheVariants.{HeaderRead};
 ghost use Rattle.zaxbriar_calls.specs.Limits.{are_known, blocks_of_passes, is_denominator};
 ghost use Rattle.zaxbriar_calls.specs.Meanings.{least_side, scale_by, settings_at, settings_of};
 ghost use Rattle.zaxbriar_calls.specs.Meanings.{number_of_transform, size_wanted};

@@ -1,10 +1,10 @@
 //! What the segments of a stream say up to its first scan.
 
-use exif_orientation::orientation_of;
 use jpeg_bits::error::{Error, Result, format_error_of};
 use jpeg_bits::marker::{Marker, read_marker};
 use jpeg_bits::source::Source;
 use jpeg_bits::source::reads::{read_bytes, read_length, read_u16_be, skip};
+use jpeg_orientation::orientation_of;
 use jpeg_segments::parser::{
     AdobeColorTransform, AppData, FrameInfo, parse_app, parse_com, parse_dri, parse_sof,
 };

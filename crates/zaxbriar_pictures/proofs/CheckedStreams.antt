@@ -5,10 +5,10 @@ use Rattle.jpeg_bits.specs.Reading.{Fault}
 use Rattle.jpeg_bits.specs.declared.error.Error.{Error}
 use Rattle.jpeg_segments.specs.Frame.{Frame}
 use Rattle.jpeg_segments.specs.declared.scale.Scale.TheVariants.{Full}
-use Rattle.jpeg_streams.specs.Found.{Found, with_said}
-use Rattle.jpeg_streams.specs.Pixels.{info_of}
-use Rattle.jpeg_streams.specs.States.{Decoding}
-use Rattle.jpeg_streams.specs.Stream.{header_at, scaled_to}
+use Rattle.jpeg_meaning.specs.Found.{Found, with_said}
+use Rattle.jpeg_meaning.specs.Pixels.{info_of}
+use Rattle.jpeg_meaning.specs.States.{Decoding}
+use Rattle.jpeg_meaning.specs.Stream.{header_at, scaled_to}
 use Rattle.jpeg_decoder.specs.Reaching.{NamesFault}
 use Rattle.zaxbriar_files.specs.declared.limits.Limits.{Limits}
 use Rattle.zaxbriar_samples.specs.DecodedPictures.{Decoded, decoded}

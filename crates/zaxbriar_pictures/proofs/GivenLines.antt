@@ -4,11 +4,11 @@ use Rattle.std.specs.Prelude.{IfOk, IfSome, IsSomeAnd}
 use Rattle.std.specs.List.{concat}
 use Rattle.jpeg_bits.specs.Reading.{IsGivenUp, Outcome, ◌>>=◌}
 use Rattle.jpeg_bits.specs.declared.error.Error.{Error}
-use Rattle.jpeg_streams.specs.Shown.{shown_ahead, whole_rows_ahead, whole_rows_rest}
-use Rattle.jpeg_streams.specs.States.{Decoding, IsReading, ahead}
-use Rattle.jpeg_streams.specs.Stream.{Told, told_of}
-use Rattle.jpeg_streams.specs.declared.progress.Progress.{Progress}
-use Rattle.jpeg_streams.specs.declared.progress.Progress.TheVariants.{HeaderRead}
+use Rattle.jpeg_meaning.specs.Shown.{shown_ahead, whole_rows_ahead, whole_rows_rest}
+use Rattle.jpeg_meaning.specs.States.{Decoding, IsReading, ahead}
+use Rattle.jpeg_meaning.specs.Stream.{Told, told_of}
+use Rattle.jpeg_meaning.specs.declared.progress.Progress.{Progress}
+use Rattle.jpeg_meaning.specs.declared.progress.Progress.TheVariants.{HeaderRead}
 use Rattle.jpeg_decoder.specs.Decodes.{Decodes}
 use Rattle.jpeg_decoder.specs.Shows.{Shows}
 use Rattle.zaxbriar_pictures.specs.Given.{without_fault}

@@ -6,17 +6,17 @@ use Rattle.std.specs.Io.KnownBytes.{Appends}
 use Rattle.jpeg_bits.specs.Reading.{Fault, Outcome, ◌>>=◌}
 use Rattle.jpeg_bits.specs.declared.error.Error.{Error}
 use Rattle.jpeg_segments.specs.Frame.{Frame}
-use Rattle.jpeg_streams.specs.Output.{default_settings, header_line_of, output_of}
-use Rattle.jpeg_streams.specs.Pixels.{info_of}
-use Rattle.jpeg_streams.specs.Shown.{Shown}
-use Rattle.jpeg_streams.specs.States.{Decoding}
-use Rattle.jpeg_streams.specs.Limits.{IsWithinLimit, work_of_rest}
-use Rattle.jpeg_streams.specs.Stream.{Told, header_at, rest_at, rest_by, scaled_meaning, scaled_to}
+use Rattle.jpeg_meaning.specs.Output.{default_settings, header_line_of, output_of}
+use Rattle.jpeg_meaning.specs.Pixels.{info_of}
+use Rattle.jpeg_meaning.specs.Shown.{Shown}
+use Rattle.jpeg_meaning.specs.States.{Decoding}
+use Rattle.jpeg_meaning.specs.Limits.{IsWithinLimit, work_of_rest}
+use Rattle.jpeg_meaning.specs.Stream.{Told, header_at, rest_at, rest_by, scaled_meaning, scaled_to}
 use Rattle.jpeg_bits.specs.declared.beyond.Beyond.TheVariants.{Zeros}
-use Rattle.jpeg_streams.specs.declared.settings.Settings.{Settings}
-use Rattle.jpeg_streams.specs.Found.{Found, with_said}
-use Rattle.jpeg_streams.proofs.Written.ReadTurns.{then-ok}
-use Rattle.jpeg_streams.specs.declared.images.ImageInfo.{ImageInfo}
+use Rattle.jpeg_meaning.specs.declared.settings.Settings.{Settings}
+use Rattle.jpeg_meaning.specs.Found.{Found, with_said}
+use Rattle.jpeg_meaning.proofs.Written.ReadTurns.{then-ok}
+use Rattle.jpeg_meaning.specs.declared.images.ImageInfo.{ImageInfo}
 use Rattle.jpeg_decoder.specs.Reaching.{NamesFault}
 use Rattle.jpeg_decoder.proofs.Segments.HeaderThenRest.{header-means}
 use Rattle.zaxbriar_pictures.specs.Given.{Given, IsGiven, WritesGiven, file_in, given, given_at_scale, given_of}

@@ -3,7 +3,7 @@ use Rattle.std.proofs.Common.{◌≡◌, ℕ, List, Option, None, Some, IsSomeAn
 use Rattle.std.specs.Io.KnownBytes.{Appends}
 use Rattle.jpeg_segments.specs.declared.frame.Dimensions.{Dimensions}
 use Rattle.zaxbriar_samples.specs.Boxes.{boxed}
-use Rattle.jpeg_streams.specs.declared.images.ImageInfo.{ImageInfo}
+use Rattle.jpeg_meaning.specs.declared.images.ImageInfo.{ImageInfo}
 use Rattle.zaxbriar_files.specs.declared.limits.Limits.{Limits}
 use Rattle.zaxbriar_pictures.specs.Given.{Given, IsGiven, complete_rows, given_at_scale}
 use Rattle.zaxbriar_samples.specs.DecodedPictures.{Decoded}

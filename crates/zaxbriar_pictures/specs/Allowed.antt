@@ -4,11 +4,11 @@ use Rattle.std.specs.Prelude.{Ok, Err, if◌then◌else◌, unwrap_or}
 use Rattle.jpeg_segments.specs.Frame.{Frame}
 use Rattle.jpeg_segments.specs.Scales.{scaled}
 use Rattle.jpeg_segments.specs.declared.frame.Dimensions.{Dimensions}
-use Rattle.jpeg_streams.specs.Found.{Found}
-use Rattle.jpeg_streams.specs.Output.{default_settings}
-use Rattle.jpeg_streams.specs.Pixels.{info_of}
-use Rattle.jpeg_streams.specs.Stream.{header_at}
-use Rattle.jpeg_streams.specs.declared.images.ImageInfo.{ImageInfo}
+use Rattle.jpeg_meaning.specs.Found.{Found}
+use Rattle.jpeg_meaning.specs.Output.{default_settings}
+use Rattle.jpeg_meaning.specs.Pixels.{info_of}
+use Rattle.jpeg_meaning.specs.Stream.{header_at}
+use Rattle.jpeg_meaning.specs.declared.images.ImageInfo.{ImageInfo}
 use Rattle.jpeg_decoder.specs.Bytes.{decoding_bytes}
 use Rattle.jpeg_decoder.specs.declared.sizes.DecodingBytes.{DecodingBytes}
 use Rattle.zaxbriar_files.specs.Limits.{is_allowed}

@@ -5,15 +5,15 @@ use Rattle.std.specs.Prelude.{Bool, IsOkAnd, false, is_some, not, unwrap_or}
 use Rattle.std.specs.Io.KnownBytes.{Appends}
 use Rattle.jpeg_bits.specs.Reading.{Fault, ◌>>=◌}
 use Rattle.jpeg_bits.specs.declared.error.Error.{Error}
-use Rattle.jpeg_streams.specs.Found.{Found, with_said}
-use Rattle.jpeg_streams.specs.Limits.{IsWithinLimit, work_of_rest}
-use Rattle.jpeg_streams.specs.Output.{default_settings}
-use Rattle.jpeg_streams.specs.Pixels.{info_of}
-use Rattle.jpeg_streams.specs.Shown.{Shown, shown_rest_within, whole_rows_rest}
-use Rattle.jpeg_streams.specs.Stream.{Told, header_at, rest_by, scaled_to}
-use Rattle.jpeg_streams.specs.Work.{picture_blocks}
+use Rattle.jpeg_meaning.specs.Found.{Found, with_said}
+use Rattle.jpeg_meaning.specs.Limits.{IsWithinLimit, work_of_rest}
+use Rattle.jpeg_meaning.specs.Output.{default_settings}
+use Rattle.jpeg_meaning.specs.Pixels.{info_of}
+use Rattle.jpeg_meaning.specs.Shown.{Shown, shown_rest_within, whole_rows_rest}
+use Rattle.jpeg_meaning.specs.Stream.{Told, header_at, rest_by, scaled_to}
+use Rattle.jpeg_meaning.specs.Work.{picture_blocks}
 use Rattle.jpeg_bits.specs.declared.beyond.Beyond.TheVariants.{Zeros}
-use Rattle.jpeg_streams.specs.declared.settings.Settings.{Settings}
+use Rattle.jpeg_meaning.specs.declared.settings.Settings.{Settings}
 use Rattle.jpeg_decoder.specs.Reaching.{NamesFault}
 use Rattle.zaxbriar_files.specs.Limits.{most_blocks}
 use Rattle.zaxbriar_files.specs.declared.limits.Limits.{Limits}

@@ -1,9 +1,9 @@
 -- The pictures of a stream at its scales.
 use Rattle.std.specs.Prelude.{ℕ, List, Ok, Err, Option, None, option_map}
-use Rattle.jpeg_streams.specs.Output.{default_settings}
-use Rattle.jpeg_streams.specs.Pixels.{info_of}
-use Rattle.jpeg_streams.specs.Stream.{header_at, scaled_meaning}
-use Rattle.jpeg_streams.specs.declared.images.ImageInfo.{ImageInfo}
+use Rattle.jpeg_meaning.specs.Output.{default_settings}
+use Rattle.jpeg_meaning.specs.Pixels.{info_of}
+use Rattle.jpeg_meaning.specs.Stream.{header_at, scaled_meaning}
+use Rattle.jpeg_meaning.specs.declared.images.ImageInfo.{ImageInfo}
 use Rattle.jpeg_segments.specs.declared.scale.Scale.{Scale}
 use Rattle.zaxbriar_samples.specs.DecodedPictures.{Decoded, decoded}
 

@@ -3,12 +3,12 @@
 use Rattle.std.specs.Prelude.{◌≡◌, ℕ, List, Ok, Option, Some, option_map, true, IsSomeAnd}
 use Rattle.std.specs.Io.KnownBytes.{Appends}
 use Rattle.jpeg_bits.specs.declared.error.Error.{Error}
-use Rattle.jpeg_streams.specs.Found.{Found, with_said}
-use Rattle.jpeg_streams.specs.Pixels.{info_of}
-use Rattle.jpeg_streams.specs.Shown.{Shown}
-use Rattle.jpeg_streams.specs.States.{Decoding}
-use Rattle.jpeg_streams.specs.Stream.{header_at, scaled_to, told_of}
-use Rattle.jpeg_streams.specs.declared.progress.Progress.TheVariants.{HeaderRead}
+use Rattle.jpeg_meaning.specs.Found.{Found, with_said}
+use Rattle.jpeg_meaning.specs.Pixels.{info_of}
+use Rattle.jpeg_meaning.specs.Shown.{Shown}
+use Rattle.jpeg_meaning.specs.States.{Decoding}
+use Rattle.jpeg_meaning.specs.Stream.{header_at, scaled_to, told_of}
+use Rattle.jpeg_meaning.specs.declared.progress.Progress.TheVariants.{HeaderRead}
 use Rattle.jpeg_decoder.specs.Reaching.{NamesFault}
 use Rattle.zaxbriar_files.specs.declared.limits.Limits.{Limits}
 use Rattle.zaxbriar_pictures.specs.Given.{complete_rest, file_in, given_rest, settings_within}

@@ -3,8 +3,8 @@
 //! A stream is whole where the picture of its blocks is there to the end of the image, without any
 //! fault. Bytes after that end make no difference.
 ghost use Rattle.std.specs.Prelude.{◌≡◌, List, ℕ, IfOk, is_some, not, true};
-ghost use Rattle.jpeg_streams.specs.Output.{Tells, default_settings};
-ghost use Rattle.jpeg_streams.specs.declared.progress.Progress.TheVariants.{Fresh};
+ghost use Rattle.jpeg_meaning.specs.Output.{Tells, default_settings};
+ghost use Rattle.jpeg_meaning.specs.declared.progress.Progress.TheVariants.{Fresh};
 ghost use Rattle.jpeg_segments.specs.declared.scale.Scale.TheVariants.{Full};
 ghost use Rattle.zaxbriar_pictures.specs.Allowed.{allows};
 ghost use Rattle.zaxbriar_pictures.specs.Given.{TellsOfStream, is_whole};

@@ -3,12 +3,12 @@
 ghost use Rattle.std.specs.Prelude.{◌≡◌, IfOk, IfSome, Some, is_some, not, option_map, true};
 ghost use Rattle.std.specs.List.{concat};
 ghost use Rattle.jpeg_bits.specs.Reading.{IsGivenUp};
-ghost use Rattle.jpeg_streams.specs.Pixels.{info_of};
-ghost use Rattle.jpeg_streams.specs.declared.progress.Progress.TheVariants.{HeaderRead};
+ghost use Rattle.jpeg_meaning.specs.Pixels.{info_of};
+ghost use Rattle.jpeg_meaning.specs.declared.progress.Progress.TheVariants.{HeaderRead};
 ghost use Rattle.zaxbriar_pictures.specs.Steps.{CountsRest, GivesPicture, GivesRest};
 ghost use Rattle.zaxbriar_samples.specs.DecodedPictures.{decoded_in};
 ghost use Rattle.zaxbriar_pictures.specs.declared.extents.Extent.TheVariants.{Partial, Whole};
-ghost use Rattle.jpeg_streams.specs.Shown.{whole_rows_rest};
+ghost use Rattle.jpeg_meaning.specs.Shown.{whole_rows_rest};
 
 use jpeg_decoder::error::{Error, Result};
 use jpeg_decoder::{Decoder, ImageInfo, PartialLines};

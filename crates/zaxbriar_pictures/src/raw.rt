@@ -3,9 +3,9 @@ ghost use Rattle.std.specs.Prelude.{◌≡◌, ◌++◌, ℕ, List, Some, IfOk, 
 ghost use Rattle.std.specs.Prelude.{string_bytes, true};
 ghost use Rattle.std.specs.List.{concat};
 ghost use Rattle.std.specs.Io.KnownBytes.{Appends};
-ghost use Rattle.jpeg_streams.specs.Output.{Tells, default_settings, header_line_of, name_of};
-ghost use Rattle.jpeg_streams.specs.Output.{output_of};
-ghost use Rattle.jpeg_streams.specs.declared.progress.Progress.TheVariants.{Fresh};
+ghost use Rattle.jpeg_meaning.specs.Output.{Tells, default_settings, header_line_of, name_of};
+ghost use Rattle.jpeg_meaning.specs.Output.{output_of};
+ghost use Rattle.jpeg_meaning.specs.declared.progress.Progress.TheVariants.{Fresh};
 ghost use Rattle.zaxbriar_pictures.specs.Allowed.{allows_raw};
 ghost use Rattle.zaxbriar_pictures.specs.Given.{CodesWithin};
 

@@ -7,7 +7,7 @@
 //! is stored.
 ghost use Rattle.std.specs.Prelude.{◌≡◌, List, ℕ, IfOk, IsSomeAnd, OnOk, true};
 ghost use Rattle.std.specs.Io.KnownBytes.{Appends};
-ghost use Rattle.jpeg_streams.specs.Output.{Tells};
+ghost use Rattle.jpeg_meaning.specs.Output.{Tells};
 ghost use Rattle.zaxbriar_pictures.specs.Allowed.{allows};
 ghost use Rattle.zaxbriar_pictures.specs.Thumbnails.{WritesThumbnail, file_rows, rows_a_row};
 ghost use Rattle.zaxbriar_samples.specs.Boxes.{boxed};

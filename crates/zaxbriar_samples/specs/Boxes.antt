@@ -3,9 +3,9 @@
 use Rattle.std.specs.Prelude.{ℕ, zero, suc, ◌+◌, ◌-◌, ◌*◌, ◌/◌, ◌%◌, List, [], ◌∷◌, ◌++◌}
 use Rattle.std.specs.Prelude.{◌&&◌, ◌||◌, Bool, if◌then◌else◌, nat_le, nat_lt}
 use Rattle.jpeg_segments.specs.declared.frame.Dimensions.{Dimensions}
-use Rattle.jpeg_streams.specs.declared.images.ImageInfo.{ImageInfo}
-use Rattle.jpeg_streams.specs.declared.images.PixelFormat.{PixelFormat}
-use Rattle.jpeg_streams.specs.declared.images.PixelFormat.TheVariants.{L8, L16, RGB24, CMYK32}
+use Rattle.jpeg_meaning.specs.declared.images.ImageInfo.{ImageInfo}
+use Rattle.jpeg_meaning.specs.declared.images.PixelFormat.{PixelFormat}
+use Rattle.jpeg_meaning.specs.declared.images.PixelFormat.TheVariants.{L8, L16, RGB24, CMYK32}
 use Rattle.zaxbriar_samples.specs.Samples.{sample_in}
 use Rattle.zaxbriar_samples.specs.DecodedPictures.{Decoded, decoded}
 use Rattle.zaxbriar_samples.specs.declared.boxes.Area.{Area}

@@ -1,6 +1,6 @@
 -- Pictures that are decoded.
 use Rattle.std.specs.Prelude.{ℕ, List}
-use Rattle.jpeg_streams.specs.declared.images.ImageInfo.{ImageInfo}
+use Rattle.jpeg_meaning.specs.declared.images.ImageInfo.{ImageInfo}
 use Rattle.zaxbriar_samples.specs.declared.netpbm.Picture.{Picture}
 
 -- a picture: what is said of it, how many bits a sample has, and its pixels

@@ -1,6 +1,6 @@
 -- The file of a picture in a format.
 use Rattle.std.specs.Prelude.{ℕ, Bool, true, List, Option, Some, None, if◌then◌else◌}
-use Rattle.jpeg_streams.specs.declared.images.PixelFormat.{PixelFormat}
+use Rattle.jpeg_meaning.specs.declared.images.PixelFormat.{PixelFormat}
 use Rattle.zaxbriar_samples.specs.DecodedPictures.{Decoded}
 use Rattle.zaxbriar_samples.specs.Netpbm.{file_of}
 use Rattle.zaxbriar_samples.specs.Png.{has_png, png_of}

@@ -2,10 +2,10 @@
 use Rattle.std.specs.Prelude.{ℕ, zero, suc, ◌-◌, ◌/◌, ◌^◌, List, [], ◌∷◌, ◌++◌, length, codes}
 use Rattle.std.specs.Prelude.{if◌then◌else◌, nat_le, ◌==◌}
 use Rattle.std.specs.Fmt.{decimal}
-use Rattle.jpeg_streams.specs.declared.images.ImageInfo.{ImageInfo}
+use Rattle.jpeg_meaning.specs.declared.images.ImageInfo.{ImageInfo}
 use Rattle.zaxbriar_samples.specs.Samples.{greatest_sample, is_wide}
-use Rattle.jpeg_streams.specs.declared.images.PixelFormat.{PixelFormat}
-use Rattle.jpeg_streams.specs.declared.images.PixelFormat.TheVariants.{L8, L16, RGB24, CMYK32}
+use Rattle.jpeg_meaning.specs.declared.images.PixelFormat.{PixelFormat}
+use Rattle.jpeg_meaning.specs.declared.images.PixelFormat.TheVariants.{L8, L16, RGB24, CMYK32}
 
 -- MAXVAL, the greatest value that a sample of a file may have: 255 where samples have 8 bits, that
 -- of the precision where no sample is above it, or else that of the bytes that a sample takes. (The

@@ -3,9 +3,9 @@ use Rattle.std.specs.Prelude.{ℕ, ◌+◌, ◌*◌, ◌/◌, ◌&&◌, ◌==◌
 use Rattle.std.specs.Prelude.{if◌then◌else◌}
 use Rattle.std.specs.Prelude.{List, Option, None, Some, unwrap_or}
 use Rattle.std.specs.Int.{div_ceil}
-use Rattle.exif_orientation.specs.Orientation.{orientation_in}
+use Rattle.jpeg_orientation.specs.Orientation.{orientation_in}
 use Rattle.jpeg_segments.specs.declared.frame.Dimensions.{Dimensions}
-use Rattle.jpeg_streams.specs.declared.images.ImageInfo.{ImageInfo}
+use Rattle.jpeg_meaning.specs.declared.images.ImageInfo.{ImageInfo}
 use Rattle.zaxbriar_samples.specs.declared.requests.Request.{Request}
 use Rattle.zaxbriar_samples.specs.declared.requests.Request.TheVariants.{At, Within}
 use Rattle.zaxbriar_samples.specs.declared.requests.Upright.TheVariants.{Turned, AsStored}

@@ -10,8 +10,8 @@ ghost use Rattle.zaxbriar_samples.specs.DecodedPictures.{decoded_in};
 use crate::netpbm::Picture;
 use crate::samples::sample;
 use jpeg_bits::error;
+use jpeg_meaning::images::{ImageInfo, PixelFormat};
 use jpeg_segments::parser::Dimensions;
-use jpeg_streams::images::{ImageInfo, PixelFormat};
 use std::alloc::{AllocError, Global};
 
 /// A picture that is made smaller.

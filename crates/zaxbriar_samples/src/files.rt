@@ -7,7 +7,7 @@ ghost use Rattle.zaxbriar_samples.specs.Files.{file_as, has_pixels};
 use crate::netpbm::{Picture, write_picture};
 use crate::png::{has_png, write_png};
 use jpeg_bits::error::Result;
-use jpeg_streams::images::PixelFormat;
+use jpeg_meaning::images::PixelFormat;
 use std::alloc::Global;
 use std::io::Write;
 

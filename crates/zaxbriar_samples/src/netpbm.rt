@@ -8,7 +8,7 @@ ghost use Rattle.zaxbriar_samples.specs.Samples.{is_wide, samples_of};
 
 use crate::samples::{greatest_sample, is_wide};
 use jpeg_bits::error::{Error, Result, UnsupportedFeature};
-use jpeg_streams::images::{ImageInfo, PixelFormat};
+use jpeg_meaning::images::{ImageInfo, PixelFormat};
 use std::alloc::Global;
 use std::io;
 use std::io::Write;

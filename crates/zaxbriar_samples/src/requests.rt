@@ -6,10 +6,10 @@ ghost use Rattle.zaxbriar_samples.specs.Sizes.{scale_of_request, side_at, size_f
 ghost use Rattle.zaxbriar_samples.specs.declared.requests.Request.TheVariants.{At};
 
 use crate::sizes::{as_stored, fitted};
-use exif_orientation::orientation_of;
+use jpeg_meaning::images::ImageInfo;
+use jpeg_orientation::orientation_of;
 use jpeg_segments::parser::Dimensions;
 use jpeg_segments::scale::Scale;
-use jpeg_streams::images::ImageInfo;
 
 /// A request for a stream's picture.
 #[derive(Clone, Copy)]

@@ -2,8 +2,8 @@
 ghost use Rattle.std.specs.Prelude.{◌≡◌};
 ghost use Rattle.zaxbriar_samples.specs.Sizes.{as_stored, fitted, is_within, shrunk};
 
+use jpeg_meaning::images::ImageInfo;
 use jpeg_segments::parser::Dimensions;
-use jpeg_streams::images::ImageInfo;
 
 /// Returns a size of the picture that is shown as one of the picture that is stored: the
 /// orientations from 5 to 8 lie on their side.

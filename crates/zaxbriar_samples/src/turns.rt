@@ -8,7 +8,7 @@ ghost use Rattle.zaxbriar_samples.specs.Turns.{upright};
 
 use crate::netpbm::Picture;
 use jpeg_bits::error::{Error, Result};
-use jpeg_streams::images::{ImageInfo, PixelFormat};
+use jpeg_meaning::images::{ImageInfo, PixelFormat};
 use std::alloc::Global;
 
 /// How a picture is turned.

@@ -1,5 +1,6 @@
-//! The conformance suite of the repository, `crates/decoder_cases`: each stream with the answers
-//! that a decoder must give (`docs/CONFORMANCE.md` has the format), by readers of four kinds.
+//! The conformance suite of the repository, `crates/test_decoder_cases`: each stream with the
+//! answers that a decoder must give (`docs/CONFORMANCE.md` has the format), by readers of four
+//! kinds.
 //!
 //! Not asked: `into` and the calls after it, since this crate has no decoding into the caller's
 //! memory; `orientation`, which the suite asks of headers without a frame, and which is known here
@@ -248,7 +249,7 @@ fn is_wanted(answer: &str, wanted: &str) -> bool {
 }
 
 fn suite() -> PathBuf {
-    Path::new(env!("CARGO_MANIFEST_DIR")).join("../../../crates/decoder_cases")
+    Path::new(env!("CARGO_MANIFEST_DIR")).join("../../../crates/test_decoder_cases")
 }
 
 #[test]

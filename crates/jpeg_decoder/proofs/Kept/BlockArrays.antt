@@ -10,7 +10,7 @@ use Rattle.std.proofs.lemmas.List.{length-append, length-map, length-replicate, 
 use Rattle.std.proofs.lemmas.List.{replicate-append-replicate, get_or_append_left, set-append_left}
 use Rattle.jpeg_bits.specs.BlockView.{to_block}
 use Rattle.jpeg_bits.specs.Passes.{Block, zero_block}
-use Rattle.jpeg_streams.specs.Scans.{Arrays}
+use Rattle.jpeg_meaning.specs.Scans.{Arrays}
 use Rattle.jpeg_decoder.specs.declared.scan.block_array.BlockArray.{BlockArray}
 use Rattle.jpeg_decoder.specs.Scanning.{arrays_in, blocks_in, sizes_of, IsFull}
 use Rattle.jpeg_decoder.proofs.Scans.BlocksBefore.{zero-blocks}

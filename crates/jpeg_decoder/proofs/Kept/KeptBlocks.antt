@@ -9,10 +9,10 @@ use Rattle.jpeg_bits.proofs.BandLoop.{Leaves}
 use Rattle.jpeg_bits.specs.Readers.{Reads, gives, read_on}
 use Rattle.jpeg_bits.specs.Passes.{Pass, Via, Block, block_from, zero_block}
 use Rattle.jpeg_bits.specs.Codes.{Table}
-use Rattle.jpeg_streams.specs.Order.{Spot}
-use Rattle.jpeg_streams.specs.Scans.{Arrays, block_at, put_block, via_at}
-use Rattle.jpeg_streams.specs.ScanSegments.{Coding, vias_from}
-use Rattle.jpeg_streams.specs.InTurn.{Counted, Reached, blocks_from, turn_from}
+use Rattle.jpeg_meaning.specs.Order.{Spot}
+use Rattle.jpeg_meaning.specs.Scans.{Arrays, block_at, put_block, via_at}
+use Rattle.jpeg_meaning.specs.ScanSegments.{Coding, vias_from}
+use Rattle.jpeg_meaning.specs.InTurn.{Counted, Reached, blocks_from, turn_from}
 use Rattle.jpeg_decoder.specs.declared.scan.blocks.Interval.{Interval}
 use Rattle.jpeg_bits.specs.BlockView.{to_block}
 use Rattle.jpeg_bits.specs.Skips.{kept, kept_turn}

@@ -10,11 +10,11 @@ use Rattle.jpeg_bits.specs.Readers.{Reads, gives, read_on, ◌>>=◌}
 use Rattle.jpeg_bits.specs.Passes.{Block, Pass, Via, block_from, zero_block}
 use Rattle.jpeg_bits.specs.Skips.{dc_alone, kept, kept_turn}
 use Rattle.jpeg_bits.proofs.DcAlone.{blocks-alike as block-alike}
-use Rattle.jpeg_streams.proofs.Order.CountedScans.{on-on}
-use Rattle.jpeg_streams.specs.Order.{Spot}
-use Rattle.jpeg_streams.specs.Scans.{Arrays, block_at, put_block, via_at}
-use Rattle.jpeg_streams.specs.InTurn.{Counted, Reached, begun_from, blocks_from, next_from}
-use Rattle.jpeg_streams.specs.InTurn.{turn_from}
+use Rattle.jpeg_meaning.proofs.Order.CountedScans.{on-on}
+use Rattle.jpeg_meaning.specs.Order.{Spot}
+use Rattle.jpeg_meaning.specs.Scans.{Arrays, block_at, put_block, via_at}
+use Rattle.jpeg_meaning.specs.InTurn.{Counted, Reached, begun_from, blocks_from, next_from}
+use Rattle.jpeg_meaning.specs.InTurn.{turn_from}
 use Rattle.jpeg_decoder.specs.Scanning.{kept_after, kept_arrays, kept_counted}
 use Rattle.jpeg_decoder.proofs.Orders.BlockSteps.{begun-is, begun_by, begun_turn, next-is, turn_then}
 

@@ -4,13 +4,13 @@ use Rattle.std.proofs.Common.{drop, length, get_or, refl, ap, arith}
 use Rattle.std.proofs.lemmas.List.{length-map}
 use Rattle.std.specs.List.{AllByRecursion, range_with_len}
 use Rattle.jpeg_segments.specs.Frame.{Frame, Component}
-use Rattle.jpeg_streams.specs.Order.{Spot, spots_of}
-use Rattle.jpeg_streams.specs.InTurn.{IsIn, IsInside, Fits, AreArrays}
-use Rattle.jpeg_streams.specs.McuRows.{mcu_row, rows_of}
-use Rattle.jpeg_streams.specs.Scans.{zero_arrays, zero_of}
-use Rattle.jpeg_streams.specs.ScanSegments.{Coding, components_of}
-use Rattle.jpeg_streams.proofs.Order.Apart.{spots-inside, zeros-sized}
-use Rattle.jpeg_streams.proofs.Order.McuRows.{AreRows, row-inside, rows-count}
+use Rattle.jpeg_meaning.specs.Order.{Spot, spots_of}
+use Rattle.jpeg_meaning.specs.InTurn.{IsIn, IsInside, Fits, AreArrays}
+use Rattle.jpeg_meaning.specs.McuRows.{mcu_row, rows_of}
+use Rattle.jpeg_meaning.specs.Scans.{zero_arrays, zero_of}
+use Rattle.jpeg_meaning.specs.ScanSegments.{Coding, components_of}
+use Rattle.jpeg_meaning.proofs.Order.Apart.{spots-inside, zeros-sized}
+use Rattle.jpeg_meaning.proofs.Order.McuRows.{AreRows, row-inside, rows-count}
 use Rattle.jpeg_decoder.specs.Scanning.{IsSpotOf, arrays_in, blocks_in, sizes_of}
 use Rattle.jpeg_decoder.specs.Strips.{row_sizes}
 use Rattle.jpeg_decoder.proofs.Kept.BlockArrays.{Held, sizes-long}

@@ -15,16 +15,16 @@ use Rattle.jpeg_bits.proofs.BandSteps.{Leaves-end, Leaves-ok}
 use Rattle.jpeg_bits.proofs.WholeBlocks.{refused_after}
 use Rattle.jpeg_bits.specs.Readers.{Reads, read_on}
 use Rattle.jpeg_bits.specs.Passes.{Pass, Via}
-use Rattle.jpeg_streams.specs.declared.grids.Grid.{Grid}
-use Rattle.jpeg_streams.specs.Order.{Spot, own_spots, grid_of, mcu_size, spots_of}
+use Rattle.jpeg_meaning.specs.declared.grids.Grid.{Grid}
+use Rattle.jpeg_meaning.specs.Order.{Spot, own_spots, grid_of, mcu_size, spots_of}
 use Rattle.jpeg_segments.specs.Frame.{Frame, Component}
 use Rattle.jpeg_decoder.specs.Scanning.{arrays_in, blocks_in}
 use Rattle.jpeg_decoder.proofs.Kept.BlockArrays.{Held}
-use Rattle.jpeg_streams.specs.InTurn.{Counted, Reached, begun_from, blocks_from, turn_from, turns_from, scan_from}
-use Rattle.jpeg_streams.specs.InTurn.{counted_at_start, AreArrays, Fits}
-use Rattle.jpeg_streams.specs.Scans.{Arrays, arrays_at}
-use Rattle.jpeg_streams.specs.ScanSegments.{Coding, components_of}
-use Rattle.jpeg_streams.proofs.Order.CountedScans.{blocks-append, frame-scans}
+use Rattle.jpeg_meaning.specs.InTurn.{Counted, Reached, begun_from, blocks_from, turn_from, turns_from, scan_from}
+use Rattle.jpeg_meaning.specs.InTurn.{counted_at_start, AreArrays, Fits}
+use Rattle.jpeg_meaning.specs.Scans.{Arrays, arrays_at}
+use Rattle.jpeg_meaning.specs.ScanSegments.{Coding, components_of}
+use Rattle.jpeg_meaning.proofs.Order.CountedScans.{blocks-append, frame-scans}
 use Rattle.jpeg_decoder.specs.Walk.{line_spots, rows_spots}
 use Rattle.jpeg_decoder.proofs.Orders.BlockSteps.{begun_none, begun_within, begun_turn, blocks_begun, blocks_refused}
 use Rattle.jpeg_decoder.proofs.Orders.BlockSteps.{next_begun, next_unbegun, turn_then}

@@ -16,10 +16,10 @@ use Rattle.jpeg_bits.specs.Passes.{Pass, Via, Block, block_from, zero_block}
 use Rattle.jpeg_bits.specs.BlockView.{to_block}
 use Rattle.jpeg_bits.specs.BlockLines.{Line, blocks_at}
 use Rattle.jpeg_bits.proofs.DcAlone.{Takes-map}
-use Rattle.jpeg_streams.specs.Scans.{Arrays, via_at}
-use Rattle.jpeg_streams.specs.InTurn.{Reached, turn_from, turns_from}
+use Rattle.jpeg_meaning.specs.Scans.{Arrays, via_at}
+use Rattle.jpeg_meaning.specs.InTurn.{Reached, turn_from, turns_from}
 use Rattle.jpeg_decoder.specs.Scanning.{blocks_in, via_by}
-use Rattle.jpeg_streams.specs.ScanSegments.{Coding, vias_from}
+use Rattle.jpeg_meaning.specs.ScanSegments.{Coding, vias_from}
 use Rattle.jpeg_decoder.specs.Walk.{line_spots}
 use Rattle.jpeg_decoder.proofs.Kept.BlockArrays.{Held, seen-count, seen-is}
 

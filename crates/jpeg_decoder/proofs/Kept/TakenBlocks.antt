@@ -6,12 +6,12 @@ use Rattle.std.proofs.lemmas.List.{get_or-map, get_or-set_other, map-append, map
 use Rattle.std.proofs.lemmas.List.{take_more}
 use Rattle.jpeg_bits.specs.Passes.{Block}
 use Rattle.jpeg_decoder.specs.declared.scan.coded.Coded.{Coded}
-use Rattle.jpeg_streams.specs.InTurn.{AreApart, IsIn}
-use Rattle.jpeg_streams.specs.Scans.{Arrays}
+use Rattle.jpeg_meaning.specs.InTurn.{AreApart, IsIn}
+use Rattle.jpeg_meaning.specs.Scans.{Arrays}
 use Rattle.jpeg_decoder.specs.Scanning.{arrays_in, blocks_in}
 use Rattle.jpeg_decoder.specs.Steps.{blocks_at, coding_in, without_blocks}
 use Rattle.jpeg_decoder.proofs.Kept.BlockArrays.{Held}
-use Rattle.jpeg_streams.specs.ScanSegments.{put_arrays, Coding}
+use Rattle.jpeg_meaning.specs.ScanSegments.{put_arrays, Coding}
 use Rattle.std.proofs.lemmas.Grind.{common_steps}
 
 abbrev pub indices_of : List Coding → List ℕ

@@ -2,14 +2,14 @@
 use Rattle.std.proofs.Common.{◌≡◌, ℕ, List, ◌++◌, Result, Ok, rules}
 use Rattle.jpeg_bits.specs.Reading.{Answers, ◌>>=◌}
 use Rattle.jpeg_bits.specs.declared.error.Error.{Error}
-use Rattle.jpeg_streams.specs.DecodedImages.{AtLeast, AtScale, FullSize, Size}
-use Rattle.jpeg_streams.specs.DecodedSamples.{DecodesSamples}
-use Rattle.jpeg_streams.specs.FoundPictures.{limited}
-use Rattle.jpeg_streams.specs.States.{Decoding, IsReading, ahead}
-use Rattle.jpeg_streams.specs.Stream.{told_of}
-use Rattle.jpeg_streams.specs.Found.{Said}
-use Rattle.jpeg_streams.specs.WrittenLossless.{picture_of_samples, Samples, WritesSamples}
-use Rattle.jpeg_streams.specs.declared.settings.Settings.{Settings}
+use Rattle.jpeg_meaning.specs.DecodedImages.{AtLeast, AtScale, FullSize, Size}
+use Rattle.jpeg_meaning.specs.DecodedSamples.{DecodesSamples}
+use Rattle.jpeg_meaning.specs.FoundPictures.{limited}
+use Rattle.jpeg_meaning.specs.States.{Decoding, IsReading, ahead}
+use Rattle.jpeg_meaning.specs.Stream.{told_of}
+use Rattle.jpeg_meaning.specs.Found.{Said}
+use Rattle.jpeg_meaning.specs.WrittenLossless.{picture_of_samples, Samples, WritesSamples}
+use Rattle.jpeg_meaning.specs.declared.settings.Settings.{Settings}
 use Rattle.jpeg_decoder.proofs.Pictures.DecodedImages.{gives, left-means, left-reading, means_at}
 use Rattle.jpeg_decoder.proofs.LosslessFrames.LosslessPixels.{lossless-means, lossless-scaled, lossless-sized}
 

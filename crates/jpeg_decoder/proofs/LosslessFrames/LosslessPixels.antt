@@ -12,20 +12,20 @@ use Rattle.jpeg_segments.specs.Frame.{Component, Frame}
 use Rattle.jpeg_segments.specs.declared.frame.CodingProcess.{CodingProcess}
 use Rattle.jpeg_lossless.specs.Pictures.{lossless_picture}
 use Rattle.jpeg_segments.specs.declared.scale.Scale.{Scale}
-use Rattle.jpeg_streams.specs.declared.settings.Settings.{Settings}
-use Rattle.jpeg_streams.specs.Found.{nothing_said, Said}
-use Rattle.jpeg_streams.specs.FoundPictures.{limited, picture_by_process, picture_of, samples_picture}
-use Rattle.jpeg_streams.specs.Stream.{meaning, scaled_meaning, sized_meaning, Told, told_of}
-use Rattle.jpeg_streams.specs.WrittenLossless.{IsLossless, IsWithinLimit, picture_of_samples, Samples}
-use Rattle.jpeg_streams.specs.WrittenLossless.{WritesSamples}
-use Rattle.jpeg_streams.proofs.Order.Apart.{get-at}
-use Rattle.jpeg_streams.proofs.Pictures.LimitedPictures.{limited-ok, limited-same}
-use Rattle.jpeg_streams.proofs.Pictures.LosslessSizes.{IsShaped}
-use Rattle.jpeg_streams.proofs.Order.OwnSpots.{at-within, in-below}
-use Rattle.jpeg_streams.proofs.Pictures.PaddingUnseen.{pictures-by}
-use Rattle.jpeg_streams.proofs.Written.ReadTurns.{same-frame, then-ok}
-use Rattle.jpeg_streams.proofs.Written.WalkedStreams.{beside, IsSaid, keeps, nothing-said, segment-said}
-use Rattle.jpeg_streams.proofs.Written.WrittenFrameScans.{in-all}
+use Rattle.jpeg_meaning.specs.declared.settings.Settings.{Settings}
+use Rattle.jpeg_meaning.specs.Found.{nothing_said, Said}
+use Rattle.jpeg_meaning.specs.FoundPictures.{limited, picture_by_process, picture_of, samples_picture}
+use Rattle.jpeg_meaning.specs.Stream.{meaning, scaled_meaning, sized_meaning, Told, told_of}
+use Rattle.jpeg_meaning.specs.WrittenLossless.{IsLossless, IsWithinLimit, picture_of_samples, Samples}
+use Rattle.jpeg_meaning.specs.WrittenLossless.{WritesSamples}
+use Rattle.jpeg_meaning.proofs.Order.Apart.{get-at}
+use Rattle.jpeg_meaning.proofs.Pictures.LimitedPictures.{limited-ok, limited-same}
+use Rattle.jpeg_meaning.proofs.Pictures.LosslessSizes.{IsShaped}
+use Rattle.jpeg_meaning.proofs.Order.OwnSpots.{at-within, in-below}
+use Rattle.jpeg_meaning.proofs.Pictures.PaddingUnseen.{pictures-by}
+use Rattle.jpeg_meaning.proofs.Written.ReadTurns.{same-frame, then-ok}
+use Rattle.jpeg_meaning.proofs.Written.WalkedStreams.{beside, IsSaid, keeps, nothing-said, segment-said}
+use Rattle.jpeg_meaning.proofs.Written.WrittenFrameScans.{in-all}
 use Rattle.jpeg_decoder.proofs.LosslessFrames.LosslessReads.{sample_plane}
 use Rattle.jpeg_decoder.proofs.ReadLists.{at-flat}
 use Rattle.jpeg_decoder.proofs.LosslessFrames.WrittenLosslessStreams.{all-in, AreKept, AreMeant, header-said, IsSampled}

@@ -26,25 +26,25 @@ use Rattle.jpeg_lossless.specs.Differences.{Part}
 use Rattle.jpeg_lossless.specs.declared.scan.Coding.{Coding}
 use Rattle.jpeg_lossless.specs.Pictures.{ArePlanesOf, lossless_picture}
 use Rattle.jpeg_lossless.specs.Scans.{scan_at}
-use Rattle.jpeg_streams.specs.LosslessScans.{LosslessCoding, lossless_coding, lossless_codings}
-use Rattle.jpeg_streams.specs.LosslessScans.{mcus_across, mcus_down, part_of, parts_of, tables_in}
-use Rattle.jpeg_streams.specs.LosslessScans.{with_samples}
+use Rattle.jpeg_meaning.specs.LosslessScans.{LosslessCoding, lossless_coding, lossless_codings}
+use Rattle.jpeg_meaning.specs.LosslessScans.{mcus_across, mcus_down, part_of, parts_of, tables_in}
+use Rattle.jpeg_meaning.specs.LosslessScans.{with_samples}
 use Rattle.jpeg_decoder.specs.LosslessParts.{mcus_high, mcus_wide, no_component, part_by, parts_at}
 use Rattle.jpeg_segments.specs.Checks.{gathered, needed}
 use Rattle.jpeg_decoder.specs.declared.scan.decoded.Decoded.{Decoded}
-use Rattle.jpeg_streams.specs.Sound.{AreSampled, IsDecodedFrame, IsSound}
+use Rattle.jpeg_meaning.specs.Sound.{AreSampled, IsDecodedFrame, IsSound}
 use Rattle.jpeg_decoder.specs.Steps.{IsRefusal, after_all, samples_read, with_decoded}
-use Rattle.jpeg_streams.specs.FoundPictures.{samples_picture}
-use Rattle.jpeg_streams.specs.ScanSegments.{after_samples, arrays_before, scan_samples}
-use Rattle.jpeg_streams.specs.ScanSegments.{once_scanned}
-use Rattle.jpeg_streams.specs.Found.{Found}
-use Rattle.jpeg_streams.proofs.Written.ReadTurns.{bind-ok, ok-same, then-ok}
-use Rattle.jpeg_streams.proofs.Pictures.LosslessSizes.{IsMade, across-some, all-at, all-covered}
-use Rattle.jpeg_streams.proofs.Pictures.LosslessSizes.{decoded-made, down-some}
+use Rattle.jpeg_meaning.specs.FoundPictures.{samples_picture}
+use Rattle.jpeg_meaning.specs.ScanSegments.{after_samples, arrays_before, scan_samples}
+use Rattle.jpeg_meaning.specs.ScanSegments.{once_scanned}
+use Rattle.jpeg_meaning.specs.Found.{Found}
+use Rattle.jpeg_meaning.proofs.Written.ReadTurns.{bind-ok, ok-same, then-ok}
+use Rattle.jpeg_meaning.proofs.Pictures.LosslessSizes.{IsMade, across-some, all-at, all-covered}
+use Rattle.jpeg_meaning.proofs.Pictures.LosslessSizes.{decoded-made, down-some}
 use Rattle.jpeg_decoder.specs.PlanesView.{planes_in}
 use Rattle.jpeg_decoder.proofs.PutLoops.{seen-at}
 use Rattle.jpeg_decoder.proofs.Scans.ScanReads.{HasRead}
-use Rattle.jpeg_streams.proofs.Soundness.{count-few, decoded-count, decoded-some}
+use Rattle.jpeg_meaning.proofs.Soundness.{count-few, decoded-count, decoded-some}
 use Rattle.std.proofs.lemmas.Bool.Decides.{nat_tests}
 use Rattle.jpeg_bits.specs.declared.error.Error.TheVariants.{OutOfMemory}
 use Rattle.std.proofs.lemmas.Grind.{common_steps}

@@ -5,10 +5,10 @@ use Rattle.std.proofs.lemmas.Nat.{div-mul-add}
 use Rattle.jpeg_segments.specs.Frame.{Component, Frame, most_across, most_down}
 use Rattle.jpeg_lossless.specs.Pictures.{picture_by_samples, pixel_of, sample_bytes}
 use Rattle.jpeg_lossless.specs.Positions.{at_position}
-use Rattle.jpeg_streams.specs.PlainSamples.{HasEqualFactors, plain_picture}
-use Rattle.jpeg_streams.specs.WrittenLossless.{Samples, picture_of_samples}
-use Rattle.jpeg_streams.proofs.Pictures.LosslessSizes.{some-across, some-down}
-use Rattle.jpeg_streams.proofs.Pictures.PaddingUnseen.{component_bytes}
+use Rattle.jpeg_meaning.specs.PlainSamples.{HasEqualFactors, plain_picture}
+use Rattle.jpeg_meaning.specs.WrittenLossless.{Samples, picture_of_samples}
+use Rattle.jpeg_meaning.proofs.Pictures.LosslessSizes.{some-across, some-down}
+use Rattle.jpeg_meaning.proofs.Pictures.PaddingUnseen.{component_bytes}
 use Rattle.std.proofs.lemmas.Grind.{common_steps}
 
 through : (x factor most : ℕ) → 0 < most → factor ≡ most → x * factor / most ≡ x

@@ -30,14 +30,14 @@ use Rattle.jpeg_lossless.proofs.LineSums.{AreLong}
 use Rattle.jpeg_lossless.proofs.ReachedRows.{reached-long, reached-planes}
 use Rattle.jpeg_lossless.proofs.Sizes.{covered-within}
 use Rattle.jpeg_lossless.proofs.WholeScans.{all-whole}
-use Rattle.jpeg_streams.specs.Brought.{after_interval, grey_samples, interval_rows_reached, planes_brought}
-use Rattle.jpeg_streams.specs.Brought.{samples_over, scan_rows_reached, stopping}
-use Rattle.jpeg_streams.specs.Found.{Found, Said}
-use Rattle.jpeg_streams.specs.LosslessScans.{LosslessCoding, mcus_down, tables_in, way_of, with_samples}
-use Rattle.jpeg_streams.specs.ScanSegments.{after_samples, once_scanned}
-use Rattle.jpeg_streams.specs.Sound.{AreSampled, IsDecodedFrame, IsSampled, IsSound}
-use Rattle.jpeg_streams.proofs.Partial.RowIntervals.{Scanned, next_reached}
-use Rattle.jpeg_streams.proofs.Written.ReadTurns.{ok-same, then-ok}
+use Rattle.jpeg_meaning.specs.Brought.{after_interval, grey_samples, interval_rows_reached, planes_brought}
+use Rattle.jpeg_meaning.specs.Brought.{samples_over, scan_rows_reached, stopping}
+use Rattle.jpeg_meaning.specs.Found.{Found, Said}
+use Rattle.jpeg_meaning.specs.LosslessScans.{LosslessCoding, mcus_down, tables_in, way_of, with_samples}
+use Rattle.jpeg_meaning.specs.ScanSegments.{after_samples, once_scanned}
+use Rattle.jpeg_meaning.specs.Sound.{AreSampled, IsDecodedFrame, IsSampled, IsSound}
+use Rattle.jpeg_meaning.proofs.Partial.RowIntervals.{Scanned, next_reached}
+use Rattle.jpeg_meaning.proofs.Written.ReadTurns.{ok-same, then-ok}
 use Rattle.jpeg_decoder.specs.LosslessParts.{mcus_high, mcus_wide, no_component, parts_at}
 use Rattle.jpeg_decoder.specs.Reaching.{over, planes_over, planes_reached, sample_codings, samples_or_grey}
 use Rattle.jpeg_decoder.specs.Reaching.{samples_reached, DataBrought, IsSampleScan}

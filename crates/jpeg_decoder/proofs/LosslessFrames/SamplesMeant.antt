@@ -3,17 +3,17 @@ use Rattle.std.proofs.Common.{◌≡◌, ℕ, ◌*◌, List, ◌++◌, map, leng
 use lib.ListN.{length-map}
 use Rattle.jpeg_bits.specs.Reading.{◌>>=◌}
 use Rattle.jpeg_segments.specs.Frame.{Frame}
-use Rattle.jpeg_streams.specs.declared.settings.Settings.{Settings}
-use Rattle.jpeg_streams.specs.Found.{Said}
-use Rattle.jpeg_streams.specs.FoundPictures.{limited}
-use Rattle.jpeg_streams.specs.FrameSamples.{sampling_of, ShowAlike}
-use Rattle.jpeg_streams.specs.Stream.{told_of}
-use Rattle.jpeg_streams.specs.WrittenLossless.{picture_of_samples, Samples, WritesSamples}
-use Rattle.jpeg_streams.specs.WrittenParts.{picture_meant_by}
-use Rattle.jpeg_streams.proofs.Pictures.LimitedPictures.{limited-same}
-use Rattle.jpeg_streams.proofs.Pictures.LosslessSizes.{IsShaped}
-use Rattle.jpeg_streams.proofs.Pictures.SamplesAlike.{pictures-alike}
-use Rattle.jpeg_streams.proofs.Written.WrittenParts.{picture-alone}
+use Rattle.jpeg_meaning.specs.declared.settings.Settings.{Settings}
+use Rattle.jpeg_meaning.specs.Found.{Said}
+use Rattle.jpeg_meaning.specs.FoundPictures.{limited}
+use Rattle.jpeg_meaning.specs.FrameSamples.{sampling_of, ShowAlike}
+use Rattle.jpeg_meaning.specs.Stream.{told_of}
+use Rattle.jpeg_meaning.specs.WrittenLossless.{picture_of_samples, Samples, WritesSamples}
+use Rattle.jpeg_meaning.specs.WrittenParts.{picture_meant_by}
+use Rattle.jpeg_meaning.proofs.Pictures.LimitedPictures.{limited-same}
+use Rattle.jpeg_meaning.proofs.Pictures.LosslessSizes.{IsShaped}
+use Rattle.jpeg_meaning.proofs.Pictures.SamplesAlike.{pictures-alike}
+use Rattle.jpeg_meaning.proofs.Written.WrittenParts.{picture-alone}
 use Rattle.jpeg_decoder.proofs.LosslessFrames.LosslessPixels.{lossless-means, sizes-kept}
 use Rattle.std.proofs.lemmas.Grind.{common_steps}
 

@@ -16,17 +16,17 @@ use Rattle.jpeg_segments.specs.ScanHeader.{scan_of}
 use Rattle.jpeg_segments.specs.ScanHeaders.{ScanHeader, IsScan}
 use Rattle.jpeg_segments.specs.WrittenSegments.{FrameHeader, frame_written, Header}
 use Rattle.jpeg_segments.proofs.HeaderRules.{header-rules}
-use Rattle.jpeg_streams.specs.declared.settings.Settings.{Settings}
-use Rattle.jpeg_streams.specs.LosslessScans.{with_samples}
-use Rattle.jpeg_streams.specs.SaidSegments.{said_after, Stands}
-use Rattle.jpeg_streams.specs.Found.{nothing_found, nothing_said, Said, with_said}
-use Rattle.jpeg_streams.specs.Stream.{header_at, rest_at, meaning, scaled_meaning, scaled_to, sized_meaning}
-use Rattle.jpeg_streams.specs.Stream.{sized_to, Told}
-use Rattle.jpeg_streams.specs.WrittenLossless.{IsLossless, Samples, SendsSamples, WritesSamples}
-use Rattle.jpeg_streams.proofs.Written.ReadTurns.{then-ok}
-use Rattle.jpeg_streams.proofs.Pictures.DecodedHeaders.{decoded-accepted}
-use Rattle.jpeg_streams.proofs.Pictures.LosslessSizes.{IsShaped, header-shaped}
-use Rattle.jpeg_streams.proofs.Written.WalkedStreams.{beside, FindsScan, header-read, IsMeant, IsRead, IsSaid, stream-read}
+use Rattle.jpeg_meaning.specs.declared.settings.Settings.{Settings}
+use Rattle.jpeg_meaning.specs.LosslessScans.{with_samples}
+use Rattle.jpeg_meaning.specs.SaidSegments.{said_after, Stands}
+use Rattle.jpeg_meaning.specs.Found.{nothing_found, nothing_said, Said, with_said}
+use Rattle.jpeg_meaning.specs.Stream.{header_at, rest_at, meaning, scaled_meaning, scaled_to, sized_meaning}
+use Rattle.jpeg_meaning.specs.Stream.{sized_to, Told}
+use Rattle.jpeg_meaning.specs.WrittenLossless.{IsLossless, Samples, SendsSamples, WritesSamples}
+use Rattle.jpeg_meaning.proofs.Written.ReadTurns.{then-ok}
+use Rattle.jpeg_meaning.proofs.Pictures.DecodedHeaders.{decoded-accepted}
+use Rattle.jpeg_meaning.proofs.Pictures.LosslessSizes.{IsShaped, header-shaped}
+use Rattle.jpeg_meaning.proofs.Written.WalkedStreams.{beside, FindsScan, header-read, IsMeant, IsRead, IsSaid, stream-read}
 use Rattle.jpeg_decoder.proofs.Segments.HeaderThenRest.{header-means}
 use Rattle.jpeg_decoder.proofs.LosslessFrames.WrittenSamples.{bring_samples, indices_of, planes_for, scan-read}
 use Rattle.jpeg_decoder.proofs.LosslessFrames.LosslessReads.{all-below}

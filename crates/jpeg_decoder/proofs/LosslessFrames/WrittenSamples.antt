@@ -4,7 +4,7 @@ use Rattle.std.proofs.Common.{take, Option, Some, None, Ok, refl, ap, ◌∙◌,
 use Rattle.std.specs.List.{AllByRecursion, concat}
 use Rattle.std.specs.Prelude.{slice_get, slice_index_or}
 use Rattle.std.proofs.lemmas.List.{length-map, length-take-le, map-append}
-use Rattle.jpeg_streams.proofs.Written.WalkedStreams.{beside}
+use Rattle.jpeg_meaning.proofs.Written.WalkedStreams.{beside}
 use Rattle.jpeg_bits.specs.Codes.{IsTable, Table}
 use Rattle.jpeg_bits.specs.Marker.{marker_of}
 use Rattle.jpeg_bits.specs.Reading.{Outcome}
@@ -31,15 +31,15 @@ use Rattle.jpeg_bits.proofs.ReadIntervals.{all-again, all-append}
 use Rattle.jpeg_lossless.proofs.ReadBack.{grouped, reads-scan, written-lines}
 use Rattle.jpeg_lossless.proofs.Sizes.{covered-within}
 use Rattle.jpeg_lossless.proofs.WholeScans.{HaveLines}
-use Rattle.jpeg_streams.specs.LosslessScans.{LosslessCoding, lossless_coding, lossless_codings, mcus_across, mcus_down}
-use Rattle.jpeg_streams.specs.LosslessScans.{part_of, parts_of, way_of, with_samples}
-use Rattle.jpeg_streams.specs.ScanSegments.{lossless_scan, scan_segment, scan_turn}
-use Rattle.jpeg_streams.specs.Found.{Found, Said, nothing_found}
-use Rattle.jpeg_streams.specs.WrittenLossless.{HoldSamples, Samples, WritesSamplesScan}
-use Rattle.jpeg_streams.proofs.Written.ReadTurns.{IsEnd, bind-ok, needed-some, ok-same, then-ok}
-use Rattle.jpeg_streams.proofs.Written.CodingsInForce.{samples-found}
-use Rattle.jpeg_streams.proofs.Pictures.LosslessSizes.{IsShaped, IsMade, all-at, all-covered}
-use Rattle.jpeg_streams.proofs.Written.SaidTables.{HasTables, table-there}
+use Rattle.jpeg_meaning.specs.LosslessScans.{LosslessCoding, lossless_coding, lossless_codings, mcus_across, mcus_down}
+use Rattle.jpeg_meaning.specs.LosslessScans.{part_of, parts_of, way_of, with_samples}
+use Rattle.jpeg_meaning.specs.ScanSegments.{lossless_scan, scan_segment, scan_turn}
+use Rattle.jpeg_meaning.specs.Found.{Found, Said, nothing_found}
+use Rattle.jpeg_meaning.specs.WrittenLossless.{HoldSamples, Samples, WritesSamplesScan}
+use Rattle.jpeg_meaning.proofs.Written.ReadTurns.{IsEnd, bind-ok, needed-some, ok-same, then-ok}
+use Rattle.jpeg_meaning.proofs.Written.CodingsInForce.{samples-found}
+use Rattle.jpeg_meaning.proofs.Pictures.LosslessSizes.{IsShaped, IsMade, all-at, all-covered}
+use Rattle.jpeg_meaning.proofs.Written.SaidTables.{HasTables, table-there}
 use Rattle.std.proofs.lemmas.Grind.{common_steps}
 
 -- the samples that scans have given

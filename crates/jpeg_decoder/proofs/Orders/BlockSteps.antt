@@ -6,9 +6,9 @@ use Rattle.jpeg_bits.specs.Reading.{Fault}
 use Rattle.jpeg_bits.specs.Entropy.{Text}
 use Rattle.jpeg_bits.specs.Readers.{Reads, gives, read_on}
 use Rattle.jpeg_bits.specs.Passes.{Pass, Via}
-use Rattle.jpeg_streams.specs.Order.{Spot}
-use Rattle.jpeg_streams.specs.InTurn.{Reached, turn_from, at_start, restart_from, Counted}
-use Rattle.jpeg_streams.specs.InTurn.{begun_from, next_from, blocks_from}
+use Rattle.jpeg_meaning.specs.Order.{Spot}
+use Rattle.jpeg_meaning.specs.InTurn.{Reached, turn_from, at_start, restart_from, Counted}
+use Rattle.jpeg_meaning.specs.InTurn.{begun_from, next_from, blocks_from}
 use Rattle.std.proofs.lemmas.Grind.{common_steps}
 
 -- ---- between blocks

@@ -6,13 +6,13 @@ use Rattle.std.specs.List.{range_with_len, flat_map}
 use Rattle.std.proofs.lemmas.List.{drop_all}
 use Rattle.jpeg_decoder.proofs.ReadLists.{dropped}
 use Rattle.jpeg_segments.specs.Frame.{Component}
-use Rattle.jpeg_streams.specs.declared.grids.Grid.{Grid}
-use Rattle.jpeg_streams.specs.Order.{Spot, part_spot, part_spots, mcu_spots, all_spots, own_spots}
+use Rattle.jpeg_meaning.specs.declared.grids.Grid.{Grid}
+use Rattle.jpeg_meaning.specs.Order.{Spot, part_spot, part_spots, mcu_spots, all_spots, own_spots}
 use Rattle.jpeg_segments.specs.FrameView.{component_in}
 use Rattle.jpeg_decoder.specs.declared.scan.coded.Coded.{Coded}
 use Rattle.jpeg_decoder.specs.declared.scan.spots.Member.{Member}
 use Rattle.jpeg_decoder.specs.Steps.{coding_in}
-use Rattle.jpeg_streams.specs.ScanSegments.{components_of}
+use Rattle.jpeg_meaning.specs.ScanSegments.{components_of}
 use Rattle.jpeg_decoder.specs.Walk.{spot_at, mcu_at, spots_at, raster, positions_of, member_of}
 use Rattle.jpeg_decoder.specs.Walk.{line_members, part_members, members_from, own_member}
 use Rattle.std.proofs.lemmas.Grind.{common_steps}

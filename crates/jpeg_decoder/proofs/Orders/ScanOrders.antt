@@ -7,12 +7,12 @@ use Rattle.std.proofs.lemmas.List.Sums.{sum_by-cons}
 use Rattle.std.specs.Prelude.{sum_by}
 use Rattle.std.specs.List.{AllByRecursion, range_with_len, flat_map}
 use Rattle.jpeg_segments.specs.Frame.{Frame, Component}
-use Rattle.jpeg_streams.specs.Order.{Spot, grid_of, mcu_size, own_spots, spots_of}
-use Rattle.jpeg_streams.specs.InTurn.{Fits}
-use Rattle.jpeg_streams.specs.McuRows.{mcu_row, rows_of}
-use Rattle.jpeg_streams.proofs.Order.CountedScans.{some-product}
+use Rattle.jpeg_meaning.specs.Order.{Spot, grid_of, mcu_size, own_spots, spots_of}
+use Rattle.jpeg_meaning.specs.InTurn.{Fits}
+use Rattle.jpeg_meaning.specs.McuRows.{mcu_row, rows_of}
+use Rattle.jpeg_meaning.proofs.Order.CountedScans.{some-product}
 use Rattle.jpeg_decoder.specs.declared.scan.order.ScanOrder.{ScanOrder}
-use Rattle.jpeg_streams.specs.ScanSegments.{Coding, components_of}
+use Rattle.jpeg_meaning.specs.ScanSegments.{Coding, components_of}
 use Rattle.jpeg_decoder.specs.declared.scan.spots.Member.{Member}
 use Rattle.jpeg_decoder.specs.Walk.{IsOrderOf, walks_of_rows, spots_at, raster, members_from}
 use Rattle.jpeg_decoder.specs.Walk.{line_members, own_member}

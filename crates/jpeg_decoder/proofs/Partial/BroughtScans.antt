@@ -15,18 +15,18 @@ use Rattle.jpeg_segments.specs.Frame.{Frame}
 use Rattle.jpeg_segments.specs.ScanHeader.{Scan, sos_at}
 use Rattle.jpeg_segments.specs.declared.frame.CodingProcess.{CodingProcess}
 use Rattle.jpeg_segments.specs.declared.frame.CodingProcess.TheVariants.{Lossless}
-use Rattle.jpeg_streams.specs.Brought.{BlocksTo, Brought, after_interval, after_intervals, blocks_brought}
-use Rattle.jpeg_streams.specs.Brought.{blocks_brought_by, brought_by, frame_and_scan, has_whole_rows, interval_reached}
-use Rattle.jpeg_streams.specs.Brought.{interval_rows_reached, intervals_reached, or_first, samples_brought}
-use Rattle.jpeg_streams.specs.Brought.{samples_brought_by, scan_brought, scan_rows_reached, stopped, unbrought}
-use Rattle.jpeg_streams.specs.Found.{Found}
-use Rattle.jpeg_streams.specs.LosslessScans.{LosslessCoding, lossless_codings}
-use Rattle.jpeg_streams.specs.Order.{Spot}
-use Rattle.jpeg_streams.specs.Scans.{Arrays}
-use Rattle.jpeg_streams.specs.ScanSegments.{codings_of}
-use Rattle.jpeg_streams.proofs.Partial.RowIntervals.{Scanned}
-use Rattle.jpeg_streams.proofs.Shorter.{LeavesBelow, below-at, intervals-below, sos-below}
-use Rattle.jpeg_streams.proofs.Written.ReadTurns.{bind-ok, ok-same}
+use Rattle.jpeg_meaning.specs.Brought.{BlocksTo, Brought, after_interval, after_intervals, blocks_brought}
+use Rattle.jpeg_meaning.specs.Brought.{blocks_brought_by, brought_by, frame_and_scan, has_whole_rows, interval_reached}
+use Rattle.jpeg_meaning.specs.Brought.{interval_rows_reached, intervals_reached, or_first, samples_brought}
+use Rattle.jpeg_meaning.specs.Brought.{samples_brought_by, scan_brought, scan_rows_reached, stopped, unbrought}
+use Rattle.jpeg_meaning.specs.Found.{Found}
+use Rattle.jpeg_meaning.specs.LosslessScans.{LosslessCoding, lossless_codings}
+use Rattle.jpeg_meaning.specs.Order.{Spot}
+use Rattle.jpeg_meaning.specs.Scans.{Arrays}
+use Rattle.jpeg_meaning.specs.ScanSegments.{codings_of}
+use Rattle.jpeg_meaning.proofs.Partial.RowIntervals.{Scanned}
+use Rattle.jpeg_meaning.proofs.Shorter.{LeavesBelow, below-at, intervals-below, sos-below}
+use Rattle.jpeg_meaning.proofs.Written.ReadTurns.{bind-ok, ok-same}
 use Rattle.jpeg_decoder.proofs.Segments.LeftBytes.{LeavesMet, Lowers, On, met-lowers, on-elim, on-err, passes-leaves}
 use Rattle.jpeg_decoder.proofs.Segments.PassedRestarts.{after-passes}
 

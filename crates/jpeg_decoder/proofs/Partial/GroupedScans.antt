@@ -14,12 +14,12 @@ use Rattle.jpeg_bits.specs.declared.marker.Marker.TheVariants as markers
 use Rattle.jpeg_bits.proofs.BufferedBits.{may_fail_format}
 use Rattle.jpeg_bits.proofs.Loops.{Continues-answers, Continues-err, still_known}
 use Rattle.jpeg_bits.proofs.ReadIntervals.{all-drop}
-use Rattle.jpeg_streams.proofs.Partial.ReachedIntervals.{next_reached}
-use Rattle.jpeg_streams.specs.Brought.{BlocksTo, after_interval, after_intervals, interval_reached}
-use Rattle.jpeg_streams.specs.Brought.{intervals_reached, or_first}
-use Rattle.jpeg_streams.specs.Order.{Spot}
-use Rattle.jpeg_streams.specs.Scans.{Arrays}
-use Rattle.jpeg_streams.specs.States.{OnTold}
+use Rattle.jpeg_meaning.proofs.Partial.ReachedIntervals.{next_reached}
+use Rattle.jpeg_meaning.specs.Brought.{BlocksTo, after_interval, after_intervals, interval_reached}
+use Rattle.jpeg_meaning.specs.Brought.{intervals_reached, or_first}
+use Rattle.jpeg_meaning.specs.Order.{Spot}
+use Rattle.jpeg_meaning.specs.Scans.{Arrays}
+use Rattle.jpeg_meaning.specs.States.{OnTold}
 use Rattle.jpeg_decoder.specs.Reaching.{after_group}
 use Rattle.jpeg_decoder.specs.Steps.{after_all}
 use Rattle.jpeg_decoder.proofs.Partial.Refused.{if-refused-as, refused-at, refused-by}

@@ -20,13 +20,13 @@ use Rattle.jpeg_bits.proofs.Loops.{Names-through}
 use Rattle.jpeg_bits.proofs.TakenTexts.{Taken, TakesBits}
 use Rattle.jpeg_bits.proofs.TakenTexts.Taken.{gave, failed}
 use Rattle.jpeg_bits.proofs.WideTokens.{advanced}
-use Rattle.jpeg_streams.proofs.Partial.ReachedIntervals.{after_turn, turn-takes}
-use Rattle.jpeg_streams.proofs.Refusals.{told-err}
-use Rattle.jpeg_streams.specs.Brought.{BlocksTo, Through, interval_reached, or_first, reached_from, stopped}
-use Rattle.jpeg_streams.specs.InTurn.{Reached, at_start, turn_from}
-use Rattle.jpeg_streams.specs.Order.{Spot}
-use Rattle.jpeg_streams.specs.Scans.{Arrays}
-use Rattle.jpeg_streams.specs.States.{OnTold}
+use Rattle.jpeg_meaning.proofs.Partial.ReachedIntervals.{after_turn, turn-takes}
+use Rattle.jpeg_meaning.proofs.Refusals.{told-err}
+use Rattle.jpeg_meaning.specs.Brought.{BlocksTo, Through, interval_reached, or_first, reached_from, stopped}
+use Rattle.jpeg_meaning.specs.InTurn.{Reached, at_start, turn_from}
+use Rattle.jpeg_meaning.specs.Order.{Spot}
+use Rattle.jpeg_meaning.specs.Scans.{Arrays}
+use Rattle.jpeg_meaning.specs.States.{OnTold}
 use Rattle.jpeg_decoder.specs.Reaching.{TellsBits}
 use Rattle.jpeg_decoder.specs.Scanning.{arrays_in, blocks_in}
 use Rattle.jpeg_decoder.specs.Walk.{NextSpot}

@@ -12,16 +12,16 @@ use Rattle.jpeg_bits.specs.Reading.{Answers, Outcome}
 use Rattle.jpeg_bits.specs.declared.error.Error.{Error}
 use Rattle.jpeg_bits.specs.declared.marker.Marker.{Marker}
 use Rattle.jpeg_segments.specs.Frame.{Frame}
-use Rattle.jpeg_streams.specs.Brought.{BlocksTo, scan_reached}
-use Rattle.jpeg_streams.specs.Found.{Found}
-use Rattle.jpeg_streams.specs.InTurn.{AreArrays}
-use Rattle.jpeg_streams.specs.Order.{spots_of, mcu_size}
-use Rattle.jpeg_streams.specs.Scans.{Arrays}
-use Rattle.jpeg_streams.specs.ScanSegments.{arrays_before, blocks_after, components_of, is_progressive}
-use Rattle.jpeg_streams.specs.ScanSegments.{once_scanned, put_arrays, vias_from, with_arrays, Coding}
-use Rattle.jpeg_streams.specs.WholeRows.{rows_above}
-use Rattle.jpeg_streams.proofs.Order.Apart.{zeros-sized}
-use Rattle.jpeg_streams.proofs.Order.McuRows.{arrays-sized, kept-sized}
+use Rattle.jpeg_meaning.specs.Brought.{BlocksTo, scan_reached}
+use Rattle.jpeg_meaning.specs.Found.{Found}
+use Rattle.jpeg_meaning.specs.InTurn.{AreArrays}
+use Rattle.jpeg_meaning.specs.Order.{spots_of, mcu_size}
+use Rattle.jpeg_meaning.specs.Scans.{Arrays}
+use Rattle.jpeg_meaning.specs.ScanSegments.{arrays_before, blocks_after, components_of, is_progressive}
+use Rattle.jpeg_meaning.specs.ScanSegments.{once_scanned, put_arrays, vias_from, with_arrays, Coding}
+use Rattle.jpeg_meaning.specs.WholeRows.{rows_above}
+use Rattle.jpeg_meaning.proofs.Order.Apart.{zeros-sized}
+use Rattle.jpeg_meaning.proofs.Order.McuRows.{arrays-sized, kept-sized}
 use Rattle.jpeg_decoder.specs.declared.scan.coded.Coded.{Coded}
 use Rattle.jpeg_decoder.specs.declared.scan.decoded.Decoded.{Decoded}
 use Rattle.jpeg_decoder.specs.PlanesView.{planes_in}

@@ -17,21 +17,21 @@ use Rattle.jpeg_segments.specs.declared.frame.CodingProcess.{CodingProcess}
 use Rattle.jpeg_segments.specs.declared.frame.CodingProcess.TheVariants.{DctProgressive}
 use Rattle.jpeg_segments.specs.declared.frame.CodingProcess.TheVariants.{DctSequential, Lossless}
 use Rattle.jpeg_segments.specs.Checks.{needed}
-use Rattle.jpeg_streams.specs.Brought.{blocks_brought, blocks_brought_by, brought_by, has_whole_rows}
-use Rattle.jpeg_streams.specs.Brought.{samples_brought, samples_brought_by, scan_brought, unbrought, Brought}
-use Rattle.jpeg_streams.specs.Found.{Found, Said}
-use Rattle.jpeg_streams.specs.LosslessScans.{LosslessCoding, lossless_codings}
-use Rattle.jpeg_streams.specs.declared.before.Before.{Before}
-use Rattle.jpeg_streams.specs.Stream.{scan_turn_at, scan_within, told_of}
-use Rattle.jpeg_streams.specs.Work.{is_above, work_of_header}
+use Rattle.jpeg_meaning.specs.Brought.{blocks_brought, blocks_brought_by, brought_by, has_whole_rows}
+use Rattle.jpeg_meaning.specs.Brought.{samples_brought, samples_brought_by, scan_brought, unbrought, Brought}
+use Rattle.jpeg_meaning.specs.Found.{Found, Said}
+use Rattle.jpeg_meaning.specs.LosslessScans.{LosslessCoding, lossless_codings}
+use Rattle.jpeg_meaning.specs.declared.before.Before.{Before}
+use Rattle.jpeg_meaning.specs.Stream.{scan_turn_at, scan_within, told_of}
+use Rattle.jpeg_meaning.specs.Work.{is_above, work_of_header}
 use Rattle.jpeg_bits.specs.declared.beyond.Beyond.TheVariants.{Nothing}
-use Rattle.jpeg_streams.specs.ScanSegments.{scan_turn as turn_of_scan, codings_of, Coding, pass_of}
-use Rattle.jpeg_streams.specs.ScanSegments.{after_scan, once_scanned, scan_before}
-use Rattle.jpeg_streams.specs.InTurn.{AreArrays}
-use Rattle.jpeg_streams.specs.Sound.{ArePlanes, IsSound}
-use Rattle.jpeg_streams.specs.Segments.{Turn}
-use Rattle.jpeg_streams.proofs.Refusals.{told-err}
-use Rattle.jpeg_streams.specs.States.{IfRefused, OnTold, OnToldRefusal}
+use Rattle.jpeg_meaning.specs.ScanSegments.{scan_turn as turn_of_scan, codings_of, Coding, pass_of}
+use Rattle.jpeg_meaning.specs.ScanSegments.{after_scan, once_scanned, scan_before}
+use Rattle.jpeg_meaning.specs.InTurn.{AreArrays}
+use Rattle.jpeg_meaning.specs.Sound.{ArePlanes, IsSound}
+use Rattle.jpeg_meaning.specs.Segments.{Turn}
+use Rattle.jpeg_meaning.proofs.Refusals.{told-err}
+use Rattle.jpeg_meaning.specs.States.{IfRefused, OnTold, OnToldRefusal}
 use Rattle.jpeg_decoder.specs.declared.stream.state.Step.{Step}
 use Rattle.jpeg_decoder.specs.Reaching.{data_reached, sample_codings, samples_reached, whole_codings, DataBrought, IsEndOf}
 use Rattle.jpeg_decoder.specs.Reaching.{UnlessRefused, brought_after, rows_after}

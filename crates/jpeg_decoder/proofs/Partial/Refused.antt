@@ -5,10 +5,10 @@ use Rattle.jpeg_bits.specs.Reading.{Fault, Names}
 use Rattle.jpeg_bits.specs.Stream.{Stream}
 use Rattle.jpeg_bits.specs.declared.error.Error.{Error}
 use Rattle.jpeg_bits.specs.declared.error.Error.TheVariants as errors
-use Rattle.jpeg_streams.specs.Found.{Found}
-use Rattle.jpeg_streams.specs.Sound.{IsSound}
-use Rattle.jpeg_streams.specs.States.{IfRefused, OnTold, OnToldRefusal}
-use Rattle.jpeg_streams.proofs.Soundness.{sound_kept}
+use Rattle.jpeg_meaning.specs.Found.{Found}
+use Rattle.jpeg_meaning.specs.Sound.{IsSound}
+use Rattle.jpeg_meaning.specs.States.{IfRefused, OnTold, OnToldRefusal}
+use Rattle.jpeg_meaning.proofs.Soundness.{sound_kept}
 use Rattle.jpeg_decoder.specs.Reaching.{OnFault, UnlessRefused, without_tables}
 
 -- ---- a refusal

@@ -17,9 +17,9 @@ use Rattle.jpeg_lossless.specs.Rows.{planes_after_rows, with_all_rows, with_mcu_
 use Rattle.jpeg_lossless.specs.RowsReached.{rows_reached}
 use Rattle.jpeg_lossless.specs.Scans.{Way, scan_tables}
 use Rattle.jpeg_lossless.proofs.WholeScans.{difference-takes}
-use Rattle.jpeg_streams.specs.Brought.{after_interval, interval_rows_reached, scan_rows_reached, stopped}
-use Rattle.jpeg_streams.specs.States.{IfRefused}
-use Rattle.jpeg_streams.proofs.Partial.RowIntervals.{next_reached}
+use Rattle.jpeg_meaning.specs.Brought.{after_interval, interval_rows_reached, scan_rows_reached, stopped}
+use Rattle.jpeg_meaning.specs.States.{IfRefused}
+use Rattle.jpeg_meaning.proofs.Partial.RowIntervals.{next_reached}
 use Rattle.jpeg_decoder.specs.Reaching.{after_group, rows_appended}
 use Rattle.jpeg_decoder.proofs.Partial.GroupedScans.{Loop, Reaches, goes_by, left_groups, others-left}
 

@@ -11,9 +11,9 @@ use Rattle.jpeg_segments.specs.Frame.{Component, Frame, most_down}
 use Rattle.jpeg_segments.specs.FrameView.{component_in}
 use Rattle.jpeg_pixels.specs.Pictures.{is_blended}
 use Rattle.jpeg_segments.proofs.FrameLemmas.{greatest-some}
-use Rattle.jpeg_streams.specs.WholeRows.{rows_above_line, rows_of_lines}
+use Rattle.jpeg_meaning.specs.WholeRows.{rows_above_line, rows_of_lines}
 use Rattle.jpeg_decoder.specs.declared.scan.coded.Coded.{Coded}
-use Rattle.jpeg_streams.specs.ScanSegments.{Coding, components_of}
+use Rattle.jpeg_meaning.specs.ScanSegments.{Coding, components_of}
 use Rattle.jpeg_decoder.specs.Steps.{coding_in}
 
 -- A number of lines that is cut off makes as many rows as the height, where that is small enough.

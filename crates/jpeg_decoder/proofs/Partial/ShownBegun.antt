@@ -6,16 +6,16 @@ use Rattle.jpeg_bits.specs.Reading.{Fault}
 use Rattle.jpeg_bits.specs.Stream.{Stream}
 use Rattle.jpeg_bits.specs.declared.error.Error.{Error}
 use Rattle.jpeg_bits.proofs.Loops.{Names-through}
-use Rattle.jpeg_streams.specs.Found.{Found}
-use Rattle.jpeg_streams.specs.Limits.{exceeded_ahead, exceeded_rest}
-use Rattle.jpeg_streams.specs.Shown.{Shown, shown_ahead, shown_rest_within, shown_within, whole_rows_ahead, whole_rows_rest}
-use Rattle.jpeg_streams.specs.States.{Decoding, IsReading, MovesToEnd, OnToldRefusal}
-use Rattle.jpeg_streams.specs.Stream.{Told, header_at, told_of}
+use Rattle.jpeg_meaning.specs.Found.{Found}
+use Rattle.jpeg_meaning.specs.Limits.{exceeded_ahead, exceeded_rest}
+use Rattle.jpeg_meaning.specs.Shown.{Shown, shown_ahead, shown_rest_within, shown_within, whole_rows_ahead, whole_rows_rest}
+use Rattle.jpeg_meaning.specs.States.{Decoding, IsReading, MovesToEnd, OnToldRefusal}
+use Rattle.jpeg_meaning.specs.Stream.{Told, header_at, told_of}
 use Rattle.jpeg_bits.specs.declared.beyond.Beyond.TheVariants.{Nothing}
-use Rattle.jpeg_streams.specs.declared.progress.Progress.{Progress}
-use Rattle.jpeg_streams.specs.declared.progress.Progress.TheVariants.{Fresh, HeaderRead}
-use Rattle.jpeg_streams.specs.declared.settings.Settings.{Settings}
-use Rattle.jpeg_streams.proofs.Refusals.{told-err}
+use Rattle.jpeg_meaning.specs.declared.progress.Progress.{Progress}
+use Rattle.jpeg_meaning.specs.declared.progress.Progress.TheVariants.{Fresh, HeaderRead}
+use Rattle.jpeg_meaning.specs.declared.settings.Settings.{Settings}
+use Rattle.jpeg_meaning.proofs.Refusals.{told-err}
 use Rattle.jpeg_decoder.specs.Shows.{CountsRows, GivesUp, IsShown, Knows, Shows, ShowsJust, told_shown_ahead, told_shown_rest}
 use Rattle.jpeg_decoder.proofs.Partial.Refused.{unless-so}
 use Rattle.jpeg_decoder.proofs.Partial.ShownFaults.{refused-given}

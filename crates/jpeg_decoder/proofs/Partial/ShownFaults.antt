@@ -16,14 +16,14 @@ use Rattle.jpeg_segments.specs.Checks.{needed}
 use Rattle.jpeg_segments.specs.Frame.{Component, Frame}
 use Rattle.jpeg_segments.specs.declared.frame.CodingProcess.{CodingProcess}
 use Rattle.jpeg_segments.specs.declared.frame.CodingProcess.TheVariants.{DctProgressive, DctSequential, Lossless}
-use Rattle.jpeg_streams.specs.Found.{Found}
-use Rattle.jpeg_streams.specs.FoundPictures.{blocks_picture, limited, picture_by_process, picture_of, plane_at_end}
-use Rattle.jpeg_streams.specs.FoundPictures.{samples_picture}
-use Rattle.jpeg_streams.specs.Shown.{Shown, completed, fault_in, fault_shown, framed_or, picture_shown, planes_by}
-use Rattle.jpeg_streams.specs.Shown.{shown_by, shown_of, shown_rest_within, with_plane_shown, with_samples_shown}
-use Rattle.jpeg_streams.specs.States.{IfRefused, IsOfBytes, OnTold}
-use Rattle.jpeg_streams.specs.Stream.{Told, Walked, all_brought, told_of}
-use Rattle.jpeg_streams.specs.declared.settings.Settings.{Settings}
+use Rattle.jpeg_meaning.specs.Found.{Found}
+use Rattle.jpeg_meaning.specs.FoundPictures.{blocks_picture, limited, picture_by_process, picture_of, plane_at_end}
+use Rattle.jpeg_meaning.specs.FoundPictures.{samples_picture}
+use Rattle.jpeg_meaning.specs.Shown.{Shown, completed, fault_in, fault_shown, framed_or, picture_shown, planes_by}
+use Rattle.jpeg_meaning.specs.Shown.{shown_by, shown_of, shown_rest_within, with_plane_shown, with_samples_shown}
+use Rattle.jpeg_meaning.specs.States.{IfRefused, IsOfBytes, OnTold}
+use Rattle.jpeg_meaning.specs.Stream.{Told, Walked, all_brought, told_of}
+use Rattle.jpeg_meaning.specs.declared.settings.Settings.{Settings}
 use Rattle.jpeg_decoder.specs.Reaching.{NamesFault, UnlessRefused, is_out_of_memory, walk_end, without_tables}
 use Rattle.jpeg_decoder.specs.Walks.{walked_to}
 use Rattle.jpeg_decoder.proofs.Partial.Refused.{if-there}

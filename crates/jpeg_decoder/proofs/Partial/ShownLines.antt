@@ -2,8 +2,8 @@
 use Rattle.std.proofs.Common.{◌≡◌, ℕ, List, Option, Ok, Err, subst, sym}
 use Rattle.jpeg_bits.specs.declared.error.Error.{Error}
 use Rattle.jpeg_bits.specs.declared.error.Error.TheVariants as errors
-use Rattle.jpeg_streams.specs.States.{Decoding}
-use Rattle.jpeg_streams.specs.declared.progress.Progress.TheVariants.{Failed}
+use Rattle.jpeg_meaning.specs.States.{Decoding}
+use Rattle.jpeg_meaning.specs.declared.progress.Progress.TheVariants.{Failed}
 use Rattle.jpeg_decoder.specs.Shows.{Shows}
 use Rattle.jpeg_decoder.proofs.Pictures.DecodedLines.{lost-stage}
 

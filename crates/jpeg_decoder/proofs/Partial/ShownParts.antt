@@ -17,18 +17,18 @@ use Rattle.jpeg_segments.specs.Checks.{gathered, needed}
 use Rattle.jpeg_segments.specs.Frame.{Component, Frame}
 use Rattle.jpeg_segments.specs.declared.frame.CodingProcess.{CodingProcess}
 use Rattle.jpeg_segments.specs.declared.frame.CodingProcess.TheVariants.{DctProgressive, DctSequential, Lossless}
-use Rattle.jpeg_streams.specs.Found.{Found}
-use Rattle.jpeg_streams.specs.FoundPictures.{plane_at_end}
-use Rattle.jpeg_streams.specs.Rasters.{plane_by}
-use Rattle.jpeg_streams.specs.ScanSegments.{arrays_before, decided}
-use Rattle.jpeg_streams.specs.Shown.{blocks_held, completed, planes_by, shown_by, table_held, with_plane_shown}
-use Rattle.jpeg_streams.specs.Shown.{fault_in, with_samples_shown}
-use Rattle.jpeg_streams.specs.Sound.{ArePlanes, AreSampled, IsDecodedFrame, IsPlaneOf, IsSampled, IsSound}
+use Rattle.jpeg_meaning.specs.Found.{Found}
+use Rattle.jpeg_meaning.specs.FoundPictures.{plane_at_end}
+use Rattle.jpeg_meaning.specs.Rasters.{plane_by}
+use Rattle.jpeg_meaning.specs.ScanSegments.{arrays_before, decided}
+use Rattle.jpeg_meaning.specs.Shown.{blocks_held, completed, planes_by, shown_by, table_held, with_plane_shown}
+use Rattle.jpeg_meaning.specs.Shown.{fault_in, with_samples_shown}
+use Rattle.jpeg_meaning.specs.Sound.{ArePlanes, AreSampled, IsDecodedFrame, IsPlaneOf, IsSampled, IsSound}
 use Rattle.jpeg_pixels.specs.Scaled.{IsScale}
-use Rattle.jpeg_streams.specs.EndPlanes.{AreBlocksOf, blocks_if, is_kept, plane_or}
-use Rattle.jpeg_streams.specs.Scans.{Arrays}
+use Rattle.jpeg_meaning.specs.EndPlanes.{AreBlocksOf, blocks_if, is_kept, plane_or}
+use Rattle.jpeg_meaning.specs.Scans.{Arrays}
 use Rattle.jpeg_segments.specs.Scales.{frame_at}
-use Rattle.jpeg_streams.proofs.Soundness.{accepted-precision}
+use Rattle.jpeg_meaning.proofs.Soundness.{accepted-precision}
 use Rattle.jpeg_decoder.specs.PlanesView.{planes_in}
 use Rattle.jpeg_decoder.specs.Reaching.{NamesFault}
 use Rattle.jpeg_decoder.specs.Scanning.{blocks_in}

@@ -6,10 +6,10 @@ use Rattle.jpeg_bits.specs.Reading.{Fault}
 use Rattle.jpeg_bits.specs.Stream.{Stream}
 use Rattle.jpeg_bits.specs.declared.error.Error.{Error}
 use Rattle.jpeg_segments.specs.Frame.{Frame}
-use Rattle.jpeg_streams.specs.Found.{Found}
-use Rattle.jpeg_streams.specs.Shown.{fault_in, planes_by, rows_of_found, rows_of_frame, whole_rows_rest}
-use Rattle.jpeg_streams.specs.States.{OnTold}
-use Rattle.jpeg_streams.specs.Stream.{all_brought}
+use Rattle.jpeg_meaning.specs.Found.{Found}
+use Rattle.jpeg_meaning.specs.Shown.{fault_in, planes_by, rows_of_found, rows_of_frame, whole_rows_rest}
+use Rattle.jpeg_meaning.specs.States.{OnTold}
+use Rattle.jpeg_meaning.specs.Stream.{all_brought}
 use Rattle.jpeg_decoder.specs.Reaching.{NamesFault, is_out_of_memory, without_tables}
 use Rattle.jpeg_decoder.specs.Shows.{CountsRows}
 use Rattle.jpeg_decoder.proofs.Partial.ShownFaults.{planes-tables, told-holds}

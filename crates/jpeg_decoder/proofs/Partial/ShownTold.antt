@@ -2,9 +2,9 @@
 use Rattle.std.proofs.Common.{◌≡◌, ◌∙◌, ℕ, Option, Result, Ok, Err, ap, false, true}
 use Rattle.jpeg_bits.specs.Stream.{Stream}
 use Rattle.jpeg_bits.specs.declared.error.Error.{Error}
-use Rattle.jpeg_streams.specs.Found.{Found}
-use Rattle.jpeg_streams.specs.States.{OnTold, OnToldRefusal}
-use Rattle.jpeg_streams.specs.Stream.{Told, all_brought, told_of}
+use Rattle.jpeg_meaning.specs.Found.{Found}
+use Rattle.jpeg_meaning.specs.States.{OnTold, OnToldRefusal}
+use Rattle.jpeg_meaning.specs.Stream.{Told, all_brought, told_of}
 use Rattle.jpeg_decoder.specs.Reaching.{is_out_of_memory, without_tables}
 use Rattle.jpeg_decoder.specs.Shows.{told_shown_rest}
 use Rattle.jpeg_decoder.proofs.Partial.Refused.{if-refused}

@@ -12,7 +12,7 @@ use Rattle.jpeg_bits.proofs.Loops.{Continues-answers, Names-through}
 use Rattle.jpeg_bits.proofs.TakenTexts.{Taken, TakesBits}
 use Rattle.jpeg_bits.proofs.TakenTexts.Taken.{gave, failed}
 use Rattle.jpeg_segments.proofs.Codecs.{err-ok, ok-same}
-use Rattle.jpeg_streams.specs.Brought.{stopped}
+use Rattle.jpeg_meaning.specs.Brought.{stopped}
 use Rattle.jpeg_decoder.specs.Reaching.{TellsBits}
 
 -- What a reader leaves of a text is its end.

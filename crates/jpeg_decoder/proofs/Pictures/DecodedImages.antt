@@ -6,24 +6,24 @@ use Rattle.jpeg_bits.specs.Reading.{Outcome, Fault, Answers, ◌>>=◌}
 use Rattle.jpeg_bits.specs.Stream.{Stream}
 use Rattle.jpeg_bits.specs.declared.error.Error.{Error}
 use Rattle.jpeg_segments.specs.declared.scale.Scale.{Scale}
-use Rattle.jpeg_streams.specs.ArrayPictures.{meaning_of_array}
-use Rattle.jpeg_streams.specs.DecodedImages.{AtLeast, AtScale, DecodesImages, FailsOutside, FullSize}
-use Rattle.jpeg_streams.specs.DecodedImages.{GivesPicture, HasLeft, Size, at_size}
-use Rattle.jpeg_streams.specs.Levels.{Is8Bit, Levels}
-use Rattle.jpeg_streams.specs.declared.progress.Progress.{Progress}
-use Rattle.jpeg_streams.specs.States.{Decoding, IsReading, ahead}
-use Rattle.jpeg_streams.specs.Limits.{IsWithinLimit, work_ahead}
-use Rattle.jpeg_streams.specs.declared.progress.Progress.TheVariants.{Fresh}
-use Rattle.jpeg_streams.proofs.Limits.{meaning-same, rest-same}
-use Rattle.jpeg_streams.specs.Stream.{Told, header_at, meaning, rest_at, scaled_meaning, sized_meaning, told_of}
-use Rattle.jpeg_streams.specs.Found.{Found, with_said, Said}
-use Rattle.jpeg_streams.specs.WrittenImages.{WritesImage}
-use Rattle.jpeg_streams.specs.WrittenScans.{Coefficients}
-use Rattle.jpeg_streams.specs.declared.settings.Settings.{Settings}
-use Rattle.jpeg_streams.proofs.Written.ReadTurns.{err-ok, ok-same, then-ok}
+use Rattle.jpeg_meaning.specs.ArrayPictures.{meaning_of_array}
+use Rattle.jpeg_meaning.specs.DecodedImages.{AtLeast, AtScale, DecodesImages, FailsOutside, FullSize}
+use Rattle.jpeg_meaning.specs.DecodedImages.{GivesPicture, HasLeft, Size, at_size}
+use Rattle.jpeg_meaning.specs.Levels.{Is8Bit, Levels}
+use Rattle.jpeg_meaning.specs.declared.progress.Progress.{Progress}
+use Rattle.jpeg_meaning.specs.States.{Decoding, IsReading, ahead}
+use Rattle.jpeg_meaning.specs.Limits.{IsWithinLimit, work_ahead}
+use Rattle.jpeg_meaning.specs.declared.progress.Progress.TheVariants.{Fresh}
+use Rattle.jpeg_meaning.proofs.Limits.{meaning-same, rest-same}
+use Rattle.jpeg_meaning.specs.Stream.{Told, header_at, meaning, rest_at, scaled_meaning, sized_meaning, told_of}
+use Rattle.jpeg_meaning.specs.Found.{Found, with_said, Said}
+use Rattle.jpeg_meaning.specs.WrittenImages.{WritesImage}
+use Rattle.jpeg_meaning.specs.WrittenScans.{Coefficients}
+use Rattle.jpeg_meaning.specs.declared.settings.Settings.{Settings}
+use Rattle.jpeg_meaning.proofs.Written.ReadTurns.{err-ok, ok-same, then-ok}
 use Rattle.jpeg_decoder.proofs.Segments.HeaderThenRest.{header-means}
-use Rattle.jpeg_streams.proofs.Written.SizedStreams.{stream-means_scaled, stream-means_sized}
-use Rattle.jpeg_streams.proofs.Written.WrittenPictures.{stream-means}
+use Rattle.jpeg_meaning.proofs.Written.SizedStreams.{stream-means_scaled, stream-means_sized}
+use Rattle.jpeg_meaning.proofs.Written.WrittenPictures.{stream-means}
 use Rattle.std.proofs.lemmas.Grind.{common_steps}
 
 -- ---- what is left

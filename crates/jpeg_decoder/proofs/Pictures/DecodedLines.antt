@@ -7,18 +7,18 @@ use Rattle.jpeg_bits.specs.Reading.{Answers, MayFail, Names, Outcome}
 use Rattle.jpeg_bits.specs.Stream.{Stream}
 use Rattle.jpeg_bits.specs.declared.error.Error.{Error}
 use Rattle.jpeg_bits.specs.declared.error.Error.TheVariants as errors
-use Rattle.jpeg_streams.specs.declared.settings.Settings.{Settings}
-use Rattle.jpeg_streams.specs.Limits.{exceeded_ahead, exceeded_rest}
+use Rattle.jpeg_meaning.specs.declared.settings.Settings.{Settings}
+use Rattle.jpeg_meaning.specs.Limits.{exceeded_ahead, exceeded_rest}
 use Rattle.jpeg_bits.specs.declared.beyond.Beyond.TheVariants.{Zeros}
-use Rattle.jpeg_streams.specs.Reported.{IsOfTurns, told_in_turns}
-use Rattle.jpeg_streams.specs.declared.progress.Progress.{Progress}
-use Rattle.jpeg_streams.specs.declared.progress.Progress.TheVariants.{Failed, Finished, Fresh, HeaderRead}
-use Rattle.jpeg_streams.specs.Found.{Found, nothing_found}
-use Rattle.jpeg_streams.specs.Sound.{HasDecodedFrame, IsSound, IsUnread}
-use Rattle.jpeg_streams.specs.States.{HasHeader, IfRefused, IsInternal, IsReading, OnTold}
-use Rattle.jpeg_streams.specs.States.{Decoding, MovesToEnd, MovesToHeader, ahead, told_ahead, turns_ahead}
-use Rattle.jpeg_streams.specs.Stream.{Told, header_at, rest_within, told_of}
-use Rattle.jpeg_streams.proofs.Refusals.{told-err, told-through}
+use Rattle.jpeg_meaning.specs.Reported.{IsOfTurns, told_in_turns}
+use Rattle.jpeg_meaning.specs.declared.progress.Progress.{Progress}
+use Rattle.jpeg_meaning.specs.declared.progress.Progress.TheVariants.{Failed, Finished, Fresh, HeaderRead}
+use Rattle.jpeg_meaning.specs.Found.{Found, nothing_found}
+use Rattle.jpeg_meaning.specs.Sound.{HasDecodedFrame, IsSound, IsUnread}
+use Rattle.jpeg_meaning.specs.States.{HasHeader, IfRefused, IsInternal, IsReading, OnTold}
+use Rattle.jpeg_meaning.specs.States.{Decoding, MovesToEnd, MovesToHeader, ahead, told_ahead, turns_ahead}
+use Rattle.jpeg_meaning.specs.Stream.{Told, header_at, rest_within, told_of}
+use Rattle.jpeg_meaning.proofs.Refusals.{told-err, told-through}
 use Rattle.jpeg_decoder.specs.Decodes.{Decodes}
 use Rattle.jpeg_decoder.proofs.Pictures.DecodedImages.{decodes-images}
 use Rattle.jpeg_decoder.proofs.LosslessFrames.DecodedSamples.{decodes-samples}

@@ -17,13 +17,13 @@ use Rattle.std.proofs.lemmas.List.FromFn.{length-enumerate_from}
 use Rattle.jpeg_segments.specs.Scales.{component_at, frame_at}
 use Rattle.jpeg_pixels.specs.Pictures.{AreWhole}
 use Rattle.jpeg_pixels.specs.Scaled.{IsScale}
-use Rattle.jpeg_streams.specs.EndPlanes.{AreBlocksOf, blocks_if, is_kept, plane_or}
-use Rattle.jpeg_streams.specs.InTurn.{AreArrays}
-use Rattle.jpeg_streams.specs.Scans.{Arrays}
-use Rattle.jpeg_streams.specs.Sound.{ArePlanes, IsDecodedFrame, IsPlaneOf, IsSound}
-use Rattle.jpeg_streams.specs.FoundPictures.{plane_at_end}
-use Rattle.jpeg_streams.specs.ScanSegments.{arrays_before}
-use Rattle.jpeg_streams.specs.Found.{Found}
+use Rattle.jpeg_meaning.specs.EndPlanes.{AreBlocksOf, blocks_if, is_kept, plane_or}
+use Rattle.jpeg_meaning.specs.InTurn.{AreArrays}
+use Rattle.jpeg_meaning.specs.Scans.{Arrays}
+use Rattle.jpeg_meaning.specs.Sound.{ArePlanes, IsDecodedFrame, IsPlaneOf, IsSound}
+use Rattle.jpeg_meaning.specs.FoundPictures.{plane_at_end}
+use Rattle.jpeg_meaning.specs.ScanSegments.{arrays_before}
+use Rattle.jpeg_meaning.specs.Found.{Found}
 use Rattle.std.proofs.lemmas.Grind.{common_steps}
 
 -- ---- what is left after some indices

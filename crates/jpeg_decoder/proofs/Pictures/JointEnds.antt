@@ -9,12 +9,12 @@ use Rattle.jpeg_pixels.specs.declared.joint_planes.JointShape.{JointShape}
 use Rattle.std.specs.List.{enumerate_from}
 use Rattle.jpeg_segments.specs.Checks.{gathered}
 use Rattle.jpeg_segments.specs.Frame.{Component, Frame}
-use Rattle.jpeg_streams.proofs.Written.ReadTurns.{then-ok}
+use Rattle.jpeg_meaning.proofs.Written.ReadTurns.{then-ok}
 use Rattle.jpeg_decoder.proofs.Pictures.PicturesOfPlanes.{decoded-few}
-use Rattle.jpeg_streams.specs.Found.{Found}
-use Rattle.jpeg_streams.specs.FoundPictures.{blocks_picture, picture_by, plane_at_end}
-use Rattle.jpeg_streams.specs.Sound.{IsSound}
-use Rattle.jpeg_streams.specs.declared.settings.Settings.{Settings}
+use Rattle.jpeg_meaning.specs.Found.{Found}
+use Rattle.jpeg_meaning.specs.FoundPictures.{blocks_picture, picture_by, plane_at_end}
+use Rattle.jpeg_meaning.specs.Sound.{IsSound}
+use Rattle.jpeg_meaning.specs.declared.settings.Settings.{Settings}
 use Rattle.jpeg_decoder.specs.PlanesView.{or_joint}
 use Rattle.jpeg_decoder.proofs.Strips.JointDecided.{joint-count, or-at}
 

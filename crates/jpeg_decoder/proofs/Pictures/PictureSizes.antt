@@ -10,9 +10,9 @@ use Rattle.jpeg_decoder.specs.Bytes.{picture_size, samples_a_pixel}
 use Rattle.jpeg_segments.specs.declared.frame.CodingProcess.{CodingProcess}
 use Rattle.jpeg_segments.specs.declared.frame.CodingProcess.TheVariants.{DctProgressive, DctSequential}
 use Rattle.jpeg_segments.specs.declared.frame.CodingProcess.TheVariants.{Lossless}
-use Rattle.jpeg_streams.specs.declared.images.ImageInfo.{ImageInfo}
-use Rattle.jpeg_streams.specs.Pixels.{bytes_a_pixel, format_of, info_of}
-use Rattle.jpeg_streams.specs.Segments.{is_decoded_count, is_decoded_precision}
+use Rattle.jpeg_meaning.specs.declared.images.ImageInfo.{ImageInfo}
+use Rattle.jpeg_meaning.specs.Pixels.{bytes_a_pixel, format_of, info_of}
+use Rattle.jpeg_meaning.specs.Segments.{is_decoded_count, is_decoded_precision}
 use Rattle.std.specs.List.{AllByRecursion, concat}
 use Rattle.std.proofs.lemmas.Bool.{eqb-true}
 use Rattle.std.proofs.lemmas.List.{length-map}
@@ -24,15 +24,15 @@ use Rattle.jpeg_segments.specs.declared.frame.Component as declared
 use Rattle.jpeg_segments.specs.Scales.{frame_at}
 use Rattle.jpeg_segments.proofs.Ceilings.{ceiling-low}
 use Rattle.jpeg_lossless.specs.Pictures.{sample_size}
-use Rattle.jpeg_streams.specs.Found.{Found}
-use Rattle.jpeg_streams.specs.InTurn.{Fits}
-use Rattle.jpeg_streams.specs.Sound.{HasDecodedFrame, IsDecodedFrame}
-use Rattle.jpeg_streams.proofs.Written.BroughtLevels.{Made}
-use Rattle.jpeg_streams.proofs.Order.CountedScans.{some-product}
-use Rattle.jpeg_streams.proofs.Pictures.LosslessSizes.{ceiling-some}
-use Rattle.jpeg_streams.proofs.Order.OwnSpots.{At}
-use Rattle.jpeg_streams.proofs.Order.FrameShapes.{is-sized, one-made, scale-made}
-use Rattle.jpeg_streams.proofs.Soundness.{accepted-precision, decoded-count, decoded-fits, scale-bounds}
+use Rattle.jpeg_meaning.specs.Found.{Found}
+use Rattle.jpeg_meaning.specs.InTurn.{Fits}
+use Rattle.jpeg_meaning.specs.Sound.{HasDecodedFrame, IsDecodedFrame}
+use Rattle.jpeg_meaning.proofs.Written.BroughtLevels.{Made}
+use Rattle.jpeg_meaning.proofs.Order.CountedScans.{some-product}
+use Rattle.jpeg_meaning.proofs.Pictures.LosslessSizes.{ceiling-some}
+use Rattle.jpeg_meaning.proofs.Order.OwnSpots.{At}
+use Rattle.jpeg_meaning.proofs.Order.FrameShapes.{is-sized, one-made, scale-made}
+use Rattle.jpeg_meaning.proofs.Soundness.{accepted-precision, decoded-count, decoded-fits, scale-bounds}
 use Rattle.jpeg_decoder.proofs.Pictures.LinesTogether.{together-length}
 
 -- ---- frames of blocks

@@ -18,18 +18,18 @@ use Rattle.jpeg_pixels.specs.declared.color_convert.ColorConvert.{ColorConvert}
 use Rattle.jpeg_pixels.specs.Colour.{conversion_of}
 use Rattle.jpeg_pixels.specs.Pictures.{Source, AllCover, AreWhole, image_of, converted_picture}
 use Rattle.jpeg_pixels.specs.Pictures.{sources_of}
-use Rattle.jpeg_streams.specs.ColourChoice.{identifiers_of, transform_of}
-use Rattle.jpeg_streams.specs.Sound.{IsDecodedFrame}
+use Rattle.jpeg_meaning.specs.ColourChoice.{identifiers_of, transform_of}
+use Rattle.jpeg_meaning.specs.Sound.{IsDecodedFrame}
 use Rattle.jpeg_decoder.specs.Bytes.{AreLinesOf, HaveBytes, frame_shape}
 use Rattle.jpeg_decoder.specs.Steps.{IsRefusal, cropped_to}
-use Rattle.jpeg_streams.specs.FoundPictures.{picture_by}
-use Rattle.jpeg_streams.specs.Found.{Metadata}
-use Rattle.jpeg_streams.specs.declared.settings.Settings.{Settings}
+use Rattle.jpeg_meaning.specs.FoundPictures.{picture_by}
+use Rattle.jpeg_meaning.specs.Found.{Metadata}
+use Rattle.jpeg_meaning.specs.declared.settings.Settings.{Settings}
 use Rattle.std.proofs.lemmas.Bool.{eqb-true}
 use Rattle.jpeg_decoder.proofs.Pictures.EndedPlanes.{decoded-scales, element, mapped-or}
 use Rattle.jpeg_decoder.proofs.Pictures.PictureSizes.{one-lines}
 use Rattle.jpeg_lossless.proofs.RowLoops.{mapped-within}
-use Rattle.jpeg_streams.proofs.Soundness.{count-few, decoded-count, decoded-sized, decoded-sources}
+use Rattle.jpeg_meaning.proofs.Soundness.{count-few, decoded-count, decoded-sized, decoded-sources}
 use Rattle.std.proofs.lemmas.Grind.{common_steps}
 
 -- ---- counts

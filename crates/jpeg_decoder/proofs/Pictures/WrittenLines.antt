@@ -13,9 +13,9 @@ use borrow.Rule.Slice.PartMut.{put_mid}
 use Rattle.std.proofs.lemmas.Slice.{take-put_mid}
 use Rattle.jpeg_bits.specs.declared.error.Error.{Error}
 use Rattle.jpeg_bits.specs.declared.error.Error.TheVariants as errors
-use Rattle.jpeg_streams.specs.Output.{IsOutsideOrMemory, NamesOrOutside, TakesBeginning}
-use Rattle.jpeg_streams.specs.States.{IsOfBytes}
-use Rattle.jpeg_streams.proofs.Written.WriterLemmas.{TakesBeginning-after, TakesBeginning-front}
+use Rattle.jpeg_meaning.specs.Output.{IsOutsideOrMemory, NamesOrOutside, TakesBeginning}
+use Rattle.jpeg_meaning.specs.States.{IsOfBytes}
+use Rattle.jpeg_meaning.proofs.Written.WriterLemmas.{TakesBeginning-after, TakesBeginning-front}
 use Rattle.jpeg_decoder.proofs.Pictures.LinesTogether.{line-more}
 
 -- what is written in two parts

@@ -9,9 +9,9 @@ use Rattle.jpeg_bits.specs.Passes.{Block, Pass, zero_block}
 use Rattle.jpeg_bits.specs.Zigzag.{coefficients_in_zigzag}
 use Rattle.jpeg_segments.specs.Frame.{Component}
 use Rattle.jpeg_pixels.specs.Planes.{plane_of}
-use Rattle.jpeg_streams.specs.Scans.{zero_of, zero_arrays}
-use Rattle.jpeg_streams.specs.Rasters.{plane_by, plane_of_blocks}
-use Rattle.jpeg_streams.specs.ScanSegments.{finished_by}
+use Rattle.jpeg_meaning.specs.Scans.{zero_of, zero_arrays}
+use Rattle.jpeg_meaning.specs.Rasters.{plane_by, plane_of_blocks}
+use Rattle.jpeg_meaning.specs.ScanSegments.{finished_by}
 use Rattle.std.proofs.lemmas.Grind.{common_steps}
 
 -- ---- zeros

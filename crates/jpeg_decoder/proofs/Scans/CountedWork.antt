@@ -13,9 +13,9 @@ use Rattle.std.specs.Prelude.{sum_by}
 use Rattle.jpeg_segments.specs.declared.frame.CodingProcess.{CodingProcess}
 use Rattle.jpeg_segments.specs.declared.frame.CodingProcess.TheVariants.{Lossless}
 use Rattle.jpeg_segments.specs.Frame.{Component, Frame, ceiling}
-use Rattle.jpeg_streams.specs.Order.{grid_of, mcu_size, spots_of}
-use Rattle.jpeg_streams.specs.Work.{blocks_coded, components_at, samples_coded}
-use Rattle.jpeg_streams.proofs.Order.SpotCounts.{alone-spots, part_size, several-spots}
+use Rattle.jpeg_meaning.specs.Order.{grid_of, mcu_size, spots_of}
+use Rattle.jpeg_meaning.specs.Work.{blocks_coded, components_at, samples_coded}
+use Rattle.jpeg_meaning.proofs.Order.SpotCounts.{alone-spots, part_size, several-spots}
 use Rattle.jpeg_decoder.specs.LosslessParts.{mcus_high, mcus_wide, no_component}
 use Rattle.jpeg_decoder.specs.Steps.{IsDct}
 

@@ -3,7 +3,7 @@ use Rattle.std.proofs.Common.{◌≡◌, ℕ, Bool, true, false, List, Option, S
 use Rattle.std.proofs.lemmas.List.{set-get_or}
 use Rattle.std.specs.Prelude.{slice_set, slice_index_or}
 use Rattle.jpeg_bits.specs.Passes.{Pass}
-use Rattle.jpeg_streams.specs.Found.{Found}
+use Rattle.jpeg_meaning.specs.Found.{Found}
 use Rattle.jpeg_decoder.specs.Steps.{decided_planes, is_wanted, marks_after, with_its_plane}
 use Rattle.std.proofs.lemmas.Grind.{common_steps}
 

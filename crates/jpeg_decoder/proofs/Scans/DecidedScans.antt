@@ -12,13 +12,13 @@ use Rattle.jpeg_bits.specs.Readers.{Reads, read_on}
 use Rattle.jpeg_bits.specs.declared.marker.Marker.{Marker}
 use Rattle.jpeg_bits.specs.Passes.{Pass, Via}
 use Rattle.jpeg_segments.specs.Frame.{Frame, Component}
-use Rattle.jpeg_streams.specs.Found.{Found}
-use Rattle.jpeg_streams.specs.InTurn.{Counted, blocks_from}
-use Rattle.jpeg_streams.specs.McuRows.{on_arrays, zero_rows}
-use Rattle.jpeg_streams.specs.Order.{Spot}
-use Rattle.jpeg_streams.specs.ScanSegments.{Coding, components_of}
-use Rattle.jpeg_streams.proofs.Order.McuRows.{AreRows, KeepsCounted, blocks-any, rows-count, rows-kept}
-use Rattle.jpeg_streams.proofs.Order.McuRows.{zero-rows}
+use Rattle.jpeg_meaning.specs.Found.{Found}
+use Rattle.jpeg_meaning.specs.InTurn.{Counted, blocks_from}
+use Rattle.jpeg_meaning.specs.McuRows.{on_arrays, zero_rows}
+use Rattle.jpeg_meaning.specs.Order.{Spot}
+use Rattle.jpeg_meaning.specs.ScanSegments.{Coding, components_of}
+use Rattle.jpeg_meaning.proofs.Order.McuRows.{AreRows, KeepsCounted, blocks-any, rows-count, rows-kept}
+use Rattle.jpeg_meaning.proofs.Order.McuRows.{zero-rows}
 use Rattle.jpeg_decoder.specs.Steps.{coding_in, marks_after, with_its_plane, with_planes}
 use Rattle.jpeg_decoder.specs.Strips.{no_samples, planes_by_rows, strips_from, with_strips}
 use Rattle.jpeg_decoder.proofs.Scans.DecidedPlanes.{planes_kept}

@@ -8,13 +8,13 @@ use Rattle.jpeg_bits.specs.Stream.{Stream}
 use Rattle.jpeg_bits.specs.declared.error.Error.{Error}
 use Rattle.jpeg_segments.specs.Frame.{Frame}
 use Rattle.jpeg_segments.specs.ScanHeader.{Scan, sos_at}
-use Rattle.jpeg_streams.specs.Brought.{frame_and_scan}
-use Rattle.jpeg_streams.specs.Found.{Found}
-use Rattle.jpeg_streams.specs.Work.{is_above, work_of_header, work_of_scan}
+use Rattle.jpeg_meaning.specs.Brought.{frame_and_scan}
+use Rattle.jpeg_meaning.specs.Found.{Found}
+use Rattle.jpeg_meaning.specs.Work.{is_above, work_of_header, work_of_scan}
 use Rattle.jpeg_decoder.specs.Steps.{header_at, header_within}
 use Rattle.jpeg_decoder.proofs.Scans.ScanData.{answers-err}
-use Rattle.jpeg_streams.specs.States.{IfRefused, OnToldRefusal}
-use Rattle.jpeg_streams.proofs.Refusals.{told-err}
+use Rattle.jpeg_meaning.specs.States.{IfRefused, OnToldRefusal}
+use Rattle.jpeg_meaning.proofs.Refusals.{told-err}
 use Rattle.jpeg_decoder.proofs.Partial.Refused.{if-refused}
 use Rattle.jpeg_decoder.proofs.Segments.MarkedTurns.{none-above}
 

@@ -1,7 +1,7 @@
 -- The codings of a scan, as the code has them and as the definitions do.
 use Rattle.std.proofs.Common.{◌≡◌, ◌<◌, ℕ, List, [], ◌∷◌, sym, refl, ap, ◌∙◌, get_or, length, map, arith}
 use Rattle.std.proofs.lemmas.List.{get_or-map, length-map}
-use Rattle.jpeg_streams.specs.ScanSegments.{Coding, components_of}
+use Rattle.jpeg_meaning.specs.ScanSegments.{Coding, components_of}
 use Rattle.jpeg_decoder.specs.declared.scan.coded.Coded.{Coded}
 use Rattle.jpeg_decoder.specs.Steps.{coding_in, IsInOrder}
 use Rattle.jpeg_decoder.proofs.Kept.TakenBlocks.{indices_of}

@@ -12,18 +12,18 @@ use Rattle.jpeg_segments.specs.Scales.{component_at, frame_at, is_scale}
 use Rattle.jpeg_segments.specs.ScanHeader as headers
 use Rattle.jpeg_segments.specs.ScanHeader.{IsBandOf, IsRising, IsScanOf}
 use Rattle.jpeg_decoder.specs.declared.stream.state.Said.TheInside.{Inside}
-use Rattle.jpeg_streams.specs.InTurn.{Fits}
+use Rattle.jpeg_meaning.specs.InTurn.{Fits}
 use Rattle.jpeg_decoder.specs.Scanning.{BlockScan}
-use Rattle.jpeg_streams.specs.Sound.{IsDecodedFrame}
-use Rattle.jpeg_streams.specs.ScanSegments.{codings_of, components_of, Coding, pass_of}
-use Rattle.jpeg_streams.specs.Found.{Found, Said}
+use Rattle.jpeg_meaning.specs.Sound.{IsDecodedFrame}
+use Rattle.jpeg_meaning.specs.ScanSegments.{codings_of, components_of, Coding, pass_of}
+use Rattle.jpeg_meaning.specs.Found.{Found, Said}
 use Rattle.jpeg_decoder.specs.Steps.{AreRising, HasScale, IsCodingOf, IsDct, IsReadable}
 use Rattle.jpeg_decoder.specs.Steps.{IsHeaderOf}
 use Rattle.jpeg_decoder.specs.Seen.{said_of}
-use Rattle.jpeg_streams.proofs.Pictures.LosslessSizes.{all-at}
-use Rattle.jpeg_streams.proofs.Written.ReadTurns.{codings-each, codings-indices}
+use Rattle.jpeg_meaning.proofs.Pictures.LosslessSizes.{all-at}
+use Rattle.jpeg_meaning.proofs.Written.ReadTurns.{codings-each, codings-indices}
 use Rattle.jpeg_segments.proofs.ScaleLemmas.{sized_frames_have_factors}
-use Rattle.jpeg_streams.proofs.Soundness.{count-few, decoded-count, decoded-fits, decoded-sized}
+use Rattle.jpeg_meaning.proofs.Soundness.{count-few, decoded-count, decoded-fits, decoded-sized}
 
 -- what was said before a scan, by the fields
 pub scanned-before : (s : Inside) (said : Said) → said_of s ≡ said → said.scanned ≡ s.scanned

@@ -8,9 +8,9 @@ use Rattle.jpeg_bits.specs.Reading.{Fault, ◌>>=◌}
 use Rattle.jpeg_segments.specs.Frame.{Frame}
 use Rattle.jpeg_segments.specs.Checks.{gathered}
 use Rattle.jpeg_segments.specs.ScanHeader.{IsScanOf, Scan}
-use Rattle.jpeg_streams.specs.ScanSegments.{codings_of, component_coding, Coding, tables_of}
-use Rattle.jpeg_streams.specs.ScanSegments.{pass_of}
-use Rattle.jpeg_streams.specs.Found.{Said}
+use Rattle.jpeg_meaning.specs.ScanSegments.{codings_of, component_coding, Coding, tables_of}
+use Rattle.jpeg_meaning.specs.ScanSegments.{pass_of}
+use Rattle.jpeg_meaning.specs.Found.{Said}
 use Rattle.jpeg_decoder.specs.Steps.{coding_in_slot}
 use Rattle.std.proofs.lemmas.Grind.{common_steps}
 

@@ -15,27 +15,27 @@ use Rattle.jpeg_bits.specs.Passes.{Pass, Via}
 use Rattle.jpeg_segments.specs.Frame.{Frame, Component}
 use Rattle.jpeg_decoder.specs.declared.scan.coded.Coded.{Coded}
 use Rattle.jpeg_decoder.specs.declared.scan.decoded.Decoded.{Decoded}
-use Rattle.jpeg_streams.specs.InTurn.{AreApart, AreArrays, IsIn}
-use Rattle.jpeg_streams.specs.Order.{spots_of, mcu_size}
-use Rattle.jpeg_streams.specs.Scans.{Arrays, zero_arrays, arrays_at}
+use Rattle.jpeg_meaning.specs.InTurn.{AreApart, AreArrays, IsIn}
+use Rattle.jpeg_meaning.specs.Order.{spots_of, mcu_size}
+use Rattle.jpeg_meaning.specs.Scans.{Arrays, zero_arrays, arrays_at}
 use Rattle.jpeg_decoder.specs.Scanning.{arrays_in, sizes_of}
 use Rattle.jpeg_decoder.specs.PlanesView.{planes_in}
-use Rattle.jpeg_streams.specs.Sound.{IsPlaneOf, ArePlanes}
+use Rattle.jpeg_meaning.specs.Sound.{IsPlaneOf, ArePlanes}
 use Rattle.jpeg_decoder.specs.Steps.{blocks_at, blocks_before, coding_in, decided_planes, scan_data}
 use Rattle.jpeg_decoder.specs.Steps.{with_decoded}
 use Rattle.jpeg_decoder.specs.Steps.{with_its_plane, with_planes, IsCodingOf, AreRising}
-use Rattle.jpeg_streams.specs.Rasters.{plane_by}
-use Rattle.jpeg_streams.specs.ScanSegments.{components_of, blocks_after, arrays_before}
-use Rattle.jpeg_streams.specs.ScanSegments.{once_scanned, Coding, is_progressive, put_arrays}
-use Rattle.jpeg_streams.specs.ScanSegments.{with_arrays, with_blocks, vias_from}
-use Rattle.jpeg_streams.specs.Found.{Found}
+use Rattle.jpeg_meaning.specs.Rasters.{plane_by}
+use Rattle.jpeg_meaning.specs.ScanSegments.{components_of, blocks_after, arrays_before}
+use Rattle.jpeg_meaning.specs.ScanSegments.{once_scanned, Coding, is_progressive, put_arrays}
+use Rattle.jpeg_meaning.specs.ScanSegments.{with_arrays, with_blocks, vias_from}
+use Rattle.jpeg_meaning.specs.Found.{Found}
 use Rattle.jpeg_decoder.specs.Strips.{planes_by, planes_at}
-use Rattle.jpeg_streams.proofs.Order.Apart.{At, zeros-sized, get-at}
-use Rattle.jpeg_streams.proofs.Written.BroughtLevels.{sequential-arrays}
+use Rattle.jpeg_meaning.proofs.Order.Apart.{At, zeros-sized, get-at}
+use Rattle.jpeg_meaning.proofs.Written.BroughtLevels.{sequential-arrays}
 use Rattle.jpeg_decoder.proofs.Scans.BlocksBefore.{plane_by-length}
 use Rattle.jpeg_decoder.proofs.Kept.BlockArrays.{Held}
 use Rattle.jpeg_decoder.proofs.PutLoops.{blocks-are}
-use Rattle.jpeg_streams.proofs.Order.McuRows.{IsOf, zeros-of}
+use Rattle.jpeg_meaning.proofs.Order.McuRows.{IsOf, zeros-of}
 use Rattle.std.proofs.lemmas.Grind.{common_steps}
 
 -- ---- the scan's components

@@ -10,23 +10,23 @@ use Rattle.jpeg_bits.proofs.Loops.{Continues, Continues-err, bind_at, bind_err, 
 use Rattle.jpeg_segments.specs.Frame.{Frame}
 use Rattle.jpeg_segments.specs.declared.frame.CodingProcess.{CodingProcess}
 use Rattle.jpeg_segments.specs.ScanHeader.{Scan, sos_at}
-use Rattle.jpeg_streams.specs.Scans.{Arrays}
-use Rattle.jpeg_streams.specs.ScanSegments.{scan_turn as turn_of_scan, arrays_before, blocks_scan}
-use Rattle.jpeg_streams.specs.ScanSegments.{after_restarts, after_scan, codings_of, Coding, scan_by}
-use Rattle.jpeg_streams.specs.ScanSegments.{lossless_scan, scan_before, scan_arrays, pass_of}
-use Rattle.jpeg_streams.specs.ScanSegments.{scan_segment}
-use Rattle.jpeg_streams.specs.Segments.{Turn}
-use Rattle.jpeg_streams.specs.Found.{Found}
+use Rattle.jpeg_meaning.specs.Scans.{Arrays}
+use Rattle.jpeg_meaning.specs.ScanSegments.{scan_turn as turn_of_scan, arrays_before, blocks_scan}
+use Rattle.jpeg_meaning.specs.ScanSegments.{after_restarts, after_scan, codings_of, Coding, scan_by}
+use Rattle.jpeg_meaning.specs.ScanSegments.{lossless_scan, scan_before, scan_arrays, pass_of}
+use Rattle.jpeg_meaning.specs.ScanSegments.{scan_segment}
+use Rattle.jpeg_meaning.specs.Segments.{Turn}
+use Rattle.jpeg_meaning.specs.Found.{Found}
 use Rattle.jpeg_decoder.specs.Steps.{IsRefusal, IsStep, after_all, blocks_read, header_at, header_within, read_after}
-use Rattle.jpeg_streams.specs.Brought.{unbrought}
-use Rattle.jpeg_streams.specs.Stream.{scan_turn_at, scan_within}
-use Rattle.jpeg_streams.specs.Work.{is_above, work_of_header}
+use Rattle.jpeg_meaning.specs.Brought.{unbrought}
+use Rattle.jpeg_meaning.specs.Stream.{scan_turn_at, scan_within}
+use Rattle.jpeg_meaning.specs.Work.{is_above, work_of_header}
 use Rattle.jpeg_bits.specs.declared.beyond.Beyond.TheVariants.{Zeros}
 use Rattle.jpeg_decoder.specs.Steps.{read_by, samples_read, scan_data}
 use Rattle.jpeg_decoder.specs.declared.stream.state.Step.{Step}
-use Rattle.jpeg_streams.specs.InTurn.{AreArrays}
+use Rattle.jpeg_meaning.specs.InTurn.{AreArrays}
 use Rattle.jpeg_segments.specs.Checks.{needed}
-use Rattle.jpeg_streams.specs.Sound.{ArePlanes, IsSound}
+use Rattle.jpeg_meaning.specs.Sound.{ArePlanes, IsSound}
 use Rattle.std.proofs.lemmas.Grind.{common_steps}
 use Rattle.std.proofs.lemmas.Result.{err_from_is_err_and}
 use Rattle.std.specs.Prelude.{IsErr, IsErrAnd, Bool, if◌then◌else◌}

@@ -7,8 +7,8 @@ use Rattle.jpeg_bits.specs.Reading.{Fault, Outcome}
 use Rattle.jpeg_bits.specs.declared.marker.Marker.{Marker}
 use Rattle.jpeg_bits.specs.Passes.{Pass}
 use Rattle.jpeg_segments.specs.Frame.{Frame}
-use Rattle.jpeg_streams.specs.Found.{Found}
-use Rattle.jpeg_streams.specs.ScanSegments.{Coding, is_progressive, vias_from, once_scanned}
+use Rattle.jpeg_meaning.specs.Found.{Found}
+use Rattle.jpeg_meaning.specs.ScanSegments.{Coding, is_progressive, vias_from, once_scanned}
 use Rattle.jpeg_decoder.specs.Scanning.{arrays_in, scan_vias, BlockScan}
 use Rattle.jpeg_decoder.specs.PlanesView.{planes_in}
 use Rattle.jpeg_decoder.specs.Steps.{IsReadable, scan_data, with_decoded, with_planes}

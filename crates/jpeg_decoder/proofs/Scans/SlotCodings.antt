@@ -20,10 +20,10 @@ use Rattle.jpeg_segments.specs.FrameView.{component_in, frame_in}
 use Rattle.jpeg_segments.specs.ScanHeader.{Scan}
 use Rattle.jpeg_segments.specs.HuffmanTables.{all_ac, is_ac_or_none}
 use Rattle.jpeg_decoder.specs.declared.scan.codings.Spare.{Spare}
-use Rattle.jpeg_streams.specs.Scans.{no_table}
+use Rattle.jpeg_meaning.specs.Scans.{no_table}
 use Rattle.jpeg_segments.specs.Checks.{needed}
-use Rattle.jpeg_streams.specs.ScanSegments.{Coding, component_coding, needed_if, tables_of, pass_of}
-use Rattle.jpeg_streams.specs.Found.{Said}
+use Rattle.jpeg_meaning.specs.ScanSegments.{Coding, component_coding, needed_if, tables_of, pass_of}
+use Rattle.jpeg_meaning.specs.Found.{Said}
 use Rattle.jpeg_decoder.specs.Steps.{IsRefusal, IsSpareOf, coding_in_slot, in_force, or_spare}
 use Rattle.jpeg_decoder.specs.Steps.{table_if}
 use Rattle.std.proofs.lemmas.Bool.{and_parts}

@@ -2,24 +2,24 @@
 use Rattle.std.proofs.Common.{◌≡◌, ◌+◌, ◌<◌, ℕ, zero, suc, List, Result, Ok, Err, Bool, true, false}
 use Rattle.std.proofs.Common.{None, Option, Some, refl, sym, subst, ap, ap₂, ◌∙◌, length, arith, ◌&&◌, is_some}
 use Rattle.jpeg_bits.specs.Reading.{Fault, Outcome, ◌>>=◌}
-use Rattle.jpeg_streams.specs.declared.before.Before.TheVariants.{Elsewhere}
+use Rattle.jpeg_meaning.specs.declared.before.Before.TheVariants.{Elsewhere}
 use Rattle.jpeg_bits.specs.declared.beyond.Beyond.{Beyond}
 use Rattle.jpeg_bits.specs.declared.beyond.Beyond.TheVariants.{Nothing, Zeros}
-use Rattle.jpeg_streams.specs.declared.settings.Settings.{Settings}
-use Rattle.jpeg_streams.specs.Found.{Found, nothing_found, nothing_said}
-use Rattle.jpeg_streams.specs.Reported.{IsOfTurns, told_by_turns, told_in_turns}
-use Rattle.jpeg_streams.specs.Limits.{exceeded_by, exceeded_rest}
-use Rattle.jpeg_streams.specs.Segments.{Turn}
-use Rattle.jpeg_streams.proofs.Limits.{none-exceeded}
-use Rattle.jpeg_streams.specs.Stream.{Told, Walked, header_at, meaning_within, rest_within, segments_at, start_at}
-use Rattle.jpeg_streams.specs.Shown.{rows_of_found, shown_of, shown_rest_within, shown_within, whole_rows_rest}
-use Rattle.jpeg_streams.specs.Shown.{whole_rows_within}
-use Rattle.jpeg_streams.specs.ScanSegments.{scan_segment}
-use Rattle.jpeg_streams.specs.Stream.{brought_after, scan_turn_at, told_of, turn_at, turn_within, walk}
-use Rattle.jpeg_streams.specs.Work.{brought_within, is_above, left_after, work_after, work_of_header, work_of_scan, work_of_turn}
-use Rattle.jpeg_streams.specs.Brought.{Brought, scan_brought, unbrought}
-use Rattle.jpeg_streams.specs.FoundPictures.{picture_of}
-use Rattle.jpeg_streams.specs.declared.before.Before.{Before}
+use Rattle.jpeg_meaning.specs.declared.settings.Settings.{Settings}
+use Rattle.jpeg_meaning.specs.Found.{Found, nothing_found, nothing_said}
+use Rattle.jpeg_meaning.specs.Reported.{IsOfTurns, told_by_turns, told_in_turns}
+use Rattle.jpeg_meaning.specs.Limits.{exceeded_by, exceeded_rest}
+use Rattle.jpeg_meaning.specs.Segments.{Turn}
+use Rattle.jpeg_meaning.proofs.Limits.{none-exceeded}
+use Rattle.jpeg_meaning.specs.Stream.{Told, Walked, header_at, meaning_within, rest_within, segments_at, start_at}
+use Rattle.jpeg_meaning.specs.Shown.{rows_of_found, shown_of, shown_rest_within, shown_within, whole_rows_rest}
+use Rattle.jpeg_meaning.specs.Shown.{whole_rows_within}
+use Rattle.jpeg_meaning.specs.ScanSegments.{scan_segment}
+use Rattle.jpeg_meaning.specs.Stream.{brought_after, scan_turn_at, told_of, turn_at, turn_within, walk}
+use Rattle.jpeg_meaning.specs.Work.{brought_within, is_above, left_after, work_after, work_of_header, work_of_scan, work_of_turn}
+use Rattle.jpeg_meaning.specs.Brought.{Brought, scan_brought, unbrought}
+use Rattle.jpeg_meaning.specs.FoundPictures.{picture_of}
+use Rattle.jpeg_meaning.specs.declared.before.Before.{Before}
 use Rattle.jpeg_segments.specs.Checks.{needed}
 use Rattle.jpeg_segments.specs.Frame.{Frame}
 use Rattle.jpeg_segments.specs.ScanHeader.{Scan}
@@ -32,9 +32,9 @@ use Rattle.jpeg_decoder.proofs.Segments.LeftBytes.{IsElsewhere, left_at, on-at}
 use Rattle.jpeg_decoder.specs.Shows.{told_shown, told_shown_rest}
 use Rattle.jpeg_decoder.specs.Walks.{walk_over}
 use Rattle.jpeg_decoder.proofs.Segments.Turns.{not-framed, told-start, turn-takes, turns-enough}
-use Rattle.jpeg_streams.proofs.Written.ReadTurns.{bind-ok, err-ok, ok-same, refused_walk, then-ok, walk-end, walk-on, walk-refused, walk-stop}
-use Rattle.jpeg_streams.proofs.Written.ReadTurns.{walked, walked_to}
-use Rattle.jpeg_streams.proofs.Refusals.{turns-no_start, turns-start}
+use Rattle.jpeg_meaning.proofs.Written.ReadTurns.{bind-ok, err-ok, ok-same, refused_walk, then-ok, walk-end, walk-on, walk-refused, walk-stop}
+use Rattle.jpeg_meaning.proofs.Written.ReadTurns.{walked, walked_to}
+use Rattle.jpeg_meaning.proofs.Refusals.{turns-no_start, turns-start}
 use Rattle.std.proofs.lemmas.Grind.{common_steps}
 
 -- ---- the turns of a header and those of its stream

@@ -8,14 +8,14 @@ use Rattle.jpeg_bits.specs.declared.marker.Marker.{Marker}
 use Rattle.jpeg_bits.specs.declared.marker.Marker.TheVariants.{SOS}
 use Rattle.jpeg_segments.specs.Frame.{Frame}
 use Rattle.jpeg_segments.specs.Checks.{needed}
-use Rattle.jpeg_streams.specs.declared.before.Before.TheVariants.{Elsewhere}
+use Rattle.jpeg_meaning.specs.declared.before.Before.TheVariants.{Elsewhere}
 use Rattle.jpeg_bits.specs.declared.beyond.Beyond.{Beyond}
 use Rattle.jpeg_bits.specs.declared.beyond.Beyond.TheVariants.{Nothing, Zeros}
-use Rattle.jpeg_streams.specs.Brought.{frame_and_scan, scan_brought}
-use Rattle.jpeg_streams.specs.Segments.{Turn}
-use Rattle.jpeg_streams.specs.Found.{Found}
-use Rattle.jpeg_streams.specs.Stream.{brought_after, end_segment, scan_turn_at, segment_at, turn_at}
-use Rattle.jpeg_streams.specs.ScanSegments.{scan_segment}
+use Rattle.jpeg_meaning.specs.Brought.{frame_and_scan, scan_brought}
+use Rattle.jpeg_meaning.specs.Segments.{Turn}
+use Rattle.jpeg_meaning.specs.Found.{Found}
+use Rattle.jpeg_meaning.specs.Stream.{brought_after, end_segment, scan_turn_at, segment_at, turn_at}
+use Rattle.jpeg_meaning.specs.ScanSegments.{scan_segment}
 use Rattle.jpeg_decoder.proofs.Segments.LeftBytes.{IsElsewhere, IsOnward, On, on-elim, on-err, on-weaker}
 use Rattle.jpeg_decoder.proofs.Segments.Turns.{onward_rules}
 

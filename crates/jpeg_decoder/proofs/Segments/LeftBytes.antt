@@ -5,12 +5,12 @@ use Rattle.std.specs.Prelude.{if◌then◌else◌}
 use Rattle.std.proofs.lemmas.Grind.{common_steps}
 use Rattle.jpeg_bits.specs.Reading.{Outcome, Fault, ◌>>=◌}
 use Rattle.jpeg_bits.specs.declared.marker.Marker.{Marker}
-use Rattle.jpeg_streams.specs.declared.before.Before.TheVariants.{Elsewhere}
-use Rattle.jpeg_streams.specs.Brought.{Brought, unbrought}
-use Rattle.jpeg_streams.specs.Found.{Found}
-use Rattle.jpeg_streams.specs.ScanSegments.{scan_turn}
-use Rattle.jpeg_streams.specs.Segments.{Turn, onward}
-use Rattle.jpeg_streams.proofs.Shorter.{LeavesBelow}
+use Rattle.jpeg_meaning.specs.declared.before.Before.TheVariants.{Elsewhere}
+use Rattle.jpeg_meaning.specs.Brought.{Brought, unbrought}
+use Rattle.jpeg_meaning.specs.Found.{Found}
+use Rattle.jpeg_meaning.specs.ScanSegments.{scan_turn}
+use Rattle.jpeg_meaning.specs.Segments.{Turn, onward}
+use Rattle.jpeg_meaning.proofs.Shorter.{LeavesBelow}
 use Rattle.jpeg_decoder.specs.Steps.{is_restart_marker}
 use Rattle.jpeg_decoder.proofs.Segments.PassedRestarts.{Passes}
 

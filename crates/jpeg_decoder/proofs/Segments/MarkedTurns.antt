@@ -9,15 +9,15 @@ use Rattle.jpeg_bits.specs.declared.error.Error.{Error}
 use Rattle.jpeg_bits.specs.declared.marker.Marker.{Marker}
 use Rattle.jpeg_bits.specs.declared.marker.Marker.TheVariants.{SOS}
 use Rattle.jpeg_bits.proofs.Loops.{Continues, Continues-err}
-use Rattle.jpeg_streams.specs.Brought.{Brought, unbrought}
-use Rattle.jpeg_streams.specs.Found.{Found}
-use Rattle.jpeg_streams.specs.Segments.{Turn}
-use Rattle.jpeg_streams.specs.States.{IfRefused, OnToldRefusal}
-use Rattle.jpeg_streams.specs.Stream.{brought_after, scan_within, segment_at, turn_at, turn_within}
-use Rattle.jpeg_streams.specs.Work.{brought_within, is_above, left_after, work_after, work_of_header, work_of_turn}
-use Rattle.jpeg_streams.specs.declared.before.Before.{Before}
+use Rattle.jpeg_meaning.specs.Brought.{Brought, unbrought}
+use Rattle.jpeg_meaning.specs.Found.{Found}
+use Rattle.jpeg_meaning.specs.Segments.{Turn}
+use Rattle.jpeg_meaning.specs.States.{IfRefused, OnToldRefusal}
+use Rattle.jpeg_meaning.specs.Stream.{brought_after, scan_within, segment_at, turn_at, turn_within}
+use Rattle.jpeg_meaning.specs.Work.{brought_within, is_above, left_after, work_after, work_of_header, work_of_turn}
+use Rattle.jpeg_meaning.specs.declared.before.Before.{Before}
 use Rattle.jpeg_bits.specs.declared.beyond.Beyond.{Beyond}
-use Rattle.jpeg_streams.proofs.Refusals.{told-err}
+use Rattle.jpeg_meaning.proofs.Refusals.{told-err}
 use Rattle.jpeg_decoder.specs.Walks.{OfWalk}
 use Rattle.jpeg_decoder.proofs.Partial.Refused.{if-refused, if-refused-as}
 use Rattle.jpeg_decoder.proofs.Segments.WalkedScans.{of-walk-so}

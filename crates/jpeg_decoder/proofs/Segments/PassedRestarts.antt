@@ -6,9 +6,9 @@ use Rattle.jpeg_bits.specs.Reading.{Outcome, Fault, ◌>>=◌}
 use Rattle.jpeg_bits.specs.Marker.{next_marker}
 use Rattle.jpeg_bits.specs.declared.marker.Marker.{Marker}
 use Rattle.jpeg_bits.proofs.PieceWalks.{by_bool}
-use Rattle.jpeg_streams.specs.ScanSegments.{after_restarts}
+use Rattle.jpeg_meaning.specs.ScanSegments.{after_restarts}
 use Rattle.jpeg_decoder.specs.Steps.{is_restart_marker, after_all}
-use Rattle.jpeg_streams.proofs.Shorter.{LeavesBelow, below-at, marker-below}
+use Rattle.jpeg_meaning.proofs.Shorter.{LeavesBelow, below-at, marker-below}
 
 bind-same : {A B : Type 0} (r : Result A Fault) (f g : A → Result B Fault) → ((x : A) → r ≡ Ok x → f x ≡ g x)
     → r >>= f ≡ r >>= g

@@ -7,7 +7,7 @@ use Rattle.jpeg_bits.specs.Reading.{Malformed, Outcome, ◌>>=◌, length_at}
 use Rattle.jpeg_segments.specs.HuffmanTables.{DefinedTable, Tables, defined_codes_at, dht_at, greatest_destination}
 use Rattle.jpeg_segments.specs.HuffmanTables.{no_tables, size_of, tables_from, with_table}
 use Rattle.jpeg_segments.specs.Parts.{dht_onto}
-use Rattle.jpeg_streams.specs.Segments.{updated, with_huffman}
+use Rattle.jpeg_meaning.specs.Segments.{updated, with_huffman}
 
 set-updated : {A : Type 0} (old new : List (Option A)) (i : ℕ) (x : A) → length old ≡ length new
     → set (updated old new) i (Some x) ≡ updated old (set new i (Some x))

@@ -4,9 +4,9 @@ use Rattle.std.proofs.lemmas.Bool.{false≢true}
 use Rattle.jpeg_bits.specs.Reading.{Answers, Outcome}
 use Rattle.jpeg_bits.specs.Stream.{Stream}
 use Rattle.jpeg_bits.specs.declared.error.Error.{Error}
-use Rattle.jpeg_streams.specs.Found.{Found, Said, with_said}
-use Rattle.jpeg_streams.specs.Stream.{header_at}
-use Rattle.jpeg_streams.proofs.Soundness.{changed-answers}
+use Rattle.jpeg_meaning.specs.Found.{Found, Said, with_said}
+use Rattle.jpeg_meaning.specs.Stream.{header_at}
+use Rattle.jpeg_meaning.proofs.Soundness.{changed-answers}
 
 -- It is refused only where there is no frame, and after a header there is one.
 pub answers-changed : {U : Type 0} (change : Said → Said) (read : List ℕ → Outcome Found) (old cur new : Stream)

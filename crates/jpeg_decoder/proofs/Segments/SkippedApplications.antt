@@ -4,9 +4,9 @@ use Rattle.std.proofs.lemmas.Grind.{common_steps}
 use Rattle.jpeg_bits.specs.Stream.{Stream}
 use Rattle.jpeg_bits.specs.Reading.{Answers, Outcome}
 use Rattle.jpeg_segments.proofs.ApplicationLemmas.{app-passed}
-use Rattle.jpeg_streams.specs.Found.{Found}
-use Rattle.jpeg_streams.specs.Segments.{application_segment, skipped_segment}
-use Rattle.jpeg_streams.specs.Segments.{Turn}
+use Rattle.jpeg_meaning.specs.Found.{Found}
+use Rattle.jpeg_meaning.specs.Segments.{application_segment, skipped_segment}
+use Rattle.jpeg_meaning.specs.Segments.{Turn}
 use Rattle.jpeg_bits.specs.declared.error.Error.{Error}
 use Rattle.std.specs.Prelude.{Result}
 

@@ -5,17 +5,17 @@ use Rattle.jpeg_bits.specs.Reading.{Answers, Fault, Outcome, ◌>>=◌}
 use Rattle.jpeg_bits.specs.Stream.{Stream}
 use Rattle.jpeg_bits.specs.declared.error.Error.{Error}
 use Rattle.jpeg_bits.proofs.Loops.{Continues-err}
-use Rattle.jpeg_streams.specs.declared.before.Before.TheVariants.{Elsewhere}
+use Rattle.jpeg_meaning.specs.declared.before.Before.TheVariants.{Elsewhere}
 use Rattle.jpeg_bits.specs.declared.beyond.Beyond.{Beyond}
-use Rattle.jpeg_streams.specs.Found.{Found}
-use Rattle.jpeg_streams.specs.Segments.{Turn}
-use Rattle.jpeg_streams.specs.States.{IfRefused}
-use Rattle.jpeg_streams.specs.Stream.{Walked, turn_within, walk}
-use Rattle.jpeg_streams.specs.Work.{is_above, left_after, work_of_turn}
+use Rattle.jpeg_meaning.specs.Found.{Found}
+use Rattle.jpeg_meaning.specs.Segments.{Turn}
+use Rattle.jpeg_meaning.specs.States.{IfRefused}
+use Rattle.jpeg_meaning.specs.Stream.{Walked, turn_within, walk}
+use Rattle.jpeg_meaning.specs.Work.{is_above, left_after, work_of_turn}
 use Rattle.jpeg_decoder.specs.Steps.{turn_of}
 use Rattle.jpeg_decoder.specs.Walks.{walk_over}
 use Rattle.jpeg_decoder.specs.declared.stream.state.Step.{Step}
-use Rattle.jpeg_streams.proofs.Written.ReadTurns.{refused_walk, walk-on, walk-refused}
+use Rattle.jpeg_meaning.proofs.Written.ReadTurns.{refused_walk, walk-on, walk-refused}
 use Rattle.jpeg_decoder.proofs.Partial.Refused.{refused-at, refused-then}
 use Rattle.jpeg_decoder.proofs.Segments.LeftBytes.{left_at}
 use Rattle.jpeg_decoder.proofs.Segments.Turns.{turn-takes}

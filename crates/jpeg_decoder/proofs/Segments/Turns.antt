@@ -10,31 +10,31 @@ use Rattle.jpeg_bits.specs.declared.marker.Marker.TheVariants.{SOS}
 use Rattle.jpeg_segments.specs.Frame.{Frame, sof_at}
 use Rattle.jpeg_segments.specs.ScanHeader.{Scan, sos_at}
 use Rattle.jpeg_segments.specs.declared.frame.CodingProcess.{CodingProcess}
-use Rattle.jpeg_streams.specs.LosslessScans.{lossless_codings}
+use Rattle.jpeg_meaning.specs.LosslessScans.{lossless_codings}
 use Rattle.jpeg_segments.specs.HuffmanTables.{dht_at}
 use Rattle.jpeg_segments.specs.Application.{app_at, dri_at}
 use Rattle.jpeg_segments.specs.Quantization.{dqt_at}
-use Rattle.jpeg_streams.specs.declared.before.Before.{Before}
-use Rattle.jpeg_streams.specs.declared.before.Before.TheVariants.{Elsewhere}
+use Rattle.jpeg_meaning.specs.declared.before.Before.{Before}
+use Rattle.jpeg_meaning.specs.declared.before.Before.TheVariants.{Elsewhere}
 use Rattle.jpeg_bits.specs.declared.beyond.Beyond.{Beyond}
 use Rattle.jpeg_bits.specs.declared.beyond.Beyond.TheVariants.{Nothing, Zeros}
 use Rattle.jpeg_segments.specs.Checks.{needed}
-use Rattle.jpeg_streams.specs.ScanSegments.{lossless_scan, blocks_scan, codings_of, scan_by, scan_samples}
-use Rattle.jpeg_streams.specs.ScanSegments.{scan_arrays, scan_segment}
-use Rattle.jpeg_streams.specs.Segments.{accepted, application_segment, frame_segment, huffman_segment, onward, Turn}
-use Rattle.jpeg_streams.specs.Segments.{quantization_segment, restart_segment, skipped_segment}
-use Rattle.jpeg_streams.specs.Found.{Found, nothing_found}
-use Rattle.jpeg_streams.specs.Stream.{Walked, brought_after, end_segment, scan_turn_at, segment_at, start_at, told_of}
-use Rattle.jpeg_streams.specs.Brought.{Brought, unbrought}
-use Rattle.jpeg_streams.specs.Stream.{turn_at, turn_within, walk}
-use Rattle.jpeg_streams.specs.Work.{brought_within, is_above, left_after, work_of_turn}
-use Rattle.jpeg_streams.specs.Reported.{told_by_turns, told_in_turns}
+use Rattle.jpeg_meaning.specs.ScanSegments.{lossless_scan, blocks_scan, codings_of, scan_by, scan_samples}
+use Rattle.jpeg_meaning.specs.ScanSegments.{scan_arrays, scan_segment}
+use Rattle.jpeg_meaning.specs.Segments.{accepted, application_segment, frame_segment, huffman_segment, onward, Turn}
+use Rattle.jpeg_meaning.specs.Segments.{quantization_segment, restart_segment, skipped_segment}
+use Rattle.jpeg_meaning.specs.Found.{Found, nothing_found}
+use Rattle.jpeg_meaning.specs.Stream.{Walked, brought_after, end_segment, scan_turn_at, segment_at, start_at, told_of}
+use Rattle.jpeg_meaning.specs.Brought.{Brought, unbrought}
+use Rattle.jpeg_meaning.specs.Stream.{turn_at, turn_within, walk}
+use Rattle.jpeg_meaning.specs.Work.{brought_within, is_above, left_after, work_of_turn}
+use Rattle.jpeg_meaning.specs.Reported.{told_by_turns, told_in_turns}
 use Rattle.jpeg_decoder.specs.Steps.{is_restart_marker}
-use Rattle.jpeg_streams.proofs.Shorter.{LeavesBelow, below-at, below_steps, length-below}
-use Rattle.jpeg_streams.proofs.Shorter.{skip-below, marker-below, sof-below, dqt-below, dht-below}
-use Rattle.jpeg_streams.proofs.Shorter.{sos-below, app-below, dri-below, arrays-below}
-use Rattle.jpeg_streams.proofs.Shorter.{samples-below}
-use Rattle.jpeg_streams.proofs.Refusals.{turns-start}
+use Rattle.jpeg_meaning.proofs.Shorter.{LeavesBelow, below-at, below_steps, length-below}
+use Rattle.jpeg_meaning.proofs.Shorter.{skip-below, marker-below, sof-below, dqt-below, dht-below}
+use Rattle.jpeg_meaning.proofs.Shorter.{sos-below, app-below, dri-below, arrays-below}
+use Rattle.jpeg_meaning.proofs.Shorter.{samples-below}
+use Rattle.jpeg_meaning.proofs.Refusals.{turns-start}
 use Rattle.jpeg_decoder.proofs.Partial.BroughtScans.{scan-lowers}
 use Rattle.jpeg_decoder.proofs.Segments.LeftBytes.{IsOnward, Lowers, On, left_at, met-lowers, on-at, on-bind, on-elim}
 use Rattle.jpeg_decoder.proofs.Segments.LeftBytes.{on-else, on-err, on-needs, on-onward, onward-lowers, passes-leaves}

@@ -6,13 +6,13 @@ use Rattle.jpeg_bits.specs.Stream.{Stream}
 use Rattle.jpeg_bits.specs.declared.error.Error.{Error}
 use Rattle.jpeg_bits.specs.declared.error.Error.TheVariants as errors
 use Rattle.jpeg_segments.specs.ScanHeader.{Scan}
-use Rattle.jpeg_streams.specs.Brought.{Brought, unbrought}
-use Rattle.jpeg_streams.specs.Found.{Found}
-use Rattle.jpeg_streams.specs.Segments.{Turn}
-use Rattle.jpeg_streams.specs.Sound.{IsSound}
-use Rattle.jpeg_streams.specs.States.{IfRefused, OnToldRefusal}
-use Rattle.jpeg_streams.specs.Stream.{scan_turn_at, scan_within, told_of}
-use Rattle.jpeg_streams.specs.Work.{is_above, work_of_header}
+use Rattle.jpeg_meaning.specs.Brought.{Brought, unbrought}
+use Rattle.jpeg_meaning.specs.Found.{Found}
+use Rattle.jpeg_meaning.specs.Segments.{Turn}
+use Rattle.jpeg_meaning.specs.Sound.{IsSound}
+use Rattle.jpeg_meaning.specs.States.{IfRefused, OnToldRefusal}
+use Rattle.jpeg_meaning.specs.Stream.{scan_turn_at, scan_within, told_of}
+use Rattle.jpeg_meaning.specs.Work.{is_above, work_of_header}
 use Rattle.jpeg_bits.specs.declared.beyond.Beyond.{Beyond}
 use Rattle.jpeg_bits.specs.declared.beyond.Beyond.TheVariants.{Nothing, Zeros}
 use Rattle.jpeg_decoder.specs.Reaching.{OnFault, UnlessRefused, brought_after, without_tables}

@@ -15,19 +15,19 @@ use Rattle.jpeg_segments.specs.Frame.{Frame, Component}
 use Rattle.jpeg_pixels.specs.Planes.{plane_of, strip_of}
 use Rattle.jpeg_bits.specs.Zigzag.{values_in_block_order}
 use Rattle.jpeg_pixels.proofs.PlaneRows.{plane-none}
-use Rattle.jpeg_streams.specs.Order.{Spot, mcu_size}
-use Rattle.jpeg_streams.specs.Scans.{Arrays, zero_arrays}
-use Rattle.jpeg_streams.specs.Rasters.{in_raster, ordered, plane_by, plane_of_blocks}
-use Rattle.jpeg_streams.specs.InTurn.{Counted, Fits, blocks_from, counted_at_start}
-use Rattle.jpeg_streams.specs.McuRows.{mcu_row, zero_rows, rows_of, each_with_more, on_arrays}
-use Rattle.jpeg_streams.specs.McuRows.{mcu_rows_from, scan_by_rows}
-use Rattle.jpeg_streams.specs.ScanSegments.{Coding, components_of}
+use Rattle.jpeg_meaning.specs.Order.{Spot, mcu_size}
+use Rattle.jpeg_meaning.specs.Scans.{Arrays, zero_arrays}
+use Rattle.jpeg_meaning.specs.Rasters.{in_raster, ordered, plane_by, plane_of_blocks}
+use Rattle.jpeg_meaning.specs.InTurn.{Counted, Fits, blocks_from, counted_at_start}
+use Rattle.jpeg_meaning.specs.McuRows.{mcu_row, zero_rows, rows_of, each_with_more, on_arrays}
+use Rattle.jpeg_meaning.specs.McuRows.{mcu_rows_from, scan_by_rows}
+use Rattle.jpeg_meaning.specs.ScanSegments.{Coding, components_of}
 use Rattle.jpeg_decoder.specs.Strips.{planes_by, planes_at, samples_of, with_strips, strips_from}
 use Rattle.jpeg_decoder.specs.Strips.{no_samples, planes_by_rows}
-use Rattle.jpeg_streams.proofs.Order.Apart.{zeros-sized}
-use Rattle.jpeg_streams.proofs.Order.CountedScans.{frame-scans, on-on}
-use Rattle.jpeg_streams.proofs.Order.McuRows.{AreRows, blocks-any, rows-kept, counted-where, joined-rows}
-use Rattle.jpeg_streams.proofs.Order.McuRows.{no-blocks, zero-rows, scans-by-rows, plane-strips}
+use Rattle.jpeg_meaning.proofs.Order.Apart.{zeros-sized}
+use Rattle.jpeg_meaning.proofs.Order.CountedScans.{frame-scans, on-on}
+use Rattle.jpeg_meaning.proofs.Order.McuRows.{AreRows, blocks-any, rows-kept, counted-where, joined-rows}
+use Rattle.jpeg_meaning.proofs.Order.McuRows.{no-blocks, zero-rows, scans-by-rows, plane-strips}
 use Rattle.std.proofs.lemmas.Grind.{common_steps}
 
 -- ---- rows of blocks after rows of blocks

@@ -13,13 +13,13 @@ use Rattle.jpeg_bits.specs.Zigzag.{coefficients_in_block_order, zigzag_indices}
 use Rattle.jpeg_pixels.specs.Planes.{plane_of}
 use Rattle.jpeg_pixels.specs.Samples.{dequantized}
 use Rattle.jpeg_pixels.specs.Scaled.{sample_at, sample_of_1}
-use Rattle.jpeg_streams.specs.InTurn.{Counted, blocks_from}
-use Rattle.jpeg_streams.specs.McuRows.{on_arrays, zero_rows}
-use Rattle.jpeg_streams.specs.Order.{Spot}
-use Rattle.jpeg_streams.specs.Rasters.{ordered}
-use Rattle.jpeg_streams.specs.Scans.{Arrays}
-use Rattle.jpeg_streams.specs.ScanSegments.{Coding, components_of}
-use Rattle.jpeg_streams.proofs.Order.Apart.{map-same}
+use Rattle.jpeg_meaning.specs.InTurn.{Counted, blocks_from}
+use Rattle.jpeg_meaning.specs.McuRows.{on_arrays, zero_rows}
+use Rattle.jpeg_meaning.specs.Order.{Spot}
+use Rattle.jpeg_meaning.specs.Rasters.{ordered}
+use Rattle.jpeg_meaning.specs.Scans.{Arrays}
+use Rattle.jpeg_meaning.specs.ScanSegments.{Coding, components_of}
+use Rattle.jpeg_meaning.proofs.Order.Apart.{map-same}
 use Rattle.jpeg_decoder.specs.Scanning.{kept_after, kept_arrays, kept_counted}
 use Rattle.jpeg_decoder.specs.Strips.{samples_of, strips_from, with_strips}
 use Rattle.std.proofs.Math.ListN.{get_or-map}

@@ -10,7 +10,7 @@ use Rattle.std.specs.Prelude.{All}
 use Rattle.std.specs.declared.alloc.Global.{Global}
 use Rattle.std.specs.declared.vec.Vec.{Vec}
 use Rattle.jpeg_bits.specs.BlockView.{to_block}
-use Rattle.jpeg_streams.specs.ScanSegments.{Coding}
+use Rattle.jpeg_meaning.specs.ScanSegments.{Coding}
 use Rattle.jpeg_decoder.specs.Steps.{coding_in}
 use Rattle.jpeg_decoder.specs.Scanning.{arrays_in, blocks_in, sizes_of, down_in, wide_in, IsFull}
 use Rattle.jpeg_bits.specs.Passes.{Block, zero_block}
@@ -19,8 +19,8 @@ use Rattle.jpeg_decoder.specs.Strips.{tables_of, with_strips}
 use Rattle.jpeg_bits.specs.Zigzag.{values_in_block_order}
 use Rattle.jpeg_decoder.specs.declared.scan.coded.Coded.{Coded}
 use Rattle.jpeg_decoder.proofs.Kept.BlockArrays.{Held, cleared, full-count, full-there, sizes-long, sizes-put, size-at}
-use Rattle.jpeg_streams.proofs.InPlace.{patched, patched-next, patched-at, patched-all}
-use Rattle.jpeg_streams.proofs.InPlace.{patched-length}
+use Rattle.jpeg_meaning.proofs.InPlace.{patched, patched-next, patched-at, patched-all}
+use Rattle.jpeg_meaning.proofs.InPlace.{patched-length}
 use Rattle.jpeg_decoder.proofs.Scans.PlacedCodings.{coding-at}
 use Rattle.jpeg_decoder.proofs.Strips.StripRows.{strip-of, strips-at, strips-length, strips-none}
 use Rattle.jpeg_decoder.proofs.Strips.StripRows.{strips_of-length}

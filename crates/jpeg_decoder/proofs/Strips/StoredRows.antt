@@ -10,7 +10,7 @@ use Rattle.std.proofs.lemmas.List.{length-append, length-replicate, map-append, 
 use Rattle.jpeg_bits.specs.BlockView.{to_block}
 use Rattle.jpeg_bits.specs.Passes.{Block, zero_block}
 use Rattle.jpeg_pixels.specs.Planes.{plane_of, strip_of}
-use Rattle.jpeg_streams.specs.Rasters.{in_raster}
+use Rattle.jpeg_meaning.specs.Rasters.{in_raster}
 use Rattle.jpeg_decoder.specs.Scanning.{blocks_in, filled}
 use Rattle.jpeg_decoder.proofs.Kept.BlockArrays.{Held, seen-is, seen-count}
 use Rattle.jpeg_decoder.proofs.Scans.BlocksBefore.{zero-blocks}

@@ -11,9 +11,9 @@ use Rattle.jpeg_bits.specs.BlockView.{to_block}
 use Rattle.jpeg_bits.proofs.ZigzagIndices.{ordered-block}
 use Rattle.jpeg_pixels.specs.Planes.{plane_of, strip_of, zero_coefficients}
 use Rattle.jpeg_pixels.proofs.PlaneRows.{plane-more, plane-same, plane-none}
-use Rattle.jpeg_streams.specs.Scans.{Arrays}
-use Rattle.jpeg_streams.specs.Rasters.{in_raster}
-use Rattle.jpeg_streams.specs.ScanSegments.{Coding}
+use Rattle.jpeg_meaning.specs.Scans.{Arrays}
+use Rattle.jpeg_meaning.specs.Rasters.{in_raster}
+use Rattle.jpeg_meaning.specs.ScanSegments.{Coding}
 use Rattle.jpeg_decoder.specs.Strips.{samples_of, strips_of, with_strips}
 use Rattle.std.proofs.lemmas.Grind.{common_steps}
 

@@ -10,9 +10,9 @@ use Rattle.jpeg_bits.specs.declared.error.Error.{Error}
 use Rattle.jpeg_bits.specs.declared.marker.Marker.{Marker}
 use Rattle.jpeg_bits.specs.Passes.{Pass, Via}
 use Rattle.jpeg_segments.specs.Frame.{Frame}
-use Rattle.jpeg_streams.specs.InTurn.{Fits, counted_at_start}
-use Rattle.jpeg_streams.specs.ScanSegments.{Coding, components_of}
-use Rattle.jpeg_streams.specs.Order.{Spot}
+use Rattle.jpeg_meaning.specs.InTurn.{Fits, counted_at_start}
+use Rattle.jpeg_meaning.specs.ScanSegments.{Coding, components_of}
+use Rattle.jpeg_meaning.specs.Order.{Spot}
 use Rattle.jpeg_decoder.specs.Strips.{no_samples, strips_from, planes_at, planes_by_rows, planes_in_order}
 use Rattle.jpeg_decoder.proofs.Strips.ByStrips.{planes-by-rows}
 use Rattle.jpeg_decoder.specs.declared.scan.order.ScanOrder.{ScanOrder}

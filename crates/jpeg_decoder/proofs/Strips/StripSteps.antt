@@ -11,12 +11,12 @@ use Rattle.jpeg_bits.specs.Entropy.{Text}
 use Rattle.jpeg_bits.specs.Readers.{Reads, read_on}
 use Rattle.jpeg_bits.specs.Passes.{Pass, Via, Block}
 use Rattle.jpeg_segments.specs.Frame.{Frame, Component}
-use Rattle.jpeg_streams.specs.Order.{Spot}
-use Rattle.jpeg_streams.specs.Scans.{Arrays}
-use Rattle.jpeg_streams.specs.InTurn.{Counted, Fits, blocks_from}
-use Rattle.jpeg_streams.specs.McuRows.{zero_rows, on_arrays}
+use Rattle.jpeg_meaning.specs.Order.{Spot}
+use Rattle.jpeg_meaning.specs.Scans.{Arrays}
+use Rattle.jpeg_meaning.specs.InTurn.{Counted, Fits, blocks_from}
+use Rattle.jpeg_meaning.specs.McuRows.{zero_rows, on_arrays}
 use Rattle.jpeg_decoder.specs.Scanning.{arrays_in, sizes_of, down_in}
-use Rattle.jpeg_streams.specs.ScanSegments.{Coding, components_of}
+use Rattle.jpeg_meaning.specs.ScanSegments.{Coding, components_of}
 use Rattle.jpeg_decoder.specs.Strips.{row_sizes, strip_samples, samples_of, zeros_of, with_strips}
 use Rattle.jpeg_decoder.specs.Strips.{strips_from}
 use Rattle.jpeg_decoder.proofs.Kept.BlockArrays.{Held, sizes-long}

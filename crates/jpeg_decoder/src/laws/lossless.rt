@@ -12,25 +12,25 @@ ghost use Rattle.jpeg_segments.specs.WrittenSegments.{FrameHeader, IsFrameHeader
 ghost use Rattle.jpeg_lossless.specs.Differences.{Part};
 ghost use Rattle.jpeg_lossless.specs.Prediction.{predicted_lines};
 ghost use Rattle.jpeg_lossless.specs.Scans.{Way, lines_by_component, planes_of};
-ghost use Rattle.jpeg_streams.specs.declared.settings.Settings.{Settings};
-ghost use Rattle.jpeg_streams.specs.InTurn.{IsIn};
-ghost use Rattle.jpeg_streams.specs.LosslessScans.{LosslessCoding, mcus_down, way_of};
-ghost use Rattle.jpeg_streams.specs.AcceptedFrames.{HasSamples};
-ghost use Rattle.jpeg_streams.specs.Segments.{accepted};
-ghost use Rattle.jpeg_streams.specs.Stream.{meaning, scaled_meaning, sized_meaning, told_of};
-ghost use Rattle.jpeg_streams.specs.Found.{Said};
-ghost use Rattle.jpeg_streams.specs.FrameSamples.{AgreeInside, AreSamplesOf, AreWrittenIn};
-ghost use Rattle.jpeg_streams.specs.FrameSamples.{DifferInPadding, ShowAlike};
-ghost use Rattle.jpeg_streams.specs.LosslessScripts.{AreWrittenUnder, IsLosslessScript};
-ghost use Rattle.jpeg_streams.specs.Scripts.{ScriptedScan};
-ghost use Rattle.jpeg_streams.specs.PlainSamples.{HasEqualFactors, plain_picture, plain_way};
-ghost use Rattle.jpeg_streams.specs.Worked.{picture_meant};
-ghost use Rattle.jpeg_streams.specs.WorkedSamples.{AreWritten, padded_bytes, padded_picture};
-ghost use Rattle.jpeg_streams.specs.WorkedSamples.{padded_samples, three_bytes, three_picture};
-ghost use Rattle.jpeg_streams.specs.WorkedSamples.{three_samples};
-ghost use Rattle.jpeg_streams.specs.WrittenLossless.{IsWithinLimit, own_lines, Samples};
-ghost use Rattle.jpeg_streams.specs.WrittenLossless.{WritesSamples, picture_of_samples};
-ghost use Rattle.jpeg_streams.specs.WrittenParts.{picture_meant_by};
+ghost use Rattle.jpeg_meaning.specs.declared.settings.Settings.{Settings};
+ghost use Rattle.jpeg_meaning.specs.InTurn.{IsIn};
+ghost use Rattle.jpeg_meaning.specs.LosslessScans.{LosslessCoding, mcus_down, way_of};
+ghost use Rattle.jpeg_meaning.specs.AcceptedFrames.{HasSamples};
+ghost use Rattle.jpeg_meaning.specs.Segments.{accepted};
+ghost use Rattle.jpeg_meaning.specs.Stream.{meaning, scaled_meaning, sized_meaning, told_of};
+ghost use Rattle.jpeg_meaning.specs.Found.{Said};
+ghost use Rattle.jpeg_meaning.specs.FrameSamples.{AgreeInside, AreSamplesOf, AreWrittenIn};
+ghost use Rattle.jpeg_meaning.specs.FrameSamples.{DifferInPadding, ShowAlike};
+ghost use Rattle.jpeg_meaning.specs.LosslessScripts.{AreWrittenUnder, IsLosslessScript};
+ghost use Rattle.jpeg_meaning.specs.Scripts.{ScriptedScan};
+ghost use Rattle.jpeg_meaning.specs.PlainSamples.{HasEqualFactors, plain_picture, plain_way};
+ghost use Rattle.jpeg_meaning.specs.Worked.{picture_meant};
+ghost use Rattle.jpeg_meaning.specs.WorkedSamples.{AreWritten, padded_bytes, padded_picture};
+ghost use Rattle.jpeg_meaning.specs.WorkedSamples.{padded_samples, three_bytes, three_picture};
+ghost use Rattle.jpeg_meaning.specs.WorkedSamples.{three_samples};
+ghost use Rattle.jpeg_meaning.specs.WrittenLossless.{IsWithinLimit, own_lines, Samples};
+ghost use Rattle.jpeg_meaning.specs.WrittenLossless.{WritesSamples, picture_of_samples};
+ghost use Rattle.jpeg_meaning.specs.WrittenParts.{picture_meant_by};
 
 /// A lossless stream that is written for samples means the picture of those samples, with any
 /// segments and fill bytes, sampling factors, scans of any components in any order, selections,

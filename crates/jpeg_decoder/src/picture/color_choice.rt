@@ -1,8 +1,8 @@
 //! Which colour transform the components of a picture need.
 ghost use Rattle.std.specs.Prelude.{◌≡◌, map};
 ghost use Rattle.jpeg_segments.specs.FrameView.{component_in, frame_in};
-ghost use Rattle.jpeg_streams.specs.ColourChoice.{identifiers_of, are_three, by_identifiers};
-ghost use Rattle.jpeg_streams.specs.ColourChoice.{by_adobe, transform_of};
+ghost use Rattle.jpeg_meaning.specs.ColourChoice.{identifiers_of, are_three, by_identifiers};
+ghost use Rattle.jpeg_meaning.specs.ColourChoice.{by_adobe, transform_of};
 ghost use Rattle.jpeg_decoder.specs.Seen.{metadata_in};
 ghost use Rattle.jpeg_decoder.specs.StreamTransforms.{frame_transform};
 
@@ -22,7 +22,7 @@ fn are_three(components: &[Component], first: u8, second: u8, third: u8) -> bool
 }
 
 /// Returns the transform that the identifiers of three components stand for.
-#[tactic(auto, unfolding(jpeg_streams::specs::ColourChoice::by_identifiers))]
+#[tactic(auto, unfolding(jpeg_meaning::specs::ColourChoice::by_identifiers))]
 fn by_identifiers(components: &[Component]) -> Option<ColorTransform>
     ensures { result ≡ by_identifiers (identifiers_of (map component_in components.now)) }
 {
@@ -64,7 +64,7 @@ fn by_adobe(is_three: bool, adobe: Option<AdobeColorTransform>) -> ColorTransfor
 }
 
 /// Returns the transform of three or four components: what a caller set, or what the segments say.
-#[tactic(auto, unfolding(jpeg_streams::specs::ColourChoice::transform_of))]
+#[tactic(auto, unfolding(jpeg_meaning::specs::ColourChoice::transform_of))]
 pub fn choose_color_transform(
     set: Option<ColorTransform>,
     components: &[Component],

@@ -9,25 +9,25 @@ ghost use Rattle.jpeg_segments.specs.FrameView.{component_in, frame_in};
 ghost use Rattle.jpeg_segments.specs.Frame.{AllHaveSampling};
 ghost use Rattle.jpeg_pixels.specs.JointPlanes.{IsShapeOf, joint_planes};
 ghost use Rattle.jpeg_decoder.specs.PlanesView.{IsFullJoint};
-ghost use Rattle.jpeg_streams.specs.ColourChoice.{identifiers_of, transform_of};
+ghost use Rattle.jpeg_meaning.specs.ColourChoice.{identifiers_of, transform_of};
 ghost use Rattle.jpeg_pixels.specs.Pictures.{AreWhole};
 ghost use Rattle.jpeg_pixels.specs.Scaled.{IsScale};
-ghost use Rattle.jpeg_streams.specs.EndPlanes.{AreBlocksOf, blocks_if, is_kept, plane_or};
+ghost use Rattle.jpeg_meaning.specs.EndPlanes.{AreBlocksOf, blocks_if, is_kept, plane_or};
 ghost use Rattle.jpeg_segments.specs.declared.frame.CodingProcess.TheVariants.{Lossless};
 ghost use Rattle.jpeg_segments.specs.Checks.{gathered, needed};
 ghost use Rattle.jpeg_decoder.specs.Scanning.{arrays_in, blocks_in};
 ghost use Rattle.jpeg_decoder.specs.PlanesView.{planes_in};
-ghost use Rattle.jpeg_streams.specs.Sound.{IsDecodedFrame, IsPlaneOf, IsSound, HasDecodedFrame};
-ghost use Rattle.jpeg_streams.specs.Sound.{IsUnread};
-ghost use Rattle.jpeg_streams.specs.States.{OnTold};
+ghost use Rattle.jpeg_meaning.specs.Sound.{IsDecodedFrame, IsPlaneOf, IsSound, HasDecodedFrame};
+ghost use Rattle.jpeg_meaning.specs.Sound.{IsUnread};
+ghost use Rattle.jpeg_meaning.specs.States.{OnTold};
 ghost use Rattle.jpeg_decoder.specs.Steps.{Returns, cropped_to, with_decoded};
-ghost use Rattle.jpeg_streams.specs.Stream.{header_at, rest_within, start_at, told_of};
-ghost use Rattle.jpeg_streams.specs.Reported.{IsOfTurns, told_by_turns, told_in_turns};
-ghost use Rattle.jpeg_streams.specs.Limits.{exceeded_rest};
+ghost use Rattle.jpeg_meaning.specs.Stream.{header_at, rest_within, start_at, told_of};
+ghost use Rattle.jpeg_meaning.specs.Reported.{IsOfTurns, told_by_turns, told_in_turns};
+ghost use Rattle.jpeg_meaning.specs.Limits.{exceeded_rest};
 ghost use Rattle.jpeg_bits.specs.declared.beyond.Beyond.TheVariants.{Zeros};
-ghost use Rattle.jpeg_streams.specs.FoundPictures.{blocks_picture, picture_of, picture_by};
-ghost use Rattle.jpeg_streams.specs.FoundPictures.{plane_at_end, samples_picture};
-ghost use Rattle.jpeg_streams.specs.Found.{nothing_found};
+ghost use Rattle.jpeg_meaning.specs.FoundPictures.{blocks_picture, picture_of, picture_by};
+ghost use Rattle.jpeg_meaning.specs.FoundPictures.{plane_at_end, samples_picture};
+ghost use Rattle.jpeg_meaning.specs.Found.{nothing_found};
 ghost use Rattle.jpeg_decoder.specs.Bytes.{AreLinesOf, HaveBytes, IsWhole, frame_shape, shape_of};
 
 use crate::picture::color_choice::choose_color_transform;
@@ -47,15 +47,15 @@ use jpeg_bits::marker::Marker;
 use jpeg_bits::source::Source;
 use jpeg_bits::source::reads::read_u8;
 use jpeg_lossless::lossless::{SampleLines, sample_lines};
+use jpeg_meaning::settings::Settings;
 use jpeg_pixels::joint_planes::{JointPlanes, JointShape, joint_shape};
 use jpeg_pixels::lines::{PictureLines, cropped_lines, joint_lines, plane_lines};
 use jpeg_segments::parser::{CodingProcess, Component, Dimensions, FrameInfo};
-use jpeg_streams::settings::Settings;
 use std::alloc::Global;
 use std::io::Read;
 
 /// Reads the start of a stream, FF D8.
-#[tactic(auto, unfolding(jpeg_streams::specs::Stream::start_at))]
+#[tactic(auto, unfolding(jpeg_meaning::specs::Stream::start_at))]
 pub fn read_start<R: Read + Drop>(alloc: Global, source: &mut Source<R>) -> Result<()>
     ensures { Answers (λ u. u) start_at source.old result source.new }
 {
@@ -281,7 +281,7 @@ fn joint_picture(
 }
 
 /// Returns the lines of the picture of a frame of blocks.
-#[tactic(auto, unfolding(jpeg_streams::specs::FoundPictures::blocks_picture))]
+#[tactic(auto, unfolding(jpeg_meaning::specs::FoundPictures::blocks_picture))]
 fn blocks_picture(
     alloc: Global,
     state: &State,

@@ -5,7 +5,7 @@ ghost use Rattle.std.specs.Prelude.{length};
 ghost use Rattle.std.specs.List.{concat};
 ghost use Rattle.std.specs.Io.KnownBytes.{Appends, Keeps};
 ghost use Rattle.jpeg_bits.specs.declared.error.Error.TheVariants.{OutOfMemory};
-ghost use Rattle.jpeg_streams.specs.Output.{IsOutside, IsOutsideOrMemory, TakesBeginning};
+ghost use Rattle.jpeg_meaning.specs.Output.{IsOutside, IsOutsideOrMemory, TakesBeginning};
 ghost use Rattle.jpeg_decoder.specs.Bytes.{HaveBytes};
 ghost use Rattle.jpeg_decoder.specs.Writes.{StopsByTurns};
 

@@ -6,7 +6,7 @@ ghost use Rattle.std.specs.Io.KnownBytes.{Appends, Keeps, WriteAppends};
 ghost use Rattle.std.specs.IoError.{error_kind};
 ghost use Rattle.std.specs.declared.io.Error.{Error};
 ghost use Rattle.jpeg_bits.specs.Turns.{Interruptions};
-ghost use Rattle.jpeg_streams.specs.Output.{IsOutside, TakesBeginning};
+ghost use Rattle.jpeg_meaning.specs.Output.{IsOutside, TakesBeginning};
 ghost use Rattle.jpeg_decoder.specs.Writes.{StopsByTurns, WritesLater, write_fails};
 
 use jpeg_bits::error;

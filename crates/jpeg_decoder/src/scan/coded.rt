@@ -4,7 +4,7 @@ ghost use Rattle.jpeg_bits.specs.BlockView.{pass_in};
 ghost use Rattle.jpeg_bits.specs.Passes.{whole_pass};
 ghost use Rattle.jpeg_bits.specs.declared.huffman.codes.HuffmanTableClass.TheVariants.{AC};
 ghost use Rattle.jpeg_segments.specs.Scales.{is_scale};
-ghost use Rattle.jpeg_streams.specs.ScanSegments.{is_progressive};
+ghost use Rattle.jpeg_meaning.specs.ScanSegments.{is_progressive};
 
 use jpeg_bits::blocks::{BlockCoding, Pass};
 use jpeg_bits::huffman::HuffmanTable;
@@ -42,7 +42,7 @@ pub struct Codings<'a> {
 
 impl<'a> Model for Codings<'a> {
     ghost use Rattle.std.specs.Prelude.{List, length, map, take, ◌≡◌, ◌≤◌};
-    ghost use Rattle.jpeg_streams.specs.ScanSegments.{Coding};
+    ghost use Rattle.jpeg_meaning.specs.ScanSegments.{Coding};
 
     ghost Value = { List Coding };
 
@@ -115,7 +115,7 @@ impl<'a> Scan<'a> {
     ghost use Rattle.jpeg_segments.specs.FrameView.{component_in};
     ghost use Rattle.jpeg_segments.specs.Scales.{is_scale};
     ghost use Rattle.jpeg_bits.specs.BlockView.{IsPass, pass_in};
-    ghost use Rattle.jpeg_streams.specs.Scans.{via_at};
+    ghost use Rattle.jpeg_meaning.specs.Scans.{via_at};
     ghost use Rattle.jpeg_decoder.specs.Scanning.{IsBlockScan, scan_components, scan_vias, via_by};
     ghost use Rattle.jpeg_decoder.specs.Steps.{coding_in};
 

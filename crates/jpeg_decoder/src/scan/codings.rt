@@ -7,12 +7,12 @@ ghost use Rattle.jpeg_bits.specs.declared.error.Error.TheVariants.{OutOfMemory};
 ghost use Rattle.jpeg_bits.specs.declared.huffman.codes.HuffmanTableClass.TheVariants.{DC, AC};
 ghost use Rattle.jpeg_segments.specs.FrameView.{frame_in};
 ghost use Rattle.jpeg_segments.specs.ScanHeader.{IsScanOf};
-ghost use Rattle.jpeg_streams.specs.Scans.{no_table};
+ghost use Rattle.jpeg_meaning.specs.Scans.{no_table};
 ghost use Rattle.jpeg_decoder.specs.Steps.{Returns, IsSpareOf, coding_in};
 ghost use Rattle.jpeg_decoder.specs.Steps.{coding_in_slot, default_dc, default_ac, in_force};
 ghost use Rattle.jpeg_decoder.specs.Steps.{HasScale, table_if};
-ghost use Rattle.jpeg_streams.specs.ScanSegments.{codings_of, is_progressive, pass_of};
-ghost use Rattle.jpeg_streams.specs.Sound.{IsDecodedFrame};
+ghost use Rattle.jpeg_meaning.specs.ScanSegments.{codings_of, is_progressive, pass_of};
+ghost use Rattle.jpeg_meaning.specs.Sound.{IsDecodedFrame};
 ghost use Rattle.jpeg_bits.specs.Reading.{Names};
 ghost use Rattle.jpeg_decoder.specs.Steps.{IsDct, IsRefusal, IsScanBy};
 
@@ -37,7 +37,7 @@ pub struct Spare {
 }
 
 /// Returns what a scan codes.
-#[tactic(auto, unfolding(jpeg_streams::specs::ScanSegments::pass_of))]
+#[tactic(auto, unfolding(jpeg_meaning::specs::ScanSegments::pass_of))]
 pub fn pass_of(header: &ScanHeader) -> Pass
     requires { 1 ≤ header.now.after }
     ensures { pass_in result ≡ pass_of header.now }
@@ -326,7 +326,7 @@ fn coding_of<'a>(
 
 /// Returns the components of a scan, and their tables in force. The errors are `Format` if a table
 /// that the scan needs is unset, and `OutOfMemory`.
-#[tactic(auto, unfolding(jpeg_streams::specs::ScanSegments::codings_of))]
+#[tactic(auto, unfolding(jpeg_meaning::specs::ScanSegments::codings_of))]
 pub fn codings_of<'a>(
     alloc: Global,
     said: &'a Said,

@@ -7,13 +7,13 @@ ghost use Rattle.jpeg_bits.specs.BlockView.{pass_in, IsPass};
 ghost use Rattle.jpeg_pixels.specs.Scaled.{IsScale};
 ghost use Rattle.jpeg_segments.specs.FrameView.{component_in, frame_in};
 ghost use Rattle.jpeg_bits.specs.Reading.{Answers};
-ghost use Rattle.jpeg_streams.specs.InTurn.{AreApart};
+ghost use Rattle.jpeg_meaning.specs.InTurn.{AreApart};
 ghost use Rattle.jpeg_decoder.specs.Scanning.{arrays_in, blocks_in};
-ghost use Rattle.jpeg_streams.specs.Scans.{zero_arrays, zero_of};
+ghost use Rattle.jpeg_meaning.specs.Scans.{zero_arrays, zero_of};
 ghost use Rattle.jpeg_decoder.specs.PlanesView.{planes_in};
-ghost use Rattle.jpeg_streams.specs.Rasters.{plane_by};
-ghost use Rattle.jpeg_streams.specs.ScanSegments.{put_arrays, finished_by, is_progressive};
-ghost use Rattle.jpeg_streams.specs.Found.{none_finished};
+ghost use Rattle.jpeg_meaning.specs.Rasters.{plane_by};
+ghost use Rattle.jpeg_meaning.specs.ScanSegments.{put_arrays, finished_by, is_progressive};
+ghost use Rattle.jpeg_meaning.specs.Found.{none_finished};
 ghost use Rattle.jpeg_decoder.specs.Steps.{blocks_at, coding_in, without_blocks, IsInOrder};
 ghost use Rattle.jpeg_bits.specs.Passes.{whole_pass};
 ghost use Rattle.jpeg_decoder.specs.Reaching.{is_out_of_memory, kept_beside};
@@ -204,7 +204,7 @@ fn is_out_of_memory(met: &Result<Option<Marker>>) -> bool
 }
 
 impl Decoded {
-    ghost use Rattle.jpeg_streams.specs.States.{OnTold};
+    ghost use Rattle.jpeg_meaning.specs.States.{OnTold};
     ghost use Rattle.jpeg_decoder.specs.Reaching.{data_reached, UnlessRefused};
     ghost use Rattle.std.specs.Prelude.{◌≡◌, ◌<◌, [], All, IfOk, OnOk, None, Some};
     ghost use Rattle.std.specs.Prelude.{◌*◌, true, false, length, map, replicate, slice_index_or};
@@ -213,25 +213,25 @@ impl Decoded {
     ghost use Rattle.jpeg_bits.specs.BlockView.{pass_in, IsPass};
     ghost use Rattle.jpeg_pixels.specs.Scaled.{IsScale};
     ghost use Rattle.jpeg_segments.specs.FrameView.{component_in, frame_in};
-    ghost use Rattle.jpeg_streams.specs.InTurn.{AreArrays};
-    ghost use Rattle.jpeg_streams.specs.LosslessScans.{with_samples};
-    ghost use Rattle.jpeg_streams.specs.Sound.{ArePlanes};
+    ghost use Rattle.jpeg_meaning.specs.InTurn.{AreArrays};
+    ghost use Rattle.jpeg_meaning.specs.LosslessScans.{with_samples};
+    ghost use Rattle.jpeg_meaning.specs.Sound.{ArePlanes};
     ghost use Rattle.jpeg_decoder.specs.Scanning.{arrays_in, blocks_in, scan_components};
     ghost use Rattle.jpeg_decoder.specs.PlanesView.{planes_in};
     ghost use Rattle.jpeg_decoder.specs.Steps.{blocks_before, coding_in, IsBefore};
     ghost use Rattle.jpeg_decoder.specs.Steps.{IsReadable, is_wanted};
     ghost use Rattle.jpeg_decoder.specs.Steps.{marks_after, scan_data, with_decoded};
     ghost use Rattle.jpeg_decoder.specs.Steps.{with_its_plane, with_planes};
-    ghost use Rattle.jpeg_streams.specs.ScanSegments.{is_progressive, once_scanned};
-    ghost use Rattle.jpeg_streams.specs.ScanSegments.{with_arrays};
-    ghost use Rattle.jpeg_streams.specs.Rasters.{plane_by};
-    ghost use Rattle.jpeg_streams.specs.Found.{Found, none_finished};
+    ghost use Rattle.jpeg_meaning.specs.ScanSegments.{is_progressive, once_scanned};
+    ghost use Rattle.jpeg_meaning.specs.ScanSegments.{with_arrays};
+    ghost use Rattle.jpeg_meaning.specs.Rasters.{plane_by};
+    ghost use Rattle.jpeg_meaning.specs.Found.{Found, none_finished};
     ghost use Rattle.jpeg_pixels.specs.JointPlanes.{joint_planes};
     ghost use Rattle.jpeg_decoder.specs.GrowingView.{GrowsFor, growing_in, is_joint};
     ghost use Rattle.jpeg_decoder.specs.PlanesView.{IsFullJoint};
     ghost use Rattle.jpeg_decoder.specs.Steps.{IsCodingOf, IsFirst};
     ghost use Rattle.jpeg_segments.specs.Frame.{AllHaveSampling};
-    ghost use Rattle.jpeg_streams.specs.InTurn.{Fits};
+    ghost use Rattle.jpeg_meaning.specs.InTurn.{Fits};
     ghost use Rattle.std.specs.List.{AllByRecursion};
     ghost use Rattle.jpeg_decoder.specs.Strips.{no_samples};
 

@@ -7,9 +7,9 @@ ghost use Rattle.std.specs.List.{AllByRecursion};
 ghost use Rattle.jpeg_bits.specs.Reading.{Answers};
 ghost use Rattle.jpeg_bits.specs.Entropy.{Takes};
 ghost use Rattle.jpeg_segments.specs.FrameView.{frame_in};
-ghost use Rattle.jpeg_streams.specs.InTurn.{blocks_from, scan_from, turns_from, Fits, AreArrays};
-ghost use Rattle.jpeg_streams.specs.Order.{spots_of, mcu_size};
-ghost use Rattle.jpeg_streams.specs.Scans.{Arrays, arrays_at};
+ghost use Rattle.jpeg_meaning.specs.InTurn.{blocks_from, scan_from, turns_from, Fits, AreArrays};
+ghost use Rattle.jpeg_meaning.specs.Order.{spots_of, mcu_size};
+ghost use Rattle.jpeg_meaning.specs.Scans.{Arrays, arrays_at};
 ghost use Rattle.jpeg_decoder.specs.Scanning.{IsSpotOf, scan_vias, scan_components};
 ghost use Rattle.jpeg_decoder.specs.Scanning.{arrays_in, blocks_in, sizes_of, counted, reached};
 ghost use Rattle.jpeg_decoder.specs.Walk.{line_spots, rows_spots};
@@ -23,8 +23,8 @@ use jpeg_bits::blocks::bands::take_bands;
 use jpeg_bits::error::{Error, Result, take_refusal};
 use jpeg_bits::marker::Marker;
 use jpeg_bits::source::Source;
+use jpeg_meaning::grids::{Grid, grid_of};
 use jpeg_segments::parser::FrameInfo;
-use jpeg_streams::grids::{Grid, grid_of};
 use std::alloc::Global;
 use std::io::Read;
 
@@ -151,7 +151,7 @@ fn read_lines<R: Read + Drop>(
 }
 
 /// Reads a scan without DC of one component, and returns the marker after it, if it was reached.
-#[tactic(auto, unfolding(jpeg_streams::specs::InTurn::scan_from))]
+#[tactic(auto, unfolding(jpeg_meaning::specs::InTurn::scan_from))]
 fn read_bands<R: Read + Drop>(
     alloc: Global,
     source: &mut Source<R>,
@@ -177,7 +177,7 @@ fn read_bands<R: Read + Drop>(
 
 /// Reads the blocks at some spots, in restart intervals of `n` blocks, or in one where `n` is 0,
 /// and returns the marker after them, if it was reached.
-#[tactic(auto, unfolding(jpeg_streams::specs::InTurn::scan_from))]
+#[tactic(auto, unfolding(jpeg_meaning::specs::InTurn::scan_from))]
 fn read_intervals<R: Read + Drop>(
     alloc: Global,
     source: &mut Source<R>,

@@ -2,14 +2,14 @@
 ghost use Rattle.std.specs.Prelude.{IfOk, OnOk, ◌++◌, length, map};
 ghost use Rattle.std.specs.Prelude.{◌≡◌, ◌≤◌, ◌+◌};
 ghost use Rattle.jpeg_segments.specs.FrameView.{component_in};
-ghost use Rattle.jpeg_streams.specs.ScanSegments.{components_of};
+ghost use Rattle.jpeg_meaning.specs.ScanSegments.{components_of};
 ghost use Rattle.jpeg_decoder.specs.Steps.{coding_in};
 ghost use Rattle.jpeg_decoder.specs.Walk.{line_members, part_members, member_of, members_from};
 
 use crate::scan::coded::{Coded, Scan};
 use crate::scan::spots::{Member, Spots};
+use jpeg_meaning::grids::grid_of;
 use jpeg_segments::parser::{Component, FrameInfo};
-use jpeg_streams::grids::grid_of;
 use std::alloc::{AllocError, Global};
 
 /// The order in which a scan codes its blocks: MCU by MCU. If a component is alone, each of its own
@@ -99,7 +99,7 @@ impl ScanOrder {
     ghost use Rattle.std.specs.Prelude.{IfOk, length, min, ◌≡◌, ◌<◌, ◌≤◌, ◌-◌, ◌*◌};
     ghost use Rattle.std.specs.List.{AllByRecursion};
     ghost use Rattle.jpeg_segments.specs.FrameView.{frame_in};
-    ghost use Rattle.jpeg_streams.specs.InTurn.{Fits};
+    ghost use Rattle.jpeg_meaning.specs.InTurn.{Fits};
     ghost use Rattle.jpeg_decoder.specs.Scanning.{scan_components};
     ghost use Rattle.jpeg_decoder.specs.Walk.{IsOrderOf, walk_of, walk_of_row};
 

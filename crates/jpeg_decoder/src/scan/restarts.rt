@@ -3,7 +3,7 @@ ghost use Rattle.std.specs.Prelude.{◌≡◌};
 ghost use Rattle.jpeg_bits.specs.Reading.{Answers};
 ghost use Rattle.jpeg_bits.specs.Entropy.{Takes};
 ghost use Rattle.jpeg_bits.specs.Intervals as intervals;
-ghost use Rattle.jpeg_streams.specs.InTurn.{restart_from};
+ghost use Rattle.jpeg_meaning.specs.InTurn.{restart_from};
 ghost use Rattle.jpeg_decoder.specs.Steps.{is_restart_marker, after_all};
 
 use jpeg_bits::error::{Result, format_error};
@@ -24,7 +24,7 @@ pub fn is_numbered(marker: Option<Marker>, number: u8) -> bool
 }
 
 /// Reads the restart marker of a number after an interval; the next interval begins.
-#[tactic(auto, unfolding(jpeg_streams::specs::InTurn::restart_from))]
+#[tactic(auto, unfolding(jpeg_meaning::specs::InTurn::restart_from))]
 pub fn read_restart<R: Read + Drop>(
     alloc: Global,
     decoder: &mut HuffmanDecoder,

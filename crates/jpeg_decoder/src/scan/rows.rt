@@ -3,9 +3,9 @@ ghost use Rattle.std.specs.Prelude.{map, All, OnOk, length, ◌≡◌, ◌≤◌
 ghost use Rattle.std.specs.List.{AllByRecursion};
 ghost use Rattle.jpeg_bits.specs.Reading.{Answers};
 ghost use Rattle.jpeg_segments.specs.FrameView.{frame_in};
-ghost use Rattle.jpeg_streams.specs.InTurn.{Fits};
+ghost use Rattle.jpeg_meaning.specs.InTurn.{Fits};
 ghost use Rattle.jpeg_bits.specs.Entropy.{Takes};
-ghost use Rattle.jpeg_streams.specs.InTurn.{blocks_from};
+ghost use Rattle.jpeg_meaning.specs.InTurn.{blocks_from};
 ghost use Rattle.jpeg_decoder.specs.Scanning.{IsFull, IsSpotOf, arrays_in, counted, down_in};
 ghost use Rattle.jpeg_decoder.specs.Scanning.{kept_blocks, kept_counted, sizes_of};
 ghost use Rattle.jpeg_decoder.specs.Scanning.{scan_vias, scan_components};

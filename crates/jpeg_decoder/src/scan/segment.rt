@@ -4,18 +4,18 @@ ghost use Rattle.jpeg_bits.specs.Reading.{Answers, Names};
 ghost use Rattle.jpeg_segments.specs.FrameView.{frame_in};
 ghost use Rattle.jpeg_segments.specs.ScanHeader.{IsScanOf};
 ghost use Rattle.jpeg_segments.specs.declared.frame.CodingProcess.TheVariants.{Lossless};
-ghost use Rattle.jpeg_streams.specs.Sound.{IsSound};
+ghost use Rattle.jpeg_meaning.specs.Sound.{IsSound};
 ghost use Rattle.jpeg_decoder.specs.Seen.{found_of};
 ghost use Rattle.jpeg_decoder.specs.Steps.{IsDct, IsHeaderOf, IsRefusal, IsStep, blocks_read};
 ghost use Rattle.jpeg_decoder.specs.Steps.{header_within, read_after, turn_of};
-ghost use Rattle.jpeg_streams.specs.ScanSegments.{once_scanned};
+ghost use Rattle.jpeg_meaning.specs.ScanSegments.{once_scanned};
 ghost use Rattle.jpeg_bits.specs.declared.marker.Marker.TheVariants.{DNL};
-ghost use Rattle.jpeg_streams.specs.Found.{Found};
-ghost use Rattle.jpeg_streams.specs.Stream.{scan_within, segment_at};
+ghost use Rattle.jpeg_meaning.specs.Found.{Found};
+ghost use Rattle.jpeg_meaning.specs.Stream.{scan_within, segment_at};
 ghost use Rattle.std.specs.Prelude.{IfOk, IfSome, List, None, OnOk, Some, false, true, ℕ, ◌≡◌};
-ghost use Rattle.jpeg_streams.specs.Work.{is_above, left_after, work_of_header};
+ghost use Rattle.jpeg_meaning.specs.Work.{is_above, left_after, work_of_header};
 ghost use Rattle.jpeg_decoder.specs.Walks.{AfterWalk, IsGoing, Leaves, OfWalk};
-ghost use Rattle.jpeg_streams.specs.States.{OnToldRefusal};
+ghost use Rattle.jpeg_meaning.specs.States.{OnToldRefusal};
 ghost use Rattle.jpeg_decoder.specs.Reaching.{IsEndOf, UnlessRefused, brought_after, rows_after};
 
 use crate::scan::codings::{block_scan_of, spare_tables, widen_tables};
@@ -30,14 +30,14 @@ use jpeg_bits::beyond::Beyond;
 use jpeg_bits::error::{Error, Result, UnsupportedFeature, format_error};
 use jpeg_bits::marker::Marker;
 use jpeg_bits::source::Source;
+use jpeg_meaning::before::Before;
 use jpeg_segments::parser::{CodingProcess, FrameInfo, ScanHeader, read_scan_header};
-use jpeg_streams::before::Before;
 use std::alloc::Global;
 use std::io::Read;
 
 /// Returns why a DNL segment is refused: after the first scan it would give the height (T.81,
 /// B.2.5).
-#[tactic(auto, unfolding(jpeg_streams::specs::Stream::segment_at))]
+#[tactic(auto, unfolding(jpeg_meaning::specs::Stream::segment_at))]
 pub fn refused_line_count(alloc: Global, before: Before) -> Error
     ensures { IsRefusal result × ((found : Found) (bytes : List ℕ) →
         Names result (segment_at DNL before found bytes)) }

@@ -54,7 +54,7 @@ pub struct Spots<'a> {
 
 impl<'a> Model for Spots<'a> {
     ghost use Rattle.std.specs.Prelude.{List, length, ◌≤◌, ◌<◌};
-    ghost use Rattle.jpeg_streams.specs.Order as order;
+    ghost use Rattle.jpeg_meaning.specs.Order as order;
     ghost use Rattle.jpeg_decoder.specs.Walk.{spots_left};
 
     ghost Value = { List order.Spot };

@@ -6,7 +6,7 @@ ghost use Rattle.jpeg_bits.specs.BlockView.{to_block};
 ghost use Rattle.jpeg_bits.specs.Zigzag.{values_in_block_order};
 ghost use Rattle.jpeg_pixels.specs.Planes.{plane_of, strip_of};
 ghost use Rattle.jpeg_pixels.specs.Scaled.{IsScale};
-ghost use Rattle.jpeg_streams.specs.Rasters.{in_raster};
+ghost use Rattle.jpeg_meaning.specs.Rasters.{in_raster};
 ghost use Rattle.jpeg_decoder.specs.Scanning.{arrays_in, filled, sizes_of, IsFull};
 ghost use Rattle.jpeg_decoder.specs.Steps.{coding_in};
 ghost use Rattle.jpeg_decoder.specs.Strips.{no_samples, plane_lists, row_sizes, zeros_of};

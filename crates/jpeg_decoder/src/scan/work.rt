@@ -4,16 +4,16 @@ ghost use Rattle.std.specs.List.{AllByRecursion};
 ghost use Rattle.jpeg_segments.specs.FrameView.{frame_in};
 ghost use Rattle.jpeg_segments.specs.ScanHeader.{IsScanOf};
 ghost use Rattle.jpeg_bits.specs.Reading.{NamesFormat};
-ghost use Rattle.jpeg_streams.specs.Order.{mcu_size, spots_of};
-ghost use Rattle.jpeg_streams.specs.Sound.{IsDecodedFrame};
-ghost use Rattle.jpeg_streams.specs.Work.{blocks_coded, components_at, is_above, left_after};
-ghost use Rattle.jpeg_streams.specs.Work.{picture_blocks, work_of_scan};
+ghost use Rattle.jpeg_meaning.specs.Order.{mcu_size, spots_of};
+ghost use Rattle.jpeg_meaning.specs.Sound.{IsDecodedFrame};
+ghost use Rattle.jpeg_meaning.specs.Work.{blocks_coded, components_at, is_above, left_after};
+ghost use Rattle.jpeg_meaning.specs.Work.{picture_blocks, work_of_scan};
 ghost use Rattle.jpeg_decoder.specs.Steps.{HasScale};
 
 use crate::scan::lossless::mcus_of;
 use jpeg_bits::error::{Error, Result, format_error_of};
+use jpeg_meaning::grids::grid_of;
 use jpeg_segments::parser::{CodingProcess, FrameInfo, ScanHeader};
-use jpeg_streams::grids::grid_of;
 use std::alloc::Global;
 
 /// Returns how many blocks an MCU of some components has, or one if a component is alone.

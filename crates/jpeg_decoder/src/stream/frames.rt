@@ -2,7 +2,7 @@
 ghost use Rattle.jpeg_pixels.specs.Pictures.{sources_of};
 ghost use Rattle.std.specs.Prelude.{◌≡◌, Ok, MatchResult, ◌≤◌, length, map, IsOk};
 ghost use Rattle.jpeg_bits.specs.Reading.{Names};
-ghost use Rattle.jpeg_streams.specs.Segments.{accepted, is_arithmetic, is_decoded_precision};
+ghost use Rattle.jpeg_meaning.specs.Segments.{accepted, is_arithmetic, is_decoded_precision};
 ghost use Rattle.jpeg_segments.specs.Frame.{AllHaveSampling};
 ghost use Rattle.jpeg_segments.specs.FrameView.{component_in, frame_in};
 ghost use Rattle.jpeg_decoder.specs.Steps.{IsRefusal};
@@ -51,7 +51,7 @@ fn check_ratios(alloc: Global, frame: &FrameInfo) -> Result<()>
 }
 
 /// Checks that a frame can be decoded.
-#[tactic(auto, unfolding(jpeg_streams::specs::Segments::accepted))]
+#[tactic(auto, unfolding(jpeg_meaning::specs::Segments::accepted))]
 pub fn check_frame(alloc: Global, frame: &FrameInfo) -> Result<()>
     requires { AllHaveSampling (map component_in frame.now.components.items) }
     ensures { MatchResult result (λ _. accepted (frame_in frame.now)

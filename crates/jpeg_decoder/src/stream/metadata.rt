@@ -28,8 +28,8 @@ impl Metadata {
     ghost use Rattle.std.specs.Prelude.{◌≡◌, MatchResult, option_map};
     ghost use Rattle.jpeg_bits.specs.declared.error.Error.TheVariants.{OutOfMemory};
     ghost use Rattle.jpeg_segments.specs.FrameView.{application_in};
-    ghost use Rattle.jpeg_streams.specs.Segments.{with_application};
-    ghost use Rattle.jpeg_streams.specs.Found.{no_metadata};
+    ghost use Rattle.jpeg_meaning.specs.Segments.{with_application};
+    ghost use Rattle.jpeg_meaning.specs.Found.{no_metadata};
     ghost use Rattle.jpeg_decoder.specs.Seen.{metadata_in};
 
     /// Makes the state in which nothing has been said.

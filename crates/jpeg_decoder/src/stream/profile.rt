@@ -5,7 +5,7 @@ ghost use Rattle.std.specs.Option.{option_copied};
 ghost use Rattle.std.specs.List.{find, list_all, range_with_len};
 ghost use Rattle.jpeg_bits.specs.declared.error.Error.TheVariants.{OutOfMemory};
 ghost use Rattle.jpeg_segments.specs.FrameView.{chunk_in};
-ghost use Rattle.jpeg_streams.specs.Profile.{profile_of};
+ghost use Rattle.jpeg_meaning.specs.Profile.{profile_of};
 
 use jpeg_bits::error::Result;
 use jpeg_segments::parser::IccChunk;
@@ -67,7 +67,7 @@ fn joined(alloc: Global, chunks: &[IccChunk], count: usize) -> Result<Option<Vec
 
 /// Returns the profile, if there are 1 to 254 parts, each names their number, and they are numbered
 /// 1, 2 and so on, in any order. The only error is `OutOfMemory`.
-#[tactic(auto, unfolding(jpeg_streams::specs::Profile::profile_of))]
+#[tactic(auto, unfolding(jpeg_meaning::specs::Profile::profile_of))]
 pub fn profile(alloc: Global, chunks: &[IccChunk]) -> Result<Option<Vec<u8>>>
     ensures { MatchResult result (λ o. option_map (λ v. v.items) o
         ≡ profile_of (map chunk_in chunks.now)) (λ e. e ≡ OutOfMemory) }

@@ -10,10 +10,10 @@ use jpeg_bits::huffman::HuffmanTable;
 use jpeg_bits::marker::Marker;
 use jpeg_bits::source::Source;
 use jpeg_bits::source::reads::{read_length, skip};
+use jpeg_meaning::before::Before;
 use jpeg_segments::parser::{
     FrameInfo, parse_app, parse_dqt, parse_dri, parse_sof, read_huffman_tables,
 };
-use jpeg_streams::before::Before;
 use std::alloc::Global;
 use std::io::Read;
 use std::marker::Model;
@@ -41,7 +41,7 @@ pub struct Said {
 impl Model for Said {
     ghost use Rattle.std.specs.Prelude.{◌≡◌, true};
     ghost use Rattle.jpeg_segments.specs.HuffmanTables.{all_ac};
-    ghost use Rattle.jpeg_streams.specs.Found.{Said};
+    ghost use Rattle.jpeg_meaning.specs.Found.{Said};
 
     ghost Value = { Said };
 
@@ -63,7 +63,7 @@ pub struct State {
 }
 
 impl Model for State {
-    ghost use Rattle.jpeg_streams.specs.Found.{Found};
+    ghost use Rattle.jpeg_meaning.specs.Found.{Found};
 
     ghost Value = { Found };
 
@@ -95,12 +95,12 @@ impl State {
     ghost use Rattle.std.specs.Prelude.{◌≡◌, false};
     ghost use Rattle.jpeg_bits.specs.Reading.{Answers};
     ghost use Rattle.jpeg_bits.specs.declared.marker.Marker.TheVariants.{RST};
-    ghost use Rattle.jpeg_streams.specs.Segments.{quantization_segment, frame_segment};
-    ghost use Rattle.jpeg_streams.specs.Segments.{restart_segment, huffman_segment};
-    ghost use Rattle.jpeg_streams.specs.Segments.{skipped_segment, application_segment};
-    ghost use Rattle.jpeg_streams.specs.Found.{nothing_found};
-    ghost use Rattle.jpeg_streams.specs.ScanSegments.{once_scanned, scan_before};
-    ghost use Rattle.jpeg_streams.specs.Stream.{end_segment, segment_at};
+    ghost use Rattle.jpeg_meaning.specs.Segments.{quantization_segment, frame_segment};
+    ghost use Rattle.jpeg_meaning.specs.Segments.{restart_segment, huffman_segment};
+    ghost use Rattle.jpeg_meaning.specs.Segments.{skipped_segment, application_segment};
+    ghost use Rattle.jpeg_meaning.specs.Found.{nothing_found};
+    ghost use Rattle.jpeg_meaning.specs.ScanSegments.{once_scanned, scan_before};
+    ghost use Rattle.jpeg_meaning.specs.Stream.{end_segment, segment_at};
     ghost use Rattle.jpeg_decoder.specs.Steps.{IsStep, turn_of};
     ghost use Rattle.jpeg_decoder.specs.Reaching.{OnFault, without_tables};
 
@@ -125,7 +125,7 @@ impl State {
 
     /// Reads a frame header (T.81, B.2.2).
     #[inline(never)]
-    #[tactic(auto, unfolding(jpeg_streams::specs::Segments::frame_segment))]
+    #[tactic(auto, unfolding(jpeg_meaning::specs::Segments::frame_segment))]
     pub fn read_frame<R: Read + Drop>(
         &mut self,
         alloc: Global,
@@ -149,7 +149,7 @@ impl State {
 
     /// Reads quantization tables (T.81, B.2.4.1).
     #[inline(never)]
-    #[tactic(auto, using(jpeg_streams::proofs::Soundness::sound_kept))]
+    #[tactic(auto, using(jpeg_meaning::proofs::Soundness::sound_kept))]
     pub fn read_quantization<R: Read + Drop>(
         &mut self,
         alloc: Global,
@@ -192,7 +192,7 @@ impl State {
 
     /// Reads a restart interval (T.81, B.2.4.4).
     #[inline(never)]
-    #[tactic(auto, using(jpeg_streams::proofs::Soundness::sound_kept))]
+    #[tactic(auto, using(jpeg_meaning::proofs::Soundness::sound_kept))]
     pub fn read_restart_interval<R: Read + Drop>(
         &mut self,
         alloc: Global,
@@ -228,7 +228,7 @@ impl State {
 
     /// Reads data of an application, and adds what it says.
     #[inline(never)]
-    #[tactic(auto, using(jpeg_streams::proofs::Soundness::sound_kept))]
+    #[tactic(auto, using(jpeg_meaning::proofs::Soundness::sound_kept))]
     fn add_application<R: Read + Drop>(
         &mut self,
         alloc: Global,
@@ -262,7 +262,7 @@ impl State {
     }
 
     /// Ends the image, which needs a frame.
-    #[tactic(auto, unfolding(jpeg_streams::specs::Stream::end_segment))]
+    #[tactic(auto, unfolding(jpeg_meaning::specs::Stream::end_segment))]
     pub fn end<R: Read + Drop>(&self, alloc: Global, source: &mut Source<R>) -> Result<Step>
         ensures reads { Answers (turn_of self.now) (end_segment self.now) source.old
             result source.new }
@@ -302,7 +302,7 @@ impl State {
     }
 
     /// Ignores a restart marker after a scan, once.
-    #[tactic(auto, unfolding(jpeg_streams::specs::Stream::segment_at))]
+    #[tactic(auto, unfolding(jpeg_meaning::specs::Stream::segment_at))]
     pub fn stray_restart<R: Read + Drop>(
         &self,
         alloc: Global,

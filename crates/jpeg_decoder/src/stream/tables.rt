@@ -1,7 +1,7 @@
 //! Tables by their destinations.
 ghost use Rattle.std.specs.Prelude.{◌≡◌, None, length, slice_index_or, Some, MatchResult};
 ghost use Rattle.std.specs.Option.{option_copied};
-ghost use Rattle.jpeg_streams.specs.Segments.{updated};
+ghost use Rattle.jpeg_meaning.specs.Segments.{updated};
 ghost use Rattle.jpeg_bits.specs.Reading.{NamesFormat};
 
 use jpeg_bits::error::{Error, Result, format_error_of};

@@ -2,12 +2,12 @@
 ghost use Rattle.std.specs.Prelude.{◌≡◌, ◌&&◌, true, is_some, None, OnOk, IfOk};
 ghost use Rattle.jpeg_bits.specs.Marker.{found_or, next_marker};
 ghost use Rattle.jpeg_bits.specs.Reading.{Answers, IsShort, NamesFormat};
-ghost use Rattle.jpeg_streams.specs.Reported.{IsOfTurns};
-ghost use Rattle.jpeg_streams.specs.Sound.{IsSound, IsUnread};
-ghost use Rattle.jpeg_streams.specs.States.{OnTold, OnToldRefusal};
-ghost use Rattle.jpeg_streams.specs.Stream.{segment_at, told_of};
-ghost use Rattle.jpeg_streams.specs.Stream.{turn_within};
-ghost use Rattle.jpeg_streams.specs.Work.{is_above, left_after, work_of_turn};
+ghost use Rattle.jpeg_meaning.specs.Reported.{IsOfTurns};
+ghost use Rattle.jpeg_meaning.specs.Sound.{IsSound, IsUnread};
+ghost use Rattle.jpeg_meaning.specs.States.{OnTold, OnToldRefusal};
+ghost use Rattle.jpeg_meaning.specs.Stream.{segment_at, told_of};
+ghost use Rattle.jpeg_meaning.specs.Stream.{turn_within};
+ghost use Rattle.jpeg_meaning.specs.Work.{is_above, left_after, work_of_turn};
 ghost use Rattle.jpeg_bits.specs.declared.marker.Marker.TheVariants.{SOS};
 ghost use Rattle.jpeg_decoder.specs.Reaching.{OnFault, without_tables};
 ghost use Rattle.jpeg_decoder.specs.Steps.{IsStep, turn_of};
@@ -21,7 +21,7 @@ use jpeg_bits::beyond::Beyond;
 use jpeg_bits::error::{Error, Result, UnsupportedFeature, format_error, format_error_of};
 use jpeg_bits::marker::{Marker, read_marker};
 use jpeg_bits::source::Source;
-use jpeg_streams::before::Before;
+use jpeg_meaning::before::Before;
 use std::alloc::Global;
 use std::io::Read;
 

@@ -6,18 +6,18 @@ use Rattle.jpeg_bits.specs.Reading.{Fault, Outcome}
 use Rattle.jpeg_bits.specs.declared.marker.Marker.{Marker}
 use Rattle.jpeg_segments.specs.Frame.{Frame}
 use Rattle.jpeg_segments.proofs.Codecs.{bind-ok, err-ok, ok-same}
-use Rattle.jpeg_streams.specs.declared.before.Before.{Before}
-use Rattle.jpeg_streams.specs.declared.before.Before.TheVariants.{Elsewhere}
-use Rattle.jpeg_streams.specs.declared.settings.Settings.{Settings}
-use Rattle.jpeg_streams.specs.Brought.{Brought}
-use Rattle.jpeg_streams.specs.Found.{Found, nothing_found}
-use Rattle.jpeg_streams.specs.Segments.{Turn}
-use Rattle.jpeg_streams.specs.Shown.{Shown, framed_or, picture_shown, rows_of_found, rows_of_frame, shown, shown_of}
-use Rattle.jpeg_streams.specs.Shown.{shown_rest, shown_rest_within, shown_within, whole_rows, whole_rows_rest}
-use Rattle.jpeg_streams.specs.Shown.{whole_rows_within}
-use Rattle.jpeg_streams.specs.Stream.{all_brought, start_at, turn_at, walk}
-use Rattle.jpeg_streams.proofs.Partial.Faultless.{faultless}
-use Rattle.jpeg_streams.proofs.Written.ReadTurns.{walked}
+use Rattle.jpeg_meaning.specs.declared.before.Before.{Before}
+use Rattle.jpeg_meaning.specs.declared.before.Before.TheVariants.{Elsewhere}
+use Rattle.jpeg_meaning.specs.declared.settings.Settings.{Settings}
+use Rattle.jpeg_meaning.specs.Brought.{Brought}
+use Rattle.jpeg_meaning.specs.Found.{Found, nothing_found}
+use Rattle.jpeg_meaning.specs.Segments.{Turn}
+use Rattle.jpeg_meaning.specs.Shown.{Shown, framed_or, picture_shown, rows_of_found, rows_of_frame, shown, shown_of}
+use Rattle.jpeg_meaning.specs.Shown.{shown_rest, shown_rest_within, shown_within, whole_rows, whole_rows_rest}
+use Rattle.jpeg_meaning.specs.Shown.{whole_rows_within}
+use Rattle.jpeg_meaning.specs.Stream.{all_brought, start_at, turn_at, walk}
+use Rattle.jpeg_meaning.proofs.Partial.Faultless.{faultless}
+use Rattle.jpeg_meaning.proofs.Written.ReadTurns.{walked}
 use Rattle.jpeg_bits.specs.declared.beyond.Beyond.TheVariants.{Nothing}
 use Rattle.jpeg_evidence.proofs.Longer.LongerTurns.{walk_on}
 

@@ -6,19 +6,19 @@ use Rattle.std.proofs.lemmas.Nat.{div-add-mod'}
 use Rattle.jpeg_bits.specs.Passes.{Block, Pass, whole_pass, zero_block}
 use Rattle.jpeg_segments.specs.Frame.{Component, Frame}
 use Rattle.jpeg_segments.specs.ScanHeader.{Scan}
-use Rattle.jpeg_streams.specs.Found.{Found, Said}
-use Rattle.jpeg_streams.specs.InTurn.{IsIn}
-use Rattle.jpeg_streams.specs.Levels.{IsLegal, Levels, cut, nothing_sent, sent_after}
-use Rattle.jpeg_streams.specs.Order.{Spot, grid_of}
-use Rattle.jpeg_streams.specs.Scans.{Arrays, block_at}
-use Rattle.jpeg_streams.specs.ScanSegments.{Coding, after_scan, arrays_before, is_progressive, pass_of}
-use Rattle.jpeg_streams.specs.WrittenScans.{Coefficients, IsOwn, levels_after, levels_of_one}
-use Rattle.jpeg_streams.proofs.Order.Apart.{At, at-all, at-got, at-one, get-at}
-use Rattle.jpeg_streams.proofs.Written.BroughtLevels.{AfterScan, AllDone, AllKept, Framed, KnownScan, Marked, PlaneSo}
-use Rattle.jpeg_streams.proofs.Written.BroughtLevels.{Progress, after-brings, after-length, all-done, apart, eqb_cases, facts}
-use Rattle.jpeg_streams.proofs.Written.BroughtLevels.{indices_of, is-legal, one-other, one-same, reading}
-use Rattle.jpeg_streams.proofs.Order.OwnSpots.{AreApart, IsAbsent}
-use Rattle.jpeg_streams.proofs.Written.WrittenFrameScans.{HoldsOwn}
+use Rattle.jpeg_meaning.specs.Found.{Found, Said}
+use Rattle.jpeg_meaning.specs.InTurn.{IsIn}
+use Rattle.jpeg_meaning.specs.Levels.{IsLegal, Levels, cut, nothing_sent, sent_after}
+use Rattle.jpeg_meaning.specs.Order.{Spot, grid_of}
+use Rattle.jpeg_meaning.specs.Scans.{Arrays, block_at}
+use Rattle.jpeg_meaning.specs.ScanSegments.{Coding, after_scan, arrays_before, is_progressive, pass_of}
+use Rattle.jpeg_meaning.specs.WrittenScans.{Coefficients, IsOwn, levels_after, levels_of_one}
+use Rattle.jpeg_meaning.proofs.Order.Apart.{At, at-all, at-got, at-one, get-at}
+use Rattle.jpeg_meaning.proofs.Written.BroughtLevels.{AfterScan, AllDone, AllKept, Framed, KnownScan, Marked, PlaneSo}
+use Rattle.jpeg_meaning.proofs.Written.BroughtLevels.{Progress, after-brings, after-length, all-done, apart, eqb_cases, facts}
+use Rattle.jpeg_meaning.proofs.Written.BroughtLevels.{indices_of, is-legal, one-other, one-same, reading}
+use Rattle.jpeg_meaning.proofs.Order.OwnSpots.{AreApart, IsAbsent}
+use Rattle.jpeg_meaning.proofs.Written.WrittenFrameScans.{HoldsOwn}
 use Rattle.jpeg_evidence.specs.CutImages.{HasBlock}
 use Rattle.jpeg_evidence.proofs.Taken.TakenBits.{none-is, some-is}
 use Rattle.jpeg_evidence.proofs.Cut.CutLater.{AreLater, cut-count, cut-earlier, cut-later, later-sent, later-themselves}

@@ -9,11 +9,11 @@ use Rattle.jpeg_bits.specs.Passes.{Pass, Via}
 use Rattle.jpeg_bits.specs.Reading.{End, Fault, Malformed, Outcome}
 use Rattle.jpeg_bits.specs.Reading as outcomes
 use Rattle.jpeg_bits.specs.declared.marker.Marker.{Marker}
-use Rattle.jpeg_streams.specs.Brought.{after_interval, after_intervals, interval_reached, intervals_reached, or_first}
-use Rattle.jpeg_streams.specs.Order.{Spot}
-use Rattle.jpeg_streams.specs.Scans.{Arrays}
-use Rattle.jpeg_streams.specs.ScanSegments.{Coding, vias_from}
-use Rattle.jpeg_streams.proofs.Partial.ReachedIntervals.{Scanned, next_reached}
+use Rattle.jpeg_meaning.specs.Brought.{after_interval, after_intervals, interval_reached, intervals_reached, or_first}
+use Rattle.jpeg_meaning.specs.Order.{Spot}
+use Rattle.jpeg_meaning.specs.Scans.{Arrays}
+use Rattle.jpeg_meaning.specs.ScanSegments.{Coding, vias_from}
+use Rattle.jpeg_meaning.proofs.Partial.ReachedIntervals.{Scanned, next_reached}
 use Rattle.jpeg_evidence.proofs.Longer.LongerBits.{AreSized, HasSized}
 use Rattle.jpeg_evidence.proofs.Longer.LongerData.{interval-stay, interval-stays}
 use Rattle.jpeg_evidence.proofs.Longer.LongerSegments.{Stays, after-stays, stays-bind}

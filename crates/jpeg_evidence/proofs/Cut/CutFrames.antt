@@ -15,22 +15,22 @@ use Rattle.jpeg_bits.specs.declared.marker.Marker.{Marker}
 use Rattle.jpeg_bits.specs.declared.marker.Marker.TheVariants.{EOI}
 use Rattle.jpeg_segments.specs.Frame.{Component, Frame}
 use Rattle.jpeg_segments.specs.ScanHeader.{Scan}
-use Rattle.jpeg_streams.specs.Brought.{BlocksTo, scan_reached}
-use Rattle.jpeg_streams.specs.Found.{Found, Said}
-use Rattle.jpeg_streams.specs.InTurn.{AreApart, AreArrays, Fits, IsIn}
-use Rattle.jpeg_streams.specs.Levels.{Levels, cut, nothing_sent, numbers_at, sent_after}
-use Rattle.jpeg_streams.specs.Order.{Spot, grid_of, mcu_size, own_spots, spots_of}
-use Rattle.jpeg_streams.specs.Scans.{Arrays, block_at, put_block, put_blocks}
-use Rattle.jpeg_streams.specs.ScanSegments.{Coding, arrays_before, components_of, is_progressive, pass_of}
-use Rattle.jpeg_streams.specs.ScanSegments.{after_restarts, scan_arrays, vias_from}
-use Rattle.jpeg_streams.specs.WrittenScans.{Coefficients, IsOwn}
-use Rattle.jpeg_streams.proofs.Order.Apart.{At, at-got, get-at, spots-apart}
-use Rattle.jpeg_streams.proofs.Written.BroughtLevels.{CodingFacts, KnownScan, PassSo, Progress, Scanned, Shaped, count, facts}
-use Rattle.jpeg_streams.proofs.Written.BroughtLevels.{holds-now, is-legal, low, progressive, reading, scan-brings, sequential}
-use Rattle.jpeg_streams.proofs.Written.BroughtLevels.{sequential-arrays, single, stands, unsent, zero-at, zeros-now}
-use Rattle.jpeg_streams.proofs.Order.OwnSpots.{IsOwnSpot, own-only}
-use Rattle.jpeg_streams.proofs.Written.ReadTurns.{ok-same}
-use Rattle.jpeg_streams.proofs.Written.WrittenFrameScans.{IsReadyAt, array-at, in-all, put-size, zeros-in}
+use Rattle.jpeg_meaning.specs.Brought.{BlocksTo, scan_reached}
+use Rattle.jpeg_meaning.specs.Found.{Found, Said}
+use Rattle.jpeg_meaning.specs.InTurn.{AreApart, AreArrays, Fits, IsIn}
+use Rattle.jpeg_meaning.specs.Levels.{Levels, cut, nothing_sent, numbers_at, sent_after}
+use Rattle.jpeg_meaning.specs.Order.{Spot, grid_of, mcu_size, own_spots, spots_of}
+use Rattle.jpeg_meaning.specs.Scans.{Arrays, block_at, put_block, put_blocks}
+use Rattle.jpeg_meaning.specs.ScanSegments.{Coding, arrays_before, components_of, is_progressive, pass_of}
+use Rattle.jpeg_meaning.specs.ScanSegments.{after_restarts, scan_arrays, vias_from}
+use Rattle.jpeg_meaning.specs.WrittenScans.{Coefficients, IsOwn}
+use Rattle.jpeg_meaning.proofs.Order.Apart.{At, at-got, get-at, spots-apart}
+use Rattle.jpeg_meaning.proofs.Written.BroughtLevels.{CodingFacts, KnownScan, PassSo, Progress, Scanned, Shaped, count, facts}
+use Rattle.jpeg_meaning.proofs.Written.BroughtLevels.{holds-now, is-legal, low, progressive, reading, scan-brings, sequential}
+use Rattle.jpeg_meaning.proofs.Written.BroughtLevels.{sequential-arrays, single, stands, unsent, zero-at, zeros-now}
+use Rattle.jpeg_meaning.proofs.Order.OwnSpots.{IsOwnSpot, own-only}
+use Rattle.jpeg_meaning.proofs.Written.ReadTurns.{ok-same}
+use Rattle.jpeg_meaning.proofs.Written.WrittenFrameScans.{IsReadyAt, array-at, in-all, put-size, zeros-in}
 use Rattle.jpeg_evidence.specs.FirstBlocks.{IsMost, StandWhole}
 use Rattle.jpeg_evidence.specs.LongerStreams.{IsDcAlone, IsKeptBefore, Puts, ReadsOn, arrays_of}
 use Rattle.jpeg_evidence.specs.LongerStreams.Puts.{finished, put}

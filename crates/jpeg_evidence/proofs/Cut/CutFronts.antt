@@ -7,29 +7,29 @@ use Rattle.jpeg_bits.specs.Written.{marker}
 use Rattle.jpeg_segments.specs.Frame.{Frame}
 use Rattle.jpeg_segments.specs.ScanHeaders.{IsScan, ScanHeader, scan_written}
 use Rattle.jpeg_segments.specs.WrittenSegments.{Header, Segment, frame_written}
-use Rattle.jpeg_streams.specs.Brought.{Brought, unbrought}
-use Rattle.jpeg_streams.specs.Found.{Found, Said, nothing_said}
-use Rattle.jpeg_streams.specs.Levels.{Levels, nothing_sent}
-use Rattle.jpeg_streams.specs.SaidSegments.{Stands, said_after}
-use Rattle.jpeg_streams.specs.ScanSegments.{is_progressive, pass_of}
-use Rattle.jpeg_streams.specs.WrittenImages.{MayStandInImage, WritesImageScan}
-use Rattle.jpeg_streams.specs.WrittenScans.{Coefficients, levels_after}
-use Rattle.jpeg_streams.specs.WrittenStreams.{Writes, end, scan, segment}
-use Rattle.jpeg_streams.specs.declared.before.Before.{Before}
-use Rattle.jpeg_streams.proofs.Written.BroughtLevels.{PassSo, indices_of, is_whole, progressive, scan-apart, sequential}
-use Rattle.jpeg_streams.proofs.Written.CodingsInForce.{codings-found}
-use Rattle.jpeg_streams.proofs.Pictures.DecodedHeaders.{decoded-accepted}
-use Rattle.jpeg_streams.proofs.Order.FrameShapes.{accepted-facts, count-few}
-use Rattle.jpeg_streams.proofs.Order.OwnSpots.{AreApart}
-use Rattle.jpeg_streams.proofs.Written.ReadTurns.{refused_walk, same-frame, same-turn, some-none, walk-refused}
-use Rattle.jpeg_streams.proofs.Written.ReadTurns.{walked}
-use Rattle.jpeg_streams.proofs.Written.WalkedStreams.{IsSaid, nothing-said, segment-said}
-use Rattle.jpeg_streams.proofs.Written.WrittenPictures.{IsDrawn, drawn-said, header-facts}
+use Rattle.jpeg_meaning.specs.Brought.{Brought, unbrought}
+use Rattle.jpeg_meaning.specs.Found.{Found, Said, nothing_said}
+use Rattle.jpeg_meaning.specs.Levels.{Levels, nothing_sent}
+use Rattle.jpeg_meaning.specs.SaidSegments.{Stands, said_after}
+use Rattle.jpeg_meaning.specs.ScanSegments.{is_progressive, pass_of}
+use Rattle.jpeg_meaning.specs.WrittenImages.{MayStandInImage, WritesImageScan}
+use Rattle.jpeg_meaning.specs.WrittenScans.{Coefficients, levels_after}
+use Rattle.jpeg_meaning.specs.WrittenStreams.{Writes, end, scan, segment}
+use Rattle.jpeg_meaning.specs.declared.before.Before.{Before}
+use Rattle.jpeg_meaning.proofs.Written.BroughtLevels.{PassSo, indices_of, is_whole, progressive, scan-apart, sequential}
+use Rattle.jpeg_meaning.proofs.Written.CodingsInForce.{codings-found}
+use Rattle.jpeg_meaning.proofs.Pictures.DecodedHeaders.{decoded-accepted}
+use Rattle.jpeg_meaning.proofs.Order.FrameShapes.{accepted-facts, count-few}
+use Rattle.jpeg_meaning.proofs.Order.OwnSpots.{AreApart}
+use Rattle.jpeg_meaning.proofs.Written.ReadTurns.{refused_walk, same-frame, same-turn, some-none, walk-refused}
+use Rattle.jpeg_meaning.proofs.Written.ReadTurns.{walked}
+use Rattle.jpeg_meaning.proofs.Written.WalkedStreams.{IsSaid, nothing-said, segment-said}
+use Rattle.jpeg_meaning.proofs.Written.WrittenPictures.{IsDrawn, drawn-said, header-facts}
 use Rattle.jpeg_evidence.specs.CutImages.{WritesFront}
 use Rattle.jpeg_evidence.proofs.Cut.CutBlocks.{NoneOrAll, all_sent, whole-after}
 use Rattle.jpeg_evidence.proofs.Cut.CutPictures.{AllOrNone}
 use Rattle.jpeg_evidence.proofs.Taken.TakenBits.{some-is}
-use Rattle.jpeg_streams.specs.Stream.{turn_at, walk}
+use Rattle.jpeg_meaning.specs.Stream.{turn_at, walk}
 use Rattle.jpeg_bits.specs.declared.beyond.Beyond.TheVariants.{Nothing}
 
 -- ---- beginnings of bytes

@@ -10,25 +10,25 @@ use Rattle.jpeg_segments.specs.Frame.{Frame}
 use Rattle.jpeg_segments.specs.ScanHeaders.{IsScan, ScanHeader, scan_payload, scan_written}
 use Rattle.jpeg_segments.specs.WrittenSegments.{Segment, marker_code, payload_of, with_length}
 use Rattle.jpeg_segments.proofs.Fields.{kept}
-use Rattle.jpeg_streams.specs.ArrayPictures.{as_sent}
-use Rattle.jpeg_streams.specs.Found.{Found, Said, nothing_found, nothing_said}
-use Rattle.jpeg_streams.specs.Levels.{Is8Bit, Levels, nothing_sent}
-use Rattle.jpeg_streams.specs.SaidSegments.{Stands, said_after}
-use Rattle.jpeg_streams.specs.Scans.{Arrays}
-use Rattle.jpeg_streams.specs.ScanSegments.{after_restarts, after_scan, components_of}
-use Rattle.jpeg_streams.specs.Segments.{Turn, onward}
-use Rattle.jpeg_streams.specs.Stream.{Walked, all_brought, brought_after, end_segment, segment_at, turn_at}
-use Rattle.jpeg_streams.specs.WholeRows.{rows_above}
-use Rattle.jpeg_streams.specs.WrittenImages.{MayStandInImage, WritesImageScan}
-use Rattle.jpeg_streams.specs.WrittenScans.{Coefficients}
-use Rattle.jpeg_streams.specs.WrittenStreams.{end}
-use Rattle.jpeg_streams.specs.declared.before.Before.{Before}
-use Rattle.jpeg_streams.specs.declared.before.Before.TheVariants.{Elsewhere}
-use Rattle.jpeg_streams.proofs.Written.BroughtLevels.{AfterScan, Framed}
-use Rattle.jpeg_streams.proofs.Written.ReadTurns.{Begins, StandsAt, same-frame, same-turn, walk-end, walk-on}
-use Rattle.jpeg_streams.proofs.Written.WalkedStreams.{IsSaid, beside, nothing-said, segment-said}
-use Rattle.jpeg_streams.proofs.Written.WrittenPictures.{Holds, IsDrawn, Progress, bring, drawn-said, framed-now, framed-same}
-use Rattle.jpeg_streams.proofs.Written.WrittenPictures.{holds-nothing, image-read, known_scan, no_progress}
+use Rattle.jpeg_meaning.specs.ArrayPictures.{as_sent}
+use Rattle.jpeg_meaning.specs.Found.{Found, Said, nothing_found, nothing_said}
+use Rattle.jpeg_meaning.specs.Levels.{Is8Bit, Levels, nothing_sent}
+use Rattle.jpeg_meaning.specs.SaidSegments.{Stands, said_after}
+use Rattle.jpeg_meaning.specs.Scans.{Arrays}
+use Rattle.jpeg_meaning.specs.ScanSegments.{after_restarts, after_scan, components_of}
+use Rattle.jpeg_meaning.specs.Segments.{Turn, onward}
+use Rattle.jpeg_meaning.specs.Stream.{Walked, all_brought, brought_after, end_segment, segment_at, turn_at}
+use Rattle.jpeg_meaning.specs.WholeRows.{rows_above}
+use Rattle.jpeg_meaning.specs.WrittenImages.{MayStandInImage, WritesImageScan}
+use Rattle.jpeg_meaning.specs.WrittenScans.{Coefficients}
+use Rattle.jpeg_meaning.specs.WrittenStreams.{end}
+use Rattle.jpeg_meaning.specs.declared.before.Before.{Before}
+use Rattle.jpeg_meaning.specs.declared.before.Before.TheVariants.{Elsewhere}
+use Rattle.jpeg_meaning.proofs.Written.BroughtLevels.{AfterScan, Framed}
+use Rattle.jpeg_meaning.proofs.Written.ReadTurns.{Begins, StandsAt, same-frame, same-turn, walk-end, walk-on}
+use Rattle.jpeg_meaning.proofs.Written.WalkedStreams.{IsSaid, beside, nothing-said, segment-said}
+use Rattle.jpeg_meaning.proofs.Written.WrittenPictures.{Holds, IsDrawn, Progress, bring, drawn-said, framed-now, framed-same}
+use Rattle.jpeg_meaning.proofs.Written.WrittenPictures.{holds-nothing, image-read, known_scan, no_progress}
 use Rattle.jpeg_evidence.specs.CutImages.{HasRows, HoldsCut, IsPartOfNext, WritesFront, in_segment, of_end}
 use Rattle.jpeg_evidence.specs.CutImages.{of_header, of_marker}
 use Rattle.jpeg_evidence.specs.CutImages.{of_segment}
@@ -40,7 +40,7 @@ use Rattle.jpeg_evidence.proofs.Cut.CutRows.{has-rows}
 use Rattle.jpeg_evidence.proofs.Cut.CutScans.{past-of, scan-past, segment-past, unscanned}
 use Rattle.jpeg_evidence.proofs.Cut.CutWalks.{segment-brings, turn-next}
 use Rattle.jpeg_evidence.proofs.Cut.WrittenCuts.{eoi_code}
-use Rattle.jpeg_streams.specs.Shown.{rows_of_found}
+use Rattle.jpeg_meaning.specs.Shown.{rows_of_found}
 use Rattle.jpeg_bits.specs.declared.beyond.Beyond.TheVariants.{Nothing}
 
 -- ---- the end of an image

@@ -8,10 +8,10 @@ use Rattle.std.proofs.Math.Nat.{mul_assoc, zero-mul}
 use Rattle.std.proofs.lemmas.Bool.{eqb-true}
 use lib.Pow.{pow-add}
 use Rattle.jpeg_bits.specs.Passes.{Block, Pass, band_of, before_band}
-use Rattle.jpeg_streams.specs.Levels.{IsLegal, Levels, cut, cut_acs, cut_by, floor_at, sent_after, toward_zero}
-use Rattle.jpeg_streams.proofs.Written.CutLevels.{around-band, half-floor, halved-toward}
-use Rattle.jpeg_streams.proofs.Written.SentBlocks.{floor_half, halved}
-use Rattle.jpeg_streams.proofs.Written.WrittenRefinements.{neg-times}
+use Rattle.jpeg_meaning.specs.Levels.{IsLegal, Levels, cut, cut_acs, cut_by, floor_at, sent_after, toward_zero}
+use Rattle.jpeg_meaning.proofs.Written.CutLevels.{around-band, half-floor, halved-toward}
+use Rattle.jpeg_meaning.proofs.Written.SentBlocks.{floor_half, halved}
+use Rattle.jpeg_meaning.proofs.Written.WrittenRefinements.{neg-times}
 use Rattle.jpeg_evidence.proofs.Taken.TakenLevels.{floor-scaled, toward-scaled}
 
 -- ---- numbers

@@ -10,28 +10,28 @@ use Rattle.jpeg_segments.specs.Frame.{Component, Frame}
 use Rattle.jpeg_segments.specs.declared.frame.CodingProcess.{CodingProcess}
 use Rattle.jpeg_segments.specs.declared.frame.CodingProcess.TheVariants.{Lossless}
 use Rattle.jpeg_segments.proofs.Codecs.{err-ok}
-use Rattle.jpeg_streams.specs.declared.settings.Settings.{Settings}
-use Rattle.jpeg_streams.specs.ArrayPictures.{as_sent}
-use Rattle.jpeg_streams.specs.Found.{Found, Said}
-use Rattle.jpeg_streams.specs.FoundPictures.{blocks_picture, picture_by, picture_of, plane_at_end}
-use Rattle.jpeg_streams.specs.Levels.{Levels, nothing_sent}
-use Rattle.jpeg_streams.specs.Order.{grid_of}
-use Rattle.jpeg_streams.specs.Rasters.{plane_by, plane_of_blocks}
-use Rattle.jpeg_streams.specs.Scans.{zero_of}
-use Rattle.jpeg_streams.specs.ScanSegments.{arrays_before, decided, is_progressive}
-use Rattle.jpeg_streams.specs.Shown.{blocks_held, completed, picture_shown, shown_by, table_held, with_plane_shown}
-use Rattle.jpeg_streams.specs.WrittenScans.{Coefficients}
-use Rattle.jpeg_streams.proofs.Order.Apart.{At}
-use Rattle.jpeg_streams.proofs.Written.BroughtLevels.{Framed, Shaped, is_whole, zero-at, zero-holds}
-use Rattle.jpeg_streams.proofs.Order.FrameShapes.{scale-made}
-use Rattle.jpeg_streams.proofs.Pictures.LimitedPictures.{limited-same, within as within_limit}
-use Rattle.jpeg_streams.proofs.Written.ReadTurns.{then-ok}
-use Rattle.jpeg_streams.proofs.Pictures.UpsampledFactors.{SamePlane}
-use Rattle.jpeg_streams.proofs.Written.WalkedStreams.{beside}
-use Rattle.jpeg_streams.proofs.Written.WrittenFrameScans.{HoldsOwn}
-use Rattle.jpeg_streams.proofs.Written.WrittenPictures.{OnePlane, Progress, bring, end-decided, lossy-picture, plane-same}
-use Rattle.jpeg_streams.proofs.Written.WrittenPictures.{picture-by-same, planes-of}
-use Rattle.jpeg_streams.proofs.Partial.CompletedPictures.{all-stay, all_shown, one-stays}
+use Rattle.jpeg_meaning.specs.declared.settings.Settings.{Settings}
+use Rattle.jpeg_meaning.specs.ArrayPictures.{as_sent}
+use Rattle.jpeg_meaning.specs.Found.{Found, Said}
+use Rattle.jpeg_meaning.specs.FoundPictures.{blocks_picture, picture_by, picture_of, plane_at_end}
+use Rattle.jpeg_meaning.specs.Levels.{Levels, nothing_sent}
+use Rattle.jpeg_meaning.specs.Order.{grid_of}
+use Rattle.jpeg_meaning.specs.Rasters.{plane_by, plane_of_blocks}
+use Rattle.jpeg_meaning.specs.Scans.{zero_of}
+use Rattle.jpeg_meaning.specs.ScanSegments.{arrays_before, decided, is_progressive}
+use Rattle.jpeg_meaning.specs.Shown.{blocks_held, completed, picture_shown, shown_by, table_held, with_plane_shown}
+use Rattle.jpeg_meaning.specs.WrittenScans.{Coefficients}
+use Rattle.jpeg_meaning.proofs.Order.Apart.{At}
+use Rattle.jpeg_meaning.proofs.Written.BroughtLevels.{Framed, Shaped, is_whole, zero-at, zero-holds}
+use Rattle.jpeg_meaning.proofs.Order.FrameShapes.{scale-made}
+use Rattle.jpeg_meaning.proofs.Pictures.LimitedPictures.{limited-same, within as within_limit}
+use Rattle.jpeg_meaning.proofs.Written.ReadTurns.{then-ok}
+use Rattle.jpeg_meaning.proofs.Pictures.UpsampledFactors.{SamePlane}
+use Rattle.jpeg_meaning.proofs.Written.WalkedStreams.{beside}
+use Rattle.jpeg_meaning.proofs.Written.WrittenFrameScans.{HoldsOwn}
+use Rattle.jpeg_meaning.proofs.Written.WrittenPictures.{OnePlane, Progress, bring, end-decided, lossy-picture, plane-same}
+use Rattle.jpeg_meaning.proofs.Written.WrittenPictures.{picture-by-same, planes-of}
+use Rattle.jpeg_meaning.proofs.Partial.CompletedPictures.{all-stay, all_shown, one-stays}
 use Rattle.jpeg_evidence.specs.CutImages.{picture_held}
 
 -- a picture that is within the limit

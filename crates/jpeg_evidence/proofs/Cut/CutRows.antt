@@ -11,25 +11,25 @@ use Rattle.jpeg_segments.specs.Checks.{check, gathered, needed}
 use Rattle.jpeg_segments.specs.Frame.{Component, Frame}
 use Rattle.jpeg_segments.specs.declared.frame.CodingProcess.{CodingProcess}
 use Rattle.jpeg_segments.specs.declared.frame.CodingProcess.TheVariants.{Lossless}
-use Rattle.jpeg_streams.specs.Found.{Found, Said}
-use Rattle.jpeg_streams.specs.FoundPictures.{plane_at_end}
-use Rattle.jpeg_streams.specs.Levels.{Levels, nothing_sent}
-use Rattle.jpeg_streams.specs.Order.{Spot}
-use Rattle.jpeg_streams.specs.ScanSegments.{is_progressive}
-use Rattle.jpeg_streams.specs.Shown.{planes_by, rows_of_found, rows_of_frame}
-use Rattle.jpeg_streams.specs.WholeRows.{rows_above}
-use Rattle.jpeg_streams.specs.WrittenImages.{ClosesImage}
-use Rattle.jpeg_streams.specs.WrittenScans.{Coefficients, HasTable, IsComplete}
-use Rattle.jpeg_streams.proofs.Order.Apart.{At, all-from, at-all}
-use Rattle.jpeg_streams.proofs.Written.BroughtLevels.{Framed, PlaneSo, Shaped, is_whole}
-use Rattle.jpeg_streams.proofs.Encoded.EncodedParts.{in-range}
-use Rattle.jpeg_streams.proofs.Partial.CompletedPictures.{plane-goes, plane_of_parts}
-use Rattle.jpeg_streams.proofs.Partial.FittingFrames.{checked}
-use Rattle.jpeg_streams.proofs.Order.OwnSpots.{at-below, at-within, in-below}
-use Rattle.jpeg_streams.proofs.Written.ReadTurns.{bind-ok, gathered-more, needed-some}
-use Rattle.jpeg_streams.proofs.Written.WalkedStreams.{beside, closes}
-use Rattle.jpeg_streams.proofs.Written.WrittenFrameScans.{in-all}
-use Rattle.jpeg_streams.proofs.Written.WrittenPictures.{Progress, bring, end-decided, end-kept, some-there}
+use Rattle.jpeg_meaning.specs.Found.{Found, Said}
+use Rattle.jpeg_meaning.specs.FoundPictures.{plane_at_end}
+use Rattle.jpeg_meaning.specs.Levels.{Levels, nothing_sent}
+use Rattle.jpeg_meaning.specs.Order.{Spot}
+use Rattle.jpeg_meaning.specs.ScanSegments.{is_progressive}
+use Rattle.jpeg_meaning.specs.Shown.{planes_by, rows_of_found, rows_of_frame}
+use Rattle.jpeg_meaning.specs.WholeRows.{rows_above}
+use Rattle.jpeg_meaning.specs.WrittenImages.{ClosesImage}
+use Rattle.jpeg_meaning.specs.WrittenScans.{Coefficients, HasTable, IsComplete}
+use Rattle.jpeg_meaning.proofs.Order.Apart.{At, all-from, at-all}
+use Rattle.jpeg_meaning.proofs.Written.BroughtLevels.{Framed, PlaneSo, Shaped, is_whole}
+use Rattle.jpeg_meaning.proofs.Encoded.EncodedParts.{in-range}
+use Rattle.jpeg_meaning.proofs.Partial.CompletedPictures.{plane-goes, plane_of_parts}
+use Rattle.jpeg_meaning.proofs.Partial.FittingFrames.{checked}
+use Rattle.jpeg_meaning.proofs.Order.OwnSpots.{at-below, at-within, in-below}
+use Rattle.jpeg_meaning.proofs.Written.ReadTurns.{bind-ok, gathered-more, needed-some}
+use Rattle.jpeg_meaning.proofs.Written.WalkedStreams.{beside, closes}
+use Rattle.jpeg_meaning.proofs.Written.WrittenFrameScans.{in-all}
+use Rattle.jpeg_meaning.proofs.Written.WrittenPictures.{Progress, bring, end-decided, end-kept, some-there}
 use Rattle.jpeg_evidence.specs.CutImages.{HasRows, rows_before}
 use Rattle.jpeg_evidence.proofs.Cut.CutBlocks.{NoneOrAll}
 use Rattle.jpeg_evidence.proofs.Cut.CutFronts.{Unmixed, all-whole}

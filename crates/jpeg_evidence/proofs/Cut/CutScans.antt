@@ -13,28 +13,28 @@ use Rattle.jpeg_segments.specs.Frame.{Frame}
 use Rattle.jpeg_segments.specs.ScanHeaders.{IsScan, ScanHeader, scan_payload, scan_written}
 use Rattle.jpeg_segments.specs.WrittenSegments.{with_length, Segment, marker_code, payload_of}
 use Rattle.jpeg_segments.proofs.HeaderSegments.{sos-read}
-use Rattle.jpeg_streams.specs.Brought.{BlocksTo, Brought, blocks_brought_by, scan_brought, unbrought}
-use Rattle.jpeg_streams.proofs.Written.ReadTurns.{Begins, IsEnd, marker-turn, marker_for, same-turn}
-use Rattle.jpeg_streams.proofs.Written.ReadTurns.{refused_walk, segment-ends, segment-marker, stands-here, then-ok}
-use Rattle.jpeg_streams.proofs.Written.ReadTurns.{walk-refused}
-use Rattle.jpeg_streams.specs.declared.before.Before.{Before}
-use Rattle.jpeg_streams.specs.declared.before.Before.TheVariants.{Elsewhere}
+use Rattle.jpeg_meaning.specs.Brought.{BlocksTo, Brought, blocks_brought_by, scan_brought, unbrought}
+use Rattle.jpeg_meaning.proofs.Written.ReadTurns.{Begins, IsEnd, marker-turn, marker_for, same-turn}
+use Rattle.jpeg_meaning.proofs.Written.ReadTurns.{refused_walk, segment-ends, segment-marker, stands-here, then-ok}
+use Rattle.jpeg_meaning.proofs.Written.ReadTurns.{walk-refused}
+use Rattle.jpeg_meaning.specs.declared.before.Before.{Before}
+use Rattle.jpeg_meaning.specs.declared.before.Before.TheVariants.{Elsewhere}
 use Rattle.jpeg_bits.specs.declared.beyond.Beyond.TheVariants.{Nothing}
-use Rattle.jpeg_streams.specs.Found.{Found, Said, nothing_found, nothing_said}
-use Rattle.jpeg_streams.specs.Levels.{Is8Bit, Levels, nothing_sent}
-use Rattle.jpeg_streams.specs.ScanSegments.{Coding, after_restarts, after_scan, components_of, pass_of}
-use Rattle.jpeg_streams.specs.WholeRows.{rows_above}
-use Rattle.jpeg_streams.specs.WrittenImages.{WritesImageScan}
-use Rattle.jpeg_streams.specs.WrittenScans.{Coefficients}
-use Rattle.jpeg_streams.proofs.Order.Apart.{get-at}
-use Rattle.jpeg_streams.proofs.Partial.Faultless.{scan_of_codings}
-use Rattle.jpeg_streams.proofs.Written.CodingsInForce.{codings-found}
-use Rattle.jpeg_streams.proofs.Written.WalkedStreams.{beside, nothing-said}
-use Rattle.jpeg_streams.proofs.Written.BroughtLevels.{KnownScan}
-use Rattle.jpeg_streams.proofs.Written.WrittenPictures.{IsDrawn, bring, framed-now, holds-nothing, known_scan, no_progress}
-use Rattle.jpeg_streams.specs.SaidSegments.{Stands, said_after}
-use Rattle.jpeg_streams.specs.Segments.{Turn, onward}
-use Rattle.jpeg_streams.specs.Stream.{Walked, all_brought, segment_at, turn_at, walk}
+use Rattle.jpeg_meaning.specs.Found.{Found, Said, nothing_found, nothing_said}
+use Rattle.jpeg_meaning.specs.Levels.{Is8Bit, Levels, nothing_sent}
+use Rattle.jpeg_meaning.specs.ScanSegments.{Coding, after_restarts, after_scan, components_of, pass_of}
+use Rattle.jpeg_meaning.specs.WholeRows.{rows_above}
+use Rattle.jpeg_meaning.specs.WrittenImages.{WritesImageScan}
+use Rattle.jpeg_meaning.specs.WrittenScans.{Coefficients}
+use Rattle.jpeg_meaning.proofs.Order.Apart.{get-at}
+use Rattle.jpeg_meaning.proofs.Partial.Faultless.{scan_of_codings}
+use Rattle.jpeg_meaning.proofs.Written.CodingsInForce.{codings-found}
+use Rattle.jpeg_meaning.proofs.Written.WalkedStreams.{beside, nothing-said}
+use Rattle.jpeg_meaning.proofs.Written.BroughtLevels.{KnownScan}
+use Rattle.jpeg_meaning.proofs.Written.WrittenPictures.{IsDrawn, bring, framed-now, holds-nothing, known_scan, no_progress}
+use Rattle.jpeg_meaning.specs.SaidSegments.{Stands, said_after}
+use Rattle.jpeg_meaning.specs.Segments.{Turn, onward}
+use Rattle.jpeg_meaning.specs.Stream.{Walked, all_brought, segment_at, turn_at, walk}
 use Rattle.jpeg_evidence.proofs.Cut.CutWalks.{IsPast, front-walked, plain-brought, scan-brings, scan-next, segment-brings}
 use Rattle.jpeg_evidence.proofs.Cut.CutWalks.{sos_code, turn-next}
 use Rattle.jpeg_evidence.proofs.Longer.LongerSegments.{short-ends, sos-stays}

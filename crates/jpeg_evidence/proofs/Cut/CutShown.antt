@@ -3,18 +3,18 @@ use Rattle.std.proofs.Common.{◌≡◌, ℕ, List, [], ◌∷◌, ◌++◌, Non
 use Rattle.jpeg_bits.specs.Reading.{End}
 use Rattle.jpeg_segments.specs.Frame.{Frame}
 use Rattle.jpeg_segments.proofs.Codecs.{bind-ok, err-ok, ok-same}
-use Rattle.jpeg_streams.specs.declared.settings.Settings.{Settings}
-use Rattle.jpeg_streams.specs.ArrayPictures.{as_sent}
-use Rattle.jpeg_streams.specs.Found.{Found, Said, nothing_found, nothing_said}
-use Rattle.jpeg_streams.specs.Levels.{Is8Bit, Levels, nothing_sent}
-use Rattle.jpeg_streams.specs.Shown.{Shown, fault_shown, framed_or, picture_shown, rows_of_found, shown, shown_of}
-use Rattle.jpeg_streams.specs.Shown.{shown_rest, shown_rest_within, shown_within, whole_rows, whole_rows_rest}
-use Rattle.jpeg_streams.specs.Shown.{whole_rows_within}
-use Rattle.jpeg_streams.specs.Stream.{Walked, all_brought, start_at, told_of}
-use Rattle.jpeg_streams.specs.WrittenImages.{WritesImage}
-use Rattle.jpeg_streams.specs.WrittenScans.{Coefficients}
-use Rattle.jpeg_streams.specs.WrittenStreams.{end}
-use Rattle.jpeg_streams.proofs.Partial.Faultless.{framed-some}
+use Rattle.jpeg_meaning.specs.declared.settings.Settings.{Settings}
+use Rattle.jpeg_meaning.specs.ArrayPictures.{as_sent}
+use Rattle.jpeg_meaning.specs.Found.{Found, Said, nothing_found, nothing_said}
+use Rattle.jpeg_meaning.specs.Levels.{Is8Bit, Levels, nothing_sent}
+use Rattle.jpeg_meaning.specs.Shown.{Shown, fault_shown, framed_or, picture_shown, rows_of_found, shown, shown_of}
+use Rattle.jpeg_meaning.specs.Shown.{shown_rest, shown_rest_within, shown_within, whole_rows, whole_rows_rest}
+use Rattle.jpeg_meaning.specs.Shown.{whole_rows_within}
+use Rattle.jpeg_meaning.specs.Stream.{Walked, all_brought, start_at, told_of}
+use Rattle.jpeg_meaning.specs.WrittenImages.{WritesImage}
+use Rattle.jpeg_meaning.specs.WrittenScans.{Coefficients}
+use Rattle.jpeg_meaning.specs.WrittenStreams.{end}
+use Rattle.jpeg_meaning.proofs.Partial.Faultless.{framed-some}
 use Rattle.jpeg_evidence.specs.CutImages.{HoldsCut, picture_held}
 use Rattle.jpeg_evidence.proofs.Cut.CutHeld.{EndedAt, nothing-there}
 use Rattle.jpeg_evidence.proofs.Cut.CutPictures.{shown-same}

@@ -6,18 +6,18 @@ use Rattle.jpeg_bits.specs.Written.{marker}
 use Rattle.jpeg_segments.specs.Frame.{Frame}
 use Rattle.jpeg_segments.specs.ScanHeaders.{IsScan, ScanHeader, scan_payload, scan_written}
 use Rattle.jpeg_segments.specs.WrittenSegments.{Segment, marker_code, payload_of, with_length}
-use Rattle.jpeg_streams.specs.Found.{Said, nothing_found, nothing_said}
-use Rattle.jpeg_streams.specs.Levels.{Is8Bit, Levels, nothing_sent}
-use Rattle.jpeg_streams.specs.SaidSegments.{Stands, said_after}
-use Rattle.jpeg_streams.specs.Order.{spots_of}
-use Rattle.jpeg_streams.specs.ScanSegments.{after_scan, components_of}
-use Rattle.jpeg_streams.specs.WholeRows.{rows_above}
-use Rattle.jpeg_streams.specs.WrittenImages.{ClosesImage, MayStandInImage, WritesImageScan}
-use Rattle.jpeg_streams.specs.WrittenScans.{Coefficients}
-use Rattle.jpeg_streams.specs.WrittenStreams.{Writes, end, scan, segment}
-use Rattle.jpeg_streams.proofs.Written.ReadTurns.{scan-tail, segment-tail}
-use Rattle.jpeg_streams.proofs.Written.WalkedStreams.{beside, front-append}
-use Rattle.jpeg_streams.proofs.Written.WrittenPictures.{bring, known_scan}
+use Rattle.jpeg_meaning.specs.Found.{Said, nothing_found, nothing_said}
+use Rattle.jpeg_meaning.specs.Levels.{Is8Bit, Levels, nothing_sent}
+use Rattle.jpeg_meaning.specs.SaidSegments.{Stands, said_after}
+use Rattle.jpeg_meaning.specs.Order.{spots_of}
+use Rattle.jpeg_meaning.specs.ScanSegments.{after_scan, components_of}
+use Rattle.jpeg_meaning.specs.WholeRows.{rows_above}
+use Rattle.jpeg_meaning.specs.WrittenImages.{ClosesImage, MayStandInImage, WritesImageScan}
+use Rattle.jpeg_meaning.specs.WrittenScans.{Coefficients}
+use Rattle.jpeg_meaning.specs.WrittenStreams.{Writes, end, scan, segment}
+use Rattle.jpeg_meaning.proofs.Written.ReadTurns.{scan-tail, segment-tail}
+use Rattle.jpeg_meaning.proofs.Written.WalkedStreams.{beside, front-append}
+use Rattle.jpeg_meaning.proofs.Written.WrittenPictures.{bring, known_scan}
 use Rattle.jpeg_evidence.specs.CutImages.{WritesFront, in_scan, rows_before}
 use Rattle.jpeg_evidence.proofs.Cut.CutBlocks.{CutScan, cut-scan}
 use Rattle.jpeg_evidence.proofs.Cut.CutFrames.{cut-own, cut-stops, cut-unread, reached_of, scan-cut}
@@ -27,8 +27,8 @@ use Rattle.jpeg_evidence.proofs.Cut.CutHeld.{EndedAt, by-scan, data-filled, end-
 use Rattle.jpeg_evidence.proofs.Cut.CutHeld.{segment-filled}
 use Rattle.jpeg_evidence.proofs.Cut.CutRows.{rows-first}
 use Rattle.jpeg_evidence.proofs.Cut.CutScans.{begins-scan, past-of, scan-past}
-use Rattle.jpeg_streams.specs.Stream.{all_brought}
-use Rattle.jpeg_streams.specs.Shown.{rows_of_found}
+use Rattle.jpeg_meaning.specs.Stream.{all_brought}
+use Rattle.jpeg_meaning.specs.Shown.{rows_of_found}
 
 module _ (array : Coefficients) (range : (index row column : ℕ) → Is8Bit (array index row column)) where
   -- a part of the data of a scan

@@ -10,20 +10,20 @@ use Rattle.jpeg_bits.specs.declared.color_transform.ColorTransform.{ColorTransfo
 use Rattle.jpeg_pixels.specs.declared.color_convert.ColorConvert.{ColorConvert}
 use Rattle.jpeg_segments.specs.Checks.{gathered}
 use Rattle.jpeg_segments.specs.Frame.{Component, Frame}
-use Rattle.jpeg_streams.specs.declared.settings.Settings.{Settings}
-use Rattle.jpeg_streams.specs.ArrayPictures.{HasTransform, IsTransformOf, TakesPicture, as_sent}
-use Rattle.jpeg_streams.specs.Found.{Found, Said, nothing_found, nothing_said}
-use Rattle.jpeg_streams.specs.FoundPictures.{picture_by, picture_in}
-use Rattle.jpeg_streams.specs.Levels.{Is8Bit, Levels, nothing_sent}
-use Rattle.jpeg_streams.specs.Rasters.{plane_of_blocks}
-use Rattle.jpeg_streams.specs.Shown.{Shown, fault_shown, framed_or, picture_shown, shown, shown_of, shown_rest_within}
-use Rattle.jpeg_streams.specs.Shown.{shown_within, whole_rows}
-use Rattle.jpeg_streams.specs.Stream.{Walked, all_brought, start_at, told_of}
-use Rattle.jpeg_streams.specs.WrittenImages.{WritesImage}
-use Rattle.jpeg_streams.specs.WrittenScans.{Coefficients}
-use Rattle.jpeg_streams.specs.WrittenStreams.{end}
-use Rattle.jpeg_streams.proofs.Pictures.LimitedPictures.{limited-ok}
-use Rattle.jpeg_streams.proofs.Written.ReadTurns.{then-ok}
+use Rattle.jpeg_meaning.specs.declared.settings.Settings.{Settings}
+use Rattle.jpeg_meaning.specs.ArrayPictures.{HasTransform, IsTransformOf, TakesPicture, as_sent}
+use Rattle.jpeg_meaning.specs.Found.{Found, Said, nothing_found, nothing_said}
+use Rattle.jpeg_meaning.specs.FoundPictures.{picture_by, picture_in}
+use Rattle.jpeg_meaning.specs.Levels.{Is8Bit, Levels, nothing_sent}
+use Rattle.jpeg_meaning.specs.Rasters.{plane_of_blocks}
+use Rattle.jpeg_meaning.specs.Shown.{Shown, fault_shown, framed_or, picture_shown, shown, shown_of, shown_rest_within}
+use Rattle.jpeg_meaning.specs.Shown.{shown_within, whole_rows}
+use Rattle.jpeg_meaning.specs.Stream.{Walked, all_brought, start_at, told_of}
+use Rattle.jpeg_meaning.specs.WrittenImages.{WritesImage}
+use Rattle.jpeg_meaning.specs.WrittenScans.{Coefficients}
+use Rattle.jpeg_meaning.specs.WrittenStreams.{end}
+use Rattle.jpeg_meaning.proofs.Pictures.LimitedPictures.{limited-ok}
+use Rattle.jpeg_meaning.proofs.Written.ReadTurns.{then-ok}
 use Rattle.jpeg_evidence.specs.CutImages.{HoldsCut, picture_held}
 use Rattle.jpeg_evidence.proofs.Cut.CutHeld.{EndedAt, nothing-there}
 use Rattle.jpeg_evidence.proofs.Cut.CutPictures.{shown-same}

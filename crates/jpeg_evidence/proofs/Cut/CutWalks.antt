@@ -15,31 +15,31 @@ use Rattle.jpeg_segments.specs.WrittenSegments.{marker_code, payload_of, with_le
 use Rattle.jpeg_segments.specs.declared.frame.CodingProcess.{CodingProcess}
 use Rattle.jpeg_segments.specs.declared.frame.CodingProcess.TheVariants.{Lossless}
 use Rattle.jpeg_segments.proofs.HeaderSegments.{sos-read}
-use Rattle.jpeg_streams.specs.Brought.{blocks_brought, blocks_brought_by, brought_by, frame_and_scan, scan_brought}
-use Rattle.jpeg_streams.specs.Brought.{unbrought}
-use Rattle.jpeg_streams.specs.Found.{Found, Said}
-use Rattle.jpeg_streams.specs.Levels.{Is8Bit, Levels}
-use Rattle.jpeg_streams.specs.SaidSegments.{Stands, said_after}
-use Rattle.jpeg_streams.specs.Scans.{Arrays}
-use Rattle.jpeg_streams.specs.ScanSegments.{Coding, after_restarts, after_scan, codings_of, scan_before}
-use Rattle.jpeg_streams.specs.ScanSegments.{scan_turn}
-use Rattle.jpeg_streams.specs.Segments.{Turn, onward}
-use Rattle.jpeg_streams.specs.Stream.{Walked, brought_after, scan_turn_at, segment_at, turn_at, walk}
-use Rattle.jpeg_streams.specs.WrittenImages.{MayStandInImage, WritesImageScan}
-use Rattle.jpeg_streams.specs.WrittenScans.{Coefficients}
-use Rattle.jpeg_streams.specs.WrittenStreams.{Writes, end, scan, segment}
-use Rattle.jpeg_streams.specs.declared.before.Before.{Before}
-use Rattle.jpeg_streams.specs.declared.before.Before.TheVariants.{Elsewhere}
+use Rattle.jpeg_meaning.specs.Brought.{blocks_brought, blocks_brought_by, brought_by, frame_and_scan, scan_brought}
+use Rattle.jpeg_meaning.specs.Brought.{unbrought}
+use Rattle.jpeg_meaning.specs.Found.{Found, Said}
+use Rattle.jpeg_meaning.specs.Levels.{Is8Bit, Levels}
+use Rattle.jpeg_meaning.specs.SaidSegments.{Stands, said_after}
+use Rattle.jpeg_meaning.specs.Scans.{Arrays}
+use Rattle.jpeg_meaning.specs.ScanSegments.{Coding, after_restarts, after_scan, codings_of, scan_before}
+use Rattle.jpeg_meaning.specs.ScanSegments.{scan_turn}
+use Rattle.jpeg_meaning.specs.Segments.{Turn, onward}
+use Rattle.jpeg_meaning.specs.Stream.{Walked, brought_after, scan_turn_at, segment_at, turn_at, walk}
+use Rattle.jpeg_meaning.specs.WrittenImages.{MayStandInImage, WritesImageScan}
+use Rattle.jpeg_meaning.specs.WrittenScans.{Coefficients}
+use Rattle.jpeg_meaning.specs.WrittenStreams.{Writes, end, scan, segment}
+use Rattle.jpeg_meaning.specs.declared.before.Before.{Before}
+use Rattle.jpeg_meaning.specs.declared.before.Before.TheVariants.{Elsewhere}
 use Rattle.jpeg_bits.specs.declared.beyond.Beyond.TheVariants.{Nothing}
-use Rattle.jpeg_streams.proofs.Written.CodingsInForce.{codings-found}
-use Rattle.jpeg_streams.proofs.Partial.Faultless.{scan_of_codings}
-use Rattle.jpeg_streams.proofs.Pictures.DecodedHeaders.{stands-taken}
-use Rattle.jpeg_streams.proofs.Written.ReadTurns.{Begins, IsEnd, StandsAt, scan-by, then-ok, marker-begins, marker-longer}
-use Rattle.jpeg_streams.proofs.Written.ReadTurns.{marker-turn, marker_for, ok-same, same-turn, scan-tail, scan-turn}
-use Rattle.jpeg_streams.proofs.Written.ReadTurns.{segment-ends, segment-marker, segment-tail, segment-turn, stands-here}
-use Rattle.jpeg_streams.proofs.Written.ReadTurns.{stands-met, walk-on}
-use Rattle.jpeg_streams.proofs.Written.WalkedStreams.{IsSaid, beside, segment-said}
-use Rattle.jpeg_streams.proofs.Written.WrittenPictures.{Holds, IsDrawn, Progress, bring, drawn-said, image-read, known_scan}
+use Rattle.jpeg_meaning.proofs.Written.CodingsInForce.{codings-found}
+use Rattle.jpeg_meaning.proofs.Partial.Faultless.{scan_of_codings}
+use Rattle.jpeg_meaning.proofs.Pictures.DecodedHeaders.{stands-taken}
+use Rattle.jpeg_meaning.proofs.Written.ReadTurns.{Begins, IsEnd, StandsAt, scan-by, then-ok, marker-begins, marker-longer}
+use Rattle.jpeg_meaning.proofs.Written.ReadTurns.{marker-turn, marker_for, ok-same, same-turn, scan-tail, scan-turn}
+use Rattle.jpeg_meaning.proofs.Written.ReadTurns.{segment-ends, segment-marker, segment-tail, segment-turn, stands-here}
+use Rattle.jpeg_meaning.proofs.Written.ReadTurns.{stands-met, walk-on}
+use Rattle.jpeg_meaning.proofs.Written.WalkedStreams.{IsSaid, beside, segment-said}
+use Rattle.jpeg_meaning.proofs.Written.WrittenPictures.{Holds, IsDrawn, Progress, bring, drawn-said, image-read, known_scan}
 use Rattle.jpeg_evidence.proofs.Cut.CutFrames.{scanned, whole-reached}
 use Rattle.jpeg_evidence.proofs.Longer.LongerData.{both}
 use Rattle.jpeg_evidence.proofs.Longer.LongerTurns.{by_header, scan_led}

@@ -15,16 +15,16 @@ use Rattle.jpeg_lossless.specs.Differences.{interval_rows}
 use Rattle.jpeg_lossless.specs.RowsReached.{rows_reached}
 use Rattle.jpeg_lossless.proofs.LineSums.{Grids}
 use Rattle.jpeg_lossless.proofs.ReachedRows.{IsReached, rows-same}
-use Rattle.jpeg_streams.specs.Brought.{after_interval, interval_reached, interval_rows_reached, intervals_reached}
-use Rattle.jpeg_streams.specs.Brought.{or_first, reached_from, scan_rows_reached, stopped, stopping}
-use Rattle.jpeg_streams.specs.InTurn.{Reached, at_start, interval_from, intervals_from, next_interval, turns_from}
-use Rattle.jpeg_streams.specs.Order.{Spot}
-use Rattle.jpeg_streams.specs.Scans.{Arrays}
-use Rattle.jpeg_streams.specs.ScanSegments.{after_restarts}
-use Rattle.jpeg_streams.proofs.Order.CountedScans.{shut}
-use Rattle.jpeg_streams.proofs.Partial.ReachedIntervals.{blocks-same, interval-read, next_reached, turns-take}
-use Rattle.jpeg_streams.proofs.Partial.RowIntervals.{as_interval, interval-rows-read, with_others}
-use Rattle.jpeg_streams.proofs.Partial.RowIntervals as row_intervals
+use Rattle.jpeg_meaning.specs.Brought.{after_interval, interval_reached, interval_rows_reached, intervals_reached}
+use Rattle.jpeg_meaning.specs.Brought.{or_first, reached_from, scan_rows_reached, stopped, stopping}
+use Rattle.jpeg_meaning.specs.InTurn.{Reached, at_start, interval_from, intervals_from, next_interval, turns_from}
+use Rattle.jpeg_meaning.specs.Order.{Spot}
+use Rattle.jpeg_meaning.specs.Scans.{Arrays}
+use Rattle.jpeg_meaning.specs.ScanSegments.{after_restarts}
+use Rattle.jpeg_meaning.proofs.Order.CountedScans.{shut}
+use Rattle.jpeg_meaning.proofs.Partial.ReachedIntervals.{blocks-same, interval-read, next_reached, turns-take}
+use Rattle.jpeg_meaning.proofs.Partial.RowIntervals.{as_interval, interval-rows-read, with_others}
+use Rattle.jpeg_meaning.proofs.Partial.RowIntervals as row_intervals
 use Rattle.jpeg_evidence.specs.EarlyEnds.{BlocksEndEarly, EndsEarly, RowsEndEarly, sealed}
 use Rattle.jpeg_evidence.specs.EarlyEnds.BlocksEndEarly.{here, later}
 use Rattle.jpeg_evidence.specs.EarlyEnds.RowsEndEarly.{here_too, later_too}

@@ -14,14 +14,14 @@ use Rattle.jpeg_bits.specs.declared.marker.Marker.{Marker}
 use Rattle.jpeg_bits.specs.declared.marker.Marker.TheVariants.{RST}
 use Rattle.jpeg_bits.proofs.WrittenIntervals.{all-groups, marker-append}
 use Rattle.jpeg_segments.proofs.Codecs.{bind-ok, err-ok, ok-same}
-use Rattle.jpeg_streams.specs.Brought.{after_interval, interval_reached}
-use Rattle.jpeg_streams.specs.InTurn.{AreApart, IsIn, Reached, at_start, turns_from}
-use Rattle.jpeg_streams.specs.Order.{Spot}
-use Rattle.jpeg_streams.specs.Scans.{Arrays, turns_of}
-use Rattle.jpeg_streams.specs.WrittenData.{WritesBlocks}
-use Rattle.jpeg_streams.proofs.Order.CountedScans.{all_of, apart-back, apart-front, in-front}
-use Rattle.jpeg_streams.proofs.Partial.ReachedIntervals.{restart-stands}
-use Rattle.jpeg_streams.proofs.Written.WrittenFrameScans.{IsReadyAt, all-in}
+use Rattle.jpeg_meaning.specs.Brought.{after_interval, interval_reached}
+use Rattle.jpeg_meaning.specs.InTurn.{AreApart, IsIn, Reached, at_start, turns_from}
+use Rattle.jpeg_meaning.specs.Order.{Spot}
+use Rattle.jpeg_meaning.specs.Scans.{Arrays, turns_of}
+use Rattle.jpeg_meaning.specs.WrittenData.{WritesBlocks}
+use Rattle.jpeg_meaning.proofs.Order.CountedScans.{all_of, apart-back, apart-front, in-front}
+use Rattle.jpeg_meaning.proofs.Partial.ReachedIntervals.{restart-stands}
+use Rattle.jpeg_meaning.proofs.Written.WrittenFrameScans.{IsReadyAt, all-in}
 use Rattle.jpeg_evidence.specs.FirstBlocks.{BeginsInterval, BeginsIntervals}
 use Rattle.jpeg_evidence.specs.FirstBlocks.BeginsIntervals.{beyond, within}
 use Rattle.jpeg_evidence.proofs.Longer.FrontReaders.{Front, TakesFront, fault-read}

@@ -18,32 +18,32 @@ use Rattle.jpeg_segments.specs.declared.frame.CodingProcess.TheVariants.{Lossles
 use Rattle.jpeg_segments.specs.Frame.{Component, Frame}
 use Rattle.jpeg_segments.specs.ScanHeader.{Scan}
 use Rattle.jpeg_segments.proofs.Codecs.{bind-ok, ok-same}
-use Rattle.jpeg_streams.specs.declared.before.Before.{Before}
-use Rattle.jpeg_streams.specs.declared.before.Before.TheVariants.{Elsewhere}
-use Rattle.jpeg_streams.specs.declared.settings.Settings.{Settings}
-use Rattle.jpeg_streams.specs.Brought.{Brought, blocks_brought, blocks_brought_by, brought_by, frame_and_scan}
-use Rattle.jpeg_streams.specs.Brought.{has_whole_rows, samples_brought, samples_brought_by, scan_brought, unbrought}
-use Rattle.jpeg_streams.specs.Found.{Found, nothing_found, nothing_said}
-use Rattle.jpeg_streams.specs.FoundPictures.{blocks_picture, limited, picture_by_process, picture_of, samples_picture}
-use Rattle.jpeg_streams.specs.InTurn.{Fits}
-use Rattle.jpeg_streams.specs.LosslessScans.{LosslessCoding, lossless_codings}
-use Rattle.jpeg_streams.specs.Order.{mcu_size, spots_of}
-use Rattle.jpeg_streams.specs.Scans.{Arrays}
-use Rattle.jpeg_streams.specs.ScanSegments.{after_samples, after_scan, blocks_scan, codings_of, components_of}
-use Rattle.jpeg_streams.specs.ScanSegments.{lossless_scan, pass_of, scan_arrays, scan_by, scan_samples, scan_segment}
-use Rattle.jpeg_streams.specs.ScanSegments.{scan_turn, vias_from}
-use Rattle.jpeg_streams.specs.Segments.{Turn}
-use Rattle.jpeg_streams.specs.Shown.{Shown, completed, fault_shown, framed_or, picture_shown, planes_by, shown}
-use Rattle.jpeg_streams.specs.Shown.{shown_by, shown_of, shown_rest_within, shown_within, with_samples_shown}
-use Rattle.jpeg_streams.specs.Stream.{all_brought, brought_after, meaning, meaning_within, rest_within, scan_turn_at}
-use Rattle.jpeg_streams.specs.Stream.{segments_at, start_at, turn_at, walk}
-use Rattle.jpeg_streams.proofs.Order.Apart.{spots-apart}
-use Rattle.jpeg_streams.proofs.Order.CountedScans.{scans-in-turn}
-use Rattle.jpeg_streams.proofs.Partial.CompletedPictures.{all-stay}
-use Rattle.jpeg_streams.proofs.Partial.Faultless.{arrays_of_scan, codings-fit, faultless_streams_are_meant, framed-some}
-use Rattle.jpeg_streams.proofs.Partial.Faultless.{planes_by_rows, rows_by, tables_by, turn-read, walk-read}
-use Rattle.jpeg_streams.proofs.Partial.Faultless.{walked_after}
-use Rattle.jpeg_streams.proofs.Partial.FittingFrames.{FoundFits, FrameFits, needed-some, turn-fits}
+use Rattle.jpeg_meaning.specs.declared.before.Before.{Before}
+use Rattle.jpeg_meaning.specs.declared.before.Before.TheVariants.{Elsewhere}
+use Rattle.jpeg_meaning.specs.declared.settings.Settings.{Settings}
+use Rattle.jpeg_meaning.specs.Brought.{Brought, blocks_brought, blocks_brought_by, brought_by, frame_and_scan}
+use Rattle.jpeg_meaning.specs.Brought.{has_whole_rows, samples_brought, samples_brought_by, scan_brought, unbrought}
+use Rattle.jpeg_meaning.specs.Found.{Found, nothing_found, nothing_said}
+use Rattle.jpeg_meaning.specs.FoundPictures.{blocks_picture, limited, picture_by_process, picture_of, samples_picture}
+use Rattle.jpeg_meaning.specs.InTurn.{Fits}
+use Rattle.jpeg_meaning.specs.LosslessScans.{LosslessCoding, lossless_codings}
+use Rattle.jpeg_meaning.specs.Order.{mcu_size, spots_of}
+use Rattle.jpeg_meaning.specs.Scans.{Arrays}
+use Rattle.jpeg_meaning.specs.ScanSegments.{after_samples, after_scan, blocks_scan, codings_of, components_of}
+use Rattle.jpeg_meaning.specs.ScanSegments.{lossless_scan, pass_of, scan_arrays, scan_by, scan_samples, scan_segment}
+use Rattle.jpeg_meaning.specs.ScanSegments.{scan_turn, vias_from}
+use Rattle.jpeg_meaning.specs.Segments.{Turn}
+use Rattle.jpeg_meaning.specs.Shown.{Shown, completed, fault_shown, framed_or, picture_shown, planes_by, shown}
+use Rattle.jpeg_meaning.specs.Shown.{shown_by, shown_of, shown_rest_within, shown_within, with_samples_shown}
+use Rattle.jpeg_meaning.specs.Stream.{all_brought, brought_after, meaning, meaning_within, rest_within, scan_turn_at}
+use Rattle.jpeg_meaning.specs.Stream.{segments_at, start_at, turn_at, walk}
+use Rattle.jpeg_meaning.proofs.Order.Apart.{spots-apart}
+use Rattle.jpeg_meaning.proofs.Order.CountedScans.{scans-in-turn}
+use Rattle.jpeg_meaning.proofs.Partial.CompletedPictures.{all-stay}
+use Rattle.jpeg_meaning.proofs.Partial.Faultless.{arrays_of_scan, codings-fit, faultless_streams_are_meant, framed-some}
+use Rattle.jpeg_meaning.proofs.Partial.Faultless.{planes_by_rows, rows_by, tables_by, turn-read, walk-read}
+use Rattle.jpeg_meaning.proofs.Partial.Faultless.{walked_after}
+use Rattle.jpeg_meaning.proofs.Partial.FittingFrames.{FoundFits, FrameFits, needed-some, turn-fits}
 use Rattle.jpeg_evidence.specs.EarlyEnds.{ScanEndsEarly, SegmentsEndEarly, StreamEndsEarly}
 use Rattle.jpeg_evidence.specs.EarlyEnds.ScanEndsEarly.{of_blocks, of_rows}
 use Rattle.jpeg_evidence.specs.EarlyEnds.SegmentsEndEarly.{at_scan, later_turn}

@@ -15,12 +15,12 @@ use Rattle.jpeg_bits.specs.declared.marker.Marker.TheVariants.{RST}
 use Rattle.jpeg_bits.proofs.ReadIntervals.{all-take}
 use Rattle.jpeg_bits.proofs.WrittenIntervals.{all-groups}
 use Rattle.jpeg_segments.proofs.Codecs.{err-ok, ok-same}
-use Rattle.jpeg_streams.specs.Brought.{after_interval, interval_reached}
-use Rattle.jpeg_streams.specs.InTurn.{AreApart, IsIn, Reached, at_start, turns_from}
-use Rattle.jpeg_streams.specs.Order.{Spot}
-use Rattle.jpeg_streams.specs.Scans.{Arrays, turns_of, via_at}
-use Rattle.jpeg_streams.proofs.Order.CountedScans.{all_of, apart-back, apart-front, arrays_in, in-front}
-use Rattle.jpeg_streams.proofs.Written.WrittenFrameScans.{IsReadyAt, all-in}
+use Rattle.jpeg_meaning.specs.Brought.{after_interval, interval_reached}
+use Rattle.jpeg_meaning.specs.InTurn.{AreApart, IsIn, Reached, at_start, turns_from}
+use Rattle.jpeg_meaning.specs.Order.{Spot}
+use Rattle.jpeg_meaning.specs.Scans.{Arrays, turns_of, via_at}
+use Rattle.jpeg_meaning.proofs.Order.CountedScans.{all_of, apart-back, apart-front, arrays_in, in-front}
+use Rattle.jpeg_meaning.proofs.Written.WrittenFrameScans.{IsReadyAt, all-in}
 use Rattle.jpeg_evidence.specs.FirstBlocks.{BeginsInterval, BeginsIntervals, WritesFirst}
 use Rattle.jpeg_evidence.specs.FirstBlocks.BeginsIntervals.{beyond, within}
 use Rattle.jpeg_evidence.proofs.Longer.LongerData.{CanReadOf}

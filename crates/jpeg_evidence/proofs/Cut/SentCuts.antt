@@ -6,20 +6,20 @@ use Rattle.jpeg_bits.specs.Codes.{IsTable}
 use Rattle.jpeg_bits.specs.Passes.{Block, Pass, whole_pass, zero_block}
 use Rattle.jpeg_bits.specs.Written.{marker}
 use Rattle.jpeg_segments.specs.Frame.{Frame}
-use Rattle.jpeg_streams.specs.Brought.{scan_reached}
-use Rattle.jpeg_streams.specs.InTurn.{AreArrays, Fits, IsIn}
-use Rattle.jpeg_streams.specs.Levels.{Is8Bit, Levels, cut, nothing_sent, numbers_at, sent_after}
-use Rattle.jpeg_streams.specs.Order.{Spot, mcu_size, spots_of}
-use Rattle.jpeg_streams.specs.Scans.{Arrays, block_at}
-use Rattle.jpeg_streams.specs.ScanSegments.{Coding, components_of, vias_from}
-use Rattle.jpeg_streams.specs.WrittenScans.{Coefficients, IsComplete, WritesScan}
-use Rattle.jpeg_streams.proofs.Order.Apart.{spots-apart, spots-inside}
-use Rattle.jpeg_streams.proofs.Written.BroughtLevels.{all-good}
-use Rattle.jpeg_streams.proofs.Written.CutLevels.{all-same, cut-after, suits-cut}
-use Rattle.jpeg_streams.proofs.Pictures.WholeImages.{cut-whole}
-use Rattle.jpeg_streams.proofs.Order.CountedScans.{in-front, reaches}
-use Rattle.jpeg_streams.proofs.Written.SentBlocks.{Suits, after_pass}
-use Rattle.jpeg_streams.proofs.Written.WrittenFrameScans.{IsReadyAt, cut-nothing, suits-dc, via-good, whole-legal}
+use Rattle.jpeg_meaning.specs.Brought.{scan_reached}
+use Rattle.jpeg_meaning.specs.InTurn.{AreArrays, Fits, IsIn}
+use Rattle.jpeg_meaning.specs.Levels.{Is8Bit, Levels, cut, nothing_sent, numbers_at, sent_after}
+use Rattle.jpeg_meaning.specs.Order.{Spot, mcu_size, spots_of}
+use Rattle.jpeg_meaning.specs.Scans.{Arrays, block_at}
+use Rattle.jpeg_meaning.specs.ScanSegments.{Coding, components_of, vias_from}
+use Rattle.jpeg_meaning.specs.WrittenScans.{Coefficients, IsComplete, WritesScan}
+use Rattle.jpeg_meaning.proofs.Order.Apart.{spots-apart, spots-inside}
+use Rattle.jpeg_meaning.proofs.Written.BroughtLevels.{all-good}
+use Rattle.jpeg_meaning.proofs.Written.CutLevels.{all-same, cut-after, suits-cut}
+use Rattle.jpeg_meaning.proofs.Pictures.WholeImages.{cut-whole}
+use Rattle.jpeg_meaning.proofs.Order.CountedScans.{in-front, reaches}
+use Rattle.jpeg_meaning.proofs.Written.SentBlocks.{Suits, after_pass}
+use Rattle.jpeg_meaning.proofs.Written.WrittenFrameScans.{IsReadyAt, cut-nothing, suits-dc, via-good, whole-legal}
 use Rattle.jpeg_evidence.specs.LongerStreams.{HoldsSent, IsDcAlone, IsKeptBefore}
 use Rattle.jpeg_evidence.specs.FirstBlocks.{IsMost, StandWhole}
 use Rattle.jpeg_evidence.proofs.Cut.FirstWritten.{first_blocks_are_written}

@@ -11,13 +11,13 @@ use Rattle.jpeg_bits.specs.Written.{WritesInterval, WritesIntervals, marker}
 use Rattle.jpeg_bits.specs.Written.WritesIntervals.{another, last}
 use Rattle.jpeg_bits.proofs.WrittenIntervals.{all-groups, marker-append}
 use Rattle.jpeg_segments.specs.Frame.{Frame}
-use Rattle.jpeg_streams.specs.Levels.{numbers_at}
-use Rattle.jpeg_streams.specs.Order.{Spot, mcu_size, spots_of}
-use Rattle.jpeg_streams.specs.Scans.{turns_of, via_at}
-use Rattle.jpeg_streams.specs.ScanSegments.{Coding, components_of, vias_from}
-use Rattle.jpeg_streams.specs.WrittenData.{WritesBlocks}
-use Rattle.jpeg_streams.specs.WrittenData.WritesBlocks.{block, done}
-use Rattle.jpeg_streams.specs.WrittenScans.{Coefficients, WritesScan}
+use Rattle.jpeg_meaning.specs.Levels.{numbers_at}
+use Rattle.jpeg_meaning.specs.Order.{Spot, mcu_size, spots_of}
+use Rattle.jpeg_meaning.specs.Scans.{turns_of, via_at}
+use Rattle.jpeg_meaning.specs.ScanSegments.{Coding, components_of, vias_from}
+use Rattle.jpeg_meaning.specs.WrittenData.{WritesBlocks}
+use Rattle.jpeg_meaning.specs.WrittenData.WritesBlocks.{block, done}
+use Rattle.jpeg_meaning.specs.WrittenScans.{Coefficients, WritesScan}
 use Rattle.jpeg_evidence.specs.FirstBlocks.{BeginsInterval, BeginsIntervals, StandWhole, WritesFirst}
 use Rattle.jpeg_evidence.specs.FirstBlocks.BeginsIntervals.{beyond, within}
 use Rattle.jpeg_evidence.specs.FirstBlocks.WritesFirst.{next_block, no_more}

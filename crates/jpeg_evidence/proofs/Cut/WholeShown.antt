@@ -12,24 +12,24 @@ use Rattle.jpeg_segments.specs.WrittenSegments.{marker_code, payload_of, with_le
 use Rattle.jpeg_segments.specs.declared.frame.CodingProcess.{CodingProcess}
 use Rattle.jpeg_segments.specs.declared.frame.CodingProcess.TheVariants.{Lossless}
 use Rattle.jpeg_bits.specs.declared.beyond.Beyond.TheVariants.{Nothing}
-use Rattle.jpeg_streams.specs.declared.settings.Settings.{Settings}
-use Rattle.jpeg_streams.specs.ArrayPictures.{picture_of_array}
-use Rattle.jpeg_streams.specs.Found.{Found, Said, nothing_found, nothing_said}
-use Rattle.jpeg_streams.specs.FoundPictures.{blocks_picture, limited, picture_by_process, picture_of, plane_at_end}
-use Rattle.jpeg_streams.specs.FoundPictures.{samples_picture}
-use Rattle.jpeg_streams.specs.Levels.{Is8Bit, Levels, nothing_sent}
-use Rattle.jpeg_streams.specs.SaidSegments.{said_after}
-use Rattle.jpeg_streams.specs.Shown.{completed, fault_in, fault_shown, framed_or, picture_shown, planes_by, shown}
-use Rattle.jpeg_streams.specs.Shown.{shown_of, shown_rest_within, shown_within}
-use Rattle.jpeg_streams.specs.Stream.{Walked, all_brought, start_at, told_of}
-use Rattle.jpeg_streams.specs.WrittenImages.{ClosesImage, MayStandInImage, WritesImage, WritesImageScan, WritesPart}
-use Rattle.jpeg_streams.specs.WrittenScans.{Coefficients}
-use Rattle.jpeg_streams.specs.WrittenStreams.{Writes, end, scan, segment}
-use Rattle.jpeg_streams.proofs.Partial.CompletedPictures.{completed-same, limited-at}
-use Rattle.jpeg_streams.proofs.Written.ReadTurns.{bind-ok, marker-append, scan-tail, segment-tail, then-ok, walk-end}
-use Rattle.jpeg_streams.proofs.Written.ReadTurns.{walked}
-use Rattle.jpeg_streams.proofs.Written.WalkedStreams.{beside}
-use Rattle.jpeg_streams.proofs.Written.WrittenPictures.{ReadImage, bring, pictures-same}
+use Rattle.jpeg_meaning.specs.declared.settings.Settings.{Settings}
+use Rattle.jpeg_meaning.specs.ArrayPictures.{picture_of_array}
+use Rattle.jpeg_meaning.specs.Found.{Found, Said, nothing_found, nothing_said}
+use Rattle.jpeg_meaning.specs.FoundPictures.{blocks_picture, limited, picture_by_process, picture_of, plane_at_end}
+use Rattle.jpeg_meaning.specs.FoundPictures.{samples_picture}
+use Rattle.jpeg_meaning.specs.Levels.{Is8Bit, Levels, nothing_sent}
+use Rattle.jpeg_meaning.specs.SaidSegments.{said_after}
+use Rattle.jpeg_meaning.specs.Shown.{completed, fault_in, fault_shown, framed_or, picture_shown, planes_by, shown}
+use Rattle.jpeg_meaning.specs.Shown.{shown_of, shown_rest_within, shown_within}
+use Rattle.jpeg_meaning.specs.Stream.{Walked, all_brought, start_at, told_of}
+use Rattle.jpeg_meaning.specs.WrittenImages.{ClosesImage, MayStandInImage, WritesImage, WritesImageScan, WritesPart}
+use Rattle.jpeg_meaning.specs.WrittenScans.{Coefficients}
+use Rattle.jpeg_meaning.specs.WrittenStreams.{Writes, end, scan, segment}
+use Rattle.jpeg_meaning.proofs.Partial.CompletedPictures.{completed-same, limited-at}
+use Rattle.jpeg_meaning.proofs.Written.ReadTurns.{bind-ok, marker-append, scan-tail, segment-tail, then-ok, walk-end}
+use Rattle.jpeg_meaning.proofs.Written.ReadTurns.{walked}
+use Rattle.jpeg_meaning.proofs.Written.WalkedStreams.{beside}
+use Rattle.jpeg_meaning.proofs.Written.WrittenPictures.{ReadImage, bring, pictures-same}
 use Rattle.jpeg_evidence.proofs.Cut.CutHeld.{begins-end, end-next, last_turn}
 use Rattle.jpeg_evidence.proofs.Cut.CutPictures.{limit-passed}
 use Rattle.jpeg_evidence.proofs.Cut.CutScans.{past-of}

@@ -22,20 +22,20 @@ use Rattle.jpeg_bits.proofs.WrittenBits.{takes-gives}
 use Rattle.jpeg_bits.proofs.WrittenIntervals.{all-groups, first-map, marker-append, others-map, reads-interval}
 use Rattle.jpeg_lossless.proofs.ReachedRows.{IsReached}
 use Rattle.jpeg_segments.proofs.Codecs.{bind-ok, err-ok, ok-same}
-use Rattle.jpeg_streams.specs.Brought.{BlocksTo, after_interval, after_intervals, interval_reached}
-use Rattle.jpeg_streams.specs.Brought.{intervals_reached, or_first, reached_from, scan_reached, stopped, stopping}
-use Rattle.jpeg_streams.specs.InTurn.{AreApart, IsIn, Reached, at_start, turns_from}
-use Rattle.jpeg_streams.specs.Order.{Spot}
-use Rattle.jpeg_streams.specs.Scans.{Arrays, block_at, put_blocks, turns_of, via_at}
-use Rattle.jpeg_streams.specs.ScanSegments.{after_restarts}
-use Rattle.jpeg_streams.specs.WrittenData.{WritesBlocks}
-use Rattle.jpeg_streams.specs.WrittenData.WritesBlocks.{block, done}
-use Rattle.jpeg_streams.proofs.Order.CountedScans.{all_of, apart-back, apart-between, apart-front, arrays_in, in-back}
-use Rattle.jpeg_streams.proofs.Order.CountedScans.{in-front, in-turn, others-kept, put_in}
-use Rattle.jpeg_streams.proofs.Partial.ReachedIntervals.{blocks-same, next_reached}
-use Rattle.jpeg_streams.proofs.Written.SentBlocks.{Suits, after_pass, numbers_of, reads_of}
-use Rattle.jpeg_streams.proofs.Written.WrittenBlocks.{IsReady, Predicts, takes-next}
-use Rattle.jpeg_streams.proofs.Written.WrittenFrameScans.{IsReadyAt, all-in, reads-arrays, start-predicts, turn_with}
+use Rattle.jpeg_meaning.specs.Brought.{BlocksTo, after_interval, after_intervals, interval_reached}
+use Rattle.jpeg_meaning.specs.Brought.{intervals_reached, or_first, reached_from, scan_reached, stopped, stopping}
+use Rattle.jpeg_meaning.specs.InTurn.{AreApart, IsIn, Reached, at_start, turns_from}
+use Rattle.jpeg_meaning.specs.Order.{Spot}
+use Rattle.jpeg_meaning.specs.Scans.{Arrays, block_at, put_blocks, turns_of, via_at}
+use Rattle.jpeg_meaning.specs.ScanSegments.{after_restarts}
+use Rattle.jpeg_meaning.specs.WrittenData.{WritesBlocks}
+use Rattle.jpeg_meaning.specs.WrittenData.WritesBlocks.{block, done}
+use Rattle.jpeg_meaning.proofs.Order.CountedScans.{all_of, apart-back, apart-between, apart-front, arrays_in, in-back}
+use Rattle.jpeg_meaning.proofs.Order.CountedScans.{in-front, in-turn, others-kept, put_in}
+use Rattle.jpeg_meaning.proofs.Partial.ReachedIntervals.{blocks-same, next_reached}
+use Rattle.jpeg_meaning.proofs.Written.SentBlocks.{Suits, after_pass, numbers_of, reads_of}
+use Rattle.jpeg_meaning.proofs.Written.WrittenBlocks.{IsReady, Predicts, takes-next}
+use Rattle.jpeg_meaning.proofs.Written.WrittenFrameScans.{IsReadyAt, all-in, reads-arrays, start-predicts, turn_with}
 use Rattle.jpeg_evidence.specs.FirstBlocks.{WritesFirst}
 use Rattle.jpeg_evidence.specs.FirstBlocks.WritesFirst.{next_block, no_more}
 use Rattle.jpeg_evidence.proofs.Longer.LongerBlocks.{reached_are_read}

@@ -3,8 +3,8 @@ use Rattle.std.proofs.Common.{◌≡◌, ℕ, zero, suc, ◌+◌, ◌≤◌, Lis
 use Rattle.std.proofs.Common.{arith, refl, ap, ◌∙◌}
 use Rattle.std.specs.List.{AllByRecursion}
 use Rattle.jpeg_bits.specs.Intervals.{groups, other_groups}
-use Rattle.jpeg_streams.specs.Brought.{or_first}
-use Rattle.jpeg_streams.specs.Order.{Spot}
+use Rattle.jpeg_meaning.specs.Brought.{or_first}
+use Rattle.jpeg_meaning.specs.Order.{Spot}
 
 pub get-after : (xs ys : List Spot) (n : ℕ) → slice_get (xs ++ ys) (length xs + n) ≡ slice_get ys n
 get-after [] ys n = let e : 0 + n ≡ n = omega arith in ap (slice_get ys) e

@@ -8,11 +8,11 @@ use Rattle.jpeg_bits.specs.Readers.{ReadsJust, read_on, text}
 use Rattle.jpeg_bits.proofs.TakenTexts.{IsStrict}
 use Rattle.jpeg_bits.proofs.WrittenBits.{following-after}
 use Rattle.jpeg_segments.proofs.Codecs.{err-ok}
-use Rattle.jpeg_streams.specs.Brought.{Through, reached_from}
-use Rattle.jpeg_streams.specs.InTurn.{Reached, turn_from, turns_from}
-use Rattle.jpeg_streams.specs.Order.{Spot}
-use Rattle.jpeg_streams.specs.Scans.{via_at}
-use Rattle.jpeg_streams.proofs.Partial.ReachedIntervals.{after_turn}
+use Rattle.jpeg_meaning.specs.Brought.{Through, reached_from}
+use Rattle.jpeg_meaning.specs.InTurn.{Reached, turn_from, turns_from}
+use Rattle.jpeg_meaning.specs.Order.{Spot}
+use Rattle.jpeg_meaning.specs.Scans.{via_at}
+use Rattle.jpeg_meaning.proofs.Partial.ReachedIntervals.{after_turn}
 use Rattle.jpeg_evidence.specs.LongerStreams.{GoesOn}
 use Rattle.jpeg_evidence.proofs.Longer.FrontReaders.{FaultIn, Front, TakesFront, bind-front, block-front, fault-read}
 use Rattle.jpeg_evidence.proofs.Longer.FrontReaders.{gives-front, own-read, strict-fault}

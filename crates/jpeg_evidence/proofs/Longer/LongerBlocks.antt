@@ -3,12 +3,12 @@ use Rattle.std.proofs.Common.{◌≡◌, inl, inr, ℕ, List, refl, sym, ◌∙�
 use Rattle.jpeg_bits.specs.Intervals.{first_group, other_groups}
 use Rattle.jpeg_bits.specs.Passes.{Pass, Via}
 use Rattle.jpeg_bits.specs.declared.marker.Marker.{Marker}
-use Rattle.jpeg_streams.specs.InTurn.{AreApart, IsIn}
-use Rattle.jpeg_streams.specs.Order.{Spot}
-use Rattle.jpeg_streams.specs.Brought.{scan_reached}
-use Rattle.jpeg_streams.specs.Scans.{Arrays, arrays_at, block_at, put_block}
-use Rattle.jpeg_streams.proofs.Order.CountedScans.{apart-between, in-front, kept-after, scans-in-turn}
-use Rattle.jpeg_streams.proofs.Partial.ReachedIntervals.{intervals-read}
+use Rattle.jpeg_meaning.specs.InTurn.{AreApart, IsIn}
+use Rattle.jpeg_meaning.specs.Order.{Spot}
+use Rattle.jpeg_meaning.specs.Brought.{scan_reached}
+use Rattle.jpeg_meaning.specs.Scans.{Arrays, arrays_at, block_at, put_block}
+use Rattle.jpeg_meaning.proofs.Order.CountedScans.{apart-between, in-front, kept-after, scans-in-turn}
+use Rattle.jpeg_meaning.proofs.Partial.ReachedIntervals.{intervals-read}
 use Rattle.jpeg_evidence.specs.LongerStreams.{HoldsFirst, Puts, ReadsOn}
 use Rattle.jpeg_evidence.specs.LongerStreams.Puts.{finished, put}
 

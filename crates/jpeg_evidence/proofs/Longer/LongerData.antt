@@ -18,13 +18,13 @@ use Rattle.jpeg_bits.proofs.EndLemmas.{end-met}
 use Rattle.jpeg_bits.proofs.TakenTexts.{stopping-strict}
 use Rattle.jpeg_segments.proofs.Codecs.{err-ok, ok-same}
 use Rattle.jpeg_lossless.proofs.ReachedRows.{IsReached}
-use Rattle.jpeg_streams.specs.Brought.{Through, interval_reached, reached_from, stopped, stopping}
-use Rattle.jpeg_streams.specs.InTurn.{Reached, at_start, turn_from, turns_from}
-use Rattle.jpeg_streams.specs.Order.{Spot}
-use Rattle.jpeg_streams.specs.Scans.{Arrays, block_at, put_block, via_at}
+use Rattle.jpeg_meaning.specs.Brought.{Through, interval_reached, reached_from, stopped, stopping}
+use Rattle.jpeg_meaning.specs.InTurn.{Reached, at_start, turn_from, turns_from}
+use Rattle.jpeg_meaning.specs.Order.{Spot}
+use Rattle.jpeg_meaning.specs.Scans.{Arrays, block_at, put_block, via_at}
 use Rattle.jpeg_evidence.specs.LongerStreams.{Puts, PutsFirst, ReadsOn}
 use Rattle.jpeg_evidence.specs.LongerStreams.Puts.{finished, put}
-use Rattle.jpeg_streams.proofs.Partial.ReachedIntervals.{after_turn, blocks-same}
+use Rattle.jpeg_meaning.proofs.Partial.ReachedIntervals.{after_turn, blocks-same}
 use Rattle.jpeg_evidence.proofs.Longer.FrontReaders.{Front, TakesFront, broken, lack_at, own-read, strict-fault}
 use Rattle.jpeg_evidence.proofs.Longer.FrontReaders.FaultIn.{rule, short}
 use Rattle.jpeg_evidence.proofs.Longer.FrontReaders.Front.{gave, failed}

@@ -11,8 +11,8 @@ use Rattle.jpeg_segments.proofs.Codecs.{bind-ok}
 use Rattle.jpeg_lossless.specs.Differences.{sample_difference}
 use Rattle.jpeg_lossless.specs.RowsReached.{rows_reached}
 use Rattle.jpeg_lossless.proofs.ReachedRows.{each_row, rows-same}
-use Rattle.jpeg_streams.specs.Brought.{after_interval, interval_rows_reached, scan_rows_reached, stopping}
-use Rattle.jpeg_streams.proofs.Partial.RowIntervals.{Scanned, next_reached}
+use Rattle.jpeg_meaning.specs.Brought.{after_interval, interval_rows_reached, scan_rows_reached, stopping}
+use Rattle.jpeg_meaning.proofs.Partial.RowIntervals.{Scanned, next_reached}
 use Rattle.jpeg_evidence.specs.LongerStreams.{RowsGoOn}
 use Rattle.jpeg_evidence.proofs.Longer.FrontReaders.{Front, TakesFront, bind-front, each-front, gives-front, if-front}
 use Rattle.jpeg_evidence.proofs.Longer.FrontReaders.{own-read, refused-front, signed-front, strict-fault, symbol-front}

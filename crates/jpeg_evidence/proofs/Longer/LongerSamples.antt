@@ -14,9 +14,9 @@ use Rattle.jpeg_lossless.specs.Prediction.{line_below, lines_below, predicted_li
 use Rattle.jpeg_lossless.specs.Scans.{Way, lines_by_component, own_samples, planes_of, samples_an_mcu, shifted}
 use Rattle.jpeg_segments.specs.Frame.{Frame}
 use Rattle.jpeg_segments.specs.ScanHeader.{Scan}
-use Rattle.jpeg_streams.specs.Brought.{scan_rows_reached}
-use Rattle.jpeg_streams.specs.LosslessScans.{LosslessCoding, way_of}
-use Rattle.jpeg_streams.proofs.Partial.RowIntervals.{scan-rows-read}
+use Rattle.jpeg_meaning.specs.Brought.{scan_rows_reached}
+use Rattle.jpeg_meaning.specs.LosslessScans.{LosslessCoding, way_of}
+use Rattle.jpeg_meaning.proofs.Partial.RowIntervals.{scan-rows-read}
 use Rattle.jpeg_evidence.specs.LongerStreams.{PlanesGoOn, RowsGoOn, planes_after}
 use Rattle.jpeg_evidence.proofs.Longer.LongerRows.{GoOn}
 

@@ -10,12 +10,12 @@ use Rattle.jpeg_bits.specs.Passes.{Pass, Via}
 use Rattle.jpeg_bits.specs.declared.marker.Marker.{Marker}
 use Rattle.jpeg_bits.proofs.WrittenIntervals.{all-groups}
 use Rattle.jpeg_segments.proofs.Codecs.{bind-ok, err-ok, ok-same}
-use Rattle.jpeg_streams.specs.Brought.{after_interval, after_intervals, interval_reached, intervals_reached, or_first}
-use Rattle.jpeg_streams.specs.Brought.{reached_from, scan_reached, stopping}
-use Rattle.jpeg_streams.specs.InTurn.{at_start}
-use Rattle.jpeg_streams.specs.Order.{Spot}
-use Rattle.jpeg_streams.specs.Scans.{Arrays}
-use Rattle.jpeg_streams.proofs.Partial.ReachedIntervals.{Scanned, next_reached, restart-stands}
+use Rattle.jpeg_meaning.specs.Brought.{after_interval, after_intervals, interval_reached, intervals_reached, or_first}
+use Rattle.jpeg_meaning.specs.Brought.{reached_from, scan_reached, stopping}
+use Rattle.jpeg_meaning.specs.InTurn.{at_start}
+use Rattle.jpeg_meaning.specs.Order.{Spot}
+use Rattle.jpeg_meaning.specs.Scans.{Arrays}
+use Rattle.jpeg_meaning.proofs.Partial.ReachedIntervals.{Scanned, next_reached, restart-stands}
 use Rattle.jpeg_evidence.specs.FirstBlocks.{IsMost}
 use Rattle.jpeg_evidence.specs.LongerStreams.{Puts, PutsFirst, ReadsOn}
 use Rattle.jpeg_evidence.proofs.Longer.FirstSpots.{HasFirst, first-after, get-after, others-have}

@@ -11,8 +11,8 @@ use Rattle.jpeg_segments.specs.Frame.{Factors, Frame, components_from, factors_a
 use Rattle.jpeg_segments.specs.HuffmanTables.{Tables, defined_codes_at, dht_at, tables_from}
 use Rattle.jpeg_segments.specs.Quantization.{QuantizationTables, defined_table_at, dqt_at, quantization_from, value_at}
 use Rattle.jpeg_segments.specs.ScanHeader.{Selector, band_at, count_at, selector_at, selectors_from, sos_at}
-use Rattle.jpeg_streams.specs.Brought.{after_intervals}
-use Rattle.jpeg_streams.specs.ScanSegments.{after_restarts}
+use Rattle.jpeg_meaning.specs.Brought.{after_intervals}
+use Rattle.jpeg_meaning.specs.ScanSegments.{after_restarts}
 use Rattle.jpeg_segments.proofs.Codecs.{err-ok, ok-same}
 
 -- ---- readers of bytes

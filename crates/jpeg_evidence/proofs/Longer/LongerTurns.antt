@@ -16,24 +16,24 @@ use Rattle.jpeg_segments.specs.declared.frame.CodingProcess.{CodingProcess}
 use Rattle.jpeg_segments.specs.declared.frame.CodingProcess.TheVariants.{Lossless}
 use Rattle.jpeg_segments.proofs.Codecs.{bind-ok, err-ok, ok-same}
 use Rattle.jpeg_lossless.specs.Scans.{rows_of_interval, scan_tables}
-use Rattle.jpeg_streams.specs.declared.before.Before.{Before}
-use Rattle.jpeg_streams.specs.declared.before.Before.TheVariants.{Elsewhere}
-use Rattle.jpeg_streams.specs.Brought.{BlocksTo, Brought, after_interval, blocks_brought, blocks_brought_by, or_first}
-use Rattle.jpeg_streams.specs.Brought.{brought_by, frame_and_scan, has_whole_rows, interval_reached, intervals_reached}
-use Rattle.jpeg_streams.specs.Brought.{samples_brought, samples_brought_by, scan_brought, scan_reached}
-use Rattle.jpeg_streams.specs.Brought.{scan_rows_reached, unbrought}
-use Rattle.jpeg_streams.specs.Found.{Found}
-use Rattle.jpeg_streams.specs.LosslessScans.{LosslessCoding, lossless_codings, mcus_down, way_of}
-use Rattle.jpeg_streams.specs.Order.{Spot, mcu_size, spots_of}
-use Rattle.jpeg_streams.specs.Scans.{Arrays}
-use Rattle.jpeg_streams.specs.ScanSegments.{Coding, after_scan, codings_of, components_of}
-use Rattle.jpeg_streams.specs.ScanSegments.{pass_of, scan_turn, vias_from}
-use Rattle.jpeg_streams.specs.Segments.{Turn, frame_segment}
-use Rattle.jpeg_streams.specs.Stream.{Walked, all_brought, brought_after, end_segment, scan_turn_at, segment_at}
-use Rattle.jpeg_streams.specs.Stream.{turn_at, walk}
-use Rattle.jpeg_streams.proofs.Partial.Faultless.{walked_after}
-use Rattle.jpeg_streams.proofs.Partial.ReachedIntervals.{next_reached}
-use Rattle.jpeg_streams.proofs.Written.ReadTurns.{refused_walk, walked}
+use Rattle.jpeg_meaning.specs.declared.before.Before.{Before}
+use Rattle.jpeg_meaning.specs.declared.before.Before.TheVariants.{Elsewhere}
+use Rattle.jpeg_meaning.specs.Brought.{BlocksTo, Brought, after_interval, blocks_brought, blocks_brought_by, or_first}
+use Rattle.jpeg_meaning.specs.Brought.{brought_by, frame_and_scan, has_whole_rows, interval_reached, intervals_reached}
+use Rattle.jpeg_meaning.specs.Brought.{samples_brought, samples_brought_by, scan_brought, scan_reached}
+use Rattle.jpeg_meaning.specs.Brought.{scan_rows_reached, unbrought}
+use Rattle.jpeg_meaning.specs.Found.{Found}
+use Rattle.jpeg_meaning.specs.LosslessScans.{LosslessCoding, lossless_codings, mcus_down, way_of}
+use Rattle.jpeg_meaning.specs.Order.{Spot, mcu_size, spots_of}
+use Rattle.jpeg_meaning.specs.Scans.{Arrays}
+use Rattle.jpeg_meaning.specs.ScanSegments.{Coding, after_scan, codings_of, components_of}
+use Rattle.jpeg_meaning.specs.ScanSegments.{pass_of, scan_turn, vias_from}
+use Rattle.jpeg_meaning.specs.Segments.{Turn, frame_segment}
+use Rattle.jpeg_meaning.specs.Stream.{Walked, all_brought, brought_after, end_segment, scan_turn_at, segment_at}
+use Rattle.jpeg_meaning.specs.Stream.{turn_at, walk}
+use Rattle.jpeg_meaning.proofs.Partial.Faultless.{walked_after}
+use Rattle.jpeg_meaning.proofs.Partial.ReachedIntervals.{next_reached}
+use Rattle.jpeg_meaning.proofs.Written.ReadTurns.{refused_walk, walked}
 use Rattle.jpeg_evidence.specs.LongerStreams.{ComesBy, RowScanGoesOn, ScanGoesOn, after_rows, arrays_of}
 use Rattle.jpeg_evidence.specs.LongerStreams.ComesBy.{in_front, in_rows, in_scan}
 use Rattle.jpeg_evidence.proofs.Longer.LongerData.{StaysBrought, both, interval-stays}

@@ -13,7 +13,7 @@ use Rattle.jpeg_bits.specs.declared.marker.Marker.{Marker}
 use Rattle.jpeg_bits.specs.declared.marker.Marker.TheVariants.{RST}
 use Rattle.jpeg_bits.proofs.EndLemmas.{end-met}
 use Rattle.jpeg_bits.proofs.ReadIntervals.{Holds}
-use Rattle.jpeg_streams.proofs.Order.CountedScans.{interval-long}
+use Rattle.jpeg_meaning.proofs.Order.CountedScans.{interval-long}
 use Rattle.jpeg_evidence.specs.Strict.{alone, IntervalFits, IntervalsFit, IsInterval, IsIntervals, numbers_read}
 use Rattle.jpeg_evidence.specs.Strict.{others_read}
 use Rattle.jpeg_evidence.specs.Strict.IntervalsFit.{last, another}

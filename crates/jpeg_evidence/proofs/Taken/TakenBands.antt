@@ -11,10 +11,10 @@ use Rattle.jpeg_bits.specs.Bands.{Band, before_more, wrapped, token_from, after_
 use Rattle.jpeg_bits.specs.Written.{IsCoded}
 use Rattle.jpeg_bits.specs.declared.blocks.tokens.Token.{Token}
 use Rattle.jpeg_bits.specs.declared.blocks.tokens.Token.TheVariants.{Value, Sixteen, Rest, Overlong}
-use Rattle.jpeg_streams.specs.WrittenData.{no_numbers}
-use Rattle.jpeg_streams.specs.WrittenData.WritesBand.{full, value as a_value, sixteen as a_sixteen, ended as an_end}
-use Rattle.jpeg_streams.proofs.Written.SentBlocks.{scaled, InRange}
-use Rattle.jpeg_streams.proofs.Written.WrittenBands.{map-no_numbers, scaled-fits}
+use Rattle.jpeg_meaning.specs.WrittenData.{no_numbers}
+use Rattle.jpeg_meaning.specs.WrittenData.WritesBand.{full, value as a_value, sixteen as a_sixteen, ended as an_end}
+use Rattle.jpeg_meaning.proofs.Written.SentBlocks.{scaled, InRange}
+use Rattle.jpeg_meaning.proofs.Written.WrittenBands.{map-no_numbers, scaled-fits}
 use Rattle.jpeg_evidence.specs.Strict.{alone, IsCut, IsNumber, IsValue, Follows, IsToken, IsTokenWithin, room_after}
 use Rattle.jpeg_evidence.specs.Strict.{TokensFit, HasByteSymbols, IsBand}
 use Rattle.jpeg_evidence.specs.Strict.Follows.{value, sixteen, ended}

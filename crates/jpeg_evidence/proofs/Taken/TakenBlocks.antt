@@ -11,15 +11,15 @@ use Rattle.jpeg_bits.specs.Readers.{gives, ◌>>=◌}
 use Rattle.jpeg_bits.specs.Bands.{Band, difference, first_dc, wrapped, first_ac}
 use Rattle.jpeg_bits.specs.Refinement.{corrected, refined_ac}
 use Rattle.jpeg_bits.specs.Passes.{Block, Pass, Via, band_of, with_band, or_bit, dc_part, band_part, block_from}
-use Rattle.jpeg_streams.specs.Levels.{floor_at, toward_zero}
-use Rattle.jpeg_streams.specs.WrittenData.{no_numbers, WritesAc, WritesBand, WritesDc, WritesDifference, NoneNew}
-use Rattle.jpeg_streams.specs.WrittenData.{corrections, low_bit, WritesRefinement}
-use Rattle.jpeg_streams.specs.WrittenData.WritesDc.{other_band, whole as a_whole, one_bit}
-use Rattle.jpeg_streams.specs.WrittenData.WritesAc.{no_band, first as a_first, first_run, again as a_refinement}
-use Rattle.jpeg_streams.specs.WrittenData.WritesAc.{again_run}
-use Rattle.jpeg_streams.proofs.Written.SentBlocks.{scaled, InRange, dc_kept, floor_half}
-use Rattle.jpeg_streams.proofs.Written.WrittenBands.{map-no_numbers, scaled-fits, range-below, mag-le}
-use Rattle.jpeg_streams.proofs.Written.CutLevels.{band-map}
+use Rattle.jpeg_meaning.specs.Levels.{floor_at, toward_zero}
+use Rattle.jpeg_meaning.specs.WrittenData.{no_numbers, WritesAc, WritesBand, WritesDc, WritesDifference, NoneNew}
+use Rattle.jpeg_meaning.specs.WrittenData.{corrections, low_bit, WritesRefinement}
+use Rattle.jpeg_meaning.specs.WrittenData.WritesDc.{other_band, whole as a_whole, one_bit}
+use Rattle.jpeg_meaning.specs.WrittenData.WritesAc.{no_band, first as a_first, first_run, again as a_refinement}
+use Rattle.jpeg_meaning.specs.WrittenData.WritesAc.{again_run}
+use Rattle.jpeg_meaning.proofs.Written.SentBlocks.{scaled, InRange, dc_kept, floor_half}
+use Rattle.jpeg_meaning.proofs.Written.WrittenBands.{map-no_numbers, scaled-fits, range-below, mag-le}
+use Rattle.jpeg_meaning.proofs.Written.CutLevels.{band-map}
 use Rattle.jpeg_evidence.specs.Strict.{alone, IsCut, HasByteSymbols, TokensFit, IsBlock, BlockFits, HasTables}
 use Rattle.jpeg_evidence.specs.Strict.{IsNumber, PiecesFit}
 use Rattle.jpeg_evidence.proofs.Taken.TakenBits.{bind-cut, gives-taken, map-taken, cut-map, After, if-read, number_taken}
@@ -28,7 +28,7 @@ use Rattle.jpeg_evidence.proofs.Taken.TakenRefinements.{corrected-taken, refined
 use Rattle.jpeg_evidence.proofs.Taken.TakenValues.{difference_taken}
 use Rattle.std.specs.List.{AllByRecursion}
 use Rattle.jpeg_bits.specs.Written.{bit}
-use Rattle.jpeg_streams.proofs.Written.WrittenBlocks.{dc-refined}
+use Rattle.jpeg_meaning.proofs.Written.WrittenBlocks.{dc-refined}
 use Rattle.jpeg_evidence.proofs.Taken.TakenBands.{IsLong, long-taken}
 use Rattle.jpeg_evidence.proofs.Taken.TakenLevels.{floor-scaled, all-toward, band-put}
 

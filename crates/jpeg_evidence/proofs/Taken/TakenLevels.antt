@@ -5,8 +5,8 @@ use Rattle.std.proofs.Math.Nat.{add-mul, mul-div_cancel, one-mul}
 use Rattle.std.proofs.lemmas.Bool.{cases_lt}
 use Rattle.std.proofs.lemmas.List.{take-append-le, take_all, drop_at, drop_all, nil_from_length}
 use Rattle.jpeg_bits.specs.Passes.{Pass, band_of, with_band}
-use Rattle.jpeg_streams.specs.Levels.{floor_at, toward_zero}
-use Rattle.jpeg_streams.proofs.Written.SentBlocks.{scaled}
+use Rattle.jpeg_meaning.specs.Levels.{floor_at, toward_zero}
+use Rattle.jpeg_meaning.proofs.Written.SentBlocks.{scaled}
 
 -- ---- numbers
 

@@ -15,16 +15,16 @@ use Rattle.jpeg_bits.specs.Bands.{Band, before_more}
 use Rattle.jpeg_bits.specs.Refinement.{is_zero, bit_of, moved, corrected_by, corrected, through_zero, new_number}
 use Rattle.jpeg_bits.specs.Refinement.{with_last, refined_piece, refined_ac}
 use Rattle.jpeg_bits.specs.Written.{bit, low_bits, IsCoded}
-use Rattle.jpeg_streams.specs.Levels.{toward_zero}
-use Rattle.jpeg_streams.specs.WrittenData.{is_old, count_unknown, NoneNew, corrections, sign_bit, WritesRefinement}
-use Rattle.jpeg_streams.specs.WrittenData.WritesRefinement.{refined, found, passed, none_left}
-use Rattle.jpeg_streams.proofs.Written.SentBlocks.{scaled}
+use Rattle.jpeg_meaning.specs.Levels.{toward_zero}
+use Rattle.jpeg_meaning.specs.WrittenData.{is_old, count_unknown, NoneNew, corrections, sign_bit, WritesRefinement}
+use Rattle.jpeg_meaning.specs.WrittenData.WritesRefinement.{refined, found, passed, none_left}
+use Rattle.jpeg_meaning.proofs.Written.SentBlocks.{scaled}
 use Rattle.jpeg_bits.proofs.ReadIntervals.{all-take, all-drop}
-use Rattle.jpeg_streams.proofs.Written.WrittenBands.{scaled-zero}
-use Rattle.jpeg_streams.proofs.Written.WrittenRefinements.{nothing_or_old, times-two_power, spread, neg-times, even-bit}
-use Rattle.jpeg_streams.proofs.Written.WrittenRefinements.{even-bit_neg, corrections-old, corrections-end, count-zero}
-use Rattle.jpeg_streams.proofs.Written.WrittenRefinements.{count-old, with_last-end, new-scaled, map-scaled, through-zero}
-use Rattle.jpeg_streams.proofs.Written.WrittenRefinements.{through-other}
+use Rattle.jpeg_meaning.proofs.Written.WrittenBands.{scaled-zero}
+use Rattle.jpeg_meaning.proofs.Written.WrittenRefinements.{nothing_or_old, times-two_power, spread, neg-times, even-bit}
+use Rattle.jpeg_meaning.proofs.Written.WrittenRefinements.{even-bit_neg, corrections-old, corrections-end, count-zero}
+use Rattle.jpeg_meaning.proofs.Written.WrittenRefinements.{count-old, with_last-end, new-scaled, map-scaled, through-zero}
+use Rattle.jpeg_meaning.proofs.Written.WrittenRefinements.{through-other}
 use Rattle.jpeg_evidence.specs.Strict.{alone, IsCut, IsNumber, HasByteSymbols, count_zeros, PiecesFit}
 use Rattle.jpeg_evidence.specs.Strict.PiecesFit.{covered, new, zeros, last}
 use Rattle.jpeg_evidence.proofs.Taken.TakenBits.{number_taken, symbol_taken, after-read, bind-cut, if-read, gives-taken}

@@ -9,7 +9,7 @@ use Rattle.jpeg_bits.specs.Written.{marker}
 use Rattle.jpeg_bits.specs.declared.marker.Marker.{Marker}
 use Rattle.jpeg_bits.specs.declared.marker.Marker.TheVariants.{RST}
 use Rattle.jpeg_bits.specs.Written.WritesIntervals.{last, another}
-use Rattle.jpeg_streams.specs.WrittenData.{WritesBlocks}
+use Rattle.jpeg_meaning.specs.WrittenData.{WritesBlocks}
 use Rattle.jpeg_evidence.specs.Strict.{alone, BlocksFit, IsCut, IsInterval, IsIntervals, numbers_read}
 use Rattle.jpeg_evidence.proofs.Taken.TakenBytes.{bytes_back}
 use Rattle.jpeg_evidence.proofs.Taken.TakenTurns.{blocks_taken}

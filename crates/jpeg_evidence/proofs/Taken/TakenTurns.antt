@@ -3,9 +3,9 @@ use Rattle.std.proofs.Common.{◌≡◌, ℕ, Bool, List, [], ◌∷◌, Ok, ℤ
 use Rattle.jpeg_bits.specs.Entropy.{Text}
 use Rattle.jpeg_bits.specs.Readers.{gives, ◌>>=◌}
 use Rattle.jpeg_bits.specs.Passes.{Block, Pass, Via, block_from, blocks_of}
-use Rattle.jpeg_streams.specs.Levels.{numbers_at}
-use Rattle.jpeg_streams.specs.WrittenData.{WritesBlocks}
-use Rattle.jpeg_streams.specs.WrittenData.WritesBlocks.{done, block}
+use Rattle.jpeg_meaning.specs.Levels.{numbers_at}
+use Rattle.jpeg_meaning.specs.WrittenData.{WritesBlocks}
+use Rattle.jpeg_meaning.specs.WrittenData.WritesBlocks.{done, block}
 use Rattle.jpeg_evidence.specs.Strict.{alone, IsCut, IsBlock, BlocksFit, numbers_read}
 use Rattle.jpeg_evidence.specs.Strict.BlocksFit.{finished, next}
 use Rattle.jpeg_evidence.proofs.Taken.TakenBits.{after-read, gives-taken, map-taken, cut-then, After}

@@ -12,7 +12,7 @@ use Rattle.jpeg_bits.specs.Codes.{Table, IsTable, symbol_from}
 use Rattle.jpeg_bits.specs.Bands.{difference, first_dc, wrapped}
 use Rattle.jpeg_bits.proofs.Fast.{no-number}
 use Rattle.jpeg_bits.specs.Written.{low_bits, IsCoded, IsCategory, number_for}
-use Rattle.jpeg_streams.specs.WrittenData.{WritesDifference}
+use Rattle.jpeg_meaning.specs.WrittenData.{WritesDifference}
 use Rattle.jpeg_evidence.specs.Strict.{alone, IsCut, IsNumber, IsValue, IsDc}
 use Rattle.jpeg_evidence.proofs.Taken.TakenBits.{number_taken, symbol_taken, cut-map, gives-taken}
 use Rattle.jpeg_evidence.proofs.Taken.TakenBits.{map-taken, bind-cut, if-read, no-error}

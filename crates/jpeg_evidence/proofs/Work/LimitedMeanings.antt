@@ -3,18 +3,18 @@
 use Rattle.std.proofs.Common.{rules, ◌≡◌, ◌≤◌, ◌<◌, ℕ, suc, false, nat_lt, List, length, Option, Some, None, Result, Ok, Err}
 use Rattle.std.proofs.Common.{refl, sym, ap, ◌∙◌, arith, subst}
 use Rattle.jpeg_bits.specs.Reading.{Fault, Malformed, Outcome, ◌>>=◌}
-use Rattle.jpeg_streams.specs.declared.before.Before.TheVariants.{Elsewhere}
+use Rattle.jpeg_meaning.specs.declared.before.Before.TheVariants.{Elsewhere}
 use Rattle.jpeg_bits.specs.declared.beyond.Beyond.{Beyond}
 use Rattle.jpeg_bits.specs.declared.beyond.Beyond.TheVariants.{Nothing, Zeros}
-use Rattle.jpeg_streams.specs.declared.settings.Settings.{Settings}
-use Rattle.jpeg_streams.specs.Found.{Found, nothing_found}
-use Rattle.jpeg_streams.specs.Limits.{IsWithinLimit, exceeded_by, work_of, work_of_rest, work_of_walk}
-use Rattle.jpeg_streams.specs.Shown.{Shown, fault_shown, shown, shown_of, shown_rest_within, shown_within, whole_rows}
-use Rattle.jpeg_streams.specs.Shown.{framed_or, picture_shown, rows_of_found, whole_rows_rest, whole_rows_within}
-use Rattle.jpeg_streams.specs.Stream.{meaning_within, rest_within, segments_at, start_at, walk}
+use Rattle.jpeg_meaning.specs.declared.settings.Settings.{Settings}
+use Rattle.jpeg_meaning.specs.Found.{Found, nothing_found}
+use Rattle.jpeg_meaning.specs.Limits.{IsWithinLimit, exceeded_by, work_of, work_of_rest, work_of_walk}
+use Rattle.jpeg_meaning.specs.Shown.{Shown, fault_shown, shown, shown_of, shown_rest_within, shown_within, whole_rows}
+use Rattle.jpeg_meaning.specs.Shown.{framed_or, picture_shown, rows_of_found, whole_rows_rest, whole_rows_within}
+use Rattle.jpeg_meaning.specs.Stream.{meaning_within, rest_within, segments_at, start_at, walk}
 use Rattle.jpeg_segments.proofs.Codecs.{bind-ok, ok-same}
-use Rattle.jpeg_streams.proofs.Limits.{above-refused, decoded-most, exceeded-above, limit-same, meaning-same}
-use Rattle.jpeg_streams.proofs.Limits.{none-exceeded}
+use Rattle.jpeg_meaning.proofs.Limits.{above-refused, decoded-most, exceeded-above, limit-same, meaning-same}
+use Rattle.jpeg_meaning.proofs.Limits.{none-exceeded}
 use Rattle.jpeg_evidence.proofs.Work.LimitedWalks.{above-rows, found-first, header-free, work-counted}
 
 pub meaning-above : (most : ℕ) (settings : Settings) (bytes : List ℕ) → most < work_of Zeros bytes

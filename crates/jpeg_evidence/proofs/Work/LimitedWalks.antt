@@ -3,12 +3,12 @@ use Rattle.std.proofs.Common.{rules, ◌≡◌, ◌≤◌, ◌<◌, ℕ, zero, s
 use Rattle.std.proofs.Common.{is_some, refl, sym, arith}
 use Rattle.std.specs.Prelude.{if◌then◌else◌}
 use Rattle.jpeg_bits.specs.declared.marker.Marker.{Marker}
-use Rattle.jpeg_streams.specs.declared.before.Before.{Before}
+use Rattle.jpeg_meaning.specs.declared.before.Before.{Before}
 use Rattle.jpeg_bits.specs.declared.beyond.Beyond.{Beyond}
-use Rattle.jpeg_streams.specs.Found.{Found}
-use Rattle.jpeg_streams.specs.Limits.{IsWithinLimit, work_of_walk, work_within}
-use Rattle.jpeg_streams.specs.Stream.{turn_at, walk}
-use Rattle.jpeg_streams.specs.Work.{is_above, left_after, work_of_header, work_of_turn}
+use Rattle.jpeg_meaning.specs.Found.{Found}
+use Rattle.jpeg_meaning.specs.Limits.{IsWithinLimit, work_of_walk, work_within}
+use Rattle.jpeg_meaning.specs.Stream.{turn_at, walk}
+use Rattle.jpeg_meaning.specs.Work.{is_above, left_after, work_of_header, work_of_turn}
 
 -- how many turns are taken before a scan is refused, or all
 unfoldable turns_within : Option ℕ → Beyond → ℕ → Bool → Before → Found → Option Marker → List ℕ → ℕ

@@ -1,8 +1,8 @@
 -- tested on the bytes of the files
 use Rattle.std.proofs.Common.{ℕ, refl}
-use Rattle.jpeg_streams.specs.Levels.{Is8Bit}
-use Rattle.jpeg_streams.proofs.Tested.TestedData.{given}
-use Rattle.jpeg_streams.proofs.Tested.TestedStreams.{image_for, blocks-in, written_on_literals}
+use Rattle.jpeg_meaning.specs.Levels.{Is8Bit}
+use Rattle.jpeg_meaning.proofs.Tested.TestedData.{given}
+use Rattle.jpeg_meaning.proofs.Tested.TestedStreams.{image_for, blocks-in, written_on_literals}
 use Rattle.jpeg_evidence.specs.Files.{blocks_of_files, coefficients_of_files, progressive_file, sequential_file}
 use Rattle.jpeg_evidence.proofs.files_are_written.Goals as goal
 

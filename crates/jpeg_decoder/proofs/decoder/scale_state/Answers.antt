@@ -1,9 +1,9 @@
 use Rattle.std.proofs.Common.{◌≡◌, ◌∙◌, Some, ap, rules, subst, sym}
-use Rattle.jpeg_streams.specs.Found.{Said, with_said}
-use Rattle.jpeg_streams.specs.Sound.{HasDecodedFrame, IsSound, IsUnread}
+use Rattle.jpeg_meaning.specs.Found.{Said, with_said}
+use Rattle.jpeg_meaning.specs.Sound.{HasDecodedFrame, IsSound, IsUnread}
 use Rattle.jpeg_segments.specs.FrameView.{frame_in}
 use Rattle.jpeg_decoder.specs.Seen.{found_of, said_of}
-use Rattle.jpeg_streams.proofs.Soundness.{frames_scaled, sound_scaled}
+use Rattle.jpeg_meaning.proofs.Soundness.{frames_scaled, sound_scaled}
 use Rattle.jpeg_decoder.proofs.decoder.scale_state.Goals.{After-size_frame}
 use Rattle.jpeg_decoder.proofs.decoder.scale_state.Goals as goal
 

@@ -4,11 +4,11 @@ use Rattle.std.specs.Io.KnownBytes.{Appends}
 use Rattle.std.specs.List.{concat}
 use Rattle.std.proofs.lemmas.Result.{err_from_is_err_and}
 use Rattle.jpeg_bits.specs.declared.error.Error.{Error}
-use Rattle.jpeg_streams.specs.Output.{header_line_of, output_of, TakesBeginning, Tells}
-use Rattle.jpeg_streams.specs.Pixels.{info_of}
-use Rattle.jpeg_streams.specs.Stream.{told_of}
-use Rattle.jpeg_streams.proofs.Refusals.{outside-decode, named-decode, output-some}
-use Rattle.jpeg_streams.proofs.Pictures.PrintedImages.{prints-images}
+use Rattle.jpeg_meaning.specs.Output.{header_line_of, output_of, TakesBeginning, Tells}
+use Rattle.jpeg_meaning.specs.Pixels.{info_of}
+use Rattle.jpeg_meaning.specs.Stream.{told_of}
+use Rattle.jpeg_meaning.proofs.Refusals.{outside-decode, named-decode, output-some}
+use Rattle.jpeg_meaning.proofs.Pictures.PrintedImages.{prints-images}
 use Rattle.jpeg_decoder.specs.Begun.{begun}
 use Rattle.jpeg_decoder.proofs.Callers.{bytes_are_known, known_bytes_are_told}
 use Rattle.jpeg_decoder.proofs.Pictures.WrittenLines.{none-taken, outside-named, outside-own}

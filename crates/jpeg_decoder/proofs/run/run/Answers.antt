@@ -1,5 +1,5 @@
 use Rattle.std.proofs.Common.{rules}
-use Rattle.jpeg_streams.proofs.Pictures.PrintedImages.{prints-images}
+use Rattle.jpeg_meaning.proofs.Pictures.PrintedImages.{prints-images}
 use Rattle.jpeg_decoder.proofs.run.run.Goals as goal
 
 pub returns-in_err-decoder-clause-images : goal.returns-in_err-decoder-clause-images

@@ -2,12 +2,12 @@
 use Rattle.std.proofs.Common.{◌∷◌, true, false, [], pos, replicate, refl, arith}
 use Rattle.jpeg_bits.specs.Passes.{predictors_at_start}
 use Rattle.jpeg_bits.specs.declared.huffman.codes.HuffmanTableClass.TheVariants.{DC}
-use Rattle.jpeg_streams.specs.WrittenData.{WritesDifference}
-use Rattle.jpeg_streams.specs.WrittenData.WritesAc.{first}
-use Rattle.jpeg_streams.specs.WrittenData.WritesBand.{ended}
-use Rattle.jpeg_streams.specs.WrittenData.WritesDc.{whole}
-use Rattle.jpeg_streams.proofs.Tested.TestedData.{category-by}
-use Rattle.jpeg_streams.proofs.Tested.TestedStreams.{written_on_literals}
+use Rattle.jpeg_meaning.specs.WrittenData.{WritesDifference}
+use Rattle.jpeg_meaning.specs.WrittenData.WritesAc.{first}
+use Rattle.jpeg_meaning.specs.WrittenData.WritesBand.{ended}
+use Rattle.jpeg_meaning.specs.WrittenData.WritesDc.{whole}
+use Rattle.jpeg_meaning.proofs.Tested.TestedData.{category-by}
+use Rattle.jpeg_meaning.proofs.Tested.TestedStreams.{written_on_literals}
 use Rattle.jpeg_evidence.specs.FirstBlocks.BeginsIntervals.{within}
 use Rattle.jpeg_evidence.specs.FirstBlocks.WritesFirst.{next_block, no_more}
 use Rattle.jpeg_evidence.specs.FoundTables.{one_symbol}

@@ -1,8 +1,8 @@
 -- tested on the bytes of the streams
 use Rattle.std.proofs.Common.{ℕ, refl}
-use Rattle.jpeg_streams.specs.Levels.{Is8Bit}
-use Rattle.jpeg_streams.proofs.Tested.TestedData.{given}
-use Rattle.jpeg_streams.proofs.Tested.TestedStreams.{image_for, blocks-in, written_on_literals}
+use Rattle.jpeg_meaning.specs.Levels.{Is8Bit}
+use Rattle.jpeg_meaning.proofs.Tested.TestedData.{given}
+use Rattle.jpeg_meaning.proofs.Tested.TestedStreams.{image_for, blocks-in, written_on_literals}
 use Rattle.jpeg_evidence.specs.Extremes.{extreme_array, extreme_blocks, extreme_progressive, extreme_sequential}
 use Rattle.jpeg_evidence.proofs.extremes.extremes_are_written.Goals as goal
 

@@ -1,5 +1,5 @@
 use Rattle.std.proofs.Common.{refl}
-use Rattle.jpeg_streams.proofs.OnLiterals.{streams_on_literals}
+use Rattle.jpeg_meaning.proofs.OnLiterals.{streams_on_literals}
 use Rattle.jpeg_evidence.proofs.worked.known_images.Goals as goal
 
 pub returns : goal.returns

@@ -1,6 +1,6 @@
 use Rattle.std.proofs.Common.{◌∙◌, ap, sym, List, ℕ}
 use Rattle.zaxbriar_calls.specs.Layouts.{layout_line, pixel_bytes}
-use Rattle.jpeg_streams.specs.declared.images.PixelFormat.TheVariants.{RGB24}
+use Rattle.jpeg_meaning.specs.declared.images.PixelFormat.TheVariants.{RGB24}
 use Rattle.zaxbriar_calls.specs.declared.layouts.Conversion.TheVariants.{InColour}
 use Rattle.zaxbriar_calls.proofs.Laid.{rgba_left, shuffled_abgr, shuffled_bgra, shuffled_rgba, shuffled_xrgb}
 use Rattle.zaxbriar_calls.proofs.layouts.four_pixels.Goals as goal

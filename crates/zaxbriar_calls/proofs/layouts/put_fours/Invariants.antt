@@ -1,6 +1,6 @@
 use Rattle.std.proofs.Common.{◌≡◌, ◌*◌, ◌++◌, drop}
 use Rattle.zaxbriar_calls.specs.Layouts.{layout_line, pixel_bytes}
-use Rattle.jpeg_streams.specs.declared.images.PixelFormat.TheVariants.{RGB24}
+use Rattle.jpeg_meaning.specs.declared.images.PixelFormat.TheVariants.{RGB24}
 use Rattle.zaxbriar_calls.specs.declared.layouts.Conversion.TheVariants.{InColour}
 use Rattle.zaxbriar_calls.proofs.layouts.put_fours.Given as goal
 

@@ -1,7 +1,7 @@
 use Rattle.std.proofs.lemmas.Result.{err_from_is_err_and}
 use Rattle.std.proofs.Common.{◌∙◌, ap}
-use Rattle.jpeg_streams.specs.States.{Decoding}
-use Rattle.jpeg_streams.specs.Stream.{told_of}
+use Rattle.jpeg_meaning.specs.States.{Decoding}
+use Rattle.jpeg_meaning.specs.Stream.{told_of}
 use Rattle.zaxbriar_calls.proofs.Images.{header-end-alone, header-refused, header-told-alone, refused-end, scans-end}
 use Rattle.zaxbriar_calls.proofs.Images.{scans-named, scans-refused, scans-told}
 use Rattle.zaxbriar_calls.proofs.metadata.read_through.Goals as goal

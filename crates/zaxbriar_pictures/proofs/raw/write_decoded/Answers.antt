@@ -1,7 +1,7 @@
 use Rattle.std.proofs.Common.{◌∙◌, rules, subst, sym}
 use Rattle.std.specs.List.{concat}
-use Rattle.jpeg_streams.specs.States.{HasHeader}
-use Rattle.jpeg_streams.specs.Stream.{told_of}
+use Rattle.jpeg_meaning.specs.States.{HasHeader}
+use Rattle.jpeg_meaning.specs.Stream.{told_of}
 use Rattle.zaxbriar_pictures.proofs.Allowances.{lines-allowed}
 use Rattle.zaxbriar_pictures.proofs.ScaledStreams.{codes-within, output-some}
 use Rattle.zaxbriar_pictures.proofs.raw.write_decoded.Goals as goal

@@ -1,6 +1,6 @@
 use Rattle.std.proofs.Common.{◌≡◌, ◌∙◌, ap, sym}
-use Rattle.jpeg_streams.specs.declared.progress.Progress.{Progress}
-use Rattle.jpeg_streams.specs.declared.progress.Progress.TheVariants.{Fresh, HeaderRead}
+use Rattle.jpeg_meaning.specs.declared.progress.Progress.{Progress}
+use Rattle.jpeg_meaning.specs.declared.progress.Progress.TheVariants.{Fresh, HeaderRead}
 use Rattle.zaxbriar_samples.specs.Sizes.{orientation_for}
 use Rattle.zaxbriar_pictures.proofs.Allowances.{allowed-there}
 use Rattle.zaxbriar_pictures.proofs.scaled.choose.Goals as goal

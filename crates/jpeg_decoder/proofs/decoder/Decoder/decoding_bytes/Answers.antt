@@ -1,5 +1,5 @@
 use Rattle.std.proofs.Common.{rules}
-use Rattle.jpeg_streams.specs.Sound.{IsDecodedFrame}
+use Rattle.jpeg_meaning.specs.Sound.{IsDecodedFrame}
 use Rattle.jpeg_segments.specs.FrameView.{frame_in}
 use Rattle.jpeg_decoder.proofs.Pictures.PicturesOfPlanes.{decoded-factors, decoded-few}
 use Rattle.jpeg_decoder.proofs.decoder.Decoder.decoding_bytes.Goals as goal

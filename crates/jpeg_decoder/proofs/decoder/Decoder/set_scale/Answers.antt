@@ -1,8 +1,8 @@
 use Rattle.std.proofs.Common.{◌≡◌, Ok, rules}
 use Rattle.std.proofs.lemmas.Result.{err_from_is_err_and}
-use Rattle.jpeg_streams.specs.Found.{with_said}
-use Rattle.jpeg_streams.specs.Stream.{scaled_header_at, scaled_to}
-use Rattle.jpeg_streams.proofs.Soundness.{scaled-read, scaled-refused}
+use Rattle.jpeg_meaning.specs.Found.{with_said}
+use Rattle.jpeg_meaning.specs.Stream.{scaled_header_at, scaled_to}
+use Rattle.jpeg_meaning.proofs.Soundness.{scaled-read, scaled-refused}
 use Rattle.jpeg_decoder.proofs.Scans.ScanData.{answers-err}
 use Rattle.jpeg_decoder.proofs.Segments.ScaledHeaders.{answers-changed}
 use Rattle.jpeg_decoder.proofs.decoder.Decoder.set_scale.Goals as goal

@@ -1,5 +1,5 @@
-use Rattle.jpeg_streams.proofs.Written.WrittenPictures.{stream-means}
-use Rattle.jpeg_streams.proofs.Written.SizedStreams.{stream-means_scaled, stream-means_sized}
+use Rattle.jpeg_meaning.proofs.Written.WrittenPictures.{stream-means}
+use Rattle.jpeg_meaning.proofs.Written.SizedStreams.{stream-means_scaled, stream-means_sized}
 use Rattle.jpeg_decoder.proofs.laws.headline.first_scans_are_read.Goals as goal
 
 pub returns : goal.returns

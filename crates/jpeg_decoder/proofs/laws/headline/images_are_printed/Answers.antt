@@ -1,4 +1,4 @@
-use Rattle.jpeg_streams.proofs.Pictures.PrintedImages.{image-output}
+use Rattle.jpeg_meaning.proofs.Pictures.PrintedImages.{image-output}
 use Rattle.jpeg_decoder.proofs.laws.headline.images_are_printed.Goals as goal
 
 pub returns : goal.returns

@@ -1,4 +1,4 @@
-use Rattle.jpeg_streams.proofs.Written.WrittenParts.{one-picture}
+use Rattle.jpeg_meaning.proofs.Written.WrittenParts.{one-picture}
 use Rattle.jpeg_decoder.proofs.laws.headline.pictures_are_of_coefficients.Goals as goal
 
 pub returns : goal.returns

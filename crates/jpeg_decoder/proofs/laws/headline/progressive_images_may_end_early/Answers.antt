@@ -1,6 +1,6 @@
 use Rattle.std.proofs.Common.{[], ◌∷◌, ◌++◌}
-use Rattle.jpeg_streams.proofs.Written.WrittenParts.{front-closed}
-use Rattle.jpeg_streams.proofs.Written.WrittenPictures.{stream-means}
+use Rattle.jpeg_meaning.proofs.Written.WrittenParts.{front-closed}
+use Rattle.jpeg_meaning.proofs.Written.WrittenPictures.{stream-means}
 use Rattle.jpeg_decoder.proofs.laws.headline.progressive_images_may_end_early.Goals as goal
 
 pub returns-clause-pictured : goal.returns-clause-pictured

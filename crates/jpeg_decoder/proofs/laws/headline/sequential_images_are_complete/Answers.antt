@@ -1,4 +1,4 @@
-use Rattle.jpeg_streams.proofs.Pictures.WholeImages.{sequential-whole}
+use Rattle.jpeg_meaning.proofs.Pictures.WholeImages.{sequential-whole}
 use Rattle.jpeg_decoder.proofs.laws.headline.sequential_images_are_complete.Goals as goal
 
 pub returns : goal.returns

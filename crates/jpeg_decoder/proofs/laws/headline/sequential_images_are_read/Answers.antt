@@ -1,7 +1,7 @@
 use Rattle.std.proofs.Common.{◌∙◌}
-use Rattle.jpeg_streams.proofs.Written.WrittenPictures.{stream-means}
-use Rattle.jpeg_streams.proofs.Written.SizedStreams.{stream-means_scaled, stream-means_sized}
-use Rattle.jpeg_streams.proofs.Pictures.WholeImages.{sequential-whole, whole-is, scaled-whole, sized-whole}
+use Rattle.jpeg_meaning.proofs.Written.WrittenPictures.{stream-means}
+use Rattle.jpeg_meaning.proofs.Written.SizedStreams.{stream-means_scaled, stream-means_sized}
+use Rattle.jpeg_meaning.proofs.Pictures.WholeImages.{sequential-whole, whole-is, scaled-whole, sized-whole}
 use Rattle.jpeg_decoder.proofs.laws.headline.sequential_images_are_read.Goals as goal
 
 pub returns-clause-whole : goal.returns-clause-whole

@@ -1,4 +1,4 @@
-use Rattle.jpeg_streams.proofs.Pictures.PlainScans.{way-alone, way-together}
+use Rattle.jpeg_meaning.proofs.Pictures.PlainScans.{way-alone, way-together}
 use Rattle.jpeg_decoder.proofs.LosslessFrames.PlainPixels.{picture-plain}
 use Rattle.jpeg_decoder.proofs.laws.lossless.equal_factors_mean_nothing.Goals as goal
 

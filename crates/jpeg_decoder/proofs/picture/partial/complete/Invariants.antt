@@ -1,8 +1,8 @@
 use Rattle.std.proofs.Common.{◌≡◌, drop}
 use Rattle.std.specs.List.{enumerate_from, fold}
 use Rattle.jpeg_segments.specs.FrameView.{frame_in}
-use Rattle.jpeg_streams.specs.Shown.{completed, shown_by}
-use Rattle.jpeg_streams.specs.Sound.{IsSound}
+use Rattle.jpeg_meaning.specs.Shown.{completed, shown_by}
+use Rattle.jpeg_meaning.specs.Sound.{IsSound}
 use Rattle.jpeg_decoder.specs.Steps.{with_decoded}
 use Rattle.jpeg_decoder.proofs.picture.partial.complete.Given as goal
 

@@ -1,9 +1,9 @@
 use Rattle.std.proofs.Common.{◌∙◌, List, ap, arith, map, refl, rules, subst, sym}
 use Rattle.std.proofs.lemmas.Grind.{common_steps}
 use Rattle.jpeg_segments.specs.FrameView.{component_in, frame_in}
-use Rattle.jpeg_streams.specs.EndPlanes.{AreBlocksOf, blocks_if, is_kept}
-use Rattle.jpeg_streams.specs.Rasters.{plane_by}
-use Rattle.jpeg_streams.specs.Shown.{blocks_held, table_held}
+use Rattle.jpeg_meaning.specs.EndPlanes.{AreBlocksOf, blocks_if, is_kept}
+use Rattle.jpeg_meaning.specs.Rasters.{plane_by}
+use Rattle.jpeg_meaning.specs.Shown.{blocks_held, table_held}
 use Rattle.jpeg_decoder.specs.Scanning.{blocks_in}
 use Rattle.jpeg_decoder.specs.declared.scan.block_array.BlockArray.{BlockArray}
 use Rattle.jpeg_decoder.specs.Steps.{with_decoded}

@@ -2,7 +2,7 @@ use Rattle.std.proofs.Common.{rules, arith}
 use Rattle.std.proofs.lemmas.Grind.{common_steps}
 use Rattle.std.proofs.lemmas.List.{map-set}
 use Rattle.jpeg_segments.specs.FrameView.{component_in, frame_in}
-use Rattle.jpeg_streams.proofs.Soundness.{decoded-precision}
+use Rattle.jpeg_meaning.proofs.Soundness.{decoded-precision}
 use Rattle.jpeg_decoder.specs.Steps.{with_decoded}
 use Rattle.jpeg_decoder.proofs.Partial.ShownParts.{precision-some, samples-put, samples-seen, samples-there}
 use Rattle.jpeg_decoder.proofs.picture.partial.complete_samples.Goals as goal

@@ -2,8 +2,8 @@ use Rattle.std.proofs.Common.{◌≡◌, ◌∙◌, ap, refl, subst, sym}
 use Rattle.std.proofs.lemmas.Result.{IfOk-weaker}
 use Rattle.std.specs.List.{concat}
 use Rattle.jpeg_bits.specs.Reading.{Answers}
-use Rattle.jpeg_streams.specs.Sound.{HasDecodedFrame, IsSound}
-use Rattle.jpeg_streams.specs.States.{OnTold}
+use Rattle.jpeg_meaning.specs.Sound.{HasDecodedFrame, IsSound}
+use Rattle.jpeg_meaning.specs.States.{OnTold}
 use Rattle.jpeg_decoder.specs.Reaching.{UnlessRefused, walk_end, without_tables}
 use Rattle.jpeg_decoder.specs.Seen.{found_of}
 use Rattle.jpeg_decoder.specs.declared.picture.partial.PartialLines.{PartialLines}
@@ -17,7 +17,7 @@ use Rattle.jpeg_decoder.proofs.Partial.ShownRows.{rest-counted}
 use Rattle.jpeg_decoder.proofs.Partial.ShownTold.{rest-told}
 use Rattle.jpeg_decoder.proofs.picture.partial.show_rest.Given as given
 use Rattle.jpeg_decoder.proofs.picture.partial.show_rest.Goals.{After-read_segments-ended, After-show_found}
-use Rattle.jpeg_streams.specs.Stream.{all_brought}
+use Rattle.jpeg_meaning.specs.Stream.{all_brought}
 use Rattle.jpeg_decoder.proofs.picture.partial.show_rest.Goals as goal
 
 -- what the segments say of the bytes

@@ -4,7 +4,7 @@ use Rattle.jpeg_segments.proofs.Gathered.{Gathers}
 use Rattle.jpeg_segments.specs.FrameView.{frame_in}
 use Rattle.jpeg_decoder.specs.Scanning.{arrays_in}
 use Rattle.jpeg_decoder.specs.Steps.{with_decoded}
-use Rattle.jpeg_streams.specs.FoundPictures.{plane_at_end}
+use Rattle.jpeg_meaning.specs.FoundPictures.{plane_at_end}
 use Rattle.jpeg_decoder.proofs.Pictures.EndedPlanes.{AreWholeWith}
 use Rattle.jpeg_decoder.proofs.picture.whole.planes_at_end.Given as goal
 

@@ -1,9 +1,9 @@
 use Rattle.std.proofs.Common.{◌∙◌, None, rules, sym, ap}
-use Rattle.jpeg_streams.specs.Stream.{told_of}
-use Rattle.jpeg_streams.specs.Reported.{IsOfTurns}
-use Rattle.jpeg_streams.specs.Found.{Found, nothing_found}
-use Rattle.jpeg_streams.proofs.Soundness.{nothing-framed}
-use Rattle.jpeg_streams.proofs.Refusals.{told-through, turns-none}
+use Rattle.jpeg_meaning.specs.Stream.{told_of}
+use Rattle.jpeg_meaning.specs.Reported.{IsOfTurns}
+use Rattle.jpeg_meaning.specs.Found.{Found, nothing_found}
+use Rattle.jpeg_meaning.proofs.Soundness.{nothing-framed}
+use Rattle.jpeg_meaning.proofs.Refusals.{told-through, turns-none}
 use Rattle.jpeg_decoder.proofs.Partial.Refused.{on-told}
 use Rattle.jpeg_decoder.proofs.Segments.Turns.{told-start}
 use Rattle.jpeg_decoder.proofs.picture.whole.read_header.Goals as goal

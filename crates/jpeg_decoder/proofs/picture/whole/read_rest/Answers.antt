@@ -1,6 +1,6 @@
 use Rattle.std.proofs.Common.{refl, subst, sym}
 use Rattle.std.proofs.lemmas.Result.{IfOk-weaker}
-use Rattle.jpeg_streams.specs.Sound.{HasDecodedFrame}
+use Rattle.jpeg_meaning.specs.Sound.{HasDecodedFrame}
 use Rattle.jpeg_decoder.specs.Seen.{found_of}
 use Rattle.jpeg_decoder.proofs.Pictures.PictureSizes.{lines-whole}
 use Rattle.jpeg_decoder.proofs.picture.whole.read_rest.Goals as goal

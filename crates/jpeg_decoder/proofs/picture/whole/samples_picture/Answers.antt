@@ -2,7 +2,7 @@ use Rattle.jpeg_segments.specs.FrameView.{frame_in}
 use Rattle.jpeg_decoder.proofs.LosslessFrames.LosslessReads.{samples-whole}
 use Rattle.jpeg_decoder.proofs.Pictures.PictureSizes.{if-sample_lines}
 use Rattle.jpeg_decoder.proofs.Pictures.PicturesOfPlanes.{decoded-factors, decoded-few}
-use Rattle.jpeg_streams.proofs.Pictures.LosslessSizes.{all-reach, decoded-made}
+use Rattle.jpeg_meaning.proofs.Pictures.LosslessSizes.{all-reach, decoded-made}
 use Rattle.jpeg_decoder.proofs.picture.whole.samples_picture.Goals as goal
 
 pub samples_at_end-requires : goal.samples_at_end-requires

@@ -1,6 +1,6 @@
 use Rattle.std.proofs.lemmas.Result.{on_err_weaker, err_from_is_err_and}
 use Rattle.std.specs.List.{concat}
-use Rattle.jpeg_streams.proofs.Written.WriterLemmas.{TakesBeginning-front, TakesBeginning-after}
+use Rattle.jpeg_meaning.proofs.Written.WriterLemmas.{TakesBeginning-front, TakesBeginning-after}
 use Rattle.jpeg_decoder.proofs.run.lines.write_headed.Goals as goal
 
 pub returns-in_err-write_fully-clause-err : goal.returns-in_err-write_fully-clause-err

@@ -1,7 +1,7 @@
 use Rattle.std.proofs.Common.{rules, take, length}
 use Rattle.std.proofs.lemmas.Result.{err_from_is_err_and}
 use Rattle.std.specs.Io.KnownBytes.{Appends}
-use Rattle.jpeg_streams.proofs.Written.WriterLemmas.{Took-more, Took-kept}
+use Rattle.jpeg_meaning.proofs.Written.WriterLemmas.{Took-more, Took-kept}
 use Rattle.jpeg_decoder.specs.Writes.{all_interrupted}
 use Rattle.jpeg_decoder.proofs.Interrupted.{stops-failed, stops-none, some-left}
 use Rattle.jpeg_decoder.proofs.run.writes.write_fully.Goals as goal

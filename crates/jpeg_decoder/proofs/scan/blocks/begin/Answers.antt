@@ -1,7 +1,7 @@
 use Rattle.std.proofs.Common.{◌≡◌, ◌<◌, ◌+◌, ◌%◌, arith}
 use Rattle.jpeg_bits.specs.Entropy.{upcoming}
 use Rattle.jpeg_bits.proofs.WholeBlocks.{refused_after}
-use Rattle.jpeg_streams.specs.InTurn.{begun_from, restart_from}
+use Rattle.jpeg_meaning.specs.InTurn.{begun_from, restart_from}
 use Rattle.jpeg_decoder.specs.Scanning.{counted}
 use Rattle.jpeg_bits.proofs.BandSteps.{Leaves-whole}
 use Rattle.jpeg_decoder.proofs.Orders.BlockSteps.{begun_next, begun_refused}

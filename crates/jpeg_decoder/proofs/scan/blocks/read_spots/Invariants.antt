@@ -1,7 +1,7 @@
 use Rattle.std.proofs.Common.{◌≡◌, length}
 use Rattle.std.specs.List.{AllByRecursion}
 use Rattle.jpeg_bits.proofs.BandLoop.{Leaves}
-use Rattle.jpeg_streams.specs.InTurn.{blocks_from}
+use Rattle.jpeg_meaning.specs.InTurn.{blocks_from}
 use Rattle.jpeg_decoder.specs.Scanning.{scan_vias, arrays_in, counted, kept_blocks, sizes_of, IsSpotOf}
 use Rattle.jpeg_decoder.proofs.scan.blocks.read_spots.Given as goal
 

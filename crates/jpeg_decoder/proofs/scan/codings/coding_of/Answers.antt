@@ -4,12 +4,12 @@ use Rattle.std.proofs.lemmas.List.{length-map}
 use Rattle.std.specs.Option.{option_copied}
 use Rattle.jpeg_segments.specs.FrameView.{component_in, frame_in}
 use Rattle.jpeg_segments.specs.ScanHeader.{Scan}
-use Rattle.jpeg_streams.specs.Found.{Said}
+use Rattle.jpeg_meaning.specs.Found.{Said}
 use Rattle.jpeg_decoder.specs.Steps.{coding_in_slot, table_if, IsSpareOf}
 use Rattle.jpeg_decoder.specs.declared.scan.codings.Spare.{Spare}
 use Rattle.std.specs.Prelude.{nat_lt}
 use Rattle.jpeg_bits.specs.declared.huffman.codes.HuffmanTableClass.TheVariants as classes
-use Rattle.jpeg_streams.specs.Scans.{no_table}
+use Rattle.jpeg_meaning.specs.Scans.{no_table}
 use Rattle.std.proofs.lemmas.Result.{err_from_is_err_and}
 use Rattle.jpeg_bits.proofs.Loops.{bind_err}
 use Rattle.jpeg_decoder.specs.Seen.{said_of}

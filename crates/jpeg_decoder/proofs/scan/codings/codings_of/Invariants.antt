@@ -1,6 +1,6 @@
 use Rattle.std.proofs.Common.{◌≡◌, length}
 use Rattle.jpeg_segments.specs.FrameView.{frame_in}
-use Rattle.jpeg_streams.specs.ScanSegments.{codings_of}
+use Rattle.jpeg_meaning.specs.ScanSegments.{codings_of}
 use Rattle.jpeg_decoder.proofs.Scans.ScanCodings.{front, codings_left}
 use Rattle.jpeg_decoder.proofs.scan.codings.codings_of.Given as goal
 

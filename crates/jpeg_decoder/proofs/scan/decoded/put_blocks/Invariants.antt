@@ -1,7 +1,7 @@
 use Rattle.std.proofs.Common.{◌≡◌, ◌≤◌, ◌-◌, drop, length, map}
 use Rattle.jpeg_decoder.specs.Scanning.{arrays_in}
 use Rattle.jpeg_decoder.specs.Steps.{coding_in}
-use Rattle.jpeg_streams.specs.ScanSegments.{put_arrays}
+use Rattle.jpeg_meaning.specs.ScanSegments.{put_arrays}
 use Rattle.jpeg_decoder.proofs.scan.decoded.put_blocks.Given as goal
 
 abbrev pub invariant-loop-slot : goal.invariant-loop-slot

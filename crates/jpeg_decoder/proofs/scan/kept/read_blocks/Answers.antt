@@ -1,4 +1,4 @@
-use Rattle.jpeg_streams.proofs.Order.CountedScans.{frame-scans}
+use Rattle.jpeg_meaning.proofs.Order.CountedScans.{frame-scans}
 use Rattle.jpeg_decoder.proofs.Kept.KeptSpots.{kept-spots}
 use Rattle.jpeg_decoder.proofs.scan.kept.read_blocks.Goals as goal
 use Rattle.std.proofs.lemmas.Grind.{common_steps}

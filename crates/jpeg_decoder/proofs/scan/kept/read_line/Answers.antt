@@ -1,8 +1,8 @@
 use Rattle.std.proofs.Common.{◌≤◌, ◌<◌, ◌+◌, ◌-◌, ◌∷◌, ℕ, ℤ, List, length, ap, refl, ◌∙◌, arith}
 use Rattle.std.proofs.lemmas.Result.{err_from_is_err_and}
 use Rattle.jpeg_bits.specs.Readers.{Reads}
-use Rattle.jpeg_streams.specs.InTurn.{Counted, blocks_from}
-use Rattle.jpeg_streams.specs.Scans.{Arrays}
+use Rattle.jpeg_meaning.specs.InTurn.{Counted, blocks_from}
+use Rattle.jpeg_meaning.specs.Scans.{Arrays}
 use Rattle.jpeg_decoder.specs.Scanning.{blocks_in, counted, reached, scan_vias}
 use Rattle.jpeg_decoder.specs.Walk.{line_spots}
 use Rattle.jpeg_decoder.proofs.Kept.LinesOfBlocks.{line-begins, line-ends, line-goes, line-stops, line-unbegins}

@@ -1,7 +1,7 @@
 use Rattle.std.proofs.Common.{◌∷◌, ◌∙◌, arith}
 use Rattle.std.proofs.lemmas.Result.{err_from_is_err_and}
 use Rattle.jpeg_bits.specs.Readers.{Reads}
-use Rattle.jpeg_streams.specs.InTurn.{Counted, blocks_from}
+use Rattle.jpeg_meaning.specs.InTurn.{Counted, blocks_from}
 use Rattle.jpeg_decoder.specs.Scanning.{blocks_in, counted, scan_vias}
 use Rattle.jpeg_decoder.specs.Walk.{rows_spots}
 use Rattle.jpeg_decoder.proofs.Kept.LinesOfBlocks.{rows-end, rows-go, rows-stop}

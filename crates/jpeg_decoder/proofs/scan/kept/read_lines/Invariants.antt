@@ -1,7 +1,7 @@
 use Rattle.std.proofs.Common.{◌≡◌, ◌≤◌, ◌-◌, ◌∷◌, length}
 use Rattle.jpeg_bits.proofs.BandLoop.{Leaves}
-use Rattle.jpeg_streams.specs.InTurn.{blocks_from}
-use Rattle.jpeg_streams.specs.Scans.{Arrays}
+use Rattle.jpeg_meaning.specs.InTurn.{blocks_from}
+use Rattle.jpeg_meaning.specs.Scans.{Arrays}
 use Rattle.jpeg_decoder.specs.Scanning.{blocks_in, counted, scan_vias}
 use Rattle.jpeg_decoder.specs.Walk.{rows_spots}
 use Rattle.jpeg_decoder.proofs.scan.kept.read_lines.Given as goal

@@ -1,7 +1,7 @@
 use Rattle.std.proofs.Common.{◌≡◌, ◌<◌, ◌==◌, ◌∙◌, ℕ, List, Ok, Err, ap, length, map, refl, sym, arith}
 use Rattle.std.proofs.lemmas.List.{length-map}
 use Rattle.std.proofs.lemmas.List.Elements.{recursion_from_All}
-use Rattle.jpeg_streams.specs.ScanSegments.{after_samples, once_scanned}
+use Rattle.jpeg_meaning.specs.ScanSegments.{after_samples, once_scanned}
 use Rattle.jpeg_lossless.specs.Codings.{part_in}
 use Rattle.std.proofs.lemmas.Result.{err_from_is_err_and}
 use Rattle.jpeg_bits.specs.Reading.{Fault}
@@ -11,12 +11,12 @@ use Rattle.jpeg_decoder.proofs.LosslessFrames.LosslessReads.{has-mcus, parts-cou
 use Rattle.jpeg_decoder.proofs.LosslessFrames.LosslessReads.{samples-fail, samples-lacking, samples-sound}
 use Rattle.jpeg_decoder.proofs.LosslessFrames.LosslessReads.{scan-sampled}
 use Rattle.jpeg_segments.specs.FrameView.{frame_in}
-use Rattle.jpeg_streams.specs.Found.{Found, Said}
-use Rattle.jpeg_streams.specs.LosslessScans.{with_samples}
+use Rattle.jpeg_meaning.specs.Found.{Found, Said}
+use Rattle.jpeg_meaning.specs.LosslessScans.{with_samples}
 use Rattle.jpeg_decoder.specs.LosslessParts.{mcus_high, mcus_wide, parts_at}
 use Rattle.jpeg_decoder.specs.Seen.{found_of}
 use Rattle.jpeg_decoder.proofs.Pictures.PicturesOfPlanes.{decoded-factors}
-use Rattle.jpeg_streams.proofs.Soundness.{decoded-precision}
+use Rattle.jpeg_meaning.proofs.Soundness.{decoded-precision}
 use Rattle.jpeg_decoder.proofs.scan.lossless.read_lossless_scan.Given as given
 use Rattle.jpeg_decoder.proofs.scan.lossless.read_lossless_scan.Goals.{After-deref}
 use Rattle.jpeg_decoder.proofs.scan.lossless.read_lossless_scan.Goals.{After-deref-2}

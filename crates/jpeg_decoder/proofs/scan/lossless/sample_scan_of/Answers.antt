@@ -7,7 +7,7 @@ use Rattle.jpeg_bits.specs.Reading.{Fault}
 use Rattle.jpeg_segments.specs.FrameView.{frame_in}
 use Rattle.jpeg_lossless.specs.Scans.{is_of_rows}
 use Rattle.jpeg_lossless.specs.declared.scan.Coding.{Coding}
-use Rattle.jpeg_streams.specs.Found.{Said}
+use Rattle.jpeg_meaning.specs.Found.{Said}
 use Rattle.jpeg_decoder.specs.LosslessParts.{mcus_high, mcus_wide, parts_at}
 use Rattle.jpeg_decoder.proofs.LosslessFrames.LosslessReads.{AreCodings, HasMcus, codings-by-tables, codings-count, has-mcus}
 use Rattle.jpeg_decoder.proofs.Pictures.PicturesOfPlanes.{decoded-factors}

@@ -5,8 +5,8 @@ use Rattle.jpeg_bits.specs.BlockView.{predictor_at, to_block}
 use Rattle.jpeg_bits.specs.Entropy.{Text, upcoming}
 use Rattle.jpeg_bits.specs.Passes.{block_from, whole_pass}
 use Rattle.jpeg_bits.specs.Readers.{◌>>=◌, read_on}
-use Rattle.jpeg_streams.specs.Order.{Spot}
-use Rattle.jpeg_streams.specs.InTurn.{Counted, begun_from, blocks_from}
+use Rattle.jpeg_meaning.specs.Order.{Spot}
+use Rattle.jpeg_meaning.specs.InTurn.{Counted, begun_from, blocks_from}
 use Rattle.jpeg_bits.specs.Reading.{Fault}
 use Rattle.jpeg_decoder.specs.Scanning.{IsSpotOf, arrays_in, counted, kept_after, sizes_of, scan_vias}
 use Rattle.jpeg_bits.specs.Skips.{kept, kept_from}

@@ -1,6 +1,6 @@
 use Rattle.std.proofs.Common.{◌≡◌, ◌≤◌, ◌++◌, ◌-◌, ◌*◌, length, map}
 use Rattle.jpeg_decoder.specs.Steps.{coding_in}
-use Rattle.jpeg_streams.specs.ScanSegments.{components_of}
+use Rattle.jpeg_meaning.specs.ScanSegments.{components_of}
 use Rattle.jpeg_decoder.specs.Walk.{members_from}
 use Rattle.jpeg_decoder.proofs.Orders.OrderedWalks.{slots_left}
 use Rattle.jpeg_decoder.proofs.scan.order.members_of.Given as goal

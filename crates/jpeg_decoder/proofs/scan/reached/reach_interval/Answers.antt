@@ -1,7 +1,7 @@
 use Rattle.std.proofs.Common.{◌≡◌, ◌∙◌, ap, sym, Err}
 use Rattle.std.proofs.lemmas.Result.{err_from_is_err_and}
 use Rattle.jpeg_bits.specs.Intervals.{first_group}
-use Rattle.jpeg_streams.specs.Brought.{interval_reached, or_first}
+use Rattle.jpeg_meaning.specs.Brought.{interval_reached, or_first}
 use Rattle.jpeg_decoder.specs.Reaching.{after_group}
 use Rattle.jpeg_decoder.specs.Scanning.{arrays_in, scan_vias}
 use Rattle.jpeg_bits.specs.Entropy.{upcoming}

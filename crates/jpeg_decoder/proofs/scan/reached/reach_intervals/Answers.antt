@@ -5,7 +5,7 @@ use Rattle.std.proofs.lemmas.Result.{err_from_is_err_and}
 use Rattle.std.specs.List.{AllByRecursion}
 use Rattle.jpeg_bits.specs.Intervals.{is_restart}
 use Rattle.jpeg_bits.specs.declared.marker.Marker.{Marker}
-use Rattle.jpeg_streams.specs.States.{OnTold}
+use Rattle.jpeg_meaning.specs.States.{OnTold}
 use Rattle.jpeg_decoder.specs.Scanning.{arrays_in, scan_vias, sizes_of, IsSpotOf}
 use Rattle.jpeg_decoder.proofs.Partial.GroupedScans.{Blocks, after-all, blocks-told, blocks_loop, first-refused-answers}
 use Rattle.jpeg_decoder.proofs.Partial.GroupedScans.{first-refused-state, last-state, next-refused-answers}

@@ -3,7 +3,7 @@ use Rattle.std.proofs.lemmas.Result.{err_from_is_err_and}
 use Rattle.jpeg_bits.specs.Intervals.{is_restart}
 use Rattle.jpeg_lossless.specs.Codings.{part_in, way_by}
 use Rattle.jpeg_lossless.specs.Scans.{scan_tables}
-use Rattle.jpeg_streams.specs.Brought.{interval_rows_reached}
+use Rattle.jpeg_meaning.specs.Brought.{interval_rows_reached}
 use Rattle.jpeg_decoder.proofs.Partial.GroupedScans.{broken-answers, first-refused-answers, first-refused-state}
 use Rattle.jpeg_decoder.proofs.Partial.GroupedScans.{next-refused-answers, next-refused-state, passed-answers}
 use Rattle.jpeg_decoder.proofs.Partial.GroupedScans.{runs-first, runs-next, whole_of}

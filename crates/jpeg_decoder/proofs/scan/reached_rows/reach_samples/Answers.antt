@@ -5,11 +5,11 @@ use Rattle.jpeg_segments.proofs.ScaleLemmas.{sized_frames_have_factors}
 use Rattle.jpeg_lossless.specs.Codings.{part_in, way_by}
 use Rattle.jpeg_lossless.specs.PlanesRead.{cut_planes}
 use Rattle.jpeg_lossless.specs.declared.scan.Coding.{Coding}
-use Rattle.jpeg_streams.specs.Found.{Found}
-use Rattle.jpeg_streams.specs.LosslessScans.{with_samples}
-use Rattle.jpeg_streams.specs.ScanSegments.{once_scanned}
-use Rattle.jpeg_streams.specs.WholeRows.{rows_of_planes}
-use Rattle.jpeg_streams.proofs.Soundness.{decoded-precision, decoded-sized}
+use Rattle.jpeg_meaning.specs.Found.{Found}
+use Rattle.jpeg_meaning.specs.LosslessScans.{with_samples}
+use Rattle.jpeg_meaning.specs.ScanSegments.{once_scanned}
+use Rattle.jpeg_meaning.specs.WholeRows.{rows_of_planes}
+use Rattle.jpeg_meaning.proofs.Soundness.{decoded-precision, decoded-sized}
 use Rattle.jpeg_decoder.specs.Reaching.{planes_over, planes_reached, samples_reached}
 use Rattle.jpeg_decoder.specs.Seen.{found_of}
 use Rattle.jpeg_decoder.proofs.LosslessFrames.LosslessReads.{HasMcus, codings-count, four-indices, parts-count, put-made}

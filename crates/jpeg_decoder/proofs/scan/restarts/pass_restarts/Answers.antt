@@ -2,7 +2,7 @@ use Rattle.std.proofs.Common.{rules, ◌≡◌, ◌∙◌, ◌<◌, ◌^◌, Opt
 use Rattle.std.proofs.lemmas.Result.{err_from_is_err_and}
 use Rattle.jpeg_bits.specs.declared.marker.Marker.{Marker}
 use Rattle.jpeg_decoder.specs.Steps.{is_restart_marker, after_all}
-use Rattle.jpeg_streams.proofs.Refusals.{never-met, short-first}
+use Rattle.jpeg_meaning.proofs.Refusals.{never-met, short-first}
 use Rattle.jpeg_decoder.proofs.Segments.PassedRestarts.{after-done, after-refused, after-next, marker-takes}
 use Rattle.jpeg_decoder.proofs.scan.restarts.pass_restarts.Goals as goal
 use Rattle.jpeg_decoder.proofs.scan.restarts.pass_restarts.Goals.{else-loop-test}

@@ -3,8 +3,8 @@ use Rattle.std.proofs.Common.{◌≡◌, ◌∙◌, ◌*◌, ap, arith, length, 
 use Rattle.std.specs.List.{AllByRecursion}
 use Rattle.std.specs.Prelude.{OnOk}
 use Rattle.jpeg_segments.specs.FrameView.{frame_in}
-use Rattle.jpeg_streams.specs.McuRows.{rows_of}
-use Rattle.jpeg_streams.specs.ScanSegments.{Coding}
+use Rattle.jpeg_meaning.specs.McuRows.{rows_of}
+use Rattle.jpeg_meaning.specs.ScanSegments.{Coding}
 use Rattle.jpeg_decoder.specs.Scanning.{IsSpotOf, down_in, scan_components, scan_vias, sizes_of}
 use Rattle.jpeg_decoder.specs.GrowingView.{growing_in}
 use Rattle.jpeg_bits.specs.declared.marker.Marker.{Marker}

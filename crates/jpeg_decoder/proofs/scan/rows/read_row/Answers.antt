@@ -1,6 +1,6 @@
 use Rattle.std.proofs.Common.{length, sym, subst, ℕ, List}
 use Rattle.std.specs.List.{AllByRecursion}
-use Rattle.jpeg_streams.specs.Order.{Spot}
+use Rattle.jpeg_meaning.specs.Order.{Spot}
 use Rattle.jpeg_decoder.specs.Scanning.{IsSpotOf, sizes_of}
 use Rattle.jpeg_decoder.specs.Walk.{walk_of_row}
 use Rattle.jpeg_decoder.proofs.scan.rows.read_row.Goals as goal

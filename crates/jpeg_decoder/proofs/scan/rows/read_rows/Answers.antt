@@ -9,15 +9,15 @@ use Rattle.jpeg_bits.specs.declared.marker.Marker.{Marker}
 use Rattle.jpeg_bits.specs.Entropy.{fresh, upcoming}
 use Rattle.jpeg_bits.proofs.BandSteps.{Leaves-end}
 use Rattle.jpeg_bits.proofs.WholeBlocks.{refused_after}
-use Rattle.jpeg_streams.specs.InTurn.{blocks_from, counted_at_start}
-use Rattle.jpeg_streams.specs.McuRows.{zero_rows}
+use Rattle.jpeg_meaning.specs.InTurn.{blocks_from, counted_at_start}
+use Rattle.jpeg_meaning.specs.McuRows.{zero_rows}
 use Rattle.jpeg_decoder.specs.Scanning.{IsSpotOf, arrays_in, counted, down_in}
 use Rattle.jpeg_decoder.specs.Scanning.{kept_blocks, kept_counted, sizes_of, scan_vias}
 use Rattle.jpeg_decoder.proofs.Strips.KeptStrips.{kept-refused, strips_kept}
 use Rattle.jpeg_decoder.specs.GrowingView.{GrowsFor, growing_in}
 use Rattle.jpeg_decoder.specs.Strips.{row_sizes, strip_samples, strips_from, with_strips, zeros_of}
 use Rattle.jpeg_decoder.specs.Walk.{walk_of_row, walks_of_rows}
-use Rattle.jpeg_streams.specs.ScanSegments.{Coding, components_of}
+use Rattle.jpeg_meaning.specs.ScanSegments.{Coding, components_of}
 use Rattle.jpeg_decoder.proofs.Strips.StripScans.{rows-refused, scan-ended}
 use Rattle.jpeg_decoder.proofs.Strips.StripSteps.{strips_refused, strips_none, whole-rows, first-row}
 use Rattle.jpeg_decoder.proofs.Strips.StripSteps.{later-rows, zeros-are, lengths}

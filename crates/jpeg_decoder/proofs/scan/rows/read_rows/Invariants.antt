@@ -2,7 +2,7 @@ use Rattle.std.proofs.Common.{◌≡◌, ◌<◌, ◌*◌, ◌-◌, [], length, 
 use Rattle.std.specs.List.{AllByRecursion, range_with_len}
 use Rattle.jpeg_bits.proofs.BandLoop.{Leaves}
 use Rattle.jpeg_bits.specs.Entropy.{fresh}
-use Rattle.jpeg_streams.specs.InTurn.{counted_at_start}
+use Rattle.jpeg_meaning.specs.InTurn.{counted_at_start}
 use Rattle.jpeg_decoder.specs.Scanning.{IsSpotOf, counted, down_in, sizes_of, scan_vias}
 use Rattle.jpeg_decoder.specs.GrowingView.{GrowsFor, growing_in, is_joint}
 use Rattle.jpeg_decoder.specs.Strips.{no_samples, row_sizes, strip_samples, strips_from}

@@ -4,7 +4,7 @@ use Rattle.std.specs.Prelude.{option_map, slice_index_or, unwrap_or}
 use Rattle.std.proofs.lemmas.List.{length-map, map-set}
 use Rattle.jpeg_segments.specs.Frame.{Component}
 use Rattle.jpeg_segments.specs.FrameView.{component_in, frame_in}
-use Rattle.jpeg_streams.specs.Brought.{grey_samples}
+use Rattle.jpeg_meaning.specs.Brought.{grey_samples}
 use Rattle.jpeg_decoder.specs.PlanesView.{planes_in}
 use Rattle.jpeg_decoder.specs.Reaching.{over, planes_over, samples_or_grey}
 use Rattle.jpeg_decoder.proofs.Pictures.EndedPlanes.{mapped-or}

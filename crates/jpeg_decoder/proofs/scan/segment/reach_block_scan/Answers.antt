@@ -1,11 +1,11 @@
 use Rattle.std.proofs.Common.{◌≡◌, ◌∙◌, ap, refl, rules, Some, subst, sym}
-use Rattle.jpeg_streams.specs.ScanSegments.{once_scanned}
+use Rattle.jpeg_meaning.specs.ScanSegments.{once_scanned}
 use Rattle.jpeg_bits.specs.Reading.{Answers}
 use Rattle.jpeg_segments.specs.FrameView.{frame_in}
-use Rattle.jpeg_streams.specs.Found.{Found}
-use Rattle.jpeg_streams.specs.States.{OnToldRefusal}
-use Rattle.jpeg_streams.specs.InTurn.{AreArrays}
-use Rattle.jpeg_streams.specs.Sound.{IsDecodedFrame, IsSound}
+use Rattle.jpeg_meaning.specs.Found.{Found}
+use Rattle.jpeg_meaning.specs.States.{OnToldRefusal}
+use Rattle.jpeg_meaning.specs.InTurn.{AreArrays}
+use Rattle.jpeg_meaning.specs.Sound.{IsDecodedFrame, IsSound}
 use Rattle.jpeg_segments.specs.ScanHeader.{IsScanOf}
 use Rattle.jpeg_decoder.specs.Seen.{found_of}
 use Rattle.jpeg_segments.specs.Frame.{Frame}

@@ -4,10 +4,10 @@ use Rattle.jpeg_bits.specs.declared.marker.Marker.{Marker}
 use Rattle.jpeg_segments.specs.Frame.{Frame}
 use Rattle.jpeg_segments.specs.FrameView.{frame_in}
 use Rattle.jpeg_segments.specs.declared.frame.CodingProcess.TheVariants.{Lossless}
-use Rattle.jpeg_streams.specs.Found.{Found}
-use Rattle.jpeg_streams.specs.LosslessScans.{LosslessCoding}
-use Rattle.jpeg_streams.specs.ScanSegments.{once_scanned}
-use Rattle.jpeg_streams.specs.States.{OnTold, OnToldRefusal}
+use Rattle.jpeg_meaning.specs.Found.{Found}
+use Rattle.jpeg_meaning.specs.LosslessScans.{LosslessCoding}
+use Rattle.jpeg_meaning.specs.ScanSegments.{once_scanned}
+use Rattle.jpeg_meaning.specs.States.{OnTold, OnToldRefusal}
 use Rattle.jpeg_decoder.specs.Reaching.{brought_after, sample_codings, samples_reached, UnlessRefused}
 use Rattle.jpeg_decoder.specs.Seen.{found_of}
 use Rattle.jpeg_decoder.specs.Steps.{turn_of, with_decoded}

@@ -2,14 +2,14 @@ use Rattle.std.proofs.Common.{◌≡◌, ◌∙◌, ap, Err, false, Ok, Option, 
 use Rattle.std.proofs.lemmas.Result.{err_from_is_err_and}
 use Rattle.jpeg_bits.specs.Reading.{Answers}
 use Rattle.jpeg_bits.specs.declared.marker.Marker.{Marker}
-use Rattle.jpeg_streams.specs.declared.before.Before.{Before}
+use Rattle.jpeg_meaning.specs.declared.before.Before.{Before}
 use Rattle.jpeg_bits.specs.declared.beyond.Beyond.TheVariants.{Nothing}
-use Rattle.jpeg_streams.specs.Found.{Found, Said, with_said}
-use Rattle.jpeg_streams.specs.ScanSegments.{once_scanned, scan_before}
-use Rattle.jpeg_streams.specs.Segments.{Turn}
-use Rattle.jpeg_streams.specs.Sound.{IsSound}
-use Rattle.jpeg_streams.specs.States.{OnToldRefusal}
-use Rattle.jpeg_streams.specs.Stream.{told_of}
+use Rattle.jpeg_meaning.specs.Found.{Found, Said, with_said}
+use Rattle.jpeg_meaning.specs.ScanSegments.{once_scanned, scan_before}
+use Rattle.jpeg_meaning.specs.Segments.{Turn}
+use Rattle.jpeg_meaning.specs.Sound.{IsSound}
+use Rattle.jpeg_meaning.specs.States.{OnToldRefusal}
+use Rattle.jpeg_meaning.specs.Stream.{told_of}
 use Rattle.jpeg_decoder.specs.Reaching.{brought_after, UnlessRefused}
 use Rattle.jpeg_decoder.specs.Steps.{read_after, turn_of}
 use Rattle.jpeg_decoder.specs.declared.stream.state.Step.{Step}

@@ -2,7 +2,7 @@ use Rattle.std.proofs.Common.{◌≡◌, map}
 use Rattle.jpeg_decoder.specs.Scanning.{arrays_in}
 use Rattle.jpeg_decoder.specs.Steps.{coding_in}
 use Rattle.jpeg_decoder.specs.Strips.{plane_lists, with_strips}
-use Rattle.jpeg_streams.proofs.InPlace.{patched}
+use Rattle.jpeg_meaning.proofs.InPlace.{patched}
 use Rattle.jpeg_decoder.proofs.scan.strips.append_to_each.Given as goal
 
 abbrev pub invariant-loop-slot : goal.invariant-loop-slot

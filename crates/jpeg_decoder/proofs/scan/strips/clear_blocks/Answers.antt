@@ -1,6 +1,6 @@
 use Rattle.std.proofs.Common.{◌∙◌, ap, set, length, replicate, [], sym, List, ℤ, pos, arith}
 use Rattle.std.proofs.lemmas.List.{length-replicate, get_or-replicate}
-use Rattle.jpeg_streams.proofs.InPlace.{patched-next, patched-all}
+use Rattle.jpeg_meaning.proofs.InPlace.{patched-next, patched-all}
 use Rattle.jpeg_decoder.proofs.scan.strips.clear_blocks.Goals as goal
 use Rattle.std.proofs.lemmas.Grind.{common_steps}
 

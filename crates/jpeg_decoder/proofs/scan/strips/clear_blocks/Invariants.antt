@@ -1,5 +1,5 @@
 use Rattle.std.proofs.Common.{◌≡◌, length, replicate, pos}
-use Rattle.jpeg_streams.proofs.InPlace.{patched}
+use Rattle.jpeg_meaning.proofs.InPlace.{patched}
 use Rattle.jpeg_decoder.proofs.scan.strips.clear_blocks.Given as goal
 
 abbrev pub invariant-loop-block : goal.invariant-loop-block

@@ -1,7 +1,7 @@
 use Rattle.std.proofs.Common.{◌≡◌}
 use Rattle.jpeg_decoder.specs.Scanning.{arrays_in, sizes_of}
 use Rattle.jpeg_decoder.specs.Strips.{zeros_of}
-use Rattle.jpeg_streams.proofs.InPlace.{patched}
+use Rattle.jpeg_meaning.proofs.InPlace.{patched}
 use Rattle.jpeg_decoder.proofs.scan.strips.clear_rows.Given as goal
 
 abbrev pub invariant-loop-row : goal.invariant-loop-row

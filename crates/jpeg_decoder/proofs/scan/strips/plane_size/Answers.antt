@@ -1,5 +1,5 @@
 use Rattle.std.proofs.Common.{arith}
-use Rattle.jpeg_streams.proofs.InPlace.{small-side}
+use Rattle.jpeg_meaning.proofs.InPlace.{small-side}
 use Rattle.jpeg_decoder.proofs.scan.strips.plane_size.Goals as goal
 
 pub overflow_mul-result : goal.overflow_mul-result

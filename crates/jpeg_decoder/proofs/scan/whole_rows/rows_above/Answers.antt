@@ -4,8 +4,8 @@ use Rattle.std.proofs.lemmas.List.{length-map}
 use Rattle.jpeg_segments.specs.FrameView.{component_in, frame_in}
 use Rattle.jpeg_decoder.specs.Scanning.{scan_components}
 use Rattle.jpeg_decoder.specs.Steps.{coding_in}
-use Rattle.jpeg_streams.specs.ScanSegments.{Coding, components_of}
-use Rattle.jpeg_streams.specs.WholeRows.{rows_apart}
+use Rattle.jpeg_meaning.specs.ScanSegments.{Coding, components_of}
+use Rattle.jpeg_meaning.specs.WholeRows.{rows_apart}
 use Rattle.jpeg_decoder.proofs.Partial.RowsAbove.{above-line, slot-component}
 use Rattle.jpeg_decoder.proofs.scan.whole_rows.rows_above.Goals as goal
 

@@ -1,10 +1,10 @@
 use Rattle.std.proofs.Common.{◌≤◌, ◌<◌, ◌*◌, ◌∙◌, ap, arith, get_or, length}
 use Rattle.std.proofs.lemmas.List.{length-map}
 use Rattle.jpeg_segments.specs.FrameView.{component_in, frame_in}
-use Rattle.jpeg_streams.specs.declared.grids.Grid.{Grid}
-use Rattle.jpeg_streams.specs.Order.{grid_of, mcu_size}
-use Rattle.jpeg_streams.specs.Work.{components_at}
-use Rattle.jpeg_streams.proofs.Soundness.{scale-bounds}
+use Rattle.jpeg_meaning.specs.declared.grids.Grid.{Grid}
+use Rattle.jpeg_meaning.specs.Order.{grid_of, mcu_size}
+use Rattle.jpeg_meaning.specs.Work.{components_at}
+use Rattle.jpeg_meaning.proofs.Soundness.{scale-bounds}
 use Rattle.jpeg_decoder.proofs.LosslessFrames.LosslessReads.{component-at}
 use Rattle.jpeg_decoder.proofs.Scans.CodedScales.{scale-at}
 use Rattle.jpeg_decoder.proofs.Scans.CountedWork.{alone-blocks, several-blocks}

@@ -2,7 +2,7 @@ use Rattle.std.proofs.Common.{◌≡◌, ◌*◌, ◌∙◌, ap, ap₂, rules, �
 use Rattle.std.specs.Int.{div_ceil}
 use Rattle.jpeg_segments.specs.declared.frame.CodingProcess.TheVariants.{Lossless}
 use Rattle.jpeg_segments.specs.FrameView.{frame_in}
-use Rattle.jpeg_streams.specs.Work.{components_at, samples_coded}
+use Rattle.jpeg_meaning.specs.Work.{components_at, samples_coded}
 use Rattle.jpeg_decoder.specs.Steps.{IsDct}
 use Rattle.jpeg_decoder.proofs.Pictures.PicturesOfPlanes.{decoded-factors}
 use Rattle.jpeg_decoder.proofs.Scans.CountedWork.{block-work, lossless-work, rounded-up, samples-counted}

@@ -3,8 +3,8 @@ use Rattle.std.proofs.lemmas.Grind.{common_steps}
 use Rattle.std.proofs.lemmas.List.{length-map}
 use Rattle.jpeg_segments.specs.Frame.{Component}
 use Rattle.jpeg_segments.specs.FrameView.{frame_in}
-use Rattle.jpeg_streams.specs.Work.{blocks_coded, components_at}
-use Rattle.jpeg_streams.proofs.Soundness.{count-few, decoded-count}
+use Rattle.jpeg_meaning.specs.Work.{blocks_coded, components_at}
+use Rattle.jpeg_meaning.proofs.Soundness.{count-few, decoded-count}
 use Rattle.jpeg_decoder.proofs.Pictures.PicturesOfPlanes.{decoded-few}
 use Rattle.jpeg_decoder.proofs.Scans.CountedWork.{all-at, first-long, first_four}
 use Rattle.jpeg_decoder.proofs.scan.work.picture_blocks.Goals as goal

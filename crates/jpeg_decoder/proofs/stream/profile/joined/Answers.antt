@@ -1,6 +1,6 @@
 use Rattle.std.proofs.Common.{map, sym, arith}
 use Rattle.jpeg_segments.specs.FrameView.{chunk_in}
-use Rattle.jpeg_streams.proofs.ProfileLemmas.{joins-more, joins-missing}
+use Rattle.jpeg_meaning.proofs.ProfileLemmas.{joins-more, joins-missing}
 use Rattle.jpeg_decoder.proofs.stream.profile.joined.Goals as goal
 use Rattle.std.proofs.lemmas.Grind.{common_steps}
 

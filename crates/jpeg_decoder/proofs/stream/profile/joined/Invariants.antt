@@ -1,6 +1,6 @@
 use Rattle.std.proofs.Common.{map}
 use Rattle.jpeg_segments.specs.FrameView.{chunk_in}
-use Rattle.jpeg_streams.proofs.ProfileLemmas.{Joins}
+use Rattle.jpeg_meaning.proofs.ProfileLemmas.{Joins}
 use Rattle.jpeg_decoder.proofs.stream.profile.joined.Given as goal
 
 abbrev pub invariant-loop-index : goal.invariant-loop-index

@@ -1,5 +1,5 @@
 use Rattle.std.proofs.Common.{rules}
-use Rattle.jpeg_streams.proofs.ProfileLemmas.{part_find}
+use Rattle.jpeg_meaning.proofs.ProfileLemmas.{part_find}
 use Rattle.jpeg_decoder.proofs.stream.profile.part.Goals as goal
 
 pub returns-in-Some : goal.returns-in-Some

@@ -1,7 +1,7 @@
 use Rattle.std.proofs.lemmas.Grind.{common_steps}
 use Rattle.std.proofs.Common.{◌≡◌, ◌∙◌, ◌<◌, arith, length, sym, below_more, get_or-set_other}
 use Rattle.std.proofs.Common.{get_or-set_same, length-set}
-use Rattle.jpeg_streams.proofs.ProfileLemmas.{moved-some, moved-none, updated-none}
+use Rattle.jpeg_meaning.proofs.ProfileLemmas.{moved-some, moved-none, updated-none}
 use Rattle.jpeg_decoder.proofs.stream.tables.update.Goals as goal
 use Rattle.jpeg_decoder.proofs.stream.tables.update.Goals.{in-Some+in-Some-1, in-Some+in-None-1}
 use Rattle.jpeg_decoder.proofs.stream.tables.update.Goals.{in_default}

@@ -1,5 +1,5 @@
 use Rattle.std.proofs.Common.{◌≡◌, ℕ, ◌<◌, length, None, get_or}
-use Rattle.jpeg_streams.specs.Segments.{updated}
+use Rattle.jpeg_meaning.specs.Segments.{updated}
 use Rattle.jpeg_decoder.proofs.stream.tables.update.Given as goal
 
 abbrev pub invariant-loop-destination : goal.invariant-loop-destination

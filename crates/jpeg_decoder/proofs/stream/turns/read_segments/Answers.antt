@@ -1,10 +1,10 @@
 use Rattle.std.proofs.lemmas.Grind.{common_steps}
 use Rattle.std.proofs.Common.{◌≡◌, ◌∙◌, ◌+◌, ◌<◌, ◌^◌, suc, true, Err, Ok, sym, ap, arith, length, subst}
 use Rattle.std.proofs.lemmas.Result.{err_from_is_err_and}
-use Rattle.jpeg_streams.specs.Reported.{IsOfTurns}
-use Rattle.jpeg_streams.specs.Stream.{Walked, told_of, walk}
-use Rattle.jpeg_streams.proofs.Refusals.{short-step, never-met}
-use Rattle.jpeg_streams.proofs.Written.ReadTurns.{walk-end, walk-stop, walked}
+use Rattle.jpeg_meaning.specs.Reported.{IsOfTurns}
+use Rattle.jpeg_meaning.specs.Stream.{Walked, told_of, walk}
+use Rattle.jpeg_meaning.proofs.Refusals.{short-step, never-met}
+use Rattle.jpeg_meaning.proofs.Written.ReadTurns.{walk-end, walk-stop, walked}
 use Rattle.jpeg_decoder.specs.Steps.{turn_of}
 use Rattle.jpeg_decoder.specs.Walks.{Leaves, walk_over, walked_to}
 use Rattle.jpeg_decoder.specs.declared.stream.state.Step.{Step}

@@ -1,6 +1,6 @@
 use Rattle.std.proofs.Common.{◌≡◌, ◌<◌, true, None, is_some}
 use Rattle.jpeg_bits.specs.Reading.{IsShort}
-use Rattle.jpeg_streams.specs.Sound.{IsSound, IsUnread}
+use Rattle.jpeg_meaning.specs.Sound.{IsSound, IsUnread}
 use Rattle.jpeg_decoder.specs.Walks.{IsGoing}
 use Rattle.jpeg_decoder.proofs.Segments.TurnLoops.{IsWalked}
 use Rattle.jpeg_decoder.proofs.stream.turns.read_segments.Given as goal

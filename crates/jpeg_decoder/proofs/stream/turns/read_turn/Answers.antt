@@ -1,8 +1,8 @@
 use Rattle.std.proofs.Common.{rules, ◌≡◌}
 use Rattle.std.proofs.lemmas.Result.{err_from_is_err_and}
 use Rattle.jpeg_bits.specs.declared.marker.Marker.TheVariants.{SOS}
-use Rattle.jpeg_streams.specs.Brought.{Brought, unbrought}
-use Rattle.jpeg_streams.specs.Stream.{scan_within, segment_at}
+use Rattle.jpeg_meaning.specs.Brought.{Brought, unbrought}
+use Rattle.jpeg_meaning.specs.Stream.{scan_within, segment_at}
 use Rattle.jpeg_decoder.specs.Steps.{turn_of}
 use Rattle.jpeg_decoder.specs.Walks.{Leaves}
 use Rattle.jpeg_decoder.proofs.Segments.MarkedTurns.{exceeded-other, exceeded-scan, exceeded-unmarked}

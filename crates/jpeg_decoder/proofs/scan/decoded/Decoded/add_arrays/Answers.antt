@@ -1,7 +1,7 @@
 use Rattle.std.proofs.Common.{◌≡◌, ◌∙◌, arith, rules, length, get_or, ◌<◌}
 use Rattle.jpeg_decoder.specs.Steps.{with_decoded}
 use Rattle.jpeg_decoder.proofs.PutLoops.{arrays-step, none-left, sized-at, long-at}
-use Rattle.jpeg_streams.specs.ScanSegments.{with_arrays}
+use Rattle.jpeg_meaning.specs.ScanSegments.{with_arrays}
 use Rattle.jpeg_decoder.proofs.scan.decoded.Decoded.add_arrays.Goals as goal
 use Rattle.std.proofs.lemmas.Grind.{common_steps}
 

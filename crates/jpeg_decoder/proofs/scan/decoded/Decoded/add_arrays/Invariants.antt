@@ -1,8 +1,8 @@
 use Rattle.std.proofs.Common.{◌≡◌, ◌≤◌, ◌-◌, drop, length, map}
 use Rattle.jpeg_decoder.specs.Steps.{coding_in, with_decoded}
 use Rattle.jpeg_decoder.specs.Scanning.{arrays_in}
-use Rattle.jpeg_streams.specs.ScanSegments.{with_arrays}
-use Rattle.jpeg_streams.specs.Found.{Found}
+use Rattle.jpeg_meaning.specs.ScanSegments.{with_arrays}
+use Rattle.jpeg_meaning.specs.Found.{Found}
 use Rattle.jpeg_decoder.proofs.scan.decoded.Decoded.add_arrays.Given as goal
 
 abbrev pub invariant-loop-slot : goal.invariant-loop-slot

@@ -1,6 +1,6 @@
 use Rattle.std.proofs.Common.{◌≡◌, drop, map, None, replicate, take}
 use Rattle.jpeg_pixels.specs.JointPlanes.{joint_planes}
-use Rattle.jpeg_streams.specs.Found.{Found}
+use Rattle.jpeg_meaning.specs.Found.{Found}
 use Rattle.jpeg_decoder.specs.PlanesView.{or_joint}
 use Rattle.jpeg_decoder.specs.Steps.{coding_in, with_decoded, with_planes}
 use Rattle.jpeg_decoder.proofs.scan.decoded.Decoded.add_joint.Given as goal

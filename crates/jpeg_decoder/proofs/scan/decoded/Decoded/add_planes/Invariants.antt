@@ -1,6 +1,6 @@
 use Rattle.std.proofs.Common.{◌≡◌, ◌≤◌, ◌-◌, drop, length, map}
 use Rattle.jpeg_decoder.specs.Steps.{coding_in, with_decoded, with_planes}
-use Rattle.jpeg_streams.specs.Found.{Found}
+use Rattle.jpeg_meaning.specs.Found.{Found}
 use Rattle.jpeg_decoder.proofs.scan.decoded.Decoded.add_planes.Given as goal
 
 abbrev pub invariant-loop-slot : goal.invariant-loop-slot

@@ -1,5 +1,5 @@
 use Rattle.std.proofs.Common.{◌≡◌, drop, map}
-use Rattle.jpeg_streams.specs.Found.{Found}
+use Rattle.jpeg_meaning.specs.Found.{Found}
 use Rattle.jpeg_decoder.specs.Steps.{coding_in, with_decoded, with_planes}
 use Rattle.jpeg_decoder.specs.Strips.{no_samples}
 use Rattle.jpeg_decoder.proofs.scan.decoded.Decoded.mark_again.Given as goal

@@ -1,5 +1,5 @@
 use Rattle.std.proofs.Common.{◌≡◌, ◌≤◌, ◌-◌, drop, length, map}
-use Rattle.jpeg_streams.specs.LosslessScans.{with_samples}
+use Rattle.jpeg_meaning.specs.LosslessScans.{with_samples}
 use Rattle.jpeg_decoder.specs.PlanesView.{planes_in}
 use Rattle.jpeg_decoder.proofs.scan.decoded.Decoded.put_samples.Given as goal
 

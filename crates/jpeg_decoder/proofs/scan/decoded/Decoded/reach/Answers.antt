@@ -4,10 +4,10 @@ use Rattle.std.specs.declared.vec.Vec.{Vec}
 use Rattle.std.proofs.lemmas.Grind.{common_steps}
 use Rattle.std.specs.Prelude.{option_map}
 use Rattle.jpeg_segments.specs.FrameView.{frame_in}
-use Rattle.jpeg_streams.specs.Found.{Found, nothing_found}
-use Rattle.jpeg_streams.specs.InTurn.{AreArrays}
-use Rattle.jpeg_streams.specs.ScanSegments.{arrays_before, is_progressive}
-use Rattle.jpeg_streams.specs.WholeRows.{rows_above}
+use Rattle.jpeg_meaning.specs.Found.{Found, nothing_found}
+use Rattle.jpeg_meaning.specs.InTurn.{AreArrays}
+use Rattle.jpeg_meaning.specs.ScanSegments.{arrays_before, is_progressive}
+use Rattle.jpeg_meaning.specs.WholeRows.{rows_above}
 use Rattle.jpeg_decoder.specs.PlanesView.{planes_in}
 use Rattle.jpeg_decoder.specs.Reaching.{kept_beside}
 use Rattle.jpeg_decoder.specs.Scanning.{arrays_in, scan_components}

@@ -2,7 +2,7 @@ use Rattle.std.proofs.Common.{ap, sym, refl, map, arith}
 use Rattle.std.proofs.lemmas.Result.{err_from_is_err_and}
 use Rattle.jpeg_segments.specs.FrameView.{frame_in}
 use Rattle.jpeg_decoder.specs.Steps.{with_decoded}
-use Rattle.jpeg_streams.specs.Found.{Found, nothing_found}
+use Rattle.jpeg_meaning.specs.Found.{Found, nothing_found}
 use Rattle.jpeg_decoder.specs.GrowingView.{growing_in}
 use Rattle.jpeg_decoder.proofs.Scans.ScanData.{kept-afterwards, none-kept, of-frame, planes-whole}
 use Rattle.jpeg_decoder.proofs.Scans.SequentialScans.{read-data, read-refused}

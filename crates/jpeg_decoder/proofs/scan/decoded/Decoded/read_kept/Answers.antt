@@ -3,12 +3,12 @@ use Rattle.std.specs.declared.alloc.Global.{Global}
 use Rattle.std.specs.declared.vec.Vec.{Vec}
 use Rattle.std.proofs.lemmas.Result.{err_from_is_err_and}
 use Rattle.jpeg_segments.specs.FrameView.{frame_in}
-use Rattle.jpeg_streams.specs.InTurn.{AreArrays}
+use Rattle.jpeg_meaning.specs.InTurn.{AreArrays}
 use Rattle.jpeg_decoder.specs.Scanning.{arrays_in, scan_components}
 use Rattle.jpeg_decoder.specs.Steps.{blocks_at, blocks_before, with_decoded}
 use Rattle.jpeg_decoder.specs.Steps.{IsBefore}
-use Rattle.jpeg_streams.specs.ScanSegments.{put_arrays, arrays_before}
-use Rattle.jpeg_streams.specs.Found.{Found, nothing_found}
+use Rattle.jpeg_meaning.specs.ScanSegments.{put_arrays, arrays_before}
+use Rattle.jpeg_meaning.specs.Found.{Found, nothing_found}
 use Rattle.jpeg_decoder.proofs.Kept.BlockArrays.{Held}
 use Rattle.jpeg_decoder.proofs.Partial.ReachedData.{put-all, taken-sized}
 use Rattle.jpeg_decoder.proofs.Scans.ScanData.{of-frame, arrays-by-sizes, coded-within-kept}

@@ -1,6 +1,6 @@
 use Rattle.std.proofs.Common.{◌∙◌, ◌++◌, [], ◌∷◌, ap, ap₂, refl, ℕ, List}
 use Rattle.jpeg_segments.specs.FrameView.{frame_in}
-use Rattle.jpeg_streams.specs.declared.grids.Grid.{Grid}
+use Rattle.jpeg_meaning.specs.declared.grids.Grid.{Grid}
 use Rattle.jpeg_decoder.specs.declared.scan.spots.Member.{Member}
 use Rattle.jpeg_decoder.proofs.Orders.ScanOrders.{alone-of}
 use Rattle.jpeg_decoder.proofs.scan.order.ScanOrder.alone.Goals as goal

@@ -1,10 +1,10 @@
 use Rattle.std.proofs.Common.{◌≡◌, ◌∙◌, ap, refl, rules, subst, sym}
 use Rattle.jpeg_segments.specs.FrameView.{frame_in}
-use Rattle.jpeg_streams.specs.Found.{Found, Said}
-use Rattle.jpeg_streams.specs.Segments.{frame_segment}
-use Rattle.jpeg_streams.specs.Sound.{IsSound}
-use Rattle.jpeg_streams.proofs.ProfileLemmas.{no-frame, frame-read}
-use Rattle.jpeg_streams.proofs.Soundness.{sound-framed}
+use Rattle.jpeg_meaning.specs.Found.{Found, Said}
+use Rattle.jpeg_meaning.specs.Segments.{frame_segment}
+use Rattle.jpeg_meaning.specs.Sound.{IsSound}
+use Rattle.jpeg_meaning.proofs.ProfileLemmas.{no-frame, frame-read}
+use Rattle.jpeg_meaning.proofs.Soundness.{sound-framed}
 use Rattle.jpeg_decoder.specs.Seen.{found_of, said_of}
 use Rattle.jpeg_decoder.proofs.stream.state.State.read_frame.Given as given
 use Rattle.jpeg_decoder.proofs.stream.state.State.read_frame.Goals.{In_ok-frame}

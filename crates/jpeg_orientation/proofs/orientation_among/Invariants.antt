@@ -1,0 +1,8 @@
+use Rattle.std.proofs.Common.{◌≡◌, ◌-◌}
+use Rattle.jpeg_orientation.specs.Orientation.{entries_in, orientation_among}
+use Rattle.jpeg_orientation.proofs.orientation_among.Given as goal
+
+abbrev pub invariant-loop : goal.invariant-loop
+invariant-loop l =
+    orientation_among l.is_little (entries_in l.count l.entries)
+    ≡ orientation_among l.is_little (entries_in (l.count - l.counter) l.rest)

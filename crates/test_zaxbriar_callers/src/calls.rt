@@ -1,0 +1,101 @@
+//! Callers of what the C library does.
+ghost use Rattle.std.specs.Prelude.{◌≡◌, ◌⊎◌, ◌<◌, None, Some, false, length, true};
+ghost use Rattle.jpeg_bits.specs.Reading.{Fault};
+ghost use Rattle.jpeg_meaning.specs.Stream.{header_at};
+ghost use Rattle.zaxbriar_calls.specs.Faults.{IsOfRoomNumber};
+ghost use Rattle.zaxbriar_calls.specs.Given.{Gives, TellsFault, rows_by, without_fault};
+ghost use Rattle.zaxbriar_calls.specs.Given.{without_rows};
+ghost use Rattle.zaxbriar_calls.specs.Meanings.{CountsRead, IsWithin};
+ghost use Rattle.zaxbriar_calls.specs.Metadata.{IsCopied, IsLonger, said_of};
+ghost use Rattle.zaxbriar_calls.specs.Passes.{exceeds};
+ghost use Rattle.zaxbriar_calls.specs.Places.{places_of};
+ghost use Rattle.zaxbriar_calls.specs.StreamSegments.{IsCut};
+ghost use Rattle.zaxbriar_calls.specs.declared.extents.Extent.TheVariants.{Whole, Partial};
+
+use std::alloc::Global;
+use zaxbriar_calls::calls;
+use zaxbriar_calls::options::Options;
+use zaxbriar_calls::picture::Picture;
+use zaxbriar_calls::places::Places;
+use zaxbriar_calls::segments::Segment;
+
+/// Calls `read_info`, and says how many bytes the header takes, and that no room is asked for.
+pub fn described(alloc: Global, jpeg: &[u8], options: &Options, picture: &mut Picture) -> u32
+    ensures counts { (result ≡ 0) ⊎ (result ≡ 8)
+        → CountsRead (header_at jpeg.now) jpeg.now picture.new.stream_bytes }
+    ensures roomless { result ≡ 5 → ⊥ }
+{
+    calls::read_info(alloc, jpeg, options, picture)
+}
+
+/// Calls `decode`, and says that an OK gives the picture, what is returned for a picture that has
+/// no room, and that TOO_MANY_PASSES is no other fault, and MALFORMED not that one.
+pub fn decoded(
+    alloc: Global,
+    jpeg: &[u8],
+    options: &Options,
+    pixels: &mut [u8],
+    picture: &mut Picture,
+) -> u32
+    ensures given { result ≡ 0 → Gives Whole options.now jpeg.now pixels.old pixels.new None
+        (without_rows picture.new) }
+    ensures short { (size : Picture) → IsWithin Whole options.now jpeg.now size
+        → length pixels.old < size.size → IsOfRoomNumber result }
+    ensures passes { result ≡ 10 → exceeds Whole options.now jpeg.now ≡ true }
+    ensures malformed { result ≡ 1 → exceeds Whole options.now jpeg.now ≡ false }
+{
+    calls::decode(alloc, jpeg, options, pixels, picture)
+}
+
+/// Calls `decode_partial`, and says which part and which fault are given after PARTIAL, and how
+/// many rows are complete.
+pub fn decoded_part(
+    alloc: Global,
+    jpeg: &[u8],
+    options: &Options,
+    pixels: &mut [u8],
+    picture: &mut Picture,
+) -> u32
+    ensures part { result ≡ 9 → (fault : Fault)
+        × Gives Partial options.now jpeg.now pixels.old pixels.new (Some fault)
+        (without_fault (without_rows picture.new)) × TellsFault Partial options.now jpeg.now
+        picture.new fault }
+    ensures rows { (result ≡ 0) ⊎ (result ≡ 9)
+        → picture.new.whole_rows ≡ rows_by Partial options.now jpeg.now }
+{
+    calls::decode_partial(alloc, jpeg, options, pixels, picture)
+}
+
+/// Calls `metadata`, and says what is copied after OK, how long it is after NO_ROOM, that nothing
+/// is counted otherwise, and that a fault hides no data.
+pub fn copied(
+    alloc: Global,
+    jpeg: &[u8],
+    kind: u32,
+    max_passes: u64,
+    buffer: &mut [u8],
+    count: &mut u64,
+) -> u32
+    ensures copies { result ≡ 0
+        → IsCopied (said_of max_passes kind jpeg.now) buffer.old buffer.new count.new }
+    ensures room { result ≡ 5
+        → IsLonger (said_of max_passes kind jpeg.now) (length buffer.old) count.new }
+    ensures uncounted { (result ≡ 0 → ⊥) → (result ≡ 5 → ⊥) → count.new ≡ 0 }
+    ensures unsaid { 0 < result → result < 4 → said_of max_passes kind jpeg.now ≡ None }
+{
+    calls::metadata(alloc, jpeg, kind, max_passes, buffer, count)
+}
+
+/// Calls `next_segment`, and says what a segment needs that is cut.
+pub fn found(jpeg: &[u8], segment: &mut Segment) -> u32
+    ensures { result ≡ 3 → IsCut jpeg.now segment.new }
+{
+    calls::next_segment(jpeg, segment)
+}
+
+/// Calls `find_metadata`.
+pub fn placed(jpeg: &[u8], places: &mut Places)
+    ensures { places.new ≡ places_of jpeg.now }
+{
+    calls::find_metadata(jpeg, places);
+}

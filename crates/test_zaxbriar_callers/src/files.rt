@@ -1,0 +1,77 @@
+//! Callers that write files.
+ghost use Rattle.std.specs.Prelude.{ℕ, List, IfOk, IsSomeAnd, OnOk};
+ghost use Rattle.std.specs.Io.KnownBytes.{Appends};
+ghost use Rattle.jpeg_meaning.specs.Output.{Tells, output_of};
+ghost use Rattle.zaxbriar_pictures.specs.Given.{CodesWithin, WritesGiven};
+ghost use Rattle.zaxbriar_samples.specs.Netpbm.{file_of};
+ghost use Rattle.zaxbriar_pictures.specs.Thumbnails.{WritesThumbnail};
+
+use jpeg_decoder::{Scale, error};
+use std::alloc::Global;
+use std::io::{Read, Write};
+use zaxbriar_files::limits::Limits;
+use zaxbriar_files::refusal::Refusal;
+use zaxbriar_pictures::extents::{Completeness, Extent};
+use zaxbriar_pictures::raw::write_raw;
+use zaxbriar_pictures::scaled::write_at;
+use zaxbriar_pictures::thumbnails::write_thumbnail;
+use zaxbriar_samples::files::PictureFormat;
+use zaxbriar_samples::netpbm::{Picture, write_picture};
+use zaxbriar_samples::requests::Request;
+
+/// Calls `write_picture`, and says which file an Ok wrote.
+pub fn picture<W: Write>(alloc: Global, picture: Picture, writer: &mut W) -> error::Result<()>
+    ensures { OnOk result (Appends (W.contents writer.old) (W.contents writer.new)
+        (file_of picture.info picture.precision picture.pixels.items)) }
+{
+    write_picture(alloc, picture, writer)
+}
+
+/// Calls `write_at`.
+pub fn picture_at<R: Read + Drop, W: Write>(
+    alloc: Global,
+    reader: R,
+    scale: Scale,
+    extent: Extent,
+    limits: Limits,
+    writer: &mut W,
+) -> Result<Completeness, Refusal>
+    ensures { (bytes : List ℕ) → Tells (R.remaining reader) bytes
+        → IfOk result (WritesGiven extent limits scale bytes (W.contents writer.old)
+        (W.contents writer.new)) }
+{
+    write_at(alloc, reader, scale, extent, limits, writer)
+}
+
+/// Calls `write_thumbnail`.
+pub fn thumbnail<R: Read + Drop, W: Write>(
+    alloc: Global,
+    reader: R,
+    request: Request,
+    extent: Extent,
+    limits: Limits,
+    format: PictureFormat,
+    writer: &mut W,
+) -> Result<Completeness, Refusal>
+    ensures { (bytes : List ℕ) → Tells (R.remaining reader) bytes
+        → IfOk result (WritesThumbnail extent limits request format bytes (W.contents writer.old)
+        (W.contents writer.new)) }
+{
+    write_thumbnail(alloc, reader, request, extent, limits, format, writer)
+}
+
+/// Calls `write_raw`, and says what an Ok wrote, and how many blocks the scans code.
+pub fn pixels<R: Read + Drop, W: Write>(
+    alloc: Global,
+    reader: R,
+    limits: Limits,
+    writer: &mut W,
+) -> Result<(), Refusal>
+    ensures written { (bytes : List ℕ) → Tells (R.remaining reader) bytes
+        → OnOk result (IsSomeAnd (output_of bytes) (Appends (W.contents writer.old)
+        (W.contents writer.new))) }
+    ensures bounded { (bytes : List ℕ) → Tells (R.remaining reader) bytes
+        → OnOk result (CodesWithin limits bytes) }
+{
+    write_raw(alloc, reader, limits, writer)
+}
