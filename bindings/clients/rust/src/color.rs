@@ -1,6 +1,7 @@
 //! How the components of a picture become the samples of its pixels.
 
 use crate::error::{Error, Result, UnsupportedFeature};
+use crate::layout::AS_STORED;
 use crate::library::Picture;
 
 /// How components become samples, in place of what the stream says.
@@ -8,7 +9,7 @@ use crate::library::Picture;
 #[non_exhaustive]
 pub enum ColorTransform {
     /// They are samples as they are, and a line has those of its first component, then those of the
-    /// next ones.
+    /// next ones. [`decode_as`](crate::Decoder::decode_as) refuses it, since it has no pixels.
     None,
     /// A transform that isn't known: refused.
     Unknown,
@@ -32,28 +33,37 @@ pub enum ColorTransform {
 /// The number of what the stream says, in place of a transform.
 const OF_STREAM: u8 = 0;
 
-/// Returns the library's number of a transform for a picture. Errors: `Unsupported`, and `Format`
-/// for one that fits no picture of several components; the library itself refuses `RGB` to `YCCK`
-/// if they don't fit this one.
-pub(crate) fn transform_number(transform: Option<ColorTransform>, picture: &Picture) -> Result<u8> {
+/// Returns the library's number of a transform for a picture in a layout. Errors: `Unsupported`,
+/// and `Format` for one that fits no picture of several components in the layout; the library
+/// itself refuses `RGB` to `YCCK` if they don't fit this one.
+pub(crate) fn transform_number(
+    transform: Option<ColorTransform>,
+    picture: &Picture,
+    layout: u8,
+) -> Result<u8> {
     let transform = match transform {
         Some(transform) if picture.components > 1 && !picture.is_lossless() => transform,
         _ => return Ok(OF_STREAM),
     };
+    let is_stored = layout == AS_STORED;
     match transform {
-        ColorTransform::None => Ok(1),
+        ColorTransform::None if is_stored => Ok(1),
         ColorTransform::RGB => Ok(2),
         ColorTransform::YCbCr => Ok(3),
         ColorTransform::CMYK => Ok(4),
         ColorTransform::YCCK => Ok(5),
-        ColorTransform::Unknown | ColorTransform::Grayscale => {
+        ColorTransform::None | ColorTransform::Unknown | ColorTransform::Grayscale => {
             let components = picture.components;
-            let fitting = match components {
-                3 => "None, RGB or YCbCr",
-                _ => "None, CMYK or YCCK",
+            let place = if is_stored { "" } else { " in a layout" };
+            let fitting = match (components, is_stored) {
+                (3, true) => "None, RGB or YCbCr",
+                (3, false) => "RGB or YCbCr",
+                (_, true) => "None, CMYK or YCCK",
+                (_, false) => "CMYK or YCCK",
             };
             Err(Error::Format(format!(
-                "color transform {transform:?} with {components} components, expected {fitting}"
+                "color transform {transform:?} with {components} components{place}, expected \
+                 {fitting}"
             )))
         }
         ColorTransform::JcsBgYcc | ColorTransform::JcsBgRgb => Err(Error::Unsupported(

@@ -1,7 +1,8 @@
 use crate::color::{transform_number, ColorTransform};
 use crate::error::{Error, Result, UnsupportedFeature};
 use crate::info::{size_of, Density, ImageInfo, Scale};
-use crate::library::{self, Answer, Metadata, Options, Part, Picture, Refusal};
+use crate::layout::{Layout, AS_STORED};
+use crate::library::{self, Answer, Metadata, Number, Options, Part, Picture, Refusal};
 use crate::stream::{end_of_bytes, Failure, Stream};
 use std::io::{self, Read};
 use std::ops::Range;
@@ -21,11 +22,12 @@ enum Stage {
 
 /// The picture that a stream has brought up to its first fault, and that fault.
 #[derive(Debug)]
-pub struct PartialPicture {
-    /// The picture, as [`Decoder::decode`] returns it. What no scan has brought is mid-grey.
-    pub pixels: Vec<u8>,
-    /// The number of rows, from the top, that need nothing that a scan which was begun lacks. All
-    /// rows if the stream has no fault.
+pub struct PartialPicture<E = u8> {
+    /// The picture, as [`Decoder::decode`] or [`Decoder::decode_as`] returns it. What no scan has
+    /// brought is mid-grey.
+    pub pixels: Vec<E>,
+    /// The number of rows, from the top of the picture, that need nothing that a scan which was
+    /// begun lacks. All rows if the stream has no fault.
     pub whole_rows: u16,
     /// The first fault of the stream, or none if it is whole.
     pub fault: Option<Error>,
@@ -56,7 +58,7 @@ pub struct Decoder<R> {
     picture: Option<Picture>,
     metadata: Metadata,
     color_transform: Option<ColorTransform>,
-    /// The scale, and the limit of passes; the rest is as the library has it.
+    /// The scale, the order of rows, and the limit of passes; the rest is as the library has it.
     options: Options,
     max_samples: u64,
     max_bytes: u64,
@@ -163,8 +165,9 @@ impl<R: Read> Decoder<R> {
         self.resize(options)
     }
 
-    /// Decodes the picture, and returns its rows from the top. Reads the stream up to the end of
-    /// the image, and nothing after it.
+    /// Decodes the picture, and returns its rows from the top, or from the bottom after
+    /// [`set_bottom_up`](Decoder::set_bottom_up). Reads the stream up to the end of the image, and
+    /// nothing after it.
     ///
     /// A row has its pixels from the left, and a pixel the samples of its components, each of which
     /// takes one byte; or two, the lower one first, in a lossless picture above 8 bits.
@@ -174,7 +177,7 @@ impl<R: Read> Decoder<R> {
     /// read as far as that, and is read on under a higher one. After another error the decoder has
     /// failed, and after a picture a second one is [`Error::Internal`].
     pub fn decode(&mut self) -> Result<Vec<u8>> {
-        let (pixels, (), _) = self.decode_by(library::decode, is_truncated)?;
+        let (pixels, (), _) = self.decode_by(AS_STORED, library::decode, is_truncated)?;
         Ok(pixels)
     }
 }
@@ -255,7 +258,8 @@ impl<R: Read> Decoder<R> {
 
     /// Returns the most memory that decoding takes at a time for the picture, its planes and its
     /// coefficients, once the header was read. Not counted are the bytes of the stream, metadata,
-    /// and tables and lines, at most some 256 kB.
+    /// and tables and lines, at most some 256 kB. It counts the picture as
+    /// [`decode`](Decoder::decode) returns it; in a layout that alone has another number of bytes.
     pub fn decoding_bytes(&self) -> Option<u64> {
         self.picture.as_ref().map(Picture::bytes)
     }
@@ -294,13 +298,81 @@ impl<R: Read> Decoder<R> {
     /// # Ok::<(), Error>(())
     /// ```
     pub fn decode_partial(&mut self) -> Result<PartialPicture> {
-        let (pixels, part, failure) = self.decode_by(library::decode_partial, shows_cut)?;
-        Ok(PartialPicture {
-            pixels,
-            // No picture has more rows than 65,535.
-            whole_rows: part.whole_rows as u16,
-            fault: part.fault.map(|fault| error_of(fault, failure)),
-        })
+        self.decode_partial_by(AS_STORED)
+    }
+
+    /// Decodes the picture into a layout, such as [`Rgba`](crate::layout::Rgba), and returns its
+    /// rows as [`decode`](Decoder::decode) does: a vector of `u8`, or of `u16` in the machine's
+    /// order of bytes if a sample or a pixel of the layout has 16 bits.
+    ///
+    /// A row has its pixels from the left, without gaps, each of
+    /// [`PIXEL_ELEMENTS`](Layout::PIXEL_ELEMENTS) elements. The layout's module says what they are;
+    /// [`info`](Decoder::info) describes the picture as it is stored, whatever the layout.
+    ///
+    /// It reads and refuses what `decode` does. The rows are written in the layout at once, without
+    /// a second picture, and [`set_max_decoding_bytes`](Decoder::set_max_decoding_bytes) limits the
+    /// picture in its layout. The colour transform [`None`](ColorTransform::None) is an
+    /// [`Error::Format`] for a picture of several components, since its rows have no pixels.
+    ///
+    /// ```
+    /// # let jpeg = &std::fs::read("tests/grey.jpg").unwrap()[..];
+    /// use zaxbriar::layout::{Bgra, Grey16};
+    /// use zaxbriar::Decoder;
+    ///
+    /// let mut decoder = Decoder::new(jpeg);
+    /// let pixels = decoder.decode_as(Bgra)?;
+    /// let info = decoder.info().unwrap();
+    /// assert_eq!(pixels.len(), usize::from(info.width) * usize::from(info.height) * 4);
+    ///
+    /// let samples: Vec<u16> = Decoder::new(jpeg).decode_as(Grey16)?;
+    /// assert_eq!(samples, [0x8181; 64]);
+    /// # Ok::<(), zaxbriar::Error>(())
+    /// ```
+    pub fn decode_as<L: Layout>(&mut self, layout: L) -> Result<Vec<L::Element>> {
+        let (pixels, (), _) = self.decode_by(layout.number(), library::decode, is_truncated)?;
+        Ok(pixels)
+    }
+
+    /// Returns what [`decode_partial`](Decoder::decode_partial) does, with the picture in a layout,
+    /// as [`decode_as`](Decoder::decode_as) returns it.
+    ///
+    /// ```
+    /// # let jpeg = &std::fs::read("tests/grey.jpg").unwrap()[..];
+    /// use zaxbriar::layout::Rgb565;
+    /// use zaxbriar::Decoder;
+    ///
+    /// let partial = Decoder::new(&jpeg[..130]).decode_partial_as(Rgb565)?;
+    /// let mid_grey: u16 = 128 / 8 * 2048 + 128 / 4 * 32 + 128 / 8;
+    /// assert_eq!(partial.pixels, [mid_grey; 64]);
+    /// assert!(partial.fault.is_some());
+    /// # Ok::<(), zaxbriar::Error>(())
+    /// ```
+    pub fn decode_partial_as<L: Layout>(
+        &mut self,
+        layout: L,
+    ) -> Result<PartialPicture<L::Element>> {
+        self.decode_partial_by(layout.number())
+    }
+
+    /// Sets whether a picture's rows are returned from the bottom, the last one first, as BMP files
+    /// and OpenGL have them. A new decoder returns them from the top. A row has its pixels from the
+    /// left all the same, and [`whole_rows`](PartialPicture::whole_rows) counts from the top.
+    ///
+    /// ```
+    /// # let jpeg = &std::fs::read("image/tests/colour.jpg").unwrap()[..];
+    /// use zaxbriar::layout::Bgr;
+    /// use zaxbriar::Decoder;
+    ///
+    /// let from_top = Decoder::new(jpeg).decode_as(Bgr)?;
+    /// let mut decoder = Decoder::new(jpeg);
+    /// decoder.set_bottom_up(true);
+    /// let from_bottom = decoder.decode_as(Bgr)?;
+    /// let row_bytes = usize::from(decoder.info().unwrap().width) * 3;
+    /// assert!(from_bottom.chunks(row_bytes).eq(from_top.chunks(row_bytes).rev()));
+    /// # Ok::<(), zaxbriar::Error>(())
+    /// ```
+    pub fn set_bottom_up(&mut self, is_bottom_up: bool) {
+        self.options.bottom_up = is_bottom_up.into();
     }
 
     /// Chooses exactly that part of the picture's size, rounded up, and returns the size that it
@@ -363,11 +435,16 @@ impl<R: Read> Decoder<R> {
     /// Describes the picture anew, by other options.
     fn resize(&mut self, options: Options) -> Result<(u16, u16)> {
         self.read_info()?;
-        let answer = library::read_info(self.stream.bytes(), &options);
-        let picture = answer.outcome.map_err(refused)?;
+        let picture = self.describe(&options)?;
         self.options = options;
         self.picture = Some(picture);
         Ok(size_of(&picture))
+    }
+
+    /// Describes the picture by options. The header was read.
+    fn describe(&self, options: &Options) -> Result<Picture> {
+        let answer = library::read_info(self.stream.bytes(), options);
+        answer.outcome.map_err(refused)
     }
 
     fn refuse_above_limits(&self, picture: &Picture) -> Result<()> {
@@ -388,28 +465,46 @@ impl<R: Read> Decoder<R> {
         Err(Error::Format(text))
     }
 
-    /// Reads the rest of the image, and decodes it by a call. Returns the picture, what the call
-    /// has returned besides, and why the reader gave no more bytes, if it didn't.
-    fn decode_by<T>(
+    /// Decodes the part of the image before its first fault into a layout.
+    fn decode_partial_by<N: Number>(&mut self, layout: u8) -> Result<PartialPicture<N>> {
+        let (pixels, part, failure) = self.decode_by(layout, library::decode_partial, shows_cut)?;
+        Ok(PartialPicture {
+            pixels,
+            // No picture has more rows than 65,535.
+            whole_rows: part.whole_rows as u16,
+            fault: part.fault.map(|fault| error_of(fault, failure)),
+        })
+    }
+
+    /// Reads the rest of the image, and decodes it by a call into a layout, whose elements are `N`.
+    /// Returns the picture, what the call has returned besides, and why the reader gave no more
+    /// bytes, if it didn't.
+    fn decode_by<N: Number, T>(
         &mut self,
+        layout: u8,
         call: impl Fn(&[u8], &Options, &mut [u8]) -> Answer<T>,
         lacks_bytes: impl Fn(&Outcome<T>) -> bool,
-    ) -> Result<(Vec<u8>, T, Option<Failure>)> {
+    ) -> Result<(Vec<N>, T, Option<Failure>)> {
         self.read_info()?;
-        let picture = match (self.stage, self.picture) {
+        let stored = match (self.stage, self.picture) {
             (Stage::HeaderRead, Some(picture)) => picture,
             _ => return Err(Error::Internal("image was already decoded".into())),
         };
-        self.refuse_above_limits(&picture)?;
         let mut options = self.options;
-        options.transform = transform_number(self.color_transform, &picture)?;
+        options.layout = layout;
+        let picture = match layout {
+            AS_STORED => stored,
+            _ => self.describe(&options)?,
+        };
+        self.refuse_above_limits(&picture)?;
+        options.transform = transform_number(self.color_transform, &picture, layout)?;
         // What a partial picture takes is more than `read_info` says: the library compares it. A
         // limit of 0 would be none.
         options.max_bytes = self.max_bytes.saturating_sub(picture.size).max(1);
         self.stage = Stage::Failed;
         let mut pixels = library::zeros(picture.size).map_err(refused)?;
         let failure = self.stream.read_image(&mut self.reader);
-        let call = |bytes: &[u8]| call(bytes, &options, &mut pixels);
+        let call = |bytes: &[u8]| call(bytes, &options, library::bytes_of(&mut pixels));
         let (outcome, failure) = self.ask(failure, lacks_bytes, call);
         if matches!(outcome, Err(Refusal::TooLarge(_))) || is_above_limit(&outcome, &failure) {
             self.stage = Stage::HeaderRead;

@@ -51,7 +51,7 @@ impl UnsupportedFeature {
 #[derive(Debug)]
 pub enum Error {
     /// The stream breaks a rule of T.81, which the text names; or the picture is above a limit, or
-    /// the colour transform isn't one for its components.
+    /// the colour transform isn't one for its components or its layout.
     Format(String),
     /// The stream needs a feature that isn't there.
     Unsupported(UnsupportedFeature),

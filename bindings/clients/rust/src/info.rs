@@ -48,7 +48,7 @@ pub struct ImageInfo {
     pub width: u16,
     /// The height in pixels, at that scale.
     pub height: u16,
-    /// What a pixel is.
+    /// What a pixel is, as [`decode`](crate::Decoder::decode) returns it.
     pub pixel_format: PixelFormat,
     /// How the picture was coded.
     pub coding_process: CodingProcess,

@@ -16,6 +16,9 @@
 //! # Ok::<(), Box<dyn std::error::Error>>(())
 //! ```
 //!
+//! [`Decoder::decode_as`] returns any picture in one of the layouts of the module [`layout`], such
+//! as RGBA or 16 bits a sample.
+//!
 //! # What is proved
 //!
 //! Decoding is the C library's, `libzaxbriar`, whose calls are proved: whatever the bytes are they
@@ -23,7 +26,8 @@
 //! ITU-T T.81. This crate is only tested. It reads a stream into memory, makes the calls, and names
 //! their errors. Two parts of it aren't a matter of types:
 //!
-//! - one module of `unsafe` blocks, which hands slices to the library and takes zeroed memory;
+//! - one module of `unsafe` blocks, which hands slices to the library, takes zeroed memory, and
+//!   writes 16-bit numbers as bytes;
 //! - a loop that reads segment by segment up to the end of a header or an image, so that a lent
 //!   reader stays right after them. How many bytes a segment needs is the library's to say, which
 //!   is proved, too. Pictures and errors don't rest on the loop: where it has read too little, all
@@ -47,6 +51,7 @@ mod color;
 mod decoder;
 mod error;
 mod info;
+pub mod layout;
 mod library;
 mod stream;
 

@@ -2,8 +2,10 @@
 #![allow(unsafe_code)]
 
 use std::alloc::{alloc_zeroed, Layout};
+use std::mem::{size_of, size_of_val};
 use std::ops::Range;
 use std::os::raw::{c_int, c_void};
+use std::slice;
 
 const OK: c_int = 0;
 const MALFORMED: c_int = 1;
@@ -36,9 +38,9 @@ pub struct Options {
     pub min_width: u16,
     pub min_height: u16,
     pub transform: u8,
-    layout: u8,
+    pub layout: u8,
     pub scale: u8,
-    bottom_up: u8,
+    pub bottom_up: u8,
     pub max_bytes: u64,
     /// Null.
     pointers: [u64; 2],
@@ -117,12 +119,13 @@ struct Places {
     icc: [Place; 255],
 }
 
-// The library is for 64 bits, and has structs of these sizes.
-const _: () = assert!(std::mem::size_of::<usize>() == 8);
-const _: () = assert!(std::mem::size_of::<Options>() == 128);
-const _: () = assert!(std::mem::size_of::<Picture>() == 320);
-const _: () = assert!(std::mem::size_of::<FoundSegment>() == 64);
-const _: () = assert!(std::mem::size_of::<Places>() == 4160);
+// The library is for 64 bits, the lower byte of a number first, and has structs of these sizes.
+const _: () = assert!(cfg!(target_endian = "little"));
+const _: () = assert!(size_of::<usize>() == 8);
+const _: () = assert!(size_of::<Options>() == 128);
+const _: () = assert!(size_of::<Picture>() == 320);
+const _: () = assert!(size_of::<FoundSegment>() == 64);
+const _: () = assert!(size_of::<Places>() == 4160);
 
 impl Picture {
     const NONE: Picture = Picture {
@@ -402,7 +405,7 @@ pub fn icc_profile(jpeg: &[u8], metadata: &Metadata) -> Option<Vec<u8>> {
     for part in &metadata.icc {
         header.extend_from_slice(&jpeg[part.start - ICC_HEAD_BYTES..part.end]);
     }
-    let mut profile = zeros(header.len() as u64).ok()?;
+    let mut profile: Vec<u8> = zeros(header.len() as u64).ok()?;
     let mut length = 0;
     // SAFETY: as in `read_info`; and `profile` and `length` are borrowed to be written.
     let answer = unsafe {
@@ -419,22 +422,38 @@ pub fn icc_profile(jpeg: &[u8], metadata: &Metadata) -> Option<Vec<u8>> {
     (answer == OK).then_some(profile)
 }
 
-/// Returns that many zeros, on pages that the system has cleared and that are taken when they are
-/// written. Where memory is refused that is an error, and not an abort as in `vec!`.
-pub fn zeros(size: u64) -> Result<Vec<u8>, Refusal> {
-    let size = usize::try_from(size).map_err(|_| Refusal::NoMemory)?;
-    if size == 0 {
+/// What a picture is a vector of: numbers without padding, of which each pattern of bits is one.
+pub trait Number {}
+
+impl Number for u8 {}
+impl Number for u16 {}
+
+/// Returns the zeros that take so many bytes, on pages that the system has cleared and that are
+/// taken when they are written. Where memory is refused that is an error, and not an abort as in
+/// `vec!`.
+pub fn zeros<N: Number>(bytes: u64) -> Result<Vec<N>, Refusal> {
+    let bytes = usize::try_from(bytes).map_err(|_| Refusal::NoMemory)?;
+    let count = bytes / size_of::<N>();
+    if count == 0 {
         return Ok(Vec::new());
     }
-    let layout = Layout::array::<u8>(size).map_err(|_| Refusal::NoMemory)?;
+    let layout = Layout::array::<N>(count).map_err(|_| Refusal::NoMemory)?;
     // SAFETY: the layout has a size above 0. The block comes of the global allocator with the
-    // layout of `size` bytes, each of which is set, so that it is a vector's.
+    // layout of `count` numbers, each of which is set, so that it is a vector's.
     unsafe {
         let block = alloc_zeroed(layout);
         if block.is_null() {
             Err(Refusal::NoMemory)
         } else {
-            Ok(Vec::from_raw_parts(block, size, size))
+            Ok(Vec::from_raw_parts(block.cast(), count, count))
         }
     }
+}
+
+/// Returns the bytes of numbers, to be written.
+pub fn bytes_of<N: Number>(numbers: &mut [N]) -> &mut [u8] {
+    let size = size_of_val(numbers);
+    // SAFETY: the bytes are those of `numbers`, which are borrowed to be written as long as these
+    // are. `N` is u8 or u16, so that each byte is set, and whatever is written to them are numbers.
+    unsafe { slice::from_raw_parts_mut(numbers.as_mut_ptr().cast(), size) }
 }

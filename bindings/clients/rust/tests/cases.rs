@@ -5,7 +5,12 @@
 //! Not asked: `into` and the calls after it, since this crate has no decoding into the caller's
 //! memory; `orientation`, which the suite asks of headers without a frame, and which is known here
 //! after an accepted one; and in `info` the bytes of the parts of decoding.
+//!
+//! Its pictures are also compared in each layout with the formulas of `model`.
 
+mod model;
+
+use model::compare_layouts;
 use std::cell::Cell;
 use std::fmt::Write;
 use std::fs::read_to_string;
@@ -288,4 +293,24 @@ fn answers_are_those_of_the_suite() {
     assert!(wanted.next().is_none());
     println!("{answers} answers in {cases} cases");
     assert!(faults.is_empty(), "{}", faults.join("\n"));
+}
+
+#[test]
+fn every_picture_of_the_suite_has_every_layout() {
+    let read = |name: &str| read_to_string(suite().join(name)).expect(name);
+    let mut pictures = 0;
+    for file in read("args").lines() {
+        for case in cases_of(&read(&format!("data/{file}"))) {
+            for scale in [Scale::Full, Scale::Half] {
+                // (pictures of more samples take long, and have nothing that smaller ones haven't)
+                let settings = |decoder: &mut Decoder<&[u8]>| {
+                    decoder.set_max_decoding_buffer_size(1 << 14);
+                    let _refusal = decoder.set_scale(scale);
+                };
+                pictures += usize::from(compare_layouts(&case.stream, &settings).is_ok());
+            }
+        }
+    }
+    println!("{pictures} pictures in each layout");
+    assert!(pictures > 1000);
 }
