@@ -14,7 +14,7 @@ complete -c zaxbriar -n $first -f -a thumbnail -d 'Write pictures that fit withi
 complete -c zaxbriar -n $first -f -a info -d 'Describe files'
 complete -c zaxbriar -n $first -f -a check -d 'Say which files are whole'
 complete -c zaxbriar -n $first -f -a raw -d 'Write the bytes of a picture'
-complete -c zaxbriar -n $first -f -a frames -d 'Decode the frames of an MJPEG stream'
+complete -c zaxbriar -n $first -f -a frames -d 'Decode the frames of an MJPEG stream, or the images of an MPO file'
 complete -c zaxbriar -n "$first; and not __fish_seen_subcommand_from help" -f -a help \
     -d 'Print the options of a command'
 complete -c zaxbriar -n $later -s o -l output -r -d 'The file to write'

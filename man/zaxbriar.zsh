@@ -15,7 +15,7 @@ if ((CURRENT == 2)); then
         'info[describe files]' \
         'check[say which files are whole]' \
         'raw[write the bytes of a picture]' \
-        'frames[decode the frames of an MJPEG stream]' \
+        'frames[decode the frames of an MJPEG stream, or the images of an MPO file]' \
         'help[print the options of a command]'
     return
 fi

@@ -7,7 +7,8 @@ use std::alloc::Global;
 /// The word.
 pub const NAME: &str = "frames";
 
-const ABOUT: &str = "Decodes the frames of an MJPEG stream, plain or in an AVI file";
+const ABOUT: &str =
+    "Decodes the frames of an MJPEG stream, plain or in an AVI file, or the images of an MPO file";
 
 const OUTPUT: &str = "The files to write, such as frame-%04d.ppm; or one file of rawvideo; \
     rawvideo on standard output by default, or for -";

@@ -1,6 +1,7 @@
 //! Headers in words: lines `key: value`, and JSON.
 
 use crate::header::{Data, Density, Header, NamedColours, Unit};
+use crate::images::{images, put_images};
 use crate::lines::{JsonLine, Line};
 use crate::names::shown;
 use crate::output::Output;
@@ -254,6 +255,7 @@ fn put_header(alloc: Global, text: &mut String, header: &Header) -> Result<(), A
     put_fact(text, colours_fact(header))?;
     put_density(text, header.density)?;
     put_facts(text, &data_facts(header.restart_interval, header.data))?;
+    put_images(text, header.images.as_ref())?;
     put_comment(alloc, text, header.comment.as_ref())
 }
 
@@ -344,6 +346,7 @@ fn members(alloc: Global, writer: &mut Writer, header: &Header) -> Result<(), Al
     member(writer, colours.member, colours.value)?;
     density(writer, header.density)?;
     members_of(writer, &data_facts(header.restart_interval, header.data))?;
+    images(alloc, writer, header.images.as_ref())?;
     comment(alloc, writer, header.comment.as_ref())
 }
 

@@ -1,5 +1,6 @@
 //! What the segments of a stream say up to its first scan.
 
+use crate::multi_picture::{Index, index_in};
 use jpeg_bits::error::{Error, Result, format_error_of};
 use jpeg_bits::marker::{Marker, read_marker};
 use jpeg_bits::source::Source;
@@ -9,7 +10,7 @@ use jpeg_segments::parser::{
     AdobeColorTransform, AppData, FrameInfo, parse_app, parse_com, parse_dri, parse_sof,
 };
 use std::alloc::Global;
-use std::io::{ErrorKind, Read};
+use std::io::{ErrorKind, Read, Take};
 
 /// The marker SOI.
 const START: u16 = 0xffd8;
@@ -52,6 +53,8 @@ pub struct Header {
     pub comment: Option<Vec<u8>>,
     /// What stands there beside the picture.
     pub data: Data,
+    /// The index of the file's images.
+    pub images: Option<Index>,
 }
 
 /// What the segments say about colours.
@@ -89,12 +92,15 @@ impl Unit {
 }
 
 impl Data {
+    /// Adds a part of an ICC profile.
+    fn add_icc(&mut self, bytes: usize) {
+        self.icc = Some(self.icc.unwrap_or(0).saturating_add(bytes));
+    }
+
     /// Adds what the segment of an application says.
     fn add(&mut self, said: &AppData) {
         match said {
-            AppData::Icc(part) => {
-                self.icc = Some(self.icc.unwrap_or(0).saturating_add(part.bytes.len()));
-            }
+            AppData::Icc(part) => self.add_icc(part.bytes.len()),
             AppData::Exif(bytes) => {
                 self.exif = Some(bytes.len());
                 self.orientation = orientation_of(bytes.as_slice());
@@ -139,6 +145,12 @@ fn skip_segment<R: Read + Drop>(alloc: Global, source: &mut Source<R>) -> Result
     skip(alloc, source, length)
 }
 
+/// Returns how many bytes were read of a source that may read `u64::MAX` of them.
+fn position_of<R: Read + Drop>(source: &Source<Take<R>>) -> u64 {
+    let (_, reader) = source.rest();
+    u64::MAX - reader.limit()
+}
+
 /// What was found before the first scan.
 #[derive(Drop)]
 struct Found {
@@ -148,6 +160,7 @@ struct Found {
     density: Option<Density>,
     comment: Option<Vec<u8>>,
     data: Data,
+    images: Option<Index>,
 }
 
 impl Found {
@@ -168,6 +181,7 @@ impl Found {
                 orientation: None,
                 xmp: None,
             },
+            images: None,
         }
     }
 
@@ -213,6 +227,32 @@ impl Found {
         Ok(())
     }
 
+    /// Adds what the segment APP2 says, whose bytes after its length begin at `start` in the file.
+    fn add_application_2(&mut self, alloc: Global, segment: &[u8], start: u64) -> Result<()> {
+        if segment.starts_with(b"ICC_PROFILE\0") && segment.len() > 14 {
+            self.data.add_icc(segment.len() - 14);
+        }
+        if let Some(bytes) = segment.strip_prefix(b"MPF\0") {
+            if let Some(index) = index_in(alloc, bytes, start.saturating_add(4))? {
+                self.images = Some(index);
+            }
+        }
+        Ok(())
+    }
+
+    /// Reads the segment APP2, which may have the index of the file's images in addition to what
+    /// `parse_app` says of it.
+    fn read_application_2<R: Read + Drop>(
+        &mut self,
+        alloc: Global,
+        source: &mut Source<Take<R>>,
+    ) -> Result<()> {
+        let length = read_length(alloc, source)?;
+        let start = position_of(source);
+        let segment = read_bytes(alloc, source, length)?;
+        self.add_application_2(alloc, segment.as_slice(), start)
+    }
+
     /// Reads a comment.
     fn read_comment<R: Read + Drop>(
         &mut self,
@@ -251,13 +291,14 @@ impl Found {
     fn read_segment<R: Read + Drop>(
         &mut self,
         alloc: Global,
-        source: &mut Source<R>,
+        source: &mut Source<Take<R>>,
         marker: Marker,
     ) -> Result<()> {
         match marker {
             Marker::SOF(_) => self.read_frame(alloc, source, marker),
             Marker::DRI => self.read_restart_interval(alloc, source),
             Marker::APP(0) => self.read_application_0(alloc, source),
+            Marker::APP(2) => self.read_application_2(alloc, source),
             Marker::APP(_) => self.read_application(alloc, source, marker),
             Marker::COM => self.read_comment(alloc, source),
             _ if marker.has_length() => skip_segment(alloc, source),
@@ -274,6 +315,7 @@ impl Found {
             density,
             comment,
             data,
+            images,
         } = self;
         match frame {
             Some(frame) => Ok(Header {
@@ -283,6 +325,7 @@ impl Found {
                 density,
                 comment,
                 data,
+                images,
             }),
             None => Err(format_error_of(format!(in alloc; "found {marker}, expected SOFn"))),
         }
@@ -304,7 +347,7 @@ fn read_start<R: Read + Drop>(alloc: Global, source: &mut Source<R>) -> Result<(
 /// returns the marker there.
 fn read_segments<R: Read + Drop>(
     alloc: Global,
-    source: &mut Source<R>,
+    source: &mut Source<Take<R>>,
     found: &mut Found,
 ) -> Result<Marker> {
     read_start(alloc, source)?;
@@ -338,7 +381,7 @@ fn or_end(read: Result<Marker>, has_frame: bool) -> Result<Marker> {
 /// Reads the segments that the reader gives up to the first scan, and returns the marker there.
 /// That is EOI where the bytes end after a frame header.
 fn read_found<R: Read + Drop>(alloc: Global, reader: R, found: &mut Found) -> Result<Marker> {
-    let mut source = Source::new(reader);
+    let mut source = Source::new(reader.take(u64::MAX));
     let read = read_segments(alloc, &mut source, found);
     or_end(read, found.frame.is_some())
 }

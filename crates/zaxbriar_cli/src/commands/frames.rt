@@ -10,7 +10,8 @@
 //!
 //! `decode` reads no byte after the end of an image, so one reader is lent to a decoder for each
 //! frame. The first byte of a frame is read before, since the stream ends if there is none; zero
-//! bytes and line feeds between frames, as in MPO files, are skipped. The frames of an AVI file are
+//! bytes and line feeds between frames, as in MPO files, are skipped: the frames of an MPO file are
+//! its images, which are found without its index. The frames of an AVI file are
 //! those of its first stream that has any (chunks such as `00dc`): each image of a chunk, which has
 //! two if they are fields of interlaced video. Anything else in it, such as sound and indexes, is
 //! skipped. A frame that is refused ends the program; the frames before it are written.
