@@ -3,6 +3,7 @@ pub mod HeaderRules
 pub mod OnLiterals
 pub mod Taken
 pub mod Longer
+pub mod Rows
 pub mod Cut
 pub mod Transform
 pub mod Work

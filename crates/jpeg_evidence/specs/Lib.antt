@@ -9,6 +9,7 @@ pub mod HeaderRules
 pub mod Extremes
 pub mod CutStreams
 pub mod LongerStreams
+pub mod CompleteRows
 pub mod FirstBlocks
 pub mod CutImages
 pub mod EarlyEnds

@@ -47,6 +47,7 @@ ghost use Rattle.jpeg_evidence.specs.Headers.{progressive_grey};
 ghost use Rattle.jpeg_evidence.specs.Headers.{ones, table_of_f0};
 ghost use Rattle.jpeg_evidence.specs.Walks.{at, walk};
 
+pub mod complete_rows;
 pub mod cut_images;
 pub mod cut_streams;
 pub mod extremes;

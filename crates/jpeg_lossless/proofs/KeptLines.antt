@@ -96,7 +96,7 @@ each-length f n [] sizes = let e : 0 ≡ 0 * n = omega arith in e
 each-length f n (x ∷ xs) sizes =
     grind (arith, common_steps, length-append, sizes x, each-length f n xs sizes)
 
-sample-length : (precision v : ℕ) → length (sample_bytes precision v) ≡ sample_size precision
+pub sample-length : (precision v : ℕ) → length (sample_bytes precision v) ≡ sample_size precision
 sample-length precision v = grind (arith, common_steps)
 
 layers-count : (samplings : List Sampling) (planes : List (List ℕ)) → length samplings ≡ length planes

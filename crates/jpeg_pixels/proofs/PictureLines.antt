@@ -63,13 +63,13 @@ made-wide f n size each =
 -- ---- how long a line is
 
 -- pieces of n entries each, put together
-each-length : {A : Type 0} (f : A → List ℕ) (n : ℕ) (xs : List A) → ((x : A) → length (f x) ≡ n)
+pub each-length : {A : Type 0} (f : A → List ℕ) (n : ℕ) (xs : List A) → ((x : A) → length (f x) ≡ n)
     → length (concat (map f xs)) ≡ length xs * n
 each-length f n [] sizes = let e : 0 ≡ 0 * n = omega arith in e
 each-length f n (x ∷ xs) sizes =
     grind (arith, common_steps, length-append, sizes x, each-length f n xs sizes)
 
-made-length : (n width : ℕ) (line : ℕ → List ℕ) → ((x : ℕ) → length (line x) ≡ n)
+pub made-length : (n width : ℕ) (line : ℕ → List ℕ) → ((x : ℕ) → length (line x) ≡ n)
     → length (concat (map line (range_with_len 0 width))) ≡ width * n
 made-length n width line sizes =
     each-length line n (range_with_len 0 width) sizes ∙ ap (λ m. m * n) (length-range_with_len 0 width)

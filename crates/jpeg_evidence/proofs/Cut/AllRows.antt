@@ -67,7 +67,7 @@ rest-whole settings bytes s frame e none framed =
       | Err fault ↦ 0
     ]) f.3
 
-started : (bytes rest : List ℕ) → start_at bytes ≡ Ok (tt, rest)
+pub started : (bytes rest : List ℕ) → start_at bytes ≡ Ok (tt, rest)
     → whole_rows bytes ≡ whole_rows_rest None nothing_found rest
 unfolding whole_rows_within
 started bytes rest e = rw (e, whole_rows_within) refl

@@ -96,7 +96,7 @@ all-set frame (d ∷ cs) i (suc j) found c t within =
     (held-same frame found i d ((i + 1) + j, c)))
 all-set frame [] i j found c t within = absurd t
 
-lossy-completed : (process : CodingProcess) (found : Found) (frame : Frame) → process ≢ Lossless
+pub lossy-completed : (process : CodingProcess) (found : Found) (frame : Frame) → process ≢ Lossless
     → fold (shown_by process frame) found (enumerate_from 0 frame.components)
     ≡ all_shown frame found 0 frame.components
 lossy-completed Lossless found frame n = absurd (n refl)

@@ -95,7 +95,7 @@ plane-made found f k c y e =
 
 -- ---- the picture
 
-lossy-planes : (process : CodingProcess) (found : Found) (f : Frame) → process ≢ Lossless
+pub lossy-planes : (process : CodingProcess) (found : Found) (f : Frame) → process ≢ Lossless
     → planes_by process found f ≡ gathered (plane_at_end found f) (enumerate_from 0 f.components)
 lossy-planes Lossless found f n = absurd (n refl)
 lossy-planes process found f n = refl

@@ -13,7 +13,7 @@ use Rattle.jpeg_evidence.specs.LongerStreams.{HoldsFirst, Puts, ReadsOn}
 use Rattle.jpeg_evidence.specs.LongerStreams.Puts.{finished, put}
 
 -- what is put at these spots leaves the other blocks
-puts-elsewhere : (q : Spot) (spots : List Spot) (before after : Arrays) → Puts spots before after
+pub puts-elsewhere : (q : Spot) (spots : List Spot) (before after : Arrays) → Puts spots before after
     → (IsIn q spots → ⊥) → block_at after q ≡ block_at before q
 puts-elsewhere q spots before after (finished arrays) n = refl
 puts-elsewhere q spots before after (put s rest b old new p) n =

@@ -104,7 +104,7 @@ all-push : {A : Type 0} (P : A → Type 0) (xs : List A) (y : A) → AllByRecurs
 all-push P [] y all p = (p, tt)
 all-push P (x ∷ xs) y all p = (all.0, all-push P xs y all.1 p)
 
-components-range : (lossless : Bool) (n : ℕ) (front : List Factors) (bytes : List ℕ) (x : List Factors × List ℕ)
+pub components-range : (lossless : Bool) (n : ℕ) (front : List Factors) (bytes : List ℕ) (x : List Factors × List ℕ)
     → AllByRecursion IsInRange front → components_from lossless n front bytes ≡ Ok x
     → AllByRecursion IsInRange x.0
 unfolding components_from
@@ -146,12 +146,12 @@ sof-fits number bytes x e =
     let size = bind-ok (size_at p.0.1) _ x b.2 in
     header-fits number left.0.0 p.0.0 size.0.0.0 size.0.0.1 size.0.1 x size.2
 
-accepted-is : (f g : Frame) → accepted f ≡ Ok g → f ≡ g
+pub accepted-is : (f g : Frame) → accepted f ≡ Ok g → f ≡ g
 unfolding accepted
 accepted-is f g e = search (rules, bind-ok, ok-same)
 
 -- the turn of a frame's segment
-abbrev framed : Found → Frame → List ℕ → Outcome Turn
+abbrev pub framed : Found → Frame → List ℕ → Outcome Turn
 framed found frame rest =
     accepted frame >>= (λ decoded. Ok (onward (with_said (λ said. record said { frame = Some decoded }) found), rest))
 
@@ -184,12 +184,18 @@ frame-fits number found bytes x fits e = go found.said.frame fits.samples e
 abbrev Keeps : Found → Turn × List ℕ → Type 0
 Keeps found x = (x.0.found.said.frame ≡ found.said.frame) × (x.0.found.samples ≡ found.samples)
 
+-- and the planes that are decided
+abbrev pub KeepsAll : Found → Turn × List ℕ → Type 0
+KeepsAll found x =
+    (x.0.found.said.frame ≡ found.said.frame) × (x.0.found.samples ≡ found.samples)
+    × (x.0.found.planes ≡ found.planes)
+
 fold-keeps : {X A : Type 0} (of : Found → A) (f : Found → X → Found) → ((g : Found) (x : X) → of (f g x) ≡ of g)
     → (xs : List X) (g : Found) → of (fold f g xs) ≡ of g
 fold-keeps of f k [] g = refl
 fold-keeps of f k (x ∷ xs) g = fold-keeps of f k xs (f g x) ∙ k g x
 
-after-keeps : {A : Type 0} (of : Found → A) (found : Found) (frame : Frame) (scan : Scan) (codings : List Coding)
+pub after-keeps : {A : Type 0} (of : Found → A) (found : Found) (frame : Frame) (scan : Scan) (codings : List Coding)
     (arrays : Arrays) → ((c : Coding) (blocks : List Block) (g : Found)
     → of (with_blocks (pass_of scan) c blocks g) ≡ of g)
     → of (record (once_scanned found) { kept = blocks_after found frame codings arrays }) ≡ of found
@@ -270,61 +276,72 @@ scan-fits found bytes x fits e =
 
 -- ---- other segments
 
-end-keeps : (found : Found) (bytes : List ℕ) (x : Turn × List ℕ) → end_segment found bytes ≡ Ok x → Keeps found x
+end-keeps : (found : Found) (bytes : List ℕ) (x : Turn × List ℕ) → end_segment found bytes ≡ Ok x → KeepsAll found x
 unfolding end_segment
 end-keeps found bytes x e = go (is_some found.said.frame) e
   where
     go : (b : Bool)
-        → (if b then Ok (record (onward found) { ended = true }, bytes) else Err Malformed) ≡ Ok x → Keeps found x
-    go true e = subst (Keeps found) (ok-same _ x e) (refl, refl)
+        → (if b then Ok (record (onward found) { ended = true }, bytes) else Err Malformed) ≡ Ok x → KeepsAll found x
+    go true e = subst (KeepsAll found) (ok-same _ x e) (refl, refl, refl)
     go false e = absurd (err-ok _ x e)
 
 restart-keeps : (before : Before) (n : ℕ) (found : Found) (bytes : List ℕ) (x : Turn × List ℕ)
-    → segment_at (RST n) before found bytes ≡ Ok x → Keeps found x
+    → segment_at (RST n) before found bytes ≡ Ok x → KeepsAll found x
 unfolding segment_at
 restart-keeps Elsewhere n found bytes x e = absurd (err-ok _ x e)
-restart-keeps FirstScan n found bytes x e = subst (Keeps found) (ok-same _ x e) (refl, refl)
-restart-keeps LaterScan n found bytes x e = subst (Keeps found) (ok-same _ x e) (refl, refl)
+restart-keeps FirstScan n found bytes x e = subst (KeepsAll found) (ok-same _ x e) (refl, refl, refl)
+restart-keeps LaterScan n found bytes x e = subst (KeepsAll found) (ok-same _ x e) (refl, refl, refl)
 
 lines-keep : (before : Before) (found : Found) (bytes : List ℕ) (x : Turn × List ℕ)
-    → segment_at DNL before found bytes ≡ Ok x → Keeps found x
+    → segment_at DNL before found bytes ≡ Ok x → KeepsAll found x
 unfolding segment_at
 lines-keep Elsewhere found bytes x e = absurd (err-ok _ x e)
 lines-keep FirstScan found bytes x e = absurd (err-ok _ x e)
 lines-keep LaterScan found bytes x e = absurd (err-ok _ x e)
 
+-- Of the segments that are no scan only that of a frame changes it, and none changes samples or planes.
+pub segment-keeps : (m : Marker) (before : Before) (found : Found) (bytes : List ℕ) (x : Turn × List ℕ)
+    → segment_at m before found bytes ≡ Ok x → ((n : ℕ) × (m ≡ SOF n)) ⊎ KeepsAll found x
+unfolding segment_at
+segment-keeps (SOF n) before found bytes x e = inl (n, refl)
+segment-keeps DQT before found bytes x e =
+    let r = bind-ok (dqt_at bytes) _ x e in
+    inr (subst (KeepsAll found) (ok-same _ x r.2) (refl, refl, refl))
+segment-keeps DHT before found bytes x e =
+    let r = bind-ok (dht_at (option_map (λ f. f.is_baseline) found.said.frame) bytes) _ x e in
+    inr (subst (KeepsAll found) (ok-same _ x r.2) (refl, refl, refl))
+segment-keeps SOS before found bytes x e = absurd (err-ok _ x e)
+segment-keeps EOI before found bytes x e = inr (end-keeps found bytes x e)
+segment-keeps DRI before found bytes x e =
+    let r = bind-ok (dri_at bytes) _ x e in
+    inr (subst (KeepsAll found) (ok-same _ x r.2) (refl, refl, refl))
+segment-keeps (APP n) before found bytes x e =
+    let r = bind-ok (app_at n bytes) _ x e in
+    inr (subst (KeepsAll found) (ok-same _ x r.2) (refl, refl, refl))
+segment-keeps COM before found bytes x e =
+    let n = bind-ok (length_at bytes) _ x e in
+    let r = bind-ok (skip_at n.0.0 n.0.1) _ x n.2 in
+    inr (subst (KeepsAll found) (ok-same _ x r.2) (refl, refl, refl))
+segment-keeps (RST n) before found bytes x e = inr (restart-keeps before n found bytes x e)
+segment-keeps DNL before found bytes x e = inr (lines-keep before found bytes x e)
+segment-keeps DAC before found bytes x e = absurd (err-ok _ x e)
+segment-keeps DHP before found bytes x e = absurd (err-ok _ x e)
+segment-keeps EXP before found bytes x e = absurd (err-ok _ x e)
+segment-keeps JPG before found bytes x e = absurd (err-ok _ x e)
+segment-keeps SOI before found bytes x e = absurd (err-ok _ x e)
+segment-keeps (JPGn n) before found bytes x e = absurd (err-ok _ x e)
+segment-keeps TEM before found bytes x e = absurd (err-ok _ x e)
+segment-keeps RES before found bytes x e = absurd (err-ok _ x e)
+
 segment-fits : (m : Marker) (before : Before) (found : Found) (bytes : List ℕ) (x : Turn × List ℕ)
     → FoundFits found → segment_at m before found bytes ≡ Ok x → FoundFits x.0.found
 unfolding segment_at
-segment-fits (SOF n) before found bytes x h e = frame-fits n found bytes x h e
-segment-fits DQT before found bytes x h e =
-    let r = bind-ok (dqt_at bytes) _ x e in
-    kept-fits found x h (subst (Keeps found) (ok-same _ x r.2) (refl, refl))
-segment-fits DHT before found bytes x h e =
-    let r = bind-ok (dht_at (option_map (λ f. f.is_baseline) found.said.frame) bytes) _ x e in
-    kept-fits found x h (subst (Keeps found) (ok-same _ x r.2) (refl, refl))
-segment-fits SOS before found bytes x h e = absurd (err-ok _ x e)
-segment-fits EOI before found bytes x h e = kept-fits found x h (end-keeps found bytes x e)
-segment-fits DRI before found bytes x h e =
-    let r = bind-ok (dri_at bytes) _ x e in
-    kept-fits found x h (subst (Keeps found) (ok-same _ x r.2) (refl, refl))
-segment-fits (APP n) before found bytes x h e =
-    let r = bind-ok (app_at n bytes) _ x e in
-    kept-fits found x h (subst (Keeps found) (ok-same _ x r.2) (refl, refl))
-segment-fits COM before found bytes x h e =
-    let n = bind-ok (length_at bytes) _ x e in
-    let r = bind-ok (skip_at n.0.0 n.0.1) _ x n.2 in
-    kept-fits found x h (subst (Keeps found) (ok-same _ x r.2) (refl, refl))
-segment-fits (RST n) before found bytes x h e = kept-fits found x h (restart-keeps before n found bytes x e)
-segment-fits DNL before found bytes x h e = kept-fits found x h (lines-keep before found bytes x e)
-segment-fits DAC before found bytes x h e = absurd (err-ok _ x e)
-segment-fits DHP before found bytes x h e = absurd (err-ok _ x e)
-segment-fits EXP before found bytes x h e = absurd (err-ok _ x e)
-segment-fits JPG before found bytes x h e = absurd (err-ok _ x e)
-segment-fits SOI before found bytes x h e = absurd (err-ok _ x e)
-segment-fits (JPGn n) before found bytes x h e = absurd (err-ok _ x e)
-segment-fits TEM before found bytes x h e = absurd (err-ok _ x e)
-segment-fits RES before found bytes x h e = absurd (err-ok _ x e)
+segment-fits m before found bytes x h e = go (segment-keeps m before found bytes x e)
+  where
+    go : ((n : ℕ) × (m ≡ SOF n)) ⊎ KeepsAll found x → FoundFits x.0.found
+    go (inl n) =
+        frame-fits n.0 found bytes x h (ap (λ (k : Marker). segment_at k before found bytes) (sym n.1) ∙ e)
+    go (inr k) = kept-fits found x h (k.0, k.1)
 
 after-fits : (m : Marker) (before : Before) (found : Found) (bytes : List ℕ) (x : Turn × List ℕ)
     → FoundFits found → (brought_after Zeros m before found bytes).turn ≡ Ok x → FoundFits x.0.found
