@@ -1,5 +1,6 @@
 //! Reads that fail, each in turn, under `decode_partial`: it shows what a stream shows that ends
-//! there, and the fault is the reader's own error.
+//! there, or at most as many bytes before as bits are read ahead, and the fault is the reader's own
+//! error.
 
 use crate::streams::{COUNT, Stream, Written, stream_of};
 use jpeg_decoder::error::{Error, Result};
@@ -32,12 +33,26 @@ fn is_as_cut(failed: &Result<PartialPicture>, cut: &Result<PartialPicture>) -> b
     }
 }
 
+/// The most bytes that are read ahead of the bits that are taken.
+const READ_AHEAD: usize = 8;
+
+/// Returns whether the failure of the read of this number shows what a stream shows that ends
+/// there, or within the bytes that were read ahead.
+fn is_right_at(alloc: Global, bytes: &[u8], call: usize) -> bool {
+    let failed = shown(alloc, bytes, call);
+    for ahead in 0..=READ_AHEAD {
+        let cut = shown(alloc, &bytes[..call.saturating_sub(ahead)], usize::MAX);
+        if is_as_cut(&failed, &cut) {
+            return true;
+        }
+    }
+    false
+}
+
 /// Returns the number of the first read whose failure has another outcome, if there is one.
 fn wrong_read_of(alloc: Global, stream: &Written<'_>) -> Option<usize> {
     for call in 0..stream.bytes.len() {
-        let failed = shown(alloc, stream.bytes, call);
-        let cut = shown(alloc, &stream.bytes[..call], usize::MAX);
-        if !is_as_cut(&failed, &cut) {
+        if !is_right_at(alloc, stream.bytes, call) {
             return Some(call);
         }
     }
