@@ -41,7 +41,8 @@ const READ_AHEAD: usize = 8;
 fn is_right_at(alloc: Global, bytes: &[u8], call: usize) -> bool {
     let failed = shown(alloc, bytes, call);
     for ahead in 0..=READ_AHEAD {
-        let cut = shown(alloc, &bytes[..call.saturating_sub(ahead)], usize::MAX);
+        let end = call.saturating_sub(ahead).min(bytes.len());
+        let cut = shown(alloc, &bytes[..end], usize::MAX);
         if is_as_cut(&failed, &cut) {
             return true;
         }
