@@ -262,13 +262,11 @@ typedef struct zaxbriar_picture {
     uint64_t size;           /* of the picture in bytes: stride * (height - 1) + row_bytes */
     uint64_t row_bytes;      /* bytes of a line without its gap: width * pixel_bytes */
     uint64_t decoding_bytes; /* the most memory that a call uses for coefficients and samples at a
-                                time, besides `pixels`; tables, metadata, a few lines and, where a
-                                scan is cut, a row of blocks (at most 1 MB) aren't counted, nor are
-                                the samples of a scan of several components, or of a lossless
-                                frame, that repeats components of an earlier scan: at most as
-                                much once more.
-                                zaxbriar_decode_partial counts all blocks, and the others what
-                                zaxbriar_decode uses */
+                                time, besides `pixels`, to decode the whole or a part; tables,
+                                metadata, a few lines and, where a scan is cut, a row of blocks (at
+                                most 1 MB) aren't counted, nor are the samples of a scan of several
+                                components, or of a lossless frame, that repeats components of an
+                                earlier scan: at most as much once more */
     uint64_t stream_bytes;   /* how many bytes of `jpeg` the image takes, after ZAXBRIAR_OK of
                                 zaxbriar_decode; or the header, after ZAXBRIAR_OK of
                                 zaxbriar_read_info, ZAXBRIAR_NO_ROOM and ZAXBRIAR_TOO_LARGE.
@@ -335,9 +333,8 @@ ZAXBRIAR_CALL zaxbriar_result zaxbriar_decode(const void *jpeg, size_t jpeg_size
  * MALFORMED, UNSUPPORTED and TRUNCATED are for streams without a frame header that can be decoded,
  * and for a transform that doesn't fit the picture. All other values are as for zaxbriar_decode.
  *
- * The call keeps the coefficients of the blocks that it reads, 128 bytes each, also of a sequential
- * picture. Its `decoding_bytes`, with which it compares `max_bytes`, counts those of all blocks, so
- * it may be more than zaxbriar_read_info returns. */
+ * The call uses no more memory than zaxbriar_decode: its `decoding_bytes`, with which it compares
+ * `max_bytes`, is what zaxbriar_read_info returns. */
 ZAXBRIAR_CALL zaxbriar_result zaxbriar_decode_partial(const void *jpeg, size_t jpeg_size,
                                                       const zaxbriar_options *options,
                                                       void *pixels, size_t pixels_size,

@@ -191,7 +191,7 @@ def transform_of(frame, said):
     return TRANSFORMS.index(name) if name in TRANSFORMS else 0
 
 
-def described(stream, options, is_partial):
+def described(stream, options):
     """The frame, its scale, and the members of a picture that a header and options give."""
     frame, header_bytes, said = header_of(stream)
     scale = model.pick_scale(frame, options.wanted())
@@ -204,12 +204,12 @@ def described(stream, options, is_partial):
     stride = options.stride or row_bytes
     if not row_bytes <= stride <= 2**32:
         raise Refusal(BAD_ARGUMENT)
-    coefficients, planes, _, _, blocks, _ = decoding_bytes(frame, scale)
+    coefficients, planes, _, _ = decoding_bytes(frame, scale)
     unit, across, down = density_of(stream, header_bytes)
     told = {
         'size': stride * (height - 1) + row_bytes,
         'row_bytes': row_bytes,
-        'decoding_bytes': (blocks if is_partial else coefficients) + planes,
+        'decoding_bytes': coefficients + planes,
         'stream_bytes': header_bytes,
         'width': width,
         'height': height,
@@ -320,7 +320,7 @@ def read_info(stream, *words):
     try:
         if not options.are_known():
             raise Refusal(BAD_ARGUMENT)
-        told = described(stream, options, False)[2]
+        told = described(stream, options)[2]
     except Refusal as found:
         return picture_text(found.code, found.told)
     return picture_text(TOO_LARGE if is_too_large(options, told) else OK, told)
@@ -330,7 +330,7 @@ def fill(stream, options, memory, is_partial):
     """Decodes into memory, and returns what is told."""
     if not options.are_known():
         raise Refusal(BAD_ARGUMENT)
-    frame, _, told = described(stream, options, is_partial)
+    frame, _, told = described(stream, options)
     if is_too_large(options, told):
         raise Refusal(TOO_LARGE, **told)
     if len(memory) < told['size']:
@@ -377,7 +377,7 @@ def meaning_within(stream, options, trace):
     limits.max_passes = options.max_passes
     settings = model.Settings()
     try:
-        frame, _, told = described(stream, limits, False)
+        frame, _, told = described(stream, limits)
         if is_too_large(limits, told):
             raise Refusal(TOO_LARGE)
         settings = limits.settings(frame)

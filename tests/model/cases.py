@@ -102,11 +102,10 @@ def orientation_of(exif):
 
 
 def decoding_bytes(frame, scale):
-    """Coefficients, planes, picture, and the most that is taken at a time; and of a partial picture
-    the coefficients, and the most."""
+    """Coefficients, planes, picture, and the most that is taken at a time."""
     width, height = frame.output(scale)
     picture = width * height * len(frame.comps) * (1 if frame.precision <= 8 else 2)
-    coefficients = planes = blocks = 0
+    coefficients = planes = 0
     for component in frame.comps:
         across, down = frame.mcus[0] * component.h, frame.mcus[1] * component.v
         if frame.process == 'lossless':
@@ -116,11 +115,9 @@ def decoding_bytes(frame, scale):
         else:
             planes += across * scale * down * scale
             coefficients += 128 * across * (down if frame.process == 'prog' else component.v)
-            blocks += 128 * across * down
     becomes_picture = len(frame.comps) == 1 and frame.process != 'lossless'
     end = planes + (0 if becomes_picture else picture)
-    peak, partial_peak = (max(kept + planes, end) for kept in (coefficients, blocks))
-    return coefficients, planes, picture, peak, blocks, partial_peak
+    return coefficients, planes, picture, max(coefficients + planes, end)
 
 
 def refusal_texts(kind, in_scan):
@@ -253,7 +250,7 @@ class Decoder:
             return ['none, precision none, bytes none']
         taken = 'none'
         if self.stage in ('header', 'finished'):
-            taken = '%d %d %d %d, partial %d %d' % decoding_bytes(self.frame, self.scale_of_now())
+            taken = '%d %d %d %d' % decoding_bytes(self.frame, self.scale_of_now())
         said = self.size(), PROCESSES[self.frame.process], self.frame.precision, taken
         return ['%s %s, precision %d, bytes %s' % said]
 

@@ -246,16 +246,17 @@ static void limited_metadata(void) {
               zaxbriar_metadata(jpeg.start, jpeg.size, ZAXBRIAR_EXIF, NULL, 0, NULL));
 }
 
-/* A partial picture is limited by all of its blocks, of which a sequential one keeps a row else. */
+/* A partial picture is limited as the whole one is, and takes no more. */
 static void limited_part(void) {
     zaxbriar_picture part;
     CHECK(zaxbriar_read_info(jpeg.start, jpeg.size, NULL, &picture) == ZAXBRIAR_OK);
     CHECK(zaxbriar_decode_partial(jpeg.start, jpeg.size, NULL, NULL, 0, &part) == ZAXBRIAR_NO_ROOM);
-    CHECK(part.decoding_bytes > picture.decoding_bytes);
+    CHECK(part.decoding_bytes == picture.decoding_bytes);
     size_t size = picture.size;
     unsigned char *pixels = block(size);
     zaxbriar_options options = {.max_bytes = part.decoding_bytes - 1};
-    CHECK(zaxbriar_decode(jpeg.start, jpeg.size, &options, pixels, size, NULL) == ZAXBRIAR_OK);
+    CHECK(zaxbriar_decode(jpeg.start, jpeg.size, &options, pixels, size, NULL) ==
+          ZAXBRIAR_TOO_LARGE);
     CHECK(zaxbriar_decode_partial(jpeg.start, jpeg.size, &options, pixels, size, &picture) ==
           ZAXBRIAR_TOO_LARGE);
     CHECK(picture.decoding_bytes == part.decoding_bytes && strstr(picture.text, "limit"));

@@ -105,10 +105,9 @@ export interface Options {
 /** The options of `decode`. */
 export interface DecodingOptions extends Options {
     /**
-     * Decodes a stream that is truncated or damaged, too. What no scan has brought is mid-grey. A
-     * marker in place of blocks is a fault, where decoding without `partial` takes zeros.
-     * `decodingBytes`, which `maxBytes` limits, then counts the coefficients of all blocks, 128
-     * bytes each.
+     * Decodes a stream that is truncated or damaged, too, in no more memory. What no scan has
+     * brought is mid-grey. A marker in place of blocks is a fault, where decoding without `partial`
+     * takes zeros.
      */
     partial?: boolean;
 }

@@ -1,12 +1,18 @@
 -- What a stream has brought up to its first fault, and what is shown of it.
 pub mod Refused
 pub mod BroughtScans
+pub mod LostScans
+pub mod PassedData
 pub mod ReachedScans
+pub mod EndedScans
+pub mod MarkedBlocks
 pub mod ReachedData
+pub mod KeptReads
+pub mod ReachedPlanes
 pub mod RowsAbove
 pub mod StoppedIntervals
 pub mod ReachedBlocks
-pub mod GroupedScans
+pub mod CountedReads
 pub mod RowIntervals
 pub mod ShownParts
 pub mod ShownFaults

@@ -3,8 +3,13 @@ pub mod StoredRows
 pub mod StripRows
 pub mod RowBuffers
 pub mod ByStrips
+pub mod ReachedRows
 pub mod StripSteps
 pub mod StripScans
+pub mod ReachedStrips
+pub mod SpotsInFrame
+pub mod RefusedRows
+pub mod ThroughRows
 pub mod JointDecided
 pub mod KeptStrips
 pub mod JointStrips

@@ -109,28 +109,19 @@ abbrev pub beside_planes : CodingProcess → List Component → ℕ → ℕ
 beside_planes Lossless components picture = picture
 beside_planes _ components picture = if length components == 1 then 0 else picture
 
--- In a partial picture all blocks are kept of a sequential frame, too.
-abbrev pub keeping_blocks : CodingProcess → CodingProcess
-keeping_blocks DctSequential = DctProgressive
-keeping_blocks process = process
-
 -- The blocks that are read, the planes and the picture, and the most of them at a time: blocks and
--- planes while scans are read, and planes and picture at the end. And the blocks that are kept for
--- a partial picture, and the most at a time for it.
+-- planes while scans are read, and planes and picture at the end.
 abbrev pub bytes_of_shape : Shape → Frame → DecodingBytes
 bytes_of_shape shape f =
     let coefficients = sum_by (coefficient_bytes f.process) f.components in
-    let all_coefficients = sum_by (coefficient_bytes (keeping_blocks f.process)) f.components in
     let planes = sum_by (plane_bytes f.process) f.components in
     let picture = picture_size shape in
     let end = planes + beside_planes f.process f.components picture in
     record {
       coefficients = coefficients;
-      all_coefficients = all_coefficients;
       planes = planes;
       picture = picture;
       peak = max (coefficients + planes) end;
-      partial_peak = max (all_coefficients + planes) end;
     }
 
 -- those of the picture of a frame by the settings

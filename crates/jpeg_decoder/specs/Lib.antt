@@ -16,6 +16,7 @@ pub mod Begun
 pub mod Writes
 pub mod Walk
 pub mod Strips
+pub mod Through
 pub mod GrowingView
 pub mod Steps
 pub mod LosslessParts

@@ -1,5 +1,5 @@
 -- What the decoder's own clauses need where a scan is read up to its first fault.
-use Rattle.std.specs.Prelude.{◌≡◌, ℕ, zero, suc, List, [], ◌∷◌, ◌++◌, drop, length, map}
+use Rattle.std.specs.Prelude.{◌≡◌, ℕ, List, [], ◌∷◌, ◌++◌, drop, length, map}
 use Rattle.std.specs.Prelude.{Bool, Result, Ok, Err, Option, Some, None, ◌*◌, ◌==◌}
 use Rattle.std.specs.Prelude.{true, false, if◌then◌else◌, IsErrAnd, IsOkAnd, get_or, slice_index_or}
 use Rattle.std.specs.Prelude.{option_map, unwrap_or, zip}
@@ -7,9 +7,11 @@ use Rattle.jpeg_bits.specs.Codes.{Table}
 use Rattle.jpeg_bits.specs.Entropy.{Text, advance}
 use Rattle.jpeg_bits.specs.Intervals.{first_group, other_groups}
 use Rattle.jpeg_bits.specs.Passes.{Pass}
-use Rattle.jpeg_bits.specs.Reading.{Fault, IsGivenUp, Malformed, MayFail, Names, Outcome}
+use Rattle.jpeg_bits.specs.Reading.{Answers, Fault, IsGivenUp, Malformed, MayFail, Names, Outcome}
 use Rattle.jpeg_bits.specs.Reading.{◌>>=◌}
 use Rattle.jpeg_bits.specs.Stream.{Stream}
+use Rattle.jpeg_bits.specs.declared.beyond.Beyond.{Beyond}
+use Rattle.jpeg_bits.specs.declared.beyond.Beyond.TheVariants.{Nothing, Zeros}
 use Rattle.jpeg_bits.specs.declared.error.Error.{Error}
 use Rattle.jpeg_bits.specs.declared.error.Error.TheVariants.{OutOfMemory}
 use Rattle.jpeg_bits.specs.declared.marker.Marker.{Marker}
@@ -18,35 +20,32 @@ use Rattle.jpeg_segments.specs.HuffmanTables.{no_tables}
 use Rattle.jpeg_segments.specs.ScanHeader as headers
 use Rattle.jpeg_lossless.specs.Codings.{part_in}
 use Rattle.jpeg_lossless.specs.PlanesRead.{counted_rows}
-use Rattle.jpeg_lossless.specs.Rows.{with_all_rows, with_mcu_rows}
+use Rattle.jpeg_lossless.specs.Rows.{with_all_rows}
 use Rattle.jpeg_lossless.specs.Scans.{Way, is_of_rows}
 use Rattle.jpeg_lossless.specs.Scans.{rows_of_interval, scan_tables}
 use Rattle.jpeg_segments.specs.Checks.{needed}
 use Rattle.jpeg_meaning.specs.Brought.{brought_by, unbrought, Brought}
-use Rattle.jpeg_meaning.specs.Brought.{grey_samples, interval_rows_reached}
-use Rattle.jpeg_meaning.specs.Brought.{planes_brought, samples_over, scan_reached}
+use Rattle.jpeg_meaning.specs.Brought.{grey_samples}
+use Rattle.jpeg_meaning.specs.Brought.{planes_brought, samples_over}
 use Rattle.jpeg_meaning.specs.Brought.{scan_rows_reached}
 use Rattle.jpeg_meaning.specs.Found.{Found, Said, with_said}
 use Rattle.jpeg_meaning.specs.LosslessScans.{LosslessCoding, lossless_codings, mcus_across}
 use Rattle.jpeg_meaning.specs.LosslessScans.{mcus_down, tables_in}
 use Rattle.jpeg_meaning.specs.Order.{mcu_size, spots_of}
 use Rattle.jpeg_meaning.specs.ScanSegments.{after_samples, arrays_before, blocks_after}
-use Rattle.jpeg_meaning.specs.ScanSegments.{components_of, scan_before, Coding}
-use Rattle.jpeg_meaning.specs.ScanSegments.{once_scanned, put_arrays, vias_from, with_arrays}
-use Rattle.jpeg_meaning.specs.Scans.{Arrays}
+use Rattle.jpeg_meaning.specs.ScanSegments.{components_of, scan_before, scan_by, Coding}
+use Rattle.jpeg_meaning.specs.ScanSegments.{once_scanned, vias_from, with_arrays}
 use Rattle.jpeg_meaning.specs.Segments.{Turn}
-use Rattle.jpeg_meaning.specs.States.{IfRefused}
+use Rattle.jpeg_meaning.specs.States.{IfRefused, OnTold}
 use Rattle.jpeg_meaning.specs.Stream.{Walked}
 use Rattle.jpeg_meaning.specs.WholeRows.{rows_above, rows_of_planes}
 use Rattle.jpeg_decoder.specs.LosslessParts.{mcus_high, mcus_wide, no_component, parts_at}
-use Rattle.jpeg_decoder.specs.Steps.{blocks_at}
+use Rattle.jpeg_decoder.specs.Scanning.{BlockScan}
+use Rattle.jpeg_decoder.specs.Steps.{blocks_at, scan_data, with_decoded}
+use Rattle.jpeg_decoder.specs.Through.{blocks_reached}
+use Rattle.jpeg_decoder.specs.declared.scan.decoded.Decoded.{Decoded}
 use Rattle.jpeg_decoder.specs.declared.scan.lossless.SampleScan.{SampleScan}
 use Rattle.jpeg_decoder.specs.declared.stream.state.Step.{Step}
-
--- what is left of a list after its first group of n, which is all of it where n is 0
-abbrev pub after_group : {A : Type 0} → ℕ → List A → List A
-after_group zero xs = []
-after_group (suc n) xs = drop (suc n) xs
 
 -- a fact, unless memory ran out
 abbrev pub UnlessRefused : {X : Type 0} → Result X Error → Type 0 → Type 0
@@ -110,11 +109,6 @@ abbrev pub rows_after : {X : Type 0} → Result X Error → Option ℕ → Optio
 rows_after (Ok x) old rows = old
 rows_after (Err e) old rows = rows
 
--- the blocks that are kept after a scan, of those that are left beside it, by whether the frame is
--- progressive
-abbrev pub kept_beside : Bool → List Coding → Arrays → Arrays → Arrays
-kept_beside is_kept codings arrays left = if is_kept then put_arrays codings arrays left else []
-
 -- what a scan of the frame that was found brings after its header
 abbrev pub brought_after : Found → headers.Scan → List ℕ → Brought
 brought_after found scan bytes = elim (needed found.said.frame) [
@@ -122,8 +116,16 @@ brought_after found scan bytes = elim (needed found.said.frame) [
   | Err fault ↦ unbrought found (Err fault)
 ]
 
+-- The same by what follows the markers that end its data: where zeros do, nothing of a scan with a
+-- fault counts.
+abbrev pub turn_after : Beyond → Found → headers.Scan → List ℕ → Brought
+turn_after Zeros found scan bytes = unbrought found
+    (needed found.said.frame >>= λ frame. scan_by frame.process found frame scan bytes)
+turn_after Nothing found scan bytes = brought_after found scan bytes
+
 -- What the data of a scan bring up to their first fault: what is found, the complete rows of the
--- picture where some lack, and the marker after them, or the fault.
+-- picture where some lack, and the marker after them, or the fault. Of blocks it is the marker
+-- before restart markers are passed over.
 pub record DataBrought : Type 0 where
   pub found : Found
   pub rows : Option ℕ
@@ -132,8 +134,8 @@ pub record DataBrought : Type 0 where
 -- A scan of blocks.
 unfoldable pub data_reached : Found → Frame → Pass → List Coding → List ℕ → DataBrought
 data_reached found frame p codings bytes =
-    let r = scan_reached p (found.said.restart * mcu_size (components_of codings))
-    (vias_from 0 codings) (spots_of frame (components_of codings))
+    let r = blocks_reached p (vias_from 0 codings)
+    (found.said.restart * mcu_size (components_of codings)) (spots_of frame (components_of codings))
     (blocks_at codings (arrays_before found frame)) bytes in record {
       found = with_arrays p codings r.reached (record (once_scanned found) {
         kept = blocks_after found frame codings r.reached;
@@ -141,6 +143,24 @@ data_reached found frame p codings bytes =
       rows = option_map (rows_above frame (components_of codings)) r.unread;
       met = r.rest;
     }
+
+-- The data of a scan of blocks were read. Where zeros follow the markers that end them, the call
+-- answered what they give; where nothing does, what they bring up to their first fault is there,
+-- unless memory ran out.
+pub record ReadsData (scan : BlockScan) (frame : Frame) (base : Found) (old : Decoded)
+    (from : Stream) (result : Result (Option Marker) Error) (new : Decoded) (to : Stream)
+    : Type 0 where
+  pub answers : scan.beyond ≡ Zeros → Answers (λ m. (once_scanned (with_decoded base new), m))
+      (scan_data (with_decoded base old) frame scan.pass scan.codings) from result to
+  pub found : scan.beyond ≡ Nothing → OnTold from to result
+      (once_scanned (with_decoded base new) ≡ (data_reached (with_decoded base old) frame scan.pass
+      scan.codings from.bytes).found)
+  pub rows : scan.beyond ≡ Nothing → OnTold from to result
+      (new.rows ≡ (data_reached (with_decoded base old) frame scan.pass
+      scan.codings from.bytes).rows)
+  pub met : scan.beyond ≡ Nothing → UnlessRefused result (Answers (λ m. m)
+      (λ bytes. (data_reached (with_decoded base old) frame scan.pass scan.codings bytes).met)
+      from result to)
 
 -- ---- a lossless scan
 
@@ -173,12 +193,6 @@ pub record IsSampleScan (said : Said) (frame : Frame) (header : headers.Scan) (s
   pub whole : is_of_rows s.coding.wide s.coding.high said.restart ≡ true
   pub rows : s.rows ≡ counted_rows s.coding.high
       (rows_of_interval s.coding.wide s.coding.high said.restart)
-
--- planes with the rows of an interval appended, as far as they can be read, and its end
-abbrev pub rows_appended : Way → List (List Table) → List (List ℕ) → List ℕ
-    → List (List ℕ) × Outcome (Option Marker)
-rows_appended w rows planes bytes =
-    let r = interval_rows_reached rows bytes in (with_mcu_rows w true r.0 planes, r.1)
 
 -- planes with the rows of a scan appended, as far as they can be read, and the marker after it
 abbrev pub planes_reached : Way → ℕ → ℕ → List (List ℕ) → List ℕ

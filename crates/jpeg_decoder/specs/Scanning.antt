@@ -13,26 +13,36 @@ use Rattle.jpeg_decoder.specs.declared.scan.block_array.BlockArray.{BlockArray}
 use Rattle.jpeg_decoder.specs.declared.scan.blocks.Interval.{Interval}
 use Rattle.jpeg_meaning.specs.Order.{Spot}
 use Rattle.jpeg_bits.specs.BlockView.{IsPass, to_block}
+use Rattle.jpeg_bits.specs.declared.beyond.Beyond.{Beyond}
+use Rattle.jpeg_bits.specs.declared.beyond.Beyond.TheVariants.{Nothing}
 use Rattle.jpeg_meaning.specs.ScanSegments.{Coding, components_of, vias_from}
 
 -- A scan of blocks, as it is read: what it codes, how many MCUs a restart interval has, its
--- components with their tables, and whether the AC coefficients of its blocks are kept.
+-- components with their tables, whether the AC coefficients of its blocks are kept, and what
+-- follows the markers that end its data.
 pub record BlockScan : Type 0 where
   pub pass : Pass
   pub restart_interval : ℕ
   pub codings : List Coding
   pub keeps_ac : Bool
+  pub beyond : Beyond
 
-abbrev pub block_scan : Pass → ℕ → List Coding → Bool → BlockScan
-block_scan p n codings keeps =
-    record { pass = p; restart_interval = n; codings = codings; keeps_ac = keeps }
+abbrev pub block_scan : Pass → ℕ → List Coding → Bool → Beyond → BlockScan
+block_scan p n codings keeps beyond = record {
+  pass = p;
+  restart_interval = n;
+  codings = codings;
+  keeps_ac = keeps;
+  beyond = beyond;
+}
 
 -- It codes what a pass may. Where it doesn't keep the AC coefficients, it is a first pass, and a
--- block gives one sample, which is of DC alone.
+-- block gives one sample, which is of DC alone; and then zeros follow the markers.
 pub record IsBlockScan (s : BlockScan) : Type 0 where
   pub legal : IsPass s.pass
   pub dc_alone : s.keeps_ac ≡ false → (s.pass.is_first ≡ true)
       × All (λ c. c.component.scale ≡ 1) s.codings
+  pub kept : s.beyond ≡ Nothing → s.keeps_ac ≡ true
 
 -- the way of the component in a slot, by its tables
 abbrev pub via_by : ℕ → Table → Table → Via
@@ -75,7 +85,12 @@ reached i arrays =
     record { arrays = arrays; predictors = i.carried.predictors; run = i.carried.run }
 
 abbrev pub counted : Interval → Arrays → Counted
-counted i arrays = record { reached = reached i arrays; left = i.left; number = i.number }
+counted i arrays = record {
+  reached = reached i arrays;
+  left = i.left;
+  number = i.number;
+  beyond = i.beyond;
+}
 
 -- what is kept of the blocks of a scan, where their AC coefficients are or aren't
 abbrev pub kept_arrays : Bool → Arrays → Arrays

@@ -11,8 +11,6 @@ pub mod mcus;
 pub mod order;
 pub mod planes;
 pub mod raster;
-pub mod reached;
-pub mod reached_rows;
 pub mod restarts;
 pub mod rows;
 pub mod samples;

@@ -3,7 +3,7 @@ ghost use Rattle.std.specs.Prelude.{◌≡◌, ◌<◌, ◌≤◌, ◌*◌, ◌^
 ghost use Rattle.jpeg_segments.specs.Frame.{AllHaveSampling};
 ghost use Rattle.jpeg_segments.specs.FrameView.{component_in, frame_in};
 ghost use Rattle.jpeg_decoder.specs.Bytes.{beside_planes, bytes_a_sample, coefficient_bytes};
-ghost use Rattle.jpeg_decoder.specs.Bytes.{bytes_of_shape, frame_shape, keeping_blocks, line_bytes};
+ghost use Rattle.jpeg_decoder.specs.Bytes.{bytes_of_shape, frame_shape, line_bytes};
 ghost use Rattle.jpeg_decoder.specs.Bytes.{picture_size, plane_bytes};
 
 use jpeg_segments::parser::{CodingProcess, Component, FrameInfo};
@@ -11,18 +11,15 @@ use jpeg_segments::parser::{CodingProcess, Component, FrameInfo};
 /// How many bytes decoding a picture takes, judging by its frame header, at the scale that was
 /// chosen.
 ///
-/// These three grow with the picture. Metadata, tables, the reader's buffer, the few lines
-/// converted at a time and the allocator's overhead are not counted; nor are the planes that a
-/// sequential scan has for all of its components while it is read, if only some of them have planes
-/// already.
+/// `decode_partial` takes no more. All of these grow with the picture. Metadata, tables, the reader's
+/// buffer, the few lines converted at a time and the allocator's overhead are not counted; nor are
+/// the planes that a sequential scan has for all of its components while it is read, if only some of
+/// them have planes already.
 #[derive(Clone, Copy, Debug, PartialEq)]
 pub struct DecodingBytes {
     /// The coefficients that are buffered, two bytes each: those of a row of MCUs for a sequential
     /// frame, of all blocks for a progressive one, and none for a lossless one.
     pub coefficients: u64,
-    /// The coefficients of all blocks, which `decode_partial` buffers as far as they are read,
-    /// those of a sequential frame too; none for a lossless one.
-    pub all_coefficients: u64,
     /// The planes of all components: a byte per sample of all blocks at the scale, or two bytes per
     /// sample for a lossless frame.
     pub planes: u64,
@@ -32,8 +29,6 @@ pub struct DecodingBytes {
     /// and picture at the end. The plane of a frame of one component, unless it is lossless,
     /// becomes the picture itself.
     pub peak: u64,
-    /// The most that `decode_partial` may use at a time.
-    pub partial_peak: u64,
 }
 
 /// Returns the product of a width and a height.
@@ -84,23 +79,11 @@ fn plane_bytes(component: &Component, process: CodingProcess) -> u64
     }
 }
 
-/// Returns the process whose blocks are buffered as those of a frame of this process are for a
-/// partial picture.
-fn keeping_blocks(process: CodingProcess) -> CodingProcess
-    ensures { result ≡ keeping_blocks process }
-{
-    match process {
-        CodingProcess::DctSequential => CodingProcess::DctProgressive,
-        CodingProcess::DctProgressive | CodingProcess::Lossless => process,
-    }
-}
-
-/// Returns how many bytes the coefficients and the planes of all components take, where
-/// coefficients are buffered as in a frame of this process.
-fn component_bytes(frame: &FrameInfo, buffering: CodingProcess) -> (u64, u64)
+/// Returns how many bytes the coefficients and the planes of all components take.
+fn component_bytes(frame: &FrameInfo) -> (u64, u64)
     requires few { length (frame_in frame.now).components ≤ 4 }
     requires sampling { AllHaveSampling (frame_in frame.now).components }
-    ensures coefficients { result.0 ≡ sum_by (coefficient_bytes buffering)
+    ensures coefficients { result.0 ≡ sum_by (coefficient_bytes (frame_in frame.now).process)
         (frame_in frame.now).components }
     ensures planes { result.1 ≡ sum_by (plane_bytes (frame_in frame.now).process)
         (frame_in frame.now).components }
@@ -110,7 +93,7 @@ fn component_bytes(frame: &FrameInfo, buffering: CodingProcess) -> (u64, u64)
     let mut planes = 0;
     for i in 0..frame.components.len() {
         let component = &frame.components[i];
-        coefficients += coefficient_bytes(component, buffering);
+        coefficients += coefficient_bytes(component, frame.coding_process);
         planes += plane_bytes(component, frame.coding_process);
     }
     (coefficients, planes)
@@ -175,17 +158,13 @@ pub(crate) fn decoding_bytes(frame: &FrameInfo) -> DecodingBytes
     ensures { result
         ≡ bytes_of_shape (frame_shape (frame_in frame.now)) (frame_in frame.now) }
 {
-    let process = frame.coding_process;
-    let (coefficients, planes) = component_bytes(frame, process);
-    let (all_coefficients, _) = component_bytes(frame, keeping_blocks(process));
+    let (coefficients, planes) = component_bytes(frame);
     let picture = picture_bytes(frame);
     let end = planes + beside_planes(frame, picture);
     DecodingBytes {
         coefficients,
-        all_coefficients,
         planes,
         picture,
         peak: (coefficients + planes).max(end),
-        partial_peak: (all_coefficients + planes).max(end),
     }
 }

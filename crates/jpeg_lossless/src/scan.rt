@@ -20,6 +20,7 @@ use crate::lossless::start_of;
 pub use crate::parts::Part;
 use crate::parts::mcu_tables;
 use crate::planes::{Row, add_row, shift};
+use jpeg_bits::beyond::Beyond;
 use jpeg_bits::error::{Result, format_error_of};
 use jpeg_bits::huffman::{HuffmanDecoder, HuffmanTable};
 use jpeg_bits::marker::{Marker, restart_error};
@@ -139,6 +140,8 @@ impl LosslessScan {
     ghost use Rattle.jpeg_lossless.specs.Rows.{planes_after_rows, with_mcu_rows};
     ghost use Rattle.jpeg_lossless.specs.RowsReached.{rows_reached};
     ghost use Rattle.jpeg_lossless.specs.Scans.{scan_tables};
+    ghost use Rattle.jpeg_bits.specs.declared.beyond.Beyond.TheVariants.{Nothing, Zeros};
+    ghost use Rattle.jpeg_lossless.specs.PlanesRead.{interval_through, intervals_through};
     ghost use Rattle.jpeg_lossless.specs.PlanesRead.{planes_interval, planes_intervals};
     ghost use Rattle.jpeg_lossless.specs.PlanesRead.{AreGrown, IsWithinMcus, cut_planes};
 
@@ -219,13 +222,16 @@ impl LosslessScan {
         Ok(())
     }
 
-    /// Reads an interval of `count` rows of MCUs, and returns the marker after it, if it was read.
+    /// Reads an interval of `count` rows of MCUs, after whose marker `beyond` follows, and returns
+    /// that marker, if it was read. The rows before one that can't be read whole are there, unless
+    /// memory ran out.
     #[tactic(auto, unfolding(crate::specs::PlanesRead::planes_interval))]
     fn read_interval<R: Read + Drop>(
         &mut self,
         source: &mut Source<R>,
         coding: &RowCoding<'_, '_>,
         count: u16,
+        beyond: Beyond,
     ) -> Result<Option<Marker>>
         requires planes { length self.old.planes.items ≡ length coding.now.parts.now }
         ensures count { length self.new.planes.items ≡ length self.old.planes.items }
@@ -233,24 +239,39 @@ impl LosslessScan {
             (map (λ v. v.items) self.old.planes.items)
             → OnOk result (AreGrown (k + count) (map part_in coding.now.parts.now)
             (map (λ v. v.items) self.new.planes.items)) }
-        ensures answers { Answers (λ m. (map (λ v. v.items) self.new.planes.items, m))
+        ensures answers { beyond ≡ Zeros
+            → Answers (λ m. (map (λ v. v.items) self.new.planes.items, m))
             (planes_interval (way_by coding.now.scan (map part_in coding.now.parts.now)) count
             (map (λ v. v.items) self.old.planes.items))
             source.old result source.new }
+        ensures reached { beyond ≡ Nothing → source.old.known ≡ true → source.new.known ≡ true
+            → (result ≡ Err OutOfMemory → ⊥) → map (λ v. v.items) self.new.planes.items
+            ≡ (interval_through (way_by coding.now.scan (map part_in coding.now.parts.now)) count
+            (map (λ v. v.items) self.old.planes.items) source.old.bytes).0 }
+        ensures met { beyond ≡ Nothing → Answers (λ m. m) (λ bytes. (interval_through
+            (way_by coding.now.scan (map part_in coding.now.parts.now)) count
+            (map (λ v. v.items) self.old.planes.items) bytes).1)
+            source.old result source.new }
     {
-        let mut decoder = HuffmanDecoder::new(self.alloc);
+        let mut decoder = HuffmanDecoder::with_beyond(self.alloc, beyond);
         self.read_rows(&mut decoder, source, coding, count)?;
         decoder.take_marker(source)
     }
 
     /// Reads the intervals of a scan, each of `rows` rows of MCUs and the last of those that are
-    /// left, and returns the marker after them, if it was read.
+    /// left, and returns the marker after them, if it was read. After the marker that ends the data
+    /// of an interval `beyond` follows. The rows before one that can't be read whole are there,
+    /// unless memory ran out.
+    ///
+    /// The errors are those of `read_rows`, and `Format` if an interval doesn't end with the
+    /// restart marker that is due.
     #[tactic(auto, using(crate::proofs::Rules::ends))]
-    fn read_intervals<R: Read + Drop>(
+    pub fn read_intervals<R: Read + Drop>(
         &mut self,
         source: &mut Source<R>,
         coding: &RowCoding<'_, '_>,
         rows: u16,
+        beyond: Beyond,
     ) -> Result<Option<Marker>>
         requires rows { 0 < rows }
         requires planes { length self.old.planes.items ≡ length coding.now.parts.now }
@@ -259,23 +280,33 @@ impl LosslessScan {
             (map (λ v. v.items) self.old.planes.items)
             → OnOk result (AreGrown (k + coding.now.scan.high) (map part_in coding.now.parts.now)
             (map (λ v. v.items) self.new.planes.items)) }
-        ensures answers { Answers (λ m. (map (λ v. v.items) self.new.planes.items, m))
+        ensures answers { beyond ≡ Zeros
+            → Answers (λ m. (map (λ v. v.items) self.new.planes.items, m))
             (planes_intervals (coding.now.scan.high + 1)
             (way_by coding.now.scan (map part_in coding.now.parts.now)) rows 0
             coding.now.scan.high (map (λ v. v.items) self.old.planes.items))
+            source.old result source.new }
+        ensures reached { beyond ≡ Nothing → source.old.known ≡ true → source.new.known ≡ true
+            → (result ≡ Err OutOfMemory → ⊥) → map (λ v. v.items) self.new.planes.items
+            ≡ (intervals_through (coding.now.scan.high + 1)
+            (way_by coding.now.scan (map part_in coding.now.parts.now)) rows 0
+            coding.now.scan.high (map (λ v. v.items) self.old.planes.items) source.old.bytes).0 }
+        ensures met { beyond ≡ Nothing → Answers (λ m. m) (λ bytes. (intervals_through
+            (coding.now.scan.high + 1) (way_by coding.now.scan (map part_in coding.now.parts.now))
+            rows 0 coding.now.scan.high (map (λ v. v.items) self.old.planes.items) bytes).1)
             source.old result source.new }
     {
         let mut number = 0u16;
         let mut left = coding.scan.high;
         while left > rows {
-            let marker = self.read_interval(source, coding, rows)?;
+            let marker = self.read_interval(source, coding, rows, beyond)?;
             if !is_restart(marker, number) {
                 return Err(restart_error(self.alloc, marker, (number % 8) as u8));
             }
             number += 1;
             left -= rows;
         }
-        self.read_interval(source, coding, left)
+        self.read_interval(source, coding, left, beyond)
     }
 
     /// Ends a scan, and returns the plane of each component: its own samples of the rows that were
@@ -379,7 +410,7 @@ fn read_planes<R: Read + Drop>(
     };
     let row_coding = RowCoding::new(alloc, coding, parts)?;
     let mut scan = LosslessScan::new(alloc, &row_coding)?;
-    let marker = scan.read_intervals(source, &row_coding, rows)?;
+    let marker = scan.read_intervals(source, &row_coding, rows, Beyond::Zeros)?;
     Ok((scan.finish(&row_coding), marker))
 }
 

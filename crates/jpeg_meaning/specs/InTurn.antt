@@ -4,8 +4,10 @@ use Rattle.std.specs.Prelude.{true, false, List, [], ◌∷◌, length, set, get
 use Rattle.std.specs.Prelude.{Ok, Err}
 use Rattle.jpeg_bits.specs.Reading as reading
 use Rattle.jpeg_bits.specs.Reading.{Outcome, Malformed}
-use Rattle.jpeg_bits.specs.Entropy.{upcoming, fresh, marker_from}
+use Rattle.jpeg_bits.specs.Entropy.{upcoming, fresh, fresh_before, marker_from}
 use Rattle.jpeg_bits.specs.Readers.{Reads, ◌>>=◌, gives}
+use Rattle.jpeg_bits.specs.declared.beyond.Beyond.{Beyond}
+use Rattle.jpeg_bits.specs.declared.beyond.Beyond.TheVariants.{Zeros}
 use Rattle.jpeg_bits.specs.declared.marker.Marker.{Marker}
 use Rattle.jpeg_bits.specs.Passes.{Pass, Via, block_from, predictors_at_start}
 use Rattle.jpeg_bits.specs.Intervals.{is_restart}
@@ -62,28 +64,32 @@ intervals_from p vias k spots (next ∷ more) arrays bytes =
 
 -- ---- block by block
 
--- after an interval RST k has to be met, and the next begins
-unfoldable pub restart_from : ℕ → Reads (Unit {0})
-restart_from k t = reading.◌>>=◌ (marker_from t) (λ m. elim (is_restart k m.0) [
-  | true ↦ Ok (tt, upcoming fresh m.1)
+-- After an interval RST k has to be met, and the next begins, by what follows the marker that ends
+-- its data.
+unfoldable pub restart_from : Beyond → ℕ → Reads (Unit {0})
+restart_from beyond k t = reading.◌>>=◌ (marker_from t) (λ m. elim (is_restart k m.0) [
+  | true ↦ Ok (tt, upcoming (fresh_before beyond) m.1)
   | false ↦ Err Malformed
 ])
 
--- What is kept between blocks: what is reached in an interval, how many blocks are left of it, and
--- the number of the restart marker after it, which counts modulo 8.
+-- What is kept between blocks: what is reached in an interval, how many blocks are left of it, the
+-- number of the restart marker after it, which counts modulo 8, and what follows the markers that
+-- end data.
 pub record Counted : Type 0 where
   pub reached : Reached
   pub left : ℕ
   pub number : ℕ
+  pub beyond : Beyond
 
 -- where no block is left of an interval of n, the next interval; where n is 0 there is one interval
 unfoldable pub begun_from : ℕ → Counted → Reads Counted
 begun_from n old =
     elim (nat_lt 0 n && old.left == 0) [
-      | true ↦ restart_from old.number >>= (λ u. gives (record {
+      | true ↦ restart_from old.beyond old.number >>= (λ u. gives (record {
         reached = at_start old.reached.arrays;
         left = n;
         number = (old.number + 1) % 8;
+        beyond = old.beyond;
       }))
       | false ↦ gives old
     ]
@@ -93,15 +99,24 @@ unfoldable pub next_from : Pass → List Via → ℕ → Spot → Counted → Re
 next_from p vias n s old =
     begun_from n old >>= (λ now.
     turn_from p vias s now.reached >>= (λ r.
-    gives (record { reached = r; left = now.left - 1; number = now.number })))
+    gives (record {
+      reached = r;
+      left = now.left - 1;
+      number = now.number;
+      beyond = now.beyond;
+    })))
 
 -- the blocks at these spots
 unfoldable pub blocks_from : Pass → List Via → ℕ → List Spot → Counted → Reads Counted
 blocks_from p vias n [] old = gives old
 blocks_from p vias n (s ∷ spots) old = next_from p vias n s old >>= blocks_from p vias n spots
 
+abbrev pub counted_before : Beyond → ℕ → Arrays → Counted
+counted_before beyond n arrays =
+    record { reached = at_start arrays; left = n; number = 0; beyond = beyond }
+
 abbrev pub counted_at_start : ℕ → Arrays → Counted
-counted_at_start n arrays = record { reached = at_start arrays; left = n; number = 0 }
+counted_at_start n arrays = counted_before Zeros n arrays
 
 -- a scan of the blocks at these spots: the blocks after it, and the marker after it, if it is met
 unfoldable pub scan_from : Pass → List Via → ℕ → List Spot → Arrays → List ℕ

@@ -47,6 +47,7 @@ on_arrays arrays c =
       reached = record { arrays = arrays; predictors = c.reached.predictors; run = c.reached.run };
       left = c.left;
       number = c.number;
+      beyond = c.beyond;
     }
 
 -- rows of MCUs after the blocks in front, each read into blocks of its own

@@ -27,12 +27,12 @@ fn room(alloc: Global, size: usize) -> Result<Vec<u8>, AllocError> {
     Vec::with_capacity(alloc, size)
 }
 
-/// Tells `tests/memory` that a call begins.
+/// Notifies `tests/memory` that a call begins.
 fn begin_call(alloc: Global) {
     let _room = room(alloc, BEGINS);
 }
 
-/// Tells `tests/memory` how a call has ended, and returns its answer.
+/// Notifies `tests/memory` of how a call has ended, and returns its answer.
 fn end_call<T: Drop>(alloc: Global, answer: Result<T, Error>) -> Result<T, Error> {
     let size = match &answer {
         Err(Error::OutOfMemory) => HAS_NO_MEMORY,

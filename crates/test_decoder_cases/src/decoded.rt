@@ -145,12 +145,7 @@ impl Display for Bytes {
             Some(bytes) => {
                 let (coefficients, planes) = (bytes.coefficients, bytes.planes);
                 let (picture, peak) = (bytes.picture, bytes.peak);
-                write!(f, "{coefficients} {planes} {picture} {peak}")?;
-                write!(
-                    f,
-                    ", partial {} {}",
-                    bytes.all_coefficients, bytes.partial_peak
-                )
+                write!(f, "{coefficients} {planes} {picture} {peak}")
             }
             None => f.write_str("none"),
         }

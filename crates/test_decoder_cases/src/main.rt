@@ -23,8 +23,7 @@
 //!     into BYTES           `decode_into`, with memory of that many bytes, each 07: how many were
 //!                          written, and the memory
 //!     info                 `info`, with the coding process; `precision`; and `decoding_bytes`:
-//!                          coefficients, planes, picture and peak; and for a partial picture
-//!                          all coefficients and the peak
+//!                          coefficients, planes, picture and peak
 //!     exif, xmp, icc       `exif_data`, `xmp_data`, `icc_profile`: how many bytes, and the bytes
 //!     orientation          `orientation_of` the Exif data
 //!     stream_transform     `stream_transform`: its name

@@ -39,7 +39,7 @@ pub fn decoded(
 ) -> u32
     ensures given { result ≡ 0 → Gives Whole options.now jpeg.now pixels.old pixels.new None
         (without_rows picture.new) }
-    ensures short { (size : Picture) → IsWithin Whole options.now jpeg.now size
+    ensures short { (size : Picture) → IsWithin options.now jpeg.now size
         → length pixels.old < size.size → IsOfRoomNumber result }
     ensures passes { result ≡ 10 → exceeds Whole options.now jpeg.now ≡ true }
     ensures malformed { result ≡ 1 → exceeds Whole options.now jpeg.now ≡ false }

@@ -281,24 +281,24 @@ codes Partial o bytes old new picture outcome false code w c s =
 -- ---- what is described
 
 -- a described picture tells of nothing else
-as-told : (extent : Extent) (o : Options) (bytes : List ℕ) (picture : Picture) (feature : Feature) (fault rows : ℕ)
-    (text : List ℕ) → fault ≡ 0 → rows ≡ 0 → Describes extent o bytes (uncounted picture)
+as-told : (o : Options) (bytes : List ℕ) (picture : Picture) (feature : Feature) (fault rows : ℕ)
+    (text : List ℕ) → fault ≡ 0 → rows ≡ 0 → Describes o bytes (uncounted picture)
     → as_described (telling picture feature fault rows text) ≡ uncounted picture
-as-told extent o bytes picture feature fault rows text f r d =
+as-told o bytes picture feature fault rows text f r d =
     (λ i. as_described (telling (d.picture_is i) feature (f i) (r i) text)) ∙ sym d.picture_is
 
-as-shown : (extent : Extent) (o : Options) (bytes : List ℕ) (picture : Picture) (feature : Feature) (fault rows : ℕ)
-    (text : List ℕ) → Describes extent o bytes (uncounted picture)
+as-shown : (o : Options) (bytes : List ℕ) (picture : Picture) (feature : Feature) (fault rows : ℕ)
+    (text : List ℕ) → Describes o bytes (uncounted picture)
     → as_described (without_fault (without_rows (telling picture feature fault rows text))) ≡ uncounted picture
-as-shown extent o bytes picture feature fault rows text d =
+as-shown o bytes picture feature fault rows text d =
     ap (λ (p : Picture). as_described (without_fault (without_rows p))) d.picture_is ∙ sym d.picture_is
 
-described-shown : (extent : Extent) (o : Options) (bytes : List ℕ) (picture : Picture) (feature : Feature)
-    (fault rows : ℕ) (text : List ℕ) → IsWithin extent o bytes (uncounted picture)
-    → IsWithin extent o bytes (as_described (without_fault (without_rows (telling picture feature fault rows text))))
-described-shown extent o bytes picture feature fault rows text w =
-    subst (λ (p : Picture). IsWithin extent o bytes p)
-    (sym (as-shown extent o bytes picture feature fault rows text w.0)) w
+described-shown : (o : Options) (bytes : List ℕ) (picture : Picture) (feature : Feature)
+    (fault rows : ℕ) (text : List ℕ) → IsWithin o bytes (uncounted picture)
+    → IsWithin o bytes (as_described (without_fault (without_rows (telling picture feature fault rows text))))
+described-shown o bytes picture feature fault rows text w =
+    subst (λ (p : Picture). IsWithin o bytes p)
+    (sym (as-shown o bytes picture feature fault rows text w.0)) w
 
 within-told : (P : Type 0) (outcome : Result ℕ Refusal) (code : ℕ) → code ≡ status_of outcome
     → OnOk outcome P → IfErr outcome (λ r. IsPart r → P) → (code ≡ 0) ⊎ (code ≡ 9) → P
@@ -469,21 +469,21 @@ fills extent o bytes old new picture outcome exceeded feature fault rows text co
           let l = a.feature_is ∙ none-lacking outcome code a.code_is (as2 n) (as9 m) in
           (ap (λ (f : Feature). f.number) l, ap (λ (f : Feature). f.argument) l);
       kept = λ n m. kept-told _ outcome code a.code_is d.kept (as0 n) (as9 m);
-      describes = λ z. described-shown extent o bytes picture feature fault rows text
+      describes = λ z. described-shown o bytes picture feature fault rows text
           (within-told _ outcome code a.code_is d.within d.described (either z));
       room = λ z.
           let w = room-at _ outcome code a.code_is d.room (to5 z) in
           let none = own-cleared outcome code a.code_is (inl (to5 z)) in (
-            subst (λ (p : Picture). IsWithin extent o bytes p)
-                (sym (as-told extent o bytes picture feature fault rows text (faultless none.0) (a.rows_are ∙ none.1)
+            subst (λ (p : Picture). IsWithin o bytes p)
+                (sym (as-told o bytes picture feature fault rows text (faultless none.0) (a.rows_are ∙ none.1)
                 w.0.0)) w.0,
             w.1,
           );
       large = λ z.
           let w = large-at _ outcome code a.code_is d.large (to8 z) in
           let none = own-cleared outcome code a.code_is (inr (to8 z)) in
-          subst (λ (p : Picture). IsTooLarge extent o bytes p)
-          (sym (as-told extent o bytes picture feature fault rows text (faultless none.0) (a.rows_are ∙ none.1)
+          subst (λ (p : Picture). IsTooLarge o bytes p)
+          (sym (as-told o bytes picture feature fault rows text (faultless none.0) (a.rows_are ∙ none.1)
           w.0)) w;
       limited = λ size l. kept-number (of-call-number outcome code a.code_is (d.limited size l)) on;
       short = λ size w l. kept-room (of-room-number outcome code a.code_is (d.short size w l)) on;

@@ -23,7 +23,6 @@ use Rattle.zaxbriar_calls.specs.Sampling.{sampling_of}
 use Rattle.zaxbriar_calls.specs.declared.answers.Refusal.{Refusal}
 use Rattle.zaxbriar_calls.specs.declared.answers.Refusal.TheVariants as refusals
 use Rattle.zaxbriar_calls.specs.declared.density.Density.{Density}
-use Rattle.zaxbriar_calls.specs.declared.extents.Extent.{Extent}
 use Rattle.zaxbriar_calls.specs.declared.header.Header.{Header}
 use Rattle.zaxbriar_calls.specs.declared.lines.Lines.{Lines}
 use Rattle.zaxbriar_calls.specs.declared.options.Options.{Options}
@@ -38,9 +37,9 @@ header-same read h k x y p q =
     ap (λ (p : Found × List ℕ). p.0) both
 
 -- one stream has one description
-pub described-same : (extent : Extent) (o : Options) (bytes : List ℕ) (a b : Picture) → Describes extent o bytes a
-    → Describes extent o bytes b → a ≡ b
-described-same extent o bytes a b d e =
+pub described-same : (o : Options) (bytes : List ℕ) (a b : Picture) → Describes o bytes a
+    → Describes o bytes b → a ≡ b
+described-same o bytes a b d e =
     let h : d.header ≡ e.header = header-same (header_at bytes) d.header e.header d.rest e.rest d.reads e.reads in
     let info : d.info ≡ e.info = some-same d.info e.info (sym d.info_is
     ∙ ap (λ (h : Found). option_map info_of (at_size (size_wanted o) h.said).frame) h ∙ e.info_is) in
@@ -59,7 +58,7 @@ described-same extent o bytes a b d e =
     (at_size (size_wanted o) h.said).frame) h ∙ e.transform_is) in
     d.picture_is
     ∙ (λ i. described_picture o.layout (info i) (precision i)
-    (lines_by o (info i) (precision i) (conversion i)) (bytes_beside extent (decoding i))
+    (lines_by o (info i) (precision i) (conversion i)) (bytes_beside (decoding i))
     (orientation_by (at_size (size_wanted o) (h i).said).metadata.exif) (sampling i) (transform i) (density_of bytes) 0)
     ∙ sym e.picture_is
 
@@ -67,19 +66,19 @@ of-memory : {Y : Type 0} (e : Error) (read : Result Y Fault) (x : Y) → read �
 of-memory e read x is n = grind (arith, common_steps)
 
 -- a picture within the limits is refused by its header only for lack of memory, or by the arguments
-pub only-room : (extent : Extent) (o : Options) (bytes : List ℕ) (picture size : Picture) (r : Refusal)
-    → IsWithin extent o bytes size → IsFault (header_at bytes) r
-    → (r ≡ refusals.TooLarge → IsTooLarge extent o bytes picture) → (r ≡ refusals.NoRoom → ⊥) → (IsPart r → ⊥)
+pub only-room : (o : Options) (bytes : List ℕ) (picture size : Picture) (r : Refusal)
+    → IsWithin o bytes size → IsFault (header_at bytes) r
+    → (r ≡ refusals.TooLarge → IsTooLarge o bytes picture) → (r ≡ refusals.NoRoom → ⊥) → (IsPart r → ⊥)
     → IsOfRoom r
-only-room extent o bytes picture size (refusals.Stream e) w named large room part =
+only-room o bytes picture size (refusals.Stream e) w named large room part =
     of-memory e (header_at bytes) (w.0.header, w.0.rest) w.0.reads named
-only-room extent o bytes picture size (refusals.Part e rows) w named large room part = absurd (part tt)
-only-room extent o bytes picture size refusals.Reader w named large room part = tt
-only-room extent o bytes picture size (refusals.Argument t) w named large room part = tt
-only-room extent o bytes picture size refusals.NoRoom w named large room part = tt
-only-room extent o bytes picture size refusals.TooLarge w named large room part =
+only-room o bytes picture size (refusals.Part e rows) w named large room part = absurd (part tt)
+only-room o bytes picture size refusals.Reader w named large room part = tt
+only-room o bytes picture size (refusals.Argument t) w named large room part = tt
+only-room o bytes picture size refusals.NoRoom w named large room part = tt
+only-room o bytes picture size refusals.TooLarge w named large room part =
     let l = large refl in
-    let same = described-same extent o bytes size picture w.0 l.0 in
+    let same = described-same o bytes size picture w.0 l.0 in
     let over : exceeds_limits o size ≡ true = ap (λ (p : Picture). exceeds_limits o p) same ∙ l.1 in
     true-false (sym over ∙ w.1)
   where
@@ -94,7 +93,7 @@ sized-metadata (AtLeast width height) said = refl
 sized-metadata (AtScale scale) said = refl
 
 -- a picture is described by its header
-pub describes : (extent : Extent) (o : Options) (old new : Decoding) (h : Header) (lines : Lines) (density : Density)
+pub describes : (o : Options) (old new : Decoding) (h : Header) (lines : Lines) (density : Density)
     (picture : Picture) → ReadsHeader o old new → old.source.known ≡ true
     → option_map info_of new.found.said.frame ≡ Some h.info
     → option_map (λ f. f.precision) new.found.said.frame ≡ Some h.precision
@@ -104,10 +103,10 @@ pub describes : (extent : Extent) (o : Options) (old new : Decoding) (h : Header
     ≡ Some h.transform
     → option_map (decoding_bytes new.settings) new.found.said.frame ≡ Some h.decoding_bytes
     → HasLines o h.info h.precision lines → density ≡ density_of old.source.bytes
-    → picture ≡ described_picture o.layout h.info h.precision lines (bytes_beside extent h.decoding_bytes) h.orientation
+    → picture ≡ described_picture o.layout h.info h.precision lines (bytes_beside h.decoding_bytes) h.orientation
     h.sampling h.transform density 0
-    → Describes extent o old.source.bytes picture
-describes extent o old new h lines density picture r known info precision oriented sampling transform bytes l d w =
+    → Describes o old.source.bytes picture
+describes o old new h lines density picture r known info precision oriented sampling transform bytes l d w =
     let facts = r.reads known in
     let header = facts.1.0 in
     let same : new.found.said ≡ at_size (size_wanted o) header.said = ap (λ (f : Found). f.said) facts.1.2 in
@@ -131,19 +130,19 @@ describes extent o old new h lines density picture r known info precision orient
       transform_is = (λ i. option_map (λ f. number_of_transform (frame_transform (sym metadata i) f)) (sym same i).frame)
           ∙ transform;
       picture_is = w ∙ (λ i. described_picture o.layout h.info h.precision (l.lines_are i)
-          (bytes_beside extent h.decoding_bytes)
+          (bytes_beside h.decoding_bytes)
           ((oriented ∙ ap (λ (s : Said). orientation_by s.metadata.exif) same) i) h.sampling h.transform (d i) 0);
     }
 
 -- and compared with the limits
-pub exceeds-described : (extent : Extent) (o : Options) (h : Header) (lines : Lines) (density : Density)
+pub exceeds-described : (o : Options) (h : Header) (lines : Lines) (density : Density)
     (picture : Picture) (over : Bool) → HasLines o h.info h.precision lines
-    → picture ≡ described_picture o.layout h.info h.precision lines (bytes_beside extent h.decoding_bytes) h.orientation
+    → picture ≡ described_picture o.layout h.info h.precision lines (bytes_beside h.decoding_bytes) h.orientation
     h.sampling h.transform density 0
     → over ≡ (is_over o.max_samples (h.info.width * h.info.height * samples_a_pixel h.info.pixel_format)
     || is_over o.max_bytes picture.decoding_bytes)
     → exceeds_limits o picture ≡ over
-exceeds-described extent o h lines density picture over l w e =
+exceeds-described o h lines density picture over l w e =
     let width : picture.width ≡ h.info.width =
     ap (λ (p : Picture). p.width) w ∙ ap (λ (l : Lines). l.width) l.lines_are in
     let height : picture.height ≡ h.info.height =

@@ -12,7 +12,6 @@ use Rattle.zaxbriar_calls.specs.ReadsInfo.{ReadsInfo}
 use Rattle.zaxbriar_calls.specs.Outcomes.{DescribesStream}
 use Rattle.zaxbriar_calls.specs.declared.answers.Refusal.{Refusal}
 use Rattle.zaxbriar_calls.specs.declared.answers.Refusal.TheVariants.{TooLarge}
-use Rattle.zaxbriar_calls.specs.declared.extents.Extent.TheVariants.{Whole}
 use Rattle.zaxbriar_calls.specs.declared.features.Feature.{Feature}
 use Rattle.zaxbriar_calls.specs.declared.options.Options.{Options}
 use Rattle.zaxbriar_calls.specs.declared.picture.Picture.{Picture}
@@ -44,11 +43,11 @@ informs o bytes picture outcome feature text code d c f t ended said =
     let names : IsNamed code (header_at bytes) = named outcome (header_at bytes) code c d.named in
     let few : status_of outcome ≤ 8 = few-codes outcome d.whole in
     record {
-      describes = λ z. described outcome Whole o bytes picture feature text code c f t d.within z;
+      describes = λ z. described outcome o bytes picture feature text code c f t d.within z;
       counts = λ z. if-described _ outcome code c d.counts d.header z;
       unread = λ n. ap (λ (p : Picture). p.stream_bytes) (d.unasked n);
       most = d.most refl;
-      large = λ z. large-told outcome Whole o bytes picture code c d.large z;
+      large = λ z. large-told outcome o bytes picture code c d.large z;
       limited = λ size l. of-call-number outcome code c (d.limited size l);
       number = (omega (arith, c, few), λ z. (all-codes outcome).1 (sym c ∙ z));
       roomless = λ z. not-room outcome code c d.roomless z;

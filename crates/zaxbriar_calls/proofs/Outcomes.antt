@@ -24,14 +24,13 @@ use Rattle.zaxbriar_calls.specs.declared.answers.Refusal.{Refusal}
 use Rattle.zaxbriar_calls.specs.declared.answers.Refusal.TheVariants as refusals
 use Rattle.zaxbriar_calls.specs.declared.density.Density.{Density}
 use Rattle.zaxbriar_calls.specs.declared.extents.Extent.{Extent}
-use Rattle.zaxbriar_calls.specs.declared.extents.Extent.TheVariants.{Whole}
 use Rattle.zaxbriar_calls.specs.declared.header.Header.{Header}
 use Rattle.zaxbriar_calls.specs.declared.lines.Lines.{Lines}
 use Rattle.zaxbriar_calls.specs.declared.options.Options.{Options}
 use Rattle.zaxbriar_calls.specs.declared.picture.Picture.{Picture}
 
 -- What is known of a header that was described, or refused.
-pub record HeaderDescribed (extent : Extent) (o : Options) (bytes : List ℕ) (density : Density) (first second : Decoding)
+pub record HeaderDescribed (o : Options) (bytes : List ℕ) (density : Density) (first second : Decoding)
     (old new : Picture) (r : Result (Header × Lines) Refusal) : Type 0 where
   pub source_known : first.source.known ≡ true
   pub source_bytes : first.source.bytes ≡ bytes
@@ -41,11 +40,11 @@ pub record HeaderDescribed (extent : Extent) (o : Options) (bytes : List ℕ) (d
   pub precision : IfOk r (λ a. option_map (λ f. f.precision) second.found.said.frame ≡ Some a.0.precision)
   pub lines : IfOk r (λ a. HasLines o a.0.info a.0.precision a.1)
   pub told : IfOk r (λ a. new ≡ described_picture o.layout a.0.info a.0.precision a.1
-      (bytes_beside extent a.0.decoding_bytes) a.0.orientation a.0.sampling a.0.transform density 0)
-  pub within : OnOk r (IsWithin extent o bytes new)
-  pub large : IfErr r (λ x. x ≡ refusals.TooLarge → IsTooLarge extent o bytes new)
+      (bytes_beside a.0.decoding_bytes) a.0.orientation a.0.sampling a.0.transform density 0)
+  pub within : OnOk r (IsWithin o bytes new)
+  pub large : IfErr r (λ x. x ≡ refusals.TooLarge → IsTooLarge o bytes new)
   pub stands : IfErr r (λ x. x ≡ refusals.TooLarge → StandsAfter (header_at bytes) second.source)
-  pub limited : (size : Picture) → IsTooLarge extent o bytes size → IsErrAnd r IsOfCall
+  pub limited : (size : Picture) → IsTooLarge o bytes size → IsErrAnd r IsOfCall
   pub named : IfErr r (IsFault (header_at bytes))
   pub misfit : IfErr r (λ x. IsArgument x → IsMisfit o bytes)
   pub other : IfErr r (λ x. x ≡ refusals.NoRoom → ⊥)
@@ -89,16 +88,16 @@ always (Ok x) P p = p
 always (Err e) P p = tt
 
 -- one counts no bytes
-uncounted-same : (extent : Extent) (o : Options) (bytes : List ℕ) (picture : Picture) → Describes extent o bytes picture
+uncounted-same : (o : Options) (bytes : List ℕ) (picture : Picture) → Describes o bytes picture
     → uncounted picture ≡ picture
-uncounted-same extent o bytes picture d = ap (λ (p : Picture). uncounted p) d.picture_is ∙ sym d.picture_is
+uncounted-same o bytes picture d = ap (λ (p : Picture). uncounted p) d.picture_is ∙ sym d.picture_is
 
-counted-within : (extent : Extent) (o : Options) (bytes : List ℕ) (picture : Picture) (over : Bool)
-    → Describes extent o bytes picture × (exceeds_limits o picture ≡ over)
-    → Describes extent o bytes (uncounted picture) × (exceeds_limits o (uncounted picture) ≡ over)
-counted-within extent o bytes picture over w =
-    subst (λ (p : Picture). Describes extent o bytes p × (exceeds_limits o p ≡ over))
-    (sym (uncounted-same extent o bytes picture w.0)) w
+counted-within : (o : Options) (bytes : List ℕ) (picture : Picture) (over : Bool)
+    → Describes o bytes picture × (exceeds_limits o picture ≡ over)
+    → Describes o bytes (uncounted picture) × (exceeds_limits o (uncounted picture) ≡ over)
+counted-within o bytes picture over w =
+    subst (λ (p : Picture). Describes o bytes p × (exceeds_limits o p ≡ over))
+    (sym (uncounted-same o bytes picture w.0)) w
 
 -- the decoder of one stands after its header
 header-stands : (o : Options) (bytes : List ℕ) (first second : Decoding) → ReadsHeader o first second
@@ -110,11 +109,11 @@ header-stands o bytes first second read known same =
 
 pub stream-described : (o : Options) (bytes : List ℕ) (density : Density) (first second : Decoding) (old picture : Picture)
     (count : ℕ) (r : Result (Header × Lines) Refusal)
-    → are_known o ≡ true → HeaderDescribed Whole o bytes density first second old picture r
+    → are_known o ≡ true → HeaderDescribed o bytes density first second old picture r
     → (old.whole_rows ≡ 0 → picture.whole_rows ≡ 0) → Counted bytes second.source count
     → DescribesStream o bytes old (counting picture count) r
 stream-described o bytes density first second old picture count (Ok a) known d rowless c = record {
-  within = counted-within Whole o bytes picture false d.within;
+  within = counted-within o bytes picture false d.within;
   large = tt;
   counts = header-counted bytes second.source count
       (header-stands o bytes first second d.reads d.source_known d.source_bytes) c.counts;
@@ -132,7 +131,7 @@ stream-described o bytes density first second old picture count (Ok a) known d r
 }
 stream-described o bytes density first second old picture count (Err r) known d rowless c = record {
   within = tt;
-  large = λ e. counted-within Whole o bytes picture true (d.large e);
+  large = λ e. counted-within o bytes picture true (d.large e);
   counts = tt;
   header = λ e. header-counted bytes second.source count (d.stands e) c.counts;
   most = λ z. c.most;
@@ -152,7 +151,7 @@ stream-described o bytes density first second old picture count (Err r) known d 
 -- the header was refused
 refused-decoded : (extent : Extent) (o : Options) (bytes pixels : List ℕ) (density : Density) (first second : Decoding)
     (old picture : Picture) (count : ℕ) (r : Refusal)
-    → are_known o ≡ true → HeaderDescribed extent o bytes density first second old picture (Err r)
+    → are_known o ≡ true → HeaderDescribed o bytes density first second old picture (Err r)
     → Counted bytes second.source count
     → DecodesInto extent o bytes pixels pixels old (counting picture count) (Err r) second.exceeded
 refused-decoded extent o bytes pixels density first second old picture count r known d c = record {
@@ -168,8 +167,8 @@ refused-decoded extent o bytes pixels density first second old picture count r k
   within = tt;
   described = λ p. absurd (d.whole p);
   room = λ e. absurd (d.other e);
-  large = λ e. counted-within extent o bytes picture true (d.large e);
-  short = λ size w s. only-room extent o bytes picture size r w d.named d.large d.other d.whole;
+  large = λ e. counted-within o bytes picture true (d.large e);
+  short = λ size w s. only-room o bytes picture size r w d.named d.large d.other d.whole;
   limited = d.limited;
   known = λ n. is-known (are_known o) known n;
   wrong = λ a. inr (d.misfit a);
@@ -181,7 +180,7 @@ refused-decoded extent o bytes pixels density first second old picture count r k
 -- there was no room
 roomless-decoded : (extent : Extent) (o : Options) (bytes pixels : List ℕ) (density : Density) (first second : Decoding)
     (old picture : Picture) (count : ℕ) (a : Header × Lines) (exceeded : Bool)
-    → are_known o ≡ true → HeaderDescribed extent o bytes density first second old picture (Ok a)
+    → are_known o ≡ true → HeaderDescribed o bytes density first second old picture (Ok a)
     → length pixels < picture.size → Counted bytes second.source count
     → DecodesInto extent o bytes pixels pixels old (counting picture count) (Err refusals.NoRoom) exceeded
 roomless-decoded extent o bytes pixels density first second old picture count a exceeded known d short c = record {
@@ -197,7 +196,7 @@ roomless-decoded extent o bytes pixels density first second old picture count a 
   kept = λ n. refl;
   within = tt;
   described = λ p. absurd p;
-  room = λ e. (counted-within extent o bytes picture false d.within, short);
+  room = λ e. (counted-within o bytes picture false d.within, short);
   large = λ e. absurd (room-large e);
   short = λ size w s. tt;
   limited = λ size l. absurd (d.limited size l);
@@ -210,7 +209,7 @@ roomless-decoded extent o bytes pixels density first second old picture count a 
 -- the lines were decoded
 lines-decoded : (extent : Extent) (o : Options) (bytes before after : List ℕ) (density : Density)
     (first second third : Decoding) (old picture : Picture) (count : ℕ) (a : Header × Lines) (outcome : Result ℕ Refusal)
-    → are_known o ≡ true → HeaderDescribed extent o bytes density first second old picture (Ok a)
+    → are_known o ≡ true → HeaderDescribed o bytes density first second old picture (Ok a)
     → (size : picture.size ≤ length before) → DecodesLines extent a.1 outcome second third before after
     → Counted bytes third.source count
     → DecodesInto extent o bytes before after old (counting picture count) outcome third.exceeded
@@ -218,18 +217,18 @@ lines-decoded extent o bytes before after density first second third old picture
     let facts = d.reads.reads d.source_known in
     let header_is = ap header_at (sym d.source_bytes) ∙ facts.1.1 in
     let told = ap (λ (p : Picture). counting p count) d.told in
-    let within = counted-within extent o bytes picture false d.within in
+    let within = counted-within o bytes picture false d.within in
     record {
       given = reached-ok extent a.1 outcome second third before after _ (l.reaches facts.0)
           (λ b. none-named b.brings.named (λ n. Gives extent o bytes before after n (counting picture count))
           b.brings.fault_is
           (brought-given extent o bytes facts.1.0 a.0.info a.0.precision a.1 None second third before after
-          (counting picture count) (bytes_beside extent a.0.decoding_bytes) a.0.orientation count a.0.sampling
+          (counting picture count) (bytes_beside a.0.decoding_bytes) a.0.orientation count a.0.sampling
           a.0.transform density header_is d.reads.settings facts.1.2 d.info d.precision d.lines told b));
       part = reached-err extent a.1 outcome second third before after o bytes (counting picture count)
           (l.reaches facts.0)
           (λ e b. brought-given extent o bytes facts.1.0 a.0.info a.0.precision a.1 (Some e) second third before after
-          (counting picture count) (bytes_beside extent a.0.decoding_bytes) a.0.orientation count a.0.sampling
+          (counting picture count) (bytes_beside a.0.decoding_bytes) a.0.orientation count a.0.sampling
           a.0.transform density header_is d.reads.settings facts.1.2 d.info d.precision d.lines told b);
       rows = rw (rows-given extent o bytes second.source.bytes facts.1.0 header_is)
           (rw (d.reads.settings, facts.1.2) at (l.rows facts.0));
@@ -248,7 +247,7 @@ lines-decoded extent o bytes before after density first second third old picture
       room = if-err outcome _ _ l.own (λ r own is. absurd (reading-room r own is));
       large = if-err outcome _ _ l.own (λ r own is. absurd (reading-large r own is));
       short = λ size w s.
-          let same = described-same extent o bytes size picture w.0 d.within.0 in
+          let same = described-same o bytes size picture w.0 d.within.0 in
           let long : size.size ≡ picture.size = ap (λ (p : Picture). p.size) same in
           absurd (omega (arith, long, s, fits));
       limited = λ size e. absurd (d.limited size e);
@@ -260,7 +259,7 @@ lines-decoded extent o bytes before after density first second third old picture
 
 described-decoded : (extent : Extent) (o : Options) (bytes before after : List ℕ) (density : Density)
     (first second third : Decoding) (old picture : Picture) (count : ℕ) (a : Header × Lines) (outcome : Result ℕ Refusal)
-    → are_known o ≡ true → HeaderDescribed extent o bytes density first second old picture (Ok a)
+    → are_known o ≡ true → HeaderDescribed o bytes density first second old picture (Ok a)
     → LacksRoom a.1 outcome second third before after ⊎ DecodesLines extent a.1 outcome second third before after
     → Counted bytes third.source count
     → DecodesInto extent o bytes before after old (counting picture count) outcome third.exceeded
@@ -282,7 +281,7 @@ described-decoded extent o bytes before after density first second third old pic
 pub stream-decoded : (extent : Extent) (o : Options) (bytes before after : List ℕ) (density : Density)
     (first second third : Decoding) (old picture : Picture) (count : ℕ) (r : Result (Header × Lines) Refusal)
     (outcome : Result ℕ Refusal)
-    → are_known o ≡ true → HeaderDescribed extent o bytes density first second old picture r
+    → are_known o ≡ true → HeaderDescribed o bytes density first second old picture r
     → Continues extent r outcome second third before after → Counted bytes third.source count
     → DecodesInto extent o bytes before after old (counting picture count) outcome third.exceeded
 stream-decoded extent o bytes before after density first second third old picture count (Ok a) outcome known d l c =

@@ -11,7 +11,6 @@ use Rattle.zaxbriar_calls.proofs.Fails.{code-fails, has-no-room, is-too-large}
 use Rattle.zaxbriar_calls.specs.declared.answers.Refusal.TheVariants.{TooLarge}
 use Rattle.zaxbriar_calls.specs.declared.answers.Refusal.{Refusal}
 use Rattle.zaxbriar_calls.specs.declared.density.Density.{Density}
-use Rattle.zaxbriar_calls.specs.declared.extents.Extent.{Extent}
 use Rattle.zaxbriar_calls.specs.declared.features.Feature.{Feature}
 use Rattle.zaxbriar_calls.specs.declared.lines.Lines.{Lines}
 use Rattle.zaxbriar_calls.specs.declared.options.Options.{Options}
@@ -53,34 +52,34 @@ ending picture feature text = record picture {
 -- ---- what a call says of a picture
 
 -- what is described has no feature and no text
-same : (extent : Extent) (o : Options) (bytes : List ℕ) (picture : Picture) (feature : Feature) (text : List ℕ)
-    → feature ≡ numbered 0 0 → text ≡ replicate 112 0 → Describes extent o bytes (uncounted picture)
+same : (o : Options) (bytes : List ℕ) (picture : Picture) (feature : Feature) (text : List ℕ)
+    → feature ≡ numbered 0 0 → text ≡ replicate 112 0 → Describes o bytes (uncounted picture)
     → uncounted (ending picture feature text) ≡ uncounted picture
-same extent o bytes picture feature text none t d =
+same o bytes picture feature text none t d =
     (λ i. ending (d.picture_is i) (none i) (t i)) ∙ sym d.picture_is
 
-pub described : {X : Type 0} (outcome : Result X Refusal) (extent : Extent) (o : Options) (bytes : List ℕ)
+pub described : {X : Type 0} (outcome : Result X Refusal) (o : Options) (bytes : List ℕ)
     (picture : Picture) (feature : Feature) (text : List ℕ) (result : ℕ)
     → result ≡ status_of outcome → feature ≡ outcome_feature outcome → IfOk outcome (λ _. text ≡ replicate 112 0)
-    → OnOk outcome (IsWithin extent o bytes (uncounted picture)) → result ≡ 0
-    → IsWithin extent o bytes (uncounted (ending picture feature text))
-described (Ok x) extent o bytes picture feature text result code lacks none d z =
-    subst (λ (p : Picture). IsWithin extent o bytes p) (sym (same extent o bytes picture feature text lacks none d.0)) d
-described (Err r) extent o bytes picture feature text result code lacks none d z = absurd (code-fails r (sym code ∙ z))
+    → OnOk outcome (IsWithin o bytes (uncounted picture)) → result ≡ 0
+    → IsWithin o bytes (uncounted (ending picture feature text))
+described (Ok x) o bytes picture feature text result code lacks none d z =
+    subst (λ (p : Picture). IsWithin o bytes p) (sym (same o bytes picture feature text lacks none d.0)) d
+described (Err r) o bytes picture feature text result code lacks none d z = absurd (code-fails r (sym code ∙ z))
 
 -- a picture above a limit has no text either
-as-called : (extent : Extent) (o : Options) (bytes : List ℕ) (picture : Picture) → Describes extent o bytes (uncounted picture)
+as-called : (o : Options) (bytes : List ℕ) (picture : Picture) → Describes o bytes (uncounted picture)
     → as_described picture ≡ uncounted picture
-as-called extent o bytes picture d = ap (λ (p : Picture). as_described p) d.picture_is ∙ sym d.picture_is
+as-called o bytes picture d = ap (λ (p : Picture). as_described p) d.picture_is ∙ sym d.picture_is
 
-pub large-told : {X : Type 0} (outcome : Result X Refusal) (extent : Extent) (o : Options) (bytes : List ℕ)
+pub large-told : {X : Type 0} (outcome : Result X Refusal) (o : Options) (bytes : List ℕ)
     (picture : Picture) (result : ℕ) → result ≡ status_of outcome
-    → IfErr outcome (λ r. r ≡ TooLarge → IsTooLarge extent o bytes (uncounted picture)) → result ≡ 8
-    → IsTooLarge extent o bytes (as_described picture)
-large-told (Ok x) extent o bytes picture result code large z = absurd (omega (arith, code, z))
-large-told (Err r) extent o bytes picture result code large z =
+    → IfErr outcome (λ r. r ≡ TooLarge → IsTooLarge o bytes (uncounted picture)) → result ≡ 8
+    → IsTooLarge o bytes (as_described picture)
+large-told (Ok x) o bytes picture result code large z = absurd (omega (arith, code, z))
+large-told (Err r) o bytes picture result code large z =
     let told = large (is-too-large r (sym code ∙ z)) in
-    subst (λ (p : Picture). IsTooLarge extent o bytes p) (sym (as-called extent o bytes picture told.0)) told
+    subst (λ (p : Picture). IsTooLarge o bytes p) (sym (as-called o bytes picture told.0)) told
 
 -- ---- what a call says by its number
 

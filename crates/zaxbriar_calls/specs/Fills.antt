@@ -88,23 +88,22 @@ pub record Fills (extent : Extent) (o : Options) (bytes old new : List ℕ) (pic
   pub unnamed : (code ≡ 2 → ⊥) → (code ≡ 9 → ⊥) → NamesFeature picture (numbered 0 0)
   -- After any other result than OK and PARTIAL, the caller's memory is as it was.
   pub kept : (code ≡ 0 → ⊥) → (code ≡ 9 → ⊥) → new ≡ old
-  -- After OK, PARTIAL and NO_ROOM `picture` is, but for `whole_rows`, what `read_info` describes,
-  -- except that `decoding_bytes` counts all blocks of a part, since those that were read are kept
-  -- there. So counted it is within the limits; and after NO_ROOM the caller's memory is too short
-  -- for it.
+  -- After OK, PARTIAL and NO_ROOM `picture` is, but for `whole_rows`, what `read_info` describes:
+  -- `decoding_bytes` is the same of a part as of the whole. It is within the limits; and after
+  -- NO_ROOM the caller's memory is too short for it.
   pub describes : (code ≡ 0) ⊎ (code ≡ 9)
-      → IsWithin extent o bytes (as_described (without_fault (without_rows picture)))
-  pub room : code ≡ 5 → IsWithin extent o bytes (as_described picture)
+      → IsWithin o bytes (as_described (without_fault (without_rows picture)))
+  pub room : code ≡ 5 → IsWithin o bytes (as_described picture)
       × (length old < picture.size)
   -- Where the caller's memory is too short for a picture within the limits, this depends on the
   -- header alone, too: there is no other result, unless memory or the arguments are to blame.
-  pub short : (size : Picture) → IsWithin extent o bytes size → length old < size.size
+  pub short : (size : Picture) → IsWithin o bytes size → length old < size.size
       → IsOfRoomNumber code
   -- TOO_LARGE: `picture` describes it, and it is above a limit. This depends on the header alone:
   -- whatever follows the header of such a picture, there is no other result, unless memory or the
   -- arguments are to blame.
-  pub large : code ≡ 8 → IsTooLarge extent o bytes (as_described picture)
-  pub limited : (size : Picture) → IsTooLarge extent o bytes size → IsOfCallNumber code
+  pub large : code ≡ 8 → IsTooLarge o bytes (as_described picture)
+  pub limited : (size : Picture) → IsTooLarge o bytes size → IsOfCallNumber code
   -- Options that don't exist are BAD_ARGUMENT, whatever the bytes are. Nothing else is but lines
   -- that don't fit the picture of the header.
   pub known : are_known o ≡ false → code ≡ 6

@@ -5,8 +5,6 @@ use Rattle.std.specs.List.{list_all}
 use Rattle.jpeg_decoder.specs.declared.sizes.DecodingBytes.{DecodingBytes}
 use Rattle.jpeg_segments.specs.Frame.{Frame}
 use Rattle.jpeg_meaning.specs.Work.{picture_blocks}
-use Rattle.zaxbriar_calls.specs.declared.extents.Extent.{Extent}
-use Rattle.zaxbriar_calls.specs.declared.extents.Extent.TheVariants.{Whole, Partial}
 use Rattle.zaxbriar_calls.specs.declared.options.Options.{Options}
 use Rattle.zaxbriar_calls.specs.declared.picture.Picture.{Picture}
 
@@ -22,11 +20,10 @@ are_known o = (not (o.transform == 1) || o.layout == 0) && (nat_le o.transform 5
     && (nat_le o.bottom_up 1 && (list_all (λ word. word == 0) o.pointer_words
     && list_all (λ word. word == 0) o.reserved_words))))
 
--- The most memory for samples that decoding takes at a time beside the caller's: blocks and planes,
--- from which the lines are written. Of a picture in part all blocks are kept.
-abbrev pub bytes_beside : Extent → DecodingBytes → ℕ
-bytes_beside Whole d = d.coefficients + d.planes
-bytes_beside Partial d = d.all_coefficients + d.planes
+-- The most memory for samples that decoding takes at a time beside the caller's, whether the whole
+-- of a picture is asked for or a part: blocks and planes, from which the lines are written.
+abbrev pub bytes_beside : DecodingBytes → ℕ
+bytes_beside d = d.coefficients + d.planes
 
 -- whether a count is above a limit, where 0 is none
 abbrev pub is_over : ℕ → ℕ → Bool

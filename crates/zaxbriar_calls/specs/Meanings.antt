@@ -25,7 +25,6 @@ use Rattle.zaxbriar_calls.specs.Limits.{are_known, blocks_of_passes, bytes_besid
 use Rattle.zaxbriar_calls.specs.Lines.{Arranged, FitLines, lines_by, described_picture}
 use Rattle.zaxbriar_calls.specs.Sampling.{sampling_of}
 use Rattle.zaxbriar_calls.specs.declared.layouts.Conversion.{Conversion}
-use Rattle.zaxbriar_calls.specs.declared.extents.Extent.{Extent}
 use Rattle.zaxbriar_calls.specs.declared.options.Options.{Options}
 use Rattle.zaxbriar_calls.specs.declared.picture.Picture.{Picture}
 
@@ -123,10 +122,9 @@ abbrev pub orientation_by : Option (List ℕ) → ℕ
 orientation_by None = 1
 orientation_by (Some exif) = or_upright (orientation_in exif)
 
--- A caller is told of the picture of a stream, by its header. Whether it is asked for in part
--- changes only the memory that is told.
-pub record Describes (extent : Extent) (o : Options) (bytes : List ℕ) (picture : Picture)
-    : Type 0 where
+-- A caller is told of the picture of a stream, by its header: the same whether the whole of it is
+-- asked for or a part.
+pub record Describes (o : Options) (bytes : List ℕ) (picture : Picture) : Type 0 where
   pub header : Found
   pub rest : List ℕ
   pub info : ImageInfo
@@ -149,7 +147,7 @@ pub record Describes (extent : Extent) (o : Options) (bytes : List ℕ) (picture
       ≡ Some transform
   pub picture_is : picture ≡ described_picture o.layout info precision
       (lines_by o info precision conversion)
-      (bytes_beside extent decoding)
+      (bytes_beside decoding)
       (orientation_by (at_size (size_wanted o) header.said).metadata.exif) sampling
       transform (density_of bytes) 0
 
@@ -215,14 +213,12 @@ as_described picture = record picture {
 }
 
 -- A picture is that of a header, and within the limits.
-abbrev pub IsWithin : Extent → Options → List ℕ → Picture → Type 0
-IsWithin extent o bytes picture =
-    Describes extent o bytes picture × (exceeds_limits o picture ≡ false)
+abbrev pub IsWithin : Options → List ℕ → Picture → Type 0
+IsWithin o bytes picture = Describes o bytes picture × (exceeds_limits o picture ≡ false)
 
 -- A picture is that of a header, and above a limit.
-abbrev pub IsTooLarge : Extent → Options → List ℕ → Picture → Type 0
-IsTooLarge extent o bytes picture =
-    Describes extent o bytes picture × (exceeds_limits o picture ≡ true)
+abbrev pub IsTooLarge : Options → List ℕ → Picture → Type 0
+IsTooLarge o bytes picture = Describes o bytes picture × (exceeds_limits o picture ≡ true)
 
 -- The samples of a picture are in the caller's memory.
 pub record ShowsSamples (o : Options) (picture : Result (List ℕ) Fault) (old new : List ℕ)

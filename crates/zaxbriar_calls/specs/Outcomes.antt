@@ -16,7 +16,6 @@ use Rattle.zaxbriar_calls.specs.Passes.{exceeds, exceeds_rest}
 use Rattle.zaxbriar_calls.specs.declared.answers.Refusal.{Refusal}
 use Rattle.zaxbriar_calls.specs.declared.answers.Refusal.TheVariants.{NoRoom, TooLarge}
 use Rattle.zaxbriar_calls.specs.declared.extents.Extent.{Extent}
-use Rattle.zaxbriar_calls.specs.declared.extents.Extent.TheVariants.{Whole}
 use Rattle.zaxbriar_calls.specs.declared.header.Header.{Header}
 use Rattle.zaxbriar_calls.specs.declared.lines.Lines.{Lines}
 use Rattle.zaxbriar_calls.specs.declared.options.Options.{Options}
@@ -25,14 +24,14 @@ use Rattle.zaxbriar_calls.specs.declared.picture.Picture.{Picture}
 -- The picture of a stream was described by its header, and the bytes that were read are counted.
 pub record DescribesStream {X : Type 0} (o : Options) (bytes : List ℕ) (old new : Picture)
     (outcome : Result X Refusal) : Type 0 where
-  pub within : OnOk outcome (IsWithin Whole o bytes (uncounted new))
-  pub large : IfErr outcome (λ r. r ≡ TooLarge → IsTooLarge Whole o bytes (uncounted new))
+  pub within : OnOk outcome (IsWithin o bytes (uncounted new))
+  pub large : IfErr outcome (λ r. r ≡ TooLarge → IsTooLarge o bytes (uncounted new))
   pub counts : OnOk outcome (CountsRead (header_at bytes) bytes new.stream_bytes)
   pub header : IfErr outcome
       (λ r. r ≡ TooLarge → CountsRead (header_at bytes) bytes new.stream_bytes)
   pub most : old.stream_bytes ≡ 0 → new.stream_bytes ≤ length bytes
   pub rowless : old.whole_rows ≡ 0 → new.whole_rows ≡ 0
-  pub limited : (size : Picture) → IsTooLarge Whole o bytes size → IsErrAnd outcome IsOfCall
+  pub limited : (size : Picture) → IsTooLarge o bytes size → IsErrAnd outcome IsOfCall
   pub roomless : IfErr outcome (λ r. r ≡ NoRoom → ⊥)
   pub named : IfErr outcome (IsFault (header_at bytes))
   pub whole : IfErr outcome (λ r. IsPart r → ⊥)
@@ -54,14 +53,14 @@ pub record DecodesInto (extent : Extent) (o : Options) (bytes before after : Lis
   pub named : IfErr outcome (IsFault (given_by extent o bytes))
   pub passes : KnowsExceeded (exceeds extent o bytes) outcome exceeded
   pub kept : IfErr outcome (λ r. (IsPart r → ⊥) → after ≡ before)
-  pub within : OnOk outcome (IsWithin extent o bytes (uncounted new))
-  pub described : IfErr outcome (λ r. IsPart r → IsWithin extent o bytes (uncounted new))
+  pub within : OnOk outcome (IsWithin o bytes (uncounted new))
+  pub described : IfErr outcome (λ r. IsPart r → IsWithin o bytes (uncounted new))
   pub room : IfErr outcome (λ r. r ≡ NoRoom
-      → IsWithin extent o bytes (uncounted new) × (length before < new.size))
-  pub large : IfErr outcome (λ r. r ≡ TooLarge → IsTooLarge extent o bytes (uncounted new))
-  pub short : (size : Picture) → IsWithin extent o bytes size → length before < size.size
+      → IsWithin o bytes (uncounted new) × (length before < new.size))
+  pub large : IfErr outcome (λ r. r ≡ TooLarge → IsTooLarge o bytes (uncounted new))
+  pub short : (size : Picture) → IsWithin o bytes size → length before < size.size
       → IsErrAnd outcome IsOfRoom
-  pub limited : (size : Picture) → IsTooLarge extent o bytes size → IsErrAnd outcome IsOfCall
+  pub limited : (size : Picture) → IsTooLarge o bytes size → IsErrAnd outcome IsOfCall
   pub known : are_known o ≡ false → IsErrAnd outcome IsArgument
   pub wrong : IfErr outcome (λ r. IsArgument r → AreWrong o bytes)
   pub unasked : are_known o ≡ false → new ≡ old

@@ -7,13 +7,12 @@ use Rattle.zaxbriar_calls.specs.Features.{LacksFeature, NamesFeature, numbered}
 use Rattle.zaxbriar_calls.specs.Limits.{are_known}
 use Rattle.zaxbriar_calls.specs.Meanings.{AreWrong, CountsRead, IsTooLarge, IsWithin}
 use Rattle.zaxbriar_calls.specs.Meanings.{as_described, no_picture, uncounted}
-use Rattle.zaxbriar_calls.specs.declared.extents.Extent.TheVariants.{Whole}
 use Rattle.zaxbriar_calls.specs.declared.options.Options.{Options}
 use Rattle.zaxbriar_calls.specs.declared.picture.Picture.{Picture}
 
 pub record ReadsInfo (o : Options) (bytes : List ℕ) (picture : Picture) (code : ℕ) : Type 0 where
   -- After OK, `picture` describes the picture of the header, which is within the limits.
-  pub describes : code ≡ 0 → IsWithin Whole o bytes (uncounted picture)
+  pub describes : code ≡ 0 → IsWithin o bytes (uncounted picture)
   -- After OK and TOO_LARGE, `stream_bytes` is how many bytes the header takes. It is 0 where
   -- options don't exist, and never more than there are.
   pub counts : (code ≡ 0) ⊎ (code ≡ 8) → CountsRead (header_at bytes) bytes picture.stream_bytes
@@ -21,8 +20,8 @@ pub record ReadsInfo (o : Options) (bytes : List ℕ) (picture : Picture) (code 
   pub most : picture.stream_bytes ≤ length bytes
   -- TOO_LARGE: `picture` describes it, and it is above a limit. No header of such a picture has
   -- another result, unless memory or the arguments are to blame.
-  pub large : code ≡ 8 → IsTooLarge Whole o bytes (as_described picture)
-  pub limited : (size : Picture) → IsTooLarge Whole o bytes size → IsOfCallNumber code
+  pub large : code ≡ 8 → IsTooLarge o bytes (as_described picture)
+  pub limited : (size : Picture) → IsTooLarge o bytes size → IsOfCallNumber code
   -- There is no other result than OK, MALFORMED, UNSUPPORTED, TRUNCATED, NO_MEMORY, BAD_ARGUMENT
   -- and TOO_LARGE.
   pub number : (code ≤ 8) × (code ≡ 7 → ⊥)

@@ -269,7 +269,7 @@ pub fn decode_into(
         Err(error) => return (Err(Refusal::from(error)), false),
     };
     let density = density_of(jpeg);
-    let described = describe(&mut decoder, options, density, picture, extent);
+    let described = describe(&mut decoder, options, density, picture);
     let decoded = decode_described(alloc, &mut decoder, described, pixels, extent);
     picture.stream_bytes = bytes_read(jpeg, &decoder);
     (decoded, decoder.has_exceeded_max_blocks())

@@ -19,7 +19,6 @@ use crate::answers::Refusal;
 use crate::counts::bytes_read;
 use crate::decoders::decoder_of;
 use crate::density::{Density, density_of};
-use crate::extents::Extent;
 use crate::header::{Header, read_header};
 use crate::limits::exceeds_limits;
 use crate::lines::{Lines, lines_of};
@@ -29,14 +28,13 @@ use jpeg_decoder::Decoder;
 use std::alloc::Global;
 use std::io::Read;
 
-/// Reads a header, and describes the picture that the options ask for, which may be one in part,
-/// with the density of the stream. A picture above their limits is described and refused.
+/// Reads a header, and describes the picture that the options ask for, with the density of the
+/// stream. A picture above their limits is described and refused.
 pub fn describe<R: Read + Drop>(
     decoder: &mut Decoder<R>,
     options: &Options,
     density: Density,
     picture: &mut Picture,
-    extent: Extent,
 ) -> std::result::Result<(Header, Lines), Refusal>
     requires fresh { decoder.old.stage ≡ Fresh }
     requires plain { decoder.old.settings ≡ default_settings }
@@ -53,16 +51,16 @@ pub fn describe<R: Read + Drop>(
         ≡ Some a.0.decoding_bytes) }
     ensures lines { IfOk result (λ a. HasLines options.now a.0.info a.0.precision a.1) }
     ensures told { IfOk result (λ a. picture.new ≡ described_picture options.now.layout a.0.info
-        a.0.precision a.1 (bytes_beside extent a.0.decoding_bytes) a.0.orientation
+        a.0.precision a.1 (bytes_beside a.0.decoding_bytes) a.0.orientation
         a.0.sampling a.0.transform density 0) }
     ensures within { decoder.old.source.known ≡ true
-        → OnOk result (IsWithin extent options.now decoder.old.source.bytes picture.new) }
+        → OnOk result (IsWithin options.now decoder.old.source.bytes picture.new) }
     ensures large { decoder.old.source.known ≡ true → IfErr result (λ r. r ≡ TooLarge
-        → IsTooLarge extent options.now decoder.old.source.bytes picture.new) }
+        → IsTooLarge options.now decoder.old.source.bytes picture.new) }
     ensures after { decoder.old.source.known ≡ true → IfErr result (λ r. r ≡ TooLarge
         → StandsAfter (header_at decoder.old.source.bytes) decoder.new.source) }
     ensures limited { decoder.old.source.known ≡ true → (size : Picture)
-        → IsTooLarge extent options.now decoder.old.source.bytes size
+        → IsTooLarge options.now decoder.old.source.bytes size
         → IsErrAnd result IsOfCall }
     ensures named { decoder.old.source.known ≡ true
         → IfErr result (IsFault (header_at decoder.old.source.bytes)) }
@@ -75,7 +73,7 @@ pub fn describe<R: Read + Drop>(
 {
     let header = read_header(decoder, options)?;
     let lines = lines_of(header.info, header.precision, options)?;
-    *picture = picture_of(header, density, lines, options.layout, extent);
+    *picture = picture_of(header, density, lines, options.layout);
     if exceeds_limits(options, header.info, picture.decoding_bytes) {
         return Err(Refusal::TooLarge);
     }
@@ -96,7 +94,7 @@ pub fn describe_stream(
     }
     let mut decoder = decoder_of(alloc, jpeg)?;
     let density = density_of(jpeg);
-    let described = describe(&mut decoder, options, density, picture, Extent::Whole);
+    let described = describe(&mut decoder, options, density, picture);
     picture.stream_bytes = bytes_read(jpeg, &decoder);
     described
 }

@@ -76,8 +76,6 @@ pub fn read_header<R: Read + Drop>(
         ≡ Some h.decoding_bytes) }
     ensures peak { IfOk result (λ h. h.decoding_bytes.coefficients + h.decoding_bytes.planes
         ≤ h.decoding_bytes.peak) }
-    ensures partial_peak { IfOk result (λ h. h.decoding_bytes.all_coefficients
-        + h.decoding_bytes.planes ≤ h.decoding_bytes.partial_peak) }
 {
     apply(decoder, options);
     if let Err(error) = decoder.read_info() {

@@ -3,23 +3,17 @@ ghost use Rattle.std.specs.Prelude.{◌≡◌, ◌+◌, ◌≤◌, ◌*◌, ◌|
 ghost use Rattle.jpeg_decoder.specs.Bytes.{samples_a_pixel};
 ghost use Rattle.zaxbriar_calls.specs.Limits.{bytes_beside, is_over};
 
-use crate::extents::Extent;
 use crate::layouts::samples_a_pixel;
 use crate::options::Options;
 use jpeg_decoder::{DecodingBytes, ImageInfo};
 
-/// Returns the most memory for samples that decoding takes at a time beside the caller's: blocks,
-/// of a picture in part all of them, and planes. The lines of the picture are written from the
-/// planes.
-pub fn bytes_beside(decoding: DecodingBytes, extent: Extent) -> u64
+/// Returns the most memory for samples that decoding takes at a time beside the caller's: blocks
+/// and planes. The lines of the picture are written from the planes.
+pub fn bytes_beside(decoding: DecodingBytes) -> u64
     requires peak { decoding.coefficients + decoding.planes ≤ decoding.peak }
-    requires partial_peak { decoding.all_coefficients + decoding.planes ≤ decoding.partial_peak }
-    ensures { result ≡ bytes_beside extent decoding }
+    ensures { result ≡ bytes_beside decoding }
 {
-    match extent {
-        Extent::Whole => decoding.coefficients + decoding.planes,
-        Extent::Partial => decoding.all_coefficients + decoding.planes,
-    }
+    decoding.coefficients + decoding.planes
 }
 
 /// Returns whether a count is above a limit, where 0 is none.

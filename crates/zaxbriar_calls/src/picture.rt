@@ -5,7 +5,6 @@ ghost use Rattle.zaxbriar_calls.specs.Lines.{described_picture, format_number, p
 
 use crate::answers::TEXT_BYTES;
 use crate::density::Density;
-use crate::extents::Extent;
 use crate::header::Header;
 use crate::layouts::{bytes_a_sample, samples_a_pixel};
 use crate::limits::bytes_beside;
@@ -20,8 +19,7 @@ pub struct Picture {
     pub size: u64,
     /// The bytes of a line without its gap: `width * pixel_bytes`.
     pub row_bytes: u64,
-    /// The most memory for samples that decoding takes at a time beside the caller's. All blocks of
-    /// a picture that is decoded in part are counted.
+    /// The most memory for samples that decoding takes at a time beside the caller's.
     pub decoding_bytes: u64,
     /// After decoding, how many bytes of the stream were read.
     pub stream_bytes: u64,
@@ -122,28 +120,20 @@ fn format_number(format: PixelFormat) -> u8
 }
 
 /// Returns what a caller is told of a picture before it is decoded, as a whole or in part.
-pub fn picture_of(
-    header: Header,
-    density: Density,
-    lines: Lines,
-    layout: u8,
-    extent: Extent,
-) -> Picture
+pub fn picture_of(header: Header, density: Density, lines: Lines, layout: u8) -> Picture
     requires row { lines.row_bytes ≤ lines.stride }
     requires stride { lines.stride ≤ 4294967296 }
     requires peak { header.decoding_bytes.coefficients + header.decoding_bytes.planes
         ≤ header.decoding_bytes.peak }
-    requires partial_peak { header.decoding_bytes.all_coefficients + header.decoding_bytes.planes
-        ≤ header.decoding_bytes.partial_peak }
     ensures { result ≡ described_picture layout header.info header.precision lines
-        (bytes_beside extent header.decoding_bytes) header.orientation header.sampling
+        (bytes_beside header.decoding_bytes) header.orientation header.sampling
         header.transform density 0 }
 {
     let sampling = header.sampling;
     Picture {
         size: size_of_lines(lines),
         row_bytes: lines.row_bytes,
-        decoding_bytes: bytes_beside(header.decoding_bytes, extent),
+        decoding_bytes: bytes_beside(header.decoding_bytes),
         stream_bytes: 0,
         width: u32::from(lines.width),
         height: u32::from(lines.height),

@@ -7,7 +7,6 @@ use std::{fmt, io};
 use zaxbriar_files::avi::{Video, is_avi, skip_rest};
 use zaxbriar_files::limits::Limits;
 use zaxbriar_files::refusal::Refusal;
-use zaxbriar_pictures::extents::Extent;
 use zaxbriar_pictures::scaled::{decode_picture, limit_blocks, taken_by};
 use zaxbriar_samples::netpbm::Picture;
 
@@ -89,7 +88,7 @@ fn decode_within<R: Read + Drop>(
 ) -> Result<Picture, Refusal> {
     decoder.read_info()?;
     let info = decoder.info().unwrap();
-    limits.check(info.width, info.height, taken_by(decoder, Extent::Whole))?;
+    limits.check(info.width, info.height, taken_by(decoder))?;
     limit_blocks(decoder, limits);
     Ok(decode_picture(decoder)?)
 }

@@ -185,8 +185,8 @@ impl<'a> Numbers<'a> {
         Some(self.of(table))
     }
 
-    /// Returns the image that an entry of the table describes. Its place is counted from `base` on,
-    /// except where it is 0, as that of the first image is: the beginning of the file.
+    /// Returns the image that an entry of the table describes. Its offset is counted from `base`
+    /// on, except where it is 0, as that of the first image is: the beginning of the file.
     fn image(self, base: u64) -> Option<Image> {
         let attribute = self.long_at(0)?;
         let size = self.long_at(4)?;

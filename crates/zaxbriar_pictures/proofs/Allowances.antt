@@ -16,45 +16,43 @@ use Rattle.zaxbriar_files.specs.declared.limits.Limits.{Limits}
 use Rattle.zaxbriar_samples.specs.Sizes.{orientation_for, scale_of_request, size_for}
 use Rattle.zaxbriar_samples.specs.declared.requests.Request.{Request}
 use Rattle.zaxbriar_pictures.specs.Allowed.{allows, allows_frame, allows_lines, allows_raw, taken_for, taken_in_lines}
-use Rattle.zaxbriar_pictures.specs.declared.extents.Extent.{Extent}
-use Rattle.zaxbriar_pictures.specs.declared.extents.Extent.TheVariants.{Whole}
 
 some-same : {A : Type 0} (x y : A) → ◌≡◌ {A = Option A} (Some x) (Some y) → x ≡ y
 some-same x y e = cc
 
-pub allowed-there : (request : Request) (extent : Extent) (limits : Limits) (bytes rest : List ℕ) (header : Found)
+pub allowed-there : (request : Request) (limits : Limits) (bytes rest : List ℕ) (header : Found)
     (full : ImageInfo) (orientation : ℕ) (scale : Scale) (size : Dimensions) (taken : ℕ)
     → header_at bytes ≡ Ok (header, rest) → option_map info_of header.said.frame ≡ Some full
     → orientation ≡ orientation_for request header.said.metadata.exif
     → scale ≡ scale_of_request request full orientation → size ≡ size_for request full orientation
-    → IfSome (option_map (scaled scale) header.said.frame) (λ f. taken ≡ taken_for request extent full f size)
-    → is_allowed limits full.width full.height taken ≡ true → allows request extent limits bytes ≡ true
+    → IfSome (option_map (scaled scale) header.said.frame) (λ f. taken ≡ taken_for request full f size)
+    → is_allowed limits full.width full.height taken ≡ true → allows request limits bytes ≡ true
 unfolding allows
-allowed-there request extent limits bytes rest header full orientation scale size taken e i o s z t a =
+allowed-there request limits bytes rest header full orientation scale size taken e i o s z t a =
     rw (e, allows) (go header.said.frame i t)
   where
     go : (frame : Option Frame) → option_map info_of frame ≡ Some full
-        → IfSome (option_map (scaled scale) frame) (λ f. taken ≡ taken_for request extent full f size)
-        → unwrap_or (option_map (allows_frame request extent limits header) frame) false ≡ true
+        → IfSome (option_map (scaled scale) frame) (λ f. taken ≡ taken_for request full f size)
+        → unwrap_or (option_map (allows_frame request limits header) frame) false ≡ true
     go None i t = absurd (let n : ⊥ = cc in n)
     go (Some f) i t =
         let turn = orientation_for request header.said.metadata.exif in
-        subst (λ (k : ImageInfo). is_allowed limits k.width k.height (taken_for request extent k
+        subst (λ (k : ImageInfo). is_allowed limits k.width k.height (taken_for request k
         (scaled (scale_of_request request k turn) f) (size_for request k turn)) ≡ true)
         (sym (some-same (info_of f) full i)) (rw (sym o) (rw (sym s, sym z, sym t) a))
 
 pub lines-allowed : (limits : Limits) (bytes rest : List ℕ) (header : Found) (full : ImageInfo) (taken : ℕ)
     → header_at bytes ≡ Ok (header, rest) → option_map info_of header.said.frame ≡ Some full
-    → IfSome header.said.frame (λ f. taken ≡ taken_in_lines Whole (decoding_bytes default_settings f))
+    → IfSome header.said.frame (λ f. taken ≡ taken_in_lines (decoding_bytes default_settings f))
     → is_allowed limits full.width full.height taken ≡ true → allows_raw limits bytes ≡ true
 unfolding allows_raw
 lines-allowed limits bytes rest header full taken e i t a = rw (e, allows_raw) (go header.said.frame i t)
   where
     go : (frame : Option Frame) → option_map info_of frame ≡ Some full
-        → IfSome frame (λ f. taken ≡ taken_in_lines Whole (decoding_bytes default_settings f))
+        → IfSome frame (λ f. taken ≡ taken_in_lines (decoding_bytes default_settings f))
         → unwrap_or (option_map (allows_lines limits) frame) false ≡ true
     go None i t = absurd (let n : ⊥ = cc in n)
     go (Some f) i t =
         subst (λ (k : ImageInfo). is_allowed limits k.width k.height
-        (taken_in_lines Whole (decoding_bytes default_settings f)) ≡ true)
+        (taken_in_lines (decoding_bytes default_settings f)) ≡ true)
         (sym (some-same (info_of f) full i)) (rw (sym t) a)

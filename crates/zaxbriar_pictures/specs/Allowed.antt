@@ -17,22 +17,14 @@ use Rattle.zaxbriar_samples.specs.Sizes.{orientation_for, scale_of_request, size
 use Rattle.zaxbriar_samples.specs.Turns.{bytes_of}
 use Rattle.zaxbriar_samples.specs.declared.requests.Request.{Request}
 use Rattle.zaxbriar_samples.specs.declared.requests.Request.TheVariants.{At, Within}
-use Rattle.zaxbriar_pictures.specs.declared.extents.Extent.{Extent}
-use Rattle.zaxbriar_pictures.specs.declared.extents.Extent.TheVariants.{Whole, Partial}
 
 -- a sum of bytes, as far as 64 bits count them
 abbrev pub together : ℕ → ℕ → ℕ
 together a b = min (a + b) (2 ^ 64 - 1)
 
--- what is taken at most while as much as is wanted of a picture is decoded
-abbrev pub taken_in : Extent → DecodingBytes → ℕ
-taken_in Whole bytes = bytes.peak
-taken_in Partial bytes = bytes.partial_peak
-
--- the same, where the lines of the picture are written one by one
-abbrev pub taken_in_lines : Extent → DecodingBytes → ℕ
-taken_in_lines Whole bytes = together bytes.coefficients bytes.planes
-taken_in_lines Partial bytes = together bytes.all_coefficients bytes.planes
+-- what is taken where the lines of a picture are written one by one
+abbrev pub taken_in_lines : DecodingBytes → ℕ
+taken_in_lines bytes = together bytes.coefficients bytes.planes
 
 -- a picture of this size, of the format of another
 abbrev pub made_bytes : Dimensions → ImageInfo → ℕ → ℕ
@@ -40,26 +32,26 @@ made_bytes size full precision = size.width * size.height * bytes_of full.pixel_
 
 -- What a request takes of the picture of a frame at its scale. Lines of 8 bits a sample are written
 -- one by one; a picture that fits within a size is made beside the one that is decoded.
-unfoldable pub taken_for : Request → Extent → ImageInfo → Frame → Dimensions → ℕ
-taken_for (At scale) extent full f size =
+unfoldable pub taken_for : Request → ImageInfo → Frame → Dimensions → ℕ
+taken_for (At scale) full f size =
     let bytes = decoding_bytes default_settings f in
-    if f.precision == 8 then taken_in_lines extent bytes else taken_in extent bytes
-taken_for (Within most upright) extent full f size =
-    together (taken_in extent (decoding_bytes default_settings f)) (made_bytes size full f.precision)
+    if f.precision == 8 then taken_in_lines bytes else bytes.peak
+taken_for (Within most upright) full f size =
+    together (decoding_bytes default_settings f).peak (made_bytes size full f.precision)
 
 -- whether the limits allow the pixels of a frame, and what a request takes of it
-abbrev pub allows_frame : Request → Extent → Limits → Found → Frame → Bool
-allows_frame request extent limits header f =
+abbrev pub allows_frame : Request → Limits → Found → Frame → Bool
+allows_frame request limits header f =
     let full = info_of f in
     let orientation = orientation_for request header.said.metadata.exif in
-    is_allowed limits full.width full.height (taken_for request extent full
+    is_allowed limits full.width full.height (taken_for request full
     (scaled (scale_of_request request full orientation) f) (size_for request full orientation))
 
 -- Whether the limits allow what a request takes of a stream.
-unfoldable pub allows : Request → Extent → Limits → List ℕ → Bool
-allows request extent limits bytes = elim (header_at bytes) [
+unfoldable pub allows : Request → Limits → List ℕ → Bool
+allows request limits bytes = elim (header_at bytes) [
   | Ok header ↦
-      unwrap_or (option_map (allows_frame request extent limits header.0) header.0.said.frame) false
+      unwrap_or (option_map (allows_frame request limits header.0) header.0.said.frame) false
   | Err fault ↦ false
 ]
 
@@ -67,7 +59,7 @@ allows request extent limits bytes = elim (header_at bytes) [
 -- are written one by one, whatever their samples.
 abbrev pub allows_lines : Limits → Frame → Bool
 allows_lines limits f = is_allowed limits f.output_width f.output_height
-    (taken_in_lines Whole (decoding_bytes default_settings f))
+    (taken_in_lines (decoding_bytes default_settings f))
 
 unfoldable pub allows_raw : Limits → List ℕ → Bool
 allows_raw limits bytes = elim (header_at bytes) [

@@ -31,9 +31,9 @@ fn check_decoder<R: Read + Drop>(
     ensures told { decoder.old.source.known ≡ true
         → IfOk result (TellsOfStream limits decoder.old.source.bytes) }
     ensures limited { decoder.old.source.known ≡ true → IfOk result
-        (λ _. allows (At Full) Partial limits decoder.old.source.bytes ≡ true) }
+        (λ _. allows (At Full) limits decoder.old.source.bytes ≡ true) }
 {
-    choose(decoder, Request::At(Scale::Full), Extent::Partial, limits)?;
+    choose(decoder, Request::At(Scale::Full), limits)?;
     let shown = decode_wanted_lines(decoder, Extent::Partial)?;
     let info = decoder.info().unwrap();
     Ok(Completeness {
@@ -63,7 +63,7 @@ pub fn check_stream<R: Read + Drop>(
 
     // A picture that has or takes more than the limits allow is refused.
     ensures limited { (bytes : List ℕ) → Tells (R.remaining reader) bytes
-        → IfOk result (λ _. allows (At Full) Partial limits bytes ≡ true) }
+        → IfOk result (λ _. allows (At Full) limits bytes ≡ true) }
 {
     let mut decoder = Decoder::with_capacity(alloc, READ_AHEAD, reader)?;
     check_decoder(&mut decoder, limits)

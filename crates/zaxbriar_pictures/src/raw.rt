@@ -9,7 +9,6 @@ ghost use Rattle.jpeg_meaning.specs.declared.progress.Progress.TheVariants.{Fres
 ghost use Rattle.zaxbriar_pictures.specs.Allowed.{allows_raw};
 ghost use Rattle.zaxbriar_pictures.specs.Given.{CodesWithin};
 
-use crate::extents::Extent;
 use crate::scaled::{READ_AHEAD, limit_blocks, taken_by_lines};
 use jpeg_decoder::run::write_lines;
 use jpeg_decoder::{Decoder, ImageInfo, Lines, PixelFormat, error};
@@ -74,7 +73,7 @@ fn write_decoded<R: Read + Drop, W: Write>(
 {
     decoder.read_info()?;
     let full = decoder.info().unwrap();
-    let taken = taken_by_lines(decoder, Extent::Whole);
+    let taken = taken_by_lines(decoder);
     limits.check(full.width, full.height, taken)?;
     limit_blocks(decoder, limits);
     let lines = decoder.decode_lines()?;

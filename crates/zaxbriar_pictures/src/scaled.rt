@@ -10,7 +10,7 @@ ghost use Rattle.jpeg_meaning.specs.States.{IsReading, ahead};
 ghost use Rattle.jpeg_meaning.specs.Stream.{told_of};
 ghost use Rattle.jpeg_decoder.specs.Bytes.{decoding_bytes};
 ghost use Rattle.jpeg_meaning.specs.States.{HasHeader};
-ghost use Rattle.zaxbriar_pictures.specs.Allowed.{allows, made_bytes, taken_for, taken_in};
+ghost use Rattle.zaxbriar_pictures.specs.Allowed.{allows, made_bytes, taken_for};
 ghost use Rattle.zaxbriar_pictures.specs.Allowed.{taken_in_lines};
 ghost use Rattle.jpeg_meaning.specs.Output.{default_settings};
 ghost use Rattle.jpeg_meaning.specs.declared.progress.Progress.TheVariants.{Fresh, HeaderRead};
@@ -59,28 +59,26 @@ pub fn decode_picture<R: Read + Drop>(decoder: &mut Decoder<R>) -> error::Result
     })
 }
 
-/// Returns how many bytes decoding as much as is wanted of the picture of a decoder takes, whose
-/// header was read: for a partial picture all blocks are counted.
-pub fn taken_by<R: Read + Drop>(decoder: &Decoder<R>, extent: Extent) -> u64
+/// Returns how many bytes decoding the picture of a decoder takes at most at a time, whose header
+/// was read.
+pub fn taken_by<R: Read + Drop>(decoder: &Decoder<R>) -> u64
     ensures { HasHeader decoder.now.stage → IfSome decoder.now.found.said.frame (λ f. result
-        ≡ taken_in extent (decoding_bytes decoder.now.settings f)) }
+        ≡ (decoding_bytes decoder.now.settings f).peak) }
 {
-    match (decoder.decoding_bytes(), extent) {
-        (Some(bytes), Extent::Whole) => bytes.peak,
-        (Some(bytes), Extent::Partial) => bytes.partial_peak,
-        (None, _) => 0,
+    match decoder.decoding_bytes() {
+        Some(bytes) => bytes.peak,
+        None => 0,
     }
 }
 
 /// Returns how many bytes this takes where the lines of the picture are written one by one.
-pub(crate) fn taken_by_lines<R: Read + Drop>(decoder: &Decoder<R>, extent: Extent) -> u64
+pub(crate) fn taken_by_lines<R: Read + Drop>(decoder: &Decoder<R>) -> u64
     ensures { HasHeader decoder.now.stage → IfSome decoder.now.found.said.frame (λ f. result
-        ≡ taken_in_lines extent (decoding_bytes decoder.now.settings f)) }
+        ≡ taken_in_lines (decoding_bytes decoder.now.settings f)) }
 {
-    match (decoder.decoding_bytes(), extent) {
-        (Some(bytes), Extent::Whole) => bytes.coefficients.saturating_add(bytes.planes),
-        (Some(bytes), Extent::Partial) => bytes.all_coefficients.saturating_add(bytes.planes),
-        (None, _) => 0,
+    match decoder.decoding_bytes() {
+        Some(bytes) => bytes.coefficients.saturating_add(bytes.planes),
+        None => 0,
     }
 }
 
@@ -131,26 +129,25 @@ fn made_bytes(size: Dimensions, full: ImageInfo, precision: u8) -> u64
 fn bytes_for<R: Read + Drop>(
     decoder: &Decoder<R>,
     request: Request,
-    extent: Extent,
     full: ImageInfo,
     size: Dimensions,
 ) -> u64
     requires plain { decoder.now.settings ≡ default_settings }
     requires header { HasHeader decoder.now.stage }
     ensures { IfSome decoder.now.found.said.frame (λ f. result
-        ≡ taken_for request extent full f size) }
+        ≡ taken_for request full f size) }
 {
     let precision = decoder.precision().unwrap_or(8);
     match request {
         Request::At(_) => {
             if precision == 8 {
-                taken_by_lines(decoder, extent)
+                taken_by_lines(decoder)
             } else {
-                taken_by(decoder, extent)
+                taken_by(decoder)
             }
         }
         Request::Within(_, _) => {
-            taken_by(decoder, extent).saturating_add(made_bytes(size, full, precision))
+            taken_by(decoder).saturating_add(made_bytes(size, full, precision))
         }
     }
 }
@@ -172,7 +169,6 @@ pub fn limit_blocks<R: Read + Drop>(decoder: &mut Decoder<R>, limits: Limits)
 pub(crate) fn choose<R: Read + Drop>(
     decoder: &mut Decoder<R>,
     request: Request,
-    extent: Extent,
     limits: Limits,
 ) -> Result<Choice, Refusal>
     requires fresh { decoder.old.stage ≡ Fresh }
@@ -184,7 +180,7 @@ pub(crate) fn choose<R: Read + Drop>(
     ensures orientation { IfOk result (λ choice. (1 ≤ choice.orientation)
         × (choice.orientation ≤ 8)) }
     ensures limited { IfOk result (λ _. decoder.old.source.known ≡ true
-        → allows request extent limits decoder.old.source.bytes ≡ true) }
+        → allows request limits decoder.old.source.bytes ≡ true) }
 {
     decoder.read_info()?;
     let full = decoder.info().unwrap();
@@ -195,7 +191,7 @@ pub(crate) fn choose<R: Read + Drop>(
     limits.check(
         full.width,
         full.height,
-        bytes_for(decoder, request, extent, full, size),
+        bytes_for(decoder, request, full, size),
     )?;
     limit_blocks(decoder, limits);
     Ok(Choice {
@@ -230,9 +226,9 @@ fn read_chosen<R: Read + Drop>(
     ensures orientation { IfOk result (λ made. (1 ≤ made.orientation)
         × (made.orientation ≤ 8)) }
     ensures limited { decoder.old.source.known ≡ true → IfOk result
-        (λ _. allows request extent limits decoder.old.source.bytes ≡ true) }
+        (λ _. allows request limits decoder.old.source.bytes ≡ true) }
 {
-    let choice = choose(decoder, request, extent, limits)?;
+    let choice = choose(decoder, request, limits)?;
     let (picture, completeness) = decode_wanted_picture(alloc, decoder, extent)?;
     Ok(ScaledPicture {
         picture,
@@ -277,7 +273,7 @@ pub fn read_picture<R: Read + Drop>(
 
     // A picture that has or takes more than the limits allow is refused.
     ensures limited { (bytes : List ℕ) → Tells (R.remaining reader) bytes
-        → IfOk result (λ _. allows request extent limits bytes ≡ true) }
+        → IfOk result (λ _. allows request limits bytes ≡ true) }
 {
     let mut decoder = Decoder::with_capacity(alloc, READ_AHEAD, reader)?;
     read_chosen(alloc, &mut decoder, request, extent, limits)
@@ -346,9 +342,9 @@ fn write_chosen<R: Read + Drop, W: Write>(
     ensures written { decoder.old.source.known ≡ true → IfOk result (WritesGiven extent limits
         scale decoder.old.source.bytes (W.contents writer.old) (W.contents writer.new)) }
     ensures limited { decoder.old.source.known ≡ true → IfOk result
-        (λ _. allows (At scale) extent limits decoder.old.source.bytes ≡ true) }
+        (λ _. allows (At scale) limits decoder.old.source.bytes ≡ true) }
 {
-    choose(decoder, Request::At(scale), extent, limits)?;
+    choose(decoder, Request::At(scale), limits)?;
     Ok(write_decoded(alloc, decoder, extent, writer)?)
 }
 
@@ -367,7 +363,7 @@ pub fn write_at<R: Read + Drop, W: Write>(
         → IfOk result (WritesGiven extent limits scale bytes (W.contents writer.old)
         (W.contents writer.new)) }
     ensures limited { (bytes : List ℕ) → Tells (R.remaining reader) bytes
-        → IfOk result (λ _. allows (At scale) extent limits bytes ≡ true) }
+        → IfOk result (λ _. allows (At scale) limits bytes ≡ true) }
 {
     let mut decoder = Decoder::with_capacity(alloc, READ_AHEAD, reader)?;
     write_chosen(alloc, &mut decoder, scale, extent, limits, writer)

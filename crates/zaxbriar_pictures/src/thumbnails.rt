@@ -93,7 +93,7 @@ pub fn write_thumbnail<R: Read + Drop, W: Write>(
         → IfOk result (WritesThumbnail extent limits request format bytes (W.contents writer.old)
         (W.contents writer.new)) }
     ensures limited { (bytes : List ℕ) → Tells (R.remaining reader) bytes
-        → IfOk result (λ _. allows request extent limits bytes ≡ true) }
+        → IfOk result (λ _. allows request limits bytes ≡ true) }
 {
     let made = read_picture(alloc, reader, request, extent, limits)?;
     let info = made.full;

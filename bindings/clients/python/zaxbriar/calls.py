@@ -140,7 +140,7 @@ def decode_partial(
     """Decodes as decode does, but also a stream that is truncated or damaged: returns the picture
     of what it brings up to its first fault, the number of complete rows, and that fault or None.
 
-    Raises an error where the header can't be decoded. It may use more memory than decode. `out` and
+    Raises an error where the header can't be decoded. It uses no more memory than decode. `out` and
     the options are those of decode.
     """
     picture, told = _decoded(library.decode_partial, data, out, options)

@@ -276,10 +276,8 @@ impl<R: Read> Decoder<R> {
     /// The result is an error if no frame header was accepted before the fault, if the picture is
     /// above a limit or can't have the colour transform, and as `decode`'s after another call.
     ///
-    /// The coefficients of the blocks that are read are in memory, 128 bytes each, those of a
-    /// sequential picture too. [`decoding_bytes`](Decoder::decoding_bytes) doesn't count them; the
-    /// limit of [`set_max_decoding_bytes`](Decoder::set_max_decoding_bytes) is compared with all
-    /// blocks.
+    /// It takes no more memory than `decode` does, and is limited by
+    /// [`set_max_decoding_bytes`](Decoder::set_max_decoding_bytes) in the same way.
     ///
     /// ```
     /// # let jpeg = &std::fs::read("tests/grey.jpg").unwrap()[..];
@@ -498,15 +496,12 @@ impl<R: Read> Decoder<R> {
         };
         self.refuse_above_limits(&picture)?;
         options.transform = transform_number(self.color_transform, &picture, layout)?;
-        // What a partial picture takes is more than `read_info` says: the library compares it. A
-        // limit of 0 would be none.
-        options.max_bytes = self.max_bytes.saturating_sub(picture.size).max(1);
         self.stage = Stage::Failed;
         let mut pixels = library::zeros(picture.size).map_err(refused)?;
         let failure = self.stream.read_image(&mut self.reader);
         let call = |bytes: &[u8]| call(bytes, &options, library::bytes_of(&mut pixels));
         let (outcome, failure) = self.ask(failure, lacks_bytes, call);
-        if matches!(outcome, Err(Refusal::TooLarge(_))) || is_above_limit(&outcome, &failure) {
+        if is_above_limit(&outcome, &failure) {
             self.stage = Stage::HeaderRead;
         }
         match outcome {

@@ -41,7 +41,7 @@ pub struct Options {
     pub layout: u8,
     pub scale: u8,
     pub bottom_up: u8,
-    pub max_bytes: u64,
+    max_bytes: u64,
     /// Null.
     pointers: [u64; 2],
     pub max_passes: u64,

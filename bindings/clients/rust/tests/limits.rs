@@ -26,16 +26,17 @@ fn a_large_picture_is_refused_by_its_header() -> Result<(), Error> {
 }
 
 #[test]
-fn a_partial_picture_is_limited_by_all_its_blocks_and_takes_none_that_is_not_there(
-) -> Result<(), Error> {
+fn a_partial_picture_is_limited_as_a_whole_one_is() -> Result<(), Error> {
     let jpeg = large_header();
     let mut decoder = Decoder::new(&jpeg[..]);
     decoder.set_scale(Scale::Eighth)?;
-    // The planes and the picture have 2^26 bytes each, and all blocks 2^33.
-    decoder.set_max_decoding_bytes(1 << 33);
-    assert!(decoder.decoding_bytes() < Some(1 << 28));
+    // The planes and the picture have 2^26 bytes each, all blocks 2^33, and a row of them 2^20.
+    let bytes = decoder.decoding_bytes().unwrap();
+    assert!(bytes < 1 << 28);
+    decoder.set_max_decoding_bytes(bytes - 1);
+    assert!(matches!(decoder.decode(), Err(Error::Format(_))));
     assert!(matches!(decoder.decode_partial(), Err(Error::Format(_))));
-    decoder.set_max_decoding_bytes(1 << 34);
+    decoder.set_max_decoding_bytes(bytes);
     let partial = decoder.decode_partial()?;
     assert!(partial.pixels.len() == 8192 * 8192 && partial.pixels.iter().all(|&byte| byte == 128));
     assert!(matches!(partial.fault, Some(Error::Io(_))));

@@ -36,11 +36,11 @@ sizes-set vs slot index v x e =
     sizes-put vs slot v (with_block v index x)
     (omega (arith, seen-count (with_block v index x), seen-count v, count)) e
 
-array-there : (vs : List Held) (slot : ℕ) (v : Held) → slot < length vs → v ≡ get_or vs slot v
+pub array-there : (vs : List Held) (slot : ℕ) (v : Held) → slot < length vs → v ≡ get_or vs slot v
     → get_or (arrays_in vs) slot [] ≡ blocks_in v
 array-there vs slot v h e = get_or-map blocks_in vs slot v [] h ∙ ap blocks_in (sym e)
 
-arrays-set : (vs : List Held) (slot index : ℕ) (v : Held) (x : List ℤ) → slot < length vs → v ≡ get_or vs slot v
+pub arrays-set : (vs : List Held) (slot index : ℕ) (v : Held) (x : List ℤ) → slot < length vs → v ≡ get_or vs slot v
     → index < length v.blocks.items
     → arrays_in (set vs slot (with_block v index x)) ≡ put_block (spot slot index) (to_block x) (arrays_in vs)
 arrays-set vs slot index v x h e i =

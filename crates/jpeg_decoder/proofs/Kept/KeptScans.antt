@@ -173,6 +173,7 @@ pub next-kept : (keeps : Bool) (p : Pass) (vias : List Via) (n : ℕ) (s : Spot)
       reached = r;
       left = now.left - 1;
       number = now.number;
+      beyond = now.beyond;
     }) u)
 unfolding begun_turn
 next-kept keeps p vias n s spots now r t u first e =

@@ -8,6 +8,7 @@ use Rattle.jpeg_bits.specs.Reading.{Fault}
 use Rattle.jpeg_bits.specs.Reading.{Answers, Outcome}
 use Rattle.jpeg_bits.specs.Stream.{Stream}
 use Rattle.jpeg_bits.specs.Entropy.{Text, Ahead, Takes, fresh, upcoming, marker_from}
+use Rattle.jpeg_bits.specs.declared.beyond.Beyond.{Beyond}
 use Rattle.jpeg_bits.specs.declared.error.Error.{Error}
 use Rattle.jpeg_bits.specs.declared.marker.Marker.{Marker}
 use Rattle.jpeg_bits.proofs.BandLoop.{Leaves}
@@ -87,11 +88,11 @@ begun-now (suc n) now t h = begun_within (suc n) now t (h (omega arith))
 
 abbrev after_part : Pass → List Via → ℕ → List Spot → ℕ → Counted → Reached → Reads Counted
 after_part p vias n more k now r =
-    blocks_from p vias n more (record { reached = r; left = now.left - k; number = now.number })
+    blocks_from p vias n more (record { reached = r; left = now.left - k; number = now.number; beyond = now.beyond })
 
 part-next : (p : Pass) (vias : List Via) (n : ℕ) (spots more : List Spot) (k : ℕ) (now : Counted)
     → ((r : Reached) (u : Text)
-    → blocks_from p vias n (spots ++ more) (record { reached = r; left = now.left - 1; number = now.number }) u
+    → blocks_from p vias n (spots ++ more) (record { reached = r; left = now.left - 1; number = now.number; beyond = now.beyond }) u
     ≡ read_on (after_part p vias n more (suc k) now) (turns_from p vias spots r u))
     → (o : Result (Reached × Text) Fault)
     → read_on (blocks_from p vias n (spots ++ more)) (read_on (turn_then now) o)
@@ -106,19 +107,20 @@ part-first : (p : Pass) (vias : List Via) (n : ℕ) (spots more : List Spot) (no
 unfolding blocks_from turns_from begun_turn
 part-first p vias n [] more now t h =
     let e : now.left ≡ now.left - 0 = omega arith in
-    ap (λ (k : ℕ). blocks_from p vias n more (record { reached = now.reached; left = k; number = now.number }) t) e
+    ap (λ (k : ℕ). blocks_from p vias n more (record { reached = now.reached; left = k; number = now.number; beyond = now.beyond }) t) e
 part-first p vias n (s ∷ spots) more now t h =
     ap (read_on (blocks_from p vias n (spots ++ more)))
     (next_begun p vias n s now now t t (begun-now n now t (λ some. omega (arith, h some))))
     ∙ part-next p vias n spots more (length spots) now
     (λ r u.
     let e : now.left - 1 - length spots ≡ now.left - suc (length spots) = omega arith in
-    part-first p vias n spots more (record { reached = r; left = now.left - 1; number = now.number }) u
+    part-first p vias n spots more (record { reached = r; left = now.left - 1; number = now.number; beyond = now.beyond }) u
     (λ some. omega (arith, h some))
     ∙ ap (λ (k : ℕ). read_on (λ (x : Reached). blocks_from p vias n more (record {
       reached = x;
       left = k;
       number = now.number;
+      beyond = now.beyond;
     })) (turns_from p vias spots r u)) e)
     (turn_from p vias s now.reached t)
 
@@ -127,7 +129,7 @@ pub line-part : (p : Pass) (vias : List Via) (n at count room : ℕ) (now : Coun
     → turns_from p vias (line_spots at count) now.reached t ≡ Ok (r, u)
     → blocks_from p vias n (line_spots at room) now t
     ≡ blocks_from p vias n (line_spots (at + count) (room - count))
-    (record { reached = r; left = now.left - count; number = now.number }) u
+    (record { reached = r; left = now.left - count; number = now.number; beyond = now.beyond }) u
 line-part p vias n at count room now r t u few left e =
     let long = line-long at count in
     ap (λ (l : List Spot). blocks_from p vias n l now t) (line-parts at count room few)
@@ -186,25 +188,25 @@ module _ (p : Pass) (vias : List Via) (n at room : ℕ) (whole : Reads Counted) 
       refused_after v view whole (blocks_from p vias n (line_spots at room) now) (begun_from n now) a b d old cur new e
       (λ t f h. line-unbegun p vias n at room now t f some h) left q
 
-  pub line-goes : (count end x m : ℕ) (r : Reached) → at + count ≤ end → room ≡ end - at
-      → (0 < n → count ≤ now.left) → x ≡ now.left - (at + count - at) → m ≡ now.number
+  pub line-goes : (count end x m : ℕ) (w : Beyond) (r : Reached) → at + count ≤ end → room ≡ end - at
+      → (0 < n → count ≤ now.left) → x ≡ now.left - (at + count - at) → m ≡ now.number → w ≡ now.beyond
       → Takes (λ (u : Unit {0}). r) (turns_from p vias (line_spots at (at + count - at)) now.reached) b cur (Ok tt) d new
       → Leaves whole a old (blocks_from p vias n (line_spots (at + count) (end - (at + count)))
-      (record { reached = r; left = x; number = m })) d new
-  line-goes count end x m r fits is more ex em q =
+      (record { reached = r; left = x; number = m; beyond = w })) d new
+  line-goes count end x m w r fits is more ex em ew q =
       let c : at + count - at ≡ count = omega arith in
       let e : room - count ≡ end - (at + count) = omega (arith, is) in
       let l : now.left - count ≡ x = omega (arith, ex, c) in
       Leaves-ok (λ (u : Unit {0}). r) whole (blocks_from p vias n (line_spots at room) now)
       (blocks_from p vias n (line_spots (at + count) (end - (at + count)))
-      (record { reached = r; left = x; number = m }))
+      (record { reached = r; left = x; number = m; beyond = w }))
       (turns_from p vias (line_spots at (at + count - at)) now.reached) a b d old cur new tt
       (λ t u h. line-part p vias n at count room now r t u (omega (arith, is, fits)) more
       (ap (λ (k : ℕ). turns_from p vias (line_spots at k) now.reached t) (sym c) ∙ h)
       ∙ ap₂ (λ (k j : ℕ). blocks_from p vias n (line_spots (at + count) k)
-      (record { reached = r; left = j; number = now.number }) u) e l
-      ∙ ap (λ (k : ℕ). blocks_from p vias n (line_spots (at + count) (end - (at + count)))
-      (record { reached = r; left = x; number = k }) u) (sym em)) left q
+      (record { reached = r; left = j; number = now.number; beyond = now.beyond }) u) e l
+      ∙ ap₂ (λ (k : ℕ) (y : Beyond). blocks_from p vias n (line_spots (at + count) (end - (at + count)))
+      (record { reached = r; left = x; number = k; beyond = y }) u) (sym em) (sym ew)) left q
 
   pub line-stops : {X Y : Type 0} (v : X → Counted) (view : Y → Reached) (e : Error) (count end : ℕ)
       → at + count ≤ end → room ≡ end - at → (0 < n → count ≤ now.left)

@@ -233,7 +233,7 @@ abbrev pub after_planes : Found → List LosslessCoding → (List (List ℕ) × 
 after_planes found codings r =
     after_all r.0.1 r.1 >>= (λ (met : Option Marker × List ℕ). Ok ((after_samples found codings r.0.0, met.0), met.1))
 
-samples-then : (found : Found) (frame : Frame) (scan : Scan) (codings : List LosslessCoding) (bytes : List ℕ)
+pub samples-then : (found : Found) (frame : Frame) (scan : Scan) (codings : List LosslessCoding) (bytes : List ℕ)
     → lossless_codings found.said.huffman.dc frame scan.components scan.dc_destinations ≡ Ok codings
     → samples_read found frame scan bytes ≡ (scan_samples found frame scan codings bytes >>= after_planes found codings)
 unfolding samples_read

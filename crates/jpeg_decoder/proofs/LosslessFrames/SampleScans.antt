@@ -1,7 +1,7 @@
 -- A lossless scan as far as it goes: its components, and its rows over the samples before it.
 use Rattle.std.proofs.Common.{◌≡◌, ◌∙◌, ◌+◌, ◌*◌, ◌<◌, ◌≤◌, ◌==◌, ◌++◌, ℕ, zero, suc, Bool, true, false, List, []}
 use Rattle.std.proofs.Common.{◌∷◌, length, map, drop, take, get_or, replicate, set, add-one, append-nil, Option, Some}
-use Rattle.std.proofs.Common.{None, Result, Ok, Err}
+use Rattle.std.proofs.Common.{None, Result, Ok, Err, ◌-◌, ◌^◌}
 use Rattle.std.proofs.Common.{refl, sym, ap, ap₂, subst, arith, if◌then◌else◌}
 use Rattle.std.specs.Prelude.{slice_index_or, unwrap_or, zip}
 use Rattle.std.specs.List.{AllByRecursion}
@@ -135,6 +135,28 @@ completed-whole frame samples is_alone [] (t ∷ ts) point planes sampled within
 completed-whole frame samples is_alone (p ∷ indices) [] point planes sampled within lt lp = absurd (omega (arith, lt))
 completed-whole frame samples is_alone (p ∷ indices) (t ∷ ts) point [] sampled within lt lp = absurd (omega (arith, lp))
 completed-whole frame samples is_alone [] [] point (plane ∷ planes) sampled within lt lp = absurd (omega (arith, lp))
+
+-- Whole planes replace those before them.
+pub whole-over : (frame : Frame) (samples : List (Option (List ℕ))) (is_alone : Bool) (indices : List ℕ)
+    (ts : List Table) (planes : List (List ℕ)) → AreSampled frame.components samples
+    → AllByRecursion (λ index. index < length frame.components) indices → length ts ≡ length indices
+    → AreWholeSamples (parts_at is_alone frame.components indices ts) planes
+    → planes_over frame samples indices planes ≡ planes
+unfolding planes_over parts_at AreWholeSamples
+whole-over frame samples is_alone [] [] [] sampled within lt whole = refl
+whole-over frame samples is_alone (p ∷ indices) (t ∷ ts) (plane ∷ planes) sampled within lt whole =
+    let before = samples_or_grey frame samples p in
+    let long = or-long (get_or frame.components p no_component) (slice_index_or samples p None)
+    (2 ^ (frame.precision - 1))
+    (samples-at frame.components samples p no_component sampled within.0) in
+    ap₂ (λ (first : List ℕ) (more : List (List ℕ)). first ∷ more)
+    (ap (λ (l : List ℕ). plane ++ l) (drop_all (length plane) before (omega (arith, long, whole.0)))
+    ∙ append-nil plane)
+    (whole-over frame samples is_alone indices ts planes sampled within.1 (omega (arith, lt)) whole.1)
+whole-over frame samples is_alone [] [] (plane ∷ planes) sampled within lt whole = absurd whole
+whole-over frame samples is_alone (p ∷ indices) (t ∷ ts) [] sampled within lt whole = absurd whole
+whole-over frame samples is_alone [] (t ∷ ts) planes sampled within lt whole = absurd (omega (arith, lt))
+whole-over frame samples is_alone (p ∷ indices) [] planes sampled within lt whole = absurd (omega (arith, lt))
 
 -- a plane more
 over-next : (frame : Frame) (samples : List (Option (List ℕ))) (indices : List ℕ) (slot p : ℕ)

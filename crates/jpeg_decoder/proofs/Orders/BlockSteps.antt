@@ -23,7 +23,8 @@ begun_by n old b t = (elim b as (λ _. Reads Counted) [
     reached = at_start old.reached.arrays;
     left = n;
     number = (old.number + 1) % 8;
-  })) (restart_from old.number u)
+    beyond = old.beyond;
+  })) (restart_from old.beyond old.number u)
   | false ↦ gives old
 ]) t
 
@@ -37,19 +38,20 @@ begun_within n old t h = grind (arith, common_steps, begun-is, nat_lt, ne_eqb)
 begun-restart : (n : ℕ) (old : Counted) (t : Text) → 0 < n → old.left ≡ 0 → begun_from n old t ≡ begun_by n old true t
 begun-restart n old t h e = grind (arith, common_steps, begun-is, lt-ltb)
 
-pub begun_next : (n : ℕ) (old : Counted) (t u : Text) → 0 < n → old.left ≡ 0 → restart_from old.number t ≡ Ok (tt, u)
+pub begun_next : (n : ℕ) (old : Counted) (t u : Text) → 0 < n → old.left ≡ 0 → restart_from old.beyond old.number t ≡ Ok (tt, u)
     → begun_from n old t ≡ Ok (
       record {
         reached = at_start old.reached.arrays;
         left = n;
         number = (old.number + 1) % 8;
+        beyond = old.beyond;
       },
       u,
     )
 begun_next n old t u h e r = grind (arith, common_steps, begun-restart)
 
 pub begun_refused : (n : ℕ) (old : Counted) (t : Text) (f : Fault) → 0 < n → old.left ≡ 0
-    → restart_from old.number t ≡ Err f → begun_from n old t ≡ Err f
+    → restart_from old.beyond old.number t ≡ Err f → begun_from n old t ≡ Err f
 begun_refused n old t f h e r = grind (arith, common_steps, begun-restart)
 
 pub ruleset begun_rules = (begun_none, begun_within, begun_next, begun_refused)
@@ -57,7 +59,7 @@ pub ruleset begun_rules = (begun_none, begun_within, begun_next, begun_refused)
 -- ---- a block
 
 abbrev pub turn_then : Counted → Reached → Reads Counted
-turn_then now r = gives (record { reached = r; left = now.left - 1; number = now.number })
+turn_then now r = gives (record { reached = r; left = now.left - 1; number = now.number; beyond = now.beyond })
 
 -- what is left of the next block where its interval has begun
 unfoldable pub begun_turn : Pass → List Via → Spot → Counted → Reads Counted

@@ -1,6 +1,6 @@
--- A scan of blocks as far as it goes: what is found after it, by what is reached of its blocks; and
--- the blocks that are taken for a scan, and put back.
-use Rattle.std.proofs.Common.{◌≡◌, ◌*◌, Bool, true, false, ℕ, List, length, map, Option, Result, Ok, Err}
+-- A scan of blocks up to the first that can't be read: what is found after it, by what is reached of its blocks; and
+-- the blocks that are taken for a scan of a progressive frame, and put back.
+use Rattle.std.proofs.Common.{◌≡◌, ◌*◌, ℕ, List, length, map, Option, Result, Ok, Err}
 use Rattle.std.proofs.Common.{refl, ap, arith}
 use Rattle.std.specs.Prelude.{option_map}
 use Rattle.std.specs.List.{AllByRecursion}
@@ -12,23 +12,23 @@ use Rattle.jpeg_bits.specs.Reading.{Answers, Outcome}
 use Rattle.jpeg_bits.specs.declared.error.Error.{Error}
 use Rattle.jpeg_bits.specs.declared.marker.Marker.{Marker}
 use Rattle.jpeg_segments.specs.Frame.{Frame}
-use Rattle.jpeg_meaning.specs.Brought.{BlocksTo, scan_reached}
+use Rattle.jpeg_meaning.specs.Brought.{BlocksTo}
 use Rattle.jpeg_meaning.specs.Found.{Found}
 use Rattle.jpeg_meaning.specs.InTurn.{AreArrays}
 use Rattle.jpeg_meaning.specs.Order.{spots_of, mcu_size}
 use Rattle.jpeg_meaning.specs.Scans.{Arrays}
-use Rattle.jpeg_meaning.specs.ScanSegments.{arrays_before, blocks_after, components_of, is_progressive}
+use Rattle.jpeg_meaning.specs.ScanSegments.{arrays_before, blocks_after, components_of}
 use Rattle.jpeg_meaning.specs.ScanSegments.{once_scanned, put_arrays, vias_from, with_arrays, Coding}
 use Rattle.jpeg_meaning.specs.WholeRows.{rows_above}
-use Rattle.jpeg_meaning.proofs.Order.Apart.{zeros-sized}
 use Rattle.jpeg_meaning.proofs.Order.McuRows.{arrays-sized, kept-sized}
 use Rattle.jpeg_decoder.specs.declared.scan.coded.Coded.{Coded}
 use Rattle.jpeg_decoder.specs.declared.scan.decoded.Decoded.{Decoded}
 use Rattle.jpeg_decoder.specs.PlanesView.{planes_in}
-use Rattle.jpeg_decoder.specs.Reaching.{data_reached, kept_beside, UnlessRefused}
+use Rattle.jpeg_decoder.specs.Reaching.{data_reached, UnlessRefused}
 use Rattle.jpeg_decoder.specs.Scanning.{arrays_in, scan_components, scan_vias, sizes_of, BlockScan}
-use Rattle.jpeg_decoder.specs.Steps.{blocks_at, blocks_before, coding_in, with_decoded, without_blocks}
+use Rattle.jpeg_decoder.specs.Steps.{blocks_at, coding_in, with_decoded, without_blocks}
 use Rattle.jpeg_decoder.specs.Steps.{AreRising, IsCodingOf}
+use Rattle.jpeg_decoder.specs.Through.{blocks_reached}
 use Rattle.jpeg_decoder.proofs.Kept.BlockArrays.{Held}
 use Rattle.jpeg_decoder.proofs.Partial.Refused.{unless}
 use Rattle.jpeg_decoder.proofs.Scans.PlacedCodings.{coded-indices}
@@ -46,13 +46,13 @@ answers-by v f g old new (Err e) is p = grind (arith, common_steps)
 -- what is reached of the blocks of a scan
 abbrev pub reached_at : Found → Frame → Pass → List Coding → List ℕ → BlocksTo (Option Marker)
 reached_at f frame p codings bytes =
-    scan_reached p (f.said.restart * mcu_size (components_of codings)) (vias_from 0 codings)
+    blocks_reached p (vias_from 0 codings) (f.said.restart * mcu_size (components_of codings))
     (spots_of frame (components_of codings)) (blocks_at codings (arrays_before f frame)) bytes
 
 -- what the code reaches of the blocks of a scan
 abbrev pub reached_by : BlockScan → Frame → Arrays → List ℕ → BlocksTo (Option Marker)
 reached_by scan frame arrays bytes =
-    scan_reached scan.pass (scan.restart_interval * mcu_size (scan_components scan)) (scan_vias scan)
+    blocks_reached scan.pass (scan_vias scan) (scan.restart_interval * mcu_size (scan_components scan))
     (spots_of frame (scan_components scan)) arrays bytes
 
 pub reached-as : (f : Found) (frame : Frame) (scan : BlockScan) (arrays : Arrays) (bytes : List ℕ)
@@ -60,7 +60,7 @@ pub reached-as : (f : Found) (frame : Frame) (scan : BlockScan) (arrays : Arrays
     → reached_by scan frame arrays bytes ≡ reached_at f frame scan.pass scan.codings bytes
 reached-as f frame scan arrays bytes n is = grind (arith, common_steps)
 
--- the marker after the scan, or the fault, as the code reads it
+-- the marker after its data, or the fault, as the code reads it
 pub reached-answers : (f : Found) (frame : Frame) (scan : BlockScan) (arrays : Arrays) (old new : Stream)
     (r : Result (Option Marker) Error) → scan.restart_interval ≡ f.said.restart
     → arrays ≡ blocks_at scan.codings (arrays_before f frame)
@@ -83,7 +83,7 @@ rows-as f frame scan arrays bytes n is =
     ap (λ (r : BlocksTo (Option Marker)). option_map (rows_above frame (scan_components scan)) r.unread)
     (reached-as f frame scan arrays bytes n is)
 
-data-found : (f : Found) (frame : Frame) (p : Pass) (codings : List Coding) (bytes : List ℕ)
+pub data-found : (f : Found) (frame : Frame) (p : Pass) (codings : List Coding) (bytes : List ℕ)
     → (data_reached f frame p codings bytes).found ≡ with_arrays p codings (reached_at f frame p codings bytes).reached
     (record (once_scanned f) { kept = blocks_after f frame codings (reached_at f frame p codings bytes).reached })
 unfolding data_reached
@@ -136,33 +136,3 @@ put-all frame codings seen kept left taken arrays put before d k t l s h of risi
     let is : arrays_in put ≡ put_arrays codings (arrays_in arrays) before
     = grind (arith, common_steps, put-back, coded-indices, rising-codings, length-map) in
     grind (arith, common_steps, arrays-by-sizes, kept-sized, of-frame)
-
--- those of a progressive frame; of a sequential one none
-pub kept-all : (is_kept : Bool) (frame : Frame) (codings : List Coding) (seen : List Coded)
-    (kept left taken arrays put : List Held) (before : Arrays)
-    → map coding_in seen ≡ codings → arrays_in kept ≡ before
-    → arrays_in taken ≡ blocks_at (map coding_in seen) (arrays_in kept)
-    → arrays_in left ≡ without_blocks (map coding_in seen) (arrays_in kept) → sizes_of arrays ≡ sizes_of taken
-    → arrays_in put ≡ kept_beside is_kept (map coding_in seen) (arrays_in arrays) (arrays_in left)
-    → AllByRecursion (IsCodingOf frame) codings → AreRising codings
-    → AreArrays frame.components before
-    → (arrays_in put ≡ kept_beside is_kept codings (arrays_in arrays) before)
-    × (is_kept ≡ true → AreArrays frame.components (arrays_in put))
-kept-all true frame codings seen kept left taken arrays put before d k t l s h of rising whole =
-    let all = put-all frame codings seen kept left taken arrays put before d k t l s h of rising whole in
-    (all.0, λ _. all.1)
-kept-all false frame codings seen kept left taken arrays put before d k t l s h of rising whole =
-    (h, λ e. absurd (false-true e))
-  where
-    false-true : false ≡ true → ⊥
-    false-true e = cc
-
-pub whole-after : (d : Decoded) (frame : Frame)
-    → (is_progressive frame.process ≡ true → AreArrays frame.components (arrays_in d.kept.items))
-    → AreArrays frame.components (blocks_before true d frame)
-whole-after d frame h = by-process (is_progressive frame.process) refl
-  where
-    by-process : (b : Bool) → is_progressive frame.process ≡ b
-        → AreArrays frame.components (blocks_before true d frame)
-    by-process true e = grind (arith, common_steps)
-    by-process false e = grind (arith, common_steps, zeros-sized)

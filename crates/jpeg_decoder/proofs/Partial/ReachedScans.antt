@@ -2,7 +2,7 @@
 use Rattle.std.proofs.Common.{◌≡◌, ◌∙◌, ap, Err, false, List, None, Ok, Option, refl, Result, Some}
 use Rattle.std.proofs.Common.{subst, sym, true, Bool, ℕ, if◌then◌else◌}
 use Rattle.std.proofs.lemmas.Result.{err_from_is_err_and}
-use Rattle.std.specs.Prelude.{IsErrAnd, OnOk}
+use Rattle.std.specs.Prelude.{IsErrAnd, OnOk, option_map, ◌*◌}
 use Rattle.jpeg_bits.specs.Passes.{Pass}
 use Rattle.jpeg_bits.specs.Reading.{Answers, Fault, Malformed, Names, Outcome}
 use Rattle.jpeg_bits.specs.Reading.{◌>>=◌}
@@ -17,7 +17,7 @@ use Rattle.jpeg_segments.specs.declared.frame.CodingProcess.{CodingProcess}
 use Rattle.jpeg_segments.specs.declared.frame.CodingProcess.TheVariants.{DctProgressive}
 use Rattle.jpeg_segments.specs.declared.frame.CodingProcess.TheVariants.{DctSequential, Lossless}
 use Rattle.jpeg_segments.specs.Checks.{needed}
-use Rattle.jpeg_meaning.specs.Brought.{blocks_brought, blocks_brought_by, brought_by, has_whole_rows}
+use Rattle.jpeg_meaning.specs.Brought.{blocks_brought, blocks_brought_by, brought_by, has_whole_rows, BlocksTo}
 use Rattle.jpeg_meaning.specs.Brought.{samples_brought, samples_brought_by, scan_brought, unbrought, Brought}
 use Rattle.jpeg_meaning.specs.Found.{Found, Said}
 use Rattle.jpeg_meaning.specs.LosslessScans.{LosslessCoding, lossless_codings}
@@ -26,7 +26,9 @@ use Rattle.jpeg_meaning.specs.Stream.{scan_turn_at, scan_within, told_of}
 use Rattle.jpeg_meaning.specs.Work.{is_above, work_of_header}
 use Rattle.jpeg_bits.specs.declared.beyond.Beyond.TheVariants.{Nothing}
 use Rattle.jpeg_meaning.specs.ScanSegments.{scan_turn as turn_of_scan, codings_of, Coding, pass_of}
-use Rattle.jpeg_meaning.specs.ScanSegments.{after_scan, once_scanned, scan_before}
+use Rattle.jpeg_meaning.specs.ScanSegments.{after_scan, arrays_before, components_of, once_scanned, scan_before, vias_from}
+use Rattle.jpeg_meaning.specs.Order.{mcu_size, spots_of}
+use Rattle.jpeg_meaning.specs.WholeRows.{rows_above}
 use Rattle.jpeg_meaning.specs.InTurn.{AreArrays}
 use Rattle.jpeg_meaning.specs.Sound.{ArePlanes, IsSound}
 use Rattle.jpeg_meaning.specs.Segments.{Turn}
@@ -37,9 +39,12 @@ use Rattle.jpeg_decoder.specs.Reaching.{data_reached, sample_codings, samples_re
 use Rattle.jpeg_decoder.specs.Reaching.{UnlessRefused, brought_after, rows_after}
 use Rattle.jpeg_decoder.specs.PlanesView.{planes_in}
 use Rattle.jpeg_decoder.specs.declared.scan.decoded.Decoded.{Decoded}
+use Rattle.jpeg_decoder.specs.Steps.{blocks_at}
 use Rattle.jpeg_decoder.specs.Steps.{blocks_before, header_at, header_within, IsDct, IsRefusal, IsStep, with_decoded}
 use Rattle.std.specs.declared.alloc.Global.{Global}
 use Rattle.std.specs.declared.vec.Vec.{Vec}
+use Rattle.jpeg_decoder.proofs.Partial.CountedReads.{scan-by-blocks}
+use Rattle.jpeg_decoder.proofs.Partial.PassedData.{passed}
 use Rattle.jpeg_decoder.proofs.Partial.Refused.{if-refused, if-refused-as, unless-so}
 use Rattle.jpeg_decoder.proofs.Scans.ScanData.{answers-err, before-as}
 use Rattle.jpeg_decoder.proofs.Scans.ScanReads.{blocks-sound, HasRead, refused, scan-steps}
@@ -111,23 +116,36 @@ without-codings : (found : Found) (frame : Frame) (scan : Scan) (bytes : List �
 unfolding blocks_brought
 without-codings found frame scan bytes f e = rw (e, blocks_brought) refl
 
--- what a scan of blocks brings, by its data
+-- what a scan brings, by its data
 abbrev pub brought_of : Found → DataBrought → Brought
 brought_of found d = record { found = d.found; rows = d.rows; turn = d.met >>= after_reached found d.found }
+
+-- what a scan of blocks brings, by what is reached of its blocks
+abbrev brought_to : Found → Frame → Scan → List Coding → BlocksTo (Option Marker) → Brought
+brought_to found frame scan codings r =
+    let after = after_scan found frame scan codings r.reached in
+    record {
+      found = after;
+      rows = option_map (rows_above frame (components_of codings)) r.unread;
+      turn = r.rest >>= after_reached found after;
+    }
 
 with-pass : (found : Found) (frame : Frame) (scan : Scan) (codings : List Coding) (bytes : List ℕ)
     → codings_of found.said frame scan ≡ Ok codings
     → blocks_brought found frame scan bytes
-    ≡ brought_of found (data_reached found frame (pass_of scan) codings bytes)
+    ≡ brought_of found (passed (data_reached found frame (pass_of scan) codings bytes))
 unfolding blocks_brought blocks_brought_by data_reached after_scan
-with-pass found frame scan codings bytes e = rw (e, blocks_brought) refl
+with-pass found frame scan codings bytes e =
+    rw (e, blocks_brought) (ap (brought_to found frame scan codings)
+    (scan-by-blocks (pass_of scan) (vias_from 0 codings) (found.said.restart * mcu_size (components_of codings))
+    (spots_of frame (components_of codings)) (blocks_at codings (arrays_before found frame)) bytes))
 
 with-codings : (found : Found) (frame : Frame) (scan : Scan) (p : Pass) (codings : List Coding) (bytes : List ℕ)
     → codings_of found.said frame scan ≡ Ok codings → p ≡ pass_of scan
-    → blocks_brought found frame scan bytes ≡ brought_of found (data_reached found frame p codings bytes)
+    → blocks_brought found frame scan bytes ≡ brought_of found (passed (data_reached found frame p codings bytes))
 with-codings found frame scan p codings bytes e is =
     with-pass found frame scan codings bytes e
-    ∙ ap (λ (q : Pass). brought_of found (data_reached found frame q codings bytes)) (sym is)
+    ∙ ap (λ (q : Pass). brought_of found (passed (data_reached found frame q codings bytes))) (sym is)
 
 -- what a lossless scan brings, by its components
 abbrev brought_with : Found → Frame → Scan → List ℕ → Result (List LosslessCoding) Fault → Brought
@@ -192,7 +210,7 @@ no-header left found old new e h =
     (λ k l. told-err e (header_within left found old.bytes) _ (h.1 k l) (λ f is. (f, at f is)))
 
 -- A refusal of the tables of a scan.
-no-tables : {X : Type 0} (found : Found) (brought : List ℕ → Brought) (s : Stream) (e : Error) (o : Result X Fault)
+pub no-tables : {X : Type 0} (found : Found) (brought : List ℕ → Brought) (s : Stream) (e : Error) (o : Result X Fault)
     → IsRefusal e → Names e o → ((f : Fault) → o ≡ Err f → brought s.bytes ≡ unbrought found (Err f))
     → BringsNone found brought s e s
 no-tables found brought s e o r n fails =
@@ -240,7 +258,7 @@ BringsData found scan d = (bytes : List ℕ) → brought_after found scan bytes 
 pub brings-blocks : (found : Found) (frame : Frame) (scan : Scan) (p : Pass) (codings : List Coding)
     → found.said.frame ≡ Some frame → IsDct frame.process
     → codings_of found.said frame scan ≡ Ok codings → p ≡ pass_of scan
-    → BringsData found scan (data_reached found frame p codings)
+    → BringsData found scan (λ bytes. passed (data_reached found frame p codings bytes))
 brings-blocks found frame scan p codings framed process e is bytes =
     blocks-after found frame scan bytes framed process ∙ with-codings found frame scan p codings bytes e is
 
@@ -324,7 +342,7 @@ ended-unless P v prev (Err e) (Err f) p is = subst (λ (x : Error). IfRefused x 
 
 pub ended-steps : (v : Step → Turn) (old prev : Found) (frame : Frame) (reached : Result (Option Marker) Error)
     (result : Result Step Error) → old.said.frame ≡ Some frame → prev.said ≡ old.said
-    → UnlessRefused reached (IsSound (once_scanned prev)) → IsEndOf prev v reached result
+    → OnOk reached (IsSound (once_scanned prev)) → IsEndOf prev v reached result
     → IsStep old result (once_scanned prev)
 ended-steps v old prev frame (Ok m) (Ok step) framed said sound is =
     scan-steps old (once_scanned prev) frame step framed (ap (λ (s : Said). s.frame) said) sound
@@ -383,7 +401,7 @@ none-counted now brought rows old new r e fails none b =
 -- ---- a scan after its header
 
 -- what the scan brings is what it brings after the header
-header-then : (left : Option ℕ) (found : Found) (scan : Scan) (old cur : Stream) → HasRead (header_within left found) old scan cur
+pub header-then : (left : Option ℕ) (found : Found) (scan : Scan) (old cur : Stream) → HasRead (header_within left found) old scan cur
     → old.known ≡ true → (cur.known ≡ true) × (scan_within left Nothing found old.bytes ≡ brought_after found scan cur.bytes)
 header-then left found scan old cur has k =
     let at = has.1 k in (at.0, within-brought left found old.bytes ∙ ap (brought_with_header found) at.1)
@@ -411,26 +429,3 @@ header-told P left found scan old cur new (Ok x) has h = tt
 header-told P left found scan old cur new (Err e) has h = λ k l.
     let at = header-then left found scan old cur has k in
     if-refused-as e (λ p. subst P (sym at.1) p) (h at.0 l)
-
--- ---- what holds afterwards
-
-unless-all : {X A B C D : Type 0} (r : Result X Error) → (A → B → C → D) → UnlessRefused r A → UnlessRefused r B
-    → UnlessRefused r C → UnlessRefused r D
-unless-all (Ok x) h a b c = h a b c
-unless-all (Err (errors.Format text)) h a b c = h a b c
-unless-all (Err (errors.Unsupported feature)) h a b c = h a b c
-unless-all (Err (errors.Io e)) h a b c = h a b c
-unless-all (Err (errors.Internal text)) h a b c = h a b c
-unless-all (Err errors.OutOfMemory) h a b c = tt
-
--- A scan of blocks leaves a sound state, also where it has a fault.
-pub decoded-sound : {X : Type 0} (now : Found) (old new : Decoded) (frame : Frame) (r : Result X Error)
-    → IsSound (with_decoded now old) → now.said.frame ≡ Some frame
-    → UnlessRefused r (AreArrays frame.components (blocks_before true new frame))
-    → (ArePlanes frame.components old.planes → UnlessRefused r (ArePlanes frame.components new.planes))
-    → UnlessRefused r (new.samples ≡ old.samples)
-    → UnlessRefused r (IsSound (once_scanned (with_decoded now new)))
-decoded-sound now old new frame r sound e kept planes samples =
-    unless-all r (λ k p s. blocks-sound (with_decoded now old) (once_scanned (with_decoded now new)) frame sound e refl
-    (subst (AreArrays frame.components) (sym (before-as (once_scanned now) new frame true refl)) k) (λ _. p)
-    (ap (λ (s : List (Option (Vec ℕ Global))). planes_in s) s)) kept (planes (sound.planes frame e)) samples

@@ -25,10 +25,6 @@ if-refused-as e f h = search rules
 pub refused-then : (e : Error) (P Q : Type 0) → (P → IfRefused e Q) → IfRefused e P → IfRefused e Q
 refused-then e P Q f h = search rules
 
--- a fact of it, by what leads to that
-pub refused-by : (e : Error) (P Q : Type 0) → IfRefused e (P → Q) → IfRefused e P → IfRefused e Q
-refused-by e P Q f h = search rules
-
 -- where memory didn't run out
 pub if-there : (e : Error) (P : Type 0) → (e ≡ errors.OutOfMemory → ⊥) → IfRefused e P → P
 if-there errors.OutOfMemory P h p = absurd (h refl)

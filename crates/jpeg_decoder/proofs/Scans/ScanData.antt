@@ -1,9 +1,9 @@
 -- The data of a scan, of what is read of its blocks, and the planes that it decides.
-use Rattle.std.proofs.Common.{◌≡◌, ◌<◌, Bool, ℕ, zero, suc, ◌*◌, true, false, Option, None, Result}
+use Rattle.std.proofs.Common.{◌≡◌, ◌<◌, Bool, ℕ, zero, suc, ◌*◌, true, false, Option, None}
 use Rattle.std.proofs.Common.{Ok, Err, List, [], ◌∷◌, refl, sym, ap, subst, ◌∙◌, length, get_or}
 use Rattle.std.proofs.Common.{set, map, drop, arith, rules}
 use Rattle.std.proofs.Math.Logic.{inl, inr}
-use Rattle.std.specs.Prelude.{All, OnOk}
+use Rattle.std.specs.Prelude.{All}
 use Rattle.std.specs.List.{AllByRecursion}
 use Rattle.std.proofs.lemmas.List.{length-map}
 use Rattle.jpeg_bits.specs.Stream.{Stream}
@@ -30,7 +30,7 @@ use Rattle.jpeg_meaning.specs.ScanSegments.{once_scanned, Coding, is_progressive
 use Rattle.jpeg_meaning.specs.ScanSegments.{with_arrays, with_blocks, vias_from}
 use Rattle.jpeg_meaning.specs.Found.{Found}
 use Rattle.jpeg_decoder.specs.Strips.{planes_by, planes_at}
-use Rattle.jpeg_meaning.proofs.Order.Apart.{At, zeros-sized, get-at}
+use Rattle.jpeg_meaning.proofs.Order.Apart.{At, get-at}
 use Rattle.jpeg_meaning.proofs.Written.BroughtLevels.{sequential-arrays}
 use Rattle.jpeg_decoder.proofs.Scans.BlocksBefore.{plane_by-length}
 use Rattle.jpeg_decoder.proofs.Kept.BlockArrays.{Held}
@@ -147,7 +147,7 @@ data-kept-refused f frame p codings bytes fault r = search (rules)
 abbrev planes_after : List Coding → (Arrays × Option Marker) × List ℕ → Outcome (List (List ℕ) × Option Marker)
 planes_after codings r = Ok ((planes_by codings r.0.0, r.0.1), r.1)
 
-zeros-read : (f : Found) (frame : Frame) (codings : List Coding) → is_progressive frame.process ≡ false
+pub zeros-read : (f : Found) (frame : Frame) (codings : List Coding) → is_progressive frame.process ≡ false
     → AllByRecursion (IsOf frame) codings
     → blocks_at codings (arrays_before f frame) ≡ zero_arrays (components_of codings)
 zeros-read f frame codings e of = ap (blocks_at codings) (sequential-arrays f frame e) ∙ zeros-of frame codings of
@@ -281,14 +281,3 @@ pub before-as : (base : Found) (d : Decoded) (frame : Frame) (scanned : Bool) �
     → arrays_before (with_decoded base d) frame ≡ blocks_before scanned d frame
 unfolding arrays_before
 before-as base d frame scanned e = rw e refl
-
-pub kept-afterwards : {X E : Type 0} (r : Result X E) (d : Decoded) (frame : Frame)
-    → is_progressive frame.process ≡ true
-    → OnOk r (AreArrays frame.components (arrays_in d.kept.items))
-    → OnOk r (AreArrays frame.components (blocks_before true d frame))
-kept-afterwards r d frame e h = grind (arith, common_steps)
-
-pub none-kept : {X E : Type 0} (r : Result X E) (d : Decoded) (frame : Frame) → is_progressive
-    frame.process ≡ false
-    → OnOk r (AreArrays frame.components (blocks_before true d frame))
-none-kept r d frame e = grind (arith, common_steps, zeros-sized)

@@ -180,7 +180,7 @@ unfolding scan_segment
 scan-parts found bytes = scan-parts-by found bytes found.said.frame refl
 
 -- a scan within a limit, whose header is that of one within it
-within-parts : (left : Option ℕ) (found : Found) (bytes : List ℕ)
+pub within-parts : (left : Option ℕ) (found : Found) (bytes : List ℕ)
     → (scan_within left Zeros found bytes).turn ≡ (header_within left found bytes >>= turn_after found)
 unfolding scan_turn_at
 within-parts left found bytes = go (is_above left (work_of_header found bytes))

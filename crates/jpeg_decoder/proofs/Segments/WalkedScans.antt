@@ -87,7 +87,7 @@ segment-sound Nothing r found next sound p kept = sound-unless r found next soun
 -- ---- a scan with zeros after its data
 
 -- nothing of it counts
-scan-zeros : (left : Option ℕ) (found : Found) (bytes : List ℕ)
+pub scan-zeros : (left : Option ℕ) (found : Found) (bytes : List ℕ)
     → scan_within left Zeros found bytes ≡ unbrought found (scan_within left Zeros found bytes).turn
 unfolding scan_turn_at
 scan-zeros left found bytes = go (is_above left (work_of_header found bytes))

@@ -59,13 +59,13 @@ plane-joined s table wide n (suc k) xs ys e f =
 
 -- ---- the planes of some rows of MCUs
 
-grown : ℕ → List Coding → Arrays → List (List ℕ)
+pub grown : ℕ → List Coding → Arrays → List (List ℕ)
 grown rows (c ∷ codings) (blocks ∷ arrays) =
     samples_of (rows * c.component.factors.vertical) c blocks ∷ grown rows codings arrays
 grown rows [] arrays = []
 grown rows (c ∷ codings) [] = []
 
-strips-grow : (r : ℕ) (codings : List Coding) (front arrays : Arrays) → AreRows r (components_of codings) front
+pub strips-grow : (r : ℕ) (codings : List Coding) (front arrays : Arrays) → AreRows r (components_of codings) front
     → AreRows 1 (components_of codings) arrays
     → with_strips codings arrays (grown r codings front) ≡ grown (r + 1) codings (each_with_more
     front arrays)
@@ -128,7 +128,7 @@ ends : (f : Arrays → List (List ℕ)) (o : Result (Counted × Text) Fault)
 unfolding ended
 ends f o = grind (arith, common_steps)
 
-none-grown : (codings : List Coding) → map (λ (c : Coding). []) codings
+pub none-grown : (codings : List Coding) → map (λ (c : Coding). []) codings
     ≡ grown 0 codings (map (λ (c : Component). []) (components_of codings))
 unfolding samples_of grown
 none-grown [] = refl
@@ -142,7 +142,7 @@ none-grown (c ∷ codings) = ap₂ (λ (x : List ℕ) (l : List (List ℕ)). x �
         ∙ ap (λ (n : ℕ). plane_of c.component.scale (values_in_block_order c.quantization) c.component.blocks_wide n
         (in_raster c.component.blocks_wide [])) z
 
-all-grown : (frame : Frame) (codings : List Coding) (arrays : Arrays)
+pub all-grown : (frame : Frame) (codings : List Coding) (arrays : Arrays)
     → AllByRecursion (Fits frame) (components_of codings) → grown frame.mcus_high codings arrays
     ≡ planes_by codings arrays
 unfolding planes_by samples_of plane_by plane_of_blocks grown

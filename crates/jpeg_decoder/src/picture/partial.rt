@@ -91,7 +91,7 @@ fn plane_held(
         let array = &kept[index];
         return render(alloc, component, table, array);
     }
-    render(alloc, component, table, &zero_blocks(alloc, component)?)
+    render(alloc, component, table, &zero_blocks(alloc, component))
 }
 
 /// Gives a component without a plane that of its blocks, which are zeros if none are kept.

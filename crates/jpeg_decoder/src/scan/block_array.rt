@@ -53,6 +53,16 @@ impl BlockArray {
         Ok(BlockArray { blocks, count })
     }
 
+    /// Makes this many blocks of zeros, of which none will be stored: no room is reserved.
+    pub fn unstored(alloc: Global, count: usize) -> BlockArray
+        ensures { blocks_in result ≡ replicate count zero_block }
+    {
+        BlockArray {
+            blocks: Vec::new(alloc),
+            count,
+        }
+    }
+
     /// Stores the first blocks, up to this many.
     #[cold]
     #[inline(never)]
@@ -94,7 +104,7 @@ impl BlockArray {
 /// Stores all blocks of some components.
 pub fn fill_all(arrays: &mut Vec<BlockArray>) -> Result<(), AllocError>
     ensures arrays { OnOk result (arrays_in arrays.new.items ≡ arrays_in arrays.old.items) }
-    ensures sizes { OnOk result (sizes_of arrays.new.items ≡ sizes_of arrays.old.items) }
+    ensures sizes { sizes_of arrays.new.items ≡ sizes_of arrays.old.items }
     ensures full { OnOk result (All IsFull arrays.new.items) }
 {
     let mut slot = 0;

@@ -6,6 +6,7 @@ ghost use Rattle.jpeg_bits.specs.declared.huffman.codes.HuffmanTableClass.TheVar
 ghost use Rattle.jpeg_segments.specs.Scales.{is_scale};
 ghost use Rattle.jpeg_meaning.specs.ScanSegments.{is_progressive};
 
+use jpeg_bits::beyond::Beyond;
 use jpeg_bits::blocks::{BlockCoding, Pass};
 use jpeg_bits::huffman::HuffmanTable;
 use jpeg_segments::parser::{CodingProcess, Component};
@@ -85,7 +86,7 @@ impl<'a> Codings<'a> {
     }
 }
 
-/// A scan of blocks: what it codes, its restart intervals, and its components.
+/// A scan of blocks: what it codes, its restart intervals, its components, and how it is read.
 #[derive(Drop)]
 pub struct Scan<'a> {
     /// What it codes.
@@ -96,6 +97,8 @@ pub struct Scan<'a> {
     pub components: Codings<'a>,
     /// Whether the AC coefficients of its blocks are kept.
     pub keeps_ac: bool,
+    /// What follows the markers that end its data.
+    pub beyond: Beyond,
 }
 
 impl<'a> Model for Scan<'a> {
@@ -104,10 +107,11 @@ impl<'a> Model for Scan<'a> {
 
     ghost Value = { BlockScan };
 
-    ghost view = { λ s. block_scan (pass_in s.pass) s.restart_interval s.components s.keeps_ac };
+    ghost view = { λ s. block_scan (pass_in s.pass) s.restart_interval s.components s.keeps_ac
+        s.beyond };
 
     ghost invariant = { λ s. IsBlockScan
-        (block_scan (pass_in s.pass) s.restart_interval s.components s.keeps_ac) };
+        (block_scan (pass_in s.pass) s.restart_interval s.components s.keeps_ac s.beyond) };
 }
 
 impl<'a> Scan<'a> {
@@ -156,9 +160,19 @@ impl<'a> Scan<'a> {
 
     /// Returns whether the AC coefficients of its blocks are kept.
     pub fn keeps_ac(&self) -> bool
-        ensures { result ≡ self.now.keeps_ac }
+        ensures keeps { result ≡ self.now.keeps_ac }
+        ensures scan { IsBlockScan self.now }
     {
         self.keeps_ac
+    }
+
+    /// Returns what follows the markers that end its data: where nothing does, it is read up to its
+    /// first fault.
+    pub fn beyond(&self) -> Beyond
+        ensures beyond { result ≡ self.now.beyond }
+        ensures scan { IsBlockScan self.now }
+    {
+        self.beyond
     }
 
     /// Returns how the blocks of the component in a slot are coded.

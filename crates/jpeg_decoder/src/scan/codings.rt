@@ -19,6 +19,7 @@ ghost use Rattle.jpeg_decoder.specs.Steps.{IsDct, IsRefusal, IsScanBy};
 use crate::scan::coded::{Coded, Codings, Scan, is_progressive, wants_ac};
 use crate::stream::state::{Said, State};
 use crate::stream::tables::{Missing, needed, table_at};
+use jpeg_bits::beyond::Beyond;
 use jpeg_bits::blocks::Pass;
 use jpeg_bits::error::Result;
 use jpeg_bits::huffman::codes::HuffmanTableClass;
@@ -352,23 +353,24 @@ pub fn codings_of<'a>(
     Ok(codings)
 }
 
-/// Returns the scan of blocks that a header begins, with its tables in force. The AC coefficients
-/// of its blocks are kept where they are wanted, and in any case if `keeps_ac` is set. The errors
-/// are `Format` if a table that the scan needs is unset, and `OutOfMemory`.
+/// Returns the scan of blocks that a header begins, with its tables in force. `beyond` follows the
+/// markers that end its data. The AC coefficients of its blocks are kept where they are wanted, and
+/// in any case if nothing does. The errors are `Format` if a table that the scan needs isn't set, or
+/// `OutOfMemory`.
 pub fn block_scan_of<'a>(
     alloc: Global,
     said: &'a Said,
     spare: &'a Spare,
     frame: &'a FrameInfo,
     header: &ScanHeader,
-    keeps_ac: bool,
+    beyond: Beyond,
 ) -> Result<Scan<'a>>
     requires frame { IsDecodedFrame (frame_in frame.now) }
     requires process { IsDct (frame_in frame.now).process }
     requires legal { IsScanOf (frame_in frame.now) header.now }
     requires spare { IsSpareOf said.now header.now spare.now }
     ensures scan { IfOk result (IsScanBy said.now (frame_in frame.now) header.now) }
-    ensures keeps { IfOk result (λ s. keeps_ac ≡ true → s.keeps_ac ≡ true) }
+    ensures beyond { IfOk result (λ s. s.beyond ≡ beyond) }
     ensures progressive { IfOk result
         (λ s. is_progressive (frame_in frame.now).process ≡ true → s.keeps_ac ≡ true) }
     ensures refused { IfErr result (λ e. IsRefusal e
@@ -379,7 +381,8 @@ pub fn block_scan_of<'a>(
     Ok(Scan {
         pass,
         restart_interval: said.restart_interval,
-        keeps_ac: keeps_ac || wants_ac(frame.coding_process, pass, &components),
+        keeps_ac: beyond == Beyond::Nothing || wants_ac(frame.coding_process, pass, &components),
+        beyond,
         components,
     })
 }

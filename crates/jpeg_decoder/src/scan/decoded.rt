@@ -1,33 +1,32 @@
 //! What the scans of a frame have given so far: blocks, and planes (T.81, A.2 and G.1).
 ghost use Rattle.std.specs.Prelude.{◌≡◌, ◌<◌, ◌*◌, [], All, IfOk};
-ghost use Rattle.std.specs.Prelude.{None, OnOk, length, map, replicate, slice_index_or};
+ghost use Rattle.std.specs.Prelude.{None, OnErr, OnOk, false, length, map, replicate};
+ghost use Rattle.std.specs.Prelude.{slice_index_or};
 ghost use Rattle.std.specs.Prelude.{slice_set, true};
 ghost use Rattle.std.specs.List.{list_all};
 ghost use Rattle.jpeg_bits.specs.BlockView.{pass_in, IsPass};
 ghost use Rattle.jpeg_pixels.specs.Scaled.{IsScale};
 ghost use Rattle.jpeg_segments.specs.FrameView.{component_in, frame_in};
-ghost use Rattle.jpeg_bits.specs.Reading.{Answers};
 ghost use Rattle.jpeg_meaning.specs.InTurn.{AreApart};
 ghost use Rattle.jpeg_decoder.specs.Scanning.{arrays_in, blocks_in};
 ghost use Rattle.jpeg_meaning.specs.Scans.{zero_arrays, zero_of};
 ghost use Rattle.jpeg_decoder.specs.PlanesView.{planes_in};
 ghost use Rattle.jpeg_meaning.specs.Rasters.{plane_by};
-ghost use Rattle.jpeg_meaning.specs.ScanSegments.{put_arrays, finished_by, is_progressive};
+ghost use Rattle.jpeg_meaning.specs.ScanSegments.{put_arrays, finished_by};
 ghost use Rattle.jpeg_meaning.specs.Found.{none_finished};
 ghost use Rattle.jpeg_decoder.specs.Steps.{blocks_at, coding_in, without_blocks, IsInOrder};
 ghost use Rattle.jpeg_bits.specs.Passes.{whole_pass};
-ghost use Rattle.jpeg_decoder.specs.Reaching.{is_out_of_memory, kept_beside};
 
 use crate::scan::block_array::BlockArray;
 use crate::scan::coded::{Coded, Scan, is_progressive, is_whole};
 use crate::scan::kept::read_blocks;
 use crate::scan::planes::Planes;
-use crate::scan::reached::reach_blocks;
+use crate::scan::restarts::is_lost;
 use crate::scan::rows::read_planes;
 use crate::scan::strips::{GrowingPlanes, append_stored, empty_planes, plane_size, sample_table};
 use crate::scan::whole_rows::rows_above_unread;
 use jpeg_bits::blocks::Pass;
-use jpeg_bits::error::{Error, Result};
+use jpeg_bits::error::Result;
 use jpeg_bits::marker::Marker;
 use jpeg_bits::source::Source;
 use jpeg_pixels::joint_planes::{JointPlanes, joint_shape};
@@ -84,15 +83,25 @@ fn are_all(marks: &[bool; 64]) -> bool
     marks.iter().all(|mark| *mark)
 }
 
-/// Returns the blocks of a component in which nothing was read yet.
-pub fn zero_blocks(
-    alloc: Global,
-    component: &Component,
-) -> std::result::Result<BlockArray, AllocError>
+/// Returns how many blocks a component has.
+fn count_of(component: &Component) -> usize
+    ensures { let c = component_in component.now in result ≡ c.blocks_high * c.blocks_wide }
+{
+    usize::from(component.block_size.height) * usize::from(component.block_size.width)
+}
+
+/// Returns the blocks of a component that no scan has brought, which take no memory.
+pub fn zero_blocks(alloc: Global, component: &Component) -> BlockArray
+    ensures { blocks_in result ≡ zero_of (component_in component.now) }
+{
+    BlockArray::unstored(alloc, count_of(component))
+}
+
+/// Returns the blocks of a component in which nothing was read yet, with room for them.
+fn empty_blocks(alloc: Global, component: &Component) -> std::result::Result<BlockArray, AllocError>
     ensures { IfOk result (λ v. blocks_in v ≡ zero_of (component_in component.now)) }
 {
-    let count = usize::from(component.block_size.height) * usize::from(component.block_size.width);
-    BlockArray::zeros(alloc, count)
+    BlockArray::zeros(alloc, count_of(component))
 }
 
 /// Returns the blocks of all components of a frame in which nothing was read yet.
@@ -103,7 +112,7 @@ fn zero_frame(alloc: Global, frame: &FrameInfo) -> std::result::Result<Vec<Block
 {
     let mut arrays = Vec::with_capacity(alloc, frame.components.len())?;
     for component in &frame.components {
-        arrays.push(zero_blocks(alloc, component)?)?;
+        arrays.push(empty_blocks(alloc, component)?)?;
     }
     Ok(arrays)
 }
@@ -175,41 +184,12 @@ fn put_blocks(
     }
 }
 
-/// Keeps the blocks of a scan's components for the next scan of a progressive frame; none are kept
-/// of a sequential one.
-fn keep_blocks(
-    alloc: Global,
-    frame: &FrameInfo,
-    codings: &[Coded<'_>],
-    arrays: &mut Vec<BlockArray>,
-    kept: &mut Vec<BlockArray>,
-)
-    requires count { length arrays.old.items ≡ length codings.now }
-    requires indices { All (λ c. c.index < length kept.old.items) codings.now }
-    ensures { arrays_in kept.new.items ≡ kept_beside (is_progressive (frame_in frame.now).process)
-        (map coding_in codings.now) (arrays_in arrays.old.items) (arrays_in kept.old.items) }
-{
-    if is_progressive(frame.coding_process) {
-        put_blocks(alloc, codings, arrays, kept);
-    } else {
-        *kept = Vec::new(alloc);
-    }
-}
-
-/// Returns whether a scan ended since there was no memory.
-fn is_out_of_memory(met: &Result<Option<Marker>>) -> bool
-    ensures { result ≡ is_out_of_memory met.now }
-{
-    matches!(met, Err(Error::OutOfMemory))
-}
-
 impl Decoded {
-    ghost use Rattle.jpeg_meaning.specs.States.{OnTold};
-    ghost use Rattle.jpeg_decoder.specs.Reaching.{data_reached, UnlessRefused};
+    ghost use Rattle.jpeg_decoder.specs.Reaching.{ReadsData};
+    ghost use Rattle.jpeg_decoder.specs.Walks.{AfterWalk};
     ghost use Rattle.std.specs.Prelude.{◌≡◌, ◌<◌, [], All, IfOk, OnOk, None, Some};
     ghost use Rattle.std.specs.Prelude.{◌*◌, true, false, length, map, replicate, slice_index_or};
     ghost use Rattle.std.specs.Prelude.{is_some, slice_set};
-    ghost use Rattle.jpeg_bits.specs.Reading.{Answers};
     ghost use Rattle.jpeg_bits.specs.BlockView.{pass_in, IsPass};
     ghost use Rattle.jpeg_pixels.specs.Scaled.{IsScale};
     ghost use Rattle.jpeg_segments.specs.FrameView.{component_in, frame_in};
@@ -461,7 +441,7 @@ impl Decoded {
     }
 
     /// Reads a scan of a progressive frame on the blocks that are kept, and returns the marker
-    /// after it, if it was reached.
+    /// after its data, if it was reached.
     fn read_kept<R: Read + Drop>(
         &mut self,
         alloc: Global,
@@ -476,23 +456,27 @@ impl Decoded {
         requires kept { AreArrays (frame_in frame.now).components
             (blocks_before scanned self.old (frame_in frame.now)) }
         ensures data { (base : Found) → IsBefore scanned scan.now base
-            → Answers (λ m. (once_scanned (with_decoded base self.new), m))
-            (scan_data (with_decoded base self.old) (frame_in frame.now)
-            scan.now.pass scan.now.codings)
-            source.old result source.new }
-        ensures kept { OnOk result (AreArrays (frame_in frame.now).components
+            → ReadsData scan.now (frame_in frame.now) base self.old source.old result self.new
+            source.new }
+        ensures kept { AfterWalk scan.now.beyond result (AreArrays (frame_in frame.now).components
             (arrays_in self.new.kept.items)) }
         ensures planes { ArePlanes (frame_in frame.now).components self.old.planes
-            → OnOk result (ArePlanes (frame_in frame.now).components self.new.planes) }
-        ensures samples { OnOk result (self.new.samples ≡ self.old.samples) }
+            → AfterWalk scan.now.beyond result (ArePlanes (frame_in frame.now).components
+            self.new.planes) }
+        ensures samples { AfterWalk scan.now.beyond result (self.new.samples ≡ self.old.samples) }
     {
         let codings = scan.components();
         self.keep(alloc, scanned, frame)?;
         let mut arrays = take_blocks(alloc, codings, &mut self.kept)?;
-        let met = read_blocks(alloc, source, scan, &mut arrays, frame)?;
+        let mut unread = None;
+        let met = read_blocks(alloc, source, scan, &mut arrays, frame, &mut unread);
+        if is_lost(scan.beyond(), &met) {
+            return met;
+        }
         self.add_arrays(alloc, scan, &arrays)?;
         put_blocks(alloc, codings, &mut arrays, &mut self.kept);
-        Ok(met)
+        self.rows = rows_above_unread(frame, scan, unread);
+        met
     }
 
     /// Returns whether the planes of all components of a scan are decided.
@@ -526,7 +510,7 @@ impl Decoded {
     }
 
     /// Reads a scan of a sequential frame whose components have planes already, and returns the
-    /// marker after it, if one was reached.
+    /// marker after its data, if one was reached.
     ///
     /// The first scan of a component decides its plane; the blocks of later ones are read, and
     /// neither transformed nor kept.
@@ -543,32 +527,26 @@ impl Decoded {
         requires decided { All (λ c. is_some (slice_index_or self.now.planes
             c.index None) ≡ true) scan.now.codings }
         ensures data { (base : Found) → IsBefore scanned scan.now base
-            → Answers (λ m. (once_scanned (with_decoded base self.new), m))
-            (scan_data (with_decoded base self.old) (frame_in frame.now)
-            scan.now.pass scan.now.codings)
-            source.old result source.new }
-        ensures planes { OnOk result (self.new.planes ≡ self.old.planes) }
-        ensures samples { OnOk result (self.new.samples ≡ self.old.samples) }
+            → ReadsData scan.now (frame_in frame.now) base self.old source.old result self.new
+            source.new }
+        ensures planes { AfterWalk scan.now.beyond result (self.new.planes ≡ self.old.planes) }
+        ensures samples { AfterWalk scan.now.beyond result (self.new.samples ≡ self.old.samples) }
     {
-        let reached = read_planes(
-            alloc,
-            source,
-            scan,
-            frame,
-            &mut GrowingPlanes::Own(Vec::new(alloc)),
-        )?;
+        let mut none = GrowingPlanes::Own(Vec::new(alloc));
+        let mut unread = None;
+        let met = read_planes(alloc, source, scan, frame, &mut none, &mut unread);
+        if is_lost(scan.beyond(), &met) {
+            return met;
+        }
         self.kept = Vec::new(alloc);
         self.mark_again(scan);
-        Ok(reached)
+        self.rows = rows_above_unread(frame, scan, unread);
+        met
     }
 
-    /// Reads a scan of blocks up to its first fault, and returns the marker after it and after the
-    /// restart markers at its end, if one was reached. After an error other than out of memory
-    /// the blocks count that were read before it.
-    ///
-    /// The blocks of all components of the frame are held up to its end, also in a sequential one.
-    /// If memory runs out after a fault, also one of the reader, the error is `OutOfMemory`.
-    pub fn reach<R: Read + Drop>(
+    /// Reads a scan of a sequential frame, which decides planes of its components, and returns the
+    /// marker after its data, if one was reached.
+    fn read_first<R: Read + Drop>(
         &mut self,
         alloc: Global,
         source: &mut Source<R>,
@@ -576,44 +554,34 @@ impl Decoded {
         frame: &FrameInfo,
         scan: &Scan<'_>,
     ) -> Result<Option<Marker>>
-        requires keeps { scan.now.keeps_ac ≡ true }
+        requires process { is_progressive (frame_in frame.now).process ≡ false }
         requires ready { IsReadable (frame_in frame.now) scan.now }
-        requires kept { AreArrays (frame_in frame.now).components
-            (blocks_before scanned self.old (frame_in frame.now)) }
-        ensures found { (base : Found) → IsBefore scanned scan.now base
-            → OnTold source.old source.new result (once_scanned (with_decoded base self.new)
-            ≡ (data_reached (with_decoded base self.old) (frame_in frame.now)
-            scan.now.pass scan.now.codings
-            source.old.bytes).found) }
-        ensures rows { (base : Found) → IsBefore scanned scan.now base
-            → OnTold source.old source.new result (self.new.rows ≡ (data_reached
-            (with_decoded base self.old) (frame_in frame.now) scan.now.pass scan.now.codings
-            source.old.bytes).rows) }
         ensures data { (base : Found) → IsBefore scanned scan.now base
-            → UnlessRefused result (Answers (λ m. m) (λ bytes. (data_reached
-            (with_decoded base self.old) (frame_in frame.now) scan.now.pass scan.now.codings
-            bytes).met) source.old result source.new) }
-        ensures kept { UnlessRefused result (AreArrays (frame_in frame.now).components
-            (blocks_before true self.new (frame_in frame.now))) }
+            → ReadsData scan.now (frame_in frame.now) base self.old source.old result self.new
+            source.new }
         ensures planes { ArePlanes (frame_in frame.now).components self.old.planes
-            → UnlessRefused result (ArePlanes (frame_in frame.now).components self.new.planes) }
-        ensures samples { UnlessRefused result (self.new.samples ≡ self.old.samples) }
+            → AfterWalk scan.now.beyond result (ArePlanes (frame_in frame.now).components
+            self.new.planes) }
+        ensures samples { AfterWalk scan.now.beyond result (self.new.samples ≡ self.old.samples) }
     {
-        let codings = scan.components();
-        self.keep(alloc, scanned, frame)?;
-        let mut arrays = take_blocks(alloc, codings, &mut self.kept)?;
+        let mut planes = self.start_planes(alloc, frame, scan)?;
         let mut unread = None;
-        let met = reach_blocks(alloc, source, scan, &mut arrays, frame, &mut unread);
-        if is_out_of_memory(&met) {
+        let met = read_planes(alloc, source, scan, frame, &mut planes, &mut unread);
+        if is_lost(scan.beyond(), &met) {
             return met;
         }
-        self.add_arrays(alloc, scan, &arrays)?;
-        keep_blocks(alloc, frame, codings, &mut arrays, &mut self.kept);
+        self.kept = Vec::new(alloc);
+        self.add_grown(scan, planes, alloc);
         self.rows = rows_above_unread(frame, scan, unread);
         met
     }
 
-    /// Reads the entropy-coded data of a scan, and returns the marker after it, if it was reached.
+    /// Reads the entropy-coded data of a scan, and returns the marker after them, if one was
+    /// reached.
+    ///
+    /// Where nothing follows the markers that end them, the blocks count that were read before an
+    /// error other than out of memory, and what lacks is blocks of zeros, or as before in a
+    /// progressive frame.
     pub fn read<R: Read + Drop>(
         &mut self,
         alloc: Global,
@@ -628,15 +596,14 @@ impl Decoded {
         requires kept { AreArrays (frame_in frame.now).components
             (blocks_before scanned self.old (frame_in frame.now)) }
         ensures data { (base : Found) → IsBefore scanned scan.now base
-            → Answers (λ m. (once_scanned (with_decoded base self.new), m))
-            (scan_data (with_decoded base self.old) (frame_in frame.now)
-            scan.now.pass scan.now.codings)
-            source.old result source.new }
-        ensures kept { OnOk result (AreArrays (frame_in frame.now).components
+            → ReadsData scan.now (frame_in frame.now) base self.old source.old result self.new
+            source.new }
+        ensures kept { AfterWalk scan.now.beyond result (AreArrays (frame_in frame.now).components
             (blocks_before true self.new (frame_in frame.now))) }
         ensures planes { ArePlanes (frame_in frame.now).components self.old.planes
-            → OnOk result (ArePlanes (frame_in frame.now).components self.new.planes) }
-        ensures samples { OnOk result (self.new.samples ≡ self.old.samples) }
+            → AfterWalk scan.now.beyond result (ArePlanes (frame_in frame.now).components
+            self.new.planes) }
+        ensures samples { AfterWalk scan.now.beyond result (self.new.samples ≡ self.old.samples) }
     {
         if is_progressive(frame.coding_process) {
             return self.read_kept(alloc, source, scanned, frame, scan);
@@ -644,10 +611,6 @@ impl Decoded {
         if self.are_decided(scan.components()) {
             return self.read_again(alloc, source, scanned, frame, scan);
         }
-        let mut planes = self.start_planes(alloc, frame, scan)?;
-        let reached = read_planes(alloc, source, scan, frame, &mut planes)?;
-        self.kept = Vec::new(alloc);
-        self.add_grown(scan, planes, alloc);
-        Ok(reached)
+        self.read_first(alloc, source, scanned, frame, scan)
     }
 }

@@ -2,23 +2,28 @@
 //!
 //! Where a component is alone and DC isn't coded, the blocks are read line by line, and as many as
 //! stand between two restarts by one call.
-ghost use Rattle.std.specs.Prelude.{◌≡◌, ◌≤◌, ◌<◌, ◌+◌, ◌-◌, ◌*◌, ◌∷◌, OnOk, true, length};
+ghost use Rattle.std.specs.Prelude.{◌≡◌, ◌≤◌, ◌<◌, ◌+◌, ◌-◌, ◌*◌, ◌∷◌, OnOk, length, option_map};
+ghost use Rattle.std.specs.Prelude.{true};
 ghost use Rattle.std.specs.List.{AllByRecursion};
 ghost use Rattle.jpeg_bits.specs.Reading.{Answers};
 ghost use Rattle.jpeg_bits.specs.Entropy.{Takes};
 ghost use Rattle.jpeg_segments.specs.FrameView.{frame_in};
 ghost use Rattle.jpeg_meaning.specs.InTurn.{blocks_from, scan_from, turns_from, Fits, AreArrays};
 ghost use Rattle.jpeg_meaning.specs.Order.{spots_of, mcu_size};
+ghost use Rattle.jpeg_bits.specs.declared.beyond.Beyond.TheVariants.{Nothing, Zeros};
 ghost use Rattle.jpeg_meaning.specs.Scans.{Arrays, arrays_at};
+ghost use Rattle.jpeg_meaning.specs.States.{OnTold};
 ghost use Rattle.jpeg_decoder.specs.Scanning.{IsSpotOf, scan_vias, scan_components};
 ghost use Rattle.jpeg_decoder.specs.Scanning.{arrays_in, blocks_in, sizes_of, counted, reached};
-ghost use Rattle.jpeg_decoder.specs.Walk.{line_spots, rows_spots};
+ghost use Rattle.jpeg_decoder.specs.Through.{blocks_reached};
+ghost use Rattle.jpeg_decoder.specs.Walk.{line_spots, rows_spots, spot_of};
 
 use crate::scan::block_array::BlockArray;
 use crate::scan::blocks::{Interval, begin, first_interval, read_spots};
 use crate::scan::coded::Scan;
 use crate::scan::order::ScanOrder;
-use crate::scan::spots::Spots;
+use crate::scan::spots::Spot;
+use jpeg_bits::beyond::Beyond;
 use jpeg_bits::blocks::bands::take_bands;
 use jpeg_bits::error::{Error, Result, take_refusal};
 use jpeg_bits::marker::Marker;
@@ -47,6 +52,7 @@ fn read_part<R: Read + Drop>(
     ensures predictors { interval.new.carried.predictors ≡ interval.old.carried.predictors }
     ensures left { interval.new.left ≡ interval.old.left }
     ensures number { interval.new.number ≡ interval.old.number }
+    ensures beyond { interval.new.beyond ≡ interval.old.beyond }
     ensures blocks { (others : Arrays) →
         Takes (λ _. reached interval.new (blocks_in array.new ∷ others))
         (turns_from scan.now.pass (scan_vias scan.now) (line_spots first (end - first))
@@ -170,66 +176,73 @@ fn read_bands<R: Read + Drop>(
         (rows_spots grid 0 grid.own_high) (blocks_in array.old ∷ others))
         source.old result source.new }
 {
-    let mut interval = first_interval(alloc, u64::from(scan.restart_interval()));
+    let n = u64::from(scan.restart_interval());
+    let mut interval = first_interval(alloc, n, Beyond::Zeros);
     read_lines(&mut interval, source, scan, array, grid)?;
     interval.decoder.take_marker(source)
 }
 
-/// Reads the blocks at some spots, in restart intervals of `n` blocks, or in one where `n` is 0,
-/// and returns the marker after them, if it was reached.
-#[tactic(auto, unfolding(jpeg_meaning::specs::InTurn::scan_from))]
-fn read_intervals<R: Read + Drop>(
-    alloc: Global,
-    source: &mut Source<R>,
-    scan: &Scan<'_>,
-    arrays: &mut Vec<BlockArray>,
-    n: u64,
-    spots: &mut Spots<'_>,
-) -> Result<Option<Marker>>
-    requires keeps { scan.now.keeps_ac ≡ true }
-    requires spots { AllByRecursion (IsSpotOf (length scan.now.codings)
-        (sizes_of arrays.now.items)) spots.old }
-    ensures sizes { sizes_of arrays.new.items ≡ sizes_of arrays.old.items }
-    ensures scan { Answers (λ m. (arrays_in arrays.new.items, m))
-        (scan_from scan.now.pass (scan_vias scan.now) n spots.old
-        (arrays_in arrays.old.items))
-        source.old result source.new }
-{
-    let mut interval = first_interval(alloc, n);
-    read_spots(&mut interval, source, scan, arrays, n, spots)?;
-    interval.decoder.take_marker(source)
-}
-
 /// Reads a scan of a frame on the blocks that are kept of its components, and returns the marker
-/// after it, if it was reached.
+/// after its data, if it was reached.
+///
+/// Where nothing follows the markers that end its data, the blocks before the first that can't be
+/// read are there after an error other than out of memory, and `unread` is the spot of that one.
 ///
 /// The errors are those of the source, a refused code or category (T.81, F.2.2), a restart marker
 /// that is missing or out of turn, and out of memory.
+#[tactic(auto, unfolding(jpeg_meaning::specs::InTurn::scan_from))]
 pub fn read_blocks<R: Read + Drop>(
     alloc: Global,
     source: &mut Source<R>,
     scan: &Scan<'_>,
     arrays: &mut Vec<BlockArray>,
     frame: &FrameInfo,
+    unread: &mut Option<Spot>,
 ) -> Result<Option<Marker>>
     requires keeps { scan.now.keeps_ac ≡ true }
     requires some { 1 ≤ length scan.now.codings }
     requires fits { AllByRecursion (Fits (frame_in frame.now)) (scan_components scan.now) }
     requires arrays { AreArrays (scan_components scan.now) (arrays_in arrays.now.items) }
     ensures sizes { sizes_of arrays.new.items ≡ sizes_of arrays.old.items }
-    ensures scan { Answers (λ m. (arrays_in arrays.new.items, m))
+    ensures scan { scan.now.beyond ≡ Zeros → Answers (λ m. (arrays_in arrays.new.items, m))
         (arrays_at scan.now.pass
         (scan.now.restart_interval * mcu_size (scan_components scan.now))
         (scan_vias scan.now) (spots_of (frame_in frame.now) (scan_components scan.now))
         (arrays_in arrays.old.items))
         source.old result source.new }
+    ensures arrays { scan.now.beyond ≡ Nothing → OnTold source.old source.new result
+        (arrays_in arrays.new.items ≡ (blocks_reached scan.now.pass (scan_vias scan.now)
+        (scan.now.restart_interval * mcu_size (scan_components scan.now))
+        (spots_of (frame_in frame.now) (scan_components scan.now)) (arrays_in arrays.old.items)
+        source.old.bytes).reached) }
+    ensures unread { scan.now.beyond ≡ Nothing → OnTold source.old source.new result
+        (option_map spot_of unread.new ≡ (blocks_reached scan.now.pass (scan_vias scan.now)
+        (scan.now.restart_interval * mcu_size (scan_components scan.now))
+        (spots_of (frame_in frame.now) (scan_components scan.now)) (arrays_in arrays.old.items)
+        source.old.bytes).unread) }
+    ensures answers { scan.now.beyond ≡ Nothing → Answers (λ m. m)
+        (λ bytes. (blocks_reached scan.now.pass (scan_vias scan.now)
+        (scan.now.restart_interval * mcu_size (scan_components scan.now))
+        (spots_of (frame_in frame.now) (scan_components scan.now)) (arrays_in arrays.old.items)
+        bytes).rest) source.old result source.new }
 {
     let codings = scan.components();
-    if scan.pass().ss > 0 && codings.len() == 1 {
+    if scan.beyond() == Beyond::Zeros && scan.pass().ss > 0 && codings.len() == 1 {
         let grid = grid_of(scan.component(0));
         return read_bands(alloc, source, scan, &mut arrays[0], grid);
     }
     let order = ScanOrder::new(alloc, scan, frame)?;
     let mut spots = order.spots();
-    read_intervals(alloc, source, scan, arrays, order.interval, &mut spots)
+    let mut interval = first_interval(alloc, order.interval, scan.beyond());
+    let read = read_spots(
+        &mut interval,
+        source,
+        scan,
+        arrays,
+        order.interval,
+        &mut spots,
+    );
+    *unread = interval.unread;
+    read?;
+    interval.decoder.take_marker(source)
 }

@@ -1,29 +1,36 @@
 //! Scans of lossless frames (T.81, B.2.3 and Annex H).
-ghost use Rattle.std.specs.Prelude.{◌≡◌, ◌<◌, ◌==◌, All, IfErr, IfOk, OnErr, OnOk, Ok, Some};
+ghost use Rattle.std.specs.Prelude.{◌≡◌, ◌<◌, ◌==◌, All, IfErr, IfOk, List, OnErr, OnOk, Ok, Some};
 ghost use Rattle.std.specs.Prelude.{length, map};
 ghost use Rattle.jpeg_bits.specs.Reading.{Answers, Names};
 ghost use Rattle.jpeg_segments.specs.Frame.{AllHaveSampling};
 ghost use Rattle.jpeg_segments.specs.FrameView.{component_in, frame_in};
 ghost use Rattle.jpeg_segments.specs.ScanHeader.{IsScanOf};
 ghost use Rattle.jpeg_segments.specs.declared.frame.CodingProcess.TheVariants.{Lossless};
-ghost use Rattle.jpeg_meaning.specs.LosslessScans.{tables_in};
+ghost use Rattle.jpeg_meaning.specs.LosslessScans.{LosslessCoding, tables_in};
+ghost use Rattle.jpeg_meaning.specs.States.{OnTold};
+ghost use Rattle.jpeg_bits.specs.declared.beyond.Beyond.TheVariants.{Nothing, Zeros};
 ghost use Rattle.jpeg_decoder.specs.Seen.{found_of};
 ghost use Rattle.jpeg_meaning.specs.ScanSegments.{once_scanned};
 ghost use Rattle.jpeg_meaning.specs.Sound.{IsDecodedFrame, IsSound};
-ghost use Rattle.jpeg_decoder.specs.Reaching.{IsSampleScan, sample_codings};
+ghost use Rattle.jpeg_decoder.specs.Reaching.{IsSampleScan, UnlessRefused, sample_codings};
+ghost use Rattle.jpeg_decoder.specs.Reaching.{samples_reached};
 ghost use Rattle.jpeg_decoder.specs.Steps.{IsRefusal, Returns, samples_read};
 ghost use Rattle.jpeg_decoder.specs.LosslessParts.{mcus_high, mcus_wide, part_by, parts_at};
+ghost use Rattle.jpeg_decoder.specs.Walks.{AfterWalk};
 ghost use Rattle.jpeg_lossless.specs.Codings.{part_in};
 
 use crate::scan::decoded::Decoded;
-use crate::scan::restarts::pass_restarts;
+use crate::scan::restarts::pass_after;
+use crate::scan::samples::complete_all;
+use crate::scan::whole_rows::rows_of_planes;
 use crate::stream::state::Said;
 use crate::stream::tables::{Missing, needed, table_at};
+use jpeg_bits::beyond::Beyond;
 use jpeg_bits::error::{Result, format_error_of};
 use jpeg_bits::huffman::HuffmanTable;
 use jpeg_bits::marker::Marker;
 use jpeg_bits::source::Source;
-use jpeg_lossless::scan::{Coding, Part, read_scan, rows_of_interval};
+use jpeg_lossless::scan::{Coding, LosslessScan, Part, RowCoding, rows_of_interval};
 use jpeg_segments::parser::{Component, FrameInfo, ScanHeader};
 use jpeg_segments::sizes::{ceiling, greatest_of};
 use std::alloc::{AllocError, Global};
@@ -145,37 +152,7 @@ fn coding_of(frame: &FrameInfo, header: &ScanHeader, restart_interval: u16) -> C
     }
 }
 
-/// Reads a scan of a lossless frame by what was said before it, with what the scans before it gave,
-/// and returns the marker after it and after the restart markers at its end, if one was reached.
-/// The samples of the scan replace its components' earlier ones.
-pub fn read_lossless_scan<R: Read + Drop>(
-    alloc: Global,
-    source: &mut Source<R>,
-    said: &Said,
-    frame: &FrameInfo,
-    header: &ScanHeader,
-    decoded: &mut Decoded,
-) -> Result<Option<Marker>>
-    requires sound { IsSound (found_of said.now decoded.old) }
-    requires frame { said.now.frame ≡ Some (frame_in frame.now) }
-    requires process { (frame_in frame.now).process ≡ Lossless }
-    requires legal { IsScanOf (frame_in frame.now) header.now }
-    ensures reads { Answers (λ m. (once_scanned (found_of said.now decoded.new), m))
-        (samples_read (found_of said.now decoded.old) (frame_in frame.now) header.now)
-        source.old result source.new }
-    ensures sound { OnOk result (IsSound (once_scanned (found_of said.now decoded.new))) }
-    ensures stays { OnErr result (decoded.new ≡ decoded.old) }
-{
-    let tables = tables_of(alloc, said, frame, header)?;
-    let parts = parts_of(alloc, frame, header.components(), &tables)?;
-    let coding = coding_of(frame, header, said.restart_interval);
-    let (mut planes, met) = read_scan(alloc, source, coding, &parts)?;
-    let met = pass_restarts(alloc, source, met)?;
-    decoded.put_samples(alloc, header.components(), &mut planes);
-    Ok(met)
-}
-
-/// A lossless scan that is to be read up to its first fault.
+/// A lossless scan whose data are to be read.
 #[derive(Drop)]
 pub struct SampleScan<'a> {
     /// What was said before it.
@@ -226,4 +203,68 @@ pub fn sample_scan_of<'a>(
         parts,
         rows,
     })
+}
+
+/// Reads the data of a lossless scan, after whose marker `beyond` follows, and that of each restart
+/// interval. Returns the marker after it and after the restart markers at its end, if one was
+/// reached.
+///
+/// With `Zeros` the samples of the scan replace its components' earlier ones, and an error changes
+/// nothing. With `Nothing` the rows of MCUs that were read replace the first samples of its
+/// components, also after an error other than out of memory. What lacks is as before, or half of
+/// the range of samples.
+pub fn read_samples<R: Read + Drop>(
+    alloc: Global,
+    source: &mut Source<R>,
+    scan: &SampleScan<'_>,
+    decoded: &mut Decoded,
+    beyond: Beyond,
+) -> Result<Option<Marker>>
+    requires sound { IsSound (found_of scan.now.said.now decoded.old) }
+    requires frame { scan.now.said.now.frame ≡ Some (frame_in scan.now.frame.now) }
+    requires process { (frame_in scan.now.frame.now).process ≡ Lossless }
+    requires legal { IsScanOf (frame_in scan.now.frame.now) scan.now.header.now }
+    requires scan { IsSampleScan scan.now.said.now (frame_in scan.now.frame.now)
+        scan.now.header.now scan.now }
+    ensures reads { beyond ≡ Zeros
+        → Answers (λ m. (once_scanned (found_of scan.now.said.now decoded.new), m))
+        (samples_read (found_of scan.now.said.now decoded.old) (frame_in scan.now.frame.now)
+        scan.now.header.now) source.old result source.new }
+    ensures stays { beyond ≡ Zeros → OnErr result (decoded.new ≡ decoded.old) }
+    ensures found { beyond ≡ Nothing → (codings : List LosslessCoding)
+        → sample_codings scan.now.said.now (frame_in scan.now.frame.now) scan.now.header.now
+        ≡ Ok codings
+        → OnTold source.old source.new result (once_scanned (found_of scan.now.said.now decoded.new)
+        ≡ (samples_reached (found_of scan.now.said.now decoded.old) (frame_in scan.now.frame.now)
+        scan.now.header.now codings source.old.bytes).found) }
+    ensures rows { beyond ≡ Nothing → (codings : List LosslessCoding)
+        → sample_codings scan.now.said.now (frame_in scan.now.frame.now) scan.now.header.now
+        ≡ Ok codings
+        → OnTold source.old source.new result (decoded.new.rows ≡ (samples_reached
+        (found_of scan.now.said.now decoded.old) (frame_in scan.now.frame.now)
+        scan.now.header.now codings source.old.bytes).rows) }
+    ensures met { beyond ≡ Nothing → (codings : List LosslessCoding)
+        → sample_codings scan.now.said.now (frame_in scan.now.frame.now) scan.now.header.now
+        ≡ Ok codings
+        → UnlessRefused result (Answers (λ m. m) (λ bytes. (samples_reached
+        (found_of scan.now.said.now decoded.old) (frame_in scan.now.frame.now)
+        scan.now.header.now codings bytes).met) source.old result source.new) }
+    ensures sound { UnlessRefused result
+        (IsSound (once_scanned (found_of scan.now.said.now decoded.new))) }
+{
+    let coding = RowCoding::new(alloc, scan.coding, &scan.parts)?;
+    let mut rows = LosslessScan::new(alloc, &coding)?;
+    let met = rows.read_intervals(source, &coding, scan.rows, beyond);
+    let met = pass_after(alloc, source, met);
+    if beyond == Beyond::Zeros && met.is_err() {
+        return met;
+    }
+    let mut planes = rows.finish(&coding);
+    let header = scan.header;
+    let indices = header.components();
+    let whole = rows_of_planes(scan.frame, indices, &planes);
+    complete_all(scan.frame, indices, &decoded.samples, &mut planes)?;
+    decoded.put_samples(alloc, indices, &mut planes);
+    decoded.rows = whole;
+    met
 }

@@ -1,12 +1,15 @@
 //! The restart markers of a scan (T.81, E.2.4).
-ghost use Rattle.std.specs.Prelude.{◌≡◌};
+ghost use Rattle.std.specs.Prelude.{◌≡◌, Err, IfErr, IfOk, OnErr, OnOk, false, true};
+ghost use Rattle.jpeg_bits.specs.declared.beyond.Beyond.TheVariants.{Nothing, Zeros};
+ghost use Rattle.jpeg_decoder.specs.Reaching.{is_out_of_memory};
 ghost use Rattle.jpeg_bits.specs.Reading.{Answers};
 ghost use Rattle.jpeg_bits.specs.Entropy.{Takes};
 ghost use Rattle.jpeg_bits.specs.Intervals as intervals;
 ghost use Rattle.jpeg_meaning.specs.InTurn.{restart_from};
 ghost use Rattle.jpeg_decoder.specs.Steps.{is_restart_marker, after_all};
 
-use jpeg_bits::error::{Result, format_error};
+use jpeg_bits::beyond::Beyond;
+use jpeg_bits::error::{Error, Result, format_error};
 use jpeg_bits::huffman::HuffmanDecoder;
 use jpeg_bits::marker::{Marker, read_marker, restart_error};
 use jpeg_bits::source::Source;
@@ -23,19 +26,24 @@ pub fn is_numbered(marker: Option<Marker>, number: u8) -> bool
     }
 }
 
-/// Reads the restart marker of a number after an interval; the next interval begins.
+/// Reads the restart marker of a number after an interval. The next interval begins, and `beyond`
+/// follows the marker that ends it.
 #[tactic(auto, unfolding(jpeg_meaning::specs::InTurn::restart_from))]
 pub fn read_restart<R: Read + Drop>(
     alloc: Global,
     decoder: &mut HuffmanDecoder,
     source: &mut Source<R>,
     number: u8,
+    beyond: Beyond,
 ) -> Result<()>
-    ensures { Takes (λ _. tt) (restart_from number)
+    ensures { Takes (λ _. tt) (restart_from beyond number)
         decoder.old source.old result decoder.new source.new }
 {
     let marker = decoder.take_marker(source)?;
     decoder.reset();
+    if beyond == Beyond::Nothing {
+        *decoder = HuffmanDecoder::with_beyond(alloc, beyond);
+    }
     if !is_numbered(marker, number) {
         return Err(restart_error(alloc, marker, number));
     }
@@ -47,6 +55,38 @@ fn is_restart(met: Option<Marker>) -> bool
     ensures { result ≡ is_restart_marker met }
 {
     matches!(met, Some(Marker::RST(_)))
+}
+
+/// Returns whether nothing counts of a scan whose data ended so: they were refused where zeros follow
+/// the markers that end them, or memory ran out.
+pub fn is_lost(beyond: Beyond, met: &Result<Option<Marker>>) -> bool
+    ensures lost { result ≡ true → OnOk met.now ⊥ }
+    ensures memory { result ≡ true → beyond ≡ Nothing → is_out_of_memory met.now ≡ true }
+    ensures counts { result ≡ false → beyond ≡ Zeros → OnErr met.now ⊥ }
+    ensures there { result ≡ false → is_out_of_memory met.now ≡ false }
+{
+    match met {
+        Ok(_) => false,
+        Err(Error::OutOfMemory) => true,
+        Err(_) => beyond == Beyond::Zeros,
+    }
+}
+
+/// Passes over the restart markers after the data of a scan, which were read without a fault, and
+/// returns the marker after them, if one was reached.
+pub fn pass_after<R: Read + Drop>(
+    alloc: Global,
+    source: &mut Source<R>,
+    read: Result<Option<Marker>>,
+) -> Result<Option<Marker>>
+    ensures passed { IfOk read (λ met. Answers (λ m. m) (after_all met) source.old result
+        source.new) }
+    ensures refused { IfErr read (λ e. (result ≡ Err e) × (source.new ≡ source.old)) }
+{
+    match read {
+        Ok(met) => pass_restarts(alloc, source, met),
+        Err(e) => Err(e),
+    }
 }
 
 /// Skips restart markers after a scan, and returns the marker after them, if it was reached.

@@ -1,13 +1,11 @@
 //! A scan in a stream: its header, the tables in force, its data (T.81, B.2.3), and what may stand
 //! after it.
 ghost use Rattle.jpeg_bits.specs.Reading.{Answers, Names};
-ghost use Rattle.jpeg_segments.specs.FrameView.{frame_in};
-ghost use Rattle.jpeg_segments.specs.ScanHeader.{IsScanOf};
 ghost use Rattle.jpeg_segments.specs.declared.frame.CodingProcess.TheVariants.{Lossless};
 ghost use Rattle.jpeg_meaning.specs.Sound.{IsSound};
 ghost use Rattle.jpeg_decoder.specs.Seen.{found_of};
-ghost use Rattle.jpeg_decoder.specs.Steps.{IsDct, IsHeaderOf, IsRefusal, IsStep, blocks_read};
-ghost use Rattle.jpeg_decoder.specs.Steps.{header_within, read_after, turn_of};
+ghost use Rattle.jpeg_decoder.specs.Steps.{IsDct, IsHeaderOf, IsRefusal, IsStep};
+ghost use Rattle.jpeg_decoder.specs.Steps.{header_within, turn_of};
 ghost use Rattle.jpeg_meaning.specs.ScanSegments.{once_scanned};
 ghost use Rattle.jpeg_bits.specs.declared.marker.Marker.TheVariants.{DNL};
 ghost use Rattle.jpeg_meaning.specs.Found.{Found};
@@ -16,13 +14,13 @@ ghost use Rattle.std.specs.Prelude.{IfOk, IfSome, List, None, OnOk, Some, false,
 ghost use Rattle.jpeg_meaning.specs.Work.{is_above, left_after, work_of_header};
 ghost use Rattle.jpeg_decoder.specs.Walks.{AfterWalk, IsGoing, Leaves, OfWalk};
 ghost use Rattle.jpeg_meaning.specs.States.{OnToldRefusal};
-ghost use Rattle.jpeg_decoder.specs.Reaching.{IsEndOf, UnlessRefused, brought_after, rows_after};
+ghost use Rattle.jpeg_bits.specs.declared.beyond.Beyond.TheVariants.{Nothing, Zeros};
+ghost use Rattle.jpeg_decoder.specs.Reaching.{IsEndOf, rows_after, turn_after};
 
 use crate::scan::codings::{block_scan_of, spare_tables, widen_tables};
 use crate::scan::decoded::Decoded;
-use crate::scan::lossless::{read_lossless_scan, sample_scan_of};
-use crate::scan::reached_rows::reach_samples;
-use crate::scan::restarts::pass_restarts;
+use crate::scan::lossless::{read_samples, sample_scan_of};
+use crate::scan::restarts::pass_after;
 use crate::scan::work::{Budget, Walk};
 use crate::stream::state::{Said, State, Step};
 use crate::stream::tables::{Missing, needed};
@@ -50,20 +48,19 @@ pub fn refused_line_count(alloc: Global, before: Before) -> Error
     }
 }
 
-/// Marks that the data of a scan were read up to their first fault, and returns what stands after
-/// it, or the refusal of its data, and with that the number of complete rows of the picture, which
-/// the scan has given.
-fn end_reached(
+/// Marks that the data of a scan were read, and returns what stands after it, or the refusal of its
+/// data, and with that the number of complete rows of the picture, which the scan has given.
+fn end_read(
     state: &mut State,
-    reached: Result<Option<Marker>>,
+    read: Result<Option<Marker>>,
     given: Option<u16>,
     rows: &mut Option<u16>,
 ) -> Result<Step>
-    ensures rows { rows.new ≡ rows_after reached rows.old given }
+    ensures rows { rows.new ≡ rows_after read rows.old given }
     ensures found { state.new ≡ once_scanned state.old }
-    ensures step { IsEndOf state.old (turn_of state.new) reached result }
+    ensures step { IsEndOf state.old (turn_of state.new) read result }
 {
-    match reached {
+    match read {
         Ok(met) => Ok(state.end_scan(met)),
         Err(e) => {
             *rows = given;
@@ -115,13 +112,25 @@ fn is_lossless(said: &Said) -> bool
     }
 }
 
-/// Reads the blocks of a scan up to its first fault, and returns what stands after it, as
-/// `reach_after` does.
-fn reach_block_scan<R: Read + Drop>(
+/// Returns how many rows of the picture are complete, as far as a scan has said so whose data were
+/// read up to their first fault.
+fn rows_given(decoded: &Decoded, beyond: Beyond) -> Option<u16>
+    ensures zeros { beyond ≡ Zeros → result ≡ None }
+    ensures nothing { beyond ≡ Nothing → result ≡ decoded.now.rows }
+{
+    match beyond {
+        Beyond::Nothing => decoded.rows,
+        Beyond::Zeros => None,
+    }
+}
+
+/// Reads the blocks of a scan, and returns what stands after it, as `read_after` does.
+fn read_block_scan<R: Read + Drop>(
     alloc: Global,
     source: &mut Source<R>,
     state: &mut State,
     header: &ScanHeader,
+    beyond: Beyond,
     rows: &mut Option<u16>,
 ) -> Result<Step>
     requires sound { IsSound state.old }
@@ -129,13 +138,12 @@ fn reach_block_scan<R: Read + Drop>(
     requires process { IfSome state.old.said.frame (λ f. IsDct f.process) }
     requires rows { rows.old ≡ None }
     ensures whole { OnOk result (rows.new ≡ None) }
-    ensures rows { OnToldRefusal source.old source.new result (rows.new
-        ≡ (brought_after state.old header.now source.old.bytes).rows) }
-    ensures reads { UnlessRefused result (Answers (turn_of state.new) (λ bytes. (brought_after
-        state.old header.now bytes).turn) source.old result source.new) }
-    ensures found { OnToldRefusal source.old source.new result (state.new
-        ≡ (brought_after state.old header.now source.old.bytes).found) }
-    ensures sound { UnlessRefused result (IsSound state.new) }
+    ensures reads { OfWalk beyond result (Answers (turn_of state.new) (λ bytes.
+        (turn_after beyond state.old header.now bytes).turn) source.old result source.new) }
+    ensures leaves { OnToldRefusal source.old source.new result (let b = turn_after beyond
+        state.old header.now source.old.bytes in
+        Leaves beyond state.new rows.new b.found b.rows) }
+    ensures sound { AfterWalk beyond result (IsSound state.new) }
     ensures steps { IsStep state.old result state.new }
 {
     let said = &state.said;
@@ -143,24 +151,25 @@ fn reach_block_scan<R: Read + Drop>(
         unreachable!()
     };
     let spare = spare_tables(alloc, header, frame, said.metadata.avi1)?;
-    let scan = block_scan_of(alloc, said, &spare, frame, header, true)?;
-    let reached = state
+    let scan = block_scan_of(alloc, said, &spare, frame, header, beyond)?;
+    let read = state
         .decoded
-        .reach(alloc, source, said.scanned, frame, &scan);
+        .read(alloc, source, said.scanned, frame, &scan);
+    let read = pass_after(alloc, source, read);
     // Ends its borrow of `state`.
     drop(scan);
     drop(spare);
-    let given = state.decoded.rows;
-    end_reached(state, reached, given, rows)
+    let given = rows_given(&state.decoded, beyond);
+    end_read(state, read, given, rows)
 }
 
-/// Reads the samples of a lossless scan up to its first fault, and returns what stands after it, as
-/// `reach_after` does.
-fn reach_lossless_scan<R: Read + Drop>(
+/// Reads the samples of a lossless scan, and returns what stands after it, as `read_after` does.
+fn read_lossless_scan<R: Read + Drop>(
     alloc: Global,
     source: &mut Source<R>,
     state: &mut State,
     header: &ScanHeader,
+    beyond: Beyond,
     rows: &mut Option<u16>,
 ) -> Result<Step>
     requires sound { IsSound state.old }
@@ -168,13 +177,12 @@ fn reach_lossless_scan<R: Read + Drop>(
     requires process { IfSome state.old.said.frame (λ f. f.process ≡ Lossless) }
     requires rows { rows.old ≡ None }
     ensures whole { OnOk result (rows.new ≡ None) }
-    ensures rows { OnToldRefusal source.old source.new result (rows.new
-        ≡ (brought_after state.old header.now source.old.bytes).rows) }
-    ensures reads { UnlessRefused result (Answers (turn_of state.new) (λ bytes. (brought_after
-        state.old header.now bytes).turn) source.old result source.new) }
-    ensures found { OnToldRefusal source.old source.new result (state.new
-        ≡ (brought_after state.old header.now source.old.bytes).found) }
-    ensures sound { UnlessRefused result (IsSound state.new) }
+    ensures reads { OfWalk beyond result (Answers (turn_of state.new) (λ bytes.
+        (turn_after beyond state.old header.now bytes).turn) source.old result source.new) }
+    ensures leaves { OnToldRefusal source.old source.new result (let b = turn_after beyond
+        state.old header.now source.old.bytes in
+        Leaves beyond state.new rows.new b.found b.rows) }
+    ensures sound { AfterWalk beyond result (IsSound state.new) }
     ensures steps { IsStep state.old result state.new }
 {
     let said = &state.said;
@@ -182,104 +190,49 @@ fn reach_lossless_scan<R: Read + Drop>(
         unreachable!()
     };
     let scan = sample_scan_of(alloc, said, frame, header)?;
-    let reached = reach_samples(alloc, source, &scan, &mut state.decoded);
+    let read = read_samples(alloc, source, &scan, &mut state.decoded, beyond);
     // Ends its borrow of `state`.
     drop(scan);
-    let given = state.decoded.rows;
-    end_reached(state, reached, given, rows)
+    let given = rows_given(&state.decoded, beyond);
+    end_read(state, read, given, rows)
 }
 
-/// Reads the data of a scan up to their first fault, and returns what stands after it: the marker
-/// after it and after the restart markers at its end, if one was reached.
+/// Reads what follows the header of a scan, and returns what stands after it: the marker after it
+/// and after the restart markers at its end, if one was reached.
 ///
-/// Blocks that were read before an error count, or the rows of MCUs of a lossless scan, unless the
-/// error is out of memory. Where it lacks some, `rows` says how many rows of the picture are
-/// complete.
-fn reach_after<R: Read + Drop>(
+/// Where nothing follows the markers that end its data, the blocks that were read before an error
+/// count, or the rows of MCUs of a lossless scan, unless the error is out of memory. Where it lacks
+/// some, `rows` says how many rows of the picture are complete.
+fn read_after<R: Read + Drop>(
     alloc: Global,
     source: &mut Source<R>,
     state: &mut State,
     header: &ScanHeader,
+    beyond: Beyond,
     rows: &mut Option<u16>,
 ) -> Result<Step>
     requires sound { IsSound state.old }
     requires header { IsHeaderOf state.old header.now }
     requires rows { rows.old ≡ None }
     ensures whole { OnOk result (rows.new ≡ None) }
-    ensures rows { OnToldRefusal source.old source.new result (rows.new
-        ≡ (brought_after state.old header.now source.old.bytes).rows) }
-    ensures reads { UnlessRefused result (Answers (turn_of state.new) (λ bytes. (brought_after
-        state.old header.now bytes).turn) source.old result source.new) }
-    ensures found { OnToldRefusal source.old source.new result (state.new
-        ≡ (brought_after state.old header.now source.old.bytes).found) }
-    ensures sound { UnlessRefused result (IsSound state.new) }
+    ensures reads { OfWalk beyond result (Answers (turn_of state.new) (λ bytes.
+        (turn_after beyond state.old header.now bytes).turn) source.old result source.new) }
+    ensures leaves { OnToldRefusal source.old source.new result (let b = turn_after beyond
+        state.old header.now source.old.bytes in
+        Leaves beyond state.new rows.new b.found b.rows) }
+    ensures sound { AfterWalk beyond result (IsSound state.new) }
     ensures steps { IsStep state.old result state.new }
 {
     if is_lossless(&state.said) {
-        reach_lossless_scan(alloc, source, state, header, rows)
+        read_lossless_scan(alloc, source, state, header, beyond, rows)
     } else {
-        reach_block_scan(alloc, source, state, header, rows)
-    }
-}
-
-/// Reads the blocks of a scan by what was said before it, with what the scans before it gave, and
-/// returns the marker after it and after the restart markers at its end, if one was reached.
-#[inline(always)]
-fn read_block_scan<R: Read + Drop>(
-    alloc: Global,
-    source: &mut Source<R>,
-    said: &Said,
-    frame: &FrameInfo,
-    header: &ScanHeader,
-    decoded: &mut Decoded,
-) -> Result<Option<Marker>>
-    requires sound { IsSound (found_of said.now decoded.old) }
-    requires frame { said.now.frame ≡ Some (frame_in frame.now) }
-    requires process { IsDct (frame_in frame.now).process }
-    requires legal { IsScanOf (frame_in frame.now) header.now }
-    ensures reads { Answers (λ m. (once_scanned (found_of said.now decoded.new), m))
-        (blocks_read (found_of said.now decoded.old) (frame_in frame.now) header.now)
-        source.old result source.new }
-    ensures sound { OnOk result (IsSound (once_scanned (found_of said.now decoded.new))) }
-{
-    let spare = spare_tables(alloc, header, frame, said.metadata.avi1)?;
-    let scan = block_scan_of(alloc, said, &spare, frame, header, false)?;
-    let met = decoded.read(alloc, source, said.scanned, frame, &scan);
-    drop(scan);
-    drop(spare);
-    pass_restarts(alloc, source, met?)
-}
-
-/// Reads what follows the header of a scan, and returns the marker after it and after the restart
-/// markers at its end, if one was reached.
-#[inline(always)]
-fn read_after<R: Read + Drop>(
-    alloc: Global,
-    source: &mut Source<R>,
-    state: &mut State,
-    header: &ScanHeader,
-) -> Result<Option<Marker>>
-    requires sound { IsSound state.old }
-    requires header { IsHeaderOf state.old header.now }
-    ensures reads { Answers (λ m. (once_scanned state.new, m)) (read_after state.old header.now)
-        source.old result source.new }
-    ensures said { state.new.said ≡ state.old.said }
-    ensures sound { OnOk result (IsSound (once_scanned state.new)) }
-{
-    let said = &state.said;
-    let Some(frame) = &said.frame else {
-        unreachable!()
-    };
-    if frame.coding_process == CodingProcess::Lossless {
-        read_lossless_scan(alloc, source, said, frame, header, &mut state.decoded)
-    } else {
-        read_block_scan(alloc, source, said, frame, header, &mut state.decoded)
+        read_block_scan(alloc, source, state, header, beyond, rows)
     }
 }
 
 /// Reads a scan, and returns what stands after it: the marker after it and after the restart
 /// markers at its end, if one was reached. An error may leave a part of what the scan gave, which
-/// counts where nothing follows the marker after its data: see `reach_after`.
+/// counts where nothing follows the marker after its data: see `read_after`.
 ///
 /// Its blocks are taken from those that are left, if there is a limit. A scan of more is refused
 /// after its header, and nothing of it counts.
@@ -307,9 +260,5 @@ pub fn read_scan<R: Read + Drop>(
     ensures steps { IsStep state.old result state.new }
 {
     let header = read_header(alloc, source, state, &mut walk.budget)?;
-    if beyond == Beyond::Nothing {
-        return reach_after(alloc, source, state, &header, &mut walk.rows);
-    }
-    let met = read_after(alloc, source, state, &header)?;
-    Ok(state.end_scan(met))
+    read_after(alloc, source, state, &header, beyond, &mut walk.rows)
 }

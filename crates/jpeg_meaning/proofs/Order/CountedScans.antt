@@ -10,6 +10,7 @@ use Rattle.std.proofs.lemmas.Bool.{ne_eqb, le-ltb, lt-ltb}
 use Rattle.jpeg_bits.specs.Reading.{Outcome, Fault, Malformed}
 use Rattle.jpeg_bits.specs.Entropy.{Text, upcoming, fresh, marker_from}
 use Rattle.jpeg_bits.specs.Readers.{Reads, read_on, gives}
+use Rattle.jpeg_bits.specs.declared.beyond.Beyond.TheVariants.{Zeros}
 use Rattle.jpeg_bits.specs.declared.marker.Marker.{Marker}
 use Rattle.jpeg_segments.specs.Frame.{Frame, Component}
 use Rattle.jpeg_bits.specs.Passes.{Pass, Via, Block, block_from, blocks_of, predictors_at_start, zero_block}
@@ -285,7 +286,7 @@ blocks-append p vias n (s ∷ xs) ys old t = search (rules, same-on, on-on, bloc
 -- ---- blocks between restarts
 
 abbrev pub counted : ℕ → ℕ → Reached → Counted
-counted left number r = record { reached = r; left = left; number = number }
+counted left number r = record { reached = r; left = left; number = number; beyond = Zeros }
 
 -- no restart stands before the next of this many blocks
 abbrev pub GoesOn : ℕ → ℕ → ℕ → Type 0
@@ -310,7 +311,7 @@ blocks-within p vias n (s ∷ spots) left number old t h =
 restarts : (p : Pass) (vias : List Via) (n number : ℕ) (s : Spot) (spots : List Spot) (old : Reached)
     (t : Text) → 0 < n → blocks_from p vias n (s ∷ spots) (counted 0 number old) t
     ≡ read_on (λ (u : Unit {0}). blocks_from p vias n (s ∷ spots) (counted n ((number + 1) % 8) (at_start old.arrays)))
-    (restart_from number t)
+    (restart_from Zeros number t)
 unfolding blocks_from next_from begun_from
 restarts p vias n number s spots old t some =
     search (rules, lt-ltb, on-on, same-on, begun-same, ne_eqb, and-false)
@@ -366,14 +367,14 @@ intervals-in-blocks p vias n (suc fuel) xs (y ∷ ys) j k arrays bytes same some
     ∙ on-on (λ r. gives (counted 0 j r)) (blocks_from p vias n zs) o
     ∙ same-on (λ r. λ v. blocks_from p vias n zs (counted 0 j r) v)
     (λ r. λ v. read_on (λ (u : Unit {0}). blocks_from p vias n zs (counted n ((j + 1) % 8) (at_start r.arrays)))
-    (restart_from k v))
+    (restart_from Zeros k v))
     (search (rules, restarts)) o)
     ∙ (search (rules, close))
   where
     close : (G : Reached → Reads Counted) (F : Arrays → List ℕ → Outcome (Arrays × Option Marker))
         → ((r : Reached) (b : List ℕ) → finished (G r (upcoming fresh b)) ≡ F r.arrays b)
         → (o : Result (Reached × Text) Fault)
-        → finished (read_on (λ r. λ v. read_on (λ (u : Unit {0}). G r) (restart_from k v)) o)
+        → finished (read_on (λ r. λ v. read_on (λ (u : Unit {0}). G r) (restart_from Zeros k v)) o)
         ≡ reading.◌>>=◌ (shut o) (next_interval k F)
     close n k same l = search rules
 

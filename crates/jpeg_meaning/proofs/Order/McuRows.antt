@@ -85,7 +85,7 @@ abbrev pub wrapped : Arrays → Arrays → Reached → Reached
 wrapped front rest r = record { arrays = around front r.arrays rest; predictors = r.predictors; run = r.run }
 
 abbrev pub wrapped_count : Arrays → Arrays → Counted → Counted
-wrapped_count front rest c = record { reached = wrapped front rest c.reached; left = c.left; number = c.number }
+wrapped_count front rest c = record { reached = wrapped front rest c.reached; left = c.left; number = c.number; beyond = c.beyond }
 
 -- what holds of arrays that reading keeps
 pub record Holds (front rest : Arrays) (spots : List Spot) (arrays : Arrays) : Type 0 where
@@ -107,7 +107,7 @@ unfolding begun_from
 begun-keeps P n old t h = search rules
 
 abbrev pub after_turn : Counted → Reached → Counted
-after_turn now r = record { reached = r; left = now.left - 1; number = now.number }
+after_turn now r = record { reached = r; left = now.left - 1; number = now.number; beyond = now.beyond }
 
 counted-on : (P : Arrays → Type 0) (f : Counted → Reads Counted) → ((r : Counted) (t : Text) → P r.reached.arrays
     → KeepsCounted P (f r t))
@@ -120,7 +120,7 @@ counted-on P f h o k = search rules
 abbrev pub IsKept : (Arrays → Type 0) → Type 0
 IsKept P = (arrays : Arrays) (s : Spot) (b : Block) → P arrays → P (put_block s b arrays)
 
-next-any : (P : Arrays → Type 0) → IsKept P → (p : Pass) (vias : List Via) (n : ℕ) (s : Spot) (old : Counted)
+pub next-any : (P : Arrays → Type 0) → IsKept P → (p : Pass) (vias : List Via) (n : ℕ) (s : Spot) (old : Counted)
     (t : Text) → P old.reached.arrays → KeepsCounted P (next_from p vias n s old t)
 unfolding next_from turn_from
 next-any P kept p vias n s old t h =
@@ -153,7 +153,7 @@ pub counted-where : {A : Type 0} (P : Arrays → Type 0) (f g : Counted → Read
     → (o : Result (Counted × Text) Fault) → KeepsCounted P o → read_on f o ≡ read_on g o
 counted-where P f g h o k = search rules
 
-next-shifted : (p : Pass) (vias : List Via) (n : ℕ) (front rest : Arrays) (s : Spot) (spots : List Spot)
+pub next-shifted : (p : Pass) (vias : List Via) (n : ℕ) (front rest : Arrays) (s : Spot) (spots : List Spot)
     (old : Counted) (t : Text) → Holds front rest (s ∷ spots) old.reached.arrays
     → next_from p vias n (shifted front s) (wrapped_count front rest old) t
     ≡ read_on (λ r. gives (wrapped_count front rest r)) (next_from p vias n s old t)
@@ -236,7 +236,7 @@ joined-rows r (c ∷ cs) (a ∷ front) (b ∷ arrays) h k =
 joined-rows r cs front arrays h k = search rules
 
 -- a row of zeros, and the others
-first-row : (rows r : ℕ) (cs : List Component) (front : Arrays) → AreRows r cs front
+pub first-row : (rows r : ℕ) (cs : List Component) (front : Arrays) → AreRows r cs front
     → each_with_more front (zero_rows (suc rows) cs) ≡ around front (zero_rows 1 cs) (zero_rows
     rows cs)
 unfolding AreRows each_with_more zero_rows
@@ -244,13 +244,13 @@ first-row rows r (c ∷ cs) (a ∷ front) h = search (rules, replicate-append-re
 first-row rows r cs front h = search rules
 
 -- rows after rows
-around-joined : (front arrays rest : Arrays) → around front arrays rest ≡ each_with_more
+pub around-joined : (front arrays rest : Arrays) → around front arrays rest ≡ each_with_more
     (each_with_more front arrays) rest
 unfolding each_with_more
 around-joined (x ∷ front) (y ∷ arrays) (z ∷ rest) = rw (← (append_assoc x y z), around-joined front arrays rest) refl
 around-joined front arrays rest = refl
 
-no-rows : (r : ℕ) (cs : List Component) (front : Arrays) → AreRows r cs front → each_with_more
+pub no-rows : (r : ℕ) (cs : List Component) (front : Arrays) → AreRows r cs front → each_with_more
     front (zero_rows 0 cs) ≡ front
 unfolding AreRows each_with_more zero_rows
 no-rows r (c ∷ cs) (a ∷ front) h = search (rules, append-nil, no-rows r cs front h.1)
@@ -301,7 +301,7 @@ size-at : (cs : List Component) (j : ℕ) (c : Component) → At j cs c → size
 size-at (d ∷ cs) (suc j) c h = size-at cs j c h
 size-at cs j c h = search rules
 
-front-size : (row : ℕ) (cs : List Component) (front : Arrays) (slot : ℕ) → AreRows row cs front
+pub front-size : (row : ℕ) (cs : List Component) (front : Arrays) (slot : ℕ) → AreRows row cs front
     → length (get_or front slot []) ≡ row * size_at cs slot
 unfolding AreRows
 front-size row (c ∷ cs) (a ∷ front) (suc slot) h = front-size row cs front slot h.1
@@ -311,7 +311,7 @@ front-size row cs front slot h = search rules
 abbrev pub placed_row : List Component → ℕ → List Spot → List Spot
 placed_row cs row spots = map (shifted_by (λ slot. row * size_at cs slot)) spots
 
-pub placed_rows : List Component → ℕ → List (List Spot) → List Spot
+unfoldable pub placed_rows : List Component → ℕ → List (List Spot) → List Spot
 placed_rows cs row [] = []
 placed_rows cs row (spots ∷ rows) = placed_row cs row spots ++ placed_rows cs (row + 1) rows
 
@@ -359,7 +359,7 @@ unfolding AreRows
 no-blocks [] = tt
 no-blocks (c ∷ cs) = ((let e : 0 ≡ 0 * row_size c = omega arith in e), no-blocks cs)
 
-all-zeros : (frame : Frame) (cs : List Component) → AllByRecursion (Fits frame) cs
+pub all-zeros : (frame : Frame) (cs : List Component) → AllByRecursion (Fits frame) cs
     → zero_arrays cs ≡ each_with_more (map (λ c. []) cs) (zero_rows frame.mcus_high cs)
 unfolding zero_arrays zero_rows each_with_more
 all-zeros frame [] fits = refl
@@ -400,7 +400,7 @@ several-inside frame cs arrays s fits sized h =
     (div-lt_iff_lt-mul f.vertical).0 (let e = of.tells.row_of in let rh = r.between.high in omega arith) in
     search (rules, div-lt_iff_lt-mul, mul_assoc, some-product)
 
-all-rows : (cs : List Component) (f : ℕ → List Spot) (a n : ℕ) → ((row : ℕ) → IsRow cs (f row))
+pub all-rows : (cs : List Component) (f : ℕ → List Spot) (a n : ℕ) → ((row : ℕ) → IsRow cs (f row))
     → AllByRecursion (IsRow cs) (map f (range_with_len a n))
 all-rows cs f a zero h = tt
 all-rows cs f a (suc n) h = (h a, all-rows cs f (a + 1) n h)
@@ -466,7 +466,7 @@ row-inside frame [] row fits = record { inside = λ arrays s sized h. absurd h }
 row-inside frame (c ∷ []) row fits = search (rules, own-inside)
 row-inside frame (c ∷ d ∷ more) row fits = search (rules, several-inside)
 
-placed-all : (frame : Frame) (c : Component) (more : List Component) → AllByRecursion (Fits frame) (c ∷ more)
+pub placed-all : (frame : Frame) (c : Component) (more : List Component) → AllByRecursion (Fits frame) (c ∷ more)
     → spots_of frame (c ∷ more) ≡ placed_rows (c ∷ more) 0 (rows_of frame (c ∷ more))
 unfolding mcu_row spots_of own_spots all_spots
 placed-all frame c [] fits =

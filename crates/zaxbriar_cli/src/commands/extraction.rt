@@ -18,7 +18,6 @@ use zaxbriar_files::limits::Limits;
 use zaxbriar_files::output::Output;
 use zaxbriar_files::refusal::Refusal;
 use zaxbriar_files::{files, names};
-use zaxbriar_pictures::extents::Extent;
 use zaxbriar_pictures::scaled::{limit_blocks, taken_by};
 
 /// Returns whether a decoder has read all requested data.
@@ -44,7 +43,7 @@ fn read_data<R: Read + Drop>(
     }
     let full = decoder.info().unwrap();
     decoder.set_scale(Scale::Eighth)?;
-    limits.check(full.width, full.height, taken_by(decoder, Extent::Whole))?;
+    limits.check(full.width, full.height, taken_by(decoder))?;
     limit_blocks(decoder, limits);
     let _pixels = decoder.decode()?;
     Ok(())

@@ -6,7 +6,7 @@ use Rattle.jpeg_decoder.proofs.sizes.component_bytes.Given as goal
 abbrev pub invariant-loop-i : goal.invariant-loop-i
 invariant-loop-i l = record {
   coefficients : l.coefficients
-      ≡ sum_by (coefficient_bytes l.buffering) (take l.i (frame_in l.frame).components);
+      ≡ sum_by (coefficient_bytes l.frame.coding_process) (take l.i (frame_in l.frame).components);
   planes : l.planes ≡ sum_by (plane_bytes l.frame.coding_process) (take l.i (frame_in l.frame).components);
   most_coefficients : l.coefficients ≤ l.i * 2 ^ 39;
   most_planes : l.planes ≤ l.i * 2 ^ 38;

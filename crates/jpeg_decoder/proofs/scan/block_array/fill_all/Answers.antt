@@ -17,3 +17,9 @@ loop-slot-preserved c =
       sizes = sizes-put vs l.slot v w (ap (λ (b : List Block). length b) same) is ∙ l.invariant.sizes;
       full = full-next vs l.slot w (search rules) c.in_ok-fill.ensures.full l.invariant.full;
     }
+
+pub returns-in_err-fill-clause-sizes : goal.returns-in_err-fill-clause-sizes
+returns-in_err-fill-clause-sizes c =
+    let l = c.loop-slot in
+    sizes-put l.arrays.items l.slot c.index_mut.result.now c.fill.new.self
+    (ap (λ (b : List Block). length b) c.in_err-fill.ensures.blocks) c.index_mut.ensures.value ∙ l.invariant.sizes

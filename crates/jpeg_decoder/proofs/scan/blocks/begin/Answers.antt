@@ -14,7 +14,7 @@ returns-in-Err-clause-begun g c arrays =
     let none : i.left ≡ 0 = omega arith in
     let whole = begun_from c.args.n (counted i arrays) in
     (refused_after (λ (u : Unit {0}). counted i arrays) (λ (u : Unit {0}). tt)
-    whole whole (restart_from i.number)
+    whole whole (restart_from i.beyond i.number)
     i.decoder i.decoder c.read_restart.new.decoder c.args.source.now c.args.source.now c.read_restart.new.source _
     (λ t f h. begun_refused c.args.n (counted i arrays) t f some none h)
     (Leaves-whole whole i.decoder c.args.source.now) c.in-Err.ensures)

@@ -1,7 +1,8 @@
-use Rattle.std.proofs.Common.{true, false, ◌≡◌, ◌∙◌, sym}
+use Rattle.std.proofs.Common.{true, false, ◌≡◌, ◌∙◌, rules, sym}
+use Rattle.jpeg_bits.specs.declared.beyond.Beyond.TheVariants.{Nothing}
 use Rattle.jpeg_segments.specs.FrameView.{frame_in}
 use Rattle.jpeg_decoder.proofs.Scans.ReadableScans.{decoded-few, decoded-scales, legal-pass, some-after}
-use Rattle.jpeg_decoder.proofs.scan.codings.block_scan_of.Goals.{else-keeps_ac, then-keeps_ac}
+use Rattle.jpeg_decoder.proofs.scan.codings.block_scan_of.Goals.{else-eq, then-eq}
 use Rattle.jpeg_decoder.proofs.scan.codings.block_scan_of.Goals as goal
 
 true-false : true ≡ false → ⊥
@@ -21,8 +22,12 @@ pub invariant_of-result : goal.invariant_of-result
 invariant_of-result c = record {
   legal = legal-pass (frame_in c.args.frame.now).process c.args.header.now _ c.requires.process
       c.requires.legal.coded c.pass_of-pass.ensures;
-  dc_alone = λ e. elim c.if-keeps_ac.branch [
-    | then-keeps_ac w ↦ absurd (true-false (sym w.if-keeps_ac.true ∙ sym w.result-is ∙ e))
-    | else-keeps_ac w ↦ w.wants_ac.ensures.dc_alone (sym w.result-is ∙ e)
+  dc_alone = λ e. elim c.if-eq.branch [
+    | then-eq w ↦ absurd (true-false (sym w.if-eq.true ∙ sym w.result-is ∙ e))
+    | else-eq w ↦ w.wants_ac.ensures.dc_alone (sym w.result-is ∙ e)
+  ];
+  kept = λ n. elim c.if-eq.branch [
+    | then-eq w ↦ w.result-is ∙ w.if-eq.true
+    | else-eq w ↦ let other : c.args.beyond ≡ Nothing → ⊥ = search rules in absurd (other n)
   ];
 }

@@ -12,7 +12,7 @@ returns-in_err-read_lines-clause-scan g c others =
     let e = err_from_is_err_and c.from_residual.result c.from_residual.ensures.1 in
     let a = c.args in
     let new = c.read_lines.new in
-    let n = c.from.ensures ∙ c.restart_interval.ensures in
+    let n = c.from-n.ensures ∙ c.restart_interval.ensures in
     let held : Arrays = blocks_in a.array.now ∷ others in
     rw (e.1, e.2) (scan-stopped (λ (m : Option Marker). (held, m))
     (λ (u : Unit {0}). counted new.interval (blocks_in new.array ∷ others)) a.scan.now.pass
@@ -24,7 +24,7 @@ pub returns-clause-scan : goal.returns-clause-scan
 returns-clause-scan g c others =
     let a = c.args in
     let new = c.read_lines.new in
-    let n = c.from.ensures ∙ c.restart_interval.ensures in
+    let n = c.from-n.ensures ∙ c.restart_interval.ensures in
     let held : Arrays = blocks_in a.array.now ∷ others in
     scan-ended a.scan.now.pass (scan_vias a.scan.now) a.scan.now.restart_interval
     (rows_spots a.grid 0 a.grid.own_high) held (counted new.interval (blocks_in new.array ∷ others))

@@ -81,10 +81,10 @@ loop-at-preserved g c =
           (rw is at (c.if-not-begin.ensures.begun held)) in
           line-goes p vias n l.at room whole a.interval.now.decoder i.decoder new.interval.decoder a.source.now
           c.begin.new.source new.source (counted i held) begun k (a.first + a.wide) c.saturating_sub-interval.result
-          new.interval.number (reached new.interval (blocks_in new.array ∷ others)) fits refl
+          new.interval.number new.interval.beyond (reached new.interval (blocks_in new.array ∷ others)) fits refl
           (λ h. c.part_size.ensures.left (omega (arith, h, is)))
           (c.saturating_sub-interval.ensures ∙ ap (λ (m : ℕ). m - (l.at + k - l.at)) c.in_ok-read_part.ensures.left)
-          c.in_ok-read_part.ensures.number (c.in_ok-read_part.ensures.blocks others);
+          c.in_ok-read_part.ensures.number c.in_ok-read_part.ensures.beyond (c.in_ok-read_part.ensures.blocks others);
     }
 
 pub returns-clause-blocks : goal.returns-clause-blocks

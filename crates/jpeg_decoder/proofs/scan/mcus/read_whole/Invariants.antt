@@ -1,9 +1,11 @@
-use Rattle.std.proofs.Common.{◌≡◌, length}
+use Rattle.std.proofs.Common.{◌≡◌, length, true}
 use Rattle.std.specs.List.{AllByRecursion}
 use Rattle.jpeg_bits.proofs.BandLoop.{Leaves}
+use Rattle.jpeg_bits.specs.Entropy.{upcoming}
 use Rattle.jpeg_bits.specs.Passes.{whole_pass}
 use Rattle.jpeg_meaning.specs.InTurn.{blocks_from}
 use Rattle.jpeg_decoder.specs.Scanning.{scan_vias, arrays_in, counted, kept_blocks, sizes_of, IsSpotOf}
+use Rattle.jpeg_decoder.specs.Through.{counted_reached}
 use Rattle.jpeg_decoder.proofs.scan.mcus.read_whole.Given as goal
 
 abbrev pub invariant-loop-spot : goal.invariant-loop-spot
@@ -17,6 +19,15 @@ invariant-loop-spot g l = record {
       (kept_blocks l.fn.scan.keeps_ac (blocks_from whole_pass (scan_vias l.fn.scan)
       l.fn.n l.spots (counted (record l.interval { carried = l.carried; left = l.left }) (arrays_in l.arrays.items))))
       l.decoder l.source;
+  goes : l.fn.scan.keeps_ac ≡ true → l.fn.source.known ≡ true
+      → counted_reached l.fn.scan.pass (scan_vias l.fn.scan) l.fn.n l.fn.spots
+      (counted l.fn.interval (arrays_in l.fn.arrays.items))
+      (upcoming l.fn.interval.decoder l.fn.source.bytes)
+      ≡ counted_reached whole_pass (scan_vias l.fn.scan) l.fn.n l.spots
+      (counted (record l.interval { carried = l.carried; left = l.left }) (arrays_in l.arrays.items))
+      (upcoming l.decoder l.source.bytes);
+  beyond : l.interval.beyond ≡ l.fn.interval.beyond;
+  unread : l.interval.unread ≡ l.fn.interval.unread;
 }
 
 abbrev pub decreases-loop-spot : goal.decreases-loop-spot
