@@ -13,7 +13,7 @@ from pathlib import Path
 
 from files import AS_STORED, SIZES, cases, layout_cases, pillow_cases, program_cases, written
 from markdown import head, line
-from programs import TURBO, bytes_by_header, library_programs, pillow_programs
+from programs import PARTIAL, TURBO, bytes_by_header, library_programs, pillow_programs
 from programs import programs_for_v2, repeated_programs, whole_programs
 from ranges import least_times, ranges_of_ours, ranges_to
 from samples import print_profile
@@ -96,7 +96,7 @@ def time_programs(programs, folder):
 
 def print_memory(programs, zaxbriar, folder):
     """Prints the most memory that whole programs hold, beside what a file's header says."""
-    held = [program for program in programs if program.name in ("zaxbriar pnm", "djpeg")]
+    held = [program for program in programs if program.name in ("zaxbriar pnm", PARTIAL, "djpeg")]
     titles = ["by the header (MB)", *(f"{program.name} (MB)" for program in held)]
     print_head(f"Memory held, {GREATEST}", "coding", *titles)
     for case in program_cases():

@@ -153,6 +153,10 @@ def pnm_words(zaxbriar, case):
     return [zaxbriar, "pnm", "--scale", "1" if case.scale == 1 else f"1/{case.scale}"]
 
 
+# the program that writes what a file shows up to its first fault
+PARTIAL = "zaxbriar pnm --partial"
+
+
 def whole_programs(zaxbriar, jpegraw, peers):
     """The programs that decode a file and write its picture."""
 
@@ -164,6 +168,7 @@ def whole_programs(zaxbriar, jpegraw, peers):
 
     yield Whole("zaxbriar pnm", pnm)
     yield Whole("the same with large pages", pnm, LARGE_PAGES)
+    yield Whole(PARTIAL, lambda case: [*pnm_words(zaxbriar, case), "--partial", "FILE"])
     yield Whole("jpegraw", lambda case: [jpegraw] if case.scale == 1 else None)
     yield Whole("djpeg", djpeg)
     yield Whole("djpeg without SIMD", djpeg, NO_SIMD)
