@@ -11,10 +11,10 @@ use jpeg_segments::parser::{CodingProcess, Component, FrameInfo};
 /// How many bytes decoding a picture takes, judging by its frame header, at the scale that was
 /// chosen.
 ///
-/// `decode_partial` takes no more. All of these grow with the picture. Metadata, tables, the reader's
-/// buffer, the few lines converted at a time and the allocator's overhead are not counted; nor are
-/// the planes that a sequential scan has for all of its components while it is read, if only some of
-/// them have planes already.
+/// `decode_partial` takes no more. All of these grow with the picture. Metadata, tables, the
+/// reader's buffer, the few lines converted at a time and the allocator's overhead are not counted;
+/// nor are the planes that a sequential scan has for all of its components while it is read, if
+/// only some of them have planes already.
 #[derive(Clone, Copy, Debug, PartialEq)]
 pub struct DecodingBytes {
     /// The coefficients that are buffered, two bytes each: those of a row of MCUs for a sequential

@@ -29,8 +29,8 @@ pub fn shown<R: Read + Drop>(decoder: &mut Decoder<R>) -> Result<PartialPicture>
 /// Calls `Decoder::decode_partial`, and says how many rows of the picture are complete.
 pub fn partial_by_rows<R: Read + Drop>(decoder: &mut Decoder<R>) -> Result<PartialPicture>
     ensures { IsReading decoder.old.stage → CountsRows (λ p. p.whole_rows)
-        (whole_rows_ahead decoder.old.settings.max_blocks decoder.old.stage decoder.old.found) decoder.old.source result
-        decoder.new.source }
+        (whole_rows_ahead decoder.old.settings.max_blocks decoder.old.stage decoder.old.found)
+        decoder.old.source result decoder.new.source }
 {
     decoder.decode_partial()
 }
@@ -38,8 +38,8 @@ pub fn partial_by_rows<R: Read + Drop>(decoder: &mut Decoder<R>) -> Result<Parti
 /// Decodes in part by the clause `rows`.
 pub fn whole_rows<R: Read + Drop>(decoder: &mut Decoder<R>) -> Result<PartialPicture>
     ensures { IsReading decoder.old.stage → CountsRows (λ p. p.whole_rows)
-        (whole_rows_ahead decoder.old.settings.max_blocks decoder.old.stage decoder.old.found) decoder.old.source result
-        decoder.new.source }
+        (whole_rows_ahead decoder.old.settings.max_blocks decoder.old.stage decoder.old.found)
+        decoder.old.source result decoder.new.source }
 {
     partial_by_rows(decoder)
 }

@@ -23,8 +23,8 @@ pub record CopiesMetadata (bytes : List ℕ) (kind passes : ℕ) (old new : List
   -- There is no other result than OK, MALFORMED, UNSUPPORTED, TRUNCATED, NO_MEMORY, NO_ROOM,
   -- BAD_ARGUMENT and NO_DATA.
   pub number : code ≤ 7
-  -- MALFORMED, UNSUPPORTED and TRUNCATED name the fault of the header, or of the image, before which
-  -- its segments say nothing of this kind.
+  -- MALFORMED, UNSUPPORTED and TRUNCATED name the fault of the header, or of the image, before
+  -- which its segments say nothing of this kind.
   pub malformed : code ≡ 1 → end_at passes (is_whole kind) bytes ≡ Err Malformed
   pub unsupported : code ≡ 2 → (feature : UnsupportedFeature)
       × (end_at passes (is_whole kind) bytes ≡ Err (Lacks feature))

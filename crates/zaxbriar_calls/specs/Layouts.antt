@@ -30,8 +30,8 @@ sample_at precision pixel k = if nat_le precision 8 then slice_index pixel k
 abbrev pub greatest : ℕ → ℕ
 greatest precision = 2 ^ max 1 (min precision 16) - 1
 
--- a sample from 0 to the greatest on the scale from 0 to `full`, rounded, and at most `full`: on its
--- own scale a sample stays as it is
+-- a sample from 0 to the greatest on the scale from 0 to `full`, rounded, and at most `full`: on
+-- its own scale a sample stays as it is
 abbrev pub scaled : ℕ → ℕ → ℕ → ℕ
 scaled full most sample = min full ((sample * full + most / 2) / most)
 

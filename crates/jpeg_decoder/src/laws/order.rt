@@ -21,7 +21,8 @@ ghost use Rattle.jpeg_meaning.specs.InTurn.{AreApart, AreArrays, Fits, intervals
 ghost use Rattle.jpeg_meaning.specs.InTurn.{scan_from};
 ghost use Rattle.jpeg_meaning.specs.McuRows.{scan_by_rows};
 ghost use Rattle.jpeg_meaning.specs.Rasters.{ordered, in_raster};
-ghost use Rattle.jpeg_meaning.specs.Stream.{header_at, meaning_within, rest_within, scaled_to, sized_to};
+ghost use Rattle.jpeg_meaning.specs.Stream.{header_at, meaning_within, rest_within, scaled_to};
+ghost use Rattle.jpeg_meaning.specs.Stream.{sized_to};
 ghost use Rattle.jpeg_meaning.specs.DecodedImages.{Size, at_size};
 ghost use Rattle.jpeg_meaning.specs.ScanSegments.{Coding, vias_from, codings_of, pass_of};
 ghost use Rattle.jpeg_meaning.specs.ScanSegments.{is_progressive, scan_arrays, arrays_before};

@@ -290,7 +290,7 @@ fn show_found(
 
 /// Returns whether segments ended for lack of memory, or because reads were interrupted forever:
 /// once the picture is refused, a caller could no longer tell.
-fn is_lost(ended: &Result<()>) -> bool
+fn is_unknown_end(ended: &Result<()>) -> bool
     ensures memory { result ≡ false → is_out_of_memory ended.now ≡ false }
     ensures interrupted { result ≡ false → IfErr ended.now (λ e. IsGivenUp e false → ⊥) }
 {
@@ -346,7 +346,7 @@ pub fn show_rest<R: Read + Drop>(
     let ended = read_segments(alloc, source, state, false, Beyond::Nothing, &mut walk);
     *exceeded = walk.budget.exceeded;
     let mut decoded = std::mem::replace(&mut state.decoded, Decoded::new(alloc));
-    if is_lost(&ended) {
+    if is_unknown_end(&ended) {
         return Err(Error::OutOfMemory);
     }
     show_found(alloc, state, &mut decoded, settings, ended.err(), walk.rows)

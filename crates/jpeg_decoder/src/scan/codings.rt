@@ -355,8 +355,8 @@ pub fn codings_of<'a>(
 
 /// Returns the scan of blocks that a header begins, with its tables in force. `beyond` follows the
 /// markers that end its data. The AC coefficients of its blocks are kept where they are wanted, and
-/// in any case if nothing does. The errors are `Format` if a table that the scan needs isn't set, or
-/// `OutOfMemory`.
+/// in any case if nothing does. The errors are `Format` if a table that the scan needs isn't set,
+/// or `OutOfMemory`.
 pub fn block_scan_of<'a>(
     alloc: Global,
     said: &'a Said,

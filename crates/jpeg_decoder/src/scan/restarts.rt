@@ -57,8 +57,8 @@ fn is_restart(met: Option<Marker>) -> bool
     matches!(met, Some(Marker::RST(_)))
 }
 
-/// Returns whether nothing counts of a scan whose data ended so: they were refused where zeros follow
-/// the markers that end them, or memory ran out.
+/// Returns whether nothing counts of a scan whose data ended so: they were refused where zeros
+/// follow the markers that end them, or memory ran out.
 pub fn is_lost(beyond: Beyond, met: &Result<Option<Marker>>) -> bool
     ensures lost { result ≡ true → OnOk met.now ⊥ }
     ensures memory { result ≡ true → beyond ≡ Nothing → is_out_of_memory met.now ≡ true }

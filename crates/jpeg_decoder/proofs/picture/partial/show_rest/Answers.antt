@@ -38,7 +38,7 @@ found g c = on-told c.args.source.now c.read_segments-ended.new.source c.read_se
 
 pub show_found-requires : goal.show_found-requires
 show_found-requires g c =
-    let m = c.is_lost.ensures.memory c.if-is_lost.false in
+    let m = c.is_unknown_end.ensures.memory c.if-is_unknown_end.false in
     record {
       sound = subst IsSound
           (sym (ap (λ (d : Decoded). found_of c.state.inside.said d) c.replace-decoded.ensures.value ∙ c.state.view_is))
@@ -56,7 +56,7 @@ returns-clause-shown g c =
     c.read_segments-ended.new.state
     (found_of c.state.inside.said c.replace-decoded.result) c.args.source.now
     c.read_segments-ended.new.source c.read_segments-ended.result c.err.result c.show_found.result _
-    (c.is_lost.ensures.memory c.if-is_lost.false) (reads g (goal.at.returns-clause-shown g c).After-read_segments-ended)
+    (c.is_unknown_end.ensures.memory c.if-is_unknown_end.false) (reads g (goal.at.returns-clause-shown g c).After-read_segments-ended)
     (found g (goal.at.returns-clause-shown g c).After-read_segments-ended) c.err.ensures.value
     (ap (λ (d : Decoded). found_of c.state.inside.said d) c.replace-decoded.ensures.value ∙ c.state.view_is)
     c.show_found.ensures.shown
@@ -67,7 +67,7 @@ returns-clause-rows g c =
     c.read_segments-ended.new.state
     (found_of c.state.inside.said c.replace-decoded.result) c.args.source.now
     c.read_segments-ended.new.source c.read_segments-ended.result c.read_segments-ended.new.walk.rows
-    c.show_found.result (c.is_lost.ensures.memory c.if-is_lost.false)
+    c.show_found.result (c.is_unknown_end.ensures.memory c.if-is_unknown_end.false)
     (found g (goal.at.returns-clause-rows g c).After-read_segments-ended)
     (on-told c.args.source.now c.read_segments-ended.new.source c.read_segments-ended.result (λ l. l.1)
     c.read_segments-ended.ensures.leaves)
@@ -79,7 +79,7 @@ returns-clause-told g c =
     rest-told {X = PartialLines} c.args.settings.max_blocks c.args.state.now c.read_segments-ended.new.state
     (found_of c.state.inside.said c.replace-decoded.result) c.args.source.now
     c.read_segments-ended.new.source c.read_segments-ended.result c.show_found.result
-    (c.is_lost.ensures.memory c.if-is_lost.false)
+    (c.is_unknown_end.ensures.memory c.if-is_unknown_end.false)
     (found g (goal.at.returns-clause-told g c).After-read_segments-ended)
     (ap (λ (d : Decoded). found_of c.state.inside.said d) c.replace-decoded.ensures.value ∙ c.state.view_is)
 
@@ -88,7 +88,7 @@ returns-clause-given_up g c =
     rest-given-up {X = PartialLines} (λ p. p.fault) (λ (u : Unit {0}). tt)
     (λ bytes. walk_end (all_brought c.args.settings.max_blocks c.args.state.now bytes)) c.args.source.now
     c.read_segments-ended.new.source c.read_segments-ended.result c.err.result c.show_found.result
-    (c.is_lost.ensures.memory c.if-is_lost.false) (c.is_lost.ensures.interrupted c.if-is_lost.false)
+    (c.is_unknown_end.ensures.memory c.if-is_unknown_end.false) (c.is_unknown_end.ensures.interrupted c.if-is_unknown_end.false)
     (reads g (goal.at.returns-clause-given_up g c).After-read_segments-ended) c.err.ensures.value
     c.show_found.ensures.first
 
@@ -98,7 +98,7 @@ decoded : (g : given.Over) (c : After-show_found g)
 decoded g c =
     subst HasDecodedFrame (sym c.state.view_is)
     (then-holds c.read_segments-ended.result (IsSound c.read_segments-ended.new.state)
-    (c.is_lost.ensures.memory c.if-is_lost.false) c.read_segments-ended.ensures.sound).frames
+    (c.is_unknown_end.ensures.memory c.if-is_unknown_end.false) c.read_segments-ended.ensures.sound).frames
 
 pub returns-clause-frames : goal.returns-clause-frames
 returns-clause-frames g c =
@@ -114,5 +114,5 @@ returns-clause-size g c =
 pub returns-clause-exceeded : goal.returns-clause-exceeded
 returns-clause-exceeded g c k l =
     unless c.show_found.result (told-holds c.args.source.now c.read_segments-ended.new.source
-    c.read_segments-ended.result _ (c.is_lost.ensures.memory c.if-is_lost.false)
+    c.read_segments-ended.result _ (c.is_unknown_end.ensures.memory c.if-is_unknown_end.false)
     c.read_segments-ended.ensures.exceeded k l)
