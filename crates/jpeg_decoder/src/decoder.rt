@@ -724,7 +724,8 @@ impl<R: Read + Drop> Decoder<R> {
     /// mid-grey. A marker in place of them is a fault, where `decode` takes zeros for the missing
     /// bits.
     ///
-    /// Unlike `decode`, it keeps the coefficients of a sequential picture in memory, too.
+    /// It takes no more memory than `decode`. At 1/8 it takes longer, as it doesn't skip the AC
+    /// coefficients of a sequential picture.
     ///
     /// Errors: the fault, if no frame header was accepted before it; `Format` if the picture is
     /// above the limit, or the colour transform doesn't fit it; `OutOfMemory`; and `Internal` only
