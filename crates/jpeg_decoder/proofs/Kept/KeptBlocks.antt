@@ -1,29 +1,32 @@
 -- Blocks that are kept, as they are read and put back.
-use Rattle.std.proofs.Common.{rules, ◌≡◌, ℕ, zero, suc, ◌+◌, ◌<◌, List, ◌∷◌, length, get_or, map, set, ℤ}
-use Rattle.std.proofs.Common.{pos, Ok, Err, refl, sym, ap, ◌∙◌, subst, arith, Bool, Result, []}
+use Rattle.std.proofs.Common.{rules, ◌≡◌, ℕ, zero, suc, ◌+◌, ◌-◌, ◌<◌, List, ◌∷◌, length, get_or, map, set, ℤ}
+use Rattle.std.proofs.Common.{pos, Ok, Err, refl, sym, ap, ◌∙◌, subst, arith, Bool, false, true, Result, []}
 use Rattle.std.proofs.lemmas.List.{get_or-map, length-set, map-set}
 use Rattle.jpeg_bits.specs.Reading.{Fault}
-use Rattle.jpeg_bits.specs.Entropy.{Ahead, Text}
+use Rattle.jpeg_bits.specs.Entropy.{Ahead, Takes, Text, upcoming}
 use Rattle.jpeg_bits.specs.Stream.{Stream}
+use Rattle.jpeg_bits.specs.declared.error.Error.{Error}
 use Rattle.jpeg_bits.proofs.BandLoop.{Leaves}
+use Rattle.jpeg_bits.proofs.WholeBlocks.{refused_after}
 use Rattle.jpeg_bits.specs.Readers.{Reads, gives, read_on}
 use Rattle.jpeg_bits.specs.Passes.{Pass, Via, Block, block_from, zero_block}
 use Rattle.jpeg_bits.specs.Codes.{Table}
 use Rattle.jpeg_meaning.specs.Order.{Spot}
 use Rattle.jpeg_meaning.specs.Scans.{Arrays, block_at, put_block, via_at}
 use Rattle.jpeg_meaning.specs.ScanSegments.{Coding, vias_from}
-use Rattle.jpeg_meaning.specs.InTurn.{Counted, Reached, blocks_from, turn_from}
+use Rattle.jpeg_meaning.specs.InTurn.{Counted, Reached, begun_from, blocks_from, turn_from}
 use Rattle.jpeg_decoder.specs.declared.scan.blocks.Interval.{Interval}
 use Rattle.jpeg_bits.specs.BlockView.{to_block}
 use Rattle.jpeg_bits.specs.Skips.{kept, kept_turn}
 use Rattle.jpeg_decoder.specs.Scanning.{IsSpotOf, IsStored, arrays_in, blocks_in, sizes_of}
-use Rattle.jpeg_decoder.specs.Scanning.{counted, kept_blocks, via_by}
+use Rattle.jpeg_decoder.specs.Scanning.{counted, kept_after, kept_blocks, via_by}
 use Rattle.jpeg_decoder.specs.Steps.{coding_in}
 use Rattle.jpeg_decoder.specs.declared.scan.coded.Coded.{Coded}
 use Rattle.jpeg_decoder.proofs.Kept.BlockArrays.{Held, block-set, block-there, seen-count, sizes-long, sizes-put}
 use Rattle.jpeg_decoder.proofs.Kept.BlockArrays.{with_block}
 use Rattle.jpeg_decoder.proofs.Scans.PlacedCodings.{coding-at, seen-long}
-use Rattle.jpeg_decoder.proofs.Kept.KeptScans.{kept_reached, kept_read, put-kept}
+use Rattle.jpeg_decoder.proofs.Kept.KeptScans.{kept_reached, kept_read, next-kept, put-kept}
+use Rattle.jpeg_decoder.proofs.Orders.BlockSteps.{begun_turn, blocks_begun, blocks_refused, next_refused, next_unbegun}
 use Rattle.std.proofs.lemmas.Grind.{common_steps}
 
 abbrev pub spot : ℕ → ℕ → Spot
@@ -57,15 +60,6 @@ block-kept vs slot index v x h e i f =
 pub stored-there : (vs : List Held) (slot index : ℕ) (v : Held) → v ≡ get_or vs slot v → IsStored vs slot index
     → index < length v.blocks.items
 stored-there vs slot index v e h = subst (λ (a : Held). index < length a.blocks.items) (sym e) (h v)
-
--- The same blocks leave the same to read.
-pub reached-alike : (keeps : Bool) (p : Pass) (vias : List Via) (n : ℕ) (spots : List Spot) (i : Interval)
-    (old new : Arrays) (start : Ahead) (source now : Stream) (whole : Reads Counted) → new ≡ old
-    → Leaves whole start source (kept_blocks keeps (blocks_from p vias n spots (counted i old))) i.decoder now
-    → Leaves whole start source (kept_blocks keeps (blocks_from p vias n spots (counted i new))) i.decoder now
-reached-alike keeps p vias n spots i old new start source now whole e h =
-    subst (λ (a : Arrays). Leaves whole start source (kept_blocks keeps (blocks_from p vias n spots
-    (counted i a))) i.decoder now) (sym e) h
 
 via-from : (codings : List Coding) (from slot : ℕ) (c : Coding) (d : Via) → slot < length codings
     → c ≡ get_or codings slot c → get_or (vias_from from codings) slot d ≡ via_by (from + slot) c.dc c.ac
@@ -147,3 +141,77 @@ module _ (p : Pass) (vias : List Via) (slots slot index : ℕ) (dc ac : Table) (
         u,
       )
   turn-kept keeps y next more t u e = search (rules, turn-is, arrays-set, inside, within, put-as-kept)
+
+-- ---- the blocks that are left, of which the next is at a spot
+
+module _ (keeps : Bool) (p : Pass) (vias : List Via) (n : ℕ) (s : Spot) (spots others : List Spot) (i : Interval)
+    (old new : Arrays) (start : Ahead) (source now : Stream) (whole : Reads Counted) (is : spots ≡ s ∷ others)
+    (same : new ≡ old)
+    (so_far : Leaves whole start source (kept_blocks keeps (blocks_from p vias n spots (counted i old))) i.decoder now) where
+  there : Leaves whole start source (kept_blocks keeps (blocks_from p vias n (s ∷ others) (counted i new))) i.decoder now
+  there =
+      subst (λ (a : Arrays). Leaves whole start source (kept_blocks keeps (blocks_from p vias n (s ∷ others)
+      (counted i a))) i.decoder now) (sym same)
+      (subst (λ (l : List Spot). Leaves whole start source (kept_blocks keeps (blocks_from p vias n l (counted i old)))
+      i.decoder now) is so_far)
+
+  abbrev Begins : Result (Unit {0}) Error → Counted → Ahead → Stream → Type 0
+  Begins r next b mid = Takes (λ (u : Unit {0}). next) (begun_from n (counted i new)) i.decoder now r b mid
+
+  -- Its interval is refused.
+  pub begin-refused : (next : Counted) (e : Error) (b : Ahead) (mid : Stream) → Begins (Err e) next b mid
+      → Takes (λ (u : Unit {0}). counted i new) whole start source (Err e) b mid
+  begin-refused next e b mid begins =
+      refused_after (λ (u : Unit {0}). counted i new) (λ (u : Unit {0}). next) whole
+      (kept_blocks keeps (blocks_from p vias n (s ∷ others) (counted i new))) (begun_from n (counted i new)) start
+      i.decoder b source now mid e
+      (λ t f h. ap (read_on (kept_after keeps)) (blocks_refused p vias n s others (counted i new) t f
+      (next_unbegun p vias n s (counted i new) t f h))) there begins
+
+  -- Its interval has begun, or it is inside of one.
+  abbrev after_turn : Counted → Reads Counted
+  after_turn next t = read_on (kept_after keeps) (read_on (blocks_from p vias n others) (begun_turn p vias s next t))
+
+  begun : (next : Counted) (b : Ahead) (mid : Stream) → Begins (Ok tt) next b mid
+      → Leaves whole start source (after_turn next) b mid
+  begun next b mid begins = (
+    begins.0 ∙ there.0,
+    λ k.
+        let at = there.1 k in
+        let by = begins.1 at.0 in (
+          by.0,
+          at.1 ∙ ap (read_on (kept_after keeps)) (blocks_begun p vias n s others (counted i new) next _ _ by.1),
+        ),
+  )
+
+  -- It is refused.
+  pub block-refused : {Y Z : Type 0} (next : Counted) (b d : Ahead) (mid last : Stream) (view : Y → Z) (read : Reads Z)
+      (e : Error) → Begins (Ok tt) next b mid
+      → ((t : Text) (f : Fault) → read t ≡ Err f → turn_from p vias s next.reached t ≡ Err f)
+      → Takes view read b mid (Err e) d last
+      → Takes (λ (u : Unit {0}). counted i new) whole start source (Err e) d last
+  block-refused next b d mid last view read e begins refused takes =
+      refused_after (λ (u : Unit {0}). counted i new) view whole (after_turn next) read start b d source mid last e
+      (λ t f h. ap (λ o. read_on (kept_after keeps) (read_on (blocks_from p vias n others) o))
+      (next_refused p vias s next t f (refused t f h))) (begun next b mid begins) takes
+
+  -- It is read.
+  pub block-read : (next : Counted) (r : Reached) (b d : Ahead) (mid last : Stream) → Begins (Ok tt) next b mid
+      → (keeps ≡ false → p.is_first ≡ true) → last.failed ≡ mid.failed → (mid.known ≡ true → last.known ≡ true)
+      → (mid.known ≡ true → read_on (kept_read keeps) (turn_from p vias s next.reached (upcoming b mid.bytes))
+      ≡ Ok (kept_reached keeps r, upcoming d last.bytes))
+      → Leaves whole start source (kept_blocks keeps (blocks_from p vias n others (record {
+        reached = r;
+        left = next.left - 1;
+        number = next.number;
+        beyond = next.beyond;
+      }))) d last
+  block-read next r b d mid last begins first failed known turn =
+      let here = begun next b mid begins in (
+        failed ∙ here.0,
+        λ k.
+            let at = here.1 k in (
+              known at.0,
+              at.1 ∙ next-kept keeps p vias n s others next r _ _ first (turn at.0),
+            ),
+      )

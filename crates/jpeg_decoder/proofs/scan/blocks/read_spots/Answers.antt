@@ -1,20 +1,17 @@
-use Rattle.std.proofs.Common.{◌∙◌, ◌≡◌, ap, pos, refl, sym, subst, true, rules, ℤ, List, ◌∷◌, Result, Some, get_or}
+use Rattle.std.proofs.Common.{◌∙◌, ◌≡◌, ap, pos, refl, sym, subst, true, rules, ℤ, List, ◌∷◌, Some, get_or}
 use Rattle.std.proofs.Common.{length}
 use Rattle.std.specs.List.{AllByRecursion}
-use Rattle.jpeg_bits.proofs.WholeBlocks.{refused_after}
 use Rattle.jpeg_bits.specs.BlockView.{predictor_at, to_block}
-use Rattle.jpeg_bits.specs.Entropy.{Text, upcoming}
+use Rattle.jpeg_bits.specs.Entropy.{upcoming}
 use Rattle.jpeg_bits.specs.Passes.{block_from, Pass}
-use Rattle.jpeg_bits.specs.Readers.{◌>>=◌, read_on}
-use Rattle.jpeg_meaning.specs.Order.{Spot}
-use Rattle.jpeg_meaning.specs.InTurn.{Counted, begun_from, blocks_from}
-use Rattle.jpeg_bits.specs.Reading.{Fault}
-use Rattle.jpeg_decoder.specs.Scanning.{IsSpotOf, arrays_in, counted, kept_after, sizes_of, scan_vias}
+use Rattle.jpeg_meaning.specs.InTurn.{begun_from, blocks_from}
+use Rattle.jpeg_decoder.specs.Scanning.{IsSpotOf, arrays_in, counted, kept_blocks, sizes_of, scan_vias}
 use Rattle.jpeg_decoder.specs.Through.{counted_reached}
 use Rattle.jpeg_bits.specs.Skips.{kept, kept_from}
-use Rattle.jpeg_decoder.proofs.Kept.KeptScans.{next-kept, turn-kept-refused}
-use Rattle.jpeg_decoder.proofs.Orders.BlockSteps.{begun_turn, blocks_begun, blocks_refused, next_refused, next_unbegun}
-use Rattle.jpeg_decoder.proofs.Kept.KeptBlocks.{reached-alike, sizes-set, spot, stored-there, turn-kept, turn-refused}
+use Rattle.jpeg_decoder.proofs.Kept.KeptScans.{turn-kept-refused}
+use Rattle.jpeg_decoder.proofs.Orders.BlockSteps.{next_unbegun}
+use Rattle.jpeg_decoder.proofs.Kept.KeptBlocks.{begin-refused, block-read, block-refused, sizes-set, spot, stored-there}
+use Rattle.jpeg_decoder.proofs.Kept.KeptBlocks.{turn-kept, turn-refused}
 use Rattle.jpeg_decoder.proofs.Kept.ReachedSpots.{before-is, left-next, left-refused, next-unread}
 use Rattle.jpeg_decoder.proofs.Partial.ReachedBlocks.{put-back, turn-read}
 use Rattle.jpeg_decoder.proofs.scan.blocks.read_spots.Goals as goal
@@ -22,27 +19,17 @@ use Rattle.jpeg_decoder.proofs.scan.blocks.read_spots.Goals.{in-Some-before, in_
 
 pub returns-then-not-begin-clause-blocks : goal.returns-then-not-begin-clause-blocks
 returns-then-not-begin-clause-blocks g c =
-    let p = c.args.scan.now.pass in
-    let vias = scan_vias c.args.scan.now in
-    let n = c.args.n in
+    let a = c.args in
+    let keeps = a.scan.now.keeps_ac in
+    let p = a.scan.now.pass in
+    let vias = scan_vias a.scan.now in
     let l = c.loop-spot in
-    let s = spot c.in-Some.spot.slot c.in-Some.spot.index in
-    let vs = c.reach.new.arrays.items in
-    let inv = reached-alike c.args.scan.now.keeps_ac p vias n l.spots l.interval (arrays_in l.arrays.items)
-    (arrays_in vs) c.args.interval.now.decoder c.args.source.now l.source
-    (blocks_from p vias n c.args.spots.now (counted c.args.interval.now (arrays_in c.args.arrays.now.items))
-    >>= kept_after c.args.scan.now.keeps_ac) c.in_ok-reach.ensures.arrays l.invariant.blocks in
-    let arrays = arrays_in vs in
-    let now = counted l.interval arrays in
-    let keep = kept_after c.args.scan.now.keeps_ac in
-    rw c.refused_at.ensures.refusal (refused_after (λ (u : Unit {0}). now)
-    (λ (u : Unit {0}). counted c.begin.new.interval arrays)
-    (blocks_from p vias n c.args.spots.now (counted c.args.interval.now (arrays_in c.args.arrays.now.items)) >>= keep)
-    (blocks_from p vias n l.spots now >>= keep) (begun_from n now)
-    c.args.interval.now.decoder _ c.begin.new.interval.decoder c.args.source.now _ c.begin.new.source _
-    (λ t f h. ap (read_on keep) (ap (λ (m : List Spot). blocks_from p vias n m now t) c.in-Some.ensures
-    ∙ blocks_refused p vias n s c.next.new.self now t f (next_unbegun p vias n s now t f h)))
-    inv (c.if-not-begin.ensures.begun arrays))
+    let vs = arrays_in c.reach.new.arrays.items in
+    rw c.refused_at.ensures.refusal (begin-refused keeps p vias a.n (spot c.in-Some.spot.slot c.in-Some.spot.index)
+    l.spots c.next.new.self l.interval (arrays_in l.arrays.items) vs a.interval.now.decoder a.source.now l.source
+    (kept_blocks keeps (blocks_from p vias a.n a.spots.now (counted a.interval.now (arrays_in a.arrays.now.items))))
+    c.in-Some.ensures c.in_ok-reach.ensures.arrays l.invariant.blocks (counted c.begin.new.interval vs) _
+    c.begin.new.interval.decoder c.begin.new.source (c.if-not-begin.ensures.begun vs))
 
 pub returns-then-not-begin-clause-reached : goal.returns-then-not-begin-clause-reached
 returns-then-not-begin-clause-reached g c keep nothing =
@@ -77,60 +64,38 @@ returns-then-not-take_block-clause-sizes g c =
 
 pub returns-then-not-take_block-clause-blocks : goal.returns-then-not-take_block-clause-blocks
 returns-then-not-take_block-clause-blocks g c =
-    let p = c.args.scan.now.pass in
-    let vias = scan_vias c.args.scan.now in
-    let n = c.args.n in
+    let a = c.args in
+    let keeps = a.scan.now.keeps_ac in
+    let p = a.scan.now.pass in
+    let vias = scan_vias a.scan.now in
     let l = c.loop-spot in
     let i = c.begin.new.interval in
     let slot = c.in-Some.spot.slot in
     let index = c.in-Some.spot.index in
     let s = spot slot index in
     let vs = c.reach.new.arrays.items in
-    let inv = reached-alike c.args.scan.now.keeps_ac p vias n l.spots l.interval (arrays_in l.arrays.items)
-    (arrays_in vs) c.args.interval.now.decoder c.args.source.now l.source
-    (blocks_from p vias n c.args.spots.now (counted c.args.interval.now (arrays_in c.args.arrays.now.items))
-    >>= kept_after c.args.scan.now.keeps_ac) c.in_ok-reach.ensures.arrays l.invariant.blocks in
-    let now = counted l.interval (arrays_in vs) in
     let first = get_or i.carried.predictors slot (pos 0) in
     let coding = c.coding-coding in
     let dc = coding.result.dc_table.now in
     let ac = coding.result.ac_table.now in
-    let of : AllByRecursion (IsSpotOf (length c.args.scan.now.codings) (sizes_of vs)) (s ∷ c.next.new.self)
+    let of : AllByRecursion (IsSpotOf (length a.scan.now.codings) (sizes_of vs)) (s ∷ c.next.new.self)
     = search rules in
-    let q = c.if-not-begin.ensures.begun (arrays_in vs) in
-    let keeps = c.args.scan.now.keeps_ac in
-    let keep = kept_after keeps in
-    let read = rw (coding.ensures.pass, coding.ensures.slot, coding.ensures.keeps)
-    at c.if-not-take_block.ensures.block in
-    let left : Text → Result (Counted × Text) Fault = λ t. read_on keep (read_on (blocks_from p vias n c.next.new.self)
-    (begun_turn p vias s (counted i (arrays_in vs)) t)) in
-    rw c.refused_at-then-not-take_block.ensures.refusal (refused_after (λ (u : Unit {0}). now) (λ (u : Unit {0}). (
+    rw c.refused_at-then-not-take_block.ensures.refusal (block-refused keeps p vias a.n s l.spots c.next.new.self
+    l.interval (arrays_in l.arrays.items) (arrays_in vs) a.interval.now.decoder a.source.now l.source
+    (kept_blocks keeps (blocks_from p vias a.n a.spots.now (counted a.interval.now (arrays_in a.arrays.now.items))))
+    c.in-Some.ensures c.in_ok-reach.ensures.arrays l.invariant.blocks (counted i (arrays_in vs)) _
+    c.take_block.new.decoder _ c.take_block.new.source (λ (u : Unit {0}). (
       kept keeps (to_block c.take_block.new.block),
       predictor_at slot c.take_block.new.carried,
       c.take_block.new.carried.run,
     ))
-    (blocks_from p vias n c.args.spots.now (counted c.args.interval.now (arrays_in c.args.arrays.now.items)) >>= keep)
-    left (kept_from keeps (block_from p dc ac first i.carried.run
-    (to_block c.index_mut-block.result.now)))
-    c.args.interval.now.decoder _ c.take_block.new.decoder c.args.source.now _ c.take_block.new.source _
-    (λ t f h. ap (λ o. read_on keep (read_on (blocks_from p vias n c.next.new.self) o))
-    (next_refused p vias s (counted i (arrays_in vs)) t f
-    (turn-refused p vias _ slot index dc ac vs c.index_mut.result.now c.index_mut-block.result.now i.carried.predictors
-    i.carried.run first of.0 coding.ensures.tables c.index_mut.ensures.value
+    (kept_from keeps (block_from p dc ac first i.carried.run (to_block c.index_mut-block.result.now))) _
+    (c.if-not-begin.ensures.begun (arrays_in vs))
+    (λ t f h. turn-refused p vias _ slot index dc ac vs c.index_mut.result.now c.index_mut-block.result.now
+    i.carried.predictors i.carried.run first of.0 coding.ensures.tables c.index_mut.ensures.value
     (stored-there vs slot index c.index_mut.result.now c.index_mut.ensures.value c.in_ok-reach.ensures.stored)
-    c.index_mut-block.ensures.value refl t f (turn-kept-refused keeps _ f h)))) (
-      q.0 ∙ inv.0,
-      λ k.
-          let at = inv.1 k in
-          let by = q.1 at.0 in (
-            by.0,
-            at.1 ∙ ap (read_on keep)
-                (ap (λ (m : List Spot). blocks_from p vias n m now (upcoming l.interval.decoder l.source.bytes))
-                c.in-Some.ensures
-                ∙ blocks_begun p vias n s c.next.new.self now (counted i (arrays_in vs)) _ _ by.1),
-          ),
-    )
-    read)
+    c.index_mut-block.ensures.value refl t f (turn-kept-refused keeps _ f h))
+    (rw (coding.ensures.pass, coding.ensures.slot, coding.ensures.keeps) at c.if-not-take_block.ensures.block))
 
 pub returns-then-not-take_block-clause-reached : goal.returns-then-not-take_block-clause-reached
 returns-then-not-take_block-clause-reached g c keep nothing =
@@ -185,61 +150,46 @@ returns-then-not-take_block-clause-reached g c keep nothing =
 
 pub loop-spot-preserved : goal.loop-spot-preserved
 loop-spot-preserved g c =
-    let p = c.args.scan.now.pass in
-    let vias = scan_vias c.args.scan.now in
-    let n = c.args.n in
+    let a = c.args in
+    let keeps = a.scan.now.keeps_ac in
+    let p = a.scan.now.pass in
+    let vias = scan_vias a.scan.now in
     let l = c.loop-spot in
     let i = c.begin.new.interval in
     let slot = c.in-Some.spot.slot in
     let index = c.in-Some.spot.index in
     let s = spot slot index in
     let vs = c.reach.new.arrays.items in
-    let inv = reached-alike c.args.scan.now.keeps_ac p vias n l.spots l.interval (arrays_in l.arrays.items)
-    (arrays_in vs) c.args.interval.now.decoder c.args.source.now l.source
-    (blocks_from p vias n c.args.spots.now (counted c.args.interval.now (arrays_in c.args.arrays.now.items))
-    >>= kept_after c.args.scan.now.keeps_ac) c.in_ok-reach.ensures.arrays l.invariant.blocks in
     let now = counted l.interval (arrays_in vs) in
     let first = get_or i.carried.predictors slot (pos 0) in
     let coding = c.coding-coding in
-    let of : AllByRecursion (IsSpotOf (length c.args.scan.now.codings) (sizes_of vs)) (s ∷ c.next.new.self)
+    let of : AllByRecursion (IsSpotOf (length a.scan.now.codings) (sizes_of vs)) (s ∷ c.next.new.self)
     = search rules in
     let q = c.if-not-begin.ensures.begun (arrays_in vs) in
-    let keeps = c.args.scan.now.keeps_ac in
-    let keep = kept_after keeps in
     let r = rw (coding.ensures.pass, coding.ensures.slot, coding.ensures.keeps) at c.if-not-take_block.ensures.block in
     let sizes = sizes-set vs slot index c.index_mut.result.now c.take_block.new.block c.index_mut.ensures.value in
-    let turn = λ (known : l.source.known ≡ true). turn-kept p vias _ slot index _ _ vs c.index_mut.result.now
+    let turn = λ (known : c.begin.new.source.known ≡ true). turn-kept p vias _ slot index _ _ vs c.index_mut.result.now
     c.index_mut-block.result.now i.carried.predictors i.carried.run first of.0 coding.ensures.tables
     c.index_mut.ensures.value
     (stored-there vs slot index c.index_mut.result.now c.index_mut.ensures.value c.in_ok-reach.ensures.stored)
     c.index_mut-block.ensures.value refl keeps c.take_block.new.block (predictor_at slot c.take_block.new.carried)
-    c.take_block.new.carried.run _ _ (r.1 (q.1 known).0).1 in
+    c.take_block.new.carried.run _ _ (r.1 known).1 in
     record {
       sizes = sizes ∙ c.in_ok-reach.ensures.sizes ∙ l.invariant.sizes;
       spots = search rules;
-      blocks = rw (c.if-not-take_block.ensures.others, coding.ensures.slot, c.saturating_sub-interval.ensures) (
-        r.0 ∙ q.0 ∙ inv.0,
-        λ k.
-            let at = inv.1 k in
-            let by = q.1 at.0 in
-            let more = r.1 by.0 in (
-              more.0,
-              at.1 ∙ ap (read_on keep)
-                  (ap (λ (m : List Spot). blocks_from p vias n m now (upcoming l.interval.decoder l.source.bytes))
-                  c.in-Some.ensures
-                  ∙ blocks_begun p vias n s c.next.new.self now (counted i (arrays_in vs)) _ _ by.1)
-                  ∙ next-kept keeps p vias n s c.next.new.self (counted i (arrays_in vs)) _ _ _
-                  (λ none. ap (λ (p : Pass). p.is_first) (sym coding.ensures.pass)
-                  ∙ coding.result.first (coding.ensures.keeps ∙ none))
-                  (turn at.0),
-            ),
-      );
+      blocks = rw (c.if-not-take_block.ensures.others, coding.ensures.slot, c.saturating_sub-interval.ensures)
+          (block-read keeps p vias a.n s l.spots c.next.new.self l.interval (arrays_in l.arrays.items) (arrays_in vs)
+          a.interval.now.decoder a.source.now l.source
+          (kept_blocks keeps (blocks_from p vias a.n a.spots.now
+          (counted a.interval.now (arrays_in a.arrays.now.items)))) c.in-Some.ensures c.in_ok-reach.ensures.arrays
+          l.invariant.blocks (counted i (arrays_in vs)) _ _ _ _ _ q (λ none. ap (λ (p : Pass). p.is_first)
+          (sym coding.ensures.pass) ∙ coding.result.first (coding.ensures.keeps ∙ none)) r.0 (λ k. (r.1 k).0) turn);
       goes = rw (c.if-not-take_block.ensures.others, coding.ensures.slot, c.saturating_sub-interval.ensures) (λ keep k.
-          let at = (l.invariant.blocks.1 k).0 in
-          left-next p vias n s l.spots c.next.new.self (counted l.interval (arrays_in l.arrays.items)) now
+          let at = q.1 (l.invariant.blocks.1 k).0 in
+          left-next p vias a.n s l.spots c.next.new.self (counted l.interval (arrays_in l.arrays.items)) now
           (upcoming l.interval.decoder l.source.bytes) _ c.in-Some.ensures
           (ap (counted l.interval) c.in_ok-reach.ensures.arrays) (counted i (arrays_in vs)) _ _ _
-          (l.invariant.goes keep k) (q.1 at).1 (turn-read keeps _ _ _ keep (turn at)));
+          (l.invariant.goes keep k) at.1 (turn-read keeps _ _ _ keep (turn at.0)));
       beyond = c.if-not-begin.ensures.beyond ∙ l.invariant.beyond;
       unread = c.if-not-begin.ensures.unread ∙ l.invariant.unread;
     }
