@@ -4,10 +4,9 @@ use Rattle.std.specs.Prelude.{Bool, Result, Ok, Err, Option, Some, None, ◌*◌
 use Rattle.std.specs.Prelude.{true, false, if◌then◌else◌, IsErrAnd, IsOkAnd, get_or, slice_index_or}
 use Rattle.std.specs.Prelude.{option_map, unwrap_or, zip}
 use Rattle.jpeg_bits.specs.Codes.{Table}
-use Rattle.jpeg_bits.specs.Entropy.{Text, advance}
 use Rattle.jpeg_bits.specs.Intervals.{first_group, other_groups}
 use Rattle.jpeg_bits.specs.Passes.{Pass}
-use Rattle.jpeg_bits.specs.Reading.{Answers, Fault, IsGivenUp, Malformed, MayFail, Names, Outcome}
+use Rattle.jpeg_bits.specs.Reading.{Answers, Fault, Malformed, Names, Outcome}
 use Rattle.jpeg_bits.specs.Reading.{◌>>=◌}
 use Rattle.jpeg_bits.specs.Stream.{Stream}
 use Rattle.jpeg_bits.specs.declared.beyond.Beyond.{Beyond}
@@ -61,18 +60,6 @@ OnFault (Err e) P = IfRefused e P
 abbrev pub is_out_of_memory : {X : Type 0} → Result X Error → Bool
 is_out_of_memory (Err OutOfMemory) = true
 is_out_of_memory _ = false
-
--- A call that reads of a text, from the source old to new, told what is read of it: the bits that
--- are left, which begin the text that stands ahead then; or the fault.
-abbrev pub TellsBits : {X : Type 0} → Result (List Bool) Fault → Text → Stream → Result X Error
-    → Stream → Text → Type 0
-TellsBits expected t old (Ok x) new left =
-    (new.failed ≡ old.failed) × (old.known ≡ true → (new.known ≡ true)
-    × ((k : ℕ) × (left ≡ advance k t)) × (expected ≡ Ok left.bits))
-TellsBits expected t old (Err e) new left =
-    MayFail e old.failed new.failed
-    × (old.known ≡ true → new.known ≡ true → Names e expected)
-    × (old.known ≡ true → new.known ≡ false → IsGivenUp e new.failed)
 
 -- What was found, but for the Huffman tables and the restart interval, which no picture shows.
 abbrev pub without_tables : Found → Found

@@ -3,7 +3,7 @@ use Rattle.std.proofs.Common.{arith, ◌≡◌, ◌<◌, ◌≤◌, ℕ, List, N
 use Rattle.std.specs.Prelude.{IsOk, length}
 use Rattle.zaxbriar_calls.specs.CopiesMetadata.{CopiesMetadata}
 use Rattle.zaxbriar_calls.specs.Faults.{IsNamed}
-use Rattle.zaxbriar_calls.specs.Metadata.{IsCopied, IsLonger, IsNoKind, end_at, is_whole, kind_alone, said_of}
+use Rattle.zaxbriar_calls.specs.Metadata.{IsCopied, IsLonger, IsNoKind, end_at, is_whole, said_of}
 
 -- a kind that doesn't exist
 pub no-kind-copied : (bytes : List ℕ) (kind passes : ℕ) (old : List ℕ) (count : ℕ) → IsNoKind kind → count ≡ 0
@@ -63,7 +63,3 @@ found-copied bytes kind passes old new count code some copies none room named wr
   unsaid = unsaid;
   kept = kept;
 }
-
--- a kind of 1 to 3 exists
-pub is-kind : (kind alone : ℕ) → alone ≡ kind_alone kind → (alone ≡ 0 → ⊥) → alone ≤ 3 → IsNoKind kind → ⊥
-is-kind kind alone same some few none = grind arith

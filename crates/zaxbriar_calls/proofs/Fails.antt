@@ -1,23 +1,14 @@
 -- A refusal of the header, or of what follows it, is one of the stream.
-use Rattle.std.proofs.Common.{◌≡◌, ◌⊎◌, ◌∙◌, ◌<◌, ◌^◌, ℕ, List, Ok, Err, Some, length, Result, ap, arith, refl, sym}
-use Rattle.std.specs.Prelude.{IfErr, IsErrAnd, OnOk}
+use Rattle.std.proofs.Common.{◌≡◌, ◌⊎◌, ◌∙◌, ◌<◌, ℕ, Ok, Err, Result, arith, refl, sym}
+use Rattle.std.specs.Prelude.{IfErr, IsErrAnd}
 use Rattle.jpeg_bits.specs.Reading.{Fault}
-use Rattle.jpeg_meaning.specs.Output.{Tells}
 use Rattle.zaxbriar_calls.specs.Faults.{IsFault, IsNamed, IsOfCall, IsOfCallNumber, IsOfReading, IsOfRoom, IsOfRoomNumber}
 use Rattle.zaxbriar_calls.specs.Faults.{IsOwn}
 use Rattle.zaxbriar_calls.specs.Faults.{status_of, fault_code}
 use Rattle.zaxbriar_calls.specs.declared.answers.Refusal.{Refusal}
 use Rattle.zaxbriar_calls.specs.declared.answers.Refusal.TheVariants as refusals
 
--- a reader of a slice tells its bytes
-pub tells-slice : (bytes jpeg : List ℕ) → bytes ≡ jpeg → length jpeg < 2 ^ 64 → Tells (Some bytes) jpeg
-tells-slice bytes jpeg same few = record { told = ap Some same; few = few }
-
 -- ---- what follows of an outcome
-
-pub on-ok : {X E : Type 0} (r : Result X E) (P Q : Type 0) → OnOk r P → (P → Q) → OnOk r Q
-on-ok (Ok x) P Q p f = f p
-on-ok (Err e) P Q p f = tt
 
 pub if-err : {X E : Type 0} (r : Result X E) (P Q : E → Type 0) → IfErr r P → ((e : E) → P e → Q e) → IfErr r Q
 if-err (Ok x) P Q p f = tt

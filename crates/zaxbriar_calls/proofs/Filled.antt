@@ -356,13 +356,6 @@ cleared : (picture : Picture) (feature : Feature) (fault rows : ℕ) (text : Lis
 cleared picture feature fault rows text f r none =
     λ i. as_described (telling (none i) feature (f i) (r i) text)
 
--- after a refusal of the header there are no rows and no fault
-header-rows : (extent : Extent) (o : Options) (bytes : List ℕ) (f : Fault) → header_at bytes ≡ Err f
-    → rows_by extent o bytes ≡ 0
-unfolding rows_by
-header-rows Whole o bytes f h = refl
-header-rows Partial o bytes f h = rw (h, rows_by) refl
-
 unread : (extent : Extent) (o : Options) (bytes : List ℕ) (f : Fault) (s : Shown) → header_at bytes ≡ Err f
     → given_by extent o bytes ≡ Ok s → ⊥
 unread extent o bytes f s h g =

@@ -155,12 +155,6 @@ whole-given limits scale bytes picture rows fault h = go (header_at bytes) h
 
 -- ---- what a header says
 
--- what a header says of the picture, and its Exif data
-pub header-info-some : (bytes rest : List ℕ) (found : Found) (full : ImageInfo) → header_at bytes ≡ Ok (found, rest)
-    → option_map info_of found.said.frame ≡ Some full → header_info bytes ≡ Some full
-unfolding header_info
-header-info-some bytes rest found full header hf = rw (header_info, header) hf
-
 pub header-info-is : (bytes rest : List ℕ) (found : Found) → header_at bytes ≡ Ok (found, rest)
     → header_info bytes ≡ option_map info_of found.said.frame
 unfolding header_info

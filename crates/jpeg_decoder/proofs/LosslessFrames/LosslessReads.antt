@@ -115,9 +115,6 @@ codings-lacking tables frame _ _ f within long e = absurd (omega arith)
 
 -- ---- the MCUs of a scan
 
-abbrev part : Bool → Component → Table → Part
-part is_alone c t = part_by is_alone c t
-
 several : (cs : List Component) (codings : List LosslessCoding) (indices : List ℕ) (ts : List Table)
     → AreOf cs codings indices ts
     → map (λ k. part_of k.component.factors.horizontal k.component.factors.vertical k) codings

@@ -1,36 +1,34 @@
 -- A lossless scan that is read whole: its samples are those of the definition, and replace those before it.
-use Rattle.std.proofs.Common.{◌≡◌, ◌∙◌, ◌+◌, ◌<◌, ◌==◌, ℕ, Bool, true, false, List, [], length, replicate}
+use Rattle.std.proofs.Common.{◌≡◌, ◌∙◌, ◌+◌, ◌<◌, ◌==◌, ℕ, Bool, true, List, [], length, replicate}
 use Rattle.std.proofs.Common.{Result, Ok, Err, Option, arith, ap, ap₂, if◌then◌else◌, refl, subst, sym}
 use Rattle.std.specs.Prelude.{IfErr, IfOk, OnOk}
 use Rattle.std.specs.Result.{is_err}
 use Rattle.std.proofs.lemmas.List.Elements.{recursion_from_All}
-use Rattle.jpeg_bits.specs.Reading.{Answers, Fault, Malformed, MayFail, Names, ◌>>=◌}
+use Rattle.jpeg_bits.specs.Reading.{Answers, ◌>>=◌}
 use Rattle.jpeg_bits.specs.Stream.{Stream}
 use Rattle.jpeg_bits.specs.declared.error.Error.{Error}
-use Rattle.jpeg_bits.specs.declared.error.Error.TheVariants as errors
 use Rattle.jpeg_bits.specs.declared.marker.Marker.{Marker}
-use Rattle.jpeg_bits.proofs.Loops.{Names-through, still_known}
+use Rattle.jpeg_bits.proofs.Loops.{Names-through}
 use Rattle.jpeg_segments.specs.Frame.{Frame}
 use Rattle.jpeg_segments.specs.ScanHeader.{Scan}
-use Rattle.jpeg_segments.proofs.Codecs.{err-ok}
 use Rattle.jpeg_lossless.specs.Codings.{AreWholeSamples, way_by}
 use Rattle.jpeg_lossless.specs.Differences.{Part}
 use Rattle.jpeg_lossless.specs.PlanesRead.{AreGrown, PlanesAndMarker, counted_rows, cut_planes, planes_and_marker}
 use Rattle.jpeg_lossless.specs.PlanesRead.{planes_intervals, planes_scan}
-use Rattle.jpeg_lossless.specs.Scans.{Way, is_of_rows, rows_of_interval, scan_at}
+use Rattle.jpeg_lossless.specs.Scans.{Way, is_of_rows, rows_of_interval}
 use Rattle.jpeg_lossless.specs.declared.scan.Coding.{Coding}
 use Rattle.jpeg_lossless.proofs.Sizes.{covered-within, cut-whole, empty-grown, grown-as}
 use Rattle.jpeg_lossless.proofs.WholeScans.{scan-is}
 use Rattle.jpeg_meaning.specs.Found.{Found}
-use Rattle.jpeg_meaning.specs.LosslessScans.{LosslessCoding, lossless_codings, mcus_across, mcus_down, with_samples}
+use Rattle.jpeg_meaning.specs.LosslessScans.{with_samples}
 use Rattle.jpeg_meaning.specs.ScanSegments.{after_samples, once_scanned}
 use Rattle.jpeg_meaning.specs.Sound.{IsSound}
-use Rattle.jpeg_decoder.specs.Reaching.{UnlessRefused, planes_over, sample_codings, whole_codings}
-use Rattle.jpeg_decoder.specs.Steps.{IsRefusal, after_all, samples_read}
+use Rattle.jpeg_decoder.specs.Reaching.{planes_over}
+use Rattle.jpeg_decoder.specs.Steps.{after_all, samples_read}
 use Rattle.jpeg_decoder.specs.declared.scan.lossless.SampleScan.{SampleScan}
 use Rattle.jpeg_decoder.proofs.LosslessFrames.LosslessReads.{HasMcus, after_planes, codings-count, samples-end}
-use Rattle.jpeg_decoder.proofs.LosslessFrames.LosslessReads.{samples-fail, samples-lacking, samples-read}
-use Rattle.jpeg_decoder.proofs.LosslessFrames.LosslessReads.{samples-sound, samples-then}
+use Rattle.jpeg_decoder.proofs.LosslessFrames.LosslessReads.{samples-fail, samples-read}
+use Rattle.jpeg_decoder.proofs.LosslessFrames.LosslessReads.{samples-sound}
 use Rattle.jpeg_decoder.proofs.Scans.ScanReads.{HasRead}
 use Rattle.jpeg_decoder.proofs.LosslessFrames.SampleScans.{AreFor, Reads, put_over, scan-coded, scan-mcus, whole-over}
 
@@ -40,9 +38,6 @@ Planes = List (List ℕ)
 if-true : {A : Type 0} (b : Bool) (x y : A) → b ≡ true → (if b then x else y) ≡ x
 if-true b x y h = ap (λ (c : Bool). if c then x else y) h
 
-if-false : {A : Type 0} (b : Bool) (x y : A) → b ≡ false → (if b then x else y) ≡ y
-if-false b x y h = ap (λ (c : Bool). if c then x else y) h
-
 -- ---- the results of calls
 
 -- what is asked of a result that is no refusal
@@ -50,66 +45,12 @@ pub on-refusal : {X : Type 0} (P : Type 0) (r : Result X Error) → is_err r ≡
 on-refusal P (Ok x) h = absurd (let n : ⊥ = cc in n)
 on-refusal P (Err e) h = tt
 
--- what holds unless memory ran out, where there is a result
-pub ok-unless : {X : Type 0} (P : Type 0) (r : Result X Error) → UnlessRefused r P → OnOk r P
-ok-unless P (Ok x) h = h
-ok-unless P (Err e) h = tt
-
 -- Where restart markers were passed over, the intervals were read.
 on-passed : {P Q : Type 0} (read passed : Result (Option Marker) Error) (mid new : Stream) → (P → Q) → OnOk read P
     → IfErr read (λ e. (passed ≡ Err e) × (new ≡ mid)) → OnOk passed Q
 on-passed (Ok met) (Ok m) mid new f p refused = f p
 on-passed (Err e) (Ok m) mid new f p refused = absurd (let h = refused.0 in let n : ⊥ = cc in n)
 on-passed read (Err e) mid new f p refused = tt
-
--- ---- a scan that begins with a fault
-
-scan-broken : (w : Way) (high restart point : ℕ) (bytes : List ℕ) → is_of_rows w.wide high restart ≡ false
-    → scan_at w high restart point bytes ≡ Err Malformed
-unfolding scan_at
-scan-broken w high restart point bytes h = if-false _ _ _ h
-
-none-whole : (found : Found) (frame : Frame) (scan : Scan) (bytes : List ℕ) (f : Fault) (codings : List LosslessCoding)
-    (b : Bool) → lossless_codings found.said.huffman.dc frame scan.components scan.dc_destinations ≡ Ok codings
-    → is_of_rows (mcus_across frame codings) (mcus_down frame codings) found.said.restart ≡ b
-    → ◌≡◌ {A = Result (List LosslessCoding) Fault} (if b then Ok codings else Err Malformed) (Err f)
-    → samples_read found frame scan bytes ≡ Err f
-none-whole found frame scan bytes f codings true are is h = absurd (err-ok f codings (sym h))
-none-whole found frame scan bytes f codings false are is h =
-    samples-then found frame scan codings bytes are
-    ∙ ap (λ o. o >>= after_planes found codings) (scan-broken _ (mcus_down frame codings) found.said.restart
-    scan.point_transform bytes is) ∙ (let same : Malformed ≡ f = cc in ap Err same)
-
--- A scan whose components are refused can't be read.
-pub none-read : (found : Found) (frame : Frame) (scan : Scan) (bytes : List ℕ) (f : Fault)
-    → sample_codings found.said frame scan ≡ Err f → samples_read found frame scan bytes ≡ Err f
-none-read found frame scan bytes f h =
-    go (lossless_codings found.said.huffman.dc frame scan.components scan.dc_destinations) refl h
-  where
-    go : (o : Result (List LosslessCoding) Fault)
-        → lossless_codings found.said.huffman.dc frame scan.components scan.dc_destinations ≡ o
-        → (o >>= whole_codings found.said frame) ≡ Err f → samples_read found frame scan bytes ≡ Err f
-    go (Ok codings) are h = none-whole found frame scan bytes f codings
-        (is_of_rows (mcus_across frame codings) (mcus_down frame codings) found.said.restart) are refl h
-    go (Err g) are h = samples-lacking found frame scan bytes f (are ∙ h)
-
-refusal-stays : (e : Error) (failed : Bool) → IsRefusal e → MayFail e failed failed
-refusal-stays errors.OutOfMemory failed is = refl
-refusal-stays (errors.Format text) failed is = refl
-refusal-stays (errors.Unsupported feature) failed is = refl
-refusal-stays (errors.Io x) failed is = absurd is
-refusal-stays (errors.Internal text) failed is = absurd is
-
--- The call that looks for its components refuses it.
-pub none-answers : (found : Found) (frame : Frame) (scan : Scan) (s : Stream) (e : Error)
-    → IsRefusal e × Names e (sample_codings found.said frame scan)
-    → Answers (λ (m : Option Marker). (found, m)) (samples_read found frame scan) s (Err e) s
-none-answers found frame scan s e n = (
-  refusal-stays e s.failed n.0,
-  λ known l. Names-through e (sample_codings found.said frame scan) (samples_read found frame scan s.bytes)
-      (λ f h. none-read found frame scan s.bytes f h) n.1,
-  λ known l. still_known e s.failed known l,
-)
 
 -- ---- the data of a scan
 

@@ -7,10 +7,8 @@ use Rattle.std.proofs.lemmas.List.{length-map, length-take-le, map-append}
 use Rattle.jpeg_meaning.proofs.Written.WalkedStreams.{beside}
 use Rattle.jpeg_bits.specs.Codes.{IsTable, Table}
 use Rattle.jpeg_bits.specs.Marker.{marker_of}
-use Rattle.jpeg_bits.specs.Reading.{Outcome}
 use Rattle.jpeg_bits.specs.declared.marker.Marker.{Marker}
 use Rattle.jpeg_bits.specs.declared.marker.Marker.TheVariants.{EOI}
-use Rattle.jpeg_bits.specs.declared.scan.Predictor.{Predictor}
 use Rattle.jpeg_segments.specs.Frame.{Component, Frame}
 use Rattle.jpeg_segments.specs.Checks.{gathered, needed}
 use Rattle.jpeg_segments.specs.ScanHeader.{Selector, predictor_by, predictor_of, scan_of}
@@ -217,10 +215,6 @@ predictor-of : (frame : Frame) (h : ScanHeader) → frame.process ≡ Lossless
     → (scan_written frame h).predictor ≡ predictor_by h.first
 unfolding scan_of
 predictor-of frame h e = ap (λ (p : CodingProcess). predictor_of p h.first) e
-
-abbrev by : Said → Frame → List LosslessCoding → List ℕ → Predictor → ℕ → Outcome (List (List ℕ) × Option Marker)
-by said frame codings bytes predictor point =
-    scan_at (way_of frame predictor point codings) (mcus_down frame codings) said.restart point bytes
 
 pub scan-read : (said : Said) (decided : List (Option (List ℕ))) (frame : Frame) (h : ScanHeader)
     (samples : Samples) (bytes rest : List ℕ)

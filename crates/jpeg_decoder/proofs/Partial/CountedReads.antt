@@ -48,19 +48,6 @@ counted-append p vias n (s ∷ xs) ys old t = search (rules, counted-append p vi
 
 -- ---- what is read of blocks
 
-abbrev pub with_text : Counted → Text → Result (Counted × Text) Fault
-with_text r t = Ok (r, t)
-
--- what is reached and the text after it, or the fault
-abbrev pub outcome_by : CountedRead → Result (Counted × Text) Fault
-outcome_by r = r.rest >>= with_text r.reached
-
-pub blocks-outcome : (p : Pass) (vias : List Via) (n : ℕ) (spots : List Spot) (old : Counted) (t : Text)
-    → blocks_from p vias n spots old t ≡ outcome_by (counted_reached p vias n spots old t)
-unfolding counted_reached blocks_from
-blocks-outcome p vias n [] old t = refl
-blocks-outcome p vias n (s ∷ spots) old t = search (rules, blocks-outcome p vias n spots)
-
 pub counted-whole : (p : Pass) (vias : List Via) (n : ℕ) (spots : List Spot) (old : Counted) (t : Text) (r : Counted)
     (u : Text) → blocks_from p vias n spots old t ≡ Ok (r, u)
     → counted_reached p vias n spots old t ≡ counted_end r u

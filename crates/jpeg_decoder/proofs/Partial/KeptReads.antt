@@ -1,5 +1,5 @@
 -- A scan of a progressive frame: its data are read, by what is read of its blocks.
-use Rattle.std.proofs.Common.{◌≡◌, ◌*◌, ◌∙◌, true, ℕ, List, Option, Result, Err, ap, ap₂, refl}
+use Rattle.std.proofs.Common.{◌≡◌, ◌*◌, ◌∙◌, true, ℕ, List, Option, Result, Err, ap, ap₂, refl, sym}
 use Rattle.std.specs.declared.alloc.Global.{Global}
 use Rattle.std.specs.declared.vec.Vec.{Vec}
 use Rattle.std.specs.Prelude.{option_map, OnOk}
@@ -25,11 +25,11 @@ use Rattle.jpeg_decoder.specs.Steps.{blocks_at, scan_data, with_decoded}
 use Rattle.jpeg_decoder.specs.declared.scan.decoded.Decoded.{Decoded}
 use Rattle.jpeg_decoder.proofs.Kept.BlockArrays.{Held}
 use Rattle.jpeg_decoder.proofs.Partial.LostScans.{lost-answers, lost-told, lost-unless}
-use Rattle.jpeg_decoder.proofs.Partial.ReachedData.{answers-by, reached-answers, reached-as, reached-found, reached_by}
+use Rattle.jpeg_decoder.proofs.Partial.ReachedData.{reached-answers, reached-as, reached-found, reached_by}
 use Rattle.jpeg_decoder.proofs.Partial.ReachedData.{rows-as}
 use Rattle.jpeg_decoder.proofs.Partial.Refused.{on-told}
 use Rattle.jpeg_decoder.proofs.Scans.ScanData.{data-kept, data-kept-refused, read_at}
-use Rattle.jpeg_decoder.proofs.Scans.ScanReads.{last-step}
+use Rattle.jpeg_decoder.proofs.Scans.ScanReads.{answers-as, last-step}
 
 -- The blocks of a scan were read, from those in `before` to those in `after`, where `left` is the spot of the first
 -- that can't be read, if there is one.
@@ -102,12 +102,12 @@ module _ (base : Found) (before : Decoded) (frame : Frame) (scan : BlockScan) (a
 
   whole-as : scan.beyond ≡ Zeros → Answers (λ (m : Option Marker). (after, m)) whole old met new
   whole-as z =
-      answers-by (λ (m : Option Marker). (after, m))
+      answers-as (λ (m : Option Marker). (after, m))
       (arrays_at p (scan.restart_interval * mcu_size (scan_components scan)) (scan_vias scan)
       (spots_of frame (scan_components scan)) arrays)
       whole old new met
-      (ap₂ (λ (n : ℕ) (a : Arrays). arrays_at p (n * mcu_size (scan_components scan)) (scan_vias scan)
-      (spots_of frame (scan_components scan)) a old.bytes) restart taken) (reads.whole z)
+      (sym (ap₂ (λ (n : ℕ) (a : Arrays). arrays_at p (n * mcu_size (scan_components scan)) (scan_vias scan)
+      (spots_of frame (scan_components scan)) a old.bytes) restart taken)) (reads.whole z)
 
   -- Nothing counts of it.
   pub kept-lost : (last : Decoded) → OnOk met ⊥ → (scan.beyond ≡ Nothing → is_out_of_memory met ≡ true)

@@ -1,14 +1,14 @@
 -- A scan of blocks up to the first that can't be read: what is found after it, by what is reached of its blocks; and
 -- the blocks that are taken for a scan of a progressive frame, and put back.
-use Rattle.std.proofs.Common.{◌≡◌, ◌*◌, ℕ, List, length, map, Option, Result, Ok, Err}
-use Rattle.std.proofs.Common.{refl, ap, arith}
+use Rattle.std.proofs.Common.{◌≡◌, ◌*◌, ℕ, List, length, map, Option, Result}
+use Rattle.std.proofs.Common.{refl, ap, arith, sym}
 use Rattle.std.specs.Prelude.{option_map}
 use Rattle.std.specs.List.{AllByRecursion}
 use Rattle.std.proofs.lemmas.Grind.{common_steps}
 use Rattle.std.proofs.lemmas.List.{length-map}
 use Rattle.jpeg_bits.specs.Stream.{Stream}
 use Rattle.jpeg_bits.specs.Passes.{Pass}
-use Rattle.jpeg_bits.specs.Reading.{Answers, Outcome}
+use Rattle.jpeg_bits.specs.Reading.{Answers}
 use Rattle.jpeg_bits.specs.declared.error.Error.{Error}
 use Rattle.jpeg_bits.specs.declared.marker.Marker.{Marker}
 use Rattle.jpeg_segments.specs.Frame.{Frame}
@@ -33,13 +33,8 @@ use Rattle.jpeg_decoder.proofs.Kept.BlockArrays.{Held}
 use Rattle.jpeg_decoder.proofs.Partial.Refused.{unless}
 use Rattle.jpeg_decoder.proofs.Scans.PlacedCodings.{coded-indices}
 use Rattle.jpeg_decoder.proofs.Scans.ScanData.{arrays-by-sizes, kept-kept, of-frame, rising-codings, same-found}
+use Rattle.jpeg_decoder.proofs.Scans.ScanReads.{answers-as}
 use Rattle.jpeg_decoder.proofs.Kept.TakenBlocks.{put-back}
-
--- a call answered by another reading of the same bytes
-pub answers-by : {X Y : Type 0} (v : X → Y) (f g : List ℕ → Outcome Y) (old new : Stream)
-    (r : Result X Error) → f old.bytes ≡ g old.bytes → Answers v f old r new → Answers v g old r new
-answers-by v f g old new (Ok x) e p = grind (arith, common_steps)
-answers-by v f g old new (Err e) is p = grind (arith, common_steps)
 
 -- ---- what is found
 
@@ -69,9 +64,9 @@ pub reached-answers : (f : Found) (frame : Frame) (scan : BlockScan) (arrays : A
     (λ bytes. (data_reached f frame scan.pass scan.codings bytes).met) old r new)
 unfolding data_reached
 reached-answers f frame scan arrays old new r n is h =
-    unless r (answers-by (λ (m : Option Marker). m) (λ bytes. (reached_by scan frame arrays bytes).rest)
+    unless r (answers-as (λ (m : Option Marker). m) (λ bytes. (reached_by scan frame arrays bytes).rest)
     (λ bytes. (data_reached f frame scan.pass scan.codings bytes).met) old new r
-    (ap (λ (r : BlocksTo (Option Marker)). r.rest) (reached-as f frame scan arrays old.bytes n is)) h)
+    (sym (ap (λ (r : BlocksTo (Option Marker)). r.rest) (reached-as f frame scan arrays old.bytes n is))) h)
 
 -- the complete rows of the picture, as the code counts them
 pub rows-as : (f : Found) (frame : Frame) (scan : BlockScan) (arrays : Arrays) (bytes : List ℕ)

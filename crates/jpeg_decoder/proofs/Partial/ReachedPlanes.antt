@@ -29,12 +29,12 @@ use Rattle.jpeg_decoder.specs.Strips.{no_samples, planes_by, planes_by_rows}
 use Rattle.jpeg_decoder.specs.Through.{blocks_reached, planes_through}
 use Rattle.jpeg_decoder.specs.declared.scan.decoded.Decoded.{Decoded}
 use Rattle.jpeg_decoder.proofs.Partial.KeptReads.{lost-reads}
-use Rattle.jpeg_decoder.proofs.Partial.ReachedData.{answers-by, data-found, reached_at}
+use Rattle.jpeg_decoder.proofs.Partial.ReachedData.{data-found, reached_at}
 use Rattle.jpeg_decoder.proofs.Partial.Refused.{on-told, unless-so}
 use Rattle.jpeg_decoder.proofs.Partial.LostScans.{lost-answers}
 use Rattle.jpeg_decoder.proofs.Scans.DecidedScans.{IsDecided, planes-decided}
 use Rattle.jpeg_decoder.proofs.Scans.ScanData.{arrays-by-planes, of-frame, same-found, zeros-read}
-use Rattle.jpeg_decoder.proofs.Scans.ScanReads.{last-step}
+use Rattle.jpeg_decoder.proofs.Scans.ScanReads.{answers-as, last-step}
 use Rattle.jpeg_decoder.proofs.Scans.SequentialScans.{again-data, again-refused-data, read-data, read-refused}
 use Rattle.jpeg_decoder.proofs.Strips.ReachedRows.{counted-any}
 use Rattle.jpeg_decoder.proofs.Strips.ReachedStrips.{planes-reached, planes-rest, planes-unread}
@@ -214,10 +214,10 @@ module _ (base : Found) (before : Decoded) (frame : Frame) (scan : BlockScan) (s
         (λ is. above ∙ ap (option_map (rows_above frame (scan_components scan))) is
         ∙ through-rows base before frame scan old.bytes process restart ready start) (reads.unread n);
     met = λ n. unless-so met _ _
-        (λ a. answers-by (λ (m : Option Marker). m)
+        (λ a. answers-as (λ (m : Option Marker). m)
         (λ bytes. (planes_through scan.pass (scan_vias scan) scan.restart_interval frame scan.codings start bytes).rest)
         (λ bytes. (data_reached state frame scan.pass scan.codings bytes).met) old new met
-        (through-met base before frame scan old.bytes process restart ready start) a) (reads.answers n);
+        (sym (through-met base before frame scan old.bytes process restart ready start)) a) (reads.answers n);
   }
 
 -- the first of its components, which decides their planes

@@ -10,7 +10,6 @@ use Rattle.jpeg_bits.specs.Stream.{Stream}
 use Rattle.jpeg_bits.specs.declared.error.Error.{Error}
 use Rattle.jpeg_bits.specs.declared.error.Error.TheVariants as errors
 use Rattle.jpeg_bits.specs.declared.marker.Marker.{Marker}
-use Rattle.jpeg_bits.proofs.Loops.{Continues-answers}
 use Rattle.jpeg_segments.specs.Frame.{Frame}
 use Rattle.jpeg_segments.specs.ScanHeader.{Scan, sos_at}
 use Rattle.jpeg_segments.specs.declared.frame.CodingProcess.{CodingProcess}
@@ -29,25 +28,20 @@ use Rattle.jpeg_meaning.specs.ScanSegments.{scan_turn as turn_of_scan, codings_o
 use Rattle.jpeg_meaning.specs.ScanSegments.{after_scan, arrays_before, components_of, once_scanned, scan_before, vias_from}
 use Rattle.jpeg_meaning.specs.Order.{mcu_size, spots_of}
 use Rattle.jpeg_meaning.specs.WholeRows.{rows_above}
-use Rattle.jpeg_meaning.specs.InTurn.{AreArrays}
-use Rattle.jpeg_meaning.specs.Sound.{ArePlanes, IsSound}
+use Rattle.jpeg_meaning.specs.Sound.{IsSound}
 use Rattle.jpeg_meaning.specs.Segments.{Turn}
 use Rattle.jpeg_meaning.proofs.Refusals.{told-err}
 use Rattle.jpeg_meaning.specs.States.{IfRefused, OnTold, OnToldRefusal}
 use Rattle.jpeg_decoder.specs.declared.stream.state.Step.{Step}
 use Rattle.jpeg_decoder.specs.Reaching.{data_reached, sample_codings, samples_reached, whole_codings, DataBrought, IsEndOf}
 use Rattle.jpeg_decoder.specs.Reaching.{UnlessRefused, brought_after, rows_after}
-use Rattle.jpeg_decoder.specs.PlanesView.{planes_in}
-use Rattle.jpeg_decoder.specs.declared.scan.decoded.Decoded.{Decoded}
 use Rattle.jpeg_decoder.specs.Steps.{blocks_at}
-use Rattle.jpeg_decoder.specs.Steps.{blocks_before, header_at, header_within, IsDct, IsRefusal, IsStep, with_decoded}
-use Rattle.std.specs.declared.alloc.Global.{Global}
-use Rattle.std.specs.declared.vec.Vec.{Vec}
+use Rattle.jpeg_decoder.specs.Steps.{header_at, header_within, IsDct, IsRefusal, IsStep}
 use Rattle.jpeg_decoder.proofs.Partial.CountedReads.{scan-by-blocks}
 use Rattle.jpeg_decoder.proofs.Partial.PassedData.{passed}
-use Rattle.jpeg_decoder.proofs.Partial.Refused.{if-refused, if-refused-as, unless-so}
-use Rattle.jpeg_decoder.proofs.Scans.ScanData.{answers-err, before-as}
-use Rattle.jpeg_decoder.proofs.Scans.ScanReads.{blocks-sound, HasRead, refused, scan-steps}
+use Rattle.jpeg_decoder.proofs.Partial.Refused.{if-refused, if-refused-as}
+use Rattle.jpeg_decoder.proofs.Scans.ScanData.{answers-err}
+use Rattle.jpeg_decoder.proofs.Scans.ScanReads.{HasRead, refused, scan-steps}
 
 -- ---- what a stream brings, by the header of a scan
 
@@ -369,14 +363,6 @@ ended-rows v found prev scan d old new made rows before (Err e) (Err f) b told s
     subst (λ (x : Error). IfRefused x (rows ≡ (brought_after found scan old.bytes).rows)) (sym is)
     (if-refused-as e (λ counted. same ∙ counted ∙ sym (ap (λ (w : Brought). w.rows) (b old.bytes))) (told k l))
 
-pub ended-whole : (v : Step → Turn) (prev : Found) (made rows before : Option ℕ)
-    (reached : Result (Option Marker) Error) (result : Result Step Error) → before ≡ None
-    → rows ≡ rows_after reached before made → IsEndOf prev v reached result → OnOk result (rows ≡ None)
-ended-whole v prev made rows before (Ok m) (Ok step) none same is = same ∙ none
-ended-whole v prev made rows before (Ok m) (Err f) none same is = tt
-ended-whole v prev made rows before (Err e) (Ok step) none same is = absurd is
-ended-whole v prev made rows before (Err e) (Err f) none same is = tt
-
 -- ---- what a caller sees
 
 -- a refusal that brings nothing, of a state that is as before
@@ -405,27 +391,3 @@ pub header-then : (left : Option ℕ) (found : Found) (scan : Scan) (old cur : S
     → old.known ≡ true → (cur.known ≡ true) × (scan_within left Nothing found old.bytes ≡ brought_after found scan cur.bytes)
 header-then left found scan old cur has k =
     let at = has.1 k in (at.0, within-brought left found old.bytes ∙ ap (brought_with_header found) at.1)
-
-header-answers : {X : Type 0} (v : X → Turn) (left : Option ℕ) (found : Found) (scan : Scan) (old cur new : Stream) (r : Result X Error)
-    → HasRead (header_within left found) old scan cur
-    → Answers v (λ bytes. (brought_after found scan bytes).turn) cur r new
-    → Answers v (λ bytes. (scan_within left Nothing found bytes).turn) old r new
-header-answers v left found scan old cur new r has a =
-    Continues-answers v (λ bytes. (scan_within left Nothing found bytes).turn)
-    (λ bytes. (brought_after found scan bytes).turn) old cur new r
-    (has.0, λ k. let at = header-then left found scan old cur has k in (at.0, ap (λ (w : Brought). w.turn) at.1)) a
-
-pub header-reads : {X : Type 0} (v : X → Turn) (left : Option ℕ) (found : Found) (scan : Scan) (old cur new : Stream)
-    (r : Result X Error) → HasRead (header_within left found) old scan cur
-    → UnlessRefused r (Answers v (λ bytes. (brought_after found scan bytes).turn) cur r new)
-    → UnlessRefused r (Answers v (λ bytes. (scan_within left Nothing found bytes).turn) old r new)
-header-reads v left found scan old cur new r has a = unless-so r _ _ (header-answers v left found scan old cur new r has) a
-
-pub header-told : {X : Type 0} (P : Brought → Type 0) (left : Option ℕ) (found : Found) (scan : Scan) (old cur new : Stream)
-    (r : Result X Error) → HasRead (header_within left found) old scan cur
-    → OnToldRefusal cur new r (P (brought_after found scan cur.bytes))
-    → OnToldRefusal old new r (P (scan_within left Nothing found old.bytes))
-header-told P left found scan old cur new (Ok x) has h = tt
-header-told P left found scan old cur new (Err e) has h = λ k l.
-    let at = header-then left found scan old cur has k in
-    if-refused-as e (λ p. subst P (sym at.1) p) (h at.0 l)

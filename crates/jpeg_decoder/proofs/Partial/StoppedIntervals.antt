@@ -1,11 +1,8 @@
 -- What stands after an interval where nothing follows the marker that ends its data, by what is read of them.
-use Rattle.std.proofs.Common.{◌≡◌, ◌∙◌, inl, ℕ, true, false, List, Result, Ok, refl, sym, ap}
-use Rattle.jpeg_bits.specs.Stream.{Stream}
-use Rattle.jpeg_bits.specs.Reading.{Fault, IsGivenUp, MayFail, Names}
+use Rattle.std.proofs.Common.{◌≡◌, ◌∙◌, inl, ℕ, List, Ok, refl, sym, ap}
 use Rattle.jpeg_bits.specs.Readers.{Reads}
 use Rattle.jpeg_bits.specs.Entropy.{Text, advance, fresh_before, marker_from, text_at, upcoming}
 use Rattle.jpeg_bits.specs.declared.beyond.Beyond.TheVariants.{Nothing}
-use Rattle.jpeg_bits.specs.declared.error.Error.{Error}
 use Rattle.jpeg_bits.proofs.EndLemmas.{ends-before, ends-within}
 use Rattle.jpeg_bits.proofs.TakenTexts.{Taken, TakesBits}
 use Rattle.jpeg_bits.proofs.TakenTexts.Taken.{gave, failed}
@@ -34,9 +31,3 @@ stopped-ahead k bytes left is =
     let t = text_at bytes in
     ap (λ (u : Text). stopped bytes (Ok u.bits)) is ∙ ends-within k t.bits bytes t.ending
     ∙ sym (ends-before Nothing k bytes) ∙ ap (λ (u : Text). marker_from u) (sym is)
-
--- A call is refused with an error, as what has this outcome is.
-abbrev pub Refuses : {Y : Type 0} → Error → Result Y Fault → Stream → Stream → Type 0
-Refuses e o old new =
-    MayFail e old.failed new.failed × (old.known ≡ true → new.known ≡ true → Names e o)
-    × (old.known ≡ true → new.known ≡ false → IsGivenUp e new.failed)

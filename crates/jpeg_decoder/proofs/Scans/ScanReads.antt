@@ -77,14 +77,6 @@ abbrev ReadsBlocks : Found → Found → Frame → Scan → Stream → Result (O
 ReadsBlocks next found frame scan old r new =
     Answers (λ (m : Option Marker). (next, m)) (blocks_read found frame scan) old r new
 
--- Tables that are not in force are refused.
-pub codings-refused : (next found : Found) (frame : Frame) (scan : Scan) (s : Stream) (e : Error)
-    → IsRefusal e → Names e (codings_of found.said frame scan) → ReadsBlocks next found frame scan s (Err e) s
-unfolding blocks_read
-codings-refused next found frame scan s e r n =
-    refused (λ (m : Option Marker). (next, m)) (blocks_read found frame scan) (after_header found frame scan) s s e _
-    (refl, λ k. (k, refl)) r n (λ f h. bind_err _ _ f h)
-
 -- A scan of blocks has its data first, where tables are in force.
 blocks-begun : (found : Found) (frame : Frame) (scan : Scan) (p : Pass) (codings : List Coding) (s : Stream)
     → codings_of found.said frame scan ≡ Ok codings → p ≡ pass_of scan
@@ -201,24 +193,6 @@ pub header-refused : (v : Step → Turn) (left : Option ℕ) (found : Found) (ol
     → Answers v (whole_within left found) old r new
 header-refused v left found old new r e fails p =
     grind (arith, common_steps, err_from_is_err_and, within-parts, bind_err)
-
--- what is read after a header, up to a marker
-abbrev pub ReadsAfter : Found → Found → Scan → Stream → Result (Option Marker) Error → Stream → Type 0
-ReadsAfter next found scan old r new =
-    Answers (λ (m : Option Marker). (next, m)) (read_after found scan) old r new
-
--- So is what is refused after it.
-pub segment-refused : (v : Step → Turn) (left : Option ℕ) (next found : Found) (scan : Scan) (old cur new : Stream)
-    (r : Result Step Error) (e : Error) → IsErrAnd r (λ y. y ≡ e) → HasRead (header_within left found) old scan cur
-    → ReadsAfter next found scan cur (Err e) new → Answers v (whole_within left found) old r new
-segment-refused v left next found scan old cur new r e fails has p =
-    grind (arith, common_steps, err_from_is_err_and, within-parts, bind_at, bind_err)
-
-pub segment-ends : (left : Option ℕ) (next found : Found) (scan : Scan) (met : Option Marker) (old cur new : Stream) (turn : Turn)
-    → turn ≡ record { found = next; before = scan_before found; met = met; ended = false }
-    → HasRead (header_within left found) old scan cur → ReadsAfter next found scan cur (Ok met) new
-    → HasRead (whole_within left found) old turn new
-segment-ends left next found scan met old cur new turn is has p = grind (arith, common_steps, within-parts, bind_at)
 
 -- ---- what holds after a scan
 

@@ -350,10 +350,6 @@ segments-lack limit beyond found bytes fault e =
     go (Ok rest) e h = absurd (err-ok fault rest (sym e))
     go (Err other) e h = h
 
-bind-err : {A B P : Type 0} (r : Result A Fault) (f : A → Result B Fault) (fault : Fault) → r >>= f ≡ Err fault
-    → (r ≡ Err fault → P) → ((x : A) → r ≡ Ok x → f x ≡ Err fault → P) → P
-bind-err r f fault e p q = grind (arith, common_steps)
-
 walked-lacks : (r : Result (List ℕ) Fault) (found : Found) (fault : Fault)
     → ◌>>=◌ {B = Found × List ℕ} r (λ (rest : List ℕ). Ok (found, rest)) ≡ Err fault → r ≡ Err fault
 walked-lacks (Ok rest) found fault e = absurd (err-ok fault (found, rest) (sym e))

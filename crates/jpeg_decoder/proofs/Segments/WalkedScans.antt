@@ -15,13 +15,13 @@ use Rattle.jpeg_meaning.specs.Stream.{scan_turn_at, scan_within, told_of}
 use Rattle.jpeg_meaning.specs.Work.{is_above, work_of_header}
 use Rattle.jpeg_bits.specs.declared.beyond.Beyond.{Beyond}
 use Rattle.jpeg_bits.specs.declared.beyond.Beyond.TheVariants.{Nothing, Zeros}
-use Rattle.jpeg_decoder.specs.Reaching.{OnFault, UnlessRefused, brought_after, without_tables}
+use Rattle.jpeg_decoder.specs.Reaching.{OnFault, without_tables}
 use Rattle.jpeg_decoder.specs.Steps.{header_within}
 use Rattle.jpeg_decoder.specs.Walks.{AfterWalk, IsLeft, Leaves, OfWalk}
 use Rattle.jpeg_decoder.specs.declared.stream.state.Step.{Step}
 use Rattle.jpeg_decoder.proofs.Partial.Refused.{if-refused, if-refused-as, sound-unless, unless, unless-so}
-use Rattle.jpeg_decoder.proofs.Partial.ReachedScans.{header-reads, header-told, no-header, none-counted, none-reads, none-stays}
-use Rattle.jpeg_decoder.proofs.Scans.ScanReads.{HasRead, header-refused, whole_within}
+use Rattle.jpeg_decoder.proofs.Partial.ReachedScans.{no-header, none-counted, none-reads, none-stays}
+use Rattle.jpeg_decoder.proofs.Scans.ScanReads.{header-refused}
 
 -- ---- results
 
@@ -104,13 +104,6 @@ zeros-leave : (left : Option ℕ) (found next : Found) (rows : Option ℕ) (byte
 zeros-leave left found next rows bytes told none =
     subst (λ (w : Brought). Leaves Zeros next rows w.found w.rows) (sym (scan-zeros left found bytes)) (told, none)
 
-pub zeros-read : {X : Type 0} (b : Beyond) (v : X → Turn) (left : Option ℕ) (found : Found) (old new : Stream)
-    (r : Result X Error) → (b ≡ Nothing → ⊥) → Answers v (whole_within left found) old r new
-    → OfWalk b r (Answers v (λ bytes. (scan_within left b found bytes).turn) old r new)
-zeros-read b v left found old new r other a =
-    subst (λ (b : Beyond). OfWalk b r (Answers v (λ bytes. (scan_within left b found bytes).turn) old r new))
-    (sym (zeros-else b other)) a
-
 pub zeros-left : {X : Type 0} (b : Beyond) (left : Option ℕ) (found next : Found) (rows : Option ℕ) (old new : Stream)
     (r : Result X Error) → (b ≡ Nothing → ⊥) → told_of next.said ≡ told_of found.said → rows ≡ None
     → OnToldRefusal old new r (let w = scan_within left b found old.bytes in Leaves b next rows w.found w.rows)
@@ -144,28 +137,3 @@ header-leaves Nothing left found next rows old new r e fails same none a =
     both-told old new r (λ f n. (ap without_tables f, n))
     (none-stays found next (scan_within left Nothing found) old new r e fails same b)
     (none-counted found (scan_within left Nothing found) rows old new r e fails none b)
-
--- ---- a scan that is read up to its first fault
-
-pub reached-read : {X : Type 0} (b : Beyond) (v : X → Turn) (left : Option ℕ) (found : Found) (scan : Scan)
-    (old cur new : Stream) (r : Result X Error) → b ≡ Nothing → HasRead (header_within left found) old scan cur
-    → UnlessRefused r (Answers v (λ bytes. (brought_after found scan bytes).turn) cur r new)
-    → OfWalk b r (Answers v (λ bytes. (scan_within left b found bytes).turn) old r new)
-reached-read b v left found scan old cur new r is has a =
-    subst (λ (b : Beyond). OfWalk b r (Answers v (λ bytes. (scan_within left b found bytes).turn) old r new)) (sym is)
-    (header-reads v left found scan old cur new r has a)
-
-pub reached-left : {X : Type 0} (b : Beyond) (left : Option ℕ) (found next : Found) (rows : Option ℕ) (scan : Scan)
-    (old cur new : Stream) (r : Result X Error) → b ≡ Nothing → HasRead (header_within left found) old scan cur
-    → OnToldRefusal cur new r (next ≡ (brought_after found scan cur.bytes).found)
-    → OnToldRefusal cur new r (rows ≡ (brought_after found scan cur.bytes).rows)
-    → OnToldRefusal old new r (let w = scan_within left b found old.bytes in Leaves b next rows w.found w.rows)
-reached-left b left found next rows scan old cur new r is has f n =
-    subst (λ (b : Beyond). OnToldRefusal old new r
-    (let w = scan_within left b found old.bytes in Leaves b next rows w.found w.rows)) (sym is)
-    (header-told (λ (w : Brought). Leaves Nothing next rows w.found w.rows) left found scan old cur new r has
-    (both-told cur new r (λ f n. (ap without_tables f, n)) f n))
-
-pub reached-sound : {X : Type 0} (P : Type 0) (b : Beyond) (r : Result X Error) → b ≡ Nothing → UnlessRefused r P
-    → AfterWalk b r P
-reached-sound P b r is p = subst (λ (b : Beyond). AfterWalk b r P) (sym is) p

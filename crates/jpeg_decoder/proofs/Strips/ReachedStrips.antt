@@ -28,7 +28,6 @@ use Rattle.jpeg_decoder.proofs.Orders.OrderedWalks.{one-less}
 use Rattle.jpeg_decoder.proofs.Partial.CountedReads.{counted-fault, counted-whole}
 use Rattle.jpeg_decoder.proofs.Strips.ByStrips.{all-grown, grown, none-grown, strips-grow}
 use Rattle.jpeg_decoder.proofs.Strips.ReachedRows.{rows-sized, rows_read, scan-by-rows-read}
-use Rattle.jpeg_decoder.proofs.Strips.StripRows.{strips-none}
 
 -- ---- rows of MCUs after others
 
@@ -245,41 +244,6 @@ planes-rest start others p vias n frame codings bytes =
     (strips-alike p vias blocks codings (rows_of frame cs) 0 start others (counted_before Nothing blocks [])
     (upcoming (fresh_before Nothing) bytes)).1
 
-zeros-none : (k : ℕ) (codings : List Coding) → zero_strips k codings [] ≡ []
-unfolding zero_strips
-zeros-none zero codings = refl
-zeros-none (suc k) codings =
-    ap (zero_strips k codings) (strips-none codings (zero_rows 1 (components_of codings))) ∙ zeros-none k codings
-
-no-strips : (p : Pass) (vias : List Via) (n : ℕ) (codings : List Coding) (rows : List (List Spot)) (row : ℕ)
-    (old : Counted) (t : Text) → (strips_reached p vias n codings row rows [] old t).reached ≡ []
-unfolding strips_reached
-no-strips p vias n codings [] row old t = refl
-no-strips p vias n codings (spots ∷ rows) row old t =
-    let r = counted_reached p vias n spots (on_arrays (zero_rows 1 (components_of codings)) old) t in
-    go (λ new u. no-strips p vias n codings rows (suc row) new u) r r.rest
-  where
-    go : ((new : Counted) (u : Text) → (strips_reached p vias n codings (suc row) rows [] new u).reached ≡ [])
-        → (r : Through Counted Text) (o : Result Text Fault)
-        → (after_row p vias n codings row rows [] r o).reached ≡ []
-    go more r (Ok u) =
-        ap (λ (l : List (List ℕ)).
-        (strips_reached p vias n codings (suc row) rows l (on_arrays [] r.reached) u).reached)
-        (strips-none codings r.reached.reached.arrays) ∙ more (on_arrays [] r.reached) u
-    go more r (Err f) =
-        ap (zero_strips (length rows) codings) (strips-none codings r.reached.reached.arrays)
-        ∙ zeros-none (length rows) codings
-
--- Where there are no planes, none are made.
-pub no-planes : (p : Pass) (vias : List Via) (n : ℕ) (frame : Frame) (codings : List Coding) (bytes : List ℕ)
-    → (planes_through p vias n frame codings [] bytes).reached ≡ []
-unfolding planes_through
-no-planes p vias n frame codings bytes =
-    let cs = components_of codings in
-    let blocks = n * mcu_size cs in
-    no-strips p vias blocks codings (rows_of frame cs) 0 (counted_before Nothing blocks [])
-    (upcoming (fresh_before Nothing) bytes)
-
 -- ---- steps of the loop over the rows
 
 -- the rows that are left, by what is read of the first
@@ -334,14 +298,6 @@ reached-refused p vias n codings f spots k high planes zeros old t fault h e is 
       unread = option_map (in_frame codings k) r.unread;
       rest = Err fault;
     }) left
-
--- No row is left.
-pub reached-none : (p : Pass) (vias : List Via) (n : ℕ) (codings : List Coding) (f : ℕ → List Spot) (k high : ℕ)
-    (planes : List (List ℕ)) (old : Counted) (t : Text) → high ≤ k
-    → strips_reached p vias n codings k (map f (range_with_len k (high - k))) planes old t
-    ≡ record { reached = planes; unread = None; rest = Ok t }
-unfolding strips_reached
-reached-none p vias n codings f k high planes old t h = let e : high - k ≡ 0 = omega arith in rw e refl
 
 -- ---- what is read, and what is refused
 

@@ -17,7 +17,7 @@ use Rattle.jpeg_decoder.specs.Reaching.{planes_over, planes_reached, samples_rea
 use Rattle.jpeg_decoder.specs.Seen.{found_of}
 use Rattle.jpeg_decoder.proofs.LosslessFrames.LosslessReads.{HasMcus, codings-count, four-indices, parts-count}
 use Rattle.jpeg_decoder.proofs.LosslessFrames.LosslessReads.{put-made}
-use Rattle.jpeg_decoder.proofs.Partial.ReachedData.{answers-by}
+use Rattle.jpeg_decoder.proofs.Scans.ScanReads.{answers-as}
 use Rattle.jpeg_decoder.proofs.Partial.Refused.{on-told, unless}
 use Rattle.jpeg_decoder.proofs.Partial.RowIntervals.{passed-answers, passed-planes}
 use Rattle.jpeg_decoder.proofs.LosslessFrames.WholeSampleScans.{on-refusal, samples-answers, still-sound, whole-passed}
@@ -224,11 +224,11 @@ returns-clause-met g c nothing codings h =
     let parts = map part_in c.in_ok-coding.coding.parts.now in
     let empty = map (λ v. v.items) c.in_ok-rows.rows.planes.items in
     unless c.pass_after-met.result
-    (answers-by (λ m. m) (λ bytes. (planes_reached (way_by k parts) s.rows k.high empty bytes).1)
+    (answers-as (λ m. m) (λ bytes. (planes_reached (way_by k parts) s.rows k.high empty bytes).1)
     (λ bytes. (samples_reached found (frame_in s.frame.now) s.header.now codings bytes).met)
     c.args.source.now c.pass_after-met.new.source c.pass_after-met.result
-    (reads-marker found (frame_in s.frame.now) s.header.now s k parts empty codings c.args.source.now.bytes
-    (reads g at.In_ok-rows) h)
+    (sym (reads-marker found (frame_in s.frame.now) s.header.now s k parts empty codings c.args.source.now.bytes
+    (reads g at.In_ok-rows) h))
     (ended g at.After-pass_after-met (some g at.After-deref) nothing))
 
 pub returns-clause-sound : goal.returns-clause-sound
