@@ -1,5 +1,5 @@
 //! The components of a scan, and the tables that they are coded by (T.81, B.2.3).
-ghost use Rattle.std.specs.Prelude.{◌≡◌, ◌<◌, ◌≤◌, ◌==◌, IfOk, IfErr, true, length, nat_lt};
+ghost use Rattle.std.specs.Prelude.{◌≡◌, ◌<◌, ◌≤◌, ◌==◌, [], IfOk, IfErr, true, length, nat_lt};
 ghost use Rattle.std.specs.List.{AllByRecursion};
 ghost use Rattle.std.specs.Option.{option_copied};
 ghost use Rattle.jpeg_bits.specs.BlockView.{pass_in};
@@ -198,29 +198,50 @@ fn has_ac(header: &ScanHeader) -> bool
     header.after > 1
 }
 
-/// Returns the spare tables of a scan; the default ones if a frame of an MJPEG stream was named.
+impl Spare {
+    ghost use Rattle.std.specs.Prelude.{◌≡◌, []};
+    ghost use Rattle.jpeg_bits.specs.declared.huffman.codes.HuffmanTableClass.TheVariants.{DC, AC};
+    ghost use Rattle.jpeg_meaning.specs.Scans.{no_table};
+
+    /// Makes spare tables without default ones.
+    pub fn none(alloc: Global) -> Spare
+        ensures dc { result.dc.items ≡ [] }
+        ensures ac { result.ac.items ≡ [] }
+        ensures no_dc { result.no_dc ≡ no_table DC }
+        ensures no_ac { result.no_ac ≡ no_table AC }
+    {
+        Spare {
+            dc: Vec::new(alloc),
+            ac: Vec::new(alloc),
+            no_dc: HuffmanTable::without_codes(alloc, HuffmanTableClass::DC),
+            no_ac: HuffmanTable::without_codes(alloc, HuffmanTableClass::AC),
+        }
+    }
+}
+
+/// Adds the default tables to the spare ones of a scan, which has none yet, if a frame of an MJPEG
+/// stream was named. (They aren't returned: a result that holds them would be copied at each scan.)
 pub fn spare_tables(
     alloc: Global,
     header: &ScanHeader,
     frame: &FrameInfo,
     is_mjpeg: bool,
-) -> Result<Spare>
-    ensures dc { IfOk result (λ s. s.dc.items ≡ default_dc is_mjpeg header.now.dc_destinations) }
-    ensures ac { IfOk result (λ s. s.ac.items ≡ default_ac is_mjpeg header.now.ac_destinations) }
-    ensures no_dc { IfOk result (λ s. s.no_dc ≡ no_table DC) }
-    ensures no_ac { IfOk result (λ s. s.no_ac ≡ no_table AC) }
+    spare: &mut Spare,
+) -> Result<()>
+    requires dc { spare.old.dc.items ≡ [] }
+    requires ac { spare.old.ac.items ≡ [] }
+    ensures dc { IfOk result (λ _. spare.new.dc.items
+        ≡ default_dc is_mjpeg header.now.dc_destinations) }
+    ensures ac { IfOk result (λ _. spare.new.ac.items
+        ≡ default_ac is_mjpeg header.now.ac_destinations) }
+    ensures no_dc { spare.new.no_dc ≡ spare.old.no_dc }
+    ensures no_ac { spare.new.no_ac ≡ spare.old.no_ac }
     ensures err { IfErr result (λ e. e ≡ OutOfMemory) }
 {
-    let mut spare = Spare {
-        dc: Vec::new(alloc),
-        ac: Vec::new(alloc),
-        no_dc: HuffmanTable::without_codes(alloc, HuffmanTableClass::DC),
-        no_ac: HuffmanTable::without_codes(alloc, HuffmanTableClass::AC),
-    };
     if is_mjpeg {
-        fill_spare(alloc, header, frame, &mut spare)?;
+        fill_spare(alloc, header, frame, spare)?;
     }
-    Ok(spare)
+    Ok(())
 }
 
 /// Makes the spare tables of a scan of an MJPEG stream, which are the default ones.
@@ -283,6 +304,7 @@ fn needed_table<'a>(
 }
 
 /// Returns the component in a slot of a scan, and its tables in force.
+#[inline(always)]
 fn coding_of<'a>(
     alloc: Global,
     said: &'a Said,
@@ -357,6 +379,7 @@ pub fn codings_of<'a>(
 /// markers that end its data. The AC coefficients of its blocks are kept where they are wanted, and
 /// in any case if nothing does. The errors are `Format` if a table that the scan needs isn't set,
 /// or `OutOfMemory`.
+#[inline(never)]
 pub fn block_scan_of<'a>(
     alloc: Global,
     said: &'a Said,

@@ -442,6 +442,7 @@ impl Decoded {
 
     /// Reads a scan of a progressive frame on the blocks that are kept, and returns the marker
     /// after its data, if it was reached.
+    #[inline(never)]
     fn read_kept<R: Read + Drop>(
         &mut self,
         alloc: Global,
@@ -514,6 +515,7 @@ impl Decoded {
     ///
     /// The first scan of a component decides its plane; the blocks of later ones are read, and
     /// neither transformed nor kept.
+    #[inline(never)]
     fn read_again<R: Read + Drop>(
         &mut self,
         alloc: Global,
@@ -546,6 +548,7 @@ impl Decoded {
 
     /// Reads a scan of a sequential frame, which decides planes of its components, and returns the
     /// marker after its data, if one was reached.
+    #[inline(never)]
     fn read_first<R: Read + Drop>(
         &mut self,
         alloc: Global,

@@ -157,6 +157,7 @@ fn read_lines<R: Read + Drop>(
 }
 
 /// Reads a scan without DC of one component, and returns the marker after it, if it was reached.
+#[inline(never)]
 #[tactic(auto, unfolding(jpeg_meaning::specs::InTurn::scan_from))]
 fn read_bands<R: Read + Drop>(
     alloc: Global,

@@ -17,7 +17,7 @@ ghost use Rattle.jpeg_meaning.specs.States.{OnToldRefusal};
 ghost use Rattle.jpeg_bits.specs.declared.beyond.Beyond.TheVariants.{Nothing, Zeros};
 ghost use Rattle.jpeg_decoder.specs.Reaching.{IsEndOf, rows_after, turn_after};
 
-use crate::scan::codings::{block_scan_of, spare_tables, widen_tables};
+use crate::scan::codings::{Spare, block_scan_of, spare_tables, widen_tables};
 use crate::scan::decoded::Decoded;
 use crate::scan::lossless::{read_samples, sample_scan_of};
 use crate::scan::restarts::pass_after;
@@ -72,6 +72,7 @@ fn end_read(
 
 /// Reads the header of a scan, once the look-up tables of the tables in force are filled, and takes
 /// its blocks from those that are left, if there is a limit. A scan of more is refused.
+#[inline(never)]
 fn read_header<R: Read + Drop>(
     alloc: Global,
     source: &mut Source<R>,
@@ -125,6 +126,7 @@ fn rows_given(decoded: &Decoded, beyond: Beyond) -> Option<u16>
 }
 
 /// Reads the blocks of a scan, and returns what stands after it, as `read_after` does.
+#[inline(never)]
 fn read_block_scan<R: Read + Drop>(
     alloc: Global,
     source: &mut Source<R>,
@@ -150,7 +152,8 @@ fn read_block_scan<R: Read + Drop>(
     let Some(frame) = &said.frame else {
         unreachable!()
     };
-    let spare = spare_tables(alloc, header, frame, said.metadata.avi1)?;
+    let mut spare = Spare::none(alloc);
+    spare_tables(alloc, header, frame, said.metadata.avi1, &mut spare)?;
     let scan = block_scan_of(alloc, said, &spare, frame, header, beyond)?;
     let read = state
         .decoded
@@ -158,12 +161,12 @@ fn read_block_scan<R: Read + Drop>(
     let read = pass_after(alloc, source, read);
     // Ends its borrow of `state`.
     drop(scan);
-    drop(spare);
     let given = rows_given(&state.decoded, beyond);
     end_read(state, read, given, rows)
 }
 
 /// Reads the samples of a lossless scan, and returns what stands after it, as `read_after` does.
+#[inline(never)]
 fn read_lossless_scan<R: Read + Drop>(
     alloc: Global,
     source: &mut Source<R>,
