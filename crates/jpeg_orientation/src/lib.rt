@@ -1,5 +1,8 @@
-//! The orientation given by Exif data (Exif 2.3, 4.6.4; TIFF 6.0, sections 2 and 8).
+//! The orientation given by Exif data (Exif 2.3, 4.6.4; TIFF 6.0, sections 2 and 8), and how a
+//! picture is turned upright by it.
 #![tactic(auto)]
+
+pub mod turns;
 
 ghost use Rattle.std.specs.Prelude.{◌≡◌, ◌<◌, ◌≤◌, ◌+◌, MatchOption, if◌then◌else◌};
 ghost use Rattle.std.specs.Prelude.{IfSome, Some, None, length, true};

@@ -5,7 +5,7 @@ ghost use Rattle.jpeg_meaning.specs.Stream.{header_at};
 ghost use Rattle.zaxbriar_calls.specs.Faults.{IsOfRoomNumber};
 ghost use Rattle.zaxbriar_calls.specs.Given.{Gives, TellsFault, rows_by, without_fault};
 ghost use Rattle.zaxbriar_calls.specs.Given.{without_rows};
-ghost use Rattle.zaxbriar_calls.specs.Meanings.{CountsRead, IsWithin};
+ghost use Rattle.zaxbriar_calls.specs.Meanings.{CountsRead, Describes, IsWithin, uncounted};
 ghost use Rattle.zaxbriar_calls.specs.Metadata.{IsCopied, IsLonger, said_of};
 ghost use Rattle.zaxbriar_calls.specs.Passes.{exceeds};
 ghost use Rattle.zaxbriar_calls.specs.Places.{places_of};
@@ -26,6 +26,22 @@ pub fn described(alloc: Global, jpeg: &[u8], options: &Options, picture: &mut Pi
     ensures roomless { result ≡ 5 → ⊥ }
 {
     calls::read_info(alloc, jpeg, options, picture)
+}
+
+/// Calls `read_info`, and says that a picture that lies on its side (orientation 6) is, upright, as
+/// wide as it is high in its stream.
+pub fn described_upright(
+    alloc: Global,
+    stream: &[u8],
+    options: &Options,
+    picture: &mut Picture,
+) -> u32
+    requires asked { options.now.upright ≡ 1 }
+    ensures { result ≡ 0 → picture.new.orientation ≡ 6
+        → (described : Describes options.now stream.now (uncounted picture.new))
+        × (picture.new.width ≡ described.info.height) }
+{
+    calls::read_info(alloc, stream, options, picture)
 }
 
 /// Calls `decode`, and says that an OK gives the picture, what is returned for a picture that has

@@ -1,6 +1,6 @@
 -- What a header determines: one description of its picture, and why one within the limits is refused.
-use Rattle.std.proofs.Common.{arith, ◌≡◌, ◌∙◌, ◌*◌, ℕ, Bool, List, Some, Ok, Result, ap, false, refl, sym, true}
-use Rattle.std.specs.Prelude.{◌||◌, option_map}
+use Rattle.std.proofs.Common.{arith, ◌≡◌, ◌∙◌, ◌*◌, ℕ, Bool, List, Some, Ok, Result, ap, false, mul_comm, refl, sym, true}
+use Rattle.std.specs.Prelude.{◌||◌, if◌then◌else◌, option_map}
 use Rattle.std.proofs.lemmas.Grind.{common_steps}
 use Rattle.jpeg_bits.specs.Reading.{Fault, Names, Outcome}
 use Rattle.jpeg_bits.specs.declared.error.Error.{Error}
@@ -12,11 +12,13 @@ use Rattle.jpeg_meaning.specs.Found.{Found, Said}
 use Rattle.jpeg_meaning.specs.Pixels.{info_of}
 use Rattle.jpeg_meaning.specs.States.{Decoding}
 use Rattle.jpeg_meaning.specs.Stream.{header_at}
+use Rattle.jpeg_orientation.specs.Turns.{is_on_side, upright_height, upright_width}
+use Rattle.jpeg_orientation.specs.declared.turns.Turn.{Turn}
 use Rattle.zaxbriar_calls.specs.Density.{density_of}
 use Rattle.zaxbriar_calls.specs.Layouts.{conversion_to}
 use Rattle.zaxbriar_calls.specs.Faults.{IsFault, IsOfRoom, IsPart}
 use Rattle.zaxbriar_calls.specs.Limits.{bytes_beside, exceeds_limits, is_over}
-use Rattle.zaxbriar_calls.specs.Lines.{HasLines, described_picture, lines_by}
+use Rattle.zaxbriar_calls.specs.Lines.{HasLines, described_picture, lines_by, turn_of}
 use Rattle.zaxbriar_calls.specs.Meanings.{Describes, IsTooLarge, IsWithin, number_of_transform, orientation_by}
 use Rattle.zaxbriar_calls.specs.Meanings.{ReadsHeader, settings_of, size_wanted}
 use Rattle.zaxbriar_calls.specs.Sampling.{sampling_of}
@@ -58,12 +60,23 @@ described-same o bytes a b d e =
     (at_size (size_wanted o) h.said).frame) h ∙ e.transform_is) in
     d.picture_is
     ∙ (λ i. described_picture o.layout (info i) (precision i)
-    (lines_by o (info i) (precision i) (conversion i)) (bytes_beside (decoding i))
-    (orientation_by (at_size (size_wanted o) (h i).said).metadata.exif) (sampling i) (transform i) (density_of bytes) 0)
+    (lines_by o (info i) (precision i) (orientation_by (at_size (size_wanted o) (h i).said).metadata.exif) (conversion i))
+    (bytes_beside (decoding i)) (orientation_by (at_size (size_wanted o) (h i).said).metadata.exif) (sampling i)
+    (transform i) (density_of bytes) 0)
     ∙ sym e.picture_is
 
 of-memory : {Y : Type 0} (e : Error) (read : Result Y Fault) (x : Y) → read ≡ Ok x → Names e read → e ≡ errors.OutOfMemory
 of-memory e read x is n = grind (arith, common_steps)
+
+-- no stream has a picture within the limits and one above a limit
+pub one-size : (o : Options) (bytes : List ℕ) (a b : Picture) → IsWithin o bytes a → IsTooLarge o bytes b → ⊥
+one-size o bytes a b within large =
+    let same = described-same o bytes a b within.0 large.0 in
+    let over : exceeds_limits o a ≡ true = ap (λ (p : Picture). exceeds_limits o p) same ∙ large.1 in
+    true-false (sym over ∙ within.1)
+  where
+    true-false : true ≡ false → ⊥
+    true-false h = cc
 
 -- a picture within the limits is refused by its header only for lack of memory, or by the arguments
 pub only-room : (o : Options) (bytes : List ℕ) (picture size : Picture) (r : Refusal)
@@ -77,13 +90,7 @@ only-room o bytes picture size refusals.Reader w named large room part = tt
 only-room o bytes picture size (refusals.Argument t) w named large room part = tt
 only-room o bytes picture size refusals.NoRoom w named large room part = tt
 only-room o bytes picture size refusals.TooLarge w named large room part =
-    let l = large refl in
-    let same = described-same o bytes size picture w.0 l.0 in
-    let over : exceeds_limits o size ≡ true = ap (λ (p : Picture). exceeds_limits o p) same ∙ l.1 in
-    true-false (sym over ∙ w.1)
-  where
-    true-false : true ≡ false → ⊥
-    true-false h = cc
+    absurd (one-size o bytes size picture w (large refl))
 
 -- ---- a description
 
@@ -102,7 +109,7 @@ pub describes : (o : Options) (old new : Decoding) (h : Header) (lines : Lines) 
     → option_map (λ f. number_of_transform (frame_transform new.found.said.metadata f)) new.found.said.frame
     ≡ Some h.transform
     → option_map (decoding_bytes new.settings) new.found.said.frame ≡ Some h.decoding_bytes
-    → HasLines o h.info h.precision lines → density ≡ density_of old.source.bytes
+    → HasLines o h.info h.precision h.orientation lines → density ≡ density_of old.source.bytes
     → picture ≡ described_picture o.layout h.info h.precision lines (bytes_beside h.decoding_bytes) h.orientation
     h.sampling h.transform density 0
     → Describes o old.source.bytes picture
@@ -112,6 +119,8 @@ describes o old new h lines density picture r known info precision oriented samp
     let same : new.found.said ≡ at_size (size_wanted o) header.said = ap (λ (f : Found). f.said) facts.1.2 in
     let metadata : new.found.said.metadata ≡ header.said.metadata =
     ap (λ (s : Said). s.metadata) same ∙ sized-metadata (size_wanted o) header.said in
+    let orientation : h.orientation ≡ orientation_by (at_size (size_wanted o) header.said).metadata.exif =
+    oriented ∙ ap (λ (s : Said). orientation_by s.metadata.exif) same in
     record {
       header = header;
       rest = new.source.bytes;
@@ -130,23 +139,34 @@ describes o old new h lines density picture r known info precision oriented samp
       transform_is = (λ i. option_map (λ f. number_of_transform (frame_transform (sym metadata i) f)) (sym same i).frame)
           ∙ transform;
       picture_is = w ∙ (λ i. described_picture o.layout h.info h.precision (l.lines_are i)
-          (bytes_beside h.decoding_bytes)
-          ((oriented ∙ ap (λ (s : Said). orientation_by s.metadata.exif) same) i) h.sampling h.transform (d i) 0);
+          (bytes_beside h.decoding_bytes) h.orientation h.sampling h.transform (d i) 0)
+          ∙ ap (λ (orientation : ℕ). described_picture o.layout h.info h.precision
+          (lines_by o h.info h.precision orientation l.conversion) (bytes_beside h.decoding_bytes) orientation
+          h.sampling h.transform (density_of old.source.bytes) 0) orientation;
     }
+
+-- a picture that is turned has as many pixels as it is stored in
+turned-area : (turned : Bool) (width height : ℕ)
+    → (if turned then height else width) * (if turned then width else height) ≡ width * height
+turned-area true width height = mul_comm height width
+turned-area false width height = refl
 
 -- and compared with the limits
 pub exceeds-described : (o : Options) (h : Header) (lines : Lines) (density : Density)
-    (picture : Picture) (over : Bool) → HasLines o h.info h.precision lines
+    (picture : Picture) (over : Bool) → HasLines o h.info h.precision h.orientation lines
     → picture ≡ described_picture o.layout h.info h.precision lines (bytes_beside h.decoding_bytes) h.orientation
     h.sampling h.transform density 0
     → over ≡ (is_over o.max_samples (h.info.width * h.info.height * samples_a_pixel h.info.pixel_format)
     || is_over o.max_bytes picture.decoding_bytes)
     → exceeds_limits o picture ≡ over
 exceeds-described o h lines density picture over l w e =
-    let width : picture.width ≡ h.info.width =
+    let turn : Turn = turn_of o h.info h.orientation in
+    let width : picture.width ≡ upright_width turn =
     ap (λ (p : Picture). p.width) w ∙ ap (λ (l : Lines). l.width) l.lines_are in
-    let height : picture.height ≡ h.info.height =
+    let height : picture.height ≡ upright_height turn =
     ap (λ (p : Picture). p.height) w ∙ ap (λ (l : Lines). l.height) l.lines_are in
+    let area : picture.width * picture.height ≡ h.info.width * h.info.height =
+    (λ i. width i * height i) ∙ turned-area (is_on_side turn.orientation) h.info.width h.info.height in
     let components : picture.components ≡ samples_a_pixel h.info.pixel_format = ap (λ (p : Picture). p.components) w in
-    (λ i. is_over o.max_samples (width i * height i * components i) || is_over o.max_bytes picture.decoding_bytes)
+    (λ i. is_over o.max_samples (area i * components i) || is_over o.max_bytes picture.decoding_bytes)
     ∙ sym e

@@ -20,3 +20,5 @@ mod Rests
 pub mod Rules
 mod Texts
 mod Told
+mod TurnedLines
+mod TurnedPlaces

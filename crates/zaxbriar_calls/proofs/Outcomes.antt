@@ -38,7 +38,7 @@ pub record HeaderDescribed (o : Options) (bytes : List ℕ) (density : Density) 
   pub unexceeded : second.exceeded ≡ false
   pub info : IfOk r (λ a. option_map info_of second.found.said.frame ≡ Some a.0.info)
   pub precision : IfOk r (λ a. option_map (λ f. f.precision) second.found.said.frame ≡ Some a.0.precision)
-  pub lines : IfOk r (λ a. HasLines o a.0.info a.0.precision a.1)
+  pub lines : IfOk r (λ a. HasLines o a.0.info a.0.precision a.0.orientation a.1)
   pub told : IfOk r (λ a. new ≡ described_picture o.layout a.0.info a.0.precision a.1
       (bytes_beside a.0.decoding_bytes) a.0.orientation a.0.sampling a.0.transform density 0)
   pub within : OnOk r (IsWithin o bytes new)

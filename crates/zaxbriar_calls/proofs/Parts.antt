@@ -183,7 +183,8 @@ pub brought-given : (extent : Extent) (o : Options) (bytes : List ℕ) (header :
     → header_at bytes ≡ Ok (header, old.source.bytes) → old.settings ≡ settings_at o old.found
     → old.found ≡ found_at o header
     → option_map info_of old.found.said.frame ≡ Some info
-    → option_map (λ f. f.precision) old.found.said.frame ≡ Some precision → HasLines o info precision lines
+    → option_map (λ f. f.precision) old.found.said.frame ≡ Some precision
+    → HasLines o info precision orientation lines
     → picture ≡ described_picture o.layout info precision lines decoding orientation sampling transform density
     stream
     → (b : BringsLines extent lines fault old new before after)

@@ -11,7 +11,9 @@ use Rattle.zaxbriar_calls.proofs.FoundSegments.{few-refused, marked-long, payloa
 use Rattle.zaxbriar_calls.proofs.FoundSegments.{some-left, unsized}
 use Rattle.zaxbriar_calls.proofs.KeptBytes.{marker-long, segment-cut, segment-found, segment-none}
 use Rattle.zaxbriar_calls.proofs.Means.{given-fails, given-means}
+use Rattle.zaxbriar_calls.specs.Layouts.{laid_out, pixels_of}
 use Rattle.zaxbriar_calls.specs.Passes.{exceeds}
+use Rattle.zaxbriar_calls.specs.Upright.{turned_byte}
 use Rattle.zaxbriar_calls.proofs.FoundPlaces.{other-said, places-are, places-ended, places-later, places-none, places-past}
 
 -- how many bytes were read
@@ -62,3 +64,8 @@ asked_transforms = tt
 unfoldable pub streams : ⊤
 unfolding streams_on_literals exceeds
 streams = tt
+
+-- lines as they are stored and turned
+unfoldable pub turned_lines : ⊤
+unfolding laid_out pixels_of turned_byte
+turned_lines = tt

@@ -1,12 +1,12 @@
 -- What a caller is given of a picture that was decoded.
-use Rattle.std.proofs.Common.{arith, ◌≡◌, ◌⊎◌, ◌∙◌, ℕ, ◌*◌, List, Result, Ok, Err, sym, ap, subst}
+use Rattle.std.proofs.Common.{arith, ◌≡◌, ◌⊎◌, ◌∙◌, ℕ, List, Result, Ok, Err, sym, ap, subst}
 use Rattle.std.specs.Prelude.{IfErr, IfOk, OnOk, replicate}
 use Rattle.jpeg_meaning.specs.declared.images.ImageInfo.{ImageInfo}
 use Rattle.zaxbriar_calls.specs.Faults.{IsOwn, status_of}
 use Rattle.zaxbriar_calls.specs.Features.{outcome_feature, numbered}
-use Rattle.zaxbriar_calls.specs.Layouts.{laid_out, layout_line}
 use Rattle.zaxbriar_calls.specs.Lines.{Arranged, HasLines, described_picture}
 use Rattle.zaxbriar_calls.specs.Meanings.{Describes, IsTooLarge, IsWithin, as_described, uncounted}
+use Rattle.zaxbriar_calls.specs.Upright.{arranged_in}
 use Rattle.zaxbriar_calls.proofs.Fails.{code-fails, has-no-room, is-too-large}
 use Rattle.zaxbriar_calls.specs.declared.answers.Refusal.TheVariants.{TooLarge}
 use Rattle.zaxbriar_calls.specs.declared.answers.Refusal.{Refusal}
@@ -18,9 +18,8 @@ use Rattle.zaxbriar_calls.specs.declared.picture.Picture.{Picture}
 
 pub arranged-of : (o : Options) (info : ImageInfo) (precision : ℕ) (samples old new : List ℕ) (picture : Picture)
     (lines : Lines) (decoding orientation stream : ℕ) (sampling : List ℕ) (transform : ℕ) (density : Density)
-    → HasLines o info precision lines
-    → new ≡ laid_out (layout_line lines.conversion lines.stored lines.width) (lines.width * lines.stored)
-    lines.stride lines.bottom_up lines.height samples old
+    → HasLines o info precision orientation lines
+    → new ≡ arranged_in lines samples old
     → picture ≡ described_picture o.layout info precision lines decoding orientation sampling transform density
     stream
     → Arranged o info precision samples old new picture
@@ -28,11 +27,9 @@ arranged-of o info precision samples old new picture lines decoding orientation 
     p = record {
       conversion = h.conversion;
       is = h.is;
-      pixels = e ∙ (λ i. laid_out (layout_line (h.lines_are i).conversion (h.lines_are i).stored (h.lines_are i).width)
-          ((h.lines_are i).width * (h.lines_are i).stored) (h.lines_are i).stride (h.lines_are i).bottom_up
-          (h.lines_are i).height samples old);
-      decoding = decoding;
       orientation = orientation;
+      pixels = e ∙ ap (λ (l : Lines). arranged_in l samples old) h.lines_are;
+      decoding = decoding;
       sampling = sampling;
       transform = transform;
       density = density;

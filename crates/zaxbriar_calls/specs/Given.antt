@@ -14,11 +14,11 @@ use Rattle.jpeg_meaning.specs.Stream.{Told, header_at, rest_by, told_of}
 use Rattle.jpeg_meaning.specs.declared.images.ImageInfo.{ImageInfo}
 use Rattle.jpeg_meaning.specs.declared.settings.Settings.{Settings}
 use Rattle.zaxbriar_calls.specs.Features.{NamesFeature, feature_in, numbered}
-use Rattle.zaxbriar_calls.specs.Layouts.{laid_out, layout_line}
 use Rattle.zaxbriar_calls.specs.Lines.{Arranged}
 use Rattle.zaxbriar_calls.specs.Meanings.{CountsRead, StandsAfter, found_at, meaning_by}
 use Rattle.zaxbriar_calls.specs.Meanings.{settings_at}
 use Rattle.zaxbriar_calls.specs.Passes.{fault_number}
+use Rattle.zaxbriar_calls.specs.Upright.{arranged_in}
 use Rattle.zaxbriar_calls.specs.declared.answers.Refusal.{Refusal}
 use Rattle.zaxbriar_calls.specs.declared.answers.Refusal.TheVariants.{Part, Stream}
 use Rattle.zaxbriar_calls.specs.declared.extents.Extent.{Extent}
@@ -153,8 +153,7 @@ pub record BringsLines (extent : Extent) (lines : Lines) (fault : Option Error) 
   pub brings : Brings (given_rest extent old.settings old.found old.source.bytes) samples fault
       (told_of new.found.said)
   pub ends : EndsImage extent old new
-  pub pixels : after ≡ laid_out (layout_line lines.conversion lines.stored lines.width)
-      (lines.width * lines.stored) lines.stride lines.bottom_up lines.height samples before
+  pub pixels : after ≡ arranged_in lines samples before
 
 abbrev pub Reaches : Extent → Lines → Result ℕ Refusal → Decoding → Decoding → List ℕ → List ℕ
     → Type 0

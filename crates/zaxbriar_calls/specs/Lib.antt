@@ -16,4 +16,5 @@ pub mod Places
 pub mod ReadsInfo
 pub mod Sampling
 pub mod StreamSegments
+pub mod Upright
 pub mod Worked

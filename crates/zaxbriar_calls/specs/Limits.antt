@@ -12,13 +12,19 @@ use Rattle.zaxbriar_calls.specs.declared.picture.Picture.{Picture}
 abbrev pub is_denominator : ℕ → Bool
 is_denominator n = n == 0 || (n == 1 || (n == 2 || (n == 4 || n == 8)))
 
+-- whether all that is reserved is 0
+abbrev pub is_rest_zero : Options → Bool
+is_rest_zero o = list_all (λ word. word == 0) o.pointer_words
+    && (list_all (λ word. word == 0) o.reserved_words
+    && list_all (λ byte. byte == 0) o.reserved_bytes)
+
 -- whether all options exist whatever the picture is: the transform, of which 1, none, goes with
--- layout 0 alone, the scale, whether the rows stand from the bottom, 1 or 0, and what is reserved
+-- layout 0 alone, and with no turn, the scale, whether the rows stand from the bottom, 1 or 0, and
+-- so whether the picture is turned upright, and what is reserved
 abbrev pub are_known : Options → Bool
-are_known o = (not (o.transform == 1) || o.layout == 0) && (nat_le o.transform 5
-    && (is_denominator o.scale
-    && (nat_le o.bottom_up 1 && (list_all (λ word. word == 0) o.pointer_words
-    && list_all (λ word. word == 0) o.reserved_words))))
+are_known o = (not (o.transform == 1) || (o.layout == 0 && o.upright == 0))
+    && (nat_le o.transform 5 && (is_denominator o.scale
+    && (nat_le o.bottom_up 1 && (nat_le o.upright 1 && is_rest_zero o))))
 
 -- The most memory for samples that decoding takes at a time beside the caller's, whether the whole
 -- of a picture is asked for or a part: blocks and planes, from which the lines are written.

@@ -8,8 +8,11 @@ use Rattle.jpeg_segments.specs.declared.frame.CodingProcess.TheVariants.{DctProg
 use Rattle.jpeg_meaning.specs.declared.images.ImageInfo.{ImageInfo}
 use Rattle.jpeg_meaning.specs.declared.images.PixelFormat.{PixelFormat}
 use Rattle.jpeg_meaning.specs.declared.images.PixelFormat.TheVariants.{L8, L16, RGB24, CMYK32}
-use Rattle.zaxbriar_calls.specs.Layouts.{TakesStored, conversion_to, converted_bytes, laid_out}
-use Rattle.zaxbriar_calls.specs.Layouts.{layout_line, pixel_bytes, size_of_lines}
+use Rattle.jpeg_orientation.specs.Turns.{upright_height, upright_width}
+use Rattle.jpeg_orientation.specs.declared.turns.Turn.{Turn}
+use Rattle.zaxbriar_calls.specs.Layouts.{TakesStored, conversion_to, converted_bytes}
+use Rattle.zaxbriar_calls.specs.Layouts.{pixel_bytes, size_of_lines}
+use Rattle.zaxbriar_calls.specs.Upright.{arranged_in}
 use Rattle.zaxbriar_calls.specs.declared.layouts.Conversion.{Conversion}
 use Rattle.zaxbriar_calls.specs.declared.density.Density.{Density}
 use Rattle.zaxbriar_calls.specs.declared.lines.Lines.{Lines}
@@ -25,8 +28,9 @@ abbrev pub layout_pixel_bytes : ImageInfo → ℕ → Conversion → ℕ
 layout_pixel_bytes info precision conversion = converted_bytes conversion (stored_bytes info
     precision)
 
-abbrev pub row_bytes : ImageInfo → ℕ → Conversion → ℕ
-row_bytes info precision conversion = info.width * layout_pixel_bytes info precision conversion
+abbrev pub row_bytes : Turn → ImageInfo → ℕ → Conversion → ℕ
+row_bytes turn info precision conversion =
+    upright_width turn * layout_pixel_bytes info precision conversion
 
 -- the bytes from one line to the next
 abbrev pub stride_of : ℕ → ℕ → ℕ
@@ -36,36 +40,52 @@ stride_of stride row = if stride == 0 then row else stride
 abbrev pub is_bottom_up : Options → Bool
 is_bottom_up o = o.bottom_up == 1
 
--- the lines of a picture
-abbrev pub lines_by : Options → ImageInfo → ℕ → Conversion → Lines
-lines_by o info precision conversion = record {
-  conversion = conversion;
+-- how a picture of an orientation is turned: upright, where that is asked for, and else not
+abbrev pub turn_of : Options → ImageInfo → ℕ → Turn
+turn_of o info orientation = record {
   width = info.width;
   height = info.height;
+  orientation = if o.upright == 1 then orientation else 1;
+}
+
+-- the lines of a picture that is turned
+abbrev pub lines_turned : Options → ImageInfo → ℕ → Turn → Conversion → Lines
+lines_turned o info precision turn conversion = record {
+  conversion = conversion;
+  width = upright_width turn;
+  height = upright_height turn;
+  turn = turn;
   stored = stored_bytes info precision;
   pixel_bytes = layout_pixel_bytes info precision conversion;
-  row_bytes = row_bytes info precision conversion;
-  stride = stride_of o.stride (row_bytes info precision conversion);
+  row_bytes = row_bytes turn info precision conversion;
+  stride = stride_of o.stride (row_bytes turn info precision conversion);
   bottom_up = is_bottom_up o;
 }
 
--- Lines are those that the options ask for.
-pub record HasLines (o : Options) (info : ImageInfo) (precision : ℕ) (lines : Lines) : Type 0 where
+-- the lines of a picture of an orientation
+abbrev pub lines_by : Options → ImageInfo → ℕ → ℕ → Conversion → Lines
+lines_by o info precision orientation conversion =
+    lines_turned o info precision (turn_of o info orientation) conversion
+
+-- Lines are those that the options ask for of a picture of an orientation.
+pub record HasLines (o : Options) (info : ImageInfo) (precision orientation : ℕ) (lines : Lines)
+    : Type 0 where
   pub conversion : Conversion
   pub is : conversion_to o.layout info.pixel_format precision ≡ Some conversion
   pub fits : TakesStored conversion (stored_bytes info precision)
-  pub lines_are : lines ≡ lines_by o info precision conversion
+  pub lines_are : lines ≡ lines_by o info precision orientation conversion
   pub wide : lines.row_bytes ≤ lines.stride
   pub narrow : lines.stride ≤ 4294967296
 
--- Lines fit a picture, as the options ask for them: there is the layout, and a stride, if one is
--- given, is no shorter than a line and at most 2^32.
-pub record FitLines (o : Options) (info : ImageInfo) (precision : ℕ) : Type 0 where
+-- Lines fit a picture of an orientation, as the options ask for them: there is the layout, and a
+-- stride, if one is given, is no shorter than a line and at most 2^32.
+pub record FitLines (o : Options) (info : ImageInfo) (precision orientation : ℕ) : Type 0 where
   pub conversion : Conversion
   pub is : conversion_to o.layout info.pixel_format precision ≡ Some conversion
-  pub wide : row_bytes info precision conversion ≤ stride_of o.stride (row_bytes info precision
-      conversion)
-  pub narrow : stride_of o.stride (row_bytes info precision conversion) ≤ 4294967296
+  pub wide : let row = row_bytes (turn_of o info orientation) info precision conversion in
+      row ≤ stride_of o.stride row
+  pub narrow : stride_of o.stride
+      (row_bytes (turn_of o info orientation) info precision conversion) ≤ 4294967296
 
 -- the number of a coding process
 abbrev pub process_number : CodingProcess → ℕ
@@ -113,21 +133,18 @@ described_picture layout info precision lines decoding orientation sampling tran
       text = replicate 112 0;
     }
 
--- The samples of a picture are in the caller's memory in the layout that the options ask for, and a
--- caller is told of them.
+-- The samples of a picture are in the caller's memory as the options ask for them, turned upright
+-- by the orientation that a caller is told of, if that is asked for; and a caller is told of them.
 pub record Arranged (o : Options) (info : ImageInfo) (precision : ℕ) (samples old new : List ℕ)
     (picture : Picture) : Type 0 where
   pub conversion : Conversion
   pub is : conversion_to o.layout info.pixel_format precision ≡ Some conversion
-  pub pixels : new ≡ laid_out (layout_line conversion (stored_bytes info precision) info.width)
-      (info.width * stored_bytes info precision)
-      (stride_of o.stride (row_bytes info precision conversion)) (is_bottom_up o) info.height
-      samples old
-  pub decoding : ℕ
   pub orientation : ℕ
+  pub pixels : new ≡ arranged_in (lines_by o info precision orientation conversion) samples old
+  pub decoding : ℕ
   pub sampling : List ℕ
   pub transform : ℕ
   pub density : Density
   pub picture_is : picture ≡ described_picture o.layout info precision
-      (lines_by o info precision conversion) decoding orientation sampling transform density
-      picture.stream_bytes
+      (lines_by o info precision orientation conversion) decoding orientation sampling transform
+      density picture.stream_bytes

@@ -146,7 +146,8 @@ pub record Describes (o : Options) (bytes : List ℕ) (picture : Picture) : Type
       (frame_transform header.said.metadata f)) (at_size (size_wanted o) header.said).frame
       ≡ Some transform
   pub picture_is : picture ≡ described_picture o.layout info precision
-      (lines_by o info precision conversion)
+      (lines_by o info precision
+      (orientation_by (at_size (size_wanted o) header.said).metadata.exif) conversion)
       (bytes_beside decoding)
       (orientation_by (at_size (size_wanted o) header.said).metadata.exif) sampling
       transform (density_of bytes) 0
@@ -161,7 +162,8 @@ pub record IsMisfit (o : Options) (bytes : List ℕ) : Type 0 where
   pub info_is : option_map info_of (at_size (size_wanted o) header.said).frame ≡ Some info
   pub precision_is : option_map (λ f. f.precision) (at_size (size_wanted o) header.said).frame
       ≡ Some precision
-  pub misfit : FitLines o info precision → ⊥
+  pub misfit : FitLines o info precision
+      (orientation_by (at_size (size_wanted o) header.said).metadata.exif) → ⊥
 
 -- Options are wrong for a stream: they don't exist, or their lines don't fit the picture of its
 -- header.

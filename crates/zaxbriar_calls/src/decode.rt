@@ -1,5 +1,5 @@
 //! Pictures of streams in the caller's memory.
-ghost use Rattle.std.specs.Prelude.{◌≡◌, ◌≤◌, ◌<◌, Some, length, option_map};
+ghost use Rattle.std.specs.Prelude.{◌≡◌, ◌≤◌, ◌<◌, ℕ, Some, length, option_map};
 ghost use Rattle.std.specs.Prelude.{true, false, Err, IfErr, IfOk, IfSome, IsErrAnd, None, Ok};
 ghost use Rattle.std.specs.Prelude.{OnOk};
 ghost use Rattle.std.specs.List.{concat};
@@ -31,7 +31,7 @@ use crate::density::density_of;
 use crate::description::describe;
 use crate::extents::Extent;
 use crate::header::Header;
-use crate::lines::{Lines, put_lines, size_of_lines, stored_line};
+use crate::lines::{Lines, band_of, put_lines, size_of_lines, stored_line};
 use crate::options::{Options, are_known};
 use crate::picture::Picture;
 use jpeg_decoder::error::Error;
@@ -193,7 +193,8 @@ fn decode_lines<R: Read + Drop>(
     requires bytes { option_map (decoding_bytes decoder.old.settings)
         decoder.old.found.said.frame
         ≡ Some header.decoding_bytes }
-    requires lines { (options : Options) × HasLines options header.info header.precision lines }
+    requires lines { (options : Options) × (orientation : ℕ)
+        × HasLines options header.info header.precision orientation lines }
     requires room { size_of_lines lines.stride lines.row_bytes lines.height ≤ length pixels.old }
     ensures reaches { decoder.old.source.known ≡ true
         → Reaches extent lines result decoder.old decoder.new pixels.old pixels.new }
@@ -210,9 +211,10 @@ fn decode_lines<R: Read + Drop>(
 {
     // After a refusal the caller's memory is as it was, so all memory is taken before.
     let mut row = stored_line(alloc, lines)?;
+    let mut band = band_of(alloc, lines)?;
     match read_lines(decoder, extent) {
         Ok(mut decoded) => {
-            put_lines(&mut decoded.lines, lines, &mut row, pixels);
+            put_lines(&mut decoded.lines, lines, &mut row, &mut band, pixels);
             outcome_of(decoded.whole_rows, decoded.fault)
         }
         Err(refusal) => Err(refusal),
@@ -237,7 +239,8 @@ fn decode_described<R: Read + Drop>(
     requires bytes { IfOk described (λ a. option_map (decoding_bytes decoder.old.settings)
         decoder.old.found.said.frame ≡ Some a.0.decoding_bytes) }
     requires lines { IfOk described
-        (λ a. (options : Options) × HasLines options a.0.info a.0.precision a.1) }
+        (λ a. (options : Options) × (orientation : ℕ)
+        × HasLines options a.0.info a.0.precision orientation a.1) }
     ensures { Continues extent described result decoder.old decoder.new pixels.old pixels.new }
 {
     let (header, lines) = described?;

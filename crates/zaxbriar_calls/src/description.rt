@@ -49,7 +49,8 @@ pub fn describe<R: Read + Drop>(
     ensures bytes { IfOk result (λ a. option_map (decoding_bytes decoder.new.settings)
         decoder.new.found.said.frame
         ≡ Some a.0.decoding_bytes) }
-    ensures lines { IfOk result (λ a. HasLines options.now a.0.info a.0.precision a.1) }
+    ensures lines { IfOk result
+        (λ a. HasLines options.now a.0.info a.0.precision a.0.orientation a.1) }
     ensures told { IfOk result (λ a. picture.new ≡ described_picture options.now.layout a.0.info
         a.0.precision a.1 (bytes_beside a.0.decoding_bytes) a.0.orientation
         a.0.sampling a.0.transform density 0) }
@@ -72,7 +73,7 @@ pub fn describe<R: Read + Drop>(
     ensures rowless { picture.old.whole_rows ≡ 0 → picture.new.whole_rows ≡ 0 }
 {
     let header = read_header(decoder, options)?;
-    let lines = lines_of(header.info, header.precision, options)?;
+    let lines = lines_of(header.info, header.precision, header.orientation, options)?;
     *picture = picture_of(header, density, lines, options.layout);
     if exceeds_limits(options, header.info, picture.decoding_bytes) {
         return Err(Refusal::TooLarge);

@@ -14,12 +14,13 @@ ghost use Rattle.jpeg_meaning.specs.Stream.{Told};
 ghost use Rattle.jpeg_meaning.specs.Worked.{eleven_blocks, scanned_twice};
 ghost use Rattle.jpeg_meaning.specs.declared.images.PixelFormat.TheVariants.{L8, L16, RGB24};
 ghost use Rattle.jpeg_meaning.specs.declared.images.PixelFormat.TheVariants.{CMYK32};
+ghost use Rattle.jpeg_orientation.specs.Turns.{upright_across, upright_down};
 ghost use Rattle.zaxbriar_calls.specs.Density.{density_of};
 ghost use Rattle.zaxbriar_calls.specs.Given.{faultless, given_by};
 ghost use Rattle.zaxbriar_calls.specs.Features.{feature_in, numbered, transform_code};
 ghost use Rattle.zaxbriar_calls.specs.Layouts.{colour, conversion_to, laid_out, level, light, luma};
 ghost use Rattle.zaxbriar_calls.specs.Layouts.{layout_numbered, pixel_of, size_of_lines};
-ghost use Rattle.zaxbriar_calls.specs.Limits.{is_denominator, is_over};
+ghost use Rattle.zaxbriar_calls.specs.Limits.{are_known, is_denominator, is_over};
 ghost use Rattle.zaxbriar_calls.specs.Lines.{format_number, process_number};
 ghost use Rattle.zaxbriar_calls.specs.Meanings.{meaning_by, number_of_transform, scale_by};
 ghost use Rattle.zaxbriar_calls.specs.Meanings.{transform_number};
@@ -27,7 +28,8 @@ ghost use Rattle.zaxbriar_calls.specs.Metadata.{is_whole, kind_alone};
 ghost use Rattle.zaxbriar_calls.specs.Passes.{exceeds, fault_number};
 ghost use Rattle.zaxbriar_calls.specs.Places.{no_place, no_places, place_before, with_part};
 ghost use Rattle.zaxbriar_calls.specs.Sampling.{sampling_of};
-ghost use Rattle.zaxbriar_calls.specs.Worked.{passes_alone};
+ghost use Rattle.zaxbriar_calls.specs.Upright.{arranged_in};
+ghost use Rattle.zaxbriar_calls.specs.Worked.{passes_alone, three_by_two, upright_alone};
 ghost use Rattle.zaxbriar_calls.specs.declared.extents.Extent.{Extent};
 ghost use Rattle.zaxbriar_calls.specs.declared.extents.Extent.TheVariants.{Whole};
 ghost use Rattle.zaxbriar_calls.specs.declared.options.Options.{Options};
@@ -113,6 +115,43 @@ pub fn known_lines()
     ensures none { size_of_lines 3 2 0 ≡ 0 }
 {}
 
+/// A picture of 3 by 2 pixels, the numbers 1 to 6 from its first row, turned upright by each
+/// orientation: the first row of the stream is the top of 1 and 2, the bottom of 3 and 4, the left
+/// side of 5 and 8, and the right side of 6 and 7; and its first column is the left side of 1 and
+/// 4, the right side of 2 and 3, the top of 5 and 6, and the bottom of 7 and 8 (Exif 2.3, 4.6.4).
+/// Gaps stay as they were, and the bytes of a pixel keep their order. What isn't asked for isn't
+/// turned.
+#[tactic(auto, unfolding(crate::proofs::Rules::turned_lines))]
+pub fn known_turns()
+    ensures sides { map (λ o. (three_by_two upright_alone L8 8 o).width
+        ∷ (three_by_two upright_alone L8 8 o).height ∷ []) (1 ∷ 2 ∷ 3 ∷ 4 ∷ 5 ∷ 6 ∷ 7 ∷ 8 ∷ [])
+        ≡ replicate 4 (3 ∷ 2 ∷ []) ++ replicate 4 (2 ∷ 3 ∷ []) }
+    ensures turned { map (λ o. arranged_in (three_by_two upright_alone L8 8 o)
+        (1 ∷ 2 ∷ 3 ∷ 4 ∷ 5 ∷ 6 ∷ []) (replicate 6 9)) (1 ∷ 2 ∷ 3 ∷ 4 ∷ 5 ∷ 6 ∷ 7 ∷ 8 ∷ [])
+        ≡ (1 ∷ 2 ∷ 3 ∷ 4 ∷ 5 ∷ 6 ∷ []) ∷ (3 ∷ 2 ∷ 1 ∷ 6 ∷ 5 ∷ 4 ∷ [])
+        ∷ (6 ∷ 5 ∷ 4 ∷ 3 ∷ 2 ∷ 1 ∷ []) ∷ (4 ∷ 5 ∷ 6 ∷ 1 ∷ 2 ∷ 3 ∷ [])
+        ∷ (1 ∷ 4 ∷ 2 ∷ 5 ∷ 3 ∷ 6 ∷ []) ∷ (4 ∷ 1 ∷ 5 ∷ 2 ∷ 6 ∷ 3 ∷ [])
+        ∷ (6 ∷ 3 ∷ 5 ∷ 2 ∷ 4 ∷ 1 ∷ []) ∷ (3 ∷ 6 ∷ 2 ∷ 5 ∷ 1 ∷ 4 ∷ []) ∷ [] }
+    ensures third { map (λ o. upright_across (three_by_two upright_alone L8 8 o).turn 2 0
+        ∷ upright_down (three_by_two upright_alone L8 8 o).turn 2 0 ∷ [])
+        (1 ∷ 2 ∷ 3 ∷ 4 ∷ 5 ∷ 6 ∷ 7 ∷ 8 ∷ []) ≡ (2 ∷ 0 ∷ []) ∷ (0 ∷ 0 ∷ []) ∷ (0 ∷ 1 ∷ [])
+        ∷ (2 ∷ 1 ∷ []) ∷ (0 ∷ 2 ∷ []) ∷ (1 ∷ 2 ∷ []) ∷ (1 ∷ 0 ∷ []) ∷ (0 ∷ 0 ∷ []) ∷ [] }
+    ensures gap { arranged_in (three_by_two (record upright_alone { stride = 3 }) L8 8 6)
+        (1 ∷ 2 ∷ 3 ∷ 4 ∷ 5 ∷ 6 ∷ []) (replicate 9 9)
+        ≡ 4 ∷ 1 ∷ 9 ∷ 5 ∷ 2 ∷ 9 ∷ 6 ∷ 3 ∷ 9 ∷ [] }
+    ensures bottom_up { map (λ o. arranged_in
+        (three_by_two (record upright_alone { bottom_up = 1 }) L8 8 o)
+        (1 ∷ 2 ∷ 3 ∷ 4 ∷ 5 ∷ 6 ∷ []) (replicate 7 9)) (2 ∷ 6 ∷ [])
+        ≡ (6 ∷ 5 ∷ 4 ∷ 3 ∷ 2 ∷ 1 ∷ 9 ∷ []) ∷ (6 ∷ 3 ∷ 5 ∷ 2 ∷ 4 ∷ 1 ∷ 9 ∷ []) ∷ [] }
+    ensures pairs { map (λ o. arranged_in (three_by_two upright_alone L16 16 o)
+        (1 ∷ 10 ∷ 2 ∷ 20 ∷ 3 ∷ 30 ∷ 4 ∷ 40 ∷ 5 ∷ 50 ∷ 6 ∷ 60 ∷ []) (replicate 12 9))
+        (3 ∷ 8 ∷ []) ≡ (6 ∷ 60 ∷ 5 ∷ 50 ∷ 4 ∷ 40 ∷ 3 ∷ 30 ∷ 2 ∷ 20 ∷ 1 ∷ 10 ∷ [])
+        ∷ (3 ∷ 30 ∷ 6 ∷ 60 ∷ 2 ∷ 20 ∷ 5 ∷ 50 ∷ 1 ∷ 10 ∷ 4 ∷ 40 ∷ []) ∷ [] }
+    ensures unasked { map (λ o. arranged_in (three_by_two (passes_alone 0) L8 8 o)
+        (1 ∷ 2 ∷ 3 ∷ 4 ∷ 5 ∷ 6 ∷ []) (replicate 6 9)) (1 ∷ 6 ∷ [])
+        ≡ replicate 2 (1 ∷ 2 ∷ 3 ∷ 4 ∷ 5 ∷ 6 ∷ []) }
+{}
+
 /// A limit of 0 is none, and another is the greatest count that is taken. The scales are 1, 1/2,
 /// 1/4 and 1/8.
 #[tactic(auto)]
@@ -128,6 +167,13 @@ pub fn known_options()
         ∷ Some transforms.YCCK ∷ None ∷ [] }
     ensures numbers { map number_of_transform (transforms.None ∷ transforms.RGB ∷ transforms.YCbCr
         ∷ transforms.CMYK ∷ transforms.YCCK ∷ []) ≡ 1 ∷ 2 ∷ 3 ∷ 4 ∷ 5 ∷ [] }
+    ensures uprights { map (λ n. are_known (record upright_alone { upright = n }))
+        (0 ∷ 1 ∷ 2 ∷ []) ≡ true ∷ true ∷ false ∷ [] }
+    ensures unconverted { map (λ n. are_known (record upright_alone { transform = 1; upright = n }))
+        (0 ∷ 1 ∷ []) ≡ true ∷ false ∷ [] }
+    ensures reserved { map (λ n. are_known (record upright_alone {
+      reserved_bytes = replicate 6 0 ++ (n ∷ []);
+    })) (0 ∷ 1 ∷ []) ≡ true ∷ false ∷ [] }
     ensures kinds { map kind_alone (1 ∷ 3 ∷ 17 ∷ 19 ∷ []) ≡ 1 ∷ 3 ∷ 1 ∷ 3 ∷ [] }
     ensures whole { map is_whole (3 ∷ 15 ∷ 16 ∷ 17 ∷ []) ≡ false ∷ false ∷ true ∷ true ∷ [] }
 {}

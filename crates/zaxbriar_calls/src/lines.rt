@@ -1,12 +1,15 @@
 //! Where the lines of a picture are in the caller's memory.
 ghost use Rattle.std.specs.Prelude.{◌≡◌, ◌+◌, ◌*◌, ◌<◌, ◌≤◌, ℕ, [], false, length, IfOk, IfErr};
-ghost use Rattle.std.specs.Prelude.{slice_index_or, true};
-ghost use Rattle.std.specs.List.{AllByRecursion, concat};
+ghost use Rattle.std.specs.Prelude.{map, slice_index_or, true};
+ghost use Rattle.std.specs.List.{AllByRecursion, concat, range_with_len};
+ghost use Rattle.jpeg_orientation.specs.Turns.{upright_height, upright_width};
 ghost use Rattle.jpeg_bits.specs.declared.error.Error.TheVariants.{OutOfMemory};
 ghost use Rattle.zaxbriar_calls.specs.Faults.{IsArgument};
 ghost use Rattle.zaxbriar_calls.specs.Layouts.{TakesStored, converted_bytes, laid_out, layout_line};
 ghost use Rattle.zaxbriar_calls.specs.Layouts.{is_stored, size_of_lines};
-ghost use Rattle.zaxbriar_calls.specs.Lines.{FitLines, HasLines};
+ghost use Rattle.zaxbriar_calls.specs.Lines.{FitLines, HasLines, turn_of};
+ghost use Rattle.zaxbriar_calls.specs.Upright.{AreLines, AreMeant, HasRoom, IsBand, Writes};
+ghost use Rattle.zaxbriar_calls.specs.Upright.{arranged_in, pixel_start, turned_byte};
 
 use crate::answers::Refusal;
 use crate::layouts::{
@@ -15,15 +18,18 @@ use crate::layouts::{
 use crate::options::Options;
 use jpeg_decoder::error::Result;
 use jpeg_decoder::{ImageInfo, Lines as Decoded};
+use jpeg_orientation::turns::{Turn, upright_height, upright_place, upright_width};
 use std::alloc::Global;
 
 /// The lines of a picture in the caller's memory.
 #[derive(Clone, Copy)]
 pub struct Lines {
     pub conversion: Conversion,
-    /// The size of the picture in pixels.
+    /// The size of the picture in pixels, as it stands there.
     pub width: u16,
     pub height: u16,
+    /// How the picture that is stored is turned.
+    pub turn: Turn,
     /// The bytes of a pixel as it is stored, and in this layout.
     pub stored: u8,
     pub pixel_bytes: u8,
@@ -38,22 +44,36 @@ pub struct Lines {
 /// The greatest stride that is accepted.
 const MOST_STRIDE: u64 = 1 << 32;
 
-/// Returns the lines of a picture as the options ask for them.
+/// Returns how a picture of an orientation is turned.
+fn turn_of(info: ImageInfo, orientation: u8, options: &Options) -> Turn
+    ensures { result ≡ turn_of options.now info orientation }
+{
+    Turn {
+        width: info.width,
+        height: info.height,
+        orientation: if options.upright == 1 { orientation } else { 1 },
+    }
+}
+
+/// Returns the lines of a picture of an orientation as the options ask for them.
 pub fn lines_of(
     info: ImageInfo,
     precision: u8,
+    orientation: u8,
     options: &Options,
 ) -> std::result::Result<Lines, Refusal>
-    ensures lines { IfOk result (HasLines options.now info precision) }
+    ensures lines { IfOk result (HasLines options.now info precision orientation) }
     ensures named { IfErr result IsArgument }
-    ensures misfit { IfErr result (λ _. FitLines options.now info precision → ⊥) }
+    ensures misfit { IfErr result (λ _. FitLines options.now info precision orientation → ⊥) }
 {
+    let turn = turn_of(info, orientation, options);
+    let width = upright_width(turn);
     let stored = samples_a_pixel(info.pixel_format) * bytes_a_sample(precision);
     let Some(conversion) = conversion_of(options.layout, info.pixel_format, precision) else {
         return Err(Refusal::Argument("the layout doesn't exist"));
     };
     let pixel_bytes = converted_bytes(conversion, stored);
-    let row_bytes = u64::from(info.width) * u64::from(pixel_bytes);
+    let row_bytes = u64::from(width) * u64::from(pixel_bytes);
     let stride = if options.stride == 0 {
         row_bytes
     } else {
@@ -64,8 +84,9 @@ pub fn lines_of(
     }
     Ok(Lines {
         conversion,
-        width: info.width,
-        height: info.height,
+        width,
+        height: upright_height(turn),
+        turn,
         stored,
         pixel_bytes,
         row_bytes,
@@ -90,14 +111,37 @@ pub fn size_of_lines(lines: Lines) -> u64
 /// Returns memory for a line as it is stored, or none where lines stay as they are stored.
 pub fn stored_line(alloc: Global, lines: Lines) -> Result<Vec<u8>>
     ensures row { IfOk result (λ row. is_stored lines.conversion ≡ false
-        → length row.items ≡ lines.width * lines.stored) }
+        → length row.items ≡ lines.turn.width * lines.stored) }
     ensures fails { IfErr result (λ e. e ≡ OutOfMemory) }
 {
     if is_stored(lines.conversion) {
         return Ok(Vec::new(alloc));
     }
-    let stored_bytes = usize::from(lines.width) * usize::from(lines.stored);
+    let stored_bytes = usize::from(lines.turn.width) * usize::from(lines.stored);
     Ok(vec![in alloc; 0; stored_bytes]?)
+}
+
+/// The number of lines that are turned at a time. A column of so many pixels stands together in the
+/// caller's memory, which would else be touched a line apart with each pixel.
+const BAND: usize = 16;
+
+/// Returns how many bytes a line of the stored picture has in its layout.
+fn line_bytes(lines: Lines) -> usize
+    ensures { result ≡ lines.turn.width * lines.pixel_bytes }
+{
+    usize::from(lines.turn.width) * usize::from(lines.pixel_bytes)
+}
+
+/// Returns memory for the lines that are turned at a time, or none where a picture isn't turned.
+pub fn band_of(alloc: Global, lines: Lines) -> Result<Vec<u8>>
+    ensures band { IfOk result (λ band. IsBand lines (length band.items)) }
+    ensures fails { IfErr result (λ e. e ≡ OutOfMemory) }
+{
+    if lines.turn.orientation == 1 {
+        return Ok(Vec::new(alloc));
+    }
+    let band_bytes = BAND.min(usize::from(lines.turn.height)) * line_bytes(lines);
+    Ok(vec![in alloc; 0; band_bytes]?)
 }
 
 /// Returns at which place among the lines in memory row `y` stands.
@@ -118,13 +162,13 @@ fn place_of(lines: Lines, y: usize) -> usize
 /// stored.
 fn put_line(picture: &mut Decoded, lines: Lines, y: usize, row: &mut [u8], line: &mut [u8])
     requires y { y < length picture.old }
-    requires stored { length (slice_index_or picture.old y []) ≡ lines.width * lines.stored }
+    requires stored { length (slice_index_or picture.old y []) ≡ lines.turn.width * lines.stored }
     requires row { is_stored lines.conversion ≡ false
-        → length row.old ≡ lines.width * lines.stored }
+        → length row.old ≡ lines.turn.width * lines.stored }
     requires line { length line.old
-        ≡ lines.width * converted_bytes lines.conversion lines.stored }
+        ≡ lines.turn.width * converted_bytes lines.conversion lines.stored }
     requires fits { TakesStored lines.conversion lines.stored }
-    ensures line { line.new ≡ layout_line lines.conversion lines.stored lines.width
+    ensures line { line.new ≡ layout_line lines.conversion lines.stored lines.turn.width
         (slice_index_or picture.old y []) }
     ensures same { picture.new ≡ picture.old }
 {
@@ -137,17 +181,18 @@ fn put_line(picture: &mut Decoded, lines: Lines, y: usize, row: &mut [u8], line:
         row,
         lines.conversion,
         usize::from(lines.stored),
-        usize::from(lines.width),
+        usize::from(lines.turn.width),
         line,
     );
 }
 
-/// Writes the lines of a decoded picture, and leaves the gaps between them. `row` has room for a
-/// line as it is stored, unless lines stay as they are.
-pub fn put_lines(picture: &mut Decoded, lines: Lines, row: &mut [u8], pixels: &mut [u8])
+/// Writes the lines of a decoded picture as it is stored, and leaves the gaps between them. `row`
+/// has room for a line as it is stored, unless lines stay as they are.
+fn put_stored_lines(picture: &mut Decoded, lines: Lines, row: &mut [u8], pixels: &mut [u8])
     requires count { length picture.old ≡ lines.height }
     requires stored { AllByRecursion (λ line. length line ≡ lines.width * lines.stored)
         picture.old }
+    requires same { lines.turn.width ≡ lines.width }
     requires row { is_stored lines.conversion ≡ false
         → length row.old ≡ lines.width * lines.stored }
     requires room { (y : ℕ) → y < lines.height
@@ -172,5 +217,164 @@ pub fn put_lines(picture: &mut Decoded, lines: Lines, row: &mut [u8], pixels: &m
             row,
             &mut pixels[start..start + row_bytes],
         );
+    }
+}
+
+/// Writes a pixel of the stored picture, in its layout, where it stands in the upright one.
+fn put_pixel(pixel: &[u8], lines: Lines, x: usize, y: usize, pixels: &mut [u8])
+    requires x { x < lines.turn.width }
+    requires y { y < lines.turn.height }
+    requires pixel { length pixel.now ≡ lines.pixel_bytes }
+    requires room { HasRoom lines (length pixels.old) }
+    ensures { (meant : ℕ → ℕ)
+        → ((byte : ℕ) → byte < lines.pixel_bytes
+        → meant (pixel_start lines x y + byte) ≡ slice_index_or pixel.now byte 0)
+        → Writes lines meant (λ column line. (column ≡ x) × (line ≡ y)) pixels.old pixels.new }
+{
+    let (across, down) = upright_place(lines.turn, x, y);
+    let line = place_of(lines, down) * lines.stride as usize;
+    let start = line + across * usize::from(lines.pixel_bytes);
+    pixels[start..start + pixel.len()].copy_from_slice(pixel);
+}
+
+/// Writes the pixels of a column of a band of lines, from line `first` on, where they stand in the
+/// upright picture.
+fn put_column(band: &[u8], lines: Lines, first: usize, count: usize, x: usize, pixels: &mut [u8])
+    requires x { x < lines.turn.width }
+    requires count { first + count ≤ lines.turn.height }
+    requires band { count * (lines.turn.width * lines.pixel_bytes) ≤ length band.now }
+    requires room { HasRoom lines (length pixels.old) }
+    ensures { (meant : ℕ → ℕ) → AreMeant lines meant first count band.now
+        → Writes lines meant (λ column line. (column ≡ x) × (first ≤ line)
+        × (line < first + count)) pixels.old pixels.new }
+{
+    let bytes = line_bytes(lines);
+    let pixel_bytes = usize::from(lines.pixel_bytes);
+    for index in 0..count {
+        let start = index * bytes + x * pixel_bytes;
+        put_pixel(
+            &band[start..start + pixel_bytes],
+            lines,
+            x,
+            first + index,
+            pixels,
+        );
+    }
+}
+
+/// Writes a band of lines, from line `first` on, where their pixels stand in the upright picture.
+fn put_band(band: &[u8], lines: Lines, first: usize, count: usize, pixels: &mut [u8])
+    requires count { first + count ≤ lines.turn.height }
+    requires band { count * (lines.turn.width * lines.pixel_bytes) ≤ length band.now }
+    requires room { HasRoom lines (length pixels.old) }
+    ensures { (meant : ℕ → ℕ) → AreMeant lines meant first count band.now
+        → Writes lines meant (λ column line. (column < lines.turn.width) × (first ≤ line)
+        × (line < first + count)) pixels.old pixels.new }
+{
+    for x in 0..usize::from(lines.turn.width) {
+        put_column(band, lines, first, count, x, pixels);
+    }
+}
+
+/// Reads a band of lines in their layout, from line `first` on.
+fn read_band(
+    picture: &mut Decoded,
+    lines: Lines,
+    first: usize,
+    count: usize,
+    row: &mut [u8],
+    band: &mut [u8],
+)
+    requires count { first + count ≤ lines.turn.height }
+    requires whole { length picture.old ≡ lines.turn.height }
+    requires stored { AllByRecursion (λ line. length line ≡ lines.turn.width * lines.stored)
+        picture.old }
+    requires row { is_stored lines.conversion ≡ false
+        → length row.old ≡ lines.turn.width * lines.stored }
+    requires band { count * (lines.turn.width * lines.pixel_bytes) ≤ length band.old }
+    requires pixel { lines.pixel_bytes ≡ converted_bytes lines.conversion lines.stored }
+    requires fits { TakesStored lines.conversion lines.stored }
+    ensures lines { AreLines lines picture.old first count band.new }
+    ensures same { picture.new ≡ picture.old }
+{
+    let bytes = line_bytes(lines);
+    for index in 0..count {
+        let start = index * bytes;
+        put_line(
+            picture,
+            lines,
+            first + index,
+            row,
+            &mut band[start..start + bytes],
+        );
+    }
+}
+
+/// Writes the lines of a decoded picture, turned upright, and leaves the gaps between them. `band`
+/// has room for the lines that are turned at a time.
+fn put_turned_lines(
+    picture: &mut Decoded,
+    lines: Lines,
+    row: &mut [u8],
+    band: &mut [u8],
+    pixels: &mut [u8],
+)
+    requires count { length picture.old ≡ lines.turn.height }
+    requires stored { AllByRecursion (λ line. length line ≡ lines.turn.width * lines.stored)
+        picture.old }
+    requires width { lines.width ≡ upright_width lines.turn }
+    requires height { lines.height ≡ upright_height lines.turn }
+    requires row { is_stored lines.conversion ≡ false
+        → length row.old ≡ lines.turn.width * lines.stored }
+    requires turned { lines.turn.orientation ≡ 1 → ⊥ }
+    requires band { IsBand lines (length band.old) }
+    requires room { (y : ℕ) → y < lines.height
+        → y * lines.stride + lines.row_bytes ≤ length pixels.old }
+    requires pixel { lines.pixel_bytes ≡ converted_bytes lines.conversion lines.stored }
+    requires line { lines.row_bytes ≡ lines.width * lines.pixel_bytes }
+    requires wide { lines.row_bytes ≤ lines.stride }
+    requires fits { TakesStored lines.conversion lines.stored }
+    ensures { pixels.new ≡ map (turned_byte lines (concat picture.old) pixels.old)
+        (range_with_len 0 (length pixels.old)) }
+{
+    let height = usize::from(lines.turn.height);
+    for index in 0..height.div_ceil(BAND) {
+        let first = index * BAND;
+        let count = BAND.min(height - first);
+        read_band(picture, lines, first, count, row, band);
+        put_band(band, lines, first, count, pixels);
+    }
+}
+
+/// Writes the lines of a decoded picture, turned as the options ask for it, and leaves the gaps
+/// between them. `row` has room for a line as it is stored, unless lines stay as they are, and
+/// `band` for those that are turned at a time.
+pub fn put_lines(
+    picture: &mut Decoded,
+    lines: Lines,
+    row: &mut [u8],
+    band: &mut [u8],
+    pixels: &mut [u8],
+)
+    requires count { length picture.old ≡ lines.turn.height }
+    requires stored { AllByRecursion (λ line. length line ≡ lines.turn.width * lines.stored)
+        picture.old }
+    requires width { lines.width ≡ upright_width lines.turn }
+    requires height { lines.height ≡ upright_height lines.turn }
+    requires row { is_stored lines.conversion ≡ false
+        → length row.old ≡ lines.turn.width * lines.stored }
+    requires band { IsBand lines (length band.old) }
+    requires room { (y : ℕ) → y < lines.height
+        → y * lines.stride + lines.row_bytes ≤ length pixels.old }
+    requires pixel { lines.pixel_bytes ≡ converted_bytes lines.conversion lines.stored }
+    requires line { lines.row_bytes ≡ lines.width * lines.pixel_bytes }
+    requires wide { lines.row_bytes ≤ lines.stride }
+    requires fits { TakesStored lines.conversion lines.stored }
+    ensures { pixels.new ≡ arranged_in lines (concat picture.old) pixels.old }
+{
+    if lines.turn.orientation == 1 {
+        put_stored_lines(picture, lines, row, pixels);
+    } else {
+        put_turned_lines(picture, lines, row, band, pixels);
     }
 }

@@ -6,6 +6,7 @@ ghost use Rattle.jpeg_meaning.specs.Found.{with_said};
 ghost use Rattle.jpeg_meaning.specs.Output.{default_settings};
 ghost use Rattle.jpeg_meaning.specs.declared.progress.Progress.TheVariants.{HeaderRead};
 ghost use Rattle.zaxbriar_calls.specs.Limits.{are_known, blocks_of_passes, is_denominator};
+ghost use Rattle.zaxbriar_calls.specs.Limits.{is_rest_zero};
 ghost use Rattle.zaxbriar_calls.specs.Meanings.{least_side, scale_by, settings_at, settings_of};
 ghost use Rattle.zaxbriar_calls.specs.Meanings.{number_of_transform, size_wanted};
 ghost use Rattle.zaxbriar_calls.specs.Meanings.{transform_number};
@@ -47,8 +48,13 @@ pub struct Options {
     /// How many times the scans of a stream may code the blocks of its picture, all together; 0 for
     /// any number.
     pub max_passes: u64,
+    /// 1 where the picture is turned upright by the orientation in the Exif data of its header; and
+    /// else 0. Without a conversion (transform 1) it can't be.
+    pub upright: u8,
     /// Zero.
-    pub reserved_words: [u64; 9],
+    pub reserved_bytes: [u8; 7],
+    /// Zero.
+    pub reserved_words: [u64; 8],
 }
 
 /// The picture as it is stored, at full size and without gaps, whatever its size is.
@@ -64,7 +70,9 @@ pub const AS_STORED: Options = Options {
     max_bytes: 0,
     pointer_words: [0; 2],
     max_passes: 0,
-    reserved_words: [0; 9],
+    upright: 0,
+    reserved_bytes: [0; 7],
+    reserved_words: [0; 8],
 };
 
 /// Returns whether a number is the denominator of a scale, or 0.
@@ -81,16 +89,32 @@ fn are_zero(words: &[u64]) -> bool
     words.iter().all(|word| *word == 0)
 }
 
+/// Returns whether all of some bytes are 0.
+fn are_zero_bytes(bytes: &[u8]) -> bool
+    ensures { result ≡ list_all (λ byte. byte == 0) bytes.now }
+{
+    bytes.iter().all(|byte| *byte == 0)
+}
+
+/// Returns whether all that is reserved is 0.
+fn is_rest_zero(options: &Options) -> bool
+    ensures { result ≡ is_rest_zero options.now }
+{
+    are_zero(&options.pointer_words)
+        && are_zero(&options.reserved_words)
+        && are_zero_bytes(&options.reserved_bytes)
+}
+
 /// Returns whether all options exist whatever the picture is.
 pub fn are_known(options: &Options) -> bool
     ensures { result ≡ are_known options.now }
 {
-    (options.transform != 1 || options.layout == 0)
+    (options.transform != 1 || (options.layout == 0 && options.upright == 0))
         && options.transform <= 5
         && is_denominator(options.scale)
         && options.bottom_up <= 1
-        && are_zero(&options.pointer_words)
-        && are_zero(&options.reserved_words)
+        && options.upright <= 1
+        && is_rest_zero(options)
 }
 
 /// Returns the colour transform of a number.

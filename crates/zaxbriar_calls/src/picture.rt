@@ -23,11 +23,11 @@ pub struct Picture {
     pub decoding_bytes: u64,
     /// After decoding, how many bytes of the stream were read.
     pub stream_bytes: u64,
-    /// The size in pixels, at the scale of the options.
+    /// The size in pixels, at the scale of the options, and turned upright where they ask for that.
     pub width: u32,
     pub height: u32,
-    /// After decoding in part, how many rows of the picture, from its top, are complete in each
-    /// scan that has begun.
+    /// After decoding in part, how many rows of the picture as the stream has it, from its top, are
+    /// complete in each scan that has begun.
     pub whole_rows: u32,
     /// The bytes of a pixel in its layout.
     pub pixel_bytes: u8,

@@ -1,5 +1,5 @@
 use Rattle.std.proofs.Common.{◌∙◌}
-use Rattle.zaxbriar_calls.proofs.Headers.{describes, exceeds-described}
+use Rattle.zaxbriar_calls.proofs.Headers.{describes, exceeds-described, one-size}
 use Rattle.zaxbriar_calls.proofs.description.describe.Goals as goal
 
 pub returns-then-exceeds_limits-clause-large : goal.returns-then-exceeds_limits-clause-large
@@ -25,3 +25,8 @@ returns-clause-within g c known =
           c.picture_of.result c.exceeds_limits.result c.in_ok-lines.ensures.lines c.picture_of.ensures
           c.exceeds_limits.ensures ∙ c.if-exceeds_limits.false,
     )
+
+pub returns-clause-limited : goal.returns-clause-limited
+returns-clause-limited g c known size large =
+    one-size c.args.options.now c.args.decoder.now.source.bytes c.picture_of.result size (returns-clause-within g c known)
+    large

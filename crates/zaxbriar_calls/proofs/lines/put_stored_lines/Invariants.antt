@@ -2,7 +2,7 @@ use Rattle.std.proofs.Common.{◌≡◌, ◌*◌, length}
 use Rattle.std.specs.List.{concat}
 use Rattle.zaxbriar_calls.specs.Layouts.{layout_line}
 use Rattle.zaxbriar_calls.proofs.Laid.{laid_so_far}
-use Rattle.zaxbriar_calls.proofs.lines.put_lines.Given as goal
+use Rattle.zaxbriar_calls.proofs.lines.put_stored_lines.Given as goal
 
 pub record Written (l : goal.Live-loop-y) : Type 0 where
   pub lines : l.pixels ≡ laid_so_far (layout_line l.lines.conversion l.lines.stored l.lines.width)

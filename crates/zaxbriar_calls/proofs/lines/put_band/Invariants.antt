@@ -1,0 +1,9 @@
+use Rattle.std.proofs.Common.{◌+◌, ◌<◌, ◌≤◌, ℕ}
+use Rattle.zaxbriar_calls.specs.Upright.{AreMeant, Writes}
+use Rattle.zaxbriar_calls.proofs.lines.put_band.Given as goal
+
+abbrev pub invariant-loop-x : goal.invariant-loop-x
+invariant-loop-x l = (meant : ℕ → ℕ) → AreMeant l.lines meant l.first l.count l.band
+    → Writes l.lines meant (λ column line. (column < l.x) × (l.first ≤ line)
+    × (line < l.first + l.count))
+    l.initial.pixels l.pixels
