@@ -11,6 +11,7 @@ static unsigned char layout_of(const char *name) {
         const char *name;
         zaxbriar_layout layout;
     } layouts[] = {{"grey", ZAXBRIAR_GREY},
+                   {"RGB", ZAXBRIAR_RGB},
                    {"RGBA", ZAXBRIAR_RGBA},
                    {"BGRA", ZAXBRIAR_BGRA},
                    {"XRGB", ZAXBRIAR_XRGB}};
@@ -19,9 +20,16 @@ static unsigned char layout_of(const char *name) {
     return 0xFF;
 }
 
+/* A layout's name may follow this. */
+static const char upright[] = "upright ";
+
 unsigned char *decode(const unsigned char *jpeg, size_t size, unsigned scale, const char *layout) {
-    zaxbriar_options options = {.scale = (unsigned char)scale,
-                                .layout = layout ? layout_of(layout) : ZAXBRIAR_AS_STORED};
+    zaxbriar_options options = {.scale = (unsigned char)scale};
+    if (layout && strncmp(layout, upright, strlen(upright)) == 0) {
+        options.upright = 1;
+        layout += strlen(upright);
+    }
+    if (layout) options.layout = layout_of(layout);
     zaxbriar_picture picture;
     if (zaxbriar_read_info(jpeg, size, &options, &picture) != ZAXBRIAR_OK) return NULL;
     unsigned char *pixels = malloc(picture.size);

@@ -18,11 +18,11 @@
  * - at least 64 kB of stack are left;
  * - the system has 64-bit pointers.
  *
- * A picture is returned as the stream stores it, or converted to grey or colour (`layout`). As
- * stored it has 1, 3 or 4 components: grey; red, green and blue; or cyan, magenta, yellow and
- * black, of which the greatest value is full ink. A sample of at most 8 bits takes one byte; a
- * sample of more bits takes two, the lower byte first (only lossless pictures have other than 8
- * bits).
+ * A picture is returned as the stream stores it, or converted to grey or colour (`layout`), and
+ * turned upright if that is asked for (`upright`). As stored it has 1, 3 or 4 components: grey;
+ * red, green and blue; or cyan, magenta, yellow and black, of which the greatest value is full ink.
+ * A sample of at most 8 bits takes one byte; a sample of more bits takes two, the lower byte first
+ * (only lossless pictures have other than 8 bits).
  */
 #ifndef ZAXBRIAR_H
 #define ZAXBRIAR_H
@@ -226,13 +226,22 @@ typedef struct zaxbriar_segment {
  * components codes, at full size (eight samples of a lossless picture count as a block). The scan
  * that would exceed this is refused after its header, before its data, as ZAXBRIAR_TOO_MANY_PASSES
  * (as ZAXBRIAR_MALFORMED by zaxbriar_metadata_within); zaxbriar_decode_partial gives what the scans
- * before it bring. */
+ * before it bring.
+ *
+ * `upright` turns the picture as picture.orientation says, from the Exif data before the frame
+ * header: width, height, row_bytes and size are those of the upright picture, from
+ * zaxbriar_read_info on, and `stride` and `bottom_up` are for its lines. The rest is told, and
+ * asked for, of the picture as the stream has it: `orientation` itself, `min_width` and
+ * `min_height`, the sampling factors and densities, and `whole_rows` of a partial picture. Unless
+ * the orientation is 1, at most 16 lines are taken beside `pixels`. With ZAXBRIAR_TRANSFORM_NONE,
+ * whose lines have component after component, it is a ZAXBRIAR_BAD_ARGUMENT. */
 typedef struct zaxbriar_options {
     uint64_t max_samples; /* limits width * height * components, at the scale; 0: no limit */
     uint64_t stride;      /* bytes from one line to the next, at most 2^32; 0: no gaps */
 
-    /* Request the least of 1/8, 1/4, 1/2 and 1 at which the picture is at least that wide or that
-     * high. If one is 0, only the other counts; if both are, the picture has its full size. */
+    /* Request the least of 1/8, 1/4, 1/2 and 1 at which the picture, before it is turned, is at
+     * least that wide or that high. If one is 0, only the other counts; if both are, the picture
+     * has its full size. */
     uint16_t min_width;
     uint16_t min_height;
 
@@ -251,7 +260,9 @@ typedef struct zaxbriar_options {
     uint64_t max_passes; /* limits how many times the scans may code the blocks of the picture, all
                             together; 0: no limit. Few files need more than 8; 100 is a limit for
                             untrusted ones */
-    uint64_t reserved_words[9]; /* zero */
+    uint8_t upright;            /* 1: the picture is turned upright; 0: it stays as it is stored */
+    uint8_t reserved_bytes[7];  /* zero */
+    uint64_t reserved_words[8]; /* zero */
 } zaxbriar_options;
 
 /* Describes a picture as it is decoded with the options, also after ZAXBRIAR_NO_ROOM and
@@ -263,19 +274,22 @@ typedef struct zaxbriar_picture {
     uint64_t row_bytes;      /* bytes of a line without its gap: width * pixel_bytes */
     uint64_t decoding_bytes; /* the most memory that a call uses for coefficients and samples at a
                                 time, besides `pixels`, to decode the whole or a part; tables,
-                                metadata, a few lines and, where a scan is cut, a row of blocks (at
-                                most 1 MB) aren't counted, nor are the samples of a scan of several
-                                components, or of a lossless frame, that repeats components of an
-                                earlier scan: at most as much once more */
+                                metadata, a few lines (16 more where it is turned) and, where a scan
+                                is cut, a row of blocks (at most 1 MB) aren't counted, nor are the
+                                samples of a scan of several components, or of a lossless frame,
+                                that repeats components of an earlier scan: at most as much once
+                                more */
     uint64_t stream_bytes;   /* how many bytes of `jpeg` the image takes, after ZAXBRIAR_OK of
                                 zaxbriar_decode; or the header, after ZAXBRIAR_OK of
                                 zaxbriar_read_info, ZAXBRIAR_NO_ROOM and ZAXBRIAR_TOO_LARGE.
                                 Otherwise how many were read: 0 if the options don't exist */
-    uint32_t width;          /* in pixels, at the scale of the options */
+    uint32_t width;          /* in pixels, at the scale of the options, and upright if they ask for
+                                that */
     uint32_t height;
     uint32_t whole_rows;      /* after ZAXBRIAR_PARTIAL, and ZAXBRIAR_OK of zaxbriar_decode_partial:
-                                 how many rows of the picture, from its top, are complete in each
-                                 scan that has begun (all after ZAXBRIAR_OK); otherwise 0 */
+                                 how many rows of the picture, from its top and before it is turned,
+                                 are complete in each scan that has begun (all after ZAXBRIAR_OK);
+                                 otherwise 0 */
     uint8_t pixel_bytes;      /* bytes of a pixel in this layout */
     uint8_t layout;           /* the requested layout */
     uint8_t components;       /* of the stream: 1, 3 or 4 */
@@ -319,8 +333,8 @@ ZAXBRIAR_CALL zaxbriar_result zaxbriar_read_info(const void *jpeg, size_t jpeg_s
  * unchanged. If the buffer is too small, the call returns ZAXBRIAR_NO_ROOM before it decodes
  * anything. `picture` may be null.
  *
- * In every layout, with or without gaps, lines are written directly into `pixels`; there is never a
- * second picture. */
+ * In every layout, with or without gaps, upright or not, lines are written directly into `pixels`;
+ * there is never a second picture. */
 ZAXBRIAR_CALL zaxbriar_result zaxbriar_decode(const void *jpeg, size_t jpeg_size,
                                               const zaxbriar_options *options, void *pixels,
                                               size_t pixels_size, zaxbriar_picture *picture);

@@ -49,6 +49,12 @@ MEMBERS = (
     'density_unit horizontal_density vertical_density transform text'
 ).split()
 BEFORE = 7
+# Where the first row of the stored picture is to be seen, and its first column, by the orientation
+# (Exif 2.3, 4.6.4, tag 274).
+SIDES = {
+    **{1: ('top', 'left'), 2: ('top', 'right'), 3: ('bottom', 'right'), 4: ('bottom', 'left')},
+    **{5: ('left', 'top'), 6: ('right', 'top'), 7: ('right', 'bottom'), 8: ('left', 'bottom')},
+}
 
 
 class Refusal(Exception):
@@ -104,10 +110,11 @@ class Options:
     def __init__(self, words):
         self.max_samples = self.stride = self.min_width = self.min_height = self.transform = 0
         self.layout = self.scale = self.bottom_up = self.max_bytes = self.max_passes = 0
+        self.upright = 0
         self.is_reserved = False
         for word in words:
             name, number = word.split('=')
-            if name == 'reserved_word':
+            if name in ('reserved_word', 'reserved_byte'):
                 self.is_reserved = True
             else:
                 getattr(self, name)
@@ -115,9 +122,9 @@ class Options:
 
     def are_known(self):
         """Whether they exist, whatever the picture is."""
-        if self.transform == TRANSFORMS.index('None') and self.layout:
+        if self.transform == TRANSFORMS.index('None') and (self.layout or self.upright):
             return False
-        if self.is_reserved or self.bottom_up > 1:
+        if self.is_reserved or self.bottom_up > 1 or self.upright > 1:
             return False
         return self.transform < len(TRANSFORMS) and self.scale in (0, 1, 2, 4, 8)
 
@@ -191,11 +198,18 @@ def transform_of(frame, said):
     return TRANSFORMS.index(name) if name in TRANSFORMS else 0
 
 
+def upright_size(orientation, width, height):
+    """The size of a picture that is turned upright, of which the stored one has this size."""
+    return (height, width) if SIDES[orientation][0] in ('left', 'right') else (width, height)
+
+
 def described(stream, options):
     """The frame, its scale, and the members of a picture that a header and options give."""
     frame, header_bytes, said = header_of(stream)
     scale = model.pick_scale(frame, options.wanted())
-    width, height, _ = model.info(frame, scale)
+    orientation = orientation_of(said['exif'] or b'') or 1
+    stored_size = model.info(frame, scale)[:2]
+    width, height = upright_size(orientation if options.upright else 1, *stored_size)
     components, is_wide = len(frame.comps), frame.precision > 8
     if options.layout > RGB16:
         raise Refusal(BAD_ARGUMENT)
@@ -219,13 +233,14 @@ def described(stream, options):
         'precision': frame.precision,
         'sample_bytes': 1 + is_wide,
         'process': PROCESSES[frame.process],
-        'orientation': orientation_of(said['exif'] or b'') or 1,
+        'orientation': orientation,
         'format': {1: 1 + is_wide, 3: 3, 4: 4}[components],
         'density_unit': unit,
         'horizontal_density': across,
         'vertical_density': down,
         'transform': transform_of(frame, said),
         'sampling': bytes(c.h << 4 | c.v for c in frame.comps),
+        'stored_size': stored_size,
     }
     return frame, scale, told
 
@@ -279,9 +294,32 @@ def pixel_in(layout, samples, precision):
     }[layout]
 
 
+def upright_place(orientation, x, y, width, height):
+    """How far across and down in the upright picture, of this size, a pixel of the stored one is."""
+    first_row, first_column = SIDES[orientation]
+    away = {first_row: y, first_column: x}
+    across = away['left'] if 'left' in away else width - 1 - away['right']
+    down = away['top'] if 'top' in away else height - 1 - away['bottom']
+    return across, down
+
+
+def turned(stored, options, told):
+    """The pixels of a picture, turned upright if the options ask for that."""
+    if not options.upright:
+        return stored
+    (wide, high), size = told['stored_size'], told['pixel_bytes']
+    pixels = {}
+    for y in range(high):
+        for x in range(wide):
+            at = (y * wide + x) * size
+            place = upright_place(told['orientation'], x, y, told['width'], told['height'])
+            pixels[place[::-1]] = stored[at : at + size]
+    return b''.join(pixels[place] for place in sorted(pixels))
+
+
 def put_lines(memory, stored, options, told):
     """Writes a picture as it is stored into memory, in the layout of the options."""
-    row, width, height = told['row_bytes'], told['width'], told['height']
+    row, height = told['row_bytes'], told['height']
     if options.layout:
         size = told['sample_bytes']
         samples = [
@@ -293,6 +331,7 @@ def put_lines(memory, stored, options, told):
             for at in range(0, len(samples), count)
             for byte in pixel_in(options.layout, samples[at : at + count], told['precision'])
         )
+    stored = turned(stored, options, told)
     for line in range(height):
         place = height - 1 - line if options.bottom_up else line
         start = place * (options.stride or row)

@@ -1,6 +1,6 @@
-/* jpeg2pnm FILE [WIDTH HEIGHT] > PICTURE: writes the picture as PGM (grey), PPM (red, green and
- * blue) or PAM (cyan, magenta, yellow and black). If a size is given, at the least of 1/8, 1/4, 1/2
- * and 1 at which the picture is at least that wide or that high. */
+/* jpeg2pnm FILE [WIDTH HEIGHT] > PICTURE: writes the picture, upright, as PGM (grey), PPM (red,
+ * green and blue) or PAM (cyan, magenta, yellow and black). If a size is given, at the least of 1/8,
+ * 1/4, 1/2 and 1 at which the picture in the file is at least that wide or that high. */
 #include <stdio.h>
 #include <stdlib.h>
 
@@ -57,7 +57,7 @@ int main(int argc, char **argv) {
         perror(argv[1]);
         return 1;
     }
-    zaxbriar_options options = {0};
+    zaxbriar_options options = {.upright = 1};
     if (argc == 4) {
         options.min_width = (uint16_t)atoi(argv[2]);
         options.min_height = (uint16_t)atoi(argv[3]);

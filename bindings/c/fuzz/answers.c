@@ -14,8 +14,10 @@ int are_known(const zaxbriar_options *options) {
     int scale = options->scale;
     return options->layout <= ZAXBRIAR_RGB16 &&
            options->transform <= ZAXBRIAR_TRANSFORM_YCCK && options->bottom_up <= 1 &&
+           options->upright <= 1 &&
            (scale == 0 || scale == 1 || scale == 2 || scale == 4 || scale == 8) &&
-           (options->transform != ZAXBRIAR_TRANSFORM_NONE || options->layout == ZAXBRIAR_AS_STORED);
+           (options->transform != ZAXBRIAR_TRANSFORM_NONE ||
+            (options->layout == ZAXBRIAR_AS_STORED && !options->upright));
 }
 
 int is_above(const zaxbriar_options *options, const zaxbriar_picture *picture) {
@@ -37,6 +39,26 @@ int is_misfit(const zaxbriar_options *options, const zaxbriar_picture *picture) 
            picture->components != wanted;
 }
 
+struct size stored_size(const zaxbriar_options *options, const zaxbriar_picture *picture) {
+    if (options->upright && picture->orientation > 4)
+        return (struct size){picture->height, picture->width};
+    return (struct size){picture->width, picture->height};
+}
+
+struct place upright_place(const zaxbriar_picture *upright, uint32_t x, uint32_t y) {
+    uint32_t right = upright->width - 1, bottom = upright->height - 1;
+    switch (upright->orientation) {
+    case 2: return (struct place){right - x, y};
+    case 3: return (struct place){right - x, bottom - y};
+    case 4: return (struct place){x, bottom - y};
+    case 5: return (struct place){y, x};
+    case 6: return (struct place){right - y, x};
+    case 7: return (struct place){right - y, bottom - x};
+    case 8: return (struct place){y, bottom - x};
+    default: return (struct place){x, y};
+    }
+}
+
 /* The results that the calls may return (a set of bits). */
 static unsigned results_of(enum call call) {
     unsigned both = 1u << ZAXBRIAR_OK | 1u << ZAXBRIAR_MALFORMED | 1u << ZAXBRIAR_UNSUPPORTED |
@@ -49,18 +71,20 @@ static unsigned results_of(enum call call) {
     }
 }
 
-static void check_fault(enum call call, const struct answer *answer) {
+static void check_fault(enum call call, const struct answer *answer,
+                        const zaxbriar_options *options) {
     const zaxbriar_picture *picture = &answer->picture;
     int fault = picture->fault, feature = picture->feature;
     int is_part = call == PART && is_decoded(answer->result);
+    uint32_t rows = stored_size(options, picture).height;
     CHECK((fault != 0) == (answer->result == ZAXBRIAR_PARTIAL));
     CHECK(fault <= ZAXBRIAR_TRUNCATED || fault == ZAXBRIAR_TOO_MANY_PASSES);
     CHECK((feature != 0) ==
           (answer->result == ZAXBRIAR_UNSUPPORTED || fault == ZAXBRIAR_UNSUPPORTED));
     CHECK(feature <= ZAXBRIAR_FEATURE_TRANSFORM && feature != ZAXBRIAR_FEATURE_SUBSAMPLING);
     CHECK(feature != 0 || picture->feature_argument == 0);
-    CHECK(picture->whole_rows <= (is_part ? picture->height : 0));
-    CHECK(!is_part || fault || picture->whole_rows == picture->height);
+    CHECK(picture->whole_rows <= (is_part ? rows : 0));
+    CHECK(!is_part || fault || picture->whole_rows == rows);
 }
 
 /* What is the stream's alone. */
@@ -111,7 +135,7 @@ void check_answer(enum call call, const struct answer *answer, const zaxbriar_op
     CHECK(picture->stream_bytes <= size);
     CHECK(are_known(options) || answer->result == ZAXBRIAR_BAD_ARGUMENT);
     CHECK(are_known(options) || picture->stream_bytes == 0);
-    check_fault(call, answer);
+    check_fault(call, answer, options);
     if (is_described(answer->result)) {
         check_frame(picture);
         check_sizes(picture, options);
@@ -146,8 +170,8 @@ void check_scale(const zaxbriar_picture *picture, const zaxbriar_options *option
                  const zaxbriar_picture *full) {
     uint32_t scale = scale_of(options, full->width, full->height);
     if (full->process == ZAXBRIAR_LOSSLESS) scale = 1;
-    CHECK(picture->width == scaled(full->width, scale));
-    CHECK(picture->height == scaled(full->height, scale));
+    struct size size = stored_size(options, picture);
+    CHECK(size.width == scaled(full->width, scale) && size.height == scaled(full->height, scale));
     CHECK(picture->process == full->process && picture->components == full->components);
     CHECK(picture->precision == full->precision && picture->orientation == full->orientation);
     CHECK(picture->transform == full->transform);

@@ -28,6 +28,18 @@ int is_above(const zaxbriar_options *options, const zaxbriar_picture *picture);
 /* Whether the transform of the options is for pictures of other components. */
 int is_misfit(const zaxbriar_options *options, const zaxbriar_picture *picture);
 
+/* The size of the stream's picture, at the scale of one that is described for the options. */
+struct size {
+    uint32_t width, height;
+};
+struct size stored_size(const zaxbriar_options *options, const zaxbriar_picture *picture);
+
+/* Where a pixel of the stream's picture is in the upright one. */
+struct place {
+    uint32_t across, down;
+};
+struct place upright_place(const zaxbriar_picture *upright, uint32_t x, uint32_t y);
+
 /* Checks that the answer is one of those that the call may give for so many bytes, and that the
  * members of the picture agree with it, with the options and with each other. */
 void check_answer(enum call call, const struct answer *answer, const zaxbriar_options *options,

@@ -32,6 +32,7 @@ enum {
     READS_PAST,            /* reads a byte past the stream */
     COUNTS_ROWS,           /* names a row more as complete than there is */
     HIDES_FAULT,           /* answers OK for a part */
+    MIRRORS,               /* exchanges the ends of the first line of a picture that is turned */
     WRONG_BYTES,           /* says that an image takes a byte more */
     PAST_DATA,             /* metadata_within writes a byte too many */
     WRONG_SIZE,            /* read_info says that a picture takes a byte more */
@@ -39,6 +40,18 @@ enum {
 };
 
 static int is_now(int fault) { return FAULT == fault; }
+
+/* Exchanges the first pixel with the last one of its line. */
+static void mirror(unsigned char *pixels, const zaxbriar_options *options,
+                   const zaxbriar_picture *picture) {
+    if (!options->upright || picture->orientation == 1) return;
+    unsigned char *last = pixels + picture->row_bytes - picture->pixel_bytes;
+    for (int i = 0; i < picture->pixel_bytes; i++) {
+        unsigned char byte = pixels[i];
+        pixels[i] = last[i];
+        last[i] = byte;
+    }
+}
 
 static void write_wrongly(unsigned char *pixels, const zaxbriar_options *options,
                           const zaxbriar_picture *picture) {
@@ -49,6 +62,7 @@ static void write_wrongly(unsigned char *pixels, const zaxbriar_options *options
     if (is_now(BYTE_BEFORE)) pixels[-1] ^= 1;
     if (is_now(CHANGES) && ++count % 3 == 0) pixels[0] ^= 1;
     if (is_now(DIFFERS) && zaxbriar_is_v3()) pixels[0] ^= 1;
+    if (is_now(MIRRORS)) mirror(pixels, options, picture);
 }
 
 static void take_memory(const zaxbriar_options *options, const zaxbriar_picture *picture) {
@@ -87,6 +101,7 @@ zaxbriar_result __wrap_zaxbriar_decode_partial(const void *jpeg, size_t jpeg_siz
                                                size_t pixels_size, zaxbriar_picture *picture) {
     zaxbriar_result result =
         __real_zaxbriar_decode_partial(jpeg, jpeg_size, options, pixels, pixels_size, picture);
+    if (is_now(MIRRORS) && result == ZAXBRIAR_OK) mirror(pixels, options, picture);
     if (result != ZAXBRIAR_PARTIAL) return result;
     if (is_now(COUNTS_ROWS) && picture->whole_rows < picture->height) picture->whole_rows++;
     if (!is_now(HIDES_FAULT)) return result;

@@ -34,13 +34,16 @@ enum {
     ONE_KIND = 4,
     OLD_KIND_FIRST = 8,
     HAS_EXTRA = 16,
-    BOTTOM_UP = 32
+    BOTTOM_UP = 32,
+    UPRIGHT = 64
 };
 
 /* Larger pictures are only refused, by a limit. */
 enum { MOST_SAMPLES = 1 << 18, MOST_WORK = 1 << 22 };
 /* What a call may take for tables, and for a segment that is cut, whose length it is told. */
 enum { MOST_FOR_TABLES = 1 << 16, MOST_FOR_SEGMENT = 1 << 16 };
+/* How many lines are turned at a time. */
+enum { MOST_TURNED = 16 };
 enum { GUARD = 64, BYTE = 0xA7 };
 
 int LLVMFuzzerTestOneInput(const uint8_t *data, size_t size);
@@ -148,9 +151,10 @@ static int has_scans(void) {
     return scans > 1;
 }
 
-/* The memory that a call has taken is no more than `decoding_bytes`, tables, metadata, a few lines
- * and, of a scan that is cut, a row of blocks and the data of a restart interval. A scan of several
- * components, or of a lossless frame, may have planes of its own, beside those of scans before. */
+/* The memory that a call has taken is no more than `decoding_bytes`, tables, metadata, a few lines,
+ * 16 of a picture that is turned and, of a scan that is cut, a row of blocks and the data of a
+ * restart interval. A scan of several components, or of a lossless frame, may have planes of its
+ * own, beside those of scans before. */
 static void check_memory(enum call call, const struct answer *answer, size_t size) {
     const zaxbriar_picture *picture = &of.info.picture, *full = &of.full.picture;
     size_t metadata = (call == PART ? 6 : 4) * size, counted = 0;
@@ -159,7 +163,9 @@ static void check_memory(enum call call, const struct answer *answer, size_t siz
     else if (of.is_small && !is_described(answer->result)) counted = picture->decoding_bytes;
     int has_own_planes = full->components > 1 || full->process == ZAXBRIAR_LOSSLESS;
     if (has_own_planes && has_scans()) counted *= 2;
-    size_t beside = MOST_FOR_TABLES + MOST_FOR_SEGMENT + 4 * (size_t)picture->row_bytes;
+    size_t row_bytes = stored_size(&of.options, picture).width * (size_t)picture->pixel_bytes;
+    size_t lines = 4 + (of.options.upright && picture->orientation > 1 ? MOST_TURNED : 0);
+    size_t beside = MOST_FOR_TABLES + MOST_FOR_SEGMENT + lines * row_bytes;
     CHECK(counts.peak_bytes <= counted + beside + metadata + row_of_blocks);
 }
 
@@ -201,22 +207,39 @@ static struct shown shown_of(enum call call, size_t size, unsigned char fill) {
     return shown;
 }
 
-/* Whether so many first rows of two pictures of one size are the same. */
+/* Where a row of a picture that isn't turned begins among its bytes, and a pixel of one that is. */
+static size_t place_of(const zaxbriar_picture *picture, uint32_t x, uint32_t row) {
+    size_t stride = of.options.stride ? of.options.stride : picture->row_bytes;
+    struct place place = {x, row};
+    if (of.options.upright) place = upright_place(picture, x, row);
+    uint32_t line = of.options.bottom_up ? picture->height - 1 - place.down : place.down;
+    return line * stride + place.across * (size_t)picture->pixel_bytes;
+}
+
+/* Whether so many first rows of the stream's picture are the same in two answers of one size. */
 static int are_same_rows(const struct shown *one, const struct shown *other, uint32_t rows) {
     const zaxbriar_picture *picture = &one->answer.picture;
-    size_t stride = of.options.stride ? of.options.stride : picture->row_bytes;
-    for (uint32_t row = 0; row < rows; row++) {
-        size_t at = (of.options.bottom_up ? picture->height - 1 - row : row) * stride;
-        if (memcmp(one->pixels + at, other->pixels + at, picture->row_bytes)) return 0;
-    }
+    int is_turned = of.options.upright;
+    size_t bytes = is_turned ? picture->pixel_bytes : picture->row_bytes;
+    uint32_t pieces = is_turned ? stored_size(&of.options, picture).width : 1;
+    for (uint32_t row = 0; row < rows; row++)
+        for (uint32_t x = 0; x < pieces; x++) {
+            size_t at = place_of(picture, x, row);
+            if (memcmp(one->pixels + at, other->pixels + at, bytes)) return 0;
+        }
     return 1;
+}
+
+/* How many rows the stream's picture has. */
+static uint32_t rows_of(const struct shown *shown) {
+    return stored_size(&of.options, &shown->answer.picture).height;
 }
 
 static void check_same(const struct shown *one, const struct shown *other) {
     CHECK(one->answer.result == other->answer.result);
     CHECK(!memcmp(&one->answer.picture, &other->answer.picture, sizeof one->answer.picture));
     if (is_decoded(one->answer.result))
-        CHECK(are_same_rows(one, other, one->answer.picture.height));
+        CHECK(are_same_rows(one, other, rows_of(one)));
 }
 
 /* Tells the fuzzer what an answer shows of the way that the decoder has gone. */
@@ -230,7 +253,8 @@ static void note_answer(unsigned kind, const struct answer *answer) {
     note(kind + 3, (uint64_t)picture->sampling[0] << 24 | (uint64_t)picture->sampling[1] << 16 |
                        (uint64_t)picture->sampling[2] << 8 | picture->sampling[3]);
     note(kind + 4, (uint64_t)bits_of(picture->width) << 8 | bits_of(picture->height));
-    if (picture->height) note(kind + 5, picture->whole_rows * (uint64_t)16 / picture->height);
+    uint32_t rows = stored_size(&of.options, picture).height;
+    if (rows) note(kind + 5, picture->whole_rows * (uint64_t)16 / rows);
 }
 
 /* The stream's segments are those that the standard has, and it can be read piece by piece. */
@@ -341,7 +365,7 @@ static void decode_part(void) {
     zaxbriar_result result = whole.answer.result;
     if (part.answer.result == ZAXBRIAR_OK) {
         CHECK(result == ZAXBRIAR_OK);
-        CHECK(are_same_rows(&part, &whole, part.answer.picture.height));
+        CHECK(are_same_rows(&part, &whole, rows_of(&part)));
         CHECK(part.answer.picture.stream_bytes == whole.answer.picture.stream_bytes);
     } else if (part.answer.result == ZAXBRIAR_PARTIAL) {
         CHECK(result == ZAXBRIAR_OK || !is_described(result));
@@ -351,6 +375,33 @@ static void decode_part(void) {
     }
     free(part.pixels);
     free(whole.pixels);
+}
+
+/* A picture that is turned has the pixels of the stored one, each in its place. */
+static void turn_upright(void) {
+    zaxbriar_options options = of.options;
+    zaxbriar_picture stored;
+    options.stride = options.bottom_up = options.upright = 0;
+    struct shown shown = shown_of(PART, of.size, 0x5A);
+    if (of.options.upright && is_decoded(shown.answer.result)) {
+        const zaxbriar_picture *picture = &shown.answer.picture;
+        struct size size = stored_size(&of.options, picture);
+        size_t row_bytes = size.width * (size_t)picture->pixel_bytes;
+        size_t room = row_bytes * size.height;
+        unsigned char *rows = room_in(&pixel_pages, room);
+        begin_call(&options);
+        CHECK(zaxbriar_decode_partial(of.jpeg, of.size, &options, rows, room, &stored) ==
+              shown.answer.result);
+        end_counting(9);
+        CHECK(stored.size == room && stored.whole_rows == picture->whole_rows);
+        for (uint32_t y = 0; y < size.height; y++)
+            for (uint32_t x = 0; x < size.width; x++)
+                CHECK(!memcmp(shown.pixels + place_of(picture, x, y),
+                              rows + y * row_bytes + x * (size_t)picture->pixel_bytes,
+                              picture->pixel_bytes));
+        note(52, picture->orientation);
+    }
+    free(shown.pixels);
 }
 
 /* Whether the bytes from one cut to another go on with one scan alone: the first is in its data,
@@ -517,6 +568,7 @@ static void choose_options(void) {
                                     .transform = settings[TRANSFORM] % 7,
                                     .scale = scales[settings[SCALE] % 8],
                                     .bottom_up = has(BOTTOM_UP) != 0,
+                                    .upright = has(UPRIGHT) != 0,
                                     .min_width = settings[MIN_WIDTH],
                                     .min_height = settings[MIN_HEIGHT],
                                     .max_passes = 1 + settings[PASSES] % 8,
@@ -563,7 +615,7 @@ int LLVMFuzzerTestOneInput(const uint8_t *data, size_t size) {
     typedef void step(void);
     static step *const steps[] = {walk_segments, find_places,   describe,      decode_whole,
                                   decode_part,   feed,          decode_short,  copy_metadata,
-                                  refuse_memory, walk_segments, decode_whole};
+                                  refuse_memory, turn_upright,  decode_whole};
     enum { STEPS = sizeof steps / sizeof *steps };
     _Static_assert(STEPS == 11, "a prime number, so that each distance comes to all steps");
     if (size < SETTINGS) return 0;

@@ -68,13 +68,15 @@ static void sizes(void) {
 
 static void unknown_options(void) {
     size_t length;
-    for (int which = 0; which < 5; which++) {
+    for (int which = 0; which < 7; which++) {
         zaxbriar_options options = {0};
         if (which == 0) options.layout = ZAXBRIAR_RGB16 + 1;
         if (which == 1) options.transform = ZAXBRIAR_TRANSFORM_YCCK + 1;
         if (which == 2) options.layout = UINT8_MAX;
         if (which == 3) options.layout = ZAXBRIAR_RGB, options.transform = ZAXBRIAR_TRANSFORM_NONE;
         if (which == 4) options.bottom_up = 2;
+        if (which == 5) options.upright = 2;
+        if (which == 6) options.upright = 1, options.transform = ZAXBRIAR_TRANSFORM_NONE;
         CHECK(zaxbriar_read_info(jpeg.start, jpeg.size, &options, &picture) ==
               ZAXBRIAR_BAD_ARGUMENT);
         CHECK(picture.text[0] != 0 && picture.stream_bytes == 0);
@@ -94,10 +96,12 @@ static void unknown_options(void) {
         CHECK(zaxbriar_read_info(jpeg.start, jpeg.size, &scaled, &picture) ==
               (is_there ? ZAXBRIAR_OK : ZAXBRIAR_BAD_ARGUMENT));
     }
-    for (int bottom_up = 0; bottom_up <= UINT8_MAX; bottom_up++) {
-        zaxbriar_options turned = {.bottom_up = (uint8_t)bottom_up};
-        CHECK(zaxbriar_read_info(jpeg.start, jpeg.size, &turned, &picture) ==
-              (bottom_up <= 1 ? ZAXBRIAR_OK : ZAXBRIAR_BAD_ARGUMENT));
+    for (int value = 0; value <= UINT8_MAX; value++) {
+        zaxbriar_options from_bottom = {.bottom_up = (uint8_t)value};
+        zaxbriar_options turned = {.upright = (uint8_t)value};
+        zaxbriar_result wanted = value <= 1 ? ZAXBRIAR_OK : ZAXBRIAR_BAD_ARGUMENT;
+        CHECK(zaxbriar_read_info(jpeg.start, jpeg.size, &from_bottom, &picture) == wanted);
+        CHECK(zaxbriar_read_info(jpeg.start, jpeg.size, &turned, &picture) == wanted);
     }
     zaxbriar_options narrow = {.stride = 1};
     CHECK(zaxbriar_read_info(jpeg.start, jpeg.size, &narrow, &picture) == ZAXBRIAR_BAD_ARGUMENT);
@@ -119,7 +123,7 @@ static void unknown_options(void) {
 /* Each reserved byte of the options has to be zero, and those of a picture become zero. */
 static void reserved_bytes(void) {
     int count = 0;
-    for (size_t at = offsetof(zaxbriar_options, reserved_words); at < sizeof(zaxbriar_options);
+    for (size_t at = offsetof(zaxbriar_options, reserved_bytes); at < sizeof(zaxbriar_options);
          at++) {
         zaxbriar_options options = {0};
         ((unsigned char *)&options)[at] = 1;
@@ -133,7 +137,7 @@ static void reserved_bytes(void) {
         CHECK(zaxbriar_decode_partial(jpeg.start, jpeg.size, &options, NULL, 0, NULL) ==
               ZAXBRIAR_BAD_ARGUMENT);
     }
-    CHECK(count == 72 && sizeof picture.reserved == 143);
+    CHECK(count == 71 && sizeof picture.reserved == 143);
     memset(&picture, 1, sizeof picture);
     CHECK(zaxbriar_read_info(jpeg.start, jpeg.size, NULL, &picture) == ZAXBRIAR_OK);
     CHECK(is_all(picture.reserved, sizeof picture.reserved, 0));
@@ -164,6 +168,32 @@ static void release(void *context, void *start) {
     free(start);
 }
 
+/* With the refusal of each allocation in turn a picture, as it is stored or upright, is decoded or
+ * leaves all as it was. */
+static void refused_memory(int is_part, int is_upright) {
+    struct counts counts = {0};
+    zaxbriar_memory memory = {allocate, resize, release, &counts};
+    zaxbriar_options options = {.upright = (uint8_t)is_upright};
+    CHECK(zaxbriar_read_info(jpeg.start, jpeg.size, &options, &picture) == ZAXBRIAR_OK);
+    size_t size = picture.size;
+    long all = 1;
+    unsigned char *whole = block(size), *own = block(size);
+    CHECK(zaxbriar_decode(jpeg.start, jpeg.size, &options, whole, size, NULL) == ZAXBRIAR_OK);
+    options.memory = &memory;
+    for (long refused = 0; refused < all; refused++) {
+        counts = (struct counts){.refused = refused};
+        memset(own, 0x5A, size);
+        zaxbriar_result answer = (is_part ? zaxbriar_decode_partial : zaxbriar_decode)(
+            jpeg.start, jpeg.size, &options, own, size, &picture);
+        CHECK(counts.live == 0);
+        CHECK(answer == (refused ? ZAXBRIAR_NO_MEMORY : ZAXBRIAR_OK));
+        CHECK(refused ? is_all(own, size, 0x5A) : !memcmp(own, whole, size));
+        if (!refused) all = counts.allocations + 1;
+    }
+    free(whole);
+    free(own);
+}
+
 static void own_memory(void) {
     struct counts counts = {0};
     zaxbriar_memory memory = {allocate, resize, release, &counts};
@@ -172,21 +202,8 @@ static void own_memory(void) {
     CHECK(zaxbriar_read_info(jpeg.start, jpeg.size, &options, &picture) == ZAXBRIAR_OK);
     CHECK(counts.allocations > 0 && counts.live == 0);
     size_t size = picture.size;
-    unsigned char *whole = block(size), *own = block(size);
-    CHECK(zaxbriar_decode(jpeg.start, jpeg.size, NULL, whole, size, NULL) == ZAXBRIAR_OK);
-    for (int is_part = 0; is_part < 2; is_part++) {
-        long all = 1;
-        for (long refused = 0; refused < all; refused++) {
-            counts = (struct counts){.refused = refused};
-            memset(own, 0x5A, size);
-            zaxbriar_result answer = (is_part ? zaxbriar_decode_partial : zaxbriar_decode)(
-                jpeg.start, jpeg.size, &options, own, size, &picture);
-            CHECK(counts.live == 0);
-            CHECK(answer == (refused ? ZAXBRIAR_NO_MEMORY : ZAXBRIAR_OK));
-            CHECK(refused ? is_all(own, size, 0x5A) : !memcmp(own, whole, size));
-            if (!refused) all = counts.allocations + 1;
-        }
-    }
+    unsigned char *own = block(size);
+    for (int way = 0; way < 4; way++) refused_memory(way % 2, way / 2);
     counts = (struct counts){0};
     CHECK(zaxbriar_metadata_within(jpeg.start, jpeg.size, &options,
                                    ZAXBRIAR_EXIF | ZAXBRIAR_WHOLE_IMAGE, NULL, 0,
@@ -209,7 +226,6 @@ static void own_memory(void) {
         CHECK(zaxbriar_metadata_within(jpeg.start, jpeg.size, &options, ZAXBRIAR_EXIF, NULL, 0,
                                        &length) == ZAXBRIAR_BAD_ARGUMENT);
     }
-    free(whole);
     free(own);
 }
 

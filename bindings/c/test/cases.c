@@ -18,8 +18,9 @@
  *     find_metadata
  *     next_segment AT                 of the bytes from this place on
  *
- * An option is a member of zaxbriar_options, and 0 unless it is named. reserved_word=N makes
- * reserved_words[N] 1. With options, metadata is metadata_within.
+ * An option is a member of zaxbriar_options, and 0 unless it is named. reserved_byte=N makes
+ * reserved_bytes[N] 1, and reserved_word=N reserved_words[N]. With options, metadata is
+ * metadata_within.
  *
  * A case's name is written as it stands, and a call with its answer after a colon: the name of what
  * it returned, and the members of the struct that are not 0. `text` is 1 unless it is empty, and
@@ -80,7 +81,8 @@ static void set(zaxbriar_options *options, char *word) {
 #define SET(member) else if (!strcmp(word, #member)) options->member = number
 #define SET16(member) else if (!strcmp(word, #member)) options->member = (uint16_t)number
 #define SET8(member) else if (!strcmp(word, #member)) options->member = (uint8_t)number
-    if (!strcmp(word, "reserved_word") && number < 9) options->reserved_words[number] = 1;
+    if (!strcmp(word, "reserved_byte") && number < 7) options->reserved_bytes[number] = 1;
+    else if (!strcmp(word, "reserved_word") && number < 8) options->reserved_words[number] = 1;
     SET(max_samples);
     SET(stride);
     SET(max_bytes);
@@ -91,6 +93,7 @@ static void set(zaxbriar_options *options, char *word) {
     SET8(layout);
     SET8(scale);
     SET8(bottom_up);
+    SET8(upright);
     else fail(word);
     *is = '=';
 }

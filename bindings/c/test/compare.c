@@ -2,17 +2,18 @@
  *
  * Where JPEGRAW is given, the picture or the refusal is compared with what that program writes,
  * byte for byte. Then the same picture is asked for with less room, from the part of the file that
- * was read, in each layout with gaps between the lines, at each scale, and with a limit. Metadata
- * are compared with NAME.exif, NAME.xmp and NAME.icc where there are such files, and the
- * orientation with the number after `orientation-` in the name. The last line has a sum of all
- * pictures and of what is said of them, by which two builds of the library are compared. */
+ * was read, in each layout with gaps between the lines, at each scale, upright by each orientation,
+ * also of a part, and with a limit. Metadata are compared with NAME.exif, NAME.xmp and NAME.icc
+ * where there are such files, and the orientation with the number after `orientation-` in the name.
+ * The last line has a sum of all pictures and of what is said of them, by which two builds of the
+ * library are compared. */
 #define _POSIX_C_SOURCE 200809L
 #include <sys/wait.h>
 
 #include "common.h"
 
 static struct bytes jpeg;
-static long decoded, refused, compared, arranged, scaled;
+static long decoded, refused, compared, arranged, scaled, turned;
 static uint64_t sum = 14695981039346656037u;
 
 static void add_to_sum(const void *start, size_t size) {
@@ -210,6 +211,74 @@ static void at_scale(unsigned part, const zaxbriar_picture *whole) {
     scaled++;
 }
 
+/* A call that decodes. */
+typedef zaxbriar_result decoding(const void *, size_t, const zaxbriar_options *, void *, size_t,
+                                 zaxbriar_picture *);
+
+/* Puts each pixel of a stored picture where it is to be seen, in lines that are so many bytes
+ * apart. */
+static void turn(const zaxbriar_picture *stored, const unsigned char *rows, int is_bottom_up,
+                 unsigned char *pixels, size_t stride) {
+    size_t width = stored->width, height = stored->height, pixel_bytes = stored->pixel_bytes;
+    for (size_t y = 0; y < height; y++)
+        for (size_t x = 0; x < width; x++) {
+            struct seen seen = seen_at(stored->orientation, width, height, x, y);
+            size_t line = is_bottom_up ? seen.height - 1 - seen.down : seen.down;
+            memcpy(pixels + line * stride + seen.across * pixel_bytes,
+                   rows + (y * width + x) * pixel_bytes, pixel_bytes);
+        }
+}
+
+/* A stream is decoded upright as it is decoded otherwise, but for the places of the pixels. */
+static void turned_by(decoding *call, struct bytes stream, zaxbriar_options options) {
+    zaxbriar_picture stored, upright;
+    zaxbriar_options plain = {.layout = options.layout, .scale = options.scale};
+    if (zaxbriar_read_info(stream.start, stream.size, &plain, &stored) != ZAXBRIAR_OK) return;
+    unsigned char *rows = block(stored.size);
+    zaxbriar_result result = call(stream.start, stream.size, &plain, rows, stored.size, &stored);
+    if (result == ZAXBRIAR_OK || result == ZAXBRIAR_PARTIAL) {
+        struct seen whole = seen_at(stored.orientation, stored.width, stored.height, 0, 0);
+        size_t row_bytes = whole.width * stored.pixel_bytes;
+        options.stride = row_bytes + 5;
+        size_t size = options.stride * (whole.height - 1) + row_bytes, room = size + 8;
+        unsigned char *wanted = memset(block(room), 0xA5, room);
+        unsigned char *pixels = memset(block(room), 0xA5, room);
+        turn(&stored, rows, options.bottom_up, wanted, options.stride);
+        CHECK(call(stream.start, stream.size, &options, pixels, room, &upright) == result);
+        CHECK(!memcmp(wanted, pixels, room));
+        add_to_sum(pixels, room);
+        stored.width = (uint32_t)whole.width, stored.height = (uint32_t)whole.height;
+        stored.row_bytes = row_bytes, stored.size = size;
+        CHECK(!memcmp(&upright, &stored, sizeof stored));
+        free(pixels);
+        free(wanted);
+        turned++;
+    }
+    free(rows);
+}
+
+/* By each orientation, in a layout of each number of bytes, at scales, from the top and the bottom,
+ * and of a part. (A stream that has Exif data keeps its own orientation.) */
+static void upright(void) {
+    static const uint8_t layouts[] = {ZAXBRIAR_AS_STORED, ZAXBRIAR_GREY,   ZAXBRIAR_RGB,
+                                      ZAXBRIAR_RGBA,      ZAXBRIAR_RGB565, ZAXBRIAR_RGB16};
+    struct bytes stream = {block(jpeg.size + EXIF_BYTES), jpeg.size + EXIF_BYTES};
+    memcpy(stream.start, jpeg.start, 2);
+    memcpy(stream.start + 2 + EXIF_BYTES, jpeg.start + 2, jpeg.size - 2);
+    for (unsigned orientation = 1; orientation <= 8; orientation++) {
+        unsigned number = orientation + (unsigned)decoded;
+        zaxbriar_options options = {.layout = layouts[number % 6],
+                                    .scale = (uint8_t)(number / 3 % 4 == 3 ? 2 : 1),
+                                    .bottom_up = (uint8_t)(number / 2 % 2),
+                                    .upright = 1};
+        exif_of(stream.start + 2, orientation);
+        turned_by(zaxbriar_decode, stream, options);
+        turned_by(zaxbriar_decode_partial, (struct bytes){stream.start, stream.size * 2 / 3},
+                  options);
+    }
+    free(stream.start);
+}
+
 /* A picture above a limit is refused whether what follows its header is whole or cut. */
 static void above(const zaxbriar_options *options, const zaxbriar_picture *whole,
                   unsigned char *pixels) {
@@ -304,6 +373,7 @@ static void of_file(const char *name, const char *jpegraw) {
         for (int layout = ZAXBRIAR_AS_STORED; layout <= ZAXBRIAR_RGB16; layout++)
             in_layout(layout, &picture, pixels);
         for (unsigned part = 1; part <= 8; part *= 2) at_scale(part, &picture);
+        upright();
         limited(&picture);
     } else CHECK(picture.text[0] != 0);
     free(pixels);
@@ -322,8 +392,8 @@ int main(int argc, char **argv) {
     }
     fclose(list);
     printf("compare: %ld files decoded, %ld refused; %ld compared with jpegraw; %ld pictures in "
-           "other layouts, %ld at scales; "
+           "other layouts, %ld at scales, %ld upright; "
            "%d faults; sum %016llx\n",
-           decoded, refused, compared, arranged, scaled, faults, (unsigned long long)sum);
+           decoded, refused, compared, arranged, scaled, turned, faults, (unsigned long long)sum);
     return faults != 0;
 }

@@ -107,11 +107,13 @@ static int decode(const unsigned char *jpeg, size_t size, const zaxbriar_options
     return answer;
 }
 
-/* What a call took beside the samples that it counts: no more than so much, the metadata, and where
- * a scan was cut a row of a component's blocks. */
-static void take_beside(size_t samples, size_t size, uint32_t width) {
+/* What a call took beside the samples that it counts: no more than so much, the metadata, where a
+ * scan was cut a row of a component's blocks, and the lines that are turned at a time. */
+static void take_beside(size_t samples, size_t size, const zaxbriar_picture *picture) {
     size_t beside = peak_bytes > samples ? peak_bytes - samples : 0;
+    size_t width = picture->width > picture->height ? picture->width : picture->height;
     size_t row = (width / 8 + 4) * (size_t)128;
+    if (picture->orientation > 1) row += 16 * width * picture->pixel_bytes;
     if (beside > most_beside) most_beside = beside;
     CHECK(beside <= MOST_BESIDE + 2 * size + row);
 }
@@ -133,12 +135,13 @@ static void in_part(const unsigned char *jpeg, size_t size, const zaxbriar_optio
     else
         CHECK(is_all(pixels.start, room, 0x5A));
     CHECK((picture.fault != 0) == (part == ZAXBRIAR_PARTIAL));
-    uint32_t most_rows = part == ZAXBRIAR_OK || part == ZAXBRIAR_PARTIAL ? picture.height : 0;
-    CHECK(picture.whole_rows <= most_rows);
-    if (part == ZAXBRIAR_OK) CHECK(picture.whole_rows == picture.height);
+    int is_on_side = options->upright && picture.orientation > 4;
+    uint32_t rows = is_on_side ? picture.width : picture.height;
+    CHECK(picture.whole_rows <= (part == ZAXBRIAR_OK || part == ZAXBRIAR_PARTIAL ? rows : 0));
+    if (part == ZAXBRIAR_OK) CHECK(picture.whole_rows == rows);
     /* and the data of a restart interval */
     if (part == ZAXBRIAR_OK || part == ZAXBRIAR_PARTIAL)
-        take_beside(picture.decoding_bytes, 2 * size, picture.width);
+        take_beside(picture.decoding_bytes, 2 * size, &picture);
     parts += part == ZAXBRIAR_PARTIAL;
     free(whole);
 }
@@ -146,6 +149,7 @@ static void in_part(const unsigned char *jpeg, size_t size, const zaxbriar_optio
 /* A picture above a limit. */
 static void above_limit(const unsigned char *jpeg, size_t size, zaxbriar_options options,
                         const zaxbriar_picture *picture) {
+    static const zaxbriar_picture nothing;
     zaxbriar_picture told;
     unsigned char none;
     options.max_bytes = picture->decoding_bytes - 1;
@@ -153,7 +157,7 @@ static void above_limit(const unsigned char *jpeg, size_t size, zaxbriar_options
     CHECK(zaxbriar_read_info(jpeg, size, &options, &told) == ZAXBRIAR_TOO_LARGE);
     CHECK(zaxbriar_decode(jpeg, size, &options, &none, 0, &told) == ZAXBRIAR_TOO_LARGE);
     end();
-    take_beside(0, size, 0);
+    take_beside(0, size, &nothing);
     CHECK(told.decoding_bytes == picture->decoding_bytes && told.size == picture->size);
 }
 
@@ -213,7 +217,8 @@ static void of_stream(const unsigned char *bytes, size_t size, int is_whole) {
         ZAXBRIAR_RGBA,      ZAXBRIAR_GREY,   ZAXBRIAR_RGB16, ZAXBRIAR_XRGB};
     zaxbriar_options options = {.layout = layouts[files % 8],
                                 .stride = files / 8 % 4 == 3 ? 70000 * 8 : 0,
-                                .bottom_up = files / 32 % 2};
+                                .bottom_up = files / 32 % 2,
+                                .upright = files % 16 < 11};
     zaxbriar_picture picture;
     struct fenced jpeg = fence(size);
     if (size) memcpy(jpeg.start, bytes, size);
@@ -230,7 +235,7 @@ static void of_stream(const unsigned char *bytes, size_t size, int is_whole) {
     if (answer == ZAXBRIAR_OK && !is_large) {
         struct fenced pixels = fence(picture.size);
         answer = decode(jpeg.start, size, &options, pixels, picture.size, 0);
-        take_beside(picture.decoding_bytes, size, picture.width);
+        take_beside(picture.decoding_bytes, size, &picture);
         if (allocations > most_allocations) most_allocations = allocations;
         if (size < SMALL_FILE && is_whole && picture.size < 100000)
             each_allocation(jpeg.start, size, &options, pixels, picture.size, answer);

@@ -151,7 +151,9 @@ static void refusals(void) {
                                              {.stride = 7},
                                              {.transform = 6},
                                              {.transform = 1, .layout = ZAXBRIAR_GREY},
-                                             {.bottom_up = 2}};
+                                             {.bottom_up = 2},
+                                             {.upright = 2},
+                                             {.transform = 1, .upright = 1}};
     for (size_t i = 0; i < sizeof wrong / sizeof *wrong; i++) {
         CHECK(zaxbriar_read_info(grey, sizeof grey, &wrong[i], &picture) == ZAXBRIAR_BAD_ARGUMENT);
         CHECK(picture.text[0] != 0 && picture.feature == ZAXBRIAR_NO_FEATURE);
@@ -306,6 +308,43 @@ static void lower_block_lacks(void) {
     CHECK(zaxbriar_read_info(stream, sizeof stream, NULL, &picture) == ZAXBRIAR_OK);
     CHECK(picture.height == 16 && picture.whole_rows == 0);
     CHECK(decode(grey, sizeof grey, none, 64) == ZAXBRIAR_OK && picture.whole_rows == 0);
+}
+
+/* The same picture upright: by the orientation the upper block, which is there, is the upper half
+ * of the picture, the lower one, the left or the right. */
+static void turned_parts(void) {
+    enum { HEIGHT = 77 };
+    static const char sides[] = "?TTBBLRRL";
+    unsigned char stream[sizeof grey + EXIF_BYTES];
+    memcpy(stream, grey, 2);
+    memcpy(stream + 2 + EXIF_BYTES, grey + 2, sizeof grey - 2);
+    stream[HEIGHT + EXIF_BYTES] = 16;
+    for (unsigned orientation = 1; orientation <= 8; orientation++) {
+        zaxbriar_options options = {.upright = 1};
+        int is_on_side = orientation > 4;
+        exif_of(stream + 2, orientation);
+        CHECK(decode_partial(stream, sizeof stream, options, 129) == ZAXBRIAR_PARTIAL);
+        CHECK(picture.width == (is_on_side ? 16 : 8) && picture.height == (is_on_side ? 8 : 16));
+        CHECK(picture.row_bytes == picture.width && picture.size == 128 && pixels[128] == 7);
+        CHECK(picture.orientation == orientation && picture.whole_rows == 8);
+        for (unsigned i = 0; i < 128; i++) {
+            unsigned x = i % picture.width, y = i / picture.width;
+            int is_there = sides[orientation] == 'T'   ? y < 8
+                           : sides[orientation] == 'B' ? y >= 8
+                           : sides[orientation] == 'L' ? x < 8
+                                                       : x >= 8;
+            CHECK(pixels[i] == (is_there ? 0x81 : 0x80));
+        }
+        CHECK(decode_partial(stream, sizeof stream, options, 127) == ZAXBRIAR_NO_ROOM);
+        CHECK(picture.whole_rows == 0 && is_all(pixels, 128, 7));
+        /* the least sides are those of the picture as it is stored */
+        options.min_width = 8;
+        CHECK(zaxbriar_read_info(stream, sizeof stream, &options, &picture) == ZAXBRIAR_OK);
+        CHECK(picture.size == 128);
+        options.min_width = 1;
+        CHECK(zaxbriar_read_info(stream, sizeof stream, &options, &picture) == ZAXBRIAR_OK);
+        CHECK(picture.width == (is_on_side ? 2 : 1) && picture.height == (is_on_side ? 1 : 2));
+    }
 }
 
 /* Other faults, of which one names a feature. */
@@ -656,6 +695,7 @@ int main(void) {
     limits();
     cut_streams();
     lower_block_lacks();
+    turned_parts();
     damaged_streams();
     cut_with_options();
     densities();

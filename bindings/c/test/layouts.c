@@ -1,17 +1,17 @@
-/* layouts: lossless pictures of known samples in each layout, from the top and from the bottom,
- * whose widths, heights and strides are all small ones, in memory of exactly the picture's size and
- * of one byte more. */
+/* layouts: lossless pictures of known samples in each layout, from the top and from the bottom, as
+ * they are stored and turned upright, whose widths, heights and strides are all small ones, in
+ * memory of exactly the picture's size and of one byte more. */
 #include "common.h"
 
-enum { MOST_WIDTH = 17, MOST_HEIGHT = 5, MOST_SAMPLES = MOST_WIDTH * MOST_HEIGHT * 4 };
+enum { MOST_WIDTH = 17, MOST_HEIGHT = 33, MOST_SAMPLES = MOST_WIDTH * MOST_HEIGHT * 4 };
 
 static unsigned char samples[MOST_SAMPLES];
-static unsigned width, height, components;
+static unsigned width, height, components, orientation;
 static long pictures;
 
 /* ---- a stream of the samples */
 
-static unsigned char stream[128 + 4 * MOST_SAMPLES];
+static unsigned char stream[256 + 4 * MOST_SAMPLES];
 static size_t stream_bytes;
 static unsigned bits, bit_count;
 
@@ -43,13 +43,15 @@ static void put_difference(int difference) {
 }
 
 static void write_stream(void) {
-    unsigned char part[] = {0, 0x11, 0};
-    unsigned char frame[] = {0xff, 0xd8, 0xff, 0xc3, 0, (unsigned char)(8 + 3 * components), 8,
+    unsigned char part[] = {0, 0x11, 0}, exif[EXIF_BYTES];
+    unsigned char frame[] = {0xff, 0xc3, 0, (unsigned char)(8 + 3 * components), 8,
                              0, (unsigned char)height, 0, (unsigned char)width,
                              (unsigned char)components};
     unsigned char scan[] = {0xff, 0xda, 0, (unsigned char)(6 + 2 * components),
                             (unsigned char)components};
     stream_bytes = bits = bit_count = 0;
+    put("\xff\xd8", 2);
+    put(exif_of(exif, orientation), EXIF_BYTES);
     put(frame, sizeof frame);
     for (part[0] = 1; part[0] <= components; part[0]++) put(part, 3);
     put("\xff\xc4\0\x1c\0\0\0\0\x09\0\0\0\0\0\0\0\0\0\0\0\0\0\1\2\3\4\5\6\7\x8", 30);
@@ -121,56 +123,92 @@ static unsigned convert(int layout, const unsigned char *stored, unsigned char p
     }
 }
 
-static void in_layout(int layout, unsigned gap, unsigned more, int is_bottom_up) {
+/* ---- the pictures */
+
+/* Which one of a number of things is asked for of a picture. */
+struct asked {
+    int layout;
+    unsigned gap, more, is_bottom_up, is_upright;
+};
+
+/* Writes the picture as it is asked for, whose lines are so many bytes apart. */
+static void put_wanted(unsigned char *wanted, struct asked asked, size_t stride) {
     unsigned char pixel[6];
-    unsigned pixel_bytes = convert(layout, samples, pixel), row_bytes = width * pixel_bytes;
-    unsigned stride = row_bytes + gap;
-    zaxbriar_options options = {.layout = (uint8_t)layout,
-                                .stride = gap ? stride : 0,
-                                .bottom_up = (uint8_t)is_bottom_up};
-    zaxbriar_picture picture;
-    size_t size = (size_t)stride * (height - 1) + row_bytes;
-    unsigned char *wanted = block(size + more), *pixels = block(size + more);
-    for (size_t i = 0; i < size + more; i++) wanted[i] = pixels[i] = (unsigned char)(i * 7 + 3);
     for (unsigned y = 0; y < height; y++)
         for (unsigned x = 0; x < width; x++) {
-            convert(layout, samples + ((size_t)y * width + x) * components, pixel);
-            memcpy(wanted + (size_t)(is_bottom_up ? height - 1 - y : y) * stride + x * pixel_bytes,
-                   pixel, pixel_bytes);
+            struct seen seen =
+                seen_at(asked.is_upright ? orientation : 1, width, height, x, y);
+            size_t line = asked.is_bottom_up ? seen.height - 1 - seen.down : seen.down;
+            unsigned pixel_bytes =
+                convert(asked.layout, samples + ((size_t)y * width + x) * components, pixel);
+            memcpy(wanted + line * stride + seen.across * pixel_bytes, pixel, pixel_bytes);
         }
-    CHECK(zaxbriar_decode(stream, stream_bytes, &options, pixels, size + more, &picture) ==
-          ZAXBRIAR_OK);
-    CHECK(!memcmp(pixels, wanted, size + more));
-    CHECK(picture.size == size && picture.row_bytes == row_bytes && picture.layout == layout);
-    CHECK(picture.pixel_bytes == pixel_bytes);
-    /* The planes, of two bytes a sample: no layout or gap needs a picture beside them. */
+}
+
+static void decoded_as(struct asked asked) {
+    unsigned char pixel[6];
+    struct seen turned = seen_at(asked.is_upright ? orientation : 1, width, height, 0, 0);
+    unsigned pixel_bytes = convert(asked.layout, samples, pixel);
+    size_t row_bytes = turned.width * pixel_bytes, stride = row_bytes + asked.gap;
+    zaxbriar_options options = {.layout = (uint8_t)asked.layout,
+                                .stride = asked.gap ? stride : 0,
+                                .bottom_up = (uint8_t)asked.is_bottom_up,
+                                .upright = (uint8_t)asked.is_upright};
+    zaxbriar_picture picture;
+    size_t size = stride * (turned.height - 1) + row_bytes, room = size + asked.more;
+    unsigned char *wanted = block(room), *pixels = block(room);
+    for (size_t i = 0; i < room; i++) wanted[i] = pixels[i] = (unsigned char)(i * 7 + 3);
+    put_wanted(wanted, asked, stride);
+    CHECK(zaxbriar_decode(stream, stream_bytes, &options, pixels, room, &picture) == ZAXBRIAR_OK);
+    CHECK(!memcmp(pixels, wanted, room));
+    CHECK(picture.size == size && picture.row_bytes == row_bytes);
+    CHECK(picture.width == turned.width && picture.height == turned.height);
+    CHECK(picture.layout == asked.layout && picture.pixel_bytes == pixel_bytes);
+    CHECK(picture.orientation == orientation);
+    /* The planes, of two bytes a sample: no layout, gap or turn needs a picture beside them. */
     CHECK(picture.decoding_bytes == (uint64_t)width * height * components * 2);
-    if (!gap) { /* a stream that ends too soon leaves all as it was */
-        for (size_t i = 0; i < size + more; i++) wanted[i] = pixels[i] = (unsigned char)(i * 5 + 1);
-        CHECK(zaxbriar_decode(stream, stream_bytes - 2, &options, pixels, size + more, &picture) ==
+    if (!asked.gap) { /* a stream that ends too soon leaves all as it was */
+        for (size_t i = 0; i < room; i++) wanted[i] = pixels[i] = (unsigned char)(i * 5 + 1);
+        CHECK(zaxbriar_decode(stream, stream_bytes - 2, &options, pixels, room, &picture) ==
               ZAXBRIAR_TRUNCATED);
-        CHECK(!memcmp(pixels, wanted, size + more));
+        CHECK(!memcmp(pixels, wanted, room));
     }
     free(wanted);
     free(pixels);
     pictures++;
 }
 
-int main(void) {
+/* The layouts of a picture of this size: in each way of 12 as it is stored, and in one of them
+ * upright, which is another one for the next orientation. */
+static void of_size(void) {
     static const unsigned gaps[] = {0, 1, 64};
-    uint32_t chance = 1;
+    static uint32_t chance = 1;
+    for (size_t i = 0; i < (size_t)width * height * components; i++) {
+        chance = chance * 1664525 + 1013904223;
+        samples[i] = (unsigned char)(chance >> 24);
+    }
+    for (orientation = 1; orientation <= 8; orientation++) {
+        write_stream();
+        for (int layout = ZAXBRIAR_AS_STORED; layout <= ZAXBRIAR_RGB16; layout++)
+            for (unsigned i = 0; i < 12; i++) {
+                struct asked asked = {layout, gaps[i % 3], i / 3 % 2, i / 6, 0};
+                if (orientation == 1 + (width + height) % 8) decoded_as(asked);
+                asked.is_upright = 1;
+                if (i == (orientation + width + height * 5 + (unsigned)layout * 7) % 12)
+                    decoded_as(asked);
+            }
+    }
+}
+
+int main(void) {
+    static const unsigned heights[] = {1, 2, 3, 4, 5, 15, 16, 17, 32, 33};
     subject = "a lossless picture";
     for (components = 1; components <= 4; components += components == 1 ? 2 : 1)
         for (width = 1; width <= MOST_WIDTH; width++)
-            for (height = 1; height <= MOST_HEIGHT; height++) {
-                for (size_t i = 0; i < (size_t)width * height * components; i++) {
-                    chance = chance * 1664525 + 1013904223;
-                    samples[i] = (unsigned char)(chance >> 24);
-                }
-                write_stream();
-                for (int layout = ZAXBRIAR_AS_STORED; layout <= ZAXBRIAR_RGB16; layout++)
-                    for (int i = 0; i < 12; i++)
-                        in_layout(layout, gaps[i % 3], i / 3 % 2, i / 6);
+            for (int i = 0; i < 10; i++) {
+                height = heights[i];
+                /* (16 lines are turned at a time) */
+                if (height <= 5 || width <= 3) of_size();
             }
     printf("layouts: %ld pictures; %d faults\n", pictures, faults);
     return faults != 0;

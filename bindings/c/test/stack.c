@@ -7,7 +7,7 @@
 #include "common.h"
 
 enum { STACK = 128 * 1024, FENCE = 4096, PAINT = 0x77, MOST_USED = 64 * 1024 };
-enum call { DECODE, READ_INFO, METADATA, NOTHING, CALLS };
+enum call { DECODE, UPRIGHT, READ_INFO, METADATA, NOTHING, CALLS };
 
 static struct bytes jpeg;
 static unsigned char *pixels;
@@ -15,6 +15,7 @@ static size_t room;
 static enum call call;
 
 static void *make_call(void *unused) {
+    static const zaxbriar_options upright = {.layout = ZAXBRIAR_GREY, .upright = 1};
     static zaxbriar_picture picture;
     static int answer;
     size_t length;
@@ -22,6 +23,9 @@ static void *make_call(void *unused) {
     switch (call) {
     case DECODE:
         answer = zaxbriar_decode(jpeg.start, jpeg.size, NULL, pixels, room, &picture);
+        break;
+    case UPRIGHT:
+        answer = zaxbriar_decode(jpeg.start, jpeg.size, &upright, pixels, room, &picture);
         break;
     case READ_INFO: answer = zaxbriar_read_info(jpeg.start, jpeg.size, NULL, &picture); break;
     case METADATA:
@@ -77,7 +81,8 @@ int main(int argc, char **argv) {
     for (call = 0; call < NOTHING; call++) CHECK(most[call] - most[NOTHING] <= MOST_USED);
     printf("stack: %ld files on a thread of %d bytes, of which a thread that makes no call uses "
            "%zu; with it decode %zu, "
-           "read_info %zu, metadata %zu; %d faults\n",
-           files, STACK, most[NOTHING], most[DECODE], most[READ_INFO], most[METADATA], faults);
+           "upright %zu, read_info %zu, metadata %zu; %d faults\n",
+           files, STACK, most[NOTHING], most[DECODE], most[UPRIGHT], most[READ_INFO],
+           most[METADATA], faults);
     return faults != 0;
 }

@@ -14,19 +14,6 @@ static const char *const _formats[] = {"jpg", "jpeg", "jfif", "jfi"};
 
 static int answer_of(int answer) { return answer == ZAXBRIAR_NO_MEMORY ? LOAD_OOM : LOAD_BADIMAGE; }
 
-/* Turns a picture by its Exif orientation; for 5 to 8 `to` has the other's width as its height. */
-static void turn(const uint32_t *from, uint32_t width, uint32_t height, int orientation,
-                 uint32_t *to) {
-    int is_mirrored = orientation == 2 || orientation == 3 || orientation == 7 || orientation == 8;
-    int is_flipped = orientation == 3 || orientation == 4 || orientation == 6 || orientation == 7;
-    for (uint32_t y = 0; y < height; y++)
-        for (uint32_t x = 0; x < width; x++) {
-            size_t column = is_mirrored ? width - 1 - x : x, row = is_flipped ? height - 1 - y : y;
-            to[orientation < 5 ? row * width + column : column * height + row] =
-                from[(size_t)y * width + x];
-        }
-}
-
 /* Decodes a picture, or the part of one before a fault, as imlib2's own loader does. */
 static int decode(const uint8_t *jpeg, size_t size, const zaxbriar_options *options,
                   uint32_t *pixels, zaxbriar_picture *picture) {
@@ -40,25 +27,19 @@ static int decode(const uint8_t *jpeg, size_t size, const zaxbriar_options *opti
 
 static int load_pixels(ImlibImage *image, const uint8_t *jpeg, size_t size,
                        const zaxbriar_options *options, zaxbriar_picture *picture) {
-    uint32_t *turned = NULL;
-    int orientation = picture->orientation;
     if (!__imlib_AllocateData(image)) return LOAD_OOM;
-    if (orientation > 1 && !(turned = malloc(picture->size))) return LOAD_OOM;
-    int answer = decode(jpeg, size, options, turned ? turned : image->data, picture);
-    if (answer == ZAXBRIAR_OK && turned)
-        turn(turned, picture->width, picture->height, orientation, image->data);
-    free(turned);
+    int answer = decode(jpeg, size, options, image->data, picture);
     if (answer != ZAXBRIAR_OK) return answer_of(answer);
     return image->lc && __imlib_LoadProgressRows(image, 0, image->h) ? LOAD_BREAK : LOAD_SUCCESS;
 }
 
 static int load_copied(ImlibImage *image, const uint8_t *jpeg, size_t size, int load_data) {
-    zaxbriar_options options = {.layout = ZAXBRIAR_BGRA, .max_passes = MAX_PASSES};
+    zaxbriar_options options = {.layout = ZAXBRIAR_BGRA, .upright = 1, .max_passes = MAX_PASSES};
     zaxbriar_picture picture;
     int answer = zaxbriar_read_info(jpeg, size, &options, &picture);
     if (answer != ZAXBRIAR_OK) return answer_of(answer);
-    image->w = (int)(picture.orientation < 5 ? picture.width : picture.height);
-    image->h = (int)(picture.orientation < 5 ? picture.height : picture.width);
+    image->w = (int)picture.width;
+    image->h = (int)picture.height;
     if (!IMAGE_DIMENSIONS_OK(image->w, image->h)) return LOAD_BADIMAGE;
     image->has_alpha = 0;
     return load_data ? load_pixels(image, jpeg, size, &options, &picture) : LOAD_SUCCESS;

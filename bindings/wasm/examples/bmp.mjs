@@ -1,13 +1,13 @@
 /* Pictures as BMP files, which browsers show, and which take no time to write: the pixels stay as
  * they are. */
-import { upright } from './upright.mjs';
-
 const HEADER_BYTES = 54;
 const PIXEL_BITS = 32;
 
-/* Gives a BMP file of what `decode` gives in the layout bgra, upright. */
-export function bmpOf(decoded) {
-    const { width, height, pixels } = upright(decoded);
+/* What a picture is decoded by for it. */
+export const BMP_OPTIONS = { layout: 'bgra', upright: true };
+
+/* Gives a BMP file of what `decode` gives by these. */
+export function bmpOf({ picture: { width, height }, pixels }) {
     const header = new DataView(new ArrayBuffer(HEADER_BYTES));
     header.setUint16(0, 0x424d); // BM
     header.setUint32(2, HEADER_BYTES + pixels.length, true);

@@ -11,10 +11,10 @@
  *     navigator.serviceWorker.register('service-worker.mjs', { type: 'module' });
  */
 import { load } from '../zaxbriar.mjs';
-import { bmpOf } from './bmp.mjs';
+import { BMP_OPTIONS, bmpOf } from './bmp.mjs';
 import { LOSSLESS, frameOf } from './frame.mjs';
 
-const LIMITS = { maxPixels: 100e6, maxBytes: 400e6 };
+const OPTIONS = { ...BMP_OPTIONS, maxPixels: 100e6, maxBytes: 400e6 };
 let loaded;
 
 const joined = async (pieces) => new Uint8Array(await new Blob(pieces).arrayBuffer());
@@ -42,7 +42,7 @@ async function shownOf(body) {
         const bytes = await losslessBytes(body);
         if (!bytes) return null;
         loaded ??= load();
-        return bmpOf((await loaded).decode(bytes, { layout: 'bgra', ...LIMITS }));
+        return bmpOf((await loaded).decode(bytes, OPTIONS));
     } catch {
         // (the browser says what it makes of it)
         return null;

@@ -6,10 +6,9 @@ import { mkdirSync, readFileSync, readdirSync, writeFileSync } from 'node:fs';
 import { join } from 'node:path';
 import { deflateSync } from 'node:zlib';
 import { load } from 'zaxbriar';
-import { isTurned, upright } from './upright.mjs';
 
 const CHANNELS = 3;
-const LIMITS = { maxPixels: 500e6, maxBytes: 1e9 };
+const OPTIONS = { layout: 'rgb', upright: true, maxPixels: 500e6, maxBytes: 1e9 };
 const SIGNATURE = Buffer.from([0x89, 0x50, 0x4e, 0x47, 0x0d, 0x0a, 0x1a, 0x0a]);
 
 const zaxbriar = await load();
@@ -17,8 +16,10 @@ const zaxbriar = await load();
 /* Decodes a file at the least of 1/8, 1/4, 1/2 and its whole size that is wide enough, which takes
  * less time and memory than the whole one. */
 function decodeFor(width, jpeg) {
-    const side = isTurned(zaxbriar.readInfo(jpeg)) ? 'minHeight' : 'minWidth';
-    return upright(zaxbriar.decode(jpeg, { layout: 'rgb', [side]: width, ...LIMITS }));
+    // (the least sides are those of the stored picture, which may lie on its side)
+    const side = zaxbriar.readInfo(jpeg).orientation > 4 ? 'minHeight' : 'minWidth';
+    const { picture, pixels } = zaxbriar.decode(jpeg, { ...OPTIONS, [side]: width });
+    return { width: picture.width, height: picture.height, pixels };
 }
 
 /* Where each of `less` parts of a side begins, and where the last one ends. */

@@ -43,7 +43,7 @@ export type Layout =
  *
  * `none` gives the samples of several components without a conversion, component after component: a
  * line has the `width` samples of the first, then those of the second, and so on. With it the
- * layout is `stored`; another is a BAD_ARGUMENT.
+ * layout is `stored`, and the picture isn't turned `upright`; else it is a BAD_ARGUMENT.
  */
 export type ColorTransform = 'stream' | 'none' | 'rgb' | 'ycbcr' | 'cmyk' | 'ycck';
 
@@ -77,8 +77,9 @@ export interface Options {
     /** Decodes at exactly 1 / scale of each side, rounded up: 1, 2, 4 or 8. */
     scale?: 0 | 1 | 2 | 4 | 8;
     /**
-     * Decodes at the least of 1/8, 1/4, 1/2 and 1 of the size at which the picture is at least that
-     * wide or that high; 0: that side doesn't matter. `scale` goes before both.
+     * Decodes at the least of 1/8, 1/4, 1/2 and 1 of the size at which the picture, before it is
+     * turned, is at least that wide or that high; 0: that side doesn't matter. `scale` goes before
+     * both.
      */
     minWidth?: number;
     minHeight?: number;
@@ -86,6 +87,11 @@ export interface Options {
     stride?: number;
     /** Whether the rows come from the bottom: the picture's first row last. */
     bottomUp?: boolean;
+    /**
+     * Whether the picture is turned upright, as its `orientation` says: its size is then that of
+     * the upright picture.
+     */
+    upright?: boolean;
     colorTransform?: ColorTransform;
     /** The most pixels that the picture may have, at its scale; 0: any number. */
     maxPixels?: number;
@@ -119,7 +125,7 @@ export interface PartialOptions extends DecodingOptions {
 
 /** A picture, as decoding with the options gives it. */
 export interface Picture {
-    /** In pixels, at the scale. */
+    /** In pixels, at the scale, and upright if that is asked for. */
     width: number;
     height: number;
     /** The bytes of the picture. */
@@ -140,7 +146,7 @@ export interface Picture {
     /** Of the stream: 1 or 2, and then the lower byte first. */
     sampleBytes: 1 | 2;
     process: 'sequential' | 'progressive' | 'lossless';
-    /** 1 to 8, as Exif data before the frame say; otherwise 1. The pixels aren't turned. */
+    /** Of the stream: 1 to 8, as Exif data before the frame say; otherwise 1. */
     orientation: number;
     /** Of the stream. */
     format: Format;
@@ -213,8 +219,8 @@ export interface DecodedPicture {
 /** The picture that a stream has brought up to its first fault, and that fault. */
 export interface PartialPicture extends DecodedPicture {
     /**
-     * How many rows of the picture, from its top, are complete in each scan that has begun: all
-     * rows if the stream has no fault.
+     * How many rows of the picture, from its top and before it is turned, are complete in each scan
+     * that has begun: all rows if the stream has no fault.
      */
     wholeRows: number;
     fault: ZaxbriarError | null;

@@ -46,6 +46,7 @@ export const OPTIONS = [
     'minHeight',
     'stride',
     'bottomUp',
+    'upright',
     'colorTransform',
     'maxPixels',
     'maxBytes',
@@ -160,6 +161,7 @@ function optionsOf(options, limits = {}) {
     view.setUint8(23, isSet(options, 'bottomUp') ? 1 : 0);
     view.setBigUint64(24, BigInt(number('maxBytes', Number.MAX_SAFE_INTEGER)), true);
     view.setBigUint64(48, BigInt(number('maxPasses', Number.MAX_SAFE_INTEGER)), true);
+    view.setUint8(56, isSet(options, 'upright') ? 1 : 0);
     return bytes;
 }
 

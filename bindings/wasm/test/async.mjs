@@ -61,6 +61,7 @@ async function checkAnswers() {
         { partial: true },
         { partial: true, layout: 'grey', scale: 2 },
         { layout: 'rgb16', bottomUp: true },
+        { layout: 'bgr', upright: true },
         { minWidth: 9, minHeight: 9, stride: 200, colorTransform: 'rgb', partial: false },
         { maxPixels: 9 },
         { maxBytes: 9 },
@@ -72,6 +73,7 @@ async function checkAnswers() {
         { layout: () => 0 },
         { partial: 1 },
         { bottomUp: 'yes' },
+        { upright: 1 },
         { maxPixels: 0.5 },
     ];
     let refused = 0;

@@ -6,6 +6,7 @@ import { readFileSync } from 'node:fs';
 import { Worker } from 'node:worker_threads';
 import { Zaxbriar, ZaxbriarError, compile, load } from '../dist/node.mjs';
 import { endless } from './endless.mjs';
+import { turned, withOrientation } from './turned.mjs';
 
 const path = process.argv[2];
 const jpeg = readFileSync(path);
@@ -198,6 +199,43 @@ for (const options of [{}, { layout: 'rgb16' }, { layout: 'grey', partial: true,
     }
 }
 
+// Upright, by each orientation; and not without being asked. (The last Exif data count, so that the
+// file's own have to go.)
+const exifAt = jpeg.indexOf(Buffer.from([0xff, 0xe1]));
+const exifEnd = exifAt + 2 + jpeg.readUInt16BE(exifAt + 2);
+const plain = Buffer.concat([jpeg.subarray(0, exifAt), jpeg.subarray(exifEnd)]);
+for (let orientation = 1; orientation <= 8; orientation++) {
+    const stream = withOrientation(plain, orientation);
+    for (const options of [
+        {},
+        { layout: 'rgba' },
+        { layout: 'grey', scale: 2, minWidth: 1 },
+        { layout: 'rgb16', partial: true },
+    ]) {
+        const stored = zaxbriar.decode(stream, { ...options, upright: false });
+        const upright = zaxbriar.decode(stream, { ...options, upright: true });
+        const wanted = turned(stored);
+        const { width, height, pixelBytes } = upright.picture;
+        assert.equal(stored.picture.orientation, orientation);
+        assert.deepEqual({ width, height, pixels: upright.pixels }, wanted);
+        assert.deepEqual(upright.picture, {
+            ...stored.picture,
+            ...{ width, height, rowBytes: width * pixelBytes },
+        });
+        assert.equal(upright.wholeRows, stored.wholeRows);
+        const { partial, ...described } = options;
+        const read = zaxbriar.readInfo(stream, { ...described, upright: true });
+        assert.deepEqual([read.width, read.height], [width, height]);
+    }
+    const cut = stream.subarray(0, 300);
+    const part = zaxbriar.decode(cut, { partial: true, upright: true });
+    const stored = zaxbriar.decode(cut, { partial: true });
+    assert.deepEqual(part.pixels, turned(stored).pixels);
+    assert.equal(part.wholeRows, stored.wholeRows);
+    const options = { upright: true, colorTransform: 'none' };
+    assert.throws(() => zaxbriar.decode(stream, options), code('BAD_ARGUMENT'));
+}
+
 // Gaps are zeros, also in memory that was used before.
 const stride = picture.rowBytes + 5;
 const gapped = zaxbriar.decode(jpeg, { stride });
@@ -221,6 +259,7 @@ for (const options of [
     { colorTransform: 'grey' },
     { layout: 'toString' },
     { bottomUp: 1 },
+    { upright: 6 },
 ]) {
     assert.throws(() => zaxbriar.decode(jpeg, options), TypeError);
 }
@@ -329,9 +368,12 @@ const ROOM = 512 * 1024;
 const layouts = ['stored', 'grey', 'rgb', 'rgba', 'bgra', 'bgr', 'xrgb', 'abgr', 'rgb565'];
 for (const layout of [...layouts, 'grey16', 'rgb16']) {
     const decoder = new Zaxbriar(module);
-    const { size, decodingBytes } = decoder.decode(larger, { layout, bottomUp: true }).picture;
+    const options = { layout, bottomUp: true, upright: true };
+    const { size, decodingBytes, height, pixelBytes } = decoder.decode(larger, options).picture;
     assert.ok(size >= 1600 * 1000);
-    assert.ok(decoder.memoryBytes <= size + decodingBytes + larger.length + ROOM, layout);
+    // (it lies on its side, and 16 lines of it are turned at a time)
+    const known = size + decodingBytes + larger.length + 16 * height * pixelBytes;
+    assert.ok(decoder.memoryBytes <= known + ROOM, layout);
 }
 const small = new Zaxbriar(module, { maxMemory: before });
 assert.throws(() => small.decode(new Uint8Array(before)), code('NO_MEMORY'));

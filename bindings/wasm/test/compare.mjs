@@ -1,12 +1,13 @@
 /* node compare.mjs NATIVE FOLDER [FILE..]: the module beside the native library, whose program
  * NATIVE is of native.c: every stream of crates/test_decoder_cases, each beginning of those of
- * `cuts`, the files that are named, and damaged ones of all, with each list of options below. Answers,
- * descriptions, texts, pixels and metadata have to be the same. FOLDER takes the stream that is
- * compared. */
+ * `cuts`, the files that are named, and damaged ones of all, which have an orientation, with each
+ * list of options below. Answers, descriptions, texts, pixels and metadata have to be the same.
+ * FOLDER takes the stream that is compared. */
 import { spawnSync } from 'node:child_process';
 import { readFileSync, writeFileSync } from 'node:fs';
 import { ZaxbriarError, load } from '../dist/node.mjs';
 import { allCases } from './cases.mjs';
+import { withOrientation } from './turned.mjs';
 
 const [native, folder, ...files] = process.argv.slice(2);
 const zaxbriar = await load();
@@ -33,6 +34,11 @@ const ALL_OPTIONS = [
     { layout: 'rgb', stride: 300, bottomUp: true },
     { layout: 'abgr', scale: 8, bottomUp: true },
     { layout: 'rgb565', scale: 2, stride: 301, bottomUp: true },
+    { upright: true },
+    { layout: 'rgba', upright: true, minWidth: 3 },
+    { layout: 'rgb', stride: 300, bottomUp: true, upright: true },
+    { layout: 'grey16', scale: 2, upright: true },
+    { colorTransform: 'none', upright: true },
     { layout: 'grey16', stride: 300, minWidth: 3 },
     { layout: 'rgb16', scale: 4, stride: 301 },
     { scale: 2 },
@@ -68,6 +74,7 @@ const lineOf = (options) =>
         options.bottomUp ? 1 : 0,
         options.maxBytes,
         options.maxPasses,
+        options.upright ? 1 : 0,
     ].join(' ');
 const INPUT = ALL_OPTIONS.map((options) => `${lineOf(options)}\n`).join('');
 
@@ -246,9 +253,9 @@ const random = (below) => {
     return Math.floor((seed / 2 ** 32) * below);
 };
 
-/* A stream with up to four bytes of another value. */
+/* A stream with an orientation, and up to four bytes of another value. */
 function damaged(jpeg) {
-    const bytes = Buffer.from(jpeg);
+    const bytes = withOrientation(jpeg, 1 + random(8));
     for (let left = 1 + random(4); left > 0 && bytes.length; left--) {
         bytes[random(bytes.length)] = random(256);
     }

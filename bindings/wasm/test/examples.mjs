@@ -15,12 +15,13 @@ import {
 import { resolve } from 'node:path';
 import { inflateSync } from 'node:zlib';
 import { load } from '../dist/node.mjs';
-import { bmpOf } from '../dist/examples/bmp.mjs';
+import { BMP_OPTIONS, bmpOf } from '../dist/examples/bmp.mjs';
 import { LOSSLESS as FRAME, frameOf } from '../dist/examples/frame.mjs';
 import { allCases } from './cases.mjs';
 import { Chromium } from './chromium.mjs';
 import { Firefox } from './firefox.mjs';
 import { serve } from './serve.mjs';
+import { turned, withOrientation } from './turned.mjs';
 
 const [browser, room] = process.argv.slice(2);
 const folder = resolve(room, 'examples');
@@ -29,20 +30,12 @@ const ours = (name) => readFileSync(pathOf(`../../../tests/programs/files/${name
 const zaxbriar = await load();
 const cases = allCases();
 const CHANNELS = 3;
-/* The tag of the orientation, its type and its count, and the first half of its value. */
-const ORIENTATION = Buffer.from([0x01, 0x12, 0, 3, 0, 0, 0, 1, 0]);
 const streamOf = (file, name) =>
     cases.find((it) => it.file === `${file}.case` && it.name === name).stream;
 
-/* A lossless stream with an orientation: the Exif data of turned.jpg, whose orientation is 6. */
-function turnedLossless(orientation) {
-    const turned = ours('turned.jpg');
-    const at = turned.indexOf(Buffer.from([0xff, 0xe1]));
-    const exif = Buffer.from(turned.subarray(at, at + 2 + turned.readUInt16BE(at + 2)));
-    exif[exif.indexOf(ORIENTATION) + ORIENTATION.length] = orientation;
-    const stream = streamOf('random', 'seed 299, lossless');
-    return Buffer.concat([stream.subarray(0, 2), exif, stream.subarray(2)]);
-}
+/* A lossless stream with an orientation. */
+const turnedLossless = (orientation) =>
+    withOrientation(streamOf('random', 'seed 299, lossless'), orientation);
 
 /* Files that browsers can't show, files that they show, and files that nobody does. */
 const LOSSLESS = {
@@ -88,41 +81,8 @@ function inPieces(path, bytes) {
     return name.startsWith('pieces/') ? cut(bytes) : bytes;
 }
 
-/* Where the first line of a stored picture is to be seen, and its first column, by the orientation
- * of Exif. */
-const SIDES = [
-    ,
-    ['top', 'left'],
-    ['top', 'right'],
-    ['bottom', 'right'],
-    ['bottom', 'left'],
-    ['left', 'top'],
-    ['right', 'top'],
-    ['right', 'bottom'],
-    ['left', 'bottom'],
-];
-
 /* The picture of a file, upright. */
-function uprightOf(jpeg, options) {
-    const { picture, pixels } = zaxbriar.decode(jpeg, options);
-    const { orientation, pixelBytes } = picture;
-    const [lineSide, columnSide] = SIDES[orientation];
-    const isTurned = ['left', 'right'].includes(lineSide);
-    const width = isTurned ? picture.height : picture.width;
-    const height = isTurned ? picture.width : picture.height;
-    const seen = new Uint8ClampedArray(pixels.length);
-    for (let line = 0; line < picture.height; line++) {
-        for (let column = 0; column < picture.width; column++) {
-            const away = { [lineSide]: line, [columnSide]: column };
-            const x = away.left ?? width - 1 - away.right;
-            const y = away.top ?? height - 1 - away.bottom;
-            const from = (line * picture.width + column) * pixelBytes;
-            const pixel = pixels.subarray(from, from + pixelBytes);
-            seen.set(pixel, (y * width + x) * pixelBytes);
-        }
-    }
-    return { width, height, pixels: seen };
-}
+const uprightOf = (jpeg, options) => turned(zaxbriar.decode(jpeg, options));
 
 /* A PNG file of 8 bits without filters, as red, green and blue. */
 function readPng(path) {
@@ -202,7 +162,7 @@ async function makeSite() {
     mkdirSync(`${folder}/pieces`);
     for (const name of IN_PIECES) writeFileSync(`${folder}/pieces/${name}`, LOSSLESS[name]);
     const photograph = readFileSync(pathOf('../../../examples/rocket.jpg'));
-    const bmp = bmpOf(zaxbriar.decode(photograph, { layout: 'bgra' }));
+    const bmp = bmpOf(zaxbriar.decode(photograph, BMP_OPTIONS));
     writeFileSync(`${folder}/held.jpg`, photograph);
     writeFileSync(`${folder}/held.bmp`, new Uint8Array(await bmp.arrayBuffer()));
     const images = Object.keys(files).map((name) => `<img src="${name}" alt="${name}">`);

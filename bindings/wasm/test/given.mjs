@@ -60,6 +60,7 @@ const OPTIONS = {
     minHeight: 0,
     stride: 0,
     bottomUp: false,
+    upright: false,
     colorTransform: 'stream',
     maxPixels: 1e9,
     maxBytes: 1e9,

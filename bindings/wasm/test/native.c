@@ -1,10 +1,10 @@
 /* native FILE: what the native library gives for a stream, for compare.mjs.
  *
  * Each line of standard input is the numbers of some options: layout, scale, transform, min_width,
- * min_height, stride, bottom_up, max_bytes, max_passes. For each the answer and the description by
- * the header are written, then the answer and the description by decoding, and the pixels after
- * their count, and the same by decoding as far as the stream goes. At the end come the answer, the
- * length and the bytes of each kind of metadata. */
+ * min_height, stride, bottom_up, max_bytes, max_passes, upright. For each the answer and the
+ * description by the header are written, then the answer and the description by decoding, and the
+ * pixels after their count, and the same by decoding as far as the stream goes. At the end come the
+ * answer, the length and the bytes of each kind of metadata. */
 #include <stdio.h>
 #include <stdlib.h>
 #include <zaxbriar.h>
@@ -73,9 +73,9 @@ int main(int count, char **words) {
     zaxbriar_picture whole;
     int has_part =
         zaxbriar_read_info(jpeg, size, NULL, &whole) == ZAXBRIAR_OK && whole.size <= MOST_PART;
-    unsigned long long n[9];
-    while (scanf("%llu %llu %llu %llu %llu %llu %llu %llu %llu", n, n + 1, n + 2, n + 3, n + 4,
-                 n + 5, n + 6, n + 7, n + 8) == 9) {
+    unsigned long long n[10];
+    while (scanf("%llu %llu %llu %llu %llu %llu %llu %llu %llu %llu", n, n + 1, n + 2, n + 3, n + 4,
+                 n + 5, n + 6, n + 7, n + 8, n + 9) == 10) {
         zaxbriar_options options = {
             .layout = (uint8_t)n[0],
             .scale = (uint8_t)n[1],
@@ -86,6 +86,7 @@ int main(int count, char **words) {
             .bottom_up = (uint8_t)n[6],
             .max_bytes = n[7],
             .max_passes = n[8],
+            .upright = (uint8_t)n[9],
         };
         put_picture(jpeg, size, &options, has_part);
     }

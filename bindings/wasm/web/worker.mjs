@@ -1,7 +1,7 @@
 /* Decodes away from the page, and draws there, too. A request is { file, isShown }. Its answer
- * describes the file; `fault` names what went wrong, and `sentence` says what that means. Where the
- * picture is to be shown it is an ImageBitmap, upright: with `isPartial` beside a fault. After a
- * fault with `isBroken` the page takes another worker. */
+ * describes the file, and the picture as it is stored; `fault` names what went wrong, and `sentence`
+ * says what that means. Where the picture is to be shown it is an ImageBitmap, upright: with
+ * `isPartial` beside a fault. After a fault with `isBroken` the page takes another worker. */
 import { sentenceOf } from './words.mjs';
 import { ZaxbriarError, load } from './zaxbriar.mjs';
 
@@ -13,55 +13,37 @@ loaded.catch(() => {});
 /* What names a fault of the stream's, of which there may be a part. */
 const FAULTS = ['MALFORMED', 'UNSUPPORTED', 'TRUNCATED', 'TOO_MANY_PASSES'];
 
-/* The picture, or the part of it that comes before a fault of the stream, and that fault. */
+const OPTIONS = { layout: 'rgba', upright: true };
+
+/* The picture for a canvas, upright, or the part of it that comes before a fault of the stream, and
+ * that fault. */
 function pictureOf(zaxbriar, jpeg) {
     try {
-        return zaxbriar.decode(jpeg, { layout: 'rgba' });
+        return zaxbriar.decode(jpeg, OPTIONS);
     } catch (error) {
         if (!FAULTS.includes(error.code)) throw error;
-        return zaxbriar.decode(jpeg, { layout: 'rgba', partial: true });
+        return zaxbriar.decode(jpeg, { ...OPTIONS, partial: true });
     }
 }
 
-/* The picture for a canvas, its fault and how many of its rows are complete if it has one, and how
- * long that took. */
+/* The same, and how long that took. */
 function decode(zaxbriar, jpeg) {
     const start = performance.now();
-    const { pixels, wholeRows, fault } = pictureOf(zaxbriar, jpeg);
-    return { pixels, wholeRows, fault, milliseconds: performance.now() - start };
+    const decoded = pictureOf(zaxbriar, jpeg);
+    return { decoded, milliseconds: performance.now() - start };
 }
 
-/* Where a picture's axes go in an upright one, by its Exif orientation. */
-const matrixOf = ({ orientation, width, height }) =>
-    ({
-        1: [1, 0, 0, 1, 0, 0],
-        2: [-1, 0, 0, 1, width, 0],
-        3: [-1, 0, 0, -1, width, height],
-        4: [1, 0, 0, -1, 0, height],
-        5: [0, 1, 1, 0, 0, 0],
-        6: [0, 1, -1, 0, height, 0],
-        7: [0, -1, -1, 0, height, width],
-        8: [0, -1, 1, 0, 0, width],
-    })[orientation];
-
-/* The upright picture as what a canvas takes without a copy. */
-function draw(picture, pixels) {
-    const { width, height, orientation } = picture;
-    const stored = new OffscreenCanvas(width, height);
-    stored.getContext('2d').putImageData(new ImageData(pixels, width, height), 0, 0);
-    if (orientation === 1) return stored.transferToImageBitmap();
-    const isTurned = orientation > 4;
-    const upright = new OffscreenCanvas(isTurned ? height : width, isTurned ? width : height);
-    const context = upright.getContext('2d');
-    context.setTransform(...matrixOf(picture));
-    context.drawImage(stored, 0, 0);
-    return upright.transferToImageBitmap();
+/* The picture as what a canvas takes without a copy. */
+function draw({ picture: { width, height }, pixels }) {
+    const canvas = new OffscreenCanvas(width, height);
+    canvas.getContext('2d').putImageData(new ImageData(pixels, width, height), 0, 0);
+    return canvas.transferToImageBitmap();
 }
 
 /* The picture drawn, or the fault that the browser can't. */
-function drawn(picture, pixels) {
+function drawn(decoded) {
     try {
-        return { bitmap: draw(picture, pixels) };
+        return { bitmap: draw(decoded) };
     } catch (error) {
         const text = `the browser has no canvas of that size (${error.message})`;
         return { fault: 'NOT SHOWN', text, isPartial: false };
@@ -96,12 +78,13 @@ async function answer({ file, isShown }) {
         jpeg = new Uint8Array(await file.arrayBuffer());
         reply.picture = zaxbriar.readInfo(jpeg);
         reply.metadata = metadata(zaxbriar, jpeg);
-        const { pixels, wholeRows, fault, milliseconds } = decode(zaxbriar, jpeg);
+        const { decoded, milliseconds } = decode(zaxbriar, jpeg);
+        const { wholeRows, fault } = decoded;
         reply.milliseconds = milliseconds;
         reply.wholeRows = wholeRows;
         reply.isPartial = Boolean(fault);
         if (fault) Object.assign(reply, told(fault));
-        if (isShown) Object.assign(reply, drawn(reply.picture, pixels));
+        if (isShown) Object.assign(reply, drawn(decoded));
     } catch (error) {
         reply.isBroken = !(error instanceof ZaxbriarError);
         Object.assign(reply, told(error));

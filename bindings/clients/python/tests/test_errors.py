@@ -142,6 +142,8 @@ class Options(unittest.TestCase):
             ({"min_width": 65536}, "min_width"),
             ({"max_passes": 2**64}, "max_passes"),
             ({"bottom_up": 2}, "bottom_up is a number from 0 to 1, and not 2"),
+            ({"upright": 6}, "upright is a number from 0 to 1, and not 6"),
+            ({"upright": True, "transform": "none"}, "an option doesn't exist"),
             ({"max_bytes": -1}, "max_bytes"),
         ):
             with self.subTest(options), self.assertRaisesRegex(zaxbriar.BadArgumentError, text):

@@ -35,6 +35,29 @@ def address_of(buffer):
         return address
 
 
+def with_orientation(orientation):
+    """The stream with another orientation in its Exif data."""
+    at = STREAM.index(b"\x01\x12\0\3\0\0\0\1\0") + 9
+    return STREAM[:at] + bytes([orientation]) + STREAM[at + 1 :]
+
+
+def lines_of(picture):
+    """The lines of a picture, each a list of its pixels."""
+    size = picture.info.pixel_bytes
+    pixels = [bytes(picture)[at : at + size] for at in range(0, picture.info.size, size)]
+    return [pixels[at : at + picture.width] for at in range(0, len(pixels), picture.width)]
+
+
+def turned(lines, orientation):
+    """The lines of a picture upright, by its orientation: where its rows and columns are seen in
+    another direction, or as columns and rows (Exif 2.3, 4.6.4)."""
+    if orientation in (3, 4, 6, 7):
+        lines = lines[::-1]
+    if orientation in (2, 3, 7, 8):
+        lines = [line[::-1] for line in lines]
+    return lines if orientation < 5 else [list(column) for column in zip(*lines)]
+
+
 class Streams(unittest.TestCase):
     """The buffers that a stream is read from."""
 
@@ -163,6 +186,28 @@ class Pictures(unittest.TestCase):
             up = zaxbriar.decode(STREAM, **options, bottom_up=True)
             self.assertEqual(up.info, down.info)
             self.assertEqual([bytes(row) for row in up], [bytes(row) for row in down][::-1])
+
+    def test_upright(self):
+        for orientation in range(1, 9):
+            stream = with_orientation(orientation)
+            for options in ({}, {"layout": "grey"}, {"layout": "rgb16", "scale": 2}):
+                stored = zaxbriar.decode(stream, **options, upright=False)
+                upright = zaxbriar.decode(stream, **options, upright=True)
+                wanted = turned(lines_of(stored), orientation)
+                self.assertEqual(lines_of(upright), wanted)
+                self.assertEqual(upright.shape[:2], (len(wanted), len(wanted[0])))
+                info = zaxbriar.read_info(stream, **options, upright=True)
+                self.assertEqual((upright.shape, orientation), (info.shape, info.orientation))
+
+    def test_upright_in_part(self):
+        for orientation in range(1, 9):
+            stream = with_orientation(orientation)[:320]
+            stored = zaxbriar.decode_partial(stream, upright=False)
+            upright = zaxbriar.decode_partial(stream, upright=True)
+            wanted = turned(lines_of(stored.picture), orientation)
+            self.assertEqual(lines_of(upright.picture), wanted)
+            self.assertEqual(upright.whole_rows, stored.whole_rows)
+            self.assertIn(stored.whole_rows, range(1, stored.picture.height))
 
     def test_by_components(self):
         planes = zaxbriar.decode(STREAM, transform="none")

@@ -20,6 +20,7 @@ def sizes(data: bytes, mapped: mmap.mmap, room: bytearray) -> tuple[int, Optiona
     place: Optional[slice] = zaxbriar.find_metadata(data).exif
     info: zaxbriar.Info = zaxbriar.read_info(data)
     options: zaxbriar.Options = {"layout": "bgra", "max_samples": 10, "bottom_up": True}
+    options["upright"] = True
     zaxbriar.decode(data, **options)
     end: int = zaxbriar.next_segment(data).end
     return len(flat) + rows + info.width + len(exif or b"") + end, info.process

@@ -78,7 +78,9 @@ class Options(Structure):
         ("memory", c_void_p),
         ("places", c_void_p),
         ("max_passes", c_uint64),
-        ("reserved_words", c_uint64 * 9),
+        ("upright", c_uint8),
+        ("reserved_bytes", c_uint8 * 7),
+        ("reserved_words", c_uint64 * 8),
     ]
 
 

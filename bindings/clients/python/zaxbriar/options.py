@@ -36,11 +36,14 @@ class Options(Limits, total=False):
 
     layout: how the samples of a pixel are arranged, "as_stored" unless it is given.
     scale: 1, 2, 4 or 8, for exactly 1 / scale of each side, rounded up.
-    min_width, min_height: for the least of 1/8, 1/4, 1/2 and 1 of the size at which the picture is
-        at least that wide or that high; 0: that side doesn't matter. `scale` goes before both.
+    min_width, min_height: for the least of 1/8, 1/4, 1/2 and 1 of the size at which the picture,
+        before it is turned, is at least that wide or that high; 0: that side doesn't matter.
+        `scale` goes before both.
     transform: how the components are to be understood, "of_stream" unless it is given.
     stride: the bytes from one line to the next, for an `out` of one dimension; 0: no gaps.
     bottom_up: whether the picture's first row comes last in the buffer.
+    upright: whether the picture is turned upright, as its `orientation` says; `shape`, `width` and
+        `height` are then those of the upright picture.
     """
 
     layout: Layout
@@ -50,6 +53,7 @@ class Options(Limits, total=False):
     transform: Transform
     stride: int
     bottom_up: bool
+    upright: bool
 
 
 LIMITS = ("max_samples", "max_bytes", "max_passes")
@@ -59,6 +63,7 @@ MOST = {
     "min_width": 2**16 - 1,
     "min_height": 2**16 - 1,
     "bottom_up": 1,
+    "upright": 1,
     **dict.fromkeys(("stride", *LIMITS), 2**64 - 1),
 }
 

@@ -2,14 +2,15 @@
 
 use crate::error::{Error, Result, UnsupportedFeature};
 use crate::layout::AS_STORED;
-use crate::library::Picture;
+use crate::library::{Options, Picture};
 
 /// How components become samples, in place of what the stream says.
 #[derive(Debug, Clone, Copy, PartialEq, Eq, Hash)]
 #[non_exhaustive]
 pub enum ColorTransform {
     /// They are samples as they are, and a line has those of its first component, then those of the
-    /// next ones. [`decode_as`](crate::Decoder::decode_as) refuses it, since it has no pixels.
+    /// next ones. [`decode_as`](crate::Decoder::decode_as) refuses it, since it has no pixels, and
+    /// so does a decoder that turns the picture ([`set_upright`](crate::Decoder::set_upright)).
     None,
     /// A transform that isn't known: refused.
     Unknown,
@@ -33,29 +34,33 @@ pub enum ColorTransform {
 /// The number of what the stream says, in place of a transform.
 const OF_STREAM: u8 = 0;
 
-/// Returns the library's number of a transform for a picture in a layout. Errors: `Unsupported`,
-/// and `Format` for one that fits no picture of several components in the layout; the library
-/// itself refuses `RGB` to `YCCK` if they don't fit this one.
+/// Returns the library's number of a transform for a picture by options. Errors: `Unsupported`,
+/// and `Format` for one that fits no picture of several components by these; the library itself
+/// refuses `RGB` to `YCCK` if they don't fit this one.
 pub(crate) fn transform_number(
     transform: Option<ColorTransform>,
     picture: &Picture,
-    layout: u8,
+    options: &Options,
 ) -> Result<u8> {
     let transform = match transform {
         Some(transform) if picture.components > 1 && !picture.is_lossless() => transform,
         _ => return Ok(OF_STREAM),
     };
-    let is_stored = layout == AS_STORED;
+    let may_be_none = options.layout == AS_STORED && options.upright == 0;
     match transform {
-        ColorTransform::None if is_stored => Ok(1),
+        ColorTransform::None if may_be_none => Ok(1),
         ColorTransform::RGB => Ok(2),
         ColorTransform::YCbCr => Ok(3),
         ColorTransform::CMYK => Ok(4),
         ColorTransform::YCCK => Ok(5),
         ColorTransform::None | ColorTransform::Unknown | ColorTransform::Grayscale => {
             let components = picture.components;
-            let place = if is_stored { "" } else { " in a layout" };
-            let fitting = match (components, is_stored) {
+            let place = match (may_be_none, options.layout) {
+                (true, _) => "",
+                (false, AS_STORED) => " turned upright",
+                (false, _) => " in a layout",
+            };
+            let fitting = match (components, may_be_none) {
                 (3, true) => "None, RGB or YCbCr",
                 (3, false) => "RGB or YCbCr",
                 (_, true) => "None, CMYK or YCCK",

@@ -26,8 +26,8 @@ pub struct PartialPicture<E = u8> {
     /// The picture, as [`Decoder::decode`] or [`Decoder::decode_as`] returns it. What no scan has
     /// brought is mid-grey.
     pub pixels: Vec<E>,
-    /// The number of rows, from the top of the picture, that need nothing that a scan which was
-    /// begun lacks. All rows if the stream has no fault.
+    /// The number of rows, from the top of the picture before it is turned, that need nothing that
+    /// a scan which was begun lacks. All rows if the stream has no fault.
     pub whole_rows: u16,
     /// The first fault of the stream, or none if it is whole.
     pub fault: Option<Error>,
@@ -58,7 +58,8 @@ pub struct Decoder<R> {
     picture: Option<Picture>,
     metadata: Metadata,
     color_transform: Option<ColorTransform>,
-    /// The scale, the order of rows, and the limit of passes; the rest is as the library has it.
+    /// The scale, the order of rows, whether the picture is turned, and the limit of passes; the
+    /// rest is as the library has it.
     options: Options,
     max_samples: u64,
     max_bytes: u64,
@@ -155,7 +156,8 @@ impl<R: Read> Decoder<R> {
     /// Chooses the least of 1/8, 1/4, 1/2 and 1 of the picture's size at which it is at least that
     /// wide or at least that high, and returns the size that it has then. Reads the header.
     ///
-    /// A lossless picture keeps its size.
+    /// A lossless picture keeps its size. The sides are those of the picture as it is stored, also
+    /// where it is turned ([`set_upright`](Decoder::set_upright)).
     pub fn scale(&mut self, requested_width: u16, requested_height: u16) -> Result<(u16, u16)> {
         // 0 asks for no more than 1 does; to the library it is a side that does not matter.
         let mut options = self.options;
@@ -373,6 +375,38 @@ impl<R: Read> Decoder<R> {
         self.options.bottom_up = is_bottom_up.into();
     }
 
+    /// Sets whether the picture is turned upright, as its [`orientation`](Decoder::orientation)
+    /// says. A new decoder returns it as it is stored. [`info`](Decoder::info) then has the size of
+    /// the upright picture, also if the header was read before. The pixels are written to their
+    /// places, without a second picture.
+    ///
+    /// Rows from the bottom are those of the upright picture, and
+    /// [`whole_rows`](PartialPicture::whole_rows) counts those of the stored one. The colour
+    /// transform [`None`](ColorTransform::None) is an [`Error::Format`] for a picture of several
+    /// components, since its rows have no pixels.
+    ///
+    /// ```
+    /// # let colour = std::fs::read("image/tests/colour.jpg").unwrap();
+    /// # let exif = b"\xff\xe1\0\x1eExif\0\0MM\0*\0\0\0\x08\0\x01\x01\x12\0\x03\0\0\0\x01";
+    /// # let jpeg = &[&colour[..2], exif, b"\0\x06\0\0", &colour[2..]].concat()[..];
+    /// use zaxbriar::Decoder;
+    ///
+    /// let mut decoder = Decoder::new(jpeg);
+    /// decoder.set_upright(true);
+    /// let pixels = decoder.decode()?;
+    /// let info = decoder.info().unwrap();
+    /// assert_eq!((decoder.orientation(), info.width, info.height), (Some(6), 24, 40));
+    /// # assert_eq!(pixels.len(), 24 * 40 * 3);
+    /// # Ok::<(), zaxbriar::Error>(())
+    /// ```
+    pub fn set_upright(&mut self, is_upright: bool) {
+        let upright = u8::from(is_upright);
+        if self.options.upright != upright {
+            self.options.upright = upright;
+            self.picture = self.picture.map(Picture::turned);
+        }
+    }
+
     /// Chooses exactly that part of the picture's size, rounded up, and returns the size that it
     /// has then. Reads the header.
     ///
@@ -400,7 +434,7 @@ impl<R: Read> Decoder<R> {
     }
 
     /// Returns the orientation that Exif data before the frame say, 1 to 8, once the header was
-    /// read; 1 where they say none.
+    /// read; 1 where they say none. It is that of the stored picture, also where this is turned.
     pub fn orientation(&self) -> Option<u8> {
         self.picture.map(|picture| picture.orientation)
     }
@@ -495,7 +529,7 @@ impl<R: Read> Decoder<R> {
             _ => self.describe(&options)?,
         };
         self.refuse_above_limits(&picture)?;
-        options.transform = transform_number(self.color_transform, &picture, layout)?;
+        options.transform = transform_number(self.color_transform, &picture, &options)?;
         self.stage = Stage::Failed;
         let mut pixels = library::zeros(picture.size).map_err(refused)?;
         let failure = self.stream.read_image(&mut self.reader);

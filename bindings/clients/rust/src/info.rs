@@ -44,9 +44,10 @@ pub enum CodingProcess {
 /// What a header says of its picture.
 #[derive(Clone, Copy, Debug, PartialEq)]
 pub struct ImageInfo {
-    /// The width in pixels, at the scale that was chosen.
+    /// The width in pixels, at the scale that was chosen, and upright if that was asked for
+    /// ([`Decoder::set_upright`](crate::Decoder::set_upright)).
     pub width: u16,
-    /// The height in pixels, at that scale.
+    /// The height in pixels, in the same way.
     pub height: u16,
     /// What a pixel is, as [`decode`](crate::Decoder::decode) returns it.
     pub pixel_format: PixelFormat,

@@ -19,6 +19,9 @@ const TOO_MANY_PASSES: c_int = 10;
 /// A picture's coding process.
 const LOSSLESS: u8 = 3;
 
+/// The last orientation of a picture that doesn't lie on its side.
+const LAST_STANDING: u8 = 4;
+
 /// The bytes of a picture's text.
 const TEXT_BYTES: usize = 112;
 
@@ -45,7 +48,9 @@ pub struct Options {
     /// Null.
     pointers: [u64; 2],
     pub max_passes: u64,
-    reserved_words: [u64; 9],
+    pub upright: u8,
+    reserved_bytes: [u8; 7],
+    reserved_words: [u64; 8],
 }
 
 /// `zaxbriar_picture`.
@@ -163,6 +168,18 @@ impl Picture {
     /// Returns how many bytes the picture and decoding it take.
     pub fn bytes(&self) -> u64 {
         self.size.saturating_add(self.decoding_bytes)
+    }
+
+    /// Returns the picture as it is described once it is turned, or no longer turned, upright.
+    pub fn turned(self) -> Picture {
+        if self.orientation <= LAST_STANDING {
+            return self;
+        }
+        Picture {
+            width: self.height,
+            height: self.width,
+            ..self
+        }
     }
 
     /// Returns whether the picture's process is lossless.
@@ -314,7 +331,8 @@ pub fn decode(jpeg: &[u8], options: &Options, pixels: &mut [u8]) -> Answer<()> {
 
 /// What there is of a stream.
 pub struct Part {
-    /// How many rows of the picture, from its top, are complete in each scan that has begun.
+    /// How many rows of the picture, from its top and before it is turned, are complete in each
+    /// scan that has begun.
     pub whole_rows: u32,
     /// The first fault of the stream, if it has any.
     pub fault: Option<Refusal>,
