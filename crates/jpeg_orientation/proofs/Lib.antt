@@ -1,2 +1,3 @@
+pub mod Directories
 pub mod Orientations
 pub mod Rules

@@ -1,9 +1,9 @@
 -- Lemmas that the proofs of functions use, and definitions that they unfold, by what they are about.
 use Rattle.std.specs.Prelude.{⊤}
-use Rattle.jpeg_orientation.specs.Orientation.{entries_in}
-use Rattle.jpeg_orientation.proofs.Orientations.{cut_directory, cut_exif, few_after, found_directory, four_higher}
-use Rattle.jpeg_orientation.proofs.Orientations.{four_lower, higher_exif, lower_exif, met, none_among, other_directory}
-use Rattle.jpeg_orientation.proofs.Orientations.{other_exif, passed, two_higher, two_lower}
+use Rattle.jpeg_orientation.specs.Tiff.{entries_in}
+use Rattle.jpeg_orientation.proofs.Directories.{cut_link, found_link, four_higher, four_lower, none_tagged}
+use Rattle.jpeg_orientation.proofs.Directories.{tag_met, tag_passed, two_higher, two_lower}
+use Rattle.jpeg_orientation.proofs.Orientations.{cut_directory, found_directory, met, none_among, passed}
 
 pub ruleset shorts = (two_lower, two_higher)
 
@@ -15,6 +15,8 @@ unfoldable pub listed : ⊤
 unfolding entries_in
 listed = tt
 
-pub ruleset directories = (cut_directory, few_after, other_directory, found_directory)
+pub ruleset tags = (none_tagged, tag_passed, tag_met)
 
-pub ruleset exif = (cut_exif, lower_exif, higher_exif, other_exif)
+pub ruleset links = (cut_link, found_link)
+
+pub ruleset directories = (cut_directory, found_directory)

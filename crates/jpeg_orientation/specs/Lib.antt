@@ -1,2 +1,3 @@
 pub mod Orientation
+pub mod Tiff
 pub mod Turns

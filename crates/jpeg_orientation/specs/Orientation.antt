@@ -1,46 +1,8 @@
--- The orientation that Exif data say. They are a TIFF structure (Exif 2.3, 4.5.2; TIFF 6.0,
--- sections 2 and 8).
-use Rattle.std.specs.Prelude.{ℕ, zero, suc, ◌+◌, ◌*◌, ◌==◌, ◌&&◌, ◌||◌, Bool, true, false, nat_le}
-use Rattle.std.specs.Prelude.{List, [], ◌∷◌, take, drop, length, reverse, if◌then◌else◌}
-use Rattle.std.specs.Prelude.{Option, None, option_map}
+-- The orientation that Exif data say. They are a TIFF structure (Exif 2.3, 4.5.2).
+use Rattle.std.specs.Prelude.{ℕ, ◌==◌, ◌&&◌, ◌||◌, Bool, nat_le, List, if◌then◌else◌}
+use Rattle.std.specs.Prelude.{Option, Some, None, option_map}
 use Rattle.std.specs.List.{find}
-
--- ---- numbers, whose bytes come with the lower first ("II") or the higher ("MM")
-
-unfoldable pub lower_first : List ℕ → ℕ
-lower_first [] = 0
-lower_first (b ∷ bytes) = b + 256 * lower_first bytes
-
--- the number of some bytes
-abbrev pub number : Bool → List ℕ → ℕ
-number little bytes = if little then lower_first bytes else lower_first (reverse bytes)
-
--- the number of this many bytes at an offset
-abbrev pub number_at : Bool → ℕ → ℕ → List ℕ → ℕ
-number_at little offset count bytes = number little (take count (drop offset bytes))
-
--- ---- the first directory
-
--- this many entries of twelve bytes, or as many as are there
-unfoldable pub entries_in : ℕ → List ℕ → List (List ℕ)
-entries_in zero bytes = []
-entries_in (suc count) bytes =
-    elim (nat_le 12 (length bytes)) [
-      | true ↦ take 12 bytes ∷ entries_in count (drop 12 bytes)
-      | false ↦ []
-    ]
-
--- The entries of a directory follow their number, of two bytes.
-abbrev pub entries_of : Bool → List ℕ → List (List ℕ)
-entries_of little directory = entries_in (number_at little 0 2 directory) (drop 2 directory)
-
--- After the order of the bytes there are the number 42 and the offset of the first directory.
-unfoldable pub first_directory : Bool → List ℕ → List (List ℕ)
-first_directory little exif =
-    if number_at little 2 2 exif == 42
-    then entries_of little (drop (number_at little 4 4 exif) exif) else []
-
--- ---- the orientation
+use Rattle.jpeg_orientation.specs.Tiff.{first_directory, number_at, order_in}
 
 -- How many bytes a number takes by its type: a SHORT (3) two, and a SLONG (9), which some writers
 -- take in its place, four.
@@ -70,7 +32,7 @@ orientation_among little all = option_map (value_of little) (find (is_orientatio
 
 -- The orientation of Exif data, 1 to 8, if they say one.
 unfoldable pub orientation_in : List ℕ → Option ℕ
-orientation_in exif =
-    if number_at true 0 2 exif == 0x4949 then orientation_among true (first_directory true exif)
-    else (if number_at true 0 2 exif == 0x4d4d
-    then orientation_among false (first_directory false exif) else None)
+orientation_in exif = elim (order_in exif) [
+  | None ↦ None
+  | Some little ↦ orientation_among little (first_directory little exif)
+]

@@ -1,61 +1,24 @@
-//! The orientation given by Exif data (Exif 2.3, 4.6.4; TIFF 6.0, sections 2 and 8), and how a
-//! picture is turned upright by it.
+//! The orientation given by Exif data (Exif 2.3, 4.6.4), the TIFF structures in which it is, and how
+//! a picture is turned upright by it.
 #![tactic(auto)]
 
-pub mod turns;
-
-ghost use Rattle.std.specs.Prelude.{◌≡◌, ◌<◌, ◌≤◌, ◌+◌, MatchOption, if◌then◌else◌};
+ghost use Rattle.std.specs.Prelude.{◌≡◌, ◌≤◌, if◌then◌else◌};
 ghost use Rattle.std.specs.Prelude.{IfSome, Some, None, length, true};
-ghost use Rattle.jpeg_orientation.specs.Orientation.{entries_in, first_directory, is_orientation};
-ghost use Rattle.jpeg_orientation.specs.Orientation.{is_orientation_by, number_at};
+ghost use Rattle.jpeg_orientation.specs.Orientation.{is_orientation, is_orientation_by};
 ghost use Rattle.jpeg_orientation.specs.Orientation.{orientation_among, orientation_in, value_by};
 ghost use Rattle.jpeg_orientation.specs.Orientation.{value_of};
+ghost use Rattle.jpeg_orientation.specs.Tiff.{entries_in, first_directory};
+
+use crate::tiff::{SHORT, directory_at, long_at, order_of, short_at};
+
+pub mod tiff;
+pub mod turns;
 
 /// The tag of the orientation.
 const ORIENTATION: u16 = 0x0112;
 
-/// The type of values of two bytes.
-const SHORT: u16 = 3;
-
 /// The type of values of four bytes with a sign, which some writers use in place of `SHORT`.
 const SLONG: u16 = 9;
-
-/// Returns the number of two bytes at an offset, if they are there.
-#[tactic(auto, using(crate::proofs::Rules::shorts))]
-fn short_at(bytes: &[u8], offset: usize, is_little: bool) -> Option<u16>
-    ensures { MatchOption result (length bytes.now < offset + 2)
-        (λ n. n ≡ number_at is_little offset 2 bytes.now) }
-{
-    let (_, rest) = bytes.split_at_checked(offset)?;
-    let &[first, second, ..] = rest else {
-        return None;
-    };
-    let (first, second) = (u16::from(first), u16::from(second));
-    Some(if is_little {
-        first + 256 * second
-    } else {
-        256 * first + second
-    })
-}
-
-/// Returns the number of four bytes at an offset, if they are there.
-#[tactic(auto, using(crate::proofs::Rules::longs))]
-fn long_at(bytes: &[u8], offset: usize, is_little: bool) -> Option<u32>
-    ensures { MatchOption result (length bytes.now < offset + 4)
-        (λ n. n ≡ number_at is_little offset 4 bytes.now) }
-{
-    let (_, rest) = bytes.split_at_checked(offset)?;
-    let &[first, second, third, fourth, ..] = rest else {
-        return None;
-    };
-    let (first, second) = (u32::from(first), u32::from(second));
-    let (third, fourth) = (u32::from(third), u32::from(fourth));
-    Some(if is_little {
-        first + 256 * second + 65536 * third + 16777216 * fourth
-    } else {
-        16777216 * first + 65536 * second + 256 * third + fourth
-    })
-}
 
 /// Returns the value of an entry of this type.
 fn value_at(entry: &[u8], kind: u16, is_little: bool) -> Option<u32>
@@ -122,13 +85,8 @@ fn orientation_by(exif: &[u8], is_little: bool) -> Option<u8>
     ensures value { result ≡ orientation_among is_little (first_directory is_little exif.now) }
     ensures range { IfSome result (λ n. (1 ≤ n) × (n ≤ 8)) }
 {
-    if short_at(exif, 2, is_little)? != 42 {
-        return None;
-    }
     let offset = long_at(exif, 4, is_little)?;
-    let (_, directory) = exif.split_at_checked(offset as usize)?;
-    let count = short_at(directory, 0, is_little)?;
-    let (_, entries) = directory.split_at_checked(2)?;
+    let (count, entries) = directory_at(exif, offset, is_little)?;
     orientation_among(entries, count, is_little)
 }
 
@@ -137,14 +95,11 @@ fn orientation_by(exif: &[u8], is_little: bool) -> Option<u8>
 /// four with a sign, which some files use.
 ///
 /// The data begin at their TIFF header. If they are truncated or give no orientation, returns none.
-#[tactic(auto, using(crate::proofs::Rules::exif))]
+#[tactic(auto, unfolding(crate::specs::Orientation::orientation_in))]
 pub fn orientation_of(exif: &[u8]) -> Option<u8>
     ensures value { result ≡ orientation_in exif.now }
     ensures range { IfSome result (λ n. (1 ≤ n) × (n ≤ 8)) }
 {
-    match short_at(exif, 0, true)? {
-        0x4949 => orientation_by(exif, true),
-        0x4d4d => orientation_by(exif, false),
-        _ => None,
-    }
+    let is_little = order_of(exif)?;
+    orientation_by(exif, is_little)
 }

@@ -1,1 +1,4 @@
+mod ImageIndexes
 mod MachineNumbers
+mod OnLiterals
+mod Rules

@@ -1,5 +1,6 @@
 use Rattle.std.proofs.Common.{◌≡◌, ◌-◌}
-use Rattle.jpeg_orientation.specs.Orientation.{entries_in, orientation_among}
+use Rattle.jpeg_orientation.specs.Orientation.{orientation_among}
+use Rattle.jpeg_orientation.specs.Tiff.{entries_in}
 use Rattle.jpeg_orientation.proofs.orientation_among.Given as goal
 
 abbrev pub invariant-loop : goal.invariant-loop
