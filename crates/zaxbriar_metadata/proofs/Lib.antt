@@ -1,0 +1,5 @@
+mod Directories
+mod Extensions
+mod OnLiterals
+mod Resources
+mod Rules

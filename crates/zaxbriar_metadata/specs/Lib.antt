@@ -1,0 +1,4 @@
+pub mod Exif
+pub mod Photoshop
+pub mod Worked
+pub mod Xmp
