@@ -14,7 +14,7 @@ _zaxbriar() {
     case "${COMP_WORDS[1]}" in
         pnm) options+=' --scale --partial' ;;
         thumbnail) options+=' --max --png --as-stored --partial' ;;
-        info) options+=' --json --exif --xmp --icc' ;;
+        info) options+=' --json --exif --thumbnail --xmp --extended-xmp --iptc --icc' ;;
         check) options+=' --json --quiet --strict' ;;
         frames) options+=' --list' ;;
     esac

@@ -42,7 +42,10 @@ case "${words[2]}" in
         own=(
             '--json[write JSON]'
             '--exif[write the Exif data to a file]:file:_files'
+            '--thumbnail[write the thumbnail in the Exif data to a file]:file:_files'
             '--xmp[write the XMP data to a file]:file:_files'
+            '--extended-xmp[write the extended XMP data to a file]:file:_files'
+            '--iptc[write the IPTC data to a file]:file:_files'
             '--icc[write the ICC profile to a file]:file:_files'
         )
         ;;

@@ -8,11 +8,11 @@ use std::alloc::Global;
 /// The word.
 pub const NAME: &str = "info";
 
-const ABOUT: &str = "Describes JPEG files, and extracts their Exif, XMP and ICC data";
+const ABOUT: &str = "Describes JPEG files, and extracts their Exif, XMP, IPTC and ICC data";
 
 const OUTPUT: &str = "The file for the description; standard output by default, or for -";
 
-const PARAMETERS: [Parameter; 6] = [
+const PARAMETERS: [Parameter; 9] = [
     INPUTS,
     Parameter {
         name: "output",
@@ -21,7 +21,10 @@ const PARAMETERS: [Parameter; 6] = [
     },
     JSON,
     extraction::EXIF,
+    extraction::THUMBNAIL,
     extraction::XMP,
+    extraction::EXTENDED_XMP,
+    extraction::IPTC,
     extraction::ICC,
 ];
 

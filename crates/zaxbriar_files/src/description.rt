@@ -1,8 +1,9 @@
 //! Headers in words: lines `key: value`, and JSON.
 
-use crate::header::{Data, Density, Header, NamedColours, Unit};
+use crate::header::{Density, Header, NamedColours, Unit};
 use crate::images::{images, put_images};
 use crate::lines::{JsonLine, Line};
+use crate::metadata::Sizes;
 use crate::names::shown;
 use crate::output::Output;
 use crate::refusal::Refusal;
@@ -200,33 +201,37 @@ fn colours_fact(header: &Header) -> Fact {
     )
 }
 
+/// Returns how many bytes there are of a kind of data, under keys that have these words.
+fn size_fact(line: &'static str, member: &'static str, bytes: Option<usize>) -> Fact {
+    Fact {
+        line,
+        member,
+        value: number_or_nothing(bytes),
+    }
+}
+
 /// Returns what a header says of restarts and of the data beside the picture.
-fn data_facts(restart_interval: u16, data: Data) -> [Fact; 5] {
+fn data_facts(restart_interval: u16, data: Sizes) -> [Fact; 8] {
     [
         Fact {
             line: "restart-interval",
             member: "restart_interval",
             value: Value::Number(usize::from(restart_interval)),
         },
-        Fact {
-            line: "icc-bytes",
-            member: "icc_bytes",
-            value: number_or_nothing(data.icc),
-        },
-        Fact {
-            line: "exif-bytes",
-            member: "exif_bytes",
-            value: number_or_nothing(data.exif),
-        },
+        size_fact("icc-bytes", "icc_bytes", data.icc),
+        size_fact("exif-bytes", "exif_bytes", data.exif),
         fact_of(
             "orientation",
             number_or_nothing(data.orientation.map(usize::from)),
         ),
-        Fact {
-            line: "xmp-bytes",
-            member: "xmp_bytes",
-            value: number_or_nothing(data.xmp),
-        },
+        size_fact("thumbnail-bytes", "thumbnail_bytes", data.thumbnail),
+        size_fact("xmp-bytes", "xmp_bytes", data.xmp),
+        size_fact(
+            "extended-xmp-bytes",
+            "extended_xmp_bytes",
+            data.extended_xmp,
+        ),
+        size_fact("iptc-bytes", "iptc_bytes", data.iptc),
     ]
 }
 

@@ -1,11 +1,11 @@
 //! What the segments of a stream say up to its first scan.
 
+use crate::metadata::{Metadata, Sizes};
 use crate::multi_picture::{Index, index_in};
 use jpeg_bits::error::{Error, Result, format_error_of};
 use jpeg_bits::marker::{Marker, read_marker};
 use jpeg_bits::source::Source;
 use jpeg_bits::source::reads::{read_bytes, read_length, read_u16_be, skip};
-use jpeg_orientation::orientation_of;
 use jpeg_segments::parser::{
     AdobeColorTransform, AppData, FrameInfo, parse_app, parse_com, parse_dri, parse_sof,
 };
@@ -38,7 +38,7 @@ pub enum Unit {
 }
 
 /// What the segments of a stream say up to its first scan. If data occur more than once, the last
-/// counts, and of comments the first.
+/// counts, and of comments the first; Exif data may be those of several segments.
 #[derive(Drop)]
 pub struct Header {
     /// The frame header.
@@ -52,7 +52,7 @@ pub struct Header {
     /// The first comment.
     pub comment: Option<Vec<u8>>,
     /// What stands there beside the picture.
-    pub data: Data,
+    pub data: Sizes,
     /// The index of the file's images.
     pub images: Option<Index>,
 }
@@ -66,19 +66,6 @@ pub struct NamedColours {
     pub adobe: Option<AdobeColorTransform>,
 }
 
-/// The sizes of what stands in a stream beside the picture, in bytes.
-#[derive(Clone, Copy)]
-pub struct Data {
-    /// Of the parts of an ICC profile.
-    pub icc: Option<usize>,
-    /// Of Exif data.
-    pub exif: Option<usize>,
-    /// The orientation that the Exif data give.
-    pub orientation: Option<u8>,
-    /// Of XMP data.
-    pub xmp: Option<usize>,
-}
-
 impl Unit {
     /// Returns the unit that a JFIF segment has this number for.
     fn of(number: u8) -> Option<Unit> {
@@ -87,38 +74,6 @@ impl Unit {
             1 => Some(Unit::Inch),
             2 => Some(Unit::Centimetre),
             _ => None,
-        }
-    }
-}
-
-impl Data {
-    /// Adds a part of an ICC profile.
-    fn add_icc(&mut self, bytes: usize) {
-        self.icc = Some(self.icc.unwrap_or(0).saturating_add(bytes));
-    }
-
-    /// Adds what the segment of an application says.
-    fn add(&mut self, said: &AppData) {
-        match said {
-            AppData::Icc(part) => self.add_icc(part.bytes.len()),
-            AppData::Exif(bytes) => {
-                self.exif = Some(bytes.len());
-                self.orientation = orientation_of(bytes.as_slice());
-            }
-            AppData::Xmp(bytes) => self.xmp = Some(bytes.len()),
-            AppData::Adobe(_) | AppData::Jfif | AppData::Avi1 | AppData::Psir(_) => {}
-        }
-    }
-}
-
-impl NamedColours {
-    /// Adds what the segment of an application says.
-    fn add(&mut self, said: &AppData) {
-        match said {
-            AppData::Adobe(transform) => self.adobe = Some(*transform),
-            AppData::Jfif => self.is_jfif = true,
-            AppData::Icc(_) | AppData::Exif(_) | AppData::Xmp(_) => {}
-            AppData::Avi1 | AppData::Psir(_) => {}
         }
     }
 }
@@ -145,13 +100,18 @@ fn skip_segment<R: Read + Drop>(alloc: Global, source: &mut Source<R>) -> Result
     skip(alloc, source, length)
 }
 
+/// Returns the source of a reader, which counts its bytes.
+fn source_of<R: Read + Drop>(reader: R) -> Source<Take<R>> {
+    Source::new(reader.take(u64::MAX))
+}
+
 /// Returns how many bytes were read of a source that may read `u64::MAX` of them.
 fn position_of<R: Read + Drop>(source: &Source<Take<R>>) -> u64 {
     let (_, reader) = source.rest();
     u64::MAX - reader.limit()
 }
 
-/// What was found before the first scan.
+/// What the segments have said so far.
 #[derive(Drop)]
 struct Found {
     frame: Option<FrameInfo>,
@@ -159,13 +119,13 @@ struct Found {
     colours: NamedColours,
     density: Option<Density>,
     comment: Option<Vec<u8>>,
-    data: Data,
+    metadata: Metadata,
     images: Option<Index>,
 }
 
 impl Found {
     /// Returns what was found before anything was read.
-    fn nothing() -> Found {
+    fn nothing(alloc: Global) -> Found {
         Found {
             frame: None,
             restart_interval: 0,
@@ -175,34 +135,9 @@ impl Found {
             },
             density: None,
             comment: None,
-            data: Data {
-                icc: None,
-                exif: None,
-                orientation: None,
-                xmp: None,
-            },
+            metadata: Metadata::new(alloc),
             images: None,
         }
-    }
-
-    /// Adds what the segment of an application says, if it says something.
-    fn add(&mut self, said: Option<&AppData>) {
-        if let Some(said) = said {
-            self.colours.add(said);
-            self.data.add(said);
-        }
-    }
-
-    /// Reads the segment of an application.
-    fn read_application<R: Read + Drop>(
-        &mut self,
-        alloc: Global,
-        source: &mut Source<R>,
-        marker: Marker,
-    ) -> Result<()> {
-        let said = parse_app(alloc, source, marker)?;
-        self.add(said.as_ref());
-        Ok(())
     }
 
     /// Adds what the segment APP0 says.
@@ -215,23 +150,9 @@ impl Found {
         }
     }
 
-    /// Reads the segment APP0, which has the density in addition to what `parse_app` says of it.
-    fn read_application_0<R: Read + Drop>(
-        &mut self,
-        alloc: Global,
-        source: &mut Source<R>,
-    ) -> Result<()> {
-        let length = read_length(alloc, source)?;
-        let segment = read_bytes(alloc, source, length)?;
-        self.add_application_0(segment.as_slice());
-        Ok(())
-    }
-
-    /// Adds what the segment APP2 says, whose bytes after its length begin at `start` in the file.
-    fn add_application_2(&mut self, alloc: Global, segment: &[u8], start: u64) -> Result<()> {
-        if segment.starts_with(b"ICC_PROFILE\0") && segment.len() > 14 {
-            self.data.add_icc(segment.len() - 14);
-        }
+    /// Adds the index of the file's images that the segment APP2 may have, whose bytes after its
+    /// length begin at the offset `start` in the file.
+    fn add_images(&mut self, alloc: Global, segment: &[u8], start: u64) -> Result<()> {
         if let Some(bytes) = segment.strip_prefix(b"MPF\0") {
             if let Some(index) = index_in(alloc, bytes, start.saturating_add(4))? {
                 self.images = Some(index);
@@ -240,17 +161,36 @@ impl Found {
         Ok(())
     }
 
-    /// Reads the segment APP2, which may have the index of the file's images in addition to what
-    /// `parse_app` says of it.
-    fn read_application_2<R: Read + Drop>(
+    /// Reads the segment of Adobe, which names a transform, if it is one.
+    fn read_adobe<R: Read + Drop>(
+        &mut self,
+        alloc: Global,
+        source: &mut Source<R>,
+        marker: Marker,
+    ) -> Result<()> {
+        if let Some(AppData::Adobe(transform)) = parse_app(alloc, source, marker)? {
+            self.colours.adobe = Some(transform);
+        }
+        Ok(())
+    }
+
+    /// Reads the segment of another application.
+    fn read_application<R: Read + Drop>(
         &mut self,
         alloc: Global,
         source: &mut Source<Take<R>>,
+        number: u8,
     ) -> Result<()> {
         let length = read_length(alloc, source)?;
         let start = position_of(source);
         let segment = read_bytes(alloc, source, length)?;
-        self.add_application_2(alloc, segment.as_slice(), start)
+        match number {
+            0 => self.add_application_0(segment.as_slice()),
+            2 => self.add_images(alloc, segment.as_slice(), start)?,
+            _ => {}
+        }
+        self.metadata.add(alloc, number, segment.as_slice())?;
+        Ok(())
     }
 
     /// Reads a comment.
@@ -297,9 +237,8 @@ impl Found {
         match marker {
             Marker::SOF(_) => self.read_frame(alloc, source, marker),
             Marker::DRI => self.read_restart_interval(alloc, source),
-            Marker::APP(0) => self.read_application_0(alloc, source),
-            Marker::APP(2) => self.read_application_2(alloc, source),
-            Marker::APP(_) => self.read_application(alloc, source, marker),
+            Marker::APP(14) => self.read_adobe(alloc, source, marker),
+            Marker::APP(number) => self.read_application(alloc, source, number),
             Marker::COM => self.read_comment(alloc, source),
             _ if marker.has_length() => skip_segment(alloc, source),
             _ => Ok(()),
@@ -314,7 +253,7 @@ impl Found {
             colours,
             density,
             comment,
-            data,
+            metadata,
             images,
         } = self;
         match frame {
@@ -324,7 +263,7 @@ impl Found {
                 colours,
                 density,
                 comment,
-                data,
+                data: metadata.sizes(alloc)?,
                 images,
             }),
             None => Err(format_error_of(format!(in alloc; "found {marker}, expected SOFn"))),
@@ -343,14 +282,13 @@ fn read_start<R: Read + Drop>(alloc: Global, source: &mut Source<R>) -> Result<(
     Ok(())
 }
 
-/// Reads the segments of a stream up to its first scan, or up to its end if it has none, and
-/// returns the marker there.
-fn read_segments<R: Read + Drop>(
+/// Reads segments up to the next scan, or up to the end of the image, and returns the marker there.
+/// The data of a scan before them are passed over.
+fn read_to_scan<R: Read + Drop>(
     alloc: Global,
     source: &mut Source<Take<R>>,
     found: &mut Found,
 ) -> Result<Marker> {
-    read_start(alloc, source)?;
     for _ in 0..u64::MAX {
         let marker = read_marker(alloc, source)?;
         if matches!(marker, Marker::SOS | Marker::EOI) {
@@ -359,6 +297,17 @@ fn read_segments<R: Read + Drop>(
         found.read_segment(alloc, source, marker)?;
     }
     Ok(Marker::EOI)
+}
+
+/// Reads the segments of a stream up to its first scan, or up to its end if it has none, and
+/// returns the marker there.
+fn read_segments<R: Read + Drop>(
+    alloc: Global,
+    source: &mut Source<Take<R>>,
+    found: &mut Found,
+) -> Result<Marker> {
+    read_start(alloc, source)?;
+    read_to_scan(alloc, source, found)
 }
 
 /// Returns whether an error is that the bytes end too soon.
@@ -381,7 +330,7 @@ fn or_end(read: Result<Marker>, has_frame: bool) -> Result<Marker> {
 /// Reads the segments that the reader gives up to the first scan, and returns the marker there.
 /// That is EOI where the bytes end after a frame header.
 fn read_found<R: Read + Drop>(alloc: Global, reader: R, found: &mut Found) -> Result<Marker> {
-    let mut source = Source::new(reader.take(u64::MAX));
+    let mut source = source_of(reader);
     let read = read_segments(alloc, &mut source, found);
     or_end(read, found.frame.is_some())
 }
@@ -389,9 +338,62 @@ fn read_found<R: Read + Drop>(alloc: Global, reader: R, found: &mut Found) -> Re
 /// Reads the segments of a stream up to its first scan, or up to its end if it has none. Bytes that
 /// end after a frame header are described as far as they go.
 pub fn read_header<R: Read + Drop>(alloc: Global, reader: R) -> Result<Header> {
-    let mut found = Found::nothing();
+    let mut found = Found::nothing(alloc);
     match read_found(alloc, reader, &mut found) {
         Ok(marker) => found.into_header(alloc, marker),
         Err(error) => Err(error),
+    }
+}
+
+/// The segments of a stream that is read as far as it is needed, without decoding it.
+#[derive(Drop)]
+pub struct Segments<R: Read + Drop> {
+    alloc: Global,
+    source: Source<Take<R>>,
+    found: Found,
+    /// The marker that was read last.
+    marker: Marker,
+}
+
+impl<R: Read + Drop> Segments<R> {
+    /// Returns the segments of the stream that a reader gives. None of them has been read.
+    pub fn new(alloc: Global, reader: R) -> Segments<R> {
+        Segments {
+            alloc,
+            source: source_of(reader),
+            found: Found::nothing(alloc),
+            marker: Marker::SOI,
+        }
+    }
+
+    /// Reads the segments up to the first scan, or up to the end of an image without scans.
+    pub fn read_header(&mut self) -> Result<()> {
+        self.marker = read_segments(self.alloc, &mut self.source, &mut self.found)?;
+        Ok(())
+    }
+
+    /// Reads the other segments up to the end of the image, and passes over the data of its scans.
+    pub fn read_rest(&mut self) -> Result<()> {
+        for _ in 0..u64::MAX {
+            if !matches!(self.marker, Marker::SOS) {
+                return Ok(());
+            }
+            skip_segment(self.alloc, &mut self.source)?;
+            self.marker = read_to_scan(self.alloc, &mut self.source, &mut self.found)?;
+        }
+        Ok(())
+    }
+
+    /// Returns the width and the height of the picture, if a frame header was read.
+    pub fn size(&self) -> Option<(u16, u16)> {
+        match &self.found.frame {
+            Some(frame) => Some((frame.image_size.width, frame.image_size.height)),
+            None => None,
+        }
+    }
+
+    /// Returns what stands beside the picture in the segments that were read, also after an error.
+    pub fn metadata(&self) -> &Metadata {
+        &self.found.metadata
     }
 }

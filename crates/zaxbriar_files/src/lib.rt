@@ -16,6 +16,7 @@ pub mod limits;
 pub mod lines;
 pub mod listing;
 pub mod machine;
+pub mod metadata;
 pub mod multi_picture;
 pub mod names;
 pub mod output;

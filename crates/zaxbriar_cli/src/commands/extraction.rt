@@ -1,51 +1,51 @@
-//! Extracts Exif, XMP and ICC data, for the word `info`.
+//! Extracts what stands beside the picture, for the word `info`.
 //!
-//! The data are as they stand in the stream: Exif data from their TIFF header on, XMP data as text,
-//! and the ICC profile joined from its parts. If the header hasn't all of them, the stream is read
-//! to its end, since such data may stand anywhere in it; if it is refused, what stands before the
-//! fault is written all the same.
+//! Nothing is decoded. The data are as they stand in the stream, each joined from its parts. If the
+//! header hasn't all of them, the segments are read to the end of the image, since such data may
+//! stand anywhere in it; if the stream is refused, what stands before the fault is written all the
+//! same.
 
-use crate::metadata::{is_read, write_data};
+use crate::metadata::{has_data, write_data};
 use clap::ArgMatches;
 use jpeg_decoder::error::Result;
-use jpeg_decoder::{Decoder, Scale};
+use std::alloc::Global;
 use std::io::Read;
 use zaxbriar_arguments::arguments;
 use zaxbriar_arguments::pictures::check_output;
 use zaxbriar_files::ending::{Failure, Outcome};
+use zaxbriar_files::header::Segments;
 use zaxbriar_files::kinds::{KINDS, Kind};
 use zaxbriar_files::limits::Limits;
+use zaxbriar_files::metadata::Metadata;
 use zaxbriar_files::output::Output;
 use zaxbriar_files::refusal::Refusal;
 use zaxbriar_files::{files, names};
-use zaxbriar_pictures::scaled::{limit_blocks, taken_by};
 
-/// Returns whether a decoder has read all requested data.
-fn has_all<R: Read + Drop>(decoder: &Decoder<R>, matches: &ArgMatches<'_>) -> Result<bool> {
+/// Returns whether there are all requested data.
+fn has_all(alloc: Global, metadata: &Metadata, matches: &ArgMatches<'_>) -> Result<bool> {
     for kind in KINDS {
-        if matches.contains_id(kind.option()) && !is_read(decoder, kind)? {
+        if matches.contains_id(kind.option()) && !has_data(alloc, metadata, kind)? {
             return Ok(false);
         }
     }
     Ok(true)
 }
 
-/// Reads a stream as far as the requested data need it. A picture is decoded at 1/8 of its size,
-/// since it isn't requested.
+/// Reads the segments of a stream as far as the requested data need it.
 fn read_data<R: Read + Drop>(
-    decoder: &mut Decoder<R>,
+    alloc: Global,
+    segments: &mut Segments<R>,
     matches: &ArgMatches<'_>,
     limits: Limits,
 ) -> std::result::Result<(), Refusal> {
-    decoder.read_info()?;
-    if has_all(decoder, matches)? {
+    segments.read_header()?;
+    if has_all(alloc, segments.metadata(), matches)? {
         return Ok(());
     }
-    let full = decoder.info().unwrap();
-    decoder.set_scale(Scale::Eighth)?;
-    limits.check(full.width, full.height, taken_by(decoder))?;
-    limit_blocks(decoder, limits);
-    let _pixels = decoder.decode()?;
+    if let Some((width, height)) = segments.size() {
+        limits.check(width, height, 0)?;
+    }
+    segments.read_rest()?;
     Ok(())
 }
 
@@ -62,18 +62,18 @@ fn report_absence(
     }
 }
 
-/// Writes the data of a kind that a decoder has read to a file. If there are none, says so, or why
-/// the stream was refused before them.
-fn write_to<R: Read + Drop>(
+/// Writes the data of a kind to a file. If there are none, says so, or why the stream was refused
+/// before them.
+fn write_to(
     rt: HostRuntime,
     input: Option<&str>,
-    decoder: &Decoder<R>,
+    metadata: &Metadata,
     refusal: Option<&Refusal>,
     kind: Kind,
     name: Option<&str>,
 ) -> Outcome<()> {
     let mut output = Output::new(rt, name);
-    match write_data(decoder, kind, &mut output) {
+    match write_data(rt.alloc(), metadata, kind, &mut output) {
         Ok(true) => files::finish(&rt, input, output, Ok(())),
         Ok(false) => Err(report_absence(rt, input, refusal, kind)),
         Err(error) => files::finish(&rt, input, output, Err(Refusal::from(error))),
@@ -120,31 +120,31 @@ fn check_all(rt: HostRuntime, matches: &ArgMatches<'_>, input: Option<&str>) -> 
     outcome
 }
 
-/// Writes the data of a kind that a decoder has read to the file that the arguments name.
-fn write_kind<R: Read + Drop>(
+/// Writes the data of a kind to the file that the arguments name.
+fn write_kind(
     rt: HostRuntime,
     matches: &ArgMatches<'_>,
     input: Option<&str>,
-    decoder: &Decoder<R>,
+    metadata: &Metadata,
     refusal: Option<&Refusal>,
     kind: Kind,
 ) -> Outcome<()> {
     let name = name_of(rt, matches, input, kind)?;
-    write_to(rt, input, decoder, refusal, kind, name.as_deref())
+    write_to(rt, input, metadata, refusal, kind, name.as_deref())
 }
 
-/// Writes all requested data that a decoder has read.
-fn write_kinds<R: Read + Drop>(
+/// Writes all requested data that there are.
+fn write_kinds(
     rt: HostRuntime,
     matches: &ArgMatches<'_>,
     input: Option<&str>,
-    decoder: &Decoder<R>,
+    metadata: &Metadata,
     refusal: Option<&Refusal>,
 ) -> Outcome<()> {
     let mut outcome = Ok(());
     for kind in KINDS {
         if matches.contains_id(kind.option())
-            && write_kind(rt, matches, input, decoder, refusal, kind).is_err()
+            && write_kind(rt, matches, input, metadata, refusal, kind).is_err()
         {
             outcome = Err(Failure::Refused);
         }
@@ -152,20 +152,7 @@ fn write_kinds<R: Read + Drop>(
     outcome
 }
 
-/// Writes all requested data of a stream, as far as there are any.
-fn write_all<R: Read + Drop>(
-    rt: HostRuntime,
-    matches: &ArgMatches<'_>,
-    input: Option<&str>,
-    decoder: &mut Decoder<R>,
-    limits: Limits,
-) -> Outcome<()> {
-    check_all(rt, matches, input)?;
-    let refusal = read_data(decoder, matches, limits).err();
-    write_kinds(rt, matches, input, decoder, refusal.as_ref())
-}
-
-/// Extracts the requested data of a file.
+/// Extracts the requested data of a file, as far as there are any.
 fn extract(
     rt: HostRuntime,
     matches: &ArgMatches<'_>,
@@ -176,10 +163,10 @@ fn extract(
         Ok(reader) => reader,
         Err(refusal) => return Err(files::report(&rt, input, &refusal)),
     };
-    match Decoder::new(rt.alloc(), reader) {
-        Ok(mut decoder) => write_all(rt, matches, input, &mut decoder, limits),
-        Err(error) => Err(files::report(&rt, input, &error)),
-    }
+    check_all(rt, matches, input)?;
+    let mut segments = Segments::new(rt.alloc(), reader);
+    let refusal = read_data(rt.alloc(), &mut segments, matches, limits).err();
+    write_kinds(rt, matches, input, segments.metadata(), refusal.as_ref())
 }
 
 /// Extracts the requested data of the files that the arguments name, and continues after one that

@@ -2,7 +2,7 @@
 //! first scan and writes lines `key: value`, or with `--json` an array that has an object for each
 //! file, also for one that is refused.
 //!
-//! `--exif FILE`, `--xmp FILE` and `--icc FILE` write data of that kind in place of a description.
+//! `--exif FILE` and the like write data of that kind in place of a description.
 
 use crate::commands::extraction;
 use clap::ArgMatches;
