@@ -12,7 +12,7 @@ _zaxbriar() {
         return
     fi
     case "${COMP_WORDS[1]}" in
-        pnm) options+=' --scale --partial' ;;
+        pnm) options+=' --scale --png --partial' ;;
         thumbnail) options+=' --max --png --as-stored --partial' ;;
         info) options+=' --json --exif --thumbnail --xmp --extended-xmp --iptc --icc' ;;
         check) options+=' --json --quiet --strict' ;;

@@ -10,7 +10,7 @@ common=(
 )
 if ((CURRENT == 2)); then
     _values word \
-        'pnm[convert files to netpbm files]' \
+        'pnm[convert files to netpbm or PNG files]' \
         'thumbnail[write pictures that fit within a size]' \
         'info[describe files]' \
         'check[say which files are whole]' \
@@ -27,6 +27,7 @@ case "${words[2]}" in
     pnm)
         own=(
             '--scale[the scale of the width and height]:scale:(1/8 1/4 1/2 1)'
+            '--png[write PNG]'
             '--partial[write the part before a fault]'
         )
         ;;

@@ -7,6 +7,7 @@ programs.py ZAXBRIAR [FILE..]: for each file it compares
   `info --exif`, `--xmp` and `--icc` write;
 - the sizes of `pnm` at each scale with those of `djpeg -scale`, and the samples of the whole
   picture with djpeg's (the mean difference is printed, for djpeg upsamples in another way);
+- the PNG files of `pnm --png`, as netpbm's `pngtopnm` reads them, with the PGM or PPM of `pnm`;
 - the sizes of `thumbnail` with those of ImageMagick's `-thumbnail`, its samples with the means of
   the boxes of `pnm`'s picture at the least scale that isn't smaller, and the picture with that
   of `--as-stored` turned by ImageMagick's `-auto-orient`, sample by sample;
@@ -128,9 +129,7 @@ def data_faults(tools, path):
     faults = []
     for option, tag in (("--exif", "-Exif"), ("--xmp", "-XMP"), ("--icc", "-ICC_Profile")):
         theirs = output_of(["exiftool", "-b", tag, path], b"")
-        done = subprocess.run(
-            [tools.zaxbriar, "info", option, "-", path], capture_output=True
-        )
+        done = subprocess.run([tools.zaxbriar, "info", option, "-", path], capture_output=True)
         if done.stdout != theirs or (done.returncode == 0) != bool(theirs):
             faults.append(f"{option}: {len(done.stdout)} bytes, not {len(theirs)}")
     return faults
@@ -152,6 +151,16 @@ def picture_faults(tools, path, means):
             if len(samples_of(ours)) != len(samples_of(theirs)):
                 faults.append("another number of samples")
     return faults
+
+
+def png_faults(tools, path):
+    """Whether netpbm reads another picture from the PNG file than `pnm` writes. Samples of other
+    than 8 and 16 bits are scaled there."""
+    ours = tools.run("pnm", path)
+    if ours.startswith(b"P7") or ours.split(None, 4)[3] not in (b"255", b"65535"):
+        return []
+    read = output_of(["pngtopnm"], tools.run("pnm", "--png", path))
+    return [] if read == ours else ["netpbm reads another picture from the PNG file"]
 
 
 def orientation_of(path):
@@ -289,7 +298,7 @@ def main(zaxbriar, *files):
         paths = [Path(file) for file in files] or list(made_files(folder))
         for path in paths:
             found = description_faults(tools, path) + data_faults(tools, path)
-            found += picture_faults(tools, path, means)
+            found += picture_faults(tools, path, means) + png_faults(tools, path)
             found += [fault for most in SIZES for fault in thumbnail_faults(tools, path, most)]
             faults += [f"{path.name}: {fault}" for fault in found]
         faults += frame_faults(tools, folder)

@@ -1,9 +1,10 @@
 //! Callers that write files.
-ghost use Rattle.std.specs.Prelude.{ℕ, List, IfOk, IsSomeAnd, OnOk};
+ghost use Rattle.std.specs.Prelude.{◌≡◌, ◌≤◌, ℕ, List, IfOk, IsSomeAnd, OnOk, fold};
 ghost use Rattle.std.specs.Io.KnownBytes.{Appends};
 ghost use Rattle.jpeg_meaning.specs.Output.{Tells, output_of};
 ghost use Rattle.zaxbriar_pictures.specs.Given.{CodesWithin, WritesGiven};
 ghost use Rattle.zaxbriar_samples.specs.Netpbm.{file_of};
+ghost use Rattle.zaxbriar_samples.specs.Png.{adler_byte, filtered_line, line_chunk};
 ghost use Rattle.zaxbriar_pictures.specs.Thumbnails.{WritesThumbnail};
 
 use jpeg_decoder::{Scale, error};
@@ -17,6 +18,7 @@ use zaxbriar_pictures::scaled::write_at;
 use zaxbriar_pictures::thumbnails::write_thumbnail;
 use zaxbriar_samples::files::PictureFormat;
 use zaxbriar_samples::netpbm::{Picture, write_picture};
+use zaxbriar_samples::png::PngFile;
 use zaxbriar_samples::requests::Request;
 
 /// Calls `write_picture`, and says which file an Ok wrote.
@@ -27,6 +29,22 @@ pub fn picture<W: Write>(alloc: Global, picture: Picture, writer: &mut W) -> err
     write_picture(alloc, picture, writer)
 }
 
+/// Calls `PngFile::write_line`, and says what an Ok wrote, and what the sums of the lines are then.
+pub fn png_line<W: Write>(
+    alloc: Global,
+    file: &mut PngFile,
+    line: &[u8],
+    writer: &mut W,
+) -> error::Result<()>
+    requires { file.old.precision ≤ 16 }
+    ensures sums { OnOk result (file.new.sums ≡ fold adler_byte file.old.sums
+        (filtered_line file.old.info file.old.precision line.now 0)) }
+    ensures written { OnOk result (Appends (W.contents writer.old) (W.contents writer.new)
+        (line_chunk file.old.info file.old.precision line.now 0)) }
+{
+    file.write_line(alloc, line, writer)
+}
+
 /// Calls `write_at`.
 pub fn picture_at<R: Read + Drop, W: Write>(
     alloc: Global,
@@ -34,13 +52,14 @@ pub fn picture_at<R: Read + Drop, W: Write>(
     scale: Scale,
     extent: Extent,
     limits: Limits,
+    format: PictureFormat,
     writer: &mut W,
 ) -> Result<Completeness, Refusal>
     ensures { (bytes : List ℕ) → Tells (R.remaining reader) bytes
-        → IfOk result (WritesGiven extent limits scale bytes (W.contents writer.old)
+        → IfOk result (WritesGiven extent limits scale format bytes (W.contents writer.old)
         (W.contents writer.new)) }
 {
-    write_at(alloc, reader, scale, extent, limits, writer)
+    write_at(alloc, reader, scale, extent, limits, format, writer)
 }
 
 /// Calls `write_thumbnail`.

@@ -15,6 +15,7 @@ use zaxbriar_files::refusal::Refusal;
 use zaxbriar_pictures::check::check_stream;
 use zaxbriar_pictures::extents::{Completeness, Extent};
 use zaxbriar_pictures::scaled::{ScaledPicture, limit_blocks, read_picture};
+use zaxbriar_samples::files::PictureFormat;
 use zaxbriar_samples::requests::Request;
 
 /// Calls `read_picture`, and says that picture, complete rows and fault are those that the stream
@@ -23,6 +24,7 @@ pub fn scaled_picture<R: Read + Drop>(
     alloc: Global,
     reader: R,
     request: Request,
+    format: PictureFormat,
     extent: Extent,
     limits: Limits,
 ) -> Result<ScaledPicture, Refusal>
@@ -30,7 +32,7 @@ pub fn scaled_picture<R: Read + Drop>(
         → IfOk result (λ made. IsGiven extent limits made.scale bytes
         (decoded_in made.picture) made.whole_rows made.fault) }
 {
-    read_picture(alloc, reader, request, extent, limits)
+    read_picture(alloc, reader, request, format, extent, limits)
 }
 
 /// Reads a whole picture, and says that it is the one that the stream means at its scale, whatever
@@ -39,13 +41,14 @@ pub fn whole_picture<R: Read + Drop>(
     alloc: Global,
     reader: R,
     request: Request,
+    format: PictureFormat,
     limits: Limits,
 ) -> Result<ScaledPicture, Refusal>
     ensures { (bytes : List ℕ) → Tells (R.remaining reader) bytes
         → IfOk result (λ made. picture_at_scale made.scale bytes
         ≡ Some (decoded made.picture.info made.picture.precision made.picture.pixels.items)) }
 {
-    scaled_picture(alloc, reader, request, Extent::Whole, limits)
+    scaled_picture(alloc, reader, request, format, Extent::Whole, limits)
 }
 
 /// Calls `limit_blocks`, and says which limit it sets.

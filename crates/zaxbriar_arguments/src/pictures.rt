@@ -1,7 +1,9 @@
-//! The options of the words `pnm` and `thumbnail`, and the names of the files that they write.
+//! The options of the words `pnm` and `thumbnail`, and the format and the names of the files that
+//! they write.
 
 use crate::arguments;
 use crate::parameters::{Form, Parameter};
+use clap::ArgMatches;
 use std::alloc::{AllocError, Global};
 use std::collections::BTreeMap;
 use zaxbriar_files::ending::{Failure, Outcome};
@@ -11,6 +13,7 @@ use zaxbriar_files::lines::Line;
 use zaxbriar_files::names::{has_place, name_for, shown};
 use zaxbriar_files::output::is_direct;
 use zaxbriar_files::refusal::Refusal;
+use zaxbriar_samples::files::PictureFormat;
 
 const FILES: &str =
     "The file to write; standard output by default, or for -; for several files DIR/%s.ppm, where \
@@ -18,6 +21,8 @@ const FILES: &str =
 
 const PART: &str =
     "Write the part of a truncated or damaged file that can be decoded; the status is then 3";
+
+const AS_PNG: &str = "Write PNG, as to an output whose name ends with .png; CMYK is then refused";
 
 /// The option `-o` of a word that may write several files.
 pub const OUTPUT: Parameter = Parameter {
@@ -32,6 +37,35 @@ pub const PARTIAL: Parameter = Parameter {
     form: Form::Flag,
     help: PART,
 };
+
+/// The option `--png`.
+pub const PNG: Parameter = Parameter {
+    name: "png",
+    form: Form::Flag,
+    help: AS_PNG,
+};
+
+/// Returns whether a name ends with `.png`, in capital letters or not.
+fn has_png_name(name: &str) -> bool {
+    match name.rsplit_once('.') {
+        Some((_, extension)) => extension.eq_ignore_ascii_case("png"),
+        None => false,
+    }
+}
+
+/// Returns the format of the files to write: PNG if it is asked for, or if the name of the output
+/// ends with `.png`.
+pub fn format_of(matches: &ArgMatches<'_>) -> PictureFormat {
+    let has_name = match arguments::file_of(matches, "output") {
+        Some(output) => has_png_name(output),
+        None => false,
+    };
+    if has_name || matches.get_flag("png") {
+        PictureFormat::Png
+    } else {
+        PictureFormat::Netpbm
+    }
+}
 
 /// Two files.
 type Pair<'a> = (&'a str, &'a str);

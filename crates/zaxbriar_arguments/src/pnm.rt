@@ -10,7 +10,7 @@ use std::alloc::Global;
 /// The word.
 pub const NAME: &str = "pnm";
 
-const ABOUT: &str = "Converts JPEG files to netpbm files: PGM, PPM or, of CMYK, PAM";
+const ABOUT: &str = "Converts JPEG files to PGM, PPM or, of CMYK, PAM, or to PNG";
 
 const SCALE: Parameter = Parameter {
     name: "scale",
@@ -18,7 +18,13 @@ const SCALE: Parameter = Parameter {
     help: "The part of the picture's width and height",
 };
 
-const PARAMETERS: [Parameter; 4] = [INPUTS, pictures::OUTPUT, SCALE, pictures::PARTIAL];
+const PARAMETERS: [Parameter; 5] = [
+    INPUTS,
+    pictures::OUTPUT,
+    SCALE,
+    pictures::PNG,
+    pictures::PARTIAL,
+];
 
 /// Returns what the word takes.
 pub fn command<'a>(alloc: Global) -> Making<'a> {

@@ -1,12 +1,11 @@
 //! The word `thumbnail`.
 
-use crate::arguments::{Making, file_of};
+use crate::arguments::Making;
 use crate::parameters::{Form, INPUTS, Parameter, word};
 use crate::pictures;
 use clap::ArgMatches;
 use jpeg_segments::parser::Dimensions;
 use std::alloc::Global;
-use zaxbriar_samples::files::PictureFormat;
 use zaxbriar_samples::requests::{Request, Upright};
 
 /// The word.
@@ -19,8 +18,6 @@ const MAX: &str =
     it keeps its proportions, and is never enlarged";
 
 const AS_STORED: &str = "Don't turn the picture by the orientation in its Exif data";
-
-const PNG: &str = "Write PNG, as to an output whose name ends with .png; CMYK is then refused";
 
 /// What the value of the option `--max` has to be.
 pub const SIZES: &str = "WIDTHxHEIGHT, WIDTHx, xHEIGHT or SIDE, of 1 to 65535";
@@ -38,11 +35,7 @@ const PARAMETERS: [Parameter; 6] = [
         form: Form::Flag,
         help: AS_STORED,
     },
-    Parameter {
-        name: "png",
-        form: Form::Flag,
-        help: PNG,
-    },
+    pictures::PNG,
     pictures::PARTIAL,
 ];
 
@@ -84,26 +77,4 @@ pub fn request_of(matches: &ArgMatches<'_>) -> Option<Request> {
         Upright::Turned
     };
     Some(Request::Within(most, upright))
-}
-
-/// Returns whether a name ends with `.png`, in capital letters or not.
-fn has_png_name(name: &str) -> bool {
-    match name.rsplit_once('.') {
-        Some((_, extension)) => extension.eq_ignore_ascii_case("png"),
-        None => false,
-    }
-}
-
-/// Returns the format of the files to write: PNG if it is asked for, or if the name of the output
-/// ends with `.png`.
-pub fn format_of(matches: &ArgMatches<'_>) -> PictureFormat {
-    let has_name = match file_of(matches, "output") {
-        Some(output) => has_png_name(output),
-        None => false,
-    };
-    if has_name || matches.get_flag("png") {
-        PictureFormat::Png
-    } else {
-        PictureFormat::Netpbm
-    }
 }

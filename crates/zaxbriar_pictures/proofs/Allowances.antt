@@ -14,30 +14,31 @@ use Rattle.jpeg_decoder.specs.Bytes.{decoding_bytes}
 use Rattle.zaxbriar_files.specs.Limits.{is_allowed}
 use Rattle.zaxbriar_files.specs.declared.limits.Limits.{Limits}
 use Rattle.zaxbriar_samples.specs.Sizes.{orientation_for, scale_of_request, size_for}
+use Rattle.zaxbriar_samples.specs.declared.files.PictureFormat.{PictureFormat}
 use Rattle.zaxbriar_samples.specs.declared.requests.Request.{Request}
 use Rattle.zaxbriar_pictures.specs.Allowed.{allows, allows_frame, allows_lines, allows_raw, taken_for, taken_in_lines}
 
 some-same : {A : Type 0} (x y : A) → ◌≡◌ {A = Option A} (Some x) (Some y) → x ≡ y
 some-same x y e = cc
 
-pub allowed-there : (request : Request) (limits : Limits) (bytes rest : List ℕ) (header : Found)
+pub allowed-there : (request : Request) (format : PictureFormat) (limits : Limits) (bytes rest : List ℕ) (header : Found)
     (full : ImageInfo) (orientation : ℕ) (scale : Scale) (size : Dimensions) (taken : ℕ)
     → header_at bytes ≡ Ok (header, rest) → option_map info_of header.said.frame ≡ Some full
     → orientation ≡ orientation_for request header.said.metadata.exif
     → scale ≡ scale_of_request request full orientation → size ≡ size_for request full orientation
-    → IfSome (option_map (scaled scale) header.said.frame) (λ f. taken ≡ taken_for request full f size)
-    → is_allowed limits full.width full.height taken ≡ true → allows request limits bytes ≡ true
+    → IfSome (option_map (scaled scale) header.said.frame) (λ f. taken ≡ taken_for request format full f size)
+    → is_allowed limits full.width full.height taken ≡ true → allows request format limits bytes ≡ true
 unfolding allows
-allowed-there request limits bytes rest header full orientation scale size taken e i o s z t a =
+allowed-there request format limits bytes rest header full orientation scale size taken e i o s z t a =
     rw (e, allows) (go header.said.frame i t)
   where
     go : (frame : Option Frame) → option_map info_of frame ≡ Some full
-        → IfSome (option_map (scaled scale) frame) (λ f. taken ≡ taken_for request full f size)
-        → unwrap_or (option_map (allows_frame request limits header) frame) false ≡ true
+        → IfSome (option_map (scaled scale) frame) (λ f. taken ≡ taken_for request format full f size)
+        → unwrap_or (option_map (allows_frame request format limits header) frame) false ≡ true
     go None i t = absurd (let n : ⊥ = cc in n)
     go (Some f) i t =
         let turn = orientation_for request header.said.metadata.exif in
-        subst (λ (k : ImageInfo). is_allowed limits k.width k.height (taken_for request k
+        subst (λ (k : ImageInfo). is_allowed limits k.width k.height (taken_for request format k
         (scaled (scale_of_request request k turn) f) (size_for request k turn)) ≡ true)
         (sym (some-same (info_of f) full i)) (rw (sym o) (rw (sym s, sym z, sym t) a))
 

@@ -2,5 +2,6 @@ mod Allowances
 mod AllowedRests
 mod CheckedStreams
 mod GivenLines
+mod PictureLines
 pub mod ScaledStreams
 mod WrittenThumbnails

@@ -19,12 +19,14 @@ use Rattle.jpeg_meaning.proofs.Written.ReadTurns.{then-ok}
 use Rattle.jpeg_meaning.specs.declared.images.ImageInfo.{ImageInfo}
 use Rattle.jpeg_decoder.specs.Reaching.{NamesFault}
 use Rattle.jpeg_decoder.proofs.Segments.HeaderThenRest.{header-means}
-use Rattle.zaxbriar_pictures.specs.Given.{Given, IsGiven, WritesGiven, file_in, given, given_at_scale, given_of}
+use Rattle.zaxbriar_pictures.specs.Given.{Given, IsGiven, WritesGiven, given, given_at_scale, given_of}
 use Rattle.zaxbriar_files.specs.declared.limits.Limits.{Limits}
 use Rattle.zaxbriar_pictures.proofs.AllowedRests.{allowed-rest}
 use Rattle.zaxbriar_pictures.specs.Given.{CodesWithin, TellsGiven, complete_rest, complete_rows, complete_within}
 use Rattle.zaxbriar_pictures.specs.Given.{given_rest, given_within, most_after, settings_within, without_fault}
 use Rattle.zaxbriar_samples.specs.DecodedPictures.{Decoded, decoded}
+use Rattle.zaxbriar_samples.specs.Files.{file_as}
+use Rattle.zaxbriar_samples.specs.declared.files.PictureFormat.{PictureFormat}
 use Rattle.zaxbriar_pictures.specs.ScaledPictures.{header_exif, header_info, picture_at_scale}
 use Rattle.zaxbriar_pictures.specs.Steps.{GivesPicture}
 use Rattle.zaxbriar_pictures.specs.declared.extents.Completeness.{Completeness}
@@ -93,18 +95,20 @@ tells-given extent limits scale bytes g picture told is same names rows =
     let said = is ∙ ap (λ (p : Decoded). p.info) same in
     (said, rows ∙ ap (λ (i : ImageInfo). complete_rows extent limits scale bytes i.height) (sym said), names)
 
-pub file-given : (extent : Extent) (limits : Limits) (scale : Scale) (bytes : List ℕ) (before after : Option (List ℕ)) (picture : Decoded)
-    (told : Completeness)
+pub file-given : (extent : Extent) (limits : Limits) (scale : Scale) (format : PictureFormat) (bytes : List ℕ)
+    (before after : Option (List ℕ)) (picture : Decoded) (told : Completeness)
     → IsGiven extent limits scale bytes picture told.whole_rows told.fault → told.info ≡ picture.info
-    → Appends before after (file_in picture) → WritesGiven extent limits scale bytes before after told
-file-given extent limits scale bytes before after picture told h is appended = go (given_at_scale extent limits scale bytes) h
+    → IsSomeAnd (file_as format picture) (Appends before after)
+    → WritesGiven extent limits scale format bytes before after told
+file-given extent limits scale format bytes before after picture told h is appended = go (given_at_scale extent limits scale bytes) h
   where
     go : (o : Option Given) → IsSomeAnd o (λ g. (picture ≡ g.picture) × NamesFault told.fault g.fault
         × (told.whole_rows ≡ complete_rows extent limits scale bytes g.picture.info.height))
-        → IsSomeAnd o (λ g. Appends before after (file_in g.picture) × TellsGiven extent limits scale bytes g told)
+        → IsSomeAnd o (λ g. IsSomeAnd (file_as format g.picture) (Appends before after)
+        × TellsGiven extent limits scale bytes g told)
     go None h = absurd h
     go (Some g) h = (
-      subst (λ (p : Decoded). Appends before after (file_in p)) h.0 appended,
+      subst (λ (p : Decoded). IsSomeAnd (file_as format p) (Appends before after)) h.0 appended,
       tells-given extent limits scale bytes g picture told is h.0 h.1 h.2,
     )
 

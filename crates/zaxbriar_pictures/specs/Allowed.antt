@@ -1,5 +1,5 @@
 -- What a request takes of the picture of a stream, by its header, and whether the limits allow it.
-use Rattle.std.specs.Prelude.{ℕ, ◌+◌, ◌*◌, ◌-◌, ◌^◌, ◌==◌, Bool, false, List, min, option_map}
+use Rattle.std.specs.Prelude.{ℕ, ◌+◌, ◌*◌, ◌-◌, ◌^◌, ◌==◌, Bool, true, false, List, min, option_map}
 use Rattle.std.specs.Prelude.{Ok, Err, if◌then◌else◌, unwrap_or}
 use Rattle.jpeg_segments.specs.Frame.{Frame}
 use Rattle.jpeg_segments.specs.Scales.{scaled}
@@ -15,6 +15,8 @@ use Rattle.zaxbriar_files.specs.Limits.{is_allowed}
 use Rattle.zaxbriar_files.specs.declared.limits.Limits.{Limits}
 use Rattle.zaxbriar_samples.specs.Sizes.{orientation_for, scale_of_request, size_for}
 use Rattle.zaxbriar_samples.specs.Turns.{bytes_of}
+use Rattle.zaxbriar_samples.specs.declared.files.PictureFormat.{PictureFormat}
+use Rattle.zaxbriar_samples.specs.declared.files.PictureFormat.TheVariants.{Netpbm, Png}
 use Rattle.zaxbriar_samples.specs.declared.requests.Request.{Request}
 use Rattle.zaxbriar_samples.specs.declared.requests.Request.TheVariants.{At, Within}
 
@@ -30,28 +32,35 @@ taken_in_lines bytes = together bytes.coefficients bytes.planes
 abbrev pub made_bytes : Dimensions → ImageInfo → ℕ → ℕ
 made_bytes size full precision = size.width * size.height * bytes_of full.pixel_format precision
 
--- What a request takes of the picture of a frame at its scale. Lines of 8 bits a sample are written
--- one by one; a picture that fits within a size is made beside the one that is decoded.
-unfoldable pub taken_for : Request → ImageInfo → Frame → Dimensions → ℕ
-taken_for (At scale) full f size =
+-- Whether the lines of a picture at a scale are written one by one. In a netpbm file of other than
+-- 8 bits a sample, the greatest sample has to be known first.
+abbrev pub is_by_lines : PictureFormat → ℕ → Bool
+is_by_lines Netpbm precision = precision == 8
+is_by_lines Png precision = true
+
+-- What a request takes of the picture of a frame at its scale, for a file of a format: without the
+-- picture where its lines are written one by one. A picture that fits within a size is made beside
+-- the one that is decoded.
+unfoldable pub taken_for : Request → PictureFormat → ImageInfo → Frame → Dimensions → ℕ
+taken_for (At scale) format full f size =
     let bytes = decoding_bytes default_settings f in
-    if f.precision == 8 then taken_in_lines bytes else bytes.peak
-taken_for (Within most upright) full f size =
+    if is_by_lines format f.precision then taken_in_lines bytes else bytes.peak
+taken_for (Within most upright) format full f size =
     together (decoding_bytes default_settings f).peak (made_bytes size full f.precision)
 
 -- whether the limits allow the pixels of a frame, and what a request takes of it
-abbrev pub allows_frame : Request → Limits → Found → Frame → Bool
-allows_frame request limits header f =
+abbrev pub allows_frame : Request → PictureFormat → Limits → Found → Frame → Bool
+allows_frame request format limits header f =
     let full = info_of f in
     let orientation = orientation_for request header.said.metadata.exif in
-    is_allowed limits full.width full.height (taken_for request full
+    is_allowed limits full.width full.height (taken_for request format full
     (scaled (scale_of_request request full orientation) f) (size_for request full orientation))
 
--- Whether the limits allow what a request takes of a stream.
-unfoldable pub allows : Request → Limits → List ℕ → Bool
-allows request limits bytes = elim (header_at bytes) [
+-- Whether the limits allow what a request takes of a stream, for a file of a format.
+unfoldable pub allows : Request → PictureFormat → Limits → List ℕ → Bool
+allows request format limits bytes = elim (header_at bytes) [
   | Ok header ↦
-      unwrap_or (option_map (allows_frame request limits header.0) header.0.said.frame) false
+      unwrap_or (option_map (allows_frame request format limits header.0) header.0.said.frame) false
   | Err fault ↦ false
 ]
 

@@ -17,8 +17,9 @@ use Rattle.jpeg_meaning.specs.declared.settings.Settings.{Settings}
 use Rattle.jpeg_decoder.specs.Reaching.{NamesFault}
 use Rattle.zaxbriar_files.specs.Limits.{most_blocks}
 use Rattle.zaxbriar_files.specs.declared.limits.Limits.{Limits}
-use Rattle.zaxbriar_samples.specs.Netpbm.{file_of}
 use Rattle.zaxbriar_samples.specs.DecodedPictures.{Decoded, decoded}
+use Rattle.zaxbriar_samples.specs.Files.{file_as}
+use Rattle.zaxbriar_samples.specs.declared.files.PictureFormat.{PictureFormat}
 use Rattle.zaxbriar_pictures.specs.declared.extents.Completeness.{Completeness}
 use Rattle.zaxbriar_pictures.specs.declared.extents.Extent.{Extent}
 use Rattle.zaxbriar_pictures.specs.declared.extents.Extent.TheVariants.{Whole, Partial}
@@ -92,10 +93,6 @@ complete_rows extent limits scale bytes height = elim (header_at bytes) [
   | Err fault ↦ 0
 ]
 
--- the file of a picture
-abbrev pub file_in : Decoded → List ℕ
-file_in p = file_of p.info p.precision p.pixels
-
 -- A stream gives a picture at a scale, within the limits, of which this many rows are complete, and
 -- the fault that an error names, or none.
 abbrev pub IsGiven : Extent → Limits → Scale → List ℕ → Decoded → ℕ → Option Error → Type 0
@@ -111,13 +108,13 @@ TellsGiven extent limits scale bytes g told = (told.info ≡ g.picture.info)
     × (told.whole_rows ≡ complete_rows extent limits scale bytes told.info.height)
     × NamesFault told.fault g.fault
 
--- A writer is given the file of the picture of a stream at a scale, within the limits, and its
--- caller is told how much of it is complete.
-abbrev pub WritesGiven : Extent → Limits → Scale → List ℕ → Option (List ℕ) → Option (List ℕ)
-    → Completeness → Type 0
-WritesGiven extent limits scale bytes before after told =
+-- A writer is given the file, in a format that has one, of the picture of a stream at a scale,
+-- within the limits, and its caller is told how much of it is complete.
+abbrev pub WritesGiven : Extent → Limits → Scale → PictureFormat → List ℕ → Option (List ℕ)
+    → Option (List ℕ) → Completeness → Type 0
+WritesGiven extent limits scale format bytes before after told =
     IsSomeAnd (given_at_scale extent limits scale bytes)
-    (λ g. Appends before after (file_in g.picture)
+    (λ g. IsSomeAnd (file_as format g.picture) (Appends before after)
     × TellsGiven extent limits scale bytes g told)
 
 -- A caller is told how much of the picture that a stream shows is complete, at full size and within

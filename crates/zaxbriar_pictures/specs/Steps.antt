@@ -11,12 +11,14 @@ use Rattle.jpeg_meaning.specs.Stream.{header_at, scaled_to, told_of}
 use Rattle.jpeg_meaning.specs.declared.progress.Progress.TheVariants.{HeaderRead}
 use Rattle.jpeg_decoder.specs.Reaching.{NamesFault}
 use Rattle.zaxbriar_files.specs.declared.limits.Limits.{Limits}
-use Rattle.zaxbriar_pictures.specs.Given.{complete_rest, file_in, given_rest, settings_within}
+use Rattle.zaxbriar_pictures.specs.Given.{complete_rest, given_rest, settings_within}
 use Rattle.zaxbriar_samples.specs.DecodedPictures.{Decoded}
+use Rattle.zaxbriar_samples.specs.Files.{file_as}
 use Rattle.zaxbriar_samples.specs.Sizes.{orientation_for, scale_of_request, size_for}
 use Rattle.zaxbriar_pictures.specs.declared.extents.Completeness.{Completeness}
 use Rattle.zaxbriar_pictures.specs.declared.extents.Extent.{Extent}
 use Rattle.zaxbriar_pictures.specs.declared.scaled.Choice.{Choice}
+use Rattle.zaxbriar_samples.specs.declared.files.PictureFormat.{PictureFormat}
 use Rattle.zaxbriar_samples.specs.declared.requests.Request.{Request}
 
 -- A choice is the one for a request, by what a header says.
@@ -58,9 +60,9 @@ pub record GivesPicture (extent : Extent) (old new : Decoding) (picture : Decode
   pub told_is : told.info ≡ picture.info
   pub rows : CountsRest extent old told.info.height told.whole_rows
 
--- Such a decoder has given a picture, and a writer has got its file.
-pub record WritesFile (extent : Extent) (old new : Decoding) (before after : Option (List ℕ))
-    (told : Completeness) : Type 0 where
+-- Such a decoder has given a picture, and a writer has got its file in a format that has one.
+pub record WritesFile (extent : Extent) (format : PictureFormat) (old new : Decoding)
+    (before after : Option (List ℕ)) (told : Completeness) : Type 0 where
   pub picture : Decoded
   pub gives : GivesPicture extent old new picture told
-  pub written : Appends before after (file_in picture)
+  pub written : IsSomeAnd (file_as format picture) (Appends before after)

@@ -9,6 +9,7 @@ ghost use Rattle.jpeg_segments.specs.declared.scale.Scale.TheVariants.{Full};
 ghost use Rattle.zaxbriar_pictures.specs.Allowed.{allows};
 ghost use Rattle.zaxbriar_pictures.specs.Given.{TellsOfStream, is_whole};
 ghost use Rattle.zaxbriar_pictures.specs.declared.extents.Extent.TheVariants.{Partial};
+ghost use Rattle.zaxbriar_samples.specs.declared.files.PictureFormat.TheVariants.{Netpbm};
 ghost use Rattle.zaxbriar_samples.specs.declared.requests.Request.TheVariants.{At};
 
 use crate::extents::{Completeness, Extent, decode_wanted_lines};
@@ -18,6 +19,7 @@ use std::alloc::Global;
 use std::io::Read;
 use zaxbriar_files::limits::Limits;
 use zaxbriar_files::refusal::Refusal;
+use zaxbriar_samples::files::PictureFormat;
 use zaxbriar_samples::requests::Request;
 
 /// Decodes the stream of a decoder that has read nothing to the end of its image or its first
@@ -31,9 +33,14 @@ fn check_decoder<R: Read + Drop>(
     ensures told { decoder.old.source.known ≡ true
         → IfOk result (TellsOfStream limits decoder.old.source.bytes) }
     ensures limited { decoder.old.source.known ≡ true → IfOk result
-        (λ _. allows (At Full) limits decoder.old.source.bytes ≡ true) }
+        (λ _. allows (At Full) Netpbm limits decoder.old.source.bytes ≡ true) }
 {
-    choose(decoder, Request::At(Scale::Full), limits)?;
+    choose(
+        decoder,
+        Request::At(Scale::Full),
+        PictureFormat::Netpbm,
+        limits,
+    )?;
     let shown = decode_wanted_lines(decoder, Extent::Partial)?;
     let info = decoder.info().unwrap();
     Ok(Completeness {
@@ -45,8 +52,8 @@ fn check_decoder<R: Read + Drop>(
 
 /// Decodes the stream that the reader gives to the end of its image or its first fault, and returns
 /// how much of its picture is complete, with that fault: none where the stream is whole. The
-/// picture itself is not made. One above the limits, which `write_at` would refuse at full size, is
-/// refused by its header. A read that fails is an error.
+/// picture itself is not made. One above the limits, which `write_at` would refuse at full size for
+/// a netpbm file, is refused by its header. A read that fails is an error.
 pub fn check_stream<R: Read + Drop>(
     alloc: Global,
     reader: R,
@@ -63,7 +70,7 @@ pub fn check_stream<R: Read + Drop>(
 
     // A picture that has or takes more than the limits allow is refused.
     ensures limited { (bytes : List ℕ) → Tells (R.remaining reader) bytes
-        → IfOk result (λ _. allows (At Full) limits bytes ≡ true) }
+        → IfOk result (λ _. allows (At Full) Netpbm limits bytes ≡ true) }
 {
     let mut decoder = Decoder::with_capacity(alloc, READ_AHEAD, reader)?;
     check_decoder(&mut decoder, limits)

@@ -3,6 +3,7 @@
 ghost use Rattle.std.specs.Prelude.{◌≡◌, IfOk, IfSome, Some, is_some, not, option_map, true};
 ghost use Rattle.std.specs.List.{concat};
 ghost use Rattle.jpeg_bits.specs.Reading.{IsGivenUp};
+ghost use Rattle.jpeg_decoder.specs.Bytes.{AreLinesOf, IsCounted, shape_in};
 ghost use Rattle.jpeg_meaning.specs.Pixels.{info_of};
 ghost use Rattle.jpeg_meaning.specs.declared.progress.Progress.TheVariants.{HeaderRead};
 ghost use Rattle.zaxbriar_pictures.specs.Steps.{CountsRest, GivesPicture, GivesRest};
@@ -89,6 +90,8 @@ fn decode_partial<R: Read + Drop>(decoder: &mut Decoder<R>) -> Result<PartialLin
         ≡ whole_rows_rest decoder.old.settings.max_blocks decoder.old.found
         decoder.old.source.bytes) }
     ensures framed { IfOk result (λ _. is_some decoder.new.found.said.frame ≡ true) }
+    ensures lines { IfOk result (λ p. AreLinesOf (shape_in decoder.new) p.lines) }
+    ensures counted { IfOk result (λ _. IsCounted (shape_in decoder.new)) }
 {
     let shown = decoder.decode_partial_lines()?;
     refuse_of_reader(shown, decoder.has_read_failed())
@@ -103,6 +106,8 @@ fn decode_whole<R: Read + Drop>(decoder: &mut Decoder<R>) -> Result<PartialLines
         → option_map info_of decoder.new.found.said.frame ≡ Some info
         → p.whole_rows ≡ info.height) }
     ensures framed { IfOk result (λ _. is_some decoder.new.found.said.frame ≡ true) }
+    ensures lines { IfOk result (λ p. AreLinesOf (shape_in decoder.new) p.lines) }
+    ensures counted { IfOk result (λ _. IsCounted (shape_in decoder.new)) }
 {
     let lines = decoder.decode_lines()?;
     let info = decoder.info().unwrap();
@@ -127,6 +132,8 @@ pub(crate) fn decode_wanted_lines<R: Read + Drop>(
         → option_map info_of decoder.new.found.said.frame ≡ Some info
         → CountsRest extent decoder.old info.height p.whole_rows) }
     ensures framed { IfOk result (λ _. is_some decoder.new.found.said.frame ≡ true) }
+    ensures lines { IfOk result (λ p. AreLinesOf (shape_in decoder.new) p.lines) }
+    ensures counted { IfOk result (λ _. IsCounted (shape_in decoder.new)) }
 {
     match extent {
         Extent::Whole => decode_whole(decoder),

@@ -11,6 +11,7 @@
 
 pub mod check;
 pub mod extents;
+mod lines;
 pub mod raw;
 pub mod scaled;
 pub mod thumbnails;

@@ -1,8 +1,6 @@
-//! Pictures of streams at a scale, as netpbm files.
-ghost use Rattle.std.specs.Prelude.{◌≡◌, ◌*◌, List, ℕ, IfOk, OnOk, Some, IsSomeAnd, option_map};
+//! Pictures of streams at a scale, as netpbm or PNG files.
+ghost use Rattle.std.specs.Prelude.{◌≡◌, ◌*◌, List, ℕ, IfOk, Some, IsSomeAnd, option_map};
 ghost use Rattle.std.specs.Prelude.{◌≤◌, IfSome, true};
-ghost use Rattle.std.specs.List.{concat};
-ghost use Rattle.std.specs.Io.KnownBytes.{Appends};
 ghost use Rattle.jpeg_bits.specs.Reading.{Answers};
 ghost use Rattle.jpeg_meaning.specs.Output.{Tells};
 ghost use Rattle.jpeg_meaning.specs.Pixels.{info_of};
@@ -10,12 +8,11 @@ ghost use Rattle.jpeg_meaning.specs.States.{IsReading, ahead};
 ghost use Rattle.jpeg_meaning.specs.Stream.{told_of};
 ghost use Rattle.jpeg_decoder.specs.Bytes.{decoding_bytes};
 ghost use Rattle.jpeg_meaning.specs.States.{HasHeader};
-ghost use Rattle.zaxbriar_pictures.specs.Allowed.{allows, made_bytes, taken_for};
+ghost use Rattle.zaxbriar_pictures.specs.Allowed.{allows, is_by_lines, made_bytes, taken_for};
 ghost use Rattle.zaxbriar_pictures.specs.Allowed.{taken_in_lines};
 ghost use Rattle.jpeg_meaning.specs.Output.{default_settings};
 ghost use Rattle.jpeg_meaning.specs.declared.progress.Progress.TheVariants.{Fresh, HeaderRead};
 ghost use Rattle.zaxbriar_pictures.specs.Given.{IsGiven, WritesGiven, most_after};
-ghost use Rattle.zaxbriar_samples.specs.Netpbm.{file_of};
 ghost use Rattle.zaxbriar_pictures.specs.ScaledPictures.{header_exif, header_info};
 ghost use Rattle.zaxbriar_samples.specs.DecodedPictures.{decoded_in};
 ghost use Rattle.zaxbriar_pictures.specs.Steps.{ReadsForRequest, WritesFile};
@@ -23,15 +20,16 @@ ghost use Rattle.zaxbriar_samples.specs.Sizes.{orientation_for, scale_of_request
 ghost use Rattle.zaxbriar_samples.specs.declared.requests.Request.TheVariants.{At};
 
 use crate::extents::{Completeness, Extent, decode_wanted_lines, decode_wanted_picture};
+use crate::lines::write_file;
 use jpeg_decoder::error::Error;
 use jpeg_decoder::parser::Dimensions;
-use jpeg_decoder::run::write_lines;
-use jpeg_decoder::{Decoder, ImageInfo, Lines, Scale, error};
+use jpeg_decoder::{Decoder, ImageInfo, Scale, error};
 use std::alloc::Global;
 use std::io::{Read, Write};
 use zaxbriar_files::limits::Limits;
 use zaxbriar_files::refusal::Refusal;
-use zaxbriar_samples::netpbm::{Picture, header, write_picture};
+use zaxbriar_samples::files::{PictureFormat, has_pixels};
+use zaxbriar_samples::netpbm::Picture;
 use zaxbriar_samples::requests::Request;
 use zaxbriar_samples::turns::bytes_of;
 
@@ -123,24 +121,36 @@ fn made_bytes(size: Dimensions, full: ImageInfo, precision: u8) -> u64
     u64::from(size.width) * u64::from(size.height) * pixel as u64
 }
 
+/// Returns whether the lines of a picture at a scale are written one by one: in a netpbm file of
+/// other than eight bits, its greatest sample has to be known first.
+fn is_by_lines(format: PictureFormat, precision: u8) -> bool
+    ensures { result ≡ is_by_lines format precision }
+{
+    match format {
+        PictureFormat::Netpbm => precision == 8,
+        PictureFormat::Png => true,
+    }
+}
+
 /// Returns how many bytes the picture of a decoder takes for a request, whose header was read: with
 /// the picture that is made of it, or, where its lines are written one by one, without it.
 #[tactic(auto, unfolding(crate::specs::Allowed::taken_for))]
 fn bytes_for<R: Read + Drop>(
     decoder: &Decoder<R>,
     request: Request,
+    format: PictureFormat,
     full: ImageInfo,
     size: Dimensions,
 ) -> u64
     requires plain { decoder.now.settings ≡ default_settings }
     requires header { HasHeader decoder.now.stage }
     ensures { IfSome decoder.now.found.said.frame (λ f. result
-        ≡ taken_for request full f size) }
+        ≡ taken_for request format full f size) }
 {
     let precision = decoder.precision().unwrap_or(8);
     match request {
         Request::At(_) => {
-            if precision == 8 {
+            if is_by_lines(format, precision) {
                 taken_by_lines(decoder)
             } else {
                 taken_by(decoder)
@@ -169,6 +179,7 @@ pub fn limit_blocks<R: Read + Drop>(decoder: &mut Decoder<R>, limits: Limits)
 pub(crate) fn choose<R: Read + Drop>(
     decoder: &mut Decoder<R>,
     request: Request,
+    format: PictureFormat,
     limits: Limits,
 ) -> Result<Choice, Refusal>
     requires fresh { decoder.old.stage ≡ Fresh }
@@ -180,7 +191,7 @@ pub(crate) fn choose<R: Read + Drop>(
     ensures orientation { IfOk result (λ choice. (1 ≤ choice.orientation)
         × (choice.orientation ≤ 8)) }
     ensures limited { IfOk result (λ _. decoder.old.source.known ≡ true
-        → allows request limits decoder.old.source.bytes ≡ true) }
+        → allows request format limits decoder.old.source.bytes ≡ true) }
 {
     decoder.read_info()?;
     let full = decoder.info().unwrap();
@@ -191,7 +202,7 @@ pub(crate) fn choose<R: Read + Drop>(
     limits.check(
         full.width,
         full.height,
-        bytes_for(decoder, request, full, size),
+        bytes_for(decoder, request, format, full, size),
     )?;
     limit_blocks(decoder, limits);
     Ok(Choice {
@@ -208,6 +219,7 @@ fn read_chosen<R: Read + Drop>(
     alloc: Global,
     decoder: &mut Decoder<R>,
     request: Request,
+    format: PictureFormat,
     extent: Extent,
     limits: Limits,
 ) -> Result<ScaledPicture, Refusal>
@@ -226,9 +238,9 @@ fn read_chosen<R: Read + Drop>(
     ensures orientation { IfOk result (λ made. (1 ≤ made.orientation)
         × (made.orientation ≤ 8)) }
     ensures limited { decoder.old.source.known ≡ true → IfOk result
-        (λ _. allows request limits decoder.old.source.bytes ≡ true) }
+        (λ _. allows request format limits decoder.old.source.bytes ≡ true) }
 {
-    let choice = choose(decoder, request, limits)?;
+    let choice = choose(decoder, request, format, limits)?;
     let (picture, completeness) = decode_wanted_picture(alloc, decoder, extent)?;
     Ok(ScaledPicture {
         picture,
@@ -241,12 +253,14 @@ fn read_chosen<R: Read + Drop>(
     })
 }
 
-/// Decodes as much as is wanted of the stream that the reader gives, at the scale for the request.
-/// A picture above the limits is refused by its header. A read that fails is an error.
+/// Decodes as much as is wanted of the stream that the reader gives, at the scale for the request,
+/// for a file of a format. A picture above the limits is refused by its header. A read that fails
+/// is an error.
 pub fn read_picture<R: Read + Drop>(
     alloc: Global,
     reader: R,
     request: Request,
+    format: PictureFormat,
     extent: Extent,
     limits: Limits,
 ) -> Result<ScaledPicture, Refusal>
@@ -273,53 +287,33 @@ pub fn read_picture<R: Read + Drop>(
 
     // A picture that has or takes more than the limits allow is refused.
     ensures limited { (bytes : List ℕ) → Tells (R.remaining reader) bytes
-        → IfOk result (λ _. allows request limits bytes ≡ true) }
+        → IfOk result (λ _. allows request format limits bytes ≡ true) }
 {
     let mut decoder = Decoder::with_capacity(alloc, READ_AHEAD, reader)?;
-    read_chosen(alloc, &mut decoder, request, extent, limits)
-}
-
-/// Writes the lines of a picture as a file: some lines at a time, unless its greatest sample has to
-/// be known first.
-fn write_lines_of<W: Write>(
-    alloc: Global,
-    info: ImageInfo,
-    precision: u8,
-    mut lines: Lines,
-    writer: &mut W,
-) -> error::Result<()>
-    ensures { OnOk result (Appends (W.contents writer.old) (W.contents writer.new)
-        (file_of info precision (concat lines))) }
-{
-    if precision == 8 {
-        let header = header(alloc, info, 255)?;
-        return write_lines(alloc, header.as_bytes(), &mut lines, writer);
-    }
-    let pixels = lines.into_picture(alloc)?;
-    let picture = Picture {
-        info,
-        precision,
-        pixels,
-    };
-    write_picture(alloc, picture, writer)
+    read_chosen(alloc, &mut decoder, request, format, extent, limits)
 }
 
 /// Decodes as much as is wanted of the picture of a decoder, at the scale that was set, writes it
-/// as a file, and returns how much of it is complete.
+/// as a file, and returns how much of it is complete. One whose pixels the format doesn't have is
+/// refused, and nothing is written.
 fn write_decoded<R: Read + Drop, W: Write>(
     alloc: Global,
     decoder: &mut Decoder<R>,
     extent: Extent,
+    format: PictureFormat,
     writer: &mut W,
-) -> error::Result<Completeness>
+) -> Result<Completeness, Refusal>
     requires header { decoder.old.stage ≡ HeaderRead }
-    ensures { IfOk result (λ told. WritesFile extent decoder.old decoder.new
+    ensures { IfOk result (λ told. WritesFile extent format decoder.old decoder.new
         (W.contents writer.old) (W.contents writer.new) told) }
 {
     let decoded = decode_wanted_lines(decoder, extent)?;
     let info = decoder.info().unwrap();
     let precision = decoder.precision().unwrap();
-    write_lines_of(alloc, info, precision, decoded.lines, writer)?;
+    if !has_pixels(format, info.pixel_format) {
+        return Err(Refusal::Cmyk);
+    }
+    write_file(alloc, info, precision, decoded.lines, format, writer)?;
     Ok(Completeness {
         info,
         whole_rows: decoded.whole_rows,
@@ -335,36 +329,39 @@ fn write_chosen<R: Read + Drop, W: Write>(
     scale: Scale,
     extent: Extent,
     limits: Limits,
+    format: PictureFormat,
     writer: &mut W,
 ) -> Result<Completeness, Refusal>
     requires fresh { decoder.old.stage ≡ Fresh }
     requires plain { decoder.old.settings ≡ default_settings }
     ensures written { decoder.old.source.known ≡ true → IfOk result (WritesGiven extent limits
-        scale decoder.old.source.bytes (W.contents writer.old) (W.contents writer.new)) }
+        scale format decoder.old.source.bytes (W.contents writer.old) (W.contents writer.new)) }
     ensures limited { decoder.old.source.known ≡ true → IfOk result
-        (λ _. allows (At scale) limits decoder.old.source.bytes ≡ true) }
+        (λ _. allows (At scale) format limits decoder.old.source.bytes ≡ true) }
 {
-    choose(decoder, Request::At(scale), limits)?;
-    Ok(write_decoded(alloc, decoder, extent, writer)?)
+    choose(decoder, Request::At(scale), format, limits)?;
+    write_decoded(alloc, decoder, extent, format, writer)
 }
 
 /// Decodes as much as is wanted of the stream that the reader gives, writes its picture at a scale,
-/// and returns how much of the picture is complete, with the first fault of the stream. A read that
-/// fails is an error.
+/// and returns how much of the picture is complete, with the first fault of the stream. A picture
+/// above the limits is refused by its header, and one whose pixels the format doesn't have before
+/// anything is written. A read that fails is an error.
 pub fn write_at<R: Read + Drop, W: Write>(
     alloc: Global,
     reader: R,
     scale: Scale,
     extent: Extent,
     limits: Limits,
+    format: PictureFormat,
     writer: &mut W,
 ) -> Result<Completeness, Refusal>
     ensures written { (bytes : List ℕ) → Tells (R.remaining reader) bytes
-        → IfOk result (WritesGiven extent limits scale bytes (W.contents writer.old)
+        → IfOk result (WritesGiven extent limits scale format bytes (W.contents writer.old)
         (W.contents writer.new)) }
     ensures limited { (bytes : List ℕ) → Tells (R.remaining reader) bytes
-        → IfOk result (λ _. allows (At scale) limits bytes ≡ true) }
+        → IfOk result (λ _. allows (At scale) format limits bytes ≡ true) }
 {
     let mut decoder = Decoder::with_capacity(alloc, READ_AHEAD, reader)?;
-    write_chosen(alloc, &mut decoder, scale, extent, limits, writer)
+    write_chosen(alloc, &mut decoder, scale, extent, limits, format, writer)
 }

@@ -93,9 +93,9 @@ pub fn write_thumbnail<R: Read + Drop, W: Write>(
         → IfOk result (WritesThumbnail extent limits request format bytes (W.contents writer.old)
         (W.contents writer.new)) }
     ensures limited { (bytes : List ℕ) → Tells (R.remaining reader) bytes
-        → IfOk result (λ _. allows request limits bytes ≡ true) }
+        → IfOk result (λ _. allows request format limits bytes ≡ true) }
 {
-    let made = read_picture(alloc, reader, request, extent, limits)?;
+    let made = read_picture(alloc, reader, request, format, extent, limits)?;
     let info = made.full;
     let height = made.picture.info.height;
     let whole_rows = file_rows(made.scale, info.height, height, made.whole_rows);

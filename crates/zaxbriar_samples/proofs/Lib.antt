@@ -1,4 +1,6 @@
+mod AdlerSteps
 mod BoxSums
+mod CrcSteps
 mod Greatest
-mod PngSteps
+pub mod PngSteps
 mod Turned

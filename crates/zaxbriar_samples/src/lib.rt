@@ -4,7 +4,9 @@
 //! It knows no decoder, so that the gate proves both at the same time.
 #![tactic(auto)]
 
+mod adler;
 pub mod boxes;
+mod crc;
 pub mod files;
 pub mod netpbm;
 pub mod png;

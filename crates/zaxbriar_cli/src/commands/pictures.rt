@@ -46,7 +46,15 @@ impl Job {
         let alloc = self.rt.alloc();
         match self.request {
             Request::At(scale) => {
-                write_at(alloc, reader, scale, self.extent, self.limits, writer)
+                write_at(
+                    alloc,
+                    reader,
+                    scale,
+                    self.extent,
+                    self.limits,
+                    self.format,
+                    writer,
+                )
             }
             Request::Within(_, _) => {
                 write_thumbnail(
@@ -101,8 +109,8 @@ impl Job {
     }
 }
 
-/// Writes the requested pictures of the files that the arguments name, a thumbnail in this format,
-/// and continues after a file that is refused or has a fault.
+/// Writes the requested pictures of the files that the arguments name in this format, and continues
+/// after a file that is refused or has a fault.
 pub fn write_all(
     rt: HostRuntime,
     matches: &ArgMatches<'_>,

@@ -3,7 +3,8 @@
 use crate::commands::pictures;
 use clap::ArgMatches;
 use zaxbriar_arguments::arguments;
-use zaxbriar_arguments::thumbnail::{SIZES, format_of, request_of};
+use zaxbriar_arguments::pictures::format_of;
+use zaxbriar_arguments::thumbnail::{SIZES, request_of};
 use zaxbriar_files::ending::Outcome;
 
 /// Writes the thumbnails of the files that the arguments name.

@@ -15,7 +15,7 @@ returns-clause-limited g c known =
     let full = c.unwrap-full.result in
     let stage = rw c.requires.fresh at c.in_ok-read_info.ensures.stage in
     let scaled = c.in_ok-set_scale.ensures.scaled (λ fresh. header-not-fresh (sym stage ∙ fresh)) in
-    allowed-there c.args.request c.args.limits c.args.decoder.now.source.bytes
+    allowed-there c.args.request c.args.format c.args.limits c.args.decoder.now.source.bytes
     c.read_info.new.self.source.bytes c.read_info.new.self.found full c.orientation_in-orientation.result
     c.scale-scale.result c.size-size.result c.bytes_for.result header
     (sym c.info.ensures ∙ c.unwrap-full.ensures)
