@@ -22,3 +22,4 @@ mod Texts
 mod Told
 mod TurnedLines
 mod TurnedPlaces
+mod TurnedRuns

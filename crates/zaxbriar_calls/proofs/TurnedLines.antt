@@ -25,7 +25,8 @@ use Rattle.zaxbriar_calls.proofs.TurnedPlaces.{byte-from, byte-of-pixel, joined}
 
 -- ---- bytes that are written over others
 
-put-inside : (start k : ℕ) (old new : List ℕ) (byte : ℕ) → start ≤ length old → byte < length new
+pub put-inside : (start k : ℕ) (old new : List ℕ) (byte : ℕ) → start ≤ length old
+    → byte < length new
     → slice_index_or (put_mid start k old new) (start + byte) 0 ≡ slice_index_or new byte 0
 put-inside start k old new byte room low =
     let front : length (take start old) ≡ start = omega (arith, length-take {A = ℕ}) in
@@ -33,14 +34,15 @@ put-inside start k old new byte room low =
     ∙ get_or-append-add (take start old) (new ++ drop k (drop start old)) byte 0
     ∙ get_or_append_left new (drop k (drop start old)) 0 byte low
 
-put-before : (start k : ℕ) (old new : List ℕ) (index : ℕ) → start ≤ length old → index < start
+pub put-before : (start k : ℕ) (old new : List ℕ) (index : ℕ) → start ≤ length old
+    → index < start
     → slice_index_or (put_mid start k old new) index 0 ≡ slice_index_or old index 0
 put-before start k old new index room low =
     let front : index < length (take start old) = omega (arith, length-take {A = ℕ}) in
     get_or_append_left (take start old) (new ++ drop k (drop start old)) 0 index front
     ∙ get_or-take start old index 0 low
 
-put-after : (start k : ℕ) (old new : List ℕ) (index : ℕ) → start ≤ length old → length new ≡ k
+pub put-after : (start k : ℕ) (old new : List ℕ) (index : ℕ) → start ≤ length old → length new ≡ k
     → start + k ≤ index → slice_index_or (put_mid start k old new) index 0
     ≡ slice_index_or old index 0
 put-after start k old new index room long high =
@@ -56,39 +58,6 @@ put-after start k old new index room long high =
 
 -- ---- pixels that are written
 
-pub pixel-written : (lines : Lines) (meant : ℕ → ℕ) (x y start k : ℕ) (pixel old : List ℕ)
-    → length pixel ≡ lines.pixel_bytes → k ≡ lines.pixel_bytes → start ≡ pixel_start lines x y
-    → pixel_start lines x y + lines.pixel_bytes ≤ length old
-    → ((byte : ℕ) → byte < lines.pixel_bytes → meant (pixel_start lines x y + byte)
-    ≡ slice_index_or pixel byte 0)
-    → Writes lines meant (λ column line. (column ≡ x) × (line ≡ y)) old (put_mid start k old pixel)
-pixel-written lines meant x y start k pixel old long e at room same =
-    let room' : start ≤ length old = subst (λ n. n ≤ length old) (sym at) (omega (arith, room)) in
-    let long' : length pixel ≡ k = long ∙ sym e in
-    let here : (byte : ℕ) → byte < lines.pixel_bytes
-    → slice_index_or (put_mid start k old pixel) (start + byte) 0 ≡ meant (start + byte) =
-    λ byte low. put-inside start k old pixel byte room' (subst (λ n. byte < n) (sym long) low)
-    ∙ sym (same byte low) ∙ ap (λ n. meant (n + byte)) (sym at) in
-    record {
-      kept = λ index was. elim (cases_lt index start) [
-        | inl before ↦ put-before start k old pixel index room' before ∙ was
-        | inr later ↦ elim (cases_lt index (start + k)) [
-          | inl inside ↦
-              let there : start + (index - start) ≡ index = omega arith in
-              let low : index - start < lines.pixel_bytes = omega (arith, e) in
-              subst (λ n. slice_index_or (put_mid start k old pixel) n 0 ≡ meant n) there
-              (here (index - start) low)
-          | inr after ↦ put-after start k old pixel index room' long' after ∙ was
-        ]
-      ];
-      written = λ column line byte these low.
-          let there : start ≡ pixel_start lines column line =
-          at ∙ (λ i. pixel_start lines (sym these.0 i) (sym these.1 i)) in
-          subst (λ n. slice_index_or (put_mid start k old pixel) (n + byte) 0 ≡ meant (n + byte))
-          there
-          (here byte low);
-    }
-
 pub writes-none : (lines : Lines) (meant : ℕ → ℕ) (AreThese : ℕ → ℕ → Type 0) (old : List ℕ)
     → ((x y : ℕ) → AreThese x y → ⊥) → Writes lines meant AreThese old old
 writes-none lines meant AreThese old none = record {
@@ -96,7 +65,8 @@ writes-none lines meant AreThese old none = record {
   written = λ x y byte these low. absurd (none x y these);
 }
 
-writes-both : (lines : Lines) (meant : ℕ → ℕ) (First Then Both : ℕ → ℕ → Type 0) (a b c : List ℕ)
+pub writes-both : (lines : Lines) (meant : ℕ → ℕ) (First Then Both : ℕ → ℕ → Type 0)
+    (a b c : List ℕ)
     → Writes lines meant First a b → Writes lines meant Then b c
     → ((x y : ℕ) → Both x y → First x y ⊎ Then x y) → Writes lines meant Both a c
 writes-both lines meant First Then Both a b c before now which = record {
@@ -107,25 +77,7 @@ writes-both lines meant First Then Both a b c before now which = record {
   ];
 }
 
--- one more pixel of a column, one more column of a band, and one more band
-pub pixel-more : (lines : Lines) (meant : ℕ → ℕ) (x from index : ℕ) (a b c : List ℕ)
-    → Writes lines meant (λ column line. (column ≡ x) × (from ≤ line) × (line < from + index)) a b
-    → Writes lines meant (λ column line. (column ≡ x) × (line ≡ from + index)) b c
-    → Writes lines meant (λ column line. (column ≡ x) × (from ≤ line)
-    × (line < from + (index + 1))) a c
-pixel-more lines meant x from index a b c before now =
-    writes-both lines meant (λ column line. (column ≡ x) × (from ≤ line) × (line < from + index))
-    (λ column line. (column ≡ x) × (line ≡ from + index))
-    (λ column line. (column ≡ x) × (from ≤ line) × (line < from + (index + 1))) a b c before now
-    (λ column line these. elim (cases_lt line (from + index)) [
-      | inl low ↦ inl (these.0, these.1, low)
-      | inr high ↦ inr (
-        these.0,
-        let last : line ≡ from + index =
-            omega (arith, high, these.2) in last,
-      )
-    ])
-
+-- one more column of a band, and one more band
 pub column-more : (lines : Lines) (meant : ℕ → ℕ) (x from count : ℕ) (a b c : List ℕ)
     → Writes lines meant (λ column line. (column < x) × (from ≤ line) × (line < from + count)) a b
     → Writes lines meant (λ column line. (column ≡ x) × (from ≤ line) × (line < from + count)) b c

@@ -15,11 +15,12 @@ use Rattle.zaxbriar_calls.specs.declared.lines.Lines.{Lines}
 
 -- ---- sides
 
-mirrored-below : (flips : Bool) (side index : ℕ) → index < side → mirrored flips side index < side
+pub mirrored-below : (flips : Bool) (side index : ℕ) → index < side
+    → mirrored flips side index < side
 mirrored-below true side index h = omega arith
 mirrored-below false side index h = h
 
-mirrored-twice : (flips : Bool) (side index : ℕ) → index < side
+pub mirrored-twice : (flips : Bool) (side index : ℕ) → index < side
     → mirrored flips side (mirrored flips side index) ≡ index
 mirrored-twice true side index h = omega arith
 mirrored-twice false side index h = refl

@@ -1,6 +1,6 @@
 -- What a call with some options gives of a stream: the whole of its picture, or what it has brought
 -- up to its first fault.
-use Rattle.std.specs.Prelude.{◌≡◌, ℕ, ◌*◌, Bool, List, Option, Some, None, Ok, Err, Result}
+use Rattle.std.specs.Prelude.{◌≡◌, ℕ, Bool, List, Option, Some, None, Ok, Err, Result}
 use Rattle.std.specs.Prelude.{option_map, replicate}
 use Rattle.jpeg_bits.specs.Reading.{◌>>=◌, Fault, Lacks, Names}
 use Rattle.jpeg_bits.specs.declared.error.Error.{Error}

@@ -1,5 +1,5 @@
 -- Where the samples of a picture stand in the caller's memory, as it is stored and turned upright.
-use Rattle.std.specs.Prelude.{◌≡◌, ◌<◌, ◌≤◌, ℕ, ◌+◌, ◌*◌, ◌/◌, ◌%◌, ◌==◌, ◌&&◌, List, []}
+use Rattle.std.specs.Prelude.{◌≡◌, ◌<◌, ◌≤◌, ℕ, ◌+◌, ◌*◌, ◌/◌, ◌%◌, ◌==◌, ◌&&◌, Bool, List, []}
 use Rattle.std.specs.Prelude.{if◌then◌else◌, drop, length, map, min, nat_lt, slice_index_or, take}
 use Rattle.std.specs.List.{range_with_len}
 use Rattle.jpeg_orientation.specs.Turns.{mirrored, stored_offset, upright_across, upright_down}
@@ -76,3 +76,11 @@ AreLines lines picture first count band = (index : ℕ) → index < count
     (drop (index * (lines.turn.width * lines.pixel_bytes)) band)
     ≡ layout_line lines.conversion lines.stored lines.turn.width
     (slice_index_or picture (first + index) [])
+
+-- The bytes of a run are those of so many pixels that begin some bytes apart in others, the last of
+-- them first where it is flipped.
+abbrev pub IsRun : List ℕ → ℕ → ℕ → Bool → ℕ → List ℕ → Type 0
+IsRun source step count flipped pixel_bytes run = (place byte : ℕ) → place < count
+    → byte < pixel_bytes
+    → slice_index_or run (place * pixel_bytes + byte) 0
+    ≡ slice_index_or source (mirrored flipped count place * step + byte) 0

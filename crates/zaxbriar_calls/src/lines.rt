@@ -2,13 +2,14 @@
 ghost use Rattle.std.specs.Prelude.{◌≡◌, ◌+◌, ◌*◌, ◌<◌, ◌≤◌, ℕ, [], false, length, IfOk, IfErr};
 ghost use Rattle.std.specs.Prelude.{map, slice_index_or, true};
 ghost use Rattle.std.specs.List.{AllByRecursion, concat, range_with_len};
-ghost use Rattle.jpeg_orientation.specs.Turns.{upright_height, upright_width};
+ghost use Rattle.jpeg_orientation.specs.Turns.{is_on_side, mirrored, upright_height};
+ghost use Rattle.jpeg_orientation.specs.Turns.{upright_width};
 ghost use Rattle.jpeg_bits.specs.declared.error.Error.TheVariants.{OutOfMemory};
 ghost use Rattle.zaxbriar_calls.specs.Faults.{IsArgument};
 ghost use Rattle.zaxbriar_calls.specs.Layouts.{TakesStored, converted_bytes, laid_out, layout_line};
 ghost use Rattle.zaxbriar_calls.specs.Layouts.{is_stored, size_of_lines};
 ghost use Rattle.zaxbriar_calls.specs.Lines.{FitLines, HasLines, turn_of};
-ghost use Rattle.zaxbriar_calls.specs.Upright.{AreLines, AreMeant, HasRoom, IsBand, Writes};
+ghost use Rattle.zaxbriar_calls.specs.Upright.{AreLines, AreMeant, HasRoom, IsBand, IsRun, Writes};
 ghost use Rattle.zaxbriar_calls.specs.Upright.{arranged_in, pixel_start, turned_byte};
 
 use crate::answers::Refusal;
@@ -18,7 +19,9 @@ use crate::layouts::{
 use crate::options::Options;
 use jpeg_decoder::error::Result;
 use jpeg_decoder::{ImageInfo, Lines as Decoded};
-use jpeg_orientation::turns::{Turn, upright_height, upright_place, upright_width};
+use jpeg_orientation::turns::{
+    Turn, flips_x, flips_y, is_on_side, upright_height, upright_place, upright_width,
+};
 use std::alloc::Global;
 
 /// The lines of a picture in the caller's memory.
@@ -220,50 +223,134 @@ fn put_stored_lines(picture: &mut Decoded, lines: Lines, row: &mut [u8], pixels:
     }
 }
 
-/// Writes a pixel of the stored picture, in its layout, where it stands in the upright one.
-fn put_pixel(pixel: &[u8], lines: Lines, x: usize, y: usize, pixels: &mut [u8])
+/// Returns which pixel of a run of `count` comes at a place of it, from its other end where it is
+/// flipped.
+#[inline(always)]
+fn pixel_at(is_flipped: bool, count: usize, place: usize) -> usize
+    requires { place < count }
+    ensures is { result ≡ mirrored is_flipped count place }
+    ensures inside { result < count }
+{
+    if is_flipped { count - 1 - place } else { place }
+}
+
+/// Writes a run of `count` pixels that begin `step` bytes apart, in the other direction where it is
+/// flipped.
+#[inline(always)]
+fn put_sized_run(
+    source: &[u8],
+    step: usize,
+    count: usize,
+    is_flipped: bool,
+    pixel_bytes: usize,
+    run: &mut [u8],
+)
+    requires source { (place : ℕ) → place < count
+        → place * step + pixel_bytes ≤ length source.now }
+    requires run { length run.old ≡ count * pixel_bytes }
+    ensures { IsRun source.now step count is_flipped pixel_bytes run.new }
+{
+    for place in 0..count {
+        let from = pixel_at(is_flipped, count, place) * step;
+        let to = place * pixel_bytes;
+        run[to..to + pixel_bytes].copy_from_slice(&source[from..from + pixel_bytes]);
+    }
+}
+
+/// Writes a run of pixels like `put_sized_run`, which is made anew for the usual sizes, so that
+/// they are copied without a call.
+fn put_run(
+    source: &[u8],
+    step: usize,
+    count: usize,
+    is_flipped: bool,
+    pixel_bytes: usize,
+    run: &mut [u8],
+)
+    requires source { (place : ℕ) → place < count
+        → place * step + pixel_bytes ≤ length source.now }
+    requires run { length run.old ≡ count * pixel_bytes }
+    ensures { IsRun source.now step count is_flipped pixel_bytes run.new }
+{
+    match pixel_bytes {
+        1 => put_sized_run(source, step, count, is_flipped, 1, run),
+        3 => put_sized_run(source, step, count, is_flipped, 3, run),
+        4 => put_sized_run(source, step, count, is_flipped, 4, run),
+        _ => put_sized_run(source, step, count, is_flipped, pixel_bytes, run),
+    }
+}
+
+/// Returns where the bytes of a pixel of the stored picture begin in the caller's memory.
+fn pixel_start(lines: Lines, x: usize, y: usize) -> usize
     requires x { x < lines.turn.width }
     requires y { y < lines.turn.height }
-    requires pixel { length pixel.now ≡ lines.pixel_bytes }
-    requires room { HasRoom lines (length pixels.old) }
-    ensures { (meant : ℕ → ℕ)
-        → ((byte : ℕ) → byte < lines.pixel_bytes
-        → meant (pixel_start lines x y + byte) ≡ slice_index_or pixel.now byte 0)
-        → Writes lines meant (λ column line. (column ≡ x) × (line ≡ y)) pixels.old pixels.new }
+    requires room { HasRoom lines 18446744073709551615 }
+    ensures { result ≡ pixel_start lines x y }
 {
     let (across, down) = upright_place(lines.turn, x, y);
     let line = place_of(lines, down) * lines.stride as usize;
-    let start = line + across * usize::from(lines.pixel_bytes);
-    pixels[start..start + pixel.len()].copy_from_slice(pixel);
+    line + across * usize::from(lines.pixel_bytes)
 }
 
 /// Writes the pixels of a column of a band of lines, from line `first` on, where they stand in the
-/// upright picture.
+/// upright picture, in which the column is a part of a line.
 fn put_column(band: &[u8], lines: Lines, first: usize, count: usize, x: usize, pixels: &mut [u8])
     requires x { x < lines.turn.width }
+    requires some { 0 < count }
     requires count { first + count ≤ lines.turn.height }
     requires band { count * (lines.turn.width * lines.pixel_bytes) ≤ length band.now }
     requires room { HasRoom lines (length pixels.old) }
+    requires side { is_on_side lines.turn.orientation ≡ true }
     ensures { (meant : ℕ → ℕ) → AreMeant lines meant first count band.now
         → Writes lines meant (λ column line. (column ≡ x) × (first ≤ line)
         × (line < first + count)) pixels.old pixels.new }
 {
-    let bytes = line_bytes(lines);
     let pixel_bytes = usize::from(lines.pixel_bytes);
-    for index in 0..count {
-        let start = index * bytes + x * pixel_bytes;
-        put_pixel(
-            &band[start..start + pixel_bytes],
-            lines,
-            x,
-            first + index,
-            pixels,
-        );
+    let is_flipped = flips_y(lines.turn.orientation);
+    let start = pixel_start(lines, x, first + pixel_at(is_flipped, count, 0));
+    put_run(
+        &band[x * pixel_bytes..],
+        line_bytes(lines),
+        count,
+        is_flipped,
+        pixel_bytes,
+        &mut pixels[start..start + count * pixel_bytes],
+    );
+}
+
+/// Writes a line of the stored picture, in its layout, where its pixels stand in the upright one,
+/// in which they are a line, too.
+fn put_upright_line(line: &[u8], lines: Lines, y: usize, pixels: &mut [u8])
+    requires y { y < lines.turn.height }
+    requires line { length line.now ≡ lines.turn.width * lines.pixel_bytes }
+    requires room { HasRoom lines (length pixels.old) }
+    requires side { is_on_side lines.turn.orientation ≡ false }
+    ensures { (meant : ℕ → ℕ) → ((x byte : ℕ) → x < lines.turn.width → byte < lines.pixel_bytes
+        → meant (pixel_start lines x y + byte)
+        ≡ slice_index_or line.now (x * lines.pixel_bytes + byte) 0)
+        → Writes lines meant (λ column line. (column < lines.turn.width) × (line ≡ y))
+        pixels.old pixels.new }
+{
+    let width = usize::from(lines.turn.width);
+    if width == 0 {
+        return;
     }
+    let pixel_bytes = usize::from(lines.pixel_bytes);
+    let is_flipped = flips_x(lines.turn.orientation);
+    let start = pixel_start(lines, pixel_at(is_flipped, width, 0), y);
+    put_run(
+        line,
+        pixel_bytes,
+        width,
+        is_flipped,
+        pixel_bytes,
+        &mut pixels[start..start + line.len()],
+    );
 }
 
 /// Writes a band of lines, from line `first` on, where their pixels stand in the upright picture.
 fn put_band(band: &[u8], lines: Lines, first: usize, count: usize, pixels: &mut [u8])
+    requires some { 0 < count }
     requires count { first + count ≤ lines.turn.height }
     requires band { count * (lines.turn.width * lines.pixel_bytes) ≤ length band.now }
     requires room { HasRoom lines (length pixels.old) }
@@ -271,8 +358,16 @@ fn put_band(band: &[u8], lines: Lines, first: usize, count: usize, pixels: &mut 
         → Writes lines meant (λ column line. (column < lines.turn.width) × (first ≤ line)
         × (line < first + count)) pixels.old pixels.new }
 {
-    for x in 0..usize::from(lines.turn.width) {
-        put_column(band, lines, first, count, x, pixels);
+    if is_on_side(lines.turn.orientation) {
+        for x in 0..usize::from(lines.turn.width) {
+            put_column(band, lines, first, count, x, pixels);
+        }
+    } else {
+        let bytes = line_bytes(lines);
+        for index in 0..count {
+            let start = index * bytes;
+            put_upright_line(&band[start..start + bytes], lines, first + index, pixels);
+        }
     }
 }
 

@@ -1,45 +1,61 @@
-use Rattle.std.proofs.Common.{◌≡◌, ◌∙◌, ◌+◌, ◌-◌, ◌*◌, ◌<◌, ◌≤◌, ℕ, arith, length, slice_index_or}
-use Rattle.std.proofs.Common.{subst, sym}
-use Rattle.zaxbriar_calls.specs.Upright.{Writes}
-use Rattle.zaxbriar_calls.proofs.TurnedLines.{part-at, pixel-in-band, pixel-more, writes-none}
+use Rattle.std.proofs.Common.{◌≡◌, ◌∙◌, ◌+◌, ◌-◌, ◌*◌, ◌≤◌, ℕ, List, ap, arith, drop, length}
+use Rattle.std.proofs.Common.{subst, sym, take}
+use Rattle.zaxbriar_calls.specs.Upright.{IsRun, pixel_start}
+use Rattle.jpeg_orientation.specs.Turns.{flips_y, mirrored}
+use Rattle.zaxbriar_calls.proofs.TurnedLines.{pixel-in-band}
+use Rattle.zaxbriar_calls.proofs.TurnedRuns.{column-fits, column-written, rest-of, rest-room}
 use Rattle.zaxbriar_calls.proofs.lines.put_column.Goals as goal
+use Rattle.zaxbriar_calls.proofs.lines.put_column.Goals.{After-line_bytes}
 
-pub slice_bounds-put_pixel-end : goal.slice_bounds-put_pixel-end
-slice_bounds-put_pixel-end c =
-    let lines = c.args.lines in
-    let inside : c.loop-index.index < c.args.count = omega arith in
-    pixel-in-band c.loop-index.index c.args.count c.args.x lines.turn.width lines.pixel_bytes
-    c.line_bytes-bytes.result c.from-pixel_bytes.result
-    (length c.args.band.now) c.line_bytes-bytes.ensures
-    c.from-pixel_bytes.ensures inside c.requires.x c.requires.band
+start : (c : After-line_bytes) → c.pixel_start-start.result ≡ pixel_start c.args.lines c.args.x
+    (c.args.first + mirrored (flips_y c.args.lines.turn.orientation) c.args.count 0)
+start c = c.pixel_start-start.ensures
+    ∙ ap (λ n. pixel_start c.args.lines c.args.x (c.args.first + n)) c.pixel_at.ensures.is
+    ∙ ap (λ b. pixel_start c.args.lines c.args.x (c.args.first + mirrored b c.args.count 0))
+    c.flips_y-is_flipped.ensures
 
-pub loop-index-init : goal.loop-index-init
-loop-index-init c = λ meant are. writes-none c.args.lines meant
-    (λ column line. (column ≡ c.args.x) × (c.args.first ≤ line) × (line < c.args.first + 0))
-    c.args.pixels.now
-    (λ column line these. let none : ⊥ = omega (arith, these.1, these.2) in none)
+fits : (c : After-line_bytes) → c.pixel_start-start.result
+    + c.args.count * c.from-pixel_bytes.result ≤ length c.args.pixels.now
+fits c = subst (λ n. n ≤ length c.args.pixels.now)
+    (λ i. sym (start c) i + c.args.count * sym c.from-pixel_bytes.ensures i)
+    (column-fits c.args.lines (length c.args.pixels.now) c.args.x c.args.first c.args.count
+    c.requires.room c.requires.side c.requires.x c.requires.some c.requires.count)
 
-pub loop-index-preserved : goal.loop-index-preserved
-loop-index-preserved c =
-    let lines = c.args.lines in
-    let index : ℕ = c.loop-index.index in
-    let bytes : ℕ = c.line_bytes-bytes.result in
-    let part : ℕ = c.from-pixel_bytes.result in
-    let start : ℕ = index * bytes + c.args.x * part in
-    let count : start + part - start ≡ lines.pixel_bytes =
-    omega (arith, c.from-pixel_bytes.ensures) in
-    λ meant are. pixel-more lines meant c.args.x c.args.first index c.args.pixels.now
-    c.loop-index.pixels
-    c.put_pixel.new.pixels (c.loop-index.invariant meant are)
-    (c.put_pixel.ensures meant (λ byte low. are c.args.x index byte c.requires.x (omega arith) low
-    ∙ (λ i. slice_index_or c.args.band.now (index * sym c.line_bytes-bytes.ensures i
-    + c.args.x * sym c.from-pixel_bytes.ensures i + byte) 0)
-    ∙ sym (part-at start (start + part - start) byte c.args.band.now (omega (arith, low, count)))))
+pub overflow_add-start : goal.overflow_add-start
+overflow_add-start c =
+    let f = fits (goal.at.overflow_add-start c).After-line_bytes in omega (arith, f)
+
+pub slice_bounds-put_run-end-2 : goal.slice_bounds-put_run-end-2
+slice_bounds-put_run-end-2 c =
+    let f = fits (goal.at.slice_bounds-put_run-end-2 c).After-line_bytes in omega (arith, f)
+
+pub put_run-requires-clause-source : goal.put_run-requires-clause-source
+put_run-requires-clause-source c = λ place low. rest-room c.args.band.now
+    (c.args.x * c.from-pixel_bytes.result) (place * c.line_bytes.result)
+    c.from-pixel_bytes.result
+    (pixel-in-band place c.args.count c.args.x c.args.lines.turn.width c.args.lines.pixel_bytes
+    c.line_bytes.result c.from-pixel_bytes.result (length c.args.band.now)
+    c.line_bytes.ensures c.from-pixel_bytes.ensures low c.requires.x c.requires.band)
 
 pub returns : goal.returns
 returns c =
-    let all : c.loop-index.index ≡ c.args.count = omega arith in
-    λ meant are. subst (λ n. Writes c.args.lines meant
-    (λ column line. (column ≡ c.args.x) × (c.args.first ≤ line) × (line < c.args.first + n))
-    c.args.pixels.now
-    c.loop-index.pixels) all (c.loop-index.invariant meant are)
+    let start' = start (goal.at.returns c).After-line_bytes in
+    let fits' = fits (goal.at.returns c).After-line_bytes in
+    let bytes : ℕ = c.from-pixel_bytes.result in
+    let from : ℕ = c.pixel_start-start.result in
+    let k : from + c.args.count * bytes - from ≡ c.args.count * bytes = omega arith in
+    let long : length c.put_run.new.run ≡ c.args.count * bytes =
+    omega (arith, fits', c.put_run.auto.run) in
+    let is : IsRun (drop (c.args.x * bytes) c.args.band.now) c.line_bytes.result c.args.count
+    (flips_y c.args.lines.turn.orientation) bytes c.put_run.new.run =
+    subst (λ (l : List ℕ). IsRun l c.line_bytes.result c.args.count
+    (flips_y c.args.lines.turn.orientation) bytes c.put_run.new.run)
+    (rest-of (c.args.x * bytes) c.args.band.now)
+    (subst (λ b. IsRun (take (length c.args.band.now - c.args.x * bytes)
+    (drop (c.args.x * bytes) c.args.band.now)) c.line_bytes.result c.args.count b bytes
+    c.put_run.new.run)
+    c.flips_y-is_flipped.ensures c.put_run.ensures) in
+    λ meant are. column-written c.args.lines meant c.args.x c.args.first c.args.count from
+    (from + c.args.count * bytes - from) bytes c.line_bytes.result c.args.band.now
+    c.args.pixels.now c.put_run.new.run c.requires.side c.requires.x c.requires.count
+    c.from-pixel_bytes.ensures c.line_bytes.ensures start' k long fits' is are
