@@ -230,11 +230,11 @@ typedef struct zaxbriar_segment {
  *
  * `upright` turns the picture as picture.orientation says, from the Exif data before the frame
  * header: width, height, row_bytes and size are those of the upright picture, from
- * zaxbriar_read_info on, and `stride` and `bottom_up` are for its lines. The rest is told, and
- * asked for, of the picture as the stream has it: `orientation` itself, `min_width` and
- * `min_height`, the sampling factors and densities, and `whole_rows` of a partial picture. Unless
- * the orientation is 1, at most 16 lines are taken beside `pixels`. With ZAXBRIAR_TRANSFORM_NONE,
- * whose lines have component after component, it is a ZAXBRIAR_BAD_ARGUMENT. */
+ * zaxbriar_read_info on, and `stride` and `bottom_up` are for its lines. All other members refer to
+ * the picture as the stream has it: `orientation` itself, `min_width` and `min_height`, sampling
+ * factors and densities, and `whole_rows` of a partial picture. Unless the orientation is 1, the
+ * call allocates at most 16 lines besides `pixels`. With ZAXBRIAR_TRANSFORM_NONE, whose lines have
+ * component after component, it is a ZAXBRIAR_BAD_ARGUMENT. */
 typedef struct zaxbriar_options {
     uint64_t max_samples; /* limits width * height * components, at the scale; 0: no limit */
     uint64_t stride;      /* bytes from one line to the next, at most 2^32; 0: no gaps */
