@@ -42,7 +42,7 @@ use crate::picture::whole::{read_header, read_rest};
 use crate::scan::decoded::Decoded;
 use crate::scan::work::picture_blocks;
 use crate::sizes::{DecodingBytes, decoding_bytes, picture_bytes};
-use crate::stream::profile::profile;
+use crate::stream::profile::join_profile;
 use crate::stream::state::State;
 pub use jpeg_bits::color_transform::ColorTransform;
 use jpeg_bits::error::{Error, Result};
@@ -451,7 +451,7 @@ impl<R: Read + Drop> Decoder<R> {
         ensures { MatchResult result (λ o. option_map (λ v. v.items) o
             ≡ profile_of self.now.found.said.metadata.icc) (λ e. e ≡ OutOfMemory) }
     {
-        profile(self.alloc, self.state.said.metadata.icc.as_slice())
+        join_profile(self.alloc, self.state.said.metadata.icc.as_slice())
     }
 
     /// Reads through the frame header, so that `info` describes the picture. If it has been read

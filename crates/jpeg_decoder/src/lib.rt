@@ -69,3 +69,4 @@ pub use jpeg_segments::scale::Scale;
 pub use picture::lines::Lines;
 pub use picture::partial::PartialLines;
 pub use sizes::DecodingBytes;
+pub use stream::profile::join_profile;

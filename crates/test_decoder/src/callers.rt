@@ -2,18 +2,21 @@
 
 use crate::streams::{COUNT, Stream, Written, stream_of};
 use std::alloc::Global;
-use test_example_caller::{described_picture_of, picture_of};
+use test_example_caller::{Picture, described_picture_of, picture_of};
 use test_streams::states::is_picture;
 use test_streams::streams::ROOM;
+
+/// Returns whether a picture is a stream's, and what is said of it.
+fn is_of(picture: &Picture, stream: &Written<'_>) -> bool {
+    picture.info == stream.info
+        && picture.precision == stream.precision
+        && picture.pixels.as_slice() == stream.picture
+}
 
 /// Returns whether a stream's picture is returned, and what is said of it.
 fn is_described(alloc: Global, stream: &Written<'_>) -> bool {
     match described_picture_of(alloc, stream.bytes) {
-        Ok(picture) => {
-            picture.info == stream.info
-                && picture.precision == stream.precision
-                && picture.pixels.as_slice() == stream.picture
-        }
+        Ok(picture) => is_of(&picture, stream),
         Err(_) => false,
     }
 }

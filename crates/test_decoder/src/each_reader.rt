@@ -168,10 +168,9 @@ fn each_reader_gives_each_byte(rt: HostRuntime) {
     assert!(rt; wrong.is_none(), "{wrong:?} bytes");
 }
 
-/// Returns how many bytes follow the image of a stream that ends with AA: read ahead, and of the
-/// reader.
-fn rest_of(alloc: Global, bytes: &[u8], capacity: usize) -> Result<(usize, usize)> {
-    let mut decoder = Decoder::with_capacity(alloc, capacity, SliceReader::new(bytes))?;
+/// Returns how many bytes follow the image of a decoder's stream, which ends with AA: read ahead,
+/// and of the reader.
+fn rest_after(decoder: &mut Decoder<SliceReader<'_>>) -> Result<(usize, usize)> {
     decoder.decode()?;
     let (ahead, reader) = decoder.rest();
     let is_next = ahead.first().is_none_or(|byte| *byte == 0xaa);
@@ -179,6 +178,12 @@ fn rest_of(alloc: Global, bytes: &[u8], capacity: usize) -> Result<(usize, usize
         return Err(Error::Internal("another byte is next"));
     }
     Ok((ahead.len(), reader.left()))
+}
+
+/// Returns the same for a stream and a decoder that reads ahead as many bytes.
+fn rest_of(alloc: Global, bytes: &[u8], capacity: usize) -> Result<(usize, usize)> {
+    let mut decoder = Decoder::with_capacity(alloc, capacity, SliceReader::new(bytes))?;
+    rest_after(&mut decoder)
 }
 
 /// Returns whether the byte after the image was read ahead, or else is the reader's next.

@@ -2,6 +2,7 @@
 
 use crate::kinds::Kind;
 use jpeg_orientation::orientation_of;
+use jpeg_segments::parser::IccChunk;
 use std::alloc::{AllocError, Global};
 use zaxbriar_metadata::exif::{join_exif, thumbnail_of};
 use zaxbriar_metadata::photoshop::iptc_of;
@@ -17,7 +18,7 @@ const XMP: &[u8] = b"http://ns.adobe.com/xap/1.0/\0";
 const EXTENSION: &[u8] = b"http://ns.adobe.com/xmp/extension/\0";
 
 /// The name of a segment with a part of an ICC profile.
-pub const PROFILE: &[u8] = b"ICC_PROFILE\0";
+const PROFILE: &[u8] = b"ICC_PROFILE\0";
 
 /// The name of a segment with image resources.
 const PHOTOSHOP: &[u8] = b"Photoshop 3.0\0";
@@ -30,7 +31,7 @@ pub struct Metadata {
     xmp: Option<Vec<u8>>,
     extensions: Vec<Vec<u8>>,
     resources: Vec<u8>,
-    profile: Vec<Vec<u8>>,
+    profile: Vec<IccChunk>,
 }
 
 /// How many bytes there are of each kind of data, and the orientation.
@@ -89,7 +90,11 @@ impl Metadata {
     fn add_application_2(&mut self, alloc: Global, segment: &[u8]) -> Result<(), AllocError> {
         if let Some(bytes) = segment.strip_prefix(PROFILE) {
             if bytes.len() > 2 {
-                self.profile.push(Vec::from_slice(alloc, bytes)?)?;
+                self.profile.push(IccChunk {
+                    seq_no: bytes[0],
+                    num_markers: bytes[1],
+                    bytes: Vec::from_slice(alloc, &bytes[2..])?,
+                })?;
             }
         }
         Ok(())
@@ -147,8 +152,8 @@ impl Metadata {
         thumbnail_of(self.exif()?)
     }
 
-    /// Returns the parts of an ICC profile: the number of each, the number of parts, and its bytes.
-    pub fn profile_parts(&self) -> &[Vec<u8>] {
+    /// Returns the parts of an ICC profile, in the order of the stream.
+    pub fn profile_parts(&self) -> &[IccChunk] {
         self.profile.as_slice()
     }
 
@@ -167,8 +172,7 @@ impl Metadata {
     fn profile_size(&self) -> Option<usize> {
         let mut size = None;
         for part in &self.profile {
-            let bytes = part.len().saturating_sub(2);
-            size = Some(size.unwrap_or(0_usize).saturating_add(bytes));
+            size = Some(size.unwrap_or(0_usize).saturating_add(part.bytes.len()));
         }
         size
     }

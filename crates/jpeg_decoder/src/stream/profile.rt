@@ -65,10 +65,11 @@ fn joined(alloc: Global, chunks: &[IccChunk], count: usize) -> Result<Option<Vec
     Ok(Some(bytes))
 }
 
-/// Returns the profile, if there are 1 to 254 parts, each names their number, and they are numbered
-/// 1, 2 and so on, in any order. The only error is `OutOfMemory`.
+/// Joins the parts of an ICC profile (ICC.1, Annex B.4): returns it if there are 1 to 254 parts,
+/// each names their number, and they are numbered 1, 2 and so on, in any order. The only error is
+/// `OutOfMemory`.
 #[tactic(auto, unfolding(jpeg_meaning::specs::Profile::profile_of))]
-pub fn profile(alloc: Global, chunks: &[IccChunk]) -> Result<Option<Vec<u8>>>
+pub fn join_profile(alloc: Global, chunks: &[IccChunk]) -> Result<Option<Vec<u8>>>
     ensures { MatchResult result (λ o. option_map (λ v. v.items) o
         ≡ profile_of (map chunk_in chunks.now)) (λ e. e ≡ OutOfMemory) }
 {
