@@ -111,9 +111,9 @@ def main(crates, tools, folder, *peers):
     os.sched_setaffinity(0, {max(os.sched_getaffinity(0))})
     zaxbriar = f"{crates}/zaxbriar_cli/out/zaxbriar_cli"
     jpegraw = f"{crates}/jpegraw/out/jpegraw"
-    bench_decode = f"{crates}/test_bench_decode/out/test_bench_decode"
     tools, folder = Path(tools), Path(folder)
-    from_memory = list(repeated_programs(bench_decode, tools, peers))
+    decoding = tools / "decoding"
+    from_memory = list(repeated_programs(decoding, tools, peers))
     results = time_from_memory(from_memory, folder, cases())
     print_ranges_of_ours("Ranges, from memory", from_memory, results)
     print_ranges_to_turbo(from_memory, results)
@@ -129,7 +129,7 @@ def main(crates, tools, folder, *peers):
     time_programs(whole, folder)
     print_memory(whole, zaxbriar, folder)
     if shutil.which("perf"):
-        print_profile(bench_decode, folder)
+        print_profile(decoding, folder)
 
 
 if __name__ == "__main__":

@@ -108,11 +108,11 @@ def later_turbo(tools, environment=None):
         yield Repeated("libjpeg-turbo 3", lambda case: [str(run), *turbo(case)], environment)
 
 
-def repeated_programs(bench_decode, tools, peers):
+def repeated_programs(decoding, tools, peers):
     """The programs that decode from memory."""
 
     def ours(case):
-        return [bench_decode, "N", *(map(str, case.scaled_size()) if case.scale > 1 else [])]
+        return [decoding, "N", *(map(str, case.scaled_size()) if case.scale > 1 else [])]
 
     turbo = words_of_tool(tools / "turbo")
     yield Repeated("ours", ours, clocked(tools))

@@ -1,4 +1,4 @@
-//! How long decodings from memory take: `test_bench_decode ROUNDS [WIDTH HEIGHT] < photo.jpg`.
+//! How long decodings from memory take: `decoding ROUNDS [WIDTH HEIGHT] < photo.jpg`.
 //!
 //! The file is read at once, and decoded from its bytes as often as ROUNDS says, where WIDTH and
 //! HEIGHT are given at the scale for them (`Decoder::scale`). The least time of a decoding goes to
@@ -98,7 +98,7 @@ fn least_time(
 }
 
 fn main(rt: HostRuntime) -> anyhow::Result<()> {
-    let usage = "usage: test_bench_decode ROUNDS [WIDTH HEIGHT] < photo.jpg";
+    let usage = "usage: decoding ROUNDS [WIDTH HEIGHT] < photo.jpg";
     let request = request_of(env::args(&rt)?).context(usage)?;
     let mut bytes = Vec::new(rt.alloc());
     rt.stdin().read_to_end(&mut bytes)?;
