@@ -89,8 +89,8 @@ def expected():
     yield "docs/TRUST.md", r"of (\d+) damaged", damaged
     partial = sum(map(cases, ("partial", "partial_random", "partial_rows")))
     yield "docs/TRUST.md", r"of (\d+)\s+cut or\s+damaged streams", partial
-    parts = len(text("crates/test_parts_cases/stdout").splitlines())
-    yield "docs/CONFORMANCE.md", r"each of its (\d+) cases", parts
+    parts = len(text("tests/parts/answers").splitlines())
+    yield "docs/CONFORMANCE.md", r"each of the (\d+) cases", parts
     yield "CHANGELOG.md", r"(\d+) calls of\s+the parts", parts
     answers = sorted((ROOT / "bindings/c/test/cases").glob("*.answers"))
     calls = sum(len(re.findall(r"(?m)^case ", it.read_text("utf8"))) for it in answers)

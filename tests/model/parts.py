@@ -1,6 +1,6 @@
 #!/usr/bin/env python3
-"""parts.py: compares what crates/test_parts_cases/stdout has with what the model makes of the
-same case files, line by line, and says how many lines the model can say."""
+"""parts.py: compares what tests/parts/answers has with what the model makes of the same case
+files, line by line, and says how many lines the model can say."""
 import os
 import sys
 
@@ -8,7 +8,7 @@ import model
 from model import Refused, ceil_div, codes, extend
 
 HERE = os.path.dirname(os.path.abspath(__file__))
-CRATE = os.path.join(HERE, '..', '..', 'crates', 'test_parts_cases')
+PARTS = os.path.join(HERE, '..', 'parts')
 RULES = {'H1V1': (1, 1), 'H2V1': (2, 1), 'H1V2': (1, 2), 'H2V2': (2, 2)}
 CONVERSIONS = {'None': 'None', 'RGB': 'Rgb', 'YCbCr': 'YCbCr', 'CMYK': 'Cmyk', 'YCCK': 'Ycck'}
 PREDICTORS = ('NoPrediction', 'Ra', 'Rb', 'Rc', 'RaRbRc1', 'RaRbRc2', 'RaRbRc3', 'RaRb')
@@ -623,13 +623,11 @@ def is_general(line):
 
 
 def main():
-    with open(os.path.join(CRATE, 'args')) as args:
-        names = args.read().split()
     paragraphs = []
-    for name in names:
-        with open(os.path.join(CRATE, 'data', name)) as cases:
+    for name in ('bits', 'segments', 'pixels', 'lossless'):
+        with open(os.path.join(PARTS, 'data', f'{name}.case')) as cases:
             paragraphs += cases.read().rstrip().split('\n\n')
-    with open(sys.argv[1] if len(sys.argv) > 1 else os.path.join(CRATE, 'stdout')) as output:
+    with open(sys.argv[1] if len(sys.argv) > 1 else os.path.join(PARTS, 'answers')) as output:
         lines = output.read().splitlines()
     said = different = 0
     for paragraph, line in zip(paragraphs, lines):

@@ -1,7 +1,4 @@
 //! Calls of `jpeg_bits`: bytes, markers, codes, values, blocks and errors.
-ghost use Rattle.std.specs.Prelude.{◌≡◌, ◌≤◌, sum, IfOk};
-ghost use Rattle.jpeg_bits.specs.BlockView.{pass_in, IsPass};
-ghost use Rattle.jpeg_bits.specs.declared.huffman.codes.HuffmanTableClass.TheVariants.{AC};
 
 use crate::said::{Block, Said};
 use crate::state::State;
@@ -25,10 +22,7 @@ use test_streams::streams::{ROOM, bytes_in};
 use test_streams::words::{first_word, halves, numbers};
 
 /// Returns the number of a text, which has to be from `least` to `most`.
-fn within(text: &str, least: u8, most: u8) -> fault::Result<u8>
-    ensures least { IfOk result (λ n. least ≤ n) }
-    ensures most { IfOk result (λ n. n ≤ most) }
-{
+fn within(text: &str, least: u8, most: u8) -> fault::Result<u8> {
     let number = text.parse::<u8>()?;
     if number < least {
         return Err(Fault::Expected("a greater number"));
@@ -40,9 +34,7 @@ fn within(text: &str, least: u8, most: u8) -> fault::Result<u8>
 }
 
 /// Returns the sum of the counts of a table.
-fn total(counts: &[u8; 16]) -> u16
-    ensures { result ≡ sum counts.now }
-{
+fn total(counts: &[u8; 16]) -> u16 {
     let mut total = 0u16;
     for i in 0..16 {
         total += u16::from(counts[i]);
@@ -55,9 +47,7 @@ pub fn table_of(
     alloc: Global,
     codes: &str,
     class: HuffmanTableClass,
-) -> fault::Result<Result<HuffmanTable, Error>>
-    ensures { IfOk result (λ answer. IfOk answer (λ table. table.class ≡ class)) }
-{
+) -> fault::Result<Result<HuffmanTable, Error>> {
     let (counts, symbols) = halves(codes)?;
     let mut room = [0; ROOM];
     let symbols = bytes_in(&mut room, symbols)?;
@@ -70,9 +60,7 @@ pub fn table_of(
 }
 
 /// Fills the look-up tables by which large pictures are decoded.
-fn widen(alloc: Global, table: &mut HuffmanTable) -> Result<(), AllocError>
-    ensures { table.new ≡ table.old }
-{
+fn widen(alloc: Global, table: &mut HuffmanTable) -> Result<(), AllocError> {
     table.widen(alloc)?;
     table.fill_pairs(alloc)?;
     table.fill_skips(alloc)
@@ -214,9 +202,7 @@ fn fill_defaults(state: &mut State<'_>, said: &mut Said, text: &str) -> fault::R
 }
 
 /// Returns the pass of words `PASS SS SE AL`.
-fn pass_of(text: &str) -> fault::Result<Pass>
-    ensures { IfOk result (λ pass. IsPass (pass_in pass)) }
-{
+fn pass_of(text: &str) -> fault::Result<Pass> {
     let (name, text) = first_word(text);
     let is_first = match name {
         "first" => true,
@@ -236,9 +222,7 @@ fn pass_of(text: &str) -> fault::Result<Pass>
 }
 
 /// Returns the table of codes of the class AC; if `is_wide`, as blocks of large pictures are read.
-fn last_table(alloc: Global, codes: &str, is_wide: bool) -> fault::Result<HuffmanTable>
-    ensures { IfOk result (λ table. table.class ≡ AC) }
-{
+fn last_table(alloc: Global, codes: &str, is_wide: bool) -> fault::Result<HuffmanTable> {
     let mut table = table_of(alloc, codes, HuffmanTableClass::AC)??;
     if is_wide {
         widen(alloc, &mut table)?;
@@ -261,10 +245,7 @@ fn block_by(
     said: &mut Said,
     pass: Pass,
     table: &HuffmanTable,
-) -> fault::Result<()>
-    requires pass { IsPass (pass_in pass) }
-    requires class { table.now.class ≡ AC }
-{
+) -> fault::Result<()> {
     let coding = BlockCoding {
         pass,
         slot: 0,

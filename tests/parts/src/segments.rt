@@ -1,7 +1,4 @@
 //! Calls of `jpeg_segments`: each segment as its bytes give it.
-ghost use Rattle.std.specs.Prelude.{◌≡◌, true};
-ghost use Rattle.jpeg_segments.specs.FrameView.{frame_in};
-ghost use Rattle.jpeg_segments.specs.Scales.{IsSizedFrame, is_scale};
 
 use crate::bits::{Tables, byte};
 use crate::said::Said;
@@ -54,18 +51,12 @@ fn keep(kept: &mut Option<FrameInfo>, said: &mut Said, frame: FrameInfo) -> faul
 }
 
 /// Returns whether a number of samples is one that a side of a block may give.
-fn is_scale(scale: usize) -> bool
-    ensures { result ≡ is_scale scale }
-{
+fn is_scale(scale: usize) -> bool {
     scale == 1 || scale == 2 || scale == 4 || scale == 8
 }
 
 /// Sizes a frame at a scale and then at another one.
-fn sized(said: &mut Said, mut frame: FrameInfo, first: usize, second: usize) -> fault::Result<()>
-    requires made { IsSizedFrame (frame_in frame) }
-    requires first { is_scale first ≡ true }
-    requires second { is_scale second ≡ true }
-{
+fn sized(said: &mut Said, mut frame: FrameInfo, first: usize, second: usize) -> fault::Result<()> {
     scale_frame(&mut frame, first);
     scale_frame(&mut frame, second);
     say_frame(said, &frame)

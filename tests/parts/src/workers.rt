@@ -1,10 +1,4 @@
 //! Calls of `jpeg_pixels`: planes that are together, and planes that a worker makes row by row.
-ghost use Rattle.std.specs.Prelude.{◌≡◌, ◌≤◌, ◌∷◌, [], Some, None, length, map, replicate};
-ghost use Rattle.std.specs.Prelude.{◌*◌, IfOk, IfSome};
-ghost use Rattle.jpeg_segments.specs.Frame.{HasSampling};
-ghost use Rattle.jpeg_segments.specs.FrameView.{component_in};
-ghost use Rattle.jpeg_pixels.specs.JointPlanes.{HasFrameSizes, joint_row_size};
-ghost use Rattle.jpeg_pixels.specs.Workers.{work_of};
 
 use crate::said::Said;
 use jpeg_bits::error::Error;
@@ -18,21 +12,7 @@ use test_streams::streams::{ROOM, bytes_in};
 use test_streams::words::{fill, halves, numbers};
 
 /// Returns a component of two by four blocks, each of one sample, with these factors.
-fn component(horizontal: u8, vertical: u8) -> Component
-    ensures { component_in result ≡ record {
-      factors = record {
-        identifier = 1;
-        horizontal = horizontal;
-        vertical = vertical;
-        quantization = 0;
-      };
-      scale = 1;
-      width = 2;
-      height = 4;
-      blocks_wide = 2;
-      blocks_high = 4;
-    } }
-{
+fn component(horizontal: u8, vertical: u8) -> Component {
     Component {
         identifier: 1,
         horizontal_sampling_factor: horizontal,
@@ -51,10 +31,7 @@ fn component(horizontal: u8, vertical: u8) -> Component
 }
 
 /// Returns the layout of three components with these horizontal factors.
-#[tactic(auto, unfolding(jpeg_segments::specs::Frame::AllHaveSampling))]
-fn shape_of(factors: [u16; 3], size: Dimensions, rows: u16) -> Option<JointShape>
-    ensures { IfSome result HasFrameSizes }
-{
+fn shape_of(factors: [u16; 3], size: Dimensions, rows: u16) -> Option<JointShape> {
     let [first, second, third] = factors;
     let (first, second, third) = (first.clamp(1, 4), second.clamp(1, 4), third.clamp(1, 4));
     let components = [
@@ -66,9 +43,7 @@ fn shape_of(factors: [u16; 3], size: Dimensions, rows: u16) -> Option<JointShape
 }
 
 /// Returns the layout of words `FIRST SECOND THIRD WIDTH HEIGHT ROWS`.
-fn shape(text: &str) -> fault::Result<Option<JointShape>>
-    ensures { IfOk result (λ shape. IfSome shape HasFrameSizes) }
-{
+fn shape(text: &str) -> fault::Result<Option<JointShape>> {
     let [first, second, third, width, height, rows] = numbers::<6>(text)?;
     if first.min(second).min(third) < 1 || first.max(second).max(third) > 4 {
         return Err(Fault::Expected("factors of 1 to 4"));
@@ -77,9 +52,7 @@ fn shape(text: &str) -> fault::Result<Option<JointShape>>
 }
 
 /// Returns how many samples the planes of a layout have, or none where there are too many.
-fn room_of(shape: JointShape) -> Option<usize>
-    ensures { IfSome result (λ n. n ≡ shape.rows * joint_row_size shape) }
-{
+fn room_of(shape: JointShape) -> Option<usize> {
     let strip = shape.lines.checked_mul(shape.stride)?;
     shape.rows.checked_mul(shape.count.checked_mul(strip)?)
 }
@@ -98,9 +71,12 @@ fn joint(alloc: Global, said: &mut Said, text: &str) -> fault::Result<()> {
 }
 
 /// Returns a plane of the samples of all.
-fn plane_of(alloc: Global, shape: JointShape, slot: usize, samples: &[u8]) -> fault::Result<Vec<u8>>
-    requires sizes { HasFrameSizes shape }
-{
+fn plane_of(
+    alloc: Global,
+    shape: JointShape,
+    slot: usize,
+    samples: &[u8],
+) -> fault::Result<Vec<u8>> {
     let room = room_of(shape).ok_or(Fault::Expected("fewer samples"))?;
     if slot >= shape.count || samples.len() != room {
         return Err(Fault::Expected("a slot, and the samples of all planes"));
@@ -111,9 +87,7 @@ fn plane_of(alloc: Global, shape: JointShape, slot: usize, samples: &[u8]) -> fa
 }
 
 /// Returns a row of four blocks, by the first coefficient of each.
-fn row_of(alloc: Global, firsts: [i16; 4]) -> Result<Vec<i16>, Error>
-    ensures { IfOk result (λ row. length row.items ≡ 256) }
-{
+fn row_of(alloc: Global, firsts: [i16; 4]) -> Result<Vec<i16>, Error> {
     let mut row = vec![in alloc; 0i16; 256]?;
     for index in 0..4 {
         row[index * 64] = firsts[index];
@@ -123,16 +97,7 @@ fn row_of(alloc: Global, firsts: [i16; 4]) -> Result<Vec<i16>, Error>
 
 /// Returns a worker that makes the plane of a component at index 2, which comes by two rows of
 /// blocks.
-fn started(alloc: Global) -> Result<ImmediateWorker, Error>
-    ensures { IfOk result (λ worker. worker ≡ None ∷ None ∷ Some (work_of (record {
-      factors = record { identifier = 1; horizontal = 1; vertical = 2; quantization = 0 };
-      scale = 1;
-      width = 2;
-      height = 4;
-      blocks_wide = 2;
-      blocks_high = 4;
-    }) (replicate 64 4)) ∷ None ∷ []) }
-{
+fn started(alloc: Global) -> Result<ImmediateWorker, Error> {
     let mut worker = ImmediateWorker::default_in_memory(alloc)?;
     worker.start(RowData {
         index: 2,

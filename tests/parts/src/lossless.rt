@@ -1,7 +1,4 @@
 //! Calls of `jpeg_lossless`: predictions, and the samples of scans.
-ghost use Rattle.std.specs.Prelude.{◌≡◌, ◌<◌, ◌≤◌, IfOk, map, true};
-ghost use Rattle.std.specs.List.{AllByRecursion};
-ghost use Rattle.jpeg_lossless.specs.Codings.{IsCovered, part_in};
 
 use crate::bits::table_of;
 use crate::said::{Answer, Said};
@@ -50,12 +47,7 @@ fn predicted(said: &mut Said, text: &str) -> fault::Result<()> {
 }
 
 /// Returns the coding of words `WIDE HIGH PRECISION SELECTION POINT INTERVAL`.
-fn coding_of(text: &str) -> fault::Result<Coding>
-    ensures wide { IfOk result (λ coding. 0 < coding.wide) }
-    ensures high { IfOk result (λ coding. 0 < coding.high) }
-    ensures point { IfOk result (λ coding. coding.point_transform < coding.precision) }
-    ensures precision { IfOk result (λ coding. coding.precision ≤ 16) }
-{
+fn coding_of(text: &str) -> fault::Result<Coding> {
     let [wide, high, precision, selection, point, interval] = numbers::<6>(text)?;
     if wide == 0 || high == 0 || precision > 16 || point >= precision {
         return Err(Fault::Expected(
@@ -101,9 +93,7 @@ fn parts_of<'t>(
 }
 
 /// Returns whether the MCUs of a scan cover its components.
-fn are_covered(wide: u16, high: u16, parts: &[Part<'_>]) -> bool
-    ensures { result ≡ true → AllByRecursion (IsCovered wide high) (map part_in parts.now) }
-{
+fn are_covered(wide: u16, high: u16, parts: &[Part<'_>]) -> bool {
     match parts {
         [] => true,
         [part, more @ ..] => {
@@ -120,13 +110,7 @@ fn scan_read(
     said: &mut Said,
     coding: Coding,
     parts: &[Part<'_>],
-) -> fault::Result<()>
-    requires wide { 0 < coding.wide }
-    requires high { 0 < coding.high }
-    requires point { coding.point_transform < coding.precision }
-    requires precision { coding.precision ≤ 16 }
-    requires covered { AllByRecursion (IsCovered coding.wide coding.high) (map part_in parts.now) }
-{
+) -> fault::Result<()> {
     match read_scan(state.alloc, &mut state.source, coding, parts) {
         Ok((planes, marker)) => Ok(said.say(format_args!("{planes:?}, {marker:?}"))?),
         Err(error) => said.refuse(&error),
@@ -140,13 +124,7 @@ fn rows_read(
     said: &mut Said,
     coding: Coding,
     parts: &[Part<'_>],
-) -> fault::Result<()>
-    requires wide { 0 < coding.wide }
-    requires high { 0 < coding.high }
-    requires point { coding.point_transform < coding.precision }
-    requires precision { coding.precision ≤ 16 }
-    requires covered { AllByRecursion (IsCovered coding.wide coding.high) (map part_in parts.now) }
-{
+) -> fault::Result<()> {
     let alloc = state.alloc;
     let Some(count) = rows_of_interval(coding) else {
         return Err(Fault::Expected("an interval of whole rows"));
@@ -165,12 +143,7 @@ fn scan_of(
     is_whole: bool,
     coding: Coding,
     parts: &[Part<'_>],
-) -> fault::Result<()>
-    requires wide { 0 < coding.wide }
-    requires high { 0 < coding.high }
-    requires point { coding.point_transform < coding.precision }
-    requires precision { coding.precision ≤ 16 }
-{
+) -> fault::Result<()> {
     if !are_covered(coding.wide, coding.high, parts) {
         return Err(Fault::Expected("components within their MCUs"));
     }

@@ -1,6 +1,4 @@
 //! Calls of `jpeg_pixels`: transforms of blocks, and planes of them.
-ghost use Rattle.std.specs.Prelude.{◌≡◌, ◌+◌, ◌-◌, ◌*◌, ◌≤◌, length, true};
-ghost use Rattle.jpeg_pixels.specs.Scaled.{IsScale};
 
 use crate::said::Said;
 use crate::state::State;
@@ -16,18 +14,18 @@ use test_streams::fault::Fault;
 use test_streams::words::{fill, leading, numbers};
 
 /// Returns whether a block may give this many samples a side.
-fn is_scale(scale: usize) -> bool
-    ensures { result ≡ true → IsScale scale }
-{
+fn is_scale(scale: usize) -> bool {
     scale == 1 || scale == 2 || scale == 4 || scale == 8
 }
 
 /// Transforms a block by the function for its scale alone.
-fn transform(scale: usize, block: &[i16; 64], values: &[u16; 64], stride: usize, output: &mut [u8])
-    requires scale { IsScale scale }
-    requires wide { scale ≤ stride }
-    requires room { (scale - 1) * stride + scale ≤ length output.old }
-{
+fn transform(
+    scale: usize,
+    block: &[i16; 64],
+    values: &[u16; 64],
+    stride: usize,
+    output: &mut [u8],
+) {
     match scale {
         8 => dequantize_and_idct_block_8x8(block, values, stride, output),
         4 => dequantize_and_idct_block_4x4(block, values, stride, output),
@@ -110,9 +108,7 @@ fn append(
     before: u8,
     other: [i16; 64],
     after: u8,
-) -> fault::Result<()>
-    requires scale { IsScale scale }
-{
+) -> fault::Result<()> {
     let count = usize::from(before) + 1 + usize::from(after);
     let mut blocks = vec![in state.alloc; state.block; count]?;
     blocks[usize::from(before)] = other;

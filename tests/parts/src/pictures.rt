@@ -1,10 +1,4 @@
 //! Calls of `jpeg_pixels`: upsampling, colours, pictures and workers.
-ghost use Rattle.std.specs.Prelude.{◌≡◌, ◌≤◌, ◌<◌, ◌+◌, ◌-◌, ◌*◌, length, map, true, IfOk, IfSome};
-ghost use Rattle.jpeg_segments.specs.Frame.{AllHaveSampling, IsFrame};
-ghost use Rattle.jpeg_segments.specs.FrameView.{component_in, frame_in};
-ghost use Rattle.jpeg_pixels.specs.Pictures.{HaveRoom};
-ghost use Rattle.jpeg_pixels.specs.PicturesView.{IsFor};
-ghost use Rattle.jpeg_pixels.specs.Upsampling.{across, down};
 
 use crate::said::Said;
 use crate::segments::marker_of;
@@ -43,11 +37,7 @@ fn generic_rule_of(name: &str) -> fault::Result<UpsampleRule> {
 }
 
 /// Returns how many samples across and down a rule makes of one.
-fn ratios(rule: UpsampleRule) -> (usize, usize)
-    ensures across { result.0 ≡ across rule }
-    ensures down { result.1 ≡ down rule }
-    ensures few { (result.0 ≤ 255) × (result.1 ≤ 255) }
-{
+fn ratios(rule: UpsampleRule) -> (usize, usize) {
     match rule {
         UpsampleRule::H1V1 => (1, 1),
         UpsampleRule::H2V1 => (2, 1),
@@ -152,11 +142,7 @@ fn planes_of(alloc: Global, text: &str) -> fault::Result<Vec<Vec<u8>>> {
 }
 
 /// Returns how many samples at least a plane of a component has, or none where they are too many.
-fn room_of(component: &Component) -> Option<usize>
-    ensures { IfSome result (λ n. n ≡ ((component_in component.now).height - 1)
-        * ((component_in component.now).blocks_wide * (component_in component.now).scale)
-        + (component_in component.now).width) }
-{
+fn room_of(component: &Component) -> Option<usize> {
     let stride = usize::from(component.block_size.width).checked_mul(component.dct_scale)?;
     let lines = usize::from(component.size.height.saturating_sub(1));
     lines
@@ -165,11 +151,7 @@ fn room_of(component: &Component) -> Option<usize>
 }
 
 /// Returns whether each component has a plane with its samples.
-#[tactic(auto, unfolding(jpeg_pixels::specs::Pictures::HaveRoom))]
-fn have_room(components: &[Component], planes: &[Vec<u8>]) -> bool
-    ensures { result ≡ true
-        → HaveRoom (map component_in components.now) (map (λ v. v.items) planes.now) }
-{
+fn have_room(components: &[Component], planes: &[Vec<u8>]) -> bool {
     match (components, planes) {
         ([], _) => true,
         ([component, more @ ..], [plane, rest @ ..]) => match room_of(component) {
@@ -186,15 +168,7 @@ fn picture_of(
     frame: &FrameInfo,
     planes: &[Vec<u8>],
     transform: ColorTransform,
-) -> Result<Vec<u8>>
-    requires made { IsFrame (frame_in frame.now) }
-    requires factors { AllHaveSampling (map component_in frame.now.components.items) }
-    requires some { 3 ≤ length frame.now.components.items }
-    requires most { length frame.now.components.items ≤ 4 }
-    requires planes { length planes.now ≡ length frame.now.components.items }
-    requires room { HaveRoom (map component_in frame.now.components.items)
-        (map (λ v. v.items) planes.now) }
-{
+) -> Result<Vec<u8>> {
     compute_image_rows(
         alloc,
         &frame.components,
@@ -205,11 +179,7 @@ fn picture_of(
 }
 
 /// Reads a frame of the marker of this code.
-fn frame_of(state: &mut State<'_>, code: &str) -> fault::Result<FrameInfo>
-    ensures made { IfOk result (λ frame. IsFrame (frame_in frame)) }
-    ensures factors { IfOk result (λ frame.
-        AllHaveSampling (map component_in frame.components.items)) }
-{
+fn frame_of(state: &mut State<'_>, code: &str) -> fault::Result<FrameInfo> {
     let marker = marker_of(code)?;
     Ok(parse_sof(state.alloc, &mut state.source, marker)?)
 }
@@ -236,10 +206,7 @@ fn say_picture(
     frame: &FrameInfo,
     planes: &[Vec<u8>],
     transform: ColorTransform,
-) -> fault::Result<()>
-    requires made { IsFrame (frame_in frame.now) }
-    requires factors { AllHaveSampling (map component_in frame.now.components.items) }
-{
+) -> fault::Result<()> {
     let count = frame.components.len();
     if count < 3 || count > 4 || count != planes.len() || !have_room(&frame.components, planes) {
         return Err(Fault::Expected("the planes of three or four components"));
@@ -248,9 +215,7 @@ fn say_picture(
 }
 
 /// Returns whether a conversion is one for this many components.
-fn is_for(count: usize, color_convert: ColorConvert) -> bool
-    ensures { result ≡ true → IsFor count color_convert }
-{
+fn is_for(count: usize, color_convert: ColorConvert) -> bool {
     match color_convert {
         ColorConvert::None => true,
         ColorConvert::Rgb | ColorConvert::YCbCr => count == 3,
@@ -265,17 +230,7 @@ fn line_of(
     planes: &[Vec<u8>],
     row: usize,
     color_convert: ColorConvert,
-) -> Result<Vec<u8>>
-    requires made { IsFrame (frame_in frame.now) }
-    requires factors { AllHaveSampling (map component_in frame.now.components.items) }
-    requires some { 1 ≤ length frame.now.components.items }
-    requires most { length frame.now.components.items ≤ 4 }
-    requires planes { length planes.now ≡ length frame.now.components.items }
-    requires room { HaveRoom (map component_in frame.now.components.items)
-        (map (λ v. v.items) planes.now) }
-    requires row { row < frame.now.image_size.height }
-    requires fits { IsFor (length frame.now.components.items) color_convert }
-{
+) -> Result<Vec<u8>> {
     let size = frame.image_size;
     let width = usize::from(size.width);
     let upsampler = Upsampler::new(alloc, &frame.components, size.width, size.height)?;
@@ -313,10 +268,7 @@ fn say_line(
     planes: &[Vec<u8>],
     row: u16,
     transform: ColorTransform,
-) -> fault::Result<()>
-    requires made { IsFrame (frame_in frame.now) }
-    requires factors { AllHaveSampling (map component_in frame.now.components.items) }
-{
+) -> fault::Result<()> {
     let count = frame.components.len();
     let convert = ColorConvert::choose(alloc, count, transform)?;
     if count < 1 || count > 4 || count != planes.len() || !have_room(&frame.components, planes) {
