@@ -1,5 +1,5 @@
 -- The loops that add the planes and the blocks of a scan's components, one after the other.
-use Rattle.std.proofs.Common.{rules, ◌≡◌, ◌<◌, ℕ, zero, suc, ◌+◌, ◌*◌, List, [], ◌∷◌, refl, sym}
+use Rattle.std.proofs.Common.{rules, ◌≡◌, ◌<◌, ◌≤◌, ℕ, zero, suc, ◌+◌, ◌*◌, List, [], ◌∷◌, refl, sym}
 use Rattle.std.proofs.Common.{ap, ◌∙◌, length, get_or, set, map, drop, arith}
 use Rattle.std.proofs.lemmas.List.{drop-set-lt, drop_more, get_or-map, length-map, map-set}
 use Rattle.std.specs.declared.alloc.Global.{Global}
@@ -53,7 +53,7 @@ put-step cs i d arrays kept empty blocks h e is =
 
 pub planes-step : (p : Pass) (cs : List Coded) (i : ℕ) (d : Coded) (planes : List (Vec ℕ Global))
     (empty plane : Vec ℕ Global) (before after : Found)
-    → i < length cs → length planes ≡ length cs → plane ≡ get_or planes i plane
+    → i < length planes → length planes ≤ length cs → plane ≡ get_or planes i plane
     → after ≡ with_its_plane p (get_or cs i d).index plane.items before
     → with_planes p (drop (i + 1) (map coding_in cs))
     (drop (i + 1) (map (λ (v : Vec ℕ Global). v.items) (set planes i empty))) after

@@ -13,4 +13,5 @@ pub mod ThroughRows
 pub mod JointDecided
 pub mod KeptStrips
 pub mod JointStrips
+pub mod FirstPlanes
 pub mod JointAdded

@@ -1,5 +1,5 @@
 -- What a caller sees of planes that grow by rows of MCUs, each on its own or all in one buffer.
-use Rattle.std.specs.Prelude.{◌≡◌, ◌≤◌, ◌<◌, ℕ, ◌*◌, ◌/◌, Bool, false, true, List, length}
+use Rattle.std.specs.Prelude.{◌≡◌, ◌≤◌, ℕ, ◌*◌, ◌/◌, Bool, false, true, List, length}
 use Rattle.std.specs.List.{AllByRecursion}
 use Rattle.jpeg_pixels.specs.JointPlanes.{HasFrameSizes, joint_planes, joint_row_size}
 use Rattle.jpeg_pixels.specs.declared.joint_planes.JointPlanes.{JointPlanes}
@@ -32,8 +32,7 @@ pub record IsJointOf (codings : List Coding) (joint : JointPlanes) : Type 0 wher
   pub whole : length joint.samples.items
       ≡ length joint.samples.items / joint_row_size joint.shape * joint_row_size joint.shape
 
--- planes of a scan's components, or none
+-- planes of a scan's first components; in one buffer those of all
 abbrev pub GrowsFor : List Coding → GrowingPlanes → Type 0
-GrowsFor codings (growing.Own planes) =
-    0 < length planes.items → length planes.items ≡ length codings
+GrowsFor codings (growing.Own planes) = length planes.items ≤ length codings
 GrowsFor codings (growing.Joint joint) = IsJointOf codings joint

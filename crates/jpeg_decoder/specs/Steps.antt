@@ -1,9 +1,9 @@
 -- What the decoder's own clauses need beside the meaning of a stream: what a caller sees after a
 -- segment, the marker after a scan, and the components of a scan with their tables.
 use Rattle.std.specs.Prelude.{◌≡◌, ◌<◌, ◌≤◌, ℕ, suc, ◌&&◌, not, is_some, slice_set, ◌*◌}
-use Rattle.std.specs.Prelude.{◌/◌, min, List, [], ◌∷◌, map, set, length, replicate, get_or, Bool}
-use Rattle.std.specs.Prelude.{true, false, Option, slice_get, slice_index_or, Some, None, Result}
-use Rattle.std.specs.Prelude.{Ok, Err, if◌then◌else◌, IfOk, MatchResult, OnErr, OnOk}
+use Rattle.std.specs.Prelude.{◌/◌, min, List, [], ◌∷◌, drop, map, set, length, replicate, get_or}
+use Rattle.std.specs.Prelude.{Bool, true, false, Option, slice_get, slice_index_or, Some, None}
+use Rattle.std.specs.Prelude.{Result, Ok, Err, if◌then◌else◌, All, IfOk, MatchResult, OnErr, OnOk}
 use Rattle.jpeg_bits.specs.Reading.{Names, Outcome, Fault, Malformed, ◌>>=◌}
 use Rattle.jpeg_bits.specs.Codes.{Table}
 use Rattle.jpeg_bits.specs.DefaultTables.{luminance_dc, chrominance_dc, luminance_ac}
@@ -44,6 +44,7 @@ use Rattle.jpeg_segments.specs.declared.frame.CodingProcess.{CodingProcess}
 use Rattle.jpeg_segments.specs.declared.frame.CodingProcess.TheVariants.{DctSequential}
 use Rattle.jpeg_segments.specs.declared.frame.CodingProcess.TheVariants.{DctProgressive, Lossless}
 use Rattle.jpeg_decoder.specs.PlanesView.{planes_in}
+use Rattle.jpeg_decoder.specs.Strips.{no_samples}
 
 abbrev pub turn_of : Found → Step → Turn
 turn_of found step =
@@ -171,6 +172,21 @@ unfoldable pub with_planes : Pass → List Coding → List (List ℕ) → Found 
 with_planes p (c ∷ codings) (plane ∷ planes) found =
     with_planes p codings planes (with_its_plane p c.index plane found)
 with_planes p _ _ found = found
+
+-- the plane of a component is decided
+abbrev pub IsDecided : List (Option (List ℕ)) → Coding → Type 0
+IsDecided planes c = is_some (slice_index_or planes c.index None) ≡ true
+
+-- those of all components of a scan after the first k are
+abbrev pub AreDecidedFrom : ℕ → List (Option (List ℕ)) → List Coding → Type 0
+AreDecidedFrom k planes codings = All (IsDecided planes) (drop k codings)
+
+-- the first components of the scan, each with its plane, and then the others, whose planes are
+-- decided
+abbrev pub with_first_planes : Pass → List Coding → List (List ℕ) → Found → Found
+with_first_planes p codings planes found =
+    let others = drop (length planes) codings in
+    with_planes p others (no_samples others) (with_planes p codings planes found)
 
 -- the blocks of a scan's components, of those of a frame
 abbrev pub blocks_at : List Coding → Arrays → Arrays

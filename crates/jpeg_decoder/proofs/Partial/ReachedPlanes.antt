@@ -1,9 +1,8 @@
 -- A scan of a sequential frame: its data are read, by the planes that are read of it row by row of MCUs.
 use Rattle.std.proofs.Common.{◌≡◌, ◌∙◌, ◌*◌, true, false, ℕ, suc, List, [], ◌∷◌, length, length-set, get_or, set, Option}
-use Rattle.std.proofs.Common.{Result, Ok, Err, ap, ap₂, arith, refl, sym}
+use Rattle.std.proofs.Common.{Result, Ok, Err, ap, ap₂, arith, refl, sym, take}
 use Rattle.std.proofs.lemmas.Grind.{common_steps}
 use Rattle.std.proofs.lemmas.List.{length-map}
-use Rattle.std.specs.List.{AllByRecursion}
 use Rattle.std.specs.Prelude.{option_map, OnOk}
 use Rattle.jpeg_bits.specs.Entropy.{fresh_before, upcoming}
 use Rattle.jpeg_bits.specs.Passes.{Pass, Via}
@@ -24,7 +23,8 @@ use Rattle.jpeg_meaning.specs.WholeRows.{rows_above}
 use Rattle.jpeg_decoder.specs.PlanesView.{planes_in}
 use Rattle.jpeg_decoder.specs.Reaching.{data_reached, is_out_of_memory, ReadsData, UnlessRefused}
 use Rattle.jpeg_decoder.specs.Scanning.{arrays_in, scan_components, scan_vias, BlockScan}
-use Rattle.jpeg_decoder.specs.Steps.{scan_data, with_decoded, with_planes, IsReadable}
+use Rattle.jpeg_decoder.specs.Steps.{AreDecidedFrom, IsReadable, scan_data, with_decoded, with_first_planes}
+use Rattle.jpeg_decoder.specs.Steps.{with_planes}
 use Rattle.jpeg_decoder.specs.Strips.{no_samples, planes_by, planes_by_rows}
 use Rattle.jpeg_decoder.specs.Through.{blocks_reached, planes_through}
 use Rattle.jpeg_decoder.specs.declared.scan.decoded.Decoded.{Decoded}
@@ -32,12 +32,12 @@ use Rattle.jpeg_decoder.proofs.Partial.KeptReads.{lost-reads}
 use Rattle.jpeg_decoder.proofs.Partial.ReachedData.{data-found, reached_at}
 use Rattle.jpeg_decoder.proofs.Partial.Refused.{on-told, unless-so}
 use Rattle.jpeg_decoder.proofs.Partial.LostScans.{lost-answers}
-use Rattle.jpeg_decoder.proofs.Scans.DecidedScans.{IsDecided, planes-decided}
+use Rattle.jpeg_decoder.proofs.Scans.DecidedScans.{first-planes}
 use Rattle.jpeg_decoder.proofs.Scans.ScanData.{arrays-by-planes, of-frame, same-found, zeros-read}
 use Rattle.jpeg_decoder.proofs.Scans.ScanReads.{answers-as, last-step}
-use Rattle.jpeg_decoder.proofs.Scans.SequentialScans.{again-data, again-refused-data, read-data, read-refused}
+use Rattle.jpeg_decoder.proofs.Scans.SequentialScans.{read-data, read-refused}
 use Rattle.jpeg_decoder.proofs.Strips.ReachedRows.{counted-any}
-use Rattle.jpeg_decoder.proofs.Strips.ReachedStrips.{planes-reached, planes-rest, planes-unread}
+use Rattle.jpeg_decoder.proofs.Strips.ReachedStrips.{first_of, planes-first, planes-reached}
 use Rattle.jpeg_decoder.proofs.Strips.StripScans.{Planes}
 
 -- ---- as many planes as components
@@ -107,20 +107,24 @@ module _ (found : Found) (before : Decoded) (frame : Frame) (scan : BlockScan) (
       (spots_of frame (components_of codings)) (zero_arrays (components_of codings)) bytes
       ∙ zeros-long codings)
 
-  -- what isn't read of it, and the marker after its data
-  pub through-rows : (start : Planes) → option_map (rows_above frame (scan_components scan)) (through start).unread
-      ≡ (data_reached f frame p codings bytes).rows
-  unfolding data_reached
-  through-rows start =
-      ap (option_map (rows_above frame (scan_components scan)))
-      (planes-unread start (no_samples codings) p (scan_vias scan) scan.restart_interval frame codings bytes
-      ∙ ap (λ (r : Through Planes (Option Marker × List ℕ)). r.unread) through-is)
+  -- those of the first components
+  first-is : (k : ℕ) → through (take k (no_samples codings)) ≡ first_of k (made_of reached)
+  first-is k =
+      planes-first k (no_samples codings) p (scan_vias scan) scan.restart_interval frame codings bytes
+      ∙ ap (first_of k) through-is
 
-  pub through-met : (start : Planes) → (through start).rest ≡ (data_reached f frame p codings bytes).met
+  -- what isn't read of it, and the marker after its data
+  pub through-rows : (k : ℕ) → option_map (rows_above frame (scan_components scan))
+      (through (take k (no_samples codings))).unread ≡ (data_reached f frame p codings bytes).rows
   unfolding data_reached
-  through-met start =
-      planes-rest start (no_samples codings) p (scan_vias scan) scan.restart_interval frame codings bytes
-      ∙ ap (λ (r : Through Planes (Option Marker × List ℕ)). r.rest) through-is
+  through-rows k =
+      ap (λ (r : Through Planes (Option Marker × List ℕ)). option_map (rows_above frame (scan_components scan)) r.unread)
+      (first-is k)
+
+  pub through-met : (k : ℕ) → (through (take k (no_samples codings))).rest
+      ≡ (data_reached f frame p codings bytes).met
+  unfolding data_reached
+  through-met k = ap (λ (r : Through Planes (Option Marker × List ℕ)). r.rest) (first-is k)
 
   module _ (one two : Decoded) (finished : one.finished ≡ f.finished) (planes : one.planes ≡ f.planes)
       (samples : planes_in one.samples ≡ f.samples) (none : arrays_in one.kept.items ≡ []) where
@@ -132,26 +136,16 @@ module _ (found : Found) (before : Decoded) (frame : Frame) (scan : BlockScan) (
         let after = added (once_scanned f) in
         grind (arith, common_steps, data-found, arrays-by-planes)
 
-    -- It decides planes.
-    pub first-found : (made : Planes) → made ≡ (through (no_samples codings)).reached
-        → ((base : Found) → with_decoded base two ≡ with_planes p codings made (with_decoded base one))
+    -- It decides planes, and those of the components after the first ones are decided already.
+    pub first-found : (made : Planes) → AreDecidedFrom (length made) one.planes codings
+        → made ≡ (through (take (length made) (no_samples codings))).reached
+        → ((base : Found) → with_decoded base two ≡ with_first_planes p codings made (with_decoded base one))
         → once_scanned (with_decoded f two) ≡ (data_reached f frame p codings bytes).found
-    first-found made is added =
-        by-planes (λ base.
-        added base ∙ ap (λ (l : Planes). with_planes p codings l (with_decoded base one))
-        (is ∙ ap (λ (r : Through Planes (Option Marker × List ℕ)). r.reached) through-is))
-
-    -- They are decided already.
-    pub again-found : AllByRecursion (IsDecided one.planes) codings
-        → ((base : Found) → with_decoded base two
-        ≡ with_planes p codings (no_samples codings) (with_decoded base one))
-        → once_scanned (with_decoded f two) ≡ (data_reached f frame p codings bytes).found
-    again-found decided added =
+    first-found made decided is added =
         by-planes (λ base.
         added base
-        ∙ planes-decided p codings (no_samples codings) (with_decoded base one) decided
-        (length-map codings (λ (c : Coding). []))
-        ∙ sym (planes-decided p codings (planes_by codings reached.reached) (with_decoded base one) decided count))
+        ∙ first-planes p codings made (planes_by codings reached.reached) (with_decoded base one) count
+        (is ∙ ap (λ (r : Through Planes (Option Marker × List ℕ)). r.reached) (first-is (length made))) decided)
 
 -- ---- a scan
 
@@ -174,30 +168,34 @@ abbrev whole : BlockScan → Frame → Planes → List ℕ → Outcome (Planes �
 whole scan frame start bytes =
     planes_by_rows scan.pass (scan_vias scan) scan.restart_interval frame scan.codings start bytes
 
-module _ (base : Found) (before : Decoded) (frame : Frame) (scan : BlockScan) (start made : Planes)
+module _ (base : Found) (before : Decoded) (frame : Frame) (scan : BlockScan) (k : ℕ) (made : Planes)
     (left : Option Spot) (old new : Stream) (met : Result (Option Marker) Error)
     (process : is_progressive frame.process ≡ false) (restart : scan.restart_interval ≡ base.said.restart)
-    (ready : IsReadable frame scan) (reads : ReadsPlanes scan frame start made left old met new) where
+    (ready : IsReadable frame scan)
+    (reads : ReadsPlanes scan frame (take k (no_samples scan.codings)) made left old met new) where
   abbrev state : Found
   state = with_decoded base before
+
+  abbrev start : Planes
+  start = take k (no_samples scan.codings)
 
   abbrev whole_data : List ℕ → Outcome (Found × Option Marker)
   whole_data bytes = scan_data state frame scan.pass scan.codings bytes
 
-  abbrev IsRefused : Type 0
-  IsRefused = (fault : Fault) → whole scan frame start old.bytes ≡ Err fault → whole_data old.bytes ≡ Err fault
+  refused : (fault : Fault) → whole scan frame start old.bytes ≡ Err fault → whole_data old.bytes ≡ Err fault
+  refused = read-refused base before frame scan old.bytes process restart ready k
 
   -- Nothing counts of it.
-  lost-by : IsRefused → (last : Decoded) → OnOk met ⊥ → (scan.beyond ≡ Nothing → is_out_of_memory met ≡ true)
+  pub planes-lost : (last : Decoded) → OnOk met ⊥ → (scan.beyond ≡ Nothing → is_out_of_memory met ≡ true)
       → ReadsData scan frame base before old met last new
-  lost-by refused last lost memory =
+  planes-lost last lost memory =
       lost-reads scan frame base before last old new met memory
       (λ z. lost-answers (λ (m : Option Marker). (made, m))
       (λ (m : Option Marker). (once_scanned (with_decoded base last), m)) (whole scan frame start) whole_data old new met lost
       refused (reads.whole z))
 
   -- What was read counts.
-  counts-by : IsRefused → (two : Decoded) (rows : Option ℕ)
+  counts-by : (two : Decoded) (rows : Option ℕ)
       → ((m : Option Marker) → whole scan frame start old.bytes ≡ Ok ((made, m), new.bytes)
       → whole_data old.bytes ≡ Ok ((once_scanned (with_decoded state two), m), new.bytes))
       → (made ≡ (planes_through scan.pass (scan_vias scan) scan.restart_interval frame scan.codings start
@@ -205,74 +203,38 @@ module _ (base : Found) (before : Decoded) (frame : Frame) (scan : BlockScan) (s
       → once_scanned (with_decoded state two) ≡ (data_reached state frame scan.pass scan.codings old.bytes).found)
       → rows ≡ option_map (rows_above frame (scan_components scan)) left
       → ReadsData scan frame base before old met (record two { rows = rows }) new
-  counts-by refused two rows goes found above = record {
+  counts-by two rows goes found above = record {
     answers = λ z. last-step (λ (m : Option Marker). (once_scanned (with_decoded state two), m))
         (λ (m : Option Marker). (made, m)) whole_data whole_data (whole scan frame start) old old new met goes refused
-        (refl, λ k. (k, refl)) (reads.whole z);
+        (refl, λ l. (l, refl)) (reads.whole z);
     found = λ n. on-told old new met found (reads.reached n);
     rows = λ n. on-told old new met
         (λ is. above ∙ ap (option_map (rows_above frame (scan_components scan))) is
-        ∙ through-rows base before frame scan old.bytes process restart ready start) (reads.unread n);
+        ∙ through-rows base before frame scan old.bytes process restart ready k) (reads.unread n);
     met = λ n. unless-so met _ _
         (λ a. answers-as (λ (m : Option Marker). m)
         (λ bytes. (planes_through scan.pass (scan_vias scan) scan.restart_interval frame scan.codings start bytes).rest)
         (λ bytes. (data_reached state frame scan.pass scan.codings bytes).met) old new met
-        (sym (through-met base before frame scan old.bytes process restart ready start)) a) (reads.answers n);
+        (sym (through-met base before frame scan old.bytes process restart ready k)) a) (reads.answers n);
   }
 
--- the first of its components, which decides their planes
-module _ (base : Found) (before : Decoded) (frame : Frame) (scan : BlockScan) (made : Planes)
+-- The planes of its first components were made, and those of the others are decided.
+pub planes-counts : (base : Found) (before : Decoded) (frame : Frame) (scan : BlockScan) (made : Planes)
     (left : Option Spot) (old new : Stream) (met : Result (Option Marker) Error)
-    (process : is_progressive frame.process ≡ false) (restart : scan.restart_interval ≡ base.said.restart)
-    (ready : IsReadable frame scan)
-    (reads : ReadsPlanes scan frame (no_samples scan.codings) made left old met new) where
-  first-refused : (fault : Fault) → whole scan frame (no_samples scan.codings) old.bytes ≡ Err fault
-      → scan_data (with_decoded base before) frame scan.pass scan.codings old.bytes ≡ Err fault
-  first-refused = read-refused base before frame scan old.bytes process restart ready
-
-  pub first-lost : (last : Decoded) → OnOk met ⊥ → (scan.beyond ≡ Nothing → is_out_of_memory met ≡ true)
-      → ReadsData scan frame base before old met last new
-  first-lost =
-      lost-by base before frame scan (no_samples scan.codings) made left old new met process restart ready reads
-      first-refused
-
-  pub first-counts : (one two : Decoded) (rows : Option ℕ) → one.finished ≡ before.finished
-      → one.planes ≡ before.planes → planes_in one.samples ≡ planes_in before.samples → arrays_in one.kept.items ≡ []
-      → ((found : Found) → with_decoded found two
-      ≡ with_planes scan.pass scan.codings made (with_decoded found one))
-      → rows ≡ option_map (rows_above frame (scan_components scan)) left
-      → ReadsData scan frame base before old met (record two { rows = rows }) new
-  first-counts one two rows fin pl sa none added above =
-      counts-by base before frame scan (no_samples scan.codings) made left old new met process restart ready reads
-      first-refused two rows
-      (λ m h. read-data base before frame scan old.bytes process restart ready m new.bytes one two fin pl sa none made h
-      added)
-      (λ is. first-found base before frame scan old.bytes process restart ready one two fin pl sa none made is added)
-      above
-
--- a later one, where they are decided
-module _ (base : Found) (before : Decoded) (frame : Frame) (scan : BlockScan) (made : Planes)
-    (left : Option Spot) (old new : Stream) (met : Result (Option Marker) Error)
-    (process : is_progressive frame.process ≡ false) (restart : scan.restart_interval ≡ base.said.restart)
-    (ready : IsReadable frame scan) (reads : ReadsPlanes scan frame [] made left old met new) where
-  again-refused : (fault : Fault) → whole scan frame [] old.bytes ≡ Err fault
-      → scan_data (with_decoded base before) frame scan.pass scan.codings old.bytes ≡ Err fault
-  again-refused = again-refused-data base before frame scan old.bytes process restart ready
-
-  pub again-lost : (last : Decoded) → OnOk met ⊥ → (scan.beyond ≡ Nothing → is_out_of_memory met ≡ true)
-      → ReadsData scan frame base before old met last new
-  again-lost = lost-by base before frame scan [] made left old new met process restart ready reads again-refused
-
-  pub again-counts : (one two : Decoded) (rows : Option ℕ) → one.finished ≡ before.finished
-      → one.planes ≡ before.planes → planes_in one.samples ≡ planes_in before.samples → arrays_in one.kept.items ≡ []
-      → AllByRecursion (IsDecided one.planes) scan.codings
-      → ((found : Found) → with_decoded found two
-      ≡ with_planes scan.pass scan.codings (no_samples scan.codings) (with_decoded found one))
-      → rows ≡ option_map (rows_above frame (scan_components scan)) left
-      → ReadsData scan frame base before old met (record two { rows = rows }) new
-  again-counts one two rows fin pl sa none decided added above =
-      counts-by base before frame scan [] made left old new met process restart ready reads again-refused two rows
-      (λ m h. again-data base before frame scan old.bytes process restart ready m new.bytes one two fin pl sa none made
-      decided h added)
-      (λ is. again-found base before frame scan old.bytes process restart ready one two fin pl sa none decided added)
-      above
+    → is_progressive frame.process ≡ false → scan.restart_interval ≡ base.said.restart → IsReadable frame scan
+    → ReadsPlanes scan frame (take (length made) (no_samples scan.codings)) made left old met new
+    → (one two : Decoded) (rows : Option ℕ) → one.finished ≡ before.finished
+    → one.planes ≡ before.planes → planes_in one.samples ≡ planes_in before.samples → arrays_in one.kept.items ≡ []
+    → AreDecidedFrom (length made) one.planes scan.codings
+    → ((found : Found) → with_decoded found two
+    ≡ with_first_planes scan.pass scan.codings made (with_decoded found one))
+    → rows ≡ option_map (rows_above frame (scan_components scan)) left
+    → ReadsData scan frame base before old met (record two { rows = rows }) new
+planes-counts base before frame scan made left old new met process restart ready reads one two rows fin pl sa none decided
+    added above =
+    counts-by base before frame scan (length made) made left old new met process restart ready reads two rows
+    (λ m h. read-data base before frame scan old.bytes process restart ready m new.bytes one two fin pl sa none made
+    decided h added)
+    (λ is. first-found base before frame scan old.bytes process restart ready one two fin pl sa none made decided is
+    added)
+    above

@@ -1,7 +1,7 @@
 -- The data of a scan, of what is read of its blocks, and the planes that it decides.
 use Rattle.std.proofs.Common.{◌≡◌, ◌<◌, Bool, ℕ, zero, suc, ◌*◌, true, false, Option, None}
 use Rattle.std.proofs.Common.{Ok, Err, List, [], ◌∷◌, refl, sym, ap, subst, ◌∙◌, length, get_or}
-use Rattle.std.proofs.Common.{set, map, drop, arith, rules}
+use Rattle.std.proofs.Common.{set, map, drop, take, arith, rules}
 use Rattle.std.proofs.Math.Logic.{inl, inr}
 use Rattle.std.specs.Prelude.{All}
 use Rattle.std.specs.List.{AllByRecursion}
@@ -209,8 +209,9 @@ one-whole cs p index c plane found at k h = search (rules, arith, plane-set, pla
 
 pub planes-whole : (frame : Frame) (p : Pass) (codings : List Coding) (planes : List (List ℕ)) (found : Found)
     → AllByRecursion (IsOf frame) codings
-    → map length planes ≡ map (λ (c : Component). (c.blocks_high * c.scale) * (c.blocks_wide * c.scale))
-    (components_of codings)
+    → map length planes
+    ≡ take (length planes) (map (λ (c : Component). (c.blocks_high * c.scale) * (c.blocks_wide * c.scale))
+    (components_of codings))
     → ArePlanes frame.components found.planes → ArePlanes frame.components (with_planes p codings planes found).planes
 unfolding with_planes
 planes-whole frame p (c ∷ codings) (plane ∷ planes) found of k h =

@@ -1,12 +1,12 @@
 -- Planes in one room, as it grows by a row of MCUs: each plane has its strip.
 use Rattle.std.proofs.Common.{rules, ◌≡◌, ℕ, zero, suc, ◌+◌, ◌-◌, ◌*◌, ◌/◌, ◌%◌, ◌<◌, ◌≤◌, List, [], ◌∷◌}
-use Rattle.std.proofs.Common.{◌++◌, length, map, get_or, arith, refl, subst, sym, ap, ap₂, ◌∙◌}
+use Rattle.std.proofs.Common.{◌++◌, length, map, take, get_or, arith, refl, subst, sym, ap, ap₂, ◌∙◌}
 use Rattle.std.proofs.Common.{length-append, mul_assoc, mul_comm, add-mul}
 use Rattle.std.proofs.Math.Logic.{⊎_elim}
 use Rattle.std.proofs.Math.Nat.{add-div_right, mul-div_cancel, zero-div}
 use Rattle.std.proofs.lemmas.Bool.{cases_lt}
 use Rattle.std.proofs.lemmas.List.{ext_get_or, get_or_append_left, get_or-append_right}
-use Rattle.std.proofs.lemmas.List.{get_or-append-add, get_or-map}
+use Rattle.std.proofs.lemmas.List.{get_or-append-add, get_or-map, get_or-take}
 use Rattle.std.proofs.lemmas.List.FromFn.{get_or-map-range_with_len, length-map-range_with_len}
 use Rattle.std.proofs.lemmas.Nat.{div-mul-add, div_below, mod_below, mod-mul-add, mul-add-lt}
 use Rattle.std.proofs.lemmas.Grind.{common_steps}
@@ -217,7 +217,8 @@ module _ (codings : List Coding) (arrays : Arrays) (joint : JointPlanes)
       let samples = joint.samples.items in
       let old-long = planes-long shape samples ∙ is.count in
       ext_get_or [] (joint_planes shape new) (with_strips codings arrays (joint_planes shape samples))
-      (planes-long shape new ∙ is.count ∙ sym (strips-length codings arrays (joint_planes shape samples) kept old-long))
+      (planes-long shape new ∙ sym (strips-length codings arrays (joint_planes shape samples) kept (omega (arith, old-long))
+      ∙ planes-long shape samples))
       (λ slot lt.
       let grown = plane-grown shape samples strips (length samples / joint_row_size shape) slot is.whole even strips-count in
       grind (arith, common_steps, planes-long, planes-at, strips-at, grown))
@@ -228,18 +229,21 @@ module _ (codings : List Coding) (arrays : Arrays) (joint : JointPlanes)
 
 -- after all rows
 pub room-full : (cs : List Coding) (joint : JointPlanes) → IsJointOf cs joint
-    → map length (joint_planes joint.shape joint.samples.items)
-    ≡ map (λ (c : Component). c.blocks_high * c.scale * (c.blocks_wide * c.scale))
-    (components_of cs) → IsFullJoint joint
+    → (let planes = joint_planes joint.shape joint.samples.items in map length planes
+    ≡ take (length planes) (map (λ (c : Component). c.blocks_high * c.scale * (c.blocks_wide * c.scale))
+    (components_of cs))) → IsFullJoint joint
 room-full [] joint is sizes = absurd (let some = is.some in omega (arith, some, is.count))
 room-full (c ∷ cs) joint is sizes =
     let shape = joint.shape in
     let samples = joint.samples.items in
+    let planes = joint_planes shape samples in
+    let some : 0 < length planes = omega (arith, planes-long shape samples, is.some) in
     let one : length samples / shape.count ≡ shape.rows * strip_size shape =
     sym (get_or-map length (joint_planes shape samples) 0 [] 0
     (omega (arith, planes-long shape samples, is.some))
     ∙ grind (arith, common_steps, plane-long, planes-at))
     ∙ ap (λ (l : List ℕ). get_or l 0 0) sizes
+    ∙ get_or-take (length planes) _ 0 0 some
     ∙ grind (arith, common_steps, mul_assoc) in
     let rows = length samples / joint_row_size shape in
     let whole = one-of rows shape.count (strip_size shape) (length samples) is.some is.whole in

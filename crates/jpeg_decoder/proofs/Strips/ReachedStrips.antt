@@ -1,7 +1,7 @@
 -- The planes of a sequential scan up to its first fault are the strips of the rows of MCUs that are read, and of zeros
 -- where rows lack.
 use Rattle.std.proofs.Common.{◌≡◌, ◌∙◌, ◌<◌, ◌≤◌, ◌+◌, ◌-◌, ◌*◌, ℕ, zero, suc, List, [], ◌∷◌, map, length}
-use Rattle.std.proofs.Common.{Option, None, Result, Ok, Err, refl, sym, ap, ap₂, subst, arith}
+use Rattle.std.proofs.Common.{take, Option, None, Result, Ok, Err, refl, sym, ap, ap₂, subst, arith}
 use Rattle.std.proofs.lemmas.Grind.{common_steps}
 use Rattle.std.proofs.lemmas.List.FromFn.{length-map-range_with_len}
 use Rattle.std.specs.List.{AllByRecursion, range_with_len}
@@ -28,6 +28,7 @@ use Rattle.jpeg_decoder.proofs.Orders.OrderedWalks.{one-less}
 use Rattle.jpeg_decoder.proofs.Partial.CountedReads.{counted-fault, counted-whole}
 use Rattle.jpeg_decoder.proofs.Strips.ByStrips.{all-grown, grown, none-grown, strips-grow}
 use Rattle.jpeg_decoder.proofs.Strips.ReachedRows.{rows-sized, rows_read, scan-by-rows-read}
+use Rattle.jpeg_decoder.proofs.Strips.StripRows.{strips-first}
 
 -- ---- rows of MCUs after others
 
@@ -193,56 +194,64 @@ planes-reached frame (c ∷ codings) p n vias bytes some fits =
       rest = r.rest;
     })) (sym (scan-by-rows-read frame c.component (components_of codings) p vias n Nothing t fits))
 
--- ---- other planes, or none
+-- ---- planes of the first components alone
 
--- They lack the same, and the same follows them.
-abbrev IsAlike : Strips → Strips → Type 0
-IsAlike a b = (a.unread ≡ b.unread) × (a.rest ≡ b.rest)
+-- this many of the planes that were reached
+abbrev pub first_of : {X : Type 0} → ℕ → Through (List (List ℕ)) X → Through (List (List ℕ)) X
+first_of k r = record { reached = take k r.reached; unread = r.unread; rest = r.rest }
 
-strips-alike : (p : Pass) (vias : List Via) (n : ℕ) (codings : List Coding) (rows : List (List Spot)) (row : ℕ)
-    (start others : List (List ℕ)) (old : Counted) (t : Text)
-    → IsAlike (strips_reached p vias n codings row rows start old t)
-    (strips_reached p vias n codings row rows others old t)
+zeros-first : (k rows : ℕ) (codings : List Coding) (planes : List (List ℕ))
+    → zero_strips rows codings (take k planes) ≡ take k (zero_strips rows codings planes)
+unfolding zero_strips
+zeros-first k zero codings planes = refl
+zeros-first k (suc rows) codings planes =
+    let zeros = zero_rows 1 (components_of codings) in
+    ap (zero_strips rows codings) (strips-first k codings zeros planes)
+    ∙ zeros-first k rows codings (with_strips codings zeros planes)
+
+-- They grow as they do among all, lack the same, and the same follows them.
+strips-alike : (k : ℕ) (p : Pass) (vias : List Via) (n : ℕ) (codings : List Coding) (rows : List (List Spot)) (row : ℕ)
+    (start : List (List ℕ)) (old : Counted) (t : Text)
+    → strips_reached p vias n codings row rows (take k start) old t
+    ≡ first_of k (strips_reached p vias n codings row rows start old t)
 unfolding strips_reached
-strips-alike p vias n codings [] row start others old t = (refl, refl)
-strips-alike p vias n codings (spots ∷ rows) row start others old t =
+strips-alike k p vias n codings [] row start old t = refl
+strips-alike k p vias n codings (spots ∷ rows) row start old t =
     let r = counted_reached p vias n spots (on_arrays (zero_rows 1 (components_of codings)) old) t in
-    go (λ a b new u. strips-alike p vias n codings rows (suc row) a b new u) r r.rest
+    go (λ planes new u. strips-alike k p vias n codings rows (suc row) planes new u) r r.rest
   where
-    go : ((a b : List (List ℕ)) (new : Counted) (u : Text)
-        → IsAlike (strips_reached p vias n codings (suc row) rows a new u)
-        (strips_reached p vias n codings (suc row) rows b new u))
+    go : ((planes : List (List ℕ)) (new : Counted) (u : Text)
+        → strips_reached p vias n codings (suc row) rows (take k planes) new u
+        ≡ first_of k (strips_reached p vias n codings (suc row) rows planes new u))
         → (r : Through Counted Text) (o : Result Text Fault)
-        → IsAlike (after_row p vias n codings row rows start r o) (after_row p vias n codings row rows others r o)
+        → after_row p vias n codings row rows (take k start) r o
+        ≡ first_of k (after_row p vias n codings row rows start r o)
     go more r (Ok u) =
         let arrays = r.reached.reached.arrays in
-        more (with_strips codings arrays start) (with_strips codings arrays others) (on_arrays [] r.reached) u
-    go more r (Err f) = (refl, refl)
+        ap (λ (l : List (List ℕ)). strips_reached p vias n codings (suc row) rows l (on_arrays [] r.reached) u)
+        (strips-first k codings arrays start)
+        ∙ more (with_strips codings arrays start) (on_arrays [] r.reached) u
+    go more r (Err f) =
+        let arrays = r.reached.reached.arrays in
+        ap (λ (l : List (List ℕ)). record {
+          reached = l;
+          unread = option_map (in_frame codings row) r.unread;
+          rest = Err f;
+        })
+        (ap (zero_strips (length rows) codings) (strips-first k codings arrays start)
+        ∙ zeros-first k (length rows) codings (with_strips codings arrays start))
 
--- The first block that isn't read doesn't depend on the planes,
-pub planes-unread : (start others : List (List ℕ)) (p : Pass) (vias : List Via) (n : ℕ) (frame : Frame)
+-- the same of a scan
+pub planes-first : (k : ℕ) (start : List (List ℕ)) (p : Pass) (vias : List Via) (n : ℕ) (frame : Frame)
     (codings : List Coding) (bytes : List ℕ)
-    → (planes_through p vias n frame codings start bytes).unread
-    ≡ (planes_through p vias n frame codings others bytes).unread
+    → planes_through p vias n frame codings (take k start) bytes
+    ≡ first_of k (planes_through p vias n frame codings start bytes)
 unfolding planes_through
-planes-unread start others p vias n frame codings bytes =
+planes-first k start p vias n frame codings bytes =
     let cs = components_of codings in
     let blocks = n * mcu_size cs in
-    (strips-alike p vias blocks codings (rows_of frame cs) 0 start others (counted_before Nothing blocks [])
-    (upcoming (fresh_before Nothing) bytes)).0
-
--- and neither does what follows the data of the scan.
-pub planes-rest : (start others : List (List ℕ)) (p : Pass) (vias : List Via) (n : ℕ) (frame : Frame)
-    (codings : List Coding) (bytes : List ℕ)
-    → (planes_through p vias n frame codings start bytes).rest
-    ≡ (planes_through p vias n frame codings others bytes).rest
-unfolding planes_through
-planes-rest start others p vias n frame codings bytes =
-    let cs = components_of codings in
-    let blocks = n * mcu_size cs in
-    ap (λ (o : Result Text Fault). o >>= marker_from)
-    (strips-alike p vias blocks codings (rows_of frame cs) 0 start others (counted_before Nothing blocks [])
-    (upcoming (fresh_before Nothing) bytes)).1
+    ap ended (strips-alike k p vias blocks codings (rows_of frame cs) 0 start (counted_before Nothing blocks [])
+    (upcoming (fresh_before Nothing) bytes))
 
 -- ---- steps of the loop over the rows
 

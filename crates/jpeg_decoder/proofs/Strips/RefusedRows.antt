@@ -18,8 +18,8 @@ use Rattle.jpeg_meaning.specs.Order.{Spot}
 use Rattle.jpeg_meaning.specs.Scans.{Arrays}
 use Rattle.jpeg_meaning.specs.ScanSegments.{Coding, components_of}
 use Rattle.jpeg_meaning.specs.States.{IfRefused}
-use Rattle.jpeg_decoder.specs.Scanning.{IsSpotOf, counted, down_in, kept_after, kept_counted}
-use Rattle.jpeg_decoder.specs.Strips.{strip_samples, with_strips, zeros_of}
+use Rattle.jpeg_decoder.specs.Scanning.{IsSpotOf, counted, kept_after, kept_counted}
+use Rattle.jpeg_decoder.specs.Strips.{with_strips, zeros_of}
 use Rattle.jpeg_decoder.specs.Through.{IsReached, IsReachedBeside, cleared, counted_reached, in_frame}
 use Rattle.jpeg_decoder.specs.Through.{strips_reached, zero_strips}
 use Rattle.jpeg_decoder.specs.Walk.{spot_of}
@@ -29,7 +29,7 @@ use Rattle.jpeg_decoder.proofs.Partial.CountedReads.{counted-fault, unread-of, u
 use Rattle.jpeg_decoder.proofs.Partial.Refused.{if-refused-as, refused-at}
 use Rattle.jpeg_decoder.proofs.Strips.KeptStrips.{kept-refused}
 use Rattle.jpeg_decoder.proofs.Strips.ReachedStrips.{reached-refused, reached-step}
-use Rattle.jpeg_decoder.proofs.Strips.StripSteps.{lengths, lengths-next}
+use Rattle.jpeg_decoder.proofs.Strips.StripSteps.{lengths, lengths-next, sizes_after}
 
 -- ---- rows of zeros
 
@@ -60,32 +60,31 @@ zeros-count codings =
     length-map (components_of codings) (λ c. replicate (1 * row_size c) zero_block)
     ∙ length-map codings (λ c. c.component)
 
-abbrev Sized : ℕ → List Coding → List (List ℕ) → Type 0
-Sized row codings planes =
-    lengths planes ≡ map (λ (c : Coding). strip_samples (row * down_in c) c) codings
+abbrev Sized : ℕ → ℕ → List Coding → List (List ℕ) → Type 0
+Sized count row codings planes = lengths planes ≡ sizes_after row count codings
 
-lengths-zeros : (k : ℕ) (codings : List Coding) (planes : List (List ℕ)) (row : ℕ) → Sized row codings planes
-    → Sized (row + k) codings (zero_strips k codings planes)
+lengths-zeros : (count k : ℕ) (codings : List Coding) (planes : List (List ℕ)) (row : ℕ)
+    → Sized count row codings planes → Sized count (row + k) codings (zero_strips k codings planes)
 unfolding zero_strips
-lengths-zeros zero codings planes row h =
-    let e : row ≡ row + 0 = omega arith in subst (λ (n : ℕ). Sized n codings planes) e h
-lengths-zeros (suc k) codings planes row h =
+lengths-zeros count zero codings planes row h =
+    let e : row ≡ row + 0 = omega arith in subst (λ (n : ℕ). Sized count n codings planes) e h
+lengths-zeros count (suc k) codings planes row h =
     let e : row + 1 + k ≡ row + suc k = omega arith in
     let zeros = zero_rows 1 (components_of codings) in
-    subst (λ (n : ℕ). Sized n codings (zero_strips (suc k) codings planes)) e
-    (lengths-zeros k codings (with_strips codings zeros planes) (row + 1)
-    (lengths-next codings zeros planes row (zeros-count codings) h))
+    subst (λ (n : ℕ). Sized count n codings (zero_strips (suc k) codings planes)) e
+    (lengths-zeros count k codings (with_strips codings zeros planes) (row + 1)
+    (lengths-next count codings zeros planes row (zeros-count codings) h))
 
 -- Planes with a row of MCUs and the rows of zeros below it have the samples of all blocks.
-pub lengths-rest : (codings : List Coding) (arrays : Arrays) (planes new : List (List ℕ)) (k high : ℕ) → k < high
-    → length arrays ≡ length codings → Sized k codings planes
-    → new ≡ zero_strips (high - 1 - k) codings (with_strips codings arrays planes) → Sized high codings new
-lengths-rest codings arrays planes new k high lt count h is =
+pub lengths-rest : (count : ℕ) (codings : List Coding) (arrays : Arrays) (planes new : List (List ℕ)) (k high : ℕ)
+    → k < high → length arrays ≡ length codings → Sized count k codings planes
+    → new ≡ zero_strips (high - 1 - k) codings (with_strips codings arrays planes) → Sized count high codings new
+lengths-rest count codings arrays planes new k high lt long h is =
     let e : k + 1 + (high - 1 - k) ≡ high = omega arith in
-    subst (λ (l : List (List ℕ)). Sized high codings l) (sym is)
-    (subst (λ (n : ℕ). Sized n codings (zero_strips (high - 1 - k) codings (with_strips codings arrays planes))) e
-    (lengths-zeros (high - 1 - k) codings (with_strips codings arrays planes) (k + 1)
-    (lengths-next codings arrays planes k count h)))
+    subst (λ (l : List (List ℕ)). Sized count high codings l) (sym is)
+    (subst (λ (n : ℕ). Sized count n codings (zero_strips (high - 1 - k) codings (with_strips codings arrays planes))) e
+    (lengths-zeros count (high - 1 - k) codings (with_strips codings arrays planes) (k + 1)
+    (lengths-next count codings arrays planes k long h)))
 
 -- ---- a row that is read, and one in which a block is refused
 

@@ -22,7 +22,7 @@ use Rattle.jpeg_decoder.proofs.Kept.BlockArrays.{Held, cleared, full-count, full
 use Rattle.jpeg_meaning.proofs.InPlace.{patched, patched-next, patched-at, patched-all}
 use Rattle.jpeg_meaning.proofs.InPlace.{patched-length}
 use Rattle.jpeg_decoder.proofs.Scans.PlacedCodings.{coding-at}
-use Rattle.jpeg_decoder.proofs.Strips.StripRows.{strip-of, strips-at, strips-length, strips-none}
+use Rattle.jpeg_decoder.proofs.Strips.StripRows.{strip-of, strips-at, strips-length}
 use Rattle.jpeg_decoder.proofs.Strips.StripRows.{strips_of-length}
 
 abbrev pub Plane : Type 0
@@ -60,10 +60,6 @@ table-here cs tables slot c t e h is at =
     ∙ ap (λ (d : Coding). values_in_block_order d.quantization) (coding-at cs (map coding_in cs) slot c refl h is)
 
 -- ---- samples that are appended
-
-pub no-strips : (cs : List Coded) (old : List Held) (start : List Plane) → length start ≡ 0
-    → plane_lists start ≡ with_strips (map coding_in cs) (arrays_in old) (plane_lists start)
-no-strips cs old start e = grind (arith, common_steps, strips-none)
 
 module _ (cs : List Coded) (old : List Held) (sizes : sizes_of old ≡ row_sizes (map coding_in cs)) where
   abbrev codings : List Coding
@@ -117,36 +113,40 @@ module _ (cs : List Coded) (old : List Held) (sizes : sizes_of old ≡ row_sizes
       → samples ≡ start ++ concat (take slot strips) → samples ≡ start ++ concat strips
   room-all slot start samples h inv = grind (arith, common_steps, take_all, strips-long)
 
+-- of the first components
 module _ (cs : List Coded) (old : List Held) (start : List Plane) (sizes : sizes_of old
-    ≡ row_sizes (map coding_in cs)) (long : length start ≡ length cs) where
+    ≡ row_sizes (map coding_in cs)) (long : length start ≤ length cs) where
   abbrev all : List (List ℕ)
   all = with_strips (map coding_in cs) (arrays_in old) (plane_lists start)
 
-  start-long : length (plane_lists start) ≡ length (map coding_in cs)
-  start-long = length-map start (λ (v : Plane). v.items) ∙ long ∙ sym (length-map cs coding_in)
+  lists-long : length (plane_lists start) ≡ length start
+  lists-long = length-map start (λ (v : Plane). v.items)
+
+  start-long : length (plane_lists start) ≤ length (map coding_in cs)
+  start-long = omega (arith, long, lists-long, length-map cs coding_in)
 
   all-long : length all ≡ length (plane_lists start)
   all-long = grind (arith, common_steps, strips-length, arrays-long, start-long)
 
   pub planes-long : (planes : List Plane) (slot : ℕ) → plane_lists planes
-      ≡ patched slot all (plane_lists start) → length planes ≡ length cs
+      ≡ patched slot all (plane_lists start) → length planes ≡ length start
   planes-long planes slot e = grind (arith, common_steps, length-map, patched-length, all-long)
 
   pub planes-next : (planes : List Plane) (slot : ℕ) (c : Coded) (v : Held) (p q : Plane)
-      → slot < length cs → c ≡ get_or cs slot c → v ≡ get_or old slot v → plane_lists planes
+      → slot < length start → c ≡ get_or cs slot c → v ≡ get_or old slot v → plane_lists planes
       ≡ patched slot all (plane_lists start) → p ≡ get_or planes slot p → q.items ≡ p.items
       ++ samples_of (down_in (coding_in c)) (coding_in c) (map to_block v.blocks.items) → IsFull v
       → plane_lists (set planes slot q) ≡ patched (slot + 1) all (plane_lists start)
   planes-next planes slot c v p q h is kept inv at new full =
-      let inside : slot < length (map coding_in cs) = omega (arith, length-map cs coding_in) in
-      let next = patched-next all (plane_lists start) slot q.items [] all-long (omega (arith, start-long)) in
+      let inside : slot < length (plane_lists start) = omega (arith, h, lists-long) in
+      let next = patched-next all (plane_lists start) slot q.items [] all-long inside in
       let strip = strips-at (map coding_in cs) (arrays_in old) (plane_lists start) slot (arrays-long cs old sizes)
       start-long inside in
-      let here = strip-here cs old sizes slot c v h is kept in
+      let here = strip-here cs old sizes slot c v (omega (arith, h, long)) is kept in
       let before = patched-at all (plane_lists start) slot [] all-long in
       let count = planes-long planes slot inv in
       grind (arith, common_steps, map-set, get_or-map)
 
-  pub planes-all : (planes : List Plane) (slot : ℕ) → length cs ≤ slot → plane_lists planes
+  pub planes-all : (planes : List Plane) (slot : ℕ) → length start ≤ slot → plane_lists planes
       ≡ patched slot all (plane_lists start) → plane_lists planes ≡ all
-  planes-all planes slot h e = search (rules, arith, patched-all, all-long, start-long, length-map)
+  planes-all planes slot h e = search (rules, arith, patched-all, all-long, lists-long)

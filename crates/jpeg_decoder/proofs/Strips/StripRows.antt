@@ -74,18 +74,32 @@ pub some-before : (codings : List Coding) (arrays : Arrays) (planes : List (List
 some-before codings arrays [] h = subst (λ (l : List (List ℕ)). 0 < length l) (strips-none codings arrays) h
 some-before codings arrays (plane ∷ planes) h = omega arith
 
-pub strips-length : (codings : List Coding) (arrays : Arrays) (planes : List (List ℕ)) → length arrays
-    ≡ length codings → length planes ≡ length codings
-    → length (with_strips codings arrays planes) ≡ length codings
+pub strips-length : (codings : List Coding) (arrays : Arrays) (planes : List (List ℕ))
+    → length arrays ≡ length codings → length planes ≤ length codings
+    → length (with_strips codings arrays planes) ≡ length planes
 unfolding with_strips
-strips-length [] [] [] e f = refl
+strips-length codings arrays [] e f = ap (λ (l : List (List ℕ)). length l) (strips-none codings arrays)
 strips-length (c ∷ codings) (a ∷ arrays) (x ∷ planes) e f = ap (λ (n : ℕ). suc n)
     (strips-length codings arrays planes (omega arith) (omega arith))
 strips-length _ _ _ e f = absurd (omega arith)
 
+-- The first planes grow as they do among all.
+pub strips-first : (k : ℕ) (codings : List Coding) (arrays : Arrays) (planes : List (List ℕ))
+    → with_strips codings arrays (take k planes) ≡ take k (with_strips codings arrays planes)
+unfolding with_strips
+strips-first zero codings arrays planes = strips-none codings arrays
+strips-first (suc k) (c ∷ codings) (a ∷ arrays) (x ∷ planes) =
+    ap (λ (l : List (List ℕ)). (x ++ samples_of c.component.factors.vertical c a) ∷ l)
+    (strips-first k codings arrays planes)
+strips-first (suc k) (c ∷ codings) (a ∷ arrays) [] = refl
+strips-first (suc k) (c ∷ codings) [] [] = refl
+strips-first (suc k) (c ∷ codings) [] (x ∷ planes) = refl
+strips-first (suc k) [] arrays [] = refl
+strips-first (suc k) [] arrays (x ∷ planes) = refl
+
 -- each plane has its strip
 pub strips-at : (codings : List Coding) (arrays : Arrays) (planes : List (List ℕ)) (slot : ℕ)
-    → length arrays ≡ length codings → length planes ≡ length codings → slot < length codings
+    → length arrays ≡ length codings → length planes ≤ length codings → slot < length planes
     → get_or (with_strips codings arrays planes) slot []
     ≡ get_or planes slot [] ++ get_or (strips_of codings arrays) slot []
 unfolding with_strips strips_of

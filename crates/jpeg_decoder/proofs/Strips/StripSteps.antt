@@ -1,8 +1,8 @@
 -- Steps of the loop over the rows of MCUs of a sequential scan.
-use Rattle.std.proofs.Common.{◌≡◌, ℕ, ◌+◌, ◌-◌, ◌*◌, ◌<◌, ◌≤◌, List, [], ◌∷◌, map, drop, length, Ok}
-use Rattle.std.proofs.Common.{Err, refl, ap, ◌∙◌, arith, add-mul, length-append, mul-add, mul_comm}
+use Rattle.std.proofs.Common.{◌≡◌, ℕ, zero, suc, ◌+◌, ◌-◌, ◌*◌, ◌<◌, ◌≤◌, List, [], ◌∷◌, map, drop, take}
+use Rattle.std.proofs.Common.{length, Ok, Err, refl, sym, ap, ◌∙◌, arith, add-mul, length-append, mul-add, mul_comm}
 use Rattle.std.proofs.Common.{rules}
-use Rattle.std.proofs.lemmas.List.{length-map}
+use Rattle.std.proofs.lemmas.List.{length-map, take-map}
 use Rattle.std.proofs.lemmas.List.FromFn.{length-map-range_with_len}
 use Rattle.jpeg_pixels.specs.Planes.{plane_of}
 use Rattle.std.specs.List.{AllByRecursion, range_with_len}
@@ -17,10 +17,11 @@ use Rattle.jpeg_meaning.specs.InTurn.{Counted, Fits, blocks_from}
 use Rattle.jpeg_meaning.specs.McuRows.{zero_rows, on_arrays}
 use Rattle.jpeg_decoder.specs.Scanning.{arrays_in, sizes_of, down_in}
 use Rattle.jpeg_meaning.specs.ScanSegments.{Coding, components_of}
-use Rattle.jpeg_decoder.specs.Strips.{row_sizes, strip_samples, samples_of, zeros_of, with_strips}
+use Rattle.jpeg_decoder.specs.Strips.{no_samples, row_sizes, strip_samples, samples_of, zeros_of, with_strips}
 use Rattle.jpeg_decoder.specs.Strips.{strips_from}
 use Rattle.jpeg_decoder.proofs.Kept.BlockArrays.{Held, sizes-long}
 use Rattle.jpeg_decoder.proofs.Orders.OrderedWalks.{one-less}
+use Rattle.jpeg_decoder.proofs.Strips.StripRows.{strips-none}
 use Rattle.std.proofs.lemmas.Grind.{common_steps}
 
 -- ---- the rows
@@ -97,27 +98,31 @@ one-row-more a s r d = grind (arith, common_steps, add-mul, mul-add)
 abbrev pub lengths : List (List ℕ) → List ℕ
 lengths planes = map (λ (l : List ℕ). length l) planes
 
-pub lengths-none : (cs : List Coding) (planes : List (List ℕ)) → planes ≡ map (λ (c : Coding). []) cs
-    → lengths planes ≡ map (λ (c : Coding). strip_samples (0 * down_in c) c) cs
-lengths-none cs planes e = ap lengths e ∙ go cs
+-- the sizes of the first planes, of this many rows of MCUs
+abbrev pub sizes_after : ℕ → ℕ → List Coding → List ℕ
+sizes_after row k cs = take k (map (λ (c : Coding). strip_samples (row * down_in c) c) cs)
+
+pub lengths-none : (k : ℕ) (cs : List Coding) (planes : List (List ℕ)) → planes ≡ take k (no_samples cs)
+    → lengths planes ≡ sizes_after 0 k cs
+lengths-none k cs planes e =
+    ap lengths e ∙ sym (take-map (λ (l : List ℕ). length l) k (no_samples cs)) ∙ ap (take k) (go cs)
   where
     go : (cs : List Coding) → lengths (map (λ (c : Coding). []) cs)
         ≡ map (λ (c : Coding). strip_samples (0 * down_in c) c) cs
     go [] = refl
     go (c ∷ cs) = grind (arith, common_steps, go cs)
 
-pub lengths-next : (cs : List Coding) (arrays : Arrays) (planes : List (List ℕ)) (row : ℕ)
-    → length arrays ≡ length cs
-    → lengths planes ≡ map (λ (c : Coding). strip_samples (row * down_in c) c) cs
-    → lengths (with_strips cs arrays planes)
-    ≡ map (λ (c : Coding). strip_samples ((row + 1) * down_in c) c) cs
+pub lengths-next : (k : ℕ) (cs : List Coding) (arrays : Arrays) (planes : List (List ℕ)) (row : ℕ)
+    → length arrays ≡ length cs → lengths planes ≡ sizes_after row k cs
+    → lengths (with_strips cs arrays planes) ≡ sizes_after (row + 1) k cs
 unfolding with_strips
-lengths-next [] [] [] row e h = refl
-lengths-next (c ∷ cs) (a ∷ arrays) (p ∷ planes) row e h =
+lengths-next zero cs arrays [] row e h = ap lengths (strips-none cs arrays)
+lengths-next (suc k) [] arrays [] row e h = refl
+lengths-next (suc k) (c ∷ cs) (a ∷ arrays) (p ∷ planes) row e h =
     let tail = ap (λ (l : List ℕ). drop 1 l) h in
-    let more = lengths-next cs arrays planes row (omega arith) tail in
+    let more = lengths-next k cs arrays planes row (omega arith) tail in
     grind (arith, common_steps, length-append, length-samples, one-row-more, more)
-lengths-next _ _ _ row e h = absurd (let n = ap (λ (l : List ℕ). length l) h in omega arith)
+lengths-next _ _ _ _ row e h = absurd (let n = ap (λ (l : List ℕ). length l) h in omega arith)
 
 pub row-count : (cs : List Coding) (vs : List Held) → sizes_of vs ≡ row_sizes cs
     → length (arrays_in vs) ≡ length cs

@@ -188,8 +188,8 @@ impl Decoded {
     ghost use Rattle.jpeg_decoder.specs.Reaching.{ReadsData};
     ghost use Rattle.jpeg_decoder.specs.Walks.{AfterWalk};
     ghost use Rattle.std.specs.Prelude.{◌≡◌, ◌<◌, [], All, IfOk, OnOk, None, Some};
-    ghost use Rattle.std.specs.Prelude.{◌*◌, true, false, length, map, replicate, slice_index_or};
-    ghost use Rattle.std.specs.Prelude.{is_some, slice_set};
+    ghost use Rattle.std.specs.Prelude.{◌≤◌, ◌*◌, true, false, drop, length, map, replicate, take};
+    ghost use Rattle.std.specs.Prelude.{slice_index_or, slice_set};
     ghost use Rattle.jpeg_bits.specs.BlockView.{pass_in, IsPass};
     ghost use Rattle.jpeg_pixels.specs.Scaled.{IsScale};
     ghost use Rattle.jpeg_segments.specs.FrameView.{component_in, frame_in};
@@ -201,7 +201,7 @@ impl Decoded {
     ghost use Rattle.jpeg_decoder.specs.Steps.{blocks_before, coding_in, IsBefore};
     ghost use Rattle.jpeg_decoder.specs.Steps.{IsReadable, is_wanted};
     ghost use Rattle.jpeg_decoder.specs.Steps.{marks_after, scan_data, with_decoded};
-    ghost use Rattle.jpeg_decoder.specs.Steps.{with_its_plane, with_planes};
+    ghost use Rattle.jpeg_decoder.specs.Steps.{with_its_plane, with_first_planes, with_planes};
     ghost use Rattle.jpeg_meaning.specs.ScanSegments.{is_progressive, once_scanned};
     ghost use Rattle.jpeg_meaning.specs.ScanSegments.{with_arrays};
     ghost use Rattle.jpeg_meaning.specs.Rasters.{plane_by};
@@ -209,7 +209,7 @@ impl Decoded {
     ghost use Rattle.jpeg_pixels.specs.JointPlanes.{joint_planes};
     ghost use Rattle.jpeg_decoder.specs.GrowingView.{GrowsFor, growing_in, is_joint};
     ghost use Rattle.jpeg_decoder.specs.PlanesView.{IsFullJoint};
-    ghost use Rattle.jpeg_decoder.specs.Steps.{IsCodingOf, IsFirst};
+    ghost use Rattle.jpeg_decoder.specs.Steps.{IsCodingOf, IsFirst, AreDecidedFrom};
     ghost use Rattle.jpeg_segments.specs.Frame.{AllHaveSampling};
     ghost use Rattle.jpeg_meaning.specs.InTurn.{Fits};
     ghost use Rattle.std.specs.List.{AllByRecursion};
@@ -312,9 +312,9 @@ impl Decoded {
         Ok(())
     }
 
-    /// Adds the planes of a scan's components.
+    /// Adds the planes of a scan's first components.
     fn add_planes(&mut self, scan: &Scan<'_>, planes: &mut Vec<Vec<u8>>, alloc: Global)
-        requires count { length planes.old.items ≡ length scan.now.codings }
+        requires count { length planes.old.items ≤ length scan.now.codings }
         ensures kept { self.new.kept ≡ self.old.kept }
         ensures samples { self.new.samples ≡ self.old.samples }
         ensures planes { (base : Found) → with_decoded base self.new
@@ -323,7 +323,7 @@ impl Decoded {
     {
         let codings = scan.components();
         let mut slot = 0;
-        while slot < codings.len() {
+        while slot < planes.len() {
             let plane = std::mem::replace(&mut planes[slot], Vec::new(alloc));
             let coded = &codings[slot];
             self.add_plane(scan.pass(), coded.index, plane);
@@ -331,8 +331,40 @@ impl Decoded {
         }
     }
 
-    /// Returns planes without samples for a scan of a sequential frame: in one buffer where it is
-    /// the first, has all components of the frame, and they are alike.
+    /// Marks the coefficients that a scan finishes of its components from a slot on, whose planes
+    /// are decided.
+    fn mark_rest(&mut self, scan: &Scan<'_>, from: usize)
+        requires within { from ≤ length scan.now.codings }
+        requires decided { AreDecidedFrom from self.old.planes scan.now.codings }
+        ensures kept { self.new.kept ≡ self.old.kept }
+        ensures samples { self.new.samples ≡ self.old.samples }
+        ensures planes { (base : Found) → with_decoded base self.new
+            ≡ with_planes scan.now.pass (drop from scan.now.codings)
+            (no_samples (drop from scan.now.codings)) (with_decoded base self.old) }
+    {
+        let rest = &scan.components()[from..];
+        for coded in rest {
+            finish(scan.pass(), &mut self.finished[coded.index]);
+        }
+    }
+
+    /// Returns how many components a scan has up to the last whose plane isn't decided.
+    fn count_wanted(&self, codings: &[Coded<'_>]) -> usize
+        ensures within { result ≤ length codings.now }
+        ensures decided { AreDecidedFrom result self.now.planes (map coding_in codings.now) }
+    {
+        let mut count = 0;
+        for slot in 0..codings.len() {
+            if !self.planes.has(codings[slot].index) {
+                count = slot + 1;
+            }
+        }
+        count
+    }
+
+    /// Returns planes without samples for a scan of a sequential frame: those of its components up
+    /// to the last whose plane isn't decided, or all in one buffer where it is the first scan, has
+    /// all components of the frame, and they are alike.
     fn start_planes(
         &self,
         alloc: Global,
@@ -342,7 +374,10 @@ impl Decoded {
         requires fits { AllByRecursion (Fits (frame_in frame.now)) (scan_components scan.now) }
         requires of_frame { AllByRecursion (IsCodingOf (frame_in frame.now)) scan.now.codings }
         requires sampling { AllHaveSampling (frame_in frame.now).components }
-        ensures none { IfOk result (λ planes. growing_in planes ≡ no_samples scan.now.codings) }
+        ensures none { IfOk result (λ planes. growing_in planes
+            ≡ take (length (growing_in planes)) (no_samples scan.now.codings)) }
+        ensures decided { IfOk result (λ planes. AreDecidedFrom (length (growing_in planes))
+            self.now.planes scan.now.codings) }
         ensures growing { IfOk result (GrowsFor scan.now.codings) }
         ensures first { IfOk result
             (λ planes. is_joint planes ≡ true → IsFirst self.now.planes scan.now) }
@@ -355,7 +390,9 @@ impl Decoded {
                 return Ok(GrowingPlanes::Joint(JointPlanes::new(alloc, shape)?));
             }
         }
-        let planes = empty_planes(alloc, scan.components())?;
+        let codings = scan.components();
+        let count = self.count_wanted(codings);
+        let planes = empty_planes(alloc, &codings[..count])?;
         Ok(GrowingPlanes::Own(planes))
     }
 
@@ -377,22 +414,29 @@ impl Decoded {
         self.planes.put_joint(joint);
     }
 
-    /// Adds the planes of a scan of a sequential frame.
+    /// Adds the planes of the first components of a scan of a sequential frame, where those of the
+    /// others are decided.
     #[tactic(auto, using(crate::proofs::Strips::JointStrips::full_rules))]
     fn add_grown(&mut self, scan: &Scan<'_>, planes: GrowingPlanes, alloc: Global)
         requires grown { GrowsFor scan.now.codings planes }
-        requires sizes { map length (growing_in planes)
-            ≡ map (λ c. c.blocks_high * c.scale * (c.blocks_wide * c.scale))
-            (scan_components scan.now) }
+        requires sizes { map length (growing_in planes) ≡ take (length (growing_in planes))
+            (map (λ c. c.blocks_high * c.scale * (c.blocks_wide * c.scale))
+            (scan_components scan.now)) }
+        requires decided { AreDecidedFrom (length (growing_in planes)) self.old.planes
+            scan.now.codings }
         requires first { is_joint planes ≡ true → IsFirst self.old.planes scan.now }
         ensures kept { self.new.kept ≡ self.old.kept }
         ensures samples { self.new.samples ≡ self.old.samples }
         ensures planes { (base : Found) → with_decoded base self.new
-            ≡ with_planes scan.now.pass scan.now.codings (growing_in planes)
+            ≡ with_first_planes scan.now.pass scan.now.codings (growing_in planes)
             (with_decoded base self.old) }
     {
         match planes {
-            GrowingPlanes::Own(mut planes) => self.add_planes(scan, &mut planes, alloc),
+            GrowingPlanes::Own(mut planes) => {
+                let count = planes.len();
+                self.add_planes(scan, &mut planes, alloc);
+                self.mark_rest(scan, count);
+            }
             GrowingPlanes::Joint(joint) => self.add_joint(scan, joint),
         }
     }
@@ -480,76 +524,12 @@ impl Decoded {
         met
     }
 
-    /// Returns whether the planes of all components of a scan are decided.
-    fn are_decided(&self, codings: &[Coded<'_>]) -> bool
-        ensures { result ≡ true → All (λ c. is_some (slice_index_or self.now.planes
-            c.index None) ≡ true) (map coding_in codings.now) }
-    {
-        for coded in codings {
-            if !self.planes.has(coded.index) {
-                return false;
-            }
-        }
-        true
-    }
-
-    /// Marks the coefficients that a scan finishes of components whose planes are decided.
-    fn mark_again(&mut self, scan: &Scan<'_>)
-        requires decided { All (λ c. is_some (slice_index_or self.old.planes c.index None) ≡ true)
-            scan.now.codings }
-        ensures kept { self.new.kept ≡ self.old.kept }
-        ensures samples { self.new.samples ≡ self.old.samples }
-        ensures decided { self.new.planes ≡ self.old.planes }
-        ensures planes { (base : Found) → with_decoded base self.new
-            ≡ with_planes scan.now.pass scan.now.codings (no_samples scan.now.codings)
-            (with_decoded base self.old) }
-    {
-        let codings = scan.components();
-        for coded in codings {
-            finish(scan.pass(), &mut self.finished[coded.index]);
-        }
-    }
-
-    /// Reads a scan of a sequential frame whose components have planes already, and returns the
-    /// marker after its data, if one was reached.
+    /// Reads a scan of a sequential frame, which decides the planes of components that have none,
+    /// and returns the marker after its data, if one was reached.
     ///
-    /// The first scan of a component decides its plane; the blocks of later ones are read, and
-    /// neither transformed nor kept.
+    /// No blocks are kept, and none are transformed of components after the last that has no plane.
     #[inline(never)]
-    fn read_again<R: Read + Drop>(
-        &mut self,
-        alloc: Global,
-        source: &mut Source<R>,
-        scanned: bool,
-        frame: &FrameInfo,
-        scan: &Scan<'_>,
-    ) -> Result<Option<Marker>>
-        requires process { is_progressive (frame_in frame.now).process ≡ false }
-        requires ready { IsReadable (frame_in frame.now) scan.now }
-        requires decided { All (λ c. is_some (slice_index_or self.now.planes
-            c.index None) ≡ true) scan.now.codings }
-        ensures data { (base : Found) → IsBefore scanned scan.now base
-            → ReadsData scan.now (frame_in frame.now) base self.old source.old result self.new
-            source.new }
-        ensures planes { AfterWalk scan.now.beyond result (self.new.planes ≡ self.old.planes) }
-        ensures samples { AfterWalk scan.now.beyond result (self.new.samples ≡ self.old.samples) }
-    {
-        let mut none = GrowingPlanes::Own(Vec::new(alloc));
-        let mut unread = None;
-        let met = read_planes(alloc, source, scan, frame, &mut none, &mut unread);
-        if is_lost(scan.beyond(), &met) {
-            return met;
-        }
-        self.kept = Vec::new(alloc);
-        self.mark_again(scan);
-        self.rows = rows_above_unread(frame, scan, unread);
-        met
-    }
-
-    /// Reads a scan of a sequential frame, which decides planes of its components, and returns the
-    /// marker after its data, if one was reached.
-    #[inline(never)]
-    fn read_first<R: Read + Drop>(
+    fn read_sequential<R: Read + Drop>(
         &mut self,
         alloc: Global,
         source: &mut Source<R>,
@@ -611,9 +591,6 @@ impl Decoded {
         if is_progressive(frame.coding_process) {
             return self.read_kept(alloc, source, scanned, frame, scan);
         }
-        if self.are_decided(scan.components()) {
-            return self.read_again(alloc, source, scanned, frame, scan);
-        }
-        self.read_first(alloc, source, scanned, frame, scan)
+        self.read_sequential(alloc, source, scanned, frame, scan)
     }
 }

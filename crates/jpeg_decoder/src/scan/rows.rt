@@ -1,6 +1,6 @@
 //! Sequential scans, whose planes are made row by row of MCUs (T.81, A.2 and F.2).
-ghost use Rattle.std.specs.Prelude.{[], map, option_map, All, IfSome, None, OnOk, length};
-ghost use Rattle.std.specs.Prelude.{◌≡◌, ◌≤◌, ◌<◌, ◌+◌, ◌*◌};
+ghost use Rattle.std.specs.Prelude.{[], map, option_map, All, IfSome, None, OnOk, length, take};
+ghost use Rattle.std.specs.Prelude.{◌≡◌, ◌≤◌, ◌<◌, ◌+◌, ◌*◌, ℕ};
 ghost use Rattle.std.specs.List.{AllByRecursion};
 ghost use Rattle.jpeg_bits.specs.Reading.{Answers};
 ghost use Rattle.jpeg_segments.specs.FrameView.{frame_in};
@@ -175,9 +175,9 @@ fn read_rows<R: Read + Drop>(
     requires unread { interval.old.unread ≡ None }
     ensures growing { AfterWalk scan.now.beyond result (GrowsFor scan.now.codings planes.new) }
     ensures kind { AfterWalk scan.now.beyond result (is_joint planes.new ≡ is_joint planes.old) }
-    ensures sizes { growing_in planes.old ≡ no_samples scan.now.codings
+    ensures sizes { (k : ℕ) → growing_in planes.old ≡ take k (no_samples scan.now.codings)
         → AfterWalk scan.now.beyond result (map length (growing_in planes.new)
-        ≡ map (λ c. strip_samples (order.now.rows * down_in c) c) scan.now.codings) }
+        ≡ take k (map (λ c. strip_samples (order.now.rows * down_in c) c) scan.now.codings)) }
     ensures planes { OfWalk scan.now.beyond result (Takes (λ _. growing_in planes.new)
         (strips_from scan.now.pass (scan_vias scan.now) order.now.interval scan.now.codings
         (walks_of_rows order.now) (growing_in planes.old) (counted interval.old []))
@@ -205,12 +205,12 @@ fn read_rows<R: Read + Drop>(
 }
 
 /// Reads a scan of a sequential frame, appends the samples of its blocks to the planes of its
-/// components, and returns the marker after its data, if one was reached.
+/// first components, and returns the marker after its data, if one was reached.
 ///
 /// The blocks are read from zeros, row by row of MCUs, and those of one row are kept at a time. A
 /// plane has the samples of all blocks of its component, including those that only fill its last
-/// MCUs. Without planes, the blocks are read and nothing is made of them, as in later scans of
-/// components whose planes are decided.
+/// MCUs. The blocks of components without a plane are read, and nothing is made of them: their
+/// planes are decided.
 ///
 /// Where nothing follows the markers that end its data, what lacks after an error other than out of
 /// memory is blocks of zeros, and `unread` is the spot of the first block that wasn't read.
@@ -230,10 +230,10 @@ pub fn read_planes<R: Read + Drop>(
     requires planes { GrowsFor scan.now.codings planes.old }
     ensures growing { AfterWalk scan.now.beyond result (GrowsFor scan.now.codings planes.new) }
     ensures kind { AfterWalk scan.now.beyond result (is_joint planes.new ≡ is_joint planes.old) }
-    ensures sizes { growing_in planes.old ≡ no_samples scan.now.codings
+    ensures sizes { (k : ℕ) → growing_in planes.old ≡ take k (no_samples scan.now.codings)
         → AfterWalk scan.now.beyond result (map length (growing_in planes.new)
-        ≡ map (λ c. c.blocks_high * c.scale * (c.blocks_wide * c.scale))
-        (scan_components scan.now)) }
+        ≡ take k (map (λ c. c.blocks_high * c.scale * (c.blocks_wide * c.scale))
+        (scan_components scan.now))) }
     ensures planes { scan.now.beyond ≡ Zeros → Answers (λ m. (growing_in planes.new, m))
         (planes_by_rows scan.now.pass (scan_vias scan.now) scan.now.restart_interval
         (frame_in frame.now) scan.now.codings

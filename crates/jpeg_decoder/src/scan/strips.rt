@@ -178,7 +178,7 @@ pub fn append_stored(
 /// Planes that grow by rows of MCUs.
 #[derive(Drop)]
 pub enum GrowingPlanes {
-    /// Each in memory of its own, one a component of the scan, or none at all.
+    /// Each in memory of its own, those of a scan's first components.
     Own(Vec<Vec<u8>>),
     /// Those of like components in one buffer.
     Joint(JointPlanes),
@@ -209,24 +209,22 @@ pub fn tables_for(
     sample_tables(alloc, codings)
 }
 
-/// Appends the samples of the blocks of a row of MCUs to planes in memory of their own, if any.
+/// Appends the samples of the blocks of a row of MCUs to planes of the first components, each in
+/// memory of its own.
 fn append_to_each(
     planes: &mut [Vec<u8>],
     codings: &[Coded<'_>],
     tables: &[SampleTable],
     rows: &[BlockArray],
 ) -> Result<(), AllocError>
-    requires planes { 0 < length planes.old → length planes.old ≡ length codings.now }
+    requires planes { length planes.old ≤ length codings.now }
     requires tables { 0 < length planes.old → tables.now ≡ tables_of (map coding_in codings.now) }
     requires sizes { sizes_of rows.now ≡ row_sizes (map coding_in codings.now) }
     requires full { All IsFull rows.now }
     ensures { OnOk result (plane_lists planes.new
         ≡ with_strips (map coding_in codings.now) (arrays_in rows.now) (plane_lists planes.old)) }
 {
-    if planes.is_empty() {
-        return Ok(());
-    }
-    for slot in 0..codings.len() {
+    for slot in 0..planes.len() {
         let coded = &codings[slot];
         let component = coded.component;
         let high = u16::from(component.vertical_sampling_factor);
@@ -263,8 +261,7 @@ fn append_to_room(
     Ok(())
 }
 
-/// Appends the samples of the blocks of a row of MCUs to the planes of a scan's components, if
-/// there are any.
+/// Appends the samples of the blocks of a row of MCUs to the planes of a scan's first components.
 pub fn append_strips(
     planes: &mut GrowingPlanes,
     codings: &[Coded<'_>],

@@ -1,5 +1,5 @@
 use Rattle.std.proofs.lemmas.Result.{err_from_is_err_and}
-use Rattle.std.proofs.Common.{◌≡◌, ◌∙◌, ◌*◌, [], ap, length, map, sym, subst, ℕ, List, Option, Err, Ok}
+use Rattle.std.proofs.Common.{◌≡◌, ◌∙◌, [], ap, length, take, sym, subst, ℕ, List, Option, Err, Ok}
 use Rattle.std.specs.List.{AllByRecursion}
 use Rattle.std.specs.Prelude.{option_map}
 use Rattle.jpeg_bits.specs.Entropy.{fresh_before}
@@ -10,10 +10,9 @@ use Rattle.jpeg_segments.specs.FrameView.{frame_in}
 use Rattle.jpeg_meaning.specs.Brought.{Through}
 use Rattle.jpeg_meaning.specs.InTurn.{AreApart, counted_before}
 use Rattle.jpeg_meaning.specs.McuRows.{rows_of}
-use Rattle.jpeg_meaning.specs.ScanSegments.{Coding}
 use Rattle.jpeg_decoder.specs.GrowingView.{growing_in}
-use Rattle.jpeg_decoder.specs.Scanning.{IsSpotOf, counted, down_in, scan_components, scan_vias, sizes_of}
-use Rattle.jpeg_decoder.specs.Strips.{planes_by_rows, planes_in_order, row_sizes, strip_samples}
+use Rattle.jpeg_decoder.specs.Scanning.{IsSpotOf, counted, scan_components, scan_vias, sizes_of}
+use Rattle.jpeg_decoder.specs.Strips.{planes_by_rows, planes_in_order, row_sizes}
 use Rattle.jpeg_decoder.specs.Walk.{spot_of, walks_of_rows}
 use Rattle.jpeg_decoder.specs.declared.scan.blocks.Interval.{Interval}
 use Rattle.jpeg_decoder.proofs.Kept.KeptSpots.{rows-spots}
@@ -23,7 +22,7 @@ use Rattle.jpeg_decoder.proofs.Scans.ScanReads.{answers-as}
 use Rattle.jpeg_decoder.proofs.Segments.WalkedScans.{after-walk, of-err, of-ok}
 use Rattle.jpeg_decoder.proofs.Strips.ReachedRows.{rows-apart}
 use Rattle.jpeg_decoder.proofs.Strips.StripScans.{by-order, rows-refused, scan-ended}
-use Rattle.jpeg_decoder.proofs.Strips.StripSteps.{lengths-all}
+use Rattle.jpeg_decoder.proofs.Strips.StripSteps.{lengths-all, sizes_after}
 use Rattle.jpeg_decoder.proofs.Strips.ThroughRows.{after-err, after-ok, from-zeros, none-unread, of-zeros, rows-ended}
 use Rattle.jpeg_decoder.proofs.Strips.ThroughRows.{rows-lost, rows-there, through-is}
 use Rattle.jpeg_decoder.proofs.scan.rows.read_planes.Given.{Over}
@@ -66,12 +65,12 @@ empty g c beyond is =
 -- ---- the rows were refused
 
 pub returns-in_err-read-clause-sizes : goal.returns-in_err-read-clause-sizes
-returns-in_err-read-clause-sizes g c none =
+returns-in_err-read-clause-sizes g c k none =
     let cs = c.args.scan.now.codings in
     let p = err_from_is_err_and c.from_residual-in_err-read.result c.from_residual-in_err-read.ensures.1 in
     rw (p.1, p.2) (after-err (Unit {0}) (Option Marker) c.args.scan.now.beyond c.in_err-read.field-0.0
-    (λ h. h ∙ ap (λ (k : ℕ). map (λ (x : Coding). strip_samples (k * down_in x) x) cs) c.in_ok-order.ensures.rows
-    ∙ lengths-all _ cs c.requires.fits) (c.in_err-read.ensures.sizes none))
+    (λ h. h ∙ ap (λ (rows : ℕ). sizes_after rows k cs) c.in_ok-order.ensures.rows
+    ∙ ap (take k) (lengths-all _ cs c.requires.fits)) (c.in_err-read.ensures.sizes k none))
 
 pub returns-in_err-read-clause-planes : goal.returns-in_err-read-clause-planes
 returns-in_err-read-clause-planes g c is =
@@ -139,12 +138,12 @@ returns-in_err-read-clause-answers g c is =
 -- ---- all rows were read
 
 pub returns-clause-sizes : goal.returns-clause-sizes
-returns-clause-sizes g c none =
+returns-clause-sizes g c k none =
     let cs = c.args.scan.now.codings in
     let b = c.args.scan.now.beyond in
-    after-walk b c.take_marker.result (after-ok b tt (c.in_ok-read.ensures.sizes none)
-    ∙ ap (λ (k : ℕ). map (λ (x : Coding). strip_samples (k * down_in x) x) cs) c.in_ok-order.ensures.rows
-    ∙ lengths-all _ cs c.requires.fits)
+    after-walk b c.take_marker.result (after-ok b tt (c.in_ok-read.ensures.sizes k none)
+    ∙ ap (λ (rows : ℕ). sizes_after rows k cs) c.in_ok-order.ensures.rows
+    ∙ ap (take k) (lengths-all _ cs c.requires.fits))
 
 pub returns-clause-planes : goal.returns-clause-planes
 returns-clause-planes g c is =

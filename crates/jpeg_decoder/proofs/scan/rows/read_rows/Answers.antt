@@ -1,5 +1,5 @@
 use Rattle.std.proofs.lemmas.Grind.{common_steps}
-use Rattle.std.proofs.Common.{rules, ◌≡◌, ◌<◌, ◌∙◌, ◌-◌, ◌+◌, ◌*◌, [], Err, Ok, ap, map, sym, subst, ℕ, List}
+use Rattle.std.proofs.Common.{rules, ◌≡◌, ◌<◌, ◌∙◌, ◌-◌, ◌+◌, [], Err, Ok, ap, map, sym, subst, ℕ, List}
 use Rattle.std.proofs.Common.{arith, length, refl}
 use Rattle.std.specs.List.{AllByRecursion, range_with_len}
 use Rattle.std.specs.Prelude.{IfSome, option_map}
@@ -15,10 +15,10 @@ use Rattle.jpeg_meaning.specs.Order.{Spot}
 use Rattle.jpeg_meaning.specs.ScanSegments.{Coding, components_of}
 use Rattle.jpeg_meaning.specs.States.{IfRefused}
 use Rattle.jpeg_decoder.specs.GrowingView.{GrowsFor, growing_in}
-use Rattle.jpeg_decoder.specs.Scanning.{IsSpotOf, arrays_in, counted, down_in}
+use Rattle.jpeg_decoder.specs.Scanning.{IsSpotOf, arrays_in, counted}
 use Rattle.jpeg_decoder.specs.Scanning.{kept_blocks, kept_counted, sizes_of, scan_vias}
 use Rattle.jpeg_decoder.specs.Steps.{coding_in}
-use Rattle.jpeg_decoder.specs.Strips.{row_sizes, strip_samples, strips_from, with_strips, zeros_of}
+use Rattle.jpeg_decoder.specs.Strips.{row_sizes, strips_from, with_strips, zeros_of}
 use Rattle.jpeg_decoder.specs.Through.{in_frame, strips_reached, zero_strips}
 use Rattle.jpeg_decoder.specs.Walk.{spot_of, walk_of_row, walks_of_rows}
 use Rattle.jpeg_decoder.specs.declared.scan.blocks.Interval.{Interval}
@@ -29,7 +29,7 @@ use Rattle.jpeg_decoder.proofs.Strips.KeptStrips.{kept-refused, strips_kept}
 use Rattle.jpeg_decoder.proofs.Strips.RefusedRows.{lengths-rest, row-read, row-refused}
 use Rattle.jpeg_decoder.proofs.Strips.StripSteps.{strips_refused, strips_none, whole-rows, first-row}
 use Rattle.jpeg_decoder.proofs.Strips.StripSteps.{later-rows, zeros-are, lengths}
-use Rattle.jpeg_decoder.proofs.Strips.StripSteps.{lengths-none, lengths-next, row-count}
+use Rattle.jpeg_decoder.proofs.Strips.StripSteps.{lengths-none, lengths-next, row-count, sizes_after}
 use Rattle.jpeg_decoder.proofs.Strips.StripRows.{some-before}
 use Rattle.jpeg_decoder.proofs.scan.rows.read_rows.Goals.{then-eq+in_ok-append_rest, else-eq}
 use Rattle.jpeg_decoder.proofs.scan.rows.read_rows.Goals as goal
@@ -49,7 +49,7 @@ loop-row-init g c =
       growing = c.requires.planes;
       kind = refl;
       some = λ h. h;
-      lengths = lengths-none cs planes;
+      lengths = λ k. lengths-none k cs planes;
       beyond = c.requires.beyond;
       unread = c.requires.unread;
       strips = grind (arith, common_steps, whole-rows);
@@ -75,23 +75,22 @@ read_row-requires-clause-apart g c =
 -- ---- a block is refused, or memory ran out
 
 pub returns-in-Err-clause-sizes : goal.returns-in-Err-clause-sizes
-returns-in-Err-clause-sizes g c none =
+returns-in-Err-clause-sizes g c k none =
     let s = c.args.scan.now in
     let cs = s.codings in
     let high = c.args.order.now.rows in
     let l = c.loop-row in
     let planes = growing_in l.planes in
     let read = c.read_row.new.rows.items in
-    let P = map (λ (x : List ℕ). length x) (growing_in c.if-eq.planes)
-    ≡ map (λ (x : Coding). strip_samples (high * down_in x) x) cs in
+    let P = lengths (growing_in c.if-eq.planes) ≡ sizes_after high k cs in
     elim c.if-eq.branch [
       | then-eq+in_ok-append_rest w ↦
           let made = subst (λ (x : List Coding). growing_in w.append_rest.new.planes
           ≡ zero_strips (high - 1 - l.row) x (with_strips x (arrays_in read) planes))
           c.components-codings.ensures.codings w.in_ok-append_rest.ensures.strips in
           after-walk s.beyond (Err c.in-Err.e)
-          (lengths-rest cs (arrays_in read) planes (growing_in c.if-eq.planes) l.row high c.loop-row-test.true
-          (row-count cs read (c.in-Err.ensures.sizes ∙ l.invariant.sizes)) (l.invariant.lengths none)
+          (lengths-rest k cs (arrays_in read) planes (growing_in c.if-eq.planes) l.row high c.loop-row-test.true
+          (row-count cs read (c.in-Err.ensures.sizes ∙ l.invariant.sizes)) (l.invariant.lengths k none)
           (ap (λ (p : GrowingPlanes). growing_in p) w.planes-is ∙ made))
       | else-eq w ↦
           let other : s.beyond ≡ Nothing → ⊥ = search rules in
@@ -202,8 +201,8 @@ loop-row-preserved g c =
       kind = c.in_ok-append_strips.ensures.kind ∙ l.invariant.kind;
       some = λ h. l.invariant.some
           (some-before cs (arrays_in read) planes (subst (λ (x : List (List ℕ)). 0 < length x) made h));
-      lengths = λ none. ap lengths made ∙ lengths-next cs (arrays_in read) planes l.row
-          (row-count cs read sizes) (l.invariant.lengths none);
+      lengths = λ k none. ap lengths made ∙ lengths-next k cs (arrays_in read) planes l.row
+          (row-count cs read sizes) (l.invariant.lengths k none);
       beyond = q.beyond ∙ l.invariant.beyond;
       unread = q.unread ∙ l.invariant.unread;
       strips = (
@@ -233,12 +232,11 @@ loop-row-preserved g c =
 -- ---- no row is left
 
 pub returns-clause-sizes : goal.returns-clause-sizes
-returns-clause-sizes g c none =
+returns-clause-sizes g c k none =
     let s = c.args.scan.now in
     let l = c.loop-row in
     let end : l.row ≡ c.args.order.now.rows = omega (arith, c.loop-row-test.false, l.auto.row-end) in
-    after-walk s.beyond (Ok tt) (l.invariant.lengths none ∙ ap
-    (λ (k : ℕ). map (λ (x : Coding). strip_samples (k * down_in x) x) s.codings) end)
+    after-walk s.beyond (Ok tt) (l.invariant.lengths k none ∙ ap (λ (row : ℕ). sizes_after row k s.codings) end)
 
 pub returns-clause-planes : goal.returns-clause-planes
 returns-clause-planes g c =

@@ -1,4 +1,4 @@
-use Rattle.std.proofs.Common.{◌≡◌, ◌<◌, ◌*◌, ◌-◌, [], None, length, map, true}
+use Rattle.std.proofs.Common.{◌≡◌, ◌<◌, ◌*◌, ◌-◌, [], None, length, map, take, true, ℕ}
 use Rattle.std.specs.List.{AllByRecursion, range_with_len}
 use Rattle.jpeg_bits.proofs.BandLoop.{Leaves}
 use Rattle.jpeg_bits.specs.Entropy.{upcoming}
@@ -21,9 +21,9 @@ invariant-loop-row g l = record {
   growing : GrowsFor l.fn.scan.codings l.planes;
   kind : is_joint l.planes ≡ is_joint l.fn.planes;
   some : 0 < length (growing_in l.planes) → 0 < length (growing_in l.fn.planes);
-  lengths : growing_in l.fn.planes ≡ no_samples l.fn.scan.codings
+  lengths : (k : ℕ) → growing_in l.fn.planes ≡ take k (no_samples l.fn.scan.codings)
       → map length (growing_in l.planes)
-      ≡ map (λ c. strip_samples (l.row * down_in c) c) l.fn.scan.codings;
+      ≡ take k (map (λ c. strip_samples (l.row * down_in c) c) l.fn.scan.codings);
   beyond : l.interval.beyond ≡ l.fn.scan.beyond;
   unread : l.interval.unread ≡ None;
   strips : Leaves (strips_from l.fn.scan.pass

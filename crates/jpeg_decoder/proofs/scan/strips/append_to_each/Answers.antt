@@ -1,6 +1,6 @@
 use Rattle.std.proofs.Common.{arith, rules}
 use Rattle.jpeg_decoder.specs.Strips.{samples_of}
-use Rattle.jpeg_decoder.proofs.Strips.RowBuffers.{no-strips, planes-all, planes-long, planes-next}
+use Rattle.jpeg_decoder.proofs.Strips.RowBuffers.{planes-all, planes-long, planes-next}
 use Rattle.jpeg_decoder.proofs.Strips.RowBuffers.{row-full, row-size, table-here, tables-long}
 use Rattle.jpeg_decoder.proofs.scan.strips.append_to_each.Goals as goal
 use Rattle.std.proofs.lemmas.Grind.{common_steps}
@@ -34,9 +34,6 @@ loop-slot-preserved c =
     (rw (← table) (search rules))
     (row-full c.args.codings.now c.args.rows.now c.requires.sizes c.loop-slot.slot c.index-rows-slot.result
     c.requires.full (search rules) (search rules))
-
-pub returns-then-is_empty : goal.returns-then-is_empty
-returns-then-is_empty c = grind (arith, common_steps, no-strips)
 
 pub returns : goal.returns
 returns c = grind (arith, common_steps, planes-all)

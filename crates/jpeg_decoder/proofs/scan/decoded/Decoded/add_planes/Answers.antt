@@ -1,9 +1,12 @@
-use Rattle.std.proofs.Common.{◌≡◌, ◌∙◌, ap, rules, get_or, arith}
+use Rattle.std.proofs.Common.{◌≡◌, ◌∙◌, ◌≤◌, [], ap, arith, drop, get_or, length, map, rules, sym, ℕ, List}
+use Rattle.std.proofs.lemmas.List.{drop_all, length-map}
 use Rattle.jpeg_decoder.specs.declared.scan.coded.Coded.{Coded}
-use Rattle.jpeg_decoder.specs.Steps.{with_decoded, with_its_plane, with_planes}
-use Rattle.jpeg_decoder.proofs.PutLoops.{planes-step, none-left}
+use Rattle.jpeg_decoder.specs.Steps.{coding_in, with_decoded, with_its_plane, with_planes}
+use Rattle.jpeg_decoder.specs.Strips.{plane_lists}
+use Rattle.jpeg_decoder.proofs.PutLoops.{planes-step}
+use Rattle.jpeg_decoder.proofs.Scans.DecidedScans.{none-added}
+use Rattle.jpeg_decoder.proofs.Strips.RowBuffers.{Plane}
 use Rattle.jpeg_decoder.proofs.scan.decoded.Decoded.add_planes.Goals as goal
-use Rattle.std.proofs.lemmas.Grind.{common_steps}
 
 pub loop-slot-preserved : goal.loop-slot-preserved
 loop-slot-preserved c =
@@ -28,5 +31,14 @@ loop-slot-preserved c =
     }
 
 pub returns-clause-planes : goal.returns-clause-planes
-unfolding with_planes
-returns-clause-planes c = grind (arith, common_steps, none-left)
+returns-clause-planes c base =
+    let l = c.loop-slot in
+    let p = c.args.scan.now.pass in
+    let codings = drop l.slot (map coding_in c.components-codings.result.now) in
+    let planes = plane_lists l.planes.items in
+    let short : length l.planes.items ≤ l.slot = search rules in
+    let done : drop l.slot planes ≡ [] =
+    drop_all l.slot planes (omega (arith, short, length-map l.planes.items (λ (v : Plane). v.items))) in
+    sym (ap (λ (left : List (List ℕ)). with_planes p codings left (with_decoded base l.self)) done
+    ∙ none-added p codings (with_decoded base l.self))
+    ∙ l.invariant.added base

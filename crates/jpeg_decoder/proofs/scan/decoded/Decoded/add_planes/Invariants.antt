@@ -5,8 +5,8 @@ use Rattle.jpeg_decoder.proofs.scan.decoded.Decoded.add_planes.Given as goal
 
 abbrev pub invariant-loop-slot : goal.invariant-loop-slot
 invariant-loop-slot l = record {
-  within : l.slot ≤ length l.codings;
-  planes : length l.planes.items ≡ length l.codings;
+  within : l.slot ≤ length l.planes.items;
+  planes : length l.planes.items ≤ length l.codings;
   kept : l.self.kept ≡ l.fn.self.kept;
   samples : l.self.samples ≡ l.fn.self.samples;
   added : (base : Found) →
@@ -17,4 +17,4 @@ invariant-loop-slot l = record {
 }
 
 abbrev pub decreases-loop-slot : goal.decreases-loop-slot
-decreases-loop-slot l = length l.codings - l.slot
+decreases-loop-slot l = length l.planes.items - l.slot
