@@ -21,7 +21,7 @@ from pathlib import Path
 
 ROOT = Path(__file__).resolve().parent.parent
 CRATES = """jpeg_bits jpeg_segments jpeg_pixels jpeg_lossless jpeg_meaning jpeg_decoder
-    jpeg_orientation zaxbriar_calls""".split()
+    jpeg_orientation zaxbriar_metadata zaxbriar_calls""".split()
 
 # Where laws on streams and numbers that were worked by hand stand (`known_..` and `worked_..`), and
 # what those that read or write a whole stream compute beside the definitions that they name.
@@ -32,6 +32,7 @@ LAWS = {
     "jpeg_evidence/src/limits": "",
     "jpeg_decoder/src/laws/headline": "laws::headline::",
     "jpeg_decoder/src/laws/lossless": "laws::lossless::",
+    "zaxbriar_metadata/src/laws": "laws::",
     "zaxbriar_calls/src/laws": "laws::",
 }
 STREAMS = {
@@ -46,6 +47,8 @@ STREAMS = {
     "known_orders": "jpeg_meaning Order Scans",
     "known_crops": "jpeg_pixels Planes",
     "known_applications": "jpeg_bits DefaultTables, jpeg_segments Application",
+    "laws::known_thumbnails": "jpeg_orientation Tiff",
+    "laws::known_joined_metadata": "zaxbriar_calls StreamSegments Places",
     "laws::known_interleaved_scans": "jpeg_lossless Prediction Differences Scans",
     "laws::headline::worked_images_are_written": """jpeg_bits Written, jpeg_segments WrittenSegments
         ScanHeaders, jpeg_meaning Levels WrittenData WrittenScans SaidSegments WrittenStreams

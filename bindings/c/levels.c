@@ -11,6 +11,7 @@ FOR_BOTH(read_info);
 FOR_BOTH(decode);
 FOR_BOTH(decode_partial);
 FOR_BOTH(metadata);
+FOR_BOTH(joined_metadata);
 FOR_BOTH(find_metadata);
 FOR_BOTH(next_segment);
 
@@ -42,6 +43,13 @@ uint32_t zaxbriar_checked_metadata(const uint8_t *jpeg, size_t jpeg_size, uint32
     if (zaxbriar_is_v3())
         return zaxbriar_v3_metadata(jpeg, jpeg_size, kind, max_passes, data, data_size, length);
     return zaxbriar_v2_metadata(jpeg, jpeg_size, kind, max_passes, data, data_size, length);
+}
+
+uint32_t zaxbriar_checked_joined_metadata(const uint8_t *jpeg, size_t jpeg_size, uint32_t kind,
+                                          uint8_t *data, size_t data_size, uint64_t *length) {
+    if (zaxbriar_is_v3())
+        return zaxbriar_v3_joined_metadata(jpeg, jpeg_size, kind, data, data_size, length);
+    return zaxbriar_v2_joined_metadata(jpeg, jpeg_size, kind, data, data_size, length);
 }
 
 void zaxbriar_checked_find_metadata(const uint8_t *jpeg, size_t jpeg_size,

@@ -16,6 +16,8 @@ uint32_t zaxbriar_checked_decode_partial(const uint8_t *jpeg, size_t jpeg_size,
 uint32_t zaxbriar_checked_metadata(const uint8_t *jpeg, size_t jpeg_size, uint32_t kind,
                                    uint64_t max_passes, uint8_t *data, size_t data_size,
                                    uint64_t *length);
+uint32_t zaxbriar_checked_joined_metadata(const uint8_t *jpeg, size_t jpeg_size, uint32_t kind,
+                                          uint8_t *data, size_t data_size, uint64_t *length);
 void zaxbriar_checked_find_metadata(const uint8_t *jpeg, size_t jpeg_size, zaxbriar_places *places);
 uint32_t zaxbriar_checked_next_segment(const uint8_t *jpeg, size_t jpeg_size,
                                        zaxbriar_segment *segment);

@@ -191,6 +191,22 @@ zaxbriar_result zaxbriar_metadata_within(const void *jpeg, size_t jpeg_size,
     return answer;
 }
 
+zaxbriar_result zaxbriar_joined_metadata(const void *jpeg, size_t jpeg_size,
+                                         const zaxbriar_options *options, int kind, void *data,
+                                         size_t data_size, size_t *length) {
+    uint64_t found = 0;
+    zaxbriar_result answer = ZAXBRIAR_BAD_ARGUMENT;
+    if (!fault_of(jpeg, jpeg_size, options) && is_slice(data, data_size)) {
+        const zaxbriar_memory *before = zaxbriar_exchange_memory(memory_of(options));
+        answer = (zaxbriar_result)zaxbriar_checked_joined_metadata(
+            jpeg ? jpeg : &nothing, jpeg_size, (uint32_t)kind, data ? data : &nothing, data_size,
+            &found);
+        zaxbriar_exchange_memory(before);
+    }
+    if (length) *length = (size_t)found;
+    return answer;
+}
+
 zaxbriar_result zaxbriar_find_metadata(const void *jpeg, size_t jpeg_size,
                                        zaxbriar_places *places) {
     if (!places) return ZAXBRIAR_BAD_ARGUMENT;

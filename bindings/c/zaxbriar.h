@@ -151,7 +151,13 @@ typedef enum zaxbriar_feature {
 typedef enum zaxbriar_kind {
     ZAXBRIAR_EXIF = 1,
     ZAXBRIAR_XMP = 2,
-    ZAXBRIAR_ICC = 3,
+    ZAXBRIAR_ICC = 3, /* not of zaxbriar_joined_metadata */
+
+    /* Only of zaxbriar_joined_metadata. */
+    ZAXBRIAR_EXTENDED_XMP = 4,
+    ZAXBRIAR_IPTC = 5,
+    ZAXBRIAR_THUMBNAIL = 6,
+
     ZAXBRIAR_WHOLE_IMAGE = 16 /* also from segments after the frame header */
 } zaxbriar_kind;
 
@@ -387,6 +393,32 @@ ZAXBRIAR_CALL zaxbriar_result zaxbriar_metadata_within(const void *jpeg, size_t 
  * ZAXBRIAR_BAD_ARGUMENT only for a null pointer. */
 ZAXBRIAR_CALL zaxbriar_result zaxbriar_find_metadata(const void *jpeg, size_t jpeg_size,
                                                      zaxbriar_places *places);
+
+/* Copies metadata of a whole image that cameras, phones and editors may write in several segments,
+ * joined from them, as zaxbriar_metadata copies those of one segment. `kind` is one of
+ * - ZAXBRIAR_EXIF: Exif data from the TIFF header on, joined from the last segment that begins with
+ *   such a header and those after it that continue it (zaxbriar_metadata copies the last segment
+ *   alone);
+ * - ZAXBRIAR_XMP: the XMP data of the last segment that has some, the main packet;
+ * - ZAXBRIAR_EXTENDED_XMP: the extension that the main packet names, joined from its parts, if each
+ *   byte of it is there exactly once (XMP Specification, part 3, 1.1.3.1), of at most 4,096 parts;
+ * - ZAXBRIAR_IPTC: IPTC data, the first image resource 0x0404 of Photoshop's segments;
+ * - ZAXBRIAR_THUMBNAIL: the thumbnail in the Exif data, which is a JPEG stream as a rule.
+ *
+ * Any other kind is a ZAXBRIAR_BAD_ARGUMENT: one with ZAXBRIAR_WHOLE_IMAGE, since the call always
+ * takes the whole image, and ZAXBRIAR_ICC, which zaxbriar_metadata joins.
+ *
+ * The call decodes nothing. It looks at the markers alone, as zaxbriar_find_metadata does, up to
+ * the end of the image or as far as there are whole segments, and collects what these bring in
+ * memory of its own, a few times their size at most. Of the options, which may be null, only
+ * `memory` counts.
+ *
+ * Returns ZAXBRIAR_OK; ZAXBRIAR_NO_ROOM, with the needed size in *length; ZAXBRIAR_NO_DATA, also
+ * for bytes that aren't a JPEG stream; ZAXBRIAR_NO_MEMORY; or ZAXBRIAR_BAD_ARGUMENT. */
+ZAXBRIAR_CALL zaxbriar_result zaxbriar_joined_metadata(const void *jpeg, size_t jpeg_size,
+                                                       const zaxbriar_options *options, int kind,
+                                                       void *data, size_t data_size,
+                                                       size_t *length);
 
 /* Finds the first marker in some bytes, whatever stands before it, and the payload of its segment.
  * Returns ZAXBRIAR_OK; ZAXBRIAR_TRUNCATED if the bytes end before the segment does, or contain no

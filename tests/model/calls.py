@@ -4,8 +4,9 @@
 calls.py            writes the answers of each case file
 calls.py --check    compares them
 
-Headers, samples and faults are the model's. What the structs tell of them is said here, by the
-comments of bindings/c/zaxbriar.h, T.81, T.871 (JFIF), and TIFF for the orientation.
+Headers, samples and faults are the model's, and metadata that are joined are those of metadata.py.
+What the structs tell of them is said here, by the comments of bindings/c/zaxbriar.h, T.81, T.871
+(JFIF), and TIFF for the orientation.
 """
 import glob
 import os
@@ -14,6 +15,7 @@ from types import SimpleNamespace
 
 import model
 from cases import cases_of, decoding_bytes, orientation_of
+from metadata import exif_in, extended_xmp_in, iptc_in, thumbnail_in, xmp_in
 
 HERE = os.path.dirname(os.path.abspath(__file__))
 CASES = os.path.join(os.path.dirname(os.path.dirname(HERE)), 'bindings', 'c', 'test', 'cases')
@@ -48,6 +50,7 @@ MEMBERS = (
     'components precision sample_bytes process orientation format feature feature_argument fault '
     'density_unit horizontal_density vertical_density transform text'
 ).split()
+JOINED = {1: exif_in, 2: xmp_in, 4: extended_xmp_in, 5: iptc_in, 6: thumbnail_in}
 BEFORE = 7
 # Where the first row of the stored picture is to be seen, and its first column, by the orientation
 # (Exif 2.3, 4.6.4, tag 274).
@@ -444,12 +447,11 @@ def data_of(stream, kind, options):
     raise Refusal(NO_DATA)
 
 
-def metadata(stream, kind, room, *words):
+def copied(room, find):
+    """What is written of data that are found, and are copied into memory where they have room."""
     memory, length = bytearray([BEFORE] * int(room)), 0
     try:
-        if int(kind) not in (1, 2, 3, 17, 18, 19):
-            raise Refusal(BAD_ARGUMENT)
-        data = data_of(stream, int(kind), Options(words))
+        data = find()
         code, length = OK, len(data)
         if length > len(memory):
             raise Refusal(NO_ROOM)
@@ -457,6 +459,32 @@ def metadata(stream, kind, room, *words):
     except Refusal as found:
         code = found.code
     return NAMES[code] + (' length %d' % length if length else '') + memory_text(memory)
+
+
+def metadata(stream, kind, room, *words):
+    def find():
+        if int(kind) not in (1, 2, 3, 17, 18, 19):
+            raise Refusal(BAD_ARGUMENT)
+        return data_of(stream, int(kind), Options(words))
+
+    return copied(room, find)
+
+
+def joined_metadata(stream, kind, room):
+    def find():
+        found = [
+            (marker - 0xE0, stream[offset:end])
+            for marker, offset, end in segments(stream)
+            if 0xE0 <= marker <= 0xEF
+        ]
+        if int(kind) not in JOINED:
+            raise Refusal(BAD_ARGUMENT)
+        data = JOINED[int(kind)](found)
+        if data is None:
+            raise Refusal(NO_DATA)
+        return data
+
+    return copied(room, find)
 
 
 def find_metadata(stream):
@@ -514,7 +542,10 @@ def next_segment(stream, at):
 
 CALLS = {
     call.__name__: call
-    for call in (read_info, decode, decode_partial, metadata, find_metadata, next_segment)
+    for call in (
+        *(read_info, decode, decode_partial),
+        *(metadata, joined_metadata, find_metadata, next_segment),
+    )
 }
 
 

@@ -23,9 +23,9 @@ def payloads(stream, whole=False):
         at += size
 
 
-def named(stream, number, name, whole=False):
-    """The data of the segments that have a name."""
-    found = [it for its_number, it in payloads(stream, whole) if its_number == number]
+def named(segments, number, name):
+    """The data of those segments that have a number and a name."""
+    found = [it for its_number, it in segments if its_number == number]
     return [it[len(name) :] for it in found if it.startswith(name)]
 
 
@@ -57,10 +57,10 @@ def directories(exif):
     return found
 
 
-def exif_of(stream, whole=False):
+def exif_in(segments):
     """The Exif data, joined from their segments."""
     runs = []
-    for part in named(stream, 1, b"Exif\0\0", whole):
+    for part in named(segments, 1, b"Exif\0\0"):
         if order_of(part) or not runs:
             runs.append(part)
         else:
@@ -91,22 +91,27 @@ def thumbnail_of(exif):
     return part if part and len(part) == size else None
 
 
-def xmp_of(stream, whole=False):
+def thumbnail_in(segments):
+    """The thumbnail in the Exif data."""
+    return thumbnail_of(exif_in(segments) or b"")
+
+
+def xmp_in(segments):
     """The main packet: the last one."""
-    found = named(stream, 1, b"http://ns.adobe.com/xap/1.0/\0", whole)
+    found = named(segments, 1, b"http://ns.adobe.com/xap/1.0/\0")
     return found[-1] if found else None
 
 
-def extended_xmp_of(stream, whole=False):
+def extended_xmp_in(segments):
     """The extension that the main packet names: its parts in order, if they leave no gap, don't
     overlap, and all name its length."""
     packet = re.compile(rb"""xmpNote:HasExtendedXMP(?:\s*=\s*["']|>)(.{32})""", re.DOTALL).search(
-        xmp_of(stream, whole) or b""
+        xmp_in(segments) or b""
     )
     if packet is None:
         return None
     parts = []
-    for part in named(stream, 1, b"http://ns.adobe.com/xmp/extension/\0", whole):
+    for part in named(segments, 1, b"http://ns.adobe.com/xmp/extension/\0"):
         if len(part) > 40 and part[:32] == packet[1]:
             parts.append(struct.unpack(">II", part[32:40])[::-1] + (part[40:],))
     joined = b""
@@ -117,9 +122,9 @@ def extended_xmp_of(stream, whole=False):
     return joined if parts and all(size == len(joined) for _, size, _ in parts) else None
 
 
-def iptc_of(stream, whole=False):
+def iptc_in(segments):
     """The first resource 0x0404 of Photoshop's image resources."""
-    body = b"".join(named(stream, 13, b"Photoshop 3.0\0", whole))
+    body = b"".join(named(segments, 13, b"Photoshop 3.0\0"))
     while body[:4] == b"8BIM" and len(body) >= 12:
         (number,) = struct.unpack_from(">H", body, 4)
         name = 1 + body[6]
@@ -136,10 +141,26 @@ def iptc_of(stream, whole=False):
     return None
 
 
+def exif_of(stream, whole=False):
+    return exif_in(payloads(stream, whole))
+
+
+def xmp_of(stream, whole=False):
+    return xmp_in(payloads(stream, whole))
+
+
+def extended_xmp_of(stream, whole=False):
+    return extended_xmp_in(payloads(stream, whole))
+
+
+def iptc_of(stream, whole=False):
+    return iptc_in(payloads(stream, whole))
+
+
 def sizes_of(stream):
     """What `info` says of the data in a header: the key of each line and its value."""
     exif = exif_of(stream)
-    parts = [it for it in named(stream, 2, b"ICC_PROFILE\0") if len(it) > 2]
+    parts = [it for it in named(payloads(stream), 2, b"ICC_PROFILE\0") if len(it) > 2]
     found = {
         "icc-bytes": sum(len(it) - 2 for it in parts) if parts else None,
         "exif-bytes": None if exif is None else len(exif),

@@ -29,6 +29,25 @@ static void null_pointers(void) {
     CHECK(zaxbriar_metadata(NULL, 0, ZAXBRIAR_EXIF, NULL, 0, NULL) != ZAXBRIAR_OK);
 }
 
+static zaxbriar_result joined(const void *start, size_t size, void *data, size_t data_size,
+                              size_t *length) {
+    return zaxbriar_joined_metadata(start, size, NULL, ZAXBRIAR_EXIF, data, data_size, length);
+}
+
+static void null_joined(void) {
+    unsigned char byte = 7;
+    size_t length = 1;
+    CHECK(joined(NULL, 1, &byte, 1, &length) == ZAXBRIAR_BAD_ARGUMENT && length == 0);
+    length = 1;
+    CHECK(joined(jpeg.start, jpeg.size, NULL, 1, &length) == ZAXBRIAR_BAD_ARGUMENT && length == 0);
+    length = 1;
+    CHECK(joined(NULL, 0, NULL, 0, &length) == ZAXBRIAR_NO_DATA && length == 0);
+    CHECK(joined(NULL, 0, &byte, 1, NULL) == ZAXBRIAR_NO_DATA);
+    CHECK(joined(jpeg.start, SIZE_MAX, &byte, 1, NULL) == ZAXBRIAR_BAD_ARGUMENT);
+    CHECK(joined(jpeg.start, jpeg.size, &byte, SIZE_MAX, NULL) == ZAXBRIAR_BAD_ARGUMENT);
+    CHECK(byte == 7);
+}
+
 static void null_segments(void) {
     zaxbriar_segment segment;
     zaxbriar_places places;
@@ -116,6 +135,9 @@ static void unknown_options(void) {
         int alone = kind & ~ZAXBRIAR_WHOLE_IMAGE;
         int is_there = alone >= ZAXBRIAR_EXIF && alone <= ZAXBRIAR_ICC;
         CHECK((zaxbriar_metadata(jpeg.start, jpeg.size, kind, NULL, 0, &length) ==
+               ZAXBRIAR_BAD_ARGUMENT) == !is_there);
+        is_there = kind >= ZAXBRIAR_EXIF && kind <= ZAXBRIAR_THUMBNAIL && kind != ZAXBRIAR_ICC;
+        CHECK((zaxbriar_joined_metadata(jpeg.start, jpeg.size, NULL, kind, NULL, 0, &length) ==
                ZAXBRIAR_BAD_ARGUMENT) == !is_there);
     }
 }
@@ -229,6 +251,100 @@ static void own_memory(void) {
     free(own);
 }
 
+/* Appends a segment: its marker, and a payload of a text with what stands behind its zero, and some
+ * bytes. */
+static void put_segment(struct bytes *stream, int marker, const char *name, size_t name_size,
+                        const void *data, size_t size) {
+    size_t length = 2 + name_size + size;
+    stream->start = realloc(stream->start, stream->size + 2 + length);
+    if (!stream->start) exit(2);
+    unsigned char *at = stream->start + stream->size;
+    at[0] = 0xFF, at[1] = (unsigned char)marker;
+    at[2] = (unsigned char)(length >> 8), at[3] = (unsigned char)length;
+    memcpy(at + 4, name, name_size);
+    memcpy(at + 4 + name_size, data, size);
+    stream->size += 2 + length;
+}
+
+#define PUT(marker, name, data, size) put_segment(&stream, marker, name, sizeof name, data, size)
+
+#define GUID "0123456789ABCDEF0123456789ABCDEF"
+
+/* A stream with data of each kind, all but the main packet in two segments. */
+static struct bytes stream_of_all(void) {
+    static const char exif_name[] = "Exif\0", xmp_name[] = "http://ns.adobe.com/xap/1.0/";
+    static const char part_name[] = "http://ns.adobe.com/xmp/extension/";
+    static const char resources_name[] = "Photoshop 3.0";
+    static const char exif[] = "MM\0*\0\0\0\10"                   /* the first directory is at 8 */
+                               "\0\0\0\0\0\16"                    /* the second at 14 */
+                               "\0\2\2\1\0\4\0\0\0\1\0\0\0\54"    /* a thumbnail at 44 */
+                               "\2\2\0\4\0\0\0\1\0\0\0\3\0\0\0\0" /* of three bytes */
+                               "abc";
+    static const char packet[] = "xmpNote:HasExtendedXMP='" GUID "'";
+    static const char first[] = GUID "\0\0\0\5\0\0\0\0"
+                                     "de";
+    static const char second[] = GUID "\0\0\0\5\0\0\0\2"
+                                      "fgh";
+    static const char resources[] = "8BIM\4\4\0\0\0\0\0\4"
+                                    "ijkl";
+    struct bytes stream = {0};
+    PUT(0xE1, exif_name, exif, 20);
+    PUT(0xE1, part_name, second, sizeof second - 1);
+    PUT(0xED, resources_name, resources, 9);
+    PUT(0xE1, xmp_name, packet, sizeof packet - 1);
+    PUT(0xE1, exif_name, exif + 20, sizeof exif - 1 - 20);
+    PUT(0xE1, part_name, first, sizeof first - 1);
+    PUT(0xED, resources_name, resources + 9, sizeof resources - 1 - 9);
+    return stream;
+}
+
+/* Metadata are joined, and with the refusal of each allocation in turn all stays as it was. */
+static void refused_joining(const struct bytes *stream, int kind, const char *wanted) {
+    struct counts counts = {0};
+    zaxbriar_memory memory = {allocate, resize, release, &counts};
+    zaxbriar_options options = {.memory = &memory};
+    size_t size = strlen(wanted), length = 1;
+    unsigned char *data = block(size);
+    CHECK(zaxbriar_joined_metadata(stream->start, stream->size, NULL, kind, NULL, 0, &length) ==
+          ZAXBRIAR_NO_ROOM);
+    CHECK(length >= size);
+    long all = 1;
+    for (long refused = 0; refused < all; refused++) {
+        counts = (struct counts){.refused = refused};
+        memset(data, 0x5A, size);
+        length = 1;
+        zaxbriar_result answer = zaxbriar_joined_metadata(stream->start, stream->size, &options,
+                                                          kind, data, size, &length);
+        CHECK(counts.live == 0);
+        CHECK(answer == (refused ? ZAXBRIAR_NO_MEMORY : ZAXBRIAR_OK));
+        CHECK(length == (refused ? 0 : size));
+        CHECK(refused ? is_all(data, size, 0x5A) : !memcmp(data, wanted, size));
+        if (!refused) all = counts.allocations + 1;
+    }
+    CHECK(all > 5);
+    free(data);
+}
+
+static void joined_metadata(void) {
+    struct bytes stream = stream_of_all();
+    refused_joining(&stream, ZAXBRIAR_THUMBNAIL, "abc");
+    refused_joining(&stream, ZAXBRIAR_EXTENDED_XMP, "defgh");
+    refused_joining(&stream, ZAXBRIAR_IPTC, "ijkl");
+    refused_joining(&stream, ZAXBRIAR_XMP, "xmpNote:HasExtendedXMP='" GUID "'");
+    /* The other options are ignored, and a function of memory has to be there. */
+    zaxbriar_memory incomplete = {allocate, NULL, release, NULL};
+    zaxbriar_options unknown = {.layout = UINT8_MAX, .max_samples = 1};
+    size_t length = 1;
+    CHECK(zaxbriar_joined_metadata(stream.start, stream.size, &unknown, ZAXBRIAR_EXIF, NULL, 0,
+                                   &length) == ZAXBRIAR_NO_ROOM &&
+          length == 47);
+    unknown.memory = &incomplete;
+    CHECK(zaxbriar_joined_metadata(stream.start, stream.size, &unknown, ZAXBRIAR_EXIF, NULL, 0,
+                                   &length) == ZAXBRIAR_BAD_ARGUMENT &&
+          length == 0);
+    free(stream.start);
+}
+
 /* Metadata of a whole image are read within the limits, at full size. */
 static void limited_metadata(void) {
     size_t length = 1, same = 1;
@@ -304,10 +420,12 @@ int main(int argc, char **argv) {
     jpeg = read_file(argv[1]);
     null_pointers();
     null_segments();
+    null_joined();
     sizes();
     unknown_options();
     reserved_bytes();
     own_memory();
+    joined_metadata();
     limited_metadata();
     limited_part();
     names();

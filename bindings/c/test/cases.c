@@ -15,6 +15,7 @@
  *     decode ROOM OPTION=NUMBER ..    into ROOM bytes, each 07 before the call
  *     decode_partial ROOM OPTION=NUMBER ..
  *     metadata KIND ROOM OPTION=NUMBER ..     into ROOM bytes, as above
+ *     joined_metadata KIND ROOM               into ROOM bytes, as above
  *     find_metadata
  *     next_segment AT                 of the bytes from this place on
  *
@@ -195,6 +196,17 @@ static void metadata(void) {
     free(memory);
 }
 
+static void joined_metadata(void) {
+    int kind = (int)number_of(strtok(NULL, " "));
+    size_t room = number_of(strtok(NULL, " ")), length = 0;
+    unsigned char *memory = memory_of(room);
+    write_result(zaxbriar_joined_metadata(stream.start, stream.size, NULL, kind, memory, room,
+                                          &length));
+    write_member("length", length);
+    write_memory(memory, room);
+    free(memory);
+}
+
 static void find_metadata(void) {
     static zaxbriar_places places;
     write_result(zaxbriar_find_metadata(stream.start, stream.size, &places));
@@ -233,6 +245,7 @@ static void answer(char *line) {
     else if (!strcmp(name, "decode")) decode_by(zaxbriar_decode);
     else if (!strcmp(name, "decode_partial")) decode_by(zaxbriar_decode_partial);
     else if (!strcmp(name, "metadata")) metadata();
+    else if (!strcmp(name, "joined_metadata")) joined_metadata();
     else if (!strcmp(name, "find_metadata")) find_metadata();
     else if (!strcmp(name, "next_segment")) next_segment();
     else fail(name);

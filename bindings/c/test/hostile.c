@@ -211,6 +211,28 @@ static void found(const unsigned char *jpeg, size_t size) {
     for (int i = 0; i < 255; i++) CHECK(places.icc[i].offset + places.icc[i].size <= size);
 }
 
+/* Metadata are joined in memory of at most six times the stream, beside a block of a small
+ * list, and written within their own. */
+static void joined(const unsigned char *jpeg, size_t size) {
+    for (int kind = ZAXBRIAR_EXIF; kind <= ZAXBRIAR_THUMBNAIL; kind++) {
+        size_t length = 1;
+        if (kind == ZAXBRIAR_ICC) continue;
+        begin(0);
+        int answer = zaxbriar_joined_metadata(jpeg, size, NULL, kind, NULL, 0, &length);
+        end();
+        CHECK(answer == ZAXBRIAR_OK || answer == ZAXBRIAR_NO_ROOM || answer == ZAXBRIAR_NO_DATA);
+        CHECK(length <= size && (length > 0) == (answer == ZAXBRIAR_NO_ROOM));
+        CHECK(peak_bytes <= 6 * size + 4096);
+        if (answer != ZAXBRIAR_NO_ROOM) continue;
+        struct fenced data = fence(length);
+        begin(0);
+        CHECK(zaxbriar_joined_metadata(jpeg, size, NULL, kind, data.start, length, &length) ==
+              ZAXBRIAR_OK);
+        end();
+        munmap(data.base, data.whole);
+    }
+}
+
 static void of_stream(const unsigned char *bytes, size_t size, int is_whole) {
     static const uint8_t layouts[] = {
         ZAXBRIAR_AS_STORED, ZAXBRIAR_RGB565, ZAXBRIAR_BGRA,  ZAXBRIAR_RGB,
@@ -225,6 +247,7 @@ static void of_stream(const unsigned char *bytes, size_t size, int is_whole) {
     mprotect(jpeg.base + PAGE, jpeg.whole - 2 * PAGE, PROT_READ);
     files++;
     found(jpeg.start, size);
+    joined(jpeg.start, size);
     begin(0);
     int answer = zaxbriar_read_info(jpeg.start, size, &options, &picture);
     end();

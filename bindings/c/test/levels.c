@@ -42,6 +42,11 @@ static uint32_t called(int of, uint32_t number, int right) {
         return called(N, 4, j == bytes && n == 3 && k == 257 && x == UINT64_MAX &&                 \
                                 d == bytes + 1 && m == 2 && l == &length);                         \
     }                                                                                              \
+    uint32_t zaxbriar_v##N##_joined_metadata(const uint8_t *j, size_t n, uint32_t k, uint8_t *d,   \
+                                             size_t m, uint64_t *l) {                              \
+        return called(N, 7, j == bytes && n == 3 && k == 257 && d == bytes + 1 && m == 2 &&        \
+                                l == &length);                                                     \
+    }                                                                                              \
     void zaxbriar_v##N##_find_metadata(const uint8_t *j, size_t n, zaxbriar_places *p) {           \
         called(N, 5, j == bytes && n == 3 && p == &places);                                        \
     }                                                                                              \
@@ -63,8 +68,9 @@ int main(void) {
               base + 4);
         zaxbriar_checked_find_metadata(bytes, 3, &places);
         CHECK(zaxbriar_checked_next_segment(bytes, 3, &segment) == base + 6);
+        CHECK(zaxbriar_checked_joined_metadata(bytes, 3, 257, bytes + 1, 2, &length) == base + 7);
     }
-    CHECK(calls == 12);
+    CHECK(calls == 14);
     printf("levels: %d calls; %d faults\n", calls, faults);
     return faults != 0;
 }

@@ -7,7 +7,7 @@
 #include "common.h"
 
 enum { STACK = 128 * 1024, FENCE = 4096, PAINT = 0x77, MOST_USED = 64 * 1024 };
-enum call { DECODE, UPRIGHT, READ_INFO, METADATA, NOTHING, CALLS };
+enum call { DECODE, UPRIGHT, READ_INFO, METADATA, JOINED, NOTHING, CALLS };
 
 static struct bytes jpeg;
 static unsigned char *pixels;
@@ -31,6 +31,10 @@ static void *make_call(void *unused) {
     case METADATA:
         answer = zaxbriar_metadata(jpeg.start, jpeg.size, ZAXBRIAR_ICC | ZAXBRIAR_WHOLE_IMAGE, NULL,
                                    0, &length);
+        break;
+    case JOINED:
+        answer = zaxbriar_joined_metadata(jpeg.start, jpeg.size, NULL, ZAXBRIAR_THUMBNAIL, NULL, 0,
+                                          &length);
         break;
     default: answer = 0;
     }
@@ -81,8 +85,8 @@ int main(int argc, char **argv) {
     for (call = 0; call < NOTHING; call++) CHECK(most[call] - most[NOTHING] <= MOST_USED);
     printf("stack: %ld files on a thread of %d bytes, of which a thread that makes no call uses "
            "%zu; with it decode %zu, "
-           "upright %zu, read_info %zu, metadata %zu; %d faults\n",
+           "upright %zu, read_info %zu, metadata %zu, joined_metadata %zu; %d faults\n",
            files, STACK, most[NOTHING], most[DECODE], most[UPRIGHT], most[READ_INFO],
-           most[METADATA], faults);
+           most[METADATA], most[JOINED], faults);
     return faults != 0;
 }

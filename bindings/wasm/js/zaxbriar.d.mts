@@ -266,6 +266,17 @@ export class Zaxbriar {
      */
     metadata(jpeg: Bytes, kind: 'exif' | 'xmp' | 'icc'): Data | null;
 
+    /**
+     * Returns metadata of the whole image that may stand in several segments, joined from them, by
+     * its markers alone and without decoding; null: none, as in bytes that are no JPEG stream. The
+     * kinds are `exif`, from the TIFF header on; `xmp`, the main packet; `extendedXmp`, what that
+     * packet names; `iptc`; and `thumbnail`, a JPEG stream as a rule, that of the Exif data.
+     */
+    joinedMetadata(
+        jpeg: Bytes,
+        kind: 'exif' | 'xmp' | 'extendedXmp' | 'iptc' | 'thumbnail',
+    ): Data | null;
+
     /** The bytes of the module's memory. It never shrinks. */
     readonly memoryBytes: number;
 

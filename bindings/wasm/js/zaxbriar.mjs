@@ -25,6 +25,7 @@ const LAYOUTS = {
 };
 const TRANSFORMS = { stream: 0, none: 1, rgb: 2, ycbcr: 3, cmyk: 4, ycck: 5 };
 const KINDS = { exif: 1, xmp: 2, icc: 3 };
+const JOINED_KINDS = { exif: 1, xmp: 2, extendedXmp: 4, iptc: 5, thumbnail: 6 };
 const PROCESSES = ['', 'sequential', 'progressive', 'lossless'];
 const FORMATS = ['', 'grey8', 'grey16', 'rgb', 'cmyk'];
 const FEATURES = [
@@ -375,16 +376,15 @@ export class Zaxbriar {
         });
     }
 
-    metadata(jpeg, kind) {
-        const number = numberOf(KINDS, kind, 'kind');
+    /* Returns the data that a call of the module copies, or null. `kind` are its words between
+     * those of the stream and those of the memory for the data. */
+    #copied(jpeg, name, ...kind) {
         return this.#with((allocate) => {
             const bytes = bytesOf(jpeg);
             const stream = [this.#put(allocate, bytes), bytes.length].map(BigInt);
             const length = allocate(8);
-            const copy = (...room) => {
-                const words = [...room, length].map(BigInt);
-                return this.#call('zaxbriar_metadata', ...stream, number, ...words);
-            };
+            const copy = (...room) =>
+                this.#call(name, ...stream, ...kind, ...[...room, length].map(BigInt));
             const found = () =>
                 Number(new DataView(this.#exports.memory.buffer).getBigUint64(length, true));
             let answer = copy(0, 0);
@@ -404,6 +404,15 @@ export class Zaxbriar {
             }
             return this.#bytes(data, found()).slice();
         });
+    }
+
+    metadata(jpeg, kind) {
+        return this.#copied(jpeg, 'zaxbriar_metadata', numberOf(KINDS, kind, 'kind'));
+    }
+
+    joinedMetadata(jpeg, kind) {
+        const number = numberOf(JOINED_KINDS, kind, 'kind');
+        return this.#copied(jpeg, 'zaxbriar_joined_metadata', 0n, number);
     }
 
     get version() {

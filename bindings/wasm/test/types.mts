@@ -123,6 +123,10 @@ const file = new Blob(profile ? [profile] : []);
 const length: number = other.metadata(streams[0], 'xmp').length;
 // @ts-expect-error
 other.metadata(streams[0], 'iptc');
+const thumbnail = other.joinedMetadata(streams[0], 'thumbnail');
+if (thumbnail) other.decode(thumbnail);
+// @ts-expect-error
+other.joinedMetadata(streams[0], 'icc');
 
 // Faults.
 let feature: Feature | undefined;

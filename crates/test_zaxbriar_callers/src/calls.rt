@@ -5,6 +5,7 @@ ghost use Rattle.jpeg_meaning.specs.Stream.{header_at};
 ghost use Rattle.zaxbriar_calls.specs.Faults.{IsOfRoomNumber};
 ghost use Rattle.zaxbriar_calls.specs.Given.{Gives, TellsFault, rows_by, without_fault};
 ghost use Rattle.zaxbriar_calls.specs.Given.{without_rows};
+ghost use Rattle.zaxbriar_calls.specs.Joined.{is_joined_kind, joined_of};
 ghost use Rattle.zaxbriar_calls.specs.Meanings.{CountsRead, Describes, IsWithin, uncounted};
 ghost use Rattle.zaxbriar_calls.specs.Metadata.{IsCopied, IsLonger, said_of};
 ghost use Rattle.zaxbriar_calls.specs.Passes.{exceeds};
@@ -100,6 +101,20 @@ pub fn copied(
     ensures unsaid { 0 < result → result < 4 → said_of max_passes kind jpeg.now ≡ None }
 {
     calls::metadata(alloc, jpeg, kind, max_passes, buffer, count)
+}
+
+/// Calls `joined_metadata`, and says what is copied after OK, how long it is after NO_ROOM, that
+/// there is none after NO_DATA, that nothing is counted otherwise, and which kinds don't exist.
+pub fn joined(alloc: Global, jpeg: &[u8], kind: u32, buffer: &mut [u8], count: &mut u64) -> u32
+    ensures copies { result ≡ 0
+        → IsCopied (joined_of kind jpeg.now) buffer.old buffer.new count.new }
+    ensures none { result ≡ 7 → joined_of kind jpeg.now ≡ None }
+    ensures room { result ≡ 5
+        → IsLonger (joined_of kind jpeg.now) (length buffer.old) count.new }
+    ensures uncounted { (result ≡ 0 → ⊥) → (result ≡ 5 → ⊥) → count.new ≡ 0 }
+    ensures known { is_joined_kind kind ≡ false → result ≡ 6 }
+{
+    calls::joined_metadata(alloc, jpeg, kind, buffer, count)
 }
 
 /// Calls `next_segment`, and says what a segment needs that is cut.

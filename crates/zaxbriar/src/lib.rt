@@ -7,6 +7,7 @@
 #![tactic(auto)]
 
 ghost use Rattle.std.specs.Prelude.{◌≡◌};
+ghost use Rattle.zaxbriar_calls.specs.CopiesJoined.{CopiesJoined};
 ghost use Rattle.zaxbriar_calls.specs.CopiesMetadata.{CopiesMetadata};
 ghost use Rattle.zaxbriar_calls.specs.Fills.{Fills};
 ghost use Rattle.zaxbriar_calls.specs.FindsSegment.{FindsSegment};
@@ -78,6 +79,22 @@ pub extern "C" fn zaxbriar_checked_metadata(
     ensures { CopiesMetadata jpeg.now kind max_passes buffer.old buffer.new count.new result }
 {
     calls::metadata(alloc, jpeg, kind, max_passes, buffer, count)
+}
+
+/// Copies metadata that may stand in several segments, joined from those of a whole image, and
+/// writes how many bytes they have: 1 Exif data, 2 XMP data, 4 extended XMP data, 5 IPTC data, 6
+/// the thumbnail in the Exif data.
+#[unsafe(no_mangle)]
+pub extern "C" fn zaxbriar_checked_joined_metadata(
+    alloc: Global,
+    jpeg: &[u8],
+    kind: u32,
+    buffer: &mut [u8],
+    count: &mut u64,
+) -> u32
+    ensures { CopiesJoined jpeg.now kind buffer.old buffer.new count.new result }
+{
+    calls::joined_metadata(alloc, jpeg, kind, buffer, count)
 }
 
 /// Finds the first segment in some bytes, whatever stands before its marker.

@@ -29,12 +29,12 @@ unfolding found_from segments_of
 places-none stream zero places rest h = refl
 places-none stream (suc n) places rest h = grind (arith, common_steps)
 
-segments-next : (n : ℕ) (rest payload others : List ℕ) (m : Marker) → next_segment rest ≡ Ok ((m, payload), others)
+pub segments-next : (n : ℕ) (rest payload others : List ℕ) (m : Marker) → next_segment rest ≡ Ok ((m, payload), others)
     → ends_image m ≡ false → segments_of (suc n) rest ≡ ((m, payload), others) ∷ segments_of n others
 unfolding segments_of
 segments-next n rest payload others m h e = grind (arith, common_steps)
 
-segments-last : (n : ℕ) (rest payload others : List ℕ) (m : Marker) → next_segment rest ≡ Ok ((m, payload), others)
+pub segments-last : (n : ℕ) (rest payload others : List ℕ) (m : Marker) → next_segment rest ≡ Ok ((m, payload), others)
     → ends_image m ≡ true → segments_of (suc n) rest ≡ ((m, payload), others) ∷ []
 unfolding segments_of
 segments-last n rest payload others m h e = grind (arith, common_steps)

@@ -9,6 +9,7 @@ mod FoundSegments
 mod Headers
 mod Images
 mod Informed
+mod Joining
 mod KeptBytes
 mod Laid
 mod Levels

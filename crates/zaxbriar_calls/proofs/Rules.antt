@@ -1,6 +1,8 @@
 -- Lemmas that the proofs of functions use, and definitions that they unfold, by what they are about.
 use Rattle.std.proofs.Common.{length-append}
 use Rattle.std.specs.Prelude.{⊤}
+use Rattle.jpeg_bits.specs.Marker.{marker_of, next_marker}
+use Rattle.jpeg_bits.specs.Reading.{length_at, next_u16, times}
 use Rattle.jpeg_meaning.proofs.OnLiterals.{streams_on_literals}
 use Rattle.jpeg_meaning.specs.ColourChoice.{by_identifiers, transform_of}
 use Rattle.zaxbriar_calls.proofs.Densities.{density-none, density-short, density-some, first-cut, first-ended, first-jfif}
@@ -9,11 +11,16 @@ use Rattle.zaxbriar_calls.proofs.Exceeded.{too-many-refused, unlimited}
 use Rattle.zaxbriar_calls.proofs.FoundSegments.{marker-filled, marker-here, marker-later, no-marker, payload-cut, payload-is}
 use Rattle.zaxbriar_calls.proofs.FoundSegments.{few-refused, marked-long, payload-short, payload-unsized, sized}
 use Rattle.zaxbriar_calls.proofs.FoundSegments.{some-left, unsized}
+use Rattle.zaxbriar_calls.proofs.Joining.{brought-all, brought-ended, brought-later, brought-none, brought-past}
+use Rattle.zaxbriar_calls.proofs.Joining.{data-copied, none-copied}
 use Rattle.zaxbriar_calls.proofs.KeptBytes.{marker-long, segment-cut, segment-found, segment-none}
 use Rattle.zaxbriar_calls.proofs.Means.{given-fails, given-means}
 use Rattle.zaxbriar_calls.specs.Layouts.{laid_out, pixels_of}
 use Rattle.zaxbriar_calls.specs.Passes.{exceeds}
+use Rattle.zaxbriar_calls.specs.Places.{segments_of}
+use Rattle.zaxbriar_calls.specs.StreamSegments.{next_segment, payload_at, payload_by}
 use Rattle.zaxbriar_calls.specs.Upright.{turned_byte}
+use Rattle.zaxbriar_metadata.proofs.OnLiterals.{collections}
 use Rattle.zaxbriar_calls.proofs.FoundPlaces.{other-said, places-are, places-ended, places-later, places-none, places-past}
 
 -- how many bytes were read
@@ -43,6 +50,12 @@ pub ruleset others = (other-said)
 -- the places of metadata
 pub ruleset places = (places-are, places-ended, places-later, places-none, places-past)
 
+-- what the applications of a stream bring
+pub ruleset collected = (brought-all, brought-ended, brought-later, brought-none, brought-past)
+
+-- data that were copied
+pub ruleset copied = (data-copied, none-copied)
+
 -- the first JFIF segment
 pub ruleset segments = (first-none, first-ended, first-cut, first-jfif, first-later, first-past)
 
@@ -69,3 +82,9 @@ streams = tt
 unfoldable pub turned_lines : ⊤
 unfolding laid_out pixels_of turned_byte
 turned_lines = tt
+
+-- what the applications of a stream bring, on literals
+unfoldable pub joined_streams : ⊤
+unfolding collections segments_of next_segment next_marker marker_of payload_by payload_at length_at next_u16
+    times
+joined_streams = tt

@@ -1,3 +1,4 @@
+pub mod CopiesJoined
 pub mod CopiesMetadata
 pub mod Density
 pub mod Faults
@@ -5,6 +6,7 @@ pub mod Features
 pub mod Fills
 pub mod FindsSegment
 pub mod Given
+pub mod Joined
 pub mod Layouts
 pub mod Limits
 pub mod Lines

@@ -1,6 +1,6 @@
 -- The metadata that a caller is given.
 use Rattle.std.specs.Prelude.{◌≡◌, ◌⊎◌, ◌==◌, ◌-◌, ℕ, suc, Bool, true, false, List, ◌++◌, drop}
-use Rattle.std.specs.Prelude.{length}
+use Rattle.std.specs.Prelude.{length, ◌≤◌}
 use Rattle.std.specs.Prelude.{Option, Some, None, Result, Ok, Err, ◌<◌, nat_le, if◌then◌else◌}
 use Rattle.jpeg_bits.specs.Reading.{Fault}
 use Rattle.jpeg_meaning.specs.Found.{Metadata}
@@ -73,3 +73,16 @@ pub record IsLonger (found : Option (List ℕ)) (room count : ℕ) : Type 0 wher
   pub are : found ≡ Some bytes
   pub longer : room < length bytes
   pub count_is : count ≡ length bytes
+
+-- Data were copied to a buffer, after OK, and their number of bytes to a count, also after NO_ROOM;
+-- or there are none, after NO_DATA.
+pub record Copies (found : Option (List ℕ)) (old new : List ℕ) (before count code : ℕ)
+    : Type 0 where
+  pub copied : code ≡ 0 → IsCopied found old new count
+  pub none : code ≡ 7 → found ≡ None
+  pub room : code ≡ 5 → IsLonger found (length old) count
+  pub own : code < 4 → code ≡ 0
+  pub known : code ≡ 6 → ⊥
+  pub most : code ≤ 7
+  pub uncounted : (code ≡ 0 → ⊥) → (code ≡ 5 → ⊥) → count ≡ before
+  pub kept : (code ≡ 0 → ⊥) → new ≡ old

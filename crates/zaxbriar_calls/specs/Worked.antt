@@ -1,7 +1,10 @@
--- Options and lines that the laws on worked streams and pictures name.
-use Rattle.std.specs.Prelude.{ℕ, replicate}
+-- Options, lines and streams that the laws on worked streams and pictures name.
+use Rattle.std.specs.Prelude.{ℕ, List, [], ◌∷◌, ◌++◌, Some, replicate, true}
 use Rattle.jpeg_segments.specs.declared.frame.CodingProcess.TheVariants.{DctSequential}
 use Rattle.jpeg_meaning.specs.declared.images.PixelFormat.{PixelFormat}
+use Rattle.zaxbriar_metadata.specs.Collected.{Collection, exif_name}
+use Rattle.zaxbriar_metadata.specs.Worked.{extension_part, main_packet, two_resources}
+use Rattle.zaxbriar_metadata.specs.Worked.{with_thumbnail}
 use Rattle.zaxbriar_calls.specs.Lines.{lines_by}
 use Rattle.zaxbriar_calls.specs.declared.layouts.Conversion.TheVariants.{Stored}
 use Rattle.zaxbriar_calls.specs.declared.lines.Lines.{Lines}
@@ -36,3 +39,20 @@ abbrev pub three_by_two : Options → PixelFormat → ℕ → ℕ → Lines
 three_by_two o format precision orientation = lines_by o
     (record { width = 3; height = 2; pixel_format = format; coding_process = DctSequential })
     precision orientation Stored
+
+-- Exif data in two segments of an image, with another application's between them, and in a third
+-- one after its end
+abbrev pub exif_twice : List ℕ
+exif_twice =
+    255 ∷ 216 ∷ 255 ∷ 225 ∷ 0 ∷ 12 ∷ (exif_name ++ (73 ∷ 73 ∷ 42 ∷ 0 ∷ 255 ∷ 236 ∷ 0 ∷ 2
+    ∷ 255 ∷ 225 ∷ 0 ∷ 9 ∷ (exif_name ++ (7 ∷ 255 ∷ 217
+    ∷ 255 ∷ 225 ∷ 0 ∷ 9 ∷ (exif_name ++ 8 ∷ [])))))
+
+-- data of each kind
+abbrev pub all_data : Collection
+all_data = record {
+  exif = Some (with_thumbnail true);
+  xmp = Some main_packet;
+  extensions = extension_part 65 1 0 ∷ [];
+  resources = two_resources ++ (28 ∷ 2 ∷ []);
+}

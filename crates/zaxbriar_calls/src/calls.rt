@@ -5,6 +5,7 @@
 //! is one of `bindings/c/zaxbriar.h`: 0 OK, 1 MALFORMED, 2 UNSUPPORTED, 3 TRUNCATED, 4 NO_MEMORY,
 //! 5 NO_ROOM, 6 BAD_ARGUMENT, 7 NO_DATA, 8 TOO_LARGE, 9 PARTIAL, 10 TOO_MANY_PASSES.
 ghost use Rattle.std.specs.Prelude.{◌≡◌};
+ghost use Rattle.zaxbriar_calls.specs.CopiesJoined.{CopiesJoined};
 ghost use Rattle.zaxbriar_calls.specs.CopiesMetadata.{CopiesMetadata};
 ghost use Rattle.zaxbriar_calls.specs.Fills.{Fills};
 ghost use Rattle.zaxbriar_calls.specs.FindsSegment.{FindsSegment};
@@ -21,6 +22,7 @@ use crate::decode::decode_into;
 use crate::description::describe_stream;
 use crate::extents::Extent;
 use crate::features::outcome_feature;
+use crate::joined::{is_joined_kind, read_joined};
 use crate::metadata::{is_no_kind, read_metadata};
 use crate::options::Options;
 use crate::picture::{NO_PICTURE, Picture};
@@ -117,6 +119,29 @@ pub fn metadata(
         return BAD_ARGUMENT;
     }
     let Ok(code) = read_metadata(alloc, jpeg, kind, max_passes, buffer, count) else {
+        return NO_MEMORY;
+    };
+    code
+}
+
+/// Copies metadata that may stand in several segments, joined from those of a whole image, also of
+/// one that is cut or damaged, and writes how many bytes they have: 1 Exif data, 2 XMP data, 4
+/// extended XMP data, 5 IPTC data, 6 the thumbnail in the Exif data. It looks at the segments
+/// alone, up to the end of the image or as far as they are whole, and decodes nothing.
+pub fn joined_metadata(
+    alloc: Global,
+    jpeg: &[u8],
+    kind: u32,
+    buffer: &mut [u8],
+    count: &mut u64,
+) -> u32
+    ensures { CopiesJoined jpeg.now kind buffer.old buffer.new count.new result }
+{
+    *count = 0;
+    if !is_joined_kind(kind) {
+        return BAD_ARGUMENT;
+    }
+    let Ok(code) = read_joined(alloc, jpeg, kind, buffer, count) else {
         return NO_MEMORY;
     };
     code

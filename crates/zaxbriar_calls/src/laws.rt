@@ -20,6 +20,7 @@ ghost use Rattle.zaxbriar_calls.specs.Given.{faultless, given_by};
 ghost use Rattle.zaxbriar_calls.specs.Features.{feature_in, numbered, transform_code};
 ghost use Rattle.zaxbriar_calls.specs.Layouts.{colour, conversion_to, laid_out, level, light, luma};
 ghost use Rattle.zaxbriar_calls.specs.Layouts.{layout_numbered, pixel_of, size_of_lines};
+ghost use Rattle.zaxbriar_calls.specs.Joined.{datum_of, is_joined_kind, joined_of};
 ghost use Rattle.zaxbriar_calls.specs.Limits.{are_known, is_denominator, is_over};
 ghost use Rattle.zaxbriar_calls.specs.Lines.{format_number, process_number};
 ghost use Rattle.zaxbriar_calls.specs.Meanings.{meaning_by, number_of_transform, scale_by};
@@ -29,13 +30,15 @@ ghost use Rattle.zaxbriar_calls.specs.Passes.{exceeds, fault_number};
 ghost use Rattle.zaxbriar_calls.specs.Places.{no_place, no_places, place_before, with_part};
 ghost use Rattle.zaxbriar_calls.specs.Sampling.{sampling_of};
 ghost use Rattle.zaxbriar_calls.specs.Upright.{arranged_in};
-ghost use Rattle.zaxbriar_calls.specs.Worked.{passes_alone, three_by_two, upright_alone};
+ghost use Rattle.zaxbriar_calls.specs.Worked.{all_data, exif_twice, passes_alone, three_by_two};
+ghost use Rattle.zaxbriar_calls.specs.Worked.{upright_alone};
 ghost use Rattle.zaxbriar_calls.specs.declared.extents.Extent.{Extent};
 ghost use Rattle.zaxbriar_calls.specs.declared.extents.Extent.TheVariants.{Whole};
 ghost use Rattle.zaxbriar_calls.specs.declared.options.Options.{Options};
 ghost use Rattle.zaxbriar_calls.specs.declared.layouts.Conversion.TheVariants.{InColour};
 ghost use Rattle.zaxbriar_calls.specs.declared.layouts.Layout.TheVariants as layouts;
 ghost use Rattle.jpeg_segments.specs.declared.scale.Scale.TheVariants as scales;
+ghost use Rattle.zaxbriar_metadata.specs.Worked.{main_packet, with_thumbnail};
 
 /// The numbers of the layouts, and the bytes of a pixel of red 10, green 20 and blue 30 in each. In
 /// RGB565 that is 1 * 2048 + 5 * 32 + 3, and no part reaches the bits of another.
@@ -251,6 +254,20 @@ pub fn known_places()
         ≡ record no_places { icc_parts = 256 } }
     ensures most { with_part (place_before 9 4) (record no_places { icc_parts = 4294967295 })
         ≡ record no_places { icc_parts = 4294967295 } }
+{}
+
+/// Exif data are joined from the segments of an image, and those after its end don't count. Each
+/// kind of data has its number.
+#[tactic(auto, unfolding(crate::proofs::Rules::joined_streams))]
+pub fn known_joined_metadata()
+    ensures exif { joined_of 1 exif_twice ≡ Some (73 ∷ 73 ∷ 42 ∷ 0 ∷ 7 ∷ []) }
+    ensures none { map (λ kind. joined_of kind exif_twice) (2 ∷ 4 ∷ 5 ∷ 6 ∷ [])
+        ≡ replicate 4 None }
+    ensures kinds { map is_joined_kind (0 ∷ 1 ∷ 2 ∷ 3 ∷ 4 ∷ 5 ∷ 6 ∷ 7 ∷ [])
+        ≡ false ∷ true ∷ true ∷ false ∷ true ∷ true ∷ true ∷ false ∷ [] }
+    ensures numbers { map (λ kind. datum_of kind all_data) (1 ∷ 2 ∷ 4 ∷ 5 ∷ 6 ∷ [])
+        ≡ Some (with_thumbnail true) ∷ Some main_packet ∷ Some (0 ∷ []) ∷ Some (28 ∷ 2 ∷ [])
+        ∷ Some (255 ∷ 216 ∷ []) ∷ [] }
 {}
 
 /// The whole of what a stream gives is what it means by T.81, and has no fault; and where it means

@@ -6,6 +6,7 @@
 
 mod answers;
 pub mod calls;
+mod copying;
 mod counts;
 mod decode;
 mod decoders;
@@ -14,6 +15,7 @@ mod description;
 pub mod extents;
 mod features;
 mod header;
+mod joined;
 pub mod laws;
 mod layouts;
 mod limits;

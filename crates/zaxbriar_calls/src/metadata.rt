@@ -1,7 +1,6 @@
 //! The metadata of a header or of a whole image.
 ghost use Rattle.std.specs.Prelude.{◌≡◌, ◌<◌, ◌≤◌, suc, length, None, true, false};
 ghost use Rattle.std.specs.Prelude.{IfErr, IfOk, IsOk, OnErr, OnOk};
-ghost use Rattle.std.specs.Option.{option_copied};
 ghost use Rattle.jpeg_bits.specs.Reading.{IsGivenUp, Names};
 ghost use Rattle.jpeg_meaning.specs.Output.{default_settings};
 ghost use Rattle.jpeg_meaning.specs.Reported.{told_in_turns};
@@ -13,7 +12,8 @@ ghost use Rattle.zaxbriar_calls.specs.Limits.{blocks_of_passes};
 ghost use Rattle.zaxbriar_calls.specs.Metadata.{IsCopied, IsLonger, IsNoKind, end_at, is_whole};
 ghost use Rattle.zaxbriar_calls.specs.Metadata.{kind_alone, metadata_of, said_of, told_at};
 
-use crate::answers::{BAD_ARGUMENT, NO_DATA, NO_ROOM, OK, TRUNCATED, code_of, refusal_of};
+use crate::answers::{BAD_ARGUMENT, NO_DATA, TRUNCATED, code_of, refusal_of};
+use crate::copying::copy_data;
 use crate::decoders::decoder_of;
 use crate::options::blocks_of_passes;
 use jpeg_decoder::Decoder;
@@ -49,33 +49,6 @@ pub fn is_no_kind(kind: u32) -> bool
 {
     let alone = kind_alone(kind);
     alone == 0 || alone > 3
-}
-
-/// Copies data if there are any and they fit, and writes how many bytes they have.
-fn copy_data(found: Option<&[u8]>, buffer: &mut [u8], count: &mut u64) -> u32
-    ensures copied { result ≡ 0
-        → IsCopied (option_copied found.entry) buffer.old buffer.new count.new }
-    ensures none { result ≡ 7 → option_copied found.entry ≡ None }
-    ensures own { result < 4 → result ≡ 0 }
-    ensures most { result ≤ 7 }
-    ensures known { result ≡ 6 → ⊥ }
-    ensures room { result ≡ 5
-        → IsLonger (option_copied found.entry) (length buffer.old) count.new }
-    ensures uncounted { (result ≡ 0 → ⊥) → (result ≡ 5 → ⊥) → count.new ≡ count.old }
-    ensures kept { (result ≡ 0 → ⊥) → buffer.new ≡ buffer.old }
-{
-    match found {
-        Some(bytes) => {
-            *count = bytes.len() as u64;
-            if bytes.len() <= buffer.len() {
-                buffer[..bytes.len()].copy_from_slice(bytes);
-                OK
-            } else {
-                NO_ROOM
-            }
-        }
-        None => NO_DATA,
-    }
 }
 
 /// Copies an ICC profile if there is one and it fits.

@@ -1,10 +1,10 @@
 //! Where the metadata of a whole image are in its bytes.
 ghost use Rattle.std.specs.Prelude.{◌≡◌, ◌≤◌, length};
-ghost use Rattle.zaxbriar_calls.specs.Places.{ends_image, place_before, places_of, with_part};
-ghost use Rattle.zaxbriar_calls.specs.Places.{with_said, with_segment};
+ghost use Rattle.zaxbriar_calls.specs.Places.{place_before, places_of, with_part, with_said};
+ghost use Rattle.zaxbriar_calls.specs.Places.{with_segment};
 ghost use Rattle.jpeg_segments.specs.Application.{application_by};
 
-use crate::segments::next_segment;
+use crate::segments::{ends_image, next_segment};
 use jpeg_bits::marker::Marker;
 
 /// A range of bytes of a stream: `zaxbriar_place` of the header. All zeros if there is none.
@@ -104,13 +104,6 @@ fn put_application(places: &mut Places, number: u8, payload: &[u8], end: usize)
         2 => put_application_2(places, payload, end),
         _ => {}
     }
-}
-
-/// Returns whether an image ends at a marker.
-fn ends_image(marker: Marker) -> bool
-    ensures { result ≡ ends_image marker }
-{
-    matches!(marker, Marker::EOI)
 }
 
 /// Records the range of the metadata in a segment, which ends after so many bytes.

@@ -3,6 +3,7 @@ ghost use Rattle.std.specs.Prelude.{◌≡◌, ◌≤◌, ◌<◌, ◌++◌, ℕ
 ghost use Rattle.std.specs.Prelude.{◌-◌, ◌&&◌, ◌==◌, nat_lt, length, slice_index};
 ghost use Rattle.jpeg_bits.specs.Marker.{next_marker};
 ghost use Rattle.jpeg_bits.specs.Reading.{Malformed, End};
+ghost use Rattle.zaxbriar_calls.specs.Places.{ends_image};
 ghost use Rattle.zaxbriar_calls.specs.StreamSegments.{NeedsMore, next_segment, payload_at};
 ghost use Rattle.zaxbriar_calls.specs.StreamSegments.{payload_by};
 
@@ -101,6 +102,13 @@ pub fn next_segment(bytes: &[u8]) -> Option<(Marker, &[u8], &[u8])>
     let (marker, after) = next_marker(bytes)?;
     let (payload, rest) = payload_after(marker, after)?;
     Some((marker, payload, rest))
+}
+
+/// Returns whether an image ends at a marker.
+pub fn ends_image(marker: Marker) -> bool
+    ensures { result ≡ ends_image marker }
+{
+    matches!(marker, Marker::EOI)
 }
 
 /// Returns the least number of further bytes that a payload needs, given the bytes after its

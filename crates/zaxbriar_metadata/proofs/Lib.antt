@@ -1,5 +1,6 @@
+mod Collecting
 mod Directories
 mod Extensions
-mod OnLiterals
+pub mod OnLiterals
 mod Resources
 mod Rules

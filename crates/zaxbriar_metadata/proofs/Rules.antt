@@ -1,4 +1,5 @@
 -- Lemmas that the proofs of functions use, by what they are about.
+use Rattle.zaxbriar_metadata.proofs.Collecting.{exif-by-name, other-kept, parts-by-name, resources-by-name, xmp-by-name}
 use Rattle.zaxbriar_metadata.proofs.Directories.{cut-second, exif-more, few-bytes, no-first, no-link, part-cut}
 use Rattle.zaxbriar_metadata.proofs.Directories.{part-empty, part-whole, second-found}
 use Rattle.zaxbriar_metadata.proofs.Extensions.{joined-all, joined-missing, joined-more, name-here, name-later, no-name}
@@ -23,3 +24,7 @@ pub ruleset names = (name-here, name-later, no-name)
 pub ruleset values = (no-value, value-here, value-later)
 
 pub ruleset joins = (joined-more, joined-missing, joined-all, part-long)
+
+pub ruleset others = (other-kept)
+
+pub ruleset kinds = (exif-by-name, xmp-by-name, parts-by-name, resources-by-name)

@@ -1,3 +1,5 @@
+pub mod Collected
+pub mod CollectedView
 pub mod Exif
 pub mod Photoshop
 pub mod Worked

@@ -132,13 +132,23 @@ class Cases(unittest.TestCase):
         except zaxbriar.Error as error:
             self.assertIs(type(error), ANSWERS[name])
             return True
+        self.check_data(found, name, numbers, rest)
+        return True
+
+    def check_data(self, found, name, numbers, rest):
         if name == "NO_ROOM":  # which Python's call always has
             self.assertEqual(len(found), numbers["length"])
-            return True
+            return
         self.assertEqual(name, "NO_DATA" if found is None else "OK")
         if found is not None:
             self.assertEqual(len(found), numbers.get("length", 0))
             self.assertTrue(rest.partition("memory ")[2].startswith(found.hex().upper()))
+
+    def joined_metadata(self, stream, words, answer):
+        names, kind = library.JOINED_KINDS, int(words[0])
+        if kind >= len(names) or names[kind] is None:
+            return False
+        self.check_data(zaxbriar.joined_metadata(stream, names[kind]), *members_of(answer))
         return True
 
     def find_metadata(self, stream, words, answer):

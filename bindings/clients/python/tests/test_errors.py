@@ -154,6 +154,9 @@ class Options(unittest.TestCase):
         for kind in ("iptc", None, 1):
             with self.assertRaisesRegex(zaxbriar.BadArgumentError, "kind is one of exif, xmp, icc"):
                 zaxbriar.metadata(STREAM, kind)
+        for kind in ("icc", None, 4):
+            with self.assertRaisesRegex(zaxbriar.BadArgumentError, "exif, xmp, extended_xmp, iptc"):
+                zaxbriar.joined_metadata(STREAM, kind)
         for start in (-1, len(STREAM) + 1):
             with self.assertRaisesRegex(zaxbriar.BadArgumentError, "start"):
                 zaxbriar.next_segment(STREAM, start)
@@ -215,6 +218,9 @@ class Metadata(unittest.TestCase):
         for kind, data in zip(("exif", "xmp", "icc"), wanted):
             self.assertTrue(data)
             self.assertEqual(zaxbriar.metadata(stream, kind, whole_image=True), data)
+            if kind != "icc":
+                self.assertEqual(zaxbriar.joined_metadata(bytearray(stream), kind), data)
+        self.assertIsNone(zaxbriar.joined_metadata(b"", "iptc"))
         self.assertIsNone(zaxbriar.metadata(file("1x1.jpg"), "xmp"))
         self.assertEqual(zaxbriar.metadata(file("empty-exif.jpg"), "exif"), b"")
         self.assertIsInstance(raised_by(zaxbriar.metadata, b"", "exif"), zaxbriar.TruncatedError)

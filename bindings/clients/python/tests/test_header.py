@@ -59,6 +59,9 @@ class Header(unittest.TestCase):
         for number, name in self.numbers("result").items():
             self.assertEqual(getattr(library, name.upper()), number)
         kinds = dict(enumerate(library.KINDS[1:], 1))
+        for number, name in enumerate(library.JOINED_KINDS):
+            if name is not None:
+                self.assertEqual(kinds.setdefault(number, name), name)
         self.assertEqual(self.numbers("kind"), {**kinds, library.WHOLE_IMAGE: "whole_image"})
 
 

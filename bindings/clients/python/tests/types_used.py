@@ -17,13 +17,15 @@ def sizes(data: bytes, mapped: mmap.mmap, room: bytearray) -> tuple[int, Optiona
     if isinstance(part.fault, zaxbriar.UnsupportedError):
         feature: Optional[str] = part.fault.feature
     exif: Optional[bytes] = zaxbriar.metadata(data, "exif", whole_image=True, max_bytes=1 << 20)
+    thumbnail: Optional[bytes] = zaxbriar.joined_metadata(data, "thumbnail")
     place: Optional[slice] = zaxbriar.find_metadata(data).exif
     info: zaxbriar.Info = zaxbriar.read_info(data)
     options: zaxbriar.Options = {"layout": "bgra", "max_samples": 10, "bottom_up": True}
     options["upright"] = True
     zaxbriar.decode(data, **options)
     end: int = zaxbriar.next_segment(data).end
-    return len(flat) + rows + info.width + len(exif or b"") + end, info.process
+    found = len(exif or b"") + len(thumbnail or b"")
+    return len(flat) + rows + info.width + found + end, info.process
 
 
 def misuses(data: bytes) -> None:
@@ -32,5 +34,7 @@ def misuses(data: bytes) -> None:
     zaxbriar.decode(data, scale="2")  # type: ignore[arg-type]
     zaxbriar.decode(data, max_pases=3)  # type: ignore[call-arg]
     zaxbriar.metadata(data, "iptc")  # type: ignore[arg-type]
+    zaxbriar.joined_metadata(data, "icc")  # type: ignore[arg-type]
+    zaxbriar.joined_metadata(data, "exif", max_bytes=9)  # type: ignore[call-arg]
     zaxbriar.metadata(data, "exif", layout="rgb")  # type: ignore[call-arg]
     zaxbriar.read_info(data).width = 3  # type: ignore[misc]

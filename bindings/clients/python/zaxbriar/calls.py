@@ -148,6 +148,20 @@ def decode_partial(
     return Partial(picture, told.whole_rows, fault)
 
 
+def _copied(call: Any, data: Buffer, options: library.Options, kind: int) -> bytes | None:
+    """The data of a kind that a call of the library copies, which are no longer than the stream."""
+    found = c_size_t()
+    with stream_of(data) as stream:
+        memory = _new_memory(stream[1])
+        with library.held(memory) as address:
+            answer = call(*stream, byref(options), kind, address, stream[1], byref(found))
+    if answer == library.NO_DATA:
+        return None
+    if answer != library.OK:
+        raise error_of(answer)
+    return bytes(memory[: found.value])
+
+
 def metadata(
     data: Buffer,
     kind: Literal["exif", "xmp", "icc"],
@@ -162,20 +176,24 @@ def metadata(
     the scans, within the limits, which are those of the class Limits, and takes as long and as much
     memory as decoding at full size; find_metadata doesn't.
     """
-    options, found = options_of(limits, LIMITS), c_size_t()
+    options = options_of(limits, LIMITS)
     number = number_of("kind", kind, library.KINDS)
     number |= library.WHOLE_IMAGE if whole_image else 0
-    with stream_of(data) as stream:
-        memory = _new_memory(stream[1])
-        with library.held(memory) as address:
-            answer = library.metadata_within(
-                *stream, byref(options), number, address, stream[1], byref(found)
-            )
-    if answer == library.NO_DATA:
-        return None
-    if answer != library.OK:
-        raise error_of(answer)
-    return bytes(memory[: found.value])
+    return _copied(library.metadata_within, data, options, number)
+
+
+def joined_metadata(
+    data: Buffer, kind: Literal["exif", "xmp", "extended_xmp", "iptc", "thumbnail"]
+) -> bytes | None:
+    """Returns metadata of the whole image that may stand in several segments, joined from them;
+    None where there are none, as in bytes that are no JPEG stream.
+
+    The kinds are Exif data from the TIFF header on, the last XMP data, the extended XMP data that
+    these name, IPTC data, and the thumbnail in the Exif data, a JPEG stream as a rule. Nothing is
+    decoded, so that in a damaged image there may be more than metadata.
+    """
+    number = number_of("kind", kind, library.JOINED_KINDS)
+    return _copied(library.joined_metadata, data, library.Options(), number)
 
 
 def _slice_of(place: library.Place) -> slice | None:

@@ -60,6 +60,7 @@ FEATURES = (
     "transform",
 )
 KINDS = (None, "exif", "xmp", "icc")
+JOINED_KINDS = (None, "exif", "xmp", None, "extended_xmp", "iptc", "thumbnail")
 
 
 class Options(Structure):
@@ -178,6 +179,7 @@ read_info = _call("read_info", *_BYTES, _OPTIONS, _DESCRIPTION)
 decode = _call("decode", *_BYTES, _OPTIONS, *_BYTES, _DESCRIPTION)
 decode_partial = _call("decode_partial", *_BYTES, _OPTIONS, *_BYTES, _DESCRIPTION)
 metadata_within = _call("metadata_within", *_BYTES, _OPTIONS, c_int, *_BYTES, POINTER(c_size_t))
+joined_metadata = _call("joined_metadata", *_BYTES, _OPTIONS, c_int, *_BYTES, POINTER(c_size_t))
 find_metadata = _call("find_metadata", *_BYTES, POINTER(Places))
 next_segment = _call("next_segment", *_BYTES, POINTER(Segment))
 answer_name = _call("answer_name", c_int, result=c_char_p)

@@ -2,7 +2,7 @@ use crate::color::{transform_number, ColorTransform};
 use crate::error::{Error, Result, UnsupportedFeature};
 use crate::info::{size_of, Density, ImageInfo, Scale};
 use crate::layout::{Layout, AS_STORED};
-use crate::library::{self, Answer, Metadata, Number, Options, Part, Picture, Refusal};
+use crate::library::{self, Answer, Joined, Metadata, Number, Options, Part, Picture, Refusal};
 use crate::stream::{end_of_bytes, Failure, Stream};
 use std::io::{self, Read};
 use std::ops::Range;
@@ -57,6 +57,8 @@ pub struct Decoder<R> {
     stage: Stage,
     picture: Option<Picture>,
     metadata: Metadata,
+    /// How many bytes of the stream the metadata are of.
+    metadata_end: usize,
     color_transform: Option<ColorTransform>,
     /// The scale, the order of rows, whether the picture is turned, and the limit of passes; the
     /// rest is as the library has it.
@@ -77,6 +79,7 @@ impl<R: Read> Decoder<R> {
             stage: Stage::Fresh,
             picture: None,
             metadata: Metadata::default(),
+            metadata_end: 0,
             color_transform: None,
             options: Options::default(),
             max_samples: u64::MAX,
@@ -455,6 +458,51 @@ impl<R: Read> Decoder<R> {
     pub fn density(&self) -> Option<Density> {
         self.picture.as_ref().and_then(Density::of)
     }
+
+    /// Returns a copy of the Exif data that were read, joined from the last segment that begins
+    /// with a TIFF header and those after it that continue it.
+    ///
+    /// [`exif_data`](Decoder::exif_data) returns those of the last segment alone. Like the next
+    /// three calls it returns what was read before a failure, too, and none where memory is refused.
+    pub fn joined_exif_data(&self) -> Option<Vec<u8>> {
+        self.joined(Joined::Exif)
+    }
+
+    /// Returns a copy of the extended XMP data that [`xmp_data`](Decoder::xmp_data) names, joined
+    /// from their parts, if all of these were read.
+    pub fn extended_xmp_data(&self) -> Option<Vec<u8>> {
+        self.joined(Joined::ExtendedXmp)
+    }
+
+    /// Returns a copy of the IPTC data among the image resources of Photoshop that were read.
+    pub fn iptc_data(&self) -> Option<Vec<u8>> {
+        self.joined(Joined::Iptc)
+    }
+
+    /// Returns a copy of the thumbnail in the Exif data that were read: a JPEG stream as a rule.
+    ///
+    /// ```
+    /// # let grey = std::fs::read("tests/grey.jpg").unwrap();
+    /// # let exif = [&b"Exif\0\0II*\0\x08\0\0\0\0\0\x0e\0\0\0\x02\0\x01\x02\x04\0\x01\0\0\0"[..],
+    /// #     b"\x2c\0\0\0\x02\x02\x04\0\x01\0\0\0", &[grey.len() as u8, 0, 0, 0, 0, 0, 0, 0], &grey].concat();
+    /// # let length = (exif.len() as u16 + 2).to_be_bytes();
+    /// # let jpeg = [&grey[..2], b"\xff\xe1", &length, &exif, &grey[2..]].concat();
+    /// use zaxbriar::Decoder;
+    ///
+    /// let mut decoder = Decoder::new(&jpeg[..]);
+    /// decoder.read_info()?;
+    /// let thumbnail = decoder.thumbnail().unwrap();
+    /// let pixels = Decoder::new(&thumbnail[..]).decode()?;
+    /// # assert_eq!(thumbnail, grey);
+    /// # Ok::<(), zaxbriar::Error>(())
+    /// ```
+    pub fn thumbnail(&self) -> Option<Vec<u8>> {
+        self.joined(Joined::Thumbnail)
+    }
+
+    fn joined(&self, kind: Joined) -> Option<Vec<u8>> {
+        library::joined_metadata(&self.stream.bytes()[..self.metadata_end], kind)
+    }
 }
 
 impl<R: Read> Decoder<R> {
@@ -565,8 +613,8 @@ impl<R: Read> Decoder<R> {
             failure = Some(self.stream.read_rest(&mut self.reader));
             answer = call(self.stream.bytes());
         }
-        let end = answer.stream_bytes.min(self.stream.metadata_end());
-        self.metadata = library::find_metadata(&self.stream.bytes()[..end]);
+        self.metadata_end = answer.stream_bytes.min(self.stream.metadata_end());
+        self.metadata = library::find_metadata(&self.stream.bytes()[..self.metadata_end]);
         (answer.outcome, failure)
     }
 }

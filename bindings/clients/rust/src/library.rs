@@ -5,13 +5,14 @@ use std::alloc::{alloc_zeroed, Layout};
 use std::mem::{size_of, size_of_val};
 use std::ops::Range;
 use std::os::raw::{c_int, c_void};
-use std::slice;
+use std::{ptr, slice};
 
 const OK: c_int = 0;
 const MALFORMED: c_int = 1;
 const UNSUPPORTED: c_int = 2;
 const TRUNCATED: c_int = 3;
 const NO_MEMORY: c_int = 4;
+const NO_ROOM: c_int = 5;
 const TOO_LARGE: c_int = 8;
 const PARTIAL: c_int = 9;
 const TOO_MANY_PASSES: c_int = 10;
@@ -27,6 +28,16 @@ const TEXT_BYTES: usize = 112;
 
 /// The kind of metadata that an ICC profile is.
 const ICC: c_int = 3;
+
+/// A kind of metadata that are joined from several segments.
+#[derive(Clone, Copy)]
+#[repr(i32)]
+pub enum Joined {
+    Exif = 1,
+    ExtendedXmp = 4,
+    Iptc = 5,
+    Thumbnail = 6,
+}
 
 /// The bytes of a segment before those of an ICC profile's part: the marker, the length field, the
 /// name, and the two numbers.
@@ -261,6 +272,16 @@ extern "C" {
         length: *mut usize,
     ) -> c_int;
 
+    fn zaxbriar_joined_metadata(
+        jpeg: *const c_void,
+        jpeg_size: usize,
+        options: *const Options,
+        kind: c_int,
+        data: *mut c_void,
+        data_size: usize,
+        length: *mut usize,
+    ) -> c_int;
+
     fn zaxbriar_next_segment(
         jpeg: *const c_void,
         jpeg_size: usize,
@@ -438,6 +459,35 @@ pub fn icc_profile(jpeg: &[u8], metadata: &Metadata) -> Option<Vec<u8>> {
     };
     profile.truncate(length);
     (answer == OK).then_some(profile)
+}
+
+/// Copies metadata of a kind to `data`, if they have room there, and returns the answer and how
+/// many bytes they have.
+fn copy_joined(jpeg: &[u8], kind: Joined, data: &mut [u8]) -> (c_int, usize) {
+    let mut length = 0;
+    // SAFETY: as in `read_info`; and `data` and `length` are borrowed to be written.
+    let answer = unsafe {
+        zaxbriar_joined_metadata(
+            jpeg.as_ptr().cast(),
+            jpeg.len(),
+            ptr::null(),
+            kind as c_int,
+            data.as_mut_ptr().cast(),
+            data.len(),
+            &mut length,
+        )
+    };
+    (answer, length)
+}
+
+/// Joins metadata of an image, if there are any. Nothing is decoded.
+pub fn joined_metadata(jpeg: &[u8], kind: Joined) -> Option<Vec<u8>> {
+    let (answer, length) = copy_joined(jpeg, kind, &mut []);
+    if answer != OK && answer != NO_ROOM {
+        return None;
+    }
+    let mut data: Vec<u8> = zeros(length as u64).ok()?;
+    (copy_joined(jpeg, kind, &mut data).0 == OK).then_some(data)
 }
 
 /// What a picture is a vector of: numbers without padding, of which each pattern of bits is one.

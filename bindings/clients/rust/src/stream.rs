@@ -28,6 +28,7 @@ const DRI: u8 = 0xDD;
 const APP0: u8 = 0xE0;
 const APP1: u8 = 0xE1;
 const APP2: u8 = 0xE2;
+const APP13: u8 = 0xED;
 const APP15: u8 = 0xEF;
 const COM: u8 = 0xFE;
 
@@ -69,7 +70,7 @@ pub struct Stream {
     has_header: bool,
     /// Whether the last segment was a scan's, but for restart markers.
     is_in_scan: bool,
-    /// Where the last segment APP1 or APP2 ends.
+    /// Where the last segment APP1, APP2 or APP13 ends.
     metadata_end: usize,
 }
 
@@ -102,7 +103,7 @@ impl Stream {
     }
 
     /// Returns how many of the bytes may have metadata: those up to the end of the last segment
-    /// APP1 or APP2.
+    /// APP1, APP2 or APP13.
     pub fn metadata_end(&self) -> usize {
         self.metadata_end
     }
@@ -204,7 +205,7 @@ impl Stream {
     /// Passes over a segment that ends so many bytes after the position.
     fn pass(&mut self, marker: u8, end: usize) {
         self.position += end;
-        if matches!(marker, APP1 | APP2) {
+        if matches!(marker, APP1 | APP2 | APP13) {
             self.metadata_end = self.position;
         }
         self.has_header |= is_of_frame(marker);
