@@ -239,7 +239,7 @@ typedef struct zaxbriar_segment {
  * zaxbriar_read_info on, and `stride` and `bottom_up` are for its lines. All other members refer to
  * the picture as the stream has it: `orientation` itself, `min_width` and `min_height`, sampling
  * factors and densities, and `whole_rows` of a partial picture. Unless the orientation is 1, the
- * call allocates at most 16 lines besides `pixels`. With ZAXBRIAR_TRANSFORM_NONE, whose lines have
+ * call allocates at most 32 lines besides `pixels`. With ZAXBRIAR_TRANSFORM_NONE, whose lines have
  * component after component, it is a ZAXBRIAR_BAD_ARGUMENT. */
 typedef struct zaxbriar_options {
     uint64_t max_samples; /* limits width * height * components, at the scale; 0: no limit */
@@ -280,7 +280,7 @@ typedef struct zaxbriar_picture {
     uint64_t row_bytes;      /* bytes of a line without its gap: width * pixel_bytes */
     uint64_t decoding_bytes; /* the most memory that a call uses for coefficients and samples at a
                                 time, besides `pixels`, to decode the whole or a part; tables,
-                                metadata, a few lines (16 more where it is turned) and, where a scan
+                                metadata, a few lines (32 more where it is turned) and, where a scan
                                 is cut, a row of blocks (at most 1 MB) aren't counted, nor are the
                                 samples of a scan of several components, or of a lossless frame,
                                 that repeats components of an earlier scan: at most as much once

@@ -43,7 +43,7 @@ enum { MOST_SAMPLES = 1 << 18, MOST_WORK = 1 << 22 };
 /* What a call may take for tables, and for a segment that is cut, whose length it is told. */
 enum { MOST_FOR_TABLES = 1 << 16, MOST_FOR_SEGMENT = 1 << 16 };
 /* How many lines are turned at a time. */
-enum { MOST_TURNED = 16 };
+enum { MOST_TURNED = 32 };
 enum { GUARD = 64, BYTE = 0xA7 };
 
 int LLVMFuzzerTestOneInput(const uint8_t *data, size_t size);
@@ -152,7 +152,7 @@ static int has_scans(void) {
 }
 
 /* The memory that a call has taken is no more than `decoding_bytes`, tables, metadata, a few lines,
- * 16 of a picture that is turned and, of a scan that is cut, a row of blocks and the data of a
+ * 32 of a picture that is turned and, of a scan that is cut, a row of blocks and the data of a
  * restart interval. A scan of several components, or of a lossless frame, may have planes of its
  * own, beside those of scans before. */
 static void check_memory(enum call call, const struct answer *answer, size_t size) {

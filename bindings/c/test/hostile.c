@@ -113,7 +113,7 @@ static void take_beside(size_t samples, size_t size, const zaxbriar_picture *pic
     size_t beside = peak_bytes > samples ? peak_bytes - samples : 0;
     size_t width = picture->width > picture->height ? picture->width : picture->height;
     size_t row = (width / 8 + 4) * (size_t)128;
-    if (picture->orientation > 1) row += 16 * width * picture->pixel_bytes;
+    if (picture->orientation > 1) row += 32 * width * picture->pixel_bytes;
     if (beside > most_beside) most_beside = beside;
     CHECK(beside <= MOST_BESIDE + 2 * size + row);
 }

@@ -3,7 +3,7 @@
  * memory of exactly the picture's size and of one byte more. */
 #include "common.h"
 
-enum { MOST_WIDTH = 17, MOST_HEIGHT = 33, MOST_SAMPLES = MOST_WIDTH * MOST_HEIGHT * 4 };
+enum { MOST_WIDTH = 17, MOST_HEIGHT = 65, MOST_SAMPLES = MOST_WIDTH * MOST_HEIGHT * 4 };
 
 static unsigned char samples[MOST_SAMPLES];
 static unsigned width, height, components, orientation;
@@ -201,13 +201,13 @@ static void of_size(void) {
 }
 
 int main(void) {
-    static const unsigned heights[] = {1, 2, 3, 4, 5, 15, 16, 17, 32, 33};
+    static const unsigned heights[] = {1, 2, 3, 4, 5, 31, 32, 33, 64, 65};
     subject = "a lossless picture";
     for (components = 1; components <= 4; components += components == 1 ? 2 : 1)
         for (width = 1; width <= MOST_WIDTH; width++)
             for (int i = 0; i < 10; i++) {
                 height = heights[i];
-                /* (16 lines are turned at a time) */
+                /* (32 lines are turned at a time) */
                 if (height <= 5 || width <= 3) of_size();
             }
     printf("layouts: %ld pictures; %d faults\n", pictures, faults);

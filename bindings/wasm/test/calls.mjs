@@ -371,8 +371,8 @@ for (const layout of [...layouts, 'grey16', 'rgb16']) {
     const options = { layout, bottomUp: true, upright: true };
     const { size, decodingBytes, height, pixelBytes } = decoder.decode(larger, options).picture;
     assert.ok(size >= 1600 * 1000);
-    // (it lies on its side, and 16 lines of it are turned at a time)
-    const known = size + decodingBytes + larger.length + 16 * height * pixelBytes;
+    // (it lies on its side, and 32 lines of it are turned at a time)
+    const known = size + decodingBytes + larger.length + 32 * height * pixelBytes;
     assert.ok(decoder.memoryBytes <= known + ROOM, layout);
 }
 const small = new Zaxbriar(module, { maxMemory: before });

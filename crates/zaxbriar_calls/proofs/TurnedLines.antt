@@ -9,13 +9,13 @@ use Rattle.std.proofs.lemmas.List.{get_or-drop, get_or-take, get_or_append_left,
 use Rattle.std.proofs.lemmas.List.FromFn.{fill_by_all}
 use Rattle.std.proofs.lemmas.Nat.{row_fits}
 use Rattle.std.proofs.lemmas.Slice.{between-put_mid, take-put_mid_below}
-use Rattle.std.specs.List.{AllByRecursion, concat, range_with_len}
+use Rattle.std.specs.List.{concat, range_with_len}
 use borrow.Rule.Slice.PartMut.{put_mid}
 use Rattle.jpeg_decoder.proofs.Pictures.LinesTogether.{line-long}
 use Rattle.zaxbriar_calls.specs.Layouts.{converted_bytes, full_of, layout_bytes, layout_line}
 use Rattle.zaxbriar_calls.specs.Layouts.{pixel_of, pixels_of, colour_of}
-use Rattle.zaxbriar_calls.specs.Upright.{AreLines, AreMeant, HasRoom, Writes, pixel_start}
-use Rattle.zaxbriar_calls.specs.Upright.{turned_byte}
+use Rattle.zaxbriar_calls.specs.Upright.{AreLines, AreMeant, HasRoom, TakesLines, Writes}
+use Rattle.zaxbriar_calls.specs.Upright.{pixel_start, turned_byte}
 use Rattle.zaxbriar_calls.specs.declared.layouts.Conversion.{Conversion}
 use Rattle.zaxbriar_calls.specs.declared.layouts.Conversion.TheVariants.{Stored, InColour}
 use Rattle.zaxbriar_calls.specs.declared.lines.Lines.{Lines}
@@ -100,10 +100,10 @@ column-more lines meant x from count a b c before now =
 -- the pixels of the lines of so many bands
 abbrev pub AreAbove : Lines → ℕ → ℕ → ℕ → Type 0
 AreAbove lines bands column line =
-    (column < lines.turn.width) × (line < lines.turn.height) × (line < bands * 16)
+    (column < lines.turn.width) × (line < lines.turn.height) × (line < bands * 32)
 
 pub band-more : (lines : Lines) (meant : ℕ → ℕ) (bands from count : ℕ) (a b c : List ℕ)
-    → from ≡ bands * 16 → count ≡ min 16 (lines.turn.height - from)
+    → from ≡ bands * 32 → count ≡ min 32 (lines.turn.height - from)
     → Writes lines meant (AreAbove lines bands) a b
     → Writes lines meant (λ column line. (column < lines.turn.width) × (from ≤ line)
     × (line < from + count)) b c
@@ -116,7 +116,7 @@ band-more lines meant bands from count a b c e n before now =
       | inl low ↦ inl (
         these.0,
         these.1,
-        let above : line < bands * 16 =
+        let above : line < bands * 32 =
             omega (arith, low, e) in above,
       )
       | inr high ↦ inr (
@@ -129,7 +129,7 @@ band-more lines meant bands from count a b c e n before now =
 -- all pixels were written
 pub all-written : (lines : Lines) (samples old new : List ℕ) (bands : ℕ)
     → HasRoom lines (length old)
-    → length new ≡ length old → lines.turn.height ≤ bands * 16
+    → length new ≡ length old → lines.turn.height ≤ bands * 32
     → Writes lines (turned_byte lines samples old) (AreAbove lines bands) old new
     → new ≡ map (turned_byte lines samples old) (range_with_len 0 (length old))
 all-written lines samples old new bands room long all writes =
@@ -137,7 +137,7 @@ all-written lines samples old new bands room long all writes =
     (λ index low. elim (byte-from lines samples old (length old) index room) [
       | inl same ↦ writes.kept index (sym same)
       | inr pixel ↦
-          let above : pixel.y < bands * 16 = omega (arith, all, pixel.down) in
+          let above : pixel.y < bands * 32 = omega (arith, all, pixel.down) in
           subst (λ n. slice_index_or new n 0 ≡ turned_byte lines samples old n) (sym pixel.index_is)
           (writes.written pixel.x pixel.y pixel.byte (pixel.across, pixel.down, above) pixel.inside)
     ])
@@ -239,46 +239,44 @@ line-in-band index count bytes line all e low room =
     subst (λ n. index * n + n ≤ all) (sym e) (omega (arith, down, room))
 
 -- the lines that are left are no more than a band
-pub band-room : (count height from bytes all : ℕ) → count ≡ min 16 (height - from)
-    → all ≡ min 16 height * bytes → count * bytes ≤ all
+pub band-room : (count height from bytes all : ℕ) → count ≡ min 32 (height - from)
+    → all ≡ min 32 height * bytes → count * bytes ≤ all
 band-room count height from bytes all e a =
-    let few : count ≤ min 16 height = omega (arith, e) in
+    let few : count ≤ min 32 height = omega (arith, e) in
     omega (arith, mul-le-mul_right bytes few, a)
 
 -- lines of a picture are those that are meant
-pub lines-meant : (lines : Lines) (picture : List (List ℕ)) (old band : List ℕ) (all from count : ℕ)
-    → HasRoom lines all → lines.row_bytes ≤ lines.stride
-    → lines.pixel_bytes ≡ converted_bytes lines.conversion lines.stored
-    → AllByRecursion (λ line. length line ≡ lines.turn.width * lines.stored) picture
-    → length picture ≡ lines.turn.height → from + count ≤ lines.turn.height
+pub lines-meant : (lines : Lines) (picture : List (List ℕ)) (old band : List ℕ)
+    (row_bytes all from count : ℕ)
+    → TakesLines lines picture row_bytes → HasRoom lines all → from + count ≤ lines.turn.height
     → AreLines lines picture from count band
     → AreMeant lines (turned_byte lines (concat picture) old) from count band
-lines-meant lines picture old band all from count room wide same stored whole fits are =
+lines-meant lines picture old band row_bytes all from count takes room fits are =
     λ x index byte hx hi hb.
     let y : ℕ = from + index in
     let hy : y < lines.turn.height = omega (arith, hi, fits) in
-    let low : y < length picture = subst (λ n. y < n) (sym whole) hy in
+    let low : y < length picture = subst (λ n. y < n) (sym takes.count) hy in
     let samples : List ℕ = concat picture in
     let row : List ℕ = slice_index_or picture y [] in
-    let row_bytes : ℕ = lines.turn.width * lines.stored in
+    let line_stored : ℕ = lines.turn.width * lines.stored in
     let line_bytes : ℕ = lines.turn.width * lines.pixel_bytes in
     let at : ℕ = x * lines.pixel_bytes + byte in
     let inside : at < line_bytes = byte-of-line x lines.turn.width lines.pixel_bytes byte hx hb in
-    let long : length row ≡ row_bytes = line-long row_bytes y picture [] stored low in
+    let long : length row ≡ line_stored = line-long line_stored y picture [] takes.stored low in
     let part : take lines.stored (drop ((y * lines.turn.width + x) * lines.stored) samples)
     ≡ take lines.stored (drop (x * lines.stored) row) =
     ap (λ n. take lines.stored (drop n samples))
     (sym (offset-of-line y lines.turn.width lines.stored x))
-    ∙ sym (pixel-of-line lines.stored lines.turn.width x (y * row_bytes) samples hx)
+    ∙ sym (pixel-of-line lines.stored lines.turn.width x (y * line_stored) samples hx)
     ∙ ap (λ (l : List ℕ). take lines.stored (drop (x * lines.stored) l))
-    (line-of-all row_bytes y picture stored low) in
-    byte-of-pixel lines samples old all x y byte room wide hx hy hb
+    (line-of-all line_stored y picture takes.stored low) in
+    byte-of-pixel lines samples old all x y byte room hx hy hb
     ∙ ap (λ (l : List ℕ). slice_index_or (pixel_of lines.conversion l) byte 0) part
     ∙ sym (line-pixel lines.conversion lines.stored lines.turn.width x byte row long hx
-    (subst (λ n. byte < n) same hb))
+    (subst (λ n. byte < n) takes.pixel hb))
     ∙ ap (λ n. slice_index_or (layout_line lines.conversion lines.stored lines.turn.width row)
     (x * n + byte) 0)
-    (sym same)
+    (sym takes.pixel)
     ∙ ap (λ (l : List ℕ). slice_index_or l at 0) (sym (are index hi))
     ∙ part-at (index * line_bytes) line_bytes at band inside
     ∙ ap (λ n. slice_index_or band n 0)

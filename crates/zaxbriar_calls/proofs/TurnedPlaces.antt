@@ -40,25 +40,19 @@ stored-height turn e = λ i. if is_on_side (e i) then turn.width else turn.heigh
 
 -- ---- pixels of the stored picture in the upright one
 
-pub across-below : (turn : Turn) (x y : ℕ) → x < turn.width → y < turn.height
-    → upright_across turn x y < upright_width turn
-across-below turn x y hx hy = go (is_on_side turn.orientation)
+-- a pixel of the stored picture stands inside the upright one
+stands-inside : (turn : Turn) (x y : ℕ) → x < turn.width → y < turn.height
+    → (upright_across turn x y < upright_width turn)
+    × (upright_down turn x y < upright_height turn)
+stands-inside turn x y hx hy = go (is_on_side turn.orientation)
+    (mirrored-below (flips_x turn.orientation) turn.width x hx)
+    (mirrored-below (flips_y turn.orientation) turn.height y hy)
   where
-    go : (side : Bool) → (if side then mirrored (flips_y turn.orientation) turn.height y
-        else mirrored (flips_x turn.orientation) turn.width x)
-        < (if side then turn.height else turn.width)
-    go true = mirrored-below (flips_y turn.orientation) turn.height y hy
-    go false = mirrored-below (flips_x turn.orientation) turn.width x hx
-
-pub down-below : (turn : Turn) (x y : ℕ) → x < turn.width → y < turn.height
-    → upright_down turn x y < upright_height turn
-down-below turn x y hx hy = go (is_on_side turn.orientation)
-  where
-    go : (side : Bool) → (if side then mirrored (flips_x turn.orientation) turn.width x
-        else mirrored (flips_y turn.orientation) turn.height y)
-        < (if side then turn.width else turn.height)
-    go true = mirrored-below (flips_x turn.orientation) turn.width x hx
-    go false = mirrored-below (flips_y turn.orientation) turn.height y hy
+    go : {a b m n : ℕ} (side : Bool) → a < m → b < n
+        → ((if side then b else a) < (if side then n else m))
+        × ((if side then a else b) < (if side then m else n))
+    go true across down = (down, across)
+    go false across down = (across, down)
 
 -- the pixel that stands there is this one
 offset-is : (turn : Turn) (x y : ℕ) → x < turn.width → y < turn.height
@@ -129,7 +123,7 @@ across-room : (lines : Lines) (bytes x y : ℕ) → HasRoom lines bytes → x < 
 across-room lines bytes x y room hx hy =
     let across : upright_across lines.turn x y < lines.width =
     subst (λ n. upright_across lines.turn x y < n) (sym room.width)
-    (across-below lines.turn x y hx hy) in
+    (stands-inside lines.turn x y hx hy).0 in
     row_fits (upright_across lines.turn x y) lines.pixel_bytes lines.width lines.pixel_bytes across
     (le_refl lines.pixel_bytes)
 
@@ -137,7 +131,8 @@ pub down-inside : (lines : Lines) (bytes x y : ℕ) → HasRoom lines bytes → 
     → y < lines.turn.height
     → upright_down lines.turn x y < lines.height
 down-inside lines bytes x y room hx hy =
-    subst (λ n. upright_down lines.turn x y < n) (sym room.height) (down-below lines.turn x y hx hy)
+    subst (λ n. upright_down lines.turn x y < n) (sym room.height)
+    (stands-inside lines.turn x y hx hy).1
 
 pub pixel-fits : (lines : Lines) (bytes x y : ℕ) → HasRoom lines bytes → x < lines.turn.width
     → y < lines.turn.height
@@ -210,13 +205,12 @@ byte-inside across width bytes row byte line inside low = omega arith
 
 -- the bytes of a pixel of the stored picture, where it stands
 pub byte-of-pixel : (lines : Lines) (samples old : List ℕ) (bytes x y byte : ℕ)
-    → HasRoom lines bytes
-    → lines.row_bytes ≤ lines.stride → x < lines.turn.width → y < lines.turn.height
+    → HasRoom lines bytes → x < lines.turn.width → y < lines.turn.height
     → byte < lines.pixel_bytes
     → turned_byte lines samples old (pixel_start lines x y + byte)
     ≡ slice_index_or (pixel_of lines.conversion
     (take lines.stored (drop ((y * lines.turn.width + x) * lines.stored) samples))) byte 0
-byte-of-pixel lines samples old bytes x y byte room wide hx hy hb =
+byte-of-pixel lines samples old bytes x y byte room hx hy hb =
     let across : ℕ = upright_across lines.turn x y in
     let down : ℕ = upright_down lines.turn x y in
     let place : ℕ = mirrored lines.bottom_up lines.height down in
@@ -225,7 +219,8 @@ byte-of-pixel lines samples old bytes x y byte room wide hx hy hb =
     let inside : across * lines.pixel_bytes + byte < lines.row_bytes =
     byte-inside across lines.width lines.pixel_bytes lines.row_bytes byte room.line
     (across-room lines bytes x y room hx hy) hb in
-    let short : across * lines.pixel_bytes + byte < lines.stride = omega (arith, inside, wide) in
+    let short : across * lines.pixel_bytes + byte < lines.stride =
+    omega (arith, inside, room.wide) in
     let join : place * lines.stride + across * lines.pixel_bytes + byte
     ≡ place * lines.stride + (across * lines.pixel_bytes + byte) =
     joined (place * lines.stride) (across * lines.pixel_bytes) byte in

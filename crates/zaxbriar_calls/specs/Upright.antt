@@ -1,10 +1,12 @@
 -- Where the samples of a picture stand in the caller's memory, as it is stored and turned upright.
 use Rattle.std.specs.Prelude.{◌≡◌, ◌<◌, ◌≤◌, ℕ, ◌+◌, ◌*◌, ◌/◌, ◌%◌, ◌==◌, ◌&&◌, Bool, List, []}
-use Rattle.std.specs.Prelude.{if◌then◌else◌, drop, length, map, min, nat_lt, slice_index_or, take}
-use Rattle.std.specs.List.{range_with_len}
+use Rattle.std.specs.Prelude.{false, if◌then◌else◌, drop, length, map, min, nat_lt}
+use Rattle.std.specs.Prelude.{slice_index_or, take}
+use Rattle.std.specs.List.{AllByRecursion, range_with_len}
 use Rattle.jpeg_orientation.specs.Turns.{mirrored, stored_offset, upright_across, upright_down}
 use Rattle.jpeg_orientation.specs.Turns.{upright_height, upright_width}
-use Rattle.zaxbriar_calls.specs.Layouts.{laid_out, layout_line, pixel_of}
+use Rattle.zaxbriar_calls.specs.Layouts.{TakesStored, converted_bytes, is_stored, laid_out}
+use Rattle.zaxbriar_calls.specs.Layouts.{layout_line, pixel_of}
 use Rattle.zaxbriar_calls.specs.declared.lines.Lines.{Lines}
 
 -- the bytes of the pixel, as it is stored, that stands across and down in the upright picture
@@ -33,17 +35,28 @@ arranged_in lines samples old = if lines.turn.orientation == 1
 
 -- ---- what the code's own clauses need
 
--- This many bytes are those of the lines that are turned at a time: up to 16, and none where the
+-- This many bytes are those of the lines that are turned at a time: up to 32, and none where the
 -- picture isn't turned.
 abbrev pub IsBand : Lines → ℕ → Type 0
 IsBand lines bytes = (lines.turn.orientation ≡ 1 → ⊥)
-    → bytes ≡ min 16 lines.turn.height * (lines.turn.width * lines.pixel_bytes)
+    → bytes ≡ min 32 lines.turn.height * (lines.turn.width * lines.pixel_bytes)
 
--- Lines are those of an upright picture, and there is room for them in so many bytes.
+-- Lines of a picture are as many and as long as they are stored, and can be put in their layout,
+-- through a row of so many bytes unless they stay as they are.
+pub record TakesLines (lines : Lines) (picture : List (List ℕ)) (row_bytes : ℕ) : Type 0 where
+  pub count : length picture ≡ lines.turn.height
+  pub stored : AllByRecursion (λ line. length line ≡ lines.turn.width * lines.stored) picture
+  pub row : is_stored lines.conversion ≡ false → row_bytes ≡ lines.turn.width * lines.stored
+  pub pixel : lines.pixel_bytes ≡ converted_bytes lines.conversion lines.stored
+  pub fits : TakesStored lines.conversion lines.stored
+
+-- Lines are those of an upright picture, and there is room for each, and for all of them in so many
+-- bytes.
 pub record HasRoom (lines : Lines) (bytes : ℕ) : Type 0 where
   pub width : lines.width ≡ upright_width lines.turn
   pub height : lines.height ≡ upright_height lines.turn
   pub line : lines.row_bytes ≡ lines.width * lines.pixel_bytes
+  pub wide : lines.row_bytes ≤ lines.stride
   pub room : (y : ℕ) → y < lines.height → y * lines.stride + lines.row_bytes ≤ bytes
 
 -- where the bytes of a pixel begin in memory, by its column and its line in the stored picture

@@ -1,16 +1,16 @@
 //! Where the lines of a picture are in the caller's memory.
 ghost use Rattle.std.specs.Prelude.{◌≡◌, ◌+◌, ◌*◌, ◌<◌, ◌≤◌, ℕ, [], false, length, IfOk, IfErr};
 ghost use Rattle.std.specs.Prelude.{map, slice_index_or, true};
-ghost use Rattle.std.specs.List.{AllByRecursion, concat, range_with_len};
-ghost use Rattle.jpeg_orientation.specs.Turns.{is_on_side, mirrored, upright_height};
-ghost use Rattle.jpeg_orientation.specs.Turns.{upright_width};
+ghost use Rattle.std.specs.List.{concat, range_with_len};
+ghost use Rattle.jpeg_orientation.specs.Turns.{is_on_side, mirrored};
 ghost use Rattle.jpeg_bits.specs.declared.error.Error.TheVariants.{OutOfMemory};
 ghost use Rattle.zaxbriar_calls.specs.Faults.{IsArgument};
 ghost use Rattle.zaxbriar_calls.specs.Layouts.{TakesStored, converted_bytes, laid_out, layout_line};
 ghost use Rattle.zaxbriar_calls.specs.Layouts.{is_stored, size_of_lines};
 ghost use Rattle.zaxbriar_calls.specs.Lines.{FitLines, HasLines, turn_of};
-ghost use Rattle.zaxbriar_calls.specs.Upright.{AreLines, AreMeant, HasRoom, IsBand, IsRun, Writes};
-ghost use Rattle.zaxbriar_calls.specs.Upright.{arranged_in, pixel_start, turned_byte};
+ghost use Rattle.zaxbriar_calls.specs.Upright.{AreLines, AreMeant, HasRoom, IsBand, IsRun};
+ghost use Rattle.zaxbriar_calls.specs.Upright.{TakesLines, Writes, arranged_in, pixel_start};
+ghost use Rattle.zaxbriar_calls.specs.Upright.{turned_byte};
 
 use crate::answers::Refusal;
 use crate::layouts::{
@@ -126,7 +126,7 @@ pub fn stored_line(alloc: Global, lines: Lines) -> Result<Vec<u8>>
 
 /// The number of lines that are turned at a time. A column of so many pixels stands together in the
 /// caller's memory, which would else be touched a line apart with each pixel.
-const BAND: usize = 16;
+const BAND: usize = 32;
 
 /// Returns how many bytes a line of the stored picture has in its layout.
 fn line_bytes(lines: Lines) -> usize
@@ -192,18 +192,10 @@ fn put_line(picture: &mut Decoded, lines: Lines, y: usize, row: &mut [u8], line:
 /// Writes the lines of a decoded picture as it is stored, and leaves the gaps between them. `row`
 /// has room for a line as it is stored, unless lines stay as they are.
 fn put_stored_lines(picture: &mut Decoded, lines: Lines, row: &mut [u8], pixels: &mut [u8])
-    requires count { length picture.old ≡ lines.height }
-    requires stored { AllByRecursion (λ line. length line ≡ lines.width * lines.stored)
-        picture.old }
-    requires same { lines.turn.width ≡ lines.width }
-    requires row { is_stored lines.conversion ≡ false
-        → length row.old ≡ lines.width * lines.stored }
-    requires room { (y : ℕ) → y < lines.height
-        → y * lines.stride + lines.row_bytes ≤ length pixels.old }
-    requires line { lines.row_bytes
-        ≡ lines.width * converted_bytes lines.conversion lines.stored }
-    requires wide { lines.row_bytes ≤ lines.stride }
-    requires fits { TakesStored lines.conversion lines.stored }
+    requires stored { TakesLines lines picture.old (length row.old) }
+    requires room { HasRoom lines (length pixels.old) }
+    requires width { lines.width ≡ lines.turn.width }
+    requires height { lines.height ≡ lines.turn.height }
     ensures { pixels.new ≡ laid_out (layout_line lines.conversion lines.stored lines.width)
         (lines.width * lines.stored) lines.stride lines.bottom_up lines.height
         (concat picture.old) pixels.old }
@@ -381,14 +373,8 @@ fn read_band(
     band: &mut [u8],
 )
     requires count { first + count ≤ lines.turn.height }
-    requires whole { length picture.old ≡ lines.turn.height }
-    requires stored { AllByRecursion (λ line. length line ≡ lines.turn.width * lines.stored)
-        picture.old }
-    requires row { is_stored lines.conversion ≡ false
-        → length row.old ≡ lines.turn.width * lines.stored }
+    requires stored { TakesLines lines picture.old (length row.old) }
     requires band { count * (lines.turn.width * lines.pixel_bytes) ≤ length band.old }
-    requires pixel { lines.pixel_bytes ≡ converted_bytes lines.conversion lines.stored }
-    requires fits { TakesStored lines.conversion lines.stored }
     ensures lines { AreLines lines picture.old first count band.new }
     ensures same { picture.new ≡ picture.old }
 {
@@ -414,21 +400,10 @@ fn put_turned_lines(
     band: &mut [u8],
     pixels: &mut [u8],
 )
-    requires count { length picture.old ≡ lines.turn.height }
-    requires stored { AllByRecursion (λ line. length line ≡ lines.turn.width * lines.stored)
-        picture.old }
-    requires width { lines.width ≡ upright_width lines.turn }
-    requires height { lines.height ≡ upright_height lines.turn }
-    requires row { is_stored lines.conversion ≡ false
-        → length row.old ≡ lines.turn.width * lines.stored }
+    requires stored { TakesLines lines picture.old (length row.old) }
     requires turned { lines.turn.orientation ≡ 1 → ⊥ }
     requires band { IsBand lines (length band.old) }
-    requires room { (y : ℕ) → y < lines.height
-        → y * lines.stride + lines.row_bytes ≤ length pixels.old }
-    requires pixel { lines.pixel_bytes ≡ converted_bytes lines.conversion lines.stored }
-    requires line { lines.row_bytes ≡ lines.width * lines.pixel_bytes }
-    requires wide { lines.row_bytes ≤ lines.stride }
-    requires fits { TakesStored lines.conversion lines.stored }
+    requires room { HasRoom lines (length pixels.old) }
     ensures { pixels.new ≡ map (turned_byte lines (concat picture.old) pixels.old)
         (range_with_len 0 (length pixels.old)) }
 {
@@ -451,20 +426,9 @@ pub fn put_lines(
     band: &mut [u8],
     pixels: &mut [u8],
 )
-    requires count { length picture.old ≡ lines.turn.height }
-    requires stored { AllByRecursion (λ line. length line ≡ lines.turn.width * lines.stored)
-        picture.old }
-    requires width { lines.width ≡ upright_width lines.turn }
-    requires height { lines.height ≡ upright_height lines.turn }
-    requires row { is_stored lines.conversion ≡ false
-        → length row.old ≡ lines.turn.width * lines.stored }
+    requires stored { TakesLines lines picture.old (length row.old) }
     requires band { IsBand lines (length band.old) }
-    requires room { (y : ℕ) → y < lines.height
-        → y * lines.stride + lines.row_bytes ≤ length pixels.old }
-    requires pixel { lines.pixel_bytes ≡ converted_bytes lines.conversion lines.stored }
-    requires line { lines.row_bytes ≡ lines.width * lines.pixel_bytes }
-    requires wide { lines.row_bytes ≤ lines.stride }
-    requires fits { TakesStored lines.conversion lines.stored }
+    requires room { HasRoom lines (length pixels.old) }
     ensures { pixels.new ≡ arranged_in lines (concat picture.old) pixels.old }
 {
     if lines.turn.orientation == 1 {

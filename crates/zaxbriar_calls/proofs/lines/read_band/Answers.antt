@@ -31,7 +31,8 @@ put_line-requires-clause-stored c =
     let y : ℕ = c.args.first + c.loop-index.index in
     let low : y < length c.args.picture.now = omega arith in
     ap (λ (l : List (List ℕ)). length (slice_index_or l y [])) c.loop-index.invariant.picture
-    ∙ line-long (lines.turn.width * lines.stored) y c.args.picture.now [] c.requires.stored low
+    ∙ line-long (lines.turn.width * lines.stored) y c.args.picture.now []
+    c.requires.stored.stored low
 
 pub loop-index-preserved : goal.loop-index-preserved
 loop-index-preserved c =
@@ -53,8 +54,8 @@ loop-index-preserved c =
     c.loop-index.invariant.picture in
     let long : length c.put_line.new.line ≡ bytes = ap (λ (l : List ℕ). length l) is
     ∙ line-length lines.conversion lines.stored lines.turn.width (slice_index_or picture y [])
-    (line-long (lines.turn.width * lines.stored) y picture [] c.requires.stored low)
-    ∙ ap (λ n. lines.turn.width * n) (sym c.requires.pixel) in
+    (line-long (lines.turn.width * lines.stored) y picture [] c.requires.stored.stored low)
+    ∙ ap (λ n. lines.turn.width * n) (sym c.requires.stored.pixel) in
     let k : index * bytes + bytes - index * bytes ≡ bytes = omega arith in
     record {
       lines = subst (λ n. AreLines lines picture c.args.first (index + 1)
