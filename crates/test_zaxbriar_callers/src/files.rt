@@ -1,13 +1,14 @@
 //! Callers that write files.
 ghost use Rattle.std.specs.Prelude.{◌≡◌, ◌≤◌, ℕ, List, IfOk, IsSomeAnd, OnOk, fold};
 ghost use Rattle.std.specs.Io.KnownBytes.{Appends};
-ghost use Rattle.jpeg_meaning.specs.Output.{Tells, output_of};
+ghost use Rattle.jpeg_meaning.specs.Output.{Tells};
 ghost use Rattle.zaxbriar_pictures.specs.Given.{CodesWithin, WritesGiven};
+ghost use Rattle.zaxbriar_pictures.specs.Raw.{raw_of};
 ghost use Rattle.zaxbriar_samples.specs.Netpbm.{file_of};
 ghost use Rattle.zaxbriar_samples.specs.Png.{adler_byte, filtered_line, line_chunk};
 ghost use Rattle.zaxbriar_pictures.specs.Thumbnails.{WritesThumbnail};
 
-use jpeg_decoder::{Scale, error};
+use jpeg_decoder::error;
 use std::alloc::Global;
 use std::io::{Read, Write};
 use zaxbriar_files::limits::Limits;
@@ -19,7 +20,7 @@ use zaxbriar_pictures::thumbnails::write_thumbnail;
 use zaxbriar_samples::files::PictureFormat;
 use zaxbriar_samples::netpbm::{Picture, write_picture};
 use zaxbriar_samples::png::PngFile;
-use zaxbriar_samples::requests::Request;
+use zaxbriar_samples::requests::{AtScale, Request, Upright};
 
 /// Calls `write_picture`, and says which file an Ok wrote.
 pub fn picture<W: Write>(alloc: Global, picture: Picture, writer: &mut W) -> error::Result<()>
@@ -49,17 +50,17 @@ pub fn png_line<W: Write>(
 pub fn picture_at<R: Read + Drop, W: Write>(
     alloc: Global,
     reader: R,
-    scale: Scale,
+    at: AtScale,
     extent: Extent,
     limits: Limits,
     format: PictureFormat,
     writer: &mut W,
 ) -> Result<Completeness, Refusal>
     ensures { (bytes : List ℕ) → Tells (R.remaining reader) bytes
-        → IfOk result (WritesGiven extent limits scale format bytes (W.contents writer.old)
+        → IfOk result (WritesGiven extent limits at format bytes (W.contents writer.old)
         (W.contents writer.new)) }
 {
-    write_at(alloc, reader, scale, extent, limits, format, writer)
+    write_at(alloc, reader, at, extent, limits, format, writer)
 }
 
 /// Calls `write_thumbnail`.
@@ -83,14 +84,15 @@ pub fn thumbnail<R: Read + Drop, W: Write>(
 pub fn pixels<R: Read + Drop, W: Write>(
     alloc: Global,
     reader: R,
+    turning: Upright,
     limits: Limits,
     writer: &mut W,
 ) -> Result<(), Refusal>
     ensures written { (bytes : List ℕ) → Tells (R.remaining reader) bytes
-        → OnOk result (IsSomeAnd (output_of bytes) (Appends (W.contents writer.old)
+        → OnOk result (IsSomeAnd (raw_of turning bytes) (Appends (W.contents writer.old)
         (W.contents writer.new))) }
     ensures bounded { (bytes : List ℕ) → Tells (R.remaining reader) bytes
         → OnOk result (CodesWithin limits bytes) }
 {
-    write_raw(alloc, reader, limits, writer)
+    write_raw(alloc, reader, turning, limits, writer)
 }

@@ -1,5 +1,5 @@
-//! The options of the words `pnm` and `thumbnail`, and the format and the names of the files that
-//! they write.
+//! The options of the words `pnm`, `thumbnail` and `raw`, and the format and the names of the files
+//! that they write.
 
 use crate::arguments;
 use crate::parameters::{Form, Parameter};
@@ -14,6 +14,7 @@ use zaxbriar_files::names::{has_place, name_for, shown};
 use zaxbriar_files::output::is_direct;
 use zaxbriar_files::refusal::Refusal;
 use zaxbriar_samples::files::PictureFormat;
+use zaxbriar_samples::requests::Upright;
 
 const FILES: &str =
     "The file to write; standard output by default, or for -; for several files DIR/%s.ppm, where \
@@ -22,6 +23,8 @@ const FILES: &str =
 const PART: &str =
     "Write the part of a truncated or damaged file that can be decoded; the status is then 3";
 
+const UPRIGHTED: &str = "Turn the picture upright by the orientation in its Exif data";
+
 const AS_PNG: &str = "Write PNG, as to an output whose name ends with .png; CMYK is then refused";
 
 /// The option `-o` of a word that may write several files.
@@ -29,6 +32,13 @@ pub const OUTPUT: Parameter = Parameter {
     name: "output",
     form: Form::Output,
     help: FILES,
+};
+
+/// The option `--upright`.
+pub const UPRIGHT: Parameter = Parameter {
+    name: "upright",
+    form: Form::Flag,
+    help: UPRIGHTED,
 };
 
 /// The option `--partial`.
@@ -44,6 +54,15 @@ pub const PNG: Parameter = Parameter {
     form: Form::Flag,
     help: AS_PNG,
 };
+
+/// Returns whether the option `--upright` is there, so that a picture is turned.
+pub fn turning_of(matches: &ArgMatches<'_>) -> Upright {
+    if matches.get_flag("upright") {
+        Upright::Turned
+    } else {
+        Upright::AsStored
+    }
+}
 
 /// Returns whether a name ends with `.png`, in capital letters or not.
 fn has_png_name(name: &str) -> bool {

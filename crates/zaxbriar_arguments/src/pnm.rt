@@ -6,6 +6,7 @@ use crate::pictures;
 use clap::ArgMatches;
 use jpeg_segments::scale::Scale;
 use std::alloc::Global;
+use zaxbriar_samples::requests::{AtScale, Request};
 
 /// The word.
 pub const NAME: &str = "pnm";
@@ -18,10 +19,11 @@ const SCALE: Parameter = Parameter {
     help: "The part of the picture's width and height",
 };
 
-const PARAMETERS: [Parameter; 5] = [
+const PARAMETERS: [Parameter; 6] = [
     INPUTS,
     pictures::OUTPUT,
     SCALE,
+    pictures::UPRIGHT,
     pictures::PNG,
     pictures::PARTIAL,
 ];
@@ -31,8 +33,16 @@ pub fn command<'a>(alloc: Global) -> Making<'a> {
     word(alloc, NAME, ABOUT, PARAMETERS.as_slice())
 }
 
+/// Returns what is requested of each picture.
+pub fn request_of(matches: &ArgMatches<'_>) -> Request {
+    Request::At(AtScale {
+        scale: scale_of(matches),
+        upright: pictures::turning_of(matches),
+    })
+}
+
 /// Returns the requested scale.
-pub fn scale_of(matches: &ArgMatches<'_>) -> Scale {
+fn scale_of(matches: &ArgMatches<'_>) -> Scale {
     match matches.get_str("scale") {
         Some("1/8") => Scale::Eighth,
         Some("1/4") => Scale::Quarter,

@@ -2,6 +2,7 @@
 
 use crate::arguments::Making;
 use crate::parameters::{Form, INPUT, Parameter, word};
+use crate::pictures;
 use std::alloc::Global;
 
 /// The word.
@@ -11,13 +12,14 @@ const ABOUT: &str = "Decodes a JPEG file to a line WIDTH HEIGHT FORMAT, and then
 
 const OUTPUT: &str = "The file to write; standard output by default, or for -";
 
-const PARAMETERS: [Parameter; 2] = [
+const PARAMETERS: [Parameter; 3] = [
     INPUT,
     Parameter {
         name: "output",
         form: Form::Output,
         help: OUTPUT,
     },
+    pictures::UPRIGHT,
 ];
 
 /// Returns what the word takes.

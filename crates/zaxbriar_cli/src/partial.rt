@@ -14,6 +14,8 @@ use zaxbriar_pictures::extents::Completeness;
 pub enum Rows {
     /// Those of the file that was written.
     OfOutput,
+    /// Those of the picture at its scale as it is stored, before it is turned.
+    OfStored,
     /// Those of the file that was read, as it stores them: the picture may have been made smaller
     /// or turned.
     OfFile,
@@ -50,6 +52,7 @@ impl fmt::Display for Part<'_> {
         }
         let whose = match self.rows {
             Rows::OfOutput => "",
+            Rows::OfStored => "the stored picture's ",
             Rows::OfFile => "the file's ",
         };
         if rows == 1 {

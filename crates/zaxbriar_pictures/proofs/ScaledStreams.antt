@@ -3,7 +3,7 @@ use Rattle.std.proofs.Common.{◌≡◌, ◌∙◌, ◌++◌, ℕ, List, Ok, Err
 use Rattle.std.proofs.Common.{ap, subst, sym, true}
 use Rattle.std.specs.Prelude.{IsOkAnd}
 use Rattle.std.specs.Io.KnownBytes.{Appends}
-use Rattle.jpeg_bits.specs.Reading.{Fault, Outcome, ◌>>=◌}
+use Rattle.jpeg_bits.specs.Reading.{Outcome, ◌>>=◌}
 use Rattle.jpeg_bits.specs.declared.error.Error.{Error}
 use Rattle.jpeg_segments.specs.Frame.{Frame}
 use Rattle.jpeg_meaning.specs.Output.{default_settings, header_line_of, output_of}
@@ -25,8 +25,15 @@ use Rattle.zaxbriar_pictures.proofs.AllowedRests.{allowed-rest}
 use Rattle.zaxbriar_pictures.specs.Given.{CodesWithin, TellsGiven, complete_rest, complete_rows, complete_within}
 use Rattle.zaxbriar_pictures.specs.Given.{given_rest, given_within, most_after, settings_within, without_fault}
 use Rattle.zaxbriar_samples.specs.DecodedPictures.{Decoded, decoded}
+use Rattle.zaxbriar_pictures.specs.Raw.{raw_bytes, raw_of}
 use Rattle.zaxbriar_samples.specs.Files.{file_as}
+use Rattle.zaxbriar_samples.specs.Sizes.{orientation_by, orientation_for}
+use Rattle.zaxbriar_samples.specs.Turns.{upright}
 use Rattle.zaxbriar_samples.specs.declared.files.PictureFormat.{PictureFormat}
+use Rattle.zaxbriar_samples.specs.declared.requests.AtScale.{AtScale}
+use Rattle.zaxbriar_samples.specs.declared.requests.Request.TheVariants.{At}
+use Rattle.zaxbriar_samples.specs.declared.requests.Upright.{Upright}
+use Rattle.zaxbriar_samples.specs.declared.requests.Upright.TheVariants.{AsStored, Turned}
 use Rattle.zaxbriar_pictures.specs.ScaledPictures.{header_exif, header_info, picture_at_scale}
 use Rattle.zaxbriar_pictures.specs.Steps.{GivesPicture}
 use Rattle.zaxbriar_pictures.specs.declared.extents.Completeness.{Completeness}
@@ -37,13 +44,13 @@ use Rattle.jpeg_segments.specs.declared.scale.Scale.{Scale}
 -- ---- the picture and the fault that are given
 
 -- what is said of a frame and its precision are those of a picture
-of_frame : {F : Type 0} (frame : Option F) (said : F → ImageInfo) (bits : F → ℕ) (pixels : List ℕ) (fault : Option Fault)
+of_frame : {F A : Type 0} (frame : Option F) (said : F → ImageInfo) (bits : F → ℕ) (pixels : List ℕ) (made : Decoded → A)
     (info : ImageInfo) (precision : ℕ)
     → option_map said frame ≡ Some info → option_map bits frame ≡ Some precision
-    → option_map (λ f. given (decoded (said f) (bits f) pixels) fault) frame
-    ≡ Some (given (decoded info precision pixels) fault)
-of_frame (Some f) said bits pixels fault info precision hi hp = cc
-of_frame None said bits pixels fault info precision hi hp = absurd (cc)
+    → option_map (λ f. made (decoded (said f) (bits f) pixels)) frame
+    ≡ Some (made (decoded info precision pixels))
+of_frame (Some f) said bits pixels made info precision hi hp = cc
+of_frame None said bits pixels made info precision hi hp = absurd (cc)
 
 -- The header of a stream and what the rest gives at a scale are what it gives at that scale.
 given-some : (extent : Extent) (limits : Limits) (scale : Scale) (bytes rest : List ℕ) (found : Found) (s : Shown) (info : ImageInfo)
@@ -54,7 +61,7 @@ given-some : (extent : Extent) (limits : Limits) (scale : Scale) (bytes rest : L
 unfolding given_at_scale
 given-some extent limits scale bytes rest found s info precision header gives hi hp =
     rw (given_at_scale, then-ok (header_at bytes) _ (found, rest) (Ok s) header gives)
-    (of_frame s.told.frame info_of (λ f. f.precision) s.picture s.fault info precision hi hp)
+    (of_frame s.told.frame info_of (λ f. f.precision) s.picture (λ p. given p s.fault) info precision hi hp)
 
 -- The rows that are complete of what the rest gives are those of what the stream gives.
 rows-at : (extent : Extent) (limits : Limits) (scale : Scale) (bytes rest : List ℕ) (found : Found) (height : ℕ)
@@ -95,21 +102,26 @@ tells-given extent limits scale bytes g picture told is same names rows =
     let said = is ∙ ap (λ (p : Decoded). p.info) same in
     (said, rows ∙ ap (λ (i : ImageInfo). complete_rows extent limits scale bytes i.height) (sym said), names)
 
-pub file-given : (extent : Extent) (limits : Limits) (scale : Scale) (format : PictureFormat) (bytes : List ℕ)
+pub file-given : (extent : Extent) (limits : Limits) (asked : AtScale) (orientation : ℕ) (format : PictureFormat) (bytes : List ℕ)
     (before after : Option (List ℕ)) (picture : Decoded) (told : Completeness)
-    → IsGiven extent limits scale bytes picture told.whole_rows told.fault → told.info ≡ picture.info
-    → IsSomeAnd (file_as format picture) (Appends before after)
-    → WritesGiven extent limits scale format bytes before after told
-file-given extent limits scale format bytes before after picture told h is appended = go (given_at_scale extent limits scale bytes) h
+    → orientation ≡ orientation_for (At asked) (header_exif bytes)
+    → IsGiven extent limits asked.scale bytes picture told.whole_rows told.fault → told.info ≡ picture.info
+    → IsSomeAnd (file_as format (upright orientation picture)) (Appends before after)
+    → WritesGiven extent limits asked format bytes before after told
+file-given extent limits asked orientation format bytes before after picture told turn h is appended =
+    go (given_at_scale extent limits asked.scale bytes) h
   where
     go : (o : Option Given) → IsSomeAnd o (λ g. (picture ≡ g.picture) × NamesFault told.fault g.fault
-        × (told.whole_rows ≡ complete_rows extent limits scale bytes g.picture.info.height))
-        → IsSomeAnd o (λ g. IsSomeAnd (file_as format g.picture) (Appends before after)
-        × TellsGiven extent limits scale bytes g told)
+        × (told.whole_rows ≡ complete_rows extent limits asked.scale bytes g.picture.info.height))
+        → IsSomeAnd o (λ g. IsSomeAnd
+        (file_as format (upright (orientation_for (At asked) (header_exif bytes)) g.picture)) (Appends before after)
+        × TellsGiven extent limits asked.scale bytes g told)
     go None h = absurd h
     go (Some g) h = (
-      subst (λ (p : Decoded). IsSomeAnd (file_as format p) (Appends before after)) h.0 appended,
-      tells-given extent limits scale bytes g picture told is h.0 h.1 h.2,
+      subst (λ (p : Decoded). IsSomeAnd (file_as format p) (Appends before after))
+          (ap (λ (o : ℕ). upright o picture) turn
+          ∙ ap (upright (orientation_for (At asked) (header_exif bytes))) h.0) appended,
+      tells-given extent limits asked.scale bytes g picture told is h.0 h.1 h.2,
     )
 
 -- Where the whole is wanted, the picture is the one that the stream means at the scale.
@@ -185,6 +197,28 @@ output-some limits bytes rest left found told pixels info header picture hi =
           ∙ (allowed-rest limits found rest ((told, pixels), left) picture).1,
       hi,
     ) refl
+
+-- So are they what `raw` writes, once the picture is turned by the orientation that is asked for.
+pub raw-some : (turning : Upright) (limits : Limits) (bytes rest left : List ℕ) (found : Found) (told : Told) (pixels : List ℕ)
+    (info : ImageInfo) (precision orientation : ℕ) → header_at bytes ≡ Ok (found, rest)
+    → rest_by (settings_within limits found) found rest ≡ Ok ((told, pixels), left)
+    → option_map info_of told.frame ≡ Some info → option_map (λ f. f.precision) told.frame ≡ Some precision
+    → orientation ≡ orientation_by turning found.said.metadata.exif
+    → raw_of turning bytes ≡ Some (raw_bytes (upright orientation (decoded info precision pixels)))
+unfolding raw_of orientation_by
+raw-some AsStored limits bytes rest left found told pixels info precision orientation header picture hi hp turn =
+    let one : orientation ≡ 1 = turn in
+    rw (raw_of, one) (output-some limits bytes rest left found told pixels info header picture hi)
+raw-some Turned limits bytes rest left found told pixels info precision orientation header picture hi hp turn =
+    let said = turn ∙ ap (orientation_by Turned) (sym (header-exif-some bytes rest found header)) in
+    rw (
+      raw_of,
+      header-means None default_settings found bytes rest header
+          ∙ (allowed-rest limits found rest ((told, pixels), left) picture).1,
+      said,
+    )
+    (of_frame told.frame info_of (λ f. f.precision) pixels
+    (λ p. raw_bytes (upright (orientation_by Turned (header_exif bytes)) p)) info precision hi hp)
 
 -- A stream of which they have a picture codes no more blocks than the limits allow.
 pub codes-within : (limits : Limits) (bytes rest : List ℕ) (found : Found) (m : (Told × List ℕ) × List ℕ)

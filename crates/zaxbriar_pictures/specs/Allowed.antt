@@ -1,5 +1,5 @@
 -- What a request takes of the picture of a stream, by its header, and whether the limits allow it.
-use Rattle.std.specs.Prelude.{ℕ, ◌+◌, ◌*◌, ◌-◌, ◌^◌, ◌==◌, Bool, true, false, List, min, option_map}
+use Rattle.std.specs.Prelude.{ℕ, ◌+◌, ◌*◌, ◌-◌, ◌^◌, ◌==◌, ◌&&◌, Bool, false, List, min, option_map}
 use Rattle.std.specs.Prelude.{Ok, Err, if◌then◌else◌, unwrap_or}
 use Rattle.jpeg_segments.specs.Frame.{Frame}
 use Rattle.jpeg_segments.specs.Scales.{scaled}
@@ -13,12 +13,14 @@ use Rattle.jpeg_decoder.specs.Bytes.{decoding_bytes}
 use Rattle.jpeg_decoder.specs.declared.sizes.DecodingBytes.{DecodingBytes}
 use Rattle.zaxbriar_files.specs.Limits.{is_allowed}
 use Rattle.zaxbriar_files.specs.declared.limits.Limits.{Limits}
-use Rattle.zaxbriar_samples.specs.Sizes.{orientation_for, scale_of_request, size_for}
+use Rattle.zaxbriar_samples.specs.Sizes.{orientation_by, orientation_for, scale_of_request}
+use Rattle.zaxbriar_samples.specs.Sizes.{size_for}
 use Rattle.zaxbriar_samples.specs.Turns.{bytes_of}
 use Rattle.zaxbriar_samples.specs.declared.files.PictureFormat.{PictureFormat}
 use Rattle.zaxbriar_samples.specs.declared.files.PictureFormat.TheVariants.{Netpbm, Png}
 use Rattle.zaxbriar_samples.specs.declared.requests.Request.{Request}
 use Rattle.zaxbriar_samples.specs.declared.requests.Request.TheVariants.{At, Within}
+use Rattle.zaxbriar_samples.specs.declared.requests.Upright.{Upright}
 
 -- a sum of bytes, as far as 64 bits count them
 abbrev pub together : ℕ → ℕ → ℕ
@@ -28,24 +30,36 @@ together a b = min (a + b) (2 ^ 64 - 1)
 abbrev pub taken_in_lines : DecodingBytes → ℕ
 taken_in_lines bytes = together bytes.coefficients bytes.planes
 
+-- what is taken where a picture is held whole, and turned by an orientation into another one,
+-- unless it is upright as it is
+abbrev pub taken_held : ℕ → DecodingBytes → ℕ
+taken_held orientation bytes =
+    if orientation == 1 then bytes.peak else together bytes.peak bytes.picture
+
+-- what is taken for the bytes of a picture
+abbrev pub taken_raw : ℕ → DecodingBytes → ℕ
+taken_raw orientation bytes =
+    if orientation == 1 then taken_in_lines bytes else taken_held orientation bytes
+
 -- a picture of this size, of the format of another
 abbrev pub made_bytes : Dimensions → ImageInfo → ℕ → ℕ
 made_bytes size full precision = size.width * size.height * bytes_of full.pixel_format precision
 
--- Whether the lines of a picture at a scale are written one by one. In a netpbm file of other than
--- 8 bits a sample, the greatest sample has to be known first.
-abbrev pub is_by_lines : PictureFormat → ℕ → Bool
-is_by_lines Netpbm precision = precision == 8
-is_by_lines Png precision = true
+-- Whether the lines of a picture at a scale are written one by one: those of one that isn't turned.
+-- In a netpbm file of other than 8 bits a sample, the greatest sample has to be known first.
+abbrev pub is_by_lines : PictureFormat → ℕ → ℕ → Bool
+is_by_lines Netpbm precision orientation = orientation == 1 && precision == 8
+is_by_lines Png precision orientation = orientation == 1
 
 -- What a request takes of the picture of a frame at its scale, for a file of a format: without the
 -- picture where its lines are written one by one. A picture that fits within a size is made beside
 -- the one that is decoded.
-unfoldable pub taken_for : Request → PictureFormat → ImageInfo → Frame → Dimensions → ℕ
-taken_for (At scale) format full f size =
+unfoldable pub taken_for : Request → PictureFormat → ImageInfo → Frame → Dimensions → ℕ → ℕ
+taken_for (At at) format full f size orientation =
     let bytes = decoding_bytes default_settings f in
-    if is_by_lines format f.precision then taken_in_lines bytes else bytes.peak
-taken_for (Within most upright) format full f size =
+    if is_by_lines format f.precision orientation then taken_in_lines bytes
+    else taken_held orientation bytes
+taken_for (Within most upright) format full f size orientation =
     together (decoding_bytes default_settings f).peak (made_bytes size full f.precision)
 
 -- whether the limits allow the pixels of a frame, and what a request takes of it
@@ -54,7 +68,8 @@ allows_frame request format limits header f =
     let full = info_of f in
     let orientation = orientation_for request header.said.metadata.exif in
     is_allowed limits full.width full.height (taken_for request format full
-    (scaled (scale_of_request request full orientation) f) (size_for request full orientation))
+    (scaled (scale_of_request request full orientation) f) (size_for request full orientation)
+    orientation)
 
 -- Whether the limits allow what a request takes of a stream, for a file of a format.
 unfoldable pub allows : Request → PictureFormat → Limits → List ℕ → Bool
@@ -64,14 +79,15 @@ allows request format limits bytes = elim (header_at bytes) [
   | Err fault ↦ false
 ]
 
--- Whether the limits allow the pixels of a stream, and what is taken where the lines of its picture
--- are written one by one, whatever their samples.
-abbrev pub allows_lines : Limits → Frame → Bool
-allows_lines limits f = is_allowed limits f.output_width f.output_height
-    (taken_in_lines (decoding_bytes default_settings f))
+-- Whether the limits allow the pixels of a stream, and what is taken for the bytes of its picture.
+abbrev pub allows_bytes : Upright → Limits → Found → Frame → Bool
+allows_bytes turning limits header f = is_allowed limits f.output_width f.output_height
+    (taken_raw (orientation_by turning header.said.metadata.exif)
+    (decoding_bytes default_settings f))
 
-unfoldable pub allows_raw : Limits → List ℕ → Bool
-allows_raw limits bytes = elim (header_at bytes) [
-  | Ok header ↦ unwrap_or (option_map (allows_lines limits) header.0.said.frame) false
+unfoldable pub allows_raw : Upright → Limits → List ℕ → Bool
+allows_raw turning limits bytes = elim (header_at bytes) [
+  | Ok header ↦
+      unwrap_or (option_map (allows_bytes turning limits header.0) header.0.said.frame) false
   | Err fault ↦ false
 ]

@@ -19,7 +19,12 @@ use Rattle.zaxbriar_files.specs.Limits.{most_blocks}
 use Rattle.zaxbriar_files.specs.declared.limits.Limits.{Limits}
 use Rattle.zaxbriar_samples.specs.DecodedPictures.{Decoded, decoded}
 use Rattle.zaxbriar_samples.specs.Files.{file_as}
+use Rattle.zaxbriar_samples.specs.Sizes.{orientation_for}
+use Rattle.zaxbriar_samples.specs.Turns.{upright}
 use Rattle.zaxbriar_samples.specs.declared.files.PictureFormat.{PictureFormat}
+use Rattle.zaxbriar_samples.specs.declared.requests.AtScale.{AtScale}
+use Rattle.zaxbriar_samples.specs.declared.requests.Request.TheVariants.{At}
+use Rattle.zaxbriar_pictures.specs.ScaledPictures.{header_exif}
 use Rattle.zaxbriar_pictures.specs.declared.extents.Completeness.{Completeness}
 use Rattle.zaxbriar_pictures.specs.declared.extents.Extent.{Extent}
 use Rattle.zaxbriar_pictures.specs.declared.extents.Extent.TheVariants.{Whole, Partial}
@@ -109,13 +114,16 @@ TellsGiven extent limits scale bytes g told = (told.info ≡ g.picture.info)
     × NamesFault told.fault g.fault
 
 -- A writer is given the file, in a format that has one, of the picture of a stream at a scale,
--- within the limits, and its caller is told how much of it is complete.
-abbrev pub WritesGiven : Extent → Limits → Scale → PictureFormat → List ℕ → Option (List ℕ)
+-- within the limits, turned upright by the orientation for the request: the one that the Exif data
+-- of the header say, or 1. Its caller is told how much of the picture is complete, before it is
+-- turned.
+abbrev pub WritesGiven : Extent → Limits → AtScale → PictureFormat → List ℕ → Option (List ℕ)
     → Option (List ℕ) → Completeness → Type 0
-WritesGiven extent limits scale format bytes before after told =
-    IsSomeAnd (given_at_scale extent limits scale bytes)
-    (λ g. IsSomeAnd (file_as format g.picture) (Appends before after)
-    × TellsGiven extent limits scale bytes g told)
+WritesGiven extent limits at format bytes before after told =
+    IsSomeAnd (given_at_scale extent limits at.scale bytes) (λ g. IsSomeAnd
+    (file_as format (upright (orientation_for (At at) (header_exif bytes)) g.picture))
+    (Appends before after)
+    × TellsGiven extent limits at.scale bytes g told)
 
 -- A caller is told how much of the picture that a stream shows is complete, at full size and within
 -- the limits.

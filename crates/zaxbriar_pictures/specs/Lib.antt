@@ -1,5 +1,6 @@
 pub mod Allowed
 pub mod Given
+pub mod Raw
 pub mod ScaledPictures
 pub mod Steps
 pub mod Thumbnails

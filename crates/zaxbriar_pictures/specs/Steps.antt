@@ -15,6 +15,7 @@ use Rattle.zaxbriar_pictures.specs.Given.{complete_rest, given_rest, settings_wi
 use Rattle.zaxbriar_samples.specs.DecodedPictures.{Decoded}
 use Rattle.zaxbriar_samples.specs.Files.{file_as}
 use Rattle.zaxbriar_samples.specs.Sizes.{orientation_for, scale_of_request, size_for}
+use Rattle.zaxbriar_samples.specs.Turns.{upright}
 use Rattle.zaxbriar_pictures.specs.declared.extents.Completeness.{Completeness}
 use Rattle.zaxbriar_pictures.specs.declared.extents.Extent.{Extent}
 use Rattle.zaxbriar_pictures.specs.declared.scaled.Choice.{Choice}
@@ -60,9 +61,10 @@ pub record GivesPicture (extent : Extent) (old new : Decoding) (picture : Decode
   pub told_is : told.info ≡ picture.info
   pub rows : CountsRest extent old told.info.height told.whole_rows
 
--- Such a decoder has given a picture, and a writer has got its file in a format that has one.
-pub record WritesFile (extent : Extent) (format : PictureFormat) (old new : Decoding)
-    (before after : Option (List ℕ)) (told : Completeness) : Type 0 where
+-- Such a decoder has given a picture, and a writer has got its file in a format that has one, once
+-- it was turned upright by an orientation.
+pub record WritesFile (extent : Extent) (orientation : ℕ) (format : PictureFormat)
+    (old new : Decoding) (before after : Option (List ℕ)) (told : Completeness) : Type 0 where
   pub picture : Decoded
   pub gives : GivesPicture extent old new picture told
-  pub written : IsSomeAnd (file_as format picture) (Appends before after)
+  pub written : IsSomeAnd (file_as format (upright orientation picture)) (Appends before after)

@@ -10,6 +10,7 @@ ghost use Rattle.zaxbriar_pictures.specs.Allowed.{allows};
 ghost use Rattle.zaxbriar_pictures.specs.Given.{TellsOfStream, is_whole};
 ghost use Rattle.zaxbriar_pictures.specs.declared.extents.Extent.TheVariants.{Partial};
 ghost use Rattle.zaxbriar_samples.specs.declared.files.PictureFormat.TheVariants.{Netpbm};
+ghost use Rattle.zaxbriar_samples.specs.Sizes.{stored_at};
 ghost use Rattle.zaxbriar_samples.specs.declared.requests.Request.TheVariants.{At};
 
 use crate::extents::{Completeness, Extent, decode_wanted_lines};
@@ -20,7 +21,7 @@ use std::io::Read;
 use zaxbriar_files::limits::Limits;
 use zaxbriar_files::refusal::Refusal;
 use zaxbriar_samples::files::PictureFormat;
-use zaxbriar_samples::requests::Request;
+use zaxbriar_samples::requests::{AtScale, Request, Upright};
 
 /// Decodes the stream of a decoder that has read nothing to the end of its image or its first
 /// fault, and returns how much of its picture is complete. The picture itself is not made.
@@ -33,14 +34,13 @@ fn check_decoder<R: Read + Drop>(
     ensures told { decoder.old.source.known ≡ true
         → IfOk result (TellsOfStream limits decoder.old.source.bytes) }
     ensures limited { decoder.old.source.known ≡ true → IfOk result
-        (λ _. allows (At Full) Netpbm limits decoder.old.source.bytes ≡ true) }
+        (λ _. allows (At (stored_at Full)) Netpbm limits decoder.old.source.bytes ≡ true) }
 {
-    choose(
-        decoder,
-        Request::At(Scale::Full),
-        PictureFormat::Netpbm,
-        limits,
-    )?;
+    let at = AtScale {
+        scale: Scale::Full,
+        upright: Upright::AsStored,
+    };
+    choose(decoder, Request::At(at), PictureFormat::Netpbm, limits)?;
     let shown = decode_wanted_lines(decoder, Extent::Partial)?;
     let info = decoder.info().unwrap();
     Ok(Completeness {
@@ -70,7 +70,7 @@ pub fn check_stream<R: Read + Drop>(
 
     // A picture that has or takes more than the limits allow is refused.
     ensures limited { (bytes : List ℕ) → Tells (R.remaining reader) bytes
-        → IfOk result (λ _. allows (At Full) Netpbm limits bytes ≡ true) }
+        → IfOk result (λ _. allows (At (stored_at Full)) Netpbm limits bytes ≡ true) }
 {
     let mut decoder = Decoder::with_capacity(alloc, READ_AHEAD, reader)?;
     check_decoder(&mut decoder, limits)

@@ -1,21 +1,28 @@
-//! The bytes of a stream's picture, as the program `jpegraw` writes them.
-ghost use Rattle.std.specs.Prelude.{◌≡◌, ◌++◌, ℕ, List, Some, IfOk, OnOk, IsSomeAnd};
+//! The bytes of a stream's picture, as the program `jpegraw` writes them, or turned upright.
+ghost use Rattle.std.specs.Prelude.{◌≡◌, ℕ, List, Some, IfOk, IfSome, OnOk, IsSomeAnd};
 ghost use Rattle.std.specs.Prelude.{string_bytes, true};
 ghost use Rattle.std.specs.List.{concat};
 ghost use Rattle.std.specs.Io.KnownBytes.{Appends};
+ghost use Rattle.jpeg_decoder.specs.Bytes.{decoding_bytes};
 ghost use Rattle.jpeg_meaning.specs.Output.{Tells, default_settings, header_line_of, name_of};
-ghost use Rattle.jpeg_meaning.specs.Output.{output_of};
+ghost use Rattle.jpeg_meaning.specs.States.{HasHeader};
 ghost use Rattle.jpeg_meaning.specs.declared.progress.Progress.TheVariants.{Fresh};
-ghost use Rattle.zaxbriar_pictures.specs.Allowed.{allows_raw};
+ghost use Rattle.zaxbriar_pictures.specs.Allowed.{allows_raw, taken_raw};
 ghost use Rattle.zaxbriar_pictures.specs.Given.{CodesWithin};
+ghost use Rattle.zaxbriar_pictures.specs.Raw.{raw_bytes, raw_of};
+ghost use Rattle.zaxbriar_samples.specs.DecodedPictures.{decoded};
+ghost use Rattle.zaxbriar_samples.specs.Turns.{upright};
 
-use crate::scaled::{READ_AHEAD, limit_blocks, taken_by_lines};
+use crate::lines::{Stored, upright_of};
+use crate::scaled::{READ_AHEAD, limit_blocks, taken_by_lines, taken_held};
 use jpeg_decoder::run::write_lines;
 use jpeg_decoder::{Decoder, ImageInfo, Lines, PixelFormat, error};
 use std::alloc::{AllocError, Global};
 use std::io::{Read, Write};
 use zaxbriar_files::limits::Limits;
 use zaxbriar_files::refusal::Refusal;
+use zaxbriar_samples::netpbm::write_both;
+use zaxbriar_samples::requests::Upright;
 
 /// Returns the name of a format in the header line.
 fn format_name(format: PixelFormat) -> &'static str
@@ -39,17 +46,50 @@ fn header_line(alloc: Global, info: ImageInfo) -> Result<String, AllocError>
     format!(in alloc; "{width} {height} {format}\n")
 }
 
-/// Writes the header line of a picture and then its pixels, line by line from the top.
+/// Returns how many bytes decoding the picture of a decoder takes, whose header was read, without
+/// the picture where its lines are written one by one: where it isn't turned.
+fn taken_raw<R: Read + Drop>(decoder: &Decoder<R>, orientation: u8) -> u64
+    ensures { HasHeader decoder.now.stage → IfSome decoder.now.found.said.frame (λ f. result
+        ≡ taken_raw orientation (decoding_bytes decoder.now.settings f)) }
+{
+    if orientation == 1 {
+        taken_by_lines(decoder)
+    } else {
+        taken_held(decoder, orientation)
+    }
+}
+
+/// Writes the header line of a picture and then its pixels, once it is turned upright.
+fn write_turned<W: Write>(
+    alloc: Global,
+    stored: Stored,
+    lines: Lines,
+    writer: &mut W,
+) -> error::Result<()>
+    ensures { OnOk result (Appends (W.contents writer.old) (W.contents writer.new) (raw_bytes
+        (upright stored.orientation (decoded stored.info stored.precision (concat lines))))) }
+{
+    let picture = upright_of(alloc, stored, lines)?;
+    let line = header_line(alloc, picture.info)?;
+    write_both(writer, line.as_bytes(), picture.pixels.as_slice())?;
+    Ok(())
+}
+
+/// Writes the header line of a picture, turned upright, and then its pixels, line by line from the
+/// top.
 fn write_pixels<W: Write>(
     alloc: Global,
-    info: ImageInfo,
+    stored: Stored,
     mut lines: Lines,
     writer: &mut W,
 ) -> error::Result<()>
-    ensures { OnOk result (Appends (W.contents writer.old) (W.contents writer.new)
-        (header_line_of (Some info) ++ concat lines)) }
+    ensures { OnOk result (Appends (W.contents writer.old) (W.contents writer.new) (raw_bytes
+        (upright stored.orientation (decoded stored.info stored.precision (concat lines))))) }
 {
-    let line = header_line(alloc, info)?;
+    if stored.orientation != 1 {
+        return write_turned(alloc, stored, lines, writer);
+    }
+    let line = header_line(alloc, stored.info)?;
     write_lines(alloc, line.as_bytes(), &mut lines, writer)
 }
 
@@ -58,45 +98,56 @@ fn write_pixels<W: Write>(
 fn write_decoded<R: Read + Drop, W: Write>(
     alloc: Global,
     decoder: &mut Decoder<R>,
+    turning: Upright,
     limits: Limits,
     writer: &mut W,
 ) -> Result<(), Refusal>
     requires fresh { decoder.old.stage ≡ Fresh }
     requires plain { decoder.old.settings ≡ default_settings }
     ensures written { decoder.old.source.known ≡ true
-        → OnOk result (IsSomeAnd (output_of decoder.old.source.bytes) (Appends
+        → OnOk result (IsSomeAnd (raw_of turning decoder.old.source.bytes) (Appends
         (W.contents writer.old) (W.contents writer.new))) }
     ensures limited { decoder.old.source.known ≡ true
-        → OnOk result (allows_raw limits decoder.old.source.bytes ≡ true) }
+        → OnOk result (allows_raw turning limits decoder.old.source.bytes ≡ true) }
     ensures bounded { decoder.old.source.known ≡ true
         → OnOk result (CodesWithin limits decoder.old.source.bytes) }
 {
     decoder.read_info()?;
     let full = decoder.info().unwrap();
-    let taken = taken_by_lines(decoder);
+    let orientation = turning.orientation_in(decoder.exif_data());
+    let taken = taken_raw(decoder, orientation);
     limits.check(full.width, full.height, taken)?;
     limit_blocks(decoder, limits);
     let lines = decoder.decode_lines()?;
-    write_pixels(alloc, decoder.info().unwrap(), lines, writer)?;
+    let info = decoder.info().unwrap();
+    let precision = decoder.precision().unwrap();
+    let stored = Stored {
+        info,
+        precision,
+        orientation,
+    };
+    write_pixels(alloc, stored, lines, writer)?;
     Ok(())
 }
 
 /// Decodes the stream that the reader gives, and writes the header line and then the pixels, line
-/// by line from the top.
+/// by line from the top: as they are stored, or turned upright by the orientation in the header's
+/// Exif data (Exif 2.3, 4.6.4).
 pub fn write_raw<R: Read + Drop, W: Write>(
     alloc: Global,
     reader: R,
+    turning: Upright,
     limits: Limits,
     writer: &mut W,
 ) -> Result<(), Refusal>
     ensures written { (bytes : List ℕ) → Tells (R.remaining reader) bytes
-        → OnOk result (IsSomeAnd (output_of bytes) (Appends (W.contents writer.old)
+        → OnOk result (IsSomeAnd (raw_of turning bytes) (Appends (W.contents writer.old)
         (W.contents writer.new))) }
     ensures limited { (bytes : List ℕ) → Tells (R.remaining reader) bytes
-        → OnOk result (allows_raw limits bytes ≡ true) }
+        → OnOk result (allows_raw turning limits bytes ≡ true) }
     ensures bounded { (bytes : List ℕ) → Tells (R.remaining reader) bytes
         → OnOk result (CodesWithin limits bytes) }
 {
     let mut decoder = Decoder::with_capacity(alloc, READ_AHEAD, reader)?;
-    write_decoded(alloc, &mut decoder, limits, writer)
+    write_decoded(alloc, &mut decoder, turning, limits, writer)
 }

@@ -1,4 +1,4 @@
-//! Pictures of streams at a scale, as netpbm or PNG files.
+//! Pictures of streams at a scale, as netpbm or PNG files, as they are stored or turned upright.
 ghost use Rattle.std.specs.Prelude.{◌≡◌, ◌*◌, List, ℕ, IfOk, Some, IsSomeAnd, option_map};
 ghost use Rattle.std.specs.Prelude.{◌≤◌, IfSome, true};
 ghost use Rattle.jpeg_bits.specs.Reading.{Answers};
@@ -8,7 +8,7 @@ ghost use Rattle.jpeg_meaning.specs.States.{IsReading, ahead};
 ghost use Rattle.jpeg_meaning.specs.Stream.{told_of};
 ghost use Rattle.jpeg_decoder.specs.Bytes.{decoding_bytes};
 ghost use Rattle.jpeg_meaning.specs.States.{HasHeader};
-ghost use Rattle.zaxbriar_pictures.specs.Allowed.{allows, is_by_lines, made_bytes, taken_for};
+ghost use Rattle.zaxbriar_pictures.specs.Allowed.{allows, made_bytes, taken_for, taken_held};
 ghost use Rattle.zaxbriar_pictures.specs.Allowed.{taken_in_lines};
 ghost use Rattle.jpeg_meaning.specs.Output.{default_settings};
 ghost use Rattle.jpeg_meaning.specs.declared.progress.Progress.TheVariants.{Fresh, HeaderRead};
@@ -20,7 +20,7 @@ ghost use Rattle.zaxbriar_samples.specs.Sizes.{orientation_for, scale_of_request
 ghost use Rattle.zaxbriar_samples.specs.declared.requests.Request.TheVariants.{At};
 
 use crate::extents::{Completeness, Extent, decode_wanted_lines, decode_wanted_picture};
-use crate::lines::write_file;
+use crate::lines::{Stored, is_by_lines, write_file};
 use jpeg_decoder::error::Error;
 use jpeg_decoder::parser::Dimensions;
 use jpeg_decoder::{Decoder, ImageInfo, Scale, error};
@@ -30,7 +30,7 @@ use zaxbriar_files::limits::Limits;
 use zaxbriar_files::refusal::Refusal;
 use zaxbriar_samples::files::{PictureFormat, has_pixels};
 use zaxbriar_samples::netpbm::Picture;
-use zaxbriar_samples::requests::Request;
+use zaxbriar_samples::requests::{AtScale, Request};
 use zaxbriar_samples::turns::bytes_of;
 
 /// How many bytes of a stream are read ahead of what is decoded.
@@ -80,6 +80,24 @@ pub(crate) fn taken_by_lines<R: Read + Drop>(decoder: &Decoder<R>) -> u64
     }
 }
 
+/// Returns how many bytes this takes where the picture is held whole, and turned by an orientation
+/// into another one, unless it is upright as it is.
+pub(crate) fn taken_held<R: Read + Drop>(decoder: &Decoder<R>, orientation: u8) -> u64
+    ensures { HasHeader decoder.now.stage → IfSome decoder.now.found.said.frame (λ f. result
+        ≡ taken_held orientation (decoding_bytes decoder.now.settings f)) }
+{
+    match decoder.decoding_bytes() {
+        Some(bytes) => {
+            if orientation == 1 {
+                bytes.peak
+            } else {
+                bytes.peak.saturating_add(bytes.picture)
+            }
+        }
+        None => 0,
+    }
+}
+
 /// What a request asks of a stream, by its header.
 #[derive(Clone, Copy)]
 pub struct Choice {
@@ -121,19 +139,8 @@ fn made_bytes(size: Dimensions, full: ImageInfo, precision: u8) -> u64
     u64::from(size.width) * u64::from(size.height) * pixel as u64
 }
 
-/// Returns whether the lines of a picture at a scale are written one by one: in a netpbm file of
-/// other than eight bits, its greatest sample has to be known first.
-fn is_by_lines(format: PictureFormat, precision: u8) -> bool
-    ensures { result ≡ is_by_lines format precision }
-{
-    match format {
-        PictureFormat::Netpbm => precision == 8,
-        PictureFormat::Png => true,
-    }
-}
-
 /// Returns how many bytes the picture of a decoder takes for a request, whose header was read: with
-/// the picture that is made of it, or, where its lines are written one by one, without it.
+/// the picture that is made of it, or, where its lines are written one by one, without any.
 #[tactic(auto, unfolding(crate::specs::Allowed::taken_for))]
 fn bytes_for<R: Read + Drop>(
     decoder: &Decoder<R>,
@@ -141,19 +148,20 @@ fn bytes_for<R: Read + Drop>(
     format: PictureFormat,
     full: ImageInfo,
     size: Dimensions,
+    orientation: u8,
 ) -> u64
     requires plain { decoder.now.settings ≡ default_settings }
     requires header { HasHeader decoder.now.stage }
     ensures { IfSome decoder.now.found.said.frame (λ f. result
-        ≡ taken_for request format full f size) }
+        ≡ taken_for request format full f size orientation) }
 {
     let precision = decoder.precision().unwrap_or(8);
     match request {
         Request::At(_) => {
-            if is_by_lines(format, precision) {
+            if is_by_lines(format, precision, orientation) {
                 taken_by_lines(decoder)
             } else {
-                taken_by(decoder)
+                taken_held(decoder, orientation)
             }
         }
         Request::Within(_, _) => {
@@ -186,8 +194,8 @@ pub(crate) fn choose<R: Read + Drop>(
     requires plain { decoder.old.settings ≡ default_settings }
     ensures reads { IfOk result (λ choice. ReadsForRequest request limits choice decoder.old
         decoder.new) }
-    ensures asked { (scale : _) → request ≡ At scale
-        → IfOk result (λ choice. choice.scale ≡ scale) }
+    ensures asked { (at : _) → request ≡ At at
+        → IfOk result (λ choice. choice.scale ≡ at.scale) }
     ensures orientation { IfOk result (λ choice. (1 ≤ choice.orientation)
         × (choice.orientation ≤ 8)) }
     ensures limited { IfOk result (λ _. decoder.old.source.known ≡ true
@@ -202,7 +210,7 @@ pub(crate) fn choose<R: Read + Drop>(
     limits.check(
         full.width,
         full.height,
-        bytes_for(decoder, request, format, full, size),
+        bytes_for(decoder, request, format, full, size, orientation),
     )?;
     limit_blocks(decoder, limits);
     Ok(Choice {
@@ -228,7 +236,7 @@ fn read_chosen<R: Read + Drop>(
     ensures picture { decoder.old.source.known ≡ true → IfOk result (λ made. IsGiven extent
         limits made.scale decoder.old.source.bytes (decoded_in made.picture) made.whole_rows
         made.fault) }
-    ensures asked { (scale : _) → request ≡ At scale → IfOk result (λ made. made.scale ≡ scale) }
+    ensures asked { (at : _) → request ≡ At at → IfOk result (λ made. made.scale ≡ at.scale) }
     ensures chosen { decoder.old.source.known ≡ true → IfOk result (λ made.
         IsSomeAnd (header_info decoder.old.source.bytes) (λ full. (made.full ≡ full)
         × (made.scale ≡ scale_of_request request full made.orientation)
@@ -271,7 +279,7 @@ pub fn read_picture<R: Read + Drop>(
         (decoded_in made.picture) made.whole_rows made.fault) }
 
     // A requested scale is the scale.
-    ensures asked { (scale : _) → request ≡ At scale → IfOk result (λ made. made.scale ≡ scale) }
+    ensures asked { (at : _) → request ≡ At at → IfOk result (λ made. made.scale ≡ at.scale) }
 
     // Scale and size are those for the request, by the header and the orientation.
     ensures chosen { (bytes : List ℕ) → Tells (R.remaining reader) bytes → IfOk result (λ made.
@@ -294,17 +302,18 @@ pub fn read_picture<R: Read + Drop>(
 }
 
 /// Decodes as much as is wanted of the picture of a decoder, at the scale that was set, writes it
-/// as a file, and returns how much of it is complete. One whose pixels the format doesn't have is
-/// refused, and nothing is written.
+/// as a file, turned upright by an orientation, and returns how much of it is complete, before it
+/// is turned. One whose pixels the format doesn't have is refused, and nothing is written.
 fn write_decoded<R: Read + Drop, W: Write>(
     alloc: Global,
     decoder: &mut Decoder<R>,
+    orientation: u8,
     extent: Extent,
     format: PictureFormat,
     writer: &mut W,
 ) -> Result<Completeness, Refusal>
     requires header { decoder.old.stage ≡ HeaderRead }
-    ensures { IfOk result (λ told. WritesFile extent format decoder.old decoder.new
+    ensures { IfOk result (λ told. WritesFile extent orientation format decoder.old decoder.new
         (W.contents writer.old) (W.contents writer.new) told) }
 {
     let decoded = decode_wanted_lines(decoder, extent)?;
@@ -313,7 +322,12 @@ fn write_decoded<R: Read + Drop, W: Write>(
     if !has_pixels(format, info.pixel_format) {
         return Err(Refusal::Cmyk);
     }
-    write_file(alloc, info, precision, decoded.lines, format, writer)?;
+    let stored = Stored {
+        info,
+        precision,
+        orientation,
+    };
+    write_file(alloc, stored, decoded.lines, format, writer)?;
     Ok(Completeness {
         info,
         whole_rows: decoded.whole_rows,
@@ -326,7 +340,7 @@ fn write_decoded<R: Read + Drop, W: Write>(
 fn write_chosen<R: Read + Drop, W: Write>(
     alloc: Global,
     decoder: &mut Decoder<R>,
-    scale: Scale,
+    at: AtScale,
     extent: Extent,
     limits: Limits,
     format: PictureFormat,
@@ -335,33 +349,34 @@ fn write_chosen<R: Read + Drop, W: Write>(
     requires fresh { decoder.old.stage ≡ Fresh }
     requires plain { decoder.old.settings ≡ default_settings }
     ensures written { decoder.old.source.known ≡ true → IfOk result (WritesGiven extent limits
-        scale format decoder.old.source.bytes (W.contents writer.old) (W.contents writer.new)) }
+        at format decoder.old.source.bytes (W.contents writer.old) (W.contents writer.new)) }
     ensures limited { decoder.old.source.known ≡ true → IfOk result
-        (λ _. allows (At scale) format limits decoder.old.source.bytes ≡ true) }
+        (λ _. allows (At at) format limits decoder.old.source.bytes ≡ true) }
 {
-    choose(decoder, Request::At(scale), format, limits)?;
-    write_decoded(alloc, decoder, extent, format, writer)
+    let choice = choose(decoder, Request::At(at), format, limits)?;
+    write_decoded(alloc, decoder, choice.orientation, extent, format, writer)
 }
 
 /// Decodes as much as is wanted of the stream that the reader gives, writes its picture at a scale,
-/// and returns how much of the picture is complete, with the first fault of the stream. A picture
-/// above the limits is refused by its header, and one whose pixels the format doesn't have before
-/// anything is written. A read that fails is an error.
+/// turned upright by the orientation in its header's Exif data (Exif 2.3, 4.6.4) if that is asked
+/// for, and returns how much of the picture is complete, before it is turned, with the first fault
+/// of the stream. A picture above the limits is refused by its header, and one whose pixels the
+/// format doesn't have before anything is written. A read that fails is an error.
 pub fn write_at<R: Read + Drop, W: Write>(
     alloc: Global,
     reader: R,
-    scale: Scale,
+    at: AtScale,
     extent: Extent,
     limits: Limits,
     format: PictureFormat,
     writer: &mut W,
 ) -> Result<Completeness, Refusal>
     ensures written { (bytes : List ℕ) → Tells (R.remaining reader) bytes
-        → IfOk result (WritesGiven extent limits scale format bytes (W.contents writer.old)
+        → IfOk result (WritesGiven extent limits at format bytes (W.contents writer.old)
         (W.contents writer.new)) }
     ensures limited { (bytes : List ℕ) → Tells (R.remaining reader) bytes
-        → IfOk result (λ _. allows (At scale) format limits bytes ≡ true) }
+        → IfOk result (λ _. allows (At at) format limits bytes ≡ true) }
 {
     let mut decoder = Decoder::with_capacity(alloc, READ_AHEAD, reader)?;
-    write_chosen(alloc, &mut decoder, scale, extent, limits, format, writer)
+    write_chosen(alloc, &mut decoder, at, extent, limits, format, writer)
 }

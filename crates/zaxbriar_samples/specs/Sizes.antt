@@ -6,8 +6,10 @@ use Rattle.std.specs.Int.{div_ceil}
 use Rattle.jpeg_orientation.specs.Orientation.{orientation_in}
 use Rattle.jpeg_segments.specs.declared.frame.Dimensions.{Dimensions}
 use Rattle.jpeg_meaning.specs.declared.images.ImageInfo.{ImageInfo}
+use Rattle.zaxbriar_samples.specs.declared.requests.AtScale.{AtScale}
 use Rattle.zaxbriar_samples.specs.declared.requests.Request.{Request}
 use Rattle.zaxbriar_samples.specs.declared.requests.Request.TheVariants.{At, Within}
+use Rattle.zaxbriar_samples.specs.declared.requests.Upright.{Upright}
 use Rattle.zaxbriar_samples.specs.declared.requests.Upright.TheVariants.{Turned, AsStored}
 use Rattle.jpeg_segments.specs.declared.scale.Scale.{Scale}
 use Rattle.jpeg_segments.specs.declared.scale.Scale.TheVariants.{Eighth, Quarter, Half, Full}
@@ -46,6 +48,10 @@ side_at Quarter side = div_ceil side 4
 side_at Half side = div_ceil side 2
 side_at Full side = side
 
+-- a scale at which a picture stays as it is stored
+abbrev pub stored_at : Scale → AtScale
+stored_at scale = record { scale = scale; upright = AsStored }
+
 -- whether a picture at a scale isn't smaller than a size
 abbrev pub covers : Scale → ImageInfo → Dimensions → Bool
 covers scale full size =
@@ -65,20 +71,23 @@ least_scale full size = if is_full full size then Full
 
 -- The orientation by which a picture is to be turned: the one that its Exif data say, or 1 where
 -- they say none or the picture is to stay as it is stored.
+unfoldable pub orientation_by : Upright → Option (List ℕ) → ℕ
+orientation_by AsStored exif = 1
+orientation_by Turned None = 1
+orientation_by Turned (Some exif) = unwrap_or (orientation_in exif) 1
+
 unfoldable pub orientation_for : Request → Option (List ℕ) → ℕ
-orientation_for (At scale) exif = 1
-orientation_for (Within most AsStored) exif = 1
-orientation_for (Within most Turned) None = 1
-orientation_for (Within most Turned) (Some exif) = unwrap_or (orientation_in exif) 1
+orientation_for (At at) exif = orientation_by at.upright exif
+orientation_for (Within most upright) exif = orientation_by upright exif
 
 -- The size of the requested picture, as it is stored, and the scale that it is decoded at:
 -- by what the header says, and the orientation.
 unfoldable pub size_for : Request → ImageInfo → ℕ → Dimensions
-size_for (At scale) full orientation = dimensions (side_at scale full.width) (side_at scale
-    full.height)
+size_for (At at) full orientation =
+    dimensions (side_at at.scale full.width) (side_at at.scale full.height)
 size_for (Within most upright) full orientation = fitted full (as_stored most orientation)
 
 unfoldable pub scale_of_request : Request → ImageInfo → ℕ → Scale
-scale_of_request (At scale) full orientation = scale
+scale_of_request (At at) full orientation = at.scale
 scale_of_request (Within most upright) full orientation = least_scale full (fitted full (as_stored
     most orientation))

@@ -1,24 +1,27 @@
--- Pictures turned upright by the orientation in their Exif data: where each byte comes from.
-use Rattle.std.specs.Prelude.{ℕ, ◌+◌, ◌*◌, ◌/◌, ◌%◌, ◌==◌, List, length}
-use Rattle.std.specs.Prelude.{if◌then◌else◌, nat_lt, slice_index_or}
+-- Pictures turned upright by the orientation in their Exif data: where each pixel comes from.
+use Rattle.std.specs.Prelude.{ℕ, ◌*◌, ◌==◌, List, drop, take}
+use Rattle.std.specs.Prelude.{if◌then◌else◌, nat_lt}
 use Rattle.jpeg_orientation.specs.Turns.{stored_offset, upright_height, upright_width}
 use Rattle.jpeg_orientation.specs.declared.turns.Turn.{Turn}
 use Rattle.jpeg_meaning.specs.declared.images.ImageInfo.{ImageInfo}
 use Rattle.jpeg_meaning.specs.declared.images.PixelFormat.{PixelFormat}
 use Rattle.jpeg_meaning.specs.declared.images.PixelFormat.TheVariants.{L8, L16, RGB24, CMYK32}
-use Rattle.zaxbriar_samples.specs.Samples.{tabulate}
+use Rattle.zaxbriar_samples.specs.Boxes.{texts_below}
 use Rattle.zaxbriar_samples.specs.DecodedPictures.{Decoded, decoded}
 
--- where the byte at an index of the upright picture stands in the stored one, whose pixels have so
--- many bytes
-abbrev pub stored_index : Turn → ℕ → ℕ → ℕ
-stored_index turn bytes index =
-    let pixel = index / bytes in
-    stored_offset turn (pixel % upright_width turn) (pixel / upright_width turn) * bytes
-    + index % bytes
+-- the bytes of the pixel down and across in the upright picture, whose pixels have so many
+unfoldable pub upright_pixel : Turn → ℕ → List ℕ → ℕ → ℕ → List ℕ
+upright_pixel turn bytes pixels down across =
+    take bytes (drop (stored_offset turn across down * bytes) pixels)
 
-unfoldable pub turned_byte : Turn → ℕ → List ℕ → ℕ → ℕ
-turned_byte turn bytes pixels index = slice_index_or pixels (stored_index turn bytes index) 0
+-- the bytes of a line of the upright picture, and of all of them
+unfoldable pub upright_line : Turn → ℕ → List ℕ → ℕ → List ℕ
+upright_line turn bytes pixels down =
+    texts_below (upright_width turn) (upright_pixel turn bytes pixels down)
+
+unfoldable pub turned_pixels : Turn → ℕ → List ℕ → List ℕ
+turned_pixels turn bytes pixels =
+    texts_below (upright_height turn) (upright_line turn bytes pixels)
 
 -- how many bytes a pixel has
 abbrev pub bytes_of : PixelFormat → ℕ → ℕ
@@ -41,5 +44,4 @@ turned_info turn info =
 abbrev pub upright : ℕ → Decoded → Decoded
 upright orientation p = if orientation == 1 then p
     else decoded (turned_info (turn_by p.info orientation) p.info) p.precision
-    (tabulate (length p.pixels)
-    (turned_byte (turn_by p.info orientation) (bytes_of p.info.pixel_format p.precision) p.pixels))
+    (turned_pixels (turn_by p.info orientation) (bytes_of p.info.pixel_format p.precision) p.pixels)

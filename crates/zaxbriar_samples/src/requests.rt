@@ -1,8 +1,9 @@
 //! What is requested of a stream's picture: a scale, or a size that it is to fit within.
 ghost use Rattle.std.specs.Prelude.{◌≡◌, ◌≤◌};
 ghost use Rattle.std.specs.Option.{option_copied};
-ghost use Rattle.zaxbriar_samples.specs.Sizes.{covers, is_full, least_scale, orientation_for};
-ghost use Rattle.zaxbriar_samples.specs.Sizes.{scale_of_request, side_at, size_for};
+ghost use Rattle.zaxbriar_samples.specs.Sizes.{covers, is_full, least_scale, orientation_by};
+ghost use Rattle.zaxbriar_samples.specs.Sizes.{orientation_for, scale_of_request, side_at};
+ghost use Rattle.zaxbriar_samples.specs.Sizes.{size_for};
 ghost use Rattle.zaxbriar_samples.specs.declared.requests.Request.TheVariants.{At};
 
 use crate::sizes::{as_stored, fitted};
@@ -15,10 +16,19 @@ use jpeg_segments::scale::Scale;
 #[derive(Clone, Copy)]
 pub enum Request {
     /// The picture at a scale.
-    At(Scale),
+    At(AtScale),
     /// The greatest picture that fits within a size, as it is shown or as it is stored, and isn't
     /// greater than the whole picture.
     Within(Dimensions, Upright),
+}
+
+/// A scale, and whether the picture is then turned.
+#[derive(Clone, Copy)]
+pub struct AtScale {
+    /// The scale.
+    pub scale: Scale,
+    /// Whether the picture is turned.
+    pub upright: Upright,
 }
 
 /// Whether a picture is turned by the orientation in its Exif data.
@@ -74,6 +84,24 @@ fn least_scale(full: ImageInfo, size: Dimensions) -> Scale
     }
 }
 
+impl Upright {
+    /// Returns the orientation by which a picture is to be turned, 1 to 8, by the stream's Exif data
+    /// (Exif 2.3, 4.6.4): 1 where they say none, or where it is to stay as it is stored.
+    #[tactic(auto, unfolding(crate::specs::Sizes::orientation_by))]
+    pub fn orientation_in(self, exif: Option<&[u8]>) -> u8
+        ensures said { result ≡ orientation_by self (option_copied exif.entry) }
+        ensures range { (1 ≤ result) × (result ≤ 8) }
+    {
+        match self {
+            Upright::AsStored => 1,
+            Upright::Turned => match exif {
+                Some(exif) => orientation_of(exif).unwrap_or(1),
+                None => 1,
+            },
+        }
+    }
+}
+
 impl Request {
     /// Returns the requested size of a picture whose header was read.
     #[tactic(auto, unfolding(crate::specs::Sizes::size_for))]
@@ -81,9 +109,9 @@ impl Request {
         ensures { result ≡ size_for self full orientation }
     {
         match self {
-            Request::At(scale) => Dimensions {
-                width: side_at(scale, full.width),
-                height: side_at(scale, full.height),
+            Request::At(at) => Dimensions {
+                width: side_at(at.scale, full.width),
+                height: side_at(at.scale, full.height),
             },
             Request::Within(most, _) => fitted(full, as_stored(most, orientation)),
         }
@@ -93,10 +121,10 @@ impl Request {
     #[tactic(auto, unfolding(crate::specs::Sizes::scale_of_request))]
     pub fn scale(self, full: ImageInfo, orientation: u8) -> Scale
         ensures chosen { result ≡ scale_of_request self full orientation }
-        ensures asked { (scale : _) → self ≡ At scale → result ≡ scale }
+        ensures asked { (at : _) → self ≡ At at → result ≡ at.scale }
     {
         match self {
-            Request::At(scale) => scale,
+            Request::At(at) => at.scale,
             Request::Within(most, _) => {
                 least_scale(full, fitted(full, as_stored(most, orientation)))
             }
@@ -110,11 +138,8 @@ impl Request {
         ensures range { (1 ≤ result) × (result ≤ 8) }
     {
         match self {
-            Request::At(_) | Request::Within(_, Upright::AsStored) => 1,
-            Request::Within(_, Upright::Turned) => match exif {
-                Some(exif) => orientation_of(exif).unwrap_or(1),
-                None => 1,
-            },
+            Request::At(at) => at.upright.orientation_in(exif),
+            Request::Within(_, upright) => upright.orientation_in(exif),
         }
     }
 }

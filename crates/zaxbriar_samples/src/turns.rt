@@ -1,10 +1,9 @@
 //! Pictures turned upright by the orientation in their Exif data (Exif 2.3, 4.6.4).
-ghost use Rattle.std.specs.Prelude.{◌≡◌, length, IfOk, IfSome};
+ghost use Rattle.std.specs.Prelude.{◌≡◌, ◌++◌, IfOk, IfSome, OnOk};
 ghost use Rattle.jpeg_orientation.specs.Turns.{stored_offset};
 ghost use Rattle.zaxbriar_samples.specs.DecodedPictures.{decoded_in};
-ghost use Rattle.zaxbriar_samples.specs.Samples.{tabulate};
-ghost use Rattle.zaxbriar_samples.specs.Turns.{bytes_of, stored_index, turned_byte, turned_info};
-ghost use Rattle.zaxbriar_samples.specs.Turns.{upright};
+ghost use Rattle.zaxbriar_samples.specs.Turns.{bytes_of, turned_info, turned_pixels, upright};
+ghost use Rattle.zaxbriar_samples.specs.Turns.{upright_line, upright_pixel};
 
 use crate::netpbm::Picture;
 use jpeg_bits::error::{Error, Result};
@@ -15,7 +14,7 @@ use jpeg_orientation::turns::{
 use std::alloc::Global;
 
 /// Returns the index in the stored picture of a pixel across and down in the upright one.
-fn stored_offset(turn: Turn, across: usize, down: usize) -> Option<usize>
+fn stored_offset(turn: Turn, across: u16, down: u16) -> Option<usize>
     ensures { IfSome result (λ offset. offset ≡ stored_offset turn across down) }
 {
     let (along, line) = if is_on_side(turn.orientation) {
@@ -24,51 +23,64 @@ fn stored_offset(turn: Turn, across: usize, down: usize) -> Option<usize>
         (across, down)
     };
     let width = usize::from(turn.width);
-    let x = mirrored(flips_x(turn.orientation), width, along);
-    let y = mirrored(flips_y(turn.orientation), usize::from(turn.height), line);
+    let height = usize::from(turn.height);
+    let x = mirrored(flips_x(turn.orientation), width, usize::from(along));
+    let y = mirrored(flips_y(turn.orientation), height, usize::from(line));
     y.checked_mul(width)?.checked_add(x)
 }
 
-/// Returns where a byte of the upright picture stands in the stored one, whose pixels have so many
-/// bytes.
-fn source_of(turn: Turn, bytes: usize, index: usize) -> Option<usize>
-    ensures { IfSome result (λ source. source ≡ stored_index turn bytes index) }
+/// Returns the bytes of the pixel across and down in the upright picture, if the stored one, whose
+/// pixels have so many, has them.
+#[tactic(auto, unfolding(crate::specs::Turns::upright_pixel))]
+fn upright_pixel(turn: Turn, bytes: usize, pixels: &[u8], across: u16, down: u16) -> Option<&[u8]>
+    ensures { IfSome result (λ pixel. pixel.now
+        ≡ upright_pixel turn bytes pixels.now down across) }
 {
-    let wide = usize::from(upright_width(turn));
-    let pixel = index.checked_div(bytes)?;
-    let across = pixel.checked_rem(wide)?;
-    let down = pixel.checked_div(wide)?;
-    stored_offset(turn, across, down)?
-        .checked_mul(bytes)?
-        .checked_add(index.checked_rem(bytes)?)
+    let start = stored_offset(turn, across, down)?.checked_mul(bytes)?;
+    let (_, rest) = pixels.split_at_checked(start)?;
+    let (pixel, _) = rest.split_at_checked(bytes)?;
+    Some(pixel)
 }
 
-/// Returns a byte of the upright picture.
-#[tactic(auto, unfolding(crate::specs::Turns::turned_byte))]
-fn turned_byte(turn: Turn, bytes: usize, pixels: &[u8], index: usize) -> Option<u8>
-    ensures { IfSome result (λ byte. byte ≡ turned_byte turn bytes pixels.now index) }
+/// Appends the bytes of a pixel of the upright picture.
+fn push_pixel(
+    made: &mut Vec<u8>,
+    turn: Turn,
+    bytes: usize,
+    pixels: &[u8],
+    across: u16,
+    down: u16,
+) -> Result<()>
+    ensures { OnOk result (made.new.items ≡ made.old.items
+        ++ upright_pixel turn bytes pixels.now down across) }
 {
-    let source = source_of(turn, bytes, index)?;
-    if source < pixels.len() {
-        Some(pixels[source])
-    } else {
-        None
+    let Some(pixel) = upright_pixel(turn, bytes, pixels, across, down) else {
+        return Err(Error::Internal("a pixel of the picture is missing"));
+    };
+    made.extend_from_slice(pixel)?;
+    Ok(())
+}
+
+/// Appends the bytes of a line of the upright picture.
+fn push_line(made: &mut Vec<u8>, turn: Turn, bytes: usize, pixels: &[u8], down: u16) -> Result<()>
+    ensures { OnOk result (made.new.items ≡ made.old.items
+        ++ upright_line turn bytes pixels.now down) }
+{
+    for across in 0..upright_width(turn) {
+        push_pixel(made, turn, bytes, pixels, across, down)?;
     }
+    Ok(())
 }
 
 /// Returns the bytes of the upright picture.
-fn turned(alloc: Global, turn: Turn, bytes: usize, pixels: &[u8]) -> Result<Vec<u8>>
-    ensures { IfOk result (λ v. v.items
-        ≡ tabulate (length pixels.now) (turned_byte turn bytes pixels.now)) }
+fn turned_pixels(alloc: Global, turn: Turn, bytes: usize, pixels: &[u8]) -> Result<Vec<u8>>
+    ensures { IfOk result (λ v. v.items ≡ turned_pixels turn bytes pixels.now) }
 {
-    let mut upright = Vec::new(alloc);
-    for index in 0..pixels.len() {
-        match turned_byte(turn, bytes, pixels, index) {
-            Some(byte) => upright.push(byte)?,
-            None => return Err(Error::Internal("a pixel of the picture is missing")),
-        }
+    let mut made = Vec::with_capacity(alloc, pixels.len())?;
+    for down in 0..upright_height(turn) {
+        push_line(&mut made, turn, bytes, pixels, down)?;
     }
-    Ok(upright)
+    Ok(made)
 }
 
 /// Returns how many bytes a pixel has.
@@ -108,7 +120,7 @@ pub fn upright(alloc: Global, picture: Picture, orientation: u8) -> Result<Pictu
         orientation,
     };
     let bytes = bytes_of(info.pixel_format, picture.precision);
-    let pixels = turned(alloc, turn, bytes, picture.pixels.as_slice())?;
+    let pixels = turned_pixels(alloc, turn, bytes, picture.pixels.as_slice())?;
     Ok(Picture {
         info: turned_info(turn, info),
         precision: picture.precision,

@@ -14,7 +14,7 @@ use zaxbriar_pictures::extents::{Completeness, Extent};
 use zaxbriar_pictures::scaled::write_at;
 use zaxbriar_pictures::thumbnails::write_thumbnail;
 use zaxbriar_samples::files::PictureFormat;
-use zaxbriar_samples::requests::Request;
+use zaxbriar_samples::requests::{Request, Upright};
 
 /// Returns how much of a picture is requested.
 fn extent_of(matches: &ArgMatches<'_>) -> Extent {
@@ -45,11 +45,11 @@ impl Job {
     ) -> Result<Completeness, Refusal> {
         let alloc = self.rt.alloc();
         match self.request {
-            Request::At(scale) => {
+            Request::At(at) => {
                 write_at(
                     alloc,
                     reader,
-                    scale,
+                    at,
                     self.extent,
                     self.limits,
                     self.format,
@@ -73,7 +73,10 @@ impl Job {
     /// Returns whose rows are counted that are complete.
     fn rows(&self) -> Rows {
         match self.request {
-            Request::At(_) => Rows::OfOutput,
+            Request::At(at) => match at.upright {
+                Upright::AsStored => Rows::OfOutput,
+                Upright::Turned => Rows::OfStored,
+            },
             Request::Within(_, _) => Rows::OfFile,
         }
     }

@@ -2,18 +2,17 @@
 //!
 //! The picture's format decides the netpbm file's: PGM of a grey picture, PPM of red, green and
 //! blue, and PAM of cyan, magenta, yellow and black, which PNG doesn't have. `--scale` writes it at
-//! 1/8, 1/4 or 1/2 of its size, which takes less time than the whole picture. `--partial` writes
-//! the part of a truncated or damaged file that can be decoded.
+//! 1/8, 1/4 or 1/2 of its size, which takes less time than the whole picture. `--upright` turns it
+//! by the orientation in its Exif data. `--partial` writes the part of a truncated or damaged file
+//! that can be decoded.
 
 use crate::commands::pictures;
 use clap::ArgMatches;
 use zaxbriar_arguments::pictures::format_of;
-use zaxbriar_arguments::pnm::scale_of;
+use zaxbriar_arguments::pnm::request_of;
 use zaxbriar_files::ending::Outcome;
-use zaxbriar_samples::requests::Request;
 
 /// Converts the files that the arguments name.
 pub fn run(rt: HostRuntime, matches: &ArgMatches<'_>) -> Outcome<()> {
-    let request = Request::At(scale_of(matches));
-    pictures::write_all(rt, matches, request, format_of(matches))
+    pictures::write_all(rt, matches, request_of(matches), format_of(matches))
 }

@@ -1,25 +1,29 @@
 //! Decodes a JPEG file to its bytes: `zaxbriar raw photo.jpg -o photo.raw` writes a line
-//! `WIDTH HEIGHT FORMAT` and then the pixels, like `jpegraw` for standard input.
+//! `WIDTH HEIGHT FORMAT` and then the pixels, like `jpegraw` for standard input. `--upright` turns
+//! the picture by the orientation in its Exif data.
 
 use clap::ArgMatches;
 use zaxbriar_arguments::arguments;
+use zaxbriar_arguments::pictures::turning_of;
 use zaxbriar_files::ending::Outcome;
 use zaxbriar_files::files;
 use zaxbriar_files::limits::Limits;
 use zaxbriar_files::output::Output;
 use zaxbriar_files::refusal::Refusal;
 use zaxbriar_pictures::raw::write_raw;
+use zaxbriar_samples::requests::Upright;
 
 /// Opens a file and then the output, and writes to it the header line and the pixels. Returns why
 /// the file is refused, if it is.
 fn write(
     rt: HostRuntime,
     input: Option<&str>,
+    turning: Upright,
     limits: Limits,
     output: &mut Output<'_>,
 ) -> Result<(), Refusal> {
     match files::open_both(&rt, input, output) {
-        Ok(reader) => write_raw(rt.alloc(), reader, limits, output),
+        Ok(reader) => write_raw(rt.alloc(), reader, turning, limits, output),
         Err(refusal) => Err(refusal),
     }
 }
@@ -29,6 +33,6 @@ pub fn run(rt: HostRuntime, matches: &ArgMatches<'_>) -> Outcome<()> {
     let limits = arguments::limits_of(&rt, matches)?;
     let input = arguments::file_of(matches, arguments::FILE);
     let mut output = Output::new(rt, arguments::file_of(matches, "output"));
-    let written = write(rt, input, limits, &mut output);
+    let written = write(rt, input, turning_of(matches), limits, &mut output);
     files::finish(&rt, input, output, written)
 }

@@ -1,13 +1,14 @@
 use Rattle.std.proofs.Common.{◌∙◌, refl, sym}
 use Rattle.std.specs.List.{concat}
 use Rattle.jpeg_segments.specs.declared.scale.Scale.TheVariants.{Full}
+use Rattle.zaxbriar_samples.specs.Sizes.{stored_at}
 use Rattle.zaxbriar_pictures.specs.declared.extents.Completeness.{Completeness}
 use Rattle.zaxbriar_pictures.proofs.CheckedStreams.{tells-of-stream}
 use Rattle.zaxbriar_pictures.proofs.check.check_decoder.Goals as goal
 
 pub returns-clause-told : goal.returns-clause-told
 returns-clause-told g c known =
-    let asked = c.in_ok-choose.ensures.asked Full refl in
+    let asked = c.in_ok-choose.ensures.asked (stored_at Full) refl in
     let begun = rw asked at c.in_ok-choose.ensures.reads in
     let read = begun.reads known in
     let info = sym c.info.ensures ∙ c.unwrap-info.ensures in

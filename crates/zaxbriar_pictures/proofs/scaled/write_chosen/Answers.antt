@@ -1,26 +1,35 @@
-use Rattle.std.proofs.Common.{Err, IfOk, Ok, Result, refl}
+use Rattle.std.proofs.Common.{◌∙◌, Err, IfOk, Ok, Result, ap, refl, sym}
 use Rattle.std.proofs.lemmas.Result.{IfOk-weaker}
+use Rattle.jpeg_meaning.specs.Found.{with_said}
+use Rattle.jpeg_meaning.specs.Stream.{scaled_to}
+use Rattle.jpeg_segments.specs.declared.scale.Scale.{Scale}
+use Rattle.zaxbriar_samples.specs.Sizes.{orientation_for}
+use Rattle.zaxbriar_samples.specs.declared.requests.Request.TheVariants.{At}
 use Rattle.zaxbriar_pictures.specs.Given.{WritesGiven}
 use Rattle.zaxbriar_pictures.specs.Steps.{WritesFile}
 use Rattle.zaxbriar_pictures.specs.declared.extents.Completeness.{Completeness}
-use Rattle.zaxbriar_pictures.proofs.ScaledStreams.{file-given, is-given}
+use Rattle.zaxbriar_pictures.proofs.ScaledStreams.{file-given, header-exif-some, is-given}
 use Rattle.zaxbriar_pictures.proofs.scaled.write_chosen.Goals as goal
 
 pub returns-clause-written : goal.returns-clause-written
 returns-clause-written g c known =
-    let asked = c.in_ok-choose.ensures.asked c.args.scale refl in
-    let begun = rw asked at c.in_ok-choose.ensures.reads in
+    let begun = c.in_ok-choice.ensures.reads in
     let read = begun.reads known in
     let bytes = c.args.decoder.now.source.bytes in
     let before = g.W.Write.contents c.args.writer.now in
     let after = g.W.Write.contents c.write_decoded.new.writer in
+    let orientation = c.in_ok-choice.choice.orientation in
+    let found = read.1.2 ∙ ap (λ (scale : Scale). with_said (scaled_to scale) read.1.0)
+    (c.in_ok-choice.ensures.asked c.args.at refl) in
+    let turn = read.1.3.turned ∙ ap (orientation_for (At c.args.at))
+    (sym (header-exif-some bytes c.choose.new.decoder.source.bytes read.1.0 read.1.1)) in
     IfOk-weaker c.write_decoded.result
-    (WritesFile c.args.extent c.args.format c.choose.new.decoder c.write_decoded.new.decoder before after)
-    (WritesGiven c.args.extent c.args.limits c.args.scale c.args.format bytes before after)
-    (λ (told : Completeness) (file : WritesFile c.args.extent c.args.format c.choose.new.decoder c.write_decoded.new.decoder before after told).
-    file-given c.args.extent c.args.limits c.args.scale c.args.format bytes before after file.picture told
-    (is-given c.args.extent c.args.limits c.args.scale bytes read.1.0 c.choose.new.decoder c.write_decoded.new.decoder
-    file.picture told read.1.1 read.0 read.1.2 begun.settings file.gives)
+    (WritesFile c.args.extent orientation c.args.format c.choose.new.decoder c.write_decoded.new.decoder before after)
+    (WritesGiven c.args.extent c.args.limits c.args.at c.args.format bytes before after)
+    (λ (told : Completeness) (file : WritesFile c.args.extent orientation c.args.format c.choose.new.decoder c.write_decoded.new.decoder before after told).
+    file-given c.args.extent c.args.limits c.args.at orientation c.args.format bytes before after file.picture told turn
+    (is-given c.args.extent c.args.limits c.args.at.scale bytes read.1.0 c.choose.new.decoder c.write_decoded.new.decoder
+    file.picture told read.1.1 read.0 found begun.settings file.gives)
     file.gives.told_is file.written)
     c.write_decoded.ensures
 
@@ -30,5 +39,5 @@ always (Err e) Q h = tt
 
 pub returns-clause-limited : goal.returns-clause-limited
 returns-clause-limited g c known =
-    let limited = c.in_ok-choose.ensures.limited in
+    let limited = c.in_ok-choice.ensures.limited in
     always c.write_decoded.result _ (limited known)
