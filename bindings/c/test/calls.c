@@ -251,7 +251,7 @@ static void own_memory(void) {
     free(own);
 }
 
-/* Appends a segment: its marker, and a payload of a text with what stands behind its zero, and some
+/* Appends a segment: its marker, and a payload of a text with what follows its zero, and some
  * bytes. */
 static void put_segment(struct bytes *stream, int marker, const char *name, size_t name_size,
                         const void *data, size_t size) {

@@ -518,7 +518,7 @@ static void metadata(void) {
     }
 }
 
-/* Puts segments before and behind the frame header of `grey`, and before its end, and returns how
+/* Puts segments before and after the frame header of `grey`, and before its end, and returns how
  * many bytes the stream has then. */
 static size_t with_segments(unsigned char *stream, struct bytes before, struct bytes behind,
                             struct bytes last) {
@@ -548,7 +548,7 @@ static int is_exif(const unsigned char *stream, size_t size, int kind, zaxbriar_
     return answer == ZAXBRIAR_OK ? length == 1 && data[0] == value : length == 0 && data[0] == 7;
 }
 
-/* Segments behind the frame header and after a scan, which only a whole image has. */
+/* Segments after the frame header and after a scan, which only a whole image has. */
 static void metadata_of_image(void) {
     enum { EXIF = ZAXBRIAR_EXIF, WHOLE = ZAXBRIAR_EXIF | ZAXBRIAR_WHOLE_IMAGE };
     unsigned char first[] = "\xff\xe1\0\11Exif\0\0\1", second[] = "\xff\xe1\0\11Exif\0\0\2";
@@ -588,7 +588,7 @@ static void metadata_of_image(void) {
     CHECK(is_exif(stream, size, EXIF, ZAXBRIAR_NO_DATA, 0));
     CHECK(is_exif(stream, size, WHOLE, ZAXBRIAR_UNSUPPORTED, 0));
 
-    /* A profile, one part of which stands behind the frame header. */
+    /* A profile, one part of which stands after the frame header. */
     size = with_segments(stream, (struct bytes){two, 19}, (struct bytes){one, 19}, none);
     CHECK(zaxbriar_metadata(stream, size, ZAXBRIAR_ICC, profile, 3, &length) == ZAXBRIAR_NO_DATA);
     CHECK(zaxbriar_metadata(stream, size, ZAXBRIAR_ICC | ZAXBRIAR_WHOLE_IMAGE, profile, 3,

@@ -14,7 +14,7 @@ const SECOND: &[u8] = b"0123456789ABCDEF0123456789ABCDEF\0\0\0\x05\0\0\0\x02fgh"
 /// IPTC data of four bytes.
 const RESOURCES: &[u8] = b"8BIM\x04\x04\0\0\0\0\0\x04ijkl";
 
-/// The place behind the frame header of tests/grey.jpg.
+/// The offset after the frame header of tests/grey.jpg.
 const FRAME_END: usize = 84;
 
 /// Returns a segment: its marker, its name and its data.
@@ -35,7 +35,7 @@ fn resources(data: &[u8]) -> Vec<u8> {
     segment(0xed, b"Photoshop 3.0\0", data)
 }
 
-/// Returns a picture with some segments before its frame header, and others behind it.
+/// Returns a picture with some segments before its frame header, and others after it.
 fn picture(before: &[Vec<u8>], behind: &[Vec<u8>]) -> Vec<u8> {
     let grey = std::fs::read("tests/grey.jpg").unwrap();
     let (head, tail) = grey.split_at(FRAME_END);
