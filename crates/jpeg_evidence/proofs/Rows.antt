@@ -1,5 +1,6 @@
 -- The first rows of a picture stay where a scan goes on.
 pub mod LocalLines
+pub mod LumaLines
 pub mod FirstRows
 pub mod FirstBlockRows
 pub mod UnreadRows

@@ -14,6 +14,7 @@ use Rattle.jpeg_segments.specs.Scales.{IsSizedFrame}
 use Rattle.jpeg_meaning.specs.declared.before.Before.{Before}
 use Rattle.jpeg_meaning.specs.declared.settings.Settings.{Settings}
 use Rattle.jpeg_meaning.specs.Found.{Found}
+use Rattle.jpeg_meaning.specs.Pixels.{samples_shown}
 use Rattle.jpeg_meaning.specs.Shown.{picture_shown}
 use Rattle.jpeg_meaning.specs.Stream.{Walked, all_brought, turn_at, walk}
 use Rattle.jpeg_evidence.specs.LongerStreams.{RowScanGoesOn}
@@ -27,13 +28,18 @@ lines_needed H1V2 rows = rows / 2 + 1
 lines_needed H2V2 rows = rows / 2 + 1
 lines_needed (Generic h v) rows = ceiling rows v
 
--- the same of a component of a frame, which has no more lines than its height
+-- how many lines of a component the first rows of a picture are, this many, by its factor alone
+abbrev pub sample_lines : Frame → ℕ → Component → ℕ
+sample_lines frame rows c = ceiling (rows * c.factors.vertical) (most_down frame.components)
+
+-- How many lines of a component of a frame they need, which has no more lines than its height. A
+-- component without a rule has no colours, but it can be luma.
 abbrev pub lines_for : Frame → ℕ → Component → ℕ
 lines_for frame rows c = elim (rule_of c.factors.horizontal c.factors.vertical
     (most_across frame.components) (most_down frame.components) frame.output_width
     frame.output_height) [
       | Some rule ↦ min c.height (lines_needed rule rows)
-      | None ↦ 0
+      | None ↦ min c.height (sample_lines frame rows c)
     ]
 
 -- the samples of the first lines of a component's plane, with those of its padding
@@ -49,15 +55,12 @@ BeginAlike frame rows (c ∷ components) (p ∷ ps) (q ∷ qs) = (length p ≡ l
 BeginAlike frame rows _ _ _ = ⊥
 
 -- the samples of the first rows of a frame's picture
-abbrev pub first_rows : Frame → ℕ → List ℕ → List ℕ
-first_rows frame rows picture =
-    take (rows * (frame.output_width * length frame.components)) picture
+abbrev pub first_rows : Settings → Frame → ℕ → List ℕ → List ℕ
+first_rows settings frame rows picture =
+    take (rows * (frame.output_width * samples_shown settings frame)) picture
 
--- how many lines of a lossless component the first rows of a picture need, this many
-abbrev pub sample_lines : Frame → ℕ → Component → ℕ
-sample_lines frame rows c = ceiling (rows * c.factors.vertical) (most_down frame.components)
-
--- Samples of some lossless components that are the same in the first lines that these rows need.
+-- Samples of some lossless components that are the same in the first lines that these rows need,
+-- `sample_lines`.
 unfoldable pub SamplesBegin : Frame → ℕ → List Component → List (List ℕ) → List (List ℕ) → Type 0
 SamplesBegin frame rows [] [] [] = Unit {0}
 SamplesBegin frame rows (c ∷ components) (p ∷ ps) (q ∷ qs) =
@@ -80,7 +83,7 @@ abbrev pub HasFirstRows : Settings → ℕ → Found → Found → Type 0
 HasFirstRows settings rows brought longer =
     (frame : Frame) (x y : List ℕ) → brought.said.frame ≡ Some frame
     → picture_shown settings brought ≡ Ok x → picture_shown settings longer ≡ Ok y
-    → first_rows frame rows x ≡ first_rows frame rows y
+    → first_rows settings frame rows x ≡ first_rows settings frame rows y
 
 -- How a longer stream goes on from the complete rows of a shorter one, which has brought `brought`
 -- up to its first fault, and `left` are the bytes of it that are read again. The fault is in a

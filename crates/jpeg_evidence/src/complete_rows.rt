@@ -1,7 +1,7 @@
 //! What the first rows of a picture need of its components, and that complete rows stay where a
 //! scan goes on.
 ghost use Rattle.std.specs.Prelude.{◌≡◌, ◌*◌, ◌≤◌, ℕ, ◌++◌, List, Some, None};
-ghost use Rattle.std.specs.Prelude.{Ok, Err, Option, take};
+ghost use Rattle.std.specs.Prelude.{Ok, Err, Option, false, take};
 ghost use Rattle.jpeg_bits.specs.Passes.{Block};
 ghost use Rattle.jpeg_bits.specs.Reading.{Fault};
 ghost use Rattle.jpeg_bits.specs.declared.marker.Marker.{Marker};
@@ -27,15 +27,17 @@ ghost use Rattle.jpeg_evidence.specs.LongerStreams.{ScanGoesOn};
 
 /// The first rows of a picture depend only on the first lines of its components: as many as the
 /// rows have, or by the sampling factors fewer, and one more where lines are blended with those
-/// below them (`lines_needed`). It holds of each frame that a header gives, at every scale.
+/// below them (`lines_needed`). It holds of each frame that a header gives, at every scale, also
+/// where the luma is asked for, unless the frame is lossless, whose picture has no luma.
 #[tactic(auto, using(crate::proofs::Rows::FirstRows::rows_of_first_lines))]
 pub fn first_rows_are_of_first_lines()
     ensures { (settings : Settings) (m : Metadata) (frame : Frame) (rows : ℕ)
-        (ps qs : List (List ℕ)) (x y : List ℕ) → IsSizedFrame frame → rows ≤ frame.output_height
+        (ps qs : List (List ℕ)) (x y : List ℕ) → IsSizedFrame frame
+        → (frame.process ≡ Lossless → settings.luma ≡ false) → rows ≤ frame.output_height
         → BeginAlike frame rows frame.components ps qs
         → picture_by settings m frame frame.components ps ≡ Ok x
         → picture_by settings m frame frame.components qs ≡ Ok y
-        → first_rows frame rows x ≡ first_rows frame rows y }
+        → first_rows settings frame rows x ≡ first_rows settings frame rows y }
 {}
 
 /// The first rows of a lossless picture depend only on the first lines of its components' samples,
@@ -69,8 +71,8 @@ pub fn rows_above_an_unread_block_stay()
         → (g.frame.process ≡ Lossless → ⊥) → before.said.frame ≡ Some g.frame
         → codings_of before.said g.frame g.scan ≡ Ok g.codings
         → picture_shown settings shorter ≡ Ok x → picture_shown settings longer ≡ Ok y
-        → first_rows g.frame (rows_before g.frame (components_of g.codings) g.reads_on.others) x
-        ≡ first_rows g.frame (rows_before g.frame (components_of g.codings) g.reads_on.others) y }
+        → (let rows = rows_before g.frame (components_of g.codings) g.reads_on.others in
+        first_rows settings g.frame rows x ≡ first_rows settings g.frame rows y) }
 {}
 
 /// A longer stream keeps the complete rows that `whole_rows` counts of a shorter one. Where the
@@ -99,8 +101,8 @@ pub fn complete_rows_of_one_scan_stay()
         → shown_rest settings found bytes ≡ Ok s
         → shown_rest settings found (bytes ++ more) ≡ Ok t → s.told.frame ≡ Some frame
         → (frame.process ≡ Lossless → ⊥)
-        → first_rows frame (whole_rows_rest None found bytes) s.picture
-        ≡ first_rows frame (whole_rows_rest None found bytes) t.picture }
+        → first_rows settings frame (whole_rows_rest None found bytes) s.picture
+        ≡ first_rows settings frame (whole_rows_rest None found bytes) t.picture }
 {}
 
 /// Complete rows of a sequential stream are final: the picture of each longer stream has them, too,
@@ -113,13 +115,13 @@ pub fn complete_rows_of_sequential_streams_are_final()
         → shown_rest settings found (bytes ++ more) ≡ Ok t → s.told.frame ≡ Some frame
         → frame.process ≡ DctSequential → s.told.metadata.jfif ≡ t.told.metadata.jfif
         → s.told.metadata.adobe ≡ t.told.metadata.adobe
-        → first_rows frame (whole_rows_rest None found bytes) s.picture
-        ≡ first_rows frame (whole_rows_rest None found bytes) t.picture }
+        → first_rows settings frame (whole_rows_rest None found bytes) s.picture
+        ≡ first_rows settings frame (whole_rows_rest None found bytes) t.picture }
     ensures streams { (settings : Settings) (bytes more : List ℕ) (s t : Shown) (frame : Frame)
         → shown settings bytes ≡ Ok s → shown settings (bytes ++ more) ≡ Ok t
         → s.told.frame ≡ Some frame → frame.process ≡ DctSequential
         → s.told.metadata.jfif ≡ t.told.metadata.jfif
         → s.told.metadata.adobe ≡ t.told.metadata.adobe
-        → first_rows frame (whole_rows bytes) s.picture
-        ≡ first_rows frame (whole_rows bytes) t.picture }
+        → first_rows settings frame (whole_rows bytes) s.picture
+        ≡ first_rows settings frame (whole_rows bytes) t.picture }
 {}

@@ -34,7 +34,7 @@ ghost use Rattle.jpeg_segments.specs.declared.frame.CodingProcess.TheVariants as
 ghost use Rattle.jpeg_segments.specs.declared.frame.EntropyCoding.TheVariants as codings;
 ghost use Rattle.jpeg_meaning.specs.ColourChoice.{by_identifiers};
 ghost use Rattle.jpeg_meaning.specs.Segments.{is_decoded_count, is_decoded_precision};
-ghost use Rattle.jpeg_meaning.specs.Worked.{picture_meant};
+ghost use Rattle.jpeg_meaning.specs.Worked.{luma_within, picture_meant, picture_with};
 ghost use Rattle.jpeg_meaning.specs.WorkedImages.{IsWhollyWritten};
 ghost use Rattle.jpeg_meaning.specs.WorkedSamples.{AreWritten};
 ghost use Rattle.jpeg_evidence.specs.Cosines.{adds, are_entries, cosine, is_positive, unit};
@@ -112,6 +112,14 @@ pub fn files_mean_their_picture()
 #[tactic(auto, unfolding(crate::proofs::OnLiterals::files_on_literals))]
 pub fn lossless_file_means_its_samples()
     ensures { picture_meant lossless_file ≡ Ok samples_of_file }
+{}
+
+/// Where the luma is asked for, a lossless picture has its samples all the same, 105 of them, which
+/// the limit counts.
+#[tactic(auto, unfolding(crate::proofs::OnLiterals::files_on_literals))]
+pub fn lossless_pictures_are_whole()
+    ensures whole { picture_with (luma_within 105 None) lossless_file ≡ Ok samples_of_file }
+    ensures limit { picture_with (luma_within 104 None) lossless_file ≡ Err Malformed }
 {}
 
 /// Both files are written for one array of coefficients: that of `cjpeg` as a sequential stream,

@@ -22,7 +22,8 @@ ghost use Rattle.jpeg_meaning.specs.ColourChoice.{transform_of};
 ghost use Rattle.jpeg_meaning.specs.Found.{no_metadata};
 ghost use Rattle.jpeg_meaning.specs.Levels.{floor_at, toward_zero};
 ghost use Rattle.jpeg_meaning.specs.Segments.{updated, with_application};
-ghost use Rattle.jpeg_meaning.specs.Worked.{picture_meant, picture_with, picture_scaled};
+ghost use Rattle.jpeg_meaning.specs.Worked.{luma_within, picture_meant, picture_with};
+ghost use Rattle.jpeg_meaning.specs.Worked.{larger_second, picture_scaled};
 ghost use Rattle.jpeg_meaning.specs.Worked.{one_coefficient, picture_sized};
 ghost use Rattle.jpeg_meaning.specs.Worked.{eight_times, scan_text, stream_parts, stream_with};
 ghost use Rattle.jpeg_meaning.specs.Worked.{stream_without_height, stream_of_one_coefficient};
@@ -85,12 +86,17 @@ pub fn known_scans()
       limit = 192;
       color_transform = Some transforms.None;
       max_blocks = None;
+      luma = false;
     }) three_at_once
         ≡ Ok (eight_times (replicate 8 129 ++ (replicate 8 127 ++ replicate 8 130))) }
 
     // A picture of more bytes than the limit is refused.
-    ensures limit { picture_with (record { limit = 191; color_transform = None; max_blocks = None })
-        three_at_once ≡ Err Malformed }
+    ensures limit { picture_with (record {
+      limit = 191;
+      color_transform = None;
+      max_blocks = None;
+      luma = false;
+    }) three_at_once ≡ Err Malformed }
 
     // A component has two blocks in an MCU.
     ensures factors { picture_meant two_to_one
@@ -112,6 +118,37 @@ pub fn known_scans()
     // An end of band that stands for the next block too.
     ensures run { picture_meant run_of_blocks
         ≡ Ok (eight_times (replicate 8 129 ++ replicate 8 128)) }
+{}
+
+/// The luma of pictures in colour: the samples of the first component alone, where that is luma and
+/// as large as the picture.
+#[tactic(auto, unfolding(jpeg_meaning::proofs::OnLiterals::streams_on_literals))]
+pub fn known_luma()
+    // One sample a pixel, which the limit counts.
+    ensures first { picture_with (luma_within 64 (Some transforms.YCbCr)) three_at_once
+        ≡ Ok (replicate 64 129) }
+    ensures limit { picture_with (luma_within 63 (Some transforms.YCbCr)) three_at_once
+        ≡ Err Malformed }
+    ensures factors { picture_with (luma_within 128 (Some transforms.YCbCr)) two_to_one
+        ≡ Ok (eight_times (replicate 8 129 ++ replicate 8 128)) }
+
+    // Components with the letters RGB have no luma, nor does a picture without a conversion.
+    ensures letters { picture_with (luma_within 64 None) three_at_once ≡ Err Malformed }
+    ensures none { picture_with (luma_within 64 (Some transforms.None)) three_at_once
+        ≡ Err Malformed }
+
+    // The first component is half as wide as the picture, or half as high.
+    ensures narrow { picture_meant (larger_second 8 16 33)
+        ≡ Ok (eight_times (concat (replicate 8 (129 ∷ 127 ∷ 127 ∷ []))
+        ++ concat (replicate 8 (129 ∷ 128 ∷ 127 ∷ [])))) }
+    ensures narrow_luma { picture_with (luma_within 128 (Some transforms.YCbCr))
+        (larger_second 8 16 33) ≡ Err Malformed }
+    ensures low_luma { picture_with (luma_within 128 (Some transforms.YCbCr))
+        (larger_second 16 8 18) ≡ Err Malformed }
+
+    // A picture of one component stays as it is, whatever transform is set.
+    ensures grey { picture_with (luma_within 64 (Some transforms.RGB)) (stream_with 8 (67 ∷ []))
+        ≡ Ok (replicate 64 129) }
 {}
 
 /// The two images of the headline that are worked by hand, and their pictures.

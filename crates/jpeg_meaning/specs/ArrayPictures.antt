@@ -1,5 +1,6 @@
 -- The picture of the coefficients of an image, as far as their bits were sent (T.81, A.3.3, G.1).
-use Rattle.std.specs.Prelude.{◌≡◌, ℕ, ◌*◌, ◌≤◌, List, [], ◌∷◌, length, slice_index_or}
+use Rattle.std.specs.Prelude.{◌≡◌, ℕ, ◌*◌, ◌≤◌, ◌&&◌, List, [], ◌∷◌, length, slice_index_or}
+use Rattle.std.specs.Prelude.{Bool, true, false}
 use Rattle.std.specs.Prelude.{Some, None, Result, Ok}
 use Rattle.std.specs.List.{enumerate_from}
 use Rattle.jpeg_bits.specs.Reading.{Outcome, Fault, ◌>>=◌}
@@ -11,7 +12,8 @@ use Rattle.jpeg_meaning.specs.declared.settings.Settings.{Settings}
 use Rattle.jpeg_meaning.specs.Levels.{Levels, cut}
 use Rattle.jpeg_segments.specs.Checks.{needed, gathered}
 use Rattle.jpeg_meaning.specs.Stream.{Told, told_of}
-use Rattle.jpeg_meaning.specs.FoundPictures.{limited, picture_by}
+use Rattle.jpeg_meaning.specs.FoundPictures.{is_as_large, is_luma, limited, picture_by}
+use Rattle.jpeg_meaning.specs.Pixels.{samples_shown}
 use Rattle.jpeg_meaning.specs.Rasters.{plane_of_blocks}
 use Rattle.jpeg_meaning.specs.Found.{Said}
 use Rattle.jpeg_meaning.specs.WrittenScans.{Coefficients}
@@ -53,20 +55,28 @@ IsTransformOf count transforms.CMYK = count ≡ 4
 IsTransformOf count transforms.YCCK = count ≡ 4
 IsTransformOf count _ = ⊥
 
--- A picture of several components can have the transform that is set, or else that its segments and
--- the components' identifiers say.
-abbrev pub HasTransform : Settings → Said → List Component → Type 0
-HasTransform settings w [] = ⊥
-HasTransform settings w (c ∷ []) = Unit {0}
-HasTransform settings w (c ∷ d ∷ more) =
-    IsTransformOf (length (c ∷ d ∷ more))
+-- The picture of this many components can be made by a transform: where its luma is asked for, the
+-- first component is luma, and has a sample for each pixel.
+abbrev pub IsMadeBy : Bool → Frame → Component → ℕ → ColorTransform → Type 0
+IsMadeBy true frame first count transform =
+    (is_luma transform && is_as_large frame first) ≡ true
+IsMadeBy false frame first count transform = IsTransformOf count transform
+
+-- A picture of several components can be made by the transform that is set, or else that its
+-- segments and the components' identifiers say.
+abbrev pub HasTransform : Settings → Said → Frame → List Component → Type 0
+HasTransform settings w frame [] = ⊥
+HasTransform settings w frame (c ∷ []) = Unit {0}
+HasTransform settings w frame (c ∷ d ∷ more) =
+    IsMadeBy settings.luma frame c (length (c ∷ d ∷ more))
     (transform_of settings.color_transform (identifiers_of (c ∷ d ∷ more)) w.metadata.jfif
     w.metadata.adobe)
 
--- The settings take the picture of the frame that was said: its bytes are within the limit, and its
--- components can have the colour transform.
+-- The settings take the picture of the frame that was said: its samples are within the limit, and
+-- its components can have the colour transform.
 pub record TakesPicture (settings : Settings) (w : Said) : Type 0 where
   pub frame : Frame
   pub is_said : w.frame ≡ Some frame
-  pub limit : length frame.components * (frame.output_width * frame.output_height) ≤ settings.limit
-  pub transform : HasTransform settings w frame.components
+  pub limit : samples_shown settings frame * (frame.output_width * frame.output_height)
+      ≤ settings.limit
+  pub transform : HasTransform settings w frame frame.components

@@ -1,7 +1,10 @@
 -- The picture of what was found, at the end of an image.
-use Rattle.std.specs.Prelude.{ℕ, ◌*◌, ◌/◌, min, ◌&&◌, nat_lt, List, [], ◌∷◌, length, get_or}
+use Rattle.std.specs.Prelude.{ℕ, ◌*◌, ◌/◌, ◌==◌, min, ◌&&◌, nat_lt, List, [], ◌∷◌, length, get_or}
 use Rattle.std.specs.Prelude.{slice_get, slice_index_or, Some, None, Result, Ok, Err, if◌then◌else◌}
+use Rattle.std.specs.Prelude.{Bool, true, false}
 use Rattle.jpeg_bits.specs.Reading.{Fault, Malformed, ◌>>=◌}
+use Rattle.jpeg_bits.specs.declared.color_transform.ColorTransform.{ColorTransform}
+use Rattle.jpeg_bits.specs.declared.color_transform.ColorTransform.TheVariants.{YCbCr}
 use Rattle.jpeg_segments.specs.declared.frame.CodingProcess.{CodingProcess}
 use Rattle.jpeg_segments.specs.declared.frame.CodingProcess.TheVariants.{Lossless}
 use Rattle.jpeg_segments.specs.Frame.{Frame, Component}
@@ -13,6 +16,7 @@ use Rattle.std.specs.List.{enumerate_from}
 use Rattle.jpeg_segments.specs.Checks.{check, needed, gathered}
 use Rattle.jpeg_meaning.specs.declared.settings.Settings.{Settings}
 use Rattle.jpeg_meaning.specs.Found.{Metadata, Found, Said}
+use Rattle.jpeg_meaning.specs.Pixels.{samples_shown}
 use Rattle.jpeg_meaning.specs.Rasters.{plane_by}
 use Rattle.jpeg_meaning.specs.ScanSegments.{is_progressive}
 
@@ -36,14 +40,37 @@ picture_in frame c plane =
     cropped stride (min frame.output_width stride)
     (min frame.output_height (length plane / stride)) plane
 
--- The picture of planes: of one its samples, and of several their colours.
+-- The picture of the first component.
+abbrev pub first_picture : Frame → Component → List (List ℕ) → Result (List ℕ) Fault
+first_picture frame c planes =
+    needed (slice_get planes 0) >>= (λ plane. Ok (picture_in frame c plane))
+
+-- whether the first component is luma, by the colour transform
+abbrev pub is_luma : ColorTransform → Bool
+is_luma YCbCr = true
+is_luma _ = false
+
+-- a component has the size of the picture
+abbrev pub is_as_large : Frame → Component → Bool
+is_as_large frame c = c.width == frame.output_width && c.height == frame.output_height
+
+-- The luma of the picture: the first component's, where it is luma and has a sample for each pixel.
+abbrev pub luma_picture : ColorTransform → Frame → List Component → List (List ℕ)
+    → Result (List ℕ) Fault
+luma_picture transform frame [] planes = Err Malformed
+luma_picture transform frame (c ∷ more) planes =
+    check (is_luma transform && is_as_large frame c) >>= (λ _. first_picture frame c planes)
+
+-- The picture of planes: of one its samples, and of several their colours, or their luma where that
+-- is asked for.
 unfoldable pub picture_by : Settings → Metadata → Frame → List Component → List (List ℕ)
     → Result (List ℕ) Fault
-picture_by settings m frame (c ∷ []) planes =
-    needed (slice_get planes 0) >>= (λ plane. Ok (picture_in frame c plane))
+picture_by settings m frame (c ∷ []) planes = first_picture frame c planes
 picture_by settings m frame components planes =
-    image_of components planes frame.output_width frame.output_height
-    (transform_of settings.color_transform (identifiers_of components) m.jfif m.adobe)
+    let transform =
+    transform_of settings.color_transform (identifiers_of components) m.jfif m.adobe in
+    if settings.luma then luma_picture transform frame components planes
+    else image_of components planes frame.output_width frame.output_height transform
 
 -- The picture of a frame of blocks.
 unfoldable pub blocks_picture : Settings → Found → Frame → Result (List ℕ) Fault
@@ -66,7 +93,8 @@ picture_by_process _ settings found frame = blocks_picture settings found frame
 unfoldable pub limited : Settings → Said → (Frame → Result (List ℕ) Fault) → Result (List ℕ) Fault
 limited settings said picture = do
   frame ← needed said.frame
-  if nat_lt settings.limit (length frame.components * (frame.output_width * frame.output_height))
+  if nat_lt settings.limit (samples_shown settings frame
+      * (frame.output_width * frame.output_height))
       then Err Malformed else picture frame
 
 -- The picture of what was found: within the limit, of planes that are there.

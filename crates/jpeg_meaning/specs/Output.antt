@@ -1,6 +1,6 @@
 -- What the program writes for a stream.
 use Rattle.std.specs.Prelude.{◌≡◌, ◌<◌, ◌^◌, ℕ, List, [], ◌∷◌, ◌++◌, ◌⊎◌, Ok, Err, Option, Some}
-use Rattle.std.specs.Prelude.{None, option_map, codes, length, string_bytes}
+use Rattle.std.specs.Prelude.{None, false, option_map, codes, length, string_bytes}
 use Rattle.std.specs.Fmt.{decimal}
 use Rattle.std.specs.Io.KnownBytes.{Appends}
 use Rattle.jpeg_bits.specs.Reading.{Names}
@@ -16,8 +16,12 @@ use Rattle.jpeg_meaning.specs.Pixels.{info_of}
 
 -- the settings of a new decoder
 abbrev pub default_settings : Settings
-default_settings =
-    record { limit = 18446744073709551615; color_transform = None; max_blocks = None }
+default_settings = record {
+  limit = 18446744073709551615;
+  color_transform = None;
+  max_blocks = None;
+  luma = false;
+}
 
 abbrev pub name_of : PixelFormat → List ℕ
 name_of L8 = codes "L8"

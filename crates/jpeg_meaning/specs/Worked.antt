@@ -1,7 +1,9 @@
 -- Streams and a frame that are worked by hand.
-use Rattle.std.specs.Prelude.{ℕ, ◌+◌, List, [], ◌∷◌, ◌++◌, replicate, Result, Ok, Err}
+use Rattle.std.specs.Prelude.{ℕ, ◌+◌, List, [], ◌∷◌, ◌++◌, replicate, Result, Ok, Err, Option, None}
+use Rattle.std.specs.Prelude.{true}
 use Rattle.std.specs.List.{concat}
 use Rattle.jpeg_bits.specs.Reading.{Fault}
+use Rattle.jpeg_bits.specs.declared.color_transform.ColorTransform.{ColorTransform}
 use Rattle.jpeg_segments.specs.Frame.{Factors, Frame, frame_of}
 use Rattle.jpeg_meaning.specs.Output.{default_settings}
 use Rattle.jpeg_segments.specs.declared.scale.Scale.{Scale}
@@ -17,6 +19,11 @@ picture_part (Err e) = Err e
 
 abbrev pub picture_with : Settings → List ℕ → Result (List ℕ) Fault
 picture_with settings bytes = picture_part (meaning settings bytes)
+
+-- settings of a limit and a transform, if one is set, by which the luma is asked for
+abbrev pub luma_within : ℕ → Option ColorTransform → Settings
+luma_within limit transform =
+    record { limit = limit; color_transform = transform; max_blocks = None; luma = true }
 
 abbrev pub picture_meant : List ℕ → Result (List ℕ) Fault
 picture_meant bytes = picture_with default_settings bytes
@@ -40,11 +47,16 @@ abbrev pub grey_frame : ℕ → ℕ → ℕ → List ℕ
 grey_frame number height width =
     255 ∷ (192 + number) ∷ 0 ∷ 11 ∷ 8 ∷ 0 ∷ height ∷ 0 ∷ width ∷ 1 ∷ 1 ∷ 17 ∷ 0 ∷ []
 
--- The header of a frame of three components with the letters RGB, the first of these factors.
-abbrev pub colour_frame : ℕ → ℕ → ℕ → ℕ → List ℕ
-colour_frame number height width factors =
+-- The header of a frame of three components with the letters RGB, the first and the second of these
+-- factors.
+abbrev pub frame_by_factors : ℕ → ℕ → ℕ → ℕ → ℕ → List ℕ
+frame_by_factors number height width first second =
     255 ∷ (192 + number) ∷ 0 ∷ 17 ∷ 8 ∷ 0 ∷ height ∷ 0 ∷ width ∷ 3
-    ∷ 82 ∷ factors ∷ 0 ∷ 71 ∷ 17 ∷ 0 ∷ 66 ∷ 17 ∷ 0 ∷ []
+    ∷ 82 ∷ first ∷ 0 ∷ 71 ∷ second ∷ 0 ∷ 66 ∷ 17 ∷ 0 ∷ []
+
+-- one with the first of these factors
+abbrev pub colour_frame : ℕ → ℕ → ℕ → ℕ → List ℕ
+colour_frame number height width factors = frame_by_factors number height width factors 17
 
 -- A Huffman table for a class and destination, with one code of one bit.
 abbrev pub one_code : ℕ → ℕ → List ℕ
@@ -132,6 +144,13 @@ abbrev pub two_to_one : List ℕ
 two_to_one =
     image_with (quantization_of 1 ∷ colour_frame 0 8 16 33 ∷ one_code 0 4 ∷ one_code 16 0
     ∷ scan_of_three 63 (64 ∷ 228 ∷ 14 ∷ []) ∷ [])
+
+-- The second component has two blocks in an MCU, by its factors, and the first is half as wide or
+-- half as high as the picture.
+abbrev pub larger_second : ℕ → ℕ → ℕ → List ℕ
+larger_second height width factors =
+    image_with (quantization_of 1 ∷ frame_by_factors 0 height width 17 factors ∷ one_code 0 4
+    ∷ one_code 16 0 ∷ scan_of_three 63 (64 ∷ 228 ∷ 14 ∷ []) ∷ [])
 
 -- The first component has two blocks across and two down in an MCU; a restart after each of two
 -- MCUs. The quantization values are 8, so that a block of DC d alone is 64 samples of 128 + d.

@@ -13,4 +13,7 @@ pub struct Settings {
     /// The greatest number of blocks that the scans of a stream may code, all together, if there is
     /// a limit. Eight samples of a lossless scan count as a block.
     pub max_blocks: Option<u64>,
+    /// Whether the picture is the luma of a picture in colour, without its colours. Pictures of one
+    /// component and lossless pictures are not affected.
+    pub luma: bool,
 }

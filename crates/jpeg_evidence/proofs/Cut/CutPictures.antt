@@ -24,7 +24,7 @@ use Rattle.jpeg_meaning.specs.WrittenScans.{Coefficients}
 use Rattle.jpeg_meaning.proofs.Order.Apart.{At}
 use Rattle.jpeg_meaning.proofs.Written.BroughtLevels.{Framed, Shaped, is_whole, zero-at, zero-holds}
 use Rattle.jpeg_meaning.proofs.Order.FrameShapes.{scale-made}
-use Rattle.jpeg_meaning.proofs.Pictures.LimitedPictures.{limited-same, within as within_limit}
+use Rattle.jpeg_meaning.proofs.Pictures.LimitedPictures.{limited-same, samples_of, within as within_limit}
 use Rattle.jpeg_meaning.proofs.Written.ReadTurns.{then-ok}
 use Rattle.jpeg_meaning.proofs.Pictures.UpsampledFactors.{SamePlane}
 use Rattle.jpeg_meaning.proofs.Written.WalkedStreams.{beside}
@@ -38,7 +38,7 @@ use Rattle.jpeg_evidence.specs.CutImages.{picture_held}
 pub limit-passed : (settings : Settings) (frame : Frame) (x y : Result (List ℕ) Fault) (picture : List ℕ)
     → within_limit settings frame x ≡ Ok picture → within_limit settings frame y ≡ y
 limit-passed settings frame x y picture e =
-    go (nat_lt settings.limit (length frame.components * (frame.output_width * frame.output_height))) e
+    go (nat_lt settings.limit (samples_of settings frame)) e
   where
     go : (b : Bool) → (if b then Err Malformed else x) ≡ Ok picture → (if b then Err Malformed else y) ≡ y
     go true e = absurd (err-ok Malformed picture e)

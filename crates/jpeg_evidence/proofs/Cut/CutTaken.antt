@@ -1,19 +1,15 @@
 -- A cut stream of a writer is shown where the settings take the picture of its frame.
-use Rattle.std.proofs.Common.{rules, ◌≡◌, ℕ, List, [], ◌∷◌, ◌++◌, map, length, Some, None, Ok, refl, sym, ap, ◌∙◌, subst}
-use Rattle.std.proofs.lemmas.Bool.{eq-eqb}
+use Rattle.std.proofs.Common.{◌≡◌, ℕ, List, [], ◌∷◌, ◌++◌, map, Some, None, Ok, refl, sym, ap, ◌∙◌, subst}
 use Rattle.std.specs.Prelude.{slice_index_or, unwrap_or, replicate}
 use Rattle.std.specs.List.{enumerate_from}
 use Rattle.jpeg_bits.specs.Reading.{End}
-use Rattle.jpeg_pixels.specs.Colour.{conversion_of}
-use Rattle.jpeg_pixels.specs.Pictures.{Source, image_of, sources_of}
-use Rattle.jpeg_bits.specs.declared.color_transform.ColorTransform.{ColorTransform}
-use Rattle.jpeg_pixels.specs.declared.color_convert.ColorConvert.{ColorConvert}
+use Rattle.jpeg_pixels.specs.Pictures.{Source, sources_of}
 use Rattle.jpeg_segments.specs.Checks.{gathered}
 use Rattle.jpeg_segments.specs.Frame.{Component, Frame}
 use Rattle.jpeg_meaning.specs.declared.settings.Settings.{Settings}
-use Rattle.jpeg_meaning.specs.ArrayPictures.{HasTransform, IsTransformOf, TakesPicture, as_sent}
+use Rattle.jpeg_meaning.specs.ArrayPictures.{HasTransform, TakesPicture, as_sent}
 use Rattle.jpeg_meaning.specs.Found.{Found, Said, nothing_found, nothing_said}
-use Rattle.jpeg_meaning.specs.FoundPictures.{picture_by, picture_in}
+use Rattle.jpeg_meaning.specs.FoundPictures.{picture_by}
 use Rattle.jpeg_meaning.specs.Levels.{Is8Bit, Levels, nothing_sent}
 use Rattle.jpeg_meaning.specs.Rasters.{plane_of_blocks}
 use Rattle.jpeg_meaning.specs.Shown.{Shown, fault_shown, framed_or, picture_shown, shown, shown_of, shown_rest_within}
@@ -24,6 +20,7 @@ use Rattle.jpeg_meaning.specs.WrittenScans.{Coefficients}
 use Rattle.jpeg_meaning.specs.WrittenStreams.{end}
 use Rattle.jpeg_meaning.proofs.Pictures.LimitedPictures.{limited-ok}
 use Rattle.jpeg_meaning.proofs.Written.ReadTurns.{then-ok}
+use Rattle.jpeg_meaning.proofs.Written.WrittenPictures.{picture-there}
 use Rattle.jpeg_evidence.specs.CutImages.{HoldsCut, picture_held}
 use Rattle.jpeg_evidence.proofs.Cut.CutHeld.{EndedAt, nothing-there}
 use Rattle.jpeg_evidence.proofs.Cut.CutPictures.{shown-same}
@@ -38,25 +35,14 @@ gathered-ok f [] = refl
 gathered-ok f (x ∷ xs) =
     then-ok (gathered (λ y. Ok (f y)) xs) _ (map f xs) _ (gathered-ok f xs) refl
 
-conversion-there : (count : ℕ) (t : ColorTransform) → IsTransformOf count t
-    → (convert : ColorConvert) × (conversion_of count t ≡ Ok convert)
-unfolding conversion_of
-conversion-there count t h = search (rules, eq-eqb)
-
 -- a picture of planes, where the components can have their transform
 picture-of : (settings : Settings) (w : Said) (f : Frame) (components : List Component) (g : ℕ × Component → List ℕ)
-    (sources : List Source) → HasTransform settings w components
+    (sources : List Source) → HasTransform settings w f components
     → sources_of components f.output_width f.output_height ≡ Ok sources
     → (picture : List ℕ) × (picture_by settings w.metadata f components (map g (enumerate_from 0 components)) ≡ Ok picture)
-unfolding picture_by image_of
 picture-of settings w f [] g sources t e = absurd t
-picture-of settings w f (c ∷ []) g sources t e = (picture_in f c (g (0, c)), refl)
-picture-of settings w f (c ∷ d ∷ more) g sources t e =
-    let convert = conversion-there (length (c ∷ d ∷ more)) _ t in (
-      _,
-      then-ok (conversion_of (length (c ∷ d ∷ more)) _) _ convert.0 _ convert.1
-          (then-ok (sources_of (c ∷ d ∷ more) f.output_width f.output_height) _ sources _ e refl),
-    )
+picture-of settings w f (c ∷ more) g sources t e =
+    picture-there settings w f (c ∷ more) (g (0, c)) (map g (enumerate_from 1 more)) sources t e
 
 -- the picture of blocks that are held
 held-there : (settings : Settings) (said : Said) (f : Frame) (blocks : Coefficients) (sources : List Source)
@@ -69,7 +55,7 @@ held-there settings said f blocks sources takes same is_said e =
     = λ c. plane_of_blocks c.1 (unwrap_or
     (slice_index_or said.quantization c.1.factors.quantization None) (replicate 64 1)) (blocks c.0) in
     let picture = picture-of settings said f f.components g sources
-    (subst (λ (h : Frame). HasTransform settings said h.components) same takes.transform) e in (
+    (subst (λ (h : Frame). HasTransform settings said h h.components) same takes.transform) e in (
       picture.0,
       limited-ok settings said f _ picture.0 is_said (rw same at takes.limit)
           (then-ok (gathered (λ c. Ok (g c)) (enumerate_from 0 f.components)) _ _ _

@@ -1,5 +1,5 @@
 -- Pictures of what was found with the same first rows of blocks have the same first rows.
-use Rattle.std.proofs.Common.{◌≡◌, ◌≢◌, ℕ, suc, ◌+◌, ◌*◌, ◌≤◌, ◌&&◌, Bool, true, false, List, [], ◌∷◌, length}
+use Rattle.std.proofs.Common.{◌≡◌, ◌≢◌, ℕ, suc, ◌+◌, ◌≤◌, ◌&&◌, Bool, true, false, List, [], ◌∷◌}
 use Rattle.std.proofs.Common.{get_or, Option, Some, None, Result, Ok, Err, refl, sym, ap, ◌∙◌, subst, arith}
 use Rattle.std.proofs.Common.{if◌then◌else◌, replicate, nat_lt}
 use Rattle.std.specs.Prelude.{slice_index_or, unwrap_or}
@@ -20,7 +20,7 @@ use Rattle.jpeg_meaning.specs.ScanSegments.{is_progressive}
 use Rattle.jpeg_meaning.specs.Shown.{blocks_held, completed, picture_shown, table_held, with_plane_shown}
 use Rattle.jpeg_meaning.proofs.Order.Apart.{At, at-one}
 use Rattle.jpeg_meaning.proofs.Partial.CompletedPictures.{all_shown, plane-goes, plane_of_parts}
-use Rattle.jpeg_meaning.proofs.Pictures.LimitedPictures.{limited-at, within}
+use Rattle.jpeg_meaning.proofs.Pictures.LimitedPictures.{limited-at, samples_of, within}
 use Rattle.jpeg_meaning.proofs.Written.WrittenPictures.{lossy-picture}
 use Rattle.jpeg_evidence.specs.CompleteRows.{BeginAlike, first_rows}
 use Rattle.jpeg_evidence.proofs.Cut.CutPictures.{lossy-completed}
@@ -153,7 +153,7 @@ module _ (frame : Frame) (rows : ℕ) where
 
   within-ok : (settings : Settings) (o : Result (List ℕ) Fault) (x : List ℕ) → within settings frame o ≡ Ok x → o ≡ Ok x
   within-ok settings o x e =
-      go (nat_lt settings.limit (length frame.components * (frame.output_width * frame.output_height))) e
+      go (nat_lt settings.limit (samples_of settings frame)) e
     where
       go : (b : Bool) → (if b then Err Malformed else o) ≡ Ok x → o ≡ Ok x
       go true e = absurd (err-ok Malformed x e)
@@ -168,29 +168,29 @@ module _ (frame : Frame) (rows : ℕ) where
       (sym (limited-at settings f.said frame _ is) ∙ e)
 
   blocks-first : (settings : Settings) (f g : Found) (x y : List ℕ) → IsSizedFrame frame
-      → rows ≤ frame.output_height → Alike frame rows f g → blocks_picture settings f frame ≡ Ok x
-      → blocks_picture settings g frame ≡ Ok y → first_rows frame rows x ≡ first_rows frame rows y
+      → frame.process ≢ Lossless → rows ≤ frame.output_height → Alike frame rows f g → blocks_picture settings f frame ≡ Ok x
+      → blocks_picture settings g frame ≡ Ok y → first_rows settings frame rows x ≡ first_rows settings frame rows y
   unfolding blocks_picture
-  blocks-first settings f g x y z few a d e =
+  blocks-first settings f g x y z lossy few a d e =
       let ps = bind-ok (gathered (plane_at_end f frame) (enumerate_from 0 frame.components)) _ x d in
       let qs = bind-ok (gathered (plane_at_end g frame) (enumerate_from 0 frame.components)) _ y e in
       let same = all-begin frame.components 0 f g ps.0 qs.0 (λ j c t.
       let start : j ≡ 0 + j = omega arith in subst (λ (n : ℕ). At n frame.components c) start t) a ps.1 qs.1 in
-      rows_of_first_lines settings f.said.metadata frame rows ps.0 qs.0 x y z few same ps.2
+      rows_of_first_lines settings f.said.metadata frame rows ps.0 qs.0 x y z (λ l. absurd (lossy l)) few same ps.2
       (ap (λ (w : Said). picture_by settings w.metadata frame frame.components qs.0) a.said ∙ qs.2)
 
   -- The first rows that are shown of what was found.
   pub shown-first : (settings : Settings) (f g : Found) (x y : List ℕ) → IsSizedFrame frame
       → frame.process ≢ Lossless → rows ≤ frame.output_height → Alike frame rows f g
       → picture_shown settings f ≡ Ok x → picture_shown settings g ≡ Ok y
-      → first_rows frame rows x ≡ first_rows frame rows y
+      → first_rows settings frame rows x ≡ first_rows settings frame rows y
   unfolding picture_shown completed
   shown-first settings f g x y z lossy few a d e =
       let u = all_shown frame f 0 frame.components in
       let v = all_shown frame g 0 frame.components in
       let later = all-alike frame.components 0 f g (λ j c t.
       let start : j ≡ 0 + j = omega arith in subst (λ (n : ℕ). At n frame.components c) start t) a in
-      blocks-first settings u v x y z few later
+      blocks-first settings u v x y z lossy few later
       (picture-made settings u x later.framed lossy (of f x a.framed d))
       (picture-made settings v y (ap (λ (w : Said). w.frame) (sym later.said) ∙ later.framed) lossy
       (of g y (ap (λ (w : Said). w.frame) (sym a.said) ∙ a.framed) e))

@@ -12,7 +12,6 @@ use Rattle.jpeg_segments.specs.Scales.{IsSizedFrame}
 use Rattle.jpeg_segments.specs.declared.application.AdobeColorTransform.{AdobeColorTransform}
 use Rattle.jpeg_segments.specs.declared.frame.CodingProcess.TheVariants.{DctSequential, Lossless}
 use Rattle.jpeg_segments.proofs.Codecs.{bind-ok, err-ok, ok-same}
-use Rattle.jpeg_pixels.specs.Pictures.{image_of}
 use Rattle.jpeg_meaning.specs.ColourChoice.{identifiers_of, transform_of}
 use Rattle.jpeg_meaning.specs.declared.settings.Settings.{Settings}
 use Rattle.jpeg_meaning.specs.Found.{Found, Metadata, nothing_found, nothing_said}
@@ -27,7 +26,7 @@ use Rattle.jpeg_bits.specs.declared.beyond.Beyond.TheVariants.{Nothing}
 use Rattle.jpeg_meaning.proofs.Order.Apart.{At}
 use Rattle.jpeg_meaning.proofs.Partial.CompletedPictures.{completed-same, plane-goes, plane_of_parts}
 use Rattle.jpeg_meaning.proofs.Written.ReadTurns.{gathered-more, same-frame}
-use Rattle.jpeg_meaning.proofs.Written.WrittenPictures.{end-decided}
+use Rattle.jpeg_meaning.proofs.Written.WrittenPictures.{end-decided, picture_of_several}
 use Rattle.jpeg_evidence.specs.CompleteRows.{BeginAlike, HasFaultAt, HasSizedFrame, first_rows}
 use Rattle.jpeg_meaning.specs.declared.before.Before.TheVariants.{Elsewhere}
 use Rattle.jpeg_evidence.proofs.Longer.LongerSegments.{Stays, byte-stays, stays-bind, stays-if, stays-read}
@@ -56,12 +55,12 @@ same-colours : (settings : Settings) (m n : Metadata) (frame : Frame) (cs : List
     → m.jfif ≡ n.jfif → m.adobe ≡ n.adobe → picture_by settings m frame cs ps ≡ picture_by settings n frame cs ps
 unfolding picture_by
 same-colours settings m n frame [] ps j a =
-    ap₂ (λ (b : Bool) (o : Option AdobeColorTransform). image_of [] ps frame.output_width frame.output_height
-    (transform_of settings.color_transform (identifiers_of []) b o)) j a
+    ap₂ (λ (b : Bool) (o : Option AdobeColorTransform). picture_of_several settings.luma
+    (transform_of settings.color_transform (identifiers_of []) b o) frame [] ps) j a
 same-colours settings m n frame (c ∷ []) ps j a = refl
 same-colours settings m n frame (c ∷ d ∷ cs) ps j a =
-    ap₂ (λ (b : Bool) (o : Option AdobeColorTransform). image_of (c ∷ d ∷ cs) ps frame.output_width
-    frame.output_height (transform_of settings.color_transform (identifiers_of (c ∷ d ∷ cs)) b o)) j a
+    ap₂ (λ (b : Bool) (o : Option AdobeColorTransform). picture_of_several settings.luma
+    (transform_of settings.color_transform (identifiers_of (c ∷ d ∷ cs)) b o) frame (c ∷ d ∷ cs) ps) j a
 
 -- ---- planes
 
@@ -131,11 +130,11 @@ module _ (frame : Frame) (rows : ℕ) (sequential : frame.process ≡ DctSequent
       → PlanesBegin frame rows w v → gathered (plane_at_end w frame) (enumerate_from 0 frame.components) ≡ Ok ps
       → w.said.metadata.jfif ≡ v.said.metadata.jfif → w.said.metadata.adobe ≡ v.said.metadata.adobe
       → picture_shown settings w ≡ Ok x → picture_shown settings v ≡ Ok y
-      → first_rows frame rows x ≡ first_rows frame rows y
+      → first_rows settings frame rows x ≡ first_rows settings frame rows y
   later-first settings w v ps x y z few is later each are j a d e =
       let qs = all-later frame.components 0 w v ps (λ j c t.
       let start : j ≡ 0 + j = omega arith in subst (λ (n : ℕ). At n frame.components c) start t) each are in
-      rows_of_first_lines settings w.said.metadata frame rows ps qs.0 x y z few qs.2
+      rows_of_first_lines settings w.said.metadata frame rows ps qs.0 x y z (λ l. absurd (is-lossy l)) few qs.2
       (of-planes settings w x ps is are d)
       (same-colours settings w.said.metadata v.said.metadata frame frame.components qs.0 j a
       ∙ of-planes settings v y qs.0 later qs.1 e)
@@ -226,34 +225,34 @@ module _ (settings : Settings) (frame : Frame) (sequential : frame.process ≡ D
   counted : (rows : Option ℕ)
       → (0 < unwrap_or rows frame.output_height → (unwrap_or rows frame.output_height ≤ frame.output_height)
       × PlanesBegin frame (unwrap_or rows frame.output_height) w v)
-      → first_rows frame (rows_of_found rows w) x ≡ first_rows frame (rows_of_found rows w) y
+      → first_rows settings frame (rows_of_found rows w) x ≡ first_rows settings frame (rows_of_found rows w) y
   counted rows each =
-      subst (λ (n : ℕ). first_rows frame n x ≡ first_rows frame n y)
+      subst (λ (n : ℕ). first_rows settings frame n x ≡ first_rows settings frame n y)
       (sym (ap (λ (o : Option Frame). unwrap_or (option_map (rows_of_frame rows w) o) 0) is))
       (go (planes_by frame.process w frame) refl)
     where
       some : (n : ℕ) → unwrap_or rows frame.output_height ≡ n → (ps : List (List ℕ))
           → gathered (plane_at_end w frame) (enumerate_from 0 frame.components) ≡ Ok ps
-          → first_rows frame n x ≡ first_rows frame n y
-      some zero k ps are = no-rows frame x y
+          → first_rows settings frame n x ≡ first_rows settings frame n y
+      some zero k ps are = no-rows settings frame x y
       some (suc n) k ps are =
           let there : 0 < unwrap_or rows frame.output_height = omega arith in
           let b = each there in
-          subst (λ (n : ℕ). first_rows frame n x ≡ first_rows frame n y) k
+          subst (λ (n : ℕ). first_rows settings frame n x ≡ first_rows settings frame n y) k
           (later-first frame (unwrap_or rows frame.output_height) sequential settings w v ps x y z b.0 is later b.1 are
           j a d e)
 
       go : (o : Result (List (List ℕ)) Fault) → planes_by frame.process w frame ≡ o
-          → first_rows frame (elim o as (λ _. ℕ) [ Ok planes ↦ unwrap_or rows frame.output_height | Err fault ↦ 0 ]) x
-          ≡ first_rows frame (elim o as (λ _. ℕ) [ Ok planes ↦ unwrap_or rows frame.output_height | Err fault ↦ 0 ]) y
-      go (Err fault) k = no-rows frame x y
+          → first_rows settings frame (elim o as (λ _. ℕ) [ Ok planes ↦ unwrap_or rows frame.output_height | Err fault ↦ 0 ]) x
+          ≡ first_rows settings frame (elim o as (λ _. ℕ) [ Ok planes ↦ unwrap_or rows frame.output_height | Err fault ↦ 0 ]) y
+      go (Err fault) k = no-rows settings frame x y
       go (Ok ps) k =
           some (unwrap_or rows frame.output_height) refl ps
           (sym (lossy-planes frame.process w frame (is-lossy frame 0 sequential)) ∙ k)
 
   -- where the longer stream goes on
   stops-first : (more : List ℕ) (rows : Option ℕ) (longer : Walked) → StopsAt more w rows longer → longer.found ≡ v
-      → first_rows frame (rows_of_found rows w) x ≡ first_rows frame (rows_of_found rows w) y
+      → first_rows settings frame (rows_of_found rows w) x ≡ first_rows settings frame (rows_of_found rows w) y
   stops-first more rows longer (at_front turns before met left walks none) same =
       counted rows (λ some. (
         let all : unwrap_or rows frame.output_height ≡ frame.output_height =
@@ -303,8 +302,8 @@ pub rows_are_final : (settings : Settings) (found : Found) (bytes more : List �
     → HasSizedFrame found → shown_rest settings found bytes ≡ Ok s → shown_rest settings found (bytes ++ more) ≡ Ok t
     → s.told.frame ≡ Some frame → frame.process ≡ DctSequential → s.told.metadata.jfif ≡ t.told.metadata.jfif
     → s.told.metadata.adobe ≡ t.told.metadata.adobe
-    → first_rows frame (whole_rows_rest None found bytes) s.picture
-    ≡ first_rows frame (whole_rows_rest None found bytes) t.picture
+    → first_rows settings frame (whole_rows_rest None found bytes) s.picture
+    ≡ first_rows settings frame (whole_rows_rest None found bytes) t.picture
 unfolding whole_rows_rest
 rows_are_final settings found bytes more s t frame sized d e is sequential j a =
     go (all_brought None found bytes).rest refl
@@ -328,11 +327,11 @@ rows_are_final settings found bytes more s t frame sized d e is sequential j a =
     z = (walk-onward (suc (length bytes)) Elsewhere found None bytes).sized sized frame framed
 
     go : (o : Result (List ℕ) Fault) → w.rest ≡ o
-        → first_rows frame (rows_of_found w.rows w.found) s.picture
-        ≡ first_rows frame (rows_of_found w.rows w.found) t.picture
+        → first_rows settings frame (rows_of_found w.rows w.found) s.picture
+        ≡ first_rows settings frame (rows_of_found w.rows w.found) t.picture
     go (Ok rest) k =
         let same = ap (λ (x : Walked). x.found) (ended_streams_stay found bytes more rest k) in
-        ap (first_rows frame (rows_of_found w.rows w.found))
+        ap (first_rows settings frame (rows_of_found w.rows w.found))
         (ok-same s.picture t.picture (sym one.1 ∙ ap (picture_shown settings) (sym same) ∙ two.1))
     go (Err fault) k =
         let stops = longer_streams_stop found bytes more fault k in
@@ -351,8 +350,8 @@ pub rows_of_one_scan_stay : (settings : Settings) (found : Found) (bytes more le
     → (all_brought None found bytes).rows ≡ Some rows → shown_rest settings found bytes ≡ Ok s
     → shown_rest settings found (bytes ++ more) ≡ Ok t → s.told.frame ≡ Some frame
     → (frame.process ≡ Lossless → ⊥)
-    → first_rows frame (whole_rows_rest None found bytes) s.picture
-    ≡ first_rows frame (whole_rows_rest None found bytes) t.picture
+    → first_rows settings frame (whole_rows_rest None found bytes) s.picture
+    ≡ first_rows settings frame (whole_rows_rest None found bytes) t.picture
 unfolding whole_rows_rest
 rows_of_one_scan_stay settings found bytes more left before last met s t frame rows sized x y some d e is lossy =
     go (turn-goes more before last met left).adds
@@ -394,11 +393,11 @@ rows_of_one_scan_stay settings found bytes more left before last met s t frame r
     counted = ap₂ (λ (r : Option ℕ) (f : Found). rows_of_found r f) first.1 first.0
 
     go : ((b.found ≡ last) × (b.rows ≡ None)) ⊎ (ScanAdds last b.found b.rows c.found ⊎ RowsAdd last b.found c.found)
-        → first_rows frame (rows_of_found w.rows w.found) s.picture
-        ≡ first_rows frame (rows_of_found w.rows w.found) t.picture
+        → first_rows settings frame (rows_of_found w.rows w.found) s.picture
+        ≡ first_rows settings frame (rows_of_found w.rows w.found) t.picture
     go (inl same) = absurd (none-rows w.rows b.rows first.1 some same.1)
     go (inr (inl adds)) =
-        subst (λ (n : ℕ). first_rows frame n s.picture ≡ first_rows frame n t.picture) (sym counted)
+        subst (λ (n : ℕ). first_rows settings frame n s.picture ≡ first_rows settings frame n t.picture) (sym counted)
         (adds-rows settings last b.found c.found b.rows whole adds frame s.picture t.picture framed
         (ap (picture_shown settings) (sym first.0) ∙ one.1) (ap (picture_shown settings) (sym second.0) ∙ two.1))
     go (inr (inr adds)) =
@@ -421,7 +420,7 @@ pub streams_are_final : (settings : Settings) (bytes more : List ℕ) (s t : Sho
     → shown settings bytes ≡ Ok s → shown settings (bytes ++ more) ≡ Ok t
     → s.told.frame ≡ Some frame → frame.process ≡ DctSequential → s.told.metadata.jfif ≡ t.told.metadata.jfif
     → s.told.metadata.adobe ≡ t.told.metadata.adobe
-    → first_rows frame (whole_rows bytes) s.picture ≡ first_rows frame (whole_rows bytes) t.picture
+    → first_rows settings frame (whole_rows bytes) s.picture ≡ first_rows settings frame (whole_rows bytes) t.picture
 unfolding shown_within
 streams_are_final settings bytes more s t frame d e is sequential j a =
     let x = bind-ok (start_at bytes) _ s d in
@@ -429,5 +428,5 @@ streams_are_final settings bytes more s t frame d e is sequential j a =
     let y : shown_rest settings nothing_found (x.0.1 ++ more) ≡ Ok t =
     ap (λ (o : Outcome (Unit {0})). o >>= (λ start. shown_rest settings nothing_found start.1)) (sym later) ∙ e in
     let rows = started bytes x.0.1 x.1 in
-    subst (λ (n : ℕ). first_rows frame n s.picture ≡ first_rows frame n t.picture) (sym rows)
+    subst (λ (n : ℕ). first_rows settings frame n s.picture ≡ first_rows settings frame n t.picture) (sym rows)
     (rows_are_final settings nothing_found x.0.1 more s t frame nothing-sized x.2 y is sequential j a)

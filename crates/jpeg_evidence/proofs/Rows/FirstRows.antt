@@ -3,17 +3,19 @@ use Rattle.std.proofs.lemmas.Grind.{common_steps}
 use Rattle.std.proofs.lemmas.Bool.Decides.{nat_tests}
 use Rattle.std.proofs.Common.{◌≡◌, ℕ, zero, suc, ◌+◌, ◌*◌, ◌/◌, ◌%◌, ◌<◌, ◌≤◌, List, [], ◌∷◌, map, length}
 use Rattle.std.proofs.Common.{min, take, refl, sym, ap, ap₂, ◌∙◌, subst, arith, slice_index, Option, Some, None, Result}
-use Rattle.std.proofs.Common.{Ok, Err}
+use Rattle.std.proofs.Common.{Ok, Err, Bool, true, false, ◌&&◌, true≢false, if◌then◌else◌}
 use Rattle.std.proofs.Math.Nat.{div-lt_iff_lt-mul, mod-lt, mul_comm}
 use Rattle.std.proofs.lemmas.List.{get_or-take}
 use Rattle.std.proofs.lemmas.List.Elements.{recursion_from_All}
 use Rattle.std.specs.List.{AllByRecursion, range_with_len}
-use Rattle.jpeg_bits.specs.Reading.{Fault, ◌>>=◌}
+use Rattle.jpeg_bits.specs.Reading.{Fault, Malformed, ◌>>=◌}
 use Rattle.jpeg_bits.specs.declared.color_transform.ColorTransform.{ColorTransform}
-use Rattle.jpeg_segments.specs.Checks.{gathered}
+use Rattle.jpeg_segments.specs.Checks.{check, gathered}
 use Rattle.jpeg_segments.specs.Frame.{Component, Factors, Frame, HasSampling, IsInRange, most_across, most_down}
 use Rattle.jpeg_segments.specs.Frame.{AllHaveSampling}
 use Rattle.jpeg_segments.specs.Scales.{IsSizedFrame, frame_at}
+use Rattle.jpeg_segments.specs.declared.frame.CodingProcess.{CodingProcess}
+use Rattle.jpeg_segments.specs.declared.frame.CodingProcess.TheVariants.{Lossless}
 use Rattle.jpeg_segments.proofs.Codecs.{bind-ok, err-ok, ok-same}
 use Rattle.jpeg_segments.proofs.Gathered.{gathered-length}
 use Rattle.jpeg_segments.proofs.FrameLemmas.{greatest-some}
@@ -30,13 +32,18 @@ use Rattle.jpeg_pixels.proofs.SourceLists.{source-rule}
 use Rattle.jpeg_pixels.proofs.WholePictures.{conversion-fits}
 use Rattle.jpeg_meaning.specs.declared.settings.Settings.{Settings}
 use Rattle.jpeg_meaning.specs.Found.{Metadata}
-use Rattle.jpeg_meaning.specs.FoundPictures.{picture_by, picture_in}
+use Rattle.jpeg_meaning.specs.FoundPictures.{first_picture, is_as_large, is_luma, luma_picture, picture_by, picture_in}
+use Rattle.jpeg_meaning.specs.Pixels.{luma_samples, samples_shown}
 use Rattle.jpeg_meaning.proofs.Order.FrameShapes.{is-sized, most_h, most_v, one-made, reaches-made, scaled_component}
+use Rattle.jpeg_meaning.proofs.Pictures.LimitedPictures.{luma-alone}
 use Rattle.jpeg_meaning.proofs.Pictures.UpsampledFactors.{SamePlane}
 use Rattle.jpeg_meaning.proofs.Soundness.{scale-bounds}
 use Rattle.jpeg_meaning.proofs.Written.BroughtLevels.{Made}
+use Rattle.jpeg_meaning.proofs.Written.WrittenPictures.{as-large, picture_of_several, transform_by}
 use Rattle.jpeg_evidence.specs.CompleteRows.{BeginAlike, first_lines, first_rows, lines_for, lines_needed}
+use Rattle.jpeg_evidence.specs.CompleteRows.{sample_lines}
 use Rattle.jpeg_evidence.proofs.Rows.LocalLines.{FirstSame, picture-first}
+use Rattle.jpeg_evidence.proofs.Rows.LumaLines.{luma-lines}
 
 -- ---- frames
 
@@ -96,7 +103,7 @@ rule-lines : (frame : Frame) (rows : ℕ) (c : Component) (rule : UpsampleRule)
 rule-lines frame rows c rule e =
     ap (λ (o : Option UpsampleRule). elim o as (λ _. ℕ) [
       | Some rule ↦ min c.height (lines_needed rule rows)
-      | None ↦ 0
+      | None ↦ min c.height (sample_lines frame rows c)
     ]) e
 
 sources-first : (frame : Frame) (rows : ℕ) (components : List Component) (sources : List Source)
@@ -130,12 +137,16 @@ sources-first frame rows [] sources [] (q ∷ qs) inside e same = absurd same
 sources-first frame rows (c ∷ components) sources [] qs inside e same = absurd same
 sources-first frame rows (c ∷ components) sources (p ∷ ps) [] inside e same = absurd same
 
+-- the samples of the first rows of a picture, with so many samples a pixel
+abbrev rows_by : ℕ → Frame → ℕ → List ℕ → List ℕ
+rows_by count frame rows picture = take (rows * (frame.output_width * count)) picture
+
 -- The first rows of the image of several components.
 image-first : (frame : Frame) (rows : ℕ) (ps qs : List (List ℕ)) (transform : ColorTransform) (x y : List ℕ)
     → Made frame → rows ≤ frame.output_height → BeginAlike frame rows frame.components ps qs
     → image_of frame.components ps frame.output_width frame.output_height transform ≡ Ok x
     → image_of frame.components qs frame.output_width frame.output_height transform ≡ Ok y
-    → first_rows frame rows x ≡ first_rows frame rows y
+    → rows_by (length frame.components) frame rows x ≡ rows_by (length frame.components) frame rows y
 unfolding image_of
 image-first frame rows ps qs transform x y m few same e g =
     go (conversion_of (length frame.components) transform) refl
@@ -151,7 +162,7 @@ image-first frame rows ps qs transform x y m few same e g =
         → (r : Result (List Source) Fault) → sources_of frame.components w h ≡ r
         → (o >>= (λ convert. r >>= (λ sources. Ok (converted_picture convert sources ps w h)))) ≡ Ok x
         → (o >>= (λ convert. r >>= (λ sources. Ok (converted_picture convert sources qs w h)))) ≡ Ok y
-        → first_rows frame rows x ≡ first_rows frame rows y
+        → rows_by (length frame.components) frame rows x ≡ rows_by (length frame.components) frame rows y
     go (Err f) k r l e g = absurd (err-ok f x e)
     go (Ok convert) k (Err f) l e g = absurd (err-ok f x e)
     go (Ok convert) k (Ok sources) l e g =
@@ -203,12 +214,28 @@ abbrev cropped_by : Frame → List ℕ → ℕ → List ℕ
 cropped_by frame p stride =
     cropped stride (min frame.output_width stride) (min frame.output_height (length p / stride)) p
 
-one-first : (frame : Frame) (rows : ℕ) (c : Component) (p q : List ℕ) → IsSizedFrame frame
+-- so of one component that has a sample for each pixel
+plane-first : (frame : Frame) (rows count : ℕ) (c : Component) (p q : List ℕ) → count ≡ 1
+    → c.width ≤ c.blocks_wide * c.scale → frame.output_width ≤ c.width → length p ≡ length q
+    → SamePlane (c.blocks_wide * c.scale) c.width rows p q
+    → rows_by count frame rows (picture_in frame c p) ≡ rows_by count frame rows (picture_in frame c q)
+plane-first frame rows count c p q one inside wide long same =
+    let stride = c.blocks_wide * c.scale in
+    let width : min frame.output_width stride ≡ frame.output_width * count = rw one (omega arith) in
+    let turn = mul_comm c.scale c.blocks_wide in
+    let first = cropped-first stride c.width (min frame.output_height (length p / stride)) rows
+    (min frame.output_width stride) p q (omega arith) same
+    ∙ ap (λ (n : ℕ). take (rows * min frame.output_width stride)
+    (cropped stride (min frame.output_width stride) (min frame.output_height (n / stride)) q)) long in
+    ap₂ (λ (n k : ℕ). take (rows * n) (cropped_by frame p k)) (sym width) turn ∙ first
+    ∙ ap₂ (λ (n k : ℕ). take (rows * n) (cropped_by frame q k)) width (sym turn)
+
+one-first : (frame : Frame) (rows count : ℕ) (c : Component) (p q : List ℕ) → count ≡ 1 → IsSizedFrame frame
     → rows ≤ frame.output_height → frame.components ≡ c ∷ [] → length p ≡ length q
     → first_lines c (lines_for frame rows c) p ≡ first_lines c (lines_for frame rows c) q
-    → first_rows frame rows (picture_in frame c p) ≡ first_rows frame rows (picture_in frame c q)
+    → rows_by count frame rows (picture_in frame c p) ≡ rows_by count frame rows (picture_in frame c q)
 unfolding AllHaveSampling
-one-first frame rows c p q z few is count e =
+one-first frame rows count c p q one z few is long e =
     let m = made-sized frame z in
     let size = one-made frame c m is in
     let wide = subst (AllByRecursion IsInBlocks) is (made-inside frame m) in
@@ -218,51 +245,111 @@ one-first frame rows c p q z few is count e =
     (one-rule c frame.output_width frame.output_height sampling.0) in
     let lines : lines_for frame rows c ≡ rows = rule-lines frame rows c H1V1 rule
     ∙ (let h = size.1 in omega arith) in
+    plane-first frame rows count c p q one wide.0 size.0 long
+    (first-same (c.blocks_wide * c.scale) c.width rows p q wide.0 long
+    (subst (λ (n : ℕ). first_lines c n p ≡ first_lines c n q) lines e))
+
+-- ---- the luma of a picture
+
+-- planes that are the same in more lines
+fewer-same : (stride w lines rows : ℕ) (p q : List ℕ) → rows ≤ lines → SamePlane stride w lines p q
+    → SamePlane stride w rows p q
+fewer-same stride w lines rows p q le same =
+    record { count = same.count; each = λ i j a b. same.each i j a (omega arith) }
+
+large-first : (frame : Frame) (rows : ℕ) (c : Component) (cs : List Component) (p q : List ℕ) → Made frame
+    → rows ≤ frame.output_height → frame.components ≡ c ∷ cs → c.width ≡ frame.output_width
+    → c.height ≡ frame.output_height → length p ≡ length q
+    → first_lines c (lines_for frame rows c) p ≡ first_lines c (lines_for frame rows c) q
+    → rows_by 1 frame rows (picture_in frame c p) ≡ rows_by 1 frame rows (picture_in frame c q)
+large-first frame rows c cs p q m few is wide tall long e =
     let stride = c.blocks_wide * c.scale in
-    let same : SamePlane stride c.width rows p q = first-same stride c.width rows p q wide.0 count
-    (subst (λ (n : ℕ). first_lines c n p ≡ first_lines c n q) lines e) in
-    let width : min frame.output_width stride ≡ frame.output_width * length frame.components =
-    let n : length frame.components ≡ 1 = ap length is in
-    let a = wide.0 in let b = size.0 in rw n (omega arith) in
-    let turn = mul_comm c.scale c.blocks_wide in
-    let first = cropped-first stride c.width (min frame.output_height (length p / stride)) rows
-    (min frame.output_width stride) p q (let b = size.0 in omega arith) same
-    ∙ ap (λ (n : ℕ). take (rows * min frame.output_width stride)
-    (cropped stride (min frame.output_width stride) (min frame.output_height (n / stride)) q)) count in
-    ap₂ (λ (n k : ℕ). take (rows * n) (cropped_by frame p k)) (sym width) turn ∙ first
-    ∙ ap₂ (λ (n k : ℕ). take (rows * n) (cropped_by frame q k)) width (sym turn)
+    let inside = subst (AllByRecursion IsInBlocks) is (made-inside frame m) in
+    let many = luma-lines frame m c cs rows is tall few in
+    plane-first frame rows 1 c p q refl inside.0 (omega arith) long
+    (fewer-same stride c.width (lines_for frame rows c) rows p q many
+    (first-same stride c.width (lines_for frame rows c) p q inside.0 long e))
+
+luma-first : (transform : ColorTransform) (frame : Frame) (rows : ℕ) (cs : List Component) (ps qs : List (List ℕ))
+    (x y : List ℕ) → Made frame → rows ≤ frame.output_height → frame.components ≡ cs
+    → BeginAlike frame rows cs ps qs → luma_picture transform frame cs ps ≡ Ok x
+    → luma_picture transform frame cs qs ≡ Ok y → rows_by 1 frame rows x ≡ rows_by 1 frame rows y
+unfolding BeginAlike
+luma-first transform frame rows [] ps qs x y m few is same e g = absurd (err-ok Malformed x e)
+luma-first transform frame rows (c ∷ cs) [] qs x y m few is same e g = absurd same
+luma-first transform frame rows (c ∷ cs) (p ∷ ps) [] x y m few is same e g = absurd same
+luma-first transform frame rows (c ∷ cs) (p ∷ ps) (q ∷ qs) x y m few is same e g =
+    go (is_luma transform && is_as_large frame c) refl e g
+  where
+    go : (b : Bool) → (is_luma transform && is_as_large frame c) ≡ b
+        → (check b >>= (λ _. first_picture frame c (p ∷ ps))) ≡ Ok x
+        → (check b >>= (λ _. first_picture frame c (q ∷ qs))) ≡ Ok y
+        → rows_by 1 frame rows x ≡ rows_by 1 frame rows y
+    go false large e g = absurd (err-ok Malformed x e)
+    go true large e g =
+        let size = as-large (is_luma transform) frame c large in
+        ap (rows_by 1 frame rows) (sym (ok-same _ x e))
+        ∙ large-first frame rows c cs p q m few is size.0 size.1 same.0 same.1
+        ∙ ap (rows_by 1 frame rows) (ok-same _ y g)
+
+several-first : (luma : Bool) (transform : ColorTransform) (frame : Frame) (rows : ℕ) (cs : List Component)
+    (ps qs : List (List ℕ)) (x y : List ℕ) → Made frame → rows ≤ frame.output_height → frame.components ≡ cs
+    → BeginAlike frame rows cs ps qs → picture_of_several luma transform frame cs ps ≡ Ok x
+    → picture_of_several luma transform frame cs qs ≡ Ok y
+    → rows_by (if luma then 1 else length frame.components) frame rows x
+    ≡ rows_by (if luma then 1 else length frame.components) frame rows y
+several-first true transform frame rows cs ps qs x y m few is same e g =
+    luma-first transform frame rows cs ps qs x y m few is same e g
+several-first false transform frame rows cs ps qs x y m few is same e g =
+    image-first frame rows ps qs transform x y m few
+    (subst (λ (l : List Component). BeginAlike frame rows l ps qs) (sym is) same)
+    (subst (λ (l : List Component). image_of l ps frame.output_width frame.output_height transform ≡ Ok x) (sym is) e)
+    (subst (λ (l : List Component). image_of l qs frame.output_width frame.output_height transform ≡ Ok y) (sym is) g)
 
 -- ---- pictures
 
+-- how many samples a pixel has in a picture of planes
+abbrev count_of : Settings → Frame → ℕ
+count_of settings frame = if settings.luma then 1 else length frame.components
+
+shown-count : (settings : Settings) (frame : Frame) → (frame.process ≡ Lossless → settings.luma ≡ false)
+    → samples_shown settings frame ≡ count_of settings frame
+shown-count settings frame lossy = go settings.luma frame.process (length frame.components) lossy
+  where
+    go : (luma : Bool) (process : CodingProcess) (n : ℕ) → (process ≡ Lossless → luma ≡ false)
+        → (if luma then luma_samples process n else n) ≡ (if luma then 1 else n)
+    go false process n h = refl
+    go true process n h = luma-alone process n (λ e. true≢false (h e))
+
+one-count : (luma : Bool) (n : ℕ) → n ≡ 1 → (if luma then 1 else n) ≡ 1
+one-count true n e = refl
+one-count false n e = e
+
+by-count : (settings : Settings) (m : Metadata) (frame : Frame) (rows : ℕ) (cs : List Component)
+    (ps qs : List (List ℕ)) (x y : List ℕ) → IsSizedFrame frame → rows ≤ frame.output_height
+    → frame.components ≡ cs → BeginAlike frame rows cs ps qs
+    → picture_by settings m frame cs ps ≡ Ok x → picture_by settings m frame cs qs ≡ Ok y
+    → rows_by (count_of settings frame) frame rows x ≡ rows_by (count_of settings frame) frame rows y
+unfolding picture_by BeginAlike
+by-count settings m frame rows [] ps qs x y z few is same e g =
+    several-first settings.luma (transform_by settings m []) frame rows [] ps qs x y (made-sized frame z) few is same e g
+by-count settings m frame rows (c ∷ []) (p ∷ ps) (q ∷ qs) x y z few is same e g =
+    let one = one-count settings.luma (length frame.components) (ap length is) in
+    ap (rows_by (count_of settings frame) frame rows) (sym (ok-same _ x e))
+    ∙ one-first frame rows (count_of settings frame) c p q one z few is same.0 same.1
+    ∙ ap (rows_by (count_of settings frame) frame rows) (ok-same _ y g)
+by-count settings m frame rows (c ∷ []) [] qs x y z few is same e g = absurd same
+by-count settings m frame rows (c ∷ []) (p ∷ ps) [] x y z few is same e g = absurd same
+by-count settings m frame rows (c ∷ d ∷ cs) ps qs x y z few is same e g =
+    several-first settings.luma (transform_by settings m (c ∷ d ∷ cs)) frame rows (c ∷ d ∷ cs) ps qs x y
+    (made-sized frame z) few is same e g
+
 -- The first rows of the picture of planes.
 pub rows_of_first_lines : (settings : Settings) (m : Metadata) (frame : Frame) (rows : ℕ) (ps qs : List (List ℕ))
-    (x y : List ℕ) → IsSizedFrame frame → rows ≤ frame.output_height
-    → BeginAlike frame rows frame.components ps qs
+    (x y : List ℕ) → IsSizedFrame frame → (frame.process ≡ Lossless → settings.luma ≡ false)
+    → rows ≤ frame.output_height → BeginAlike frame rows frame.components ps qs
     → picture_by settings m frame frame.components ps ≡ Ok x → picture_by settings m frame frame.components qs ≡ Ok y
-    → first_rows frame rows x ≡ first_rows frame rows y
-unfolding picture_by BeginAlike
-rows_of_first_lines settings m frame rows ps qs x y z few same e g = go frame.components refl ps qs same e g
-  where
-    several : (cs : List Component) → frame.components ≡ cs → (ps qs : List (List ℕ)) → BeginAlike frame rows cs ps qs
-        → (transform : ColorTransform)
-        → image_of cs ps frame.output_width frame.output_height transform ≡ Ok x
-        → image_of cs qs frame.output_width frame.output_height transform ≡ Ok y
-        → first_rows frame rows x ≡ first_rows frame rows y
-    several cs is ps qs same transform e g =
-        image-first frame rows ps qs transform x y (made-sized frame z) few
-        (subst (λ (l : List Component). BeginAlike frame rows l ps qs) (sym is) same)
-        (subst (λ (l : List Component). image_of l ps frame.output_width frame.output_height transform ≡ Ok x) (sym is)
-        e)
-        (subst (λ (l : List Component). image_of l qs frame.output_width frame.output_height transform ≡ Ok y) (sym is)
-        g)
-
-    go : (cs : List Component) → frame.components ≡ cs → (ps qs : List (List ℕ)) → BeginAlike frame rows cs ps qs
-        → picture_by settings m frame cs ps ≡ Ok x → picture_by settings m frame cs qs ≡ Ok y
-        → first_rows frame rows x ≡ first_rows frame rows y
-    go [] is ps qs same e g = several [] is ps qs same _ e g
-    go (c ∷ []) is (p ∷ ps) (q ∷ qs) same e g =
-        ap (first_rows frame rows) (sym (ok-same _ x e)) ∙ one-first frame rows c p q z few is same.0 same.1
-        ∙ ap (first_rows frame rows) (ok-same _ y g)
-    go (c ∷ []) is [] qs same e g = absurd same
-    go (c ∷ []) is (p ∷ ps) [] same e g = absurd same
-    go (c ∷ d ∷ cs) is ps qs same e g = several (c ∷ d ∷ cs) is ps qs same _ e g
+    → first_rows settings frame rows x ≡ first_rows settings frame rows y
+rows_of_first_lines settings m frame rows ps qs x y z lossy few same e g =
+    subst (λ (n : ℕ). rows_by n frame rows x ≡ rows_by n frame rows y) (sym (shown-count settings frame lossy))
+    (by-count settings m frame rows frame.components ps qs x y z few refl same e g)

@@ -4,7 +4,7 @@ use Rattle.std.proofs.Common.{◌≡◌, ◌⊎◌, inl, inr, ℕ, zero, suc, �
 use Rattle.std.proofs.Common.{false, List, [], ◌∷◌, min, slice_get, Option, Some, None, refl, sym, ap, ◌∙◌, arith}
 use Rattle.std.proofs.Common.{subst}
 use Rattle.std.proofs.Common.{if◌then◌else◌, true≢false}
-use Rattle.std.proofs.Math.Nat.{mul-div_cancel, mul_assoc, mul_comm}
+use Rattle.std.proofs.Math.Nat.{le-div_iff_mul-le, mul-div_cancel, mul_assoc, mul_comm}
 use Rattle.std.specs.List.{AllByRecursion, list_any}
 use Rattle.jpeg_segments.specs.Frame.{Component, Frame, most_across, most_down}
 use Rattle.jpeg_pixels.specs.Pictures.{blends_down, is_blended}
@@ -18,7 +18,7 @@ use Rattle.jpeg_meaning.specs.WholeRows.{rows_above, rows_above_line, rows_apart
 use Rattle.jpeg_meaning.proofs.Order.Apart.{At, at-all, get-at}
 use Rattle.jpeg_meaning.proofs.Order.FrameShapes.{ceiling-least}
 use Rattle.jpeg_meaning.proofs.Pictures.LosslessSizes.{some-across, some-down}
-use Rattle.jpeg_evidence.specs.CompleteRows.{lines_for, lines_needed}
+use Rattle.jpeg_evidence.specs.CompleteRows.{lines_for, lines_needed, sample_lines}
 use Rattle.jpeg_evidence.proofs.Rows.UnreadRows.{mcu-at, row_of}
 
 -- ---- one rule
@@ -89,8 +89,15 @@ component-enough frame c lines rows some rs few le =
         frame.output_width frame.output_height ≡ o
         → rows + extra (elim o as (λ _. Bool) [ Some rule ↦ blends_down rule | None ↦ false ])
         ≤ rows_of_lines frame c lines
-        → elim o as (λ _. ℕ) [ Some rule ↦ min c.height (lines_needed rule rows) | None ↦ 0 ] ≤ lines
-    go None e le = omega arith
+        → elim o as (λ _. ℕ) [
+          | Some rule ↦ min c.height (lines_needed rule rows)
+          | None ↦ min c.height (sample_lines frame rows c)
+        ] ≤ lines
+    go None e le =
+        let made : rows * c.factors.vertical ≤ lines * most_down frame.components =
+        (le-div_iff_mul-le some).0 (omega arith) in
+        let least = ceiling-least (rows * c.factors.vertical) (most_down frame.components) lines (some-down frame) made in
+        omega arith
     go (Some rule) e le =
         let ratios = rule-ratios c.factors.horizontal c.factors.vertical (most_across frame.components)
         (most_down frame.components) frame.output_width frame.output_height rule (some-across frame)

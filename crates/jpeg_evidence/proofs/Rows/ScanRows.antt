@@ -1,7 +1,8 @@
 -- The rows above the first block that shorter data of a scan lack stay as they are in longer data.
 use Rattle.std.proofs.Common.{◌≡◌, ◌≢◌, inl, inr, ℕ, zero, suc, ◌*◌, ◌/◌, ◌<◌, ◌≤◌, List, [], ◌∷◌, ◌++◌, length}
 use Rattle.std.proofs.Common.{get_or, min, slice_get, Option, Some, None, Ok, refl, sym, ap, ◌∙◌, subst, arith}
-use Rattle.std.proofs.Common.{length-set, ◌⊎◌}
+use Rattle.std.proofs.Common.{length-set, ◌⊎◌, take}
+use Rattle.std.proofs.Math.Nat.{zero-mul}
 use Rattle.std.proofs.lemmas.List.{length-map}
 use Rattle.std.specs.List.{AllByRecursion}
 use Rattle.jpeg_segments.specs.Frame.{Component, Frame}
@@ -13,6 +14,7 @@ use Rattle.jpeg_meaning.specs.declared.settings.Settings.{Settings}
 use Rattle.jpeg_meaning.specs.Found.{Found}
 use Rattle.jpeg_meaning.specs.InTurn.{Fits}
 use Rattle.jpeg_meaning.specs.Order.{Spot, spots_of}
+use Rattle.jpeg_meaning.specs.Pixels.{samples_shown}
 use Rattle.jpeg_meaning.specs.Scans.{Arrays}
 use Rattle.jpeg_meaning.specs.ScanSegments.{Coding, after_scan, codings_of, components_of}
 use Rattle.jpeg_meaning.specs.Shown.{picture_shown}
@@ -158,9 +160,11 @@ scans-alike before frame scan codings shorter longer r z framed of some = go r.o
           above-few frame (components_of codings) s,
         )
 
-pub no-rows : (frame : Frame) (x y : List ℕ) → first_rows frame 0 x ≡ first_rows frame 0 y
-no-rows frame x y =
-    let start : 0 * (frame.output_width * length frame.components) ≡ 0 = omega arith in rw start refl
+pub no-rows : (settings : Settings) (frame : Frame) (x y : List ℕ) → first_rows settings frame 0 x ≡ first_rows settings frame 0 y
+no-rows settings frame x y =
+    let start : 0 * (frame.output_width * samples_shown settings frame) ≡ 0 =
+    zero-mul (frame.output_width * samples_shown settings frame) in
+    ap (λ (n : ℕ). take n x) start ∙ ap (λ (n : ℕ). take n y) (sym start)
 
 -- The complete rows of the picture that is shown stay.
 scan-rows-stay : (settings : Settings) (before : Found) (frame : Frame) (scan : Scan) (codings : List Coding)
@@ -170,8 +174,8 @@ scan-rows-stay : (settings : Settings) (before : Found) (frame : Frame) (scan : 
     → AllByRecursion (IsOf frame) codings
     → picture_shown settings (after_scan before frame scan codings shorter) ≡ Ok x
     → picture_shown settings (after_scan before frame scan codings longer) ≡ Ok y
-    → first_rows frame (rows_before frame (components_of codings) r.others) x
-    ≡ first_rows frame (rows_before frame (components_of codings) r.others) y
+    → first_rows settings frame (rows_before frame (components_of codings) r.others) x
+    ≡ first_rows settings frame (rows_before frame (components_of codings) r.others) y
 scan-rows-stay settings before frame scan codings shorter longer r x y z lossy framed of d e =
     go (rows_before frame (components_of codings) r.others) refl
   where
@@ -180,17 +184,17 @@ scan-rows-stay settings before frame scan codings shorter longer r x y z lossy f
 
     by : (longer ≡ shorter) ⊎ Alike frame all (after_scan before frame scan codings shorter)
         (after_scan before frame scan codings longer) → all ≤ frame.output_height
-        → first_rows frame all x ≡ first_rows frame all y
-    by (inl same) few = ap (first_rows frame all) (ok-same x y (sym d
+        → first_rows settings frame all x ≡ first_rows settings frame all y
+    by (inl same) few = ap (first_rows settings frame all) (ok-same x y (sym d
         ∙ ap (λ (l : Arrays). picture_shown settings (after_scan before frame scan codings l)) (sym same) ∙ e))
     by (inr a) few = shown-first frame all settings _ _ x y z lossy few a d e
 
-    go : (rows : ℕ) → all ≡ rows → first_rows frame rows x ≡ first_rows frame rows y
-    go zero is = no-rows frame x y
+    go : (rows : ℕ) → all ≡ rows → first_rows settings frame rows x ≡ first_rows settings frame rows y
+    go zero is = no-rows settings frame x y
     go (suc rows) is =
         let some : 0 < all = omega arith in
         let same = scans-alike before frame scan codings shorter longer r z framed of some in
-        subst (λ (n : ℕ). first_rows frame n x ≡ first_rows frame n y) is (by same.0 same.1)
+        subst (λ (n : ℕ). first_rows settings frame n x ≡ first_rows settings frame n y) is (by same.0 same.1)
 
 pub codings-of : (before : Found) (frame : Frame) (scan : Scan) (codings : List Coding)
     → codings_of before.said frame scan ≡ Ok codings → AllByRecursion (IsOf frame) codings
@@ -201,8 +205,8 @@ pub rows_of_scans_stay : (settings : Settings) (before shorter longer : Found) (
     (x y : List ℕ) → IsSizedFrame g.frame → (g.frame.process ≡ Lossless → ⊥) → before.said.frame ≡ Some g.frame
     → codings_of before.said g.frame g.scan ≡ Ok g.codings
     → picture_shown settings shorter ≡ Ok x → picture_shown settings longer ≡ Ok y
-    → first_rows g.frame (rows_before g.frame (components_of g.codings) g.reads_on.others) x
-    ≡ first_rows g.frame (rows_before g.frame (components_of g.codings) g.reads_on.others) y
+    → first_rows settings g.frame (rows_before g.frame (components_of g.codings) g.reads_on.others) x
+    ≡ first_rows settings g.frame (rows_before g.frame (components_of g.codings) g.reads_on.others) y
 rows_of_scans_stay settings before shorter longer g x y z lossy framed coded d e =
     scan-rows-stay settings before g.frame g.scan g.codings g.blocks g.more_blocks g.reads_on x y z lossy framed
     (codings-of before g.frame g.scan g.codings coded)

@@ -37,7 +37,7 @@ rows-above last brought longer rows a =
 pub adds-rows : (settings : Settings) (last brought longer : Found) (rows : Option ℕ) → HasSizedFrame brought
     → ScanAdds last brought rows longer → HasFirstRows settings (rows_of_found rows brought) brought longer
 adds-rows settings last brought longer rows sized a frame x y framed d e =
-    subst (λ (n : ℕ). first_rows frame n x ≡ first_rows frame n y) (sym counted)
+    subst (λ (n : ℕ). first_rows settings frame n x ≡ first_rows settings frame n y) (sym counted)
     (go (planes_by frame.process brought frame))
   where
     counted : rows_of_found rows brought ≡ rows_of_frame rows brought frame
@@ -48,20 +48,20 @@ adds-rows settings last brought longer rows sized a frame x y framed d e =
         (ap (λ (f : Found). f.said.frame) a.goes.shorter_is
         ∙ scan-framed last a.goes.frame a.goes.scan a.goes.codings a.goes.blocks ∙ a.framed) framed
 
-    stay : first_rows a.goes.frame (unwrap_or rows a.goes.frame.output_height) x
-        ≡ first_rows a.goes.frame (unwrap_or rows a.goes.frame.output_height) y
-    stay = subst (λ (n : ℕ). first_rows a.goes.frame n x ≡ first_rows a.goes.frame n y)
+    stay : first_rows settings a.goes.frame (unwrap_or rows a.goes.frame.output_height) x
+        ≡ first_rows settings a.goes.frame (unwrap_or rows a.goes.frame.output_height) y
+    stay = subst (λ (n : ℕ). first_rows settings a.goes.frame n x ≡ first_rows settings a.goes.frame n y)
         (sym (rows-above last brought longer rows a))
         (rows_of_scans_stay settings last brought longer a.goes x y (subst IsSizedFrame (sym same) (sized frame framed))
         a.lossy a.framed a.coded d e)
 
     go : (o : Result (List (List ℕ)) Fault)
-        → first_rows frame (elim o as (λ _. ℕ) [ Ok planes ↦ unwrap_or rows frame.output_height | Err fault ↦ 0 ]) x
-        ≡ first_rows frame (elim o as (λ _. ℕ) [ Ok planes ↦ unwrap_or rows frame.output_height | Err fault ↦ 0 ]) y
-    go (Err fault) = no-rows frame x y
+        → first_rows settings frame (elim o as (λ _. ℕ) [ Ok planes ↦ unwrap_or rows frame.output_height | Err fault ↦ 0 ]) x
+        ≡ first_rows settings frame (elim o as (λ _. ℕ) [ Ok planes ↦ unwrap_or rows frame.output_height | Err fault ↦ 0 ]) y
+    go (Err fault) = no-rows settings frame x y
     go (Ok planes) =
-        subst (λ (f : Frame). first_rows f (unwrap_or rows f.output_height) x
-        ≡ first_rows f (unwrap_or rows f.output_height) y) same stay
+        subst (λ (f : Frame). first_rows settings f (unwrap_or rows f.output_height) x
+        ≡ first_rows settings f (unwrap_or rows f.output_height) y) same stay
 
 -- where a turn has a fault, nothing is found after it
 pub refused-walk : (turns : ℕ) (before : Before) (found : Found) (met : Option Marker) (bytes : List ℕ)

@@ -1,10 +1,11 @@
 -- Fronts of streams, and streams that mean one picture.
 use Rattle.std.proofs.Common.{rules, ◌≡◌, ℕ, ◌+◌, true, List, [], ◌∷◌, ◌++◌, Some, None, Result, Ok, Err, refl, sym}
-use Rattle.std.proofs.Common.{ap, ◌∙◌, ◌/◌, ◌%◌, subst, true≢false}
+use Rattle.std.proofs.Common.{ap, ap₂, ◌∙◌, ◌*◌, ◌/◌, ◌%◌, ◌≢◌, length, subst, true≢false}
 use Rattle.std.specs.List.{AllByRecursion, enumerate_from}
 use Rattle.std.specs.Prelude.{slice_get, slice_index_or}
 use Rattle.jpeg_bits.specs.Reading.{Fault, Outcome, ◌>>=◌}
 use Rattle.jpeg_segments.specs.Frame.{Component, Frame}
+use Rattle.jpeg_segments.specs.declared.frame.CodingProcess.TheVariants.{Lossless}
 use Rattle.jpeg_segments.specs.ScanHeaders.{scan_written}
 use Rattle.jpeg_meaning.specs.ArrayPictures.{meaning_of_array, picture_of_array, picture_of_blocks}
 use Rattle.jpeg_meaning.specs.DecodedImages.{Size, FullSize, AtLeast, AtScale, at_size}
@@ -13,7 +14,7 @@ use Rattle.jpeg_meaning.specs.Levels.{Is8Bit, Levels, nothing_sent}
 use Rattle.jpeg_meaning.specs.SaidSegments.{said_after}
 use Rattle.jpeg_segments.specs.Checks.{gathered}
 use Rattle.jpeg_meaning.specs.ScanSegments.{Coding, is_progressive}
-use Rattle.jpeg_meaning.specs.Found.{nothing_said, Said}
+use Rattle.jpeg_meaning.specs.Found.{Metadata, nothing_said, Said}
 use Rattle.jpeg_meaning.specs.Stream.{Told, meaning, scaled_meaning, sized_meaning, told_of}
 use Rattle.jpeg_meaning.specs.FoundPictures.{picture_by}
 use Rattle.jpeg_meaning.specs.WholeImages.{AllComplete}
@@ -23,12 +24,12 @@ use Rattle.jpeg_meaning.specs.WrittenScans.{Coefficients, HasTable}
 use Rattle.jpeg_meaning.proofs.Order.Apart.{at-all, get-at}
 use Rattle.jpeg_meaning.proofs.Written.CodingsInForce.{codings-found}
 use Rattle.jpeg_meaning.proofs.Written.ReadTurns.{codings-each, same-frame}
-use Rattle.jpeg_meaning.proofs.Pictures.LimitedPictures.{array_plane, limited-same}
+use Rattle.jpeg_meaning.proofs.Pictures.LimitedPictures.{array_plane, limited-same, lossy-shown}
 use Rattle.jpeg_meaning.specs.WrittenStreams.{end, scan, segment}
 use Rattle.jpeg_meaning.proofs.Written.WalkedStreams.{closes, frame-kept, front-append}
 use Rattle.jpeg_meaning.proofs.Pictures.WholeImages.{whole-is}
 use Rattle.jpeg_meaning.proofs.Written.SizedStreams.{stream-means_scaled, stream-means_sized}
-use Rattle.jpeg_meaning.proofs.Written.WrittenPictures.{stream-means}
+use Rattle.jpeg_meaning.proofs.Written.WrittenPictures.{stream-means, written-lossy}
 use Rattle.jpeg_bits.proofs.BandSteps.{bind_same}
 
 -- ---- fronts
@@ -66,12 +67,26 @@ same-planes a b array index [] h = refl
 same-planes a b array index (c ∷ cs) h =
     search (rules, bind_same, same-planes a b array (index + 1) cs h.1)
 
-pub same-picture : (settings : Settings) (array : Coefficients) (a b : Said) → HaveSamePicture a b
+-- a picture of planes goes by the size of the frame, and by what JFIF's and Adobe's segments say
+picture-alike : (settings : Settings) (m n : Metadata) (f g : Frame) (cs : List Component) (planes : List (List ℕ))
+    → f.output_width ≡ g.output_width → f.output_height ≡ g.output_height → m.jfif ≡ n.jfif → m.adobe ≡ n.adobe
+    → picture_by settings m f cs planes ≡ picture_by settings n g cs planes
+unfolding picture_by
+picture-alike settings m n f g [] planes w h j a = search rules
+picture-alike settings m n f g (c ∷ []) planes w h j a = search rules
+picture-alike settings m n f g (c ∷ d ∷ cs) planes w h j a = search rules
+
+-- The frames aren't lossless.
+pub same-picture : (settings : Settings) (array : Coefficients) (a b : Said) (h : HaveSamePicture a b)
+    → h.frame_a.process ≢ Lossless → h.frame_b.process ≢ Lossless
     → picture_of_blocks settings a array ≡ picture_of_blocks settings b array
-unfolding picture_of_blocks picture_by
-same-picture settings array a b h =
-    limited-same settings a b h.frame_a h.frame_b _ _ h.is_a h.is_b (search rules)
-    (search (rules, bind_same, same-planes))
+unfolding picture_of_blocks
+same-picture settings array a b h lossy_a lossy_b =
+    limited-same settings a b h.frame_a h.frame_b _ _ h.is_a h.is_b
+    (ap₂ (λ (n k : ℕ). n * k)
+    (lossy-shown settings h.frame_a h.frame_b lossy_a lossy_b (ap length h.components))
+    (ap₂ (λ (n k : ℕ). n * k) h.width h.height))
+    (search (rules, bind_same, same-planes, picture-alike))
 
 whole-picture : (settings : Settings) (array : Coefficients) (bytes rest : List ℕ) (final : Said)
     (last : ℕ → Levels) (frame : Frame) → ((index row column : ℕ) → Is8Bit (array index row column))
@@ -92,6 +107,8 @@ pub one-picture : (settings : Settings) (array : Coefficients) (first second res
 one-picture settings array first second rest others a b last_a last_b range w x same done_a done_b =
     whole-picture settings array first rest a last_a same.frame_a range w same.is_a done_a
     ∙ same-picture settings array a b same
+    (written-lossy settings array first a last_a same.frame_a range w same.is_a)
+    (written-lossy settings array second b last_b same.frame_b range x same.is_b)
     ∙ sym (search (rules, whole-picture))
 
 -- ---- padding

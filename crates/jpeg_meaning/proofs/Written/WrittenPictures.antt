@@ -2,6 +2,7 @@
 use Rattle.std.proofs.Common.{rules, ◌≡◌, ℕ, Bool, true, false, List, [], Option, None, Ok, refl, slice_index_or}
 use Rattle.std.proofs.Common.{subst, arith, ◌≢◌, ◌+◌, ◌/◌, ◌%◌, ◌<◌, ◌∷◌, map, length, ◌++◌, replicate, Some, sym, ap}
 use Rattle.std.proofs.Common.{◌∙◌, true≢false, ◌&&◌, Result, get_or, slice_index, is_some, suc, ◌*◌, ℤ, ap₂}
+use Rattle.std.proofs.Common.{◌==◌, ◌≤◌, if◌then◌else◌}
 use Rattle.std.specs.List.{AllByRecursion, enumerate_from, range_with_len, list_all}
 use Rattle.jpeg_bits.specs.Codes.{Table, IsTable}
 use Rattle.jpeg_bits.specs.declared.huffman.codes.HuffmanTableClass.{HuffmanTableClass}
@@ -19,7 +20,7 @@ use Rattle.jpeg_meaning.proofs.Written.ReadTurns.{then-ok}
 use Rattle.jpeg_meaning.proofs.Written.SaidTables.{HasTables, IsTableOrNone, table-there}
 use Rattle.jpeg_meaning.proofs.Written.WrittenFrameScans.{no-codes, HoldsOwn, in-all}
 use Rattle.std.proofs.lemmas.Grind.{common_steps}
-use Rattle.std.proofs.lemmas.Bool.{eqb-true, leb-true, eq-eqb}
+use Rattle.std.proofs.lemmas.Bool.{and_parts, eqb-true, leb-true, eq-eqb}
 use lib.ListN.{length-map}
 use Rattle.jpeg_segments.specs.declared.frame.CodingProcess.TheVariants.{Lossless}
 use Rattle.jpeg_segments.specs.ScanHeaders.{AreChoices, IsScan, ScanHeader, scan_written}
@@ -55,13 +56,14 @@ use Rattle.jpeg_bits.specs.Passes.{Block, zero_block, listed}
 use Rattle.jpeg_meaning.specs.Order.{grid_of}
 use Rattle.jpeg_pixels.specs.Scaled.{sample_at}
 use Rattle.jpeg_pixels.specs.Planes.{plane_sample, plane_of}
-use Rattle.jpeg_segments.specs.Checks.{gathered, needed}
+use Rattle.jpeg_segments.specs.Checks.{check, gathered, needed}
 use Rattle.jpeg_meaning.specs.FoundPictures.{plane_at_end, picture_of, picture_by_process, blocks_picture, picture_by}
-use Rattle.jpeg_meaning.specs.FoundPictures.{picture_in}
+use Rattle.jpeg_meaning.specs.FoundPictures.{first_picture, is_as_large, is_luma, luma_picture, picture_in}
+use Rattle.jpeg_meaning.specs.ColourChoice.{identifiers_of, transform_of}
 use Rattle.jpeg_meaning.specs.Rasters.{plane_by, plane_of_blocks}
 use Rattle.jpeg_segments.specs.declared.frame.CodingProcess.{CodingProcess}
-use Rattle.jpeg_meaning.specs.ArrayPictures.{HasTransform, IsTransformOf, TakesPicture, as_sent, picture_of_blocks}
-use Rattle.jpeg_meaning.specs.ArrayPictures.{meaning_of_array, picture_of_array}
+use Rattle.jpeg_meaning.specs.ArrayPictures.{HasTransform, IsMadeBy, IsTransformOf, TakesPicture, as_sent}
+use Rattle.jpeg_meaning.specs.ArrayPictures.{meaning_of_array, picture_of_array, picture_of_blocks}
 use Rattle.jpeg_meaning.proofs.Order.Apart.{at-all}
 use Rattle.jpeg_meaning.proofs.Written.CodingsInForce.{codings-found}
 use Rattle.jpeg_meaning.proofs.Pictures.DecodedHeaders.{decoded-accepted}
@@ -470,14 +472,65 @@ module _ (array : Coefficients) (final : Said) (last : ℕ → Levels) (r : Read
 
 -- ---- the picture
 
+-- a component that is as large as the picture reaches its ends
+pub as-large : (luma : Bool) (f : Frame) (c : Component) → (luma && is_as_large f c) ≡ true
+    → (c.width ≡ f.output_width) × (c.height ≡ f.output_height)
+as-large luma f c e =
+    let large = (and_parts luma (is_as_large f c) e).1 in
+    let sides = and_parts (c.width == f.output_width) (c.height == f.output_height) large in
+    (eqb-true c.width f.output_width sides.0, eqb-true c.height f.output_height sides.1)
+
+first-same : (f : Frame) (c : Component) (more : List Component) (ps qs : List (List ℕ))
+    → f.output_width ≤ c.width → f.output_height ≤ c.height → AllAlike (c ∷ more) ps qs
+    → first_picture f c ps ≡ first_picture f c qs
+first-same f c more (p ∷ ps) (q ∷ qs) wide high alike =
+    ap (λ (x : List ℕ). Ok x) (grind (arith, common_steps, mul_comm, cropped-same))
+first-same f c more [] qs wide high alike = absurd alike
+first-same f c more (p ∷ ps) [] wide high alike = absurd alike
+
+luma-same : (transform : ColorTransform) (f : Frame) (components : List Component) (ps qs : List (List ℕ))
+    → AllAlike components ps qs → luma_picture transform f components ps ≡ luma_picture transform f components qs
+luma-same transform f [] ps qs alike = refl
+luma-same transform f (c ∷ more) ps qs alike = go (is_luma transform && is_as_large f c) refl
+  where
+    go : (b : Bool) → (is_luma transform && is_as_large f c) ≡ b
+        → (check b >>= (λ _. first_picture f c ps)) ≡ (check b >>= (λ _. first_picture f c qs))
+    go false e = refl
+    go true e =
+        let size = as-large (is_luma transform) f c e in
+        let wide = size.0 in let high = size.1 in
+        first-same f c more ps qs (omega arith) (omega arith) alike
+
+-- the picture of several components, by whether their luma is asked for
+abbrev pub picture_of_several : Bool → ColorTransform → Frame → List Component → List (List ℕ) → Result (List ℕ) Fault
+picture_of_several luma transform f components planes =
+    if luma then luma_picture transform f components planes
+    else image_of components planes f.output_width f.output_height transform
+
+several-same : (luma : Bool) (transform : ColorTransform) (f : Frame) (components : List Component)
+    (ps qs : List (List ℕ)) → f.components ≡ components → Made f → AllAlike components ps qs
+    → picture_of_several luma transform f components ps ≡ picture_of_several luma transform f components qs
+several-same true transform f components ps qs e made alike = luma-same transform f components ps qs alike
+several-same false transform f components ps qs e made alike =
+    image-same components ps qs f.output_width f.output_height transform
+    (λ sources s. reaches-made f sources made
+    (ap (λ (cs : List Component). sources_of cs f.output_width f.output_height) e ∙ s)) alike
+
+-- the colour transform of some components
+abbrev pub transform_by : Settings → Metadata → List Component → ColorTransform
+transform_by settings m components =
+    transform_of settings.color_transform (identifiers_of components) m.jfif m.adobe
+
 pub picture-by-same : (settings : Settings) (m : Metadata) (f : Frame) (components : List Component)
     (ps qs : List (List ℕ)) → f.components ≡ components → Made f
     → AllAlike components ps qs → picture_by settings m f components ps ≡ picture_by settings m f components qs
 unfolding picture_by
-picture-by-same settings m f (c ∷ []) (p ∷ ps) (q ∷ qs) e made alike =
-    let size = one-made f c made e in
-    ap (λ (x : List ℕ). Ok x) (grind (arith, common_steps, mul_comm, cropped-same))
-picture-by-same settings m f components ps qs e made alike = search (rules, image-same, reaches-made)
+picture-by-same settings m f [] ps qs e made alike =
+    several-same settings.luma (transform_by settings m []) f [] ps qs e made alike
+picture-by-same settings m f (c ∷ []) ps qs e made alike =
+    let size = one-made f c made e in first-same f c [] ps qs size.0 size.1 alike
+picture-by-same settings m f (c ∷ d ∷ more) ps qs e made alike =
+    several-same settings.luma (transform_by settings m (c ∷ d ∷ more)) f (c ∷ d ∷ more) ps qs e made alike
 
 -- ---- the meaning
 
@@ -525,20 +578,42 @@ conversion-there : (count : ℕ) (t : ColorTransform) → IsTransformOf count t
 unfolding conversion_of
 conversion-there count t h = search (rules, eq-eqb)
 
-picture-there : (settings : Settings) (w : Said) (f : Frame) (components : List Component)
-    (ours planes : List (List ℕ)) (sources : List Source) → HasTransform settings w components
-    → sources_of components f.output_width f.output_height ≡ Ok sources → AllAlike components ours planes
-    → (picture : List ℕ) × (picture_by settings w.metadata f components planes ≡ Ok picture)
-unfolding picture_by image_of
-picture-there settings w f [] ours planes sources t e h = absurd t
-picture-there settings w f (c ∷ []) (o ∷ ours) (p ∷ planes) sources t e h = (picture_in f c p, refl)
-picture-there settings w f (c ∷ d ∷ more) ours planes sources t e h =
-    let convert = conversion-there (length (c ∷ d ∷ more)) _ t in
-    some-of _ _ convert.0 convert.1 (some-of (sources_of (c ∷ d ∷ more) f.output_width f.output_height) _ sources e (
+several-there : (luma : Bool) (transform : ColorTransform) (f : Frame) (c : Component) (more : List Component)
+    (p : List ℕ) (planes : List (List ℕ)) (sources : List Source)
+    → IsMadeBy luma f c (length (c ∷ more)) transform
+    → sources_of (c ∷ more) f.output_width f.output_height ≡ Ok sources
+    → (picture : List ℕ) × (picture_of_several luma transform f (c ∷ more) (p ∷ planes) ≡ Ok picture)
+unfolding image_of
+several-there true transform f c more p planes sources made e =
+    (picture_in f c p, ap (λ (b : Bool). check b >>= (λ _. first_picture f c (p ∷ planes))) made)
+several-there false transform f c more p planes sources made e =
+    let convert = conversion-there (length (c ∷ more)) transform made in
+    some-of _ _ convert.0 convert.1 (some-of (sources_of (c ∷ more) f.output_width f.output_height) _ sources e (
       _,
       refl,
     ))
-picture-there settings w f components ours planes sources t e h = absurd h
+
+-- A picture of planes, where the components can have their transform.
+pub picture-there : (settings : Settings) (w : Said) (f : Frame) (components : List Component)
+    (p : List ℕ) (planes : List (List ℕ)) (sources : List Source) → HasTransform settings w f components
+    → sources_of components f.output_width f.output_height ≡ Ok sources
+    → (picture : List ℕ) × (picture_by settings w.metadata f components (p ∷ planes) ≡ Ok picture)
+unfolding picture_by
+picture-there settings w f [] p planes sources t e = absurd t
+picture-there settings w f (c ∷ []) p planes sources t e = (picture_in f c p, refl)
+picture-there settings w f (c ∷ d ∷ more) p planes sources t e =
+    several-there settings.luma (transform_by settings w.metadata (c ∷ d ∷ more)) f c (d ∷ more) p planes sources t e
+
+-- There is a plane where there is another one that is the same.
+planes-picture : (settings : Settings) (w : Said) (f : Frame) (components : List Component)
+    (ours planes : List (List ℕ)) (sources : List Source) → HasTransform settings w f components
+    → sources_of components f.output_width f.output_height ≡ Ok sources → AllAlike components ours planes
+    → (picture : List ℕ) × (picture_by settings w.metadata f components planes ≡ Ok picture)
+planes-picture settings w f [] ours planes sources t e h = absurd t
+planes-picture settings w f (c ∷ more) (o ∷ ours) (p ∷ planes) sources t e h =
+    picture-there settings w f (c ∷ more) p planes sources t e
+planes-picture settings w f (c ∷ more) [] planes sources t e h = absurd h
+planes-picture settings w f (c ∷ more) (o ∷ ours) [] sources t e h = absurd h
 
 -- Where the settings take the picture, there is one.
 pub taken : (settings : Settings) (array : Coefficients) (final : Said) (last : ℕ → Levels) (tail : List ℕ)
@@ -552,8 +627,8 @@ taken settings array final last tail meant r takes =
     let same : takes.frame ≡ f = same-frame takes.frame f final.frame takes.is_said r.0.framed in
     let b = both-planes array final last r.0 in
     let limit = rw same at takes.limit in
-    let picture = picture-there settings final f f.components b.ours b.theirs sources.0
-    (subst (λ (g : Frame). HasTransform settings final g.components) same takes.transform) sources.1 b.alike in
+    let picture = planes-picture settings final f f.components b.ours b.theirs sources.0
+    (subst (λ (g : Frame). HasTransform settings final g g.components) same takes.transform) sources.1 b.alike in
     let is = limited-ok settings final f _ picture.0 r.0.framed limit
     (then-ok (gathered (array_plane final (as_sent array last)) (enumerate_from 0 f.components)) _ b.theirs _
     b.theirs_are picture.1) in (
@@ -570,3 +645,12 @@ pub taken-means : (settings : Settings) (array : Coefficients) (bytes rest : Lis
     × (picture_of_array settings final array last ≡ Ok picture)
     × (meaning settings (bytes ++ rest) ≡ Ok ((told_of final, picture), rest))
 taken-means settings array bytes rest final last range w = search (rules, taken, image-walked)
+
+-- The frame of a written image isn't lossless.
+pub written-lossy : (settings : Settings) (array : Coefficients) (bytes : List ℕ) (final : Said)
+    (last : ℕ → Levels) (frame : Frame) → ((index row column : ℕ) → Is8Bit (array index row column))
+    → WritesImage array bytes final last → final.frame ≡ Some frame → frame.process ≢ Lossless
+written-lossy settings array bytes final last frame range w e =
+    let r = (image-walked settings array bytes [] final last range w).0 in
+    subst (λ (f : Frame). f.process ≢ Lossless) (same-frame r.frame frame final.frame r.framed e)
+    (r.said.shaped r.frame r.framed).0.lossy
