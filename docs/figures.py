@@ -12,7 +12,7 @@ import sys
 from pathlib import Path
 
 ROOT = Path(__file__).resolve().parent.parent
-CASES = ROOT / "crates/test_decoder_cases/data"
+CASES = ROOT / "tests/decoder/data"
 PARTIAL = CASES / "partial_random.case"
 
 
@@ -23,6 +23,14 @@ def text(path):
 def cases(name):
     """How many cases a file has."""
     return len(re.findall(r"(?m)^case ", (CASES / f"{name}.case").read_text("utf8")))
+
+
+def first_decodes(path):
+    """How many cases of a file have `decode` or `refusal` as their first call."""
+    lines = (it.split(" ")[0].strip() for it in path.open(encoding="utf8"))
+    words = [it for it in lines if it not in ("", "#")]
+    pairs = zip(words, words[1:])
+    return sum(it == "stream" and after in ("decode", "refusal") for it, after in pairs)
 
 
 def first_number(command):
@@ -77,12 +85,14 @@ def expected():
     every = sum(cases(it.stem) for it in CASES.glob("*.case"))
     for page in ("README.md", "docs/CONFORMANCE.md", "CHANGELOG.md"):
         yield page, r"([\d,]+) (?:streams|cases) as text", every
-    classes = text("crates/test_decoder_cases/classes.jsonl")
+    classes = text("tests/decoder/classes.jsonl")
     for name in ("must", "may", "own"):
         figure = len(re.findall(rf'(?m)"file": "\w+", "class": "{name}"', classes))
         yield "docs/CONFORMANCE.md", rf"(?m)^\| \*{name}\* \| (\d+) \|", figure
     drawn = sum(map(cases, ("random", "extreme", "partial_random", "partial_rows")))
     yield "docs/CONFORMANCE.md", r"(\d+) are random streams", drawn
+    decoded = sum(map(first_decodes, CASES.glob("*.case")))
+    yield "docs/CONFORMANCE.md", r"on the (\d+) streams whose first call", decoded
     yield "docs/TRUST.md", r"(\d+) random\s+streams", drawn
     damaged = len(re.findall(r"(?m)^case .*(?:flipped|at byte \d+)$", text(PARTIAL)))
     yield "docs/CONFORMANCE.md", r"those of (\d+)\s+damaged", damaged

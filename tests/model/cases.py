@@ -1,10 +1,10 @@
 #!/usr/bin/env python3
-"""Checks the cases of crates/test_decoder_cases.
+"""Checks the cases of tests/decoder.
 
 cases.py [--large] [FILE..]    these files, or all that its `args` names
 
 What each call of a case must answer is computed by the model, from the case file alone, and
-compared with the case's line in `stdout`. Where the model leaves open which fault is named, and
+compared with the case's line in `answers`. Where the model leaves open which fault is named, and
 which words say it, any of these is right: of `partial` it leaves the words open alone. The names of
 a file's cases must differ, and so must the texts of the refusals in texts.case. Six pictures of
 2^20 samples, which take 80 s, are left out without --large.
@@ -16,7 +16,7 @@ import model
 from model import ceil_div
 
 HERE = os.path.dirname(os.path.abspath(__file__))
-CRATE = os.path.join(os.path.dirname(os.path.dirname(HERE)), 'crates', 'test_decoder_cases')
+FOLDER = os.path.join(os.path.dirname(HERE), 'decoder')
 
 # The decoder's words.
 FORMAT, ENDED = 'refused: invalid JPEG format', 'refused: the file ends too soon'
@@ -329,18 +329,18 @@ def repeated(texts):
 
 
 def lines_by_file(files):
-    """Each of the files with its cases and their lines of stdout."""
-    with open(os.path.join(CRATE, 'stdout'), encoding='utf-8') as file:
+    """Each of the files with its cases and their lines of answers."""
+    with open(os.path.join(FOLDER, 'answers'), encoding='utf-8') as file:
         lines = file.read().splitlines()
-    with open(os.path.join(CRATE, 'args'), encoding='utf-8') as file:
+    with open(os.path.join(FOLDER, 'args'), encoding='utf-8') as file:
         names = file.read().split()
     for name in names:
-        cases = cases_of(os.path.join(CRATE, 'data', name))
+        cases = cases_of(os.path.join(FOLDER, 'data', name))
         own, lines = lines[: len(cases)], lines[len(cases) :]
         if not files or name in files:
             yield name, cases, own
     if lines:
-        yield 'stdout', [], lines
+        yield 'answers', [], lines
 
 
 def faults_of(name, cases, lines, with_large):

@@ -1,9 +1,9 @@
-/* The cases of crates/test_decoder_cases: { file, name, stream, calls, answers }, of which each call
- * is a list of words, and `answers` the text after its name (docs/CONFORMANCE.md has the format). */
+/* The cases of tests/decoder: { file, name, stream, calls, answers }, of which each call is a list
+ * of words, and `answers` the text after its name (docs/CONFORMANCE.md has the format). */
 import { readFileSync } from 'node:fs';
 
-const CRATE = new URL('../../../crates/test_decoder_cases/', import.meta.url);
-const linesOf = (path) => readFileSync(new URL(path, CRATE), 'utf8').split('\n');
+const FOLDER = new URL('../../../tests/decoder/', import.meta.url);
+const linesOf = (path) => readFileSync(new URL(path, FOLDER), 'utf8').split('\n');
 
 /* The bytes of words of hex digits, each with how often it stands after a star. */
 export function bytesOf(words) {
@@ -28,7 +28,7 @@ function casesOfFile(file) {
 
 export function allCases() {
     const cases = linesOf('args').filter(Boolean).flatMap(casesOfFile);
-    const answers = linesOf('stdout').filter(Boolean);
+    const answers = linesOf('answers').filter(Boolean);
     if (answers.length !== cases.length) throw new Error('not a line a case');
     return cases.map(({ pieces, ...rest }, index) => ({
         ...rest,

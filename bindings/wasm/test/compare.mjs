@@ -1,5 +1,5 @@
 /* node compare.mjs NATIVE FOLDER [FILE..]: the module beside the native library, whose program
- * NATIVE is of native.c: every stream of crates/test_decoder_cases, each beginning of those of
+ * NATIVE is of native.c: every stream of tests/decoder, each beginning of those of
  * `cuts`, the files that are named, and damaged ones of all, which have an orientation, with each
  * list of options below. Answers, descriptions, texts, pixels and metadata have to be the same.
  * FOLDER takes the stream that is compared. */

@@ -21,7 +21,7 @@ const web = new URL('../dist/web', import.meta.url).pathname;
 const ours = (name) => new URL(`../../../tests/programs/files/${name}`, import.meta.url).pathname;
 const cases = allCases();
 
-/* A stream of crates/test_decoder_cases as a file. */
+/* A stream of tests/decoder as a file. */
 function fileOf(file, name) {
     const { stream } = cases.find((it) => it.file === `${file}.case` && it.name === name);
     const path = `${folder}/${name}.jpg`;

@@ -1,4 +1,4 @@
-/* node suite.mjs: the streams of crates/test_decoder_cases by the module, whose answers have to be
+/* node suite.mjs: the streams of tests/decoder by the module, whose answers have to be
  * those of the suite: pictures, refusals with their texts and features, the parts of streams before a
  * fault, sizes at scales, metadata, bytes left unread.
  *

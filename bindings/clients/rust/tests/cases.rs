@@ -1,4 +1,4 @@
-//! The conformance suite of the repository, `crates/test_decoder_cases`: each stream with the
+//! The conformance suite of the repository, `tests/decoder`: each stream with the
 //! answers that a decoder must give (`docs/CONFORMANCE.md` has the format), by readers of four
 //! kinds.
 //!
@@ -254,13 +254,13 @@ fn is_wanted(answer: &str, wanted: &str) -> bool {
 }
 
 fn suite() -> PathBuf {
-    Path::new(env!("CARGO_MANIFEST_DIR")).join("../../../crates/test_decoder_cases")
+    Path::new(env!("CARGO_MANIFEST_DIR")).join("../../../tests/decoder")
 }
 
 #[test]
 fn answers_are_those_of_the_suite() {
     let read = |name: &str| read_to_string(suite().join(name)).expect(name);
-    let (files, wanted) = (read("args"), read("stdout"));
+    let (files, wanted) = (read("args"), read("answers"));
     let mut wanted = wanted.lines();
     let (mut cases, mut answers, mut faults) = (0, 0, Vec::new());
     for file in files.lines() {
