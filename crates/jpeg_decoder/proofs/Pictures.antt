@@ -8,3 +8,4 @@ pub mod JointEnds
 pub mod LinesTogether
 pub mod WrittenLines
 pub mod PictureSizes
+pub mod LumaPictures

@@ -6,7 +6,7 @@ use Rattle.jpeg_segments.specs.Frame.{Component, Frame}
 use Rattle.jpeg_segments.specs.declared.frame.CodingProcess.{CodingProcess}
 use Rattle.jpeg_segments.specs.declared.frame.CodingProcess.TheVariants.{DctSequential}
 use Rattle.jpeg_segments.specs.declared.frame.CodingProcess.TheVariants.{DctProgressive, Lossless}
-use Rattle.jpeg_meaning.specs.Pixels.{bytes_a_pixel, info_of}
+use Rattle.jpeg_meaning.specs.Pixels.{bytes_a_pixel, info_with, samples_shown}
 use Rattle.jpeg_meaning.specs.declared.images.ImageInfo.{ImageInfo}
 use Rattle.jpeg_meaning.specs.declared.images.PixelFormat.{PixelFormat}
 use Rattle.jpeg_meaning.specs.declared.images.PixelFormat.TheVariants.{L16}
@@ -31,17 +31,17 @@ pub record Shape : Type 0 where
   pub samples : ℕ
   pub precision : ℕ
 
--- that of the picture which has a sample of each component of a frame
-abbrev pub frame_shape : Frame → Shape
-frame_shape f = record {
-  info = info_of f;
-  samples = length f.components;
+-- that of the picture of a frame where a pixel has this many samples
+abbrev pub shape_with : ℕ → Frame → Shape
+shape_with samples f = record {
+  info = info_with samples f;
+  samples = samples;
   precision = f.precision;
 }
 
--- that of the picture of a frame by the settings, none of which changes it
+-- that of the picture of a frame by the settings
 abbrev pub shape_of : Settings → Frame → Shape
-shape_of settings = frame_shape
+shape_of settings f = shape_with (samples_shown settings f) f
 
 -- that of the picture of a decoder, once it has a frame
 abbrev pub shape_in : Decoding → Option Shape
@@ -104,10 +104,11 @@ abbrev pub plane_bytes : CodingProcess → Component → ℕ
 plane_bytes Lossless c = 2 * (c.width * c.height)
 plane_bytes _ c = c.blocks_wide * c.scale * (c.blocks_high * c.scale)
 
--- The picture beside its planes: the one plane of a frame of blocks becomes the picture itself.
-abbrev pub beside_planes : CodingProcess → List Component → ℕ → ℕ
-beside_planes Lossless components picture = picture
-beside_planes _ components picture = if length components == 1 then 0 else picture
+-- The picture beside its planes: where a pixel of a frame of blocks has one sample, the plane of
+-- that sample becomes the picture itself.
+abbrev pub beside_planes : CodingProcess → ℕ → ℕ → ℕ
+beside_planes Lossless samples picture = picture
+beside_planes _ samples picture = if samples == 1 then 0 else picture
 
 -- The blocks that are read, the planes and the picture, and the most of them at a time: blocks and
 -- planes while scans are read, and planes and picture at the end.
@@ -116,7 +117,7 @@ bytes_of_shape shape f =
     let coefficients = sum_by (coefficient_bytes f.process) f.components in
     let planes = sum_by (plane_bytes f.process) f.components in
     let picture = picture_size shape in
-    let end = planes + beside_planes f.process f.components picture in
+    let end = planes + beside_planes f.process shape.samples picture in
     record {
       coefficients = coefficients;
       planes = planes;

@@ -36,6 +36,7 @@ use Rattle.jpeg_meaning.specs.ScanSegments.{with_arrays, decided, arrays_before,
 use Rattle.jpeg_meaning.specs.ScanSegments.{is_progressive, vias_from, after_samples, scan_samples}
 use Rattle.jpeg_meaning.specs.Segments.{Turn}
 use Rattle.jpeg_meaning.specs.Found.{Found, none_finished, Said}
+use Rattle.jpeg_meaning.specs.FoundPictures.{is_as_large}
 use Rattle.jpeg_meaning.specs.LosslessScans.{lossless_codings}
 use Rattle.jpeg_meaning.specs.Sound.{IsSound, IsUnread}
 use Rattle.jpeg_meaning.specs.Stream.{told_of}
@@ -258,6 +259,19 @@ abbrev pub cropped_to : Component → ℕ → ℕ → List ℕ → List ℕ
 cropped_to c width height plane =
     let stride = c.scale * c.blocks_wide in
     cropped stride (min width stride) (min height (length plane / stride)) plane
+
+-- the plane of a component has a sample for each pixel of a picture
+pub record CoversPicture (frame : Frame) (c : Component) (plane : List ℕ) : Type 0 where
+  pub high : ℕ
+  pub whole : length plane ≡ high * (c.scale * c.blocks_wide)
+  pub wide : frame.output_width ≤ c.scale * c.blocks_wide
+  pub lines : frame.output_height ≤ high
+
+-- that of the first component does, where that is as large as the picture
+abbrev pub FirstCovers : Frame → List ℕ → Type 0
+FirstCovers frame plane =
+    (c : Component) → slice_get frame.components 0 ≡ Some c → is_as_large frame c ≡ true
+    → CoversPicture frame c plane
 
 -- ---- a scan
 

@@ -17,13 +17,13 @@ ghost use Rattle.jpeg_meaning.specs.States.{HasHeader};
 ghost use Rattle.jpeg_decoder.specs.Decodes.{Decodes};
 ghost use Rattle.jpeg_decoder.specs.Shows.{CountsRows, Shows};
 ghost use Rattle.std.specs.List.{concat};
-ghost use Rattle.jpeg_decoder.specs.Bytes.{AreLinesOf, HasRoom, IsCounted, IsWhole, frame_shape};
-ghost use Rattle.jpeg_decoder.specs.Bytes.{decoding_bytes, picture_size, shape_in};
+ghost use Rattle.jpeg_decoder.specs.Bytes.{AreLinesOf, HasRoom, IsCounted, IsWhole};
+ghost use Rattle.jpeg_decoder.specs.Bytes.{decoding_bytes, picture_size, shape_in, shape_of};
 ghost use Rattle.jpeg_decoder.specs.HeaderAlone.{ReadsHeaderAlone};
 ghost use Rattle.jpeg_decoder.specs.StreamTransforms.{frame_transform};
 ghost use Rattle.jpeg_meaning.specs.States.{IsInternal};
 ghost use Rattle.std.specs.Prelude.{◌≤◌, drop, length, take};
-ghost use Rattle.jpeg_meaning.specs.Pixels.{format_of, info_of};
+ghost use Rattle.jpeg_meaning.specs.Pixels.{format_of, info_by};
 ghost use Rattle.jpeg_meaning.specs.Sound.{HasDecodedFrame, IsSound, IsUnread};
 ghost use Rattle.jpeg_meaning.specs.declared.progress.Progress.TheVariants.{Failed, Fresh};
 ghost use Rattle.jpeg_meaning.specs.declared.progress.Progress.TheVariants.{HeaderRead};
@@ -41,7 +41,7 @@ use crate::picture::partial::{PartialLines, show_rest};
 use crate::picture::whole::{read_header, read_rest};
 use crate::scan::decoded::Decoded;
 use crate::scan::work::picture_blocks;
-use crate::sizes::{DecodingBytes, decoding_bytes, picture_bytes};
+use crate::sizes::{DecodingBytes, decoding_bytes, picture_bytes, samples_shown};
 use crate::stream::profile::join_profile;
 use crate::stream::state::State;
 pub use jpeg_bits::color_transform::ColorTransform;
@@ -59,7 +59,7 @@ use std::alloc::Global;
 use std::io::Read;
 use std::marker::Model;
 
-/// Returns the format of this many components at a precision.
+/// Returns the format of this many samples a pixel at a precision.
 fn format_of(count: usize, precision: u8) -> PixelFormat
     ensures { result ≡ format_of count precision }
 {
@@ -76,14 +76,14 @@ fn format_of(count: usize, precision: u8) -> PixelFormat
     }
 }
 
-/// Returns what a caller is told about a frame.
-fn info_of(frame: &FrameInfo) -> ImageInfo
-    ensures { result ≡ info_of (frame_in frame.now) }
+/// Returns what a caller is told about the picture of a frame.
+fn info_by(frame: &FrameInfo, settings: Settings) -> ImageInfo
+    ensures { result ≡ info_by settings (frame_in frame.now) }
 {
     ImageInfo {
         width: frame.output_size.width,
         height: frame.output_size.height,
-        pixel_format: format_of(frame.components.len(), frame.precision),
+        pixel_format: format_of(samples_shown(frame, settings), frame.precision),
         coding_process: frame.coding_process,
     }
 }
@@ -141,20 +141,22 @@ fn scale_state(state: &mut State, scale: usize) -> (u16, u16)
 }
 
 /// Returns how many bytes the picture takes if the memory is large enough, otherwise `Internal`.
-fn size_within(state: &State, room: usize) -> Result<usize>
+fn size_within(state: &State, room: usize, settings: Settings) -> Result<usize>
     requires framed { is_some state.now.said.frame ≡ true }
     requires frames { HasDecodedFrame state.now }
     ensures size { IfOk result (λ n. IfSome state.now.said.frame (λ f. n
-        ≡ picture_size (frame_shape f))) }
+        ≡ picture_size (shape_of settings f))) }
     ensures room { IfOk result (λ n. n ≤ room) }
-    ensures has_room { OnOk result (HasRoom (option_map frame_shape state.now.said.frame) room) }
-    ensures short { OnErr result (HasRoom (option_map frame_shape state.now.said.frame) room → ⊥) }
+    ensures has_room { OnOk result
+        (HasRoom (option_map (shape_of settings) state.now.said.frame) room) }
+    ensures short { OnErr result
+        (HasRoom (option_map (shape_of settings) state.now.said.frame) room → ⊥) }
     ensures err { IfErr result IsInternal }
 {
     let Some(frame) = &state.said.frame else {
         unreachable!()
     };
-    let size = picture_bytes(frame);
+    let size = picture_bytes(frame, settings);
     if size > room as u64 {
         return Err(Error::Internal("pixels are shorter than the picture"));
     }
@@ -249,6 +251,7 @@ impl<R: Read + Drop> Decoder<R> {
                 limit: usize::MAX,
                 color_transform: None,
                 max_blocks: None,
+                luma: false,
             },
             exceeded: false,
         })
@@ -282,12 +285,13 @@ impl<R: Read + Drop> Decoder<R> {
         self.source.read_ahead(self.alloc, capacity)
     }
 
-    /// Returns the size and the format of the picture once a frame has been accepted, in every
-    /// state.
+    /// Returns the size and the format of the picture by the settings once a frame has been
+    /// accepted, in every state.
     pub fn info(&self) -> Option<ImageInfo>
-        ensures { result ≡ option_map info_of self.now.found.said.frame }
+        ensures { result ≡ option_map (info_by self.now.settings) self.now.found.said.frame }
     {
-        self.state.said.frame.as_ref().map(|frame| info_of(frame))
+        let frame = self.state.said.frame.as_ref()?;
+        Some(info_by(frame, self.settings))
     }
 
     /// Returns how many bits a sample has once a frame has been accepted, in every state: 8 for
@@ -295,8 +299,8 @@ impl<R: Read + Drop> Decoder<R> {
     ///
     /// A sample is at most `2^precision - 1`. It takes one byte of a picture up to 8 bits, and two
     /// bytes above, the lower byte first, so that a picture has `width * height * components`
-    /// samples of that many bytes each. `PixelFormat::pixel_bytes` doesn't reflect this for three
-    /// or four components.
+    /// samples of that many bytes each, or `width * height` after `set_luma`.
+    /// `PixelFormat::pixel_bytes` doesn't reflect this for three or four components.
     pub fn precision(&self) -> Option<u8>
         ensures { result ≡ option_map (λ f. f.precision) self.now.found.said.frame }
     {
@@ -332,9 +336,9 @@ impl<R: Read + Drop> Decoder<R> {
     /// Returns how many bytes decoding takes, once the header has been read: between `read_info` or
     /// `scale` and `decode`, and after a picture. Returns `None` before that, and after a failure.
     ///
-    /// The numbers depend on the scale. A service that checks them after `read_info` can refuse a
-    /// picture before any of this memory is allocated. [`DecodingBytes`] says what is counted and
-    /// what isn't.
+    /// The numbers depend on the scale and on `set_luma`. A service that checks them after
+    /// `read_info` can refuse a picture before any of this memory is allocated. [`DecodingBytes`]
+    /// says what is counted and what isn't.
     pub fn decoding_bytes(&self) -> Option<DecodingBytes>
         ensures header { HasHeader self.now.stage
             → result ≡ option_map (decoding_bytes self.now.settings)
@@ -344,7 +348,7 @@ impl<R: Read + Drop> Decoder<R> {
         match self.progress {
             Progress::HeaderRead | Progress::Finished => {
                 let frame = self.state.said.frame.as_ref()?;
-                Some(decoding_bytes(frame))
+                Some(decoding_bytes(frame, self.settings))
             }
             Progress::Fresh | Progress::Failed => None,
         }
@@ -366,8 +370,29 @@ impl<R: Read + Drop> Decoder<R> {
         self.settings.color_transform = Some(transform);
     }
 
+    /// Sets whether the picture is the luma of a picture in colour, without its colours; a new
+    /// decoder gives the colours. With it the picture is the first component of a picture in
+    /// `YCbCr`: one sample per pixel, of the format `L8`, as `info` says from then on. Pictures of
+    /// one component and lossless pictures are not affected.
+    ///
+    /// If the transform, which `set_color_transform` or else the segments give, isn't `YCbCr`, or
+    /// the first component isn't as large as the picture, `decode` returns `Format`. The other
+    /// components are read all the same, so a stream with a fault in them is refused as before.
+    ///
+    /// It takes less time, since nothing is upsampled or converted, and less memory: the plane of
+    /// the luma becomes the picture itself, as `decoding_bytes` says.
+    pub fn set_luma(&mut self, luma: bool)
+        ensures { self.new ≡ record self.old {
+          settings = record self.old.settings
+              { luma = luma };
+        } }
+    {
+        self.settings.luma = luma;
+    }
+
     /// Sets how many samples a picture may have: `components * width * height`, with the size that
-    /// `info` returns. `decode` refuses a larger picture as `Format`.
+    /// `info` returns, or `width * height` where it is the luma alone. `decode` refuses a larger
+    /// picture as `Format`.
     ///
     /// It counts samples, not bytes: a lossless picture above 8 bits has two bytes for each. As in
     /// the original crate, it is checked after the end of the image, when blocks and planes are
@@ -625,18 +650,20 @@ impl<R: Read + Drop> Decoder<R> {
     }
 
     /// Reads through the end of the image and no byte after it, and returns the picture: its
-    /// samples line by line from the top, and in each line pixel by pixel, one of each component. A
-    /// sample takes one byte, or two in a lossless picture above 8 bits, the lower byte first;
-    /// [`PixelFormat`] has the details, and `precision` returns the number of bits.
+    /// samples line by line from the top, and in each line pixel by pixel, one of each component,
+    /// or of the luma alone after `set_luma`. A sample takes one byte, or two in a lossless picture
+    /// above 8 bits, the lower byte first; [`PixelFormat`] has the details, and `precision` returns
+    /// the number of bits.
     ///
     /// If the stream is one that a writer emits for the coefficients of an image, the result is
     /// their picture; if it is a lossless stream for samples, it is those samples.
     ///
-    /// Errors: `Format` if a rule is broken or the picture is above the limit, `Unsupported` with
-    /// the name of a feature, `Io` if the bytes end or a read fails, `OutOfMemory`, and `Internal`
-    /// only if the decoder has failed or has already decoded its image. After an error the decoder
-    /// has failed, and still returns what was read, unless it has decoded its image: then it stays
-    /// as it is. In every case no samples are kept.
+    /// Errors: `Format` if a rule is broken, the picture is above the limit, or it has no luma of
+    /// its own and `set_luma` asks for that, `Unsupported` with the name of a feature, `Io` if the
+    /// bytes end or a read fails, `OutOfMemory`, and `Internal` only if the decoder has failed or
+    /// has already decoded its image. After an error the decoder has failed, and still returns what
+    /// was read, unless it has decoded its image: then it stays as it is. In every case no samples
+    /// are kept.
     pub fn decode(&mut self) -> Result<Vec<u8>>
         // The meaning of what the source has left, the state, and what is told: see `Decodes`.
         ensures decodes { Decodes (λ v. v.items) self.old result self.new }
@@ -654,8 +681,8 @@ impl<R: Read + Drop> Decoder<R> {
         // After an Ok there is a frame, so that `info` answers.
         ensures framed { IfOk result (λ _. is_some self.new.found.said.frame ≡ true) }
 
-        // The picture has one sample of each component for each pixel, of one byte or two by the
-        // frame's precision; of blocks, as many bytes as `pixel_bytes` says.
+        // The picture has one sample of each component for each pixel, or of the luma alone, of one
+        // byte or two by the frame's precision; of blocks, as many bytes as `pixel_bytes` says.
         ensures size { IfOk result (λ v. IsWhole (shape_in self.new) v.items) }
 
         // There are as many samples as the format of `info` says.
@@ -728,8 +755,9 @@ impl<R: Read + Drop> Decoder<R> {
     /// coefficients of a sequential picture.
     ///
     /// Errors: the fault, if no frame header was accepted before it; `Format` if the picture is
-    /// above the limit, or the colour transform doesn't fit it; `OutOfMemory`; and `Internal` only
-    /// if the decoder has failed or has already decoded its image.
+    /// above the limit, the colour transform doesn't fit it, or it has no luma of its own and
+    /// `set_luma` asks for that; `OutOfMemory`; and `Internal` only if the decoder has failed or
+    /// has already decoded its image.
     pub fn decode_partial(&mut self) -> Result<PartialPicture>
         // What the source's bytes bring, and the state: see `Shows`.
         ensures shows { Shows (λ p. p.pixels.items) (λ p. p.fault) self.old result self.new }
@@ -816,7 +844,7 @@ impl<R: Read + Drop> Decoder<R> {
         ensures counted { IfOk result (λ _. IsCounted (shape_in self.new)) }
     {
         self.begin()?;
-        let size = size_within(&self.state, pixels.len())?;
+        let size = size_within(&self.state, pixels.len(), self.settings)?;
         let mut lines = self.decode_lines()?;
         lines.write_all(&mut pixels[..size]);
         Ok(size)

@@ -26,8 +26,9 @@
 //! any of that is allocated; `set_max_decoding_buffer_size` counts samples, and refuses at the end
 //! of the image. `set_max_blocks` limits the blocks that all scans code, and so the time that
 //! decoding takes. `set_scale` requests the picture at 1/8, 1/4, 1/2 or full size, and `scale` at
-//! the least of these that reaches a size. [`run::run`] is a whole program: from a reader to a line
-//! of text and the pixels on a writer, and [`run::write_lines`] its end.
+//! the least of these that reaches a size. `set_luma` requests the luma of a picture in colour
+//! alone, one sample per pixel. [`run::run`] is a whole program: from a reader to a line of text
+//! and the pixels on a writer, and [`run::write_lines`] its end.
 //!
 //! Every call returns, whatever the reader gives, with a value or an [`Error`] that says what was
 //! wrong; after an error the frame and the metadata that were read before it are still there. What

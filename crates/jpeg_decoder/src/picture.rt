@@ -1,6 +1,7 @@
 //! The picture of what a stream has brought.
 
 pub mod color_choice;
+pub mod first;
 pub mod lines;
 pub mod partial;
 pub mod whole;

@@ -3,31 +3,34 @@ ghost use Rattle.std.specs.Prelude.{◌≡◌, ◌<◌, ◌≤◌, ◌*◌, ◌^
 ghost use Rattle.jpeg_segments.specs.Frame.{AllHaveSampling};
 ghost use Rattle.jpeg_segments.specs.FrameView.{component_in, frame_in};
 ghost use Rattle.jpeg_decoder.specs.Bytes.{beside_planes, bytes_a_sample, coefficient_bytes};
-ghost use Rattle.jpeg_decoder.specs.Bytes.{bytes_of_shape, frame_shape, line_bytes};
-ghost use Rattle.jpeg_decoder.specs.Bytes.{picture_size, plane_bytes};
+ghost use Rattle.jpeg_decoder.specs.Bytes.{decoding_bytes, line_bytes, picture_size, plane_bytes};
+ghost use Rattle.jpeg_decoder.specs.Bytes.{shape_of};
+ghost use Rattle.jpeg_meaning.specs.Pixels.{samples_shown};
 
+use jpeg_meaning::settings::Settings;
 use jpeg_segments::parser::{CodingProcess, Component, FrameInfo};
 
 /// How many bytes decoding a picture takes, judging by its frame header, at the scale that was
-/// chosen.
+/// chosen, and by whether its luma alone is asked for.
 ///
 /// `decode_partial` takes no more. All of these grow with the picture. Metadata, tables, the
 /// reader's buffer, the few lines converted at a time and the allocator's overhead are not counted;
 /// nor are the planes that a sequential scan has for all of its components while it is read, if
-/// only some of them have planes already.
+/// only some of them have planes already; nor is a copy of the luma's plane, if that alone is asked
+/// for and one sequential scan had all components with equal sampling factors.
 #[derive(Clone, Copy, Debug, PartialEq)]
 pub struct DecodingBytes {
     /// The coefficients that are buffered, two bytes each: those of a row of MCUs for a sequential
     /// frame, of all blocks for a progressive one, and none for a lossless one.
     pub coefficients: u64,
-    /// The planes of all components: a byte per sample of all blocks at the scale, or two bytes per
-    /// sample for a lossless frame.
+    /// The planes of all components, also where the picture is the luma alone: a byte per sample of
+    /// all blocks at the scale, or two bytes per sample for a lossless frame.
     pub planes: u64,
     /// The picture that `decode` returns.
     pub picture: u64,
     /// The most that is in use at a time: coefficients and planes while scans are read, and planes
-    /// and picture at the end. The plane of a frame of one component, unless it is lossless,
-    /// becomes the picture itself.
+    /// and picture at the end. The plane of a frame of one component, and that of the luma where it
+    /// alone is asked for, becomes the picture itself, unless the frame is lossless.
     pub peak: u64,
 }
 
@@ -99,7 +102,7 @@ fn component_bytes(frame: &FrameInfo) -> (u64, u64)
     (coefficients, planes)
 }
 
-/// Returns how many bytes a pixel of this many components takes.
+/// Returns how many bytes a pixel of this many samples takes.
 fn pixel_bytes(count: usize, precision: u8) -> u64
     requires { count ≤ 4 }
     ensures product { result ≡ count * bytes_a_sample precision }
@@ -112,55 +115,66 @@ fn pixel_bytes(count: usize, precision: u8) -> u64
     }
 }
 
+/// Returns how many samples a pixel of the picture has.
+pub(crate) fn samples_shown(frame: &FrameInfo, settings: Settings) -> usize
+    ensures samples { result ≡ samples_shown settings (frame_in frame.now) }
+    ensures few { length (frame_in frame.now).components ≤ 4 → result ≤ 4 }
+{
+    if !settings.luma {
+        return frame.components.len();
+    }
+    match frame.coding_process {
+        CodingProcess::DctSequential | CodingProcess::DctProgressive => 1,
+        CodingProcess::Lossless => frame.components.len(),
+    }
+}
+
 /// Returns how many bytes the picture takes.
 #[tactic(auto, unfolding(crate::specs::Bytes::picture_size))]
-pub(crate) fn picture_bytes(frame: &FrameInfo) -> u64
+pub(crate) fn picture_bytes(frame: &FrameInfo, settings: Settings) -> u64
     requires { length (frame_in frame.now).components ≤ 4 }
-    ensures bytes { result ≡ picture_size (frame_shape (frame_in frame.now)) }
+    ensures bytes { result ≡ picture_size (shape_of settings (frame_in frame.now)) }
     ensures most { result < 2 ^ 35 }
 {
     let size = frame.output_size;
-    area(size.width, size.height) * pixel_bytes(frame.components.len(), frame.precision)
+    let pixel = pixel_bytes(samples_shown(frame, settings), frame.precision);
+    area(size.width, size.height) * pixel
 }
 
 /// Returns how many bytes a line of the picture takes.
 #[tactic(auto, unfolding(crate::specs::Bytes::line_bytes))]
-pub(crate) fn line_bytes(frame: &FrameInfo) -> usize
+pub(crate) fn line_bytes(frame: &FrameInfo, settings: Settings) -> usize
     requires { length (frame_in frame.now).components ≤ 4 }
-    ensures { result ≡ line_bytes (frame_shape (frame_in frame.now)) }
+    ensures { result ≡ line_bytes (shape_of settings (frame_in frame.now)) }
 {
-    let pixel = pixel_bytes(frame.components.len(), frame.precision);
+    let pixel = pixel_bytes(samples_shown(frame, settings), frame.precision);
     usize::from(frame.output_size.width) * pixel as usize
 }
 
-/// Returns how many bytes a picture takes beside the planes that it is made of.
-fn beside_planes(frame: &FrameInfo, picture: u64) -> u64
-    ensures bytes { result ≡ beside_planes (frame_in frame.now).process
-        (frame_in frame.now).components picture }
+/// Returns how many bytes a picture of this many samples a pixel takes beside the planes that it is
+/// made of.
+fn beside_planes(process: CodingProcess, samples: usize, picture: u64) -> u64
+    ensures bytes { result ≡ beside_planes process samples picture }
     ensures most { result ≤ picture }
 {
-    match frame.coding_process {
+    match process {
         CodingProcess::DctSequential | CodingProcess::DctProgressive => {
-            if frame.components.len() == 1 {
-                0
-            } else {
-                picture
-            }
+            if samples == 1 { 0 } else { picture }
         }
         CodingProcess::Lossless => picture,
     }
 }
 
 /// Returns how many bytes decoding takes, judging by the frame header.
-pub(crate) fn decoding_bytes(frame: &FrameInfo) -> DecodingBytes
+pub(crate) fn decoding_bytes(frame: &FrameInfo, settings: Settings) -> DecodingBytes
     requires few { length (frame_in frame.now).components ≤ 4 }
     requires sampling { AllHaveSampling (frame_in frame.now).components }
-    ensures { result
-        ≡ bytes_of_shape (frame_shape (frame_in frame.now)) (frame_in frame.now) }
+    ensures { result ≡ decoding_bytes settings (frame_in frame.now) }
 {
     let (coefficients, planes) = component_bytes(frame);
-    let picture = picture_bytes(frame);
-    let end = planes + beside_planes(frame, picture);
+    let picture = picture_bytes(frame, settings);
+    let samples = samples_shown(frame, settings);
+    let end = planes + beside_planes(frame.coding_process, samples, picture);
     DecodingBytes {
         coefficients,
         planes,

@@ -1,5 +1,5 @@
 -- Lossless streams that are written mean the picture of their samples, and keep their size.
-use Rattle.std.proofs.Common.{◌≡◌, ℕ, ◌+◌, ◌*◌, true, List, [], ◌∷◌, ◌++◌, length, Option, Result, Ok}
+use Rattle.std.proofs.Common.{◌≡◌, ℕ, ◌+◌, ◌*◌, ◌≤◌, true, List, [], ◌∷◌, ◌++◌, length, Option, Result, Ok}
 use Rattle.std.proofs.Common.{Some, refl, ap, ◌∙◌, slice_index, subst, arith}
 use Rattle.std.specs.List.{AllByRecursion, concat, enumerate_from, range_with_len}
 use Rattle.std.proofs.lemmas.List.FromFn.{get_or-map-range_with_len}
@@ -19,7 +19,7 @@ use Rattle.jpeg_meaning.specs.Stream.{meaning, scaled_meaning, sized_meaning, To
 use Rattle.jpeg_meaning.specs.WrittenLossless.{IsLossless, IsWithinLimit, picture_of_samples, Samples}
 use Rattle.jpeg_meaning.specs.WrittenLossless.{WritesSamples}
 use Rattle.jpeg_meaning.proofs.Order.Apart.{get-at}
-use Rattle.jpeg_meaning.proofs.Pictures.LimitedPictures.{limited-ok, limited-same}
+use Rattle.jpeg_meaning.proofs.Pictures.LimitedPictures.{limited-ok, limited-same, lossless-shown, samples_of}
 use Rattle.jpeg_meaning.proofs.Pictures.LosslessSizes.{IsShaped}
 use Rattle.jpeg_meaning.proofs.Order.OwnSpots.{at-within, in-below}
 use Rattle.jpeg_meaning.proofs.Pictures.PaddingUnseen.{pictures-by}
@@ -34,9 +34,9 @@ use Rattle.jpeg_decoder.proofs.LosslessFrames.WrittenSamples.{bring_samples, ind
 
 -- ---- sizes
 
--- The frame has some size, and the samples have the sizes of its components.
+-- The frame is lossless and has some size, and the samples have the sizes of its components.
 pub sizes-kept : (samples : Samples) (bytes : List ℕ) (final : Said) (frame : Frame)
-    → WritesSamples samples bytes final → final.frame ≡ Some frame → IsShaped frame
+    → WritesSamples samples bytes final → final.frame ≡ Some frame → IsSampled frame
     × AllByRecursion (SizedAt samples frame.components) (range_with_len 0 (length frame.components))
 sizes-kept samples bytes final frame w e =
     let r = keeps (λ now sent. IsSaid IsSampled now × AllByRecursion (SizedAt samples frame.components) sent)
@@ -51,7 +51,7 @@ sizes-kept samples bytes final frame w e =
           (scan-sized now f header samples data_bytes (h.0.shaped f framed).0 h.0.tables x.0)) h.1),
     ))
     w.written.written (nothing-said IsSampled, tt) in (
-      (r.0.0.shaped frame e).0,
+      r.0.0.shaped frame e,
       all-in (SizedAt samples frame.components) _ w.sent r.0.1
           (subst (λ (f : Frame). AllByRecursion (λ k. names w.sent k ≡ true) (range_with_len 0 (length f.components)))
           (same-frame r.2.frame frame final.frame r.2.is_said e) r.2.ended),
@@ -104,7 +104,7 @@ samples-meant settings samples bytes rest final meant w r =
     (ap (λ (p : CodingProcess). picture_by_process p settings found f) (r.0.said.shaped f r.0.framed).1
     ∙ then-ok (gathered (sample_plane found.samples) (enumerate_from 0 f.components)) _ _ _
     (planes-there found.samples samples 0 f.components (all-in _ _ w.sent r.0.held.kept r.0.ended))
-    (ap (λ (l : List ℕ). Ok l) (planes-shown samples f size.0 size.1))))
+    (ap (λ (l : List ℕ). Ok l) (planes-shown samples f size.0.0 size.1))))
 
 -- ---- the whole
 
@@ -133,9 +133,11 @@ lossless-scaled scale settings samples bytes rest final w =
     (scaled-walked scale settings samples bytes rest final w)
 
 -- within the limit
-pub limit-takes : (settings : Settings) (samples : Samples) (rest : List ℕ) (final : Said) (frame : Frame)
-    → IsWithinLimit settings.limit final frame
+pub limit-takes : (settings : Settings) (samples : Samples) (bytes rest : List ℕ) (final : Said) (frame : Frame)
+    → WritesSamples samples bytes final → IsWithinLimit settings.limit final frame
     → (limited settings final (λ f. Ok (picture_of_samples f samples)) >>= given final rest)
     ≡ Ok ((told_of final, picture_of_samples frame samples), rest)
-limit-takes settings samples rest final frame within =
-    rw (limited-ok settings final frame _ (picture_of_samples frame samples) within.is_said within.limited refl) refl
+limit-takes settings samples bytes rest final frame w within =
+    let kept = (sizes-kept samples bytes final frame w within.is_said).0 in
+    let below : samples_of settings frame ≤ settings.limit = rw (lossless-shown settings frame kept.1) within.limited in
+    rw (limited-ok settings final frame _ (picture_of_samples frame samples) within.is_said below refl) refl

@@ -1,17 +1,19 @@
 -- The lines of a picture of a frame that is decoded: how many there are, and how many bytes they have.
 use Rattle.std.proofs.lemmas.Grind.{common_steps}
 use Rattle.std.proofs.Common.{◌≡◌, ℕ, ◌*◌, ◌/◌, ◌<◌, ◌≤◌, List, [], ◌∷◌, length, ap}
-use Rattle.std.proofs.Common.{◌∙◌, refl, arith, subst, Result, Option, Some, None, true}
+use Rattle.std.proofs.Common.{◌∙◌, refl, arith, subst, Result, Ok, Err, Option, Some, None, Bool, true, false}
+use Rattle.std.proofs.Common.{if◌then◌else◌}
 use Rattle.std.proofs.Common.{IfOk, OnOk, map, option_map, min, mul_assoc, mul_comm, mul-div_cancel, mul-le-mul_left, sym}
 use Rattle.jpeg_bits.specs.declared.error.Error.{Error}
 use Rattle.jpeg_decoder.specs.Bytes.{AreLinesOf, HasBytes, HaveBytes, IsCounted, IsWhole, bytes_a_sample}
-use Rattle.jpeg_decoder.specs.Bytes.{frame_shape, line_bytes}
-use Rattle.jpeg_decoder.specs.Bytes.{picture_size, samples_a_pixel}
+use Rattle.jpeg_decoder.specs.Bytes.{line_bytes, picture_size, samples_a_pixel, shape_of, shape_with}
+use Rattle.jpeg_decoder.specs.Steps.{CoversPicture}
 use Rattle.jpeg_segments.specs.declared.frame.CodingProcess.{CodingProcess}
 use Rattle.jpeg_segments.specs.declared.frame.CodingProcess.TheVariants.{DctProgressive, DctSequential}
 use Rattle.jpeg_segments.specs.declared.frame.CodingProcess.TheVariants.{Lossless}
 use Rattle.jpeg_meaning.specs.declared.images.ImageInfo.{ImageInfo}
-use Rattle.jpeg_meaning.specs.Pixels.{bytes_a_pixel, format_of, info_of}
+use Rattle.jpeg_meaning.specs.Pixels.{bytes_a_pixel, format_of, info_with, luma_samples, samples_shown}
+use Rattle.jpeg_meaning.specs.declared.settings.Settings.{Settings}
 use Rattle.jpeg_meaning.specs.Segments.{is_decoded_count, is_decoded_precision}
 use Rattle.std.specs.List.{AllByRecursion, concat}
 use Rattle.std.proofs.lemmas.Bool.{eqb-true}
@@ -29,6 +31,7 @@ use Rattle.jpeg_meaning.specs.InTurn.{Fits}
 use Rattle.jpeg_meaning.specs.Sound.{HasDecodedFrame, IsDecodedFrame}
 use Rattle.jpeg_meaning.proofs.Written.BroughtLevels.{Made}
 use Rattle.jpeg_meaning.proofs.Order.CountedScans.{some-product}
+use Rattle.jpeg_meaning.proofs.Pictures.LimitedPictures.{lossless-shown, luma-shown}
 use Rattle.jpeg_meaning.proofs.Pictures.LosslessSizes.{ceiling-some}
 use Rattle.jpeg_meaning.proofs.Order.OwnSpots.{At}
 use Rattle.jpeg_meaning.proofs.Order.FrameShapes.{is-sized, one-made, scale-made}
@@ -47,26 +50,81 @@ eight x n e dct = grind (arith, common_steps, eqb-true)
 precision-8 : (f : Frame) → IsDecodedFrame f → (f.process ≡ Lossless → ⊥) → f.precision ≡ 8
 precision-8 f p dct = eight f.process f.precision (precision-of f p) dct
 
+-- ---- the samples of a pixel that is shown
+
+-- those of one component
+alone-by : (luma : Bool) (x : CodingProcess) (n : ℕ) → n ≡ 1 → (if luma then luma_samples x n else n) ≡ 1
+alone-by false x n e = e
+alone-by true Lossless n e = e
+alone-by true DctSequential n e = refl
+alone-by true DctProgressive n e = refl
+
+shown-alone : (settings : Settings) (f : Frame) → length f.components ≡ 1 → samples_shown settings f ≡ 1
+shown-alone settings f e = alone-by settings.luma f.process (length f.components) e
+
+-- those of a picture in colour
+shown-colours : (settings : Settings) (f : Frame) → settings.luma ≡ false
+    → samples_shown settings f ≡ length f.components
+shown-colours settings f e =
+    ap (λ (luma : Bool). if luma then luma_samples f.process (length f.components) else length f.components) e
+
+-- that of its luma
+pub shown-luma : (settings : Settings) (f : Frame) → settings.luma ≡ true → (f.process ≡ Lossless → ⊥)
+    → samples_shown settings f ≡ 1
+shown-luma settings f e dct =
+    luma-shown settings f dct ∙ ap (λ (luma : Bool). if luma then 1 else length f.components) e
+
+-- They are as many as a frame may have components.
+counts-by : (luma : Bool) (x : CodingProcess) (n : ℕ) → is_decoded_count n ≡ true
+    → is_decoded_count (if luma then luma_samples x n else n) ≡ true
+counts-by false x n e = e
+counts-by true Lossless n e = e
+counts-by true DctSequential n e = refl
+counts-by true DctProgressive n e = refl
+
+shown-count : (settings : Settings) (f : Frame) → IsDecodedFrame f → is_decoded_count (samples_shown settings f) ≡ true
+shown-count settings f p = counts-by settings.luma f.process (length f.components) (decoded-count f p)
+
+-- Lines of as many samples a pixel as are shown.
+shown-lines : (settings : Settings) (f : Frame) (n : ℕ) (lines : List (List ℕ)) → samples_shown settings f ≡ n
+    → AreLinesOf (Some (shape_with n f)) lines → AreLinesOf (Some (shape_of settings f)) lines
+shown-lines settings f n lines e are = subst (λ (k : ℕ). AreLinesOf (Some (shape_with k f)) lines) (sym e) are
+
+pub lossless-lines : (settings : Settings) (f : Frame) (lines : List (List ℕ)) → f.process ≡ Lossless
+    → AreLinesOf (Some (shape_with (length f.components) f)) lines → AreLinesOf (Some (shape_of settings f)) lines
+lossless-lines settings f lines e are =
+    shown-lines settings f (length f.components) lines (lossless-shown settings f e) are
+
+pub if-luma_lines : (settings : Settings) (f : Frame) (result : Result (List (List ℕ)) Error) → settings.luma ≡ true
+    → (f.process ≡ Lossless → ⊥) → IfOk result (λ l. AreLinesOf (Some (shape_with 1 f)) l)
+    → IfOk result (λ l. AreLinesOf (Some (shape_of settings f)) l)
+if-luma_lines settings f result e dct h =
+    IfOk-weaker result _ _ (λ l are. shown-lines settings f 1 l (shown-luma settings f e dct) are) h
+
+-- ---- lines of blocks
+
 -- a byte a sample
-by-samples : (f : Frame) → f.precision ≡ 8 → length f.components * f.output_width ≡ line_bytes (frame_shape f)
+by-samples : (n : ℕ) (f : Frame) → f.precision ≡ 8 → n * f.output_width ≡ line_bytes (shape_with n f)
 unfolding line_bytes
-by-samples f e = grind (arith, common_steps, mul_comm)
+by-samples n f e = grind (arith, common_steps, mul_comm)
 
--- a byte for each component of each pixel
-block-lines : (f : Frame) (lines : List (List ℕ)) → IsDecodedFrame f → (f.process ≡ Lossless → ⊥)
-    → length lines ≡ f.output_height → HaveBytes (length f.components * f.output_width) lines
-    → AreLinesOf (Some (frame_shape f)) lines
-block-lines f lines p dct high wide =
-    (high, subst (λ (n : ℕ). HaveBytes n lines) (by-samples f (precision-8 f p dct)) wide)
+-- a byte for each sample of each pixel
+block-lines : (n : ℕ) (f : Frame) (lines : List (List ℕ)) → IsDecodedFrame f → (f.process ≡ Lossless → ⊥)
+    → length lines ≡ f.output_height → HaveBytes (n * f.output_width) lines
+    → AreLinesOf (Some (shape_with n f)) lines
+block-lines n f lines p dct high wide =
+    (high, subst (λ (k : ℕ). HaveBytes k lines) (by-samples n f (precision-8 f p dct)) wide)
 
-pub if-block_lines : (f : Frame) (slice : List declared.Component) (result : Result (List (List ℕ)) Error)
+pub if-block_lines : (settings : Settings) (f : Frame) (slice : List declared.Component)
+    (result : Result (List (List ℕ)) Error) → settings.luma ≡ false
     → IsDecodedFrame f → (f.process ≡ Lossless → ⊥) → map component_in slice ≡ f.components
     → IfOk result (λ l. (length l ≡ f.output_height) × HaveBytes (length slice * f.output_width) l)
-    → IfOk result (λ l. AreLinesOf (Some (frame_shape f)) l)
-if-block_lines f slice result p dct same h =
+    → IfOk result (λ l. AreLinesOf (Some (shape_of settings f)) l)
+if-block_lines settings f slice result colours p dct same h =
     let count : length slice ≡ length f.components = sym (length-map slice component_in) ∙ ap length same in
+    let shown : samples_shown settings f ≡ length slice = shown-colours settings f colours ∙ sym count in
     IfOk-weaker result _ _
-    (λ l q. block-lines f l p dct q.0 (subst (λ (n : ℕ). HaveBytes (n * f.output_width) l) count q.1)) h
+    (λ l q. shown-lines settings f (length slice) l shown (block-lines (length slice) f l p dct q.0 q.1)) h
 
 -- ---- one component
 
@@ -84,32 +142,48 @@ plane-lines : (h stride high n : ℕ) → 0 < stride → h ≤ high → n ≡ hi
 plane-lines h stride high n some le e = grind (arith, common_steps, mul-div_cancel)
 
 -- as wide as the picture
-plane-columns : (w stride n : ℕ) → w ≤ stride → n ≡ 1 → min w stride ≡ n * w
-plane-columns w stride n le one = grind (arith, common_steps)
+plane-columns : (w stride : ℕ) → w ≤ stride → min w stride ≡ 1 * w
+plane-columns w stride le = grind (arith, common_steps)
 
-pub one-lines : (f : Frame) (c : Component) (plane : List ℕ) (lines : List (List ℕ)) → IsDecodedFrame f
-    → (f.process ≡ Lossless → ⊥) → f.components ≡ c ∷ []
-    → length plane ≡ (c.blocks_high * c.scale) * (c.blocks_wide * c.scale)
+-- The lines of a plane that has a sample for each pixel.
+pub covered-lines : (f : Frame) (c : Component) (plane : List ℕ) (lines : List (List ℕ)) → IsDecodedFrame f
+    → (f.process ≡ Lossless → ⊥) → CoversPicture f c plane
     → length lines ≡ min f.output_height (length plane / (c.scale * c.blocks_wide))
-    → HaveBytes (min f.output_width (c.scale * c.blocks_wide)) lines → AreLinesOf (Some (frame_shape f)) lines
-one-lines f c plane lines p dct e long rows columns =
+    → HaveBytes (min f.output_width (c.scale * c.blocks_wide)) lines → AreLinesOf (Some (shape_with 1 f)) lines
+covered-lines f c plane lines p dct covers rows columns =
     let stride = c.scale * c.blocks_wide in
+    let across : 0 < stride = omega (arith, covers.wide, some-width f (made-of f p)) in
+    block-lines 1 f lines p dct
+    (rows ∙ plane-lines f.output_height stride covers.high (length plane) across covers.lines covers.whole)
+    (subst (λ (n : ℕ). HaveBytes n lines) (plane-columns f.output_width stride covers.wide) columns)
+
+-- The plane of a component that is as large as the picture.
+pub whole-covers : (f : Frame) (c : Component) (more : List Component) (plane : List ℕ) → IsDecodedFrame f
+    → f.components ≡ c ∷ more → f.output_width ≤ c.width → f.output_height ≤ c.height
+    → length plane ≡ (c.blocks_high * c.scale) * (c.blocks_wide * c.scale) → CoversPicture f c plane
+whole-covers f c more plane p e w h long =
     let made = made-of f p in
-    let size = one-made f c made e in
     let fits : Fits f c = (subst (λ (l : List Component). AllByRecursion (Fits f) l) e (decoded-fits f p)).0 in
     let some : 0 < c.scale = scale-made f made 0 c (subst (λ (l : List Component). At 0 l c) (sym e) refl) in
     let wide : c.width ≤ c.scale * ceiling c.width c.scale = ceiling-low c.width c.scale some in
     let high : c.height ≤ c.scale * ceiling c.height c.scale = ceiling-low c.height c.scale some in
-    let wide' : f.output_width ≤ stride = omega (arith, wide, size.0, mul-le-mul_left c.scale fits.own_wide) in
-    let high' : f.output_height ≤ c.blocks_high * c.scale =
-    omega (arith, high, size.1, mul-le-mul_left c.scale fits.own_high, mul_comm c.blocks_high c.scale) in
-    let long' : length plane ≡ (c.blocks_high * c.scale) * stride =
-    long ∙ ap (λ k. (c.blocks_high * c.scale) * k) (mul_comm c.blocks_wide c.scale) in
-    let across : 0 < stride = omega (arith, wide', some-width f made) in
-    let columns' = plane-columns f.output_width stride (length f.components) wide' (ap length e) in
-    block-lines f lines p dct
-    (rows ∙ plane-lines f.output_height stride (c.blocks_high * c.scale) (length plane) across high' long')
-    (subst (λ (n : ℕ). HaveBytes n lines) columns' columns)
+    record {
+      high = c.blocks_high * c.scale;
+      whole = long ∙ ap (λ k. (c.blocks_high * c.scale) * k) (mul_comm c.blocks_wide c.scale);
+      wide = omega (arith, wide, w, mul-le-mul_left c.scale fits.own_wide);
+      lines = omega (arith, high, h, mul-le-mul_left c.scale fits.own_high, mul_comm c.blocks_high c.scale);
+    }
+
+pub one-lines : (settings : Settings) (f : Frame) (c : Component) (plane : List ℕ) (lines : List (List ℕ))
+    → IsDecodedFrame f
+    → (f.process ≡ Lossless → ⊥) → f.components ≡ c ∷ []
+    → length plane ≡ (c.blocks_high * c.scale) * (c.blocks_wide * c.scale)
+    → length lines ≡ min f.output_height (length plane / (c.scale * c.blocks_wide))
+    → HaveBytes (min f.output_width (c.scale * c.blocks_wide)) lines → AreLinesOf (Some (shape_of settings f)) lines
+one-lines settings f c plane lines p dct e long rows columns =
+    let size = one-made f c (made-of f p) e in
+    shown-lines settings f 1 lines (shown-alone settings f (ap length e))
+    (covered-lines f c plane lines p dct (whole-covers f c [] plane p e size.0 size.1 long) rows columns)
 
 -- ---- lossless frames
 
@@ -127,7 +201,7 @@ sample-bytes precision = grind (arith, common_steps)
 
 sample-lines : (f : Frame) (count : ℕ) (lines : List (List ℕ)) → IsDecodedFrame f → f.process ≡ Lossless
     → count ≡ length f.components → length lines ≡ f.height
-    → HaveBytes (f.width * (count * sample_size f.precision)) lines → AreLinesOf (Some (frame_shape f)) lines
+    → HaveBytes (f.width * (count * sample_size f.precision)) lines → AreLinesOf (Some (shape_with (length f.components) f)) lines
 unfolding line_bytes
 sample-lines f count lines p e same high wide =
     let size = read-size f p e in
@@ -139,7 +213,7 @@ sample-lines f count lines p e same high wide =
 pub if-sample_lines : (f : Frame) (count : ℕ) (result : Result (List (List ℕ)) Error) → IsDecodedFrame f
     → f.process ≡ Lossless → count ≡ length f.components
     → IfOk result (λ l. (length l ≡ f.height) × HaveBytes (f.width * (count * sample_size f.precision)) l)
-    → IfOk result (λ l. AreLinesOf (Some (frame_shape f)) l)
+    → IfOk result (λ l. AreLinesOf (Some (shape_with (length f.components) f)) l)
 if-sample_lines f count result p e same h =
     IfOk-weaker result _ _ (λ l q. sample-lines f count l p e same q.0 q.1) h
 
@@ -156,15 +230,15 @@ format-bytes n h = decoded-counts (λ k. bytes_a_pixel (format_of k 8) ≡ k) n 
 turned : (w h n k : ℕ) → k ≡ n → h * (n * w) ≡ w * h * k
 turned w h n k e = grind (arith, common_steps, mul_comm, mul_assoc)
 
-by-info : (f : Frame) (pixels : List ℕ) → IsDecodedFrame f → f.precision ≡ 8
-    → length pixels ≡ f.output_height * (length f.components * f.output_width)
-    → length pixels ≡ (info_of f).width * (info_of f).height * bytes_a_pixel (info_of f).pixel_format
-by-info f pixels p eight long = grind (arith, common_steps, turned, format-bytes, decoded-count)
+by-info : (n : ℕ) (f : Frame) (pixels : List ℕ) → is_decoded_count n ≡ true → f.precision ≡ 8
+    → length pixels ≡ f.output_height * (n * f.output_width)
+    → length pixels ≡ (info_with n f).width * (info_with n f).height * bytes_a_pixel (info_with n f).pixel_format
+by-info n f pixels count eight long = grind (arith, common_steps, turned, format-bytes)
 
 -- that of its lines
-all-bytes : (f : Frame) → f.output_height * line_bytes (frame_shape f) ≡ picture_size (frame_shape f)
+all-bytes : (n : ℕ) (f : Frame) → f.output_height * line_bytes (shape_with n f) ≡ picture_size (shape_with n f)
 unfolding line_bytes picture_size
-all-bytes f = grind (arith, common_steps, mul_comm, mul_assoc)
+all-bytes n f = grind (arith, common_steps, mul_comm, mul_assoc)
 
 has-bytes : (x : CodingProcess) (info : ImageInfo) (pixels : List ℕ)
     → ((x ≡ Lossless → ⊥) → length pixels ≡ info.width * info.height * bytes_a_pixel info.pixel_format)
@@ -173,34 +247,45 @@ has-bytes Lossless info pixels h = tt
 has-bytes DctSequential info pixels h = h (λ e. let n : ⊥ = cc in n)
 has-bytes DctProgressive info pixels h = h (λ e. let n : ⊥ = cc in n)
 
-whole-by : (f : Frame) (pixels : List ℕ) → IsDecodedFrame f → length pixels ≡ f.output_height * line_bytes (frame_shape f)
-    → IsWhole (Some (frame_shape f)) pixels
-whole-by f pixels p long = (
-  long ∙ all-bytes f,
-  has-bytes f.process (info_of f) pixels (λ dct.
+whole-by : (n : ℕ) (f : Frame) (pixels : List ℕ) → IsDecodedFrame f → is_decoded_count n ≡ true
+    → length pixels ≡ f.output_height * line_bytes (shape_with n f) → IsWhole (Some (shape_with n f)) pixels
+whole-by n f pixels p count long = (
+  long ∙ all-bytes n f,
+  has-bytes f.process (info_with n f) pixels (λ dct.
       let b = precision-8 f p dct in
-      by-info f pixels p b (long ∙ ap (λ n. f.output_height * n) (sym (by-samples f b)))),
+      by-info n f pixels count b (long ∙ ap (λ k. f.output_height * k) (sym (by-samples n f b)))),
 )
 
 -- The lines of a picture together are whole.
-pub lines-whole : (found : Found) (lines : List (List ℕ)) (pixels : List ℕ) → HasDecodedFrame found
-    → AreLinesOf (option_map frame_shape found.said.frame) lines → pixels ≡ concat lines → IsWhole (option_map frame_shape found.said.frame) pixels
-lines-whole found lines pixels p are is = go found.said.frame refl are
+pub lines-whole : (settings : Settings) (found : Found) (lines : List (List ℕ)) (pixels : List ℕ)
+    → HasDecodedFrame found → AreLinesOf (option_map (shape_of settings) found.said.frame) lines
+    → pixels ≡ concat lines → IsWhole (option_map (shape_of settings) found.said.frame) pixels
+lines-whole settings found lines pixels p are is = go found.said.frame refl are
   where
-    go : (o : Option Frame) → found.said.frame ≡ o → AreLinesOf (option_map frame_shape o) lines
-        → IsWhole (option_map frame_shape o) pixels
+    go : (o : Option Frame) → found.said.frame ≡ o → AreLinesOf (option_map (shape_of settings) o) lines
+        → IsWhole (option_map (shape_of settings) o) pixels
     go None e are = tt
-    go (Some f) e are = whole-by f pixels (p f e)
-        (ap length is ∙ (together-length (line_bytes (frame_shape f)) lines are.1 ∙ ap (λ n. n * line_bytes (frame_shape f)) are.0))
+    go (Some f) e are =
+        let n = samples_shown settings f in
+        whole-by n f pixels (p f e) (shown-count settings f (p f e))
+        (ap length is ∙ (together-length (line_bytes (shape_with n f)) lines are.1
+        ∙ ap (λ k. k * line_bytes (shape_with n f)) are.0))
 
 -- ---- the samples of a pixel
 
 by-format : (n precision : ℕ) → is_decoded_count n ≡ true → n ≡ samples_a_pixel (format_of n precision)
 by-format n precision h = grind (arith, common_steps, decoded-counts)
 
-counted : (found : Found) → HasDecodedFrame found → IsCounted (option_map frame_shape found.said.frame)
-counted found p = grind (arith, common_steps, by-format, decoded-count)
+counted : (settings : Settings) (found : Found) → HasDecodedFrame found
+    → IsCounted (option_map (shape_of settings) found.said.frame)
+counted settings found p = go found.said.frame refl
+  where
+    go : (o : Option Frame) → found.said.frame ≡ o → IsCounted (option_map (shape_of settings) o)
+    go None e = tt
+    go (Some f) e = by-format (samples_shown settings f) f.precision (shown-count settings f (p f e))
 
-pub if-counted : {X : Type 0} (found : Found) (result : Result X Error) → OnOk result (HasDecodedFrame found)
-    → IfOk result (λ x. IsCounted (option_map frame_shape found.said.frame))
-if-counted found result p = grind (arith, common_steps, counted)
+pub if-counted : {X : Type 0} (settings : Settings) (found : Found) (result : Result X Error)
+    → OnOk result (HasDecodedFrame found)
+    → IfOk result (λ x. IsCounted (option_map (shape_of settings) found.said.frame))
+if-counted settings found (Ok x) p = counted settings found p
+if-counted settings found (Err e) p = tt

@@ -1,6 +1,6 @@
 -- The picture of a frame's planes: of one component, and of several.
 use Rattle.std.proofs.Common.{◌≡◌, ◌≢◌, ◌<◌, ◌≤◌, ℕ, List, [], ◌∷◌, ◌++◌, ◌∙◌, rules, ap, subst, length, get_or}
-use Rattle.std.proofs.Common.{map, arith, Option, Some, Result, Ok, Err, Vec, Global, ◌*◌, ◌/◌, min, refl, sym}
+use Rattle.std.proofs.Common.{map, arith, false, Option, Some, Result, Ok, Err, Vec, Global, ◌*◌, ◌/◌, min, refl, sym}
 use Rattle.std.specs.Option.{option_to_list}
 use Rattle.std.specs.Prelude.{MatchResult}
 use Rattle.std.specs.List.{AllByRecursion}
@@ -20,7 +20,7 @@ use Rattle.jpeg_pixels.specs.Pictures.{Source, AllCover, AreWhole, image_of, con
 use Rattle.jpeg_pixels.specs.Pictures.{sources_of}
 use Rattle.jpeg_meaning.specs.ColourChoice.{identifiers_of, transform_of}
 use Rattle.jpeg_meaning.specs.Sound.{IsDecodedFrame}
-use Rattle.jpeg_decoder.specs.Bytes.{AreLinesOf, HaveBytes, frame_shape}
+use Rattle.jpeg_decoder.specs.Bytes.{AreLinesOf, HaveBytes, shape_of}
 use Rattle.jpeg_decoder.specs.Steps.{IsRefusal, cropped_to}
 use Rattle.jpeg_meaning.specs.FoundPictures.{picture_by}
 use Rattle.jpeg_meaning.specs.Found.{Metadata}
@@ -111,6 +111,7 @@ picture-one settings m f cs c planes plane picture h e is made = grind (arith, c
 -- what an image of some components and planes gives, where they are those of the frame
 pub several-given : {R : Type 0} (view : R → List ℕ) (settings : Settings) (m : Metadata) (f : Frame)
     (cs : List Component) (planes given : List (List ℕ)) (t : ColorTransform) (r : Result R Error)
+    → settings.luma ≡ false
     → IsDecodedFrame f → length f.components ≢ 1 → cs ≡ f.components → given ≡ planes
     → t ≡ transform_of settings.color_transform (identifiers_of f.components) m.jfif m.adobe
     → MatchResult r (λ v. image_of cs given f.output_width f.output_height t ≡ Ok (view v))
@@ -118,7 +119,7 @@ pub several-given : {R : Type 0} (view : R → List ℕ) (settings : Settings) (
     → MatchResult r (λ v. picture_by settings m f f.components planes ≡ Ok (view v))
     (λ e. IsRefusal e × Names e (picture_by settings m f f.components planes))
 unfolding picture_by
-several-given {R = R} view settings m f cs planes given t r p other ec ep et h = search (rules, arith, image-refused)
+several-given {R = R} view settings m f cs planes given t r colours p other ec ep et h = search (rules, arith, image-refused)
 
 -- the first of the components that the code has
 first-is : (items slice : List declared.Component) (d : declared.Component) → slice ≡ items → length slice ≡ 1
@@ -151,7 +152,7 @@ one-component [] d one = absurd (omega arith)
 one-component (c ∷ []) d one = refl
 one-component (c ∷ e ∷ more) d one = absurd (omega arith)
 
-pub lines-first : (f : Frame) (items slice : List declared.Component) (d : declared.Component)
+pub lines-first : (settings : Settings) (f : Frame) (items slice : List declared.Component) (d : declared.Component)
     (planes front : List (Vec ℕ Global)) (o : Option (Vec ℕ Global)) (plane : Vec ℕ Global) (lines : List (List ℕ))
     → IsDecodedFrame f → (f.process ≡ Lossless → ⊥) → f.components ≡ map component_in items → slice ≡ items
     → length slice ≡ 1 → length planes ≡ length f.components → planes ≡ front ++ option_to_list o → o ≡ Some plane
@@ -160,13 +161,13 @@ pub lines-first : (f : Frame) (items slice : List declared.Component) (d : decla
     * (component_in (get_or slice 0 d)).blocks_wide))
     → HaveBytes (min f.output_width ((component_in (get_or slice 0 d)).scale
     * (component_in (get_or slice 0 d)).blocks_wide)) lines
-    → AreLinesOf (Some (frame_shape f)) lines
+    → AreLinesOf (Some (shape_of settings f)) lines
 unfolding AreWhole
-lines-first f items slice d planes front o plane lines p dct is e one count popped taken whole rows columns =
+lines-first settings f items slice d planes front o plane lines p dct is e one count popped taken whole rows columns =
     let c = component_in (get_or slice 0 d) in
     let alone : f.components ≡ c ∷ [] = is ∙ (ap (map component_in) (sym e) ∙ one-component slice d one) in
     let long : length planes ≡ 1 = omega (arith, count, ap length alone) in
     let only : planes ≡ plane ∷ [] = grind (arith, common_steps, length-append) in
     let size : AreWhole (c ∷ []) (plane.items ∷ []) =
     rw alone at (subst (λ (l : List (Vec ℕ Global)). AreWhole f.components (map (λ v. v.items) l)) only whole) in
-    one-lines f c plane.items lines p dct alone size.0 rows columns
+    one-lines settings f c plane.items lines p dct alone size.0 rows columns

@@ -1,6 +1,6 @@
 //! A stream from its start to its picture (T.81, B.2).
-ghost use Rattle.std.specs.Prelude.{◌≡◌, ◌*◌, ◌/◌, ◌+◌, ◌<◌, ◌≤◌, ◌&&◌, IfOk, IfSome};
-ghost use Rattle.std.specs.Prelude.{None, min, suc};
+ghost use Rattle.std.specs.Prelude.{◌≡◌, ◌*◌, ◌+◌, ◌<◌, ◌≤◌, ◌&&◌, IfOk, IfSome};
+ghost use Rattle.std.specs.Prelude.{None, suc};
 ghost use Rattle.std.specs.Prelude.{OnOk, Ok, Some, drop, false, is_some, length, map, nat_lt, not};
 ghost use Rattle.std.specs.List.{concat, enumerate_from};
 ghost use Rattle.std.specs.Prelude.{option_map, replicate, slice_index_or, true, []};
@@ -20,7 +20,7 @@ ghost use Rattle.jpeg_decoder.specs.PlanesView.{planes_in};
 ghost use Rattle.jpeg_meaning.specs.Sound.{IsDecodedFrame, IsPlaneOf, IsSound, HasDecodedFrame};
 ghost use Rattle.jpeg_meaning.specs.Sound.{IsUnread};
 ghost use Rattle.jpeg_meaning.specs.States.{OnTold};
-ghost use Rattle.jpeg_decoder.specs.Steps.{Returns, cropped_to, with_decoded};
+ghost use Rattle.jpeg_decoder.specs.Steps.{Returns, with_decoded};
 ghost use Rattle.jpeg_meaning.specs.Stream.{header_at, rest_within, start_at, told_of};
 ghost use Rattle.jpeg_meaning.specs.Reported.{IsOfTurns, told_by_turns, told_in_turns};
 ghost use Rattle.jpeg_meaning.specs.Limits.{exceeded_rest};
@@ -28,15 +28,16 @@ ghost use Rattle.jpeg_bits.specs.declared.beyond.Beyond.TheVariants.{Zeros};
 ghost use Rattle.jpeg_meaning.specs.FoundPictures.{blocks_picture, picture_of, picture_by};
 ghost use Rattle.jpeg_meaning.specs.FoundPictures.{plane_at_end, samples_picture};
 ghost use Rattle.jpeg_meaning.specs.Found.{nothing_found};
-ghost use Rattle.jpeg_decoder.specs.Bytes.{AreLinesOf, HaveBytes, IsWhole, frame_shape, shape_of};
+ghost use Rattle.jpeg_decoder.specs.Bytes.{AreLinesOf, IsWhole, shape_of, shape_with};
 
 use crate::picture::color_choice::choose_color_transform;
+use crate::picture::first::{lines_within, luma_lines};
 use crate::picture::lines::Lines;
 use crate::scan::block_array::BlockArray;
 use crate::scan::coded::is_progressive;
 use crate::scan::decoded::{Decoded, render};
 use crate::scan::work::{Budget, Walk};
-use crate::sizes::line_bytes;
+use crate::sizes::{line_bytes, samples_shown};
 use crate::stream::state::State;
 use crate::stream::tables::{Missing, needed, table_at};
 use crate::stream::turns::read_segments;
@@ -49,7 +50,7 @@ use jpeg_bits::source::reads::read_u8;
 use jpeg_lossless::lossless::{SampleLines, sample_lines};
 use jpeg_meaning::settings::Settings;
 use jpeg_pixels::joint_planes::{JointPlanes, JointShape, joint_shape};
-use jpeg_pixels::lines::{PictureLines, cropped_lines, joint_lines, plane_lines};
+use jpeg_pixels::lines::{PictureLines, joint_lines, plane_lines};
 use jpeg_segments::parser::{CodingProcess, Component, Dimensions, FrameInfo};
 use std::alloc::Global;
 use std::io::Read;
@@ -81,11 +82,11 @@ fn area_of(size: Dimensions) -> usize
     usize::from(size.width) * usize::from(size.height)
 }
 
-/// Returns whether this many components of a picture are within a limit.
-fn is_within(limit: usize, count: usize, area: usize) -> bool
-    ensures { result ≡ not (nat_lt limit (count * area)) }
+/// Returns whether a picture of this many samples a pixel is within a limit.
+fn is_within(limit: usize, samples: usize, area: usize) -> bool
+    ensures { result ≡ not (nat_lt limit (samples * area)) }
 {
-    match count.checked_mul(area) {
+    match samples.checked_mul(area) {
         Some(size) => size <= limit,
         None => false,
     }
@@ -179,25 +180,8 @@ fn planes_at_end(
     Ok(planes)
 }
 
-/// Returns the lines of a component's plane, cropped to the picture as far as the plane goes.
-fn lines_within(plane: Vec<u8>, component: &Component, size: Dimensions) -> PictureLines
-    requires { IsScale component.now.dct_scale }
-    ensures cropped { concat result ≡ cropped_to (component_in component.now) size.width
-        size.height plane.items }
-    ensures height { let c = component_in component.now in
-        length result ≡ min size.height (length plane.items / (c.scale * c.blocks_wide)) }
-    ensures width { let c = component_in component.now in
-        HaveBytes (min size.width (c.scale * c.blocks_wide)) result }
-{
-    let stride = component.dct_scale * usize::from(component.block_size.width);
-    let lines = plane.len().checked_div(stride).unwrap_or(0);
-    let width = usize::from(size.width).min(stride);
-    let height = usize::from(size.height).min(lines);
-    cropped_lines(plane, stride, width, height)
-}
-
 /// Returns the lines of the picture of a frame's planes: of one its samples, and of several their
-/// colours.
+/// colours, or their luma where that is asked for.
 fn picture_by(
     alloc: Global,
     state: &State,
@@ -215,14 +199,17 @@ fn picture_by(
     ensures lines { IfOk result (λ l.
         AreLinesOf (Some (shape_of settings (frame_in frame.now))) l) }
 {
+    let mut planes = planes;
     let components = frame.components.as_slice();
     if components.len() == 1 {
-        let mut planes = planes;
         let component = &components[0];
         let plane = needed(alloc, planes.pop(), Missing::Scan(component.identifier))?;
         return Ok(lines_within(plane, component, frame.output_size));
     }
     let transform = transform_of(state, frame, settings);
+    if settings.luma {
+        return luma_lines(alloc, frame, planes.swap_remove(0), transform);
+    }
     plane_lines(alloc, components, planes, frame.output_size, transform)
 }
 
@@ -271,6 +258,10 @@ fn joint_picture(
         AreLinesOf (Some (shape_of settings (frame_in frame.now))) l) }
 {
     let transform = transform_of(state, frame, settings);
+    if settings.luma {
+        let plane = planes.plane(alloc, 0)?;
+        return luma_lines(alloc, frame, plane, transform);
+    }
     joint_lines(
         alloc,
         &frame.components,
@@ -338,7 +329,9 @@ fn samples_picture(
     ensures meant { let expected =
         samples_picture (with_decoded state.now decoded.old) (frame_in frame.now) in
         Returns expected (λ l. concat l) result }
-    ensures lines { IfOk result (λ l. AreLinesOf (Some (frame_shape (frame_in frame.now))) l) }
+    ensures lines { IfOk result (λ l.
+        AreLinesOf (Some (shape_with (length (frame_in frame.now).components)
+        (frame_in frame.now))) l) }
 {
     let planes = samples_at_end(alloc, frame, decoded)?;
     sample_lines(alloc, frame, planes)
@@ -347,13 +340,11 @@ fn samples_picture(
 /// Returns the refusal of a picture that is above the limit.
 #[cold]
 #[inline(never)]
-fn limit_error(alloc: Global, frame: &FrameInfo, limit: usize) -> Error
+fn limit_error(alloc: Global, frame: &FrameInfo, settings: Settings) -> Error
     ensures { NamesFormat result }
 {
-    let count = frame
-        .components
-        .len()
-        .saturating_mul(area_of(frame.output_size));
+    let limit = settings.limit;
+    let count = samples_shown(frame, settings).saturating_mul(area_of(frame.output_size));
     format_error_of(format!(in alloc; "{count} samples in the picture, expected at most {limit}"))
 }
 
@@ -379,12 +370,12 @@ pub fn picture(
     )?;
     if !is_within(
         settings.limit,
-        frame.components.len(),
+        samples_shown(frame, settings),
         area_of(frame.output_size),
     ) {
-        return Err(limit_error(alloc, frame, settings.limit));
+        return Err(limit_error(alloc, frame, settings));
     }
-    let line_bytes = line_bytes(frame);
+    let line_bytes = line_bytes(frame, settings);
     match frame.coding_process {
         CodingProcess::DctSequential | CodingProcess::DctProgressive => {
             let lines = blocks_picture(alloc, state, frame, decoded, settings)?;

@@ -4,8 +4,9 @@ use Rattle.std.specs.Io.KnownBytes.{Appends}
 use Rattle.std.specs.List.{concat}
 use Rattle.std.proofs.lemmas.Result.{err_from_is_err_and}
 use Rattle.jpeg_bits.specs.declared.error.Error.{Error}
-use Rattle.jpeg_meaning.specs.Output.{header_line_of, output_of, TakesBeginning, Tells}
-use Rattle.jpeg_meaning.specs.Pixels.{info_of}
+use Rattle.jpeg_meaning.specs.Output.{header_line_of, output_of, TakesBeginning, Tells, default_settings}
+use Rattle.jpeg_meaning.specs.Pixels.{info_by, info_of}
+use Rattle.jpeg_meaning.specs.declared.settings.Settings.{Settings}
 use Rattle.jpeg_meaning.specs.Stream.{told_of}
 use Rattle.jpeg_meaning.proofs.Refusals.{outside-decode, named-decode, output-some}
 use Rattle.jpeg_meaning.proofs.Pictures.PrintedImages.{prints-images}
@@ -75,8 +76,11 @@ printed g c remaining is bytes tells =
     let same = known_bytes_are_told remaining bytes tells in
     let here = reads tt in
     let all = rw same at (here.1 known).1 in
+    let plain : c.decode_lines.new.self.settings ≡ default_settings =
+    c.in_ok-lines.ensures.settings ∙ ap (λ d. d.settings) is in
     let text : string_bytes c.in_ok-line.line ≡ header_line_of (option_map info_of c.decode_lines.new.self.found.said.frame) =
-    c.in_ok-line.ensures ∙ ap header_line_of c.info.ensures in
+    c.in_ok-line.ensures ∙ ap header_line_of (c.info.ensures
+    ∙ ap (λ (s : Settings). option_map (info_by s) c.decode_lines.new.self.found.said.frame) plain) in
     output-some bytes c.decode_lines.new.self.source.bytes (told_of c.decode_lines.new.self.found.said) (concat c.in_ok-lines.lines) all
     ∙ ap (λ xs. Some (xs ++ concat c.in_ok-lines.lines)) (sym text)
 

@@ -1,4 +1,4 @@
-use Rattle.std.proofs.Common.{rules}
+use Rattle.std.proofs.Common.{List, rules, ℕ}
 use Rattle.std.proofs.lemmas.Result.{err_from_is_err_and}
 use Rattle.std.specs.List.{concat}
 use Rattle.jpeg_decoder.proofs.Pictures.DecodedLines.{begun-seen, decodes-rest, decodes-unbegun, read-holds}
@@ -35,7 +35,7 @@ returns-clause-decodes g c =
     }) c.read_rest-result.ensures.emptied
 
 pub returns-clause-counted : goal.returns-clause-counted
-returns-clause-counted g c = search (rules, if-counted)
+returns-clause-counted g c = search (rules, if-counted {X = List (List ℕ)} c.self.inside.settings)
 
 pub invariant_of-self : goal.invariant_of-self
 invariant_of-self g c =

@@ -44,7 +44,7 @@ returns-clause-rows g c k =
     c.in_ok-begin.ensures.settings) k c.show_rest-result.ensures.rows
 
 pub returns-clause-counted : goal.returns-clause-counted
-returns-clause-counted g c = search (rules, if-counted)
+returns-clause-counted g c = search (rules, if-counted {X = PartialLines} c.self.inside.settings)
 
 pub invariant_of-self : goal.invariant_of-self
 invariant_of-self g c =

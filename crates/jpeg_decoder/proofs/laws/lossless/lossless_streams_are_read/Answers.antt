@@ -4,4 +4,4 @@ use Rattle.jpeg_decoder.proofs.laws.lossless.lossless_streams_are_read.Goals as 
 
 pub returns : goal.returns
 returns c settings samples image rest final frame w within =
-    lossless-means settings samples image rest final w ∙ limit-takes settings samples rest final frame within
+    lossless-means settings samples image rest final w ∙ limit-takes settings samples image rest final frame w within

@@ -5,9 +5,9 @@ use Rattle.jpeg_decoder.proofs.laws.lossless.lossless_streams_keep_their_size.Go
 pub returns-clause-sized : goal.returns-clause-sized
 returns-clause-sized c width height settings samples image rest final frame w within =
     lossless-sized width height settings samples image rest final w
-    ∙ limit-takes settings samples rest final frame within
+    ∙ limit-takes settings samples image rest final frame w within
 
 pub returns-clause-scaled : goal.returns-clause-scaled
 returns-clause-scaled c scale settings samples image rest final frame w within =
     lossless-scaled scale settings samples image rest final w
-    ∙ limit-takes settings samples rest final frame within
+    ∙ limit-takes settings samples image rest final frame w within

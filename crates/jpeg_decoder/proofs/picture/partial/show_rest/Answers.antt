@@ -107,7 +107,7 @@ returns-clause-frames g c =
 pub returns-clause-size : goal.returns-clause-size
 returns-clause-size g c =
     IfOk-weaker c.show_found.result _ _
-    (λ p h. lines-whole (found_of c.state.inside.said c.state.inside.decoded) p.lines _
+    (λ p h. lines-whole c.args.settings (found_of c.state.inside.said c.state.inside.decoded) p.lines _
     (decoded g (goal.at.returns-clause-size g c).After-show_found) h refl)
     c.show_found.ensures.lines
 

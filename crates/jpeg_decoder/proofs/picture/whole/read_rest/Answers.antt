@@ -9,5 +9,5 @@ pub returns-clause-size : goal.returns-clause-size
 returns-clause-size g c =
     let decoded = subst HasDecodedFrame (sym c.state.view_is) c.in_ok-ended.ensures.sound.frames in
     IfOk-weaker c.picture.result _ _
-    (λ l h. lines-whole (found_of c.state.inside.said c.state.inside.decoded) l _ decoded h refl)
+    (λ l h. lines-whole c.args.settings (found_of c.state.inside.said c.state.inside.decoded) l _ decoded h refl)
     c.picture.ensures.lines
