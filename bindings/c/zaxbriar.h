@@ -18,9 +18,10 @@
  * - at least 64 kB of stack are left;
  * - the system has 64-bit pointers.
  *
- * A picture is returned as the stream stores it, or converted to grey or colour (`layout`), and
- * turned upright if that is asked for (`upright`). As stored it has 1, 3 or 4 components: grey;
- * red, green and blue; or cyan, magenta, yellow and black, of which the greatest value is full ink.
+ * A picture is returned as the stream stores it, or converted to grey or colour (`layout`), turned
+ * upright if that is asked for (`upright`), and without its colours (`luma`). As stored it has 1, 3
+ * or 4 components: grey; red, green and blue; or cyan, magenta, yellow and black, of which the
+ * greatest value is full ink.
  * A sample of at most 8 bits takes one byte; a sample of more bits takes two, the lower byte first
  * (only lossless pictures have other than 8 bits).
  */
@@ -119,7 +120,7 @@ typedef enum zaxbriar_density_unit {
 
 /* How to interpret the components, regardless of what the stream says. RGB and YCBCR are for
  * pictures of three components, CMYK and YCCK for pictures of four; decoding any other picture with
- * them is MALFORMED. Grey and lossless pictures aren't affected.
+ * them is MALFORMED (with `luma` see there). Grey and lossless pictures aren't affected.
  *
  * NONE returns the samples of several components without a conversion, component by component: a
  * line has `width` samples of the first component, then those of the second, and so on. It requires
@@ -240,7 +241,16 @@ typedef struct zaxbriar_segment {
  * the picture as the stream has it: `orientation` itself, `min_width` and `min_height`, sampling
  * factors and densities, and `whole_rows` of a partial picture. Unless the orientation is 1, the
  * call allocates at most 32 lines besides `pixels`. With ZAXBRIAR_TRANSFORM_NONE, whose lines have
- * component after component, it is a ZAXBRIAR_BAD_ARGUMENT. */
+ * component after component, it is a ZAXBRIAR_BAD_ARGUMENT.
+ *
+ * `luma` gives of a picture in colour its luma alone, without a conversion: the samples of the
+ * first component. It is described as a grey picture, from zaxbriar_read_info on: components,
+ * format, pixel_bytes and size are those of one, `max_samples` counts its samples, and each layout
+ * is made of them. The whole stream is read all the same, and refused for any fault in it. Decoding
+ * is ZAXBRIAR_MALFORMED if the first of several components isn't luma, as in RGB, CMYK and YCCK
+ * (picture.transform isn't ZAXBRIAR_TRANSFORM_YCBCR), or doesn't have a sample for each pixel. With
+ * ZAXBRIAR_TRANSFORM_YCBCR as `transform` it counts as luma, also the first of four. Grey and
+ * lossless pictures aren't affected. */
 typedef struct zaxbriar_options {
     uint64_t max_samples; /* limits width * height * components, at the scale; 0: no limit */
     uint64_t stride;      /* bytes from one line to the next, at most 2^32; 0: no gaps */
@@ -267,7 +277,8 @@ typedef struct zaxbriar_options {
                             together; 0: no limit. Few files need more than 8; 100 is a limit for
                             untrusted ones */
     uint8_t upright;            /* 1: the picture is turned upright; 0: it stays as it is stored */
-    uint8_t reserved_bytes[7];  /* zero */
+    uint8_t luma;               /* 1: of a picture in colour the luma alone; 0: with its colours */
+    uint8_t reserved_bytes[6];  /* zero */
     uint64_t reserved_words[8]; /* zero */
 } zaxbriar_options;
 
@@ -298,12 +309,13 @@ typedef struct zaxbriar_picture {
                                  otherwise 0 */
     uint8_t pixel_bytes;      /* bytes of a pixel in this layout */
     uint8_t layout;           /* the requested layout */
-    uint8_t components;       /* of the stream: 1, 3 or 4 */
+    uint8_t components;       /* samples of a pixel as it is stored: one of each component of the
+                                 stream, 1, 3 or 4; 1 if the luma alone is asked for */
     uint8_t precision;        /* of the stream: bits per sample, 2 to 16 */
     uint8_t sample_bytes;     /* of the stream: 1 or 2 */
     uint8_t process;          /* zaxbriar_process */
     uint8_t orientation;      /* 1 to 8, from Exif data before the frame; 1 if they give none */
-    uint8_t format;           /* of the stream: zaxbriar_format */
+    uint8_t format;           /* zaxbriar_format, of the picture as it is stored */
     uint8_t feature;          /* after ZAXBRIAR_UNSUPPORTED, and if `fault` is that:
                                  zaxbriar_feature; otherwise 0 */
     uint8_t feature_argument; /* the number that goes with the feature, or 0 */
@@ -351,7 +363,8 @@ ZAXBRIAR_CALL zaxbriar_result zaxbriar_decode(const void *jpeg, size_t jpeg_size
  * and stay as they are if the scan goes on. ZAXBRIAR_OK means that the stream has no fault.
  *
  * MALFORMED, UNSUPPORTED and TRUNCATED are for streams without a frame header that can be decoded,
- * and for a transform that doesn't fit the picture. All other values are as for zaxbriar_decode.
+ * for a transform that doesn't fit the picture, and for a luma that it doesn't have. All other
+ * values are as for zaxbriar_decode.
  *
  * The call uses no more memory than zaxbriar_decode: its `decoding_bytes`, with which it compares
  * `max_bytes`, is what zaxbriar_read_info returns. */

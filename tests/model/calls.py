@@ -113,7 +113,7 @@ class Options:
     def __init__(self, words):
         self.max_samples = self.stride = self.min_width = self.min_height = self.transform = 0
         self.layout = self.scale = self.bottom_up = self.max_bytes = self.max_passes = 0
-        self.upright = 0
+        self.upright = self.luma = 0
         self.is_reserved = False
         for word in words:
             name, number = word.split('=')
@@ -127,7 +127,7 @@ class Options:
         """Whether they exist, whatever the picture is."""
         if self.transform == TRANSFORMS.index('None') and (self.layout or self.upright):
             return False
-        if self.is_reserved or self.bottom_up > 1 or self.upright > 1:
+        if self.is_reserved or max(self.bottom_up, self.upright, self.luma) > 1:
             return False
         return self.transform < len(TRANSFORMS) and self.scale in (0, 1, 2, 4, 8)
 
@@ -150,6 +150,7 @@ class Options:
             transform=TRANSFORMS[self.transform],
             scale=self.wanted(),
             max_blocks=self.max_blocks(frame),
+            luma=bool(self.luma),
         )
 
 
@@ -213,7 +214,7 @@ def described(stream, options):
     orientation = orientation_of(said['exif'] or b'') or 1
     stored_size = model.info(frame, scale)[:2]
     width, height = upright_size(orientation if options.upright else 1, *stored_size)
-    components, is_wide = len(frame.comps), frame.precision > 8
+    components, is_wide = model.samples_a_pixel(frame, options.settings(frame)), frame.precision > 8
     if options.layout > RGB16:
         raise Refusal(BAD_ARGUMENT)
     pixel_bytes = PIXEL_BYTES.get(options.layout, components * (1 + is_wide))

@@ -102,7 +102,13 @@ def hx(s):
 
 class Settings:
     def __init__(
-        self, transform=None, limit=2**64 - 1, scale=None, equal_factors=False, max_blocks=None
+        self,
+        transform=None,
+        limit=2**64 - 1,
+        scale=None,
+        equal_factors=False,
+        max_blocks=None,
+        luma=False,
     ):
         self.transform = transform  # None, or one of the names of ColorTransform
         self.limit = limit
@@ -111,6 +117,7 @@ class Settings:
             equal_factors  # True: lossless scans ignore factors (the rule before the change)
         )
         self.max_blocks = max_blocks  # what all scans may code, or None
+        self.luma = luma  # of a picture in colour the luma alone
 
 
 # ---- bytes and codes
@@ -945,6 +952,19 @@ def picture(f, planes, s, conv):
     return bytes(out)
 
 
+def luma_of(f, planes, s, transform):
+    """The first component of several, if it is luma and has a sample for each pixel."""
+    w, h = f.output(s)
+    if transform != 'YCbCr' or f.sizes(s)[0] != (w, h):
+        raise fmt()
+    return bytes(planes[0](x, y) for y in range(h) for x in range(w))
+
+
+def samples_a_pixel(f, settings):
+    """One of each component, or the luma alone; no lossless picture has luma."""
+    return 1 if settings.luma and f.process != 'lossless' else len(f.comps)
+
+
 def lossless_picture(f, planes, settings):
     out = bytearray()
     for y in range(f.h):
@@ -959,10 +979,10 @@ def lossless_picture(f, planes, settings):
     return bytes(out)
 
 
-def info(f, s):
+def info(f, s, settings=None):
     w, h = f.output(s)
-    name = {1: 'L8' if f.precision <= 8 else 'L16', 3: 'RGB24', 4: 'CMYK32'}[len(f.comps)]
-    return w, h, name
+    count = samples_a_pixel(f, settings or Settings())
+    return w, h, {1: 'L8' if f.precision <= 8 else 'L16', 3: 'RGB24', 4: 'CMYK32'}[count]
 
 
 def pick_scale(f, want):
@@ -1081,16 +1101,18 @@ class Brought:
     def picture(self, settings, st):
         """the picture of planes that are all there"""
         f, s8 = self.frame, self.scale
-        w, h, name = info(f, s8)
+        shape = info(f, s8, settings)
         if f.process == 'lossless':
-            return ('ok', w, h, name, lossless_picture(f, self.planes, settings))
-        conv = conversion(len(f.comps), choose(f, st, settings)) if len(f.comps) > 1 else None
+            return ('ok', *shape, lossless_picture(f, self.planes, settings))
         planes = [plane_of(f, i, *self.planes[i], s8) for i in range(len(f.comps))]
-        return ('ok', w, h, name, picture(f, planes, s8, conv))
+        if settings.luma and len(f.comps) > 1:
+            return ('ok', *shape, luma_of(f, planes, s8, choose(f, st, settings)))
+        conv = conversion(len(f.comps), choose(f, st, settings)) if len(f.comps) > 1 else None
+        return ('ok', *shape, picture(f, planes, s8, conv))
 
     def check_limit(self, settings):
-        w, h, _ = info(self.frame, self.scale)
-        if len(self.frame.comps) * w * h > settings.limit:
+        w, h = self.frame.output(self.scale)
+        if samples_a_pixel(self.frame, settings) * w * h > settings.limit:
             raise fmt()
 
 
@@ -1157,7 +1179,7 @@ def read_segments(r, settings, st, trace, b, is_partial):
             check_frame(f)
             b.frame, b.scale = f, pick_scale(f, settings.scale)
             if trace is not None:
-                trace['info'] = info(f, b.scale)
+                trace['info'] = info(f, b.scale, settings)
                 trace['frame'], trace['header'] = f, (r.p, dict(st))
         elif m == 0xDA:
             if f is None:

@@ -14,7 +14,7 @@ int are_known(const zaxbriar_options *options) {
     int scale = options->scale;
     return options->layout <= ZAXBRIAR_RGB16 &&
            options->transform <= ZAXBRIAR_TRANSFORM_YCCK && options->bottom_up <= 1 &&
-           options->upright <= 1 &&
+           options->upright <= 1 && options->luma <= 1 &&
            (scale == 0 || scale == 1 || scale == 2 || scale == 4 || scale == 8) &&
            (options->transform != ZAXBRIAR_TRANSFORM_NONE ||
             (options->layout == ZAXBRIAR_AS_STORED && !options->upright));
@@ -26,6 +26,11 @@ int is_above(const zaxbriar_options *options, const zaxbriar_picture *picture) {
            (options->max_bytes && picture->decoding_bytes > options->max_bytes);
 }
 
+/* Whether a picture can have its luma alone. */
+static int has_colours(const zaxbriar_picture *picture) {
+    return picture->components != 1 && picture->process != ZAXBRIAR_LOSSLESS;
+}
+
 int is_misfit(const zaxbriar_options *options, const zaxbriar_picture *picture) {
     int wanted = 0;
     switch (options->transform) {
@@ -35,8 +40,11 @@ int is_misfit(const zaxbriar_options *options, const zaxbriar_picture *picture) 
     case ZAXBRIAR_TRANSFORM_YCCK: wanted = 4; break;
     default: break;
     }
-    return wanted && picture->components != 1 && picture->process != ZAXBRIAR_LOSSLESS &&
-           picture->components != wanted;
+    if (!has_colours(picture)) return 0;
+    if (options->luma)
+        return options->transform != ZAXBRIAR_TRANSFORM_OF_STREAM &&
+               options->transform != ZAXBRIAR_TRANSFORM_YCBCR;
+    return wanted && picture->components != wanted;
 }
 
 struct size stored_size(const zaxbriar_options *options, const zaxbriar_picture *picture) {
@@ -87,10 +95,20 @@ static void check_fault(enum call call, const struct answer *answer,
     CHECK(!is_part || fault || picture->whole_rows == rows);
 }
 
-/* What is the stream's alone. */
-static void check_frame(const zaxbriar_picture *picture) {
+/* How many components the stream has, by their sampling factors. */
+static int components_in(const zaxbriar_picture *picture) {
+    int count = 0;
+    while (count < 4 && picture->sampling[count]) count++;
+    return count;
+}
+
+/* What is the stream's alone, but for the number of components where the luma is asked for. */
+static void check_frame(const zaxbriar_picture *picture, const zaxbriar_options *options) {
     int components = picture->components, is_deep = picture->precision > 8;
-    CHECK(components == 1 || components == 3 || components == 4);
+    int stored = components_in(picture);
+    CHECK(stored == 1 || stored == 3 || stored == 4);
+    CHECK(components ==
+          (options->luma && picture->process != ZAXBRIAR_LOSSLESS ? 1 : stored));
     CHECK(picture->precision >= 2 && picture->precision <= 16);
     CHECK(picture->sample_bytes == (is_deep ? 2 : 1));
     CHECK(picture->process >= ZAXBRIAR_SEQUENTIAL && picture->process <= ZAXBRIAR_LOSSLESS);
@@ -102,10 +120,10 @@ static void check_frame(const zaxbriar_picture *picture) {
                                                 : ZAXBRIAR_FORMAT_GREY8));
     for (int i = 0; i < 4; i++) {
         int across = picture->sampling[i] >> 4, down = picture->sampling[i] & 15;
-        CHECK(i < components ? across >= 1 && across <= 4 && down >= 1 && down <= 4
-                             : across == 0 && down == 0);
+        CHECK(i < stored ? across >= 1 && across <= 4 && down >= 1 && down <= 4
+                         : across == 0 && down == 0);
     }
-    int is_unconverted = components == 1 || picture->process == ZAXBRIAR_LOSSLESS;
+    int is_unconverted = stored == 1 || picture->process == ZAXBRIAR_LOSSLESS;
     CHECK(picture->transform <= ZAXBRIAR_TRANSFORM_YCCK);
     CHECK(!is_unconverted || picture->transform == ZAXBRIAR_TRANSFORM_NONE);
 }
@@ -137,7 +155,7 @@ void check_answer(enum call call, const struct answer *answer, const zaxbriar_op
     CHECK(are_known(options) || picture->stream_bytes == 0);
     check_fault(call, answer, options);
     if (is_described(answer->result)) {
-        check_frame(picture);
+        check_frame(picture, options);
         check_sizes(picture, options);
         CHECK((answer->result == ZAXBRIAR_TOO_LARGE) == is_above(options, picture));
     } else if (call == INFO || answer->result == ZAXBRIAR_BAD_ARGUMENT) {
@@ -172,7 +190,9 @@ void check_scale(const zaxbriar_picture *picture, const zaxbriar_options *option
     if (full->process == ZAXBRIAR_LOSSLESS) scale = 1;
     struct size size = stored_size(options, picture);
     CHECK(size.width == scaled(full->width, scale) && size.height == scaled(full->height, scale));
-    CHECK(picture->process == full->process && picture->components == full->components);
+    int is_luma = options->luma && has_colours(full);
+    CHECK(picture->process == full->process);
+    CHECK(picture->components == (is_luma ? 1 : full->components));
     CHECK(picture->precision == full->precision && picture->orientation == full->orientation);
     CHECK(picture->transform == full->transform);
     CHECK(!memcmp(picture->sampling, full->sampling, sizeof full->sampling));

@@ -25,7 +25,8 @@ int are_known(const zaxbriar_options *options);
 /* Whether a picture that is described exceeds a limit of the options. */
 int is_above(const zaxbriar_options *options, const zaxbriar_picture *picture);
 
-/* Whether the transform of the options is for pictures of other components. */
+/* Whether the transform of the options is for pictures of other components, or for none whose luma
+ * is asked for. */
 int is_misfit(const zaxbriar_options *options, const zaxbriar_picture *picture);
 
 /* The size of the stream's picture, at the scale of one that is described for the options. */

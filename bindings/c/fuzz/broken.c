@@ -33,6 +33,7 @@ enum {
     COUNTS_ROWS,           /* names a row more as complete than there is */
     HIDES_FAULT,           /* answers OK for a part */
     MIRRORS,               /* exchanges the ends of the first line of a picture that is turned */
+    WRONG_LUMA,            /* gives another first sample where the luma is asked for */
     WRONG_BYTES,           /* says that an image takes a byte more */
     PAST_DATA,             /* metadata_within writes a byte too many */
     WRONG_SIZE,            /* read_info says that a picture takes a byte more */
@@ -63,6 +64,7 @@ static void write_wrongly(unsigned char *pixels, const zaxbriar_options *options
     if (is_now(CHANGES) && ++count % 3 == 0) pixels[0] ^= 1;
     if (is_now(DIFFERS) && zaxbriar_is_v3()) pixels[0] ^= 1;
     if (is_now(MIRRORS)) mirror(pixels, options, picture);
+    if (is_now(WRONG_LUMA) && options->luma) pixels[0] ^= 1;
 }
 
 static void take_memory(const zaxbriar_options *options, const zaxbriar_picture *picture) {
@@ -102,6 +104,7 @@ zaxbriar_result __wrap_zaxbriar_decode_partial(const void *jpeg, size_t jpeg_siz
     zaxbriar_result result =
         __real_zaxbriar_decode_partial(jpeg, jpeg_size, options, pixels, pixels_size, picture);
     if (is_now(MIRRORS) && result == ZAXBRIAR_OK) mirror(pixels, options, picture);
+    if (is_now(WRONG_LUMA) && result == ZAXBRIAR_OK && options->luma) *(char *)pixels ^= 1;
     if (result != ZAXBRIAR_PARTIAL) return result;
     if (is_now(COUNTS_ROWS) && picture->whole_rows < picture->height) picture->whole_rows++;
     if (!is_now(HIDES_FAULT)) return result;

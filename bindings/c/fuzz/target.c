@@ -35,7 +35,8 @@ enum {
     OLD_KIND_FIRST = 8,
     HAS_EXTRA = 16,
     BOTTOM_UP = 32,
-    UPRIGHT = 64
+    UPRIGHT = 64,
+    LUMA = 128
 };
 
 /* Larger pictures are only refused, by a limit. */
@@ -404,6 +405,39 @@ static void turn_upright(void) {
     free(shown.pixels);
 }
 
+/* The luma of a picture is what stands first in each line of its components, which are those of the
+ * stream without a conversion. */
+static void take_luma(void) {
+    zaxbriar_options options = of.options;
+    zaxbriar_picture picture;
+    if (!options.luma || !of.is_small || of.full.picture.process == ZAXBRIAR_LOSSLESS) return;
+    options.layout = ZAXBRIAR_AS_STORED;
+    options.stride = options.bottom_up = options.upright = 0;
+    options.max_samples = options.max_bytes = 0;
+    struct size size = stored_size(&of.options, &of.info.picture);
+    size_t room = (size_t)size.width * size.height, line = size.width;
+    unsigned char *luma = block(room);
+    begin_call(&options);
+    zaxbriar_result result =
+        zaxbriar_decode_partial(of.jpeg, of.size, &options, luma, room, &picture);
+    end_counting(9);
+    if (is_decoded(result)) {
+        size_t lines = line * of.full.picture.components;
+        unsigned char *all = block(lines * size.height);
+        options.luma = 0;
+        options.transform = ZAXBRIAR_TRANSFORM_NONE;
+        begin_call(&options);
+        CHECK(zaxbriar_decode_partial(of.jpeg, of.size, &options, all, lines * size.height,
+                                      &picture) == result);
+        end_counting(9);
+        for (uint32_t y = 0; y < size.height; y++)
+            CHECK(!memcmp(luma + y * line, all + y * lines, line));
+        note(53, of.full.picture.components);
+        free(all);
+    }
+    free(luma);
+}
+
 /* Whether the bytes from one cut to another go on with one scan alone: the first is in its data,
  * and no marker comes between them but RST. */
 static int is_in_scan(size_t from, size_t to) {
@@ -503,7 +537,8 @@ enum {
 static void check_found(int kind, zaxbriar_result result, size_t length) {
     static zaxbriar_places places;
     if (kind != WHOLE_EXIF && kind != WHOLE_XMP) return;
-    if (result == ZAXBRIAR_TOO_LARGE || of.options.transform || !of.is_small) return;
+    if (result == ZAXBRIAR_TOO_LARGE || !of.is_small) return;
+    if (of.options.transform || of.options.luma) return;
     if (decode_into(PART, of.size, room_wanted(), 0x5A).result != ZAXBRIAR_OK) return;
     CHECK(zaxbriar_find_metadata(of.jpeg, of.size, &places) == ZAXBRIAR_OK);
     zaxbriar_place place = kind == WHOLE_EXIF ? places.exif : places.xmp;
@@ -569,6 +604,7 @@ static void choose_options(void) {
                                     .scale = scales[settings[SCALE] % 8],
                                     .bottom_up = has(BOTTOM_UP) != 0,
                                     .upright = has(UPRIGHT) != 0,
+                                    .luma = has(LUMA) != 0,
                                     .min_width = settings[MIN_WIDTH],
                                     .min_height = settings[MIN_HEIGHT],
                                     .max_passes = 1 + settings[PASSES] % 8,
@@ -615,7 +651,7 @@ int LLVMFuzzerTestOneInput(const uint8_t *data, size_t size) {
     typedef void step(void);
     static step *const steps[] = {walk_segments, find_places,   describe,      decode_whole,
                                   decode_part,   feed,          decode_short,  copy_metadata,
-                                  refuse_memory, turn_upright,  decode_whole};
+                                  refuse_memory, turn_upright,  take_luma};
     enum { STEPS = sizeof steps / sizeof *steps };
     _Static_assert(STEPS == 11, "a prime number, so that each distance comes to all steps");
     if (size < SETTINGS) return 0;

@@ -87,7 +87,7 @@ static void sizes(void) {
 
 static void unknown_options(void) {
     size_t length;
-    for (int which = 0; which < 7; which++) {
+    for (int which = 0; which < 8; which++) {
         zaxbriar_options options = {0};
         if (which == 0) options.layout = ZAXBRIAR_RGB16 + 1;
         if (which == 1) options.transform = ZAXBRIAR_TRANSFORM_YCCK + 1;
@@ -96,6 +96,7 @@ static void unknown_options(void) {
         if (which == 4) options.bottom_up = 2;
         if (which == 5) options.upright = 2;
         if (which == 6) options.upright = 1, options.transform = ZAXBRIAR_TRANSFORM_NONE;
+        if (which == 7) options.luma = 2;
         CHECK(zaxbriar_read_info(jpeg.start, jpeg.size, &options, &picture) ==
               ZAXBRIAR_BAD_ARGUMENT);
         CHECK(picture.text[0] != 0 && picture.stream_bytes == 0);
@@ -118,9 +119,11 @@ static void unknown_options(void) {
     for (int value = 0; value <= UINT8_MAX; value++) {
         zaxbriar_options from_bottom = {.bottom_up = (uint8_t)value};
         zaxbriar_options turned = {.upright = (uint8_t)value};
+        zaxbriar_options without_colours = {.luma = (uint8_t)value};
         zaxbriar_result wanted = value <= 1 ? ZAXBRIAR_OK : ZAXBRIAR_BAD_ARGUMENT;
         CHECK(zaxbriar_read_info(jpeg.start, jpeg.size, &from_bottom, &picture) == wanted);
         CHECK(zaxbriar_read_info(jpeg.start, jpeg.size, &turned, &picture) == wanted);
+        CHECK(zaxbriar_read_info(jpeg.start, jpeg.size, &without_colours, &picture) == wanted);
     }
     zaxbriar_options narrow = {.stride = 1};
     CHECK(zaxbriar_read_info(jpeg.start, jpeg.size, &narrow, &picture) == ZAXBRIAR_BAD_ARGUMENT);
@@ -159,7 +162,7 @@ static void reserved_bytes(void) {
         CHECK(zaxbriar_decode_partial(jpeg.start, jpeg.size, &options, NULL, 0, NULL) ==
               ZAXBRIAR_BAD_ARGUMENT);
     }
-    CHECK(count == 71 && sizeof picture.reserved == 143);
+    CHECK(count == 70 && sizeof picture.reserved == 143);
     memset(&picture, 1, sizeof picture);
     CHECK(zaxbriar_read_info(jpeg.start, jpeg.size, NULL, &picture) == ZAXBRIAR_OK);
     CHECK(is_all(picture.reserved, sizeof picture.reserved, 0));

@@ -82,7 +82,7 @@ static void set(zaxbriar_options *options, char *word) {
 #define SET(member) else if (!strcmp(word, #member)) options->member = number
 #define SET16(member) else if (!strcmp(word, #member)) options->member = (uint16_t)number
 #define SET8(member) else if (!strcmp(word, #member)) options->member = (uint8_t)number
-    if (!strcmp(word, "reserved_byte") && number < 7) options->reserved_bytes[number] = 1;
+    if (!strcmp(word, "reserved_byte") && number < 6) options->reserved_bytes[number] = 1;
     else if (!strcmp(word, "reserved_word") && number < 8) options->reserved_words[number] = 1;
     SET(max_samples);
     SET(stride);
@@ -95,6 +95,7 @@ static void set(zaxbriar_options *options, char *word) {
     SET8(scale);
     SET8(bottom_up);
     SET8(upright);
+    SET8(luma);
     else fail(word);
     *is = '=';
 }

@@ -3,17 +3,17 @@
  * Where JPEGRAW is given, the picture or the refusal is compared with what that program writes,
  * byte for byte. Then the same picture is asked for with less room, from the part of the file that
  * was read, in each layout with gaps between the lines, at each scale, upright by each orientation,
- * also of a part, and with a limit. Metadata are compared with NAME.exif, NAME.xmp and NAME.icc
- * where there are such files, and the orientation with the number after `orientation-` in the name.
- * The last line has a sum of all pictures and of what is said of them, by which two builds of the
- * library are compared. */
+ * also of a part, without its colours, and with a limit. Metadata are compared with NAME.exif,
+ * NAME.xmp and NAME.icc where there are such files, and the orientation with the number after
+ * `orientation-` in the name. The last line has a sum of all pictures and of what is said of them,
+ * by which two builds of the library are compared. */
 #define _POSIX_C_SOURCE 200809L
 #include <sys/wait.h>
 
 #include "common.h"
 
 static struct bytes jpeg;
-static long decoded, refused, compared, arranged, scaled, turned;
+static long decoded, refused, compared, arranged, scaled, turned, without_colours;
 static uint64_t sum = 14695981039346656037u;
 
 static void add_to_sum(const void *start, size_t size) {
@@ -279,6 +279,49 @@ static void upright(void) {
     free(stream.start);
 }
 
+/* The luma is what stands first in each line of the components, without a conversion. */
+static void luma_by(decoding *call, struct bytes stream, const zaxbriar_picture *whole,
+                    zaxbriar_options options) {
+    zaxbriar_options components = options;
+    zaxbriar_picture luma, lines;
+    components.luma = 0;
+    components.transform = ZAXBRIAR_TRANSFORM_NONE;
+    if (zaxbriar_read_info(stream.start, stream.size, &options, &luma) != ZAXBRIAR_OK) return;
+    CHECK(luma.components == 1 && luma.format == ZAXBRIAR_FORMAT_GREY8 && luma.pixel_bytes == 1);
+    CHECK(luma.transform == whole->transform && luma.precision == whole->precision);
+    CHECK(!memcmp(luma.sampling, whole->sampling, sizeof luma.sampling));
+    size_t room = luma.size, all = room * whole->components;
+    unsigned char *pixels = memset(block(room), 0xA5, room), *rows = block(all);
+    zaxbriar_result result = call(stream.start, stream.size, &options, pixels, room, &luma);
+    zaxbriar_result plain = call(stream.start, stream.size, &components, rows, all, &lines);
+    if (result == ZAXBRIAR_OK || result == ZAXBRIAR_PARTIAL) {
+        CHECK(plain == result && lines.whole_rows == luma.whole_rows);
+        for (size_t y = 0; y < luma.height; y++)
+            CHECK(!memcmp(pixels + y * luma.row_bytes, rows + y * lines.row_bytes, luma.width));
+        add_to_sum(pixels, room);
+        without_colours++;
+    } else {
+        CHECK(result == ZAXBRIAR_MALFORMED && is_all(pixels, room, 0xA5));
+    }
+    free(pixels);
+    free(rows);
+}
+
+/* The luma of a picture in colour, of the whole and of a part, as the stream says, and where its
+ * first component counts as luma whatever that is. */
+static void luma(const zaxbriar_picture *whole) {
+    if (whole->components == 1 || whole->process == ZAXBRIAR_LOSSLESS) return;
+    struct bytes part = {jpeg.start, jpeg.size * 2 / 3};
+    for (uint8_t scale = 1; scale <= 8; scale *= 2) {
+        zaxbriar_options options = {.luma = 1, .scale = scale};
+        luma_by(zaxbriar_decode, jpeg, whole, options);
+        luma_by(zaxbriar_decode_partial, part, whole, options);
+        options.transform = ZAXBRIAR_TRANSFORM_YCBCR;
+        luma_by(zaxbriar_decode, jpeg, whole, options);
+        luma_by(zaxbriar_decode_partial, part, whole, options);
+    }
+}
+
 /* A picture above a limit is refused whether what follows its header is whole or cut. */
 static void above(const zaxbriar_options *options, const zaxbriar_picture *whole,
                   unsigned char *pixels) {
@@ -374,6 +417,7 @@ static void of_file(const char *name, const char *jpegraw) {
             in_layout(layout, &picture, pixels);
         for (unsigned part = 1; part <= 8; part *= 2) at_scale(part, &picture);
         upright();
+        luma(&picture);
         limited(&picture);
     } else CHECK(picture.text[0] != 0);
     free(pixels);
@@ -392,8 +436,9 @@ int main(int argc, char **argv) {
     }
     fclose(list);
     printf("compare: %ld files decoded, %ld refused; %ld compared with jpegraw; %ld pictures in "
-           "other layouts, %ld at scales, %ld upright; "
+           "other layouts, %ld at scales, %ld upright, %ld without their colours; "
            "%d faults; sum %016llx\n",
-           decoded, refused, compared, arranged, scaled, turned, faults, (unsigned long long)sum);
+           decoded, refused, compared, arranged, scaled, turned, without_colours, faults,
+           (unsigned long long)sum);
     return faults != 0;
 }

@@ -240,7 +240,8 @@ static void of_stream(const unsigned char *bytes, size_t size, int is_whole) {
     zaxbriar_options options = {.layout = layouts[files % 8],
                                 .stride = files / 8 % 4 == 3 ? 70000 * 8 : 0,
                                 .bottom_up = files / 32 % 2,
-                                .upright = files % 16 < 11};
+                                .upright = files % 16 < 11,
+                                .luma = files % 6 == 5};
     zaxbriar_picture picture;
     struct fenced jpeg = fence(size);
     if (size) memcpy(jpeg.start, bytes, size);

@@ -153,6 +153,7 @@ static void refusals(void) {
                                              {.transform = 1, .layout = ZAXBRIAR_GREY},
                                              {.bottom_up = 2},
                                              {.upright = 2},
+                                             {.luma = 2},
                                              {.transform = 1, .upright = 1}};
     for (size_t i = 0; i < sizeof wrong / sizeof *wrong; i++) {
         CHECK(zaxbriar_read_info(grey, sizeof grey, &wrong[i], &picture) == ZAXBRIAR_BAD_ARGUMENT);
@@ -189,7 +190,7 @@ static void features(void) {
 }
 
 /* A stream of three components like `grey`, of samples 0x81, 0x7f and 0x82: with the transform NONE
- * each line has them one after the other, and with RGB pixel by pixel. */
+ * each line has them one after the other, with RGB pixel by pixel, and its luma is the first. */
 static void without_conversion(void) {
     static const unsigned char frame[] = {
         0xff, 0xc0, 0x00, 0x11, 0x08, 0x00, 0x08, 0x00, 0x08, 0x03,
@@ -218,6 +219,18 @@ static void without_conversion(void) {
     CHECK(decode(stream, sizeof stream, options, 192) == ZAXBRIAR_MALFORMED);
     options.transform = ZAXBRIAR_TRANSFORM_NONE; /* grey pictures aren't affected */
     CHECK(decode(grey, sizeof grey, options, 64) == ZAXBRIAR_OK && is_all(pixels, 64, 0x81));
+    /* By its identifiers the first component is luma. */
+    options = (zaxbriar_options){.luma = 1};
+    CHECK(decode(stream, sizeof stream, options, 65) == ZAXBRIAR_OK);
+    CHECK(picture.format == ZAXBRIAR_FORMAT_GREY8 && picture.components == 1);
+    CHECK(!memcmp(picture.sampling, "\x11\x11\x11", 4) && picture.size == 64);
+    CHECK(is_all(pixels, 64, 0x81) && pixels[64] == 7);
+    CHECK(decode(stream, sizeof stream, options, 63) == ZAXBRIAR_NO_ROOM);
+    options.layout = ZAXBRIAR_BGR;
+    CHECK(decode(stream, sizeof stream, options, 192) == ZAXBRIAR_OK && is_all(pixels, 192, 0x81));
+    options.transform = ZAXBRIAR_TRANSFORM_RGB;
+    CHECK(decode(stream, sizeof stream, options, 192) == ZAXBRIAR_MALFORMED);
+    CHECK(is_all(pixels, 192, 7));
 }
 
 /* Both limits, at the number that is allowed and one less: of the whole stream, of its header alone

@@ -92,6 +92,13 @@ export interface Options {
      * the upright picture.
      */
     upright?: boolean;
+    /**
+     * Whether a picture in colour gives its luma alone: the first component's samples, without
+     * a conversion. It is described as a grey picture. A picture whose first component isn't luma,
+     * as in RGB or ink, or has fewer samples than the picture has pixels, is MALFORMED. Grey and
+     * lossless pictures aren't affected.
+     */
+    luma?: boolean;
     colorTransform?: ColorTransform;
     /** The most pixels that the picture may have, at its scale; 0: any number. */
     maxPixels?: number;
@@ -139,7 +146,10 @@ export interface Picture {
     /** The bytes of a pixel, in this layout. */
     pixelBytes: number;
     layout: Layout;
-    /** Of the stream: 1 (grey), 3 (red, green, blue) or 4 (ink: 255 is full). */
+    /**
+     * The samples of a pixel as it is stored: 1 (grey), 3 (red, green, blue) or 4 (ink: 255 is
+     * full), one of each component of the stream; 1 if the luma alone is asked for.
+     */
     components: 1 | 3 | 4;
     /** Of the stream: the bits of a sample, 2 to 16. */
     precision: number;
@@ -148,7 +158,7 @@ export interface Picture {
     process: 'sequential' | 'progressive' | 'lossless';
     /** Of the stream: 1 to 8, as Exif data before the frame say; otherwise 1. */
     orientation: number;
-    /** Of the stream. */
+    /** Of the picture as it is stored. */
     format: Format;
     /** Of the stream: one for each component. */
     sampling: Sampling[];

@@ -48,6 +48,7 @@ export const OPTIONS = [
     'stride',
     'bottomUp',
     'upright',
+    'luma',
     'colorTransform',
     'maxPixels',
     'maxBytes',
@@ -163,6 +164,7 @@ function optionsOf(options, limits = {}) {
     view.setBigUint64(24, BigInt(number('maxBytes', Number.MAX_SAFE_INTEGER)), true);
     view.setBigUint64(48, BigInt(number('maxPasses', Number.MAX_SAFE_INTEGER)), true);
     view.setUint8(56, isSet(options, 'upright') ? 1 : 0);
+    view.setUint8(57, isSet(options, 'luma') ? 1 : 0);
     return bytes;
 }
 
@@ -281,7 +283,6 @@ export class Zaxbriar {
         const view = new DataView(this.#exports.memory.buffer, at, PICTURE_BYTES);
         const long = (place) => Number(view.getBigUint64(place, true));
         const layout = view.getUint8(45);
-        const components = view.getUint8(46);
         const transform = view.getUint8(TRANSFORM_AT);
         return {
             width: view.getUint32(32, true),
@@ -292,13 +293,13 @@ export class Zaxbriar {
             streamBytes: long(24),
             pixelBytes: view.getUint8(44),
             layout: nameOf(LAYOUTS, layout),
-            components,
+            components: view.getUint8(46),
             precision: view.getUint8(47),
             sampleBytes: view.getUint8(48),
             process: PROCESSES[view.getUint8(49)],
             orientation: view.getUint8(50),
             format: FORMATS[view.getUint8(51)],
-            sampling: Array.from(this.#bytes(at + SAMPLING_AT, components), factorsOf),
+            sampling: Array.from(this.#bytes(at + SAMPLING_AT, 4).filter(Boolean), factorsOf),
             density: {
                 unit: view.getUint8(DENSITY_AT),
                 horizontal: view.getUint16(DENSITY_AT + 1, true),

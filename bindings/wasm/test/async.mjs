@@ -62,6 +62,7 @@ async function checkAnswers() {
         { partial: true, layout: 'grey', scale: 2 },
         { layout: 'rgb16', bottomUp: true },
         { layout: 'bgr', upright: true },
+        { layout: 'rgba', luma: true },
         { minWidth: 9, minHeight: 9, stride: 200, colorTransform: 'rgb', partial: false },
         { maxPixels: 9 },
         { maxBytes: 9 },
@@ -74,6 +75,7 @@ async function checkAnswers() {
         { partial: 1 },
         { bottomUp: 'yes' },
         { upright: 1 },
+        { luma: 1 },
         { maxPixels: 0.5 },
     ];
     let refused = 0;

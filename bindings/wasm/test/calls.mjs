@@ -236,6 +236,31 @@ for (let orientation = 1; orientation <= 8; orientation++) {
     assert.throws(() => zaxbriar.decode(stream, options), code('BAD_ARGUMENT'));
 }
 
+// The luma alone is the first of the components, which are there without a conversion. (Those of
+// the file are red, green and blue, of which none is luma unless a transform says so.)
+const asLuma = { luma: true, colorTransform: 'ycbcr' };
+for (const options of [{}, { scale: 2 }, { partial: true }]) {
+    const luma = zaxbriar.decode(jpeg, { ...options, ...asLuma });
+    const all = zaxbriar.decode(jpeg, { ...options, colorTransform: 'none' });
+    const { width, height } = luma.picture;
+    assert.deepEqual(luma.picture, {
+        ...all.picture,
+        ...{ components: 1, format: 'grey8', pixelBytes: 1, rowBytes: width, size: width * height },
+    });
+    for (let y = 0; y < height; y++) {
+        const line = all.pixels.subarray(3 * y * width, 3 * y * width + width);
+        assert.deepEqual(luma.pixels.subarray(y * width, (y + 1) * width), line);
+    }
+    assert.equal(luma.picture.sampling.length, 3);
+    const rgba = zaxbriar.decode(jpeg, { ...options, ...asLuma, layout: 'rgba' }).pixels;
+    assert.deepEqual([...rgba], [...luma.pixels].flatMap((y) => [y, y, y, 255]));
+}
+for (const colorTransform of ['stream', 'none', 'rgb', 'cmyk']) {
+    const options = { luma: true, colorTransform };
+    assert.equal(zaxbriar.readInfo(jpeg, options).format, 'grey8');
+    assert.throws(() => zaxbriar.decode(jpeg, options), code('MALFORMED'));
+}
+
 // Gaps are zeros, also in memory that was used before.
 const stride = picture.rowBytes + 5;
 const gapped = zaxbriar.decode(jpeg, { stride });
@@ -260,6 +285,7 @@ for (const options of [
     { layout: 'toString' },
     { bottomUp: 1 },
     { upright: 6 },
+    { luma: 'grey' },
 ]) {
     assert.throws(() => zaxbriar.decode(jpeg, options), TypeError);
 }

@@ -39,6 +39,10 @@ const ALL_OPTIONS = [
     { layout: 'rgb', stride: 300, bottomUp: true, upright: true },
     { layout: 'grey16', scale: 2, upright: true },
     { colorTransform: 'none', upright: true },
+    { luma: true },
+    { luma: true, layout: 'rgba', scale: 2 },
+    { luma: true, layout: 'rgb565', upright: true, stride: 300, bottomUp: true },
+    { luma: true, colorTransform: 'ycbcr', minWidth: 3 },
     { layout: 'grey16', stride: 300, minWidth: 3 },
     { layout: 'rgb16', scale: 4, stride: 301 },
     { scale: 2 },
@@ -75,6 +79,7 @@ const lineOf = (options) =>
         options.maxBytes,
         options.maxPasses,
         options.upright ? 1 : 0,
+        options.luma ? 1 : 0,
     ].join(' ');
 const INPUT = ALL_OPTIONS.map((options) => `${lineOf(options)}\n`).join('');
 
@@ -128,7 +133,7 @@ function pictureOf(struct) {
         process: PROCESSES[struct[49]],
         orientation: struct[50],
         format: FORMATS[struct[51]],
-        sampling: [...struct.subarray(54, 54 + struct[46])].map((byte) => ({
+        sampling: [...struct.subarray(54, 58).filter(Boolean)].map((byte) => ({
             horizontal: byte >> 4,
             vertical: byte % 16,
         })),

@@ -61,6 +61,7 @@ const OPTIONS = {
     stride: 0,
     bottomUp: false,
     upright: false,
+    luma: false,
     colorTransform: 'stream',
     maxPixels: 1e9,
     maxBytes: 1e9,

@@ -1,7 +1,7 @@
 /* native FILE: what the native library gives for a stream, for compare.mjs.
  *
  * Each line of standard input is the numbers of some options: layout, scale, transform, min_width,
- * min_height, stride, bottom_up, max_bytes, max_passes, upright. For each the answer and the
+ * min_height, stride, bottom_up, max_bytes, max_passes, upright, luma. For each the answer and the
  * description by the header are written, then the answer and the description by decoding, and the
  * pixels after their count, and the same by decoding as far as the stream goes. At the end come the
  * answer, the length and the bytes of each kind of metadata. */
@@ -73,9 +73,9 @@ int main(int count, char **words) {
     zaxbriar_picture whole;
     int has_part =
         zaxbriar_read_info(jpeg, size, NULL, &whole) == ZAXBRIAR_OK && whole.size <= MOST_PART;
-    unsigned long long n[10];
-    while (scanf("%llu %llu %llu %llu %llu %llu %llu %llu %llu %llu", n, n + 1, n + 2, n + 3, n + 4,
-                 n + 5, n + 6, n + 7, n + 8, n + 9) == 10) {
+    unsigned long long n[11];
+    while (scanf("%llu %llu %llu %llu %llu %llu %llu %llu %llu %llu %llu", n, n + 1, n + 2, n + 3,
+                 n + 4, n + 5, n + 6, n + 7, n + 8, n + 9, n + 10) == 11) {
         zaxbriar_options options = {
             .layout = (uint8_t)n[0],
             .scale = (uint8_t)n[1],
@@ -87,6 +87,7 @@ int main(int count, char **words) {
             .max_bytes = n[7],
             .max_passes = n[8],
             .upright = (uint8_t)n[9],
+            .luma = (uint8_t)n[10],
         };
         put_picture(jpeg, size, &options, has_part);
     }

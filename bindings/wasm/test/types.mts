@@ -21,7 +21,7 @@ load(module, { maxMemory: '1 GB' });
 
 // Pictures and their pixels, for a canvas or a file.
 const options: Options = { layout: 'rgba', scale: 2, colorTransform: 'rgb', maxPixels: 1e6 };
-const turned: Options = { layout: 'abgr', bottomUp: true, upright: true };
+const turned: Options = { layout: 'abgr', bottomUp: true, upright: true, luma: true };
 const limits: Options = { maxBytes: 1 << 30, maxPasses: 100 };
 const { picture, pixels } = zaxbriar.decode(streams[0], options);
 const data = new ImageData(pixels, picture.width, picture.height);
@@ -46,6 +46,8 @@ zaxbriar.decode(streams[2], { scale: 3 });
 zaxbriar.decode(streams[2], { bottomUp: 1 });
 // @ts-expect-error
 zaxbriar.decode(streams[2], { upright: 6 });
+// @ts-expect-error
+zaxbriar.decode(streams[2], { luma: 1 });
 // @ts-expect-error
 zaxbriar.readInfo(streams[2], { maxPixel: 1 });
 // @ts-expect-error

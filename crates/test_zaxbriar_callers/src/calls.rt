@@ -45,6 +45,20 @@ pub fn described_upright(
     calls::read_info(alloc, stream, options, picture)
 }
 
+/// Calls `read_info`, and says that the luma of a sequential picture has one sample a pixel,
+/// however many components its stream has.
+pub fn described_luma(
+    alloc: Global,
+    bytes: &[u8],
+    options: &Options,
+    picture: &mut Picture,
+) -> u32
+    requires asked { options.now.luma ≡ 1 }
+    ensures { result ≡ 0 → picture.new.process ≡ 1 → picture.new.components ≡ 1 }
+{
+    calls::read_info(alloc, bytes, options, picture)
+}
+
 /// Calls `decode`, and says that an OK gives the picture, what is returned for a picture that has
 /// no room, and that TOO_MANY_PASSES is no other fault, and MALFORMED not that one.
 pub fn decoded(

@@ -9,7 +9,7 @@ use Rattle.jpeg_decoder.specs.Bytes.{decoding_bytes, samples_a_pixel}
 use Rattle.jpeg_decoder.specs.StreamTransforms.{frame_transform}
 use Rattle.jpeg_meaning.specs.DecodedImages.{AtLeast, AtScale, FullSize, Size, at_size}
 use Rattle.jpeg_meaning.specs.Found.{Found, Said}
-use Rattle.jpeg_meaning.specs.Pixels.{info_of}
+use Rattle.jpeg_meaning.specs.Pixels.{info_by}
 use Rattle.jpeg_meaning.specs.States.{Decoding}
 use Rattle.jpeg_meaning.specs.Stream.{header_at}
 use Rattle.jpeg_orientation.specs.Turns.{is_on_side, upright_height, upright_width}
@@ -44,7 +44,7 @@ pub described-same : (o : Options) (bytes : List ℕ) (a b : Picture) → Descri
 described-same o bytes a b d e =
     let h : d.header ≡ e.header = header-same (header_at bytes) d.header e.header d.rest e.rest d.reads e.reads in
     let info : d.info ≡ e.info = some-same d.info e.info (sym d.info_is
-    ∙ ap (λ (h : Found). option_map info_of (at_size (size_wanted o) h.said).frame) h ∙ e.info_is) in
+    ∙ ap (λ (h : Found). option_map (info_by (settings_of o)) (at_size (size_wanted o) h.said).frame) h ∙ e.info_is) in
     let precision : d.precision ≡ e.precision = some-same d.precision e.precision (sym d.precision_is
     ∙ ap (λ (h : Found). option_map (λ f. f.precision) (at_size (size_wanted o) h.said).frame) h ∙ e.precision_is) in
     let decoding : d.decoding ≡ e.decoding = some-same d.decoding e.decoding (sym d.decoding_is
@@ -102,7 +102,7 @@ sized-metadata (AtScale scale) said = refl
 -- a picture is described by its header
 pub describes : (o : Options) (old new : Decoding) (h : Header) (lines : Lines) (density : Density)
     (picture : Picture) → ReadsHeader o old new → old.source.known ≡ true
-    → option_map info_of new.found.said.frame ≡ Some h.info
+    → option_map (info_by new.settings) new.found.said.frame ≡ Some h.info
     → option_map (λ f. f.precision) new.found.said.frame ≡ Some h.precision
     → h.orientation ≡ orientation_by new.found.said.metadata.exif
     → option_map (λ f. sampling_of f.components) new.found.said.frame ≡ Some h.sampling
@@ -131,9 +131,11 @@ describes o old new h lines density picture r known info precision oriented samp
       sampling = h.sampling;
       transform = h.transform;
       reads = facts.1.1;
-      info_is = ap (λ (s : Said). option_map info_of s.frame) (sym same) ∙ info;
+      info_is = ap (λ (s : Said). option_map (info_by (settings_of o)) s.frame) (sym same)
+          ∙ (λ i. option_map (info_by (sym r.settings i)) new.found.said.frame) ∙ info;
       precision_is = ap (λ (s : Said). option_map (λ f. f.precision) s.frame) (sym same) ∙ precision;
-      decoding_is = ap (λ (s : Said). option_map (decoding_bytes (settings_of o)) s.frame) (sym same) ∙ bytes;
+      decoding_is = ap (λ (s : Said). option_map (decoding_bytes (settings_of o)) s.frame) (sym same)
+          ∙ (λ i. option_map (decoding_bytes (sym r.settings i)) new.found.said.frame) ∙ bytes;
       conversion_is = l.is;
       sampling_is = ap (λ (s : Said). option_map (λ f. sampling_of f.components) s.frame) (sym same) ∙ sampling;
       transform_is = (λ i. option_map (λ f. number_of_transform (frame_transform (sym metadata i) f)) (sym same i).frame)

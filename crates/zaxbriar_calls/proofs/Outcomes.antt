@@ -4,7 +4,7 @@ use Rattle.std.proofs.Common.{ap, inl, inr, length, refl, subst, sym}
 use Rattle.std.specs.Prelude.{IfErr, IfOk, IsErrAnd, OnOk, option_map}
 use Rattle.jpeg_bits.specs.Reading.{Fault}
 use Rattle.jpeg_bits.specs.Stream.{Stream}
-use Rattle.jpeg_meaning.specs.Pixels.{info_of}
+use Rattle.jpeg_meaning.specs.Pixels.{info_by}
 use Rattle.jpeg_meaning.specs.States.{Decoding}
 use Rattle.jpeg_meaning.specs.Stream.{header_at}
 use Rattle.zaxbriar_calls.proofs.Exceeded.{exceeds-given, header-known}
@@ -36,7 +36,7 @@ pub record HeaderDescribed (o : Options) (bytes : List ℕ) (density : Density) 
   pub source_bytes : first.source.bytes ≡ bytes
   pub reads : OnOk r (ReadsHeader o first second)
   pub unexceeded : second.exceeded ≡ false
-  pub info : IfOk r (λ a. option_map info_of second.found.said.frame ≡ Some a.0.info)
+  pub info : IfOk r (λ a. option_map (info_by second.settings) second.found.said.frame ≡ Some a.0.info)
   pub precision : IfOk r (λ a. option_map (λ f. f.precision) second.found.said.frame ≡ Some a.0.precision)
   pub lines : IfOk r (λ a. HasLines o a.0.info a.0.precision a.0.orientation a.1)
   pub told : IfOk r (λ a. new ≡ described_picture o.layout a.0.info a.0.precision a.1

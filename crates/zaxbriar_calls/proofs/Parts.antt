@@ -9,7 +9,7 @@ use Rattle.jpeg_decoder.specs.Reaching.{NamesFault}
 use Rattle.jpeg_decoder.specs.Shows.{Shows, ShowsJust}
 use Rattle.jpeg_meaning.proofs.Written.ReadTurns.{then-ok}
 use Rattle.jpeg_meaning.specs.Found.{Found}
-use Rattle.jpeg_meaning.specs.Pixels.{info_of}
+use Rattle.jpeg_meaning.specs.Pixels.{info_by}
 use Rattle.jpeg_meaning.specs.Shown.{Shown, shown_ahead, shown_rest_within}
 use Rattle.jpeg_meaning.specs.States.{Decoding, IfRefused, IsReading}
 use Rattle.jpeg_meaning.specs.Stream.{Told, header_at, rest_by, told_of}
@@ -21,7 +21,7 @@ use Rattle.zaxbriar_calls.specs.Faults.{IsFault, IsPart, StandsFor}
 use Rattle.zaxbriar_calls.specs.Given.{Brings, BringsLines, EndsImage, Gives, GivesPart, HasRows, Reaches, faultless}
 use Rattle.zaxbriar_calls.specs.Given.{given_by, given_rest, rows_by, rows_rest}
 use Rattle.zaxbriar_calls.specs.Lines.{HasLines, described_picture}
-use Rattle.zaxbriar_calls.specs.Meanings.{found_at, settings_at}
+use Rattle.zaxbriar_calls.specs.Meanings.{found_at, settings_at, settings_of}
 use Rattle.zaxbriar_calls.specs.declared.answers.Refusal.{Refusal}
 use Rattle.zaxbriar_calls.specs.declared.answers.Refusal.TheVariants as refusals
 use Rattle.zaxbriar_calls.specs.declared.density.Density.{Density}
@@ -182,7 +182,7 @@ pub brought-given : (extent : Extent) (o : Options) (bytes : List ℕ) (header :
     (decoding orientation stream : ℕ) (sampling : List ℕ) (transform : ℕ) (density : Density)
     → header_at bytes ≡ Ok (header, old.source.bytes) → old.settings ≡ settings_at o old.found
     → old.found ≡ found_at o header
-    → option_map info_of old.found.said.frame ≡ Some info
+    → option_map (info_by old.settings) old.found.said.frame ≡ Some info
     → option_map (λ f. f.precision) old.found.said.frame ≡ Some precision
     → HasLines o info precision orientation lines
     → picture ≡ described_picture o.layout info precision lines decoding orientation sampling transform density
@@ -198,7 +198,8 @@ brought-given extent o bytes header info precision lines fault old new before af
       are = gives-rest extent o bytes old.source.bytes header h
           ∙ (λ i. given_rest extent (settings_at o (sym f i)) (sym f i) old.source.bytes)
           ∙ (λ i. given_rest extent (sym s i) old.found old.source.bytes) ∙ b.brings.shown;
-      info_is = ap (λ f. option_map info_of f) b.frame ∙ i;
+      info_is = ap (λ f. option_map (info_by (settings_of o)) f) b.frame
+          ∙ (λ j. option_map (info_by (sym s j)) old.found.said.frame) ∙ i;
       precision_is = ap (λ f. option_map (λ f. f.precision) f) b.frame ∙ p;
       arranged = arranged-of o info precision b.samples before after picture lines decoding orientation stream sampling
           transform density l b.pixels d;

@@ -7,7 +7,7 @@ use Rattle.jpeg_bits.specs.declared.error.Error.{Error}
 use Rattle.jpeg_bits.specs.declared.error.Error.TheVariants as errors
 use Rattle.jpeg_decoder.specs.Reaching.{NamesFault}
 use Rattle.jpeg_meaning.specs.Found.{Found}
-use Rattle.jpeg_meaning.specs.Pixels.{info_of}
+use Rattle.jpeg_meaning.specs.Pixels.{info_by}
 use Rattle.jpeg_meaning.specs.Shown.{Shown, shown_rest_within, whole_rows_rest}
 use Rattle.jpeg_meaning.specs.States.{Decoding, IfRefused}
 use Rattle.jpeg_meaning.specs.Stream.{Told, header_at, rest_by, told_of}
@@ -16,7 +16,7 @@ use Rattle.jpeg_meaning.specs.declared.settings.Settings.{Settings}
 use Rattle.zaxbriar_calls.specs.Features.{NamesFeature, feature_in, numbered}
 use Rattle.zaxbriar_calls.specs.Lines.{Arranged}
 use Rattle.zaxbriar_calls.specs.Meanings.{CountsRead, StandsAfter, found_at, meaning_by}
-use Rattle.zaxbriar_calls.specs.Meanings.{settings_at}
+use Rattle.zaxbriar_calls.specs.Meanings.{settings_at, settings_of}
 use Rattle.zaxbriar_calls.specs.Passes.{fault_number}
 use Rattle.zaxbriar_calls.specs.Upright.{arranged_in}
 use Rattle.zaxbriar_calls.specs.declared.answers.Refusal.{Refusal}
@@ -69,7 +69,7 @@ pub record Gives (extent : Extent) (o : Options) (bytes old new : List ℕ) (fau
   pub info : ImageInfo
   pub precision : ℕ
   pub are : given_by extent o bytes ≡ Ok (record { told = told; picture = samples; fault = fault })
-  pub info_is : option_map info_of told.frame ≡ Some info
+  pub info_is : option_map (info_by (settings_of o)) told.frame ≡ Some info
   pub precision_is : option_map (λ f. f.precision) told.frame ≡ Some precision
   pub arranged : Arranged o info precision samples old new picture
 

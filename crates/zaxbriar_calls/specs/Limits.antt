@@ -20,11 +20,11 @@ is_rest_zero o = list_all (λ word. word == 0) o.pointer_words
 
 -- whether all options exist whatever the picture is: the transform, of which 1, none, goes with
 -- layout 0 alone, and with no turn, the scale, whether the rows stand from the bottom, 1 or 0, and
--- so whether the picture is turned upright, and what is reserved
+-- so whether the picture is turned upright, and whether it is its luma, and what is reserved
 abbrev pub are_known : Options → Bool
 are_known o = (not (o.transform == 1) || (o.layout == 0 && o.upright == 0))
     && (nat_le o.transform 5 && (is_denominator o.scale
-    && (nat_le o.bottom_up 1 && (nat_le o.upright 1 && is_rest_zero o))))
+    && (nat_le o.bottom_up 1 && (nat_le o.upright 1 && (nat_le o.luma 1 && is_rest_zero o)))))
 
 -- The most memory for samples that decoding takes at a time beside the caller's, whether the whole
 -- of a picture is asked for or a part: blocks and planes, from which the lines are written.

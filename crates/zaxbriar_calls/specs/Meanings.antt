@@ -12,7 +12,7 @@ use Rattle.jpeg_meaning.specs.DecodedImages.{Size, FullSize, AtLeast, AtScale, a
 use Rattle.jpeg_meaning.specs.Found.{Found, with_said}
 use Rattle.jpeg_meaning.specs.States.{Decoding}
 use Rattle.jpeg_meaning.specs.declared.progress.Progress.TheVariants.{HeaderRead}
-use Rattle.jpeg_meaning.specs.Pixels.{info_of}
+use Rattle.jpeg_meaning.specs.Pixels.{info_by}
 use Rattle.jpeg_meaning.specs.Stream.{Told, header_at, rest_by}
 use Rattle.jpeg_meaning.specs.declared.images.ImageInfo.{ImageInfo}
 use Rattle.jpeg_meaning.specs.declared.settings.Settings.{Settings}
@@ -51,6 +51,7 @@ settings_of o = record {
   limit = 18446744073709551615;
   color_transform = transform_number o.transform;
   max_blocks = None;
+  luma = o.luma == 1;
 }
 
 -- The least length of a side, where one is asked for: no side is as long as 65535 but at full size,
@@ -134,7 +135,8 @@ pub record Describes (o : Options) (bytes : List ℕ) (picture : Picture) : Type
   pub sampling : List ℕ
   pub transform : ℕ
   pub reads : header_at bytes ≡ Ok (header, rest)
-  pub info_is : option_map info_of (at_size (size_wanted o) header.said).frame ≡ Some info
+  pub info_is : option_map (info_by (settings_of o)) (at_size (size_wanted o) header.said).frame
+      ≡ Some info
   pub precision_is : option_map (λ f. f.precision) (at_size (size_wanted o) header.said).frame
       ≡ Some precision
   pub decoding_is : option_map (decoding_bytes (settings_of o))
@@ -159,7 +161,8 @@ pub record IsMisfit (o : Options) (bytes : List ℕ) : Type 0 where
   pub info : ImageInfo
   pub precision : ℕ
   pub reads : header_at bytes ≡ Ok (header, rest)
-  pub info_is : option_map info_of (at_size (size_wanted o) header.said).frame ≡ Some info
+  pub info_is : option_map (info_by (settings_of o)) (at_size (size_wanted o) header.said).frame
+      ≡ Some info
   pub precision_is : option_map (λ f. f.precision) (at_size (size_wanted o) header.said).frame
       ≡ Some precision
   pub misfit : FitLines o info precision

@@ -25,13 +25,18 @@ passes_alone passes = record {
   pointer_words = replicate 2 0;
   max_passes = passes;
   upright = 0;
-  reserved_bytes = replicate 7 0;
+  luma = 0;
+  reserved_bytes = replicate 6 0;
   reserved_words = replicate 8 0;
 }
 
 -- the picture upright and without a gap
 abbrev pub upright_alone : Options
 upright_alone = record (passes_alone 0) { upright = 1 }
+
+-- the luma without a gap, as it is stored
+abbrev pub luma_alone : Options
+luma_alone = record (passes_alone 0) { luma = 1 }
 
 -- the lines of a picture of 3 by 2 pixels of a format, a precision and an orientation, as some
 -- options ask for them

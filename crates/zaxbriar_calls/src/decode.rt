@@ -6,7 +6,7 @@ ghost use Rattle.std.specs.List.{concat};
 ghost use Rattle.jpeg_bits.specs.Reading.{Answers, Fault, IsGivenUp};
 ghost use Rattle.jpeg_bits.specs.declared.error.Error.TheVariants.{OutOfMemory};
 ghost use Rattle.jpeg_decoder.specs.Bytes.{AreLinesOf, IsCounted, decoding_bytes, shape_in};
-ghost use Rattle.jpeg_meaning.specs.Pixels.{info_of};
+ghost use Rattle.jpeg_meaning.specs.Pixels.{info_by};
 ghost use Rattle.jpeg_meaning.specs.Stream.{header_at, rest_by, told_of};
 ghost use Rattle.jpeg_meaning.specs.declared.progress.Progress.TheVariants.{HeaderRead};
 ghost use Rattle.zaxbriar_calls.specs.Faults.{IsArgument, IsFault, IsOfCall, IsOfDecoder};
@@ -67,6 +67,7 @@ fn read_part<R: Read + Drop>(decoder: &mut Decoder<R>) -> std::result::Result<Pa
     requires read { decoder.old.stage ≡ HeaderRead }
     ensures stays { IfOk result
         (λ _. decoder.new.found.said.frame ≡ decoder.old.found.said.frame) }
+    ensures settings { decoder.new.settings ≡ decoder.old.settings }
     ensures counted { IfOk result (λ _. IsCounted (shape_in decoder.new)) }
     ensures lines { IfOk result (λ p. AreLinesOf (shape_in decoder.new) p.lines) }
     ensures given { decoder.old.source.known ≡ true → IfOk result (λ p. Brings
@@ -109,6 +110,7 @@ fn read_whole<R: Read + Drop>(
     requires read { decoder.old.stage ≡ HeaderRead }
     ensures stays { IfOk result
         (λ _. decoder.new.found.said.frame ≡ decoder.old.found.said.frame) }
+    ensures settings { decoder.new.settings ≡ decoder.old.settings }
     ensures counted { IfOk result (λ _. IsCounted (shape_in decoder.new)) }
     ensures lines { IfOk result (λ p. AreLinesOf (shape_in decoder.new) p.lines) }
     ensures entire { IfOk result (λ p. p.fault ≡ None) }
@@ -144,6 +146,7 @@ fn read_lines<R: Read + Drop>(
     requires read { decoder.old.stage ≡ HeaderRead }
     ensures stays { IfOk result
         (λ _. decoder.new.found.said.frame ≡ decoder.old.found.said.frame) }
+    ensures settings { decoder.new.settings ≡ decoder.old.settings }
     ensures counted { IfOk result (λ _. IsCounted (shape_in decoder.new)) }
     ensures lines { IfOk result (λ p. AreLinesOf (shape_in decoder.new) p.lines) }
     ensures given { decoder.old.source.known ≡ true → IfOk result (λ p. Brings
@@ -187,7 +190,8 @@ fn decode_lines<R: Read + Drop>(
     extent: Extent,
 ) -> std::result::Result<u16, Refusal>
     requires read { decoder.old.stage ≡ HeaderRead }
-    requires info { option_map info_of decoder.old.found.said.frame ≡ Some header.info }
+    requires info { option_map (info_by decoder.old.settings) decoder.old.found.said.frame
+        ≡ Some header.info }
     requires precision { option_map (λ f. f.precision) decoder.old.found.said.frame
         ≡ Some header.precision }
     requires bytes { option_map (decoding_bytes decoder.old.settings)
@@ -232,8 +236,8 @@ fn decode_described<R: Read + Drop>(
     extent: Extent,
 ) -> std::result::Result<u16, Refusal>
     requires read { OnOk described (decoder.old.stage ≡ HeaderRead) }
-    requires info { IfOk described
-        (λ a. option_map info_of decoder.old.found.said.frame ≡ Some a.0.info) }
+    requires info { IfOk described (λ a. option_map (info_by decoder.old.settings)
+        decoder.old.found.said.frame ≡ Some a.0.info) }
     requires precision { IfOk described (λ a. option_map (λ f. f.precision)
         decoder.old.found.said.frame ≡ Some a.0.precision) }
     requires bytes { IfOk described (λ a. option_map (decoding_bytes decoder.old.settings)

@@ -3,7 +3,7 @@ ghost use Rattle.std.specs.Prelude.{◌≡◌, ◌≤◌, ◌<◌, ◌+◌, ◌^
 ghost use Rattle.std.specs.Prelude.{IfErr, IfOk, IsErrAnd, OnOk, option_map};
 ghost use Rattle.jpeg_decoder.specs.Bytes.{decoding_bytes};
 ghost use Rattle.jpeg_meaning.specs.Output.{default_settings};
-ghost use Rattle.jpeg_meaning.specs.Pixels.{info_of};
+ghost use Rattle.jpeg_meaning.specs.Pixels.{info_by};
 ghost use Rattle.jpeg_meaning.specs.declared.progress.Progress.TheVariants.{Fresh};
 ghost use Rattle.jpeg_meaning.specs.Stream.{header_at};
 ghost use Rattle.zaxbriar_calls.specs.Density.{density_of};
@@ -42,8 +42,8 @@ pub fn describe<R: Read + Drop>(
         → density ≡ density_of decoder.old.source.bytes }
     ensures reads { OnOk result (ReadsHeader options.now decoder.old decoder.new) }
     ensures exceeded { decoder.new.exceeded ≡ decoder.old.exceeded }
-    ensures info { IfOk result
-        (λ a. option_map info_of decoder.new.found.said.frame ≡ Some a.0.info) }
+    ensures info { IfOk result (λ a. option_map (info_by decoder.new.settings)
+        decoder.new.found.said.frame ≡ Some a.0.info) }
     ensures precision { IfOk result (λ a. option_map (λ f. f.precision) decoder.new.found.said.frame
         ≡ Some a.0.precision) }
     ensures bytes { IfOk result (λ a. option_map (decoding_bytes decoder.new.settings)

@@ -3,7 +3,7 @@ ghost use Rattle.std.specs.Prelude.{◌≡◌, ◌+◌, ◌≤◌, true, Some, I
 ghost use Rattle.jpeg_decoder.specs.Bytes.{decoding_bytes};
 ghost use Rattle.jpeg_decoder.specs.StreamTransforms.{frame_transform};
 ghost use Rattle.jpeg_meaning.specs.Output.{default_settings};
-ghost use Rattle.jpeg_meaning.specs.Pixels.{info_of};
+ghost use Rattle.jpeg_meaning.specs.Pixels.{info_by};
 ghost use Rattle.jpeg_meaning.specs.declared.progress.Progress.TheVariants.{Fresh};
 ghost use Rattle.jpeg_meaning.specs.Stream.{header_at};
 ghost use Rattle.zaxbriar_calls.specs.Faults.{IsFault, IsOfDecoder};
@@ -60,8 +60,8 @@ pub fn read_header<R: Read + Drop>(
         → IfErr result (IsFault (header_at decoder.old.source.bytes)) }
     ensures own { IfErr result IsOfDecoder }
     ensures exceeded { decoder.new.exceeded ≡ decoder.old.exceeded }
-    ensures info { IfOk result
-        (λ h. option_map info_of decoder.new.found.said.frame ≡ Some h.info) }
+    ensures info { IfOk result (λ h. option_map (info_by decoder.new.settings)
+        decoder.new.found.said.frame ≡ Some h.info) }
     ensures precision { IfOk result (λ h. option_map (λ f. f.precision) decoder.new.found.said.frame
         ≡ Some h.precision) }
     ensures oriented { IfOk result (λ h. h.orientation

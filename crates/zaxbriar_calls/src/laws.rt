@@ -24,14 +24,14 @@ ghost use Rattle.zaxbriar_calls.specs.Joined.{datum_of, is_joined_kind, joined_o
 ghost use Rattle.zaxbriar_calls.specs.Limits.{are_known, is_denominator, is_over};
 ghost use Rattle.zaxbriar_calls.specs.Lines.{format_number, process_number};
 ghost use Rattle.zaxbriar_calls.specs.Meanings.{meaning_by, number_of_transform, scale_by};
-ghost use Rattle.zaxbriar_calls.specs.Meanings.{transform_number};
+ghost use Rattle.zaxbriar_calls.specs.Meanings.{settings_of, transform_number};
 ghost use Rattle.zaxbriar_calls.specs.Metadata.{is_whole, kind_alone};
 ghost use Rattle.zaxbriar_calls.specs.Passes.{exceeds, fault_number};
 ghost use Rattle.zaxbriar_calls.specs.Places.{no_place, no_places, place_before, with_part};
 ghost use Rattle.zaxbriar_calls.specs.Sampling.{sampling_of};
 ghost use Rattle.zaxbriar_calls.specs.Upright.{arranged_in};
-ghost use Rattle.zaxbriar_calls.specs.Worked.{all_data, exif_twice, passes_alone, three_by_two};
-ghost use Rattle.zaxbriar_calls.specs.Worked.{upright_alone};
+ghost use Rattle.zaxbriar_calls.specs.Worked.{all_data, exif_twice, luma_alone, passes_alone};
+ghost use Rattle.zaxbriar_calls.specs.Worked.{three_by_two, upright_alone};
 ghost use Rattle.zaxbriar_calls.specs.declared.extents.Extent.{Extent};
 ghost use Rattle.zaxbriar_calls.specs.declared.extents.Extent.TheVariants.{Whole};
 ghost use Rattle.zaxbriar_calls.specs.declared.options.Options.{Options};
@@ -174,8 +174,12 @@ pub fn known_options()
         (0 ∷ 1 ∷ 2 ∷ []) ≡ true ∷ true ∷ false ∷ [] }
     ensures unconverted { map (λ n. are_known (record upright_alone { transform = 1; upright = n }))
         (0 ∷ 1 ∷ []) ≡ true ∷ false ∷ [] }
+    ensures lumas { map (λ n. are_known (record luma_alone { luma = n }))
+        (0 ∷ 1 ∷ 2 ∷ []) ≡ true ∷ true ∷ false ∷ [] }
+    ensures set { map (λ n. (settings_of (record luma_alone { luma = n })).luma) (0 ∷ 1 ∷ [])
+        ≡ false ∷ true ∷ [] }
     ensures reserved { map (λ n. are_known (record upright_alone {
-      reserved_bytes = replicate 6 0 ++ (n ∷ []);
+      reserved_bytes = replicate 5 0 ++ (n ∷ []);
     })) (0 ∷ 1 ∷ []) ≡ true ∷ false ∷ [] }
     ensures kinds { map kind_alone (1 ∷ 3 ∷ 17 ∷ 19 ∷ []) ≡ 1 ∷ 3 ∷ 1 ∷ 3 ∷ [] }
     ensures whole { map is_whole (3 ∷ 15 ∷ 16 ∷ 17 ∷ []) ≡ false ∷ false ∷ true ∷ true ∷ [] }

@@ -51,8 +51,12 @@ pub struct Options {
     /// 1 where the picture is turned upright by the orientation in the Exif data of its header; and
     /// else 0. Without a conversion (transform 1) it can't be.
     pub upright: u8,
+    /// 1 where the luma of a picture in colour is to be given, without its colours; and else 0.
+    /// Pictures of one component and lossless ones aren't affected. A picture whose first component
+    /// isn't luma is refused as a fault of Format.
+    pub luma: u8,
     /// Zero.
-    pub reserved_bytes: [u8; 7],
+    pub reserved_bytes: [u8; 6],
     /// Zero.
     pub reserved_words: [u64; 8],
 }
@@ -71,7 +75,8 @@ pub const AS_STORED: Options = Options {
     pointer_words: [0; 2],
     max_passes: 0,
     upright: 0,
-    reserved_bytes: [0; 7],
+    luma: 0,
+    reserved_bytes: [0; 6],
     reserved_words: [0; 8],
 };
 
@@ -114,6 +119,7 @@ pub fn are_known(options: &Options) -> bool
         && is_denominator(options.scale)
         && options.bottom_up <= 1
         && options.upright <= 1
+        && options.luma <= 1
         && is_rest_zero(options)
 }
 
@@ -153,6 +159,7 @@ pub fn apply<R: Read + Drop>(decoder: &mut Decoder<R>, options: &Options)
     if let Some(transform) = transform_of(options.transform) {
         decoder.set_color_transform(transform);
     }
+    decoder.set_luma(options.luma == 1);
 }
 
 /// Returns the scale of a denominator.

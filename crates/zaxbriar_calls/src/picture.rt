@@ -33,7 +33,8 @@ pub struct Picture {
     pub pixel_bytes: u8,
     /// The number of the layout that was asked for.
     pub layout: u8,
-    /// How many components the stream has: 1, 3 or 4.
+    /// How many samples a pixel has as it is stored, 1, 3 or 4: one of each component of the
+    /// stream, or its luma alone, where the options ask for that.
     pub components: u8,
     /// The bits of a sample in the stream.
     pub precision: u8,

@@ -144,6 +144,7 @@ class Options(unittest.TestCase):
             ({"bottom_up": 2}, "bottom_up is a number from 0 to 1, and not 2"),
             ({"upright": 6}, "upright is a number from 0 to 1, and not 6"),
             ({"upright": True, "transform": "none"}, "an option doesn't exist"),
+            ({"luma": 2}, "luma is a number from 0 to 1, and not 2"),
             ({"max_bytes": -1}, "max_bytes"),
         ):
             with self.subTest(options), self.assertRaisesRegex(zaxbriar.BadArgumentError, text):

@@ -217,6 +217,28 @@ class Pictures(unittest.TestCase):
             self.assertEqual([planes[5][i][x] for i in range(3)], list(pixels[5][x]))
         self.assertEqual(zaxbriar.decode(DEEP, transform="none").shape, (1, 1, 3))
 
+    def test_luma(self):
+        # (the first component is red, and isn't luma unless a transform says so)
+        luma_of = {"luma": True, "transform": "ycbcr"}
+        for options in ({}, {"scale": 2}):
+            luma = zaxbriar.decode(STREAM, **options, **luma_of)
+            planes = zaxbriar.decode(STREAM, **options, transform="none")
+            self.assertEqual(luma.shape, (planes.height, planes.width))
+            self.assertEqual([bytes(row) for row in luma], [bytes(lines[0]) for lines in planes])
+            self.assertEqual((luma.format, luma.info.components), ("grey8", 1))
+            self.assertEqual(luma.info.sampling, planes.info.sampling)
+            colours = zaxbriar.decode(STREAM, **options, **luma_of, layout="rgba")
+            self.assertEqual(bytes(colours), b"".join(bytes([y] * 3 + [255]) for y in bytes(luma)))
+        part = zaxbriar.decode_partial(STREAM[:320], **luma_of)
+        planes = zaxbriar.decode_partial(STREAM[:320], transform="none")
+        self.assertEqual(part.whole_rows, planes.whole_rows)
+        rows = zip(part.picture, planes.picture)
+        self.assertTrue(all(bytes(row) == bytes(lines[0]) for row, lines in rows))
+        self.assertEqual(zaxbriar.decode(DEEP, luma=True).shape, (1, 1, 3))
+        for transform in ("of_stream", "rgb"):
+            with self.assertRaises(zaxbriar.MalformedError):
+                zaxbriar.decode(STREAM, luma=True, transform=transform)
+
     @needs_numpy
     def test_are_arrays_of_numpy_without_a_copy(self):
         picture = zaxbriar.decode(STREAM)

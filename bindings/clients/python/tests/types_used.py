@@ -22,6 +22,7 @@ def sizes(data: bytes, mapped: mmap.mmap, room: bytearray) -> tuple[int, Optiona
     info: zaxbriar.Info = zaxbriar.read_info(data)
     options: zaxbriar.Options = {"layout": "bgra", "max_samples": 10, "bottom_up": True}
     options["upright"] = True
+    options["luma"] = True
     zaxbriar.decode(data, **options)
     end: int = zaxbriar.next_segment(data).end
     found = len(exif or b"") + len(thumbnail or b"")

@@ -80,7 +80,8 @@ class Options(Structure):
         ("places", c_void_p),
         ("max_passes", c_uint64),
         ("upright", c_uint8),
-        ("reserved_bytes", c_uint8 * 7),
+        ("luma", c_uint8),
+        ("reserved_bytes", c_uint8 * 6),
         ("reserved_words", c_uint64 * 8),
     ]
 

@@ -44,6 +44,9 @@ class Options(Limits, total=False):
     bottom_up: whether the picture's first row comes last in the buffer.
     upright: whether the picture is turned upright, as its `orientation` says; `shape`, `width` and
         `height` are then those of the upright picture.
+    luma: whether a picture in colour gives its luma alone: the first component's samples, as a grey
+        picture. One whose first component isn't luma, as in RGB or ink, or has fewer samples than
+        the picture has pixels, is a MalformedError. Grey and lossless pictures aren't affected.
     """
 
     layout: Layout
@@ -54,6 +57,7 @@ class Options(Limits, total=False):
     stride: int
     bottom_up: bool
     upright: bool
+    luma: bool
 
 
 LIMITS = ("max_samples", "max_bytes", "max_passes")
@@ -64,6 +68,7 @@ MOST = {
     "min_height": 2**16 - 1,
     "bottom_up": 1,
     "upright": 1,
+    "luma": 1,
     **dict.fromkeys(("stride", *LIMITS), 2**64 - 1),
 }
 

@@ -27,14 +27,15 @@ class Info:
     stream_bytes: how many bytes the image takes, after decode; or the header, after read_info.
     width, height: in pixels, at the scale, and upright if that was asked for.
     layout: the one that was asked for.
+    components: the samples of a pixel as it is stored: one of each component of the stream, 1, 3 or
+        4; 1 if the luma alone was asked for.
+    format: "grey8", "grey16", "rgb" or "cmyk", of the picture as it is stored.
 
     Of the stream:
 
-    components: 1, 3 or 4.
     precision, sample_bytes: the bits of a sample, 2 to 16, and its bytes.
     process: "sequential", "progressive" or "lossless".
     orientation: 1 to 8, from Exif data before the frame; 1 if they give none.
-    format: "grey8", "grey16", "rgb" or "cmyk".
     sampling: the horizontal and the vertical factor of each component.
     density_unit, horizontal_density, vertical_density: the pixels per inch (1) or centimetre (2),
         as the first JFIF segment before the frame gives them; zeros if none does.
@@ -90,7 +91,7 @@ def info_of(told: library.Description, options: library.Options) -> Info:
         layout=layout,
         process=process,
         format=library.FORMATS[told.format],
-        sampling=tuple((each >> 4, each & 15) for each in told.sampling[: told.components]),
+        sampling=tuple((each >> 4, each & 15) for each in told.sampling if each),
         transform=library.TRANSFORMS[told.transform] if told.transform else None,
         **{name: getattr(told, name) for name in _NUMBERS},
     )
@@ -129,7 +130,7 @@ class Picture:
 
     @property
     def format(self) -> str | None:
-        """The components as the stream has them: "grey8", "grey16", "rgb" or "cmyk"."""
+        """The components as they are stored: "grey8", "grey16", "rgb" or "cmyk"."""
         return self.info.format
 
     @property

@@ -43,9 +43,14 @@ pub(crate) fn transform_number(
     options: &Options,
 ) -> Result<u8> {
     let transform = match transform {
-        Some(transform) if picture.components > 1 && !picture.is_lossless() => transform,
+        Some(transform) if picture.stream_components() > 1 && !picture.is_lossless() => transform,
         _ => return Ok(OF_STREAM),
     };
+    if options.luma != 0 && transform != ColorTransform::YCbCr {
+        return Err(Error::Format(format!(
+            "color transform {transform:?} of a picture whose luma is asked for, expected YCbCr"
+        )));
+    }
     let may_be_none = options.layout == AS_STORED && options.upright == 0;
     match transform {
         ColorTransform::None if may_be_none => Ok(1),

@@ -60,8 +60,8 @@ pub struct Decoder<R> {
     /// How many bytes of the stream the metadata are of.
     metadata_end: usize,
     color_transform: Option<ColorTransform>,
-    /// The scale, the order of rows, whether the picture is turned, and the limit of passes; the
-    /// rest is as the library has it.
+    /// The scale, the order of rows, whether the picture is turned, whether it is its luma, and the
+    /// limit of passes; the rest is as the library has it.
     options: Options,
     max_samples: u64,
     max_bytes: u64,
@@ -408,6 +408,32 @@ impl<R: Read> Decoder<R> {
             self.options.upright = upright;
             self.picture = self.picture.map(Picture::turned);
         }
+    }
+
+    /// Sets whether a picture in colour gives its luma alone: the samples of its first component,
+    /// without a conversion. A new decoder returns it with its colours. [`info`](Decoder::info) then
+    /// describes a grey picture, also if the header was read before, and
+    /// [`decode_as`](Decoder::decode_as) makes each layout of its samples.
+    ///
+    /// A picture of several components whose first isn't luma, as in RGB or CMYK, or has fewer
+    /// samples than the picture has pixels, is an [`Error::Format`] when it is decoded. Grey and
+    /// lossless pictures aren't affected.
+    ///
+    /// ```
+    /// # let jpeg = &std::fs::read("image/tests/colour.jpg").unwrap()[..];
+    /// use zaxbriar::{Decoder, PixelFormat};
+    ///
+    /// let mut decoder = Decoder::new(jpeg);
+    /// decoder.set_luma(true);
+    /// let luma = decoder.decode()?;
+    /// let info = decoder.info().unwrap();
+    /// assert_eq!(info.pixel_format, PixelFormat::L8);
+    /// assert_eq!(luma.len(), usize::from(info.width) * usize::from(info.height));
+    /// # Ok::<(), zaxbriar::Error>(())
+    /// ```
+    pub fn set_luma(&mut self, is_luma: bool) {
+        self.options.luma = is_luma.into();
+        self.picture = self.picture.map(|picture| picture.with_luma(is_luma));
     }
 
     /// Chooses exactly that part of the picture's size, rounded up, and returns the size that it

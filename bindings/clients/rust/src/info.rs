@@ -49,7 +49,8 @@ pub struct ImageInfo {
     pub width: u16,
     /// The height in pixels, in the same way.
     pub height: u16,
-    /// What a pixel is, as [`decode`](crate::Decoder::decode) returns it.
+    /// What a pixel is, as [`decode`](crate::Decoder::decode) returns it: grey where the luma alone
+    /// is asked for ([`Decoder::set_luma`](crate::Decoder::set_luma)).
     pub pixel_format: PixelFormat,
     /// How the picture was coded.
     pub coding_process: CodingProcess,

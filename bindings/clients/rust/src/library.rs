@@ -60,7 +60,8 @@ pub struct Options {
     pointers: [u64; 2],
     pub max_passes: u64,
     pub upright: u8,
-    reserved_bytes: [u8; 7],
+    pub luma: u8,
+    reserved_bytes: [u8; 6],
     reserved_words: [u64; 8],
 }
 
@@ -191,6 +192,29 @@ impl Picture {
             height: self.width,
             ..self
         }
+    }
+
+    /// Returns the picture as it is described once its luma alone is asked for, or its colours again.
+    pub fn with_luma(self, is_luma: bool) -> Picture {
+        if self.is_lossless() {
+            return self;
+        }
+        // (these have 8 bits a sample; and formats of several components their number)
+        let components = if is_luma { 1 } else { self.stream_components() };
+        let row_bytes = u64::from(self.width) * u64::from(components);
+        Picture {
+            size: row_bytes * u64::from(self.height),
+            row_bytes,
+            pixel_bytes: components,
+            components,
+            format: components,
+            ..self
+        }
+    }
+
+    /// Returns how many components the stream has, also where the picture is its luma alone.
+    pub fn stream_components(&self) -> u8 {
+        self.sampling.iter().filter(|&&factors| factors > 0).count() as u8
     }
 
     /// Returns whether the picture's process is lossless.
