@@ -12,11 +12,11 @@ _zaxbriar() {
         return
     fi
     case "${COMP_WORDS[1]}" in
-        pnm) options+=' --scale --upright --png --partial' ;;
+        pnm) options+=' --scale --upright --luma --png --partial' ;;
         thumbnail) options+=' --max --png --as-stored --partial' ;;
         info) options+=' --json --exif --thumbnail --xmp --extended-xmp --iptc --icc' ;;
         check) options+=' --json --quiet --strict' ;;
-        raw) options+=' --upright' ;;
+        raw) options+=' --upright --luma' ;;
         frames) options+=' --list' ;;
     esac
     case "$before" in

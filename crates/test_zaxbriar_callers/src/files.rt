@@ -1,12 +1,16 @@
 //! Callers that write files.
-ghost use Rattle.std.specs.Prelude.{◌≡◌, ◌≤◌, ℕ, List, IfOk, IsSomeAnd, OnOk, fold};
+ghost use Rattle.std.specs.Prelude.{◌≡◌, ℕ, List, IfErr, IfOk, IsSomeAnd, OnOk, fold};
 ghost use Rattle.std.specs.Io.KnownBytes.{Appends};
 ghost use Rattle.jpeg_meaning.specs.Output.{Tells};
-ghost use Rattle.zaxbriar_pictures.specs.Given.{CodesWithin, WritesGiven};
+ghost use Rattle.zaxbriar_pictures.specs.Allowed.{allows, allows_raw};
+ghost use Rattle.zaxbriar_pictures.specs.Given.{CodesWithin, WritesGiven, shown_at_scale};
 ghost use Rattle.zaxbriar_pictures.specs.Raw.{raw_of};
+ghost use Rattle.zaxbriar_pictures.specs.Reasons.{IsReason, LacksColours, meaning_within_limits};
+ghost use Rattle.zaxbriar_pictures.specs.ScaledPictures.{settings_for};
 ghost use Rattle.zaxbriar_samples.specs.Netpbm.{file_of};
 ghost use Rattle.zaxbriar_samples.specs.Png.{adler_byte, filtered_line, line_chunk};
 ghost use Rattle.zaxbriar_pictures.specs.Thumbnails.{WritesThumbnail};
+ghost use Rattle.zaxbriar_samples.specs.declared.requests.Request.TheVariants.{At};
 
 use jpeg_decoder::error;
 use std::alloc::Global;
@@ -37,7 +41,6 @@ pub fn png_line<W: Write>(
     line: &[u8],
     writer: &mut W,
 ) -> error::Result<()>
-    requires { file.old.precision ≤ 16 }
     ensures sums { OnOk result (file.new.sums ≡ fold adler_byte file.old.sums
         (filtered_line file.old.info file.old.precision line.now 0)) }
     ensures written { OnOk result (Appends (W.contents writer.old) (W.contents writer.new)
@@ -46,7 +49,7 @@ pub fn png_line<W: Write>(
     file.write_line(alloc, line, writer)
 }
 
-/// Calls `write_at`.
+/// Calls `write_at`, and says what an Ok wrote, and why there is none.
 pub fn picture_at<R: Read + Drop, W: Write>(
     alloc: Global,
     reader: R,
@@ -56,9 +59,13 @@ pub fn picture_at<R: Read + Drop, W: Write>(
     format: PictureFormat,
     writer: &mut W,
 ) -> Result<Completeness, Refusal>
-    ensures { (bytes : List ℕ) → Tells (R.remaining reader) bytes
+    ensures written { (bytes : List ℕ) → Tells (R.remaining reader) bytes
         → IfOk result (WritesGiven extent limits at format bytes (W.contents writer.old)
         (W.contents writer.new)) }
+    ensures refused { (bytes : List ℕ) → Tells (R.remaining reader) bytes → IfErr result (IsReason
+        (shown_at_scale extent at.luma limits at.scale bytes) (allows (At at) format limits bytes)
+        (LacksColours format (settings_for at.luma)
+        (shown_at_scale extent at.luma limits at.scale bytes))) }
 {
     write_at(alloc, reader, at, extent, limits, format, writer)
 }
@@ -80,19 +87,24 @@ pub fn thumbnail<R: Read + Drop, W: Write>(
     write_thumbnail(alloc, reader, request, extent, limits, format, writer)
 }
 
-/// Calls `write_raw`, and says what an Ok wrote, and how many blocks the scans code.
+/// Calls `write_raw`, and says what an Ok wrote, how many blocks the scans code, and why there is
+/// none.
 pub fn pixels<R: Read + Drop, W: Write>(
     alloc: Global,
     reader: R,
     turning: Upright,
+    luma: bool,
     limits: Limits,
     writer: &mut W,
 ) -> Result<(), Refusal>
     ensures written { (bytes : List ℕ) → Tells (R.remaining reader) bytes
-        → OnOk result (IsSomeAnd (raw_of turning bytes) (Appends (W.contents writer.old)
+        → OnOk result (IsSomeAnd (raw_of luma turning bytes) (Appends (W.contents writer.old)
         (W.contents writer.new))) }
     ensures bounded { (bytes : List ℕ) → Tells (R.remaining reader) bytes
         → OnOk result (CodesWithin limits bytes) }
+    ensures refused { (bytes : List ℕ) → Tells (R.remaining reader) bytes
+        → IfErr result (IsReason (meaning_within_limits luma limits bytes)
+        (allows_raw luma turning limits bytes) ⊥) }
 {
-    write_raw(alloc, reader, turning, limits, writer)
+    write_raw(alloc, reader, turning, luma, limits, writer)
 }

@@ -6,6 +6,7 @@ ghost use Rattle.zaxbriar_pictures.specs.Given.{IsGiven, TellsOfStream, is_whole
 ghost use Rattle.zaxbriar_samples.specs.DecodedPictures.{decoded};
 ghost use Rattle.zaxbriar_pictures.specs.ScaledPictures.{picture_at_scale};
 ghost use Rattle.zaxbriar_samples.specs.DecodedPictures.{decoded_in};
+ghost use Rattle.zaxbriar_samples.specs.Sizes.{luma_for};
 
 use jpeg_decoder::Decoder;
 use std::alloc::Global;
@@ -29,7 +30,7 @@ pub fn scaled_picture<R: Read + Drop>(
     limits: Limits,
 ) -> Result<ScaledPicture, Refusal>
     ensures { (bytes : List ℕ) → Tells (R.remaining reader) bytes
-        → IfOk result (λ made. IsGiven extent limits made.scale bytes
+        → IfOk result (λ made. IsGiven extent (luma_for request) limits made.scale bytes
         (decoded_in made.picture) made.whole_rows made.fault) }
 {
     read_picture(alloc, reader, request, format, extent, limits)
@@ -45,7 +46,7 @@ pub fn whole_picture<R: Read + Drop>(
     limits: Limits,
 ) -> Result<ScaledPicture, Refusal>
     ensures { (bytes : List ℕ) → Tells (R.remaining reader) bytes
-        → IfOk result (λ made. picture_at_scale made.scale bytes
+        → IfOk result (λ made. picture_at_scale (luma_for request) made.scale bytes
         ≡ Some (decoded made.picture.info made.picture.precision made.picture.pixels.items)) }
 {
     scaled_picture(alloc, reader, request, format, Extent::Whole, limits)

@@ -25,6 +25,10 @@ const PART: &str =
 
 const UPRIGHTED: &str = "Turn the picture upright by the orientation in its Exif data";
 
+const LUMA_ALONE: &str =
+    "Write the luma of a picture in colour, as a grey picture; its luma has to be as large as the \
+    picture";
+
 const AS_PNG: &str = "Write PNG, as to an output whose name ends with .png; CMYK is then refused";
 
 /// The option `-o` of a word that may write several files.
@@ -39,6 +43,13 @@ pub const UPRIGHT: Parameter = Parameter {
     name: "upright",
     form: Form::Flag,
     help: UPRIGHTED,
+};
+
+/// The option `--luma`.
+pub const LUMA: Parameter = Parameter {
+    name: "luma",
+    form: Form::Flag,
+    help: LUMA_ALONE,
 };
 
 /// The option `--partial`.
@@ -62,6 +73,12 @@ pub fn turning_of(matches: &ArgMatches<'_>) -> Upright {
     } else {
         Upright::AsStored
     }
+}
+
+/// Returns whether the option `--luma` is there, so that pictures in colour are written as their
+/// luma.
+pub fn wants_luma(matches: &ArgMatches<'_>) -> bool {
+    matches.get_flag("luma")
 }
 
 /// Returns whether a name ends with `.png`, in capital letters or not.

@@ -19,11 +19,12 @@ const SCALE: Parameter = Parameter {
     help: "The part of the picture's width and height",
 };
 
-const PARAMETERS: [Parameter; 6] = [
+const PARAMETERS: [Parameter; 7] = [
     INPUTS,
     pictures::OUTPUT,
     SCALE,
     pictures::UPRIGHT,
+    pictures::LUMA,
     pictures::PNG,
     pictures::PARTIAL,
 ];
@@ -38,6 +39,7 @@ pub fn request_of(matches: &ArgMatches<'_>) -> Request {
     Request::At(AtScale {
         scale: scale_of(matches),
         upright: pictures::turning_of(matches),
+        luma: pictures::wants_luma(matches),
     })
 }
 

@@ -1,6 +1,6 @@
 //! The limits of a picture that is decoded.
-ghost use Rattle.std.specs.Prelude.{◌≡◌, ◌-◌, ◌^◌, IfOk, None, Some, false, true};
-ghost use Rattle.zaxbriar_files.specs.Limits.{is_allowed, is_at_most, most_blocks};
+ghost use Rattle.std.specs.Prelude.{◌≡◌, ◌-◌, ◌^◌, MatchResult, None, Some, false, true};
+ghost use Rattle.zaxbriar_files.specs.Limits.{IsAbove, is_allowed, is_at_most, most_blocks};
 
 use crate::refusal::Refusal;
 
@@ -32,7 +32,8 @@ impl Limits {
     /// Refuses a picture of this width and height, which takes this number of bytes, unless it is
     /// within the limits.
     pub fn check(self, width: u16, height: u16, bytes: u64) -> Result<(), Refusal>
-        ensures { IfOk result (λ _. is_allowed self width height bytes ≡ true) }
+        ensures { MatchResult result (λ _. is_allowed self width height bytes ≡ true)
+            (IsAbove self width height bytes) }
     {
         let pixels = u64::from(width) * u64::from(height);
         if !is_at_most(self.pixels, pixels) {

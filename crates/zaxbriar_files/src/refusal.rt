@@ -1,4 +1,7 @@
 //! Why a file isn't decoded or described.
+ghost use Rattle.std.specs.Prelude.{◌≡◌};
+ghost use Rattle.jpeg_bits.specs.declared.error.Error.TheVariants.{Io, OutOfMemory};
+ghost use Rattle.zaxbriar_files.specs.declared.refusal.Refusal.TheVariants.{Decoding};
 
 use crate::formats::FileFormat;
 use jpeg_bits::error::Error;
@@ -96,18 +99,24 @@ impl fmt::Display for Refusal {
 }
 
 impl From<Error> for Refusal {
+    ghost from_gives = { λ e r. r ≡ Decoding e };
+
     fn from(error: Error) -> Refusal {
         Refusal::Decoding(error)
     }
 }
 
 impl From<io::Error> for Refusal {
+    ghost from_gives = { λ e r. r ≡ Decoding (Io e) };
+
     fn from(error: io::Error) -> Refusal {
         Refusal::Decoding(Error::from(error))
     }
 }
 
 impl From<AllocError> for Refusal {
+    ghost from_gives = { λ _ r. r ≡ Decoding OutOfMemory };
+
     fn from(error: AllocError) -> Refusal {
         Refusal::Decoding(Error::from(error))
     }

@@ -6,7 +6,7 @@ use Rattle.jpeg_bits.specs.declared.error.Error.{Error}
 use Rattle.jpeg_segments.specs.Frame.{Frame}
 use Rattle.jpeg_segments.specs.declared.scale.Scale.TheVariants.{Full}
 use Rattle.jpeg_meaning.specs.Found.{Found, with_said}
-use Rattle.jpeg_meaning.specs.Pixels.{info_of}
+use Rattle.jpeg_meaning.specs.Pixels.{info_by}
 use Rattle.jpeg_meaning.specs.States.{Decoding}
 use Rattle.jpeg_meaning.specs.Stream.{header_at, scaled_to}
 use Rattle.jpeg_decoder.specs.Reaching.{NamesFault}
@@ -19,9 +19,9 @@ use Rattle.zaxbriar_pictures.specs.declared.extents.Extent.TheVariants.{Partial}
 use Rattle.zaxbriar_pictures.proofs.ScaledStreams.{is-given, tells-given}
 
 told-of : (limits : Limits) (bytes : List ℕ) (picture : Decoded) (told : Completeness)
-    → IsGiven Partial limits Full bytes picture told.whole_rows told.fault → told.info ≡ picture.info
+    → IsGiven Partial false limits Full bytes picture told.whole_rows told.fault → told.info ≡ picture.info
     → TellsOfStream limits bytes told
-told-of limits bytes picture told h is = go (given_at_scale Partial limits Full bytes) h
+told-of limits bytes picture told h is = go (given_at_scale Partial false limits Full bytes) h
   where
     go : (o : Option Given) → IsSomeAnd o (λ g. (picture ≡ g.picture) × NamesFault told.fault g.fault
         × (told.whole_rows ≡ complete_rows Partial limits Full bytes g.picture.info.height))
@@ -33,13 +33,13 @@ told-of limits bytes picture told h is = go (given_at_scale Partial limits Full 
 pub tells-of-stream : (limits : Limits) (bytes : List ℕ) (found : Found) (old new : Decoding) (samples : List ℕ)
     (told : Completeness)
     → header_at bytes ≡ Ok (found, old.source.bytes) → old.source.known ≡ true
-    → old.found ≡ with_said (scaled_to Full) found → old.settings ≡ settings_within limits old.found
+    → old.found ≡ with_said (scaled_to Full) found → old.settings ≡ settings_within false limits old.found
     → GivesRest Partial old new samples told.fault → CountsRest Partial old told.info.height told.whole_rows
-    → option_map info_of new.found.said.frame ≡ Some told.info → TellsOfStream limits bytes told
+    → option_map (info_by old.settings) new.found.said.frame ≡ Some told.info → TellsOfStream limits bytes told
 tells-of-stream limits bytes found old new samples told header known is within gives counts info =
     go new.found.said.frame refl info
   where
-    go : (frame : Option Frame) → new.found.said.frame ≡ frame → option_map info_of frame ≡ Some told.info
+    go : (frame : Option Frame) → new.found.said.frame ≡ frame → option_map (info_by old.settings) frame ≡ Some told.info
         → TellsOfStream limits bytes told
     go None e i = absurd (let n : ⊥ = cc in n)
     go (Some f) e i =
@@ -52,7 +52,7 @@ tells-of-stream limits bytes found old new samples told header known is within g
           rows = counts;
         } in
         told-of limits bytes picture told
-        (is-given Partial limits Full bytes found old new picture told header known is within made) refl
+        (is-given Partial false limits Full bytes found old new picture told header known is within made) refl
 
 -- ---- whole streams
 
@@ -66,7 +66,7 @@ same-fault (Some e) None h = absurd h
 whole-told : (limits : Limits) (bytes : List ℕ) (told : Completeness) → TellsOfStream limits bytes told
     → not (is_some told.fault) ≡ is_whole limits bytes
 unfolding is_whole
-whole-told limits bytes told h = go (given_at_scale Partial limits Full bytes) h
+whole-told limits bytes told h = go (given_at_scale Partial false limits Full bytes) h
   where
     go : (o : Option Given) → IsSomeAnd o (λ g. TellsGiven Partial limits Full bytes g told)
         → not (is_some told.fault) ≡ unwrap_or (option_map (λ g. not (is_some g.fault)) o) false

@@ -1,17 +1,22 @@
 -- What a decoder gives whose header was read: the whole of its stream, or the part before a fault.
+use Rattle.std.proofs.Common.{◌⊎◌, inl, inr}
 use Rattle.std.proofs.Common.{◌≡◌, ◌∙◌, ℕ, List, Option, None, Some, Result, Ok, Err, Bool, true, false, ap, refl, subst, sym}
 use Rattle.std.specs.Prelude.{IfOk, IfSome, IsSomeAnd}
 use Rattle.std.specs.List.{concat}
-use Rattle.jpeg_bits.specs.Reading.{IsGivenUp, Outcome, ◌>>=◌}
+use Rattle.jpeg_bits.specs.Reading.{Fault, IsGivenUp, Names, Outcome, ◌>>=◌}
 use Rattle.jpeg_bits.specs.declared.error.Error.{Error}
+use Rattle.jpeg_bits.specs.declared.error.Error.TheVariants as errors
+use Rattle.jpeg_meaning.specs.Output.{IsOutsideOrMemory}
 use Rattle.jpeg_meaning.specs.Shown.{shown_ahead, whole_rows_ahead, whole_rows_rest}
-use Rattle.jpeg_meaning.specs.States.{Decoding, IsReading, ahead}
-use Rattle.jpeg_meaning.specs.Stream.{Told, told_of}
+use Rattle.jpeg_meaning.specs.States.{Decoding, IfRefused, IsReading, ahead}
+use Rattle.jpeg_meaning.specs.Stream.{Told, rest_by, told_of}
 use Rattle.jpeg_meaning.specs.declared.progress.Progress.{Progress}
 use Rattle.jpeg_meaning.specs.declared.progress.Progress.TheVariants.{HeaderRead}
 use Rattle.jpeg_decoder.specs.Decodes.{Decodes}
 use Rattle.jpeg_decoder.specs.Shows.{Shows}
-use Rattle.zaxbriar_pictures.specs.Given.{without_fault}
+use Rattle.zaxbriar_pictures.specs.Given.{given_rest, without_fault}
+use Rattle.zaxbriar_pictures.specs.Reasons.{NamesOrOutside}
+use Rattle.zaxbriar_pictures.proofs.Reasons.{answered, named-then}
 use Rattle.zaxbriar_pictures.specs.Steps.{GivesRest}
 use Rattle.zaxbriar_pictures.specs.declared.extents.Extent.TheVariants.{Partial, Whole}
 
@@ -30,6 +35,50 @@ whole-gives bytes_of old new x at d known =
       refl,
       tt,
     )
+
+-- An error of a decoder that is to give the whole names the stream's fault, or is the reader's.
+pub whole-refuses : {X : Type 0} (bytes_of : X → List ℕ) (old new : Decoding) (e : Error) → old.stage ≡ HeaderRead
+    → Decodes bytes_of old (Err e) new → old.source.known ≡ true
+    → NamesOrOutside (given_rest Whole old.settings old.found old.source.bytes) e
+whole-refuses bytes_of old new e at d known =
+    named-then e (rest_by old.settings old.found old.source.bytes) _
+    (let a = d.reads (reading old.stage at) in
+    subst (λ (p : Progress). NamesOrOutside (ahead p old.settings old.found old.source.bytes) e) at
+    (answered (ahead old.stage old.settings old.found old.source.bytes) old.source new.source e a.1 a.2 known))
+
+-- Where a read has failed the error is the reader's; else it is the one of the bytes, or says that reads were interrupted
+-- without end.
+unfailed : (e : Error) (failed : Bool) → failed ≡ false → IfRefused e ((failed ≡ true) ⊎ IsGivenUp e failed)
+    → IsOutsideOrMemory e
+unfailed (errors.Io error) failed none h = tt
+unfailed (errors.Format text) failed none (inl some) = absurd (let n : ⊥ = cc in n)
+unfailed (errors.Format text) failed none (inr h) = h
+unfailed (errors.Unsupported feature) failed none (inl some) = absurd (let n : ⊥ = cc in n)
+unfailed (errors.Unsupported feature) failed none (inr h) = absurd h
+unfailed (errors.Internal text) failed none (inl some) = absurd (let n : ⊥ = cc in n)
+unfailed (errors.Internal text) failed none (inr h) = absurd h
+unfailed errors.OutOfMemory failed none h = tt
+
+named-or : {Y : Type 0} (known failed : Bool) (e : Error) (outcome : Result Y Fault) → failed ≡ false
+    → (known ≡ true → Names e outcome) → (known ≡ false → IfRefused e ((failed ≡ true) ⊎ IsGivenUp e failed))
+    → NamesOrOutside outcome e
+named-or true failed e outcome none names given_up = inl (names refl)
+named-or false failed e outcome none names given_up = inr (unfailed e failed none (given_up refl))
+
+-- So does that of one which is to show what the bytes bring, once it is said that a read has failed.
+pub partial-refuses : {X : Type 0} (bytes_of : X → List ℕ) (fault_of : X → Option Error) (old new : Decoding)
+    (e said : Error) (failed : Bool) → old.stage ≡ HeaderRead → Shows bytes_of fault_of old (Err e) new
+    → failed ≡ new.source.failed → (failed ≡ true → IsOutsideOrMemory said) → (failed ≡ false → said ≡ e)
+    → old.source.known ≡ true → NamesOrOutside (given_rest Partial old.settings old.found old.source.bytes) said
+partial-refuses bytes_of fault_of old new e said true at d seen outside same known = inr (outside refl)
+partial-refuses bytes_of fault_of old new e said false at d seen outside same known =
+    let now = reading old.stage at in
+    let rest = given_rest Partial old.settings old.found old.source.bytes in
+    let shows : new.source.known ≡ true → Names e rest =
+    (λ still. subst (λ (p : Progress). Names e (shown_ahead p old.settings old.found old.source.bytes)) at
+    (d.shown now known still)) in
+    subst (λ (x : Error). NamesOrOutside rest x) (sym (same refl))
+    (named-or new.source.known new.source.failed e rest (sym seen) shows (λ gone. d.given_up now known gone))
 
 -- A reader that didn't give up is still known.
 still-known : (known : Bool) (fault : Option Error) (failed : Bool)

@@ -7,13 +7,14 @@ use Rattle.std.proofs.lemmas.List.{drop_at, take_at}
 use Rattle.std.specs.List.{concat}
 use Rattle.std.specs.Prelude.{slice_index_or}
 use Rattle.jpeg_segments.specs.Frame.{Frame}
-use Rattle.jpeg_meaning.specs.Pixels.{info_of}
+use Rattle.jpeg_meaning.specs.Pixels.{info_by, samples_shown}
+use Rattle.jpeg_meaning.specs.declared.settings.Settings.{Settings}
 use Rattle.jpeg_meaning.specs.States.{Decoding}
 use Rattle.jpeg_meaning.specs.declared.images.ImageInfo.{ImageInfo}
 use Rattle.jpeg_meaning.specs.declared.images.PixelFormat.{PixelFormat}
 use Rattle.jpeg_meaning.specs.declared.images.PixelFormat.TheVariants.{L8, L16, RGB24, CMYK32}
-use Rattle.jpeg_decoder.specs.Bytes.{AreLinesOf, HaveBytes, IsCounted, bytes_a_sample, frame_shape}
-use Rattle.jpeg_decoder.specs.Bytes.{samples_a_pixel, shape_in}
+use Rattle.jpeg_decoder.specs.Bytes.{AreLinesOf, HaveBytes, IsCounted, bytes_a_sample}
+use Rattle.jpeg_decoder.specs.Bytes.{samples_a_pixel, shape_in, shape_of}
 use Rattle.zaxbriar_samples.specs.Boxes.{components_a_pixel}
 use Rattle.zaxbriar_samples.specs.Png.{line_bytes}
 use Rattle.zaxbriar_samples.specs.Samples.{is_wide}
@@ -70,25 +71,26 @@ same-size info samples precision counted =
     rw (count, sample-size precision)
     (sym (mul_assoc info.width (components_a_pixel info.pixel_format) (if is_wide precision then 2 else 1)))
 
-of-frame : (f : Frame) (lines : List (List ℕ)) → AreLinesOf (Some (frame_shape f)) lines
-    → IsCounted (Some (frame_shape f)) → HasLinesOf (info_of f) f.precision lines
+of-frame : (settings : Settings) (f : Frame) (lines : List (List ℕ)) → AreLinesOf (Some (shape_of settings f)) lines
+    → IsCounted (Some (shape_of settings f)) → HasLinesOf (info_by settings f) f.precision lines
 unfolding shape.line_bytes
-of-frame f lines are counted = record {
+of-frame settings f lines are counted = record {
   height = are.0;
   bytes = subst (λ (n : ℕ). HaveBytes n lines)
-      (same-size (info_of f) (length f.components) f.precision counted) are.1;
+      (same-size (info_by settings f) (samples_shown settings f) f.precision counted) are.1;
 }
 
 pub lines-of-frame : (d : Decoding) (info : ImageInfo) (precision : ℕ) (lines : List (List ℕ))
     → AreLinesOf (shape_in d) lines → IsCounted (shape_in d)
-    → option_map info_of d.found.said.frame ≡ Some info
+    → option_map (info_by d.settings) d.found.said.frame ≡ Some info
     → option_map (λ f. f.precision) d.found.said.frame ≡ Some precision → HasLinesOf info precision lines
 lines-of-frame d info precision lines are counted i p = go d.found.said.frame are counted i p
   where
-    go : (frame : Option Frame) → AreLinesOf (option_map frame_shape frame) lines
-        → IsCounted (option_map frame_shape frame) → option_map info_of frame ≡ Some info
+    go : (frame : Option Frame) → AreLinesOf (option_map (shape_of d.settings) frame) lines
+        → IsCounted (option_map (shape_of d.settings) frame) → option_map (info_by d.settings) frame ≡ Some info
         → option_map (λ f. f.precision) frame ≡ Some precision → HasLinesOf info precision lines
     go None are counted i p = absurd (let n : ⊥ = cc in n)
     go (Some f) are counted i p =
-        subst (λ (k : ImageInfo). HasLinesOf k precision lines) (some-same (info_of f) info i)
-        (subst (λ (k : ℕ). HasLinesOf (info_of f) k lines) (some-same f.precision precision p) (of-frame f lines are counted))
+        subst (λ (k : ImageInfo). HasLinesOf k precision lines) (some-same (info_by d.settings f) info i)
+        (subst (λ (k : ℕ). HasLinesOf (info_by d.settings f) k lines) (some-same f.precision precision p)
+        (of-frame d.settings f lines are counted))

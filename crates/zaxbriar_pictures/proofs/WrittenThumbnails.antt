@@ -8,7 +8,7 @@ use Rattle.zaxbriar_files.specs.declared.limits.Limits.{Limits}
 use Rattle.zaxbriar_pictures.specs.Given.{Given, IsGiven, complete_rows, given_at_scale}
 use Rattle.zaxbriar_samples.specs.DecodedPictures.{Decoded}
 use Rattle.zaxbriar_pictures.specs.ScaledPictures.{header_exif, header_info}
-use Rattle.zaxbriar_samples.specs.Sizes.{orientation_for, scale_of_request, size_for}
+use Rattle.zaxbriar_samples.specs.Sizes.{luma_for, orientation_for, scale_of_request, size_for}
 use Rattle.zaxbriar_pictures.specs.Thumbnails.{TellsOfFile, WritesThumbnail, file_rows}
 use Rattle.zaxbriar_samples.specs.Turns.{upright}
 use Rattle.zaxbriar_pictures.specs.declared.extents.Completeness.{Completeness}
@@ -31,20 +31,20 @@ moved format before after made p same h = rw (← same) h
 pub written : (extent : Extent) (limits : Limits) (request : Request) (format : PictureFormat) (bytes : List ℕ) (before after : Option (List ℕ)) (scale : Scale)
     (size : Dimensions) (orientation rows : ℕ) (p smaller made : Decoded) (told : Completeness)
     → orientation ≡ orientation_for request (header_exif bytes)
-    → IsGiven extent limits scale bytes p rows told.fault
+    → IsGiven extent (luma_for request) limits scale bytes p rows told.fault
     → told.whole_rows ≡ file_rows scale told.info.height p.info.height rows
-    → IsSomeAnd (header_info bytes)
+    → IsSomeAnd (header_info (luma_for request) bytes)
     (λ full. (told.info ≡ full) × (scale ≡ scale_of_request request full orientation)
     × (size ≡ size_for request full orientation))
     → smaller ≡ boxed size p → made ≡ upright orientation smaller
     → IsSomeAnd (file_as format made) (Appends before after)
     → WritesThumbnail extent limits request format bytes before after told
 written extent limits request format bytes before after scale size orientation rows p smaller made told turn is counted chosen less same appended =
-    let header = held (header_info bytes) _ chosen in
+    let header = held (header_info (luma_for request) bytes) _ chosen in
     let full = header.0 in
-    let gives = held (given_at_scale extent limits scale bytes) _ is in
+    let gives = held (given_at_scale extent (luma_for request) limits scale bytes) _ is in
     let g : Given = gives.0 in
-    let at_scale : given_at_scale extent limits (scale_of_request request full orientation) bytes ≡ Some g
+    let at_scale : given_at_scale extent (luma_for request) limits (scale_of_request request full orientation) bytes ≡ Some g
     = rw (← header.2.1) gives.1 in
     let known : made ≡ upright orientation (boxed (size_for request full orientation) g.picture)
     = same ∙ ap (upright orientation) (less ∙ ap (λ (s : Dimensions). boxed s p) header.2.2

@@ -5,22 +5,22 @@ use Rattle.jpeg_segments.specs.Frame.{Frame}
 use Rattle.jpeg_segments.specs.Scales.{scaled}
 use Rattle.jpeg_segments.specs.declared.frame.Dimensions.{Dimensions}
 use Rattle.jpeg_meaning.specs.Found.{Found}
-use Rattle.jpeg_meaning.specs.Output.{default_settings}
-use Rattle.jpeg_meaning.specs.Pixels.{info_of}
+use Rattle.jpeg_meaning.specs.Pixels.{info_by}
 use Rattle.jpeg_meaning.specs.Stream.{header_at}
 use Rattle.jpeg_meaning.specs.declared.images.ImageInfo.{ImageInfo}
 use Rattle.jpeg_decoder.specs.Bytes.{decoding_bytes}
 use Rattle.jpeg_decoder.specs.declared.sizes.DecodingBytes.{DecodingBytes}
 use Rattle.zaxbriar_files.specs.Limits.{is_allowed}
 use Rattle.zaxbriar_files.specs.declared.limits.Limits.{Limits}
-use Rattle.zaxbriar_samples.specs.Sizes.{orientation_by, orientation_for, scale_of_request}
-use Rattle.zaxbriar_samples.specs.Sizes.{size_for}
+use Rattle.zaxbriar_samples.specs.Sizes.{luma_for, orientation_by, orientation_for}
+use Rattle.zaxbriar_samples.specs.Sizes.{scale_of_request, size_for}
 use Rattle.zaxbriar_samples.specs.Turns.{bytes_of}
 use Rattle.zaxbriar_samples.specs.declared.files.PictureFormat.{PictureFormat}
 use Rattle.zaxbriar_samples.specs.declared.files.PictureFormat.TheVariants.{Netpbm, Png}
 use Rattle.zaxbriar_samples.specs.declared.requests.Request.{Request}
 use Rattle.zaxbriar_samples.specs.declared.requests.Request.TheVariants.{At, Within}
 use Rattle.zaxbriar_samples.specs.declared.requests.Upright.{Upright}
+use Rattle.zaxbriar_pictures.specs.ScaledPictures.{settings_for}
 
 -- a sum of bytes, as far as 64 bits count them
 abbrev pub together : ℕ → ℕ → ℕ
@@ -56,16 +56,16 @@ is_by_lines Png precision orientation = orientation == 1
 -- the one that is decoded.
 unfoldable pub taken_for : Request → PictureFormat → ImageInfo → Frame → Dimensions → ℕ → ℕ
 taken_for (At at) format full f size orientation =
-    let bytes = decoding_bytes default_settings f in
+    let bytes = decoding_bytes (settings_for at.luma) f in
     if is_by_lines format f.precision orientation then taken_in_lines bytes
     else taken_held orientation bytes
 taken_for (Within most upright) format full f size orientation =
-    together (decoding_bytes default_settings f).peak (made_bytes size full f.precision)
+    together (decoding_bytes (settings_for false) f).peak (made_bytes size full f.precision)
 
 -- whether the limits allow the pixels of a frame, and what a request takes of it
 abbrev pub allows_frame : Request → PictureFormat → Limits → Found → Frame → Bool
 allows_frame request format limits header f =
-    let full = info_of f in
+    let full = info_by (settings_for (luma_for request)) f in
     let orientation = orientation_for request header.said.metadata.exif in
     is_allowed limits full.width full.height (taken_for request format full
     (scaled (scale_of_request request full orientation) f) (size_for request full orientation)
@@ -80,14 +80,15 @@ allows request format limits bytes = elim (header_at bytes) [
 ]
 
 -- Whether the limits allow the pixels of a stream, and what is taken for the bytes of its picture.
-abbrev pub allows_bytes : Upright → Limits → Found → Frame → Bool
-allows_bytes turning limits header f = is_allowed limits f.output_width f.output_height
+abbrev pub allows_bytes : Bool → Upright → Limits → Found → Frame → Bool
+allows_bytes luma turning limits header f = is_allowed limits f.output_width f.output_height
     (taken_raw (orientation_by turning header.said.metadata.exif)
-    (decoding_bytes default_settings f))
+    (decoding_bytes (settings_for luma) f))
 
-unfoldable pub allows_raw : Upright → Limits → List ℕ → Bool
-allows_raw turning limits bytes = elim (header_at bytes) [
+unfoldable pub allows_raw : Bool → Upright → Limits → List ℕ → Bool
+allows_raw luma turning limits bytes = elim (header_at bytes) [
   | Ok header ↦
-      unwrap_or (option_map (allows_bytes turning limits header.0) header.0.said.frame) false
+      unwrap_or (option_map (allows_bytes luma turning limits header.0) header.0.said.frame)
+      false
   | Err fault ↦ false
 ]

@@ -4,17 +4,20 @@ use Rattle.std.specs.Prelude.{◌≡◌, ℕ, List, Ok, Option, Some, option_map
 use Rattle.std.specs.Io.KnownBytes.{Appends}
 use Rattle.jpeg_bits.specs.declared.error.Error.{Error}
 use Rattle.jpeg_meaning.specs.Found.{Found, with_said}
-use Rattle.jpeg_meaning.specs.Pixels.{info_of}
+use Rattle.jpeg_meaning.specs.Pixels.{info_by}
 use Rattle.jpeg_meaning.specs.Shown.{Shown}
 use Rattle.jpeg_meaning.specs.States.{Decoding}
 use Rattle.jpeg_meaning.specs.Stream.{header_at, scaled_to, told_of}
 use Rattle.jpeg_meaning.specs.declared.progress.Progress.TheVariants.{HeaderRead}
 use Rattle.jpeg_decoder.specs.Reaching.{NamesFault}
 use Rattle.zaxbriar_files.specs.declared.limits.Limits.{Limits}
+use Rattle.zaxbriar_files.specs.declared.refusal.Refusal.{Refusal}
 use Rattle.zaxbriar_pictures.specs.Given.{complete_rest, given_rest, settings_within}
+use Rattle.zaxbriar_pictures.specs.Reasons.{IsReason, LacksColours}
+use Rattle.zaxbriar_pictures.specs.ScaledPictures.{settings_for}
 use Rattle.zaxbriar_samples.specs.DecodedPictures.{Decoded}
 use Rattle.zaxbriar_samples.specs.Files.{file_as}
-use Rattle.zaxbriar_samples.specs.Sizes.{orientation_for, scale_of_request, size_for}
+use Rattle.zaxbriar_samples.specs.Sizes.{luma_for, orientation_for, scale_of_request, size_for}
 use Rattle.zaxbriar_samples.specs.Turns.{upright}
 use Rattle.zaxbriar_pictures.specs.declared.extents.Completeness.{Completeness}
 use Rattle.zaxbriar_pictures.specs.declared.extents.Extent.{Extent}
@@ -24,8 +27,9 @@ use Rattle.zaxbriar_samples.specs.declared.requests.Request.{Request}
 
 -- A choice is the one for a request, by what a header says.
 pub record IsChoice (request : Request) (header : Found) (choice : Choice) : Type 0 where
-  pub sized : IsSomeAnd (option_map info_of header.said.frame) (λ full.
-      (choice.full ≡ full) × (choice.scale ≡ scale_of_request request full choice.orientation)
+  pub sized : IsSomeAnd (option_map (info_by (settings_for (luma_for request)))
+      header.said.frame) (λ full. (choice.full ≡ full)
+      × (choice.scale ≡ scale_of_request request full choice.orientation)
       × (choice.size ≡ size_for request full choice.orientation))
   pub turned : choice.orientation ≡ orientation_for request header.said.metadata.exif
 
@@ -34,7 +38,7 @@ pub record IsChoice (request : Request) (header : Found) (choice : Choice) : Typ
 pub record ReadsForRequest (request : Request) (limits : Limits) (choice : Choice)
     (old new : Decoding) : Type 0 where
   pub stage : new.stage ≡ HeaderRead
-  pub settings : new.settings ≡ settings_within limits new.found
+  pub settings : new.settings ≡ settings_within (luma_for request) limits new.found
   pub reads : old.source.known ≡ true → (new.source.known ≡ true) × ((header : Found)
       × (header_at old.source.bytes ≡ Ok (header, new.source.bytes))
       × (new.found ≡ with_said (scaled_to choice.scale) header)
@@ -50,16 +54,22 @@ GivesRest extent old new samples fault = old.source.known ≡ true → (s : Show
 -- Such a decoder has counted the complete rows of what it gave, which has this height.
 abbrev pub CountsRest : Extent → Decoding → ℕ → ℕ → Type 0
 CountsRest extent old height rows = old.source.known ≡ true
-    → rows ≡ complete_rest extent old.settings old.found old.source.bytes height
+    → rows ≡ complete_rest extent old.settings.max_blocks old.found old.source.bytes height
 
 -- Such a decoder has given a picture, and has told how much of it is complete.
 pub record GivesPicture (extent : Extent) (old new : Decoding) (picture : Decoded)
     (told : Completeness) : Type 0 where
   pub rest : GivesRest extent old new picture.pixels told.fault
-  pub info_is : option_map info_of new.found.said.frame ≡ Some picture.info
+  pub info_is : option_map (info_by old.settings) new.found.said.frame ≡ Some picture.info
   pub precision_is : option_map (λ f. f.precision) new.found.said.frame ≡ Some picture.precision
   pub told_is : told.info ≡ picture.info
   pub rows : CountsRest extent old told.info.height told.whole_rows
+
+-- Nothing of what the rest gives was written, by its settings.
+abbrev pub RefusesFile : Extent → PictureFormat → Decoding → Refusal → Type 0
+RefusesFile extent format old =
+    let rest = given_rest extent old.settings old.found old.source.bytes in
+    IsReason rest true (LacksColours format old.settings rest)
 
 -- Such a decoder has given a picture, and a writer has got its file in a format that has one, once
 -- it was turned upright by an orientation.

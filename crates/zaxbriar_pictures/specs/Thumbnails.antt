@@ -9,7 +9,7 @@ use Rattle.jpeg_segments.specs.declared.scale.Scale.TheVariants.{Eighth, Quarter
 use Rattle.zaxbriar_files.specs.declared.limits.Limits.{Limits}
 use Rattle.zaxbriar_pictures.specs.Given.{Given, complete_rows, given_at_scale}
 use Rattle.zaxbriar_pictures.specs.ScaledPictures.{header_exif, header_info}
-use Rattle.zaxbriar_samples.specs.Sizes.{orientation_for, scale_of_request, size_for}
+use Rattle.zaxbriar_samples.specs.Sizes.{luma_for, orientation_for, scale_of_request, size_for}
 use Rattle.zaxbriar_pictures.specs.declared.extents.Completeness.{Completeness}
 use Rattle.zaxbriar_pictures.specs.declared.extents.Extent.{Extent}
 use Rattle.zaxbriar_samples.specs.declared.files.PictureFormat.{PictureFormat}
@@ -49,8 +49,9 @@ abbrev pub WritesThumbnail : Extent → Limits → Request → PictureFormat →
     → Option (List ℕ) → Option (List ℕ) → Completeness → Type 0
 WritesThumbnail extent limits request format bytes before after told =
     let orientation = orientation_for request (header_exif bytes) in
-    (full : ImageInfo) × (g : Given) × (header_info bytes ≡ Some full)
-    × (given_at_scale extent limits (scale_of_request request full orientation) bytes ≡ Some g)
+    (full : ImageInfo) × (g : Given) × (header_info (luma_for request) bytes ≡ Some full)
+    × (given_at_scale extent (luma_for request) limits
+    (scale_of_request request full orientation) bytes ≡ Some g)
     × IsSomeAnd
     (file_as format (upright orientation (boxed (size_for request full orientation) g.picture)))
     (Appends before after)

@@ -2,12 +2,13 @@
 //!
 //! A stream is whole where the picture of its blocks is there to the end of the image, without any
 //! fault. Bytes after that end make no difference.
-ghost use Rattle.std.specs.Prelude.{◌≡◌, List, ℕ, IfOk, is_some, not, true};
+ghost use Rattle.std.specs.Prelude.{◌≡◌, List, ℕ, IfErr, IfOk, false, is_some, not, true};
 ghost use Rattle.jpeg_meaning.specs.Output.{Tells, default_settings};
 ghost use Rattle.jpeg_meaning.specs.declared.progress.Progress.TheVariants.{Fresh};
 ghost use Rattle.jpeg_segments.specs.declared.scale.Scale.TheVariants.{Full};
 ghost use Rattle.zaxbriar_pictures.specs.Allowed.{allows};
-ghost use Rattle.zaxbriar_pictures.specs.Given.{TellsOfStream, is_whole};
+ghost use Rattle.zaxbriar_pictures.specs.Given.{TellsOfStream, is_whole, shown_at_scale};
+ghost use Rattle.zaxbriar_pictures.specs.Reasons.{IsReason};
 ghost use Rattle.zaxbriar_pictures.specs.declared.extents.Extent.TheVariants.{Partial};
 ghost use Rattle.zaxbriar_samples.specs.declared.files.PictureFormat.TheVariants.{Netpbm};
 ghost use Rattle.zaxbriar_samples.specs.Sizes.{stored_at};
@@ -35,10 +36,14 @@ fn check_decoder<R: Read + Drop>(
         → IfOk result (TellsOfStream limits decoder.old.source.bytes) }
     ensures limited { decoder.old.source.known ≡ true → IfOk result
         (λ _. allows (At (stored_at Full)) Netpbm limits decoder.old.source.bytes ≡ true) }
+    ensures refused { decoder.old.source.known ≡ true → IfErr result (IsReason
+        (shown_at_scale Partial false limits Full decoder.old.source.bytes)
+        (allows (At (stored_at Full)) Netpbm limits decoder.old.source.bytes) ⊥) }
 {
     let at = AtScale {
         scale: Scale::Full,
         upright: Upright::AsStored,
+        luma: false,
     };
     choose(decoder, Request::At(at), PictureFormat::Netpbm, limits)?;
     let shown = decode_wanted_lines(decoder, Extent::Partial)?;
@@ -71,6 +76,12 @@ pub fn check_stream<R: Read + Drop>(
     // A picture that has or takes more than the limits allow is refused.
     ensures limited { (bytes : List ℕ) → Tells (R.remaining reader) bytes
         → IfOk result (λ _. allows (At (stored_at Full)) Netpbm limits bytes ≡ true) }
+
+    // A refusal names the fault for which nothing is shown, or a limit that the stream is above, or
+    // is one of the reader, or out of memory.
+    ensures refused { (bytes : List ℕ) → Tells (R.remaining reader) bytes → IfErr result (IsReason
+        (shown_at_scale Partial false limits Full bytes)
+        (allows (At (stored_at Full)) Netpbm limits bytes) ⊥) }
 {
     let mut decoder = Decoder::with_capacity(alloc, READ_AHEAD, reader)?;
     check_decoder(&mut decoder, limits)

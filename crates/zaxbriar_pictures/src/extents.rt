@@ -1,11 +1,15 @@
 //! How much of a stream's picture is decoded: the whole, or what a stream that has a fault has
 //! brought up to it.
-ghost use Rattle.std.specs.Prelude.{◌≡◌, IfOk, IfSome, Some, is_some, not, option_map, true};
+ghost use Rattle.std.specs.Prelude.{◌≡◌, IfErr, IfOk, IfSome, Some, false, is_some, not};
+ghost use Rattle.std.specs.Prelude.{option_map, true};
 ghost use Rattle.std.specs.List.{concat};
 ghost use Rattle.jpeg_bits.specs.Reading.{IsGivenUp};
 ghost use Rattle.jpeg_decoder.specs.Bytes.{AreLinesOf, IsCounted, shape_in};
-ghost use Rattle.jpeg_meaning.specs.Pixels.{info_of};
+ghost use Rattle.jpeg_meaning.specs.Output.{IsOutsideOrMemory};
+ghost use Rattle.jpeg_meaning.specs.Pixels.{info_by};
 ghost use Rattle.jpeg_meaning.specs.declared.progress.Progress.TheVariants.{HeaderRead};
+ghost use Rattle.zaxbriar_pictures.specs.Given.{given_rest};
+ghost use Rattle.zaxbriar_pictures.specs.Reasons.{NamesOrOutside};
 ghost use Rattle.zaxbriar_pictures.specs.Steps.{CountsRest, GivesPicture, GivesRest};
 ghost use Rattle.zaxbriar_samples.specs.DecodedPictures.{decoded_in};
 ghost use Rattle.zaxbriar_pictures.specs.declared.extents.Extent.TheVariants.{Partial, Whole};
@@ -14,7 +18,8 @@ ghost use Rattle.jpeg_meaning.specs.Shown.{whole_rows_rest};
 use jpeg_decoder::error::{Error, Result};
 use jpeg_decoder::{Decoder, ImageInfo, PartialLines};
 use std::alloc::Global;
-use std::io::Read;
+use std::io;
+use std::io::{ErrorKind, Read};
 use zaxbriar_samples::netpbm::Picture;
 
 /// How much of a stream's picture is wanted.
@@ -64,6 +69,7 @@ fn is_of_reader(fault: &Error, has_failed: bool) -> bool
 fn refuse_of_reader(shown: PartialLines, has_failed: bool) -> Result<PartialLines>
     ensures same { IfOk result (λ p. p ≡ shown) }
     ensures of_bytes { IfOk result (λ p. IfSome p.fault (λ e. IsGivenUp e has_failed → ⊥)) }
+    ensures refused { IfErr result IsOutsideOrMemory }
 {
     let PartialLines {
         lines,
@@ -80,6 +86,24 @@ fn refuse_of_reader(shown: PartialLines, has_failed: bool) -> Result<PartialLine
     }
 }
 
+/// Returns why nothing is shown: after a read that has failed, that it has, and no fault of the
+/// bytes before it.
+fn reason_after(error: Error, has_failed: bool) -> Error
+    ensures failed { has_failed ≡ true → IsOutsideOrMemory result }
+    ensures same { has_failed ≡ false → result ≡ error }
+{
+    match error {
+        Error::Io(_) | Error::OutOfMemory => error,
+        Error::Format(_) | Error::Unsupported(_) | Error::Internal(_) => {
+            if has_failed {
+                Error::Io(io::Error::new(ErrorKind::Other, "a read has failed"))
+            } else {
+                error
+            }
+        }
+    }
+}
+
 /// Decodes the stream of a decoder, whose header was read, up to its first fault. A read that fails
 /// is an error.
 fn decode_partial<R: Read + Drop>(decoder: &mut Decoder<R>) -> Result<PartialLines>
@@ -92,9 +116,16 @@ fn decode_partial<R: Read + Drop>(decoder: &mut Decoder<R>) -> Result<PartialLin
     ensures framed { IfOk result (λ _. is_some decoder.new.found.said.frame ≡ true) }
     ensures lines { IfOk result (λ p. AreLinesOf (shape_in decoder.new) p.lines) }
     ensures counted { IfOk result (λ _. IsCounted (shape_in decoder.new)) }
+    ensures refused { decoder.old.source.known ≡ true → IfErr result (NamesOrOutside
+        (given_rest Partial decoder.old.settings decoder.old.found decoder.old.source.bytes)) }
+    ensures settings { decoder.new.settings ≡ decoder.old.settings }
 {
-    let shown = decoder.decode_partial_lines()?;
-    refuse_of_reader(shown, decoder.has_read_failed())
+    let decoded = decoder.decode_partial_lines();
+    let has_failed = decoder.has_read_failed();
+    match decoded {
+        Ok(shown) => refuse_of_reader(shown, has_failed),
+        Err(error) => Err(reason_after(error, has_failed)),
+    }
 }
 
 /// Decodes the whole stream of a decoder, whose header was read.
@@ -103,11 +134,14 @@ fn decode_whole<R: Read + Drop>(decoder: &mut Decoder<R>) -> Result<PartialLines
     ensures gives { IfOk result
         (λ p. GivesRest Whole decoder.old decoder.new (concat p.lines) p.fault) }
     ensures rows { IfOk result (λ p. (info : ImageInfo)
-        → option_map info_of decoder.new.found.said.frame ≡ Some info
+        → option_map (info_by decoder.old.settings) decoder.new.found.said.frame ≡ Some info
         → p.whole_rows ≡ info.height) }
     ensures framed { IfOk result (λ _. is_some decoder.new.found.said.frame ≡ true) }
     ensures lines { IfOk result (λ p. AreLinesOf (shape_in decoder.new) p.lines) }
     ensures counted { IfOk result (λ _. IsCounted (shape_in decoder.new)) }
+    ensures refused { decoder.old.source.known ≡ true → IfErr result (NamesOrOutside
+        (given_rest Whole decoder.old.settings decoder.old.found decoder.old.source.bytes)) }
+    ensures settings { decoder.new.settings ≡ decoder.old.settings }
 {
     let lines = decoder.decode_lines()?;
     let info = decoder.info().unwrap();
@@ -129,11 +163,14 @@ pub(crate) fn decode_wanted_lines<R: Read + Drop>(
     ensures gives { IfOk result
         (λ p. GivesRest extent decoder.old decoder.new (concat p.lines) p.fault) }
     ensures rows { IfOk result (λ p. (info : ImageInfo)
-        → option_map info_of decoder.new.found.said.frame ≡ Some info
+        → option_map (info_by decoder.old.settings) decoder.new.found.said.frame ≡ Some info
         → CountsRest extent decoder.old info.height p.whole_rows) }
     ensures framed { IfOk result (λ _. is_some decoder.new.found.said.frame ≡ true) }
     ensures lines { IfOk result (λ p. AreLinesOf (shape_in decoder.new) p.lines) }
     ensures counted { IfOk result (λ _. IsCounted (shape_in decoder.new)) }
+    ensures refused { decoder.old.source.known ≡ true → IfErr result (NamesOrOutside
+        (given_rest extent decoder.old.settings decoder.old.found decoder.old.source.bytes)) }
+    ensures settings { decoder.new.settings ≡ decoder.old.settings }
 {
     match extent {
         Extent::Whole => decode_whole(decoder),
@@ -149,7 +186,10 @@ pub(crate) fn decode_wanted_picture<R: Read + Drop>(
     extent: Extent,
 ) -> Result<(Picture, Completeness)>
     requires header { decoder.old.stage ≡ HeaderRead }
-    ensures { IfOk result (λ p. GivesPicture extent decoder.old decoder.new (decoded_in p.0) p.1) }
+    ensures gives { IfOk result
+        (λ p. GivesPicture extent decoder.old decoder.new (decoded_in p.0) p.1) }
+    ensures refused { decoder.old.source.known ≡ true → IfErr result (NamesOrOutside
+        (given_rest extent decoder.old.settings decoder.old.found decoder.old.source.bytes)) }
 {
     let decoded = decode_wanted_lines(decoder, extent)?;
     let info = decoder.info().unwrap();

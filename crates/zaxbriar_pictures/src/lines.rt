@@ -2,9 +2,11 @@
 //!
 //! They are written as the decoder gives them, so that no picture is in memory as a whole, unless
 //! it is turned, or its greatest sample has to be known first.
-ghost use Rattle.std.specs.Prelude.{◌≡◌, IfOk, OnOk, IsSomeAnd, length, true};
+ghost use Rattle.std.specs.Prelude.{◌≡◌, IfErr, MatchResult, OnOk, IsSomeAnd, length, true};
 ghost use Rattle.std.specs.List.{concat};
 ghost use Rattle.std.specs.Io.KnownBytes.{Appends};
+ghost use Rattle.jpeg_bits.specs.declared.error.Error.TheVariants.{OutOfMemory};
+ghost use Rattle.jpeg_meaning.specs.Output.{IsOutsideOrMemory};
 ghost use Rattle.jpeg_decoder.specs.Bytes.{HaveBytes};
 ghost use Rattle.zaxbriar_pictures.specs.Allowed.{is_by_lines};
 ghost use Rattle.zaxbriar_samples.specs.DecodedPictures.{decoded, decoded_in};
@@ -46,10 +48,11 @@ pub(crate) fn is_by_lines(format: PictureFormat, precision: u8, orientation: u8)
     }
 }
 
-/// Returns the picture of these lines, turned upright.
+/// Returns the picture of these lines, turned upright. The only error is `OutOfMemory`.
 pub(crate) fn upright_of(alloc: Global, stored: Stored, lines: Lines) -> Result<Picture>
-    ensures { IfOk result (λ made. decoded_in made
-        ≡ upright stored.orientation (decoded stored.info stored.precision (concat lines))) }
+    ensures { MatchResult result (λ made. decoded_in made
+        ≡ upright stored.orientation (decoded stored.info stored.precision (concat lines)))
+        (λ e. e ≡ OutOfMemory) }
 {
     let pixels = lines.into_picture(alloc)?;
     let picture = Picture {
@@ -67,8 +70,9 @@ fn write_netpbm<W: Write>(
     mut lines: Lines,
     writer: &mut W,
 ) -> Result<()>
-    ensures { OnOk result (Appends (W.contents writer.old) (W.contents writer.new)
+    ensures written { OnOk result (Appends (W.contents writer.old) (W.contents writer.new)
         (file_of info 8 (concat lines))) }
+    ensures refused { IfErr result IsOutsideOrMemory }
 {
     let header = header(alloc, info, 255)?;
     write_lines(alloc, header.as_bytes(), &mut lines, writer)
@@ -85,8 +89,9 @@ fn write_png<W: Write>(
     requires pixels { has_png info.pixel_format ≡ true }
     requires height { length lines ≡ info.height }
     requires bytes { HaveBytes (line_bytes info precision) lines }
-    ensures { OnOk result (Appends (W.contents writer.old) (W.contents writer.new)
+    ensures written { OnOk result (Appends (W.contents writer.old) (W.contents writer.new)
         (png_of info precision (concat lines))) }
+    ensures refused { IfErr result IsOutsideOrMemory }
 {
     let mut line = vec![in alloc; 0; lines.line_bytes()]?;
     let mut file = PngFile::begin(alloc, info, precision, writer)?;
@@ -109,9 +114,10 @@ pub(crate) fn write_file<W: Write>(
     requires pixels { has_pixels format stored.info.pixel_format ≡ true }
     requires height { length lines ≡ stored.info.height }
     requires bytes { HaveBytes (line_bytes stored.info stored.precision) lines }
-    ensures { OnOk result (IsSomeAnd (file_as format
+    ensures written { OnOk result (IsSomeAnd (file_as format
         (upright stored.orientation (decoded stored.info stored.precision (concat lines))))
         (Appends (W.contents writer.old) (W.contents writer.new))) }
+    ensures refused { IfErr result IsOutsideOrMemory }
 {
     if !is_by_lines(format, stored.precision, stored.orientation) {
         let picture = upright_of(alloc, stored, lines)?;

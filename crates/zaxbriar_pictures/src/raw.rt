@@ -1,15 +1,17 @@
 //! The bytes of a stream's picture, as the program `jpegraw` writes them, or turned upright.
-ghost use Rattle.std.specs.Prelude.{◌≡◌, ℕ, List, Some, IfOk, IfSome, OnOk, IsSomeAnd};
+ghost use Rattle.std.specs.Prelude.{◌≡◌, ℕ, List, Some, IfErr, IfOk, IfSome, OnOk, IsSomeAnd};
 ghost use Rattle.std.specs.Prelude.{string_bytes, true};
 ghost use Rattle.std.specs.List.{concat};
 ghost use Rattle.std.specs.Io.KnownBytes.{Appends};
 ghost use Rattle.jpeg_decoder.specs.Bytes.{decoding_bytes};
-ghost use Rattle.jpeg_meaning.specs.Output.{Tells, default_settings, header_line_of, name_of};
+ghost use Rattle.jpeg_meaning.specs.Output.{IsOutsideOrMemory, Tells, header_line_of, name_of};
 ghost use Rattle.jpeg_meaning.specs.States.{HasHeader};
 ghost use Rattle.jpeg_meaning.specs.declared.progress.Progress.TheVariants.{Fresh};
 ghost use Rattle.zaxbriar_pictures.specs.Allowed.{allows_raw, taken_raw};
 ghost use Rattle.zaxbriar_pictures.specs.Given.{CodesWithin};
 ghost use Rattle.zaxbriar_pictures.specs.Raw.{raw_bytes, raw_of};
+ghost use Rattle.zaxbriar_pictures.specs.Reasons.{IsReason, meaning_within_limits};
+ghost use Rattle.zaxbriar_pictures.specs.ScaledPictures.{settings_for};
 ghost use Rattle.zaxbriar_samples.specs.DecodedPictures.{decoded};
 ghost use Rattle.zaxbriar_samples.specs.Turns.{upright};
 
@@ -66,8 +68,10 @@ fn write_turned<W: Write>(
     lines: Lines,
     writer: &mut W,
 ) -> error::Result<()>
-    ensures { OnOk result (Appends (W.contents writer.old) (W.contents writer.new) (raw_bytes
-        (upright stored.orientation (decoded stored.info stored.precision (concat lines))))) }
+    ensures written { OnOk result (Appends (W.contents writer.old) (W.contents writer.new)
+        (raw_bytes (upright stored.orientation
+        (decoded stored.info stored.precision (concat lines))))) }
+    ensures refused { IfErr result IsOutsideOrMemory }
 {
     let picture = upright_of(alloc, stored, lines)?;
     let line = header_line(alloc, picture.info)?;
@@ -83,8 +87,10 @@ fn write_pixels<W: Write>(
     mut lines: Lines,
     writer: &mut W,
 ) -> error::Result<()>
-    ensures { OnOk result (Appends (W.contents writer.old) (W.contents writer.new) (raw_bytes
-        (upright stored.orientation (decoded stored.info stored.precision (concat lines))))) }
+    ensures written { OnOk result (Appends (W.contents writer.old) (W.contents writer.new)
+        (raw_bytes (upright stored.orientation
+        (decoded stored.info stored.precision (concat lines))))) }
+    ensures refused { IfErr result IsOutsideOrMemory }
 {
     if stored.orientation != 1 {
         return write_turned(alloc, stored, lines, writer);
@@ -103,14 +109,17 @@ fn write_decoded<R: Read + Drop, W: Write>(
     writer: &mut W,
 ) -> Result<(), Refusal>
     requires fresh { decoder.old.stage ≡ Fresh }
-    requires plain { decoder.old.settings ≡ default_settings }
+    requires plain { decoder.old.settings ≡ settings_for decoder.old.settings.luma }
     ensures written { decoder.old.source.known ≡ true
-        → OnOk result (IsSomeAnd (raw_of turning decoder.old.source.bytes) (Appends
-        (W.contents writer.old) (W.contents writer.new))) }
-    ensures limited { decoder.old.source.known ≡ true
-        → OnOk result (allows_raw turning limits decoder.old.source.bytes ≡ true) }
+        → OnOk result (IsSomeAnd (raw_of decoder.old.settings.luma turning
+        decoder.old.source.bytes) (Appends (W.contents writer.old) (W.contents writer.new))) }
+    ensures limited { decoder.old.source.known ≡ true → OnOk result
+        (allows_raw decoder.old.settings.luma turning limits decoder.old.source.bytes ≡ true) }
     ensures bounded { decoder.old.source.known ≡ true
         → OnOk result (CodesWithin limits decoder.old.source.bytes) }
+    ensures refused { decoder.old.source.known ≡ true → IfErr result (IsReason
+        (meaning_within_limits decoder.old.settings.luma limits decoder.old.source.bytes)
+        (allows_raw decoder.old.settings.luma turning limits decoder.old.source.bytes) ⊥) }
 {
     decoder.read_info()?;
     let full = decoder.info().unwrap();
@@ -130,24 +139,32 @@ fn write_decoded<R: Read + Drop, W: Write>(
     Ok(())
 }
 
-/// Decodes the stream that the reader gives, and writes the header line and then the pixels, line
-/// by line from the top: as they are stored, or turned upright by the orientation in the header's
-/// Exif data (Exif 2.3, 4.6.4).
+/// Decodes the stream that the reader gives, and writes the header line and then the pixels, or of
+/// a picture in colour the luma alone, line by line from the top: as they are stored, or turned
+/// upright by the orientation in the header's Exif data (Exif 2.3, 4.6.4).
 pub fn write_raw<R: Read + Drop, W: Write>(
     alloc: Global,
     reader: R,
     turning: Upright,
+    luma: bool,
     limits: Limits,
     writer: &mut W,
 ) -> Result<(), Refusal>
     ensures written { (bytes : List ℕ) → Tells (R.remaining reader) bytes
-        → OnOk result (IsSomeAnd (raw_of turning bytes) (Appends (W.contents writer.old)
+        → OnOk result (IsSomeAnd (raw_of luma turning bytes) (Appends (W.contents writer.old)
         (W.contents writer.new))) }
     ensures limited { (bytes : List ℕ) → Tells (R.remaining reader) bytes
-        → OnOk result (allows_raw turning limits bytes ≡ true) }
+        → OnOk result (allows_raw luma turning limits bytes ≡ true) }
     ensures bounded { (bytes : List ℕ) → Tells (R.remaining reader) bytes
         → OnOk result (CodesWithin limits bytes) }
+
+    // A refusal names the stream's fault, or a limit that it is above, or is one of the reader, the
+    // writer or memory.
+    ensures refused { (bytes : List ℕ) → Tells (R.remaining reader) bytes
+        → IfErr result (IsReason (meaning_within_limits luma limits bytes)
+        (allows_raw luma turning limits bytes) ⊥) }
 {
     let mut decoder = Decoder::with_capacity(alloc, READ_AHEAD, reader)?;
+    decoder.set_luma(luma);
     write_decoded(alloc, &mut decoder, turning, limits, writer)
 }

@@ -1,22 +1,24 @@
 //! Pictures of streams at a scale, as netpbm or PNG files, as they are stored or turned upright.
-ghost use Rattle.std.specs.Prelude.{◌≡◌, ◌*◌, List, ℕ, IfOk, Some, IsSomeAnd, option_map};
+ghost use Rattle.std.specs.Prelude.{◌≡◌, ◌*◌, List, ℕ, IfErr, IfOk, Some, IsSomeAnd, option_map};
 ghost use Rattle.std.specs.Prelude.{◌≤◌, IfSome, true};
 ghost use Rattle.jpeg_bits.specs.Reading.{Answers};
 ghost use Rattle.jpeg_meaning.specs.Output.{Tells};
-ghost use Rattle.jpeg_meaning.specs.Pixels.{info_of};
+ghost use Rattle.jpeg_meaning.specs.Pixels.{info_by};
 ghost use Rattle.jpeg_meaning.specs.States.{IsReading, ahead};
-ghost use Rattle.jpeg_meaning.specs.Stream.{told_of};
+ghost use Rattle.jpeg_meaning.specs.Stream.{header_at, told_of};
 ghost use Rattle.jpeg_decoder.specs.Bytes.{decoding_bytes};
 ghost use Rattle.jpeg_meaning.specs.States.{HasHeader};
 ghost use Rattle.zaxbriar_pictures.specs.Allowed.{allows, made_bytes, taken_for, taken_held};
 ghost use Rattle.zaxbriar_pictures.specs.Allowed.{taken_in_lines};
-ghost use Rattle.jpeg_meaning.specs.Output.{default_settings};
 ghost use Rattle.jpeg_meaning.specs.declared.progress.Progress.TheVariants.{Fresh, HeaderRead};
 ghost use Rattle.zaxbriar_pictures.specs.Given.{IsGiven, WritesGiven, most_after};
-ghost use Rattle.zaxbriar_pictures.specs.ScaledPictures.{header_exif, header_info};
+ghost use Rattle.zaxbriar_pictures.specs.Given.{shown_at_scale};
+ghost use Rattle.zaxbriar_pictures.specs.Reasons.{IsReason, LacksColours, shown_for};
+ghost use Rattle.zaxbriar_pictures.specs.ScaledPictures.{header_exif, header_info, settings_for};
 ghost use Rattle.zaxbriar_samples.specs.DecodedPictures.{decoded_in};
-ghost use Rattle.zaxbriar_pictures.specs.Steps.{ReadsForRequest, WritesFile};
-ghost use Rattle.zaxbriar_samples.specs.Sizes.{orientation_for, scale_of_request, size_for};
+ghost use Rattle.zaxbriar_pictures.specs.Steps.{ReadsForRequest, RefusesFile, WritesFile};
+ghost use Rattle.zaxbriar_samples.specs.Sizes.{luma_for, orientation_for, scale_of_request};
+ghost use Rattle.zaxbriar_samples.specs.Sizes.{size_for};
 ghost use Rattle.zaxbriar_samples.specs.declared.requests.Request.TheVariants.{At};
 
 use crate::extents::{Completeness, Extent, decode_wanted_lines, decode_wanted_picture};
@@ -42,8 +44,8 @@ pub fn decode_picture<R: Read + Drop>(decoder: &mut Decoder<R>) -> error::Result
         (λ p. (told_of decoder.new.found.said, p.pixels.items))
         (ahead decoder.old.stage decoder.old.settings decoder.old.found) decoder.old.source result
         decoder.new.source }
-    ensures info { IfOk result
-        (λ p. option_map info_of decoder.new.found.said.frame ≡ Some p.info) }
+    ensures info { IfOk result (λ p. option_map (info_by decoder.new.settings)
+        decoder.new.found.said.frame ≡ Some p.info) }
     ensures precision { IfOk result (λ p. option_map (λ f. f.precision) decoder.new.found.said.frame
         ≡ Some p.precision) }
 {
@@ -136,7 +138,7 @@ fn made_bytes(size: Dimensions, full: ImageInfo, precision: u8) -> u64
     ensures { result ≡ made_bytes size full precision }
 {
     let pixel = bytes_of(full.pixel_format, precision);
-    u64::from(size.width) * u64::from(size.height) * pixel as u64
+    u64::from(size.width) * u64::from(size.height) * u64::from(pixel)
 }
 
 /// Returns how many bytes the picture of a decoder takes for a request, whose header was read: with
@@ -150,7 +152,7 @@ fn bytes_for<R: Read + Drop>(
     size: Dimensions,
     orientation: u8,
 ) -> u64
-    requires plain { decoder.now.settings ≡ default_settings }
+    requires plain { decoder.now.settings ≡ settings_for (luma_for request) }
     requires header { HasHeader decoder.now.stage }
     ensures { IfSome decoder.now.found.said.frame (λ f. result
         ≡ taken_for request format full f size orientation) }
@@ -191,7 +193,7 @@ pub(crate) fn choose<R: Read + Drop>(
     limits: Limits,
 ) -> Result<Choice, Refusal>
     requires fresh { decoder.old.stage ≡ Fresh }
-    requires plain { decoder.old.settings ≡ default_settings }
+    requires plain { decoder.old.settings ≡ settings_for (luma_for request) }
     ensures reads { IfOk result (λ choice. ReadsForRequest request limits choice decoder.old
         decoder.new) }
     ensures asked { (at : _) → request ≡ At at
@@ -200,6 +202,9 @@ pub(crate) fn choose<R: Read + Drop>(
         × (choice.orientation ≤ 8)) }
     ensures limited { IfOk result (λ _. decoder.old.source.known ≡ true
         → allows request format limits decoder.old.source.bytes ≡ true) }
+    ensures refused { decoder.old.source.known ≡ true
+        → IfErr result (IsReason (header_at decoder.old.source.bytes)
+        (allows request format limits decoder.old.source.bytes) ⊥) }
 {
     decoder.read_info()?;
     let full = decoder.info().unwrap();
@@ -232,13 +237,14 @@ fn read_chosen<R: Read + Drop>(
     limits: Limits,
 ) -> Result<ScaledPicture, Refusal>
     requires fresh { decoder.old.stage ≡ Fresh }
-    requires plain { decoder.old.settings ≡ default_settings }
+    requires plain { decoder.old.settings ≡ settings_for (luma_for request) }
     ensures picture { decoder.old.source.known ≡ true → IfOk result (λ made. IsGiven extent
-        limits made.scale decoder.old.source.bytes (decoded_in made.picture) made.whole_rows
-        made.fault) }
+        (luma_for request) limits made.scale decoder.old.source.bytes
+        (decoded_in made.picture) made.whole_rows made.fault) }
     ensures asked { (at : _) → request ≡ At at → IfOk result (λ made. made.scale ≡ at.scale) }
     ensures chosen { decoder.old.source.known ≡ true → IfOk result (λ made.
-        IsSomeAnd (header_info decoder.old.source.bytes) (λ full. (made.full ≡ full)
+        IsSomeAnd (header_info (luma_for request) decoder.old.source.bytes)
+        (λ full. (made.full ≡ full)
         × (made.scale ≡ scale_of_request request full made.orientation)
         × (made.size ≡ size_for request full made.orientation))) }
     ensures said { decoder.old.source.known ≡ true → IfOk result (λ made. made.orientation
@@ -247,6 +253,9 @@ fn read_chosen<R: Read + Drop>(
         × (made.orientation ≤ 8)) }
     ensures limited { decoder.old.source.known ≡ true → IfOk result
         (λ _. allows request format limits decoder.old.source.bytes ≡ true) }
+    ensures refused { decoder.old.source.known ≡ true
+        → IfErr result (IsReason (shown_for extent limits request decoder.old.source.bytes)
+        (allows request format limits decoder.old.source.bytes) ⊥) }
 {
     let choice = choose(decoder, request, format, limits)?;
     let (picture, completeness) = decode_wanted_picture(alloc, decoder, extent)?;
@@ -275,7 +284,7 @@ pub fn read_picture<R: Read + Drop>(
     // The picture is the one that the bytes give at its scale within the limits, its complete rows
     // are counted, and the fault is named.
     ensures picture { (bytes : List ℕ) → Tells (R.remaining reader) bytes
-        → IfOk result (λ made. IsGiven extent limits made.scale bytes
+        → IfOk result (λ made. IsGiven extent (luma_for request) limits made.scale bytes
         (decoded_in made.picture) made.whole_rows made.fault) }
 
     // A requested scale is the scale.
@@ -283,7 +292,7 @@ pub fn read_picture<R: Read + Drop>(
 
     // Scale and size are those for the request, by the header and the orientation.
     ensures chosen { (bytes : List ℕ) → Tells (R.remaining reader) bytes → IfOk result (λ made.
-        IsSomeAnd (header_info bytes) (λ full. (made.full ≡ full)
+        IsSomeAnd (header_info (luma_for request) bytes) (λ full. (made.full ≡ full)
         × (made.scale ≡ scale_of_request request full made.orientation)
         × (made.size ≡ size_for request full made.orientation))) }
 
@@ -296,8 +305,15 @@ pub fn read_picture<R: Read + Drop>(
     // A picture that has or takes more than the limits allow is refused.
     ensures limited { (bytes : List ℕ) → Tells (R.remaining reader) bytes
         → IfOk result (λ _. allows request format limits bytes ≡ true) }
+
+    // A refusal names the stream's fault, or a limit that it is above, or is one of the reader, or
+    // out of memory.
+    ensures refused { (bytes : List ℕ) → Tells (R.remaining reader) bytes
+        → IfErr result (IsReason (shown_for extent limits request bytes)
+        (allows request format limits bytes) ⊥) }
 {
     let mut decoder = Decoder::with_capacity(alloc, READ_AHEAD, reader)?;
+    decoder.set_luma(request.wants_luma());
     read_chosen(alloc, &mut decoder, request, format, extent, limits)
 }
 
@@ -313,8 +329,10 @@ fn write_decoded<R: Read + Drop, W: Write>(
     writer: &mut W,
 ) -> Result<Completeness, Refusal>
     requires header { decoder.old.stage ≡ HeaderRead }
-    ensures { IfOk result (λ told. WritesFile extent orientation format decoder.old decoder.new
-        (W.contents writer.old) (W.contents writer.new) told) }
+    ensures written { IfOk result (λ told. WritesFile extent orientation format decoder.old
+        decoder.new (W.contents writer.old) (W.contents writer.new) told) }
+    ensures refused { decoder.old.source.known ≡ true
+        → IfErr result (RefusesFile extent format decoder.old) }
 {
     let decoded = decode_wanted_lines(decoder, extent)?;
     let info = decoder.info().unwrap();
@@ -347,21 +365,27 @@ fn write_chosen<R: Read + Drop, W: Write>(
     writer: &mut W,
 ) -> Result<Completeness, Refusal>
     requires fresh { decoder.old.stage ≡ Fresh }
-    requires plain { decoder.old.settings ≡ default_settings }
+    requires plain { decoder.old.settings ≡ settings_for at.luma }
     ensures written { decoder.old.source.known ≡ true → IfOk result (WritesGiven extent limits
         at format decoder.old.source.bytes (W.contents writer.old) (W.contents writer.new)) }
     ensures limited { decoder.old.source.known ≡ true → IfOk result
         (λ _. allows (At at) format limits decoder.old.source.bytes ≡ true) }
+    ensures refused { decoder.old.source.known ≡ true → IfErr result (IsReason
+        (shown_at_scale extent at.luma limits at.scale decoder.old.source.bytes)
+        (allows (At at) format limits decoder.old.source.bytes)
+        (LacksColours format (settings_for at.luma)
+        (shown_at_scale extent at.luma limits at.scale decoder.old.source.bytes))) }
 {
     let choice = choose(decoder, Request::At(at), format, limits)?;
     write_decoded(alloc, decoder, choice.orientation, extent, format, writer)
 }
 
 /// Decodes as much as is wanted of the stream that the reader gives, writes its picture at a scale,
-/// turned upright by the orientation in its header's Exif data (Exif 2.3, 4.6.4) if that is asked
-/// for, and returns how much of the picture is complete, before it is turned, with the first fault
-/// of the stream. A picture above the limits is refused by its header, and one whose pixels the
-/// format doesn't have before anything is written. A read that fails is an error.
+/// or of one in colour the luma alone, turned upright by the orientation in its header's Exif data
+/// (Exif 2.3, 4.6.4) if that is asked for, and returns how much of the picture is complete, before
+/// it is turned, with the first fault of the stream. A picture above the limits is refused by its
+/// header, and one whose pixels the format doesn't have before anything is written. A read that
+/// fails is an error.
 pub fn write_at<R: Read + Drop, W: Write>(
     alloc: Global,
     reader: R,
@@ -376,7 +400,15 @@ pub fn write_at<R: Read + Drop, W: Write>(
         (W.contents writer.new)) }
     ensures limited { (bytes : List ℕ) → Tells (R.remaining reader) bytes
         → IfOk result (λ _. allows (At at) format limits bytes ≡ true) }
+
+    // A refusal names the stream's fault, or a limit that it is above, or colours that the format
+    // lacks, or is one of the reader, the writer or memory.
+    ensures refused { (bytes : List ℕ) → Tells (R.remaining reader) bytes → IfErr result (IsReason
+        (shown_at_scale extent at.luma limits at.scale bytes) (allows (At at) format limits bytes)
+        (LacksColours format (settings_for at.luma)
+        (shown_at_scale extent at.luma limits at.scale bytes))) }
 {
     let mut decoder = Decoder::with_capacity(alloc, READ_AHEAD, reader)?;
+    decoder.set_luma(at.luma);
     write_chosen(alloc, &mut decoder, at, extent, limits, format, writer)
 }

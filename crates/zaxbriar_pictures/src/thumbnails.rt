@@ -5,14 +5,18 @@
 //! sample is then the mean of those in its box. One that fits is decoded at all of its size. It is
 //! turned upright by the orientation in its Exif data, as it is shown, unless it is to stay as it
 //! is stored.
-ghost use Rattle.std.specs.Prelude.{◌≡◌, List, ℕ, IfOk, IsSomeAnd, OnOk, true};
+ghost use Rattle.std.specs.Prelude.{◌≡◌, List, ℕ, IfErr, IfOk, IsSomeAnd, OnOk, true};
 ghost use Rattle.std.specs.Io.KnownBytes.{Appends};
 ghost use Rattle.jpeg_meaning.specs.Output.{Tells};
 ghost use Rattle.zaxbriar_pictures.specs.Allowed.{allows};
+ghost use Rattle.zaxbriar_pictures.specs.Reasons.{IsReason, LacksColours, RefusesPicture};
+ghost use Rattle.zaxbriar_pictures.specs.Reasons.{shown_for};
+ghost use Rattle.zaxbriar_pictures.specs.ScaledPictures.{settings_for};
 ghost use Rattle.zaxbriar_pictures.specs.Thumbnails.{WritesThumbnail, file_rows, rows_a_row};
 ghost use Rattle.zaxbriar_samples.specs.Boxes.{boxed};
 ghost use Rattle.zaxbriar_samples.specs.DecodedPictures.{decoded_in};
 ghost use Rattle.zaxbriar_samples.specs.Files.{file_as};
+ghost use Rattle.zaxbriar_samples.specs.Sizes.{luma_for};
 ghost use Rattle.zaxbriar_samples.specs.Turns.{upright};
 
 use crate::extents::{Completeness, Extent};
@@ -63,9 +67,10 @@ fn write_upright<W: Write>(
     format: PictureFormat,
     writer: &mut W,
 ) -> Result<(), Refusal>
-    ensures { OnOk result (IsSomeAnd
+    ensures written { OnOk result (IsSomeAnd
         (file_as format (upright orientation (boxed size (decoded_in picture))))
         (Appends (W.contents writer.old) (W.contents writer.new))) }
+    ensures refused { IfErr result (RefusesPicture format picture.info.pixel_format) }
 {
     let smaller = boxed(alloc, picture, size)?;
     let picture = upright(alloc, smaller, orientation)?;
@@ -94,6 +99,13 @@ pub fn write_thumbnail<R: Read + Drop, W: Write>(
         (W.contents writer.new)) }
     ensures limited { (bytes : List ℕ) → Tells (R.remaining reader) bytes
         → IfOk result (λ _. allows request format limits bytes ≡ true) }
+
+    // A refusal names the stream's fault, or a limit that it is above, or colours that the format
+    // lacks, or is one of the reader, the writer or memory.
+    ensures refused { (bytes : List ℕ) → Tells (R.remaining reader) bytes → IfErr result (IsReason
+        (shown_for extent limits request bytes) (allows request format limits bytes)
+        (LacksColours format (settings_for (luma_for request))
+        (shown_for extent limits request bytes))) }
 {
     let made = read_picture(alloc, reader, request, format, extent, limits)?;
     let info = made.full;

@@ -3,6 +3,7 @@ pub mod DecodedPictures
 pub mod Files
 pub mod Netpbm
 pub mod Png
+pub mod Refusals
 pub mod Samples
 pub mod Sizes
 pub mod Turns

@@ -7,13 +7,18 @@ use Rattle.zaxbriar_samples.specs.Samples.{greatest_sample, is_wide}
 use Rattle.jpeg_meaning.specs.declared.images.PixelFormat.{PixelFormat}
 use Rattle.jpeg_meaning.specs.declared.images.PixelFormat.TheVariants.{L8, L16, RGB24, CMYK32}
 
+-- the greatest sample of this many bits, of which two bytes have 16
+abbrev pub greatest_of_bits : ℕ → ℕ
+greatest_of_bits precision = if nat_le 16 precision then 65535 else 2 ^ precision - 1
+
 -- MAXVAL, the greatest value that a sample of a file may have: 255 where samples have 8 bits, that
 -- of the precision where no sample is above it, or else that of the bytes that a sample takes. (The
 -- samples of a lossless picture are sums modulo 2^16, which may need more bits than its precision
 -- has.)
 abbrev pub greatest_value : ℕ → List ℕ → ℕ
 greatest_value precision pixels = if precision == 8 then 255
-    else if nat_le (greatest_sample precision pixels) (2 ^ precision - 1) then 2 ^ precision - 1
+    else if nat_le (greatest_sample precision pixels) (greatest_of_bits precision)
+    then greatest_of_bits precision
     else if is_wide precision then 65535 else 255
 
 -- a header of PGM or PPM

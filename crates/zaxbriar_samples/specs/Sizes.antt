@@ -1,5 +1,5 @@
 -- The sizes and the scales of pictures that are to fit within a size.
-use Rattle.std.specs.Prelude.{ℕ, ◌+◌, ◌*◌, ◌/◌, ◌&&◌, ◌==◌, Bool, max, min, nat_le, nat_lt}
+use Rattle.std.specs.Prelude.{ℕ, ◌+◌, ◌*◌, ◌/◌, ◌&&◌, ◌==◌, Bool, false, max, min, nat_le, nat_lt}
 use Rattle.std.specs.Prelude.{if◌then◌else◌}
 use Rattle.std.specs.Prelude.{List, Option, None, Some, unwrap_or}
 use Rattle.std.specs.Int.{div_ceil}
@@ -48,9 +48,9 @@ side_at Quarter side = div_ceil side 4
 side_at Half side = div_ceil side 2
 side_at Full side = side
 
--- a scale at which a picture stays as it is stored
+-- a scale at which a picture stays as it is stored, in its colours
 abbrev pub stored_at : Scale → AtScale
-stored_at scale = record { scale = scale; upright = AsStored }
+stored_at scale = record { scale = scale; upright = AsStored; luma = false }
 
 -- whether a picture at a scale isn't smaller than a size
 abbrev pub covers : Scale → ImageInfo → Dimensions → Bool
@@ -79,6 +79,11 @@ orientation_by Turned (Some exif) = unwrap_or (orientation_in exif) 1
 unfoldable pub orientation_for : Request → Option (List ℕ) → ℕ
 orientation_for (At at) exif = orientation_by at.upright exif
 orientation_for (Within most upright) exif = orientation_by upright exif
+
+-- whether a picture in colour is to be made of its luma alone
+abbrev pub luma_for : Request → Bool
+luma_for (At at) = at.luma
+luma_for (Within most upright) = false
 
 -- The size of the requested picture, as it is stored, and the scale that it is decoded at:
 -- by what the header says, and the orientation.

@@ -1,5 +1,6 @@
 //! Pictures made smaller: each sample is the mean of the samples of its box.
-ghost use Rattle.std.specs.Prelude.{◌≡◌, ◌≤◌, ◌<◌, ◌++◌, ◌*◌, ◌^◌, IfOk, OnOk};
+ghost use Rattle.std.specs.Prelude.{◌≡◌, ◌≤◌, ◌<◌, ◌++◌, ◌*◌, ◌^◌, IfOk, MatchResult, OnOk};
+ghost use Rattle.jpeg_bits.specs.declared.error.Error.TheVariants.{OutOfMemory};
 ghost use Rattle.zaxbriar_samples.specs.Boxes.{area_of, boxed, components_a_pixel, edge, index_of};
 ghost use Rattle.zaxbriar_samples.specs.Boxes.{is_smaller};
 ghost use Rattle.zaxbriar_samples.specs.Boxes.{box_line};
@@ -198,9 +199,11 @@ fn is_smaller(size: Dimensions, info: ImageInfo) -> bool
         && (size.width < info.width || size.height < info.height)
 }
 
-/// Returns a picture boxed down to a size. A picture that isn't greater stays as it is.
+/// Returns a picture boxed down to a size. A picture that isn't greater stays as it is. The only
+/// error is `OutOfMemory`.
 pub fn boxed(alloc: Global, picture: Picture, size: Dimensions) -> error::Result<Picture>
-    ensures { IfOk result (λ made. decoded_in made ≡ boxed size (decoded_in picture)) }
+    ensures { MatchResult result (λ made. decoded_in made ≡ boxed size (decoded_in picture))
+        (λ e. e ≡ OutOfMemory) }
 {
     let info = picture.info;
     if !is_smaller(size, info) {

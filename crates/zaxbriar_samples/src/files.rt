@@ -1,8 +1,9 @@
 //! Pictures as files of either format.
-ghost use Rattle.std.specs.Prelude.{◌≡◌, IsSomeAnd, OnOk, true};
+ghost use Rattle.std.specs.Prelude.{◌≡◌, IfErr, IsSomeAnd, OnOk, true};
 ghost use Rattle.std.specs.Io.KnownBytes.{Appends};
 ghost use Rattle.zaxbriar_samples.specs.DecodedPictures.{decoded_in};
 ghost use Rattle.zaxbriar_samples.specs.Files.{file_as, has_pixels};
+ghost use Rattle.zaxbriar_samples.specs.Refusals.{IsOfWriter};
 
 use crate::netpbm::{Picture, write_picture};
 use crate::png::{has_png, write_png};
@@ -38,8 +39,9 @@ pub fn write_file<W: Write>(
     writer: &mut W,
 ) -> Result<()>
     requires { has_pixels format picture.info.pixel_format ≡ true }
-    ensures { OnOk result (IsSomeAnd (file_as format (decoded_in picture))
+    ensures file { OnOk result (IsSomeAnd (file_as format (decoded_in picture))
         (Appends (W.contents writer.old) (W.contents writer.new))) }
+    ensures refused { IfErr result IsOfWriter }
 {
     match format {
         PictureFormat::Netpbm => write_picture(alloc, picture, writer),

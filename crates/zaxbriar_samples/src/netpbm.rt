@@ -1,15 +1,17 @@
 //! Pictures as files of the netpbm formats PGM, PPM and PAM.
-ghost use Rattle.std.specs.Prelude.{◌≡◌, ◌≤◌, ◌++◌, ◌-◌, ◌^◌, All, IfOk, OnOk, string_bytes};
-ghost use Rattle.std.specs.Prelude.{if◌then◌else◌};
+ghost use Rattle.std.specs.Prelude.{◌≡◌, ◌≤◌, ◌++◌, All, IfErr, IfOk, OnOk};
+ghost use Rattle.std.specs.Prelude.{if◌then◌else◌, string_bytes};
 ghost use Rattle.std.specs.Io.KnownBytes.{Appends};
-ghost use Rattle.zaxbriar_samples.specs.Netpbm.{file_of, file_samples, greatest_value, header_in};
-ghost use Rattle.zaxbriar_samples.specs.Netpbm.{higher_first, pam_header, plain_header};
+ghost use Rattle.zaxbriar_samples.specs.Netpbm.{file_of, file_samples, greatest_of_bits};
+ghost use Rattle.zaxbriar_samples.specs.Netpbm.{greatest_value, header_in, higher_first};
+ghost use Rattle.zaxbriar_samples.specs.Netpbm.{pam_header, plain_header};
+ghost use Rattle.zaxbriar_samples.specs.Refusals.{IsOfWriter};
 ghost use Rattle.zaxbriar_samples.specs.Samples.{is_wide, samples_of};
 
 use crate::samples::{greatest_sample, is_wide};
-use jpeg_bits::error::{Error, Result, UnsupportedFeature};
+use jpeg_bits::error::Result;
 use jpeg_meaning::images::{ImageInfo, PixelFormat};
-use std::alloc::Global;
+use std::alloc::{AllocError, Global};
 use std::io;
 use std::io::Write;
 
@@ -26,13 +28,13 @@ pub struct Picture {
 
 /// Returns the greatest value of a sample of this many bits. The netpbm formats end at 16 bits, as
 /// frames do.
-fn greatest_of_bits(precision: u8) -> Result<u16>
-    ensures { IfOk result (λ value. value ≡ 2 ^ precision - 1) }
+fn greatest_of_bits(precision: u8) -> u16
+    ensures { result ≡ greatest_of_bits precision }
 {
-    if precision > 16 {
-        return Err(Error::Unsupported(UnsupportedFeature::SamplePrecision(precision)));
+    if precision >= 16 {
+        return u16::MAX;
     }
-    Ok(((1u32 << precision) - 1) as u16)
+    ((1u32 << precision) - 1) as u16
 }
 
 /// Returns the greatest value of a sample that takes as many bytes as one of this many bits.
@@ -43,39 +45,51 @@ pub(crate) fn greatest_of_bytes(precision: u8) -> u16
 }
 
 /// Returns MAXVAL, the greatest value that a sample of the picture's file may have.
-fn greatest_value(pixels: &[u8], precision: u8) -> Result<u16>
-    ensures value { IfOk result (λ maxval. maxval ≡ greatest_value precision pixels.now) }
-    ensures most { IfOk result (λ maxval. All (λ sample. sample ≤ maxval)
-        (samples_of precision pixels.now)) }
+fn greatest_value(pixels: &[u8], precision: u8) -> u16
+    ensures value { result ≡ greatest_value precision pixels.now }
+    ensures most { All (λ sample. sample ≤ result) (samples_of precision pixels.now) }
 {
-    let whole = greatest_of_bits(precision)?;
+    let whole = greatest_of_bits(precision);
     if greatest_sample(pixels, precision) <= whole {
-        return Ok(whole);
+        return whole;
     }
-    Ok(greatest_of_bytes(precision))
+    greatest_of_bytes(precision)
 }
 
 /// Returns the header of a PGM or a PPM file.
-fn plain_header(alloc: Global, kind: &str, info: ImageInfo, maxval: u16) -> Result<String>
+fn plain_header(
+    alloc: Global,
+    kind: &str,
+    info: ImageInfo,
+    maxval: u16,
+) -> std::result::Result<String, AllocError>
     ensures { IfOk result (λ text. string_bytes text ≡ plain_header kind.now info maxval) }
 {
     let width = info.width;
     let height = info.height;
-    Ok(format!(in alloc; "{kind}\n{width} {height}\n{maxval}\n")?)
+    format!(in alloc; "{kind}\n{width} {height}\n{maxval}\n")
 }
 
 /// Returns the header of a PAM file of cyan, magenta, yellow and black.
-fn pam_header(alloc: Global, info: ImageInfo, maxval: u16) -> Result<String>
+fn pam_header(
+    alloc: Global,
+    info: ImageInfo,
+    maxval: u16,
+) -> std::result::Result<String, AllocError>
     ensures { IfOk result (λ text. string_bytes text ≡ pam_header info maxval) }
 {
     let width = info.width;
     let height = info.height;
     let kind = "TUPLTYPE CMYK\nENDHDR";
-    Ok(format!(in alloc; "P7\nWIDTH {width}\nHEIGHT {height}\nDEPTH 4\nMAXVAL {maxval}\n{kind}\n")?)
+    format!(in alloc; "P7\nWIDTH {width}\nHEIGHT {height}\nDEPTH 4\nMAXVAL {maxval}\n{kind}\n")
 }
 
 /// Returns what stands before the samples in a file of a picture.
-pub fn header(alloc: Global, info: ImageInfo, maxval: u16) -> Result<String>
+pub fn header(
+    alloc: Global,
+    info: ImageInfo,
+    maxval: u16,
+) -> std::result::Result<String, AllocError>
     ensures { IfOk result (λ text. string_bytes text ≡ header_in info.pixel_format info maxval) }
 {
     match info.pixel_format {
@@ -122,8 +136,11 @@ pub fn write_picture<W: Write>(alloc: Global, picture: Picture, writer: &mut W) 
     ensures most { OnOk result (All (λ sample. sample
         ≤ greatest_value picture.precision picture.pixels.items)
         (samples_of picture.precision picture.pixels.items)) }
+
+    // The errors are those of the writer, and out of memory.
+    ensures refused { IfErr result IsOfWriter }
 {
-    let maxval = greatest_value(picture.pixels.as_slice(), picture.precision)?;
+    let maxval = greatest_value(picture.pixels.as_slice(), picture.precision);
     let header = header(alloc, picture.info, maxval)?;
     let samples = in_file_order(picture.precision, picture.pixels);
     write_both(writer, header.as_bytes(), samples.as_slice())?;

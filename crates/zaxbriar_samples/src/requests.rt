@@ -1,7 +1,8 @@
 //! What is requested of a stream's picture: a scale, or a size that it is to fit within.
 ghost use Rattle.std.specs.Prelude.{◌≡◌, ◌≤◌};
 ghost use Rattle.std.specs.Option.{option_copied};
-ghost use Rattle.zaxbriar_samples.specs.Sizes.{covers, is_full, least_scale, orientation_by};
+ghost use Rattle.zaxbriar_samples.specs.Sizes.{covers, is_full, least_scale, luma_for};
+ghost use Rattle.zaxbriar_samples.specs.Sizes.{orientation_by};
 ghost use Rattle.zaxbriar_samples.specs.Sizes.{orientation_for, scale_of_request, side_at};
 ghost use Rattle.zaxbriar_samples.specs.Sizes.{size_for};
 ghost use Rattle.zaxbriar_samples.specs.declared.requests.Request.TheVariants.{At};
@@ -22,13 +23,15 @@ pub enum Request {
     Within(Dimensions, Upright),
 }
 
-/// A scale, and whether the picture is then turned.
+/// A scale, whether the picture is then turned, and whether it is the luma alone.
 #[derive(Clone, Copy)]
 pub struct AtScale {
     /// The scale.
     pub scale: Scale,
     /// Whether the picture is turned.
     pub upright: Upright,
+    /// Whether a picture in colour is made of its luma alone.
+    pub luma: bool,
 }
 
 /// Whether a picture is turned by the orientation in its Exif data.
@@ -128,6 +131,16 @@ impl Request {
             Request::Within(most, _) => {
                 least_scale(full, fitted(full, as_stored(most, orientation)))
             }
+        }
+    }
+
+    /// Returns whether a picture in colour is to be made of its luma alone.
+    pub fn wants_luma(self) -> bool
+        ensures { result ≡ luma_for self }
+    {
+        match self {
+            Request::At(at) => at.luma,
+            Request::Within(_, _) => false,
         }
     }
 

@@ -1,5 +1,5 @@
 //! The samples of a picture, from its bytes.
-ghost use Rattle.std.specs.Prelude.{◌≡◌, ◌≤◌, ◌<◌, ◌*◌, ◌/◌, ◌^◌, length, false};
+ghost use Rattle.std.specs.Prelude.{◌≡◌, ◌≤◌, ◌<◌, ◌*◌, ◌/◌, ◌^◌, drop, length, take, false};
 ghost use Rattle.zaxbriar_samples.specs.Samples.{byte_at, greatest_below, greatest_sample};
 ghost use Rattle.zaxbriar_samples.specs.Samples.{is_wide, pair_at, sample_in};
 
@@ -8,6 +8,15 @@ pub fn is_wide(precision: u8) -> bool
     ensures { result ≡ is_wide precision }
 {
     precision > 8
+}
+
+/// Returns the bytes of a picture from a place on, this many or as many as there are.
+pub(crate) fn part_at(pixels: &[u8], start: usize, size: usize) -> &[u8]
+    ensures { result.now ≡ take size (drop start pixels.now) }
+{
+    let (_, rest) = pixels.split_at(start.min(pixels.len()));
+    let (part, _) = rest.split_at(size.min(rest.len()));
+    part
 }
 
 /// Returns a byte of a picture.

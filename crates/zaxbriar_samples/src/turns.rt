@@ -1,21 +1,24 @@
 //! Pictures turned upright by the orientation in their Exif data (Exif 2.3, 4.6.4).
-ghost use Rattle.std.specs.Prelude.{◌≡◌, ◌++◌, IfOk, IfSome, OnOk};
+ghost use Rattle.std.specs.Prelude.{◌≡◌, ◌<◌, ◌++◌, ◌^◌, IfOk, MatchResult, OnOk};
+ghost use Rattle.jpeg_bits.specs.declared.error.Error.TheVariants.{OutOfMemory};
 ghost use Rattle.jpeg_orientation.specs.Turns.{stored_offset};
 ghost use Rattle.zaxbriar_samples.specs.DecodedPictures.{decoded_in};
 ghost use Rattle.zaxbriar_samples.specs.Turns.{bytes_of, turned_info, turned_pixels, upright};
 ghost use Rattle.zaxbriar_samples.specs.Turns.{upright_line, upright_pixel};
 
 use crate::netpbm::Picture;
-use jpeg_bits::error::{Error, Result};
+use crate::samples::part_at;
+use jpeg_bits::error;
 use jpeg_meaning::images::{ImageInfo, PixelFormat};
 use jpeg_orientation::turns::{
     Turn, flips_x, flips_y, is_on_side, mirrored, upright_height, upright_width,
 };
-use std::alloc::Global;
+use std::alloc::{AllocError, Global};
 
 /// Returns the index in the stored picture of a pixel across and down in the upright one.
-fn stored_offset(turn: Turn, across: u16, down: u16) -> Option<usize>
-    ensures { IfSome result (λ offset. offset ≡ stored_offset turn across down) }
+fn stored_offset(turn: Turn, across: u16, down: u16) -> usize
+    ensures offset { result ≡ stored_offset turn across down }
+    ensures most { result < 2 ^ 32 }
 {
     let (along, line) = if is_on_side(turn.orientation) {
         (down, across)
@@ -26,43 +29,42 @@ fn stored_offset(turn: Turn, across: u16, down: u16) -> Option<usize>
     let height = usize::from(turn.height);
     let x = mirrored(flips_x(turn.orientation), width, usize::from(along));
     let y = mirrored(flips_y(turn.orientation), height, usize::from(line));
-    y.checked_mul(width)?.checked_add(x)
+    y * width + x
 }
 
-/// Returns the bytes of the pixel across and down in the upright picture, if the stored one, whose
-/// pixels have so many, has them.
+/// Returns the bytes of the pixel across and down in the upright picture, from the stored one,
+/// whose pixels have so many: those of them that it has.
 #[tactic(auto, unfolding(crate::specs::Turns::upright_pixel))]
-fn upright_pixel(turn: Turn, bytes: usize, pixels: &[u8], across: u16, down: u16) -> Option<&[u8]>
-    ensures { IfSome result (λ pixel. pixel.now
-        ≡ upright_pixel turn bytes pixels.now down across) }
+fn upright_pixel(turn: Turn, bytes: u8, pixels: &[u8], across: u16, down: u16) -> &[u8]
+    ensures { result.now ≡ upright_pixel turn bytes pixels.now down across }
 {
-    let start = stored_offset(turn, across, down)?.checked_mul(bytes)?;
-    let (_, rest) = pixels.split_at_checked(start)?;
-    let (pixel, _) = rest.split_at_checked(bytes)?;
-    Some(pixel)
+    let size = usize::from(bytes);
+    part_at(pixels, stored_offset(turn, across, down) * size, size)
 }
 
 /// Appends the bytes of a pixel of the upright picture.
 fn push_pixel(
     made: &mut Vec<u8>,
     turn: Turn,
-    bytes: usize,
+    bytes: u8,
     pixels: &[u8],
     across: u16,
     down: u16,
-) -> Result<()>
+) -> Result<(), AllocError>
     ensures { OnOk result (made.new.items ≡ made.old.items
         ++ upright_pixel turn bytes pixels.now down across) }
 {
-    let Some(pixel) = upright_pixel(turn, bytes, pixels, across, down) else {
-        return Err(Error::Internal("a pixel of the picture is missing"));
-    };
-    made.extend_from_slice(pixel)?;
-    Ok(())
+    made.extend_from_slice(upright_pixel(turn, bytes, pixels, across, down))
 }
 
 /// Appends the bytes of a line of the upright picture.
-fn push_line(made: &mut Vec<u8>, turn: Turn, bytes: usize, pixels: &[u8], down: u16) -> Result<()>
+fn push_line(
+    made: &mut Vec<u8>,
+    turn: Turn,
+    bytes: u8,
+    pixels: &[u8],
+    down: u16,
+) -> Result<(), AllocError>
     ensures { OnOk result (made.new.items ≡ made.old.items
         ++ upright_line turn bytes pixels.now down) }
 {
@@ -73,7 +75,7 @@ fn push_line(made: &mut Vec<u8>, turn: Turn, bytes: usize, pixels: &[u8], down: 
 }
 
 /// Returns the bytes of the upright picture.
-fn turned_pixels(alloc: Global, turn: Turn, bytes: usize, pixels: &[u8]) -> Result<Vec<u8>>
+fn turned_pixels(alloc: Global, turn: Turn, bytes: u8, pixels: &[u8]) -> Result<Vec<u8>, AllocError>
     ensures { IfOk result (λ v. v.items ≡ turned_pixels turn bytes pixels.now) }
 {
     let mut made = Vec::with_capacity(alloc, pixels.len())?;
@@ -84,7 +86,7 @@ fn turned_pixels(alloc: Global, turn: Turn, bytes: usize, pixels: &[u8]) -> Resu
 }
 
 /// Returns how many bytes a pixel has.
-pub fn bytes_of(format: PixelFormat, precision: u8) -> usize
+pub fn bytes_of(format: PixelFormat, precision: u8) -> u8
     ensures { result ≡ bytes_of format precision }
 {
     match format {
@@ -106,9 +108,11 @@ fn turned_info(turn: Turn, info: ImageInfo) -> ImageInfo
     }
 }
 
-/// Returns a picture turned upright by its orientation.
-pub fn upright(alloc: Global, picture: Picture, orientation: u8) -> Result<Picture>
-    ensures { IfOk result (λ made. decoded_in made ≡ upright orientation (decoded_in picture)) }
+/// Returns a picture turned upright by its orientation. The only error is `OutOfMemory`.
+pub fn upright(alloc: Global, picture: Picture, orientation: u8) -> error::Result<Picture>
+    ensures { MatchResult result
+        (λ made. decoded_in made ≡ upright orientation (decoded_in picture))
+        (λ e. e ≡ OutOfMemory) }
 {
     if orientation == 1 {
         return Ok(picture);

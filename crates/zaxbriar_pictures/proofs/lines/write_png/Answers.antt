@@ -1,12 +1,13 @@
 use Rattle.std.proofs.Common.{◌≡◌, ◌∙◌, ◌<◌, ℕ, List, [], ap, length, refl, rules, sym}
 use Rattle.std.proofs.lemmas.List.{with_items_is}
-use Rattle.std.proofs.lemmas.Result.{on_ok_weaker}
+use Rattle.std.proofs.lemmas.Result.{err_from_is_err_and, on_ok_weaker}
 use Rattle.std.specs.List.{concat}
 use Rattle.std.specs.Prelude.{slice_index_or}
 use Rattle.std.specs.Vec.{with_items}
 use Rattle.jpeg_decoder.proofs.Pictures.LinesTogether.{line-long}
 use Rattle.zaxbriar_samples.proofs.PngSteps.{cut_line, has-all, has-more, has-none}
 use Rattle.zaxbriar_pictures.proofs.PictureLines.{line-cut}
+use Rattle.zaxbriar_pictures.proofs.WriterErrors.{of-writer, refused-of-writer}
 use Rattle.zaxbriar_pictures.proofs.lines.write_png.Goals as goal
 
 pub loop-row-init : goal.loop-row-init
@@ -31,10 +32,6 @@ write_line-requires-clause-room g c =
     let long : length (slice_index_or c.args.lines c.loop-row.row []) ≡ length c.loop-row.line.items =
     line-long (length c.loop-row.line.items) c.loop-row.row c.args.lines [] c.loop-row.invariant.long low in
     rw (c.loop-row.invariant.same, long) (search rules)
-
-pub write_line-requires-in-loop-row : goal.write_line-requires-in-loop-row
-write_line-requires-in-loop-row g c =
-    rw c.loop-row.invariant.written.precision_is c.in_ok-file.ensures.most
 
 pub loop-row-preserved : goal.loop-row-preserved
 loop-row-preserved g c =
@@ -62,10 +59,26 @@ loop-row-preserved g c =
           c.in_ok-write_line.ensures.written cut;
     }
 
-pub returns : goal.returns
-returns g c =
+pub returns-clause-written : goal.returns-clause-written
+returns-clause-written g c =
     let all : c.loop-row.row ≡ c.args.info.height = search rules in
     on_ok_weaker c.end.result (λ tail. has-all c.args.info c.args.precision (concat c.args.lines)
     c.loop-row.row c.loop-row.file (g.W.Write.contents c.args.writer.now)
     (g.W.Write.contents c.loop-row.writer) (g.W.Write.contents c.end.new.writer)
-    c.loop-row.invariant.written all tail) c.end.ensures
+    c.loop-row.invariant.written all tail) c.end.ensures.written
+
+-- ---- errors
+
+pub returns-in_err-file-clause-refused : goal.returns-in_err-file-clause-refused
+returns-in_err-file-clause-refused g c =
+    let p = err_from_is_err_and c.from_residual-in_err-file.result c.from_residual-in_err-file.ensures.1 in
+    rw (p.1, p.2) (of-writer _ c.in_err-file.ensures.refused)
+
+pub returns-in_err-write_line-clause-refused : goal.returns-in_err-write_line-clause-refused
+returns-in_err-write_line-clause-refused g c =
+    let p = err_from_is_err_and c.from_residual-in_err-write_line.result
+    c.from_residual-in_err-write_line.ensures.1 in
+    rw (p.1, p.2) (of-writer _ c.in_err-write_line.ensures.refused)
+
+pub returns-clause-refused : goal.returns-clause-refused
+returns-clause-refused g c = refused-of-writer c.end.result c.end.ensures.refused

@@ -1,14 +1,20 @@
-use Rattle.std.proofs.Common.{◌∙◌, ap, rules, subst, sym}
+use Rattle.std.proofs.Common.{◌≡◌, ◌∙◌, ap, inr, rules, subst, sym}
+use Rattle.std.proofs.lemmas.Result.{err_from_is_err_and}
 use Rattle.std.specs.List.{concat}
-use Rattle.jpeg_meaning.specs.States.{HasHeader}
-use Rattle.jpeg_meaning.specs.Stream.{told_of}
-use Rattle.zaxbriar_pictures.proofs.Allowances.{bytes-allowed}
+use Rattle.jpeg_meaning.specs.States.{Decoding, HasHeader}
+use Rattle.jpeg_meaning.specs.Stream.{header_at, rest_by, told_of}
+use Rattle.jpeg_meaning.specs.declared.settings.Settings.{Settings}
+use Rattle.zaxbriar_pictures.specs.Given.{most_after, settings_within}
+use Rattle.zaxbriar_pictures.specs.ScaledPictures.{settings_for}
+use Rattle.zaxbriar_pictures.proofs.Allowances.{above-reason, bytes-allowed}
+use Rattle.zaxbriar_pictures.proofs.Reasons.{answered, info-by-same, meaning-named, named-then}
 use Rattle.zaxbriar_pictures.proofs.ScaledStreams.{codes-within, raw-some}
 use Rattle.zaxbriar_samples.specs.Sizes.{orientation_by}
 use Rattle.zaxbriar_pictures.proofs.raw.write_decoded.Goals as goal
 
 pub returns-clause-written : goal.returns-clause-written
 returns-clause-written g c known =
+    let luma = c.args.decoder.now.settings.luma in
     let header = c.in_ok-read_info.ensures.reads c.requires.fresh in
     let stage = rw c.requires.fresh at c.in_ok-read_info.ensures.stage in
     let settings = c.in_ok-read_info.ensures.settings ∙ c.requires.plain in
@@ -16,33 +22,89 @@ returns-clause-written g c known =
     let first = header.1 known in
     let picture = (rw (limited, stage, settings) at c.in_ok-lines.ensures.decodes.reads) tt in
     let second = picture.1 first.0 in
-    let is = raw-some c.args.turning c.args.limits c.args.decoder.now.source.bytes
+    let now : c.decode_lines.new.self.settings ≡ settings_within luma c.args.limits c.read_info.new.self.found =
+    c.in_ok-lines.ensures.settings ∙ ap (λ (d : Decoding). d.settings) limited
+    ∙ ap (λ (s : Settings). record s { max_blocks = most_after c.args.limits c.read_info.new.self.found }) settings in
+    let is = raw-some luma c.args.turning c.args.limits c.args.decoder.now.source.bytes
     c.read_info.new.self.source.bytes c.decode_lines.new.self.source.bytes c.read_info.new.self.found
     (told_of c.decode_lines.new.self.found.said) (concat c.in_ok-lines.lines)
     c.unwrap-info.result c.unwrap-precision.result c.orientation_in-orientation.result first.1 second.1
-    (sym c.info-2.ensures ∙ c.unwrap-info.ensures) (sym c.precision.ensures ∙ c.unwrap-precision.ensures)
+    (info-by-same _ (settings_within luma c.args.limits c.read_info.new.self.found) _ _ now
+    (sym c.info-2.ensures ∙ c.unwrap-info.ensures)) (sym c.precision.ensures ∙ c.unwrap-precision.ensures)
     (c.orientation_in-orientation.ensures.said ∙ ap (orientation_by c.args.turning) c.exif_data.ensures) in
     rw is (search rules)
 
 pub returns-clause-limited : goal.returns-clause-limited
 returns-clause-limited g c known =
+    let luma = c.args.decoder.now.settings.luma in
     let header = c.in_ok-read_info.ensures.reads c.requires.fresh in
     let stage = rw c.requires.fresh at c.in_ok-read_info.ensures.stage in
+    let settings = c.in_ok-read_info.ensures.settings ∙ c.requires.plain in
     let first = header.1 known in
-    bytes-allowed c.args.turning c.args.limits c.args.decoder.now.source.bytes
+    bytes-allowed luma c.args.turning c.args.limits c.args.decoder.now.source.bytes
     c.read_info.new.self.source.bytes c.read_info.new.self.found c.unwrap-full.result
-    c.orientation_in-orientation.result c.taken_raw-taken.result first.1
-    (sym c.info.ensures ∙ c.unwrap-full.ensures)
+    c.orientation_in-orientation.result c.taken_raw-taken.result _ first.1
+    (info-by-same _ (settings_for luma) _ _ settings (sym c.info.ensures ∙ c.unwrap-full.ensures))
     (c.orientation_in-orientation.ensures.said ∙ ap (orientation_by c.args.turning) c.exif_data.ensures)
-    ((rw stage at c.taken_raw-taken.ensures) tt) c.in_ok-check.ensures
+    ((rw (stage, settings) at c.taken_raw-taken.ensures) tt) c.in_ok-check.ensures
 
 pub returns-clause-bounded : goal.returns-clause-bounded
 returns-clause-bounded g c known =
+    let luma = c.args.decoder.now.settings.luma in
     let header = c.in_ok-read_info.ensures.reads c.requires.fresh in
     let stage = rw c.requires.fresh at c.in_ok-read_info.ensures.stage in
     let settings = c.in_ok-read_info.ensures.settings ∙ c.requires.plain in
     let limited = c.limit_blocks.ensures (subst HasHeader (sym stage) tt) in
     let first = header.1 known in
     let picture = (rw (limited, stage, settings) at c.in_ok-lines.ensures.decodes.reads) tt in
-    codes-within c.args.limits c.args.decoder.now.source.bytes c.read_info.new.self.source.bytes
+    codes-within luma c.args.limits c.args.decoder.now.source.bytes c.read_info.new.self.source.bytes
     c.read_info.new.self.found _ first.1 (picture.1 first.0).1
+
+-- ---- refusals
+
+pub returns-in_err-read_info-clause-refused : goal.returns-in_err-read_info-clause-refused
+returns-in_err-read_info-clause-refused g c known =
+    let p = err_from_is_err_and c.from_residual.result c.from_residual.ensures.1 in
+    let a = c.in_err-read_info.ensures.reads c.requires.fresh in
+    rw (p.1, p.2) (named-then _ (header_at c.args.decoder.now.source.bytes) _
+    (answered (header_at c.args.decoder.now.source.bytes) c.args.decoder.now.source c.read_info.new.self.source _
+    a.1 a.2 known))
+
+pub returns-in_err-check-clause-refused : goal.returns-in_err-check-clause-refused
+returns-in_err-check-clause-refused g c known =
+    let luma = c.args.decoder.now.settings.luma in
+    let header = c.in_ok-read_info.ensures.reads c.requires.fresh in
+    let stage = rw c.requires.fresh at c.in_ok-read_info.ensures.stage in
+    let settings = c.in_ok-read_info.ensures.settings ∙ c.requires.plain in
+    let first = header.1 known in
+    let p = err_from_is_err_and c.from_residual-in_err-check.result c.from_residual-in_err-check.ensures.1 in
+    rw (p.1, p.2) (above-reason c.args.limits c.unwrap-full.result.width c.unwrap-full.result.height
+    c.taken_raw-taken.result _ _ _ _ c.in_err-check.ensures
+    (λ above. bytes-allowed luma c.args.turning c.args.limits c.args.decoder.now.source.bytes
+    c.read_info.new.self.source.bytes c.read_info.new.self.found c.unwrap-full.result
+    c.orientation_in-orientation.result c.taken_raw-taken.result _ first.1
+    (info-by-same _ (settings_for luma) _ _ settings (sym c.info.ensures ∙ c.unwrap-full.ensures))
+    (c.orientation_in-orientation.ensures.said ∙ ap (orientation_by c.args.turning) c.exif_data.ensures)
+    ((rw (stage, settings) at c.taken_raw-taken.ensures) tt) above))
+
+pub returns-in_err-lines-clause-refused : goal.returns-in_err-lines-clause-refused
+returns-in_err-lines-clause-refused g c known =
+    let luma = c.args.decoder.now.settings.luma in
+    let header = c.in_ok-read_info.ensures.reads c.requires.fresh in
+    let stage = rw c.requires.fresh at c.in_ok-read_info.ensures.stage in
+    let settings = c.in_ok-read_info.ensures.settings ∙ c.requires.plain in
+    let limited = c.limit_blocks.ensures (subst HasHeader (sym stage) tt) in
+    let first = header.1 known in
+    let reads = (rw (limited, stage, settings) at c.in_err-lines.ensures.decodes.reads) tt in
+    let p = err_from_is_err_and c.from_residual-in_err-lines.result c.from_residual-in_err-lines.ensures.1 in
+    rw (p.1, p.2) (meaning-named luma c.args.limits c.args.decoder.now.source.bytes
+    c.read_info.new.self.source.bytes c.read_info.new.self.found _ first.1
+    (answered (rest_by (settings_within luma c.args.limits c.read_info.new.self.found) c.read_info.new.self.found
+    c.read_info.new.self.source.bytes) c.read_info.new.self.source c.decode_lines.new.self.source _ reads.1 reads.2
+    first.0))
+
+pub returns-in_err-write_pixels-clause-refused : goal.returns-in_err-write_pixels-clause-refused
+returns-in_err-write_pixels-clause-refused g c known =
+    let p = err_from_is_err_and c.from_residual-in_err-write_pixels.result
+    c.from_residual-in_err-write_pixels.ensures.1 in
+    rw (p.1, p.2) (inr c.in_err-write_pixels.ensures.refused)

@@ -1,13 +1,14 @@
 use Rattle.std.proofs.Common.{◌∙◌, Err, IfOk, Ok, Result, ap, refl, sym}
-use Rattle.std.proofs.lemmas.Result.{IfOk-weaker}
+use Rattle.std.proofs.lemmas.Result.{IfErr-weaker, IfOk-weaker, err_from_is_err_and}
 use Rattle.jpeg_meaning.specs.Found.{with_said}
-use Rattle.jpeg_meaning.specs.Stream.{scaled_to}
+use Rattle.jpeg_meaning.specs.Stream.{header_at, scaled_to}
 use Rattle.jpeg_segments.specs.declared.scale.Scale.{Scale}
 use Rattle.zaxbriar_samples.specs.Sizes.{orientation_for}
 use Rattle.zaxbriar_samples.specs.declared.requests.Request.TheVariants.{At}
 use Rattle.zaxbriar_pictures.specs.Given.{WritesGiven}
-use Rattle.zaxbriar_pictures.specs.Steps.{WritesFile}
+use Rattle.zaxbriar_pictures.specs.Steps.{RefusesFile, WritesFile}
 use Rattle.zaxbriar_pictures.specs.declared.extents.Completeness.{Completeness}
+use Rattle.zaxbriar_pictures.proofs.Reasons.{reason-then, refused-at-scale}
 use Rattle.zaxbriar_pictures.proofs.ScaledStreams.{file-given, header-exif-some, is-given}
 use Rattle.zaxbriar_pictures.proofs.scaled.write_chosen.Goals as goal
 
@@ -28,10 +29,10 @@ returns-clause-written g c known =
     (WritesGiven c.args.extent c.args.limits c.args.at c.args.format bytes before after)
     (λ (told : Completeness) (file : WritesFile c.args.extent orientation c.args.format c.choose.new.decoder c.write_decoded.new.decoder before after told).
     file-given c.args.extent c.args.limits c.args.at orientation c.args.format bytes before after file.picture told turn
-    (is-given c.args.extent c.args.limits c.args.at.scale bytes read.1.0 c.choose.new.decoder c.write_decoded.new.decoder
+    (is-given c.args.extent c.args.at.luma c.args.limits c.args.at.scale bytes read.1.0 c.choose.new.decoder c.write_decoded.new.decoder
     file.picture told read.1.1 read.0 found begun.settings file.gives)
     file.gives.told_is file.written)
-    c.write_decoded.ensures
+    c.write_decoded.ensures.written
 
 always : {A E : Type 0} (r : Result A E) (Q : Type 0) → Q → IfOk r (λ _. Q)
 always (Ok x) Q h = h
@@ -41,3 +42,22 @@ pub returns-clause-limited : goal.returns-clause-limited
 returns-clause-limited g c known =
     let limited = c.in_ok-choice.ensures.limited in
     always c.write_decoded.result _ (limited known)
+
+-- ---- refusals
+
+pub returns-in_err-choice-clause-refused : goal.returns-in_err-choice-clause-refused
+returns-in_err-choice-clause-refused g c known =
+    let p = err_from_is_err_and c.from_residual.result c.from_residual.ensures.1 in
+    rw (p.1, p.2) (reason-then _ (header_at c.args.decoder.now.source.bytes) _ _ _
+    (c.in_err-choice.ensures.refused known))
+
+pub returns-clause-refused : goal.returns-clause-refused
+returns-clause-refused g c known =
+    let begun = c.in_ok-choice.ensures.reads in
+    let read = begun.reads known in
+    let found = read.1.2 ∙ ap (λ (scale : Scale). with_said (scaled_to scale) read.1.0)
+    (c.in_ok-choice.ensures.asked c.args.at refl) in
+    IfErr-weaker c.write_decoded.result (RefusesFile c.args.extent c.args.format c.choose.new.decoder) _
+    (λ r h. refused-at-scale c.args.extent c.args.at.luma c.args.limits c.args.at.scale c.args.decoder.now.source.bytes
+    read.1.0 c.choose.new.decoder c.args.format _ r read.1.1 found begun.settings h)
+    (c.write_decoded.ensures.refused read.0)

@@ -3,5 +3,5 @@ use Rattle.zaxbriar_samples.proofs.netpbm.pam_header.Goals as goal
 
 pub returns : goal.returns
 returns c =
-    let made = c.in_ok-format.ensures.ok in
+    let made = c.format.ensures.ok in
     search (rules, append_assoc)
