@@ -31,7 +31,7 @@ AT_EACH_QUALITY = ["4:2:0", "4:4:4"]
 OF_GRAIN = [*AT_EACH_SIZE, "4:4:4, progressive"]
 SCALED = {"4:2:0": [2, 4, 8], "4:2:0, progressive": [8]}
 AS_STORED = "as stored"
-LAYOUTS = ["RGBA", "BGRA", "XRGB", "grey"]
+LAYOUTS = ["RGBA", "BGRA", "XRGB", "grey", "luma"]
 LAYOUTS_AT = [(200, 150), (512, 384), (2000, 1500)]
 # Of these whole programs are measured, at the greatest size.
 OF_PROGRAMS = [way for way in WAYS if way not in ("4:4:0", "4:1:1", "4:2:0, restarts")]

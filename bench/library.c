@@ -23,13 +23,17 @@ static unsigned char layout_of(const char *name) {
 /* A layout's name may follow this. */
 static const char upright[] = "upright ";
 
+/* The layout of the luma alone, which isn't made of the colours. */
+static const char luma[] = "luma";
+
 unsigned char *decode(const unsigned char *jpeg, size_t size, unsigned scale, const char *layout) {
     zaxbriar_options options = {.scale = (unsigned char)scale};
     if (layout && strncmp(layout, upright, strlen(upright)) == 0) {
         options.upright = 1;
         layout += strlen(upright);
     }
-    if (layout) options.layout = layout_of(layout);
+    options.luma = layout && strcmp(layout, luma) == 0;
+    if (layout && !options.luma) options.layout = layout_of(layout);
     zaxbriar_picture picture;
     if (zaxbriar_read_info(jpeg, size, &options, &picture) != ZAXBRIAR_OK) return NULL;
     unsigned char *pixels = malloc(picture.size);

@@ -33,6 +33,7 @@ static int choose(struct jpeg_decompress_struct *decoder, const char *layout) {
         const char *name;
         J_COLOR_SPACE space;
     } layouts[] = {{"grey", JCS_GRAYSCALE},
+                   {"luma", JCS_GRAYSCALE},
                    {"RGBA", JCS_EXT_RGBA},
                    {"BGRA", JCS_EXT_BGRA},
                    {"XRGB", JCS_EXT_XRGB}};
