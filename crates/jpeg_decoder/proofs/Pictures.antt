@@ -9,3 +9,7 @@ pub mod LinesTogether
 pub mod WrittenLines
 pub mod PictureSizes
 pub mod LumaPictures
+pub mod SparedColours
+pub mod SparedPictures
+pub mod SparedPlanes
+pub mod SentComponents

@@ -5,7 +5,7 @@ use Rattle.jpeg_meaning.specs.FoundPictures.{limited, picture_of, samples_pictur
 use Rattle.jpeg_meaning.specs.Rasters.{plane_by, plane_of_blocks}
 use Rattle.jpeg_meaning.specs.Reported.{told_by_turns}
 use Rattle.jpeg_meaning.specs.ScanSegments.{put_arrays}
-use Rattle.jpeg_meaning.specs.Stream.{header_at, rest_within, segment_at, segments_at, turn_at}
+use Rattle.jpeg_meaning.specs.Stream.{header_at, segment_at, segments_at, turn_at}
 use Rattle.std.proofs.lemmas.Grind.{common_steps}
 use Rattle.std.proofs.lemmas.List.{drop-set-lt, get_or-map, length-map, map-set}
 use Rattle.std.proofs.lemmas.List.Folds.{list_all-map}
@@ -28,6 +28,7 @@ use Rattle.jpeg_meaning.proofs.Pictures.WholeImages.{cut-whole}
 use Rattle.jpeg_meaning.proofs.Tested.WorkedStreams.{colour-written, grey-written, padding-written, three-written}
 use Rattle.jpeg_meaning.proofs.Written.WrittenParts.{front-closed}
 use Rattle.jpeg_meaning.proofs.Written.WrittenPictures.{stream-means, taken-means}
+use Rattle.jpeg_decoder.specs.Spared.{shown_rest}
 use Rattle.jpeg_decoder.proofs.Strips.StoredRows.{all-stored-long, filled-seen}
 use Rattle.jpeg_decoder.proofs.Scans.BlocksBefore.{plane_by-length}
 use Rattle.jpeg_decoder.proofs.Segments.HeaderThenRest.{header-lacks, header-means}
@@ -124,9 +125,9 @@ unfoldable pub headers : ⊤
 unfolding header_at told_by_turns nothing_found segments_at
 headers = tt
 
-unfoldable pub rests : ⊤
-unfolding rest_within segments_at
-rests = tt
+unfoldable pub shown_rests : ⊤
+unfolding shown_rest segments_at
+shown_rests = tt
 
 unfoldable pub nothing : ⊤
 unfolding nothing_found nothing_said

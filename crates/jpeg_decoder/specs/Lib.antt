@@ -13,6 +13,7 @@ pub mod HeaderAlone
 pub mod Scanning
 -- the code's own words: the clauses of `Decoder`, `run` and `report` reach none of these
 pub mod Begun
+pub mod Spared
 pub mod Writes
 pub mod Walk
 pub mod Strips

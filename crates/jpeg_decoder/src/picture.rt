@@ -4,4 +4,6 @@ pub mod color_choice;
 pub mod first;
 pub mod lines;
 pub mod partial;
+pub mod rest;
+pub mod spared;
 pub mod whole;

@@ -14,6 +14,7 @@
 pub mod decoding;
 pub mod headers;
 pub mod lines;
+pub mod luma;
 pub mod partial;
 pub mod pictures;
 pub mod runs;

@@ -23,3 +23,13 @@ pub fn set_block_limit<R: Read + Drop>(decoder: &mut Decoder<R>, max: Option<u64
 {
     decoder.set_max_blocks(max)
 }
+
+/// Calls `Decoder::set_luma`.
+pub fn set_luma<R: Read + Drop>(decoder: &mut Decoder<R>, luma: bool)
+    ensures { decoder.new ≡ record decoder.old {
+      settings = record decoder.old.settings
+          { luma = luma };
+    } }
+{
+    decoder.set_luma(luma)
+}

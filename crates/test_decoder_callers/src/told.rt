@@ -1,7 +1,7 @@
 //! Callers that ask a decoder what was read.
 ghost use Rattle.std.specs.Prelude.{◌≡◌, option_map, MatchResult};
 ghost use Rattle.jpeg_bits.specs.declared.error.Error.TheVariants.{OutOfMemory};
-ghost use Rattle.jpeg_meaning.specs.Pixels.{info_of};
+ghost use Rattle.jpeg_meaning.specs.Pixels.{info_by};
 ghost use Rattle.jpeg_meaning.specs.Profile.{profile_of};
 ghost use Rattle.jpeg_meaning.specs.States.{HasHeader};
 ghost use Rattle.jpeg_meaning.specs.Work.{picture_blocks};
@@ -12,7 +12,8 @@ use std::io::Read;
 
 /// Calls `Decoder::info`.
 pub fn info<R: Read + Drop>(decoder: &Decoder<R>) -> Option<ImageInfo>
-    ensures { result ≡ option_map info_of decoder.now.found.said.frame }
+    ensures { result
+        ≡ option_map (info_by decoder.now.settings) decoder.now.found.said.frame }
 {
     decoder.info()
 }

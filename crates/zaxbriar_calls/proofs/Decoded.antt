@@ -1,5 +1,5 @@
 -- A picture that was decoded into its lines.
-use Rattle.std.proofs.Common.{arith, ◌≡◌, ◌∙◌, ◌+◌, ◌-◌, ◌*◌, ◌==◌, ◌<◌, ◌≤◌, ℕ, Bool, List, Option, Some, None, ap, sym, subst, false, length}
+use Rattle.std.proofs.Common.{arith, ◌≡◌, ◌∙◌, ◌+◌, ◌-◌, ◌*◌, ◌==◌, ◌<◌, ◌≤◌, ℕ, Bool, List, Option, Some, None, ap, sym, subst, false}
 use Rattle.std.proofs.Common.{mul_comm, mul-le-mul_right}
 use Rattle.std.proofs.lemmas.Bool.{ne_eqb}
 use Rattle.std.specs.Prelude.{if◌then◌else◌, option_map}

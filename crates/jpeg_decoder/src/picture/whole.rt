@@ -3,7 +3,7 @@ ghost use Rattle.std.specs.Prelude.{◌≡◌, ◌*◌, ◌+◌, ◌<◌, ◌≤
 ghost use Rattle.std.specs.Prelude.{None, suc};
 ghost use Rattle.std.specs.Prelude.{OnOk, Ok, Some, drop, false, is_some, length, map, nat_lt, not};
 ghost use Rattle.std.specs.List.{concat, enumerate_from};
-ghost use Rattle.std.specs.Prelude.{option_map, replicate, slice_index_or, true, []};
+ghost use Rattle.std.specs.Prelude.{option_map, slice_index_or, true};
 ghost use Rattle.jpeg_bits.specs.Reading.{Answers, NamesFormat};
 ghost use Rattle.jpeg_segments.specs.FrameView.{component_in, frame_in};
 ghost use Rattle.jpeg_segments.specs.Frame.{AllHaveSampling};
@@ -17,18 +17,17 @@ ghost use Rattle.jpeg_segments.specs.declared.frame.CodingProcess.TheVariants.{L
 ghost use Rattle.jpeg_segments.specs.Checks.{gathered, needed};
 ghost use Rattle.jpeg_decoder.specs.Scanning.{arrays_in, blocks_in};
 ghost use Rattle.jpeg_decoder.specs.PlanesView.{planes_in};
-ghost use Rattle.jpeg_meaning.specs.Sound.{IsDecodedFrame, IsPlaneOf, IsSound, HasDecodedFrame};
+ghost use Rattle.jpeg_meaning.specs.Sound.{IsDecodedFrame, IsPlaneOf, IsSound};
 ghost use Rattle.jpeg_meaning.specs.Sound.{IsUnread};
 ghost use Rattle.jpeg_meaning.specs.States.{OnTold};
 ghost use Rattle.jpeg_decoder.specs.Steps.{Returns, with_decoded};
-ghost use Rattle.jpeg_meaning.specs.Stream.{header_at, rest_within, start_at, told_of};
-ghost use Rattle.jpeg_meaning.specs.Reported.{IsOfTurns, told_by_turns, told_in_turns};
-ghost use Rattle.jpeg_meaning.specs.Limits.{exceeded_rest};
+ghost use Rattle.jpeg_meaning.specs.Stream.{header_at, start_at, told_of};
+ghost use Rattle.jpeg_meaning.specs.Reported.{IsOfTurns, told_by_turns};
 ghost use Rattle.jpeg_bits.specs.declared.beyond.Beyond.TheVariants.{Zeros};
 ghost use Rattle.jpeg_meaning.specs.FoundPictures.{blocks_picture, picture_of, picture_by};
 ghost use Rattle.jpeg_meaning.specs.FoundPictures.{plane_at_end, samples_picture};
 ghost use Rattle.jpeg_meaning.specs.Found.{nothing_found};
-ghost use Rattle.jpeg_decoder.specs.Bytes.{AreLinesOf, IsWhole, shape_of, shape_with};
+ghost use Rattle.jpeg_decoder.specs.Bytes.{AreLinesOf, shape_of, shape_with};
 
 use crate::picture::color_choice::choose_color_transform;
 use crate::picture::first::{lines_within, luma_lines};
@@ -414,51 +413,4 @@ pub fn read_header<R: Read + Drop>(
         rows: None,
     };
     read_segments(alloc, source, state, true, Beyond::Zeros, &mut walk)
-}
-
-/// Reads the rest of a stream, after its header, and gives the lines of its picture. No blocks or
-/// planes are kept. `exceeded` says whether a scan was refused since it codes more blocks than the
-/// limit leaves.
-#[tactic(auto, unfolding(crate::proofs::Rules::rests))]
-pub fn read_rest<R: Read + Drop>(
-    alloc: Global,
-    source: &mut Source<R>,
-    state: &mut State,
-    settings: Settings,
-    exceeded: &mut bool,
-) -> Result<Lines>
-    requires sound { IsSound state.old }
-    ensures reads { Answers (λ l. (told_of state.new.said, concat l))
-        (rest_within settings.max_blocks settings state.old) source.old result source.new }
-    ensures told { OnTold source.old source.new result (told_of state.new.said
-        ≡ told_in_turns settings.max_blocks (suc (length source.old.bytes)) false state.old
-        source.old.bytes) }
-    ensures turns { source.old.known ≡ true → IsOfTurns
-        (λ n. told_in_turns settings.max_blocks n false state.old source.old.bytes)
-        (told_of state.new.said) }
-    ensures exceeded { OnTold source.old source.new result (exceeded.new
-        ≡ exceeded_rest settings.max_blocks Zeros state.old source.old.bytes) }
-    ensures framed { IfOk result (λ _. is_some state.new.said.frame ≡ true) }
-    ensures stays { is_some state.old.said.frame ≡ true → state.new.said.frame
-        ≡ state.old.said.frame }
-    ensures frames { OnOk result (HasDecodedFrame state.new) }
-    ensures lines { IfOk result (λ l. AreLinesOf
-        (option_map (shape_of settings) state.new.said.frame) l) }
-    ensures size { IfOk result (λ l. IsWhole
-        (option_map (shape_of settings) state.new.said.frame) (concat l)) }
-    ensures emptied { (state.new.kept ≡ []) × (state.new.planes ≡ replicate 4 None)
-        × (state.new.samples ≡ replicate 4 None) }
-{
-    let mut walk = Walk {
-        budget: Budget {
-            left: settings.max_blocks,
-            exceeded: false,
-        },
-        rows: None,
-    };
-    let ended = read_segments(alloc, source, state, false, Beyond::Zeros, &mut walk);
-    *exceeded = walk.budget.exceeded;
-    let mut decoded = std::mem::replace(&mut state.decoded, Decoded::new(alloc));
-    ended?;
-    picture(alloc, state, &mut decoded, settings)
 }

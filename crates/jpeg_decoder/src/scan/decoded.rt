@@ -77,7 +77,7 @@ fn are_in_order(codings: &[Coded<'_>], count: usize) -> bool
 }
 
 /// Returns whether all coefficients are marked.
-fn are_all(marks: &[bool; 64]) -> bool
+pub fn are_all(marks: &[bool; 64]) -> bool
     ensures { result ≡ list_all (λ mark. mark) marks.now }
 {
     marks.iter().all(|mark| *mark)

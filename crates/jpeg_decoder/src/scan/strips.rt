@@ -60,6 +60,7 @@ pub fn clear_rows(rows: &mut Vec<BlockArray>)
 /// side.
 pub fn plane_size(wide: u16, high: u16, scale: usize) -> usize
     requires { scale ≤ 8 }
+    ensures { result ≡ (wide * scale) * (high * scale) }
 {
     usize::from(wide) * scale * (usize::from(high) * scale)
 }
