@@ -295,7 +295,8 @@ typedef struct zaxbriar_picture {
                                 is cut, a row of blocks (at most 1 MB) aren't counted, nor are the
                                 samples of a scan of several components, or of a lossless frame,
                                 that repeats components of an earlier scan: at most as much once
-                                more */
+                                more; nor is a copy of the luma, where that alone is asked for of a
+                                part, and one scan has all components, of the same factors */
     uint64_t stream_bytes;   /* how many bytes of `jpeg` the image takes, after ZAXBRIAR_OK of
                                 zaxbriar_decode; or the header, after ZAXBRIAR_OK of
                                 zaxbriar_read_info, ZAXBRIAR_NO_ROOM and ZAXBRIAR_TOO_LARGE.

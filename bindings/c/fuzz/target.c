@@ -155,7 +155,7 @@ static int has_scans(void) {
 /* The memory that a call has taken is no more than `decoding_bytes`, tables, metadata, a few lines,
  * 32 of a picture that is turned and, of a scan that is cut, a row of blocks and the data of a
  * restart interval. A scan of several components, or of a lossless frame, may have planes of its
- * own, beside those of scans before. */
+ * own, beside those of scans before; and the luma, if that alone is asked for, may be copied. */
 static void check_memory(enum call call, const struct answer *answer, size_t size) {
     const zaxbriar_picture *picture = &of.info.picture, *full = &of.full.picture;
     size_t metadata = (call == PART ? 6 : 4) * size, counted = 0;
@@ -164,6 +164,7 @@ static void check_memory(enum call call, const struct answer *answer, size_t siz
     else if (of.is_small && !is_described(answer->result)) counted = picture->decoding_bytes;
     int has_own_planes = full->components > 1 || full->process == ZAXBRIAR_LOSSLESS;
     if (has_own_planes && has_scans()) counted *= 2;
+    if (of.options.luma) counted += (full->width + 31) * (size_t)(full->height + 31);
     size_t row_bytes = stored_size(&of.options, picture).width * (size_t)picture->pixel_bytes;
     size_t lines = 4 + (of.options.upright && picture->orientation > 1 ? MOST_TURNED : 0);
     size_t beside = MOST_FOR_TABLES + MOST_FOR_SEGMENT + lines * row_bytes;

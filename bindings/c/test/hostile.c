@@ -108,12 +108,15 @@ static int decode(const unsigned char *jpeg, size_t size, const zaxbriar_options
 }
 
 /* What a call took beside the samples that it counts: no more than so much, the metadata, where a
- * scan was cut a row of a component's blocks, and the lines that are turned at a time. */
+ * scan was cut a row of a component's blocks, the lines that are turned at a time, and a copy of
+ * the luma, if that alone is asked for. */
 static void take_beside(size_t samples, size_t size, const zaxbriar_picture *picture) {
     size_t beside = peak_bytes > samples ? peak_bytes - samples : 0;
     size_t width = picture->width > picture->height ? picture->width : picture->height;
     size_t row = (width / 8 + 4) * (size_t)128;
     if (picture->orientation > 1) row += 32 * width * picture->pixel_bytes;
+    if (picture->components == 1 && picture->sampling[1])
+        row += (picture->width + 31) * (size_t)(picture->height + 31);
     if (beside > most_beside) most_beside = beside;
     CHECK(beside <= MOST_BESIDE + 2 * size + row);
 }

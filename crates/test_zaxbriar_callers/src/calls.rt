@@ -47,12 +47,7 @@ pub fn described_upright(
 
 /// Calls `read_info`, and says that the luma of a sequential picture has one sample a pixel,
 /// however many components its stream has.
-pub fn described_luma(
-    alloc: Global,
-    bytes: &[u8],
-    options: &Options,
-    picture: &mut Picture,
-) -> u32
+pub fn described_luma(alloc: Global, bytes: &[u8], options: &Options, picture: &mut Picture) -> u32
     requires asked { options.now.luma ≡ 1 }
     ensures { result ≡ 0 → picture.new.process ≡ 1 → picture.new.components ≡ 1 }
 {

@@ -56,7 +56,8 @@ impl Completeness {
 /// Returns whether a fault is none of the bytes: the reader has failed, or was interrupted without
 /// end.
 fn is_of_reader(fault: &Error, has_failed: bool) -> bool
-    ensures { IsGivenUp fault.now has_failed → result ≡ true }
+    ensures given_up { IsGivenUp fault.now has_failed → result ≡ true }
+    ensures outside { result ≡ true → IsOutsideOrMemory fault.now }
 {
     match fault {
         Error::Io(_) => has_failed,

@@ -27,6 +27,6 @@ returns-clause-means c few =
       c.decode.new.self.source.bytes,
       rw same at whole,
       ap (λ (s : Settings). option_map (info_by s) c.decode.new.self.found.said.frame) (sym plain)
-      ∙ (sym c.info.ensures ∙ c.unwrap-info.ensures),
+          ∙ (sym c.info.ensures ∙ c.unwrap-info.ensures),
       sym c.precision.ensures ∙ c.unwrap-precision.ensures,
     )
