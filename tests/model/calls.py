@@ -141,9 +141,11 @@ class Options:
 
     def max_blocks(self, frame):
         """How many blocks all scans may code: those of one of all components, so many times."""
+        if not self.max_passes:
+            return None
         one = SimpleNamespace(comps=range(len(frame.comps)))
         blocks = self.max_passes * model.blocks_coded(frame, one, model.Settings())
-        return min(blocks, 2**64 - 1) if self.max_passes else None
+        return min(blocks, 2**64 - 1)
 
     def settings(self, frame):
         return model.Settings(
@@ -160,7 +162,8 @@ class Options:
 def header_of(stream):
     """The frame, the bytes up to the end of its header, and what was said before it."""
     trace = {}
-    meaning = model.meaning(stream, model.Settings(), trace)
+    # (no scan is read, as none may code a block)
+    meaning = model.meaning(stream, model.Settings(max_blocks=0), trace)
     if 'header' not in trace:
         raise refusal(settled(meaning)[1])
     return (trace['frame'],) + trace['header']

@@ -603,14 +603,19 @@ def run_scan(r, mcus, ri, start, unit, stops=False, read=None):
     return marker
 
 
+def own_blocks(f, c):
+    """how many blocks a component has across and down by its own size"""
+    return (
+        ceil_div(ceil_div(f.w * c.h, f.hmax), 8),
+        ceil_div(ceil_div(f.h * c.v, f.vmax), 8),
+    )
+
+
 def block_mcus(f, s):
     """the MCUs of a scan, of each the blocks in turn, with the component's place in the scan, row
     and column; and how many MCUs stand side by side"""
     if len(s.comps) == 1:
-        c = f.comps[s.comps[0]]
-        wide, high = ceil_div(ceil_div(f.w * c.h, f.hmax), 8), ceil_div(
-            ceil_div(f.h * c.v, f.vmax), 8
-        )
+        wide, high = own_blocks(f, f.comps[s.comps[0]])
         return [[(0, y, x)] for y in range(high) for x in range(wide)], wide
     mcus = [
         [
@@ -699,7 +704,11 @@ def sample_mcus(f, s, settings):
 def blocks_coded(f, s, settings):
     """how many blocks a scan codes, MCU by MCU; eight samples of a lossless one count as a block"""
     if f.process != 'lossless':
-        return sum(len(mcu) for mcu in block_mcus(f, s)[0])
+        comps = [f.comps[i] for i in s.comps]
+        if len(comps) == 1:
+            wide, high = own_blocks(f, comps[0])
+            return wide * high
+        return f.mcus[0] * f.mcus[1] * sum(c.h * c.v for c in comps)
     _, _, grid = sample_mcus(f, s, settings)
     return ceil_div(sum(wide * high for _, _, wide, high in grid.values()), 8)
 
