@@ -1,1 +1,10 @@
 pub mod Verdicts
+pub mod Data
+pub mod Loaded
+pub mod Tables
+pub mod Markers
+pub mod Bands
+pub mod Whole
+pub mod Blocks
+pub mod Quantizations
+pub mod TableSegments

@@ -1,9 +1,16 @@
 //! The coefficients of a block (T.81, F.2.2 and G.2).
-ghost use Rattle.std.specs.Prelude.{◌≤◌};
+ghost use Rattle.std.specs.Prelude.{◌≡◌, ◌≤◌, ◌≤ℤ◌, ◌+ℤ◌, negsuc, pos, unsigned_abs, IfOk};
+ghost use Rattle.jpeg_bits.specs.BlockView.{dc_in};
+ghost use Rattle.jpeg_bits.specs.declared.huffman.codes.HuffmanTableClass.TheVariants.{AC, DC};
+ghost use Rattle.zaxbriar_strict.specs.Bands.{block_in, IsInner};
+ghost use Rattle.zaxbriar_strict.specs.Blocks.{ReadsBlock, WritesWhole};
+ghost use Rattle.zaxbriar_strict.specs.Data.{Reads};
+ghost use Rattle.zaxbriar_strict.specs.Loaded.{data_of};
+ghost use Rattle.zaxbriar_strict.specs.Tables.{codes_in};
 
 use crate::bits::Bits;
 use crate::huffman::HuffmanTable;
-use crate::quantization::Block;
+use crate::quantization::{Block, Steps, is_in_range};
 use crate::rule::Rule;
 
 /// Which coefficients of a block are sent, and which of their bits.
@@ -21,18 +28,50 @@ pub(crate) struct Band {
     is_progressive: bool,
     ghost within: { last ≤ 63 },
     ghost shallow: { low ≤ 13 },
+    ghost categories: { most_ac ≤ 14 },
+}
+
+/// What a code of a band stands for.
+#[derive(Clone, Copy)]
+struct Step {
+    /// The place of the next coefficient.
+    place: usize,
+    /// Whether the code stands for sixteen zeros.
+    is_zeros: bool,
+    /// At the end of a band, how many bits follow the code.
+    end: Option<u32>,
 }
 
 /// The end of bands that a code announced for the blocks to come.
 pub(crate) type Run = u32;
 
 impl Band {
+    ghost use Rattle.std.specs.Prelude.{◌≡◌, ◌≤◌, ◌<◌, ◌-◌, ◌*◌, ◌-ℤ◌, [], ◌∷◌, ◌++◌, IfOk, IfSome};
+    ghost use Rattle.std.specs.Prelude.{None, List, length, drop, false, pos, ℕ, ℤ};
+    ghost use Rattle.jpeg_bits.specs.BlockView.{dc_in};
+    ghost use Rattle.jpeg_bits.specs.Written.{IsCoded};
+    ghost use Rattle.jpeg_bits.specs.declared.huffman.codes.HuffmanTableClass.{HuffmanTableClass};
+    ghost use Rattle.jpeg_meaning.specs.WrittenData.{no_numbers, WritesDifference};
+    ghost use Rattle.zaxbriar_strict.specs.Bands.{IsInner, ReadsAc, ReadsStep};
+    ghost use Rattle.zaxbriar_strict.specs.Data.{Reads, Takes};
+    ghost use Rattle.zaxbriar_strict.specs.Loaded.{data_of};
+    ghost use Rattle.zaxbriar_strict.specs.Tables.{codes_in};
+    ghost use Rattle.zaxbriar_strict.specs.Whole.{IsWhole};
+
     /// Returns the band of a sequential scan, of 8 bits, or else of 12.
-    pub(crate) fn whole(is_deep: bool) -> Band {
+    pub(crate) fn whole(is_deep: bool) -> Band
+        ensures { IsWhole result }
+    {
         Band::new(0, 63, 0, is_deep, false)
     }
 
-    fn new(first: u8, last: u8, low: u8, is_deep: bool, is_progressive: bool) -> Band {
+    fn new(first: u8, last: u8, low: u8, is_deep: bool, is_progressive: bool) -> Band
+        ensures first { result.first ≡ first }
+        ensures last { last ≤ 63 → result.last ≡ last }
+        ensures low { low ≤ 13 → result.low ≡ low }
+        ensures is_first { result.is_refined ≡ false }
+        ensures process { result.is_progressive ≡ is_progressive }
+    {
         Band {
             first: usize::from(first),
             last: usize::from(last.min(63)),
@@ -67,8 +106,27 @@ impl Band {
     }
 
     /// Returns the lowest bit that is sent, as a number.
-    fn unit(&self) -> i32 {
+    fn unit(&self) -> i32
+        ensures { self.now.low ≡ 0 → result ≡ pos 1 }
+    {
         1i32 << self.low
+    }
+
+    /// Reads a DC difference (F.2.2.1).
+    fn difference(&self, bits: &mut Bits<'_>, table: &HuffmanTable) -> Result<i32, Rule>
+        ensures { IfOk result (λ d. (class : HuffmanTableClass)
+            → Reads (WritesDifference (codes_in class table.now) d) (data_of bits.old)
+            (data_of bits.new)) }
+    {
+        let category = u32::from(bits.symbol(table)?);
+        if category > self.most_dc || category > 15 {
+            return Err(Rule::DcCategory);
+        }
+        if category == 0 {
+            return Ok(0);
+        }
+        let difference = bits.value(category)?;
+        Ok(difference)
     }
 
     /// Reads the DC coefficient as its difference from the one before (F.2.2.1).
@@ -76,17 +134,20 @@ impl Band {
         &self,
         bits: &mut Bits<'_>,
         table: &HuffmanTable,
-        before: &mut i32,
+        before: &mut i16,
         block: &mut Block,
-    ) -> Result<(), Rule> {
-        let category = u32::from(bits.symbol(table)?);
-        if category > self.most_dc || category > 15 {
-            return Err(Rule::DcCategory);
-        }
-        if category != 0 {
-            *before = before.saturating_add(bits.value(category)?);
-        }
-        block[0] = coefficient_of(before.saturating_mul(self.unit()));
+    ) -> Result<(), Rule>
+        ensures written { IfOk result (λ _. self.now.low ≡ 0 → IsInner (dc_in block.new)
+            → (class : HuffmanTableClass)
+            → Reads (WritesDifference (codes_in class table.now) (dc_in block.new -ℤ before.old))
+            (data_of bits.old) (data_of bits.new)) }
+        ensures next { IfOk result (λ _. self.now.low ≡ 0 → IsInner (dc_in block.new)
+            → before.new ≡ dc_in block.new) }
+        ensures others { drop 1 block.new ≡ drop 1 block.old }
+    {
+        let difference = self.difference(bits, table)?;
+        *before = sum_of(*before, difference);
+        block[0] = product_of(i32::from(*before), self.unit());
         Ok(())
     }
 
@@ -101,8 +162,13 @@ impl Band {
     /// Reads how many blocks end here, this one included (G.1.2.2: EOBn).
     fn read_run(&self, bits: &mut Bits<'_>, order: u32) -> Result<Run, Rule>
         requires { order ≤ 15 }
+        ensures { IfOk result (λ run. self.now.is_progressive ≡ false
+            → (order ≡ 0) × (run ≡ 1) × Takes [] (data_of bits.old) (data_of bits.new)) }
     {
-        if order != 0 && !self.is_progressive {
+        if order == 0 {
+            return Ok(1);
+        }
+        if !self.is_progressive {
             return Err(Rule::RunInSequential);
         }
         Ok((1u32 << order) + u32::from(bits.take(order)?))
@@ -115,44 +181,88 @@ impl Band {
         table: &HuffmanTable,
         run: &mut Run,
         block: &mut Block,
-    ) -> Result<(), Rule> {
+    ) -> Result<(), Rule>
+        ensures written { IfOk result (λ _. IsWhole self.now → run.old ≡ 0 → (dc : ℤ) (n : ℕ)
+            → n ≡ 63 → block.old ≡ dc ∷ no_numbers n → (class : HuffmanTableClass)
+            → ReadsAc (codes_in class table.now) dc block.new (data_of bits.old)
+            (data_of bits.new)) }
+        ensures run { IfOk result (λ _. IsWhole self.now → run.old ≡ 0 → run.new ≡ 0) }
+    {
         if *run > 0 {
             *run -= 1;
             return Ok(());
         }
         let mut place = self.first.max(1);
         let mut is_after_zeros = false;
-        for _ in 0..64 {
-            if place > self.last {
-                break;
-            }
-            let symbol = bits.symbol(table)?;
-            let (zeros, category) = (usize::from(symbol / 16), u32::from(symbol % 16));
-            if category == 0 && zeros < 15 {
+        while place <= self.last {
+            let step = self.read_step(bits, table, place, block)?;
+            if let Some(order) = step.end {
                 if is_after_zeros {
                     return Err(Rule::ZerosBeforeEnd);
                 }
-                *run = self.read_run(bits, zeros as u32)?.saturating_sub(1);
+                *run = self.read_run(bits, order)?.saturating_sub(1);
                 return Ok(());
             }
-            place += zeros;
-            if place > self.last {
-                return Err(Rule::PastBand);
-            }
-            is_after_zeros = category == 0;
-            if category != 0 {
-                if category + self.low > self.most_ac {
-                    return Err(Rule::AcCategory);
-                }
-                let value = bits.value(category)?;
-                block[place] = coefficient_of(value.saturating_mul(self.unit()));
-            }
-            place += 1;
+            place = step.place;
+            is_after_zeros = step.is_zeros;
         }
         if is_after_zeros {
             return Err(Rule::ZerosAtEnd);
         }
         Ok(())
+    }
+
+    /// Reads a code of a band from a place on, and the value after it. Of an end of the band the
+    /// code alone is read.
+    fn read_step(
+        &self,
+        bits: &mut Bits<'_>,
+        table: &HuffmanTable,
+        place: usize,
+        block: &mut Block,
+    ) -> Result<Step, Rule>
+        requires { place ≤ self.now.last }
+        ensures end { IfOk result (λ s. IfSome s.end (λ order. (order ≤ 14)
+            × (block.new ≡ block.old) × ((class : HuffmanTableClass)
+            → Reads (IsCoded (codes_in class table.now) (16 * order)) (data_of bits.old)
+            (data_of bits.new)))) }
+        ensures step { IfOk result (λ s. s.end ≡ None → self.now.low ≡ 0 → (front : List ℤ)
+            → length front ≡ place → block.old ≡ front ++ no_numbers (64 - place)
+            → (class : HuffmanTableClass)
+            → ReadsStep (codes_in class table.now) place s.place front block.new
+            (data_of bits.old) (data_of bits.new)) }
+        ensures on { IfOk result (λ s. s.end ≡ None → (place < s.place) × (s.place ≤ 64)) }
+    {
+        let symbol = bits.symbol(table)?;
+        let (zeros, category) = (usize::from(symbol / 16), u32::from(symbol % 16));
+        if category == 0 && zeros < 15 {
+            return Ok(Step {
+                place,
+                is_zeros: false,
+                end: Some(zeros as u32),
+            });
+        }
+        let last = place + zeros;
+        if last > self.last {
+            return Err(Rule::PastBand);
+        }
+        if category == 0 {
+            return Ok(Step {
+                place: last + 1,
+                is_zeros: true,
+                end: None,
+            });
+        }
+        if category + self.low > self.most_ac {
+            return Err(Rule::AcCategory);
+        }
+        let value = bits.value(category)?;
+        block[last] = product_of(value, self.unit());
+        Ok(Step {
+            place: last + 1,
+            is_zeros: false,
+            end: None,
+        })
     }
 
     /// Reads one more bit of the AC coefficients of the band (G.1.2.3).
@@ -259,8 +369,53 @@ impl Band {
     }
 }
 
+/// Reads a block of a sequential frame of 8 bits, or else of 12, by its Huffman tables, after the
+/// DC coefficient of the block before.
+pub(crate) fn read_block(
+    bits: &mut Bits<'_>,
+    dc: &HuffmanTable,
+    ac: &HuffmanTable,
+    before: &mut i16,
+    is_deep: bool,
+) -> Result<Block, Rule>
+    ensures written { IfOk result (λ b. IsInner (dc_in b)
+        → Reads (WritesWhole (codes_in DC dc.now) (codes_in AC ac.now) (block_in b) before.old)
+        (data_of bits.old) (data_of bits.new)) }
+    ensures next { IfOk result (λ b. IsInner (dc_in b) → before.new ≡ dc_in b) }
+{
+    let band = Band::whole(is_deep);
+    let mut block = [0i16; 64];
+    let mut run = 0;
+    band.read_difference(bits, dc, before, &mut block)?;
+    band.read_ac(bits, ac, &mut run, &mut block)?;
+    Ok(block)
+}
+
+/// Reads a block of a sequential frame, whose coefficients have to be those of some samples.
+pub(crate) fn read_in_range(
+    bits: &mut Bits<'_>,
+    dc: &HuffmanTable,
+    ac: &HuffmanTable,
+    before: &mut i16,
+    steps: &Steps,
+    is_deep: bool,
+) -> Result<(), Rule>
+    ensures { IfOk result (λ _. ReadsBlock is_deep (codes_in DC dc.now) (codes_in AC ac.now)
+        before.old before.new (data_of bits.old) (data_of bits.new)) }
+{
+    let block = read_block(bits, dc, ac, before, is_deep)?;
+    if is_in_range(&block, steps, is_deep) {
+        Ok(())
+    } else {
+        Err(Rule::Range)
+    }
+}
+
 /// Returns a coefficient, or the nearest of 16 bits, which no samples have.
-fn coefficient_of(value: i32) -> i16 {
+fn coefficient_of(value: i32) -> i16
+    ensures inner { IsInner result → result ≡ value }
+    ensures exact { negsuc 32766 ≤ℤ value → value ≤ℤ pos 32766 → result ≡ value }
+{
     if value > 32767 {
         32767
     } else if value < -32768 {
@@ -268,4 +423,19 @@ fn coefficient_of(value: i32) -> i16 {
     } else {
         value as i16
     }
+}
+
+/// Returns a coefficient and a difference together, or the nearest of 16 bits.
+fn sum_of(before: i16, difference: i32) -> i16
+    ensures { IsInner result → result ≡ before +ℤ difference }
+{
+    coefficient_of(i32::from(before).saturating_add(difference))
+}
+
+/// Returns a coefficient of which this is the number at a unit, or the nearest of 16 bits.
+fn product_of(number: i32, unit: i32) -> i16
+    ensures inner { IsInner result → unit ≡ pos 1 → result ≡ number }
+    ensures exact { unsigned_abs number ≤ 32766 → unit ≡ pos 1 → result ≡ number }
+{
+    coefficient_of(number.saturating_mul(unit))
 }

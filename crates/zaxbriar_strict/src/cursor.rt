@@ -1,4 +1,7 @@
 //! Bytes of a stream, markers and segments (T.81, B.1.1).
+ghost use Rattle.std.specs.Prelude.{◌≡◌, ◌∷◌, ◌++◌, IfOk, IfSome};
+ghost use Rattle.jpeg_segments.specs.WrittenSegments.{u16_bytes, with_length};
+ghost use Rattle.zaxbriar_strict.specs.Markers.{BeginsMarker};
 
 use crate::rule::{Rule, Stop};
 
@@ -32,7 +35,9 @@ impl<'a> Cursor<'a> {
     }
 
     /// Takes the next byte, if there is one.
-    pub(crate) fn byte(&mut self) -> Option<u8> {
+    pub(crate) fn byte(&mut self) -> Option<u8>
+        ensures { IfSome result (λ b. self.old.rest.now ≡ b ∷ self.new.rest.now) }
+    {
         let [byte, rest @ ..] = self.rest else {
             return None;
         };
@@ -41,7 +46,9 @@ impl<'a> Cursor<'a> {
     }
 
     /// Takes the next two bytes as a number, the higher byte first, if they are there.
-    pub(crate) fn number(&mut self) -> Option<u16> {
+    pub(crate) fn number(&mut self) -> Option<u16>
+        ensures { IfSome result (λ n. self.old.rest.now ≡ u16_bytes n ++ self.new.rest.now) }
+    {
         let [high, low, rest @ ..] = self.rest else {
             return None;
         };
@@ -50,25 +57,33 @@ impl<'a> Cursor<'a> {
     }
 
     /// Takes the next marker, before which fill bytes may stand (B.1.1.2), and returns its code.
-    pub(crate) fn marker(&mut self) -> Result<u8, Stop> {
+    pub(crate) fn marker(&mut self) -> Result<u8, Stop>
+        ensures { IfOk result (λ code. BeginsMarker code self.old.rest.now self.new.rest.now) }
+    {
         for _ in 0..self.rest.len() {
-            match self.rest {
-                [0xff, 0xff, ..] => {
-                    let _ = self.byte();
+            let mut next = *self;
+            let Some(0xff) = next.byte() else {
+                return Err(self.breaks(Rule::Stray));
+            };
+            let after = next;
+            match next.byte() {
+                None => return Err(self.breaks(Rule::Truncated)),
+                Some(0) => return Err(self.breaks(Rule::Stray)),
+                Some(0xff) => *self = after,
+                Some(code) => {
+                    *self = next;
+                    return Ok(code);
                 }
-                [0xff] => return Err(self.breaks(Rule::Truncated)),
-                [0xff, code, rest @ ..] if *code != 0 => {
-                    self.rest = rest;
-                    return Ok(*code);
-                }
-                _ => return Err(self.breaks(Rule::Stray)),
             }
         }
         Err(self.breaks(Rule::Truncated))
     }
 
     /// Takes a segment from its length on (B.1.1.4), and returns what follows its length.
-    pub(crate) fn segment(&mut self) -> Result<Cursor<'a>, Stop> {
+    pub(crate) fn segment(&mut self) -> Result<Cursor<'a>, Stop>
+        ensures { IfOk result
+            (λ part. self.old.rest.now ≡ with_length part.rest.now ++ self.new.rest.now) }
+    {
         let start = self.offset();
         let Some(length) = self.number() else {
             return Err(Rule::Truncated.at(self.end));

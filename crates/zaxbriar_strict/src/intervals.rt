@@ -1,4 +1,8 @@
 //! Restart intervals (T.81, B.2.1 and E.2.4).
+ghost use Rattle.std.specs.Prelude.{◌≡◌, IfOk};
+ghost use Rattle.zaxbriar_strict.specs.Data.{data_at};
+ghost use Rattle.zaxbriar_strict.specs.Loaded.{data_of};
+ghost use Rattle.zaxbriar_strict.specs.Markers.{Restarts};
 
 use crate::bits::Bits;
 use crate::cursor::Cursor;
@@ -18,7 +22,10 @@ pub(crate) struct Intervals<'a> {
 }
 
 impl<'a> Intervals<'a> {
-    pub(crate) fn new(start: Cursor<'a>, every: u16) -> Intervals<'a> {
+    pub(crate) fn new(start: Cursor<'a>, every: u16) -> Intervals<'a>
+        ensures bits { data_of result.bits ≡ data_at start.entry.rest.now }
+        ensures next { result.next ≡ 0 }
+    {
         Intervals {
             bits: Bits::new(start),
             every,
@@ -38,7 +45,10 @@ impl<'a> Intervals<'a> {
     }
 
     /// Ends the interval, and begins the one after the restart marker that follows.
-    pub(crate) fn restart(&mut self) -> Result<(), Stop> {
+    pub(crate) fn restart(&mut self) -> Result<(), Stop>
+        ensures { IfOk result
+            (λ _. Restarts self.old.next (data_of self.old.bits) (data_of self.new.bits)) }
+    {
         let place = self.bits.end()?;
         let mut rest = place;
         if rest.marker()? != 0xd0 + self.next % 8 {

@@ -1,7 +1,9 @@
 //! Judges whether a stream is exactly what T.81 (ITU-T Rec. T.81, the JPEG standard) defines.
 //!
-//! This is no decoder, and shares nothing with one: it reads a stream by the standard's clauses,
-//! takes nothing that they don't define, and makes no picture.
+//! This is no decoder, and shares no line of code with one: it reads a stream by the standard's
+//! clauses, takes nothing that they don't define, and makes no picture. What is read of markers, of
+//! tables, of bits and of blocks was written by the definitions of a writer, which the contracts
+//! cite.
 #![tactic(auto)]
 
 ghost use Rattle.std.specs.Prelude.{IfOk, length};

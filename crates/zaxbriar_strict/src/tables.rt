@@ -1,8 +1,11 @@
 //! The tables that are installed, and the segments that install them (T.81, B.2.4).
+ghost use Rattle.std.specs.Prelude.{◌≡◌, IfOk};
+ghost use Rattle.jpeg_segments.specs.WrittenSegments.{u16_bytes};
+ghost use Rattle.zaxbriar_strict.specs.TableSegments.{HasCodeTables, HasStepTables};
 
 use crate::cursor::Cursor;
 use crate::frame::{Frame, Process};
-use crate::huffman::{self, HuffmanTable};
+use crate::huffman::HuffmanTable;
 use crate::quantization::{self, Steps};
 use crate::rule::{Rule, Stop};
 use std::alloc::Global;
@@ -44,21 +47,16 @@ impl Tables {
     }
 
     /// Reads a DQT segment (B.2.4.1).
-    pub(crate) fn read_steps(
-        &mut self,
-        data: Cursor<'_>,
-        frame: Option<&Frame>,
-    ) -> Result<(), Stop> {
-        if data.rest.is_empty() {
-            return Err(data.breaks(Rule::NoQuantization));
+    pub(crate) fn read_steps(&mut self, part: Cursor<'_>, frame: Option<&Frame>) -> Result<(), Stop>
+        ensures { IfOk result (λ _. HasStepTables part.entry.rest.now) }
+    {
+        if part.rest.is_empty() {
+            return Err(part.breaks(Rule::NoQuantization));
         }
-        let mut data = data;
-        for _ in 0..data.rest.len() {
-            if data.rest.is_empty() {
-                return Ok(());
-            }
-            let start = data;
-            let (destination, steps) = quantization::take_table(&mut data)?;
+        let mut rest = part;
+        while !rest.rest.is_empty() {
+            let start = rest;
+            let (destination, steps) = quantization::take_table(&mut rest)?;
             if let Some(place) = self.steps.get_mut(usize::from(destination)) {
                 *place = Some(steps);
             }
@@ -68,21 +66,16 @@ impl Tables {
     }
 
     /// Reads a DHT segment (B.2.4.2).
-    pub(crate) fn read_codes(
-        &mut self,
-        data: Cursor<'_>,
-        frame: Option<&Frame>,
-    ) -> Result<(), Stop> {
-        if data.rest.is_empty() {
-            return Err(data.breaks(Rule::NoCodes));
+    pub(crate) fn read_codes(&mut self, part: Cursor<'_>, frame: Option<&Frame>) -> Result<(), Stop>
+        ensures { IfOk result (λ _. HasCodeTables part.entry.rest.now) }
+    {
+        if part.rest.is_empty() {
+            return Err(part.breaks(Rule::NoCodes));
         }
-        let mut data = data;
-        for _ in 0..data.rest.len() {
-            if data.rest.is_empty() {
-                return Ok(());
-            }
-            let start = data;
-            let (class, destination, table) = huffman::take_table(&mut data)?;
+        let mut rest = part;
+        while !rest.rest.is_empty() {
+            let start = rest;
+            let (class, destination, table) = HuffmanTable::read(&mut rest)?;
             if let Some(place) = self.codes.get_mut(place_of(class, destination)) {
                 *place = Some(table);
             }
@@ -92,9 +85,11 @@ impl Tables {
     }
 
     /// Reads a DRI segment (B.2.4.4).
-    pub(crate) fn read_interval(&mut self, data: Cursor<'_>) -> Result<(), Stop> {
-        let [high, low] = data.rest else {
-            return Err(data.breaks(Rule::Interval));
+    pub(crate) fn read_interval(&mut self, part: Cursor<'_>) -> Result<(), Stop>
+        ensures { IfOk result (λ _. part.entry.rest.now ≡ u16_bytes self.new.interval) }
+    {
+        let [high, low] = part.rest else {
+            return Err(part.breaks(Rule::Interval));
         };
         self.interval = 256 * u16::from(*high) + u16::from(*low);
         Ok(())

@@ -1,12 +1,12 @@
 //! Scans of DCT coefficients (T.81, F.2 and G.2).
 
 use crate::bits::Bits;
-use crate::blocks::{Band, Run};
+use crate::blocks::{Band, Run, read_in_range};
 use crate::cursor::Cursor;
 use crate::frame::{Component, Frame, Process};
 use crate::huffman::HuffmanTable;
 use crate::intervals::Intervals;
-use crate::quantization::{Block, is_in_range};
+use crate::quantization::Block;
 use crate::rule::{Rule, Stop};
 use crate::scan::Scan;
 use crate::tables::Tables;
@@ -29,7 +29,7 @@ struct Context<'a> {
 #[derive(Clone, Copy)]
 struct Past {
     /// The DC coefficients that were read last, by components of the scan.
-    dc: [i32; 4],
+    dc: [i16; 4],
     /// How many blocks are still within an end-of-band run.
     run: Run,
 }
@@ -145,12 +145,16 @@ impl Context<'_> {
         past: &mut Past,
         bits: &mut Bits<'_>,
     ) -> Result<(), Rule> {
-        let mut block = [0i16; 64];
-        self.read_coefficients(slot, past, bits, &mut block)?;
-        match &component.steps {
-            Some(steps) if !is_in_range(&block, steps, self.is_deep) => Err(Rule::Range),
-            _ => Ok(()),
-        }
+        let (Some(member), Some(before)) = (self.scan.members().get(slot), past.dc.get_mut(slot))
+        else {
+            return Err(Rule::UnknownComponent);
+        };
+        let Some(steps) = &component.steps else {
+            return Err(Rule::NoStepTable);
+        };
+        let dc = codes_of(self.tables, 0, member.dc)?;
+        let ac = codes_of(self.tables, 1, member.ac)?;
+        read_in_range(bits, dc, ac, before, steps, self.is_deep)
     }
 
     /// Reads the block of a component at a column and a row.

@@ -1,0 +1,10 @@
+pub mod Taken
+pub mod Markers
+pub mod Values
+pub mod Codes
+pub mod CodeTables
+pub mod Bands
+pub mod Wholes
+pub mod Turns
+pub mod StepTables
+pub mod Segments

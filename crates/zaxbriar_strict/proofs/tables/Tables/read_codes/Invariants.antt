@@ -1,0 +1,9 @@
+use Rattle.std.proofs.Common.{length}
+use Rattle.zaxbriar_strict.proofs.Segments.{CodesBefore}
+use Rattle.zaxbriar_strict.proofs.tables.Tables.read_codes.Given as goal
+
+abbrev pub invariant-loop-rest : goal.invariant-loop-rest
+invariant-loop-rest l = CodesBefore l.initial.rest.rest.now l.rest.rest.now
+
+abbrev pub decreases-loop-rest : goal.decreases-loop-rest
+decreases-loop-rest l = length l.rest.rest.now
