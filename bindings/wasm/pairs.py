@@ -37,10 +37,13 @@ SHUFFLE = re.compile(
 )
 
 NUMBERS = ', '.join
-WANTED = ('i32', [
-    ('add', ('mul', ('pairs', 2 * j), '%a2'), ('mul', ('pairs', 2 * j + 1), '%a3'))
-    for j in range(8)
-])
+WANTED = (
+    'i32',
+    [
+        ('add', ('mul', ('pairs', 2 * j), '%a2'), ('mul', ('pairs', 2 * j + 1), '%a3'))
+        for j in range(8)
+    ],
+)
 
 
 class Other(Exception):

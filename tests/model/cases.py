@@ -109,8 +109,10 @@ def decoding_bytes(frame, scale):
     for component in frame.comps:
         across, down = frame.mcus[0] * component.h, frame.mcus[1] * component.v
         if frame.process == 'lossless':
-            planes += 2 * ceil_div(frame.w * component.h, frame.hmax) * ceil_div(
-                frame.h * component.v, frame.vmax
+            planes += (
+                2
+                * ceil_div(frame.w * component.h, frame.hmax)
+                * ceil_div(frame.h * component.v, frame.vmax)
             )
         else:
             planes += across * scale * down * scale

@@ -64,9 +64,7 @@ def as_one_stream(zaxbriar, peer):
     frames = [stream for _, stream in mjpeg_frames()]
     theirs = [answer_of([peer], frame)[1].split(b"\n", 1)[1] for frame in frames]
     with tempfile.TemporaryDirectory() as folder:
-        refused, _ = answer_of(
-            [zaxbriar, "frames", "-o", f"{folder}/%04d.ppm"], b"".join(frames)
-        )
+        refused, _ = answer_of([zaxbriar, "frames", "-o", f"{folder}/%04d.ppm"], b"".join(frames))
         ours = [path.read_bytes().split(b"\n", 3)[3] for path in sorted(Path(folder).iterdir())]
     yield "all frames", (refused, ours), (False, theirs)
 

@@ -11,7 +11,6 @@ import sys
 from PIL import Image, ImageChops, ImageFile
 
 
-
 def loaded(name, is_lenient):
     """The picture of a file, or None where it is refused."""
     ImageFile.LOAD_TRUNCATED_IMAGES = is_lenient

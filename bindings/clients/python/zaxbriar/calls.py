@@ -68,9 +68,7 @@ def _new_memory(size: int) -> memoryview:
         raise NoMemoryError(f"a picture of {size} bytes") from None
 
 
-def _memory_of(
-    out: Buffer | None, stream: tuple[int, int], options: library.Options
-) -> memoryview:
+def _memory_of(out: Buffer | None, stream: tuple[int, int], options: library.Options) -> memoryview:
     """The memory for a picture: new, or that of a caller. Where that has several dimensions, the
     options get its stride."""
     if out is None:
