@@ -1,9 +1,9 @@
 /* node page.mjs BROWSER FOLDER: the page of dist/web in headless chromium or firefox: files that
  * are chosen, dropped and pasted, their pixels and sampling factors, the part of files with a
- * fault, faults in words and by name, the list, zoom and keys, names for a screen reader, the file
- * that is chosen before those that wait and in place of one that takes half a minute, the first
- * screen of a phone, the photograph, the page without a network, and the worker after a trap.
- * FOLDER takes files, BROWSER.png and BROWSER.phone.png. */
+ * fault, faults in words and by name, metadata and a thumbnail, the list, zoom and keys, names for
+ * a screen reader, the file that is chosen before those that wait and in place of one that takes
+ * half a minute, the first screen of a phone, the photograph, the page without a network, and the
+ * worker after a trap. FOLDER takes files, BROWSER.png and BROWSER.phone.png. */
 import assert from 'node:assert/strict';
 import { copyFileSync, readFileSync, writeFileSync } from 'node:fs';
 import { resolve } from 'node:path';
@@ -91,7 +91,7 @@ const PARTIAL = {
 };
 const REFUSED = {
     [headless()]: ['TRUNCATED', 'The file ends too soon: a part of it is missing.'],
-    [ours('large.jpg')]: ['NO_MEMORY', 'The picture is too large for this page.'],
+    [ours('large.jpg')]: ['TOO_LARGE', 'The picture is too large for this page.'],
     [ours('picture.png')]: ['MALFORMED', 'This is a PNG file, not a JPEG file.'],
     [fileOf(arithmetic.file.replace('.case', ''), arithmetic.name)]: [
         'UNSUPPORTED',
@@ -112,11 +112,34 @@ function larger() {
     return path;
 }
 
+/* A picture with Exif data that have another picture as its thumbnail, and the bytes of these. */
+function withThumbnail() {
+    const stream = readFileSync(ours('picture.jpg'));
+    const thumbnail = readFileSync(ours('turned.jpg'));
+    // (a directory without entries, and one that says where the thumbnail is, and its bytes)
+    const head = '49492a0008000000' + '00000e000000' + '0200' + '01020400010000002c000000';
+    const exif = Buffer.concat([
+        Buffer.from(`${head}0202040001000000${'00'.repeat(8)}`, 'hex'),
+        thumbnail,
+    ]);
+    exif.writeUInt32LE(thumbnail.length, 36);
+    const segment = Buffer.concat([Buffer.from('ffe10000457869660000', 'hex'), exif]);
+    segment.writeUInt16BE(segment.length - 2, 2);
+    const path = `${folder}/with a thumbnail.jpg`;
+    writeFileSync(path, Buffer.concat([stream.subarray(0, 2), segment, stream.subarray(2)]));
+    return { path, exif, thumbnail };
+}
+
+/* Waits for what the file that was chosen shows. */
+async function shown(page) {
+    await page.until(`['shown', 'partial', 'refused'].includes(document.body.dataset.state)`);
+    return page.run('document.body.dataset.state');
+}
+
 /* Chooses a file of the list, and waits for what it shows. */
 async function show(page, path) {
     await page.run(`document.body.dataset.state = 'waiting'; ${button(path)}.click()`);
-    await page.until(`['shown', 'partial', 'refused'].includes(document.body.dataset.state)`);
-    return page.run('document.body.dataset.state');
+    return shown(page);
 }
 
 const factsOf = (page) =>
@@ -232,6 +255,29 @@ async function checkPatience(page, url) {
     assert.equal(await show(page, PICTURES[0]), 'shown');
     assert.ok(performance.now() - time < 10000);
     assert.equal(await page.run(`${button(slow)}.lastChild.textContent`), 'waiting');
+}
+
+/* How many bytes of metadata a file has is told; and its thumbnail is opened as a file. */
+async function checkThumbnail(page) {
+    const { path, exif, thumbnail } = withThumbnail();
+    const isHidden = () => page.run(`document.getElementById('thumbnail').hidden`);
+    assert.equal(await show(page, ours('picture.jpg')), 'shown');
+    assert.ok(await isHidden());
+    await page.run(`document.body.dataset.state = 'waiting'`);
+    await page.choose('#file', [path]);
+    assert.equal(await shown(page), 'shown');
+    assert.ok(!(await isHidden()));
+    const facts = await factsOf(page);
+    assert.equal(facts.Exif, `${exif.length} bytes`);
+    assert.equal(facts.Thumbnail, `${thumbnail.length} bytes`);
+    for (const name of ['XMP', 'Extended XMP', 'IPTC', 'ICC profile']) {
+        assert.equal(facts[name], 'none');
+    }
+    await page.run(`document.body.dataset.state = 'waiting';
+        document.getElementById('thumbnail').click()`);
+    assert.equal(await shown(page), 'shown');
+    const { File, Length } = await factsOf(page);
+    assert.deepEqual([File, Length], [`thumbnail of ${nameOf(path)}`, facts.Thumbnail]);
 }
 
 /* The page itself doesn't draw: its canvas takes what the worker has drawn. */
@@ -417,6 +463,7 @@ for (const [path, sampling] of Object.entries(SAMPLINGS)) {
 await checkPixels(page);
 await checkPartial(page);
 await checkRefusals(page);
+await checkThumbnail(page);
 await checkList(page, files);
 for (const event of ['drop', 'paste']) await give(page, event, PICTURES[0]);
 await checkKeys(page);
@@ -432,6 +479,6 @@ await checkTrap();
 const [parts, refusals] = [PARTIAL, REFUSED].map((files) => Object.keys(files).length);
 console.log(`page in ${browser}: ${PICTURES.length} pictures with their sampling,`);
 console.log(`      ${parts} in part, ${refusals} refusals by name, the list, drop, paste, fit, zoom,`);
-console.log(`      ${stops} stops of the tabulator, ${buttons} buttons with names,`);
+console.log(`      ${stops} stops of the tabulator, ${buttons} buttons with names, a thumbnail,`);
 console.log('      the chosen file first, a slow one put off, the first screen of a phone,');
 console.log('      the photograph, an empty console, no network, the worker after a trap');

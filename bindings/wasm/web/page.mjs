@@ -57,6 +57,16 @@ const SAMPLINGS = {
     '4×1': '4:1:1',
 };
 
+/* The names of metadata. */
+const METADATA = {
+    exif: 'Exif',
+    xmp: 'XMP',
+    extendedXmp: 'Extended XMP',
+    iptc: 'IPTC',
+    icc: 'ICC profile',
+    thumbnail: 'Thumbnail',
+};
+
 const counted = (bytes) => (bytes ? `${bytes.toLocaleString('en')} bytes` : 'none');
 
 /* A time by the browser's clock, which may be a millisecond off at each end. */
@@ -86,10 +96,8 @@ function factsOf(file, { picture, metadata, milliseconds }) {
         facts.Sampling = samplingOf(picture);
         facts.Orientation = orientationOf(picture);
     }
-    if (metadata) {
-        facts.Exif = counted(metadata.exif);
-        facts.XMP = counted(metadata.xmp);
-        facts['ICC profile'] = counted(metadata.icc);
+    for (const [kind, name] of metadata ? Object.entries(METADATA) : []) {
+        facts[name] = counted(metadata.bytes[kind]);
     }
     if (milliseconds !== undefined) facts['Decoded in'] = timeOf(milliseconds);
     return facts;
@@ -146,8 +154,12 @@ function show(entry, reply) {
     if (reply.bitmap) put(reply.bitmap);
     showFault(reply);
     showFacts(factsOf(entry.file, reply));
-    at('xmp').hidden = !reply.metadata?.text;
-    at('xmp').querySelector('pre').textContent = reply.metadata?.text ?? '';
+    const { texts = [], thumbnail } = reply.metadata ?? {};
+    at('xmp').hidden = texts.length === 0;
+    at('xmp').querySelector('pre').textContent = texts.join('\n\n');
+    at('thumbnail').hidden = !thumbnail;
+    const name = `thumbnail of ${entry.file.name}`;
+    at('thumbnail').onclick = () => open([new File([thumbnail], name)]);
     const state = stateOf(reply);
     at('shown').hidden = state === 'refused';
     if (!at('shown').hidden) {

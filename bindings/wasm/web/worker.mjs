@@ -15,6 +15,9 @@ const FAULTS = ['MALFORMED', 'UNSUPPORTED', 'TRUNCATED', 'TOO_MANY_PASSES'];
 
 const OPTIONS = { layout: 'rgba', upright: true };
 
+/* Metadata that may stand in several segments. */
+const JOINED = ['exif', 'xmp', 'extendedXmp', 'iptc', 'thumbnail'];
+
 /* The picture for a canvas, upright, or the part of it that comes before a fault of the stream, and
  * that fault. */
 function pictureOf(zaxbriar, jpeg) {
@@ -50,16 +53,15 @@ function drawn(decoded) {
     }
 }
 
-/* What the segments before the frame say: how many bytes of each kind there are, and the text of
- * XMP data. */
+/* The metadata of the whole image, but for an ICC profile, which stands before the frame: how many
+ * bytes of each kind there are, the texts of XMP data, and the thumbnail. */
 function metadata(zaxbriar, jpeg) {
-    const found = {};
-    for (const kind of ['exif', 'xmp', 'icc']) {
-        const data = zaxbriar.metadata(jpeg, kind);
-        found[kind] = data?.length ?? 0;
-        if (kind === 'xmp' && data) found.text = new TextDecoder().decode(data);
-    }
-    return found;
+    const found = { icc: zaxbriar.metadata(jpeg, 'icc') };
+    for (const kind of JOINED) found[kind] = zaxbriar.joinedMetadata(jpeg, kind);
+    const { xmp, extendedXmp, thumbnail } = found;
+    const bytes = Object.entries(found).map(([kind, data]) => [kind, data?.length ?? 0]);
+    const texts = [xmp, extendedXmp].filter(Boolean).map((data) => new TextDecoder().decode(data));
+    return { bytes: Object.fromEntries(bytes), texts, thumbnail };
 }
 
 /* What a fault says of itself; any other error is the end of the decoder. */
