@@ -21,7 +21,7 @@ pub(crate) struct Bits<'a> {
     ghost few: { left ≤ 64 },
 }
 
-/// What bits of a word that stay where a byte is loaded are less than.
+/// The bound of the bits of a word that stay when a byte is loaded.
 const ROOM: u64 = 1 << 56;
 
 /// Returns 2 to an exponent.
@@ -107,7 +107,7 @@ impl<'a> Bits<'a> {
         }
     }
 
-    /// Sees to it that this many bits are loaded. A marker before their end is a fault (F.2.2.5).
+    /// Loads bytes until this many bits are loaded. A marker before their end is a fault (F.2.2.5).
     fn load_for(&mut self, count: u32) -> Result<(), Rule>
         ensures bits { IfOk result (λ _. Takes [] (data_of self.old) (data_of self.new)) }
         ensures loaded { IfOk result (λ _. count ≤ self.new.left) }
