@@ -47,7 +47,7 @@ pub(crate) type Run = u32;
 
 impl Band {
     ghost use Rattle.std.specs.Prelude.{◌≡◌, ◌≤◌, ◌<◌, ◌-◌, ◌*◌, ◌-ℤ◌, [], ◌∷◌, ◌++◌, IfOk, IfSome};
-    ghost use Rattle.std.specs.Prelude.{None, List, length, drop, false, pos, ℕ, ℤ};
+    ghost use Rattle.std.specs.Prelude.{None, IsTrue, List, length, drop, false, pos, ℕ, ℤ};
     ghost use Rattle.jpeg_bits.specs.BlockView.{dc_in};
     ghost use Rattle.jpeg_bits.specs.Written.{IsCoded};
     ghost use Rattle.jpeg_bits.specs.declared.huffman.codes.HuffmanTableClass.{HuffmanTableClass};
@@ -91,12 +91,16 @@ impl Band {
     }
 
     /// Returns whether the DC coefficient is sent.
-    pub(crate) fn has_dc(&self) -> bool {
+    pub(crate) fn has_dc(&self) -> bool
+        ensures { self.now.first ≡ 0 → IsTrue result }
+    {
         self.first == 0
     }
 
     /// Returns whether AC coefficients are sent.
-    pub(crate) fn has_ac(&self) -> bool {
+    pub(crate) fn has_ac(&self) -> bool
+        ensures { self.now.last ≡ 63 → IsTrue result }
+    {
         self.last != 0
     }
 

@@ -17,7 +17,9 @@ pub(crate) struct Cursor<'a> {
 }
 
 impl<'a> Cursor<'a> {
-    pub(crate) fn new(stream: &'a [u8]) -> Cursor<'a> {
+    pub(crate) fn new(stream: &'a [u8]) -> Cursor<'a>
+        ensures { result.rest.now ≡ stream.now }
+    {
         Cursor {
             rest: stream,
             end: stream.len(),

@@ -1,9 +1,15 @@
 //! Frame headers (T.81, B.2.2), and what scans have brought of their components.
+ghost use Rattle.std.specs.Prelude.{◌≡◌, ◌==◌, ◌+◌, ◌*◌, ◌≤◌, ◌<◌, ◌++◌, ◌∷◌, [], IfOk, IsTrue};
+ghost use Rattle.std.specs.Prelude.{false, flat_map, length, map, true};
+ghost use Rattle.std.specs.List.{AllByRecursion, list_any};
+ghost use Rattle.jpeg_segments.specs.Frame.{ceiling, greatest, is_count, is_destination};
+ghost use Rattle.jpeg_segments.specs.Frame.{is_factor, is_lossless_number, is_precision};
+ghost use Rattle.jpeg_segments.specs.WrittenSegments.{AreComponents, factors_bytes, u16_bytes};
+ghost use Rattle.zaxbriar_strict.specs.Heads.{factors_of, number_of, ReadsFrame};
 
 use crate::cursor::Cursor;
 use crate::quantization::{Block, Steps, is_in_range};
 use crate::rule::{Rule, Stop};
-use crate::verdict::Refusal;
 use std::alloc::{AllocError, Global};
 
 /// The coding processes that are read.
@@ -33,32 +39,6 @@ pub(crate) struct Component {
     pub(crate) rows: Vec<Vec<Block>>,
 }
 
-impl Component {
-    /// Returns the block at a column and a row of a progressive frame, whose rows have this many.
-    /// The rows up to it are made where no scan has reached them yet.
-    pub(crate) fn block_at(
-        &mut self,
-        alloc: Global,
-        place: (u32, u32),
-        columns: u32,
-    ) -> Result<&mut Block, Stop> {
-        let (column, row) = (place.0 as usize, place.1 as usize);
-        for _ in self.rows.len()..row + 1 {
-            let blocks = vec![in alloc; [0i16; 64]; columns as usize]?;
-            if let Err(failed) = self.rows.push(blocks) {
-                return Err(Stop::from(AllocError::from(failed)));
-            }
-        }
-        // (Each row has this column: there is none only where there is no memory.)
-        match self.rows.get_mut(row) {
-            Some(blocks) => blocks
-                .get_mut(column)
-                .ok_or(Stop::Refused(Refusal::OutOfMemory)),
-            None => Err(Stop::Refused(Refusal::OutOfMemory)),
-        }
-    }
-}
-
 /// A frame.
 #[derive(Drop)]
 pub(crate) struct Frame {
@@ -73,7 +53,9 @@ pub(crate) struct Frame {
 }
 
 /// Returns how many parts of a size a length has, the last of which may be shorter.
-pub(crate) fn parts_of(length: u32, size: u32) -> u32 {
+pub(crate) fn parts_of(length: u32, size: u32) -> u32
+    ensures { 1 ≤ size → result ≡ ceiling length size }
+{
     if size == 0 {
         return 0;
     }
@@ -85,9 +67,21 @@ pub(crate) fn parts_of(length: u32, size: u32) -> u32 {
     }
 }
 
+/// Returns how many blocks or samples a side of a component has by itself, from that side of the
+/// frame in samples, the component's sampling factor and the greatest one (A.1.1 and A.2.2).
+fn own_parts(length: u32, factor: u8, most: u32, side: u32) -> u32
+    ensures { length ≤ 65535 → 1 ≤ most → 1 ≤ side
+        → result ≡ ceiling (ceiling (length * factor) most) side }
+{
+    let samples = parts_of(length.saturating_mul(u32::from(factor)), most);
+    parts_of(samples, side)
+}
+
 impl Frame {
     /// Whether the samples have 12 bits, and not 8.
-    pub(crate) fn is_deep(&self) -> bool {
+    pub(crate) fn is_deep(&self) -> bool
+        ensures { self.now.precision ≡ 8 → result ≡ false }
+    {
         self.precision == 12
     }
 
@@ -101,13 +95,17 @@ impl Frame {
     }
 
     /// Returns how many columns and rows of blocks or samples a component has by itself (A.2.2).
-    pub(crate) fn own_units(&self, component: &Component, side: u32) -> (u32, u32) {
-        let across = self.width.saturating_mul(u32::from(component.across));
-        let down = self.height.saturating_mul(u32::from(component.down));
-        (
-            parts_of(parts_of(across, self.most_across), side),
-            parts_of(parts_of(down, self.most_down), side),
-        )
+    pub(crate) fn own_units(&self, component: &Component, side: u32) -> (u32, u32)
+        ensures across { self.now.width ≤ 65535 → 1 ≤ self.now.most_across → 1 ≤ side
+            → result.0 ≡ ceiling
+            (ceiling (self.now.width * component.now.across) self.now.most_across) side }
+        ensures down { self.now.height ≤ 65535 → 1 ≤ self.now.most_down → 1 ≤ side
+            → result.1 ≡ ceiling
+            (ceiling (self.now.height * component.now.down) self.now.most_down) side }
+    {
+        let across = own_parts(self.width, component.across, self.most_across, side);
+        let down = own_parts(self.height, component.down, self.most_down, side);
+        (across, down)
     }
 
     /// Returns how many bytes the blocks of a progressive frame and their rows take.
@@ -141,7 +139,9 @@ impl Frame {
 }
 
 /// Returns the process of a frame header's marker, or why it isn't read (Table B.1).
-fn process_of(code: u8) -> Result<Process, Stop> {
+fn process_of(code: u8) -> Result<Process, Stop>
+    ensures { IfOk result (λ p. code ≡ 192 + number_of p) }
+{
     match code {
         0xc0 => Ok(Process::Baseline),
         0xc1 => Ok(Process::Extended),
@@ -153,7 +153,9 @@ fn process_of(code: u8) -> Result<Process, Stop> {
 }
 
 /// Returns whether a process has a precision (Table B.2).
-fn has_precision(process: Process, precision: u8) -> bool {
+fn has_precision(process: Process, precision: u8) -> bool
+    ensures { IsTrue result → is_precision (number_of process) precision ≡ true }
+{
     match process {
         Process::Baseline => precision == 8,
         Process::Extended | Process::Progressive => precision == 8 || precision == 12,
@@ -161,24 +163,47 @@ fn has_precision(process: Process, precision: u8) -> bool {
     }
 }
 
+/// Returns whether a process has this many components (Table B.2), of which there is one.
+fn has_count(process: Process, count: u8) -> bool
+    ensures { IsTrue result → 0 < count → is_count (number_of process) count ≡ true }
+{
+    match process {
+        Process::Progressive => count <= 4,
+        Process::Baseline | Process::Extended | Process::Lossless => true,
+    }
+}
+
+/// Returns whether a process has this destination of quantization tables (Table B.2).
+fn has_table(process: Process, table: u8) -> bool
+    ensures { result ≡ is_destination (is_lossless_number (number_of process)) table }
+{
+    match process {
+        Process::Lossless => table == 0,
+        Process::Baseline | Process::Extended | Process::Progressive => table <= 3,
+    }
+}
+
 /// Takes a component's part of a header, and checks it by itself.
-fn take_component(
-    alloc: Global,
-    process: Process,
-    data: &mut Cursor<'_>,
-) -> Result<Component, Rule> {
-    let [identifier, factors, table, rest @ ..] = data.rest else {
+fn take_component(alloc: Global, process: Process, part: &mut Cursor<'_>) -> Result<Component, Rule>
+    ensures bytes { IfOk result (λ c. part.old.rest.now
+        ≡ factors_bytes (factors_of c) ++ part.new.rest.now) }
+    ensures across { IfOk result (λ c. is_factor c.across ≡ true) }
+    ensures down { IfOk result (λ c. is_factor c.down ≡ true) }
+    ensures placed { IfOk result (λ c.
+        is_destination (is_lossless_number (number_of process)) c.table ≡ true) }
+    ensures unsent { IfOk result (λ c. c.has_scan ≡ false) }
+{
+    let [identifier, factors, table, rest @ ..] = part.rest else {
         return Err(Rule::FrameLength);
     };
     let (identifier, across, down, table) = (*identifier, *factors / 16, *factors % 16, *table);
     if across < 1 || across > 4 || down < 1 || down > 4 {
         return Err(Rule::Factor);
     }
-    let most = if process == Process::Lossless { 0 } else { 3 };
-    if table > most {
+    if !has_table(process, table) {
         return Err(Rule::Selector);
     }
-    data.rest = rest;
+    part.rest = rest;
     Ok(Component {
         identifier,
         across,
@@ -191,30 +216,59 @@ fn take_component(
     })
 }
 
-/// Takes the components of a frame.
-fn take_components(alloc: Global, frame: &mut Frame, data: &mut Cursor<'_>) -> Result<(), Stop> {
-    for _ in 0..data.rest.len() / 3 {
-        let start = *data;
-        let component = match take_component(alloc, frame.process, data) {
+/// Returns whether a component has this identifier.
+fn has_identifier(components: &[Component], identifier: u8) -> bool
+    ensures { result ≡ list_any (λ c. c.identifier == identifier) components.now }
+{
+    components
+        .iter()
+        .any(|component| component.identifier == identifier)
+}
+
+/// Takes the components of a frame: all that is left of its header.
+fn take_components(
+    alloc: Global,
+    process: Process,
+    count: u8,
+    part: Cursor<'_>,
+) -> Result<Vec<Component>, Stop>
+    ensures bytes { IfOk result (λ v.
+        part.entry.rest.now ≡ flat_map factors_bytes (map factors_of v.items)) }
+    ensures legal { IfOk result (λ v.
+        AreComponents (number_of process) [] (map factors_of v.items)) }
+    ensures unsent { IfOk result (λ v. AllByRecursion (λ c. c.has_scan ≡ false) v.items) }
+{
+    let mut components = Vec::with_capacity(alloc, usize::from(count))?;
+    let mut rest = part;
+    while !rest.rest.is_empty() {
+        let start = rest;
+        let component = match take_component(alloc, process, &mut rest) {
             Ok(component) => component,
             Err(rule) => return Err(start.breaks(rule)),
         };
-        let identifier = component.identifier;
-        if frame
-            .components
-            .iter()
-            .any(|other| other.identifier == identifier)
-        {
+        if has_identifier(&components, component.identifier) {
             return Err(start.breaks(Rule::Identifier));
         }
-        frame.most_across = frame.most_across.max(u32::from(component.across));
-        frame.most_down = frame.most_down.max(u32::from(component.down));
-        match frame.components.push(component) {
+        match components.push(component) {
             Ok(()) => (),
             Err(failed) => return Err(Stop::from(AllocError::from(failed))),
         }
     }
-    Ok(())
+    Ok(components)
+}
+
+/// Returns the greatest sampling factors, across and down.
+fn greatest_factors(components: &[Component]) -> (u32, u32)
+    ensures across { result.0 ≡ greatest (λ c. c.horizontal) (map factors_of components.now) }
+    ensures down { result.1 ≡ greatest (λ c. c.vertical) (map factors_of components.now) }
+{
+    let mut across = 1u32;
+    let mut down = 1u32;
+    for component in components {
+        across = across.max(u32::from(component.across));
+        down = down.max(u32::from(component.down));
+    }
+    (across, down)
 }
 
 /// What a frame header says before its components.
@@ -227,19 +281,31 @@ struct Size {
 }
 
 /// Takes what a header says before its components, and checks that these are there.
-fn take_size(data: &mut Cursor<'_>) -> Result<Size, Rule> {
-    let (Some(precision), Some(height), Some(width), Some(count)) = (
-        data.byte(),
-        data.number(),
-        data.number(),
-        data.byte(),
-    ) else {
+fn take_size(part: &mut Cursor<'_>) -> Result<Size, Rule>
+    ensures bytes { IfOk result (λ s. part.old.rest.now ≡ s.precision ∷ (u16_bytes s.height
+        ++ (u16_bytes s.width ++ (s.count ∷ part.new.rest.now)))) }
+    ensures long { IfOk result (λ s. length part.new.rest.now ≡ 3 * s.count) }
+    ensures tall { IfOk result (λ s. s.height ≤ 65535) }
+    ensures wide { IfOk result (λ s. s.width ≤ 65535) }
+    ensures samples { IfOk result (λ s. 0 < s.width) }
+    ensures components { IfOk result (λ s. 0 < s.count) }
+{
+    let Some(precision) = part.byte() else {
+        return Err(Rule::FrameLength);
+    };
+    let Some(height) = part.number() else {
+        return Err(Rule::FrameLength);
+    };
+    let Some(width) = part.number() else {
+        return Err(Rule::FrameLength);
+    };
+    let Some(count) = part.byte() else {
         return Err(Rule::FrameLength);
     };
     if width == 0 || count == 0 {
         return Err(Rule::NoPicture);
     }
-    if data.rest.len() != 3 * usize::from(count) {
+    if part.rest.len() != 3 * usize::from(count) {
         return Err(Rule::FrameLength);
     }
     Ok(Size {
@@ -252,31 +318,33 @@ fn take_size(data: &mut Cursor<'_>) -> Result<Size, Rule> {
 
 /// Reads the frame header (B.2.2) after the marker of this code. A frame of another process, or
 /// whose number of lines is 0, so that DNL gives it, is not read.
-pub(crate) fn read_frame(alloc: Global, code: u8, data: Cursor<'_>) -> Result<Frame, Stop> {
-    let mut rest = data;
+pub(crate) fn read_frame(alloc: Global, code: u8, part: Cursor<'_>) -> Result<Frame, Stop>
+    ensures { IfOk result (λ f. ReadsFrame code part.entry.rest.now f) }
+{
+    let mut rest = part;
     let size = match take_size(&mut rest) {
         Ok(size) => size,
-        Err(rule) => return Err(data.breaks(rule)),
+        Err(rule) => return Err(part.breaks(rule)),
     };
     let process = process_of(code)?;
     if !has_precision(process, size.precision) {
-        return Err(data.breaks(Rule::Precision));
+        return Err(part.breaks(Rule::Precision));
     }
-    let mut frame = Frame {
-        process,
-        precision: size.precision,
-        height: u32::from(size.height),
-        width: u32::from(size.width),
-        most_across: 1,
-        most_down: 1,
-        components: Vec::with_capacity(alloc, usize::from(size.count))?,
-    };
-    take_components(alloc, &mut frame, &mut rest)?;
-    if process == Process::Progressive && size.count > 4 {
-        return Err(data.breaks(Rule::FrameComponents));
+    let components = take_components(alloc, process, size.count, rest)?;
+    if !has_count(process, size.count) {
+        return Err(part.breaks(Rule::FrameComponents));
     }
     if size.height == 0 {
         return Err(Stop::Unread("a number of lines that DNL gives"));
     }
-    Ok(frame)
+    let (most_across, most_down) = greatest_factors(&components);
+    Ok(Frame {
+        process,
+        precision: size.precision,
+        height: u32::from(size.height),
+        width: u32::from(size.width),
+        most_across,
+        most_down,
+        components,
+    })
 }

@@ -1,5 +1,5 @@
 //! Restart intervals (T.81, B.2.1 and E.2.4).
-ghost use Rattle.std.specs.Prelude.{◌≡◌, IfOk};
+ghost use Rattle.std.specs.Prelude.{◌≡◌, ◌≢◌, ◌≤◌, ◌-◌, ◌+◌, ◌%◌, false, IfOk, IsTrue};
 ghost use Rattle.zaxbriar_strict.specs.Data.{data_at};
 ghost use Rattle.zaxbriar_strict.specs.Loaded.{data_of};
 ghost use Rattle.zaxbriar_strict.specs.Markers.{Restarts};
@@ -24,6 +24,8 @@ pub(crate) struct Intervals<'a> {
 impl<'a> Intervals<'a> {
     pub(crate) fn new(start: Cursor<'a>, every: u16) -> Intervals<'a>
         ensures bits { data_of result.bits ≡ data_at start.entry.rest.now }
+        ensures every { result.every ≡ every }
+        ensures left { result.left ≡ every }
         ensures next { result.next ≡ 0 }
     {
         Intervals {
@@ -35,19 +37,27 @@ impl<'a> Intervals<'a> {
     }
 
     /// Returns whether the interval's MCUs were all counted, so that another one follows.
-    pub(crate) fn is_over(&self) -> bool {
+    pub(crate) fn is_over(&self) -> bool
+        ensures over { IsTrue result → (self.now.every ≢ 0) × (self.now.left ≡ 0) }
+        ensures room { result ≡ false → self.now.every ≢ 0 → 1 ≤ self.now.left }
+    {
         self.every != 0 && self.left == 0
     }
 
     /// Counts an MCU.
-    pub(crate) fn count(&mut self) {
+    pub(crate) fn count(&mut self)
+        ensures { self.new ≡ record self.old { left = self.old.left - 1 } }
+    {
         self.left = self.left.saturating_sub(1);
     }
 
     /// Ends the interval, and begins the one after the restart marker that follows.
     pub(crate) fn restart(&mut self) -> Result<(), Stop>
-        ensures { IfOk result
+        ensures restarts { IfOk result
             (λ _. Restarts self.old.next (data_of self.old.bits) (data_of self.new.bits)) }
+        ensures every { IfOk result (λ _. self.new.every ≡ self.old.every) }
+        ensures left { IfOk result (λ _. self.new.left ≡ self.old.every) }
+        ensures next { IfOk result (λ _. self.new.next ≡ (self.old.next % 8 + 1) % 8) }
     {
         let place = self.bits.end()?;
         let mut rest = place;

@@ -1,4 +1,12 @@
 //! Scan headers (T.81, B.2.3 and Table B.3), and which scans may follow (G.1.1.1).
+ghost use Rattle.std.specs.Prelude.{◌≡◌, ◌≤◌, ◌++◌, ◌==◌, ◌||◌, IfOk, IsTrue, false, flat_map};
+ghost use Rattle.std.specs.Prelude.{◌-◌, ◌^◌, length, min, nat_le, position, take, true};
+ghost use Rattle.jpeg_segments.specs.ScanHeader.{blocks_by};
+ghost use Rattle.jpeg_segments.specs.ScanHeaders.{choice_bytes};
+ghost use Rattle.zaxbriar_strict.specs.Heads.{factors_of, IsMade, members_of, number_of};
+ghost use Rattle.zaxbriar_strict.specs.Heads.{ReadsHeader, written_frame};
+ghost use Rattle.zaxbriar_strict.specs.Members.{AreMembers, choices_of, HaveTables, most_tables};
+ghost use Rattle.zaxbriar_strict.specs.Members.{NotesScan, SendsAll, TakesMember, TakesScan};
 
 use crate::cursor::Cursor;
 use crate::frame::{Component, Frame, Process};
@@ -27,8 +35,17 @@ pub(crate) struct Scan {
 }
 
 impl Scan {
+    ghost use Rattle.std.specs.Prelude.{◌≡◌};
+    ghost use Rattle.jpeg_segments.specs.Frame.{Component as WrittenComponent};
+    ghost use Rattle.jpeg_meaning.specs.Order.{grid_of};
+    ghost use Rattle.zaxbriar_strict.specs.GreyContexts.{IsAlone};
+    ghost use Rattle.zaxbriar_strict.specs.Heads.{members_of};
+    ghost use Rattle.zaxbriar_strict.specs.declared.scan.Member.{Member};
+
     /// Returns the components of the scan.
-    pub(crate) fn members(&self) -> &[Member] {
+    pub(crate) fn members(&self) -> &[Member]
+        ensures { result.now ≡ members_of self.now }
+    {
         match self.members.get(..self.count) {
             Some(members) => members,
             None => self.members.as_slice(),
@@ -37,7 +54,10 @@ impl Scan {
 
     /// Returns how many columns and rows of MCUs the scan has, of this many samples each per
     /// sampling factor (A.2.2 and A.2.3).
-    pub(crate) fn units(&self, frame: &Frame, side: u32) -> (u32, u32) {
+    pub(crate) fn units(&self, frame: &Frame, side: u32) -> (u32, u32)
+        ensures { side ≡ 8 → (c : WrittenComponent) (m : Member) → IsAlone frame.now self.now c m
+            → (result.0 ≡ (grid_of c).own_wide) × (result.1 ≡ (grid_of c).own_high) }
+    {
         match self.members() {
             [member] => match frame.components.get(member.component) {
                 Some(component) => frame.own_units(component, side),
@@ -57,13 +77,10 @@ impl Scan {
     }
 
     /// Checks the destinations of the Huffman tables (Table B.3).
-    fn check_selectors(&self, process: Process) -> Result<(), Rule> {
-        let most = if process == Process::Baseline { 1 } else { 3 };
-        if self
-            .members()
-            .iter()
-            .any(|member| member.dc > most || member.ac > most)
-        {
+    fn check_selectors(&self, process: Process) -> Result<(), Rule>
+        ensures { IfOk result (λ _. HaveTables (most_tables process) (members_of self.now)) }
+    {
+        if !have_tables(self.members(), most_tables(process)) {
             return Err(Rule::EntropySelector);
         }
         if process == Process::Lossless && self.members().iter().any(|member| member.ac != 0) {
@@ -72,14 +89,18 @@ impl Scan {
         Ok(())
     }
 
-    /// Checks the band and the approximation of a frame that is not progressive (Table B.3).
-    fn check_band(&self, process: Process, precision: u8) -> Result<(), Rule> {
-        if process != Process::Lossless {
-            if self.first != 0 || self.last != 63 || self.high != 0 || self.low != 0 {
-                return Err(Rule::SequentialBand);
-            }
-            return Ok(());
+    /// Checks the band and the approximation of a sequential frame (Table B.3).
+    fn check_sequential_band(&self) -> Result<(), Rule>
+        ensures { IfOk result (λ _. SendsAll self.now) }
+    {
+        if self.first != 0 || self.last != 63 || self.high != 0 || self.low != 0 {
+            return Err(Rule::SequentialBand);
         }
+        Ok(())
+    }
+
+    /// Checks the predictor and the point transform of a lossless frame (Table B.3).
+    fn check_prediction(&self, precision: u8) -> Result<(), Rule> {
         if self.first > 7 || self.last != 0 || self.high != 0 || self.low >= precision {
             return Err(Rule::PredictorOrTransform);
         }
@@ -87,6 +108,17 @@ impl Scan {
             return Err(Rule::NoPrediction);
         }
         Ok(())
+    }
+
+    /// Checks the band and the approximation of a frame that is not progressive (Table B.3).
+    fn check_band(&self, process: Process, precision: u8) -> Result<(), Rule>
+        ensures { IfOk result (λ _. number_of process ≤ 1 → SendsAll self.now) }
+    {
+        match process {
+            Process::Baseline | Process::Extended => self.check_sequential_band(),
+            Process::Progressive => Ok(()),
+            Process::Lossless => self.check_prediction(precision),
+        }
     }
 
     /// Checks the band and the approximation of a scan of a progressive frame by themselves
@@ -107,7 +139,10 @@ impl Scan {
 
     /// Notes what the scan sends of a component of a progressive frame, and checks that it may come
     /// now.
-    fn note_progress(&self, component: &mut Component) -> Result<(), Rule> {
+    fn note_progress(&self, component: &mut Component) -> Result<(), Rule>
+        ensures factors { IfOk result (λ _. factors_of component.new ≡ factors_of component.old) }
+        ensures sent { IfOk result (λ _. component.new.has_scan ≡ true) }
+    {
         if self.first != 0 && component.lowest[0].is_none() {
             return Err(Rule::BandBeforeDc);
         }
@@ -124,46 +159,87 @@ impl Scan {
                 *lowest = Some(self.low);
             }
         }
+        component.has_scan = true;
+        Ok(())
+    }
+
+    /// Notes that the scan sends a component, and checks that it may come now.
+    fn note_component(&self, process: Process, component: &mut Component) -> Result<(), Rule>
+        ensures factors { IfOk result (λ _. factors_of component.new ≡ factors_of component.old) }
+        ensures unsent { IfOk result
+            (λ _. number_of process ≤ 1 → component.old.has_scan ≡ false) }
+        ensures sent { IfOk result (λ _. component.new.has_scan ≡ true) }
+    {
+        if process == Process::Progressive {
+            return self.note_progress(component);
+        }
+        if component.has_scan {
+            return Err(Rule::SecondScan);
+        }
+        component.has_scan = true;
         Ok(())
     }
 
     /// Checks that the scan may come now, and notes it in the frame.
-    fn note(&self, frame: &mut Frame) -> Result<(), Rule> {
-        self.check_selectors(frame.process)?;
-        let is_progressive = frame.process == Process::Progressive;
-        if is_progressive {
+    fn note(&self, frame: &mut Frame) -> Result<(), Rule>
+        ensures { IfOk result (λ _. NotesScan self.now frame.old frame.new) }
+    {
+        let process = frame.process;
+        self.check_selectors(process)?;
+        if process == Process::Progressive {
             self.check_progressive_band()?;
         }
         for member in self.members().iter() {
             let Some(component) = frame.components.get_mut(member.component) else {
                 return Err(Rule::UnknownComponent);
             };
-            if is_progressive {
-                self.note_progress(component)?;
-            } else if component.has_scan {
-                return Err(Rule::SecondScan);
-            }
-            component.has_scan = true;
+            self.note_component(process, component)?;
         }
-        if !is_progressive {
-            self.check_band(frame.process, frame.precision)?;
-        }
-        Ok(())
+        self.check_band(process, frame.precision)
     }
 }
 
+/// Returns the greatest destination of Huffman tables (Table B.3).
+fn most_tables(process: Process) -> u8
+    ensures { result ≡ most_tables process }
+{
+    match process {
+        Process::Baseline => 1,
+        Process::Extended | Process::Progressive | Process::Lossless => 3,
+    }
+}
+
+/// Returns whether the destinations of tables are at most this.
+fn have_tables(members: &[Member], most: u8) -> bool
+    ensures { IsTrue result → HaveTables most members.now }
+{
+    for member in members {
+        if member.dc > most || member.ac > most {
+            return false;
+        }
+    }
+    true
+}
+
+/// Returns the index of the component with this identifier.
+fn position_of(components: &[Component], identifier: u8) -> Option<usize>
+    ensures { result ≡ position (λ c. c.identifier == identifier) components.now }
+{
+    components
+        .iter()
+        .position(|component| component.identifier == identifier)
+}
+
 /// Takes a component's part of a header.
-fn take_member(frame: &Frame, data: &mut Cursor<'_>) -> Result<Member, Rule> {
-    let [identifier, tables, rest @ ..] = data.rest else {
+fn take_member(frame: &Frame, part: &mut Cursor<'_>) -> Result<Member, Rule>
+    ensures { IfOk result (λ m. TakesMember frame.now m part.old.rest.now part.new.rest.now) }
+{
+    let [identifier, tables, rest @ ..] = part.rest else {
         return Err(Rule::ScanHeader);
     };
     let (identifier, tables) = (*identifier, *tables);
-    data.rest = rest;
-    match frame
-        .components
-        .iter()
-        .position(|component| component.identifier == identifier)
-    {
+    part.rest = rest;
+    match position_of(&frame.components, identifier) {
         Some(component) => Ok(Member {
             component,
             dc: tables / 16,
@@ -173,67 +249,91 @@ fn take_member(frame: &Frame, data: &mut Cursor<'_>) -> Result<Member, Rule> {
     }
 }
 
-/// Takes the components of a header, and checks their order and how many blocks an MCU has.
-fn take_members(frame: &Frame, count: u8, data: &mut Cursor<'_>) -> Result<[Member; 4], Rule> {
+/// Returns how many blocks the component at an index has in an MCU of several components (A.2.3).
+fn blocks_at(frame: &Frame, index: usize) -> u32
+    ensures { result ≡ min (blocks_by (written_frame frame.now).components index) (2 ^ 32 - 1) }
+{
+    match frame.components.get(index) {
+        Some(component) => { u32::from(component.across).saturating_mul(u32::from(component.down)) }
+        None => 0,
+    }
+}
+
+/// Returns whether an MCU may have this many blocks (B.2.3).
+fn is_mcu(count: u8, blocks: u32) -> bool
+    ensures { result ≡ (nat_le count 1 || nat_le blocks 10) }
+{
+    count <= 1 || blocks <= 10
+}
+
+/// Takes the components of a header, of which there are 1 to 4, and checks the header's length,
+/// their order and how many blocks an MCU has.
+fn take_members(frame: &Frame, count: u8, part: &mut Cursor<'_>) -> Result<[Member; 4], Rule>
+    ensures some { IfOk result (λ ms. 1 ≤ count) }
+    ensures most { IfOk result (λ ms. count ≤ 4) }
+    ensures sized { IfOk result (λ ms. length ms ≡ 4) }
+    ensures bytes { IfOk result (λ ms. part.old.rest.now
+        ≡ flat_map choice_bytes (choices_of frame.now (take count ms)) ++ part.new.rest.now) }
+    ensures members { IfOk result (λ ms. AreMembers frame.now (take count ms)) }
+{
+    if count < 1 || count > 4 || part.rest.len() != 3 + 2 * usize::from(count) {
+        return Err(Rule::ScanHeader);
+    }
     let mut members = [Member {
         component: 0,
         dc: 0,
         ac: 0,
     }; 4];
     let mut least = 0usize;
-    let mut blocks = 0u32;
+    let mut total = 0u32;
     for place in 0..usize::from(count) {
-        let member = take_member(frame, data)?;
+        let member = take_member(frame, part)?;
         if member.component < least {
             return Err(Rule::ComponentOrder);
         }
-        least = member.component.saturating_add(1);
-        if let Some(component) = frame.components.get(member.component) {
-            let size = u32::from(component.across).saturating_mul(u32::from(component.down));
-            blocks = blocks.saturating_add(size);
-        }
-        if let Some(slot) = members.get_mut(place) {
-            *slot = member;
-        }
+        least = member.component + 1;
+        total = total.saturating_add(blocks_at(frame, member.component));
+        members[place] = member;
     }
-    if count > 1 && blocks > 10 {
+    if !is_mcu(count, total) {
         return Err(Rule::UnitSize);
     }
     Ok(members)
 }
 
 /// Takes a header.
-fn take_scan(frame: &Frame, data: &mut Cursor<'_>) -> Result<Scan, Rule> {
-    let Some(count) = data.byte() else {
+fn take_scan(frame: &Frame, part: Cursor<'_>) -> Result<Scan, Rule>
+    ensures { IfOk result (λ s. TakesScan frame.now s part.entry.rest.now) }
+{
+    let mut rest = part;
+    let Some(count) = rest.byte() else {
         return Err(Rule::ScanHeader);
     };
-    if count < 1 || count > 4 || data.rest.len() != 3 + 2 * usize::from(count) {
-        return Err(Rule::ScanHeader);
-    }
-    let members = take_members(frame, count, data)?;
-    let (Some(first), Some(last), Some(approximation)) = (data.byte(), data.byte(), data.byte())
-    else {
+    let members = take_members(frame, count, &mut rest)?;
+    let [first, last, approximation] = rest.rest else {
         return Err(Rule::ScanHeader);
     };
     Ok(Scan {
         members,
         count: usize::from(count),
-        first,
-        last,
-        high: approximation / 16,
-        low: approximation % 16,
+        first: *first,
+        last: *last,
+        high: *approximation / 16,
+        low: *approximation % 16,
     })
 }
 
 /// Reads a scan header (B.2.3), checks that the scan may come now, and notes it in the frame.
-pub(crate) fn read_header(frame: &mut Frame, data: Cursor<'_>) -> Result<Scan, Stop> {
-    let mut rest = data;
-    let scan = match take_scan(frame, &mut rest) {
+pub(crate) fn read_header(frame: &mut Frame, part: Cursor<'_>) -> Result<Scan, Stop>
+    ensures { IfOk result
+        (λ s. IsMade frame.old → ReadsHeader part.entry.rest.now s frame.old frame.new) }
+{
+    let scan = match take_scan(frame, part) {
         Ok(scan) => scan,
-        Err(rule) => return Err(data.breaks(rule)),
+        Err(rule) => return Err(part.breaks(rule)),
     };
     match scan.note(frame) {
         Ok(()) => Ok(scan),
-        Err(rule) => Err(data.breaks(rule)),
+        Err(rule) => Err(part.breaks(rule)),
     }
 }

@@ -1,7 +1,14 @@
 //! The tables that are installed, and the segments that install them (T.81, B.2.4).
-ghost use Rattle.std.specs.Prelude.{◌≡◌, IfOk};
+ghost use Rattle.std.specs.Prelude.{◌≡◌, ◌+◌, ◌*◌, ◌≤◌, IfOk, None, Some, option_map, replicate};
+ghost use Rattle.std.specs.Prelude.{slice_index_or, slice_set};
+ghost use Rattle.std.specs.Option.{option_copied};
+ghost use Rattle.jpeg_segments.specs.HuffmanTables.{class_of, greatest_destination, no_tables};
+ghost use Rattle.jpeg_segments.specs.HuffmanTables.{with_table};
 ghost use Rattle.jpeg_segments.specs.WrittenSegments.{u16_bytes};
-ghost use Rattle.zaxbriar_strict.specs.TableSegments.{HasCodeTables, HasStepTables};
+ghost use Rattle.zaxbriar_strict.specs.Heads.{is_baseline_of};
+ghost use Rattle.zaxbriar_strict.specs.Installed.{codes_of, InstallsCodes, InstallsSteps};
+ghost use Rattle.zaxbriar_strict.specs.Installed.{steps_of, tables_of_class};
+ghost use Rattle.zaxbriar_strict.specs.Tables.{codes_in, defined_by};
 
 use crate::cursor::Cursor;
 use crate::frame::{Frame, Process};
@@ -22,7 +29,11 @@ pub(crate) struct Tables {
 }
 
 impl Tables {
-    pub(crate) fn new(alloc: Global) -> Result<Tables, Stop> {
+    pub(crate) fn new(alloc: Global) -> Result<Tables, Stop>
+        ensures steps { IfOk result (λ t. steps_of t ≡ replicate 4 None) }
+        ensures codes { IfOk result (λ t. codes_of t ≡ no_tables) }
+        ensures interval { IfOk result (λ t. t.interval ≡ 0) }
+    {
         Ok(Tables {
             steps: [None; 4],
             codes: vec![in alloc; None; 8]?,
@@ -31,7 +42,10 @@ impl Tables {
     }
 
     /// Returns the quantization table of a destination.
-    pub(crate) fn steps(&self, destination: u8) -> Option<&Steps> {
+    pub(crate) fn steps(&self, destination: u8) -> Option<&Steps>
+        ensures { option_map (λ s. s.steps) (option_copied result)
+            ≡ slice_index_or (steps_of self.now) destination None }
+    {
         match self.steps.get(usize::from(destination)) {
             Some(Some(steps)) => Some(steps),
             _ => None,
@@ -39,16 +53,45 @@ impl Tables {
     }
 
     /// Returns the Huffman table of a class and a destination.
-    pub(crate) fn codes(&self, class: u8, destination: u8) -> Option<&HuffmanTable> {
+    pub(crate) fn codes(&self, class: u8, destination: u8) -> Option<&HuffmanTable>
+        ensures { class ≤ 1 → destination ≤ 3
+            → option_map (codes_in (class_of class)) (option_copied result)
+            ≡ slice_index_or (tables_of_class (class_of class) (codes_of self.now)) destination
+            None }
+    {
         match self.codes.get(place_of(class, destination)) {
             Some(Some(table)) => Some(table),
             _ => None,
         }
     }
 
+    /// Puts a quantization table in the place of the one that its destination has.
+    fn put_steps(&mut self, destination: u8, table: Steps)
+        requires { destination ≤ 3 }
+        ensures steps { steps_of self.new
+            ≡ slice_set (steps_of self.old) destination (Some table.steps) }
+        ensures codes { codes_of self.new ≡ codes_of self.old }
+        ensures interval { self.new.interval ≡ self.old.interval }
+    {
+        self.steps[usize::from(destination)] = Some(table);
+    }
+
+    /// Puts a Huffman table in the place of the one that its class and its destination have.
+    fn put_codes(&mut self, class: u8, destination: u8, table: HuffmanTable)
+        ensures codes { class ≤ 1 → destination ≤ 3 → codes_of self.new
+            ≡ with_table (codes_of self.old) (defined_by class destination table) }
+        ensures steps { steps_of self.new ≡ steps_of self.old }
+        ensures interval { self.new.interval ≡ self.old.interval }
+    {
+        if let Some(place) = self.codes.get_mut(place_of(class, destination)) {
+            *place = Some(table);
+        }
+    }
+
     /// Reads a DQT segment (B.2.4.1).
     pub(crate) fn read_steps(&mut self, part: Cursor<'_>, frame: Option<&Frame>) -> Result<(), Stop>
-        ensures { IfOk result (λ _. HasStepTables part.entry.rest.now) }
+        ensures { IfOk result
+            (λ _. InstallsSteps part.entry.rest.now self.old self.new) }
     {
         if part.rest.is_empty() {
             return Err(part.breaks(Rule::NoQuantization));
@@ -56,10 +99,8 @@ impl Tables {
         let mut rest = part;
         while !rest.rest.is_empty() {
             let start = rest;
-            let (destination, steps) = quantization::take_table(&mut rest)?;
-            if let Some(place) = self.steps.get_mut(usize::from(destination)) {
-                *place = Some(steps);
-            }
+            let (destination, table) = quantization::take_table(&mut rest)?;
+            self.put_steps(destination, table);
             self.check_steps(start, frame)?;
         }
         Ok(())
@@ -67,7 +108,8 @@ impl Tables {
 
     /// Reads a DHT segment (B.2.4.2).
     pub(crate) fn read_codes(&mut self, part: Cursor<'_>, frame: Option<&Frame>) -> Result<(), Stop>
-        ensures { IfOk result (λ _. HasCodeTables part.entry.rest.now) }
+        ensures { IfOk result (λ _. InstallsCodes (option_copied frame.entry)
+            part.entry.rest.now self.old self.new) }
     {
         if part.rest.is_empty() {
             return Err(part.breaks(Rule::NoCodes));
@@ -76,17 +118,19 @@ impl Tables {
         while !rest.rest.is_empty() {
             let start = rest;
             let (class, destination, table) = HuffmanTable::read(&mut rest)?;
-            if let Some(place) = self.codes.get_mut(place_of(class, destination)) {
-                *place = Some(table);
+            if let Err(rule) = check_place(frame, class, destination) {
+                return Err(start.breaks(rule));
             }
-            self.check_codes(start, frame)?;
+            self.put_codes(class, destination, table);
         }
         Ok(())
     }
 
     /// Reads a DRI segment (B.2.4.4).
     pub(crate) fn read_interval(&mut self, part: Cursor<'_>) -> Result<(), Stop>
-        ensures { IfOk result (λ _. part.entry.rest.now ≡ u16_bytes self.new.interval) }
+        ensures are { IfOk result (λ _. part.entry.rest.now ≡ u16_bytes self.new.interval) }
+        ensures steps { steps_of self.new ≡ steps_of self.old }
+        ensures codes { codes_of self.new ≡ codes_of self.old }
     {
         let [high, low] = part.rest else {
             return Err(part.breaks(Rule::Interval));
@@ -115,19 +159,13 @@ impl Tables {
 
     /// Checks that the frame's process has each Huffman table (Table B.5).
     pub(crate) fn check_codes(&self, place: Cursor<'_>, frame: Option<&Frame>) -> Result<(), Stop> {
-        let Some(frame) = frame else {
-            return Ok(());
-        };
         for class in 0..2u8 {
             for destination in 0..4u8 {
                 if self.codes(class, destination).is_none() {
                     continue;
                 }
-                if frame.process == Process::Baseline && destination > 1 {
-                    return Err(place.breaks(Rule::BaselineTable));
-                }
-                if frame.process == Process::Lossless && class == 1 {
-                    return Err(place.breaks(Rule::LosslessTable));
+                if let Err(rule) = check_place(frame, class, destination) {
+                    return Err(place.breaks(rule));
                 }
             }
         }
@@ -136,6 +174,24 @@ impl Tables {
 }
 
 /// Returns where the Huffman table of a class and a destination stands.
-fn place_of(class: u8, destination: u8) -> usize {
+fn place_of(class: u8, destination: u8) -> usize
+    ensures { result ≡ 4 * class + destination }
+{
     4 * usize::from(class) + usize::from(destination)
+}
+
+/// Checks that the frame's process has a Huffman table of a class and a destination (Table B.5).
+/// Where there is no frame yet, each may be defined.
+fn check_place(frame: Option<&Frame>, class: u8, destination: u8) -> Result<(), Rule>
+    ensures { IfOk result (λ _. destination ≤ 3 → destination
+        ≤ greatest_destination (option_map is_baseline_of (option_copied frame.entry))) }
+{
+    let Some(frame) = frame else {
+        return Ok(());
+    };
+    match frame.process {
+        Process::Baseline if destination > 1 => Err(Rule::BaselineTable),
+        Process::Lossless if class == 1 => Err(Rule::LosslessTable),
+        _ => Ok(()),
+    }
 }

@@ -1,4 +1,19 @@
 //! Scans of DCT coefficients (T.81, F.2 and G.2).
+ghost use Rattle.std.specs.Prelude.{◌≡◌, ◌≤◌, ◌+◌, ◌∷◌, [], ℕ, List, None, Some, IfOk, length};
+ghost use Rattle.std.specs.Prelude.{false, map, slice_index_or, IsTrue};
+ghost use Rattle.jpeg_bits.specs.Codes.{Table};
+ghost use Rattle.jpeg_segments.specs.HuffmanTables.{class_of};
+ghost use Rattle.zaxbriar_strict.specs.GreyContexts.{HasTables, IsGreyContext, IsInstalled};
+ghost use Rattle.zaxbriar_strict.specs.GreyRuns.{IsAfter, IsBefore, ReadsRun};
+ghost use Rattle.zaxbriar_strict.specs.GreyScans.{ReadsIfGrey};
+ghost use Rattle.zaxbriar_strict.specs.Heads.{IsSameFrame, IsSequential, members_of};
+ghost use Rattle.zaxbriar_strict.specs.Installed.{codes_of, steps_of, tables_of_class};
+ghost use Rattle.zaxbriar_strict.specs.Kept.{IsKept, IsKeptComponent};
+ghost use Rattle.zaxbriar_strict.specs.Loaded.{data_of};
+ghost use Rattle.zaxbriar_strict.specs.Tables.{codes_in};
+ghost use Rattle.zaxbriar_strict.specs.Whole.{IsWhole};
+ghost use Rattle.zaxbriar_strict.specs.declared.frame.Component.{Component};
+ghost use Rattle.zaxbriar_strict.specs.declared.scan.Member.{Member};
 
 use crate::bits::Bits;
 use crate::blocks::{Band, Run, read_in_range};
@@ -8,9 +23,10 @@ use crate::huffman::HuffmanTable;
 use crate::intervals::Intervals;
 use crate::quantization::Block;
 use crate::rule::{Rule, Stop};
-use crate::scan::Scan;
+use crate::scan::{Member, Scan};
 use crate::tables::Tables;
-use std::alloc::Global;
+use crate::verdict::Refusal;
+use std::alloc::{AllocError, Global};
 
 /// What a scan is read by.
 #[derive(Clone, Copy)]
@@ -43,7 +59,11 @@ pub(crate) fn check_codes(
     class: u8,
     destination: u8,
     most: u32,
-) -> Result<bool, Rule> {
+) -> Result<bool, Rule>
+    ensures { IfOk result (λ _. class ≤ 1 → destination ≤ 3
+        → IsInstalled (slice_index_or (tables_of_class (class_of class) (codes_of tables.now))
+        destination None)) }
+{
     let Some(table) = tables.codes(class, destination) else {
         return Err(Rule::NoCodeTable);
     };
@@ -55,7 +75,11 @@ pub(crate) fn check_codes(
 
 /// Checks that a component's quantization table is installed, and the one of its scans before
 /// (B.2.2).
-fn check_steps(tables: &Tables, component: &mut Component) -> Result<(), Rule> {
+fn check_steps(tables: &Tables, component: &mut Component) -> Result<(), Rule>
+    ensures kept { IsKeptComponent component.old component.new }
+    ensures installed { IfOk result
+        (λ _. IsInstalled (slice_index_or (steps_of tables.now) component.old.table None)) }
+{
     let Some(steps) = tables.steps(component.table) else {
         return Err(Rule::NoStepTable);
     };
@@ -68,20 +92,69 @@ fn check_steps(tables: &Tables, component: &mut Component) -> Result<(), Rule> {
     Ok(())
 }
 
+/// Checks the quantization table of a component by its place in the frame.
+fn check_steps_at(tables: &Tables, frame: &mut Frame, place: usize) -> Result<(), Rule>
+    ensures kept { IsKept frame.old frame.new }
+    ensures installed { IfOk result
+        (λ _. (c : Component) → frame.old.components.items ≡ c ∷ [] → place ≡ 0
+        → IsInstalled (slice_index_or (steps_of tables.now) c.table None)) }
+{
+    let Some(component) = frame.components.get_mut(place) else {
+        return Ok(());
+    };
+    check_steps(tables, component)?;
+    Ok(())
+}
+
+/// Checks a Huffman table like `check_codes`, where it is needed.
+fn check_sent_codes(
+    tables: &Tables,
+    is_sent: bool,
+    class: u8,
+    destination: u8,
+    most: u32,
+) -> Result<bool, Rule>
+    ensures { IfOk result (λ _. IsTrue is_sent → class ≤ 1 → destination ≤ 3
+        → IsInstalled (slice_index_or (tables_of_class (class_of class) (codes_of tables.now))
+        destination None)) }
+{
+    if !is_sent {
+        return Ok(true);
+    }
+    let has_categories = check_codes(tables, class, destination, most)?;
+    Ok(has_categories)
+}
+
+/// Checks the tables that a scan needs of a component, and returns whether its DC codes are of
+/// categories that the process has.
+fn check_member(
+    tables: &Tables,
+    frame: &mut Frame,
+    member: Member,
+    band: &Band,
+) -> Result<bool, Rule>
+    ensures kept { IsKept frame.old frame.new }
+    ensures tables { IfOk result (λ _. (c : Component) → frame.old.components.items ≡ c ∷ []
+        → member.component ≡ 0 → IsWhole band.now → member.dc ≤ 3 → member.ac ≤ 3
+        → HasTables tables.now c.table member) }
+{
+    check_steps_at(tables, frame, member.component)?;
+    // (A refinement of DC needs no code, but its header names a table.)
+    let has_categories = check_sent_codes(tables, band.has_dc(), 0, member.dc, band.most_dc())?;
+    let _ = check_sent_codes(tables, band.has_ac(), 1, member.ac, 255)?;
+    Ok(has_categories)
+}
+
 /// Checks the tables that a scan needs.
-fn check_tables(tables: &Tables, frame: &mut Frame, scan: &Scan, band: &Band) -> Result<(), Rule> {
+fn check_tables(tables: &Tables, frame: &mut Frame, scan: &Scan, band: &Band) -> Result<(), Rule>
+    ensures kept { IsKept frame.old frame.new }
+    ensures tables { IfOk result (λ _. (c : Component) (m : Member)
+        → frame.old.components.items ≡ c ∷ [] → members_of scan.now ≡ m ∷ [] → m.component ≡ 0
+        → IsWhole band.now → m.dc ≤ 3 → m.ac ≤ 3 → HasTables tables.now c.table m) }
+{
     let mut has_categories = true;
     for member in scan.members().iter() {
-        if let Some(component) = frame.components.get_mut(member.component) {
-            check_steps(tables, component)?;
-        }
-        // (A refinement of DC needs no code, but its header names a table.)
-        if band.has_dc() {
-            has_categories &= check_codes(tables, 0, member.dc, band.most_dc())?;
-        }
-        if band.has_ac() {
-            let _ = check_codes(tables, 1, member.ac, 255)?;
-        }
+        has_categories &= check_member(tables, frame, *member, band)?;
     }
     if has_categories {
         Ok(())
@@ -100,9 +173,55 @@ impl Past {
     }
 }
 
+/// Ends an interval where all its MCUs were read, and begins the next one.
+fn go_on(intervals: &mut Intervals<'_>, past: &mut Past) -> Result<(), Stop>
+    ensures { IfOk result (λ _. (dc ac : Table) (every : ℕ) (bytes : List ℕ)
+        (count : ℕ) → IsAfter dc ac every bytes count intervals.old past.old
+        → IsBefore dc ac every bytes count intervals.new past.new) }
+{
+    if !intervals.is_over() {
+        return Ok(());
+    }
+    past.end(&intervals.bits)?;
+    intervals.restart()?;
+    *past = NOTHING;
+    Ok(())
+}
+
 /// Returns an installed Huffman table.
-fn codes_of(tables: &Tables, class: u8, destination: u8) -> Result<&HuffmanTable, Rule> {
-    tables.codes(class, destination).ok_or(Rule::NoCodeTable)
+fn codes_of(tables: &Tables, class: u8, destination: u8) -> Result<&HuffmanTable, Rule>
+    ensures { IfOk result (λ t. class ≤ 1 → destination ≤ 3
+        → slice_index_or (tables_of_class (class_of class) (codes_of tables.now)) destination None
+        ≡ Some (codes_in (class_of class) t.now)) }
+{
+    match tables.codes(class, destination) {
+        Some(table) => Ok(table),
+        None => Err(Rule::NoCodeTable),
+    }
+}
+
+/// Returns the block at a column and a row of a component of a progressive frame, whose rows have
+/// this many. The rows up to it are made where no scan has reached them yet.
+fn block_at(
+    alloc: Global,
+    rows: &mut Vec<Vec<Block>>,
+    place: (u32, u32),
+    columns: u32,
+) -> Result<&mut Block, Stop> {
+    let (column, row) = (place.0 as usize, place.1 as usize);
+    for _ in rows.len()..row + 1 {
+        let blocks = vec![in alloc; [0i16; 64]; columns as usize]?;
+        if let Err(failed) = rows.push(blocks) {
+            return Err(Stop::from(AllocError::from(failed)));
+        }
+    }
+    // (Each row has this column: there is none only where there is no memory.)
+    match rows.get_mut(row) {
+        Some(blocks) => blocks
+            .get_mut(column)
+            .ok_or(Stop::Refused(Refusal::OutOfMemory)),
+        None => Err(Stop::Refused(Refusal::OutOfMemory)),
+    }
 }
 
 impl Context<'_> {
@@ -137,6 +256,25 @@ impl Context<'_> {
         }
     }
 
+    /// Reads what the scan sends of the block of a progressive frame at a column and a row.
+    fn read_sent(
+        &self,
+        component: &mut Component,
+        slot: usize,
+        past: &mut Past,
+        bits: &mut Bits<'_>,
+        place: (u32, u32),
+    ) -> Result<(), Stop>
+        ensures { IsKeptComponent component.old component.new }
+    {
+        let columns = self.whole.0.saturating_mul(u32::from(component.across));
+        let block = block_at(self.alloc, &mut component.rows, place, columns)?;
+        match self.read_coefficients(slot, past, bits, block) {
+            Ok(()) => Ok(()),
+            Err(rule) => Err(bits.breaks(rule)),
+        }
+    }
+
     /// Reads a block of a sequential frame, whose coefficients have to be in range.
     fn read_whole(
         &self,
@@ -144,17 +282,24 @@ impl Context<'_> {
         slot: usize,
         past: &mut Past,
         bits: &mut Bits<'_>,
-    ) -> Result<(), Rule> {
-        let (Some(member), Some(before)) = (self.scan.members().get(slot), past.dc.get_mut(slot))
-        else {
+    ) -> Result<(), Rule>
+        ensures { IfOk result (λ _. (m : Member) (dc ac : Table) → IsGreyContext self.now m dc ac
+            → slot ≡ 0
+            → ReadsRun dc ac 1 past.old.dc past.new.dc (data_of bits.old) (data_of bits.new)) }
+    {
+        let Some(member) = self.scan.members().get(slot) else {
             return Err(Rule::UnknownComponent);
         };
+        if slot >= past.dc.len() {
+            return Err(Rule::UnknownComponent);
+        }
         let Some(steps) = &component.steps else {
             return Err(Rule::NoStepTable);
         };
         let dc = codes_of(self.tables, 0, member.dc)?;
         let ac = codes_of(self.tables, 1, member.ac)?;
-        read_in_range(bits, dc, ac, before, steps, self.is_deep)
+        read_in_range(bits, dc, ac, &mut past.dc[slot], steps, self.is_deep)?;
+        Ok(())
     }
 
     /// Reads the block of a component at a column and a row.
@@ -165,18 +310,73 @@ impl Context<'_> {
         past: &mut Past,
         bits: &mut Bits<'_>,
         place: (u32, u32),
-    ) -> Result<(), Stop> {
-        let read = if self.is_progressive {
-            let columns = self.whole.0.saturating_mul(u32::from(component.across));
-            let block = component.block_at(self.alloc, place, columns)?;
-            self.read_coefficients(slot, past, bits, block)
-        } else {
-            self.read_whole(component, slot, past, bits)
-        };
-        match read {
+    ) -> Result<(), Stop>
+        ensures kept { IsKeptComponent component.old component.new }
+        ensures read { IfOk result (λ _. (m : Member) (dc ac : Table)
+            → IsGreyContext self.now m dc ac → slot ≡ 0
+            → ReadsRun dc ac 1 past.old.dc past.new.dc (data_of bits.old) (data_of bits.new)) }
+    {
+        if self.is_progressive {
+            self.read_sent(component, slot, past, bits, place)?;
+            return Ok(());
+        }
+        match self.read_whole(component, slot, past, bits) {
             Ok(()) => Ok(()),
             Err(rule) => Err(bits.breaks(rule)),
         }
+    }
+
+    /// Reads the blocks of a component in an MCU, at a column and a row.
+    fn read_blocks(
+        &self,
+        component: &mut Component,
+        slot: usize,
+        past: &mut Past,
+        bits: &mut Bits<'_>,
+        place: (u32, u32),
+    ) -> Result<(), Stop>
+        ensures kept { IsKeptComponent component.old component.new }
+        ensures read { IfOk result (λ _. (m : Member) (dc ac : Table)
+            → IsGreyContext self.now m dc ac → slot ≡ 0
+            → ReadsRun dc ac 1 past.old.dc past.new.dc (data_of bits.old) (data_of bits.new)) }
+    {
+        if self.scan.count == 1 {
+            return self.read_block(component, slot, past, bits, place);
+        }
+        let (across, down) = (u32::from(component.across), u32::from(component.down));
+        let (left, top) = (place.0.saturating_mul(across), place.1.saturating_mul(down));
+        for below in 0..down {
+            for beside in 0..across {
+                let place = (left.saturating_add(beside), top.saturating_add(below));
+                self.read_block(component, slot, past, bits, place)?;
+            }
+        }
+        Ok(())
+    }
+
+    /// Reads the blocks of the component at this place in the scan in an MCU, at a column and a
+    /// row.
+    fn read_part(
+        &self,
+        frame: &mut Frame,
+        slot: usize,
+        past: &mut Past,
+        bits: &mut Bits<'_>,
+        place: (u32, u32),
+    ) -> Result<(), Stop>
+        ensures kept { IsKept frame.old frame.new }
+        ensures read { IfOk result (λ _. (m : Member) (dc ac : Table)
+            → IsGreyContext self.now m dc ac → 1 ≤ length frame.old.components.items → slot ≡ 0
+            → ReadsRun dc ac 1 past.old.dc past.new.dc (data_of bits.old) (data_of bits.new)) }
+    {
+        let Some(member) = self.scan.members().get(slot) else {
+            return Ok(());
+        };
+        let Some(component) = frame.components.get_mut(member.component) else {
+            return Ok(());
+        };
+        self.read_blocks(component, slot, past, bits, place)?;
+        Ok(())
     }
 
     /// Reads the blocks of an MCU, at a column and a row.
@@ -186,29 +386,75 @@ impl Context<'_> {
         past: &mut Past,
         bits: &mut Bits<'_>,
         place: (u32, u32),
-    ) -> Result<(), Stop> {
-        let (column, row) = place;
-        for (slot, member) in self.scan.members().iter().enumerate() {
-            let Some(component) = frame.components.get_mut(member.component) else {
-                continue;
-            };
-            let (across, down) = self.scan.unit_size(component);
-            let (left, top) = (column.saturating_mul(across), row.saturating_mul(down));
-            for below in 0..down {
-                for beside in 0..across {
-                    let place = (left.saturating_add(beside), top.saturating_add(below));
-                    self.read_block(component, slot, past, bits, place)?;
-                }
-            }
+    ) -> Result<(), Stop>
+        ensures kept { IsKept frame.old frame.new }
+        ensures read { IfOk result (λ _. (m : Member) (dc ac : Table)
+            → IsGreyContext self.now m dc ac → 1 ≤ length frame.old.components.items
+            → ReadsRun dc ac 1 past.old.dc past.new.dc (data_of bits.old) (data_of bits.new)) }
+    {
+        for slot in 0..self.scan.members().len() {
+            self.read_part(frame, slot, past, bits, place)?;
+        }
+        Ok(())
+    }
+
+    /// Reads the MCU at a column and a row, and before it the end of the interval that is over.
+    fn read_next(
+        &self,
+        frame: &mut Frame,
+        past: &mut Past,
+        intervals: &mut Intervals<'_>,
+        place: (u32, u32),
+    ) -> Result<(), Stop>
+        ensures kept { IsKept frame.old frame.new }
+        ensures read { IfOk result (λ _. (m : Member) (dc ac : Table) (every : ℕ)
+            (bytes : List ℕ) (count : ℕ) → IsGreyContext self.now m dc ac
+            → 1 ≤ length frame.old.components.items
+            → IsAfter dc ac every bytes count intervals.old past.old
+            → IsAfter dc ac every bytes (count + 1) intervals.new past.new) }
+    {
+        go_on(intervals, past)?;
+        intervals.count();
+        self.read_unit(frame, past, &mut intervals.bits, place)?;
+        Ok(())
+    }
+
+    /// Reads a row of MCUs.
+    fn read_row(
+        &self,
+        frame: &mut Frame,
+        past: &mut Past,
+        intervals: &mut Intervals<'_>,
+        columns: u32,
+        row: u32,
+    ) -> Result<(), Stop>
+        ensures kept { IsKept frame.old frame.new }
+        ensures read { IfOk result (λ _. (m : Member) (dc ac : Table) (every : ℕ)
+            (bytes : List ℕ) (count : ℕ) → IsGreyContext self.now m dc ac
+            → 1 ≤ length frame.old.components.items
+            → IsAfter dc ac every bytes count intervals.old past.old
+            → IsAfter dc ac every bytes (count + columns) intervals.new past.new) }
+    {
+        for column in 0..columns {
+            self.read_next(frame, past, intervals, (column, row))?;
         }
         Ok(())
     }
 }
 
+/// Returns whether a frame is progressive.
+fn is_progressive(frame: &Frame) -> bool
+    ensures { IsSequential frame.now → result ≡ false }
+{
+    matches!(frame.process, Process::Progressive)
+}
+
 /// Returns which coefficients a scan sends.
-fn band_of(frame: &Frame, scan: &Scan) -> Band {
+fn band_of(frame: &Frame, scan: &Scan) -> Band
+    ensures { IsSequential frame.now → IsWhole result }
+{
     let is_deep = frame.is_deep();
-    if frame.process == Process::Progressive {
+    if is_progressive(frame) {
         Band::sent(scan.first, scan.last, scan.low, scan.high != 0, is_deep)
     } else {
         Band::whole(is_deep)
@@ -222,17 +468,24 @@ pub(crate) fn read_scan<'a>(
     frame: &mut Frame,
     scan: &Scan,
     start: Cursor<'a>,
-) -> Result<Cursor<'a>, Stop> {
+) -> Result<Cursor<'a>, Stop>
+    ensures read { IfOk result (λ rest. ReadsIfGrey tables.now frame.old scan.now
+        start.entry.rest.now rest.rest.now) }
+    ensures same { IsSameFrame frame.old frame.new }
+    ensures sent { map (λ c. c.has_scan) frame.new.components.items
+        ≡ map (λ c. c.has_scan) frame.old.components.items }
+{
     let band = band_of(frame, scan);
-    if let Err(rule) = check_tables(tables, frame, scan, &band) {
-        return Err(start.breaks(rule));
+    match check_tables(tables, frame, scan, &band) {
+        Ok(()) => (),
+        Err(rule) => return Err(start.breaks(rule)),
     }
     let context = Context {
         alloc,
         tables,
         scan,
         band,
-        is_progressive: frame.process == Process::Progressive,
+        is_progressive: is_progressive(frame),
         is_deep: frame.is_deep(),
         whole: frame.units(8),
     };
@@ -240,16 +493,9 @@ pub(crate) fn read_scan<'a>(
     let mut past = NOTHING;
     let (columns, rows) = scan.units(frame, 8);
     for row in 0..rows {
-        for column in 0..columns {
-            if intervals.is_over() {
-                past.end(&intervals.bits)?;
-                intervals.restart()?;
-                past = NOTHING;
-            }
-            intervals.count();
-            context.read_unit(frame, &mut past, &mut intervals.bits, (column, row))?;
-        }
+        context.read_row(frame, &mut past, &mut intervals, columns, row)?;
     }
     past.end(&intervals.bits)?;
-    intervals.bits.end()
+    let rest = intervals.bits.end()?;
+    Ok(rest)
 }

@@ -1,0 +1,5 @@
+use Rattle.zaxbriar_strict.proofs.NotedScans.{NotesFirst}
+use Rattle.zaxbriar_strict.proofs.scan.Scan.note.Given as goal
+
+abbrev pub invariant-loop-member : goal.invariant-loop-member
+invariant-loop-member l = NotesFirst l.member-index l.fn.frame l.frame

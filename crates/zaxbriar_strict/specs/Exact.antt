@@ -1,0 +1,67 @@
+-- What a strict verdict says of a stream (T.81, B.2.1).
+use Rattle.std.specs.Prelude.{◌≡◌, ◌⊎◌, ◌+◌, ◌≤◌, ◌<◌, ◌∷◌, ◌++◌, ℕ, List, length}
+use Rattle.std.specs.Prelude.{slice_index, true}
+use Rattle.jpeg_bits.specs.Written.{marker}
+use Rattle.jpeg_segments.specs.WrittenSegments.{FrameHeader, Segment, frame_payload, is_known}
+use Rattle.jpeg_segments.specs.WrittenSegments.{marker_code, payload_of, with_length}
+use Rattle.jpeg_meaning.specs.Found.{Said, nothing_said}
+use Rattle.jpeg_meaning.specs.Levels.{Levels}
+use Rattle.jpeg_meaning.specs.SaidSegments.{Stands, said_after}
+use Rattle.jpeg_meaning.specs.WrittenImages.{MayStandInImage, WritesImage}
+use Rattle.jpeg_meaning.specs.WrittenScans.{Coefficients}
+
+-- Segments one after the other, from the start of some bytes up to these others: what was said
+-- before them and after.
+pub data WritesSegments (start : Said) (bytes : List ℕ) : Said → List ℕ → Type 0 where
+  none : WritesSegments start bytes start bytes
+  more : (said : Said) (fill : ℕ) (s : Segment) (rest : List ℕ)
+      → WritesSegments start bytes said
+      (marker fill (marker_code s) (with_length (payload_of s) ++ rest))
+      → Stands said s → MayStandInImage said s
+      → WritesSegments start bytes (said_after said s) rest
+
+-- A stream that a writer emits for the coefficients of an image.
+pub record IsWritten (bytes : List ℕ) : Type 0 where
+  pub array : Coefficients
+  pub final : Said
+  pub last : ℕ → Levels
+  pub written : WritesImage array bytes final last
+
+-- Somewhere stands an Adobe segment (APP14) whose colour transform is none of the three that are
+-- defined: T.81 doesn't say what applications write, and no writer here writes it.
+pub record HasOtherAdobe (bytes : List ℕ) : Type 0 where
+  pub front : List ℕ
+  pub fill : ℕ
+  pub payload : List ℕ
+  pub after : List ℕ
+  pub are : bytes ≡ front ++ marker fill 238 (with_length payload ++ after)
+  pub adobe : is_known 14 payload ≡ true
+  pub other : 2 < slice_index payload 11
+
+-- The frame header of a stream, after SOI and the segments before it.
+pub record HasHeader (bytes : List ℕ) : Type 0 where
+  pub before : ℕ
+  pub after : List ℕ
+  pub said : Said
+  pub fill : ℕ
+  pub number : ℕ
+  pub header : FrameHeader
+  pub rest : List ℕ
+  pub starts : bytes ≡ marker before 216 after
+  pub segments : WritesSegments nothing_said after said
+      (marker fill (192 + number) (with_length (frame_payload header) ++ rest))
+
+-- A sequential frame of one component of 8 bits.
+pub record IsGrey (number : ℕ) (h : FrameHeader) : Type 0 where
+  pub sequential : number ≤ 1
+  pub precise : h.precision ≡ 8
+  pub one : length h.components ≡ 1
+
+-- A stream whose frame header is this one is written for some coefficients, where the frame is
+-- sequential and has one component of 8 bits: without the fill bytes that may stand before SOI.
+pub record IsExactFor (bytes : List ℕ) : Type 0 where
+  pub headed : HasHeader bytes
+  pub written : IsGrey headed.number headed.header → IsWritten (255 ∷ 216 ∷ headed.after)
+
+abbrev pub IsExact : List ℕ → Type 0
+IsExact bytes = IsExactFor bytes ⊎ HasOtherAdobe bytes

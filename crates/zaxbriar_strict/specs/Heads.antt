@@ -1,0 +1,115 @@
+-- Frame and scan headers that were read, in the words of a writer (T.81, B.2.2 and B.2.3).
+use Rattle.std.specs.Prelude.{◌≡◌, ◌+◌, ◌≤◌, ℕ, Bool, true, false, List, map, take, get_or, length}
+use Rattle.std.specs.List.{AllByRecursion}
+use Rattle.jpeg_segments.specs.Frame.{Factors, greatest, Frame as WrittenFrame}
+use Rattle.jpeg_segments.specs.ScanHeader.{Selector}
+use Rattle.jpeg_segments.specs.ScanHeaders.{IsScan, ScanHeader, scan_payload}
+use Rattle.jpeg_segments.specs.WrittenSegments.{FrameHeader, IsFrameHeader, frame_payload}
+use Rattle.jpeg_segments.specs.WrittenSegments.{frame_written}
+use Rattle.zaxbriar_strict.specs.declared.frame.Component.{Component}
+use Rattle.zaxbriar_strict.specs.declared.frame.Frame.{Frame}
+use Rattle.zaxbriar_strict.specs.declared.frame.Process.{Process}
+use Rattle.zaxbriar_strict.specs.declared.frame.Process.TheVariants.{Baseline, Extended}
+use Rattle.zaxbriar_strict.specs.declared.frame.Process.TheVariants.{Lossless, Progressive}
+use Rattle.zaxbriar_strict.specs.declared.scan.Member.{Member}
+use Rattle.zaxbriar_strict.specs.declared.scan.Scan.{Scan}
+
+-- ---- frames
+
+-- the n of SOFn
+abbrev pub number_of : Process → ℕ
+number_of Baseline = 0
+number_of Extended = 1
+number_of Progressive = 2
+number_of Lossless = 3
+
+abbrev pub is_baseline_process : Process → Bool
+is_baseline_process Baseline = true
+is_baseline_process _ = false
+
+abbrev pub is_baseline_of : Frame → Bool
+is_baseline_of f = is_baseline_process f.process
+
+abbrev pub factors_of : Component → Factors
+factors_of c = record {
+  identifier = c.identifier;
+  horizontal = c.across;
+  vertical = c.down;
+  quantization = c.table;
+}
+
+abbrev pub header_of : Frame → FrameHeader
+header_of f = record {
+  precision = f.precision;
+  width = f.width;
+  height = f.height;
+  components = map factors_of f.components.items;
+}
+
+abbrev pub written_frame : Frame → WrittenFrame
+written_frame f = frame_written (number_of f.process) (header_of f)
+
+-- Its header keeps its rules, and it has the greatest sampling factors of its components.
+pub record IsMade (f : Frame) : Type 0 where
+  pub legal : IsFrameHeader (number_of f.process) (header_of f)
+  pub wide : f.width ≤ 65535
+  pub high : f.height ≤ 65535
+  pub across : f.most_across ≡ greatest (λ c. c.horizontal) (header_of f).components
+  pub down : f.most_down ≡ greatest (λ c. c.vertical) (header_of f).components
+
+-- The bytes of a segment SOFn after its length are those of a frame header, and no scan of it was
+-- read yet.
+pub record ReadsFrame (code : ℕ) (bytes : List ℕ) (f : Frame) : Type 0 where
+  pub marked : code ≡ 192 + number_of f.process
+  pub are : bytes ≡ frame_payload (header_of f)
+  pub made : IsMade f
+  pub unsent : AllByRecursion (λ c. c.has_scan ≡ false) f.components.items
+
+-- A frame whose header is the same: scans may have been read between.
+pub record IsSameFrame (old new : Frame) : Type 0 where
+  pub process : new.process ≡ old.process
+  pub header : header_of new ≡ header_of old
+  pub across : new.most_across ≡ old.most_across
+  pub down : new.most_down ≡ old.most_down
+
+-- ---- scans
+
+abbrev pub no_factors : Factors
+no_factors = record { identifier = 0; horizontal = 0; vertical = 0; quantization = 0 }
+
+-- a component of a scan, by its identifier and its index in the frame
+abbrev pub choice_of : List Factors → Member → ℕ × Selector
+choice_of components m = (
+  (get_or components m.component no_factors).identifier,
+  record { component = m.component; dc = m.dc; ac = m.ac },
+)
+
+abbrev pub members_of : Scan → List Member
+members_of s = take s.count s.members
+
+abbrev pub scan_header_of : Frame → Scan → ScanHeader
+scan_header_of f s = record {
+  choices = map (choice_of (header_of f).components) (members_of s);
+  first = s.first;
+  last = s.last;
+  high = s.high;
+  low = s.low;
+}
+
+-- The frame is sequential.
+abbrev pub IsSequential : Frame → Type 0
+IsSequential f = number_of f.process ≤ 1
+
+-- The bytes of a segment SOS after its length are those of a scan header, which in a sequential
+-- frame keeps its rules and sends all bits of all coefficients.
+pub record ReadsHeader (bytes : List ℕ) (s : Scan) (old new : Frame) : Type 0 where
+  pub are : bytes ≡ scan_payload (scan_header_of old s)
+  pub counted : s.count ≤ 4
+  pub legal : IsSequential old → IsScan (written_frame old) (scan_header_of old s)
+  pub last : IsSequential old → s.last ≡ 63
+  pub same : IsSameFrame old new
+  -- of a frame of one component, that has no scan yet; it has one now
+  pub first_of_one : IsSequential old → length old.components.items ≡ 1
+      → AllByRecursion (λ c. c.has_scan ≡ false) old.components.items
+  pub one_sent : IsSequential old → length old.components.items ≡ 1
+      → AllByRecursion (λ c. c.has_scan ≡ true) new.components.items

@@ -1,0 +1,98 @@
+-- What a walk over a stream takes of its segments (T.81, B.2.1).
+use Rattle.std.specs.Prelude.{◌≡◌, ◌≢◌, ◌⊎◌, ◌≤◌, ◌<◌, ◌++◌, ℕ, true, List, length, map, replicate}
+use Rattle.std.specs.Prelude.{Option, None, Some}
+use Rattle.std.specs.List.{AllByRecursion}
+use Rattle.jpeg_segments.specs.HuffmanTables.{no_tables}
+use Rattle.jpeg_segments.specs.WrittenSegments.{u16_bytes, with_length}
+use Rattle.zaxbriar_strict.specs.GreyScans.{ReadsIfGrey}
+use Rattle.zaxbriar_strict.specs.Heads.{IsMade, IsSameFrame, IsSequential, ReadsFrame, ReadsHeader}
+use Rattle.zaxbriar_strict.specs.Installed.{InstallsCodes, InstallsSteps, codes_of, steps_of}
+use Rattle.zaxbriar_strict.specs.declared.frame.Frame.{Frame}
+use Rattle.zaxbriar_strict.specs.declared.scan.Scan.{Scan}
+use Rattle.zaxbriar_strict.specs.declared.tables.Tables.{Tables}
+use Rattle.zaxbriar_strict.specs.declared.walk.Walk.{Walk}
+
+-- Nothing was read yet.
+pub record IsFresh (w : Walk) : Type 0 where
+  pub steps : steps_of w.tables ≡ replicate 4 None
+  pub codes : codes_of w.tables ≡ no_tables
+  pub interval : w.tables.interval ≡ 0
+  pub frame : w.frame ≡ None
+
+-- ---- tables and applications
+
+-- the codes of the markers APPn and COM
+abbrev pub IsSilent : ℕ → Type 0
+IsSilent code = ((224 ≤ code) × (code ≤ 239)) ⊎ (code ≡ 254)
+
+-- the codes of DHT, DQT, DRI, APPn and COM
+abbrev pub IsOther : ℕ → Type 0
+IsOther code = (code ≡ 196) ⊎ ((code ≡ 219) ⊎ ((code ≡ 221) ⊎ IsSilent code))
+
+-- The bytes of a DRI segment after its length (B.2.4.4).
+pub record InstallsInterval (bytes : List ℕ) (old new : Tables) : Type 0 where
+  pub are : bytes ≡ u16_bytes new.interval
+  pub steps : steps_of new ≡ steps_of old
+  pub codes : codes_of new ≡ codes_of old
+
+-- The bytes of a segment after its length, where its marker has one of these codes: it installs
+-- tables, or leaves them as they are.
+pub record WalksOther (code : ℕ) (bytes : List ℕ) (old new : Walk) : Type 0 where
+  pub codes : code ≡ 196 → InstallsCodes old.frame bytes old.tables new.tables
+  pub steps : code ≡ 219 → InstallsSteps bytes old.tables new.tables
+  pub interval : code ≡ 221 → InstallsInterval bytes old.tables new.tables
+  pub others : code ≢ 196 → code ≢ 219 → code ≢ 221 → new.tables ≡ old.tables
+  pub frame : new.frame ≡ old.frame
+  pub scans : new.scans ≡ old.scans
+  pub due : new.is_scan_due ≡ true
+
+-- ---- frames and scans
+
+-- A frame header, where there was none.
+pub record WalksFrame (code : ℕ) (bytes : List ℕ) (old new : Walk) : Type 0 where
+  pub frame : Frame
+  pub first : old.frame ≡ None
+  pub is : new.frame ≡ Some frame
+  pub read : ReadsFrame code bytes frame
+  pub tables : new.tables ≡ old.tables
+
+-- A scan of a sequential frame, from its header to what follows its data: the frame before it and
+-- after it, and one between, after the header.
+pub record ReadsScan (header start rest : List ℕ) (t : Tables) (old new : Frame) : Type 0 where
+  pub scan : Scan
+  pub between : Frame
+  pub sized : length scan.members ≡ 4
+  pub headed : ReadsHeader header scan old between
+  pub grey : ReadsIfGrey t between scan start rest
+  pub same : IsSameFrame between new
+  pub sent : map (λ c. c.has_scan) new.components.items
+      ≡ map (λ c. c.has_scan) between.components.items
+
+-- A scan, where there was a frame.
+pub record WalksScan (header start rest : List ℕ) (old new : Walk) : Type 0 where
+  pub frame : Frame
+  pub last : Frame
+  pub was : old.frame ≡ Some frame
+  pub is : new.frame ≡ Some last
+  pub some : 0 < new.scans
+  pub read : IsMade frame → IsSequential frame
+      → ReadsScan header start rest old.tables frame last
+
+-- A segment after the marker of this code, and after a scan header its data, up to what follows.
+pub data WalksSegment (code : ℕ) (bytes rest : List ℕ) (old new : Walk) : Type 0 where
+  of_other : (payload : List ℕ) → IsOther code → bytes ≡ with_length payload ++ rest
+      → WalksOther code payload old new → WalksSegment code bytes rest old new
+  of_frame : (payload : List ℕ) → bytes ≡ with_length payload ++ rest
+      → WalksFrame code payload old new → WalksSegment code bytes rest old new
+  of_scan : (header start : List ℕ) → code ≡ 218 → bytes ≡ with_length header ++ start
+      → WalksScan header start rest old new → WalksSegment code bytes rest old new
+
+-- ---- the end
+
+-- What holds at EOI: there is a frame, each of its components has a scan, and no tables stand after
+-- the last one.
+pub record Finishes (w : Walk) : Type 0 where
+  pub frame : Frame
+  pub is : w.frame ≡ Some frame
+  pub due : w.is_scan_due ≡ true → w.scans ≡ 0
+  pub sent : AllByRecursion (λ c. c.has_scan ≡ true) frame.components.items
