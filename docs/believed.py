@@ -32,6 +32,7 @@ LAWS = {
     "jpeg_evidence/src/limits": "",
     "jpeg_decoder/src/laws/headline": "laws::headline::",
     "jpeg_decoder/src/laws/lossless": "laws::lossless::",
+    "jpeg_orientation/src/laws": "laws::",
     "zaxbriar_metadata/src/laws": "laws::",
     "zaxbriar_calls/src/laws": "laws::",
 }
@@ -46,6 +47,8 @@ STREAMS = {
     "known_images": "jpeg_bits Refinement, jpeg_pixels Upsampling Pictures",
     "known_orders": "jpeg_meaning Order Scans",
     "known_crops": "jpeg_pixels Planes",
+    "known_planes": "jpeg_meaning FoundPlanes",
+    "known_written_planes": "jpeg_meaning FoundPlanes WrittenPlanes",
     "known_applications": "jpeg_bits DefaultTables, jpeg_segments Application",
     "laws::known_thumbnails": "jpeg_orientation Tiff",
     "laws::known_joined_metadata": "zaxbriar_calls StreamSegments Places",

@@ -12,15 +12,16 @@ _zaxbriar() {
         return
     fi
     case "${COMP_WORDS[1]}" in
-        pnm) options+=' --scale --upright --luma --png --partial' ;;
+        pnm) options+=' --scale --upright --crop --luma --png --partial' ;;
         thumbnail) options+=' --max --png --as-stored --partial' ;;
         info) options+=' --json --exif --thumbnail --xmp --extended-xmp --iptc --icc' ;;
         check) options+=' --json --quiet --strict' ;;
-        raw) options+=' --upright --luma' ;;
+        raw) options+=' --upright --crop --luma' ;;
         frames) options+=' --list' ;;
     esac
     case "$before" in
         --scale) options='1/8 1/4 1/2 1' ;;
+        --crop) options='512x512+0+0' ;;
         --max) options='160 320 640x480 1280x960' ;;
         --max-pixels) options='10M 100M' ;;
         --max-memory) options='100M 1G' ;;

@@ -28,6 +28,7 @@ case "${words[2]}" in
         own=(
             '--scale[the scale of the width and height]:scale:(1/8 1/4 1/2 1)'
             '--upright[turn the picture upright]'
+            '--crop[the part of the picture]:area:(512x512+0+0)'
             '--luma[write the luma alone]'
             '--png[write PNG]'
             '--partial[write the part before a fault]'
@@ -59,7 +60,13 @@ case "${words[2]}" in
             '--strict[judge by T.81 instead]'
         )
         ;;
-    raw) own=('--upright[turn the picture upright]' '--luma[write the luma alone]') ;;
+    raw)
+        own=(
+            '--upright[turn the picture upright]'
+            '--crop[the part of the picture]:area:(512x512+0+0)'
+            '--luma[write the luma alone]'
+        )
+        ;;
     frames) own=('--list[write a line for each frame]') ;;
 esac
 _arguments -s "${common[@]}" "${own[@]}" '1:word:' '*:file:_files'

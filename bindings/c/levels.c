@@ -10,6 +10,7 @@
 FOR_BOTH(read_info);
 FOR_BOTH(decode);
 FOR_BOTH(decode_partial);
+FOR_BOTH(decode_planes);
 FOR_BOTH(metadata);
 FOR_BOTH(joined_metadata);
 FOR_BOTH(find_metadata);
@@ -35,6 +36,14 @@ uint32_t zaxbriar_checked_decode_partial(const uint8_t *jpeg, size_t jpeg_size,
     if (zaxbriar_is_v3())
         return zaxbriar_v3_decode_partial(jpeg, jpeg_size, options, pixels, pixels_size, picture);
     return zaxbriar_v2_decode_partial(jpeg, jpeg_size, options, pixels, pixels_size, picture);
+}
+
+uint32_t zaxbriar_checked_decode_planes(const uint8_t *jpeg, size_t jpeg_size,
+                                        const zaxbriar_options *options, uint8_t *samples,
+                                        size_t samples_size, zaxbriar_picture *picture) {
+    if (zaxbriar_is_v3())
+        return zaxbriar_v3_decode_planes(jpeg, jpeg_size, options, samples, samples_size, picture);
+    return zaxbriar_v2_decode_planes(jpeg, jpeg_size, options, samples, samples_size, picture);
 }
 
 uint32_t zaxbriar_checked_metadata(const uint8_t *jpeg, size_t jpeg_size, uint32_t kind,

@@ -13,6 +13,9 @@ uint32_t zaxbriar_checked_decode(const uint8_t *jpeg, size_t jpeg_size,
 uint32_t zaxbriar_checked_decode_partial(const uint8_t *jpeg, size_t jpeg_size,
                                          const zaxbriar_options *options, uint8_t *pixels,
                                          size_t pixels_size, zaxbriar_picture *picture);
+uint32_t zaxbriar_checked_decode_planes(const uint8_t *jpeg, size_t jpeg_size,
+                                        const zaxbriar_options *options, uint8_t *samples,
+                                        size_t samples_size, zaxbriar_picture *picture);
 uint32_t zaxbriar_checked_metadata(const uint8_t *jpeg, size_t jpeg_size, uint32_t kind,
                                    uint64_t max_passes, uint8_t *data, size_t data_size,
                                    uint64_t *length);

@@ -21,7 +21,11 @@ _Static_assert(offsetof(zaxbriar_options, max_passes) == 48, "options");
 _Static_assert(offsetof(zaxbriar_options, upright) == 56, "options");
 _Static_assert(offsetof(zaxbriar_options, luma) == 57, "options");
 _Static_assert(offsetof(zaxbriar_options, reserved_bytes) == 58, "options");
-_Static_assert(offsetof(zaxbriar_options, reserved_words) == 64, "options");
+_Static_assert(offsetof(zaxbriar_options, crop_left) == 64, "options");
+_Static_assert(offsetof(zaxbriar_options, crop_top) == 66, "options");
+_Static_assert(offsetof(zaxbriar_options, crop_width) == 68, "options");
+_Static_assert(offsetof(zaxbriar_options, crop_height) == 70, "options");
+_Static_assert(offsetof(zaxbriar_options, reserved_words) == 72, "options");
 _Static_assert(sizeof(zaxbriar_picture) == 320, "picture");
 _Static_assert(offsetof(zaxbriar_picture, width) == 32, "picture");
 _Static_assert(offsetof(zaxbriar_picture, whole_rows) == 40, "picture");
@@ -36,7 +40,12 @@ _Static_assert(offsetof(zaxbriar_picture, density_unit) == 59, "picture");
 _Static_assert(offsetof(zaxbriar_picture, horizontal_density) == 60, "picture");
 _Static_assert(offsetof(zaxbriar_picture, vertical_density) == 62, "picture");
 _Static_assert(offsetof(zaxbriar_picture, transform) == 64, "picture");
-_Static_assert(offsetof(zaxbriar_picture, reserved) == 65, "picture");
+_Static_assert(offsetof(zaxbriar_picture, reserved_byte) == 65, "picture");
+_Static_assert(offsetof(zaxbriar_picture, plane_width) == 66, "picture");
+_Static_assert(offsetof(zaxbriar_picture, plane_height) == 74, "picture");
+_Static_assert(offsetof(zaxbriar_picture, reserved_bytes) == 82, "picture");
+_Static_assert(offsetof(zaxbriar_picture, planes_size) == 88, "picture");
+_Static_assert(offsetof(zaxbriar_picture, reserved) == 96, "picture");
 _Static_assert(offsetof(zaxbriar_picture, text) == 208, "picture");
 _Static_assert(sizeof(zaxbriar_place) == 16, "place");
 _Static_assert(sizeof(zaxbriar_places) == 4160, "places");
@@ -118,7 +127,7 @@ zaxbriar_result zaxbriar_read_info(const void *jpeg, size_t jpeg_size,
     return with_places(answer, jpeg, jpeg_size, options);
 }
 
-/* A proved call that writes pixels. */
+/* A proved call that writes pixels, or the samples of planes. */
 typedef uint32_t decoding(const uint8_t *jpeg, size_t jpeg_size, const zaxbriar_options *options,
                           uint8_t *pixels, size_t pixels_size, zaxbriar_picture *picture);
 
@@ -150,6 +159,13 @@ zaxbriar_result zaxbriar_decode_partial(const void *jpeg, size_t jpeg_size,
                                         size_t pixels_size, zaxbriar_picture *picture) {
     return decode_by(zaxbriar_checked_decode_partial, jpeg, jpeg_size, options, pixels,
                      pixels_size, picture);
+}
+
+zaxbriar_result zaxbriar_decode_planes(const void *jpeg, size_t jpeg_size,
+                                       const zaxbriar_options *options, void *samples,
+                                       size_t samples_size, zaxbriar_picture *picture) {
+    return decode_by(zaxbriar_checked_decode_planes, jpeg, jpeg_size, options, samples,
+                     samples_size, picture);
 }
 
 /* Copies metadata of an image whose scans may go so many times over its picture. */

@@ -24,6 +24,9 @@
  * greatest value is full ink.
  * A sample of at most 8 bits takes one byte; a sample of more bits takes two, the lower byte first
  * (only lossless pictures have other than 8 bits).
+ *
+ * zaxbriar_decode_planes returns the samples as the stream codes them: those of each component, at
+ * the component's own size, neither upsampled nor converted.
  */
 #ifndef ZAXBRIAR_H
 #define ZAXBRIAR_H
@@ -55,15 +58,18 @@ typedef enum zaxbriar_result {
     ZAXBRIAR_UNSUPPORTED = 2,  /* the stream needs an unsupported feature: picture.feature */
     ZAXBRIAR_TRUNCATED = 3,    /* the stream ends too soon */
     ZAXBRIAR_NO_MEMORY = 4,    /* out of memory */
-    ZAXBRIAR_NO_ROOM = 5,      /* the buffer is too small: picture.size or *length is needed */
-    ZAXBRIAR_BAD_ARGUMENT = 6, /* a null pointer, options that don't exist, or a stride that is
-                                  shorter than a line of the picture or above 2^32 */
+    ZAXBRIAR_NO_ROOM = 5,      /* the buffer is too small: picture.size, picture.planes_size or
+                                  *length is needed */
+    ZAXBRIAR_BAD_ARGUMENT = 6, /* a null pointer, options that don't exist, a stride that is shorter
+                                  than a line of the picture or above 2^32, a crop that isn't
+                                  inside the picture, or an option that planes don't have */
     ZAXBRIAR_NO_DATA = 7,      /* the header, or the whole image, has no such metadata */
     ZAXBRIAR_TOO_LARGE = 8,    /* according to its header, the picture exceeds a limit */
     ZAXBRIAR_PARTIAL = 9,      /* only of zaxbriar_decode_partial: the stream has a fault, and
                                   `pixels` has what it brings up to it: picture.fault */
-    ZAXBRIAR_TOO_MANY_PASSES = 10 /* only of zaxbriar_decode: the scans code the blocks of the
-                                     picture more often than max_passes allows */
+    ZAXBRIAR_TOO_MANY_PASSES = 10 /* only of zaxbriar_decode and zaxbriar_decode_planes: the scans
+                                     code the blocks of the picture more often than max_passes
+                                     allows */
 } zaxbriar_result;
 
 /* How the pixels are arranged. Every picture can be decoded into every layout. In all but
@@ -250,7 +256,17 @@ typedef struct zaxbriar_segment {
  * is ZAXBRIAR_MALFORMED if the first of several components isn't luma, as in RGB, CMYK and YCCK
  * (picture.transform isn't ZAXBRIAR_TRANSFORM_YCBCR), or doesn't have a sample for each pixel. With
  * ZAXBRIAR_TRANSFORM_YCBCR as `transform` it counts as luma, also the first of four. Grey and
- * lossless pictures aren't affected. */
+ * lossless pictures aren't affected.
+ *
+ * `crop_width` columns of `crop_height` lines are a part of the picture that the same options give
+ * without a crop, at its scale and turned upright if they ask for that; `crop_left` and `crop_top`
+ * are its first column and line, counted from 0. Unless all four are zero that part is given:
+ * width, height, row_bytes and size are its own, from zaxbriar_read_info on, `stride` and
+ * `bottom_up` are for its lines, `max_samples` counts its samples, and `whole_rows` of a partial
+ * picture its rows, before it is turned. The whole stream is read all the same, and refused for any
+ * fault in it, and decoding_bytes is that of the whole picture. A part without pixels, or one that
+ * isn't inside the picture, is a ZAXBRIAR_BAD_ARGUMENT once the header has been read, with a text
+ * that tells how large the picture is; and so is any part with ZAXBRIAR_TRANSFORM_NONE. */
 typedef struct zaxbriar_options {
     uint64_t max_samples; /* limits width * height * components, at the scale; 0: no limit */
     uint64_t stride;      /* bytes from one line to the next, at most 2^32; 0: no gaps */
@@ -269,17 +285,23 @@ typedef struct zaxbriar_options {
                            stride * (height - 1 - y) of `pixels`; 0: at stride * y */
     uint64_t max_bytes; /* limits picture.decoding_bytes; 0: no limit */
     const zaxbriar_memory *memory; /* null: malloc, realloc and free */
-    zaxbriar_places *places; /* null, or where zaxbriar_read_info, zaxbriar_decode and
-                                zaxbriar_decode_partial store what zaxbriar_find_metadata finds,
-                                whatever they return but ZAXBRIAR_BAD_ARGUMENT; the limits don't
-                                affect it */
+    zaxbriar_places *places; /* null, or where zaxbriar_read_info, zaxbriar_decode,
+                                zaxbriar_decode_partial and zaxbriar_decode_planes store what
+                                zaxbriar_find_metadata finds, whatever they return but
+                                ZAXBRIAR_BAD_ARGUMENT; the limits don't affect it */
     uint64_t max_passes; /* limits how many times the scans may code the blocks of the picture, all
                             together; 0: no limit. Few files need more than 8; 100 is a limit for
                             untrusted ones */
     uint8_t upright;            /* 1: the picture is turned upright; 0: it stays as it is stored */
     uint8_t luma;               /* 1: of a picture in colour the luma alone; 0: with its colours */
     uint8_t reserved_bytes[6];  /* zero */
-    uint64_t reserved_words[8]; /* zero */
+
+    /* The part of the picture that is requested, in pixels; all zeros: all of it. */
+    uint16_t crop_left;
+    uint16_t crop_top;
+    uint16_t crop_width;
+    uint16_t crop_height;
+    uint64_t reserved_words[7]; /* zero */
 } zaxbriar_options;
 
 /* Describes a picture as it is decoded with the options, also after ZAXBRIAR_NO_ROOM and
@@ -296,18 +318,21 @@ typedef struct zaxbriar_picture {
                                 samples of a scan of several components, or of a lossless frame,
                                 that repeats components of an earlier scan: at most as much once
                                 more; nor is a copy of the luma, where that alone is asked for of a
-                                part, and one scan has all components, of the same factors */
+                                part, and one scan has all components, of the same factors; nor
+                                are copies of planes in zaxbriar_decode_planes: at most as much
+                                once more */
     uint64_t stream_bytes;   /* how many bytes of `jpeg` the image takes, after ZAXBRIAR_OK of
-                                zaxbriar_decode; or the header, after ZAXBRIAR_OK of
-                                zaxbriar_read_info, ZAXBRIAR_NO_ROOM and ZAXBRIAR_TOO_LARGE.
-                                Otherwise how many were read: 0 if the options don't exist */
-    uint32_t width;          /* in pixels, at the scale of the options, and upright if they ask for
-                                that */
+                                zaxbriar_decode and zaxbriar_decode_planes; or the header, after
+                                ZAXBRIAR_OK of zaxbriar_read_info, ZAXBRIAR_NO_ROOM and
+                                ZAXBRIAR_TOO_LARGE. Otherwise how many were read: 0 if the options
+                                don't exist */
+    uint32_t width;          /* in pixels, at the scale of the options, and upright or of a part if
+                                they ask for that */
     uint32_t height;
     uint32_t whole_rows;      /* after ZAXBRIAR_PARTIAL, and ZAXBRIAR_OK of zaxbriar_decode_partial:
-                                 how many rows of the picture, from its top and before it is turned,
-                                 are complete in each scan that has begun (all after ZAXBRIAR_OK);
-                                 otherwise 0 */
+                                 how many rows of the picture, or of the part of it, from its top
+                                 and before it is turned, are complete in each scan that has begun
+                                 (all after ZAXBRIAR_OK); otherwise 0 */
     uint8_t pixel_bytes;      /* bytes of a pixel in this layout */
     uint8_t layout;           /* the requested layout */
     uint8_t components;       /* samples of a pixel as it is stored: one of each component of the
@@ -338,7 +363,15 @@ typedef struct zaxbriar_picture {
                                  ZAXBRIAR_TRANSFORM_OF_STREAM, unless such a segment follows. NONE
                                  for grey and lossless pictures, and 0 for libjpeg's big gamut
                                  colours, which aren't decoded */
-    uint8_t reserved[143];    /* zero */
+    uint8_t reserved_byte;    /* zero */
+    uint16_t plane_width[4];  /* of the stream: the width and the height of each component's
+                                 samples, at the scale of the options; 0 for a component that it
+                                 doesn't have. Neither layout, upright, luma nor crop changes it */
+    uint16_t plane_height[4];
+    uint8_t reserved_bytes[6]; /* zero */
+    uint64_t planes_size;     /* bytes of all these planes: plane_width * plane_height *
+                                 sample_bytes of each */
+    uint8_t reserved[112];    /* zero */
     char text[112];           /* why the call failed, or the fault of a partial picture, in English,
                                  ending with a zero; "" after OK */
 } zaxbriar_picture;
@@ -373,6 +406,29 @@ ZAXBRIAR_CALL zaxbriar_result zaxbriar_decode_partial(const void *jpeg, size_t j
                                                       const zaxbriar_options *options,
                                                       void *pixels, size_t pixels_size,
                                                       zaxbriar_picture *picture);
+
+/* Decodes the samples of each component into `samples`, at the component's own size, as
+ * picture.plane_width and picture.plane_height say, from zaxbriar_read_info on: line by line from
+ * the top without gaps, and one component after the other, in the order of the frame header.
+ * Nothing is upsampled and no colour is converted, so that this is also for streams whose colours
+ * zaxbriar_decode doesn't know. Of a picture in 4:2:0, for instance:
+ *
+ *     unsigned char *luma = samples;
+ *     unsigned char *blue = luma + (size_t)picture.plane_width[0] * picture.plane_height[0];
+ *     unsigned char *red = blue + (size_t)picture.plane_width[1] * picture.plane_height[1];
+ *
+ * If the buffer is smaller than picture.planes_size, the call returns ZAXBRIAR_NO_ROOM before it
+ * decodes anything. The bytes after the planes are left unchanged. `picture` may be null; otherwise
+ * it describes the picture as zaxbriar_read_info does with these options.
+ *
+ * Of the options, the scale (min_width, min_height and scale), the limits, `memory` and `places`
+ * count. The others arrange or convert samples and have to be zero: stride, layout, bottom_up,
+ * transform, upright, luma and the crop, or else the call returns ZAXBRIAR_BAD_ARGUMENT. All other
+ * values are as for zaxbriar_decode: the whole stream is read, and refused for any fault in it. */
+ZAXBRIAR_CALL zaxbriar_result zaxbriar_decode_planes(const void *jpeg, size_t jpeg_size,
+                                                     const zaxbriar_options *options,
+                                                     void *samples, size_t samples_size,
+                                                     zaxbriar_picture *picture);
 
 /* Copies the metadata of a kind (zaxbriar_kind) from the segments before the frame: Exif data from
  * the TIFF header on, XMP data, or an ICC profile. Stores their number of bytes in *length, even if

@@ -48,7 +48,7 @@ GAMUTS = {'JcsBgYcc': 6, 'JcsBgRgb': 7}
 MEMBERS = (
     'size row_bytes decoding_bytes stream_bytes width height whole_rows pixel_bytes layout '
     'components precision sample_bytes process orientation format feature feature_argument fault '
-    'density_unit horizontal_density vertical_density transform text'
+    'density_unit horizontal_density vertical_density transform planes_size text'
 ).split()
 JOINED = {1: exif_in, 2: xmp_in, 4: extended_xmp_in, 5: iptc_in, 6: thumbnail_in}
 BEFORE = 7
@@ -114,6 +114,7 @@ class Options:
         self.max_samples = self.stride = self.min_width = self.min_height = self.transform = 0
         self.layout = self.scale = self.bottom_up = self.max_bytes = self.max_passes = 0
         self.upright = self.luma = 0
+        self.crop_left = self.crop_top = self.crop_width = self.crop_height = 0
         self.is_reserved = False
         for word in words:
             name, number = word.split('=')
@@ -125,11 +126,21 @@ class Options:
 
     def are_known(self):
         """Whether they exist, whatever the picture is."""
-        if self.transform == TRANSFORMS.index('None') and (self.layout or self.upright):
-            return False
+        if self.transform == TRANSFORMS.index('None'):
+            if self.layout or self.upright or any(self.crop()):
+                return False
         if self.is_reserved or max(self.bottom_up, self.upright, self.luma) > 1:
             return False
         return self.transform < len(TRANSFORMS) and self.scale in (0, 1, 2, 4, 8)
+
+    def are_as_coded(self):
+        """Whether they ask for samples as the stream has them, and for no arrangement of them."""
+        arranged = self.stride, self.layout, self.bottom_up, self.transform, self.upright, self.luma
+        return not any(arranged + self.crop())
+
+    def crop(self):
+        """The first column and line of a part, and its width and height: all 0 for all."""
+        return self.crop_left, self.crop_top, self.crop_width, self.crop_height
 
     def wanted(self):
         """The scale as the model's settings have it: eighths, or a least width and height."""
@@ -210,6 +221,17 @@ def upright_size(orientation, width, height):
     return (height, width) if SIDES[orientation][0] in ('left', 'right') else (width, height)
 
 
+def shown_part(options, width, height):
+    """The columns and the lines that are asked for of a picture of this size, as it is shown."""
+    left, top, wide, high = options.crop()
+    if not any(options.crop()):
+        return range(width), range(height)
+    columns, rows = range(left, left + wide), range(top, top + high)
+    if not columns or not rows or columns[-1] >= width or rows[-1] >= height:
+        raise Refusal(BAD_ARGUMENT)
+    return columns, rows
+
+
 def described(stream, options):
     """The frame, its scale, and the members of a picture that a header and options give."""
     frame, header_bytes, said = header_of(stream)
@@ -221,6 +243,8 @@ def described(stream, options):
     if options.layout > RGB16:
         raise Refusal(BAD_ARGUMENT)
     pixel_bytes = PIXEL_BYTES.get(options.layout, components * (1 + is_wide))
+    columns, rows = shown_part(options, width, height)
+    shown_size, width, height = (width, height), len(columns), len(rows)
     row_bytes = width * pixel_bytes
     stride = options.stride or row_bytes
     if not row_bytes <= stride <= 2**32:
@@ -247,7 +271,11 @@ def described(stream, options):
         'vertical_density': down,
         'transform': transform_of(frame, said),
         'sampling': bytes(c.h << 4 | c.v for c in frame.comps),
+        'planes': frame.sizes(scale),
+        'planes_size': sum(w * h for w, h in frame.sizes(scale)) * (1 + is_wide),
         'stored_size': stored_size,
+        'shown_size': shown_size,
+        'part': (columns, rows),
     }
     return frame, scale, told
 
@@ -319,9 +347,31 @@ def turned(stored, options, told):
     for y in range(high):
         for x in range(wide):
             at = (y * wide + x) * size
-            place = upright_place(told['orientation'], x, y, told['width'], told['height'])
+            place = upright_place(told['orientation'], x, y, *told['shown_size'])
             pixels[place[::-1]] = stored[at : at + size]
     return b''.join(pixels[place] for place in sorted(pixels))
+
+
+def cut(shown, told):
+    """The pixels of the part that is asked for of a picture as it is shown."""
+    (wide, _), size, (columns, rows) = told['shown_size'], told['pixel_bytes'], told['part']
+    starts = [(y * wide + columns[0]) * size for y in rows]
+    return b''.join(shown[start : start + len(columns) * size] for start in starts)
+
+
+def complete_rows(rows, options, told):
+    """How many rows of the part, as it is stored, are among the first rows of the picture: those
+    whose pixels are all among them, up to the first that has another."""
+    orientation = told['orientation'] if options.upright else 1
+    columns, lines = told['part']
+    (wide, high), count = told['stored_size'], 0
+    for y in range(high):
+        places = [upright_place(orientation, x, y, *told['shown_size']) for x in range(wide)]
+        if any(across in columns and down in lines for across, down in places):
+            if y >= rows:
+                break
+            count += 1
+    return count
 
 
 def put_lines(memory, stored, options, told):
@@ -338,7 +388,7 @@ def put_lines(memory, stored, options, told):
             for at in range(0, len(samples), count)
             for byte in pixel_in(options.layout, samples[at : at + count], told['precision'])
         )
-    stored = turned(stored, options, told)
+    stored = cut(turned(stored, options, told), told)
     for line in range(height):
         place = height - 1 - line if options.bottom_up else line
         start = place * (options.stride or row)
@@ -354,7 +404,14 @@ def picture_text(code, told):
     told = dict(told, text=int(code != OK))
     members = ''.join(' %s %d' % (name, told[name]) for name in MEMBERS if told.get(name))
     sampling = told.get('sampling', b'').ljust(4, b'\0')
-    return '%s%s, sampling %s' % (NAMES[code], members, sampling.hex().upper())
+    planes = (list(told.get('planes', [])) + 4 * [(0, 0)])[:4]
+    sizes = ''.join(' %dx%d' % size for size in planes)
+    return '%s%s, sampling %s%s' % (
+        NAMES[code],
+        members,
+        sampling.hex().upper(),
+        ', planes' + sizes if 'planes' in told else '',
+    )
 
 
 def memory_text(memory):
@@ -392,28 +449,52 @@ def fill(stream, options, memory, is_partial):
     put_lines(memory, got[4], options, told)
     told['stream_bytes'] = trace.get('end', 0)
     if is_partial:
-        told['whole_rows'] = got[6]
+        told['whole_rows'] = complete_rows(got[6], options, told)
     if is_partial and got[5]:
         fault, named = fault_of(got[5])
         raise Refusal(PARTIAL, **told, **named, fault=with_passes(fault, trace))
     return told
 
 
-def filled(stream, room, words, is_partial):
+def fill_planes(stream, options, memory):
+    """The same of the planes of the components, one after the other."""
+    if not (options.are_known() and options.are_as_coded()):
+        raise Refusal(BAD_ARGUMENT)
+    frame, _, told = described(stream, options)
+    if is_too_large(options, told):
+        raise Refusal(TOO_LARGE, **told)
+    if len(memory) < told['planes_size']:
+        raise Refusal(NO_ROOM, **told)
+    trace = {}
+    got = settled(model.planes_of(stream, options.settings(frame), trace))
+    if got[0] == 'err':
+        code, named = fault_of(got[1])
+        raise Refusal(with_passes(code, trace), **told, **named)
+    samples = b''.join(plane for _, _, plane in got[1])
+    memory[: len(samples)] = samples
+    told['stream_bytes'] = trace.get('end', 0)
+    return told
+
+
+def filled(room, fill_memory):
     memory = bytearray([BEFORE] * int(room))
     try:
-        code, told = OK, fill(stream, Options(words), memory, is_partial)
+        code, told = OK, fill_memory(memory)
     except Refusal as found:
         code, told = found.code, found.told
     return picture_text(code, told) + memory_text(memory)
 
 
 def decode(stream, room, *words):
-    return filled(stream, room, words, False)
+    return filled(room, lambda memory: fill(stream, Options(words), memory, False))
 
 
 def decode_partial(stream, room, *words):
-    return filled(stream, room, words, True)
+    return filled(room, lambda memory: fill(stream, Options(words), memory, True))
+
+
+def decode_planes(stream, room, *words):
+    return filled(room, lambda memory: fill_planes(stream, Options(words), memory))
 
 
 def meaning_within(stream, options, trace):
@@ -547,7 +628,7 @@ def next_segment(stream, at):
 CALLS = {
     call.__name__: call
     for call in (
-        *(read_info, decode, decode_partial),
+        *(read_info, decode, decode_partial, decode_planes),
         *(metadata, joined_metadata, find_metadata, next_segment),
     )
 }

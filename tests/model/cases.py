@@ -145,10 +145,10 @@ class Decoder:
         self.stage, self.frame, self.said = 'fresh', None, {'exif': None, 'xmp': None, 'icc': []}
         self.place, self.trace, self.meaning = 0, None, None
 
-    def mean(self):
+    def mean(self, read=model.meaning):
         """Runs the model by the settings of now."""
         self.trace = {}
-        self.meaning = model.meaning(self.stream, self.settings, self.trace)
+        self.meaning = read(self.stream, self.settings, self.trace)
 
     def refuse(self):
         """Fails as the model says."""
@@ -176,16 +176,16 @@ class Decoder:
     def size(self):
         return '%d %d %s' % model.info(self.frame, self.scale_of_now())
 
-    def picture(self):
-        """Decodes, and returns a refusal's texts or the picture's bytes."""
+    def picture(self, read=model.meaning):
+        """Decodes, and returns a refusal's texts or the picture's bytes, or what else is read."""
         refusal = [OVER] if self.stage == 'finished' else self.read_header()
         if refusal:
             return refusal
-        self.mean()
+        self.mean(read)
         if self.meaning[0] == 'err':
             return self.refuse()
         self.stage, self.said, self.place = 'finished', self.trace['state'], self.trace['end']
-        return self.meaning[4]
+        return self.meaning[-1]
 
     def partial(self):
         refusal = [OVER] if self.stage == 'finished' else self.read_header()
@@ -231,6 +231,16 @@ class Decoder:
     def decode(self):
         picture = self.picture()
         return picture if isinstance(picture, list) else [self.size() + self.words(picture)]
+
+    def planes(self):
+        planes = self.picture(model.planes_of)
+        if isinstance(planes, list):
+            return planes
+        said = (
+            '%d %d%s' % (width, height, words_of(samples, len(samples) // (width * height)))
+            for width, height, samples in planes
+        )
+        return [', '.join(said)]
 
     def refusal(self):
         return [text + '..' if text == FORMAT else text for text in self.decode()]

@@ -1119,6 +1119,18 @@ class Brought:
         conv = conversion(len(f.comps), choose(f, st, settings)) if len(f.comps) > 1 else None
         return ('ok', *shape, picture(f, planes, s8, conv))
 
+    def own_planes(self):
+        """of each component its samples at its own size, line by line: (width, height, bytes)"""
+        f, s8 = self.frame, self.scale
+        for i, (w, h) in enumerate(f.sizes(s8)):
+            if f.process == 'lossless':
+                samples = self.planes[i][2]
+            else:
+                p = plane_of(f, i, *self.planes[i], s8)
+                samples = [p(x, y) for y in range(h) for x in range(w)]
+            size = 1 if f.precision <= 8 else 2
+            yield w, h, b''.join(v.to_bytes(size, 'little') for v in samples)
+
     def check_limit(self, settings):
         w, h = self.frame.output(self.scale)
         if samples_a_pixel(self.frame, settings) * w * h > settings.limit:
@@ -1142,6 +1154,22 @@ def meaning(data, settings=None, trace=None):
         return b.picture(settings, st)
     except Refused as e:
         return ('err', e.kind, e.in_scan)
+
+
+def planes_of(data, settings=None, trace=None):
+    """The planes of a picture, each as (width, height, bytes) with two bytes a sample above 8 bits,
+    the lower first: no sample is upsampled, no colour converted, and the limit counts the samples
+    of all planes. Neither the transform nor the luma of the settings makes a difference."""
+    settings, st, b = settings or Settings(), nothing_said(trace), Brought()
+    try:
+        read_segments(Bytes(data), settings, st, trace, b, False)
+        if sum(w * h for w, h in b.frame.sizes(b.scale)) > settings.limit:
+            raise fmt()
+        if not b.end():
+            raise fmt()
+        return 'ok', tuple(b.own_planes())
+    except Refused as e:
+        return 'err', e.kind, e.in_scan
 
 
 def shown(data, settings=None, trace=None):

@@ -149,6 +149,8 @@ void check_answer(enum call call, const struct answer *answer, const zaxbriar_op
     CHECK(answer->result != ZAXBRIAR_TOO_MANY_PASSES || options->max_passes);
     CHECK(memchr(picture->text, 0, sizeof picture->text));
     CHECK((picture->text[0] == 0) == (answer->result == ZAXBRIAR_OK));
+    CHECK(picture->reserved_byte == 0);
+    CHECK(is_all(picture->reserved_bytes, sizeof picture->reserved_bytes, 0));
     CHECK(is_all(picture->reserved, sizeof picture->reserved, 0));
     CHECK(picture->stream_bytes <= size);
     CHECK(are_known(options) || answer->result == ZAXBRIAR_BAD_ARGUMENT);

@@ -11,8 +11,8 @@ typedef zaxbriar_result describing(const void *jpeg, size_t jpeg_size,
 typedef zaxbriar_result listing(const void *jpeg, size_t jpeg_size, zaxbriar_segment *segment);
 typedef zaxbriar_result copying(const void *jpeg, size_t jpeg_size, const zaxbriar_options *options,
                                 int kind, void *data, size_t data_size, size_t *length);
-decoding __real_zaxbriar_decode, __real_zaxbriar_decode_partial;
-decoding __wrap_zaxbriar_decode, __wrap_zaxbriar_decode_partial;
+decoding __real_zaxbriar_decode, __real_zaxbriar_decode_partial, __real_zaxbriar_decode_planes;
+decoding __wrap_zaxbriar_decode, __wrap_zaxbriar_decode_partial, __wrap_zaxbriar_decode_planes;
 describing __real_zaxbriar_read_info, __wrap_zaxbriar_read_info;
 copying __real_zaxbriar_metadata_within, __wrap_zaxbriar_metadata_within;
 listing __real_zaxbriar_next_segment, __wrap_zaxbriar_next_segment;
@@ -34,6 +34,7 @@ enum {
     HIDES_FAULT,           /* answers OK for a part */
     MIRRORS,               /* exchanges the ends of the first line of a picture that is turned */
     WRONG_LUMA,            /* gives another first sample where the luma is asked for */
+    WRONG_PLANE,           /* gives another first sample of the planes */
     WRONG_BYTES,           /* says that an image takes a byte more */
     PAST_DATA,             /* metadata_within writes a byte too many */
     WRONG_SIZE,            /* read_info says that a picture takes a byte more */
@@ -112,6 +113,15 @@ zaxbriar_result __wrap_zaxbriar_decode_partial(const void *jpeg, size_t jpeg_siz
     picture->whole_rows = picture->height;
     picture->text[0] = 0;
     return ZAXBRIAR_OK;
+}
+
+zaxbriar_result __wrap_zaxbriar_decode_planes(const void *jpeg, size_t jpeg_size,
+                                              const zaxbriar_options *options, void *samples,
+                                              size_t samples_size, zaxbriar_picture *picture) {
+    zaxbriar_result result =
+        __real_zaxbriar_decode_planes(jpeg, jpeg_size, options, samples, samples_size, picture);
+    if (is_now(WRONG_PLANE) && result == ZAXBRIAR_OK) *(char *)samples ^= 1;
+    return result;
 }
 
 zaxbriar_result __wrap_zaxbriar_metadata_within(const void *jpeg, size_t jpeg_size,

@@ -406,6 +406,44 @@ static void turn_upright(void) {
     free(shown.pixels);
 }
 
+/* A part of a picture has the pixels that the picture has there, as it is shown, and there is none
+ * that isn't inside. The complete rows of a part are no more than those of the picture. */
+static void take_crop(void) {
+    zaxbriar_options options = of.options;
+    zaxbriar_picture part;
+    if (!of.is_small || options.transform == ZAXBRIAR_TRANSFORM_NONE) return;
+    struct shown shown = shown_of(PART, of.size, 0x5A);
+    if (is_decoded(shown.answer.result)) {
+        const zaxbriar_picture *whole = &shown.answer.picture;
+        uint32_t left = of.settings[MIN_WIDTH] * whole->width >> 8;
+        uint32_t top = of.settings[MIN_HEIGHT] * whole->height >> 8;
+        options.stride = options.bottom_up = 0;
+        options.crop_left = (uint16_t)left, options.crop_top = (uint16_t)top;
+        options.crop_width = (uint16_t)(1 + of.settings[GAP] % (whole->width - left));
+        options.crop_height = (uint16_t)(1 + of.settings[PASSES] % (whole->height - top));
+        size_t pixel_bytes = whole->pixel_bytes, row = options.crop_width * pixel_bytes;
+        size_t stride = of.options.stride ? of.options.stride : whole->row_bytes;
+        size_t room = row * options.crop_height;
+        unsigned char *pixels_of_part = block(room);
+        begin_call(&options);
+        CHECK(zaxbriar_decode_partial(of.jpeg, of.size, &options, pixels_of_part, room, &part) ==
+              shown.answer.result);
+        end_counting(9);
+        CHECK(part.size == room && part.whole_rows <= whole->whole_rows);
+        CHECK(part.width == options.crop_width && part.height == options.crop_height);
+        for (uint32_t y = 0; y < part.height; y++) {
+            uint32_t line = of.options.bottom_up ? whole->height - 1 - top - y : top + y;
+            CHECK(!memcmp(pixels_of_part + y * row,
+                          shown.pixels + line * stride + left * pixel_bytes, row));
+        }
+        options.crop_width = (uint16_t)(whole->width - left + 1);
+        CHECK(zaxbriar_read_info(of.jpeg, of.size, &options, &part) == ZAXBRIAR_BAD_ARGUMENT);
+        note(54, (uint64_t)bits_of(part.width) << 8 | bits_of(part.height));
+        free(pixels_of_part);
+    }
+    free(shown.pixels);
+}
+
 /* The luma of a picture is what stands first in each line of its components, which are those of the
  * stream without a conversion. */
 static void take_luma(void) {
@@ -437,6 +475,65 @@ static void take_luma(void) {
         free(all);
     }
     free(luma);
+}
+
+/* Where a sample of a component begins in a picture whose components weren't converted. */
+static size_t sample_place(const zaxbriar_picture *picture, int component, uint32_t x, uint32_t y) {
+    size_t width = picture->width, count = picture->components;
+    if (picture->process == ZAXBRIAR_LOSSLESS)
+        return ((y * width + x) * count + (size_t)component) * picture->sample_bytes;
+    return (y * count + (size_t)component) * width + x;
+}
+
+/* Planes are given of the same streams as a picture that isn't converted, whatever is above it in
+ * the options, and a plane of the picture's size has the samples that this has of its component. */
+static void take_planes(void) {
+    zaxbriar_options options = of.options;
+    zaxbriar_picture picture, whole;
+    if (!of.is_small) return;
+    options.stride = options.layout = options.bottom_up = options.transform = 0;
+    options.upright = options.luma = 0;
+    options.max_samples = options.max_bytes = 0;
+    size_t room = of.info.picture.planes_size;
+    unsigned char *samples = block(room + GUARD);
+    memset(samples, BYTE, room + GUARD);
+    CHECK(zaxbriar_decode_planes(of.jpeg, of.size, &options, samples, room - 1, NULL) ==
+          ZAXBRIAR_NO_ROOM);
+    begin_call(&options);
+    zaxbriar_result result =
+        zaxbriar_decode_planes(of.jpeg, of.size, &options, samples, room, &picture);
+    end_counting(9);
+    CHECK(result < ZAXBRIAR_NO_MEMORY || result == ZAXBRIAR_TOO_MANY_PASSES);
+    CHECK(picture.planes_size == room);
+    size_t written = result == ZAXBRIAR_OK ? room : 0;
+    CHECK(is_all(samples + written, room + GUARD - written, BYTE));
+    unsigned char *all = block(picture.size);
+    options.transform = ZAXBRIAR_TRANSFORM_NONE;
+    CHECK(zaxbriar_decode(of.jpeg, of.size, &options, all, picture.size, &whole) == result);
+    const unsigned char *plane = samples;
+    for (int component = 0; component < 4 && result == ZAXBRIAR_OK; component++) {
+        uint32_t width = picture.plane_width[component], height = picture.plane_height[component];
+        size_t bytes = picture.sample_bytes;
+        int is_whole = width == picture.width && height == picture.height;
+        for (uint32_t y = 0; y < height && is_whole; y++)
+            for (uint32_t x = 0; x < width; x++)
+                CHECK(!memcmp(plane + (y * (size_t)width + x) * bytes,
+                              all + sample_place(&picture, component, x, y), bytes));
+        plane += (size_t)width * height * bytes;
+    }
+    if (result == ZAXBRIAR_OK) CHECK(plane == samples + room);
+    CHECK(zaxbriar_decode_planes(of.jpeg, of.size, &options, samples, room, NULL) ==
+          ZAXBRIAR_BAD_ARGUMENT);
+    note(55, (uint64_t)result << 4 | picture.components);
+    free(all);
+    free(samples);
+}
+
+/* A picture that is turned, a part of one, and its planes. */
+static void show_otherwise(void) {
+    turn_upright();
+    take_crop();
+    take_planes();
 }
 
 /* Whether the bytes from one cut to another go on with one scan alone: the first is in its data,
@@ -652,7 +749,7 @@ int LLVMFuzzerTestOneInput(const uint8_t *data, size_t size) {
     typedef void step(void);
     static step *const steps[] = {walk_segments, find_places,   describe,      decode_whole,
                                   decode_part,   feed,          decode_short,  copy_metadata,
-                                  refuse_memory, turn_upright,  take_luma};
+                                  refuse_memory, show_otherwise, take_luma};
     enum { STEPS = sizeof steps / sizeof *steps };
     _Static_assert(STEPS == 11, "a prime number, so that each distance comes to all steps");
     if (size < SETTINGS) return 0;

@@ -22,6 +22,11 @@ static void null_pointers(void) {
     CHECK(zaxbriar_decode_partial(NULL, 0, NULL, NULL, 0, NULL) == ZAXBRIAR_TRUNCATED);
     CHECK(zaxbriar_decode_partial(jpeg.start, jpeg.size, NULL, NULL, 1, NULL) ==
           ZAXBRIAR_BAD_ARGUMENT);
+    CHECK(zaxbriar_decode_planes(NULL, 1, NULL, &pixel, 1, &picture) == ZAXBRIAR_BAD_ARGUMENT);
+    CHECK(zaxbriar_decode_planes(NULL, 0, NULL, NULL, 0, NULL) == ZAXBRIAR_TRUNCATED);
+    CHECK(zaxbriar_decode_planes(jpeg.start, jpeg.size, NULL, NULL, 1, NULL) ==
+          ZAXBRIAR_BAD_ARGUMENT);
+    CHECK(zaxbriar_decode_planes(jpeg.start, jpeg.size, NULL, NULL, 0, NULL) == ZAXBRIAR_NO_ROOM);
     CHECK(zaxbriar_metadata(NULL, 1, ZAXBRIAR_EXIF, NULL, 0, &length) == ZAXBRIAR_BAD_ARGUMENT &&
           length == 0);
     CHECK(zaxbriar_metadata(jpeg.start, jpeg.size, ZAXBRIAR_EXIF, NULL, 1, NULL) ==
@@ -87,7 +92,7 @@ static void sizes(void) {
 
 static void unknown_options(void) {
     size_t length;
-    for (int which = 0; which < 8; which++) {
+    for (int which = 0; which < 9; which++) {
         zaxbriar_options options = {0};
         if (which == 0) options.layout = ZAXBRIAR_RGB16 + 1;
         if (which == 1) options.transform = ZAXBRIAR_TRANSFORM_YCCK + 1;
@@ -97,6 +102,10 @@ static void unknown_options(void) {
         if (which == 5) options.upright = 2;
         if (which == 6) options.upright = 1, options.transform = ZAXBRIAR_TRANSFORM_NONE;
         if (which == 7) options.luma = 2;
+        if (which == 8) {
+            options.crop_width = options.crop_height = 1;
+            options.transform = ZAXBRIAR_TRANSFORM_NONE;
+        }
         CHECK(zaxbriar_read_info(jpeg.start, jpeg.size, &options, &picture) ==
               ZAXBRIAR_BAD_ARGUMENT);
         CHECK(picture.text[0] != 0 && picture.stream_bytes == 0);
@@ -145,11 +154,18 @@ static void unknown_options(void) {
     }
 }
 
+/* Whether a byte of the options is of a part of the picture. */
+static int is_of_crop(size_t at) {
+    return at >= offsetof(zaxbriar_options, crop_left) &&
+           at < offsetof(zaxbriar_options, reserved_words);
+}
+
 /* Each reserved byte of the options has to be zero, and those of a picture become zero. */
 static void reserved_bytes(void) {
     int count = 0;
     for (size_t at = offsetof(zaxbriar_options, reserved_bytes); at < sizeof(zaxbriar_options);
          at++) {
+        if (is_of_crop(at)) continue;
         zaxbriar_options options = {0};
         ((unsigned char *)&options)[at] = 1;
         count++;
@@ -161,11 +177,14 @@ static void reserved_bytes(void) {
               ZAXBRIAR_BAD_ARGUMENT);
         CHECK(zaxbriar_decode_partial(jpeg.start, jpeg.size, &options, NULL, 0, NULL) ==
               ZAXBRIAR_BAD_ARGUMENT);
+        CHECK(zaxbriar_decode_planes(jpeg.start, jpeg.size, &options, NULL, 0, NULL) ==
+              ZAXBRIAR_BAD_ARGUMENT);
     }
-    CHECK(count == 70 && sizeof picture.reserved == 143);
+    CHECK(count == 62 && sizeof picture.reserved == 112);
     memset(&picture, 1, sizeof picture);
     CHECK(zaxbriar_read_info(jpeg.start, jpeg.size, NULL, &picture) == ZAXBRIAR_OK);
-    CHECK(is_all(picture.reserved, sizeof picture.reserved, 0));
+    CHECK(is_all(picture.reserved, sizeof picture.reserved, 0) && picture.reserved_byte == 0);
+    CHECK(is_all(picture.reserved_bytes, sizeof picture.reserved_bytes, 0));
 }
 
 /* Counts its blocks, and refuses the allocation of a number. */
@@ -193,12 +212,36 @@ static void release(void *context, void *start) {
     free(start);
 }
 
-/* With the refusal of each allocation in turn a picture, as it is stored or upright, is decoded or
- * leaves all as it was. */
-static void refused_memory(int is_part, int is_upright) {
+/* A part that isn't inside the picture is refused with the size of the picture. */
+static void parts_outside(void) {
+    char size[24];
+    zaxbriar_picture whole;
+    CHECK(zaxbriar_read_info(jpeg.start, jpeg.size, NULL, &whole) == ZAXBRIAR_OK);
+    uint16_t width = (uint16_t)whole.width, height = (uint16_t)whole.height;
+    snprintf(size, sizeof size, "%ux%u", whole.width, whole.height);
+    for (int which = 0; which < 5; which++) {
+        zaxbriar_options options = {.crop_width = width, .crop_height = height};
+        CHECK(zaxbriar_read_info(jpeg.start, jpeg.size, &options, &picture) == ZAXBRIAR_OK);
+        CHECK(picture.width == whole.width && picture.size == whole.size);
+        if (which == 0) options.crop_width++;
+        if (which == 1) options.crop_height++;
+        if (which == 2) options.crop_left = 1;
+        if (which == 3) options.crop_top = 1;
+        if (which == 4) options.crop_height = 0;
+        CHECK(zaxbriar_read_info(jpeg.start, jpeg.size, &options, &picture) ==
+              ZAXBRIAR_BAD_ARGUMENT);
+        CHECK(strstr(picture.text, size) != NULL);
+        CHECK(zaxbriar_decode(jpeg.start, jpeg.size, &options, NULL, 0, &picture) ==
+              ZAXBRIAR_BAD_ARGUMENT);
+        CHECK(strstr(picture.text, size) != NULL && picture.stream_bytes > 0);
+    }
+}
+
+/* With the refusal of each allocation in turn a picture, as it is stored, upright or a part of it,
+ * is decoded or leaves all as it was. */
+static void refused_memory(int is_part, zaxbriar_options options) {
     struct counts counts = {0};
     zaxbriar_memory memory = {allocate, resize, release, &counts};
-    zaxbriar_options options = {.upright = (uint8_t)is_upright};
     CHECK(zaxbriar_read_info(jpeg.start, jpeg.size, &options, &picture) == ZAXBRIAR_OK);
     size_t size = picture.size;
     long all = 1;
@@ -228,7 +271,10 @@ static void own_memory(void) {
     CHECK(counts.allocations > 0 && counts.live == 0);
     size_t size = picture.size;
     unsigned char *own = block(size);
-    for (int way = 0; way < 4; way++) refused_memory(way % 2, way / 2);
+    for (int way = 0; way < 2; way++) {
+        zaxbriar_options ways[] = {{0}, {.upright = 1}, {.crop_width = 1, .crop_height = 1}};
+        for (int i = 0; i < 3; i++) refused_memory(way, ways[i]);
+    }
     counts = (struct counts){0};
     CHECK(zaxbriar_metadata_within(jpeg.start, jpeg.size, &options,
                                    ZAXBRIAR_EXIF | ZAXBRIAR_WHOLE_IMAGE, NULL, 0,
@@ -427,6 +473,7 @@ int main(int argc, char **argv) {
     sizes();
     unknown_options();
     reserved_bytes();
+    parts_outside();
     own_memory();
     joined_metadata();
     limited_metadata();

@@ -14,6 +14,7 @@
  *     read_info OPTION=NUMBER ..
  *     decode ROOM OPTION=NUMBER ..    into ROOM bytes, each 07 before the call
  *     decode_partial ROOM OPTION=NUMBER ..
+ *     decode_planes ROOM OPTION=NUMBER ..
  *     metadata KIND ROOM OPTION=NUMBER ..     into ROOM bytes, as above
  *     joined_metadata KIND ROOM               into ROOM bytes, as above
  *     find_metadata
@@ -26,7 +27,8 @@
  * A case's name is written as it stands, and a call with its answer after a colon: the name of what
  * it returned, and the members of the struct that are not 0. `text` is 1 unless it is empty, and
  * `stream_bytes` is left out after refusals and parts, where the header doesn't say which bytes
- * count. The memory of a call follows in hex. Any other line ends the program with status 2. */
+ * count. The sizes of the planes follow the sampling factors, unless there are none. The memory of
+ * a call follows in hex. Any other line ends the program with status 2. */
 #include "common.h"
 
 static struct bytes stream;
@@ -83,13 +85,17 @@ static void set(zaxbriar_options *options, char *word) {
 #define SET16(member) else if (!strcmp(word, #member)) options->member = (uint16_t)number
 #define SET8(member) else if (!strcmp(word, #member)) options->member = (uint8_t)number
     if (!strcmp(word, "reserved_byte") && number < 6) options->reserved_bytes[number] = 1;
-    else if (!strcmp(word, "reserved_word") && number < 8) options->reserved_words[number] = 1;
+    else if (!strcmp(word, "reserved_word") && number < 7) options->reserved_words[number] = 1;
     SET(max_samples);
     SET(stride);
     SET(max_bytes);
     SET(max_passes);
     SET16(min_width);
     SET16(min_height);
+    SET16(crop_left);
+    SET16(crop_top);
+    SET16(crop_width);
+    SET16(crop_height);
     SET8(transform);
     SET8(layout);
     SET8(scale);
@@ -153,9 +159,17 @@ static void write_picture(zaxbriar_result result, const zaxbriar_picture *pictur
     MEMBER(horizontal_density);
     MEMBER(vertical_density);
     MEMBER(transform);
+    MEMBER(planes_size);
     write_member("text", picture->text[0] != 0);
     printf(", sampling ");
     write_hex(picture->sampling, sizeof picture->sampling);
+    if (picture->planes_size) {
+        printf(", planes");
+        for (int i = 0; i < 4; i++)
+            printf(" %dx%d", picture->plane_width[i], picture->plane_height[i]);
+    }
+    CHECK(picture->reserved_byte == 0);
+    CHECK(is_all(picture->reserved_bytes, sizeof picture->reserved_bytes, 0));
     CHECK(is_all(picture->reserved, sizeof picture->reserved, 0));
 }
 
@@ -245,6 +259,7 @@ static void answer(char *line) {
     if (!strcmp(name, "read_info")) read_info();
     else if (!strcmp(name, "decode")) decode_by(zaxbriar_decode);
     else if (!strcmp(name, "decode_partial")) decode_by(zaxbriar_decode_partial);
+    else if (!strcmp(name, "decode_planes")) decode_by(zaxbriar_decode_planes);
     else if (!strcmp(name, "metadata")) metadata();
     else if (!strcmp(name, "joined_metadata")) joined_metadata();
     else if (!strcmp(name, "find_metadata")) find_metadata();

@@ -3,17 +3,17 @@
  * Where JPEGRAW is given, the picture or the refusal is compared with what that program writes,
  * byte for byte. Then the same picture is asked for with less room, from the part of the file that
  * was read, in each layout with gaps between the lines, at each scale, upright by each orientation,
- * also of a part, without its colours, and with a limit. Metadata are compared with NAME.exif,
- * NAME.xmp and NAME.icc where there are such files, and the orientation with the number after
- * `orientation-` in the name. The last line has a sum of all pictures and of what is said of them,
- * by which two builds of the library are compared. */
+ * also of a cut file and of a part of the picture, without its colours, and with a limit. Metadata
+ * are compared with NAME.exif, NAME.xmp and NAME.icc where there are such files, and the orientation
+ * with the number after `orientation-` in the name. The last line has a sum of all pictures and of
+ * what is said of them, by which two builds of the library are compared. */
 #define _POSIX_C_SOURCE 200809L
 #include <sys/wait.h>
 
 #include "common.h"
 
 static struct bytes jpeg;
-static long decoded, refused, compared, arranged, scaled, turned, without_colours;
+static long decoded, refused, compared, arranged, scaled, turned, cropped, without_colours;
 static uint64_t sum = 14695981039346656037u;
 
 static void add_to_sum(const void *start, size_t size) {
@@ -257,6 +257,32 @@ static void turned_by(decoding *call, struct bytes stream, zaxbriar_options opti
     free(rows);
 }
 
+/* A part of a picture has the pixels that the picture has there, as it is shown. */
+static void cropped_by(decoding *call, struct bytes stream, zaxbriar_options options) {
+    zaxbriar_picture whole, part;
+    options.stride = options.bottom_up = 0;
+    if (zaxbriar_read_info(stream.start, stream.size, &options, &whole) != ZAXBRIAR_OK) return;
+    unsigned char *all = block(whole.size), *pixels = block(whole.size);
+    zaxbriar_result result = call(stream.start, stream.size, &options, all, whole.size, &whole);
+    if (result == ZAXBRIAR_OK || result == ZAXBRIAR_PARTIAL) {
+        size_t left = whole.width / 3, top = whole.height / 4;
+        options.crop_left = (uint16_t)left, options.crop_top = (uint16_t)top;
+        options.crop_width = (uint16_t)((whole.width - left + 1) / 2);
+        options.crop_height = (uint16_t)((whole.height - top + 1) / 2);
+        CHECK(call(stream.start, stream.size, &options, pixels, whole.size, &part) == result);
+        CHECK(part.width == options.crop_width && part.height == options.crop_height);
+        CHECK(part.decoding_bytes == whole.decoding_bytes && part.whole_rows <= whole.whole_rows);
+        for (size_t y = 0; y < part.height; y++)
+            CHECK(!memcmp(pixels + y * part.row_bytes,
+                          all + (top + y) * whole.row_bytes + left * whole.pixel_bytes,
+                          part.row_bytes));
+        add_to_sum(pixels, part.size);
+        cropped++;
+    }
+    free(all);
+    free(pixels);
+}
+
 /* By each orientation, in a layout of each number of bytes, at scales, from the top and the bottom,
  * and of a part. (A stream that has Exif data keeps its own orientation.) */
 static void upright(void) {
@@ -275,6 +301,9 @@ static void upright(void) {
         turned_by(zaxbriar_decode, stream, options);
         turned_by(zaxbriar_decode_partial, (struct bytes){stream.start, stream.size * 2 / 3},
                   options);
+        cropped_by(zaxbriar_decode, stream, options);
+        cropped_by(zaxbriar_decode_partial, (struct bytes){stream.start, stream.size * 2 / 3},
+                   options);
     }
     free(stream.start);
 }
@@ -436,9 +465,9 @@ int main(int argc, char **argv) {
     }
     fclose(list);
     printf("compare: %ld files decoded, %ld refused; %ld compared with jpegraw; %ld pictures in "
-           "other layouts, %ld at scales, %ld upright, %ld without their colours; "
+           "other layouts, %ld at scales, %ld upright, %ld parts, %ld without their colours; "
            "%d faults; sum %016llx\n",
-           decoded, refused, compared, arranged, scaled, turned, without_colours, faults,
+           decoded, refused, compared, arranged, scaled, turned, cropped, without_colours, faults,
            (unsigned long long)sum);
     return faults != 0;
 }

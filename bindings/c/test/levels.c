@@ -37,6 +37,11 @@ static uint32_t called(int of, uint32_t number, int right) {
         return called(N, 3, j == bytes && n == 3 && o == &options && x == bytes + 1 && m == 2 &&   \
                                 p == &picture);                                                    \
     }                                                                                              \
+    uint32_t zaxbriar_v##N##_decode_planes(const uint8_t *j, size_t n, const zaxbriar_options *o,  \
+                                           uint8_t *x, size_t m, zaxbriar_picture *p) {            \
+        return called(N, 8, j == bytes && n == 3 && o == &options && x == bytes + 1 && m == 2 &&   \
+                                p == &picture);                                                    \
+    }                                                                                              \
     uint32_t zaxbriar_v##N##_metadata(const uint8_t *j, size_t n, uint32_t k, uint64_t x,          \
                                       uint8_t *d, size_t m, uint64_t *l) {                         \
         return called(N, 4, j == bytes && n == 3 && k == 257 && x == UINT64_MAX &&                 \
@@ -69,8 +74,10 @@ int main(void) {
         zaxbriar_checked_find_metadata(bytes, 3, &places);
         CHECK(zaxbriar_checked_next_segment(bytes, 3, &segment) == base + 6);
         CHECK(zaxbriar_checked_joined_metadata(bytes, 3, 257, bytes + 1, 2, &length) == base + 7);
+        CHECK(zaxbriar_checked_decode_planes(bytes, 3, &options, bytes + 1, 2, &picture) ==
+              base + 8);
     }
-    CHECK(calls == 14);
+    CHECK(calls == 16);
     printf("levels: %d calls; %d faults\n", calls, faults);
     return faults != 0;
 }

@@ -71,6 +71,16 @@ export interface Density {
     vertical: number;
 }
 
+/** A part of a picture, in pixels: so many columns of so many lines. */
+export interface Area {
+    /** Its first column and its first line; the default is 0. */
+    left?: number;
+    top?: number;
+    /** How many there are, at least 1. */
+    width: number;
+    height: number;
+}
+
 export interface Options {
     /** The default is `stored`. */
     layout?: Layout;
@@ -99,8 +109,15 @@ export interface Options {
      * lossless pictures aren't affected.
      */
     luma?: boolean;
+    /**
+     * A part of the picture that the other options give: of that at its scale, and of the upright
+     * one if that is asked for. The picture is then described as that part. One that isn't inside
+     * the picture is a BAD_ARGUMENT, and so is any with the `colorTransform` `none`. The whole
+     * stream is read all the same.
+     */
+    crop?: Area;
     colorTransform?: ColorTransform;
-    /** The most pixels that the picture may have, at its scale; 0: any number. */
+    /** The most pixels that the picture, or its part, may have, at its scale; 0: any number. */
     maxPixels?: number;
     /**
      * The most bytes that decoding may take beside the stream and the picture; 0: any number. The
@@ -132,7 +149,7 @@ export interface PartialOptions extends DecodingOptions {
 
 /** A picture, as decoding with the options gives it. */
 export interface Picture {
-    /** In pixels, at the scale, and upright if that is asked for. */
+    /** In pixels, at the scale, upright if that is asked for, and of the part that is. */
     width: number;
     height: number;
     /** The bytes of the picture. */
@@ -229,11 +246,31 @@ export interface DecodedPicture {
 /** The picture that a stream has brought up to its first fault, and that fault. */
 export interface PartialPicture extends DecodedPicture {
     /**
-     * How many rows of the picture, from its top and before it is turned, are complete in each scan
-     * that has begun: all rows if the stream has no fault.
+     * How many rows of the picture, or of its part, from its top and before it is turned, are
+     * complete in each scan that has begun: all rows if the stream has no fault.
      */
     wholeRows: number;
     fault: ZaxbriarError | null;
+}
+
+/** The options of `decodePlanes`: the others arrange or convert samples. */
+export type PlanesOptions = Pick<
+    Options,
+    'scale' | 'minWidth' | 'minHeight' | 'maxPixels' | 'maxBytes' | 'maxPasses'
+>;
+
+/** The samples of a component, at its own size: line by line from the top, without gaps. */
+export interface Plane {
+    width: number;
+    height: number;
+    /** A Uint16Array where the picture's `sampleBytes` is 2. */
+    data: Data | ReturnType<Uint16Array['slice']>;
+}
+
+/** What decoding planes returns: one of each component, in the order of the frame header. */
+export interface DecodedPlanes {
+    picture: Picture;
+    planes: Plane[];
 }
 
 /** Compiles the module, for several decoders; by default the one that lies beside zaxbriar.mjs. */
@@ -269,6 +306,16 @@ export class Zaxbriar {
     decode(jpeg: Bytes, options: PartialOptions): PartialPicture;
     decode(jpeg: Bytes, options?: DecodingOptions & { partial?: false }): DecodedPicture;
     decode(jpeg: Bytes, options?: DecodingOptions): DecodedPicture | PartialPicture;
+
+    /**
+     * Decodes the samples of each component at the component's own size, neither upsampled nor
+     * converted, as video and graphics processors take them: of a picture in 4:2:0 its luma, and
+     * two planes of half the width and half the height. Streams whose colours `decode` doesn't know
+     * have planes, too. They are views of one buffer, outside the module's memory, in which they
+     * stand one after the other. The limits are those of `decode`; planes may be copied while they
+     * are made, which takes at most as much memory once more.
+     */
+    decodePlanes(jpeg: Bytes, options?: PlanesOptions): DecodedPlanes;
 
     /**
      * Returns Exif data from the TIFF header on, XMP data or an ICC profile, of the segments before

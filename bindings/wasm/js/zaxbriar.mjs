@@ -49,12 +49,18 @@ export const OPTIONS = [
     'bottomUp',
     'upright',
     'luma',
+    'crop',
     'colorTransform',
     'maxPixels',
     'maxBytes',
     'maxPasses',
     'partial',
 ];
+/* What decodePlanes takes: the others arrange or convert samples. */
+const PLANES_OPTIONS = ['scale', 'minWidth', 'minHeight', 'maxPixels', 'maxBytes', 'maxPasses'];
+/* The options whose values are objects, and the members of these. */
+const PARTS = { crop: ['left', 'top', 'width', 'height'] };
+const MOST_SIDE = 65535;
 /* The limits of `decode` where none are given: of its memory, and of its time. */
 const LIMITS = { maxBytes: 2 ** 30, maxPasses: 100 };
 export const DECODER_OPTIONS = ['maxMemory'];
@@ -86,11 +92,15 @@ const CODES = [
 const OPTIONS_BYTES = 128;
 const PICTURE_BYTES = 320;
 const WHOLE_ROWS_AT = 40;
+const SAMPLE_BYTES_AT = 48;
 const FEATURE_AT = 52;
 const SAMPLING_AT = 54;
 const FAULT_AT = 58;
 const DENSITY_AT = 59;
 const TRANSFORM_AT = 64;
+const PLANE_WIDTH_AT = 66;
+const PLANE_HEIGHT_AT = 74;
+const PLANES_SIZE_AT = 88;
 const TEXT_AT = 208;
 const TEXT_BYTES = 112;
 
@@ -129,10 +139,21 @@ function checkNames(options, names) {
     }
 }
 
+/* The value of an option that is an object, as an object of its own; undefined if there is none. */
+function partOf(options, name) {
+    const value = options[name];
+    if (value === undefined) return undefined;
+    if (typeof value !== 'object' || value === null) {
+        throw new TypeError(`${name}: an object of ${PARTS[name].join(', ')}, not ${value}`);
+    }
+    return ownOptions(value, PARTS[name]);
+}
+
 /* The options as an object's own, also those that it inherits, once their names are checked. */
 export function ownOptions(options, names) {
     checkNames(options, names);
-    return Object.fromEntries(names.map((name) => [name, options[name]]));
+    const own = (name) => (name in PARTS ? partOf(options, name) : options[name]);
+    return Object.fromEntries(names.map((name) => [name, own(name)]));
 }
 
 /* The name of a value's class, which `instanceof` doesn't know where the value is of another realm,
@@ -149,14 +170,32 @@ export function bytesOf(source) {
     throw new TypeError('jpeg: an ArrayBuffer or a view of one');
 }
 
+/* Puts the members of an option that is an object, which are sides of pictures. */
+function putPart(view, at, options, name) {
+    const part = partOf(options, name) ?? {};
+    PARTS[name].forEach((member, index) => {
+        const number = wholeNumber(part[member] ?? 0, MOST_SIDE, `${name}.${member}`);
+        view.setUint16(at + 2 * index, number, true);
+    });
+}
+
+/* Puts the part of a picture that is asked for. One of zeros alone would be none. */
+function putCrop(view, at, options) {
+    putPart(view, at, options, 'crop');
+    const { crop } = options;
+    if (crop && !(crop.width > 0 && crop.height > 0)) {
+        throw new RangeError('crop: at least one pixel wide and high');
+    }
+}
+
 /* The options as the bytes of zaxbriar_options, with these limits where they give none. */
 function optionsOf(options, limits = {}) {
     const bytes = new Uint8Array(OPTIONS_BYTES);
     const view = new DataView(bytes.buffer);
     const number = (name, most) => wholeNumber(options[name] ?? limits[name] ?? 0, most, name);
     view.setBigUint64(8, BigInt(number('stride', 2 ** 32)), true);
-    view.setUint16(16, number('minWidth', 65535), true);
-    view.setUint16(18, number('minHeight', 65535), true);
+    view.setUint16(16, number('minWidth', MOST_SIDE), true);
+    view.setUint16(18, number('minHeight', MOST_SIDE), true);
     view.setUint8(20, numberOf(TRANSFORMS, options.colorTransform ?? 'stream', 'colorTransform'));
     view.setUint8(21, numberOf(LAYOUTS, options.layout ?? 'stored', 'layout'));
     view.setUint8(22, number('scale', 255));
@@ -165,6 +204,7 @@ function optionsOf(options, limits = {}) {
     view.setBigUint64(48, BigInt(number('maxPasses', Number.MAX_SAFE_INTEGER)), true);
     view.setUint8(56, isSet(options, 'upright') ? 1 : 0);
     view.setUint8(57, isSet(options, 'luma') ? 1 : 0);
+    putCrop(view, 64, options);
     return bytes;
 }
 
@@ -295,7 +335,7 @@ export class Zaxbriar {
             layout: nameOf(LAYOUTS, layout),
             components: view.getUint8(46),
             precision: view.getUint8(47),
-            sampleBytes: view.getUint8(48),
+            sampleBytes: view.getUint8(SAMPLE_BYTES_AT),
             process: PROCESSES[view.getUint8(49)],
             orientation: view.getUint8(50),
             format: FORMATS[view.getUint8(51)],
@@ -307,6 +347,28 @@ export class Zaxbriar {
             },
             colorTransform: transform === 0 ? null : nameOf(TRANSFORMS, transform),
         };
+    }
+
+    /* The bytes of the planes of a picture that was described. */
+    #planesSize(at) {
+        const view = new DataView(this.#exports.memory.buffer, at, PICTURE_BYTES);
+        return Number(view.getBigUint64(PLANES_SIZE_AT, true));
+    }
+
+    /* The planes of such a picture, as views of their samples, which stand one after the other. */
+    #planes(at, samples) {
+        const view = new DataView(this.#exports.memory.buffer, at, PICTURE_BYTES);
+        const Samples = view.getUint8(SAMPLE_BYTES_AT) === 2 ? Uint16Array : Uint8Array;
+        const planes = [];
+        let start = 0;
+        for (let index = 0; index < 4 && start < samples.length; index++) {
+            const width = view.getUint16(PLANE_WIDTH_AT + 2 * index, true);
+            const height = view.getUint16(PLANE_HEIGHT_AT + 2 * index, true);
+            const data = new Samples(samples.buffer, start, width * height);
+            start += data.byteLength;
+            planes.push({ width, height, data });
+        }
+        return planes;
     }
 
     #error(answer, picture) {
@@ -374,6 +436,21 @@ export class Zaxbriar {
             const struct = new DataView(this.#exports.memory.buffer, at, PICTURE_BYTES);
             const wholeRows = struct.getUint32(WHOLE_ROWS_AT, true);
             return { ...decoded, wholeRows, fault: fault ? this.#error(fault, at) : null };
+        });
+    }
+
+    decodePlanes(jpeg, options = {}) {
+        checkNames(options, PLANES_OPTIONS);
+        return this.#with((allocate) => {
+            const stream = this.#stream(allocate, jpeg, options, LIMITS);
+            const at = allocate(PICTURE_BYTES);
+            this.#describe(stream, at, options);
+            const size = this.#planesSize(at);
+            const samples = allocate(size);
+            const words = [samples, size, at].map(BigInt);
+            this.#check(this.#call('zaxbriar_decode_planes', ...stream, ...words), at);
+            const planes = this.#planes(at, this.#bytes(samples, size).slice());
+            return { picture: this.#picture(at), planes };
         });
     }
 

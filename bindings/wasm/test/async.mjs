@@ -63,6 +63,9 @@ async function checkAnswers() {
         { layout: 'rgb16', bottomUp: true },
         { layout: 'bgr', upright: true },
         { layout: 'rgba', luma: true },
+        { layout: 'rgba', crop: { left: 3, top: 2, width: 7, height: 5 } },
+        { partial: true, crop: Object.create({ width: 7, height: 5 }) },
+        { crop: { left: 65535, width: 1, height: 1 } },
         { minWidth: 9, minHeight: 9, stride: 200, colorTransform: 'rgb', partial: false },
         { maxPixels: 9 },
         { maxBytes: 9 },
@@ -76,6 +79,9 @@ async function checkAnswers() {
         { bottomUp: 'yes' },
         { upright: 1 },
         { luma: 1 },
+        { crop: 1 },
+        { crop: { width: 1 } },
+        { crop: { x: 1, y: 1, width: 1, height: 1 } },
         { maxPixels: 0.5 },
     ];
     let refused = 0;
@@ -111,6 +117,11 @@ async function checkStreams() {
     const calls = [zaxbriar.decodeAsync(jpeg), zaxbriar.decodeAsync(changed)];
     changed.fill(0);
     for (const call of calls) assert.deepEqual((await call).pixels, pixels);
+    // (and so are the options, by a call that waits)
+    const crop = { width: 7, height: 5 };
+    const [, part] = [zaxbriar.decodeAsync(jpeg), zaxbriar.decodeAsync(jpeg, { crop })];
+    crop.width = 1;
+    assert.equal((await part).picture.width, 7);
 
     const shared = new Uint8Array(new SharedArrayBuffer(jpeg.length));
     shared.set(jpeg);

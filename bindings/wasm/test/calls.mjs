@@ -261,6 +261,104 @@ for (const colorTransform of ['stream', 'none', 'rgb', 'cmyk']) {
     assert.throws(() => zaxbriar.decode(jpeg, options), code('MALFORMED'));
 }
 
+// A part has the pixels that are there of the whole picture, in each orientation.
+const INSIDE = [
+    { left: 0, top: 0, right: 0, bottom: 0 },
+    { left: 2, top: 1, right: 1, bottom: 1 },
+    { left: 0, top: 0, right: 2, bottom: 0 },
+    { left: 0, top: 1, right: 0, bottom: 0 },
+];
+/* Parts of a picture: so far from its sides, its last pixel, a line and a column. */
+const areasOf = ({ width, height }) => [
+    ...INSIDE.map(({ left, top, right, bottom }) => ({
+        ...{ left, top },
+        ...{ width: width - left - right, height: height - top - bottom },
+    })),
+    { left: width - 1, top: height - 1, width: 1, height: 1 },
+    { top: 1, width, height: 1 },
+    { left: 1, width: 1, height },
+];
+/* The pixels of a part of what `decode` gives without gaps, from the top. */
+const partOf = ({ picture, pixels }, { left = 0, top = 0, width, height }) => {
+    const { rowBytes, pixelBytes } = picture;
+    const part = new Uint8ClampedArray(height * width * pixelBytes);
+    for (let line = 0; line < height; line++) {
+        const from = (top + line) * rowBytes + left * pixelBytes;
+        const row = pixels.subarray(from, from + width * pixelBytes);
+        part.set(row, line * width * pixelBytes);
+    }
+    return part;
+};
+for (let orientation = 1; orientation <= 8; orientation++) {
+    const stream = withOrientation(plain, orientation);
+    for (const options of [
+        {},
+        { upright: true },
+        { layout: 'rgba', scale: 2, upright: true },
+        { layout: 'rgb565', scale: 4, upright: true },
+        { layout: 'rgb16', partial: true, upright: true },
+        { ...asLuma, minWidth: 20 },
+        { layout: 'bgr', luma: true, colorTransform: 'ycbcr', upright: true },
+    ]) {
+        const whole = zaxbriar.decode(stream, options);
+        for (const crop of areasOf(whole.picture)) {
+            const part = zaxbriar.decode(stream, { ...options, crop });
+            const { width, height } = crop;
+            const rowBytes = width * whole.picture.pixelBytes;
+            const described = { width, height, rowBytes, size: rowBytes * height };
+            assert.deepEqual(part.pixels, partOf(whole, crop));
+            assert.deepEqual(part.picture, { ...whole.picture, ...described });
+            assert.equal(part.fault, whole.fault);
+        }
+    }
+}
+// (lines from the bottom, and with gaps)
+const tile = { left: 3, top: 2, width: 7, height: 5 };
+const tilePixels = partOf({ picture, pixels }, tile);
+const tileRows = (from, stride) =>
+    Array.from({ length: 5 }, (_, row) => [...from.subarray(row * stride, row * stride + 21)]);
+const upTile = zaxbriar.decode(jpeg, { crop: tile, bottomUp: true, stride: 30 });
+assert.equal(upTile.picture.size, 4 * 30 + 21);
+assert.deepEqual(tileRows(upTile.pixels, 30), tileRows(tilePixels, 21).reverse());
+assert.deepEqual(zaxbriar.decode(jpeg, { crop: Object.create(tile) }).pixels, tilePixels);
+// Its complete rows are those of its lines in the stored picture.
+const rowCounts = new Set();
+for (const [orientation, firstLine, lineCount] of [
+    [1, 'top', 'height'],
+    [6, 'left', 'width'],
+]) {
+    const stream = withOrientation(plain, orientation);
+    for (let length = 250; length < stream.length; length += 9) {
+        const cut = stream.subarray(0, length);
+        const options = { partial: true, upright: true };
+        const whole = zaxbriar.decode(cut, options);
+        for (const crop of areasOf(whole.picture)) {
+            const { wholeRows, pixels } = zaxbriar.decode(cut, { ...options, crop });
+            const [from, count] = [crop[firstLine] ?? 0, crop[lineCount]];
+            // (orientation 6: the last column is the first line)
+            const before = orientation === 6 ? whole.picture.width - from - count : from;
+            assert.equal(wholeRows, Math.min(Math.max(whole.wholeRows - before, 0), count));
+            rowCounts.add(wholeRows);
+            assert.deepEqual(pixels, partOf(whole, crop));
+        }
+    }
+}
+assert.ok(rowCounts.size > 4);
+for (const crop of [
+    { left: 1, width: picture.width, height: 1 },
+    { top: picture.height, width: 1, height: 1 },
+    { left: 65535, top: 65535, width: 65535, height: 65535 },
+]) {
+    assert.throws(() => zaxbriar.readInfo(jpeg, { crop }), code('BAD_ARGUMENT'));
+    assert.throws(() => zaxbriar.decode(jpeg, { crop, partial: true }), code('BAD_ARGUMENT'));
+}
+const half = { left: 0, top: 0, width: picture.width, height: picture.height };
+assert.throws(() => zaxbriar.decode(jpeg, { crop: half, scale: 2 }), code('BAD_ARGUMENT'));
+const asLines = { crop: tile, colorTransform: 'none' };
+assert.throws(() => zaxbriar.decode(jpeg, asLines), code('BAD_ARGUMENT'));
+zaxbriar.decode(jpeg, { crop: tile, maxPixels: 35 });
+assert.throws(() => zaxbriar.decode(jpeg, { crop: tile, maxPixels: 34 }), code('TOO_LARGE'));
+
 // Gaps are zeros, also in memory that was used before.
 const stride = picture.rowBytes + 5;
 const gapped = zaxbriar.decode(jpeg, { stride });
@@ -286,6 +384,10 @@ for (const options of [
     { bottomUp: 1 },
     { upright: 6 },
     { luma: 'grey' },
+    { crop: 8 },
+    { crop: null },
+    { crop: { x: 1, y: 1, width: 1, height: 1 } },
+    { crop: [0, 0, 1, 1] },
 ]) {
     assert.throws(() => zaxbriar.decode(jpeg, options), TypeError);
 }
@@ -293,6 +395,10 @@ for (const options of [
     { scale: -1 },
     { scale: 1.5 },
     { minWidth: 65536 },
+    { crop: {} },
+    { crop: { width: 1 } },
+    { crop: { left: -1, width: 1, height: 1 } },
+    { crop: { width: 1, height: 65536 } },
     { stride: 2 ** 33 },
     { maxBytes: Infinity },
     { maxPasses: -1 },
@@ -401,6 +507,10 @@ for (const layout of [...layouts, 'grey16', 'rgb16']) {
     const known = size + decodingBytes + larger.length + 32 * height * pixelBytes;
     assert.ok(decoder.memoryBytes <= known + ROOM, layout);
 }
+// (a part of it takes no more beside its pixels)
+const ofPart = new Zaxbriar(module);
+const { picture: tiny } = ofPart.decode(larger, { layout: 'rgba', crop: { ...tile, left: 999 } });
+assert.ok(ofPart.memoryBytes <= tiny.size + tiny.decodingBytes + larger.length + ROOM);
 const small = new Zaxbriar(module, { maxMemory: before });
 assert.throws(() => small.decode(new Uint8Array(before)), code('NO_MEMORY'));
 assert.deepEqual(small.decode(jpeg).pixels, pixels);

@@ -43,6 +43,11 @@ const ALL_OPTIONS = [
     { luma: true, layout: 'rgba', scale: 2 },
     { luma: true, layout: 'rgb565', upright: true, stride: 300, bottomUp: true },
     { luma: true, colorTransform: 'ycbcr', minWidth: 3 },
+    { crop: { width: 3, height: 2 } },
+    { crop: { left: 1, top: 5, width: 2, height: 3 }, upright: true, layout: 'rgb' },
+    { crop: { left: 5, top: 1, width: 2, height: 2 }, luma: true, stride: 300, bottomUp: true },
+    { crop: { left: 2, width: 1, height: 1 }, scale: 2, upright: true, layout: 'grey16' },
+    { crop: { width: 1, height: 1 }, colorTransform: 'none' },
     { layout: 'grey16', stride: 300, minWidth: 3 },
     { layout: 'rgb16', scale: 4, stride: 301 },
     { scale: 2 },
@@ -80,6 +85,7 @@ const lineOf = (options) =>
         options.maxPasses,
         options.upright ? 1 : 0,
         options.luma ? 1 : 0,
+        ...['left', 'top', 'width', 'height'].map((name) => options.crop?.[name] ?? 0),
     ].join(' ');
 const INPUT = ALL_OPTIONS.map((options) => `${lineOf(options)}\n`).join('');
 

@@ -62,6 +62,7 @@ const OPTIONS = {
     bottomUp: false,
     upright: false,
     luma: false,
+    crop: { left: 0, top: 0, width: picture.width, height: picture.height },
     colorTransform: 'stream',
     maxPixels: 1e9,
     maxBytes: 1e9,

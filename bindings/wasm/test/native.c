@@ -1,16 +1,17 @@
 /* native FILE: what the native library gives for a stream, for compare.mjs.
  *
  * Each line of standard input is the numbers of some options: layout, scale, transform, min_width,
- * min_height, stride, bottom_up, max_bytes, max_passes, upright, luma. For each the answer and the
- * description by the header are written, then the answer and the description by decoding, and the
- * pixels after their count, and the same by decoding as far as the stream goes. At the end come the
- * answer, the length and the bytes of each kind of metadata. */
+ * min_height, stride, bottom_up, max_bytes, max_passes, upright, luma, and the four of a crop. For
+ * each the answer and the description by the header are written, then the answer and the
+ * description by decoding, and the pixels after their count, and the same by decoding as far as the
+ * stream goes. At the end come the answer, the length and the bytes of each kind of metadata. */
 #include <stdio.h>
 #include <stdlib.h>
 #include <zaxbriar.h>
 
 #define MOST_SIZE ((uint64_t)1 << 28) /* above it a picture isn't decoded, here and there */
 #define MOST_PART ((uint64_t)1 << 26) /* a stream's full size, above which no part of it is */
+#define NUMBERS 15                    /* of some options */
 
 static void put(const void *bytes, size_t size) {
     if (fwrite(bytes, 1, size, stdout) != size) exit(1);
@@ -65,6 +66,13 @@ static void put_metadata(const void *jpeg, size_t jpeg_size, int kind) {
     free(data);
 }
 
+/* Whether there are the numbers of more options. */
+static int read_numbers(unsigned long long *numbers) {
+    for (int index = 0; index < NUMBERS; index++)
+        if (scanf("%llu", &numbers[index]) != 1) return 0;
+    return 1;
+}
+
 int main(int count, char **words) {
     static unsigned char jpeg[1 << 26];
     FILE *file = count == 2 ? fopen(words[1], "rb") : NULL;
@@ -73,9 +81,8 @@ int main(int count, char **words) {
     zaxbriar_picture whole;
     int has_part =
         zaxbriar_read_info(jpeg, size, NULL, &whole) == ZAXBRIAR_OK && whole.size <= MOST_PART;
-    unsigned long long n[11];
-    while (scanf("%llu %llu %llu %llu %llu %llu %llu %llu %llu %llu %llu", n, n + 1, n + 2, n + 3,
-                 n + 4, n + 5, n + 6, n + 7, n + 8, n + 9, n + 10) == 11) {
+    unsigned long long n[NUMBERS];
+    while (read_numbers(n)) {
         zaxbriar_options options = {
             .layout = (uint8_t)n[0],
             .scale = (uint8_t)n[1],
@@ -88,6 +95,10 @@ int main(int count, char **words) {
             .max_passes = n[8],
             .upright = (uint8_t)n[9],
             .luma = (uint8_t)n[10],
+            .crop_left = (uint16_t)n[11],
+            .crop_top = (uint16_t)n[12],
+            .crop_width = (uint16_t)n[13],
+            .crop_height = (uint16_t)n[14],
         };
         put_picture(jpeg, size, &options, has_part);
     }

@@ -105,6 +105,10 @@ function* answered({ stream, calls, answers: line }) {
             return;
         }
         const answer = answers.shift();
+        if (call === 'planes') {
+            yield [call, answer, null];
+            return;
+        }
         if (call === 'decode' || call === 'refusal') {
             if (decoded) {
                 yield [call, answer, null];

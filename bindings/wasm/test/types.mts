@@ -1,6 +1,7 @@
 // What compiles by index.d.mts and zaxbriar.d.mts, and what doesn't.
 import { Zaxbriar, ZaxbriarError, compile, load } from '../dist/index.mjs';
-import type { AsyncOptions, AsyncPartialOptions, Bytes, DecoderOptions } from '../dist/index.mjs';
+import type { Area, AsyncOptions, AsyncPartialOptions, Bytes } from '../dist/index.mjs';
+import type { DecoderOptions } from '../dist/index.mjs';
 import type { DecodingOptions, DecodedPicture, Density, Feature } from '../dist/index.mjs';
 import type { Format, Layout, Options, PartialOptions, PartialPicture } from '../dist/index.mjs';
 import type { Picture, Sampling, Source } from '../dist/index.mjs';
@@ -22,6 +23,8 @@ load(module, { maxMemory: '1 GB' });
 // Pictures and their pixels, for a canvas or a file.
 const options: Options = { layout: 'rgba', scale: 2, colorTransform: 'rgb', maxPixels: 1e6 };
 const turned: Options = { layout: 'abgr', bottomUp: true, upright: true, luma: true };
+const area: Area = { width: 512, height: 512 };
+const tiles: Options[] = [{ crop: area }, { crop: { ...area, left: 8, top: 0 }, scale: 4 }];
 const limits: Options = { maxBytes: 1 << 30, maxPasses: 100 };
 const { picture, pixels } = zaxbriar.decode(streams[0], options);
 const data = new ImageData(pixels, picture.width, picture.height);
@@ -48,6 +51,12 @@ zaxbriar.decode(streams[2], { bottomUp: 1 });
 zaxbriar.decode(streams[2], { upright: 6 });
 // @ts-expect-error
 zaxbriar.decode(streams[2], { luma: 1 });
+// @ts-expect-error
+zaxbriar.decode(streams[2], { crop: { left: 1, top: 1, width: 1 } });
+// @ts-expect-error
+zaxbriar.decode(streams[2], { crop: { x: 1, y: 1, width: 1, height: 1 } });
+// @ts-expect-error
+zaxbriar.decode(streams[2], { crop: [0, 0, 1, 1] });
 // @ts-expect-error
 zaxbriar.readInfo(streams[2], { maxPixel: 1 });
 // @ts-expect-error
@@ -118,6 +127,14 @@ zaxbriar.decode(streams[0], { transfer: true });
 // @ts-expect-error
 load(sources[1], { startWorker: 'zaxbriar-worker.mjs' });
 
+// Planes, of one byte or two a sample.
+const { planes } = other.decodePlanes(streams[0], { scale: 2, maxPixels: 1e6 });
+const samples: Uint8Array | Uint16Array = planes[0].data;
+// @ts-expect-error
+const wide: Uint16Array = planes[0].data;
+// @ts-expect-error
+other.decodePlanes(streams[0], { layout: 'rgba' });
+
 // Metadata, which may not be there.
 const profile = other.metadata(streams[0], 'icc');
 const file = new Blob(profile ? [profile] : []);
@@ -153,4 +170,4 @@ zaxbriar.memoryBytes = 0;
 const version: string = zaxbriar.version;
 export { bits, columns, data, described, feature, fetched, file, format, ink, layout, length };
 export { fault, first, inches, known, plain, planes, profile, rows, samples, strict, told };
-export { begun, complete, elsewhere, piece, version };
+export { begun, complete, elsewhere, piece, tiles, version };

@@ -5,6 +5,7 @@ pub mod WholeSampleScans
 pub mod WrittenSamples
 pub mod WrittenLosslessStreams
 pub mod LosslessPixels
+pub mod LosslessPlanes
 pub mod PlainPixels
 pub mod SamplesMeant
 pub mod DecodedSamples

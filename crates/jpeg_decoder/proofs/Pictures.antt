@@ -6,8 +6,10 @@ pub mod EndedPlanes
 pub mod PicturesOfPlanes
 pub mod JointEnds
 pub mod LinesTogether
+pub mod PartLines
 pub mod WrittenLines
 pub mod PictureSizes
+pub mod OwnPlanes
 pub mod LumaPictures
 pub mod SparedColours
 pub mod SparedPictures

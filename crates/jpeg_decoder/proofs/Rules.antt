@@ -2,6 +2,7 @@
 use Rattle.std.specs.Prelude.{⊤}
 use Rattle.jpeg_meaning.specs.Found.{nothing_found, nothing_said}
 use Rattle.jpeg_meaning.specs.FoundPictures.{limited, picture_of, samples_picture}
+use Rattle.jpeg_meaning.specs.FoundPlanes.{planes_of, planes_within}
 use Rattle.jpeg_meaning.specs.Rasters.{plane_by, plane_of_blocks}
 use Rattle.jpeg_meaning.specs.Reported.{told_by_turns}
 use Rattle.jpeg_meaning.specs.ScanSegments.{put_arrays}
@@ -28,7 +29,6 @@ use Rattle.jpeg_meaning.proofs.Pictures.WholeImages.{cut-whole}
 use Rattle.jpeg_meaning.proofs.Tested.WorkedStreams.{colour-written, grey-written, padding-written, three-written}
 use Rattle.jpeg_meaning.proofs.Written.WrittenParts.{front-closed}
 use Rattle.jpeg_meaning.proofs.Written.WrittenPictures.{stream-means, taken-means}
-use Rattle.jpeg_decoder.specs.Spared.{shown_rest}
 use Rattle.jpeg_decoder.proofs.Strips.StoredRows.{all-stored-long, filled-seen}
 use Rattle.jpeg_decoder.proofs.Scans.BlocksBefore.{plane_by-length}
 use Rattle.jpeg_decoder.proofs.Segments.HeaderThenRest.{header-lacks, header-means}
@@ -38,6 +38,7 @@ use Rattle.std.proofs.lemmas.Result.{err_from_is_err_and}
 use Rattle.jpeg_segments.proofs.Gathered.{gathers-all, gathers-none}
 use Rattle.jpeg_meaning.proofs.Refusals.{told-err, turns-no_start}
 use Rattle.jpeg_decoder.proofs.LosslessFrames.LosslessReads.{picture-given, picture-lacks, picture-made}
+use Rattle.jpeg_decoder.proofs.Pictures.OwnPlanes.{bytes-more, bytes-none, owned-all, owned-more, owned-none, owned-there, planes-more}
 use Rattle.jpeg_decoder.proofs.Pictures.Ratios.{ratios_refused}
 use Rattle.jpeg_decoder.proofs.Segments.ReplacedTables.{dht-onto}
 
@@ -125,9 +126,15 @@ unfoldable pub headers : ⊤
 unfolding header_at told_by_turns nothing_found segments_at
 headers = tt
 
-unfoldable pub shown_rests : ⊤
-unfolding shown_rest segments_at
-shown_rests = tt
+unfoldable pub found_planes : ⊤
+unfolding planes_of planes_within
+found_planes = tt
+
+-- bytes of samples
+pub ruleset sampled_bytes = (common_steps, bytes-more, bytes-none, planes-more)
+
+-- planes at their own size
+pub ruleset owned = (common_steps, owned-all, owned-none, owned-more, owned-there)
 
 unfoldable pub nothing : ⊤
 unfolding nothing_found nothing_said

@@ -1,6 +1,6 @@
 -- How many bytes a picture has, and how many are taken while it is decoded.
 use Rattle.std.specs.Prelude.{◌≡◌, ◌≤◌, ℕ, ◌*◌, ◌+◌, ◌==◌, if◌then◌else◌, max, nat_le}
-use Rattle.std.specs.Prelude.{List, length, Option, Some, None, option_map, sum_by}
+use Rattle.std.specs.Prelude.{List, length, map, Option, Some, None, option_map, sum_by}
 use Rattle.std.specs.List.{AllByRecursion}
 use Rattle.jpeg_segments.specs.Frame.{Component, Frame}
 use Rattle.jpeg_segments.specs.declared.frame.CodingProcess.{CodingProcess}
@@ -88,6 +88,14 @@ HasRoom (Some s) room = picture_size s ≤ room
 abbrev pub IsCounted : Option Shape → Type 0
 IsCounted None = Unit {0}
 IsCounted (Some s) = s.samples ≡ samples_a_pixel s.info.pixel_format
+
+-- ---- the planes of its components
+
+-- One plane of each component, each of the component's own size.
+abbrev pub AreOwnPlanes : Option Frame → List (List ℕ) → Type 0
+AreOwnPlanes None planes = Unit {0}
+AreOwnPlanes (Some f) planes = map (λ plane. length plane) planes
+    ≡ map (λ c. c.width * c.height * bytes_a_sample f.precision) f.components
 
 -- ---- what is taken while it is decoded
 

@@ -1,7 +1,7 @@
 -- What is found where only the luma of a picture is shown, and its other components have planes
 -- before scans are read: a plane that is there stays, so that no scan makes one of them.
 use Rattle.std.specs.Prelude.{◌≡◌, ◌<◌, ℕ, ◌&&◌, ◌||◌, not, is_some, List, [], ◌∷◌, length}
-use Rattle.std.specs.Prelude.{Bool, true, false, Option, Some, None, Result, Ok, replicate}
+use Rattle.std.specs.Prelude.{Bool, true, false, Option, Some, None, Result, replicate}
 use Rattle.std.specs.Prelude.{get_or, slice_index_or}
 use Rattle.std.specs.List.{enumerate_from, list_all}
 use Rattle.jpeg_bits.specs.Reading.{Fault, Outcome, ◌>>=◌}
@@ -10,12 +10,11 @@ use Rattle.jpeg_segments.specs.Frame.{Frame, Component}
 use Rattle.jpeg_segments.specs.declared.frame.CodingProcess.{CodingProcess}
 use Rattle.jpeg_segments.specs.declared.frame.CodingProcess.TheVariants.{Lossless}
 use Rattle.jpeg_meaning.specs.EndPlanes.{is_kept}
-use Rattle.jpeg_meaning.specs.declared.before.Before.TheVariants.{Elsewhere}
 use Rattle.jpeg_meaning.specs.declared.settings.Settings.{Settings}
 use Rattle.jpeg_meaning.specs.Found.{Found, Said, none_finished}
 use Rattle.jpeg_meaning.specs.FoundPictures.{picture_of}
 use Rattle.jpeg_meaning.specs.Sound.{IsPlaneOf}
-use Rattle.jpeg_meaning.specs.Stream.{Told, segments_at, told_of}
+use Rattle.jpeg_meaning.specs.Stream.{Told, rest_showing}
 
 -- The picture of a frame is the luma of several components of blocks.
 pub record ShowsLuma (settings : Settings) (frame : Frame) : Type 0 where
@@ -102,8 +101,6 @@ shown_picture true settings found = sent_picture settings found
 shown_picture false settings found = picture_of settings found
 
 -- the rest of a stream after its header, where planes are spared or not
-unfoldable pub shown_rest : Bool → Settings → Found → List ℕ → Outcome (Told × List ℕ)
-shown_rest spared settings found bytes = do
-  all ← segments_at settings.max_blocks false Elsewhere found None bytes
-  picture ← shown_picture spared settings all.0
-  Ok ((told_of all.0.said, picture), all.1)
+abbrev pub shown_rest : Bool → Settings → Found → List ℕ → Outcome (Told × List ℕ)
+shown_rest spared settings found bytes =
+    rest_showing settings.max_blocks (shown_picture spared settings) found bytes

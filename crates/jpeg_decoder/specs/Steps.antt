@@ -260,6 +260,11 @@ cropped_to c width height plane =
     let stride = c.scale * c.blocks_wide in
     cropped stride (min width stride) (min height (length plane / stride)) plane
 
+-- The plane of a component has the samples of its own size.
+pub record HasOwnSize (c : Component) (plane : List ℕ) : Type 0 where
+  pub wide : c.width ≤ c.scale * c.blocks_wide
+  pub lines : c.height * (c.scale * c.blocks_wide) ≤ length plane
+
 -- the plane of a component has a sample for each pixel of a picture
 pub record CoversPicture (frame : Frame) (c : Component) (plane : List ℕ) : Type 0 where
   pub high : ℕ

@@ -14,10 +14,10 @@ ghost use Rattle.jpeg_meaning.specs.Reported.{IsOfTurns};
 ghost use Rattle.jpeg_meaning.specs.States.{Decoding, MovesToHeader, IsReading, ahead};
 ghost use Rattle.jpeg_meaning.specs.States.{told_ahead, turns_ahead, OnTold, OnToldRefusal};
 ghost use Rattle.jpeg_meaning.specs.States.{HasHeader};
-ghost use Rattle.jpeg_decoder.specs.Decodes.{Decodes};
+ghost use Rattle.jpeg_decoder.specs.Decodes.{Decodes, DecodesPlanes};
 ghost use Rattle.jpeg_decoder.specs.Shows.{CountsRows, Shows};
 ghost use Rattle.std.specs.List.{concat};
-ghost use Rattle.jpeg_decoder.specs.Bytes.{AreLinesOf, HasRoom, IsCounted, IsWhole};
+ghost use Rattle.jpeg_decoder.specs.Bytes.{AreLinesOf, AreOwnPlanes, HasRoom, IsCounted, IsWhole};
 ghost use Rattle.jpeg_decoder.specs.Bytes.{decoding_bytes, picture_size, shape_in, shape_of};
 ghost use Rattle.jpeg_decoder.specs.HeaderAlone.{ReadsHeaderAlone};
 ghost use Rattle.jpeg_decoder.specs.StreamTransforms.{frame_transform};
@@ -38,7 +38,7 @@ ghost use Rattle.jpeg_meaning.specs.Work.{picture_blocks};
 use crate::picture::color_choice::frame_transform;
 use crate::picture::lines::Lines;
 use crate::picture::partial::{PartialLines, show_rest};
-use crate::picture::rest::read_rest;
+use crate::picture::rest::{read_planes, read_rest};
 use crate::picture::whole::read_header;
 use crate::scan::decoded::Decoded;
 use crate::scan::work::picture_blocks;
@@ -393,7 +393,7 @@ impl<R: Read + Drop> Decoder<R> {
 
     /// Sets how many samples a picture may have: `components * width * height`, with the size that
     /// `info` returns, or `width * height` where it is the luma alone. `decode` refuses a larger
-    /// picture as `Format`.
+    /// picture as `Format`, and `decode_planes` planes that have more samples together.
     ///
     /// It counts samples, not bytes: a lossless picture above 8 bits has two bytes for each. As in
     /// the original crate, it is checked after the end of the image, when blocks and planes are
@@ -697,6 +697,61 @@ impl<R: Read + Drop> Decoder<R> {
                 Err(error)
             }
         }
+    }
+
+    /// Reads through the end of the image, as `decode` does, and returns the planes of its
+    /// components, in the order of the frame header: the samples of each, line by line from the
+    /// top, at the component's own size, which `components` returns. Nothing is upsampled and no
+    /// colour is converted, so neither `set_color_transform` nor `set_luma` makes a difference. A
+    /// sample takes one byte, or two in a lossless picture above 8 bits, the lower byte first.
+    ///
+    /// If the stream is one that a writer emits for the coefficients of an image, they are its
+    /// planes; if it is a lossless stream for samples, they are those samples.
+    ///
+    /// A line of the second component, where a sample takes one byte:
+    ///
+    ///     let planes = decoder.decode_planes()?;
+    ///     if let Some(components) = decoder.components() {
+    ///         let width = usize::from(components[1].size.width);
+    ///         let line = &planes[1][row * width..(row + 1) * width];
+    ///     }
+    ///
+    /// The errors are those of `decode`, and so is the decoder after each; but it is a `Format` if
+    /// all planes together have more samples than `set_max_decoding_buffer_size` allows, and no
+    /// colour transform is refused.
+    pub fn decode_planes(&mut self) -> Result<Vec<Vec<u8>>>
+        // The meaning of what the source has left, the state, and what is told: see
+        // `DecodesPlanes`.
+        ensures decodes { DecodesPlanes (λ v. map (λ p. p.items) v.items) self.old result self.new }
+
+        // The settings stay.
+        ensures settings { self.new.settings ≡ self.old.settings }
+
+        // Where no image is left to decode nothing changes.
+        ensures still { (IsReading self.old.stage → ⊥) → self.new ≡ self.old }
+
+        // The frame that `read_info` read stays.
+        ensures stays { self.old.stage ≡ HeaderRead
+            → self.new.found.said.frame ≡ self.old.found.said.frame }
+
+        // After an Ok there is a frame, so that `components` answers.
+        ensures framed { IfOk result (λ _. is_some self.new.found.said.frame ≡ true) }
+
+        // There is one plane of each component, of one byte or two, by the frame's precision, for
+        // each of the component's samples.
+        ensures sizes { IfOk result (λ v. AreOwnPlanes self.new.found.said.frame
+            (map (λ p. p.items) v.items)) }
+    {
+        self.begin()?;
+        let result = read_planes(
+            self.alloc,
+            &mut self.source,
+            &mut self.state,
+            self.settings,
+            &mut self.exceeded,
+        );
+        self.progress = progress_after(result.is_ok(), Progress::Finished);
+        result
     }
 
     /// Reads as far as the stream goes, and returns the lines of the picture that it has brought up

@@ -18,6 +18,8 @@
 //!
 //! `decode_into` writes the picture into the caller's memory, and `decode_lines` returns its
 //! [`Lines`], each of which can be written anywhere, with no picture in memory besides the planes.
+//! `decode_planes` returns the samples of each component at its own size, neither upsampled nor
+//! converted, as video, graphics processors and programs that look at pictures take them.
 //! `decode_partial` shows the part before the first fault of a stream that may be truncated or
 //! damaged, and names that fault.
 //!

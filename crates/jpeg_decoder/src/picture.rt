@@ -4,6 +4,7 @@ pub mod color_choice;
 pub mod first;
 pub mod lines;
 pub mod partial;
+pub mod planes;
 pub mod rest;
 pub mod spared;
 pub mod whole;

@@ -5,6 +5,7 @@ ghost use Rattle.jpeg_segments.specs.FrameView.{component_in, frame_in};
 ghost use Rattle.jpeg_decoder.specs.Bytes.{beside_planes, bytes_a_sample, coefficient_bytes};
 ghost use Rattle.jpeg_decoder.specs.Bytes.{decoding_bytes, line_bytes, picture_size, plane_bytes};
 ghost use Rattle.jpeg_decoder.specs.Bytes.{shape_of};
+ghost use Rattle.jpeg_meaning.specs.FoundPlanes.{samples_in};
 ghost use Rattle.jpeg_meaning.specs.Pixels.{samples_shown};
 
 use jpeg_meaning::settings::Settings;
@@ -13,11 +14,12 @@ use jpeg_segments::parser::{CodingProcess, Component, FrameInfo};
 /// How many bytes decoding a picture takes, judging by its frame header, at the scale that was
 /// chosen, and by whether its luma alone is asked for.
 ///
-/// `decode_partial` takes no more. All of these grow with the picture. Metadata, tables, the
-/// reader's buffer, the few lines converted at a time and the allocator's overhead are not counted;
-/// nor are the planes that a sequential scan has for all of its components while it is read, if
-/// only some of them have planes already; nor is a copy of the luma's plane, if that alone is asked
-/// for and one sequential scan had all components with equal sampling factors.
+/// `decode_partial` and `decode_planes` take no more. All of these grow with the picture. Metadata,
+/// tables, the reader's buffer, the few lines converted at a time and the allocator's overhead are
+/// not counted; nor are the planes that a sequential scan has for all of its components while it is
+/// read, if only some of them have planes already. If one sequential scan had all components with
+/// equal sampling factors, two copies aren't counted either: that of the luma's plane in
+/// `decode_partial`, where that alone is asked for, and that of all planes in `decode_planes`.
 #[derive(Clone, Copy, Debug, PartialEq)]
 pub struct DecodingBytes {
     /// The coefficients that are buffered, two bytes each: those of a row of MCUs for a sequential
@@ -100,6 +102,19 @@ fn component_bytes(frame: &FrameInfo) -> (u64, u64)
         planes += plane_bytes(component, frame.coding_process);
     }
     (coefficients, planes)
+}
+
+/// Returns how many samples all components have together, each at its own size.
+pub(crate) fn samples_in(frame: &FrameInfo) -> u64
+    requires { length (frame_in frame.now).components ≤ 4 }
+    ensures { result ≡ samples_in (frame_in frame.now) }
+{
+    let mut samples = 0;
+    for i in 0..frame.components.len() {
+        let size = frame.components[i].size;
+        samples += area(size.width, size.height);
+    }
+    samples
 }
 
 /// Returns how many bytes a pixel of this many samples takes.

@@ -18,6 +18,7 @@ use Rattle.jpeg_meaning.specs.Limits.{exceeded_by, work_of, work_of_walk, work_w
 use Rattle.jpeg_meaning.specs.Profile.{profile_of}
 use Rattle.jpeg_meaning.specs.Shown.{completed, fault_shown, picture_shown, shown_of, shown_rest_within, shown_within}
 use Rattle.jpeg_meaning.specs.Shown.{whole_rows_rest, whole_rows_within, with_plane_shown, with_samples_shown}
+use Rattle.jpeg_meaning.specs.WrittenPlanes.{planes_of_blocks, planes_of_samples}
 use Rattle.jpeg_evidence.specs.Cosines.{cosine, is_entry, are_entries}
 use Rattle.jpeg_evidence.specs.Limits.{work_done}
 
@@ -48,6 +49,10 @@ predictions_on_literals = tt
 unfoldable pub profiles_on_literals : ⊤
 unfolding streams_on_literals profile_of
 profiles_on_literals = tt
+
+unfoldable pub planes_on_literals : ⊤
+unfolding streams_on_literals samples_on_literals planes_of_blocks planes_of_samples
+planes_on_literals = tt
 
 unfoldable pub cuts_on_literals : ⊤
 unfolding streams_on_literals samples_on_literals blocks_brought blocks_brought_by interval_reached

@@ -11,6 +11,7 @@ ghost use Rattle.jpeg_bits.specs.declared.scan.Predictor.TheVariants as selectio
 ghost use Rattle.jpeg_lossless.specs.Pictures.{sample_bytes};
 ghost use Rattle.jpeg_lossless.specs.Prediction.{line_below, selected, start_of};
 ghost use Rattle.jpeg_segments.specs.Application.{Adobe};
+ghost use Rattle.jpeg_segments.specs.Frame.{frame_of};
 ghost use Rattle.jpeg_segments.specs.Scales.{frame_at, scale_for};
 ghost use Rattle.jpeg_segments.specs.declared.application.AdobeColorTransform.TheVariants as adobe;
 ghost use Rattle.jpeg_segments.specs.declared.scale.Scale.TheVariants as scales;
@@ -19,20 +20,24 @@ ghost use Rattle.jpeg_pixels.specs.Upsampling.{rule_of};
 ghost use Rattle.jpeg_pixels.specs.declared.color_convert.ColorConvert.TheVariants as converts;
 ghost use Rattle.jpeg_pixels.specs.declared.upsample_rows.UpsampleRule.TheVariants as rules;
 ghost use Rattle.jpeg_meaning.specs.ColourChoice.{transform_of};
-ghost use Rattle.jpeg_meaning.specs.Found.{no_metadata};
+ghost use Rattle.jpeg_meaning.specs.Found.{no_metadata, nothing_found, nothing_said};
+ghost use Rattle.jpeg_meaning.specs.FoundPlanes.{planes_of};
 ghost use Rattle.jpeg_meaning.specs.Levels.{floor_at, toward_zero};
 ghost use Rattle.jpeg_meaning.specs.Segments.{updated, with_application};
 ghost use Rattle.jpeg_meaning.specs.Worked.{luma_within, picture_meant, picture_with};
 ghost use Rattle.jpeg_meaning.specs.Worked.{larger_second, picture_scaled};
-ghost use Rattle.jpeg_meaning.specs.Worked.{one_coefficient, picture_sized};
+ghost use Rattle.jpeg_meaning.specs.Worked.{one_coefficient, picture_sized, planes_with};
 ghost use Rattle.jpeg_meaning.specs.Worked.{eight_times, scan_text, stream_parts, stream_with};
 ghost use Rattle.jpeg_meaning.specs.Worked.{stream_without_height, stream_of_one_coefficient};
 ghost use Rattle.jpeg_meaning.specs.Worked.{scanned_twice, with_restart, three_at_once};
 ghost use Rattle.jpeg_meaning.specs.Worked.{three_in_turn, two_to_one, refined, run_of_blocks};
 ghost use Rattle.jpeg_meaning.specs.Worked.{two_by_two, own_blocks, without_tables, stray_marker};
 ghost use Rattle.jpeg_meaning.specs.Worked.{category_12, eleven_blocks, by_two_levels, odd_frame};
-ghost use Rattle.jpeg_meaning.specs.WorkedImages.{colour_bytes, colour_picture};
+ghost use Rattle.jpeg_meaning.specs.Worked.{factors_by};
+ghost use Rattle.jpeg_meaning.specs.WorkedImages.{colour_bytes, colour_picture, flat_block};
 ghost use Rattle.jpeg_meaning.specs.WorkedImages.{grey_bytes, grey_picture};
+ghost use Rattle.jpeg_meaning.specs.WorkedSamples.{padded_bytes};
+ghost use Rattle.jpeg_meaning.specs.WrittenPlanes.{planes_of_blocks, planes_of_samples};
 
 /// Ten streams of one component, and what they mean.
 #[tactic(auto, unfolding(jpeg_meaning::proofs::OnLiterals::streams_on_literals))]
@@ -149,6 +154,48 @@ pub fn known_luma()
     // A picture of one component stays as it is, whatever transform is set.
     ensures grey { picture_with (luma_within 64 (Some transforms.RGB)) (stream_with 8 (67 ∷ []))
         ≡ Ok (replicate 64 129) }
+{}
+
+/// The planes of pictures: the samples of each component at its own size.
+#[tactic(auto, unfolding(crate::proofs::OnLiterals::planes_on_literals))]
+pub fn known_planes()
+    // The first component is twice as wide as the others: 128 and 64 and 64 samples.
+    ensures factors { planes_with 256 two_to_one
+        ≡ Ok (eight_times (replicate 8 129 ++ replicate 8 128) ∷ replicate 64 129
+        ∷ replicate 64 127 ∷ []) }
+    ensures limit { planes_with 255 two_to_one ≡ Err Malformed }
+
+    // Of a block of eight by eight samples the component has two lines of two.
+    ensures cropped { planes_with 4 (one_coefficient 2 2)
+        ≡ Ok ((139 ∷ 137 ∷ 139 ∷ 137 ∷ []) ∷ []) }
+
+    // The first component of a lossless frame has three lines of three samples, the others two of
+    // two.
+    ensures lossless { planes_with 17 padded_bytes
+        ≡ Ok ((129 ∷ 129 ∷ 128 ∷ 128 ∷ 129 ∷ 129 ∷ 128 ∷ 127 ∷ 127 ∷ [])
+        ∷ (128 ∷ 129 ∷ 127 ∷ 127 ∷ []) ∷ (127 ∷ 127 ∷ 129 ∷ 128 ∷ []) ∷ []) }
+
+    // Samples of 16 bits take two bytes, the lower first.
+    ensures bytes { planes_of 2 (record nothing_found {
+      said = record nothing_said { frame = Some (frame_of 3 16 2 1 (factors_by 1 1 ∷ [])) };
+      samples = Some (258 ∷ 772 ∷ []) ∷ replicate 3 None;
+    }) ≡ Ok ((2 ∷ 1 ∷ 4 ∷ 3 ∷ []) ∷ []) }
+{}
+
+/// The planes of coefficients and of samples, which a stream can be written for.
+#[tactic(auto, unfolding(crate::proofs::OnLiterals::planes_on_literals))]
+pub fn known_written_planes()
+    // Flat blocks by a table of 8: two samples of the first component, one of each other.
+    ensures blocks { planes_of_blocks 4 (record nothing_said {
+      frame = Some (frame_of 0 8 2 1 (factors_by 1 2 ∷ factors_by 2 1 ∷ factors_by 3 1 ∷ []));
+      quantization = Some (replicate 64 8) ∷ replicate 3 None;
+    }) (λ index row column. flat_block (pos (index + 1)))
+        ≡ Ok ((129 ∷ 129 ∷ []) ∷ (130 ∷ []) ∷ (131 ∷ []) ∷ []) }
+
+    // Samples of 16 bits.
+    ensures samples { planes_of_samples 2
+        (record nothing_said { frame = Some (frame_of 3 16 2 1 (factors_by 1 1 ∷ [])) })
+        (λ index. (258 ∷ 772 ∷ []) ∷ []) ≡ Ok ((2 ∷ 1 ∷ 4 ∷ 3 ∷ []) ∷ []) }
 {}
 
 /// The two images of the headline that are worked by hand, and their pictures.

@@ -1,8 +1,8 @@
 -- A limit of blocks: within it a stream means what it means without; above it, it is refused; and
 -- never more blocks are decoded.
 use Rattle.std.proofs.Common.{rules, ◌≡◌, ◌≤◌, ◌<◌, ℕ, zero, suc, Bool, false, nat_lt, List}
-use Rattle.std.proofs.Common.{Option, Some, None, Err, refl, arith}
-use Rattle.jpeg_bits.specs.Reading.{Malformed}
+use Rattle.std.proofs.Common.{Option, Some, None, Err, Result, refl, arith}
+use Rattle.jpeg_bits.specs.Reading.{Fault, Malformed}
 use Rattle.jpeg_bits.specs.declared.marker.Marker.{Marker}
 use Rattle.jpeg_meaning.specs.declared.before.Before.{Before}
 use Rattle.jpeg_bits.specs.declared.beyond.Beyond.{Beyond}
@@ -11,7 +11,8 @@ use Rattle.jpeg_meaning.specs.Limits.{IsWithinLimit, work_of, work_of_rest, work
 use Rattle.jpeg_bits.specs.declared.beyond.Beyond.TheVariants.{Zeros}
 use Rattle.jpeg_meaning.specs.declared.settings.Settings.{Settings}
 use Rattle.jpeg_meaning.specs.Stream.{meaning, meaning_within, rest_at, rest_within, segments_at}
-use Rattle.jpeg_meaning.specs.Stream.{walk}
+use Rattle.jpeg_meaning.specs.Stream.{walk, rest_showing, meaning_showing}
+use Rattle.jpeg_meaning.specs.FoundPictures.{picture_of}
 
 -- Never more blocks are decoded than are left.
 pub decoded-most : (left : ℕ) (beyond : Beyond) (turns : ℕ) (header : Bool) (before : Before) (found : Found)
@@ -51,16 +52,26 @@ limit-same (Some left) beyond turns header before found met bytes h =
 
 -- ---- streams
 
+pub rest-limited : {A : Type 0} (limit : Option ℕ) (show : Found → Result A Fault) (found : Found) (bytes : List ℕ)
+    → IsWithinLimit limit (work_of_rest Zeros found bytes)
+    → rest_showing limit show found bytes ≡ rest_showing None show found bytes
+unfolding rest_showing segments_at
+rest-limited limit show found bytes h = search (rules, limit-same)
+
 pub rest-same : (limit : Option ℕ) (settings : Settings) (found : Found) (bytes : List ℕ)
     → IsWithinLimit limit (work_of_rest Zeros found bytes)
     → rest_within limit settings found bytes ≡ rest_at settings found bytes
-unfolding rest_within segments_at
-rest-same limit settings found bytes h = search (rules, limit-same)
+rest-same limit settings = rest-limited limit (picture_of settings)
+
+pub meaning-limited : {A : Type 0} (limit : Option ℕ) (show : Found → Result A Fault) (bytes : List ℕ)
+    → IsWithinLimit limit (work_of Zeros bytes)
+    → meaning_showing limit show bytes ≡ meaning_showing None show bytes
+unfolding meaning_showing work_of
+meaning-limited limit show bytes h = search (rules, rest-limited)
 
 pub meaning-same : (limit : Option ℕ) (settings : Settings) (bytes : List ℕ)
     → IsWithinLimit limit (work_of Zeros bytes) → meaning_within limit settings bytes ≡ meaning settings bytes
-unfolding meaning_within work_of
-meaning-same limit settings bytes h = search (rules, rest-same)
+meaning-same limit settings = meaning-limited limit (picture_of settings)
 
 -- ---- whether a scan is refused for its blocks
 

@@ -26,6 +26,7 @@ use Rattle.jpeg_meaning.specs.ColourChoice.{by_identifiers, transform_of}
 use Rattle.jpeg_meaning.specs.Found.{nothing_found, nothing_said}
 use Rattle.jpeg_meaning.specs.FoundPictures.{blocks_picture, picture_by, picture_of, plane_at_end, limited}
 use Rattle.jpeg_meaning.specs.FoundPictures.{samples_picture}
+use Rattle.jpeg_meaning.specs.FoundPlanes.{blocks_planes, own_planes, planes_of, planes_within, samples_planes}
 use Rattle.jpeg_meaning.specs.Rasters.{plane_by, plane_of_blocks}
 use Rattle.jpeg_meaning.specs.Order.{all_spots, mcu_size, mcu_spots, own_spots, part_spots, spots_of}
 use Rattle.jpeg_meaning.specs.ScanSegments.{after_restarts, after_scan, arrays_before, blocks_scan, codings_of}
@@ -35,8 +36,8 @@ use Rattle.jpeg_meaning.specs.ScanSegments.{lossless_scan}
 use Rattle.jpeg_meaning.specs.Scans.{arrays_at, put_blocks, turns_of, zero_arrays}
 use Rattle.jpeg_meaning.specs.Segments.{accepted, frame_segment, updated}
 use Rattle.jpeg_meaning.specs.Work.{blocks_coded, components_at, samples_coded, work_of_header, work_of_turn}
-use Rattle.jpeg_meaning.specs.Stream.{brought_after, end_segment, header_at, meaning_within, rest_within, segment_at, segments_at}
-use Rattle.jpeg_meaning.specs.Stream.{scan_turn_at, scaled_meaning, sized_meaning, start_at, turn_at, walk}
+use Rattle.jpeg_meaning.specs.Stream.{brought_after, end_segment, header_at, segment_at, segments_at}
+use Rattle.jpeg_meaning.specs.Stream.{scan_turn_at, start_at, turn_at, walk, rest_showing, meaning_showing, sized_showing, scaled_showing}
 use Rattle.jpeg_segments.specs.HuffmanTables as tables
 use Rattle.jpeg_segments.specs.Quantization as quantization
 use Rattle.jpeg_lossless.specs.Differences as differences
@@ -49,7 +50,7 @@ use Rattle.jpeg_meaning.specs.LosslessScans.{lossless_coding, lossless_codings, 
 use Rattle.jpeg_meaning.specs.LosslessScans.{with_samples}
 
 unfoldable pub streams_on_literals : ⊤
-unfolding accepted adobe_at after_bytes after_restarts after_scan all_spots app_at application_by arrays_at
+unfolding planes_of planes_within blocks_planes own_planes accepted adobe_at after_bytes after_restarts after_scan all_spots app_at application_by arrays_at
     arrays_before band_at band_part basis begins bits_from block_from blocks_of blocks_picture
     blocks_scan blue_of by_identifiers code_from code_in code_value codes_exist
     codings_of coefficients_in_block_order colour_of column_of_4 column_value com_at component_at
@@ -57,13 +58,13 @@ unfolding accepted adobe_at after_bytes after_restarts after_scan all_spots app_
     cropped dc_part dequantized difference dri_at each end_after end_segment ending_at even_part extended
     factors_at finished_by first_ac first_dc frame_at frame_of frame_segment gathered green_of
     groups header_at image_of int_wrap interval intervals is_flat_column length_at lengths_from
-    limited line_bytes lines_of marker_of mcu_size mcu_spots meaning_within next_marker next_u16
+    limited line_bytes lines_of marker_of mcu_size mcu_spots meaning_showing next_marker next_u16
     nothing_found nothing_said odd_part own_spots part_spots pass_of picture_by picture_line picture_of
     plane_at_end plane_by plane_of plane_of_blocks put_arrays put_blocks
     quantization.defined_table_at quantization.dqt_at quantization.quantization_from
-    tables.defined_codes_at tables.dht_at red_of refined_ac refined_piece rest_within rule_of sample
-    sample_at sample_of_1 sample_of_2 sample_of_4 scale_for scaled_meaning scan_arrays scan_of scan_segment scan_turn_at
-    segment_at segments_at selector_at selectors_from signed_from size_at sized_meaning skip_at
+    tables.defined_codes_at tables.dht_at red_of refined_ac refined_piece rest_showing rule_of sample
+    sample_at sample_of_1 sample_of_2 sample_of_4 scale_for scaled_showing scan_arrays scan_of scan_segment scan_turn_at
+    segment_at segments_at selector_at selectors_from signed_from size_at sized_showing skip_at
     sof_at sos_at source_of spots_of start_at symbol_from tables.tables_from tables_of text_at through_zero times token_at token_from transform_of transformed turn_at turns_of updated
     upsampled quantization.value_at values_in_block_order vias_from walk with_arrays with_blocks
     with_last with_plane zero_arrays zero_block zigzag_indices
@@ -77,5 +78,5 @@ unfolding each prediction.first_line frame_payload huffman_bytes differences.int
     mcus_across mcus_down parts_of pictures.picture_by_samples pictures.pixel_of prediction.residue
     differences.row_tables differences.sample_difference samples_picture differences.strand
     differences.strands
-    scan_payload scans.lines_by_component scans.planes_of scans.scan_at with_samples
+    scan_payload samples_planes scans.lines_by_component scans.planes_of scans.scan_at with_samples
 samples_on_literals = tt

@@ -11,6 +11,7 @@ pub mod CodingsInForce
 pub mod BroughtLevels
 pub mod WalkedStreams
 pub mod WrittenPictures
+pub mod WrittenPlanes
 pub mod SizedStreams
 pub mod WrittenParts
 pub mod SaidTables

@@ -5,7 +5,7 @@ use Rattle.jpeg_bits.specs.Stream.{Stream}
 use Rattle.jpeg_bits.specs.declared.error.Error.{Error}
 use Rattle.jpeg_bits.specs.declared.error.Error.TheVariants.{OutOfMemory}
 use Rattle.jpeg_segments.specs.declared.scale.Scale.{Scale}
-use Rattle.jpeg_meaning.specs.ArrayPictures.{picture_of_array}
+use Rattle.jpeg_meaning.specs.ArrayPictures.{as_sent, picture_of_blocks}
 use Rattle.jpeg_meaning.specs.Levels.{Is8Bit, Levels}
 use Rattle.jpeg_meaning.specs.Limits.{IsWithinLimit, work_ahead}
 use Rattle.jpeg_meaning.specs.States.{Decoding}
@@ -42,9 +42,10 @@ HasLeft _ bytes _ found left = ⊥
 
 -- ---- what is given
 
--- The picture is given, `final` is what a caller is given, and the bytes after the image are left.
-pub record GivesPicture (picture : Result (List ℕ) Fault) (rest : List ℕ) (final : Said)
-    (given : List ℕ) (new : Decoding) : Type 0 where
+-- The picture is given, `final` is what a caller is given, and the bytes after the image are left;
+-- or what else is shown of an image in place of its picture.
+pub record GivesPicture {A : Type 0} (picture : Result A Fault) (rest : List ℕ) (final : Said)
+    (given : A) (new : Decoding) : Type 0 where
   pub pixels : picture ≡ Ok given
   pub told : told_of new.found.said ≡ told_of final
   pub left : new.source.bytes ≡ rest
@@ -57,11 +58,12 @@ pub record FailsOutside (e : Error) (source : Stream) : Type 0 where
   pub reader : source.known ≡ false → IsGivenUp e source.failed
 
 -- A call on a decoder whose source has a stream that is written for the coefficients of 8-bit
--- samples, with no more blocks than its limit, if it has one, gives their picture, cut at the bits that were sent, and leaves what follows the image;
--- or, where the settings take that picture, it fails for lack of memory or by its reader.
-abbrev pub DecodesImages :
-    {X : Type 0} → (X → List ℕ) → Decoding → Result X Error → Decoding → Type 0
-DecodesImages bytes_of old result new =
+-- samples, with no more blocks than its limit, if it has one, gives what is to be shown of them,
+-- cut at the bits that were sent, and leaves what follows the image; or, where that is something,
+-- it fails for lack of memory or by its reader.
+abbrev pub DecodesCoefficients : {A X : Type 0} → (Said → Coefficients → Result A Fault) → (X → A)
+    → Decoding → Result X Error → Decoding → Type 0
+DecodesCoefficients show view old result new =
     (size : Size) (array : Coefficients) (image rest : List ℕ) (final : Said)
     (last : ℕ → Levels) →
     ((index row column : ℕ) → Is8Bit (array index row column)) →
@@ -70,7 +72,13 @@ DecodesImages bytes_of old result new =
     IsWithinLimit old.settings.max_blocks
     (work_ahead old.stage old.found old.source.bytes) →
     old.source.known ≡ true →
-    let picture = picture_of_array old.settings (at_size size final) array last in
+    let shown = show (at_size size final) (as_sent array last) in
     MatchResult result
-    (λ x. GivesPicture picture rest (at_size size final) (bytes_of x) new)
-    (λ e. IsOk picture → FailsOutside e new.source)
+    (λ x. GivesPicture shown rest (at_size size final) (view x) new)
+    (λ e. IsOk shown → FailsOutside e new.source)
+
+-- It gives their picture, or fails so where the settings take that picture.
+abbrev pub DecodesImages :
+    {X : Type 0} → (X → List ℕ) → Decoding → Result X Error → Decoding → Type 0
+DecodesImages bytes_of old result new =
+    DecodesCoefficients (picture_of_blocks old.settings) bytes_of old result new

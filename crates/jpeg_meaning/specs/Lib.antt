@@ -8,6 +8,7 @@ pub mod Found
 pub mod Segments
 pub mod ScanSegments
 pub mod FoundPictures
+pub mod FoundPlanes
 pub mod WholeRows
 pub mod Brought
 pub mod Work
@@ -34,6 +35,7 @@ pub mod WholeImages
 pub mod DecodedImages
 pub mod PrintedImages
 pub mod WrittenLossless
+pub mod WrittenPlanes
 pub mod PlainSamples
 pub mod FrameSamples
 pub mod DecodedSamples

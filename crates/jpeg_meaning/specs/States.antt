@@ -1,7 +1,7 @@
 -- The states of a decoder, and what each call does in each.
 use Rattle.std.specs.Prelude.{◌≡◌, ℕ, suc, List, length, Result, Ok, Err, Bool, true, IsOk}
 use Rattle.std.specs.Prelude.{IsErrAnd, Option}
-use Rattle.jpeg_bits.specs.Reading.{Outcome}
+use Rattle.jpeg_bits.specs.Reading.{Fault, Outcome}
 use Rattle.jpeg_bits.specs.Stream.{Stream}
 use Rattle.jpeg_bits.specs.declared.error.Error.{Error}
 use Rattle.jpeg_bits.specs.declared.error.Error.TheVariants as errors
@@ -9,7 +9,8 @@ use Rattle.jpeg_meaning.specs.declared.progress.Progress.{Progress}
 use Rattle.jpeg_meaning.specs.declared.progress.Progress.TheVariants.{Fresh, HeaderRead, Finished}
 use Rattle.jpeg_meaning.specs.declared.progress.Progress.TheVariants.{Failed}
 use Rattle.jpeg_meaning.specs.declared.settings.Settings.{Settings}
-use Rattle.jpeg_meaning.specs.Stream.{Told, told_of, meaning_within, rest_within}
+use Rattle.jpeg_meaning.specs.FoundPictures.{picture_of}
+use Rattle.jpeg_meaning.specs.Stream.{Told, told_of, meaning_showing, rest_showing}
 use Rattle.jpeg_meaning.specs.Reported.{told_by_turns, told_in_turns}
 use Rattle.jpeg_meaning.specs.Found.{Found}
 
@@ -61,10 +62,17 @@ HasHeader HeaderRead = Unit {0}
 HasHeader Finished = Unit {0}
 HasHeader _ = ⊥
 
--- the meaning of what lies ahead of a decoder: a whole stream, or the rest of one after its header
+-- What lies ahead of a decoder, a whole stream or the rest of one after its header, within a limit
+-- of blocks, if there is one: what a caller is given, and what is shown of what was found.
+abbrev pub ahead_showing : {A : Type 0} → Option ℕ → (Found → Result A Fault) → Progress → Found
+    → List ℕ → Outcome (Told × A)
+ahead_showing limit show Fresh found bytes = meaning_showing limit show bytes
+ahead_showing limit show _ found bytes = rest_showing limit show found bytes
+
+-- the meaning of what lies ahead of a decoder
 abbrev pub ahead : Progress → Settings → Found → List ℕ → Outcome (Told × List ℕ)
-ahead Fresh settings found bytes = meaning_within settings.max_blocks settings bytes
-ahead _ settings found bytes = rest_within settings.max_blocks settings found bytes
+ahead stage settings found bytes =
+    ahead_showing settings.max_blocks (picture_of settings) stage found bytes
 
 -- what this many turns of what lies ahead have said, within a limit of blocks, if there is one
 abbrev pub turns_ahead : Option ℕ → ℕ → Bool → Progress → Found → List ℕ → Told

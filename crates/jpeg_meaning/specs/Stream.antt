@@ -156,12 +156,17 @@ abbrev pub told_of : Said → Told
 told_of said = record { frame = said.frame; metadata = said.metadata }
 
 -- The rest of a stream after its start or its header, where its scans may code this many blocks, if
--- there is a limit: what a caller is given, and its picture.
-unfoldable pub rest_within : Option ℕ → Settings → Found → List ℕ → Outcome (Told × List ℕ)
-rest_within limit settings found bytes = do
+-- there is a limit: what a caller is given, and what is shown of what was found.
+unfoldable pub rest_showing : {A : Type 0} → Option ℕ → (Found → Result A Fault) → Found → List ℕ
+    → Outcome (Told × A)
+rest_showing limit show found bytes = do
   all ← segments_at limit false Elsewhere found None bytes
-  picture ← picture_of settings all.0
-  Ok ((told_of all.0.said, picture), all.1)
+  shown ← show all.0
+  Ok ((told_of all.0.said, shown), all.1)
+
+-- the same with its picture
+abbrev pub rest_within : Option ℕ → Settings → Found → List ℕ → Outcome (Told × List ℕ)
+rest_within limit settings found bytes = rest_showing limit (picture_of settings) found bytes
 
 abbrev pub rest_at : Settings → Found → List ℕ → Outcome (Told × List ℕ)
 rest_at settings found bytes = rest_within None settings found bytes
@@ -170,12 +175,17 @@ rest_at settings found bytes = rest_within None settings found bytes
 abbrev pub rest_by : Settings → Found → List ℕ → Outcome (Told × List ℕ)
 rest_by settings found bytes = rest_within settings.max_blocks settings found bytes
 
--- The meaning of a stream whose scans may code this many blocks, if there is a limit: what a caller
--- is given, and its picture.
-unfoldable pub meaning_within : Option ℕ → Settings → List ℕ → Outcome (Told × List ℕ)
-meaning_within limit settings bytes = do
+-- A stream whose scans may code this many blocks, if there is a limit: what a caller is given, and
+-- what is shown of what was found.
+unfoldable pub meaning_showing : {A : Type 0} → Option ℕ → (Found → Result A Fault) → List ℕ
+    → Outcome (Told × A)
+meaning_showing limit show bytes = do
   start ← start_at bytes
-  rest_within limit settings nothing_found start.1
+  rest_showing limit show nothing_found start.1
+
+-- Its meaning: what a caller is given, and its picture.
+abbrev pub meaning_within : Option ℕ → Settings → List ℕ → Outcome (Told × List ℕ)
+meaning_within limit settings bytes = meaning_showing limit (picture_of settings) bytes
 
 -- The meaning of a stream.
 abbrev pub meaning : Settings → List ℕ → Outcome (Told × List ℕ)
@@ -191,11 +201,17 @@ sized_header_at width height bytes = do
   header ← header_at bytes
   Ok (with_said (sized_to width height) header.0, header.1)
 
--- The meaning of a stream whose picture is to be at least that wide or that high.
-unfoldable pub sized_meaning : ℕ → ℕ → Settings → List ℕ → Outcome (Told × List ℕ)
-sized_meaning width height settings bytes = do
+-- A stream whose picture is to be at least that wide or that high: what a caller is given, and what
+-- is shown of what was found.
+unfoldable pub sized_showing : {A : Type 0} → ℕ → ℕ → (Found → Result A Fault) → List ℕ
+    → Outcome (Told × A)
+sized_showing width height show bytes = do
   header ← header_at bytes
-  rest_at settings (with_said (sized_to width height) header.0) header.1
+  rest_showing None show (with_said (sized_to width height) header.0) header.1
+
+-- its meaning
+abbrev pub sized_meaning : ℕ → ℕ → Settings → List ℕ → Outcome (Told × List ℕ)
+sized_meaning width height settings bytes = sized_showing width height (picture_of settings) bytes
 
 -- what was said, where the picture is to be at a scale
 abbrev pub scaled_to : Scale → Said → Said
@@ -207,8 +223,14 @@ scaled_header_at scale bytes = do
   header ← header_at bytes
   Ok (with_said (scaled_to scale) header.0, header.1)
 
--- The meaning of a stream whose picture is to be at a scale.
-unfoldable pub scaled_meaning : Scale → Settings → List ℕ → Outcome (Told × List ℕ)
-scaled_meaning scale settings bytes = do
+-- A stream whose picture is to be at a scale: what a caller is given, and what is shown of what was
+-- found.
+unfoldable pub scaled_showing : {A : Type 0} → Scale → (Found → Result A Fault) → List ℕ
+    → Outcome (Told × A)
+scaled_showing scale show bytes = do
   header ← header_at bytes
-  rest_at settings (with_said (scaled_to scale) header.0) header.1
+  rest_showing None show (with_said (scaled_to scale) header.0) header.1
+
+-- its meaning
+abbrev pub scaled_meaning : Scale → Settings → List ℕ → Outcome (Told × List ℕ)
+scaled_meaning scale settings bytes = scaled_showing scale (picture_of settings) bytes

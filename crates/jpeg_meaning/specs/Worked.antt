@@ -7,7 +7,8 @@ use Rattle.jpeg_bits.specs.declared.color_transform.ColorTransform.{ColorTransfo
 use Rattle.jpeg_segments.specs.Frame.{Factors, Frame, frame_of}
 use Rattle.jpeg_meaning.specs.Output.{default_settings}
 use Rattle.jpeg_segments.specs.declared.scale.Scale.{Scale}
-use Rattle.jpeg_meaning.specs.Stream.{Told, meaning, scaled_meaning, sized_meaning}
+use Rattle.jpeg_meaning.specs.FoundPlanes.{planes_of}
+use Rattle.jpeg_meaning.specs.Stream.{Told, meaning, meaning_showing, scaled_meaning, sized_meaning}
 use Rattle.jpeg_meaning.specs.declared.settings.Settings.{Settings}
 
 -- ---- what a stream means
@@ -27,6 +28,15 @@ luma_within limit transform =
 
 abbrev pub picture_meant : List ℕ → Result (List ℕ) Fault
 picture_meant bytes = picture_with default_settings bytes
+
+-- the planes of what a stream brings, within a limit on their samples, or why it gives none
+abbrev pub planes_part : Result ((Told × List (List ℕ)) × List ℕ) Fault
+    → Result (List (List ℕ)) Fault
+planes_part (Ok x) = Ok x.0.1
+planes_part (Err e) = Err e
+
+abbrev pub planes_with : ℕ → List ℕ → Result (List (List ℕ)) Fault
+planes_with limit bytes = planes_part (meaning_showing None (planes_of limit) bytes)
 
 -- the picture at the least scale that is as wide or as high as this
 abbrev pub picture_sized : ℕ → ℕ → List ℕ → Result (List ℕ) Fault

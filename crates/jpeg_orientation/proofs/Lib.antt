@@ -1,3 +1,4 @@
 pub mod Directories
 pub mod Orientations
+pub mod Parts
 pub mod Rules

@@ -24,14 +24,19 @@ upright_width turn = if is_on_side turn.orientation then turn.height else turn.w
 abbrev pub upright_height : Turn → ℕ
 upright_height turn = if is_on_side turn.orientation then turn.width else turn.height
 
--- the index in the stored picture of a pixel across and down in the upright one
+-- the column and the line in the stored picture of a pixel across and down in the upright one, and
+-- its index there
+abbrev pub stored_column : Turn → ℕ → ℕ → ℕ
+stored_column turn across down = mirrored (flips_x turn.orientation) turn.width
+    (if is_on_side turn.orientation then down else across)
+
+abbrev pub stored_line : Turn → ℕ → ℕ → ℕ
+stored_line turn across down = mirrored (flips_y turn.orientation) turn.height
+    (if is_on_side turn.orientation then across else down)
+
 abbrev pub stored_offset : Turn → ℕ → ℕ → ℕ
 stored_offset turn across down =
-    mirrored (flips_y turn.orientation) turn.height
-    (if is_on_side turn.orientation then across else down)
-    * turn.width
-    + mirrored (flips_x turn.orientation) turn.width
-    (if is_on_side turn.orientation then down else across)
+    stored_line turn across down * turn.width + stored_column turn across down
 
 -- how far across and down in the upright picture a pixel of the stored one is, by its column and
 -- its line there

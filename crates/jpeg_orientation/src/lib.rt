@@ -11,6 +11,8 @@ ghost use Rattle.jpeg_orientation.specs.Tiff.{entries_in, first_directory};
 
 use crate::tiff::{SHORT, directory_at, long_at, order_of, short_at};
 
+pub mod areas;
+pub mod laws;
 pub mod tiff;
 pub mod turns;
 

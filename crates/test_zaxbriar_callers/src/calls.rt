@@ -2,6 +2,7 @@
 ghost use Rattle.std.specs.Prelude.{◌≡◌, ◌⊎◌, ◌<◌, None, Some, false, length, true};
 ghost use Rattle.jpeg_bits.specs.Reading.{Fault};
 ghost use Rattle.jpeg_meaning.specs.Stream.{header_at};
+ghost use Rattle.zaxbriar_calls.specs.Crops.{is_cropped};
 ghost use Rattle.zaxbriar_calls.specs.Faults.{IsOfRoomNumber};
 ghost use Rattle.zaxbriar_calls.specs.Given.{Gives, TellsFault, rows_by, without_fault};
 ghost use Rattle.zaxbriar_calls.specs.Given.{without_rows};
@@ -12,6 +13,7 @@ ghost use Rattle.zaxbriar_calls.specs.Passes.{exceeds};
 ghost use Rattle.zaxbriar_calls.specs.Places.{places_of};
 ghost use Rattle.zaxbriar_calls.specs.StreamSegments.{IsCut};
 ghost use Rattle.zaxbriar_calls.specs.declared.extents.Extent.TheVariants.{Whole, Partial};
+ghost use Rattle.zaxbriar_calls.specs.declared.extents.Extent.TheVariants.{Planes};
 
 use std::alloc::Global;
 use zaxbriar_calls::calls;
@@ -38,11 +40,26 @@ pub fn described_upright(
     picture: &mut Picture,
 ) -> u32
     requires asked { options.now.upright ≡ 1 }
+    requires whole { is_cropped options.now ≡ false }
     ensures { result ≡ 0 → picture.new.orientation ≡ 6
         → (described : Describes options.now stream.now (uncounted picture.new))
         × (picture.new.width ≡ described.info.height) }
 {
     calls::read_info(alloc, stream, options, picture)
+}
+
+/// Calls `read_info`, and says that a part of a picture is as wide and as high as it is asked for.
+pub fn described_part(
+    alloc: Global,
+    part_of: &[u8],
+    options: &Options,
+    picture: &mut Picture,
+) -> u32
+    requires asked { is_cropped options.now ≡ true }
+    ensures wide { result ≡ 0 → picture.new.width ≡ options.now.crop.width }
+    ensures high { result ≡ 0 → picture.new.height ≡ options.now.crop.height }
+{
+    calls::read_info(alloc, part_of, options, picture)
 }
 
 /// Calls `read_info`, and says that the luma of a sequential picture has one sample a pixel,
@@ -52,6 +69,22 @@ pub fn described_luma(alloc: Global, bytes: &[u8], options: &Options, picture: &
     ensures { result ≡ 0 → picture.new.process ≡ 1 → picture.new.components ≡ 1 }
 {
     calls::read_info(alloc, bytes, options, picture)
+}
+
+/// Calls `read_info`, and says that the sizes of the planes are those of the components.
+pub fn described_planes(
+    alloc: Global,
+    planes_of: &[u8],
+    options: &Options,
+    picture: &mut Picture,
+) -> u32
+    ensures { result ≡ 0
+        → (described : Describes options.now planes_of.now (uncounted picture.new))
+        × (picture.new.plane_width ≡ described.planes.width)
+        × (picture.new.plane_height ≡ described.planes.height)
+        × (picture.new.planes_size ≡ described.planes.size) }
+{
+    calls::read_info(alloc, planes_of, options, picture)
 }
 
 /// Calls `decode`, and says that an OK gives the picture, what is returned for a picture that has
@@ -90,6 +123,23 @@ pub fn decoded_part(
         → picture.new.whole_rows ≡ rows_by Partial options.now jpeg.now }
 {
     calls::decode_partial(alloc, jpeg, options, pixels, picture)
+}
+
+/// Calls `decode_planes`, and says that an OK gives the planes, and what is returned where they
+/// have no room.
+pub fn decoded_planes(
+    alloc: Global,
+    jpeg: &[u8],
+    options: &Options,
+    samples: &mut [u8],
+    picture: &mut Picture,
+) -> u32
+    ensures given { result ≡ 0 → Gives Planes options.now jpeg.now samples.old samples.new None
+        (without_rows picture.new) }
+    ensures short { (size : Picture) → IsWithin options.now jpeg.now size
+        → length samples.old < size.planes_size → IsOfRoomNumber result }
+{
+    calls::decode_planes(alloc, jpeg, options, samples, picture)
 }
 
 /// Calls `metadata`, and says what is copied after OK, how long it is after NO_ROOM, that nothing

@@ -2,6 +2,7 @@
 ghost use Rattle.std.specs.Prelude.{◌≡◌, ℕ, List, IfErr, IfOk, IsSomeAnd, OnOk, fold};
 ghost use Rattle.std.specs.Io.KnownBytes.{Appends};
 ghost use Rattle.jpeg_meaning.specs.Output.{Tells};
+ghost use Rattle.zaxbriar_pictures.specs.Crops.{fits, fits_raw};
 ghost use Rattle.zaxbriar_pictures.specs.Allowed.{allows, allows_raw};
 ghost use Rattle.zaxbriar_pictures.specs.Given.{CodesWithin, WritesGiven, shown_at_scale};
 ghost use Rattle.zaxbriar_pictures.specs.Raw.{raw_of};
@@ -13,6 +14,7 @@ ghost use Rattle.zaxbriar_pictures.specs.Thumbnails.{WritesThumbnail};
 ghost use Rattle.zaxbriar_samples.specs.declared.requests.Request.TheVariants.{At};
 
 use jpeg_decoder::error;
+use jpeg_orientation::areas::Area;
 use std::alloc::Global;
 use std::io::{Read, Write};
 use zaxbriar_files::limits::Limits;
@@ -64,7 +66,7 @@ pub fn picture_at<R: Read + Drop, W: Write>(
         (W.contents writer.new)) }
     ensures refused { (bytes : List ℕ) → Tells (R.remaining reader) bytes → IfErr result (IsReason
         (shown_at_scale extent at.luma limits at.scale bytes) (allows (At at) format limits bytes)
-        (LacksColours format (settings_for at.luma)
+        (fits at bytes) (LacksColours format (settings_for at.luma)
         (shown_at_scale extent at.luma limits at.scale bytes))) }
 {
     write_at(alloc, reader, at, extent, limits, format, writer)
@@ -94,17 +96,18 @@ pub fn pixels<R: Read + Drop, W: Write>(
     reader: R,
     turning: Upright,
     luma: bool,
+    crop: Option<Area>,
     limits: Limits,
     writer: &mut W,
 ) -> Result<(), Refusal>
     ensures written { (bytes : List ℕ) → Tells (R.remaining reader) bytes
-        → OnOk result (IsSomeAnd (raw_of luma turning bytes) (Appends (W.contents writer.old)
+        → OnOk result (IsSomeAnd (raw_of luma turning crop bytes) (Appends (W.contents writer.old)
         (W.contents writer.new))) }
     ensures bounded { (bytes : List ℕ) → Tells (R.remaining reader) bytes
         → OnOk result (CodesWithin limits bytes) }
     ensures refused { (bytes : List ℕ) → Tells (R.remaining reader) bytes
         → IfErr result (IsReason (meaning_within_limits luma limits bytes)
-        (allows_raw luma turning limits bytes) ⊥) }
+        (allows_raw luma turning limits bytes) (fits_raw luma turning crop bytes) ⊥) }
 {
-    write_raw(alloc, reader, turning, luma, limits, writer)
+    write_raw(alloc, reader, turning, luma, crop, limits, writer)
 }

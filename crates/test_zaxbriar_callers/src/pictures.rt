@@ -1,11 +1,11 @@
 //! Callers that read a picture, or check a stream.
 ghost use Rattle.std.specs.Prelude.{◌≡◌, ℕ, List, Some, IfOk, is_some, not};
+ghost use Rattle.std.specs.List.{concat};
 ghost use Rattle.jpeg_meaning.specs.Output.{Tells};
 ghost use Rattle.jpeg_meaning.specs.States.{HasHeader};
 ghost use Rattle.zaxbriar_pictures.specs.Given.{IsGiven, TellsOfStream, is_whole, most_after};
 ghost use Rattle.zaxbriar_samples.specs.DecodedPictures.{decoded};
 ghost use Rattle.zaxbriar_pictures.specs.ScaledPictures.{picture_at_scale};
-ghost use Rattle.zaxbriar_samples.specs.DecodedPictures.{decoded_in};
 ghost use Rattle.zaxbriar_samples.specs.Sizes.{luma_for};
 
 use jpeg_decoder::Decoder;
@@ -15,11 +15,11 @@ use zaxbriar_files::limits::Limits;
 use zaxbriar_files::refusal::Refusal;
 use zaxbriar_pictures::check::check_stream;
 use zaxbriar_pictures::extents::{Completeness, Extent};
-use zaxbriar_pictures::scaled::{ScaledPicture, limit_blocks, read_picture};
+use zaxbriar_pictures::scaled::{ScaledLines, limit_blocks, read_lines};
 use zaxbriar_samples::files::PictureFormat;
 use zaxbriar_samples::requests::Request;
 
-/// Calls `read_picture`, and says that picture, complete rows and fault are those that the stream
+/// Calls `read_lines`, and says that picture, complete rows and fault are those that the stream
 /// gives at its scale within the limits.
 pub fn scaled_picture<R: Read + Drop>(
     alloc: Global,
@@ -28,12 +28,12 @@ pub fn scaled_picture<R: Read + Drop>(
     format: PictureFormat,
     extent: Extent,
     limits: Limits,
-) -> Result<ScaledPicture, Refusal>
+) -> Result<ScaledLines, Refusal>
     ensures { (bytes : List ℕ) → Tells (R.remaining reader) bytes
         → IfOk result (λ made. IsGiven extent (luma_for request) limits made.scale bytes
-        (decoded_in made.picture) made.whole_rows made.fault) }
+        (decoded made.info made.precision (concat made.lines)) made.whole_rows made.fault) }
 {
-    read_picture(alloc, reader, request, format, extent, limits)
+    read_lines(alloc, reader, request, format, extent, limits)
 }
 
 /// Reads a whole picture, and says that it is the one that the stream means at its scale, whatever
@@ -44,10 +44,10 @@ pub fn whole_picture<R: Read + Drop>(
     request: Request,
     format: PictureFormat,
     limits: Limits,
-) -> Result<ScaledPicture, Refusal>
+) -> Result<ScaledLines, Refusal>
     ensures { (bytes : List ℕ) → Tells (R.remaining reader) bytes
         → IfOk result (λ made. picture_at_scale (luma_for request) made.scale bytes
-        ≡ Some (decoded made.picture.info made.picture.precision made.picture.pixels.items)) }
+        ≡ Some (decoded made.info made.precision (concat made.lines))) }
 {
     scaled_picture(alloc, reader, request, format, Extent::Whole, limits)
 }

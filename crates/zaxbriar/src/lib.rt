@@ -14,6 +14,7 @@ ghost use Rattle.zaxbriar_calls.specs.FindsSegment.{FindsSegment};
 ghost use Rattle.zaxbriar_calls.specs.Places.{places_of};
 ghost use Rattle.zaxbriar_calls.specs.ReadsInfo.{ReadsInfo};
 ghost use Rattle.zaxbriar_calls.specs.declared.extents.Extent.TheVariants.{Whole, Partial};
+ghost use Rattle.zaxbriar_calls.specs.declared.extents.Extent.TheVariants.{Planes};
 
 use std::alloc::Global;
 use zaxbriar_calls::calls;
@@ -62,6 +63,21 @@ pub extern "C" fn zaxbriar_checked_decode_partial(
     ensures { Fills Partial options.now jpeg.now pixels.old pixels.new picture.new result }
 {
     calls::decode_partial(alloc, jpeg, options, pixels, picture)
+}
+
+/// Decodes the planes of a stream into `samples`, one after the other: the samples of each of its
+/// components at the component's own size.
+#[unsafe(no_mangle)]
+pub extern "C" fn zaxbriar_checked_decode_planes(
+    alloc: Global,
+    jpeg: &[u8],
+    options: &Options,
+    samples: &mut [u8],
+    picture: &mut Picture,
+) -> u32
+    ensures { Fills Planes options.now jpeg.now samples.old samples.new picture.new result }
+{
+    calls::decode_planes(alloc, jpeg, options, samples, picture)
 }
 
 /// Copies the Exif data, the XMP data or the ICC profile of a header or of a whole image, and

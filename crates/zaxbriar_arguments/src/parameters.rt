@@ -77,8 +77,8 @@ pub enum Form {
     Data,
     /// `--NAME SCALE`, one of the scales: 1 if it isn't given.
     Scale,
-    /// `--NAME VALUE` for a number: whatever word follows it is its value, so that `-1` is a number
-    /// that is refused, and no option that doesn't exist.
+    /// `--NAME VALUE` for a number or an area: whatever word follows it is its value, so that `-1`
+    /// is a number that is refused, and no option that doesn't exist.
     Number(&'static str),
     /// The same, which has to be given.
     Needed(&'static str),

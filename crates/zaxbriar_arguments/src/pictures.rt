@@ -4,6 +4,7 @@
 use crate::arguments;
 use crate::parameters::{Form, Parameter};
 use clap::ArgMatches;
+use jpeg_orientation::areas::Area;
 use std::alloc::{AllocError, Global};
 use std::collections::BTreeMap;
 use zaxbriar_files::ending::{Failure, Outcome};
@@ -25,6 +26,13 @@ const PART: &str =
 
 const UPRIGHTED: &str = "Turn the picture upright by the orientation in its Exif data";
 
+const PART_OF_IT: &str =
+    "Write a part of the picture: WxH+X+Y is W columns from column X on, of H lines from line Y on, \
+    both counted from 0 in the picture that is written without this option";
+
+/// What the value of the option `--crop` has to be.
+const AREAS: &str = "WxH+X+Y, of numbers up to 65535, W and H of 1 at least";
+
 const LUMA_ALONE: &str =
     "Write the luma of a picture in colour, as a grey picture; its luma has to be as large as the \
     picture";
@@ -43,6 +51,13 @@ pub const UPRIGHT: Parameter = Parameter {
     name: "upright",
     form: Form::Flag,
     help: UPRIGHTED,
+};
+
+/// The option `--crop`.
+pub const CROP: Parameter = Parameter {
+    name: "crop",
+    form: Form::Number("AREA"),
+    help: PART_OF_IT,
 };
 
 /// The option `--luma`.
@@ -79,6 +94,42 @@ pub fn turning_of(matches: &ArgMatches<'_>) -> Upright {
 /// luma.
 pub fn wants_luma(matches: &ArgMatches<'_>) -> bool {
     matches.get_flag("luma")
+}
+
+/// Returns the number that a text of digits is.
+fn number_in(text: &str) -> Option<u16> {
+    if text.starts_with('+') {
+        return None;
+    }
+    text.parse::<u16>().ok()
+}
+
+/// Returns the area that a text names: `WxH+X+Y`, of pixels.
+fn area_in(text: &str) -> Option<Area> {
+    let (width, rest) = text.split_once('x')?;
+    let (height, rest) = rest.split_once('+')?;
+    let (left, top) = rest.split_once('+')?;
+    let area = Area {
+        left: number_in(left)?,
+        top: number_in(top)?,
+        width: number_in(width)?,
+        height: number_in(height)?,
+    };
+    if area.width == 0 || area.height == 0 {
+        return None;
+    }
+    Some(area)
+}
+
+/// Returns the part of a picture that the option `--crop` gives, if it is there.
+pub fn crop_of(rt: &HostRuntime, matches: &ArgMatches<'_>) -> Outcome<Option<Area>> {
+    let Some(text) = matches.get_str("crop") else {
+        return Ok(None);
+    };
+    match area_in(text) {
+        Some(area) => Ok(Some(area)),
+        None => Err(arguments::refuse_value(rt, "crop", AREAS)),
+    }
 }
 
 /// Returns whether a name ends with `.png`, in capital letters or not.

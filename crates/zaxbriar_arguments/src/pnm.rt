@@ -6,6 +6,7 @@ use crate::pictures;
 use clap::ArgMatches;
 use jpeg_segments::scale::Scale;
 use std::alloc::Global;
+use zaxbriar_files::ending::Outcome;
 use zaxbriar_samples::requests::{AtScale, Request};
 
 /// The word.
@@ -19,11 +20,12 @@ const SCALE: Parameter = Parameter {
     help: "The part of the picture's width and height",
 };
 
-const PARAMETERS: [Parameter; 7] = [
+const PARAMETERS: [Parameter; 8] = [
     INPUTS,
     pictures::OUTPUT,
     SCALE,
     pictures::UPRIGHT,
+    pictures::CROP,
     pictures::LUMA,
     pictures::PNG,
     pictures::PARTIAL,
@@ -35,12 +37,13 @@ pub fn command<'a>(alloc: Global) -> Making<'a> {
 }
 
 /// Returns what is requested of each picture.
-pub fn request_of(matches: &ArgMatches<'_>) -> Request {
-    Request::At(AtScale {
+pub fn request_of(rt: &HostRuntime, matches: &ArgMatches<'_>) -> Outcome<Request> {
+    Ok(Request::At(AtScale {
         scale: scale_of(matches),
         upright: pictures::turning_of(matches),
         luma: pictures::wants_luma(matches),
-    })
+        crop: pictures::crop_of(rt, matches)?,
+    }))
 }
 
 /// Returns the requested scale.

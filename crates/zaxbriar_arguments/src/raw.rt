@@ -12,7 +12,7 @@ const ABOUT: &str = "Decodes a JPEG file to a line WIDTH HEIGHT FORMAT, and then
 
 const OUTPUT: &str = "The file to write; standard output by default, or for -";
 
-const PARAMETERS: [Parameter; 4] = [
+const PARAMETERS: [Parameter; 5] = [
     INPUT,
     Parameter {
         name: "output",
@@ -20,6 +20,7 @@ const PARAMETERS: [Parameter; 4] = [
         help: OUTPUT,
     },
     pictures::UPRIGHT,
+    pictures::CROP,
     pictures::LUMA,
 ];
 

@@ -1,5 +1,5 @@
 -- A picture that was decoded into its lines.
-use Rattle.std.proofs.Common.{arith, ◌≡◌, ◌∙◌, ◌+◌, ◌-◌, ◌*◌, ◌==◌, ◌<◌, ◌≤◌, ℕ, Bool, List, Option, Some, None, ap, sym, subst, false}
+use Rattle.std.proofs.Common.{arith, ◌≡◌, ◌∙◌, ◌+◌, ◌-◌, ◌*◌, ◌==◌, ◌<◌, ◌≤◌, ℕ, Bool, List, Option, Some, None, ap, length, sym, subst, false}
 use Rattle.std.proofs.Common.{mul_comm, mul-le-mul_right}
 use Rattle.std.proofs.lemmas.Bool.{ne_eqb}
 use Rattle.std.specs.Prelude.{if◌then◌else◌, option_map}
@@ -9,8 +9,11 @@ use Rattle.jpeg_meaning.specs.declared.images.ImageInfo.{ImageInfo}
 use Rattle.jpeg_meaning.specs.declared.settings.Settings.{Settings}
 use Rattle.jpeg_decoder.specs.Bytes.{AreLinesOf, HaveBytes, IsCounted, bytes_a_sample}
 use Rattle.jpeg_decoder.specs.Bytes.{line_bytes, samples_a_pixel, shape_of}
+use Rattle.jpeg_orientation.specs.declared.turns.Turn.{Turn}
+use Rattle.zaxbriar_calls.proofs.Cropped.{part-held, part-high, part-wide}
+use Rattle.zaxbriar_calls.specs.Crops.{AreOfPart, HasPart, part_turn}
 use Rattle.zaxbriar_calls.specs.Layouts.{size_of_lines}
-use Rattle.zaxbriar_calls.specs.Lines.{HasLines}
+use Rattle.zaxbriar_calls.specs.Lines.{HasLines, turn_of}
 use Rattle.zaxbriar_calls.specs.declared.lines.Lines.{Lines}
 use Rattle.zaxbriar_calls.specs.declared.options.Options.{Options}
 
@@ -19,7 +22,7 @@ pub lines-stored : (o : Options) (info : ImageInfo) (precision orientation : ℕ
     (old new : Option Frame) (picture : List (List ℕ)) → HasLines o info precision orientation lines → after ≡ before
     → new ≡ old → option_map (info_by before) old ≡ Some info → option_map (λ f. f.precision) old ≡ Some precision
     → IsCounted (option_map (shape_of after) new) → AreLinesOf (option_map (shape_of after) new) picture
-    → HaveBytes (lines.turn.width * lines.stored) picture
+    → HaveBytes (info.width * lines.stored) picture
 unfolding line_bytes
 lines-stored o info precision orientation lines before after old None picture h stay same i p counted are =
     let whole : option_map (info_by before) None ≡ Some info =
@@ -31,13 +34,57 @@ lines-stored o info precision orientation lines before after old (Some f) pictur
     ap (λ (f : Option Frame). option_map (λ f. f.precision) f) same ∙ p in
     let is : info_by after f ≡ info = cc in
     let is' : f.precision ≡ precision = cc in
-    let width : f.output_width ≡ lines.turn.width = ap (λ (x : ImageInfo). x.width) is
-    ∙ sym (ap (λ (l : Lines). l.turn.width) h.lines_are) in
+    let width : f.output_width ≡ info.width = ap (λ (x : ImageInfo). x.width) is in
     let samples : samples_shown after f ≡ samples_a_pixel info.pixel_format = counted
     ∙ ap (λ (x : ImageInfo). samples_a_pixel x.pixel_format) is in
     let stored : samples_shown after f * bytes_a_sample f.precision ≡ lines.stored =
     (λ i. samples i * bytes_a_sample (is' i)) ∙ sym (ap (λ (l : Lines). l.stored) h.lines_are) in
     subst (λ n. HaveBytes n picture) (λ i. width i * stored i) are.1
+
+-- and there are as many lines as it is high
+pub lines-high : (info : ImageInfo) (before after : Settings) (old new : Option Frame) (picture : List (List ℕ))
+    → after ≡ before → new ≡ old → option_map (info_by before) old ≡ Some info
+    → AreLinesOf (option_map (shape_of after) new) picture → length picture ≡ info.height
+lines-high info before after old None picture stay same i are =
+    let whole : option_map (info_by before) None ≡ Some info =
+    ap (λ (f : Option Frame). option_map (info_by before) f) same ∙ i in
+    absurd (cc)
+lines-high info before after old (Some f) picture stay same i are =
+    let whole : option_map (info_by after) (Some f) ≡ Some info = (λ j. option_map (info_by (stay j)) (same j)) ∙ i in
+    let is : info_by after f ≡ info = cc in
+    are.0 ∙ ap (λ (x : ImageInfo). x.height) is
+
+-- lines are turned like the part that they are of
+turn-is : (o : Options) (info : ImageInfo) (precision orientation : ℕ) (lines : Lines)
+    → HasLines o info precision orientation lines → lines.turn ≡ part_turn lines.part (turn_of o info orientation)
+turn-is o info precision orientation lines h =
+    ap (λ (l : Lines). l.turn) h.lines_are
+    ∙ (λ i. part_turn (sym (ap (λ (l : Lines). l.part) h.lines_are) i) (turn_of o info orientation))
+
+-- the part is among the lines of the picture
+pub part-there : (o : Options) (info : ImageInfo) (precision orientation : ℕ) (lines : Lines)
+    (picture : List (List ℕ)) → HasLines o info precision orientation lines → length picture ≡ info.height
+    → HaveBytes (info.width * lines.stored) picture → HasPart lines.part lines.stored picture
+part-there o info precision orientation lines picture h high wide =
+    part-held o (turn_of o info orientation) lines.part lines.stored picture (ap (λ (l : Lines). l.part) h.lines_are)
+    h.inside high wide
+
+-- and its lines are those that are meant
+pub part-counted : (o : Options) (info : ImageInfo) (precision orientation : ℕ) (lines : Lines)
+    (picture given : List (List ℕ)) → HasLines o info precision orientation lines → length picture ≡ info.height
+    → AreOfPart lines.part lines.stored picture given → length given ≡ lines.turn.height
+part-counted o info precision orientation lines picture given h high of_part =
+    part-high lines.part (turn_of o info orientation) lines.stored picture given high of_part
+    ∙ sym (ap (λ (t : Turn). t.height) (turn-is o info precision orientation lines h))
+
+pub part-stored : (o : Options) (info : ImageInfo) (precision orientation : ℕ) (lines : Lines)
+    (picture given : List (List ℕ)) → HasLines o info precision orientation lines
+    → HaveBytes (info.width * lines.stored) picture
+    → AreOfPart lines.part lines.stored picture given → HaveBytes (lines.turn.width * lines.stored) given
+part-stored o info precision orientation lines picture given h wide of_part =
+    subst (λ (t : Turn). HaveBytes (t.width * lines.stored) given)
+    (sym (turn-is o info precision orientation lines h))
+    (part-wide lines.part (turn_of o info orientation) lines.stored picture given wide of_part)
 
 -- memory that has room for all lines has room for each
 pub lines-fit : (stride row height room y : ℕ) → size_of_lines stride row height ≤ room → y < height

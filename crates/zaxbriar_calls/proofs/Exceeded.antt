@@ -10,7 +10,7 @@ use Rattle.jpeg_meaning.proofs.Limits.{none-exceeded}
 use Rattle.jpeg_meaning.specs.Found.{Found}
 use Rattle.jpeg_meaning.specs.Limits.{exceeded_rest}
 use Rattle.jpeg_meaning.specs.States.{IfRefused}
-use Rattle.jpeg_meaning.specs.Stream.{header_at, rest_by, rest_within, segments_at, walk}
+use Rattle.jpeg_meaning.specs.Stream.{header_at, rest_by, segments_at, walk, rest_showing}
 use Rattle.jpeg_meaning.specs.declared.before.Before.{Before}
 use Rattle.jpeg_meaning.specs.declared.before.Before.TheVariants.{Elsewhere}
 use Rattle.jpeg_bits.specs.declared.beyond.Beyond.{Beyond}
@@ -25,7 +25,7 @@ use Rattle.zaxbriar_calls.specs.Passes.{beyond_of, exceeds, exceeds_rest, is_who
 use Rattle.zaxbriar_calls.specs.declared.answers.Refusal.{Refusal}
 use Rattle.zaxbriar_calls.specs.declared.answers.Refusal.TheVariants as refusals
 use Rattle.zaxbriar_calls.specs.declared.extents.Extent.{Extent}
-use Rattle.zaxbriar_calls.specs.declared.extents.Extent.TheVariants.{Whole, Partial}
+use Rattle.zaxbriar_calls.specs.declared.extents.Extent.TheVariants.{Whole, Partial, Planes}
 use Rattle.zaxbriar_calls.specs.declared.options.Options.{Options}
 
 -- ---- a stream
@@ -93,7 +93,7 @@ exceeded-malformed beyond (suc turns) left header before found met bytes h =
 
 exceeded-rest : (settings : Settings) (found : Found) (bytes : List ℕ) → exceeds_rest Whole settings found bytes ≡ true
     → rest_by settings found bytes ≡ Err Malformed
-unfolding rest_within segments_at
+unfolding rest_showing segments_at
 exceeded-rest settings found bytes h =
     rw (exceeded-malformed Zeros (suc (length bytes)) settings.max_blocks false Elsewhere found None bytes h) refl
 
@@ -124,3 +124,5 @@ pub is-within : (extent : Extent) (o : Options) (bytes : List ℕ) (exceeded : B
 is-within Whole o bytes true code answer a z c k = absurd (grind (arith, common_steps))
 is-within Whole o bytes false code answer a z c k = sym k
 is-within Partial o bytes exceeded code answer a z c k = tt
+is-within Planes o bytes true code answer a z c k = absurd (grind (arith, common_steps))
+is-within Planes o bytes false code answer a z c k = sym k

@@ -12,9 +12,9 @@ use Rattle.jpeg_meaning.specs.Stream.{header_at}
 use Rattle.jpeg_meaning.specs.declared.images.ImageInfo.{ImageInfo}
 use Rattle.zaxbriar_calls.proofs.Exceeded.{are-limited, is-within, known-at}
 use Rattle.zaxbriar_calls.proofs.Fails.{code-fails, has-no-room, is-too-large, named, of-call-number, of-room-number}
-use Rattle.zaxbriar_calls.proofs.Means.{images-given}
 use Rattle.zaxbriar_calls.proofs.Parts.{given-entire, given-refused}
 use Rattle.zaxbriar_calls.proofs.Told.{if-ok, if-own}
+use Rattle.zaxbriar_calls.proofs.Written.{images-given}
 use Rattle.zaxbriar_calls.specs.Faults.{IsArgument, IsFault, IsNamed, IsOwn, IsPart, fault_code}
 use Rattle.zaxbriar_calls.specs.Faults.{IsOfCallNumber, IsOfRoomNumber, outcome_fault, outcome_rows, reading_code, status_of}
 use Rattle.zaxbriar_calls.specs.Faults.{with_passes}
@@ -30,7 +30,7 @@ use Rattle.zaxbriar_calls.specs.Passes.{exceeds, is_whole}
 use Rattle.zaxbriar_calls.specs.declared.answers.Refusal.{Refusal}
 use Rattle.zaxbriar_calls.specs.declared.answers.Refusal.TheVariants as refusals
 use Rattle.zaxbriar_calls.specs.declared.extents.Extent.{Extent}
-use Rattle.zaxbriar_calls.specs.declared.extents.Extent.TheVariants.{Whole, Partial}
+use Rattle.zaxbriar_calls.specs.declared.extents.Extent.TheVariants.{Whole, Partial, Planes}
 use Rattle.zaxbriar_calls.specs.declared.features.Feature.{Feature}
 use Rattle.zaxbriar_calls.specs.declared.options.Options.{Options}
 use Rattle.zaxbriar_calls.specs.declared.picture.Picture.{Picture}
@@ -98,6 +98,7 @@ ok-given extent o bytes old new picture feature fault rows text lacks none t s =
     decoding = s.arranged.decoding;
     orientation = s.arranged.orientation;
     sampling = s.arranged.sampling;
+    planes = s.arranged.planes;
     transform = s.arranged.transform;
     density = s.arranged.density;
     picture_is = λ i. telling (s.arranged.picture_is i) (lacks i) (none i) 0 (t i);
@@ -116,10 +117,11 @@ whole-told extent (Err r) o bytes old new picture feature fault rows text code e
     absurd (code-fails r (sym a.code_is ∙ z))
 
 -- a picture that is described tells of no fault
-without-same : (o : Options) (info : ImageInfo) (precision : ℕ) (samples old new : List ℕ) (picture : Picture)
-    (feature : Feature) (fault rows : ℕ) (text : List ℕ) → Arranged o info precision samples old new picture
+without-same : (extent : Extent) (o : Options) (info : ImageInfo) (precision : ℕ) (samples old new : List ℕ)
+    (picture : Picture) (feature : Feature) (fault rows : ℕ) (text : List ℕ)
+    → Arranged extent o info precision samples old new picture
     → picture ≡ without_fault (without_rows (telling picture feature fault rows text))
-without-same o info precision samples old new picture feature fault rows text a =
+without-same extent o info precision samples old new picture feature fault rows text a =
     a.picture_is ∙ sym (ap (λ (p : Picture). without_fault (without_rows p)) a.picture_is)
 
 -- an error that names a fault has its number and its feature
@@ -159,7 +161,7 @@ error-told : (extent : Extent) (r : Refusal) (o : Options) (bytes old new : List
 error-told extent (refusals.Part e n) o bytes old new picture exceeded feature fault rows text l is names s p = (
   s.0,
   subst (λ (p : Picture). Gives extent o bytes old new (Some s.0) p)
-      (without-same o s.3.info s.3.precision s.3.samples old new picture feature fault rows text s.3.arranged) s.3,
+      (without-same extent o s.3.info s.3.precision s.3.samples old new picture feature fault rows text s.3.arranged) s.3,
   numbers extent o bytes exceeded e n s.0 l s.1 s.2 (telling picture feature fault rows text) names
       (ap (λ (f : Feature). f.number) is, ap (λ (f : Feature). f.argument) is),
 )
@@ -228,11 +230,9 @@ feature-told (Err r) read code feature c f h z =
 
 -- a whole picture is never PARTIAL
 no-part-given : (extent : Extent) (o : Options) (bytes old new : List ℕ) (picture : Picture) (r : Refusal)
-    → GivesPart extent o bytes old new picture r → IsPart r → extent ≡ Whole → ⊥
+    → GivesPart extent o bytes old new picture r → IsPart r → is_whole extent ≡ true → ⊥
 no-part-given extent o bytes old new picture (refusals.Part e n) s p w =
-    let g : given_by Whole o bytes ≡ Ok (record { told = s.3.told; picture = s.3.samples; fault = Some s.0 }) =
-    ap (λ (x : Extent). given_by x o bytes) (sym w) ∙ s.3.are in
-    some-none s.0 (given-entire o bytes _ g)
+    some-none s.0 (given-entire extent o bytes _ w s.3.are)
   where
     some-none : (f : Fault) → Some f ≡ None → ⊥
     some-none f h = cc
@@ -248,17 +248,17 @@ few-codes outcome n = grind arith
 pub all-codes : {X : Type 0} (outcome : Result X Refusal) → (status_of outcome ≤ 9) × (status_of outcome ≡ 7 → ⊥)
 all-codes outcome = grind arith
 
-whole-codes : (o : Options) (bytes old new : List ℕ) (picture : Picture) (outcome : Result ℕ Refusal)
-    → IfErr outcome (GivesPart Whole o bytes old new picture) → status_of outcome ≤ 8
-whole-codes o bytes old new picture (Ok x) s = few-codes {X = ℕ} (Ok x) tt
-whole-codes o bytes old new picture (Err r) s =
-    few-codes {X = ℕ} (Err r) (λ p. no-part-given Whole o bytes old new picture r s p refl)
+whole-codes : (extent : Extent) (o : Options) (bytes old new : List ℕ) (picture : Picture) (outcome : Result ℕ Refusal)
+    → is_whole extent ≡ true → IfErr outcome (GivesPart extent o bytes old new picture) → status_of outcome ≤ 8
+whole-codes extent o bytes old new picture (Ok x) w s = few-codes {X = ℕ} (Ok x) tt
+whole-codes extent o bytes old new picture (Err r) w s =
+    few-codes {X = ℕ} (Err r) (λ p. no-part-given extent o bytes old new picture r s p w)
 
-codes : (extent : Extent) (o : Options) (bytes old new : List ℕ) (picture : Picture) (outcome : Result ℕ Refusal)
-    (passed : Bool) (code : ℕ) → (passed ≡ true → extent ≡ Whole) → code ≡ with_passes passed (status_of outcome)
-    → IfErr outcome (GivesPart extent o bytes old new picture) → IsAnswer extent code × (code ≡ 7 → ⊥)
-codes Whole o bytes old new picture outcome passed code w c s =
-    let few = whole-codes o bytes old new picture outcome s in
+all-passed : (extent : Extent) (o : Options) (bytes old new : List ℕ) (picture : Picture) (outcome : Result ℕ Refusal)
+    (passed : Bool) (code : ℕ) → is_whole extent ≡ true → code ≡ with_passes passed (status_of outcome)
+    → IfErr outcome (GivesPart extent o bytes old new picture) → ((code ≤ 8) ⊎ (code ≡ 10)) × (code ≡ 7 → ⊥)
+all-passed extent o bytes old new picture outcome passed code w c s =
+    let few = whole-codes extent o bytes old new picture outcome w s in
     let all = all-codes outcome in (
       within passed (status_of outcome) code c few,
       λ z. all.1 (other-code passed (status_of outcome) code 7 c (λ e. omega (arith, e)) z),
@@ -271,10 +271,18 @@ codes Whole o bytes old new picture outcome passed code w c s =
         is-one : (n code : ℕ) → code ≡ with_passes true n → n ≤ 8 → (b : Bool) → (n == 1) ≡ b → (code ≤ 8) ⊎ (code ≡ 10)
         is-one n code c few true e = inr (grind (arith, common_steps))
         is-one n code c few false e = inl (grind (arith, common_steps))
-codes Partial o bytes old new picture outcome true code w c s = absurd (part-whole (w refl))
+
+codes : (extent : Extent) (o : Options) (bytes old new : List ℕ) (picture : Picture) (outcome : Result ℕ Refusal)
+    (passed : Bool) (code : ℕ) → (passed ≡ true → is_whole extent ≡ true) → code ≡ with_passes passed (status_of outcome)
+    → IfErr outcome (GivesPart extent o bytes old new picture) → IsAnswer extent code × (code ≡ 7 → ⊥)
+codes Whole o bytes old new picture outcome passed code w c s =
+    all-passed Whole o bytes old new picture outcome passed code refl c s
+codes Planes o bytes old new picture outcome passed code w c s =
+    all-passed Planes o bytes old new picture outcome passed code refl c s
+codes Partial o bytes old new picture outcome true code w c s = absurd (false-true (w refl))
   where
-    part-whole : Partial ≡ Whole → ⊥
-    part-whole e = cc
+    false-true : false ≡ true → ⊥
+    false-true e = cc
 codes Partial o bytes old new picture outcome false code w c s =
     let all = all-codes outcome in (omega (arith, c, all.0), λ z. all.1 (sym c ∙ z))
 
@@ -392,11 +400,10 @@ own-cleared : (outcome : Result ℕ Refusal) (code : ℕ) → code ≡ status_of
     → (outcome_fault outcome ≡ 0) × (outcome_rows outcome ≡ 0)
 own-cleared outcome code c z = grind arith
 
--- TOO_MANY_PASSES is returned of a whole picture alone
+-- TOO_MANY_PASSES is returned of a whole picture alone, or of planes
 are-whole : (exceeded : Bool) (extent : Extent) → (exceeded && is_whole extent) ≡ true
-    → (exceeded ≡ true) × (extent ≡ Whole)
-are-whole true Whole h = (refl, refl)
-are-whole true Partial h = absurd cc
+    → (exceeded ≡ true) × (is_whole extent ≡ true)
+are-whole true extent h = (refl, h)
 are-whole false extent h = absurd cc
 
 -- ---- all of it
@@ -409,7 +416,7 @@ pub fills : (extent : Extent) (o : Options) (bytes old new : List ℕ) (picture 
     → Fills extent o bytes old new (telling picture feature fault rows text) answer
 fills extent o bytes old new picture outcome exceeded feature fault rows text code answer d a is =
     let passed = exceeded && is_whole extent in
-    let whole : passed ≡ true → (exceeded ≡ true) × (extent ≡ Whole) = are-whole exceeded extent in
+    let whole : passed ≡ true → (exceeded ≡ true) × (is_whole extent ≡ true) = are-whole exceeded extent in
     let known : code ≡ 1 → exceeded ≡ exceeds extent o bytes =
     known-at outcome (exceeds extent o bytes) exceeded code a.code_is d.passes in
     let names : IsNamed code (given_by extent o bytes) =

@@ -1,26 +1,25 @@
 -- What a header determines: one description of its picture, and why one within the limits is refused.
-use Rattle.std.proofs.Common.{arith, ◌≡◌, ◌∙◌, ◌*◌, ℕ, Bool, List, Some, Ok, Result, ap, false, mul_comm, refl, sym, true}
-use Rattle.std.specs.Prelude.{◌||◌, if◌then◌else◌, option_map}
+use Rattle.std.proofs.Common.{arith, ◌≡◌, ◌∙◌, ◌*◌, ℕ, Bool, List, Some, Ok, Result, ap, false, refl, sym, true}
+use Rattle.std.specs.Prelude.{◌||◌, option_map}
 use Rattle.std.proofs.lemmas.Grind.{common_steps}
 use Rattle.jpeg_bits.specs.Reading.{Fault, Names, Outcome}
 use Rattle.jpeg_bits.specs.declared.error.Error.{Error}
 use Rattle.jpeg_bits.specs.declared.error.Error.TheVariants as errors
-use Rattle.jpeg_decoder.specs.Bytes.{decoding_bytes, samples_a_pixel}
+use Rattle.jpeg_decoder.specs.Bytes.{decoding_bytes}
 use Rattle.jpeg_decoder.specs.StreamTransforms.{frame_transform}
 use Rattle.jpeg_meaning.specs.DecodedImages.{AtLeast, AtScale, FullSize, Size, at_size}
 use Rattle.jpeg_meaning.specs.Found.{Found, Said}
 use Rattle.jpeg_meaning.specs.Pixels.{info_by}
 use Rattle.jpeg_meaning.specs.States.{Decoding}
 use Rattle.jpeg_meaning.specs.Stream.{header_at}
-use Rattle.jpeg_orientation.specs.Turns.{is_on_side, upright_height, upright_width}
-use Rattle.jpeg_orientation.specs.declared.turns.Turn.{Turn}
 use Rattle.zaxbriar_calls.specs.Density.{density_of}
 use Rattle.zaxbriar_calls.specs.Layouts.{conversion_to}
 use Rattle.zaxbriar_calls.specs.Faults.{IsFault, IsOfRoom, IsPart}
 use Rattle.zaxbriar_calls.specs.Limits.{bytes_beside, exceeds_limits, is_over}
-use Rattle.zaxbriar_calls.specs.Lines.{HasLines, described_picture, lines_by, turn_of}
+use Rattle.zaxbriar_calls.specs.Lines.{HasLines, described_picture, lines_by}
 use Rattle.zaxbriar_calls.specs.Meanings.{Describes, IsTooLarge, IsWithin, number_of_transform, orientation_by}
 use Rattle.zaxbriar_calls.specs.Meanings.{ReadsHeader, settings_of, size_wanted}
+use Rattle.zaxbriar_calls.specs.Planes.{planes_of_components}
 use Rattle.zaxbriar_calls.specs.Sampling.{sampling_of}
 use Rattle.zaxbriar_calls.specs.declared.answers.Refusal.{Refusal}
 use Rattle.zaxbriar_calls.specs.declared.answers.Refusal.TheVariants as refusals
@@ -55,6 +54,9 @@ described-same o bytes a b d e =
     let sampling : d.sampling ≡ e.sampling = some-same d.sampling e.sampling (sym d.sampling_is
     ∙ ap (λ (h : Found). option_map (λ f. sampling_of f.components) (at_size (size_wanted o) h.said).frame) h
     ∙ e.sampling_is) in
+    let planes : d.planes ≡ e.planes = some-same d.planes e.planes (sym d.planes_is
+    ∙ ap (λ (h : Found). option_map (λ f. planes_of_components f.components f.precision)
+    (at_size (size_wanted o) h.said).frame) h ∙ e.planes_is) in
     let transform : d.transform ≡ e.transform = some-same d.transform e.transform (sym d.transform_is
     ∙ ap (λ (h : Found). option_map (λ f. number_of_transform (frame_transform h.said.metadata f))
     (at_size (size_wanted o) h.said).frame) h ∙ e.transform_is) in
@@ -62,7 +64,7 @@ described-same o bytes a b d e =
     ∙ (λ i. described_picture o.layout (info i) (precision i)
     (lines_by o (info i) (precision i) (orientation_by (at_size (size_wanted o) (h i).said).metadata.exif) (conversion i))
     (bytes_beside (decoding i)) (orientation_by (at_size (size_wanted o) (h i).said).metadata.exif) (sampling i)
-    (transform i) (density_of bytes) 0)
+    (planes i) (transform i) (density_of bytes) 0)
     ∙ sym e.picture_is
 
 of-memory : {Y : Type 0} (e : Error) (read : Result Y Fault) (x : Y) → read ≡ Ok x → Names e read → e ≡ errors.OutOfMemory
@@ -106,14 +108,15 @@ pub describes : (o : Options) (old new : Decoding) (h : Header) (lines : Lines) 
     → option_map (λ f. f.precision) new.found.said.frame ≡ Some h.precision
     → h.orientation ≡ orientation_by new.found.said.metadata.exif
     → option_map (λ f. sampling_of f.components) new.found.said.frame ≡ Some h.sampling
+    → option_map (λ f. planes_of_components f.components f.precision) new.found.said.frame ≡ Some h.planes
     → option_map (λ f. number_of_transform (frame_transform new.found.said.metadata f)) new.found.said.frame
     ≡ Some h.transform
     → option_map (decoding_bytes new.settings) new.found.said.frame ≡ Some h.decoding_bytes
     → HasLines o h.info h.precision h.orientation lines → density ≡ density_of old.source.bytes
     → picture ≡ described_picture o.layout h.info h.precision lines (bytes_beside h.decoding_bytes) h.orientation
-    h.sampling h.transform density 0
+    h.sampling h.planes h.transform density 0
     → Describes o old.source.bytes picture
-describes o old new h lines density picture r known info precision oriented sampling transform bytes l d w =
+describes o old new h lines density picture r known info precision oriented sampling planes transform bytes l d w =
     let facts = r.reads known in
     let header = facts.1.0 in
     let same : new.found.said ≡ at_size (size_wanted o) header.said = ap (λ (f : Found). f.said) facts.1.2 in
@@ -129,6 +132,7 @@ describes o old new h lines density picture r known info precision oriented samp
       decoding = h.decoding_bytes;
       conversion = l.conversion;
       sampling = h.sampling;
+      planes = h.planes;
       transform = h.transform;
       reads = facts.1.1;
       info_is = ap (λ (s : Said). option_map (info_by (settings_of o)) s.frame) (sym same)
@@ -138,37 +142,27 @@ describes o old new h lines density picture r known info precision oriented samp
           ∙ (λ i. option_map (decoding_bytes (sym r.settings i)) new.found.said.frame) ∙ bytes;
       conversion_is = l.is;
       sampling_is = ap (λ (s : Said). option_map (λ f. sampling_of f.components) s.frame) (sym same) ∙ sampling;
+      planes_is = ap (λ (s : Said). option_map (λ f. planes_of_components f.components f.precision) s.frame) (sym same)
+          ∙ planes;
       transform_is = (λ i. option_map (λ f. number_of_transform (frame_transform (sym metadata i) f)) (sym same i).frame)
           ∙ transform;
       picture_is = w ∙ (λ i. described_picture o.layout h.info h.precision (l.lines_are i)
-          (bytes_beside h.decoding_bytes) h.orientation h.sampling h.transform (d i) 0)
+          (bytes_beside h.decoding_bytes) h.orientation h.sampling h.planes h.transform (d i) 0)
           ∙ ap (λ (orientation : ℕ). described_picture o.layout h.info h.precision
           (lines_by o h.info h.precision orientation l.conversion) (bytes_beside h.decoding_bytes) orientation
-          h.sampling h.transform (density_of old.source.bytes) 0) orientation;
+          h.sampling h.planes h.transform (density_of old.source.bytes) 0) orientation;
     }
-
--- a picture that is turned has as many pixels as it is stored in
-turned-area : (turned : Bool) (width height : ℕ)
-    → (if turned then height else width) * (if turned then width else height) ≡ width * height
-turned-area true width height = mul_comm height width
-turned-area false width height = refl
 
 -- and compared with the limits
 pub exceeds-described : (o : Options) (h : Header) (lines : Lines) (density : Density)
     (picture : Picture) (over : Bool) → HasLines o h.info h.precision h.orientation lines
     → picture ≡ described_picture o.layout h.info h.precision lines (bytes_beside h.decoding_bytes) h.orientation
-    h.sampling h.transform density 0
-    → over ≡ (is_over o.max_samples (h.info.width * h.info.height * samples_a_pixel h.info.pixel_format)
+    h.sampling h.planes h.transform density 0
+    → over ≡ (is_over o.max_samples (lines.width * lines.height * picture.components)
     || is_over o.max_bytes picture.decoding_bytes)
     → exceeds_limits o picture ≡ over
 exceeds-described o h lines density picture over l w e =
-    let turn : Turn = turn_of o h.info h.orientation in
-    let width : picture.width ≡ upright_width turn =
-    ap (λ (p : Picture). p.width) w ∙ ap (λ (l : Lines). l.width) l.lines_are in
-    let height : picture.height ≡ upright_height turn =
-    ap (λ (p : Picture). p.height) w ∙ ap (λ (l : Lines). l.height) l.lines_are in
-    let area : picture.width * picture.height ≡ h.info.width * h.info.height =
-    (λ i. width i * height i) ∙ turned-area (is_on_side turn.orientation) h.info.width h.info.height in
-    let components : picture.components ≡ samples_a_pixel h.info.pixel_format = ap (λ (p : Picture). p.components) w in
-    (λ i. is_over o.max_samples (area i * components i) || is_over o.max_bytes picture.decoding_bytes)
+    let width : picture.width ≡ lines.width = ap (λ (p : Picture). p.width) w in
+    let height : picture.height ≡ lines.height = ap (λ (p : Picture). p.height) w in
+    (λ i. is_over o.max_samples (width i * height i * picture.components) || is_over o.max_bytes picture.decoding_bytes)
     ∙ sym e

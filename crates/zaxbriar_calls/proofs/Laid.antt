@@ -24,7 +24,7 @@ use Rattle.zaxbriar_calls.specs.declared.layouts.Layout.TheVariants.{Grey, Rgb, 
 use Rattle.zaxbriar_calls.specs.declared.layouts.Layout.TheVariants.{Grey16, Rgb16}
 
 -- a piece that is written after others over what was there
-piece-put : (before old piece : List ℕ) (a k : ℕ) → length before ≡ a
+pub piece-put : (before old piece : List ℕ) (a k : ℕ) → length before ≡ a
     → put_mid a k (before ++ drop a old) piece ≡ (before ++ piece) ++ drop (a + k) old
 piece-put before old piece a k e =
     let front : take a (before ++ drop a old) ≡ before = ap (λ n. take n (before ++ drop a old)) (sym e)

@@ -1,4 +1,6 @@
 mod Copied
+pub mod CropPixels
+mod Cropped
 mod Decoded
 mod Densities
 mod Exceeded
@@ -16,6 +18,7 @@ mod Levels
 mod Limited
 mod Means
 mod Outcomes
+mod OwnPlanes
 mod Parts
 mod Rests
 pub mod Rules
@@ -24,3 +27,4 @@ mod Told
 mod TurnedLines
 mod TurnedPlaces
 mod TurnedRuns
+mod Written

@@ -15,7 +15,7 @@ use Rattle.jpeg_meaning.specs.Found.{Found, Metadata}
 use Rattle.jpeg_meaning.specs.FoundPictures.{blocks_picture, limited, picture_by, picture_by_process, picture_of}
 use Rattle.jpeg_meaning.specs.FoundPictures.{plane_at_end}
 use Rattle.jpeg_meaning.specs.Limits.{work_of_rest}
-use Rattle.jpeg_meaning.specs.Stream.{Told, rest_at, rest_within, segments_at, told_of, walk}
+use Rattle.jpeg_meaning.specs.Stream.{Told, rest_at, rest_within, segments_at, told_of, walk, rest_showing}
 use Rattle.jpeg_meaning.specs.declared.before.Before.TheVariants.{Elsewhere}
 use Rattle.jpeg_bits.specs.declared.beyond.Beyond.TheVariants.{Zeros}
 use Rattle.jpeg_meaning.specs.declared.settings.Settings.{Settings}
@@ -44,14 +44,19 @@ segments-unlimited limit found bytes read e =
     let s = bind-ok (walk limit Zeros (suc (length bytes)) false Elsewhere found None bytes).rest _ read e in
     rw (walk-unlimited limit found bytes s.0 s.1) at e
 
-pub rest-unlimited : (limit : Option ℕ) (settings : Settings) (found : Found) (bytes : List ℕ)
-    (read : (Told × List ℕ) × List ℕ) → rest_within limit settings found bytes ≡ Ok read
-    → rest_at settings found bytes ≡ Ok read
-unfolding rest_within
-rest-unlimited limit settings found bytes read e =
+pub shown-unlimited : {A : Type 0} (limit : Option ℕ) (show : Found → Result A Fault) (found : Found) (bytes : List ℕ)
+    (read : (Told × A) × List ℕ) → rest_showing limit show found bytes ≡ Ok read
+    → rest_showing None show found bytes ≡ Ok read
+unfolding rest_showing
+shown-unlimited limit show found bytes read e =
     let s = bind-ok (segments_at limit false Elsewhere found None bytes) _ read e in
     then-ok (segments_at None false Elsewhere found None bytes) _ s.0 _
     (segments-unlimited limit found bytes s.0 s.1) s.2
+
+pub rest-unlimited : (limit : Option ℕ) (settings : Settings) (found : Found) (bytes : List ℕ)
+    (read : (Told × List ℕ) × List ℕ) → rest_within limit settings found bytes ≡ Ok read
+    → rest_at settings found bytes ≡ Ok read
+rest-unlimited limit settings = shown-unlimited limit (picture_of settings)
 
 -- ---- the settings
 
@@ -88,7 +93,7 @@ picture-same limit settings found =
 
 pub rest-same : (limit other : Option ℕ) (settings : Settings) (found : Found) (bytes : List ℕ)
     → rest_within limit (record settings { max_blocks = other }) found bytes ≡ rest_within limit settings found bytes
-unfolding rest_within
+unfolding rest_showing
 rest-same limit other settings found bytes =
     ap (λ (picture : Found → Result (List ℕ) Fault). segments_at limit false Elsewhere found None bytes
     >>= (λ (all : Found × List ℕ). picture all.0 >>= (λ (p : List ℕ). Ok ((told_of all.0.said, p), all.1))))

@@ -1,4 +1,4 @@
--- What is read of a stream whose header was read: the whole of its picture, or a part of it, and its lines.
+-- What is read of a stream whose header was read: the whole of its picture, a part of it, or its planes, and its lines.
 use Rattle.std.proofs.Common.{arith, ◌≡◌, ◌⊎◌, ◌∙◌, ℕ, List, Option, Some, None, Result, Ok, Err, Bool, true, false}
 use Rattle.std.proofs.Common.{ap, refl, subst, sym}
 use Rattle.std.specs.Prelude.{IfErr, IfOk, OnOk, option_map}
@@ -8,28 +8,33 @@ use Rattle.jpeg_bits.specs.declared.error.Error.{Error}
 use Rattle.jpeg_decoder.specs.Reaching.{NamesFault}
 use Rattle.jpeg_decoder.specs.Shows.{Shows, ShowsJust}
 use Rattle.jpeg_meaning.proofs.Written.ReadTurns.{then-ok}
-use Rattle.jpeg_meaning.specs.Found.{Found}
+use Rattle.jpeg_meaning.specs.Found.{Found, Said}
 use Rattle.jpeg_meaning.specs.Pixels.{info_by}
 use Rattle.jpeg_meaning.specs.Shown.{Shown, shown_ahead, shown_rest_within}
 use Rattle.jpeg_meaning.specs.States.{Decoding, IfRefused, IsReading}
-use Rattle.jpeg_meaning.specs.Stream.{Told, header_at, rest_by, told_of}
+use Rattle.jpeg_meaning.specs.Stream.{header_at, rest_by, told_of}
 use Rattle.jpeg_meaning.specs.declared.images.ImageInfo.{ImageInfo}
 use Rattle.jpeg_meaning.specs.declared.progress.Progress.{Progress}
 use Rattle.jpeg_meaning.specs.declared.progress.Progress.TheVariants.{HeaderRead}
+use Rattle.zaxbriar_calls.proofs.Cropped.{no-part-rows}
 use Rattle.zaxbriar_calls.proofs.Told.{arranged-of}
 use Rattle.zaxbriar_calls.specs.Faults.{IsFault, IsPart, StandsFor}
 use Rattle.zaxbriar_calls.specs.Given.{Brings, BringsLines, EndsImage, Gives, GivesPart, HasRows, Reaches, faultless}
-use Rattle.zaxbriar_calls.specs.Given.{given_by, given_rest, rows_by, rows_rest}
-use Rattle.zaxbriar_calls.specs.Lines.{HasLines, described_picture}
-use Rattle.zaxbriar_calls.specs.Meanings.{found_at, settings_at, settings_of}
+use Rattle.zaxbriar_calls.specs.Given.{as_picture, given_by, given_rest, outcome_of, part_found, rows_by, rows_rest}
+use Rattle.zaxbriar_calls.specs.Crops.{part_rows}
+use Rattle.zaxbriar_calls.specs.Lines.{HasLines, described_picture, part_given}
+use Rattle.zaxbriar_calls.specs.Meanings.{found_at, orientation_by, planes_rest, settings_at, settings_of}
+use Rattle.zaxbriar_calls.specs.Passes.{is_whole}
 use Rattle.zaxbriar_calls.specs.declared.answers.Refusal.{Refusal}
 use Rattle.zaxbriar_calls.specs.declared.answers.Refusal.TheVariants as refusals
+use Rattle.zaxbriar_calls.specs.declared.crops.StoredPart.{StoredPart}
 use Rattle.zaxbriar_calls.specs.declared.density.Density.{Density}
 use Rattle.zaxbriar_calls.specs.declared.extents.Extent.{Extent}
-use Rattle.zaxbriar_calls.specs.declared.extents.Extent.TheVariants.{Whole, Partial}
+use Rattle.zaxbriar_calls.specs.declared.extents.Extent.TheVariants.{Whole, Partial, Planes}
 use Rattle.zaxbriar_calls.specs.declared.lines.Lines.{Lines}
 use Rattle.zaxbriar_calls.specs.declared.options.Options.{Options}
 use Rattle.zaxbriar_calls.specs.declared.picture.Picture.{Picture}
+use Rattle.zaxbriar_calls.specs.declared.planes.PlaneSizes.{PlaneSizes}
 
 -- ---- why a decoder brings nothing
 
@@ -110,25 +115,26 @@ pub lines-end : {X : Type 0} (bytes_of : X → List ℕ) (r : Result X Refusal) 
 lines-end bytes_of (Ok x) old new reads known = whole-ends (bytes_of x) old new reads known
 lines-end bytes_of (Err r) old new reads known = tt
 
-whole-refused : (e : Error) (read : Outcome (Told × List ℕ)) → Names e read → Names e (read >>= (λ m. Ok (faultless m.0)))
-whole-refused e (Ok m) h = grind (arith, common_steps)
-whole-refused e (Err f) h = grind (arith, common_steps)
+whole-refused : {Y : Type 0} (e : Error) (read : Outcome Y) (shown : Y → Shown) → Names e read
+    → Names e (read >>= (λ m. Ok (shown m.0)))
+whole-refused e (Ok m) shown h = grind (arith, common_steps)
+whole-refused e (Err f) shown h = grind (arith, common_steps)
 
 -- the fault is the same
-whole-lacks : (r : Refusal) (read : Outcome (Told × List ℕ)) → IsFault read r
-    → IsFault (read >>= (λ m. Ok (faultless m.0))) r
-whole-lacks (refusals.Stream e) read h = whole-refused e read h
-whole-lacks (refusals.Part e rows) read h = tt
-whole-lacks refusals.Reader read h = tt
-whole-lacks (refusals.Argument t) read h = tt
-whole-lacks refusals.NoRoom read h = tt
-whole-lacks refusals.TooLarge read h = tt
+pub whole-lacks : {Y : Type 0} (r : Refusal) (read : Outcome Y) (shown : Y → Shown) → IsFault read r
+    → IsFault (read >>= (λ m. Ok (shown m.0))) r
+whole-lacks (refusals.Stream e) read shown h = whole-refused e read shown h
+whole-lacks (refusals.Part e rows) read shown h = tt
+whole-lacks refusals.Reader read shown h = tt
+whole-lacks (refusals.Argument t) read shown h = tt
+whole-lacks refusals.NoRoom read shown h = tt
+whole-lacks refusals.TooLarge read shown h = tt
 
 pub lines-refused : {X : Type 0} (r : Result X Refusal) (old : Decoding)
     → IfErr r (IsFault (rest_by old.settings old.found old.source.bytes))
     → IfErr r (IsFault (given_rest Whole old.settings old.found old.source.bytes))
 lines-refused (Ok x) old h = tt
-lines-refused (Err r) old h = whole-lacks r (rest_by old.settings old.found old.source.bytes) h
+lines-refused (Err r) old h = whole-lacks r (rest_by old.settings old.found old.source.bytes) (λ m. faultless m) h
 
 -- ---- what a stream gives
 
@@ -156,41 +162,47 @@ unfolding given_by
 gives-rest extent o bytes rest header h = then-ok (header_at bytes) _ (header, rest) _ h refl
 
 -- a whole picture has no fault
-whole-entire : (read : Outcome (Told × List ℕ)) (s : Shown) → (read >>= (λ m. Ok (faultless m.0))) ≡ Ok s → s.fault ≡ None
-whole-entire (Ok m) s e = ap (λ (r : Result Shown Fault). fault_in r) (sym e)
+whole-entire : {Y : Type 0} (read : Outcome Y) (shown : Y → Shown) (s : Shown) → ((m : Y) → (shown m).fault ≡ None)
+    → (read >>= (λ m. Ok (shown m.0))) ≡ Ok s → s.fault ≡ None
+whole-entire (Ok m) shown s none e = ap (λ (r : Result Shown Fault). fault_in r) (sym e) ∙ none m.0
   where
     fault_in : Result Shown Fault → Option Fault
     fault_in (Ok s) = s.fault
     fault_in (Err f) = None
-whole-entire (Err f) s e = absurd cc
+whole-entire (Err f) shown s none e = absurd cc
 
-read-entire : (o : Options) (header : Outcome Found) (s : Shown)
-    → (header >>= (λ h. given_rest Whole (settings_at o (found_at o h.0)) (found_at o h.0) h.1)) ≡ Ok s
+read-entire : (extent : Extent) (o : Options) (header : Outcome Found) (s : Shown) → is_whole extent ≡ true
+    → (header >>= (λ h. given_rest extent (settings_at o (found_at o h.0)) (found_at o h.0) h.1)) ≡ Ok s
     → s.fault ≡ None
-read-entire o (Ok h) s e =
-    whole-entire (rest_by (settings_at o (found_at o h.0)) (found_at o h.0) h.1) s e
-read-entire o (Err f) s e = absurd cc
+read-entire Whole o (Ok h) s w e =
+    whole-entire (rest_by (settings_at o (found_at o h.0)) (found_at o h.0) h.1) (λ m. faultless m) s (λ m. refl) e
+read-entire Planes o (Ok h) s w e =
+    whole-entire (planes_rest (settings_at o (found_at o h.0)) (found_at o h.0) h.1) (λ m. faultless (as_picture m)) s
+    (λ m. refl) e
+read-entire Partial o (Ok h) s w e = absurd cc
+read-entire extent o (Err f) s w e = absurd cc
 
-pub given-entire : (o : Options) (bytes : List ℕ) (s : Shown) → given_by Whole o bytes ≡ Ok s → s.fault ≡ None
+pub given-entire : (extent : Extent) (o : Options) (bytes : List ℕ) (s : Shown) → is_whole extent ≡ true
+    → given_by extent o bytes ≡ Ok s → s.fault ≡ None
 unfolding given_by
-given-entire o bytes s e = read-entire o (header_at bytes) s e
+given-entire extent o bytes s w e = read-entire extent o (header_at bytes) s w e
 
 -- ---- the lines of it
 
 pub brought-given : (extent : Extent) (o : Options) (bytes : List ℕ) (header : Found) (info : ImageInfo) (precision : ℕ)
     (lines : Lines) (fault : Option Error) (old new : Decoding) (before after : List ℕ) (picture : Picture)
-    (decoding orientation stream : ℕ) (sampling : List ℕ) (transform : ℕ) (density : Density)
+    (decoding orientation stream : ℕ) (sampling : List ℕ) (planes : PlaneSizes) (transform : ℕ) (density : Density)
     → header_at bytes ≡ Ok (header, old.source.bytes) → old.settings ≡ settings_at o old.found
     → old.found ≡ found_at o header
     → option_map (info_by old.settings) old.found.said.frame ≡ Some info
     → option_map (λ f. f.precision) old.found.said.frame ≡ Some precision
     → HasLines o info precision orientation lines
-    → picture ≡ described_picture o.layout info precision lines decoding orientation sampling transform density
+    → picture ≡ described_picture o.layout info precision lines decoding orientation sampling planes transform density
     stream
     → (b : BringsLines extent lines fault old new before after)
     → Gives extent o bytes before after b.brings.named picture
 brought-given extent o bytes header info precision lines fault old new before after picture decoding orientation stream
-    sampling transform density h s f i p l d b = record {
+    sampling planes transform density h s f i p l d b = record {
       told = told_of new.found.said;
       samples = b.samples;
       info = info;
@@ -201,8 +213,8 @@ brought-given extent o bytes header info precision lines fault old new before af
       info_is = ap (λ f. option_map (info_by (settings_of o)) f) b.frame
           ∙ (λ j. option_map (info_by (sym s j)) old.found.said.frame) ∙ i;
       precision_is = ap (λ f. option_map (λ f. f.precision) f) b.frame ∙ p;
-      arranged = arranged-of o info precision b.samples before after picture lines decoding orientation stream sampling
-          transform density l b.pixels d;
+      arranged = arranged-of extent o info precision b.samples before after picture lines decoding orientation stream
+          sampling planes transform density l b.pixels d;
     }
 
 pub none-named : (named : Option Fault) (P : Option Fault → Type 0) → NamesFault None named → P named → P None
@@ -213,6 +225,15 @@ some-named : (e : Error) (named : Option Fault) (P : Option Fault → Type 0) �
     → (fault : Fault) × Names {Y = Unit {0}} e (Err fault) × P (Some fault)
 some-named e None P n p = absurd n
 some-named e (Some f) P n p = (f, n, p)
+
+-- its lines were brought, with its fault or without one
+pub lines-reached : (extent : Extent) (lines : Lines) (rows : ℕ) (fault : Option Error) (r : Result ℕ Refusal)
+    (old new : Decoding) (before after : List ℕ) → r ≡ outcome_of rows fault
+    → BringsLines extent lines fault old new before after → Reaches extent lines r old new before after
+lines-reached extent lines rows None r old new before after is b =
+    subst (λ (x : Result ℕ Refusal). Reaches extent lines x old new before after) (sym is) b
+lines-reached extent lines rows (Some e) r old new before after is b =
+    subst (λ (x : Result ℕ Refusal). Reaches extent lines x old new before after) (sym is) b
 
 pub reached-ok : (extent : Extent) (lines : Lines) (r : Result ℕ Refusal) (old new : Decoding) (before after : List ℕ)
     (P : Type 0)
@@ -242,11 +263,25 @@ no-part extent o bytes before after picture r n = grind (arith, common_steps)
 
 -- ---- rows that are complete
 
-pub rows-given : (extent : Extent) (o : Options) (bytes rest : List ℕ) (header : Found) → header_at bytes ≡ Ok (header, rest)
-    → rows_by extent o bytes ≡ rows_rest extent (settings_at o (found_at o header)) (found_at o header) rest
+-- the part of the picture of a header
+part-found : (o : Options) (said : Said) (info : ImageInfo) (orientation : ℕ)
+    → option_map (info_by (settings_of o)) said.frame ≡ Some info → orientation ≡ orientation_by said.metadata.exif
+    → part_found o said ≡ part_given o info orientation
+part-found o said info orientation i e = rw (i, part_found) (ap (λ n. part_given o info n) (sym e))
+
+pub rows-given : (extent : Extent) (o : Options) (bytes rest : List ℕ) (header : Found) (info : ImageInfo)
+    (orientation : ℕ) → header_at bytes ≡ Ok (header, rest)
+    → option_map (info_by (settings_of o)) (found_at o header).said.frame ≡ Some info
+    → orientation ≡ orientation_by (found_at o header).said.metadata.exif
+    → rows_by extent o bytes ≡ part_rows (part_given o info orientation)
+    (rows_rest extent (settings_at o (found_at o header)) (found_at o header) rest)
 unfolding rows_by
-rows-given Whole o bytes rest header h = refl
-rows-given Partial o bytes rest header h = rw (h, rows_by) refl
+rows-given Whole o bytes rest header info orientation h i e = sym (no-part-rows (part_given o info orientation))
+rows-given Planes o bytes rest header info orientation h i e = sym (no-part-rows (part_given o info orientation))
+rows-given Partial o bytes rest header info orientation h i e =
+    rw (h, rows_by) (ap (λ (p : Option StoredPart). part_rows p
+    (rows_rest Partial (settings_at o (found_at o header)) (found_at o header) rest))
+    (part-found o (found_at o header).said info orientation i e))
 
 pub no-rows : (complete : ℕ) (r : Refusal) → (IsPart r → ⊥) → HasRows complete (Err r)
 no-rows complete r n = grind (arith, common_steps)

@@ -13,20 +13,18 @@ use Rattle.jpeg_segments.specs.ScanHeader.{Scan, sos_at}
 use Rattle.jpeg_segments.specs.Checks.{needed}
 use Rattle.jpeg_segments.specs.declared.frame.CodingProcess.{CodingProcess}
 use Rattle.jpeg_meaning.specs.Found.{Found, nothing_found}
-use Rattle.jpeg_meaning.specs.FoundPictures.{picture_of}
 use Rattle.jpeg_meaning.specs.LosslessScans.{lossless_codings}
 use Rattle.jpeg_meaning.specs.ScanSegments.{after_restarts, blocks_scan, codings_of, lossless_scan, scan_arrays}
 use Rattle.jpeg_meaning.specs.ScanSegments.{scan_by, scan_samples, scan_segment}
 use Rattle.jpeg_meaning.specs.Segments.{Turn}
 use Rattle.jpeg_meaning.specs.States.{Decoding}
 use Rattle.jpeg_meaning.specs.Brought.{Brought, unbrought}
-use Rattle.jpeg_meaning.specs.Stream.{Walked, brought_after, end_segment, header_at, rest_by, rest_within, scan_turn_at, segment_at}
-use Rattle.jpeg_meaning.specs.Stream.{segments_at, start_at, turn_at, turn_within, walk}
+use Rattle.jpeg_meaning.specs.Stream.{Walked, brought_after, end_segment, header_at, rest_by, scan_turn_at, segment_at}
+use Rattle.jpeg_meaning.specs.Stream.{segments_at, start_at, turn_at, turn_within, walk, rest_showing}
 use Rattle.jpeg_meaning.specs.Work.{brought_within, is_above, left_after, work_of_turn}
 use Rattle.jpeg_meaning.specs.declared.before.Before.{Before}
 use Rattle.jpeg_meaning.specs.declared.before.Before.TheVariants.{Elsewhere}
 use Rattle.jpeg_bits.specs.declared.beyond.Beyond.TheVariants.{Zeros}
-use Rattle.jpeg_meaning.specs.declared.settings.Settings.{Settings}
 use Rattle.jpeg_meaning.proofs.Written.ReadTurns.{then-ok}
 use Rattle.jpeg_meaning.proofs.Shorter.{LeavesBelow, arrays-below, below-at, below-err, below-more, below-ok, below-on}
 use Rattle.jpeg_meaning.proofs.Shorter.{below_steps, marker-below, samples-below, sos-below}
@@ -34,9 +32,9 @@ use Rattle.jpeg_decoder.proofs.Segments.PassedRestarts.{Passes, after-passes}
 use Rattle.jpeg_decoder.proofs.Segments.LeftBytes.{IsOnward, On}
 use Rattle.jpeg_decoder.proofs.Segments.Turns.{onward_rules}
 use Rattle.zaxbriar_calls.specs.Given.{CountsImage, EndsImage}
-use Rattle.zaxbriar_calls.specs.Meanings.{CountsRead, StandsAfter, found_at, meaning_by, settings_at}
+use Rattle.zaxbriar_calls.specs.Meanings.{CountsRead, StandsAfter, found_at, meaning_by, planes_by, planes_rest, settings_at}
 use Rattle.zaxbriar_calls.specs.declared.extents.Extent.{Extent}
-use Rattle.zaxbriar_calls.specs.declared.extents.Extent.TheVariants.{Whole, Partial}
+use Rattle.zaxbriar_calls.specs.declared.extents.Extent.TheVariants.{Whole, Partial, Planes}
 use Rattle.zaxbriar_calls.specs.declared.options.Options.{Options}
 
 -- what has to hold, or to be there, first
@@ -188,20 +186,27 @@ header-leaves limit bytes h =
     below-on limit (start_at bytes) _ (start-below limit bytes h) (λ start p.
     segments-below None limit true Elsewhere nothing_found _ start.1 p)
 
-rest-leaves : (limit : ℕ) (settings : Settings) (found : Found) (bytes : List ℕ) → length bytes < limit
-    → LeavesBelow limit (rest_by settings found bytes)
-unfolding rest_within
-rest-leaves limit settings found bytes h =
+rest-leaves : {A : Type 0} (limit : ℕ) (left : Option ℕ) (show : Found → Result A Fault) (found : Found)
+    (bytes : List ℕ) → length bytes < limit → LeavesBelow limit (rest_showing left show found bytes)
+unfolding rest_showing
+rest-leaves limit left show found bytes h =
     below-on limit (segments_at _ _ Elsewhere found _ bytes) _ (segments-below _ limit _ Elsewhere found _ bytes h)
     (λ all p.
-    below-needs limit (picture_of settings all.0) _ (λ picture. below-ok limit _ all.1 p))
+    below-needs limit (show all.0) _ (λ shown. below-ok limit _ all.1 p))
 
 meaning-leaves : (limit : ℕ) (o : Options) (bytes : List ℕ) → length bytes < limit
     → LeavesBelow limit (meaning_by o bytes)
 unfolding meaning_by
 meaning-leaves limit o bytes h =
     below-on limit (header_at bytes) _ (header-leaves limit bytes h) (λ header p.
-    rest-leaves limit (settings_at o (found_at o header.0)) (found_at o header.0) header.1 p)
+    rest-leaves limit _ _ (found_at o header.0) header.1 p)
+
+planes-leave : (limit : ℕ) (o : Options) (bytes : List ℕ) → length bytes < limit
+    → LeavesBelow limit (planes_by o bytes)
+unfolding planes_by
+planes-leave limit o bytes h =
+    below-on limit (header_at bytes) _ (header-leaves limit bytes h) (λ header p.
+    rest-leaves limit _ _ (found_at o header.0) header.1 p)
 
 -- ---- what was read
 
@@ -234,10 +239,22 @@ pub meaning-counted : (o : Options) (bytes : List ℕ) (source : Stream) (count 
 meaning-counted o bytes source count =
     counted bytes (meaning_by o bytes) source count (meaning-leaves (suc (length bytes)) o bytes (omega arith))
 
+planes-counted : (o : Options) (bytes : List ℕ) (source : Stream) (count : ℕ)
+    → StandsAfter (planes_by o bytes) source
+    → (source.known ≡ true → length source.bytes ≤ length bytes → count + length source.bytes ≡ length bytes)
+    → CountsRead (planes_by o bytes) bytes count
+planes-counted o bytes source count =
+    counted bytes (planes_by o bytes) source count (planes-leave (suc (length bytes)) o bytes (omega arith))
+
 means-rest : (o : Options) (bytes rest : List ℕ) (header : Found) → header_at bytes ≡ Ok (header, rest)
     → meaning_by o bytes ≡ rest_by (settings_at o (found_at o header)) (found_at o header) rest
 unfolding meaning_by
 means-rest o bytes rest header h = then-ok (header_at bytes) _ (header, rest) _ h refl
+
+planes-mean : (o : Options) (bytes rest : List ℕ) (header : Found) → header_at bytes ≡ Ok (header, rest)
+    → planes_by o bytes ≡ planes_rest (settings_at o (found_at o header)) (found_at o header) rest
+unfolding planes_by
+planes-mean o bytes rest header h = then-ok (header_at bytes) _ (header, rest) _ h refl
 
 -- where the whole of a picture was read, its decoder has read the image
 pub image-counted : (extent : Extent) (o : Options) (bytes : List ℕ) (old new : Decoding) (header : Found) (count : ℕ)
@@ -255,3 +272,11 @@ image-counted Whole o bytes old new header count h s f ends counts =
           ∙ (λ i. rest_by (sym s i) old.found old.source.bytes) ∙ ends.reads;
     }) counts
 image-counted Partial o bytes old new header count h s f ends counts = tt
+image-counted Planes o bytes old new header count h s f ends counts =
+    planes-counted o bytes new.source count (record {
+      known = ends.known;
+      value = ends.value;
+      reads = planes-mean o bytes old.source.bytes header h
+          ∙ (λ i. planes_rest (settings_at o (sym f i)) (sym f i) old.source.bytes)
+          ∙ (λ i. planes_rest (sym s i) old.found old.source.bytes) ∙ ends.reads;
+    }) counts

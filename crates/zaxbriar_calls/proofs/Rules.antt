@@ -5,6 +5,7 @@ use Rattle.jpeg_bits.specs.Marker.{marker_of, next_marker}
 use Rattle.jpeg_bits.specs.Reading.{length_at, next_u16, times}
 use Rattle.jpeg_meaning.proofs.OnLiterals.{streams_on_literals}
 use Rattle.jpeg_meaning.specs.ColourChoice.{by_identifiers, transform_of}
+use Rattle.zaxbriar_calls.proofs.Cropped.{crop-fits, crop-lines, crop-samples}
 use Rattle.zaxbriar_calls.proofs.Densities.{density-none, density-short, density-some, first-cut, first-ended, first-jfif}
 use Rattle.zaxbriar_calls.proofs.Densities.{first-later, first-none, first-past}
 use Rattle.zaxbriar_calls.proofs.Exceeded.{too-many-refused, unlimited}
@@ -14,7 +15,8 @@ use Rattle.zaxbriar_calls.proofs.FoundSegments.{some-left, unsized}
 use Rattle.zaxbriar_calls.proofs.Joining.{brought-all, brought-ended, brought-later, brought-none, brought-past}
 use Rattle.zaxbriar_calls.proofs.Joining.{data-copied, none-copied}
 use Rattle.zaxbriar_calls.proofs.KeptBytes.{marker-long, segment-cut, segment-found, segment-none}
-use Rattle.zaxbriar_calls.proofs.Means.{given-fails, given-means}
+use Rattle.zaxbriar_calls.proofs.Means.{given-fails, given-means, given-planes}
+use Rattle.zaxbriar_calls.specs.Crops.{cut_lines}
 use Rattle.zaxbriar_calls.specs.Layouts.{laid_out, pixels_of}
 use Rattle.zaxbriar_calls.specs.Passes.{exceeds}
 use Rattle.zaxbriar_calls.specs.Places.{segments_of}
@@ -63,7 +65,7 @@ pub ruleset segments = (first-none, first-ended, first-cut, first-jfif, first-la
 pub ruleset densities = (density-short, density-some, density-none)
 
 -- the whole of what a stream gives
-pub ruleset wholes = (given-means, given-fails)
+pub ruleset wholes = (given-means, given-fails, given-planes)
 
 -- the passes that options allow
 pub ruleset limits = (unlimited, too-many-refused)
@@ -78,9 +80,12 @@ unfoldable pub streams : ⊤
 unfolding streams_on_literals exceeds
 streams = tt
 
+-- the lines of a part of a picture
+pub ruleset crops = (crop-fits, crop-lines, crop-samples)
+
 -- lines as they are stored and turned
 unfoldable pub turned_lines : ⊤
-unfolding laid_out pixels_of turned_byte
+unfolding laid_out pixels_of turned_byte cut_lines
 turned_lines = tt
 
 -- what the applications of a stream bring, on literals

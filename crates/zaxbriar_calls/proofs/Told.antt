@@ -6,35 +6,39 @@ use Rattle.zaxbriar_calls.specs.Faults.{IsOwn, status_of}
 use Rattle.zaxbriar_calls.specs.Features.{outcome_feature, numbered}
 use Rattle.zaxbriar_calls.specs.Lines.{Arranged, HasLines, described_picture}
 use Rattle.zaxbriar_calls.specs.Meanings.{Describes, IsTooLarge, IsWithin, as_described, uncounted}
-use Rattle.zaxbriar_calls.specs.Upright.{arranged_in}
+use Rattle.zaxbriar_calls.specs.Upright.{arranged_by}
 use Rattle.zaxbriar_calls.proofs.Fails.{code-fails, has-no-room, is-too-large}
 use Rattle.zaxbriar_calls.specs.declared.answers.Refusal.TheVariants.{TooLarge}
 use Rattle.zaxbriar_calls.specs.declared.answers.Refusal.{Refusal}
 use Rattle.zaxbriar_calls.specs.declared.density.Density.{Density}
+use Rattle.zaxbriar_calls.specs.declared.extents.Extent.{Extent}
 use Rattle.zaxbriar_calls.specs.declared.features.Feature.{Feature}
 use Rattle.zaxbriar_calls.specs.declared.lines.Lines.{Lines}
 use Rattle.zaxbriar_calls.specs.declared.options.Options.{Options}
 use Rattle.zaxbriar_calls.specs.declared.picture.Picture.{Picture}
+use Rattle.zaxbriar_calls.specs.declared.planes.PlaneSizes.{PlaneSizes}
 
-pub arranged-of : (o : Options) (info : ImageInfo) (precision : ℕ) (samples old new : List ℕ) (picture : Picture)
-    (lines : Lines) (decoding orientation stream : ℕ) (sampling : List ℕ) (transform : ℕ) (density : Density)
+pub arranged-of : (extent : Extent) (o : Options) (info : ImageInfo) (precision : ℕ) (samples old new : List ℕ)
+    (picture : Picture) (lines : Lines) (decoding orientation stream : ℕ) (sampling : List ℕ) (planes : PlaneSizes)
+    (transform : ℕ) (density : Density)
     → HasLines o info precision orientation lines
-    → new ≡ arranged_in lines samples old
-    → picture ≡ described_picture o.layout info precision lines decoding orientation sampling transform density
+    → new ≡ arranged_by extent lines samples old
+    → picture ≡ described_picture o.layout info precision lines decoding orientation sampling planes transform density
     stream
-    → Arranged o info precision samples old new picture
-arranged-of o info precision samples old new picture lines decoding orientation stream sampling transform density h e
-    p = record {
+    → Arranged extent o info precision samples old new picture
+arranged-of extent o info precision samples old new picture lines decoding orientation stream sampling planes transform
+    density h e p = record {
       conversion = h.conversion;
       is = h.is;
       orientation = orientation;
-      pixels = e ∙ ap (λ (l : Lines). arranged_in l samples old) h.lines_are;
+      pixels = e ∙ ap (λ (l : Lines). arranged_by extent l samples old) h.lines_are;
       decoding = decoding;
       sampling = sampling;
+      planes = planes;
       transform = transform;
       density = density;
       picture_is = p ∙ (λ i. described_picture o.layout info precision (h.lines_are i) decoding
-          orientation sampling transform density
+          orientation sampling planes transform density
           (ap (λ (q : Picture). q.stream_bytes) (sym p) i));
     }
 

@@ -1,5 +1,6 @@
 pub mod CopiesJoined
 pub mod CopiesMetadata
+pub mod Crops
 pub mod Density
 pub mod Faults
 pub mod Features
@@ -15,6 +16,7 @@ pub mod Metadata
 pub mod Outcomes
 pub mod Passes
 pub mod Places
+pub mod Planes
 pub mod ReadsInfo
 pub mod Sampling
 pub mod StreamSegments

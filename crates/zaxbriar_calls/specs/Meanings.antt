@@ -10,10 +10,11 @@ use Rattle.jpeg_segments.specs.declared.scale.Scale.{Scale}
 use Rattle.jpeg_segments.specs.declared.scale.Scale.TheVariants.{Eighth, Quarter, Half, Full}
 use Rattle.jpeg_meaning.specs.DecodedImages.{Size, FullSize, AtLeast, AtScale, at_size}
 use Rattle.jpeg_meaning.specs.Found.{Found, with_said}
+use Rattle.jpeg_meaning.specs.FoundPlanes.{planes_of}
 use Rattle.jpeg_meaning.specs.States.{Decoding}
 use Rattle.jpeg_meaning.specs.declared.progress.Progress.TheVariants.{HeaderRead}
 use Rattle.jpeg_meaning.specs.Pixels.{info_by}
-use Rattle.jpeg_meaning.specs.Stream.{Told, header_at, rest_by}
+use Rattle.jpeg_meaning.specs.Stream.{Told, header_at, rest_by, rest_showing}
 use Rattle.jpeg_meaning.specs.declared.images.ImageInfo.{ImageInfo}
 use Rattle.jpeg_meaning.specs.declared.settings.Settings.{Settings}
 use Rattle.jpeg_decoder.specs.Bytes.{decoding_bytes}
@@ -21,12 +22,16 @@ use Rattle.jpeg_decoder.specs.StreamTransforms.{frame_transform}
 use Rattle.jpeg_decoder.specs.declared.sizes.DecodingBytes.{DecodingBytes}
 use Rattle.zaxbriar_calls.specs.Density.{density_of}
 use Rattle.zaxbriar_calls.specs.Layouts.{conversion_to}
-use Rattle.zaxbriar_calls.specs.Limits.{are_known, blocks_of_passes, bytes_beside, exceeds_limits}
+use Rattle.zaxbriar_calls.specs.Limits.{are_known, are_known_for, blocks_of_passes, bytes_beside}
+use Rattle.zaxbriar_calls.specs.Limits.{exceeds_limits}
 use Rattle.zaxbriar_calls.specs.Lines.{Arranged, FitLines, lines_by, described_picture}
+use Rattle.zaxbriar_calls.specs.Planes.{planes_of_components}
 use Rattle.zaxbriar_calls.specs.Sampling.{sampling_of}
+use Rattle.zaxbriar_calls.specs.declared.extents.Extent.{Extent}
 use Rattle.zaxbriar_calls.specs.declared.layouts.Conversion.{Conversion}
 use Rattle.zaxbriar_calls.specs.declared.options.Options.{Options}
 use Rattle.zaxbriar_calls.specs.declared.picture.Picture.{Picture}
+use Rattle.zaxbriar_calls.specs.declared.planes.PlaneSizes.{PlaneSizes}
 
 -- the colour transform of a number
 abbrev pub transform_number : ℕ → Option ColorTransform
@@ -92,6 +97,17 @@ meaning_by o bytes = do
   header ← header_at bytes
   let found = found_at o header.0 in rest_by (settings_at o found) found header.1
 
+-- what the rest of a stream means, in place of its picture its planes
+abbrev pub planes_rest : Settings → Found → List ℕ → Outcome (Told × List (List ℕ))
+planes_rest settings found bytes =
+    rest_showing settings.max_blocks (planes_of settings.limit) found bytes
+
+-- what is told of a stream, its planes, and the bytes after it
+unfoldable pub planes_by : Options → List ℕ → Outcome (Told × List (List ℕ))
+planes_by o bytes = do
+  header ← header_at bytes
+  let found = found_at o header.0 in planes_rest (settings_at o found) found header.1
+
 -- A decoder of known bytes has read their header, its picture is to have the size of the options,
 -- and its scans are limited by them.
 pub record ReadsHeader (o : Options) (old new : Decoding) : Type 0 where
@@ -133,6 +149,7 @@ pub record Describes (o : Options) (bytes : List ℕ) (picture : Picture) : Type
   pub decoding : DecodingBytes
   pub conversion : Conversion
   pub sampling : List ℕ
+  pub planes : PlaneSizes
   pub transform : ℕ
   pub reads : header_at bytes ≡ Ok (header, rest)
   pub info_is : option_map (info_by (settings_of o)) (at_size (size_wanted o) header.said).frame
@@ -144,6 +161,8 @@ pub record Describes (o : Options) (bytes : List ℕ) (picture : Picture) : Type
   pub conversion_is : conversion_to o.layout info.pixel_format precision ≡ Some conversion
   pub sampling_is : option_map (λ f. sampling_of f.components)
       (at_size (size_wanted o) header.said).frame ≡ Some sampling
+  pub planes_is : option_map (λ f. planes_of_components f.components f.precision)
+      (at_size (size_wanted o) header.said).frame ≡ Some planes
   pub transform_is : option_map (λ f. number_of_transform
       (frame_transform header.said.metadata f)) (at_size (size_wanted o) header.said).frame
       ≡ Some transform
@@ -151,7 +170,7 @@ pub record Describes (o : Options) (bytes : List ℕ) (picture : Picture) : Type
       (lines_by o info precision
       (orientation_by (at_size (size_wanted o) header.said).metadata.exif) conversion)
       (bytes_beside decoding)
-      (orientation_by (at_size (size_wanted o) header.said).metadata.exif) sampling
+      (orientation_by (at_size (size_wanted o) header.said).metadata.exif) sampling planes
       transform (density_of bytes) 0
 
 -- The lines that the options ask for don't fit the picture of a header.
@@ -172,6 +191,10 @@ pub record IsMisfit (o : Options) (bytes : List ℕ) : Type 0 where
 -- header.
 abbrev pub AreWrong : Options → List ℕ → Type 0
 AreWrong o bytes = (are_known o ≡ false) ⊎ IsMisfit o bytes
+
+-- The same where a picture or its planes are asked for.
+abbrev pub AreWrongFor : Extent → Options → List ℕ → Type 0
+AreWrongFor extent o bytes = (are_known_for extent o ≡ false) ⊎ IsMisfit o bytes
 
 -- no picture
 abbrev pub no_picture : Picture
@@ -199,7 +222,12 @@ no_picture = record {
   horizontal_density = 0;
   vertical_density = 0;
   transform = 0;
-  reserved = replicate 143 0;
+  reserved_byte = 0;
+  plane_width = replicate 4 0;
+  plane_height = replicate 4 0;
+  reserved_bytes = replicate 6 0;
+  planes_size = 0;
+  reserved = replicate 112 0;
   text = replicate 112 0;
 }
 
@@ -225,11 +253,11 @@ IsWithin o bytes picture = Describes o bytes picture × (exceeds_limits o pictur
 abbrev pub IsTooLarge : Options → List ℕ → Picture → Type 0
 IsTooLarge o bytes picture = Describes o bytes picture × (exceeds_limits o picture ≡ true)
 
--- The samples of a picture are in the caller's memory.
-pub record ShowsSamples (o : Options) (picture : Result (List ℕ) Fault) (old new : List ℕ)
-    (told : Picture) : Type 0 where
+-- The samples of a picture, or of its planes, are in the caller's memory.
+pub record ShowsSamples (extent : Extent) (o : Options) (picture : Result (List ℕ) Fault)
+    (old new : List ℕ) (told : Picture) : Type 0 where
   pub samples : List ℕ
   pub info : ImageInfo
   pub precision : ℕ
   pub are : picture ≡ Ok samples
-  pub arranged : Arranged o info precision samples old new told
+  pub arranged : Arranged extent o info precision samples old new told

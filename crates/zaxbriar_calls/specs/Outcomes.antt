@@ -5,13 +5,16 @@ use Rattle.std.specs.Prelude.{IfErr, IsErrAnd, OnOk, length, true}
 use Rattle.jpeg_bits.specs.Reading.{Fault}
 use Rattle.jpeg_meaning.specs.States.{Decoding}
 use Rattle.jpeg_meaning.specs.Stream.{header_at}
+use Rattle.zaxbriar_calls.specs.Crops.{part_rows}
 use Rattle.zaxbriar_calls.specs.Faults.{IsArgument, IsFault, IsOfCall, IsOfReading, IsOfRoom}
 use Rattle.zaxbriar_calls.specs.Faults.{IsOwn, IsPart}
 use Rattle.zaxbriar_calls.specs.Given.{CountsImage, Gives, GivesPart, HasRows, KnowsExceeded}
-use Rattle.zaxbriar_calls.specs.Given.{Reaches, given_by, given_rest, rows_by, rows_rest}
+use Rattle.zaxbriar_calls.specs.Given.{Reaches, bytes_asked, bytes_needed, given_by, given_rest}
+use Rattle.zaxbriar_calls.specs.Given.{rows_by, rows_rest}
 use Rattle.zaxbriar_calls.specs.Layouts.{size_of_lines}
-use Rattle.zaxbriar_calls.specs.Limits.{are_known}
-use Rattle.zaxbriar_calls.specs.Meanings.{AreWrong, CountsRead, IsTooLarge, IsWithin, uncounted}
+use Rattle.zaxbriar_calls.specs.Limits.{are_known, are_known_for}
+use Rattle.zaxbriar_calls.specs.Meanings.{AreWrong, AreWrongFor, CountsRead, IsTooLarge, IsWithin}
+use Rattle.zaxbriar_calls.specs.Meanings.{uncounted}
 use Rattle.zaxbriar_calls.specs.Passes.{exceeds, exceeds_rest}
 use Rattle.zaxbriar_calls.specs.declared.answers.Refusal.{Refusal}
 use Rattle.zaxbriar_calls.specs.declared.answers.Refusal.TheVariants.{NoRoom, TooLarge}
@@ -56,31 +59,37 @@ pub record DecodesInto (extent : Extent) (o : Options) (bytes before after : Lis
   pub within : OnOk outcome (IsWithin o bytes (uncounted new))
   pub described : IfErr outcome (λ r. IsPart r → IsWithin o bytes (uncounted new))
   pub room : IfErr outcome (λ r. r ≡ NoRoom
-      → IsWithin o bytes (uncounted new) × (length before < new.size))
+      → IsWithin o bytes (uncounted new) × (length before < bytes_needed extent new))
   pub large : IfErr outcome (λ r. r ≡ TooLarge → IsTooLarge o bytes (uncounted new))
-  pub short : (size : Picture) → IsWithin o bytes size → length before < size.size
+  pub short : (size : Picture) → IsWithin o bytes size → length before < bytes_needed extent size
       → IsErrAnd outcome IsOfRoom
   pub limited : (size : Picture) → IsTooLarge o bytes size → IsErrAnd outcome IsOfCall
-  pub known : are_known o ≡ false → IsErrAnd outcome IsArgument
-  pub wrong : IfErr outcome (λ r. IsArgument r → AreWrong o bytes)
-  pub unasked : are_known o ≡ false → new ≡ old
+  pub known : are_known_for extent o ≡ false → IsErrAnd outcome IsArgument
+  pub wrong : IfErr outcome (λ r. IsArgument r → AreWrongFor extent o bytes)
+  pub unasked : are_known_for extent o ≡ false → new ≡ old
   pub undescribed : (fault : Fault) → header_at bytes ≡ Err fault → uncounted new ≡ uncounted old
 
--- The caller's memory is too short for the lines of a picture: nothing is read or written.
-pub record LacksRoom (lines : Lines) (outcome : Result ℕ Refusal) (old new : Decoding)
+-- the bytes of the caller's memory that are needed, by the header
+abbrev pub room_of : Extent → Header → Lines → ℕ
+room_of extent header lines = bytes_asked extent
+    (size_of_lines lines.stride lines.row_bytes lines.height) header.planes.size
+
+-- The caller's memory is too short for so many bytes: nothing is read or written.
+pub record LacksRoom (needed : ℕ) (outcome : Result ℕ Refusal) (old new : Decoding)
     (before after : List ℕ) : Type 0 where
-  pub short : length before < size_of_lines lines.stride lines.row_bytes lines.height
+  pub short : length before < needed
   pub refused : outcome ≡ Err NoRoom
   pub unread : new ≡ old
   pub unwritten : after ≡ before
 
 -- It isn't, and the rest of the stream was read.
-pub record DecodesLines (extent : Extent) (lines : Lines) (outcome : Result ℕ Refusal)
+pub record DecodesLines (extent : Extent) (needed : ℕ) (lines : Lines) (outcome : Result ℕ Refusal)
     (old new : Decoding) (before after : List ℕ) : Type 0 where
-  pub fits : size_of_lines lines.stride lines.row_bytes lines.height ≤ length before
+  pub fits : needed ≤ length before
   pub reaches : old.source.known ≡ true → Reaches extent lines outcome old new before after
   pub rows : old.source.known ≡ true
-      → HasRows (rows_rest extent old.settings old.found old.source.bytes) outcome
+      → HasRows (part_rows lines.part (rows_rest extent old.settings old.found old.source.bytes))
+      outcome
   pub named : old.source.known ≡ true
       → IfErr outcome (IsFault (given_rest extent old.settings old.found old.source.bytes))
   pub exceeded : old.source.known ≡ true → KnowsExceeded
@@ -93,7 +102,8 @@ pub record DecodesLines (extent : Extent) (lines : Lines) (outcome : Result ℕ 
 abbrev pub Continues : Extent → Result (Header × Lines) Refusal → Result ℕ Refusal → Decoding
     → Decoding → List ℕ → List ℕ → Type 0
 Continues extent (Ok described) outcome old new before after =
-    LacksRoom described.1 outcome old new before after
-    ⊎ DecodesLines extent described.1 outcome old new before after
+    LacksRoom (room_of extent described.0 described.1) outcome old new before after
+    ⊎ DecodesLines extent (room_of extent described.0 described.1) described.1 outcome old new
+    before after
 Continues extent (Err refusal) outcome old new before after =
     (outcome ≡ Err refusal) × (new ≡ old) × (after ≡ before)

@@ -10,18 +10,21 @@ use Rattle.jpeg_meaning.specs.declared.settings.Settings.{Settings}
 use Rattle.zaxbriar_calls.specs.Faults.{reading_code, with_passes}
 use Rattle.zaxbriar_calls.specs.Meanings.{found_at, settings_at}
 use Rattle.zaxbriar_calls.specs.declared.extents.Extent.{Extent}
-use Rattle.zaxbriar_calls.specs.declared.extents.Extent.TheVariants.{Whole, Partial}
+use Rattle.zaxbriar_calls.specs.declared.extents.Extent.TheVariants.{Whole, Partial, Planes}
 use Rattle.zaxbriar_calls.specs.declared.options.Options.{Options}
 
--- whether the whole of a picture is asked for
+-- whether the whole of a picture is asked for, or of its planes
 abbrev pub is_whole : Extent → Bool
 is_whole Whole = true
 is_whole Partial = false
+is_whole Planes = true
 
--- What follows the marker after a scan's data: for a whole picture zeros, and for a part nothing.
+-- What follows the marker after a scan's data: for a whole picture and its planes zeros, and for a
+-- part nothing.
 abbrev pub beyond_of : Extent → Beyond
 beyond_of Whole = Zeros
 beyond_of Partial = Nothing
+beyond_of Planes = Zeros
 
 -- Whether the first fault, of the rest of a stream after its header, is a scan of more blocks than
 -- the limit of the settings leaves.

@@ -5,8 +5,11 @@ use Rattle.std.specs.Prelude.{slice_index_or, take}
 use Rattle.std.specs.List.{AllByRecursion, range_with_len}
 use Rattle.jpeg_orientation.specs.Turns.{mirrored, stored_offset, upright_across, upright_down}
 use Rattle.jpeg_orientation.specs.Turns.{upright_height, upright_width}
+use Rattle.zaxbriar_calls.specs.Crops.{part_samples}
 use Rattle.zaxbriar_calls.specs.Layouts.{TakesStored, converted_bytes, is_stored, laid_out}
-use Rattle.zaxbriar_calls.specs.Layouts.{layout_line, pixel_of}
+use Rattle.zaxbriar_calls.specs.Layouts.{layout_line, over, pixel_of}
+use Rattle.zaxbriar_calls.specs.declared.extents.Extent.{Extent}
+use Rattle.zaxbriar_calls.specs.declared.extents.Extent.TheVariants.{Planes}
 use Rattle.zaxbriar_calls.specs.declared.lines.Lines.{Lines}
 
 -- the bytes of the pixel, as it is stored, that stands across and down in the upright picture
@@ -32,6 +35,17 @@ arranged_in lines samples old = if lines.turn.orientation == 1
     then laid_out (layout_line lines.conversion lines.stored lines.width)
     (lines.width * lines.stored) lines.stride lines.bottom_up lines.height samples old
     else map (turned_byte lines samples old) (range_with_len 0 (length old))
+
+-- the same of the part of them that is given, where it isn't all
+abbrev pub arranged_part : Lines → List ℕ → List ℕ → List ℕ
+arranged_part lines samples old =
+    arranged_in lines (part_samples lines.part lines.stored samples) old
+
+-- what is asked for of a picture, in the place of old bytes: the samples of its planes, one after
+-- the other, or else those of its lines
+abbrev pub arranged_by : Extent → Lines → List ℕ → List ℕ → List ℕ
+arranged_by Planes lines samples old = over samples old
+arranged_by _ lines samples old = arranged_part lines samples old
 
 -- ---- what the code's own clauses need
 

@@ -1,6 +1,8 @@
 -- Options, lines and streams that the laws on worked streams and pictures name.
 use Rattle.std.specs.Prelude.{ℕ, List, [], ◌∷◌, ◌++◌, Some, replicate, true}
+use Rattle.jpeg_orientation.specs.declared.areas.Area.{Area}
 use Rattle.jpeg_segments.specs.declared.frame.CodingProcess.TheVariants.{DctSequential}
+use Rattle.jpeg_meaning.specs.declared.images.ImageInfo.{ImageInfo}
 use Rattle.jpeg_meaning.specs.declared.images.PixelFormat.{PixelFormat}
 use Rattle.zaxbriar_metadata.specs.Collected.{Collection, exif_name}
 use Rattle.zaxbriar_metadata.specs.Worked.{extension_part, main_packet, two_resources}
@@ -9,6 +11,9 @@ use Rattle.zaxbriar_calls.specs.Lines.{lines_by}
 use Rattle.zaxbriar_calls.specs.declared.layouts.Conversion.TheVariants.{Stored}
 use Rattle.zaxbriar_calls.specs.declared.lines.Lines.{Lines}
 use Rattle.zaxbriar_calls.specs.declared.options.Options.{Options}
+
+abbrev pub crop_at : ℕ → ℕ → ℕ → ℕ → Area
+crop_at left top width height = record { left = left; top = top; width = width; height = height }
 
 -- the picture as it is stored, of a stream whose scans may go so many times over it
 abbrev pub passes_alone : ℕ → Options
@@ -27,16 +32,27 @@ passes_alone passes = record {
   upright = 0;
   luma = 0;
   reserved_bytes = replicate 6 0;
-  reserved_words = replicate 8 0;
+  crop = crop_at 0 0 0 0;
+  reserved_words = replicate 7 0;
 }
 
 -- the picture upright and without a gap
 abbrev pub upright_alone : Options
 upright_alone = record (passes_alone 0) { upright = 1 }
 
+-- a part of the picture upright
+abbrev pub cropped_alone : ℕ → ℕ → ℕ → ℕ → Options
+cropped_alone left top width height =
+    record upright_alone { crop = crop_at left top width height }
+
 -- the luma without a gap, as it is stored
 abbrev pub luma_alone : Options
 luma_alone = record (passes_alone 0) { luma = 1 }
+
+-- a picture of 3 by 4 pixels of a format
+abbrev pub three_by_four : PixelFormat → ImageInfo
+three_by_four format =
+    record { width = 3; height = 4; pixel_format = format; coding_process = DctSequential }
 
 -- the lines of a picture of 3 by 2 pixels of a format, a precision and an orientation, as some
 -- options ask for them

@@ -6,7 +6,9 @@ ghost use Rattle.zaxbriar_calls.specs.Faults.{with_passes};
 
 use jpeg_decoder::Decoder;
 use jpeg_decoder::error::Error;
+use jpeg_orientation::areas::Area;
 use std::alloc::Global;
+use std::fmt;
 use std::io::Read;
 
 pub const OK: u32 = 0;
@@ -34,6 +36,28 @@ pub const TOO_MANY_PASSES: u32 = 10;
 /// The bytes of a refusal's text, with the zero that ends it.
 pub const TEXT_BYTES: usize = 112;
 
+/// What is wrong with the arguments of a call.
+#[derive(Clone, Copy)]
+pub enum Misuse {
+    /// This is, whatever the picture is, or its lines don't fit it.
+    Of(&'static str),
+    /// The part that is asked for isn't inside the picture, which has this width and this height.
+    Crop(Area, u16, u16),
+}
+
+impl fmt::Display for Misuse {
+    fn fmt<W: fmt::Write>(&self, f: &mut fmt::Formatter<W>) -> fmt::Result {
+        match *self {
+            Misuse::Of(reason) => write!(f, "{reason}"),
+            Misuse::Crop(crop, width, height) => write!(
+                f,
+                "the crop {}x{}+{}+{} isn't inside the picture, which has {width}x{height} pixels",
+                crop.width, crop.height, crop.left, crop.top
+            ),
+        }
+    }
+}
+
 /// Why a call isn't OK: a refusal of the stream, or of the call.
 #[derive(Drop)]
 pub enum Refusal {
@@ -43,7 +67,7 @@ pub enum Refusal {
     Part(Error, u16),
     /// A read failed, or was interrupted without end. It never happens over bytes in memory.
     Reader,
-    Argument(&'static str),
+    Argument(Misuse),
     NoRoom,
     TooLarge,
 }
@@ -161,7 +185,10 @@ fn put_refusal(alloc: Global, refusal: &Refusal, text: &mut [u8; TEXT_BYTES])
             Err(_) => put_text(b"out of memory", text),
         },
         Refusal::Reader => put_text(b"the bytes can't be read", text),
-        Refusal::Argument(reason) => put_text(reason.as_bytes(), text),
+        Refusal::Argument(misuse) => match format!(in alloc; "{misuse}") {
+            Ok(line) => put_text(line.as_bytes(), text),
+            Err(_) => put_text(b"out of memory", text),
+        },
         Refusal::NoRoom => put_text(b"the buffer is too small for the picture", text),
         Refusal::TooLarge => put_text(b"the picture is above a limit of the options", text),
     }

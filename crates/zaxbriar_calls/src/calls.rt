@@ -13,6 +13,7 @@ ghost use Rattle.zaxbriar_calls.specs.Passes.{is_whole};
 ghost use Rattle.zaxbriar_calls.specs.Places.{places_of};
 ghost use Rattle.zaxbriar_calls.specs.ReadsInfo.{ReadsInfo};
 ghost use Rattle.zaxbriar_calls.specs.declared.extents.Extent.TheVariants.{Whole, Partial};
+ghost use Rattle.zaxbriar_calls.specs.declared.extents.Extent.TheVariants.{Planes};
 
 use crate::answers::{
     BAD_ARGUMENT, MALFORMED, NO_MEMORY, OK, TRUNCATED, answer, outcome_fault, outcome_rows,
@@ -42,13 +43,14 @@ pub fn read_info(alloc: Global, jpeg: &[u8], options: &Options, picture: &mut Pi
     answer(alloc, outcome, &mut picture.text)
 }
 
-/// Returns whether the whole of a picture is asked for.
+/// Returns whether the whole of a picture is asked for, or of its planes.
 fn is_whole(extent: Extent) -> bool
     ensures { result ≡ is_whole extent }
 {
     match extent {
         Extent::Whole => true,
         Extent::Partial => false,
+        Extent::Planes => true,
     }
 }
 
@@ -99,6 +101,20 @@ pub fn decode_partial(
     ensures { Fills Partial options.now jpeg.now pixels.old pixels.new picture.new result }
 {
     fill(alloc, jpeg, options, pixels, picture, Extent::Partial)
+}
+
+/// Decodes the planes of a stream into `samples`, one after the other: the samples of each of its
+/// components at the component's own size.
+pub fn decode_planes(
+    alloc: Global,
+    jpeg: &[u8],
+    options: &Options,
+    samples: &mut [u8],
+    picture: &mut Picture,
+) -> u32
+    ensures { Fills Planes options.now jpeg.now samples.old samples.new picture.new result }
+{
+    fill(alloc, jpeg, options, samples, picture, Extent::Planes)
 }
 
 /// Copies the Exif data, the XMP data or the ICC profile of a header or of a whole image, and

@@ -1,5 +1,5 @@
-//! Pictures of streams in the caller's memory.
-ghost use Rattle.std.specs.Prelude.{◌≡◌, ◌≤◌, ◌<◌, ℕ, Some, length, option_map};
+//! Pictures of streams, and their planes, in the caller's memory.
+ghost use Rattle.std.specs.Prelude.{◌≡◌, ◌≤◌, ◌<◌, ℕ, Some, length, map, option_map};
 ghost use Rattle.std.specs.Prelude.{true, false, Err, IfErr, IfOk, IfSome, IsErrAnd, None, Ok};
 ghost use Rattle.std.specs.Prelude.{OnOk};
 ghost use Rattle.std.specs.List.{concat};
@@ -9,31 +9,35 @@ ghost use Rattle.jpeg_decoder.specs.Bytes.{AreLinesOf, IsCounted, decoding_bytes
 ghost use Rattle.jpeg_meaning.specs.Pixels.{info_by};
 ghost use Rattle.jpeg_meaning.specs.Stream.{header_at, rest_by, told_of};
 ghost use Rattle.jpeg_meaning.specs.declared.progress.Progress.TheVariants.{HeaderRead};
+ghost use Rattle.zaxbriar_calls.specs.Crops.{part_rows};
 ghost use Rattle.zaxbriar_calls.specs.Faults.{IsArgument, IsFault, IsOfCall, IsOfDecoder};
 ghost use Rattle.zaxbriar_calls.specs.Faults.{IsOfReading, IsOfRoom, IsOwn, IsPart};
 ghost use Rattle.zaxbriar_calls.specs.Given.{Brings, CountsImage, EndsImage, Gives, GivesPart};
 ghost use Rattle.zaxbriar_calls.specs.Given.{HasRows, KnowsExceeded, Reaches, given_by, given_rest};
 ghost use Rattle.zaxbriar_calls.specs.Given.{outcome_of, rows_by, rows_rest};
 ghost use Rattle.zaxbriar_calls.specs.Layouts.{size_of_lines};
-ghost use Rattle.zaxbriar_calls.specs.Outcomes.{Continues, DecodesInto};
-ghost use Rattle.zaxbriar_calls.specs.Limits.{are_known};
+ghost use Rattle.zaxbriar_calls.specs.Outcomes.{Continues, DecodesInto, room_of};
+ghost use Rattle.zaxbriar_calls.specs.Limits.{are_known_for};
 ghost use Rattle.zaxbriar_calls.specs.Lines.{HasLines};
 ghost use Rattle.zaxbriar_calls.specs.Meanings.{AreWrong, CountsRead, IsTooLarge, IsWithin};
-ghost use Rattle.zaxbriar_calls.specs.Meanings.{uncounted};
+ghost use Rattle.zaxbriar_calls.specs.Meanings.{planes_rest, uncounted};
 ghost use Rattle.zaxbriar_calls.specs.Passes.{exceeds_rest};
 ghost use Rattle.zaxbriar_calls.specs.declared.answers.Refusal.TheVariants.{NoRoom, TooLarge};
-ghost use Rattle.zaxbriar_calls.specs.declared.extents.Extent.TheVariants.{Partial, Whole};
+ghost use Rattle.zaxbriar_calls.specs.declared.extents.Extent.TheVariants.{Partial, Planes};
+ghost use Rattle.zaxbriar_calls.specs.declared.extents.Extent.TheVariants.{Whole};
 
-use crate::answers::{Refusal, refusal_of};
+use crate::answers::{Misuse, Refusal, refusal_of};
 use crate::counts::bytes_read;
+use crate::crops::{part_lines, part_rows};
 use crate::decoders::decoder_of;
 use crate::density::density_of;
 use crate::description::describe;
 use crate::extents::Extent;
 use crate::header::Header;
 use crate::lines::{Lines, band_of, put_lines, size_of_lines, stored_line};
-use crate::options::{Options, are_known};
+use crate::options::{Options, are_known_for};
 use crate::picture::Picture;
+use crate::planes::{fit_in, put_planes};
 use jpeg_decoder::error::Error;
 use jpeg_decoder::{Decoder, PartialLines};
 use std::alloc::Global;
@@ -137,6 +141,31 @@ fn read_whole<R: Read + Drop>(
     }
 }
 
+/// Reads the rest of a stream, all of it, and returns the planes of its components.
+fn read_planes<R: Read + Drop>(
+    decoder: &mut Decoder<R>,
+) -> std::result::Result<Vec<Vec<u8>>, Refusal>
+    requires read { decoder.old.stage ≡ HeaderRead }
+    ensures stays { IfOk result
+        (λ _. decoder.new.found.said.frame ≡ decoder.old.found.said.frame) }
+    ensures reads { IfOk result (λ v. Answers {X = Unit {0}}
+        (λ u. (told_of decoder.new.found.said, map (λ p. p.items) v.items))
+        (planes_rest decoder.old.settings decoder.old.found) decoder.old.source (Ok tt)
+        decoder.new.source) }
+    ensures named { decoder.old.source.known ≡ true
+        → IfErr result (IsFault (planes_rest decoder.old.settings decoder.old.found
+        decoder.old.source.bytes)) }
+    ensures exceeded { decoder.old.source.known ≡ true → KnowsExceeded
+        (exceeds_rest Planes decoder.old.settings decoder.old.found decoder.old.source.bytes)
+        result decoder.new.exceeded }
+    ensures own { IfErr result IsOfDecoder }
+{
+    match decoder.decode_planes() {
+        Ok(planes) => Ok(planes),
+        Err(error) => Err(refusal_of(decoder, error)),
+    }
+}
+
 /// Reads the rest of a stream, all of it, or, in part, as far as it goes, and returns its lines,
 /// how many of them are complete in part, and its first fault.
 fn read_lines<R: Read + Drop>(
@@ -144,6 +173,7 @@ fn read_lines<R: Read + Drop>(
     extent: Extent,
 ) -> std::result::Result<PartialLines, Refusal>
     requires read { decoder.old.stage ≡ HeaderRead }
+    requires pictures { extent ≡ Planes → ⊥ }
     ensures stays { IfOk result
         (λ _. decoder.new.found.said.frame ≡ decoder.old.found.said.frame) }
     ensures settings { decoder.new.settings ≡ decoder.old.settings }
@@ -166,6 +196,7 @@ fn read_lines<R: Read + Drop>(
     match extent {
         Extent::Whole => read_whole(decoder),
         Extent::Partial => read_part(decoder),
+        Extent::Planes => unreachable!(),
     }
 }
 
@@ -179,9 +210,88 @@ fn outcome_of(whole_rows: u16, fault: Option<Error>) -> std::result::Result<u16,
     }
 }
 
-/// Decodes what is asked for of the picture whose header was read into its lines in the caller's
-/// memory. Returns how many rows of a part are complete.
+/// Decodes the picture whose header was read, or the part of it that the stream brings, into its
+/// lines in the caller's memory. Returns how many rows of a part are complete.
 fn decode_lines<R: Read + Drop>(
+    alloc: Global,
+    decoder: &mut Decoder<R>,
+    header: Header,
+    lines: Lines,
+    pixels: &mut [u8],
+    extent: Extent,
+) -> std::result::Result<u16, Refusal>
+    requires read { decoder.old.stage ≡ HeaderRead }
+    requires pictures { extent ≡ Planes → ⊥ }
+    requires info { option_map (info_by decoder.old.settings) decoder.old.found.said.frame
+        ≡ Some header.info }
+    requires precision { option_map (λ f. f.precision) decoder.old.found.said.frame
+        ≡ Some header.precision }
+    requires bytes { option_map (decoding_bytes decoder.old.settings)
+        decoder.old.found.said.frame
+        ≡ Some header.decoding_bytes }
+    requires lines { (options : Options) × (orientation : ℕ)
+        × HasLines options header.info header.precision orientation lines }
+    requires room { size_of_lines lines.stride lines.row_bytes lines.height ≤ length pixels.old }
+    ensures reaches { decoder.old.source.known ≡ true
+        → Reaches extent lines result decoder.old decoder.new pixels.old pixels.new }
+    ensures rows { decoder.old.source.known ≡ true
+        → HasRows (part_rows lines.part (rows_rest extent decoder.old.settings decoder.old.found
+        decoder.old.source.bytes)) result }
+    ensures named { decoder.old.source.known ≡ true → IfErr result (IsFault
+        (given_rest extent decoder.old.settings decoder.old.found decoder.old.source.bytes)) }
+    ensures exceeded { decoder.old.source.known ≡ true → KnowsExceeded
+        (exceeds_rest extent decoder.old.settings decoder.old.found decoder.old.source.bytes)
+        result decoder.new.exceeded }
+    ensures kept { IfErr result (λ r. (IsPart r → ⊥) → pixels.new ≡ pixels.old) }
+    ensures own { IfErr result IsOfReading }
+{
+    // After a refusal the caller's memory is as it was, so all memory is taken before.
+    let mut row = stored_line(alloc, lines)?;
+    let mut band = band_of(alloc, lines)?;
+    match read_lines(decoder, extent) {
+        Ok(decoded) => {
+            let mut picture = part_lines(alloc, decoded.lines, lines.part, lines.stored)?;
+            put_lines(&mut picture, lines, &mut row, &mut band, pixels);
+            outcome_of(part_rows(lines.part, decoded.whole_rows), decoded.fault)
+        }
+        Err(refusal) => Err(refusal),
+    }
+}
+
+/// Decodes the planes of the picture whose header was read into the caller's memory. No rows are
+/// counted.
+fn decode_planes<R: Read + Drop>(
+    decoder: &mut Decoder<R>,
+    samples: &mut [u8],
+) -> std::result::Result<u16, Refusal>
+    requires read { decoder.old.stage ≡ HeaderRead }
+    ensures reaches { decoder.old.source.known ≡ true → (lines : Lines)
+        → Reaches Planes lines result decoder.old decoder.new samples.old samples.new }
+    ensures rows { HasRows 0 result }
+    ensures named { decoder.old.source.known ≡ true → IfErr result (IsFault
+        (given_rest Planes decoder.old.settings decoder.old.found decoder.old.source.bytes)) }
+    ensures exceeded { decoder.old.source.known ≡ true → KnowsExceeded
+        (exceeds_rest Planes decoder.old.settings decoder.old.found decoder.old.source.bytes)
+        result decoder.new.exceeded }
+    ensures kept { IfErr result (λ r. (IsPart r → ⊥) → samples.new ≡ samples.old) }
+    ensures own { IfErr result IsOfReading }
+{
+    match read_planes(decoder) {
+        Ok(planes) => {
+            // They do: the description counts all components, of which there are four at most.
+            if !fit_in(&planes, samples.len()) {
+                return Err(Refusal::Stream(Error::OutOfMemory));
+            }
+            put_planes(&planes, samples);
+            Ok(0)
+        }
+        Err(refusal) => Err(refusal),
+    }
+}
+
+/// Decodes what is asked for of the picture whose header was read into the caller's memory. Returns
+/// how many rows of a part are complete.
+fn decode_asked<R: Read + Drop>(
     alloc: Global,
     decoder: &mut Decoder<R>,
     header: Header,
@@ -199,12 +309,12 @@ fn decode_lines<R: Read + Drop>(
         ≡ Some header.decoding_bytes }
     requires lines { (options : Options) × (orientation : ℕ)
         × HasLines options header.info header.precision orientation lines }
-    requires room { size_of_lines lines.stride lines.row_bytes lines.height ≤ length pixels.old }
+    requires room { room_of extent header lines ≤ length pixels.old }
     ensures reaches { decoder.old.source.known ≡ true
         → Reaches extent lines result decoder.old decoder.new pixels.old pixels.new }
     ensures rows { decoder.old.source.known ≡ true
-        → HasRows (rows_rest extent decoder.old.settings decoder.old.found
-        decoder.old.source.bytes) result }
+        → HasRows (part_rows lines.part (rows_rest extent decoder.old.settings decoder.old.found
+        decoder.old.source.bytes)) result }
     ensures named { decoder.old.source.known ≡ true → IfErr result (IsFault
         (given_rest extent decoder.old.settings decoder.old.found decoder.old.source.bytes)) }
     ensures exceeded { decoder.old.source.known ≡ true → KnowsExceeded
@@ -213,21 +323,27 @@ fn decode_lines<R: Read + Drop>(
     ensures kept { IfErr result (λ r. (IsPart r → ⊥) → pixels.new ≡ pixels.old) }
     ensures own { IfErr result IsOfReading }
 {
-    // After a refusal the caller's memory is as it was, so all memory is taken before.
-    let mut row = stored_line(alloc, lines)?;
-    let mut band = band_of(alloc, lines)?;
-    match read_lines(decoder, extent) {
-        Ok(mut decoded) => {
-            put_lines(&mut decoded.lines, lines, &mut row, &mut band, pixels);
-            outcome_of(decoded.whole_rows, decoded.fault)
-        }
-        Err(refusal) => Err(refusal),
+    match extent {
+        Extent::Planes => decode_planes(decoder, pixels),
+        _ => decode_lines(alloc, decoder, header, lines, pixels, extent),
+    }
+}
+
+/// Returns how many bytes of the caller's memory are needed for what is asked for.
+fn room_of(extent: Extent, header: Header, lines: Lines) -> u64
+    requires row { lines.row_bytes ≤ lines.stride }
+    requires stride { lines.stride ≤ 4294967296 }
+    ensures { result ≡ room_of extent header lines }
+{
+    match extent {
+        Extent::Planes => header.planes.size,
+        _ => size_of_lines(lines),
     }
 }
 
 /// Decodes what is asked for of a picture that was described into the caller's memory, if it has
-/// room for its lines. Returns how many rows of a part are complete, or why the picture is refused,
-/// as it was before.
+/// room for it. Returns how many rows of a part are complete, or why the picture is refused, as it
+/// was before.
 fn decode_described<R: Read + Drop>(
     alloc: Global,
     decoder: &mut Decoder<R>,
@@ -248,10 +364,20 @@ fn decode_described<R: Read + Drop>(
     ensures { Continues extent described result decoder.old decoder.new pixels.old pixels.new }
 {
     let (header, lines) = described?;
-    if size_of_lines(lines) > pixels.len() as u64 {
+    if room_of(extent, header, lines) > pixels.len() as u64 {
         return Err(Refusal::NoRoom);
     }
-    decode_lines(alloc, decoder, header, lines, pixels, extent)
+    decode_asked(alloc, decoder, header, lines, pixels, extent)
+}
+
+/// Returns what is wrong with options that don't exist for what is asked for.
+fn misuse_of(extent: Extent) -> Misuse {
+    match extent {
+        Extent::Planes => Misuse::Of(
+            "an option doesn't exist, or not for planes, which are given as they are coded",
+        ),
+        _ => Misuse::Of("an option doesn't exist"),
+    }
 }
 
 /// Decodes what is asked for of a stream into the caller's memory, and counts the bytes that were
@@ -268,8 +394,8 @@ pub fn decode_into(
     ensures { DecodesInto extent options.now jpeg.now pixels.old pixels.new picture.old picture.new
         result.0 result.1 }
 {
-    if !are_known(options) {
-        return (Err(Refusal::Argument("an option doesn't exist")), false);
+    if !are_known_for(extent, options) {
+        return (Err(Refusal::Argument(misuse_of(extent))), false);
     }
     let mut decoder = match decoder_of(alloc, jpeg) {
         Ok(decoder) => decoder,

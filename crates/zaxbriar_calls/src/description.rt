@@ -11,11 +11,12 @@ ghost use Rattle.zaxbriar_calls.specs.Faults.{IsArgument, IsFault, IsOfCall, IsP
 ghost use Rattle.zaxbriar_calls.specs.Limits.{are_known, bytes_beside};
 ghost use Rattle.zaxbriar_calls.specs.Lines.{HasLines, described_picture};
 ghost use Rattle.zaxbriar_calls.specs.Meanings.{AreWrong, CountsRead, IsMisfit, IsTooLarge};
-ghost use Rattle.zaxbriar_calls.specs.Meanings.{IsWithin, ReadsHeader, StandsAfter, uncounted};
+ghost use Rattle.zaxbriar_calls.specs.Meanings.{IsWithin, ReadsHeader, StandsAfter};
+ghost use Rattle.zaxbriar_calls.specs.Meanings.{orientation_by, uncounted};
 ghost use Rattle.zaxbriar_calls.specs.Outcomes.{DescribesStream};
 ghost use Rattle.zaxbriar_calls.specs.declared.answers.Refusal.TheVariants.{NoRoom, TooLarge};
 
-use crate::answers::Refusal;
+use crate::answers::{Misuse, Refusal};
 use crate::counts::bytes_read;
 use crate::decoders::decoder_of;
 use crate::density::{Density, density_of};
@@ -49,11 +50,13 @@ pub fn describe<R: Read + Drop>(
     ensures bytes { IfOk result (λ a. option_map (decoding_bytes decoder.new.settings)
         decoder.new.found.said.frame
         ≡ Some a.0.decoding_bytes) }
+    ensures oriented { IfOk result (λ a. a.0.orientation
+        ≡ orientation_by decoder.new.found.said.metadata.exif) }
     ensures lines { IfOk result
         (λ a. HasLines options.now a.0.info a.0.precision a.0.orientation a.1) }
     ensures told { IfOk result (λ a. picture.new ≡ described_picture options.now.layout a.0.info
         a.0.precision a.1 (bytes_beside a.0.decoding_bytes) a.0.orientation
-        a.0.sampling a.0.transform density 0) }
+        a.0.sampling a.0.planes a.0.transform density 0) }
     ensures within { decoder.old.source.known ≡ true
         → OnOk result (IsWithin options.now decoder.old.source.bytes picture.new) }
     ensures large { decoder.old.source.known ≡ true → IfErr result (λ r. r ≡ TooLarge
@@ -75,7 +78,7 @@ pub fn describe<R: Read + Drop>(
     let header = read_header(decoder, options)?;
     let lines = lines_of(header.info, header.precision, header.orientation, options)?;
     *picture = picture_of(header, density, lines, options.layout);
-    if exceeds_limits(options, header.info, picture.decoding_bytes) {
+    if exceeds_limits(options, lines, picture.components, picture.decoding_bytes) {
         return Err(Refusal::TooLarge);
     }
     Ok((header, lines))
@@ -91,7 +94,7 @@ pub fn describe_stream(
     ensures { DescribesStream options.now jpeg.now picture.old picture.new result }
 {
     if !are_known(options) {
-        return Err(Refusal::Argument("an option doesn't exist"));
+        return Err(Refusal::Argument(Misuse::Of("an option doesn't exist")));
     }
     let mut decoder = decoder_of(alloc, jpeg)?;
     let density = density_of(jpeg);

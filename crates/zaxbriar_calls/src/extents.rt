@@ -7,4 +7,6 @@ pub enum Extent {
     Whole,
     /// What the stream brings of it up to its first fault.
     Partial,
+    /// The planes of its components in place of its lines: all of them, as of a whole picture.
+    Planes,
 }

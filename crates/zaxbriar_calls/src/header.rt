@@ -9,10 +9,12 @@ ghost use Rattle.jpeg_meaning.specs.Stream.{header_at};
 ghost use Rattle.zaxbriar_calls.specs.Faults.{IsFault, IsOfDecoder};
 ghost use Rattle.std.specs.Option.{option_copied};
 ghost use Rattle.zaxbriar_calls.specs.Meanings.{ReadsHeader, number_of_transform, orientation_by};
+ghost use Rattle.zaxbriar_calls.specs.Planes.{planes_of_components};
 ghost use Rattle.zaxbriar_calls.specs.Sampling.{sampling_of};
 
-use crate::answers::{Refusal, refusal_of};
+use crate::answers::{Misuse, Refusal, refusal_of};
 use crate::options::{Options, apply, apply_to_header, number_of_transform};
+use crate::planes::{PlaneSizes, planes_of};
 use crate::sampling::sampling_of;
 use jpeg_decoder::{Decoder, DecodingBytes, ImageInfo};
 use jpeg_orientation::orientation_of;
@@ -31,6 +33,8 @@ pub struct Header {
     pub orientation: u8,
     /// The sampling factors of the components.
     pub sampling: [u8; 4],
+    /// The sizes of the planes of the components, at the scale of the options.
+    pub planes: PlaneSizes,
     /// The number of the colour transform that the header asks for.
     pub transform: u8,
 }
@@ -68,6 +72,9 @@ pub fn read_header<R: Read + Drop>(
         ≡ orientation_by decoder.new.found.said.metadata.exif) }
     ensures sampling { IfOk result (λ h. option_map (λ f. sampling_of f.components)
         decoder.new.found.said.frame ≡ Some h.sampling) }
+    ensures planes { IfOk result (λ h. option_map
+        (λ f. planes_of_components f.components f.precision) decoder.new.found.said.frame
+        ≡ Some h.planes) }
     ensures transform { IfOk result (λ h. option_map (λ f. number_of_transform
         (frame_transform decoder.new.found.said.metadata f)) decoder.new.found.said.frame
         ≡ Some h.transform) }
@@ -90,15 +97,17 @@ pub fn read_header<R: Read + Drop>(
         decoder.decoding_bytes(),
     ) else {
         // There is a frame.
-        return Err(Refusal::Argument("no frame"));
+        return Err(Refusal::Argument(Misuse::Of("no frame")));
     };
     let sampling = sampling_of(components);
+    let planes = planes_of(components, precision);
     Ok(Header {
         info,
         precision,
         decoding_bytes,
         orientation: orientation_in(decoder.exif_data()),
         sampling,
+        planes,
         transform: number_of_transform(transform),
     })
 }

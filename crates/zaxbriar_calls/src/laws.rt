@@ -1,7 +1,7 @@
 //! Laws that make the definitions evident: worked rows, computed by the checker, and what the whole
 //! of a picture is. Nothing here is code that runs.
 ghost use Rattle.std.specs.Prelude.{◌≡◌, ◌++◌, ℕ, List, [], ◌∷◌, Err, None, Ok, Some, codes, map};
-ghost use Rattle.std.specs.Prelude.{false, replicate, true};
+ghost use Rattle.std.specs.Prelude.{◌+◌, ◌*◌, ◌<◌, false, length, replicate, true};
 ghost use Rattle.jpeg_bits.specs.Reading.{End, Fault, Malformed};
 ghost use Rattle.jpeg_bits.specs.declared.color_transform.ColorTransform.TheVariants as transforms;
 ghost use Rattle.jpeg_bits.specs.declared.error.UnsupportedFeature.TheVariants as features;
@@ -12,27 +12,35 @@ ghost use Rattle.jpeg_segments.specs.declared.frame.CodingProcess.TheVariants as
 ghost use Rattle.jpeg_meaning.specs.Found.{no_metadata};
 ghost use Rattle.jpeg_meaning.specs.Stream.{Told};
 ghost use Rattle.jpeg_meaning.specs.Worked.{eleven_blocks, scanned_twice};
+ghost use Rattle.jpeg_meaning.specs.declared.images.ImageInfo.{ImageInfo};
 ghost use Rattle.jpeg_meaning.specs.declared.images.PixelFormat.TheVariants.{L8, L16, RGB24};
 ghost use Rattle.jpeg_meaning.specs.declared.images.PixelFormat.TheVariants.{CMYK32};
 ghost use Rattle.jpeg_orientation.specs.Turns.{upright_across, upright_down};
+ghost use Rattle.zaxbriar_calls.specs.Crops.{IsInPicture, is_cropped, part_rows, part_samples};
 ghost use Rattle.zaxbriar_calls.specs.Density.{density_of};
-ghost use Rattle.zaxbriar_calls.specs.Given.{faultless, given_by};
+ghost use Rattle.zaxbriar_calls.specs.Given.{as_picture, bytes_asked, faultless, given_by};
 ghost use Rattle.zaxbriar_calls.specs.Features.{feature_in, numbered, transform_code};
 ghost use Rattle.zaxbriar_calls.specs.Layouts.{colour, conversion_to, laid_out, level, light, luma};
 ghost use Rattle.zaxbriar_calls.specs.Layouts.{layout_numbered, pixel_of, size_of_lines};
 ghost use Rattle.zaxbriar_calls.specs.Joined.{datum_of, is_joined_kind, joined_of};
-ghost use Rattle.zaxbriar_calls.specs.Limits.{are_known, is_denominator, is_over};
-ghost use Rattle.zaxbriar_calls.specs.Lines.{format_number, process_number};
-ghost use Rattle.zaxbriar_calls.specs.Meanings.{meaning_by, number_of_transform, scale_by};
-ghost use Rattle.zaxbriar_calls.specs.Meanings.{settings_of, transform_number};
+ghost use Rattle.zaxbriar_calls.specs.Limits.{are_known, are_known_for, is_denominator, is_over};
+ghost use Rattle.zaxbriar_calls.specs.Lines.{format_number, lines_by, part_given, process_number};
+ghost use Rattle.zaxbriar_calls.specs.Lines.{stored_bytes, turn_of};
+ghost use Rattle.zaxbriar_calls.specs.Meanings.{meaning_by, number_of_transform, planes_by};
+ghost use Rattle.zaxbriar_calls.specs.Meanings.{scale_by, settings_of, transform_number};
 ghost use Rattle.zaxbriar_calls.specs.Metadata.{is_whole, kind_alone};
 ghost use Rattle.zaxbriar_calls.specs.Passes.{exceeds, fault_number};
 ghost use Rattle.zaxbriar_calls.specs.Places.{no_place, no_places, place_before, with_part};
+ghost use Rattle.zaxbriar_calls.specs.Planes.{planes_of_components};
 ghost use Rattle.zaxbriar_calls.specs.Sampling.{sampling_of};
-ghost use Rattle.zaxbriar_calls.specs.Upright.{arranged_in};
-ghost use Rattle.zaxbriar_calls.specs.Worked.{all_data, exif_twice, luma_alone, passes_alone};
+ghost use Rattle.zaxbriar_calls.specs.Upright.{arranged_by, arranged_in, arranged_part};
+ghost use Rattle.zaxbriar_calls.specs.Upright.{upright_pixel};
+ghost use Rattle.zaxbriar_calls.specs.Worked.{all_data, crop_at, cropped_alone, exif_twice};
+ghost use Rattle.zaxbriar_calls.specs.Worked.{luma_alone, passes_alone, three_by_four};
 ghost use Rattle.zaxbriar_calls.specs.Worked.{three_by_two, upright_alone};
+ghost use Rattle.zaxbriar_calls.specs.declared.layouts.Conversion.{Conversion};
 ghost use Rattle.zaxbriar_calls.specs.declared.extents.Extent.{Extent};
+ghost use Rattle.zaxbriar_calls.specs.declared.extents.Extent.TheVariants.{Partial, Planes};
 ghost use Rattle.zaxbriar_calls.specs.declared.extents.Extent.TheVariants.{Whole};
 ghost use Rattle.zaxbriar_calls.specs.declared.options.Options.{Options};
 ghost use Rattle.zaxbriar_calls.specs.declared.layouts.Conversion.TheVariants.{InColour};
@@ -155,6 +163,63 @@ pub fn known_turns()
         ≡ replicate 2 (1 ∷ 2 ∷ 3 ∷ 4 ∷ 5 ∷ 6 ∷ []) }
 {}
 
+/// Of the same picture, turned upright by each orientation, the first two pixels of the first line,
+/// and the second of the first two lines. A part has gaps and an order of lines of its own, and the
+/// bytes of a pixel keep their order. Where it isn't turned, a part counts in the stored picture.
+#[tactic(auto, unfolding(crate::proofs::Rules::turned_lines))]
+pub fn known_crops()
+    ensures along { map (λ o. arranged_part (three_by_two (cropped_alone 0 0 2 1) L8 8 o)
+        (1 ∷ 2 ∷ 3 ∷ 4 ∷ 5 ∷ 6 ∷ []) (replicate 3 9)) (1 ∷ 2 ∷ 3 ∷ 4 ∷ 5 ∷ 6 ∷ 7 ∷ 8 ∷ [])
+        ≡ (1 ∷ 2 ∷ 9 ∷ []) ∷ (3 ∷ 2 ∷ 9 ∷ []) ∷ (6 ∷ 5 ∷ 9 ∷ []) ∷ (4 ∷ 5 ∷ 9 ∷ [])
+        ∷ (1 ∷ 4 ∷ 9 ∷ []) ∷ (4 ∷ 1 ∷ 9 ∷ []) ∷ (6 ∷ 3 ∷ 9 ∷ []) ∷ (3 ∷ 6 ∷ 9 ∷ []) ∷ [] }
+    ensures down { map (λ o. arranged_part (three_by_two (cropped_alone 1 0 1 2) L8 8 o)
+        (1 ∷ 2 ∷ 3 ∷ 4 ∷ 5 ∷ 6 ∷ []) (replicate 3 9)) (1 ∷ 2 ∷ 3 ∷ 4 ∷ 5 ∷ 6 ∷ 7 ∷ 8 ∷ [])
+        ≡ (2 ∷ 5 ∷ 9 ∷ []) ∷ (2 ∷ 5 ∷ 9 ∷ []) ∷ (5 ∷ 2 ∷ 9 ∷ []) ∷ (5 ∷ 2 ∷ 9 ∷ [])
+        ∷ (4 ∷ 5 ∷ 9 ∷ []) ∷ (1 ∷ 2 ∷ 9 ∷ []) ∷ (3 ∷ 2 ∷ 9 ∷ []) ∷ (6 ∷ 5 ∷ 9 ∷ []) ∷ [] }
+    ensures sizes { map (λ o. (three_by_two (cropped_alone 0 0 2 1) L8 8 o).width
+        ∷ (three_by_two (cropped_alone 0 0 2 1) L8 8 o).height ∷ []) (1 ∷ 6 ∷ [])
+        ≡ replicate 2 (2 ∷ 1 ∷ []) }
+    ensures gap { arranged_part
+        (three_by_two (record (cropped_alone 0 1 2 2) { stride = 3 }) L8 8 6)
+        (1 ∷ 2 ∷ 3 ∷ 4 ∷ 5 ∷ 6 ∷ []) (replicate 6 9) ≡ 5 ∷ 2 ∷ 9 ∷ 6 ∷ 3 ∷ 9 ∷ [] }
+    ensures bottom_up { map (λ o. arranged_part
+        (three_by_two (record (cropped_alone 0 0 2 2) { bottom_up = 1 }) L8 8 o)
+        (1 ∷ 2 ∷ 3 ∷ 4 ∷ 5 ∷ 6 ∷ []) (replicate 4 9)) (1 ∷ 8 ∷ [])
+        ≡ (4 ∷ 5 ∷ 1 ∷ 2 ∷ []) ∷ (2 ∷ 5 ∷ 3 ∷ 6 ∷ []) ∷ [] }
+    ensures pairs { map (λ o. arranged_part (three_by_two (cropped_alone 1 0 2 1) L16 16 o)
+        (1 ∷ 10 ∷ 2 ∷ 20 ∷ 3 ∷ 30 ∷ 4 ∷ 40 ∷ 5 ∷ 50 ∷ 6 ∷ 60 ∷ []) (replicate 4 9))
+        (1 ∷ 3 ∷ []) ≡ (2 ∷ 20 ∷ 3 ∷ 30 ∷ []) ∷ (5 ∷ 50 ∷ 4 ∷ 40 ∷ []) ∷ [] }
+    ensures unasked { arranged_part
+        (three_by_two (record (cropped_alone 1 1 2 1) { upright = 0 }) L8 8 6)
+        (1 ∷ 2 ∷ 3 ∷ 4 ∷ 5 ∷ 6 ∷ []) (replicate 2 9) ≡ 5 ∷ 6 ∷ [] }
+    ensures all { map (λ o. arranged_part (three_by_two upright_alone L8 8 o)
+        (1 ∷ 2 ∷ 3 ∷ 4 ∷ 5 ∷ 6 ∷ []) (replicate 6 9)) (1 ∷ 6 ∷ [])
+        ≡ (1 ∷ 2 ∷ 3 ∷ 4 ∷ 5 ∷ 6 ∷ []) ∷ (4 ∷ 1 ∷ 5 ∷ 2 ∷ 6 ∷ 3 ∷ []) ∷ [] }
+    ensures rows { map (part_rows (part_given (cropped_alone 0 1 2 2) (three_by_four L8) 1))
+        (0 ∷ 1 ∷ 2 ∷ 3 ∷ 4 ∷ []) ≡ 0 ∷ 0 ∷ 1 ∷ 2 ∷ 2 ∷ [] }
+    ensures asked { map (λ o. is_cropped o) (cropped_alone 0 0 0 0 ∷ cropped_alone 1 0 0 0
+        ∷ cropped_alone 0 1 0 0 ∷ cropped_alone 0 0 1 0 ∷ cropped_alone 0 0 0 1 ∷ [])
+        ≡ false ∷ replicate 4 true }
+    ensures unconverted { map (λ o. are_known (record o { upright = 0; transform = 1 }))
+        (cropped_alone 0 0 0 0 ∷ cropped_alone 1 0 2 1 ∷ []) ≡ true ∷ false ∷ [] }
+{}
+
+/// A pixel of a part is that of the picture which the same options give without one, counted from
+/// the part's first column and its first line.
+pub fn parts_are_of_pictures()
+    ensures { (o : Options) (info : ImageInfo) (precision orientation : ℕ)
+        (conversion : Conversion) (samples : List ℕ) (across down : ℕ)
+        → is_cropped o ≡ true → IsInPicture o (turn_of o info orientation)
+        → length samples ≡ info.width * info.height * stored_bytes info precision
+        → across < o.crop.width → down < o.crop.height
+        → upright_pixel (lines_by o info precision orientation conversion)
+        (part_samples (part_given o info orientation) (stored_bytes info precision) samples)
+        across down
+        ≡ upright_pixel
+        (lines_by (record o { crop = crop_at 0 0 0 0 }) info precision orientation conversion)
+        samples (o.crop.left + across) (o.crop.top + down) }
+{}
+
 /// A limit of 0 is none, and another is the greatest count that is taken. The scales are 1, 1/2,
 /// 1/4 and 1/8.
 #[tactic(auto)]
@@ -247,6 +312,48 @@ pub fn known_components()
         ∷ processes.Lossless ∷ []) ≡ 1 ∷ 2 ∷ 3 ∷ [] }
 {}
 
+/// The sizes of the planes of 4:2:0, where each side is rounded up, of one component of two bytes a
+/// sample, and of four. They stand first in memory, whatever the lines are, and the options that
+/// arrange or convert samples don't exist for them.
+#[tactic(auto, unfolding(jpeg_segments::specs::Frame::component_of))]
+pub fn known_planes()
+    ensures three { planes_of_components (map (component_of 9 5 2 2)
+        (record { identifier = 1; horizontal = 2; vertical = 2; quantization = 0 }
+        ∷ record { identifier = 2; horizontal = 1; vertical = 1; quantization = 1 }
+        ∷ record { identifier = 3; horizontal = 1; vertical = 2; quantization = 1 } ∷ [])) 8
+        ≡ record {
+          width = 9 ∷ 5 ∷ 5 ∷ 0 ∷ [];
+          height = 5 ∷ 3 ∷ 5 ∷ 0 ∷ [];
+          size = 85;
+        } }
+    ensures one { planes_of_components (map (component_of 3 2 1 1)
+        (record { identifier = 1; horizontal = 1; vertical = 1; quantization = 0 } ∷ [])) 12
+        ≡ record { width = 3 ∷ 0 ∷ 0 ∷ 0 ∷ []; height = 2 ∷ 0 ∷ 0 ∷ 0 ∷ []; size = 12 } }
+    ensures four { planes_of_components (map (component_of 4 4 2 1)
+        (record { identifier = 1; horizontal = 2; vertical = 1; quantization = 0 }
+        ∷ record { identifier = 2; horizontal = 1; vertical = 1; quantization = 0 }
+        ∷ record { identifier = 3; horizontal = 1; vertical = 1; quantization = 0 }
+        ∷ record { identifier = 4; horizontal = 2; vertical = 1; quantization = 0 } ∷ [])) 8
+        ≡ record {
+          width = 4 ∷ 2 ∷ 2 ∷ 4 ∷ [];
+          height = 4 ∷ 4 ∷ 4 ∷ 4 ∷ [];
+          size = 48;
+        } }
+    ensures put { arranged_by Planes (three_by_two upright_alone L8 8 6) (1 ∷ 2 ∷ 3 ∷ [])
+        (replicate 5 9) ≡ 1 ∷ 2 ∷ 3 ∷ 9 ∷ 9 ∷ [] }
+    ensures needed { map (λ extent. bytes_asked extent 7 5) (Whole ∷ Partial ∷ Planes ∷ [])
+        ≡ 7 ∷ 7 ∷ 5 ∷ [] }
+    ensures asked { map (are_known_for Planes) (passes_alone 5
+        ∷ record (passes_alone 0) { scale = 8 } ∷ luma_alone ∷ upright_alone
+        ∷ cropped_alone 0 0 1 1 ∷ record luma_alone { luma = 2 } ∷ [])
+        ≡ true ∷ true ∷ replicate 4 false }
+    ensures plain { map (are_known_for Planes) (record (passes_alone 0) { stride = 9 }
+        ∷ record (passes_alone 0) { layout = 2 } ∷ record (passes_alone 0) { bottom_up = 1 }
+        ∷ record (passes_alone 0) { transform = 3 } ∷ []) ≡ replicate 4 false }
+    ensures others { map (are_known_for Partial) (luma_alone ∷ upright_alone ∷ [])
+        ≡ true ∷ true ∷ [] }
+{}
+
 /// The first 255 parts of a profile have a place, and all are counted.
 pub fn known_places()
     ensures last { with_part (place_before 9 4) (record no_places { icc_parts = 254 })
@@ -275,13 +382,16 @@ pub fn known_joined_metadata()
 {}
 
 /// The whole of what a stream gives is what it means by T.81, and has no fault; and where it means
-/// nothing it gives nothing, for the same fault.
+/// nothing it gives nothing, for the same fault. So are its planes, one after the other.
 #[tactic(auto, using(crate::proofs::Rules::wholes))]
 pub fn the_whole_is_the_meaning()
     ensures given { (o : Options) (bytes : List ℕ) (m : Told × List ℕ) (rest : List ℕ)
         → meaning_by o bytes ≡ Ok (m, rest) → given_by Whole o bytes ≡ Ok (faultless m) }
     ensures refused { (o : Options) (bytes : List ℕ) (fault : Fault)
         → meaning_by o bytes ≡ Err fault → given_by Whole o bytes ≡ Err fault }
+    ensures planes { (o : Options) (bytes : List ℕ) (m : Told × List (List ℕ)) (rest : List ℕ)
+        → planes_by o bytes ≡ Ok (m, rest)
+        → given_by Planes o bytes ≡ Ok (faultless (as_picture m)) }
 {}
 
 /// Of two scans of a picture of one block the second is too many for one pass, whose number is that
@@ -289,6 +399,8 @@ pub fn the_whole_is_the_meaning()
 #[tactic(auto, unfolding(crate::proofs::Rules::streams))]
 pub fn known_passes()
     ensures scans { map (λ n. exceeds Whole (passes_alone n) scanned_twice) (0 ∷ 1 ∷ 2 ∷ [])
+        ≡ false ∷ true ∷ false ∷ [] }
+    ensures planes { map (λ n. exceeds Planes (passes_alone n) scanned_twice) (0 ∷ 1 ∷ 2 ∷ [])
         ≡ false ∷ true ∷ false ∷ [] }
     ensures other { exceeds Whole (passes_alone 1) eleven_blocks ≡ false }
     ensures header { exceeds Whole (passes_alone 1) [] ≡ false }

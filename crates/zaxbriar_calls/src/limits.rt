@@ -1,11 +1,10 @@
 //! The limits of a caller, which are compared with a header.
 ghost use Rattle.std.specs.Prelude.{◌≡◌, ◌+◌, ◌≤◌, ◌*◌, ◌||◌};
-ghost use Rattle.jpeg_decoder.specs.Bytes.{samples_a_pixel};
 ghost use Rattle.zaxbriar_calls.specs.Limits.{bytes_beside, is_over};
 
-use crate::layouts::samples_a_pixel;
+use crate::lines::Lines;
 use crate::options::Options;
-use jpeg_decoder::{DecodingBytes, ImageInfo};
+use jpeg_decoder::DecodingBytes;
 
 /// Returns the most memory for samples that decoding takes at a time beside the caller's: blocks
 /// and planes. The lines of the picture are written from the planes.
@@ -23,13 +22,13 @@ fn is_over(limit: u64, count: u64) -> bool
     limit != 0 && count > limit
 }
 
-/// Returns whether a picture, for which decoding takes this many bytes, is above a limit.
-pub fn exceeds_limits(options: &Options, info: ImageInfo, bytes: u64) -> bool
-    ensures { result ≡ (is_over options.now.max_samples
-        (info.width * info.height * samples_a_pixel info.pixel_format)
+/// Returns whether a picture of these lines, with so many samples a pixel, for which decoding takes
+/// this many bytes, is above a limit.
+pub fn exceeds_limits(options: &Options, lines: Lines, components: u8, bytes: u64) -> bool
+    ensures { result ≡ (is_over options.now.max_samples (lines.width * lines.height * components)
         || is_over options.now.max_bytes bytes) }
 {
-    let pixels = u64::from(info.width) * u64::from(info.height);
-    let samples = pixels * u64::from(samples_a_pixel(info.pixel_format));
+    let pixels = u64::from(lines.width) * u64::from(lines.height);
+    let samples = pixels * u64::from(components);
     is_over(options.max_samples, samples) || is_over(options.max_bytes, bytes)
 }

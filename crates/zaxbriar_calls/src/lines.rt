@@ -12,7 +12,8 @@ ghost use Rattle.zaxbriar_calls.specs.Upright.{AreLines, AreMeant, HasRoom, IsBa
 ghost use Rattle.zaxbriar_calls.specs.Upright.{TakesLines, Writes, arranged_in, pixel_start};
 ghost use Rattle.zaxbriar_calls.specs.Upright.{turned_byte};
 
-use crate::answers::Refusal;
+use crate::answers::{Misuse, Refusal};
+use crate::crops::{StoredPart, part_of, part_turn};
 use crate::layouts::{
     Conversion, bytes_a_sample, conversion_of, converted_bytes, is_stored, put_row, samples_a_pixel,
 };
@@ -31,7 +32,9 @@ pub struct Lines {
     /// The size of the picture in pixels, as it stands there.
     pub width: u16,
     pub height: u16,
-    /// How the picture that is stored is turned.
+    /// The part that is given of the stored picture, where it isn't all of it.
+    pub part: Option<StoredPart>,
+    /// How that part, or the picture, is turned.
     pub turn: Turn,
     /// The bytes of a pixel as it is stored, and in this layout.
     pub stored: u8,
@@ -69,11 +72,13 @@ pub fn lines_of(
     ensures named { IfErr result IsArgument }
     ensures misfit { IfErr result (λ _. FitLines options.now info precision orientation → ⊥) }
 {
-    let turn = turn_of(info, orientation, options);
+    let whole = turn_of(info, orientation, options);
+    let part = part_of(options, whole)?;
+    let turn = part_turn(part, whole);
     let width = upright_width(turn);
     let stored = samples_a_pixel(info.pixel_format) * bytes_a_sample(precision);
     let Some(conversion) = conversion_of(options.layout, info.pixel_format, precision) else {
-        return Err(Refusal::Argument("the layout doesn't exist"));
+        return Err(Refusal::Argument(Misuse::Of("the layout doesn't exist")));
     };
     let pixel_bytes = converted_bytes(conversion, stored);
     let row_bytes = u64::from(width) * u64::from(pixel_bytes);
@@ -83,12 +88,15 @@ pub fn lines_of(
         options.stride
     };
     if stride > MOST_STRIDE || stride < row_bytes {
-        return Err(Refusal::Argument("the stride is shorter than a line, or above 2^32"));
+        return Err(Refusal::Argument(Misuse::Of(
+            "the stride is shorter than a line, or above 2^32",
+        )));
     }
     Ok(Lines {
         conversion,
         width,
         height: upright_height(turn),
+        part,
         turn,
         stored,
         pixel_bytes,

@@ -5,14 +5,17 @@ ghost use Rattle.jpeg_meaning.specs.DecodedImages.{at_size};
 ghost use Rattle.jpeg_meaning.specs.Found.{with_said};
 ghost use Rattle.jpeg_meaning.specs.Output.{default_settings};
 ghost use Rattle.jpeg_meaning.specs.declared.progress.Progress.TheVariants.{HeaderRead};
-ghost use Rattle.zaxbriar_calls.specs.Limits.{are_known, blocks_of_passes, is_denominator};
-ghost use Rattle.zaxbriar_calls.specs.Limits.{is_rest_zero};
+ghost use Rattle.zaxbriar_calls.specs.Crops.{is_cropped};
+ghost use Rattle.zaxbriar_calls.specs.Limits.{are_as_coded, are_known, are_known_for};
+ghost use Rattle.zaxbriar_calls.specs.Limits.{blocks_of_passes, is_denominator, is_rest_zero};
 ghost use Rattle.zaxbriar_calls.specs.Meanings.{least_side, scale_by, settings_at, settings_of};
 ghost use Rattle.zaxbriar_calls.specs.Meanings.{number_of_transform, size_wanted};
 ghost use Rattle.zaxbriar_calls.specs.Meanings.{transform_number};
 
+use crate::extents::Extent;
 use jpeg_decoder::error::Result;
 use jpeg_decoder::{ColorTransform, Decoder, Scale};
+use jpeg_orientation::areas::Area;
 use std::io::Read;
 
 /// How a stream is to be decoded: `zaxbriar_options` of the header. All zeros ask for the picture
@@ -57,9 +60,21 @@ pub struct Options {
     pub luma: u8,
     /// Zero.
     pub reserved_bytes: [u8; 6],
+    /// The part that is asked for of the picture that the other options ask for, at its scale and
+    /// turned upright where they say so; all zeros for all of it. Without a conversion (transform
+    /// 1) it can't be a part.
+    pub crop: Area,
     /// Zero.
-    pub reserved_words: [u64; 8],
+    pub reserved_words: [u64; 7],
 }
+
+/// All of a picture.
+const NO_CROP: Area = Area {
+    left: 0,
+    top: 0,
+    width: 0,
+    height: 0,
+};
 
 /// The picture as it is stored, at full size and without gaps, whatever its size is.
 pub const AS_STORED: Options = Options {
@@ -77,7 +92,8 @@ pub const AS_STORED: Options = Options {
     upright: 0,
     luma: 0,
     reserved_bytes: [0; 6],
-    reserved_words: [0; 8],
+    crop: NO_CROP,
+    reserved_words: [0; 7],
 };
 
 /// Returns whether a number is the denominator of a scale, or 0.
@@ -110,17 +126,49 @@ fn is_rest_zero(options: &Options) -> bool
         && are_zero_bytes(&options.reserved_bytes)
 }
 
+/// Returns whether a part of the picture is asked for.
+pub fn is_cropped(options: &Options) -> bool
+    ensures { result ≡ is_cropped options.now }
+{
+    let crop = options.crop;
+    crop.left != 0 || (crop.top != 0 || (crop.width != 0 || crop.height != 0))
+}
+
 /// Returns whether all options exist whatever the picture is.
 pub fn are_known(options: &Options) -> bool
     ensures { result ≡ are_known options.now }
 {
-    (options.transform != 1 || (options.layout == 0 && options.upright == 0))
+    (options.transform != 1
+        || (options.layout == 0 && (options.upright == 0 && !is_cropped(options))))
         && options.transform <= 5
         && is_denominator(options.scale)
         && options.bottom_up <= 1
         && options.upright <= 1
         && options.luma <= 1
         && is_rest_zero(options)
+}
+
+/// Returns whether no option asks for other samples than the stream has, or for another arrangement
+/// of them.
+fn are_as_coded(options: &Options) -> bool
+    ensures { result ≡ are_as_coded options.now }
+{
+    options.stride == 0
+        && (options.layout == 0
+            && (options.bottom_up == 0
+                && (options.transform == 0
+                    && (options.upright == 0 && (options.luma == 0 && !is_cropped(options))))))
+}
+
+/// Returns whether all options exist for what is asked for.
+pub fn are_known_for(extent: Extent, options: &Options) -> bool
+    ensures { result ≡ are_known_for extent options.now }
+{
+    match extent {
+        Extent::Whole => are_known(options),
+        Extent::Partial => are_known(options),
+        Extent::Planes => are_known(options) && are_as_coded(options),
+    }
 }
 
 /// Returns the colour transform of a number.

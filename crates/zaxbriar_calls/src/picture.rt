@@ -63,7 +63,17 @@ pub struct Picture {
     /// The number of the colour transform that the header asks for.
     pub transform: u8,
     /// Zero.
-    pub reserved: [u8; 143],
+    pub reserved_byte: u8,
+    /// The size of each component's samples in the stream, at the scale of the options, and 0 for
+    /// those that it doesn't have.
+    pub plane_width: [u16; 4],
+    pub plane_height: [u16; 4],
+    /// Zero.
+    pub reserved_bytes: [u8; 6],
+    /// The bytes of all these planes.
+    pub planes_size: u64,
+    /// Zero.
+    pub reserved: [u8; 112],
     /// Why a call failed, ended by a zero; all zeros after a success.
     pub text: [u8; TEXT_BYTES],
 }
@@ -93,7 +103,12 @@ pub const NO_PICTURE: Picture = Picture {
     horizontal_density: 0,
     vertical_density: 0,
     transform: 0,
-    reserved: [0; 143],
+    reserved_byte: 0,
+    plane_width: [0; 4],
+    plane_height: [0; 4],
+    reserved_bytes: [0; 6],
+    planes_size: 0,
+    reserved: [0; 112],
     text: [0; TEXT_BYTES],
 };
 
@@ -127,10 +142,12 @@ pub fn picture_of(header: Header, density: Density, lines: Lines, layout: u8) ->
     requires peak { header.decoding_bytes.coefficients + header.decoding_bytes.planes
         ≤ header.decoding_bytes.peak }
     ensures { result ≡ described_picture layout header.info header.precision lines
-        (bytes_beside header.decoding_bytes) header.orientation header.sampling
+        (bytes_beside header.decoding_bytes) header.orientation header.sampling header.planes
         header.transform density 0 }
 {
     let sampling = header.sampling;
+    let plane_width = header.planes.width;
+    let plane_height = header.planes.height;
     Picture {
         size: size_of_lines(lines),
         row_bytes: lines.row_bytes,
@@ -155,7 +172,12 @@ pub fn picture_of(header: Header, density: Density, lines: Lines, layout: u8) ->
         horizontal_density: density.horizontal,
         vertical_density: density.vertical,
         transform: header.transform,
-        reserved: [0; 143],
+        reserved_byte: 0,
+        plane_width,
+        plane_height,
+        reserved_bytes: [0; 6],
+        planes_size: header.planes.size,
+        reserved: [0; 112],
         text: [0; TEXT_BYTES],
     }
 }

@@ -14,7 +14,7 @@ use zaxbriar_pictures::extents::Completeness;
 pub enum Rows {
     /// Those of the file that was written.
     OfOutput,
-    /// Those of the picture at its scale as it is stored, before it is turned.
+    /// Those of the picture at its scale as it is stored, before it is turned, or a part is taken.
     OfStored,
     /// Those of the file that was read, as it stores them: the picture may have been made smaller
     /// or turned.

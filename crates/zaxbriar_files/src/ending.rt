@@ -10,7 +10,7 @@ use std::process::ExitCode;
 pub enum Failure {
     /// A file was refused, or can't be read or written.
     Refused,
-    /// The arguments are wrong.
+    /// The arguments are wrong, or a part that isn't inside a picture was asked for.
     WrongUse,
     /// A file has a fault, and the part of its picture before it was written.
     Faulty,

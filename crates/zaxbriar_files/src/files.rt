@@ -103,6 +103,15 @@ pub fn report<D: Display>(rt: &HostRuntime, name: Option<&str>, reason: &D) -> F
     Failure::Refused
 }
 
+/// Returns how the program ends after a refusal of the file that was read. That a part isn't inside
+/// its picture is said of the argument.
+fn failure_of(refusal: &Refusal) -> Failure {
+    match refusal {
+        Refusal::Crop { .. } => Failure::WrongUse,
+        _ => Failure::Refused,
+    }
+}
+
 /// Reports a refusal in one line: it names the file that couldn't be written, otherwise the one
 /// that was read. A pipe that nobody reads is not reported.
 fn report_refusal(
@@ -112,7 +121,8 @@ fn report_refusal(
     refusal: &Refusal,
 ) -> Failure {
     if !output.has_failed() {
-        return report(rt, input, refusal);
+        report(rt, input, refusal);
+        return failure_of(refusal);
     }
     if is_broken_pipe(refusal) {
         return Failure::Refused;

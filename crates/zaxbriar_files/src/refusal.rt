@@ -5,6 +5,7 @@ ghost use Rattle.zaxbriar_files.specs.declared.refusal.Refusal.TheVariants.{Deco
 
 use crate::formats::FileFormat;
 use jpeg_bits::error::Error;
+use jpeg_orientation::areas::Area;
 use std::alloc::AllocError;
 use std::{fmt, io};
 
@@ -23,6 +24,15 @@ pub enum Refusal {
     Name,
     /// It is to be a PNG file, and its picture is CMYK, which PNG doesn't have.
     Cmyk,
+    /// The part of its picture that is to be written isn't inside it.
+    Crop {
+        /// That part.
+        area: Area,
+        /// How wide the whole picture is that would be written.
+        width: u16,
+        /// How high it is.
+        height: u16,
+    },
     /// Its picture has more pixels than are allowed.
     Pixels {
         /// How many it has.
@@ -67,6 +77,22 @@ impl fmt::Display for Refusal {
             Refusal::Format(format) => write!(f, "a {} file, not a JPEG file", format.name()),
             Refusal::Name => write!(f, "{NOT_TEXT}"),
             Refusal::Cmyk => write!(f, "PNG has no CMYK: write PAM"),
+            Refusal::Crop {
+                area: Area {
+                    left,
+                    top,
+                    width: columns,
+                    height: lines,
+                },
+                width,
+                height,
+            } => {
+                write!(
+                    f,
+                    "the picture is {width}x{height}, and --crop {columns}x{lines}+{left}+{top} \
+                    isn't inside it"
+                )
+            }
             Refusal::Pixels { pixels, most } => {
                 write!(
                     f,

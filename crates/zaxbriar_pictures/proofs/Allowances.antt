@@ -88,15 +88,16 @@ and-false-right true b h = h
 and-false-right false b h = refl
 
 -- A refusal of a picture that is above a limit is a reason where that is what the limits don't allow.
-pub above-reason : {Y : Type 0} (limits : Limits) (width height taken : ℕ) (outcome : Result Y Fault) (allowed : Bool)
-    (lacks : Type 0) (r : Refusal) → IsAbove limits width height taken r
+pub above-reason : {Y : Type 0} (limits : Limits) (width height taken : ℕ) (outcome : Result Y Fault)
+    (allowed fits : Bool) (lacks : Type 0) (r : Refusal) → IsAbove limits width height taken r
     → (is_allowed limits width height taken ≡ false → allowed ≡ false)
-    → IsReason outcome allowed lacks r
-above-reason limits width height taken outcome allowed lacks (refusals.Pixels pixels most) h f =
+    → IsReason outcome allowed fits lacks r
+above-reason limits width height taken outcome allowed fits lacks (refusals.Pixels pixels most) h f =
     f (and-false-left _ _ (above-most limits.pixels most (width * height) h.1 (subst (λ (n : ℕ). most < n) h.0 h.2)))
-above-reason limits width height taken outcome allowed lacks (refusals.Memory bytes most is_share) h f =
+above-reason limits width height taken outcome allowed fits lacks (refusals.Memory bytes most is_share) h f =
     f (and-false-right _ _ (above-most limits.memory most taken h.1 (subst (λ (n : ℕ). most < n) h.0 h.2)))
-above-reason limits width height taken outcome allowed lacks (refusals.Decoding e) h f = absurd h
-above-reason limits width height taken outcome allowed lacks (refusals.Format format) h f = absurd h
-above-reason limits width height taken outcome allowed lacks refusals.Name h f = absurd h
-above-reason limits width height taken outcome allowed lacks refusals.Cmyk h f = absurd h
+above-reason limits width height taken outcome allowed fits lacks (refusals.Crop area w l) h f = absurd h
+above-reason limits width height taken outcome allowed fits lacks (refusals.Decoding e) h f = absurd h
+above-reason limits width height taken outcome allowed fits lacks (refusals.Format format) h f = absurd h
+above-reason limits width height taken outcome allowed fits lacks refusals.Name h f = absurd h
+above-reason limits width height taken outcome allowed fits lacks refusals.Cmyk h f = absurd h

@@ -13,7 +13,7 @@ use Rattle.jpeg_meaning.specs.Found.{Found, Metadata}
 use Rattle.jpeg_meaning.specs.FoundPictures.{blocks_picture, limited, picture_by, picture_by_process, picture_of, plane_at_end}
 use Rattle.jpeg_meaning.specs.Limits.{IsWithinLimit, work_of_rest}
 use Rattle.jpeg_meaning.specs.Pixels.{samples_shown}
-use Rattle.jpeg_meaning.specs.Stream.{Told, rest_at, rest_by, rest_within, segments_at, told_of}
+use Rattle.jpeg_meaning.specs.Stream.{Told, rest_at, rest_by, rest_within, segments_at, told_of, rest_showing}
 use Rattle.jpeg_meaning.specs.declared.before.Before.TheVariants.{Elsewhere}
 use Rattle.jpeg_bits.specs.declared.beyond.Beyond.TheVariants.{Zeros}
 use Rattle.jpeg_meaning.specs.declared.settings.Settings.{Settings}
@@ -24,7 +24,7 @@ use Rattle.zaxbriar_pictures.specs.ScaledPictures.{settings_for}
 
 rest-above : (most : ℕ) (settings : Settings) (found : Found) (bytes : List ℕ) → most < work_of_rest Zeros found bytes
     → rest_within (Some most) settings found bytes ≡ Err Malformed
-unfolding rest_within segments_at
+unfolding rest_showing segments_at
 rest-above most settings found bytes h = search (rules, arith, above-refused)
 
 not-both : (r : Outcome (Told × List ℕ)) (m : (Told × List ℕ) × List ℕ) → r ≡ Ok m → r ≡ Err Malformed → ⊥
@@ -91,7 +91,7 @@ pictured settings all = picture_of settings all.0 >>= (λ picture. Ok ((told_of 
 
 alike : (luma : Bool) (limits : Limits) (header found : Found) (bytes : List ℕ)
     → rest_at (settings_within luma limits header) found bytes ≡ rest_at (settings_for luma) found bytes
-unfolding rest_within
+unfolding rest_showing
 alike luma limits header found bytes = go (segments_at None false Elsewhere found None bytes)
   where
     go : (r : Outcome Found) → (r >>= (λ all. pictured (settings_within luma limits header) all))

@@ -1,7 +1,9 @@
 mod Allowances
 mod AllowedRests
 mod CheckedStreams
+mod FittingParts
 mod GivenLines
+mod PartPictures
 mod PictureLines
 mod Reasons
 pub mod ScaledStreams

@@ -18,22 +18,9 @@ use Rattle.jpeg_decoder.specs.Bytes.{samples_a_pixel, shape_in, shape_of}
 use Rattle.zaxbriar_samples.specs.Boxes.{components_a_pixel}
 use Rattle.zaxbriar_samples.specs.Png.{line_bytes}
 use Rattle.zaxbriar_samples.specs.Samples.{is_wide}
+use Rattle.zaxbriar_samples.proofs.LinesTogether.{line-at}
 use Rattle.zaxbriar_samples.proofs.PngSteps.{cut_line}
 use Rattle.jpeg_decoder.specs.Bytes as shape
-
--- a line of as many bytes as the others, in all of them together
-line-at : (n y : ℕ) (lines : List (List ℕ)) → HaveBytes n lines → y < length lines
-    → slice_index_or lines y [] ≡ take n (drop (y * n) (concat lines))
-line-at n y [] all low = absurd (let n : ⊥ = omega arith in n)
-line-at n zero (line ∷ lines) all low =
-    let first : 0 * n ≡ 0 = omega arith in
-    rw first (sym (take_at line (concat lines) n all.0))
-line-at n (suc y) (line ∷ lines) all low =
-    let next : suc y ≡ 1 + y = omega arith in
-    let from : suc y * n ≡ n + y * n = ap (λ (k : ℕ). k * n) next ∙ omega (arith, add-mul 1 y n) in
-    line-at n y lines all.1 (omega arith)
-    ∙ ap (λ (l : List ℕ). take n (drop (y * n) l)) (sym (drop_at line (concat lines) n all.0))
-    ∙ ap (take n) (drop-drop (y * n) n (line ++ concat lines) ∙ ap (λ (k : ℕ). drop k (line ++ concat lines)) (sym from))
 
 pub line-cut : (info : ImageInfo) (precision y : ℕ) (lines : List (List ℕ))
     → HaveBytes (line_bytes info precision) lines → y < length lines

@@ -89,26 +89,28 @@ pub named-then : {A B : Type 0} (e : Error) (r : Result A Fault) (next : A → R
 named-then e r next (inl h) = inl (names-then e r next h)
 named-then e r next (inr h) = inr h
 
-pub reason-then : {A B : Type 0} (r : Refusal) (outcome : Result A Fault) (next : A → Result B Fault) (allowed : Bool)
-    (lacks : Type 0) → IsReason outcome allowed ⊥ r → IsReason (outcome >>= next) allowed lacks r
-reason-then (refusals.Decoding e) outcome next allowed lacks h = named-then e outcome next h
-reason-then (refusals.Pixels pixels most) outcome next allowed lacks h = h
-reason-then (refusals.Memory bytes most is_share) outcome next allowed lacks h = h
-reason-then (refusals.Format format) outcome next allowed lacks h = absurd h
-reason-then refusals.Name outcome next allowed lacks h = absurd h
-reason-then refusals.Cmyk outcome next allowed lacks h = absurd h
+pub reason-then : {A B : Type 0} (r : Refusal) (outcome : Result A Fault) (next : A → Result B Fault) (allowed fits : Bool)
+    (lacks : Type 0) → IsReason outcome allowed true ⊥ r → IsReason (outcome >>= next) allowed fits lacks r
+reason-then (refusals.Decoding e) outcome next allowed fits lacks h = named-then e outcome next h
+reason-then (refusals.Pixels pixels most) outcome next allowed fits lacks h = h
+reason-then (refusals.Memory bytes most is_share) outcome next allowed fits lacks h = h
+reason-then (refusals.Crop area width height) outcome next allowed fits lacks h = absurd (let n : ⊥ = cc in n)
+reason-then (refusals.Format format) outcome next allowed fits lacks h = absurd h
+reason-then refusals.Name outcome next allowed fits lacks h = absurd h
+reason-then refusals.Cmyk outcome next allowed fits lacks h = absurd h
 
 -- ---- the second step
 
 -- A reason that is no limit is one whatever the limits allow.
-pub reason-allowed : {Y : Type 0} (r : Refusal) (outcome : Result Y Fault) (allowed : Bool) (lacks : Type 0)
-    → IsReason outcome true lacks r → IsReason outcome allowed lacks r
-reason-allowed (refusals.Decoding e) outcome allowed lacks h = h
-reason-allowed (refusals.Pixels pixels most) outcome allowed lacks h = absurd (let n : ⊥ = cc in n)
-reason-allowed (refusals.Memory bytes most is_share) outcome allowed lacks h = absurd (let n : ⊥ = cc in n)
-reason-allowed (refusals.Format format) outcome allowed lacks h = absurd h
-reason-allowed refusals.Name outcome allowed lacks h = absurd h
-reason-allowed refusals.Cmyk outcome allowed lacks h = h
+pub reason-allowed : {Y : Type 0} (r : Refusal) (outcome : Result Y Fault) (allowed fits : Bool) (lacks : Type 0)
+    → IsReason outcome true true lacks r → IsReason outcome allowed fits lacks r
+reason-allowed (refusals.Decoding e) outcome allowed fits lacks h = h
+reason-allowed (refusals.Pixels pixels most) outcome allowed fits lacks h = absurd (let n : ⊥ = cc in n)
+reason-allowed (refusals.Memory bytes most is_share) outcome allowed fits lacks h = absurd (let n : ⊥ = cc in n)
+reason-allowed (refusals.Crop area width height) outcome allowed fits lacks h = absurd (let n : ⊥ = cc in n)
+reason-allowed (refusals.Format format) outcome allowed fits lacks h = absurd h
+reason-allowed refusals.Name outcome allowed fits lacks h = absurd h
+reason-allowed refusals.Cmyk outcome allowed fits lacks h = h
 
 -- What the rest shows after a header is what the stream shows.
 pub shown-is : (extent : Extent) (luma : Bool) (limits : Limits) (scale : Scale) (bytes : List ℕ) (found : Found)
@@ -121,18 +123,18 @@ shown-is extent luma limits scale bytes found old header is within =
     ∙ sym (then-ok (header_at bytes) _ (found, old.source.bytes) _ header refl)
 
 pub refused-at-scale : (extent : Extent) (luma : Bool) (limits : Limits) (scale : Scale) (bytes : List ℕ) (found : Found)
-    (old : Decoding) (format : PictureFormat) (allowed : Bool) (r : Refusal)
+    (old : Decoding) (format : PictureFormat) (allowed fits : Bool) (r : Refusal)
     → header_at bytes ≡ Ok (found, old.source.bytes)
     → old.found ≡ with_said (scaled_to scale) found → old.settings ≡ settings_within luma limits old.found
     → RefusesFile extent format old r
-    → IsReason (shown_at_scale extent luma limits scale bytes) allowed
+    → IsReason (shown_at_scale extent luma limits scale bytes) allowed fits
     (LacksColours format (settings_for luma) (shown_at_scale extent luma limits scale bytes)) r
-refused-at-scale extent luma limits scale bytes found old format allowed r header is within h =
+refused-at-scale extent luma limits scale bytes found old format allowed fits r header is within h =
     let rest = given_rest extent old.settings old.found old.source.bytes in
-    let all = reason-allowed r rest allowed (LacksColours format old.settings rest) h in
-    let set : IsReason rest allowed (LacksColours format (settings_for luma) rest) r =
-    subst (λ (settings : Settings). IsReason rest allowed (LacksColours format settings rest) r) within all in
-    subst (λ (shown : Result Shown Fault). IsReason shown allowed (LacksColours format (settings_for luma) shown) r)
+    let all = reason-allowed r rest allowed fits (LacksColours format old.settings rest) h in
+    let set : IsReason rest allowed fits (LacksColours format (settings_for luma) rest) r =
+    subst (λ (settings : Settings). IsReason rest allowed fits (LacksColours format settings rest) r) within all in
+    subst (λ (shown : Result Shown Fault). IsReason shown allowed fits (LacksColours format (settings_for luma) shown) r)
     (shown-is extent luma limits scale bytes found old header is within) set
 
 -- ---- a format lacks colours
@@ -208,24 +210,26 @@ info-by-same old new frame info same h =
 
 -- ---- thumbnails
 
-pub reason-lacks : {Y : Type 0} (r : Refusal) (outcome : Result Y Fault) (allowed : Bool) (lacks : Type 0)
-    → IsReason outcome allowed ⊥ r → IsReason outcome allowed lacks r
-reason-lacks (refusals.Decoding e) outcome allowed lacks h = h
-reason-lacks (refusals.Pixels pixels most) outcome allowed lacks h = h
-reason-lacks (refusals.Memory bytes most is_share) outcome allowed lacks h = h
-reason-lacks (refusals.Format format) outcome allowed lacks h = absurd h
-reason-lacks refusals.Name outcome allowed lacks h = absurd h
-reason-lacks refusals.Cmyk outcome allowed lacks h = absurd h
+pub reason-lacks : {Y : Type 0} (r : Refusal) (outcome : Result Y Fault) (allowed fits : Bool) (lacks : Type 0)
+    → IsReason outcome allowed fits ⊥ r → IsReason outcome allowed fits lacks r
+reason-lacks (refusals.Decoding e) outcome allowed fits lacks h = h
+reason-lacks (refusals.Crop area width height) outcome allowed fits lacks h = h
+reason-lacks (refusals.Pixels pixels most) outcome allowed fits lacks h = h
+reason-lacks (refusals.Memory bytes most is_share) outcome allowed fits lacks h = h
+reason-lacks (refusals.Format format) outcome allowed fits lacks h = absurd h
+reason-lacks refusals.Name outcome allowed fits lacks h = absurd h
+reason-lacks refusals.Cmyk outcome allowed fits lacks h = absurd h
 
 pub reason-picture : {Y : Type 0} (r : Refusal) (format : PictureFormat) (pixels : PixelFormat) (outcome : Result Y Fault)
-    (allowed : Bool) (lacks : Type 0) → RefusesPicture format pixels r → (has_pixels format pixels ≡ false → lacks)
-    → IsReason outcome allowed lacks r
-reason-picture (refusals.Decoding e) format pixels outcome allowed lacks h none = inr h
-reason-picture refusals.Cmyk format pixels outcome allowed lacks h none = none h
-reason-picture (refusals.Pixels n most) format pixels outcome allowed lacks h none = absurd h
-reason-picture (refusals.Memory bytes most is_share) format pixels outcome allowed lacks h none = absurd h
-reason-picture (refusals.Format other) format pixels outcome allowed lacks h none = absurd h
-reason-picture refusals.Name format pixels outcome allowed lacks h none = absurd h
+    (allowed fits : Bool) (lacks : Type 0) → RefusesPicture format pixels r → (has_pixels format pixels ≡ false → lacks)
+    → IsReason outcome allowed fits lacks r
+reason-picture (refusals.Decoding e) format pixels outcome allowed fits lacks h none = inr h
+reason-picture refusals.Cmyk format pixels outcome allowed fits lacks h none = none h
+reason-picture (refusals.Crop area width height) format pixels outcome allowed fits lacks h none = absurd h
+reason-picture (refusals.Pixels n most) format pixels outcome allowed fits lacks h none = absurd h
+reason-picture (refusals.Memory bytes most is_share) format pixels outcome allowed fits lacks h none = absurd h
+reason-picture (refusals.Format other) format pixels outcome allowed fits lacks h none = absurd h
+reason-picture refusals.Name format pixels outcome allowed fits lacks h none = absurd h
 
 -- The picture keeps its colours where it is made smaller and turned.
 pub same-colours : (orientation : ℕ) (size : Dimensions) (p : Decoded)

@@ -11,7 +11,7 @@ use Rattle.jpeg_meaning.specs.Pixels.{info_by, info_of}
 use Rattle.jpeg_meaning.specs.Shown.{Shown}
 use Rattle.jpeg_meaning.specs.States.{Decoding}
 use Rattle.jpeg_meaning.specs.Limits.{IsWithinLimit, work_of_rest}
-use Rattle.jpeg_meaning.specs.Stream.{Told, header_at, meaning, rest_at, rest_by, scaled_meaning, scaled_to}
+use Rattle.jpeg_meaning.specs.Stream.{Told, header_at, meaning, rest_at, rest_by, scaled_to, scaled_showing}
 use Rattle.jpeg_bits.specs.declared.beyond.Beyond.TheVariants.{Zeros}
 use Rattle.jpeg_meaning.specs.declared.settings.Settings.{Settings}
 use Rattle.jpeg_meaning.specs.Found.{Found, with_said}
@@ -28,7 +28,8 @@ use Rattle.zaxbriar_samples.specs.DecodedPictures.{Decoded, decoded}
 use Rattle.zaxbriar_pictures.specs.Raw.{raw_bytes, raw_of}
 use Rattle.zaxbriar_samples.specs.Files.{file_as}
 use Rattle.zaxbriar_samples.specs.Sizes.{orientation_by, orientation_for}
-use Rattle.zaxbriar_samples.specs.Turns.{upright}
+use Rattle.zaxbriar_samples.specs.Parts.{shown_part}
+use Rattle.jpeg_orientation.specs.declared.areas.Area.{Area}
 use Rattle.zaxbriar_samples.specs.declared.files.PictureFormat.{PictureFormat}
 use Rattle.zaxbriar_samples.specs.declared.requests.AtScale.{AtScale}
 use Rattle.zaxbriar_samples.specs.declared.requests.Request.TheVariants.{At}
@@ -111,7 +112,7 @@ pub file-given : (extent : Extent) (limits : Limits) (asked : AtScale) (orientat
     (before after : Option (List ℕ)) (picture : Decoded) (told : Completeness)
     → orientation ≡ orientation_for (At asked) (header_exif bytes)
     → IsGiven extent asked.luma limits asked.scale bytes picture told.whole_rows told.fault → told.info ≡ picture.info
-    → IsSomeAnd (file_as format (upright orientation picture)) (Appends before after)
+    → IsSomeAnd (file_as format (shown_part asked.crop orientation picture)) (Appends before after)
     → WritesGiven extent limits asked format bytes before after told
 file-given extent limits asked orientation format bytes before after picture told turn h is appended =
     go (given_at_scale extent asked.luma limits asked.scale bytes) h
@@ -119,13 +120,14 @@ file-given extent limits asked orientation format bytes before after picture tol
     go : (o : Option Given) → IsSomeAnd o (λ g. (picture ≡ g.picture) × NamesFault told.fault g.fault
         × (told.whole_rows ≡ complete_rows extent limits asked.scale bytes g.picture.info.height))
         → IsSomeAnd o (λ g. IsSomeAnd
-        (file_as format (upright (orientation_for (At asked) (header_exif bytes)) g.picture)) (Appends before after)
+        (file_as format (shown_part asked.crop (orientation_for (At asked) (header_exif bytes)) g.picture))
+        (Appends before after)
         × TellsGiven extent limits asked.scale bytes g told)
     go None h = absurd h
     go (Some g) h = (
       subst (λ (p : Decoded). IsSomeAnd (file_as format p) (Appends before after))
-          (ap (λ (o : ℕ). upright o picture) turn
-          ∙ ap (upright (orientation_for (At asked) (header_exif bytes))) h.0) appended,
+          (ap (λ (o : ℕ). shown_part asked.crop o picture) turn
+          ∙ ap (shown_part asked.crop (orientation_for (At asked) (header_exif bytes))) h.0) appended,
       tells-given extent limits asked.scale bytes g picture told is h.0 h.1 h.2,
     )
 
@@ -154,7 +156,7 @@ whole-rest luma (Ok ((told, pixels), left)) plain picture P Q same h =
 pub whole-given : (luma : Bool) (limits : Limits) (scale : Scale) (bytes : List ℕ) (picture : Decoded) (rows : ℕ)
     (fault : Option Error) → IsGiven Whole luma limits scale bytes picture rows fault
     → picture_at_scale luma scale bytes ≡ Some picture
-unfolding given_at_scale picture_at_scale scaled_meaning
+unfolding given_at_scale picture_at_scale scaled_showing
 whole-given luma limits scale bytes picture rows fault h = go (header_at bytes) h
   where
     go : (r : Outcome Found) → IsSomeAnd (elim (r >>= (λ header.
@@ -205,18 +207,18 @@ output-some limits bytes rest left found told pixels info header picture hi =
     ) refl
 
 -- They are the meaning of the stream for the picture, or for the luma, which is then turned.
-turned-some : (luma : Bool) (turning : Upright) (limits : Limits) (bytes rest left : List ℕ) (found : Found) (told : Told)
+turned-some : (luma : Bool) (turning : Upright) (crop : Option Area) (limits : Limits) (bytes rest left : List ℕ) (found : Found) (told : Told)
     (pixels : List ℕ) (info : ImageInfo) (precision orientation : ℕ) → header_at bytes ≡ Ok (found, rest)
     → rest_by (settings_within luma limits found) found rest ≡ Ok ((told, pixels), left)
     → option_map (info_by (settings_for luma)) told.frame ≡ Some info
     → option_map (λ f. f.precision) told.frame ≡ Some precision
     → orientation ≡ orientation_by turning found.said.metadata.exif
     → elim (meaning (settings_for luma) bytes) [
-      | Ok stream ↦ option_map (λ f. raw_bytes (upright (orientation_by turning (header_exif bytes))
+      | Ok stream ↦ option_map (λ f. raw_bytes (shown_part crop (orientation_by turning (header_exif bytes))
           (decoded_of luma f stream.0.1))) stream.0.0.frame
       | Err fault ↦ None
-    ] ≡ Some (raw_bytes (upright orientation (decoded info precision pixels)))
-turned-some luma turning limits bytes rest left found told pixels info precision orientation header picture hi hp turn =
+    ] ≡ Some (raw_bytes (shown_part crop orientation (decoded info precision pixels)))
+turned-some luma turning crop limits bytes rest left found told pixels info precision orientation header picture hi hp turn =
     let said = turn ∙ ap (orientation_by turning) (sym (header-exif-some bytes rest found header)) in
     rw (
       header-means None (settings_for luma) found bytes rest header
@@ -224,24 +226,26 @@ turned-some luma turning limits bytes rest left found told pixels info precision
       said,
     )
     (of_frame told.frame (info_by (settings_for luma)) (λ f. f.precision) pixels
-    (λ p. raw_bytes (upright (orientation_by turning (header_exif bytes)) p)) info precision hi hp)
+    (λ p. raw_bytes (shown_part crop (orientation_by turning (header_exif bytes)) p)) info precision hi hp)
 
 -- So are they what `raw` writes, once the picture is turned by the orientation that is asked for.
-pub raw-some : (luma : Bool) (turning : Upright) (limits : Limits) (bytes rest left : List ℕ) (found : Found) (told : Told)
+pub raw-some : (luma : Bool) (turning : Upright) (crop : Option Area) (limits : Limits) (bytes rest left : List ℕ) (found : Found) (told : Told)
     (pixels : List ℕ) (info : ImageInfo) (precision orientation : ℕ) → header_at bytes ≡ Ok (found, rest)
     → rest_by (settings_within luma limits found) found rest ≡ Ok ((told, pixels), left)
     → option_map (info_by (settings_for luma)) told.frame ≡ Some info
     → option_map (λ f. f.precision) told.frame ≡ Some precision
     → orientation ≡ orientation_by turning found.said.metadata.exif
-    → raw_of luma turning bytes ≡ Some (raw_bytes (upright orientation (decoded info precision pixels)))
+    → raw_of luma turning crop bytes ≡ Some (raw_bytes (shown_part crop orientation (decoded info precision pixels)))
 unfolding raw_of orientation_by
-raw-some false AsStored limits bytes rest left found told pixels info precision orientation header picture hi hp turn =
+raw-some false AsStored None limits bytes rest left found told pixels info precision orientation header picture hi hp turn =
     let one : orientation ≡ 1 = turn in
     rw (raw_of, one) (output-some limits bytes rest left found told pixels info header picture hi)
-raw-some false Turned limits bytes rest left found told pixels info precision orientation header picture hi hp turn =
-    turned-some false Turned limits bytes rest left found told pixels info precision orientation header picture hi hp turn
-raw-some true turning limits bytes rest left found told pixels info precision orientation header picture hi hp turn =
-    turned-some true turning limits bytes rest left found told pixels info precision orientation header picture hi hp turn
+raw-some false AsStored (Some area) limits bytes rest left found told pixels info precision orientation header picture hi hp turn =
+    turned-some false AsStored (Some area) limits bytes rest left found told pixels info precision orientation header picture hi hp turn
+raw-some false Turned crop limits bytes rest left found told pixels info precision orientation header picture hi hp turn =
+    turned-some false Turned crop limits bytes rest left found told pixels info precision orientation header picture hi hp turn
+raw-some true turning crop limits bytes rest left found told pixels info precision orientation header picture hi hp turn =
+    turned-some true turning crop limits bytes rest left found told pixels info precision orientation header picture hi hp turn
 
 -- A stream of which they have a picture codes no more blocks than the limits allow.
 pub codes-within : (luma : Bool) (limits : Limits) (bytes rest : List ℕ) (found : Found) (m : (Told × List ℕ) × List ℕ)

@@ -1,8 +1,8 @@
 -- The file of the upright picture is what the program writes.
-use Rattle.std.proofs.Common.{◌≡◌, ℕ, List, Option, None, Some, IsSomeAnd, ap, refl, ◌∙◌}
+use Rattle.std.proofs.Common.{◌≡◌, ℕ, List, Option, None, Some, IsSomeAnd, ap, refl, ◌∙◌, Bool, true, false, if◌then◌else◌}
 use Rattle.std.specs.Io.KnownBytes.{Appends}
 use Rattle.jpeg_segments.specs.declared.frame.Dimensions.{Dimensions}
-use Rattle.zaxbriar_samples.specs.Boxes.{boxed}
+use Rattle.zaxbriar_samples.specs.Boxes.{boxed, is_smaller}
 use Rattle.jpeg_meaning.specs.declared.images.ImageInfo.{ImageInfo}
 use Rattle.zaxbriar_files.specs.declared.limits.Limits.{Limits}
 use Rattle.zaxbriar_pictures.specs.Given.{Given, IsGiven, complete_rows, given_at_scale}
@@ -57,3 +57,11 @@ written extent limits request format bytes before after scale size orientation r
     let tells : TellsOfFile full extent limits (scale_of_request request full orientation) bytes g told
     = rw (← header.2.1) (header.2.0, rows_are, gives.2.1) in
     rw (← turn) (full, g, header.1, at_scale, moved format before after made _ known appended, tells)
+
+-- a picture that isn't greater stays as it is
+pub as-it-is : (size : Dimensions) (p : Decoded) → is_smaller size p.info ≡ false → boxed size p ≡ p
+as-it-is size p h = chosen (is_smaller size p.info) _ p h
+  where
+    chosen : (test : Bool) (a b : Decoded) → test ≡ false → (if test then a else b) ≡ b
+    chosen false a b h = refl
+    chosen true a b h = absurd (let n : ⊥ = cc in n)

@@ -1,5 +1,5 @@
 -- What a request takes of the picture of a stream, by its header, and whether the limits allow it.
-use Rattle.std.specs.Prelude.{ℕ, ◌+◌, ◌*◌, ◌-◌, ◌^◌, ◌==◌, ◌&&◌, Bool, false, List, min, option_map}
+use Rattle.std.specs.Prelude.{ℕ, ◌+◌, ◌*◌, ◌-◌, ◌^◌, ◌==◌, ◌&&◌, Bool, false, List, max, min, option_map}
 use Rattle.std.specs.Prelude.{Ok, Err, if◌then◌else◌, unwrap_or}
 use Rattle.jpeg_segments.specs.Frame.{Frame}
 use Rattle.jpeg_segments.specs.Scales.{scaled}
@@ -12,6 +12,7 @@ use Rattle.jpeg_decoder.specs.Bytes.{decoding_bytes}
 use Rattle.jpeg_decoder.specs.declared.sizes.DecodingBytes.{DecodingBytes}
 use Rattle.zaxbriar_files.specs.Limits.{is_allowed}
 use Rattle.zaxbriar_files.specs.declared.limits.Limits.{Limits}
+use Rattle.zaxbriar_samples.specs.Boxes.{is_smaller}
 use Rattle.zaxbriar_samples.specs.Sizes.{luma_for, orientation_by, orientation_for}
 use Rattle.zaxbriar_samples.specs.Sizes.{scale_of_request, size_for}
 use Rattle.zaxbriar_samples.specs.Turns.{bytes_of}
@@ -30,16 +31,16 @@ together a b = min (a + b) (2 ^ 64 - 1)
 abbrev pub taken_in_lines : DecodingBytes → ℕ
 taken_in_lines bytes = together bytes.coefficients bytes.planes
 
--- what is taken where a picture is held whole, and turned by an orientation into another one,
+-- what is taken where the whole picture is made, and turned by an orientation into another one,
 -- unless it is upright as it is
-abbrev pub taken_held : ℕ → DecodingBytes → ℕ
-taken_held orientation bytes =
+abbrev pub taken_whole : ℕ → DecodingBytes → ℕ
+taken_whole orientation bytes =
     if orientation == 1 then bytes.peak else together bytes.peak bytes.picture
 
 -- what is taken for the bytes of a picture
 abbrev pub taken_raw : ℕ → DecodingBytes → ℕ
 taken_raw orientation bytes =
-    if orientation == 1 then taken_in_lines bytes else taken_held orientation bytes
+    if orientation == 1 then taken_in_lines bytes else taken_whole orientation bytes
 
 -- a picture of this size, of the format of another
 abbrev pub made_bytes : Dimensions → ImageInfo → ℕ → ℕ
@@ -51,16 +52,27 @@ abbrev pub is_by_lines : PictureFormat → ℕ → ℕ → Bool
 is_by_lines Netpbm precision orientation = orientation == 1 && precision == 8
 is_by_lines Png precision orientation = orientation == 1
 
--- What a request takes of the picture of a frame at its scale, for a file of a format: without the
--- picture where its lines are written one by one. A picture that fits within a size is made beside
--- the one that is decoded.
+-- what is taken of a picture of this precision at its scale, for a file of a format
+abbrev pub taken_at : PictureFormat → ℕ → ℕ → DecodingBytes → ℕ
+taken_at format precision orientation bytes = if is_by_lines format precision orientation
+    then taken_in_lines bytes else taken_whole orientation bytes
+
+-- What is taken where a picture is made smaller line by line, into one of this many bytes: it is
+-- made beside what the lines are made of, and then turned by an orientation into another one,
+-- unless it is upright as it is.
+abbrev pub taken_smaller : ℕ → DecodingBytes → ℕ → ℕ
+taken_smaller orientation bytes made = let boxed = together (taken_in_lines bytes) made in
+    if orientation == 1 then boxed else max boxed (together made made)
+
+-- What a request takes of the picture of a frame at its scale, for a file of a format.
 unfoldable pub taken_for : Request → PictureFormat → ImageInfo → Frame → Dimensions → ℕ → ℕ
 taken_for (At at) format full f size orientation =
-    let bytes = decoding_bytes (settings_for at.luma) f in
-    if is_by_lines format f.precision orientation then taken_in_lines bytes
-    else taken_held orientation bytes
+    taken_at format f.precision orientation (decoding_bytes (settings_for at.luma) f)
 taken_for (Within most upright) format full f size orientation =
-    together (decoding_bytes (settings_for false) f).peak (made_bytes size full f.precision)
+    let bytes = decoding_bytes (settings_for false) f in
+    if is_smaller size (info_by (settings_for false) f)
+    then taken_smaller orientation bytes (made_bytes size full f.precision)
+    else taken_at format f.precision orientation bytes
 
 -- whether the limits allow the pixels of a frame, and what a request takes of it
 abbrev pub allows_frame : Request → PictureFormat → Limits → Found → Frame → Bool

@@ -17,8 +17,8 @@ use Rattle.zaxbriar_files.specs.Limits.{most_blocks}
 use Rattle.zaxbriar_files.specs.declared.limits.Limits.{Limits}
 use Rattle.zaxbriar_samples.specs.DecodedPictures.{Decoded}
 use Rattle.zaxbriar_samples.specs.Files.{file_as}
+use Rattle.zaxbriar_samples.specs.Parts.{shown_part}
 use Rattle.zaxbriar_samples.specs.Sizes.{orientation_for}
-use Rattle.zaxbriar_samples.specs.Turns.{upright}
 use Rattle.zaxbriar_samples.specs.declared.files.PictureFormat.{PictureFormat}
 use Rattle.zaxbriar_samples.specs.declared.requests.AtScale.{AtScale}
 use Rattle.zaxbriar_samples.specs.declared.requests.Request.TheVariants.{At}
@@ -117,13 +117,13 @@ TellsGiven extent limits scale bytes g told = (told.info ≡ g.picture.info)
 
 -- A writer is given the file, in a format that has one, of the picture of a stream at a scale, or
 -- of its luma, within the limits, turned upright by the orientation for the request: the one that
--- the Exif data of the header say, or 1. Its caller is told how much of the picture is complete,
--- before it is turned.
+-- the Exif data of the header say, or 1; or of the part of that which is asked for. Its caller is
+-- told how much of the whole picture is complete, before it is turned.
 abbrev pub WritesGiven : Extent → Limits → AtScale → PictureFormat → List ℕ → Option (List ℕ)
     → Option (List ℕ) → Completeness → Type 0
 WritesGiven extent limits at format bytes before after told =
     IsSomeAnd (given_at_scale extent at.luma limits at.scale bytes) (λ g. IsSomeAnd
-    (file_as format (upright (orientation_for (At at) (header_exif bytes)) g.picture))
+    (file_as format (shown_part at.crop (orientation_for (At at) (header_exif bytes)) g.picture))
     (Appends before after)
     × TellsGiven extent limits at.scale bytes g told)
 

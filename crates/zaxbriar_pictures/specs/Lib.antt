@@ -1,5 +1,7 @@
 pub mod Allowed
+pub mod Crops
 pub mod Given
+pub mod PartLines
 pub mod Raw
 pub mod Reasons
 pub mod ScaledPictures

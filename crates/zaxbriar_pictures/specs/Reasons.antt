@@ -29,14 +29,16 @@ use Rattle.zaxbriar_pictures.specs.declared.extents.Extent.{Extent}
 abbrev pub NamesOrOutside : {Y : Type 0} → Result Y Fault → Error → Type 0
 NamesOrOutside outcome e = Names e outcome ⊎ IsOutsideOrMemory e
 
--- Why nothing is made of a stream, by what reading it gives, by whether the limits allow it, and by
--- what it means that a format lacks its colours.
-abbrev pub IsReason : {Y : Type 0} → Result Y Fault → Bool → Type 0 → Refusal → Type 0
-IsReason outcome allowed lacks (refusals.Decoding e) = NamesOrOutside outcome e
-IsReason outcome allowed lacks refusals.Cmyk = lacks
-IsReason outcome allowed lacks (refusals.Pixels pixels most) = allowed ≡ false
-IsReason outcome allowed lacks (refusals.Memory bytes most is_share) = allowed ≡ false
-IsReason outcome allowed lacks _ = ⊥
+-- Why nothing is made of a stream, by what reading it gives, by whether the limits allow it, by
+-- whether the part that is asked for fits into its picture, and by what it means that a format
+-- lacks its colours.
+abbrev pub IsReason : {Y : Type 0} → Result Y Fault → Bool → Bool → Type 0 → Refusal → Type 0
+IsReason outcome allowed fits lacks (refusals.Decoding e) = NamesOrOutside outcome e
+IsReason outcome allowed fits lacks refusals.Cmyk = lacks
+IsReason outcome allowed fits lacks (refusals.Crop area width height) = fits ≡ false
+IsReason outcome allowed fits lacks (refusals.Pixels pixels most) = allowed ≡ false
+IsReason outcome allowed fits lacks (refusals.Memory bytes most is_share) = allowed ≡ false
+IsReason outcome allowed fits lacks _ = ⊥
 
 -- why no file is written of a picture of this format
 abbrev pub RefusesPicture : PictureFormat → PixelFormat → Refusal → Type 0

@@ -18,7 +18,8 @@ use Rattle.zaxbriar_pictures.specs.ScaledPictures.{settings_for}
 use Rattle.zaxbriar_samples.specs.DecodedPictures.{Decoded}
 use Rattle.zaxbriar_samples.specs.Files.{file_as}
 use Rattle.zaxbriar_samples.specs.Sizes.{luma_for, orientation_for, scale_of_request, size_for}
-use Rattle.zaxbriar_samples.specs.Turns.{upright}
+use Rattle.zaxbriar_samples.specs.Parts.{shown_part}
+use Rattle.jpeg_orientation.specs.declared.areas.Area.{Area}
 use Rattle.zaxbriar_pictures.specs.declared.extents.Completeness.{Completeness}
 use Rattle.zaxbriar_pictures.specs.declared.extents.Extent.{Extent}
 use Rattle.zaxbriar_pictures.specs.declared.scaled.Choice.{Choice}
@@ -69,12 +70,13 @@ pub record GivesPicture (extent : Extent) (old new : Decoding) (picture : Decode
 abbrev pub RefusesFile : Extent → PictureFormat → Decoding → Refusal → Type 0
 RefusesFile extent format old =
     let rest = given_rest extent old.settings old.found old.source.bytes in
-    IsReason rest true (LacksColours format old.settings rest)
+    IsReason rest true true (LacksColours format old.settings rest)
 
--- Such a decoder has given a picture, and a writer has got its file in a format that has one, once
--- it was turned upright by an orientation.
-pub record WritesFile (extent : Extent) (orientation : ℕ) (format : PictureFormat)
-    (old new : Decoding) (before after : Option (List ℕ)) (told : Completeness) : Type 0 where
+-- Such a decoder has given a picture, and a writer has got its file, or that of a part, in a format
+-- that has one, once it was turned upright by an orientation.
+pub record WritesFile (extent : Extent) (crop : Option Area) (orientation : ℕ)
+    (format : PictureFormat) (old new : Decoding) (before after : Option (List ℕ)) (told : Completeness) : Type 0 where
   pub picture : Decoded
   pub gives : GivesPicture extent old new picture told
-  pub written : IsSomeAnd (file_as format (upright orientation picture)) (Appends before after)
+  pub written : IsSomeAnd (file_as format (shown_part crop orientation picture))
+      (Appends before after)

@@ -38,12 +38,13 @@ fn check_decoder<R: Read + Drop>(
         (λ _. allows (At (stored_at Full)) Netpbm limits decoder.old.source.bytes ≡ true) }
     ensures refused { decoder.old.source.known ≡ true → IfErr result (IsReason
         (shown_at_scale Partial false limits Full decoder.old.source.bytes)
-        (allows (At (stored_at Full)) Netpbm limits decoder.old.source.bytes) ⊥) }
+        (allows (At (stored_at Full)) Netpbm limits decoder.old.source.bytes) true ⊥) }
 {
     let at = AtScale {
         scale: Scale::Full,
         upright: Upright::AsStored,
         luma: false,
+        crop: None,
     };
     choose(decoder, Request::At(at), PictureFormat::Netpbm, limits)?;
     let shown = decode_wanted_lines(decoder, Extent::Partial)?;
@@ -81,7 +82,7 @@ pub fn check_stream<R: Read + Drop>(
     // is one of the reader, or out of memory.
     ensures refused { (bytes : List ℕ) → Tells (R.remaining reader) bytes → IfErr result (IsReason
         (shown_at_scale Partial false limits Full bytes)
-        (allows (At (stored_at Full)) Netpbm limits bytes) ⊥) }
+        (allows (At (stored_at Full)) Netpbm limits bytes) true ⊥) }
 {
     let mut decoder = Decoder::with_capacity(alloc, READ_AHEAD, reader)?;
     check_decoder(&mut decoder, limits)

@@ -10,17 +10,14 @@ ghost use Rattle.jpeg_meaning.specs.Pixels.{info_by};
 ghost use Rattle.jpeg_meaning.specs.declared.progress.Progress.TheVariants.{HeaderRead};
 ghost use Rattle.zaxbriar_pictures.specs.Given.{given_rest};
 ghost use Rattle.zaxbriar_pictures.specs.Reasons.{NamesOrOutside};
-ghost use Rattle.zaxbriar_pictures.specs.Steps.{CountsRest, GivesPicture, GivesRest};
-ghost use Rattle.zaxbriar_samples.specs.DecodedPictures.{decoded_in};
+ghost use Rattle.zaxbriar_pictures.specs.Steps.{CountsRest, GivesRest};
 ghost use Rattle.zaxbriar_pictures.specs.declared.extents.Extent.TheVariants.{Partial, Whole};
 ghost use Rattle.jpeg_meaning.specs.Shown.{whole_rows_rest};
 
 use jpeg_decoder::error::{Error, Result};
 use jpeg_decoder::{Decoder, ImageInfo, PartialLines};
-use std::alloc::Global;
 use std::io;
 use std::io::{ErrorKind, Read};
-use zaxbriar_samples::netpbm::Picture;
 
 /// How much of a stream's picture is wanted.
 #[derive(Clone, Copy)]
@@ -120,6 +117,7 @@ fn decode_partial<R: Read + Drop>(decoder: &mut Decoder<R>) -> Result<PartialLin
     ensures refused { decoder.old.source.known ≡ true → IfErr result (NamesOrOutside
         (given_rest Partial decoder.old.settings decoder.old.found decoder.old.source.bytes)) }
     ensures settings { decoder.new.settings ≡ decoder.old.settings }
+    ensures stays { decoder.new.found.said.frame ≡ decoder.old.found.said.frame }
 {
     let decoded = decoder.decode_partial_lines();
     let has_failed = decoder.has_read_failed();
@@ -143,6 +141,7 @@ fn decode_whole<R: Read + Drop>(decoder: &mut Decoder<R>) -> Result<PartialLines
     ensures refused { decoder.old.source.known ≡ true → IfErr result (NamesOrOutside
         (given_rest Whole decoder.old.settings decoder.old.found decoder.old.source.bytes)) }
     ensures settings { decoder.new.settings ≡ decoder.old.settings }
+    ensures stays { decoder.new.found.said.frame ≡ decoder.old.found.said.frame }
 {
     let lines = decoder.decode_lines()?;
     let info = decoder.info().unwrap();
@@ -172,39 +171,10 @@ pub(crate) fn decode_wanted_lines<R: Read + Drop>(
     ensures refused { decoder.old.source.known ≡ true → IfErr result (NamesOrOutside
         (given_rest extent decoder.old.settings decoder.old.found decoder.old.source.bytes)) }
     ensures settings { decoder.new.settings ≡ decoder.old.settings }
+    ensures stays { decoder.new.found.said.frame ≡ decoder.old.found.said.frame }
 {
     match extent {
         Extent::Whole => decode_whole(decoder),
         Extent::Partial => decode_partial(decoder),
     }
-}
-
-/// Decodes as much as is wanted of the picture of a decoder, whose header was read, and returns it
-/// and how much of it is complete.
-pub(crate) fn decode_wanted_picture<R: Read + Drop>(
-    alloc: Global,
-    decoder: &mut Decoder<R>,
-    extent: Extent,
-) -> Result<(Picture, Completeness)>
-    requires header { decoder.old.stage ≡ HeaderRead }
-    ensures gives { IfOk result
-        (λ p. GivesPicture extent decoder.old decoder.new (decoded_in p.0) p.1) }
-    ensures refused { decoder.old.source.known ≡ true → IfErr result (NamesOrOutside
-        (given_rest extent decoder.old.settings decoder.old.found decoder.old.source.bytes)) }
-{
-    let decoded = decode_wanted_lines(decoder, extent)?;
-    let info = decoder.info().unwrap();
-    let precision = decoder.precision().unwrap();
-    let pixels = decoded.lines.into_picture(alloc)?;
-    let picture = Picture {
-        info,
-        precision,
-        pixels,
-    };
-    let completeness = Completeness {
-        info,
-        whole_rows: decoded.whole_rows,
-        fault: decoded.fault,
-    };
-    Ok((picture, completeness))
 }

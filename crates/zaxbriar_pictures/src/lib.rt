@@ -3,7 +3,8 @@
 //!
 //! `write_at`, `write_thumbnail` and `write_raw` read a stream and write its picture, which they
 //! refuse after its header where it is above the limits. Where nothing has to be made of the
-//! picture, its lines are written as the decoder gives them, and it is never in memory as a whole.
+//! picture, its lines are written as the decoder gives them, and where it is made smaller, each is
+//! boxed as it comes: it is then never in memory as a whole.
 //! `check_stream` says how much of a stream's picture is complete, and writes nothing.
 //! `decode_picture`, `taken_by`, `Limits::check` and `write_picture` are the steps for a caller
 //! that has a decoder of its own. The other functions are parts of these.

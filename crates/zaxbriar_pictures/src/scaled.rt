@@ -1,35 +1,41 @@
 //! Pictures of streams at a scale, as netpbm or PNG files, as they are stored or turned upright.
 ghost use Rattle.std.specs.Prelude.{◌≡◌, ◌*◌, List, ℕ, IfErr, IfOk, Some, IsSomeAnd, option_map};
-ghost use Rattle.std.specs.Prelude.{◌≤◌, IfSome, true};
+ghost use Rattle.std.specs.Prelude.{◌≤◌, IfSome, is_some, length, true};
+ghost use Rattle.std.specs.List.{concat};
 ghost use Rattle.jpeg_bits.specs.Reading.{Answers};
 ghost use Rattle.jpeg_meaning.specs.Output.{Tells};
 ghost use Rattle.jpeg_meaning.specs.Pixels.{info_by};
 ghost use Rattle.jpeg_meaning.specs.States.{IsReading, ahead};
 ghost use Rattle.jpeg_meaning.specs.Stream.{header_at, told_of};
-ghost use Rattle.jpeg_decoder.specs.Bytes.{decoding_bytes};
+ghost use Rattle.jpeg_decoder.specs.Bytes.{HaveBytes, decoding_bytes};
 ghost use Rattle.jpeg_meaning.specs.States.{HasHeader};
-ghost use Rattle.zaxbriar_pictures.specs.Allowed.{allows, made_bytes, taken_for, taken_held};
-ghost use Rattle.zaxbriar_pictures.specs.Allowed.{taken_in_lines};
+ghost use Rattle.zaxbriar_pictures.specs.Allowed.{allows, made_bytes, taken_at, taken_for};
+ghost use Rattle.zaxbriar_pictures.specs.Allowed.{taken_in_lines, taken_smaller, taken_whole};
 ghost use Rattle.jpeg_meaning.specs.declared.progress.Progress.TheVariants.{Fresh, HeaderRead};
+ghost use Rattle.zaxbriar_pictures.specs.Crops.{fits};
 ghost use Rattle.zaxbriar_pictures.specs.Given.{IsGiven, WritesGiven, most_after};
 ghost use Rattle.zaxbriar_pictures.specs.Given.{shown_at_scale};
 ghost use Rattle.zaxbriar_pictures.specs.Reasons.{IsReason, LacksColours, shown_for};
 ghost use Rattle.zaxbriar_pictures.specs.ScaledPictures.{header_exif, header_info, settings_for};
-ghost use Rattle.zaxbriar_samples.specs.DecodedPictures.{decoded_in};
+ghost use Rattle.zaxbriar_samples.specs.DecodedPictures.{decoded};
+ghost use Rattle.zaxbriar_samples.specs.Parts.{has_part};
+ghost use Rattle.zaxbriar_samples.specs.Png.{line_bytes};
 ghost use Rattle.zaxbriar_pictures.specs.Steps.{ReadsForRequest, RefusesFile, WritesFile};
 ghost use Rattle.zaxbriar_samples.specs.Sizes.{luma_for, orientation_for, scale_of_request};
 ghost use Rattle.zaxbriar_samples.specs.Sizes.{size_for};
 ghost use Rattle.zaxbriar_samples.specs.declared.requests.Request.TheVariants.{At};
 
-use crate::extents::{Completeness, Extent, decode_wanted_lines, decode_wanted_picture};
-use crate::lines::{Stored, is_by_lines, write_file};
+use crate::extents::{Completeness, Extent, decode_wanted_lines};
+use crate::lines::{Stored, check_crop, is_by_lines, part_for, write_file};
 use jpeg_decoder::error::Error;
 use jpeg_decoder::parser::Dimensions;
-use jpeg_decoder::{Decoder, ImageInfo, Scale, error};
+use jpeg_decoder::{Decoder, ImageInfo, Lines, Scale, error};
+use jpeg_orientation::areas::Area;
 use std::alloc::Global;
 use std::io::{Read, Write};
 use zaxbriar_files::limits::Limits;
 use zaxbriar_files::refusal::Refusal;
+use zaxbriar_samples::boxes::is_smaller;
 use zaxbriar_samples::files::{PictureFormat, has_pixels};
 use zaxbriar_samples::netpbm::Picture;
 use zaxbriar_samples::requests::{AtScale, Request};
@@ -82,11 +88,11 @@ pub(crate) fn taken_by_lines<R: Read + Drop>(decoder: &Decoder<R>) -> u64
     }
 }
 
-/// Returns how many bytes this takes where the picture is held whole, and turned by an orientation
+/// Returns how many bytes this takes where the whole picture is made, and turned by an orientation
 /// into another one, unless it is upright as it is.
-pub(crate) fn taken_held<R: Read + Drop>(decoder: &Decoder<R>, orientation: u8) -> u64
+pub(crate) fn taken_whole<R: Read + Drop>(decoder: &Decoder<R>, orientation: u8) -> u64
     ensures { HasHeader decoder.now.stage → IfSome decoder.now.found.said.frame (λ f. result
-        ≡ taken_held orientation (decoding_bytes decoder.now.settings f)) }
+        ≡ taken_whole orientation (decoding_bytes decoder.now.settings f)) }
 {
     match decoder.decoding_bytes() {
         Some(bytes) => {
@@ -113,11 +119,15 @@ pub struct Choice {
     pub orientation: u8,
 }
 
-/// A picture at a scale.
+/// The lines of a picture at a scale.
 #[derive(Drop)]
-pub struct ScaledPicture {
-    /// The picture.
-    pub picture: Picture,
+pub struct ScaledLines {
+    /// The lines.
+    pub lines: Lines,
+    /// The size and format of the picture.
+    pub info: ImageInfo,
+    /// How many bits a sample has.
+    pub precision: u8,
     /// The number of its rows, from the top, that are complete in each scan that was begun. All of
     /// them if the stream has no fault.
     pub whole_rows: u16,
@@ -141,8 +151,40 @@ fn made_bytes(size: Dimensions, full: ImageInfo, precision: u8) -> u64
     u64::from(size.width) * u64::from(size.height) * u64::from(pixel)
 }
 
-/// Returns how many bytes the picture of a decoder takes for a request, whose header was read: with
-/// the picture that is made of it, or, where its lines are written one by one, without any.
+/// Returns how many bytes the picture of a decoder takes, whose header was read, for a file of a
+/// format: without the picture where its lines are written one by one.
+fn taken_at<R: Read + Drop>(
+    decoder: &Decoder<R>,
+    format: PictureFormat,
+    precision: u8,
+    orientation: u8,
+) -> u64
+    ensures { HasHeader decoder.now.stage → IfSome decoder.now.found.said.frame (λ f. result
+        ≡ taken_at format precision orientation (decoding_bytes decoder.now.settings f)) }
+{
+    if is_by_lines(format, precision, orientation) {
+        taken_by_lines(decoder)
+    } else {
+        taken_whole(decoder, orientation)
+    }
+}
+
+/// Returns how many bytes the picture of a decoder takes, whose header was read, where it is made
+/// smaller line by line, into one of so many bytes, which is then turned.
+fn taken_smaller<R: Read + Drop>(decoder: &Decoder<R>, orientation: u8, made: u64) -> u64
+    ensures { HasHeader decoder.now.stage → IfSome decoder.now.found.said.frame (λ f. result
+        ≡ taken_smaller orientation (decoding_bytes decoder.now.settings f) made) }
+{
+    let boxed = taken_by_lines(decoder).saturating_add(made);
+    if orientation == 1 {
+        boxed
+    } else {
+        boxed.max(made.saturating_add(made))
+    }
+}
+
+/// Returns how many bytes the picture of a decoder takes for a request, whose header was read and
+/// whose scale was set.
 #[tactic(auto, unfolding(crate::specs::Allowed::taken_for))]
 fn bytes_for<R: Read + Drop>(
     decoder: &Decoder<R>,
@@ -158,16 +200,15 @@ fn bytes_for<R: Read + Drop>(
         ≡ taken_for request format full f size orientation) }
 {
     let precision = decoder.precision().unwrap_or(8);
+    let info = decoder.info().unwrap_or(full);
     match request {
-        Request::At(_) => {
-            if is_by_lines(format, precision, orientation) {
-                taken_by_lines(decoder)
-            } else {
-                taken_held(decoder, orientation)
-            }
-        }
+        Request::At(_) => taken_at(decoder, format, precision, orientation),
         Request::Within(_, _) => {
-            taken_by(decoder).saturating_add(made_bytes(size, full, precision))
+            if is_smaller(size, info) {
+                taken_smaller(decoder, orientation, made_bytes(size, full, precision))
+            } else {
+                taken_at(decoder, format, precision, orientation)
+            }
         }
     }
 }
@@ -200,11 +241,12 @@ pub(crate) fn choose<R: Read + Drop>(
         → IfOk result (λ choice. choice.scale ≡ at.scale) }
     ensures orientation { IfOk result (λ choice. (1 ≤ choice.orientation)
         × (choice.orientation ≤ 8)) }
+    ensures framed { IfOk result (λ _. is_some decoder.new.found.said.frame ≡ true) }
     ensures limited { IfOk result (λ _. decoder.old.source.known ≡ true
         → allows request format limits decoder.old.source.bytes ≡ true) }
     ensures refused { decoder.old.source.known ≡ true
         → IfErr result (IsReason (header_at decoder.old.source.bytes)
-        (allows request format limits decoder.old.source.bytes) ⊥) }
+        (allows request format limits decoder.old.source.bytes) true ⊥) }
 {
     decoder.read_info()?;
     let full = decoder.info().unwrap();
@@ -229,18 +271,20 @@ pub(crate) fn choose<R: Read + Drop>(
 /// Decodes as much as is wanted of the stream of a decoder that has read nothing, at the scale for
 /// the request.
 fn read_chosen<R: Read + Drop>(
-    alloc: Global,
     decoder: &mut Decoder<R>,
     request: Request,
     format: PictureFormat,
     extent: Extent,
     limits: Limits,
-) -> Result<ScaledPicture, Refusal>
+) -> Result<ScaledLines, Refusal>
     requires fresh { decoder.old.stage ≡ Fresh }
     requires plain { decoder.old.settings ≡ settings_for (luma_for request) }
     ensures picture { decoder.old.source.known ≡ true → IfOk result (λ made. IsGiven extent
         (luma_for request) limits made.scale decoder.old.source.bytes
-        (decoded_in made.picture) made.whole_rows made.fault) }
+        (decoded made.info made.precision (concat made.lines)) made.whole_rows made.fault) }
+    ensures height { IfOk result (λ made. length made.lines ≡ made.info.height) }
+    ensures bytes { IfOk result
+        (λ made. HaveBytes (line_bytes made.info made.precision) made.lines) }
     ensures asked { (at : _) → request ≡ At at → IfOk result (λ made. made.scale ≡ at.scale) }
     ensures chosen { decoder.old.source.known ≡ true → IfOk result (λ made.
         IsSomeAnd (header_info (luma_for request) decoder.old.source.bytes)
@@ -255,14 +299,18 @@ fn read_chosen<R: Read + Drop>(
         (λ _. allows request format limits decoder.old.source.bytes ≡ true) }
     ensures refused { decoder.old.source.known ≡ true
         → IfErr result (IsReason (shown_for extent limits request decoder.old.source.bytes)
-        (allows request format limits decoder.old.source.bytes) ⊥) }
+        (allows request format limits decoder.old.source.bytes) true ⊥) }
 {
     let choice = choose(decoder, request, format, limits)?;
-    let (picture, completeness) = decode_wanted_picture(alloc, decoder, extent)?;
-    Ok(ScaledPicture {
-        picture,
-        whole_rows: completeness.whole_rows,
-        fault: completeness.fault,
+    let decoded = decode_wanted_lines(decoder, extent)?;
+    let info = decoder.info().unwrap();
+    let precision = decoder.precision().unwrap();
+    Ok(ScaledLines {
+        lines: decoded.lines,
+        info,
+        precision,
+        whole_rows: decoded.whole_rows,
+        fault: decoded.fault,
         full: choice.full,
         scale: choice.scale,
         size: choice.size,
@@ -271,21 +319,26 @@ fn read_chosen<R: Read + Drop>(
 }
 
 /// Decodes as much as is wanted of the stream that the reader gives, at the scale for the request,
-/// for a file of a format. A picture above the limits is refused by its header. A read that fails
-/// is an error.
-pub fn read_picture<R: Read + Drop>(
+/// for a file of a format, and returns its lines. A picture above the limits is refused by its
+/// header. A read that fails is an error.
+pub fn read_lines<R: Read + Drop>(
     alloc: Global,
     reader: R,
     request: Request,
     format: PictureFormat,
     extent: Extent,
     limits: Limits,
-) -> Result<ScaledPicture, Refusal>
+) -> Result<ScaledLines, Refusal>
     // The picture is the one that the bytes give at its scale within the limits, its complete rows
     // are counted, and the fault is named.
     ensures picture { (bytes : List ℕ) → Tells (R.remaining reader) bytes
         → IfOk result (λ made. IsGiven extent (luma_for request) limits made.scale bytes
-        (decoded_in made.picture) made.whole_rows made.fault) }
+        (decoded made.info made.precision (concat made.lines)) made.whole_rows made.fault) }
+
+    // There are as many lines as the picture is high, each of as many bytes as its width takes.
+    ensures height { IfOk result (λ made. length made.lines ≡ made.info.height) }
+    ensures bytes { IfOk result
+        (λ made. HaveBytes (line_bytes made.info made.precision) made.lines) }
 
     // A requested scale is the scale.
     ensures asked { (at : _) → request ≡ At at → IfOk result (λ made. made.scale ≡ at.scale) }
@@ -310,26 +363,30 @@ pub fn read_picture<R: Read + Drop>(
     // out of memory.
     ensures refused { (bytes : List ℕ) → Tells (R.remaining reader) bytes
         → IfErr result (IsReason (shown_for extent limits request bytes)
-        (allows request format limits bytes) ⊥) }
+        (allows request format limits bytes) true ⊥) }
 {
     let mut decoder = Decoder::with_capacity(alloc, READ_AHEAD, reader)?;
     decoder.set_luma(request.wants_luma());
-    read_chosen(alloc, &mut decoder, request, format, extent, limits)
+    read_chosen(&mut decoder, request, format, extent, limits)
 }
 
-/// Decodes as much as is wanted of the picture of a decoder, at the scale that was set, writes it
-/// as a file, turned upright by an orientation, and returns how much of it is complete, before it
-/// is turned. One whose pixels the format doesn't have is refused, and nothing is written.
+/// Decodes as much as is wanted of the picture of a decoder, at the scale that was set, writes it,
+/// or the part of it that is asked for, as a file, turned upright by an orientation, and returns how
+/// much of it is complete, before it is turned. One whose pixels the format doesn't have is refused,
+/// and nothing is written.
 fn write_decoded<R: Read + Drop, W: Write>(
     alloc: Global,
     decoder: &mut Decoder<R>,
+    crop: Option<Area>,
     orientation: u8,
     extent: Extent,
     format: PictureFormat,
     writer: &mut W,
 ) -> Result<Completeness, Refusal>
     requires header { decoder.old.stage ≡ HeaderRead }
-    ensures written { IfOk result (λ told. WritesFile extent orientation format decoder.old
+    requires fits { IfSome decoder.old.found.said.frame (λ f. has_part crop orientation
+        (info_by decoder.old.settings f) ≡ true) }
+    ensures written { IfOk result (λ told. WritesFile extent crop orientation format decoder.old
         decoder.new (W.contents writer.old) (W.contents writer.new) told) }
     ensures refused { decoder.old.source.known ≡ true
         → IfErr result (RefusesFile extent format decoder.old) }
@@ -345,7 +402,8 @@ fn write_decoded<R: Read + Drop, W: Write>(
         precision,
         orientation,
     };
-    write_file(alloc, stored, decoded.lines, format, writer)?;
+    let part = part_for(alloc, stored, decoded.lines, crop)?;
+    write_file(alloc, part.stored, part.lines, format, writer)?;
     Ok(Completeness {
         info,
         whole_rows: decoded.whole_rows,
@@ -354,7 +412,7 @@ fn write_decoded<R: Read + Drop, W: Write>(
 }
 
 /// Decodes as much as is wanted of the stream of a decoder that has read nothing, writes its
-/// picture at a scale, and returns how much of it is complete.
+/// picture at a scale, or the part of it that is asked for, and returns how much of it is complete.
 fn write_chosen<R: Read + Drop, W: Write>(
     alloc: Global,
     decoder: &mut Decoder<R>,
@@ -370,21 +428,34 @@ fn write_chosen<R: Read + Drop, W: Write>(
         at format decoder.old.source.bytes (W.contents writer.old) (W.contents writer.new)) }
     ensures limited { decoder.old.source.known ≡ true → IfOk result
         (λ _. allows (At at) format limits decoder.old.source.bytes ≡ true) }
+    ensures fits { decoder.old.source.known ≡ true
+        → IfOk result (λ _. fits at decoder.old.source.bytes ≡ true) }
     ensures refused { decoder.old.source.known ≡ true → IfErr result (IsReason
         (shown_at_scale extent at.luma limits at.scale decoder.old.source.bytes)
         (allows (At at) format limits decoder.old.source.bytes)
+        (fits at decoder.old.source.bytes)
         (LacksColours format (settings_for at.luma)
         (shown_at_scale extent at.luma limits at.scale decoder.old.source.bytes))) }
 {
     let choice = choose(decoder, Request::At(at), format, limits)?;
-    write_decoded(alloc, decoder, choice.orientation, extent, format, writer)
+    let orientation = choice.orientation;
+    let info = decoder.info().unwrap();
+    let precision = decoder.precision().unwrap();
+    let stored = Stored {
+        info,
+        precision,
+        orientation,
+    };
+    check_crop(at.crop, stored)?;
+    write_decoded(alloc, decoder, at.crop, orientation, extent, format, writer)
 }
 
 /// Decodes as much as is wanted of the stream that the reader gives, writes its picture at a scale,
 /// or of one in colour the luma alone, turned upright by the orientation in its header's Exif data
 /// (Exif 2.3, 4.6.4) if that is asked for, and returns how much of the picture is complete, before
-/// it is turned, with the first fault of the stream. A picture above the limits is refused by its
-/// header, and one whose pixels the format doesn't have before anything is written. A read that
+/// it is turned, with the first fault of the stream. Of that picture the part is written that is
+/// asked for. A picture above the limits is refused by its header, and so is a part that isn't
+/// inside it; one whose pixels the format doesn't have before anything is written. A read that
 /// fails is an error.
 pub fn write_at<R: Read + Drop, W: Write>(
     alloc: Global,
@@ -401,11 +472,15 @@ pub fn write_at<R: Read + Drop, W: Write>(
     ensures limited { (bytes : List ℕ) → Tells (R.remaining reader) bytes
         → IfOk result (λ _. allows (At at) format limits bytes ≡ true) }
 
-    // A refusal names the stream's fault, or a limit that it is above, or colours that the format
-    // lacks, or is one of the reader, the writer or memory.
+    // The part that is asked for lies in the picture.
+    ensures fits { (bytes : List ℕ) → Tells (R.remaining reader) bytes
+        → IfOk result (λ _. fits at bytes ≡ true) }
+
+    // A refusal names the stream's fault, or a limit that it is above, or a part that isn't inside
+    // its picture, or colours that the format lacks, or is one of the reader, the writer or memory.
     ensures refused { (bytes : List ℕ) → Tells (R.remaining reader) bytes → IfErr result (IsReason
         (shown_at_scale extent at.luma limits at.scale bytes) (allows (At at) format limits bytes)
-        (LacksColours format (settings_for at.luma)
+        (fits at bytes) (LacksColours format (settings_for at.luma)
         (shown_at_scale extent at.luma limits at.scale bytes))) }
 {
     let mut decoder = Decoder::with_capacity(alloc, READ_AHEAD, reader)?;

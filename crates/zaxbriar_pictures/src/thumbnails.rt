@@ -5,8 +5,10 @@
 //! sample is then the mean of those in its box. One that fits is decoded at all of its size. It is
 //! turned upright by the orientation in its Exif data, as it is shown, unless it is to stay as it
 //! is stored.
-ghost use Rattle.std.specs.Prelude.{◌≡◌, List, ℕ, IfErr, IfOk, IsSomeAnd, OnOk, true};
+ghost use Rattle.std.specs.Prelude.{◌≡◌, List, ℕ, IfErr, IfOk, IsSomeAnd, OnOk, length, true};
+ghost use Rattle.std.specs.List.{concat};
 ghost use Rattle.std.specs.Io.KnownBytes.{Appends};
+ghost use Rattle.jpeg_decoder.specs.Bytes.{HaveBytes};
 ghost use Rattle.jpeg_meaning.specs.Output.{Tells};
 ghost use Rattle.zaxbriar_pictures.specs.Allowed.{allows};
 ghost use Rattle.zaxbriar_pictures.specs.Reasons.{IsReason, LacksColours, RefusesPicture};
@@ -14,24 +16,24 @@ ghost use Rattle.zaxbriar_pictures.specs.Reasons.{shown_for};
 ghost use Rattle.zaxbriar_pictures.specs.ScaledPictures.{settings_for};
 ghost use Rattle.zaxbriar_pictures.specs.Thumbnails.{WritesThumbnail, file_rows, rows_a_row};
 ghost use Rattle.zaxbriar_samples.specs.Boxes.{boxed};
-ghost use Rattle.zaxbriar_samples.specs.DecodedPictures.{decoded_in};
+ghost use Rattle.zaxbriar_samples.specs.DecodedPictures.{decoded};
 ghost use Rattle.zaxbriar_samples.specs.Files.{file_as};
+ghost use Rattle.zaxbriar_samples.specs.Png.{line_bytes};
 ghost use Rattle.zaxbriar_samples.specs.Sizes.{luma_for};
 ghost use Rattle.zaxbriar_samples.specs.Turns.{upright};
 
 use crate::extents::{Completeness, Extent};
-use crate::scaled::read_picture;
-use jpeg_decoder::Scale;
+use crate::lines::{Stored, write_file, write_smaller};
+use crate::scaled::read_lines;
 use jpeg_decoder::parser::Dimensions;
+use jpeg_decoder::{Lines, Scale};
 use std::alloc::Global;
 use std::io::{Read, Write};
 use zaxbriar_files::limits::Limits;
 use zaxbriar_files::refusal::Refusal;
-use zaxbriar_samples::boxes::boxed;
-use zaxbriar_samples::files::{PictureFormat, has_pixels, write_file};
-use zaxbriar_samples::netpbm::Picture;
+use zaxbriar_samples::boxes::is_smaller;
+use zaxbriar_samples::files::{PictureFormat, has_pixels};
 use zaxbriar_samples::requests::Request;
-use zaxbriar_samples::turns::upright;
 
 /// Returns how many rows of the whole picture a row of the picture at a scale stands for.
 fn rows_a_row(scale: Scale) -> u8
@@ -57,27 +59,32 @@ fn file_rows(scale: Scale, full: u16, height: u16, rows: u16) -> u16
     u32::from(full).min(rows) as u16
 }
 
-/// Writes a picture as a file: made smaller to this size, and then turned upright. One whose pixels
-/// the format doesn't have is refused, and nothing is written.
+/// Writes the picture of these lines as a file: made smaller to this size, and then turned upright.
+/// One whose pixels the format doesn't have is refused, and nothing is written.
 fn write_upright<W: Write>(
     alloc: Global,
-    picture: Picture,
+    stored: Stored,
+    lines: Lines,
     size: Dimensions,
-    orientation: u8,
     format: PictureFormat,
     writer: &mut W,
 ) -> Result<(), Refusal>
+    requires height { length lines ≡ stored.info.height }
+    requires bytes { HaveBytes (line_bytes stored.info stored.precision) lines }
     ensures written { OnOk result (IsSomeAnd
-        (file_as format (upright orientation (boxed size (decoded_in picture))))
+        (file_as format (upright stored.orientation
+        (boxed size (decoded stored.info stored.precision (concat lines)))))
         (Appends (W.contents writer.old) (W.contents writer.new))) }
-    ensures refused { IfErr result (RefusesPicture format picture.info.pixel_format) }
+    ensures refused { IfErr result (RefusesPicture format stored.info.pixel_format) }
 {
-    let smaller = boxed(alloc, picture, size)?;
-    let picture = upright(alloc, smaller, orientation)?;
-    if !has_pixels(format, picture.info.pixel_format) {
+    if !has_pixels(format, stored.info.pixel_format) {
         return Err(Refusal::Cmyk);
     }
-    write_file(alloc, picture, format, writer)?;
+    if !is_smaller(size, stored.info) {
+        write_file(alloc, stored, lines, format, writer)?;
+        return Ok(());
+    }
+    write_smaller(alloc, stored, lines, size, format, writer)?;
     Ok(())
 }
 
@@ -103,22 +110,19 @@ pub fn write_thumbnail<R: Read + Drop, W: Write>(
     // A refusal names the stream's fault, or a limit that it is above, or colours that the format
     // lacks, or is one of the reader, the writer or memory.
     ensures refused { (bytes : List ℕ) → Tells (R.remaining reader) bytes → IfErr result (IsReason
-        (shown_for extent limits request bytes) (allows request format limits bytes)
+        (shown_for extent limits request bytes) (allows request format limits bytes) true
         (LacksColours format (settings_for (luma_for request))
         (shown_for extent limits request bytes))) }
 {
-    let made = read_picture(alloc, reader, request, format, extent, limits)?;
+    let made = read_lines(alloc, reader, request, format, extent, limits)?;
     let info = made.full;
-    let height = made.picture.info.height;
-    let whole_rows = file_rows(made.scale, info.height, height, made.whole_rows);
-    write_upright(
-        alloc,
-        made.picture,
-        made.size,
-        made.orientation,
-        format,
-        writer,
-    )?;
+    let stored = Stored {
+        info: made.info,
+        precision: made.precision,
+        orientation: made.orientation,
+    };
+    let whole_rows = file_rows(made.scale, info.height, made.info.height, made.whole_rows);
+    write_upright(alloc, stored, made.lines, made.size, format, writer)?;
     Ok(Completeness {
         info,
         whole_rows,

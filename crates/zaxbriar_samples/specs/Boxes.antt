@@ -16,13 +16,17 @@ use Rattle.zaxbriar_samples.specs.declared.boxes.Reduction.{Reduction}
 abbrev pub edge : ℕ → ℕ → ℕ → ℕ
 edge index side boxes = index * side / boxes
 
+-- how many lines the boxes in a line of boxes have
+abbrev pub lines_in : Reduction → ℕ → ℕ
+lines_in r y = edge (y + 1) r.height r.to_height - edge y r.height r.to_height
+
 -- the box of a pixel of the smaller picture: its columns and its lines
 abbrev pub area_of : Reduction → ℕ → ℕ → Area
 area_of r x y = record {
   left = edge x r.width r.to_width;
   top = edge y r.height r.to_height;
   width = edge (x + 1) r.width r.to_width - edge x r.width r.to_width;
-  height = edge (y + 1) r.height r.to_height - edge y r.height r.to_height;
+  height = lines_in r y;
 }
 
 -- the sum of the values of a function at each number below a count

@@ -1,9 +1,13 @@
+pub mod BoxSums
 pub mod Boxes
+pub mod Boxing
 pub mod DecodedPictures
 pub mod Files
 pub mod Netpbm
+pub mod Parts
 pub mod Png
 pub mod Refusals
 pub mod Samples
 pub mod Sizes
 pub mod Turns
+pub mod Worked

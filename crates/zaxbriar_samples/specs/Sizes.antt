@@ -48,9 +48,9 @@ side_at Quarter side = div_ceil side 4
 side_at Half side = div_ceil side 2
 side_at Full side = side
 
--- a scale at which a picture stays as it is stored, in its colours
+-- a scale at which the whole picture stays as it is stored, in its colours
 abbrev pub stored_at : Scale → AtScale
-stored_at scale = record { scale = scale; upright = AsStored; luma = false }
+stored_at scale = record { scale = scale; upright = AsStored; luma = false; crop = None }
 
 -- whether a picture at a scale isn't smaller than a size
 abbrev pub covers : Scale → ImageInfo → Dimensions → Bool

@@ -1,17 +1,16 @@
-//! Pictures made smaller: each sample is the mean of the samples of its box.
-ghost use Rattle.std.specs.Prelude.{◌≡◌, ◌≤◌, ◌<◌, ◌++◌, ◌*◌, ◌^◌, IfOk, MatchResult, OnOk};
-ghost use Rattle.jpeg_bits.specs.declared.error.Error.TheVariants.{OutOfMemory};
-ghost use Rattle.zaxbriar_samples.specs.Boxes.{area_of, boxed, components_a_pixel, edge, index_of};
-ghost use Rattle.zaxbriar_samples.specs.Boxes.{is_smaller};
-ghost use Rattle.zaxbriar_samples.specs.Boxes.{box_line};
-ghost use Rattle.zaxbriar_samples.specs.Boxes.{box_line_sum, mean_in, box_pixel, reduced_bytes};
-ghost use Rattle.zaxbriar_samples.specs.Boxes.{lower_first_bytes, sum_over};
-ghost use Rattle.zaxbriar_samples.specs.DecodedPictures.{decoded_in};
+//! Pictures made smaller, line by line: each sample is the mean of the samples of its box.
+ghost use Rattle.std.specs.Prelude.{◌≡◌, ◌≤◌, ◌<◌, ◌+◌, ◌++◌, ◌*◌, ◌%◌, ◌^◌, ℕ, List, OnOk, length};
+ghost use Rattle.std.specs.Prelude.{if◌then◌else◌, slice_index};
+ghost use Rattle.zaxbriar_samples.specs.Boxes.{box_line, component_bytes, edge};
+ghost use Rattle.zaxbriar_samples.specs.Boxes.{is_smaller, lines_in, lower_first_bytes, mean_in};
+ghost use Rattle.zaxbriar_samples.specs.Boxes.{sum_over, texts_below};
+ghost use Rattle.zaxbriar_samples.specs.BoxSums.{AreSums, sum_at};
+ghost use Rattle.zaxbriar_samples.specs.Samples.{byte_at, is_wide, pair_at, sample_in};
 
 use crate::netpbm::Picture;
-use crate::samples::sample;
+use crate::samples::{components_of, is_wide};
 use jpeg_bits::error;
-use jpeg_meaning::images::{ImageInfo, PixelFormat};
+use jpeg_meaning::images::ImageInfo;
 use jpeg_segments::parser::Dimensions;
 use std::alloc::{AllocError, Global};
 
@@ -49,70 +48,71 @@ struct Area {
 fn edge(index: u16, side: u16, boxes: u16) -> u16
     requires some { 1 ≤ boxes }
     requires inside { index ≤ boxes }
-    ensures { result ≡ edge index side boxes }
+    ensures edge { result ≡ edge index side boxes }
+    ensures within { result ≤ side }
 {
     (u32::from(index) * u32::from(side) / u32::from(boxes)) as u16
 }
 
-/// Returns the box of a pixel of the smaller picture.
-fn area_of(reduction: Reduction, x: u16, y: u16) -> Area
-    requires across { x < reduction.to_width }
-    requires down { y < reduction.to_height }
-    ensures { result ≡ area_of reduction x y }
+/// Adds to each sum the byte of a line in its place.
+fn add_bytes(sums: &mut [u32], line: &[u8])
+    ensures { (i : ℕ) → i < length sums.old → i < length line.now → slice_index sums.new i
+        ≡ (slice_index sums.old i + byte_at line.now i) % 2 ^ 32 }
 {
-    let left = edge(x, reduction.width, reduction.to_width);
-    let top = edge(y, reduction.height, reduction.to_height);
-    let right = edge(x + 1, reduction.width, reduction.to_width);
-    let bottom = edge(y + 1, reduction.height, reduction.to_height);
-    Area {
-        left,
-        top,
-        width: right.saturating_sub(left),
-        height: bottom.saturating_sub(top),
+    for index in 0..sums.len().min(line.len()) {
+        sums[index] = sums[index].wrapping_add(u32::from(line[index]));
     }
 }
 
-/// Returns the index of a component's sample in a box, by its line and its column there.
-fn index_of(reduction: Reduction, area: Area, component: u8, down: u16, across: u16) -> usize
-    ensures index { result ≡ index_of reduction area component down across }
-    ensures most { result < 2 ^ 42 }
+/// Adds to each sum the sample of two bytes of a line in its place.
+fn add_pairs(sums: &mut [u32], line: &[u8])
+    ensures { (i : ℕ) → i < length sums.old → 2 * i + 1 < length line.now → slice_index sums.new i
+        ≡ (slice_index sums.old i + pair_at line.now i) % 2 ^ 32 }
 {
-    let line = usize::from(area.top) + usize::from(down);
-    let column = usize::from(area.left) + usize::from(across);
-    let pixel = line * usize::from(reduction.width) + column;
-    pixel * usize::from(reduction.components) + usize::from(component)
+    for index in 0..sums.len().min(line.len() / 2) {
+        let pair = u32::from(line[2 * index]) + 256 * u32::from(line[2 * index + 1]);
+        sums[index] = sums[index].wrapping_add(pair);
+    }
 }
 
-/// Returns the sum of a component's samples in a line of a box.
-fn line_sum(pixels: &[u8], reduction: Reduction, area: Area, component: u8, down: u16) -> u64
-    ensures sum { result ≡ box_line_sum pixels.now reduction area component down }
-    ensures most { result ≤ 65535 * area.width }
+/// Adds to each sum the sample of a line in its place.
+fn add_line(sums: &mut [u32], precision: u8, line: &[u8])
+    ensures { length line.now ≡ length sums.old * (if is_wide precision then 2 else 1)
+        → (i : ℕ) → i < length sums.old → slice_index sums.new i
+        ≡ (slice_index sums.old i + sample_in precision line.now i) % 2 ^ 32 }
+{
+    if is_wide(precision) {
+        add_pairs(sums, line);
+    } else {
+        add_bytes(sums, line);
+    }
+}
+
+/// Returns the sum of a component's samples in a box, from the sums of their columns.
+fn box_sum(sums: &[u32], components: u8, area: Area, component: u8) -> u64
+    requires inside { (area.left + area.width) * components ≤ length sums.now }
+    requires component { component < components }
+    ensures sum { result
+        ≡ sum_over area.width (sum_at sums.now area.left components component) }
+    ensures most { result ≤ 4294967295 * area.width }
 {
     let mut sum = 0;
     for across in 0..area.width {
-        let index = index_of(reduction, area, component, down, across);
-        sum += u64::from(sample(pixels, reduction.precision, index));
-    }
-    sum
-}
-
-/// Returns the sum of a component's samples in a box.
-fn box_sum(pixels: &[u8], reduction: Reduction, area: Area, component: u8) -> u64
-    ensures sum { result ≡ sum_over area.height (box_line_sum pixels.now reduction area component) }
-    ensures most { result ≤ 65535 * 65535 * area.height }
-{
-    let mut sum = 0;
-    for down in 0..area.height {
-        sum += line_sum(pixels, reduction, area, component, down);
+        let column = usize::from(area.left) + usize::from(across);
+        sum += u64::from(sums[column * usize::from(components) + usize::from(component)]);
     }
     sum
 }
 
 /// Returns the mean of a component's samples in a box.
-fn mean_in(pixels: &[u8], reduction: Reduction, area: Area, component: u8) -> u64
-    ensures { result ≡ mean_in pixels.now reduction area component }
+fn mean_in(sums: &[u32], reduction: Reduction, area: Area, component: u8) -> u64
+    requires inside { area.left + area.width ≤ reduction.width }
+    requires sized { length sums.now ≡ reduction.width * reduction.components }
+    requires component { component < reduction.components }
+    ensures { (pixels : List ℕ) → AreSums pixels reduction area.top area.height sums.now
+        → result ≡ mean_in pixels reduction area component }
 {
-    let sum = box_sum(pixels, reduction, area, component);
+    let sum = box_sum(sums, reduction.components, area, component);
     let count = u64::from(area.width) * u64::from(area.height);
     (sum + count / 2).checked_div(count).unwrap_or(0)
 }
@@ -130,68 +130,68 @@ fn push_sample(bytes: &mut Vec<u8>, precision: u8, sample: u64) -> Result<(), Al
     Ok(())
 }
 
-/// Appends the bytes of a pixel of the smaller picture.
+/// Appends the bytes of the pixel of the smaller picture that a box becomes.
 fn push_pixel(
     bytes: &mut Vec<u8>,
-    pixels: &[u8],
+    sums: &[u32],
     reduction: Reduction,
-    x: u16,
-    y: u16,
+    area: Area,
 ) -> Result<(), AllocError>
-    requires across { x < reduction.to_width }
-    requires down { y < reduction.to_height }
-    ensures { OnOk result (bytes.new.items ≡ bytes.old.items
-        ++ box_pixel pixels.now reduction y x) }
+    requires inside { area.left + area.width ≤ reduction.width }
+    requires sized { length sums.now ≡ reduction.width * reduction.components }
+    ensures { (pixels : List ℕ) → AreSums pixels reduction area.top area.height sums.now
+        → OnOk result (bytes.new.items ≡ bytes.old.items
+        ++ texts_below reduction.components (component_bytes pixels reduction area)) }
 {
-    let area = area_of(reduction, x, y);
     for component in 0..reduction.components {
-        let mean = mean_in(pixels, reduction, area, component);
+        let mean = mean_in(sums, reduction, area, component);
         push_sample(bytes, reduction.precision, mean)?;
     }
     Ok(())
 }
 
-/// Appends the bytes of a line of the smaller picture.
+/// Returns how many lines the boxes in a line of boxes have.
+fn lines_in(reduction: Reduction, y: u16) -> u16
+    requires { y < reduction.to_height }
+    ensures { result ≡ lines_in reduction y }
+{
+    let top = edge(y, reduction.height, reduction.to_height);
+    let bottom = edge(y + 1, reduction.height, reduction.to_height);
+    bottom.saturating_sub(top)
+}
+
+/// Appends the bytes of a line of the smaller picture, from the sums of the columns of its boxes.
 fn push_line(
     bytes: &mut Vec<u8>,
-    pixels: &[u8],
+    sums: &[u32],
     reduction: Reduction,
     y: u16,
 ) -> Result<(), AllocError>
-    requires { y < reduction.to_height }
-    ensures { OnOk result (bytes.new.items ≡ bytes.old.items
-        ++ box_line pixels.now reduction y) }
+    requires line { y < reduction.to_height }
+    requires sized { length sums.now ≡ reduction.width * reduction.components }
+    ensures { (pixels : List ℕ) → AreSums pixels reduction
+        (edge y reduction.height reduction.to_height) (lines_in reduction y) sums.now
+        → OnOk result (bytes.new.items ≡ bytes.old.items ++ box_line pixels reduction y) }
 {
+    let top = edge(y, reduction.height, reduction.to_height);
+    let height = lines_in(reduction, y);
+    let mut left = 0;
     for x in 0..reduction.to_width {
-        push_pixel(bytes, pixels, reduction, x, y)?;
+        let right = edge(x + 1, reduction.width, reduction.to_width);
+        let area = Area {
+            left,
+            top,
+            width: right.saturating_sub(left),
+            height,
+        };
+        push_pixel(bytes, sums, reduction, area)?;
+        left = right;
     }
     Ok(())
 }
 
-/// Returns the bytes of the smaller picture.
-fn reduced_bytes(alloc: Global, pixels: &[u8], reduction: Reduction) -> Result<Vec<u8>, AllocError>
-    ensures { IfOk result (λ v. v.items ≡ reduced_bytes pixels.now reduction) }
-{
-    let mut bytes = Vec::new(alloc);
-    for y in 0..reduction.to_height {
-        push_line(&mut bytes, pixels, reduction, y)?;
-    }
-    Ok(bytes)
-}
-
-/// Returns how many samples a pixel has.
-pub(crate) fn components_of(format: PixelFormat) -> u8
-    ensures { result ≡ components_a_pixel format }
-{
-    match format {
-        PixelFormat::L8 | PixelFormat::L16 => 1,
-        PixelFormat::RGB24 => 3,
-        PixelFormat::CMYK32 => 4,
-    }
-}
-
 /// Returns whether a size is smaller than a picture in one direction, and not greater in the other.
-fn is_smaller(size: Dimensions, info: ImageInfo) -> bool
+pub fn is_smaller(size: Dimensions, info: ImageInfo) -> bool
     ensures { result ≡ is_smaller size info }
 {
     size.width <= info.width
@@ -199,32 +199,115 @@ fn is_smaller(size: Dimensions, info: ImageInfo) -> bool
         && (size.width < info.width || size.height < info.height)
 }
 
-/// Returns a picture boxed down to a size. A picture that isn't greater stays as it is. The only
-/// error is `OutOfMemory`.
-pub fn boxed(alloc: Global, picture: Picture, size: Dimensions) -> error::Result<Picture>
-    ensures { MatchResult result (λ made. decoded_in made ≡ boxed size (decoded_in picture))
-        (λ e. e ≡ OutOfMemory) }
-{
-    let info = picture.info;
-    if !is_smaller(size, info) {
-        return Ok(picture);
+/// Returns how many bytes the smaller picture has.
+fn smaller_bytes(reduction: Reduction) -> usize {
+    let pixels = usize::from(reduction.to_width) * usize::from(reduction.to_height);
+    let sample = if is_wide(reduction.precision) { 2 } else { 1 };
+    pixels * usize::from(reduction.components) * sample
+}
+
+/// A picture that is being made smaller: its lines are taken one by one, from the top.
+///
+/// In memory are the smaller picture, and the sums of one line of boxes.
+#[derive(Drop)]
+pub struct Boxing {
+    /// What is said of the smaller picture.
+    info: ImageInfo,
+    reduction: Reduction,
+    /// Of each sample of a line the sum of those in its column, in the lines that were taken of a
+    /// line of boxes.
+    sums: Vec<u32>,
+    /// How many lines that is.
+    lines: u16,
+    /// How many lines of the smaller picture are made.
+    made: u16,
+    /// Their bytes.
+    pixels: Vec<u8>,
+    ghost sized: { length sums.items ≡ reduction.width * reduction.components },
+}
+
+impl Boxing {
+    ghost use Rattle.std.specs.Prelude.{IfErr, MatchResult, true};
+    ghost use Rattle.jpeg_bits.specs.declared.error.Error.TheVariants.{OutOfMemory};
+    ghost use Rattle.zaxbriar_samples.specs.Boxes.{boxed};
+    ghost use Rattle.zaxbriar_samples.specs.Boxing.{HasTaken, IsLine};
+    ghost use Rattle.zaxbriar_samples.specs.DecodedPictures.{decoded, decoded_in};
+
+    /// Begins to make a picture smaller, to a size. The only error is `OutOfMemory`.
+    pub fn begin(
+        alloc: Global,
+        info: ImageInfo,
+        precision: u8,
+        size: Dimensions,
+    ) -> error::Result<Boxing>
+        requires { is_smaller size info ≡ true }
+        ensures { MatchResult result
+            (λ b. (pixels : List ℕ) → HasTaken pixels info precision size 0 b)
+            (λ e. e ≡ OutOfMemory) }
+    {
+        let reduction = Reduction {
+            width: info.width,
+            height: info.height,
+            to_width: size.width,
+            to_height: size.height,
+            components: components_of(info.pixel_format),
+            precision,
+        };
+        let columns = usize::from(reduction.width) * usize::from(reduction.components);
+        let sums = vec![in alloc; 0; columns]?;
+        let pixels = Vec::with_capacity(alloc, smaller_bytes(reduction))?;
+        Ok(Boxing {
+            info: ImageInfo {
+                width: size.width,
+                height: size.height,
+                ..info
+            },
+            reduction,
+            sums,
+            lines: 0,
+            made: 0,
+            pixels,
+        })
     }
-    let reduction = Reduction {
-        width: info.width,
-        height: info.height,
-        to_width: size.width,
-        to_height: size.height,
-        components: components_of(info.pixel_format),
-        precision: picture.precision,
-    };
-    let pixels = reduced_bytes(alloc, picture.pixels.as_slice(), reduction)?;
-    Ok(Picture {
-        info: ImageInfo {
-            width: size.width,
-            height: size.height,
-            ..info
-        },
-        precision: picture.precision,
-        pixels,
-    })
+
+    /// Takes the next line of the picture. The only error is `OutOfMemory`.
+    pub fn take_line(&mut self, line: &[u8]) -> error::Result<()>
+        ensures taken { (pixels : List ℕ) (info : ImageInfo) (precision : ℕ) (size : Dimensions)
+            (n : ℕ) → n < info.height → IsLine info precision pixels n line.now
+            → HasTaken pixels info precision size n self.old
+            → OnOk result (HasTaken pixels info precision size (n + 1) self.new) }
+        ensures refused { IfErr result (λ e. e ≡ OutOfMemory) }
+    {
+        if self.made >= self.reduction.to_height {
+            return Ok(());
+        }
+        add_line(self.sums.as_mut_slice(), self.reduction.precision, line);
+        self.lines = self.lines.saturating_add(1);
+        if self.lines < lines_in(self.reduction, self.made) {
+            return Ok(());
+        }
+        push_line(
+            &mut self.pixels,
+            self.sums.as_slice(),
+            self.reduction,
+            self.made,
+        )?;
+        self.sums.as_mut_slice().fill(0);
+        self.lines = 0;
+        self.made += 1;
+        Ok(())
+    }
+
+    /// Returns the smaller picture, once all lines were taken.
+    pub fn into_picture(self) -> Picture
+        ensures { (pixels : List ℕ) (info : ImageInfo) (precision : ℕ) (size : Dimensions)
+            → HasTaken pixels info precision size info.height self
+            → decoded_in result ≡ boxed size (decoded info precision pixels) }
+    {
+        Picture {
+            info: self.info,
+            precision: self.reduction.precision,
+            pixels: self.pixels,
+        }
+    }
 }

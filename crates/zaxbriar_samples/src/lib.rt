@@ -8,6 +8,7 @@ mod adler;
 pub mod boxes;
 mod crc;
 pub mod files;
+pub mod laws;
 pub mod netpbm;
 pub mod png;
 pub mod requests;

@@ -9,6 +9,7 @@ ghost use Rattle.zaxbriar_samples.specs.declared.requests.Request.TheVariants.{A
 
 use crate::sizes::{as_stored, fitted};
 use jpeg_meaning::images::ImageInfo;
+use jpeg_orientation::areas::Area;
 use jpeg_orientation::orientation_of;
 use jpeg_segments::parser::Dimensions;
 use jpeg_segments::scale::Scale;
@@ -23,7 +24,8 @@ pub enum Request {
     Within(Dimensions, Upright),
 }
 
-/// A scale, whether the picture is then turned, and whether it is the luma alone.
+/// A scale, whether the picture is then turned, which part of it is wanted, and whether it is the
+/// luma alone.
 #[derive(Clone, Copy)]
 pub struct AtScale {
     /// The scale.
@@ -32,6 +34,8 @@ pub struct AtScale {
     pub upright: Upright,
     /// Whether a picture in colour is made of its luma alone.
     pub luma: bool,
+    /// The part of that picture: none where all of it is wanted.
+    pub crop: Option<Area>,
 }
 
 /// Whether a picture is turned by the orientation in its Exif data.

@@ -1,13 +1,36 @@
 //! The samples of a picture, from its bytes.
 ghost use Rattle.std.specs.Prelude.{◌≡◌, ◌≤◌, ◌<◌, ◌*◌, ◌/◌, ◌^◌, drop, length, take, false};
+ghost use Rattle.zaxbriar_samples.specs.Boxes.{components_a_pixel};
+ghost use Rattle.zaxbriar_samples.specs.Parts.{pixel_bytes};
 ghost use Rattle.zaxbriar_samples.specs.Samples.{byte_at, greatest_below, greatest_sample};
 ghost use Rattle.zaxbriar_samples.specs.Samples.{is_wide, pair_at, sample_in};
+
+use jpeg_meaning::images::{ImageInfo, PixelFormat};
 
 /// Returns whether a sample of this many bits takes two bytes.
 pub fn is_wide(precision: u8) -> bool
     ensures { result ≡ is_wide precision }
 {
     precision > 8
+}
+
+/// Returns how many samples a pixel has.
+pub(crate) fn components_of(format: PixelFormat) -> u8
+    ensures { result ≡ components_a_pixel format }
+{
+    match format {
+        PixelFormat::L8 | PixelFormat::L16 => 1,
+        PixelFormat::RGB24 => 3,
+        PixelFormat::CMYK32 => 4,
+    }
+}
+
+/// Returns how many bytes a pixel of a picture has.
+pub fn pixel_bytes(info: ImageInfo, precision: u8) -> u8
+    ensures { result ≡ pixel_bytes info precision }
+{
+    let sample = if is_wide(precision) { 2 } else { 1 };
+    components_of(info.pixel_format) * sample
 }
 
 /// Returns the bytes of a picture from a place on, this many or as many as there are.

@@ -7,6 +7,7 @@ from collections import Counter
 import zaxbriar
 from common import cases
 from zaxbriar import library
+from zaxbriar.options import TUPLES
 
 # The members of zaxbriar_picture that are named here, with the names of their numbers.
 NAMES = {
@@ -21,6 +22,7 @@ MEMBERS = (
     " vertical_density transform"
 ).split()
 LIMITS = {"max_samples", "max_bytes", "max_passes"}
+MEMBERS_OF_TUPLES = set().union(*TUPLES.values())
 ANSWERS = {
     "MALFORMED": zaxbriar.MalformedError,
     "UNSUPPORTED": zaxbriar.UnsupportedError,
@@ -42,17 +44,26 @@ def members_of(answer):
 
 def options_of(words):
     """The options NAME=NUMBER, without a limit of passes unless they give one; or None for members
-    that Python doesn't have."""
+    that Python doesn't have, and for a crop that it refuses without the library."""
     options = {"max_passes": 0}
+    given = {}
     for word in words:
         name, _, number = word.partition("=")
         number = int(number)
         if name.startswith("reserved"):
             return None
+        if name in MEMBERS_OF_TUPLES:
+            given[name] = number
+            continue
         if name in ("layout", "transform"):
             names = library.LAYOUTS if name == "layout" else library.TRANSFORMS
             number = names[number] if number < len(names) else f"number {number}"
         options[name] = number
+    for name, members in TUPLES.items():
+        if any(given.get(member) for member in members):
+            options[name] = tuple(given.get(member, 0) for member in members)
+    if 0 in options.get("crop", (0, 0, 1, 1))[2:]:
+        return None
     return options
 
 
@@ -118,6 +129,9 @@ class Cases(unittest.TestCase):
 
     def decode_partial(self, stream, words, answer):
         return self.decode(stream, words, answer, zaxbriar.decode_partial)
+
+    def decode_planes(self, stream, words, answer):
+        return False
 
     def metadata(self, stream, words, answer):
         kind, _, *given = words

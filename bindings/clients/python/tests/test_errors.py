@@ -145,11 +145,22 @@ class Options(unittest.TestCase):
             ({"upright": 6}, "upright is a number from 0 to 1, and not 6"),
             ({"upright": True, "transform": "none"}, "an option doesn't exist"),
             ({"luma": 2}, "luma is a number from 0 to 1, and not 2"),
+            ({"crop": (1, 1, 1)}, "crop has 4 numbers, and not 3"),
+            ({"crop": (0, 0, 0, 0)}, r"crop has a column .*, and not \(0, 0, 0, 0\)"),
+            ({"crop": (0, -1, 1, 1)}, "each of crop is a number from 0 to 65535, and not -1"),
+            ({"crop": (0, 0, 1, 1), "transform": "none"}, "an option doesn't exist"),
             ({"max_bytes": -1}, "max_bytes"),
         ):
             with self.subTest(options), self.assertRaisesRegex(zaxbriar.BadArgumentError, text):
                 zaxbriar.decode(STREAM, **options)
-        for options in ({"scale": 0.5}, {"max_bytes": "1"}, {"max_passes": None}):
+        for options in (
+            {"scale": 0.5},
+            {"max_bytes": "1"},
+            {"max_passes": None},
+            {"crop": 1},
+            {"crop": "0011"},
+            {"crop_left": 1},
+        ):
             with self.subTest(options), self.assertRaises(TypeError):
                 zaxbriar.decode(STREAM, **options)
         for kind in ("iptc", None, 1):

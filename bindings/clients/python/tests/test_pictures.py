@@ -58,6 +58,16 @@ def turned(lines, orientation):
     return lines if orientation < 5 else [list(column) for column in zip(*lines)]
 
 
+def parts_of(picture):
+    """Parts of a picture: left, top, width and height."""
+    height, width = picture.shape[:2]
+    yield 0, 0, width, height
+    yield 1, 2, width - 2, height - 3
+    yield width - 1, height - 1, 1, 1
+    yield 0, height // 2, width, 1
+    yield width // 3, 0, 1, height
+
+
 class Streams(unittest.TestCase):
     """The buffers that a stream is read from."""
 
@@ -239,6 +249,58 @@ class Pictures(unittest.TestCase):
             with self.assertRaises(zaxbriar.MalformedError):
                 zaxbriar.decode(STREAM, luma=True, transform=transform)
 
+    def test_parts(self):
+        for orientation in range(1, 9):
+            stream = with_orientation(orientation)
+            for options in (
+                {},
+                {"upright": True, "layout": "rgba"},
+                {"upright": True, "layout": "rgb16", "scale": 2},
+                {"layout": "grey", "min_width": 9},
+                {"upright": True, "luma": True, "transform": "ycbcr", "bottom_up": True},
+            ):
+                whole = zaxbriar.decode(stream, **options)
+                lines = lines_of(whole)[:: -1 if options.get("bottom_up") else 1]
+                for left, top, width, height in parts_of(whole):
+                    crop = left, top, width, height
+                    part = zaxbriar.decode(stream, **options, crop=crop)
+                    wanted = [line[left : left + width] for line in lines[top : top + height]]
+                    wanted = wanted[:: -1 if options.get("bottom_up") else 1]
+                    self.assertEqual(lines_of(part), wanted)
+                    self.assertEqual(part.shape, (height, width, *whole.shape[2:]))
+                    info = zaxbriar.read_info(stream, **options, crop=crop)
+                    self.assertEqual(info.decoding_bytes, whole.info.decoding_bytes)
+                    self.assertEqual((info.shape, info.size), (part.shape, part.info.size))
+
+    def test_parts_of_parts(self):
+        whole_rows = set()
+        for length in range(240, len(STREAM), 7):
+            whole = zaxbriar.decode_partial(STREAM[:length])
+            for left, top, width, height in parts_of(whole.picture):
+                part = zaxbriar.decode_partial(STREAM[:length], crop=[left, top, width, height])
+                lines = lines_of(whole.picture)[top : top + height]
+                self.assertEqual(lines_of(part.picture), [it[left : left + width] for it in lines])
+                self.assertEqual(part.whole_rows, min(max(whole.whole_rows - top, 0), height))
+                self.assertEqual(type(part.fault), type(whole.fault))
+                whole_rows.add(part.whole_rows)
+        self.assertGreater(len(whole_rows), 3)
+
+    def test_parts_that_are_not_inside(self):
+        height, width, _ = zaxbriar.decode(STREAM).shape
+        outside = self.assertRaisesRegex(zaxbriar.BadArgumentError, f"has {width}x{height} pixels")
+        for crop in ((1, 0, width, 1), (0, height, 1, 1), (65535,) * 4):
+            for call in (zaxbriar.read_info, zaxbriar.decode, zaxbriar.decode_partial):
+                with self.subTest(crop), outside:
+                    call(STREAM, crop=crop)
+        whole = zaxbriar.decode(STREAM, crop=(0, 0, width, height))
+        self.assertEqual(bytes(whole), bytes(zaxbriar.decode(STREAM, crop=None)))
+        with self.assertRaises(zaxbriar.BadArgumentError):
+            zaxbriar.decode(STREAM, crop=(0, 0, width, height), scale=2)
+        zaxbriar.decode(STREAM, crop=(1, 2, 3, 4), max_samples=36)
+        with self.assertRaises(zaxbriar.TooLargeError) as raised:
+            zaxbriar.decode(STREAM, crop=(1, 2, 3, 4), max_samples=35)
+        self.assertEqual(raised.exception.info.shape, (4, 3, 3))
+
     @needs_numpy
     def test_are_arrays_of_numpy_without_a_copy(self):
         picture = zaxbriar.decode(STREAM)
@@ -366,6 +428,11 @@ class Memory(unittest.TestCase):
         frames = numpy.zeros((2, *self.wanted.shape), numpy.uint8)
         self.assertTrue((numpy.asarray(zaxbriar.decode(STREAM, out=frames[1])) == frames[1]).all())
         self.assertFalse(frames[0].any())
+        canvas[:] = 7
+        zaxbriar.decode(STREAM, out=canvas[2:5, 3:7], crop=(9, 8, 4, 3))
+        wanted[:] = 7
+        wanted[2:5, 3:7] = numpy.asarray(self.wanted)[8:11, 9:13]
+        self.assertTrue((canvas == wanted).all())
         deep = numpy.asarray(zaxbriar.decode(DEEP, out=bytearray(6), stride=8))
         self.assertEqual((deep.dtype, deep.tolist()), (numpy.uint16, [[[0x8000, 0x8001, 0x7FFF]]]))
 

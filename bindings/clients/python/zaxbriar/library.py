@@ -82,7 +82,11 @@ class Options(Structure):
         ("upright", c_uint8),
         ("luma", c_uint8),
         ("reserved_bytes", c_uint8 * 6),
-        ("reserved_words", c_uint64 * 8),
+        ("crop_left", c_uint16),
+        ("crop_top", c_uint16),
+        ("crop_width", c_uint16),
+        ("crop_height", c_uint16),
+        ("reserved_words", c_uint64 * 7),
     ]
 
 
@@ -113,7 +117,12 @@ class Description(Structure):
         ("horizontal_density", c_uint16),
         ("vertical_density", c_uint16),
         ("transform", c_uint8),
-        ("reserved", c_uint8 * 143),
+        ("reserved_byte", c_uint8),
+        ("plane_width", c_uint16 * 4),
+        ("plane_height", c_uint16 * 4),
+        ("reserved_bytes", c_uint8 * 6),
+        ("planes_size", c_uint64),
+        ("reserved", c_uint8 * 112),
         ("text", c_char * 112),
     ]
 

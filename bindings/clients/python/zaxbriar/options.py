@@ -3,7 +3,7 @@
 from __future__ import annotations
 
 from operator import index
-from typing import Any, Literal, Mapping, TypedDict
+from typing import Any, Iterable, Literal, Mapping, TypedDict
 
 from . import library
 from .errors import BadArgumentError
@@ -47,6 +47,10 @@ class Options(Limits, total=False):
     luma: whether a picture in colour gives its luma alone: the first component's samples, as a grey
         picture. One whose first component isn't luma, as in RGB or ink, or has fewer samples than
         the picture has pixels, is a MalformedError. Grey and lossless pictures aren't affected.
+    crop: (left, top, width, height), for that part alone of the picture that the other options
+        give: in pixels of that at its scale, and of the upright one if that is asked for; or None.
+        One that isn't inside the picture is a BadArgumentError, and so is any with the transform
+        "none". The whole stream is read all the same.
     """
 
     layout: Layout
@@ -58,19 +62,24 @@ class Options(Limits, total=False):
     bottom_up: bool
     upright: bool
     luma: bool
+    crop: tuple[int, int, int, int] | None
 
 
 LIMITS = ("max_samples", "max_bytes", "max_passes")
 NAMES = {"layout": library.LAYOUTS, "transform": library.TRANSFORMS}
+MOST_SIDE = 2**16 - 1
 MOST = {
     "scale": 2**8 - 1,
-    "min_width": 2**16 - 1,
-    "min_height": 2**16 - 1,
+    "min_width": MOST_SIDE,
+    "min_height": MOST_SIDE,
     "bottom_up": 1,
     "upright": 1,
     "luma": 1,
     **dict.fromkeys(("stride", *LIMITS), 2**64 - 1),
 }
+# The options that are tuples, and the library's options for their numbers.
+TUPLES = {"crop": ("crop_left", "crop_top", "crop_width", "crop_height")}
+OPTIONS = (*NAMES, *TUPLES, *MOST)
 
 
 def number_of(name: str, value: Any, names: tuple[str | None, ...]) -> int:
@@ -81,22 +90,38 @@ def number_of(name: str, value: Any, names: tuple[str | None, ...]) -> int:
     return names.index(value)
 
 
-def _whole(name: str, value: Any) -> int:
+def _whole(name: str, value: Any, most: int) -> int:
     number = index(value)
-    if not 0 <= number <= MOST[name]:
-        raise BadArgumentError(f"{name} is a number from 0 to {MOST[name]}, and not {number}")
+    if not 0 <= number <= most:
+        raise BadArgumentError(f"{name} is a number from 0 to {most}, and not {number}")
     return number
 
 
-def options_of(
-    given: Mapping[str, Any], known: tuple[str, ...] = (*NAMES, *MOST)
-) -> library.Options:
+def _sides(name: str, value: Any) -> tuple[int, ...]:
+    """The numbers of an option that is a tuple."""
+    sides = tuple(_whole(f"each of {name}", side, MOST_SIDE) for side in value)
+    if len(sides) != len(TUPLES[name]):
+        raise BadArgumentError(f"{name} has {len(TUPLES[name])} numbers, and not {len(sides)}")
+    if name == "crop" and 0 in sides[2:]:  # (of which zeros alone are none to the library)
+        raise BadArgumentError(f"crop has a column and a line at least, and not {sides}")
+    return sides
+
+
+def _members(name: str, value: Any) -> Iterable[tuple[str, int]]:
+    """The members of the library's options that an option sets, and what to."""
+    if name in NAMES:
+        return [(name, number_of(name, value, NAMES[name]))]
+    if name in MOST:
+        return [(name, _whole(name, value, MOST[name]))]
+    return [] if value is None else zip(TUPLES[name], _sides(name, value))
+
+
+def options_of(given: Mapping[str, Any], known: tuple[str, ...] = OPTIONS) -> library.Options:
     """The library's options for keyword arguments, which are among those known."""
     options = library.Options(max_passes=MAX_PASSES)
     for name, value in given.items():
         if name not in known:
             raise TypeError(f"there is no option {name}; there are {', '.join(known)}")
-        is_named = name in NAMES
-        number = number_of(name, value, NAMES[name]) if is_named else _whole(name, value)
-        setattr(options, name, number)
+        for member, number in _members(name, value):
+            setattr(options, member, number)
     return options

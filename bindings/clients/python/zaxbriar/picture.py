@@ -25,7 +25,7 @@ class Info:
     row_bytes, pixel_bytes: those of a line without its gap, and of a pixel.
     decoding_bytes: the most memory that decoding uses for coefficients and samples.
     stream_bytes: how many bytes the image takes, after decode; or the header, after read_info.
-    width, height: in pixels, at the scale, and upright if that was asked for.
+    width, height: in pixels, at the scale, upright if that was asked for, and of the part that was.
     layout: the one that was asked for.
     components: the samples of a pixel as it is stored: one of each component of the stream, 1, 3 or
         4; 1 if the luma alone was asked for.
@@ -204,8 +204,8 @@ class Partial(NamedTuple):
     """What a stream brings up to its first fault.
 
     picture: what is missing of it is mid-grey.
-    whole_rows: how many rows, from the top of the picture before it is turned, are complete in each
-        scan that has begun.
+    whole_rows: how many rows, from the top of the picture, or of its part, before it is turned, are
+        complete in each scan that has begun.
     fault: the first fault, a MalformedError, an UnsupportedError, a TruncatedError or a
         TooManyPassesError that wasn't raised; None if the stream has no fault.
     """

@@ -10,7 +10,8 @@ use crate::library::{Options, Picture};
 pub enum ColorTransform {
     /// They are samples as they are, and a line has those of its first component, then those of the
     /// next ones. [`decode_as`](crate::Decoder::decode_as) refuses it, since it has no pixels, and
-    /// so does a decoder that turns the picture ([`set_upright`](crate::Decoder::set_upright)).
+    /// so does a decoder that turns the picture ([`set_upright`](crate::Decoder::set_upright)) or
+    /// gives a part of it ([`set_crop`](crate::Decoder::set_crop)).
     None,
     /// A transform that isn't known: refused.
     Unknown,
@@ -34,6 +35,20 @@ pub enum ColorTransform {
 /// The number of what the stream says, in place of a transform.
 const OF_STREAM: u8 = 0;
 
+/// Returns what options make of a picture that has pixels alone, or nothing where its lines may
+/// have component after component.
+fn place_of(options: &Options) -> &'static str {
+    if options.layout != AS_STORED {
+        " in a layout"
+    } else if options.upright != 0 {
+        " turned upright"
+    } else if options.has_own_size() {
+        " of a part"
+    } else {
+        ""
+    }
+}
+
 /// Returns the library's number of a transform for a picture by options. Errors: `Unsupported`,
 /// and `Format` for one that fits no picture of several components by these; the library itself
 /// refuses `RGB` to `YCCK` if they don't fit this one.
@@ -51,7 +66,8 @@ pub(crate) fn transform_number(
             "color transform {transform:?} of a picture whose luma is asked for, expected YCbCr"
         )));
     }
-    let may_be_none = options.layout == AS_STORED && options.upright == 0;
+    let place = place_of(options);
+    let may_be_none = place.is_empty();
     match transform {
         ColorTransform::None if may_be_none => Ok(1),
         ColorTransform::RGB => Ok(2),
@@ -60,11 +76,6 @@ pub(crate) fn transform_number(
         ColorTransform::YCCK => Ok(5),
         ColorTransform::None | ColorTransform::Unknown | ColorTransform::Grayscale => {
             let components = picture.components;
-            let place = match (may_be_none, options.layout) {
-                (true, _) => "",
-                (false, AS_STORED) => " turned upright",
-                (false, _) => " in a layout",
-            };
             let fitting = match (components, may_be_none) {
                 (3, true) => "None, RGB or YCbCr",
                 (3, false) => "RGB or YCbCr",

@@ -1,6 +1,6 @@
 use crate::color::{transform_number, ColorTransform};
 use crate::error::{Error, Result, UnsupportedFeature};
-use crate::info::{size_of, Density, ImageInfo, Scale};
+use crate::info::{size_of, Area, Density, ImageInfo, Scale};
 use crate::layout::{Layout, AS_STORED};
 use crate::library::{self, Answer, Joined, Metadata, Number, Options, Part, Picture, Refusal};
 use crate::stream::{end_of_bytes, Failure, Stream};
@@ -26,8 +26,8 @@ pub struct PartialPicture<E = u8> {
     /// The picture, as [`Decoder::decode`] or [`Decoder::decode_as`] returns it. What no scan has
     /// brought is mid-grey.
     pub pixels: Vec<E>,
-    /// The number of rows, from the top of the picture before it is turned, that need nothing that
-    /// a scan which was begun lacks. All rows if the stream has no fault.
+    /// The number of rows, from the top of the picture, or of its part, before it is turned, that
+    /// need nothing that a scan which was begun lacks. All rows if the stream has no fault.
     pub whole_rows: u16,
     /// The first fault of the stream, or none if it is whole.
     pub fault: Option<Error>,
@@ -60,8 +60,8 @@ pub struct Decoder<R> {
     /// How many bytes of the stream the metadata are of.
     metadata_end: usize,
     color_transform: Option<ColorTransform>,
-    /// The scale, the order of rows, whether the picture is turned, whether it is its luma, and the
-    /// limit of passes; the rest is as the library has it.
+    /// The scale, the order of rows, whether the picture is turned, whether it is its luma, its
+    /// part, and the limit of passes; the rest is as the library has it.
     options: Options,
     max_samples: u64,
     max_bytes: u64,
@@ -406,7 +406,7 @@ impl<R: Read> Decoder<R> {
         let upright = u8::from(is_upright);
         if self.options.upright != upright {
             self.options.upright = upright;
-            self.picture = self.picture.map(Picture::turned);
+            self.describe_anew(Picture::turned);
         }
     }
 
@@ -433,7 +433,42 @@ impl<R: Read> Decoder<R> {
     /// ```
     pub fn set_luma(&mut self, is_luma: bool) {
         self.options.luma = is_luma.into();
-        self.picture = self.picture.map(|picture| picture.with_luma(is_luma));
+        self.describe_anew(|picture| picture.with_luma(is_luma));
+    }
+
+    /// Chooses a part of the picture, or all of it again, and returns the size that it has then.
+    /// Reads the header. The part is one of what [`decode`](Decoder::decode) returns without it: of
+    /// the picture at its scale, and of the upright one after
+    /// [`set_upright`](Decoder::set_upright).
+    ///
+    /// It is what `info` describes, whose samples and bytes are limited, and whose rows are
+    /// returned, in each layout and order. The stream is read and decoded as a whole all the same,
+    /// so a fault anywhere in it refuses the part, too.
+    ///
+    /// An area without pixels, or that isn't inside the picture, is an [`Error::Format`], and
+    /// changes nothing. Where the picture is turned later, so that the area isn't inside it any
+    /// more, decoding is that error. So is the colour transform [`None`](ColorTransform::None) for
+    /// a part of several components.
+    ///
+    /// ```
+    /// # let jpeg = &std::fs::read("image/tests/colour.jpg").unwrap()[..];
+    /// use zaxbriar::{Area, Decoder};
+    ///
+    /// let whole = Decoder::new(jpeg).decode()?;
+    /// let mut decoder = Decoder::new(jpeg);
+    /// let area = Area { left: 8, top: 20, width: 16, height: 4 };
+    /// assert_eq!(decoder.set_crop(Some(area))?, (16, 4));
+    /// let rows = whole.chunks(3 * 40).skip(20).map(|row| &row[3 * 8..3 * 24]);
+    /// assert_eq!(decoder.decode()?, rows.collect::<Vec<_>>().concat());
+    /// # Ok::<(), zaxbriar::Error>(())
+    /// ```
+    pub fn set_crop(&mut self, area: Option<Area>) -> Result<(u16, u16)> {
+        let mut options = self.options;
+        options.crop = area.unwrap_or_default();
+        if area == Some(Area::default()) {
+            return Err(Error::Format("an area without pixels".into()));
+        }
+        self.resize(options)
     }
 
     /// Chooses exactly that part of the picture's size, rounded up, and returns the size that it
@@ -547,6 +582,19 @@ impl<R: Read> Decoder<R> {
         Ok(size_of(&picture))
     }
 
+    /// Describes the picture anew, once its header was read, after an option was set of which
+    /// `change` says what it does to all of it. Where a part isn't inside the picture any more, the
+    /// description stays as it is, and decoding refuses the part.
+    fn describe_anew(&mut self, change: impl Fn(Picture) -> Picture) {
+        self.picture = self.picture.map(|picture| {
+            if self.options.has_own_size() {
+                self.describe(&self.options).unwrap_or(picture)
+            } else {
+                change(picture)
+            }
+        });
+    }
+
     /// Describes the picture by options. The header was read.
     fn describe(&self, options: &Options) -> Result<Picture> {
         let answer = library::read_info(self.stream.bytes(), options);
@@ -598,9 +646,10 @@ impl<R: Read> Decoder<R> {
         };
         let mut options = self.options;
         options.layout = layout;
-        let picture = match layout {
-            AS_STORED => stored,
-            _ => self.describe(&options)?,
+        let picture = if layout == AS_STORED && !options.has_own_size() {
+            stored
+        } else {
+            self.describe(&options)?
         };
         self.refuse_above_limits(&picture)?;
         options.transform = transform_number(self.color_transform, &picture, &options)?;
@@ -696,6 +745,7 @@ fn error_of(refusal: Refusal, failure: Option<Failure>) -> Error {
         Refusal::TooLarge(bytes) => {
             Error::Format(format!("{bytes} bytes for decoding, more than the limit"))
         }
+        Refusal::Misfit(text) => Error::Format(text),
         Refusal::Call(text) => Error::Internal(text.into()),
     }
 }

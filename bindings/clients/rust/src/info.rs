@@ -44,8 +44,9 @@ pub enum CodingProcess {
 /// What a header says of its picture.
 #[derive(Clone, Copy, Debug, PartialEq)]
 pub struct ImageInfo {
-    /// The width in pixels, at the scale that was chosen, and upright if that was asked for
-    /// ([`Decoder::set_upright`](crate::Decoder::set_upright)).
+    /// The width in pixels, at the scale that was chosen, upright if that was asked for
+    /// ([`Decoder::set_upright`](crate::Decoder::set_upright)), and of the part that was
+    /// ([`Decoder::set_crop`](crate::Decoder::set_crop)).
     pub width: u16,
     /// The height in pixels, in the same way.
     pub height: u16,
@@ -105,6 +106,21 @@ impl Density {
 /// Returns the width and the height of a picture: a JPEG picture has at most 65535 of either.
 pub(crate) fn size_of(picture: &Picture) -> (u16, u16) {
     (picture.width as u16, picture.height as u16)
+}
+
+/// A part of a picture, in pixels, for [`Decoder::set_crop`](crate::Decoder::set_crop): so many
+/// columns of so many rows.
+#[repr(C)]
+#[derive(Clone, Copy, Debug, Default, PartialEq, Eq)]
+pub struct Area {
+    /// The first column, counted from the left.
+    pub left: u16,
+    /// The first row, counted from the top.
+    pub top: u16,
+    /// The number of columns, at least 1.
+    pub width: u16,
+    /// The number of rows, at least 1.
+    pub height: u16,
 }
 
 /// A part of a picture's size, for [`Decoder::set_scale`](crate::Decoder::set_scale).

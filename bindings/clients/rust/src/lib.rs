@@ -58,4 +58,4 @@ mod stream;
 pub use color::ColorTransform;
 pub use decoder::{Decoder, PartialPicture};
 pub use error::{Error, UnsupportedFeature};
-pub use info::{CodingProcess, Density, ImageInfo, PixelFormat, Scale};
+pub use info::{Area, CodingProcess, Density, ImageInfo, PixelFormat, Scale};

@@ -1,6 +1,7 @@
 //! The calls of `zaxbriar.h`, and all `unsafe` code of this crate.
 #![allow(unsafe_code)]
 
+use crate::info::Area;
 use std::alloc::{alloc_zeroed, Layout};
 use std::mem::{size_of, size_of_val};
 use std::ops::Range;
@@ -13,6 +14,7 @@ const UNSUPPORTED: c_int = 2;
 const TRUNCATED: c_int = 3;
 const NO_MEMORY: c_int = 4;
 const NO_ROOM: c_int = 5;
+const BAD_ARGUMENT: c_int = 6;
 const TOO_LARGE: c_int = 8;
 const PARTIAL: c_int = 9;
 const TOO_MANY_PASSES: c_int = 10;
@@ -62,7 +64,16 @@ pub struct Options {
     pub upright: u8,
     pub luma: u8,
     reserved_bytes: [u8; 6],
-    reserved_words: [u64; 8],
+    /// A part of the picture, or zeros for all of it.
+    pub crop: Area,
+    reserved_words: [u64; 7],
+}
+
+impl Options {
+    /// Returns whether only the library says what size the picture has.
+    pub fn has_own_size(&self) -> bool {
+        self.crop != Area::default()
+    }
 }
 
 /// `zaxbriar_picture`.
@@ -236,6 +247,8 @@ pub enum Refusal {
     NoMemory,
     /// The picture and what decoding takes beside it have this many bytes, more than the limit.
     TooLarge(u64),
+    /// A part of the picture that isn't inside it.
+    Misfit(String),
     /// A fault of this crate's: a call that no stream answers so.
     Call(String),
 }
@@ -257,6 +270,7 @@ fn refusal_of(answer: c_int, picture: &Picture) -> Option<Refusal> {
         TRUNCATED => Some(Refusal::Truncated),
         NO_MEMORY => Some(Refusal::NoMemory),
         TOO_LARGE => Some(Refusal::TooLarge(picture.bytes())),
+        BAD_ARGUMENT => Some(Refusal::Misfit(text())),
         _ => Some(Refusal::Call(text())),
     }
 }

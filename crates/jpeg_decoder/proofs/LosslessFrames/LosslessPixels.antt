@@ -60,7 +60,7 @@ sizes-kept samples bytes final frame w e =
 -- ---- the picture
 
 -- the planes of samples that are kept
-planes-there : (decided : List (Option (List ℕ))) (samples : Samples) (index : ℕ) (cs : List Component)
+pub planes-there : (decided : List (Option (List ℕ))) (samples : Samples) (index : ℕ) (cs : List Component)
     → AreKept samples decided (range_with_len index (length cs))
     → gathered (sample_plane decided) (enumerate_from index cs)
     ≡ Ok (planes_for samples (range_with_len index (length cs)))
@@ -92,7 +92,7 @@ given said rest picture = Ok ((told_of said, picture), rest)
 -- What the end of a stream means is the picture of its samples where the limit takes it.
 samples-meant : (settings : Settings) (samples : Samples) (bytes rest : List ℕ) (final : Said)
     (meant : Outcome (Told × List ℕ)) → (w : WritesSamples samples bytes final)
-    → AreMeant settings samples final w.sent rest meant
+    → AreMeant (picture_of settings) samples final w.sent rest meant
     → meant ≡ (limited settings final (λ f. Ok (picture_of_samples f samples)) >>= given final rest)
 unfolding picture_of samples_picture
 samples-meant settings samples bytes rest final meant w r =
@@ -114,7 +114,7 @@ pub lossless-means : (settings : Settings) (samples : Samples) (bytes rest : Lis
     → WritesSamples samples bytes final → meaning settings (bytes ++ rest)
     ≡ (limited settings final (λ f. Ok (picture_of_samples f samples)) >>= given final rest)
 lossless-means settings samples bytes rest final w =
-    samples-meant settings samples bytes rest final _ w (samples-walked settings samples bytes rest final w)
+    samples-meant settings samples bytes rest final _ w (samples-walked (picture_of settings) samples bytes rest final w)
 
 pub lossless-sized : (width height : ℕ) (settings : Settings) (samples : Samples) (bytes rest : List ℕ)
     (final : Said) → WritesSamples samples bytes final
@@ -122,7 +122,7 @@ pub lossless-sized : (width height : ℕ) (settings : Settings) (samples : Sampl
     ≡ (limited settings final (λ f. Ok (picture_of_samples f samples)) >>= given final rest)
 lossless-sized width height settings samples bytes rest final w =
     samples-meant settings samples bytes rest final _ w
-    (sized-walked width height settings samples bytes rest final w)
+    (sized-walked width height (picture_of settings) samples bytes rest final w)
 
 pub lossless-scaled : (scale : Scale) (settings : Settings) (samples : Samples) (bytes rest : List ℕ)
     (final : Said) → WritesSamples samples bytes final
@@ -130,7 +130,7 @@ pub lossless-scaled : (scale : Scale) (settings : Settings) (samples : Samples) 
     ≡ (limited settings final (λ f. Ok (picture_of_samples f samples)) >>= given final rest)
 lossless-scaled scale settings samples bytes rest final w =
     samples-meant settings samples bytes rest final _ w
-    (scaled-walked scale settings samples bytes rest final w)
+    (scaled-walked scale (picture_of settings) samples bytes rest final w)
 
 -- within the limit
 pub limit-takes : (settings : Settings) (samples : Samples) (bytes rest : List ℕ) (final : Said) (frame : Frame)

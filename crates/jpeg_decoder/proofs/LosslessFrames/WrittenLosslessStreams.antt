@@ -1,6 +1,6 @@
 -- Lossless streams that are written give their samples, and keep their size.
 use Rattle.std.proofs.Common.{◌≡◌, ℕ, zero, suc, ◌<◌, true, List, [], ◌∷◌, ◌++◌, length, replicate}
-use Rattle.std.proofs.Common.{set, get_or, Option, Some, None, refl, sym, ap, ◌∙◌, subst, arith}
+use Rattle.std.proofs.Common.{set, get_or, Option, Some, None, Result, refl, sym, ap, ◌∙◌, subst, arith}
 use Rattle.std.proofs.Common.{length-set, rules, get_or-set_same, slice_index_or, slice_set}
 use Rattle.std.proofs.Math.Logic.{⊎_elim}
 use Rattle.std.proofs.lemmas.Bool.Decides.{eqb_tells}
@@ -8,7 +8,7 @@ use Rattle.std.proofs.lemmas.Grind.{common_steps}
 use Rattle.std.proofs.lemmas.List.Elements.{recursion_from_All}
 use Rattle.std.specs.List.{AllByRecursion, concat, range_with_len}
 use Rattle.jpeg_bits.specs.DefaultTables.{names}
-use Rattle.jpeg_bits.specs.Reading.{Outcome, ◌>>=◌}
+use Rattle.jpeg_bits.specs.Reading.{Fault, Outcome, ◌>>=◌}
 use Rattle.jpeg_segments.specs.declared.scale.Scale.{Scale}
 use Rattle.jpeg_segments.specs.declared.frame.CodingProcess.TheVariants.{Lossless}
 use Rattle.jpeg_segments.specs.Frame.{Frame, frame_of}
@@ -16,18 +16,17 @@ use Rattle.jpeg_segments.specs.ScanHeader.{scan_of}
 use Rattle.jpeg_segments.specs.ScanHeaders.{ScanHeader, IsScan}
 use Rattle.jpeg_segments.specs.WrittenSegments.{FrameHeader, frame_written, Header}
 use Rattle.jpeg_segments.proofs.HeaderRules.{header-rules}
-use Rattle.jpeg_meaning.specs.declared.settings.Settings.{Settings}
 use Rattle.jpeg_meaning.specs.LosslessScans.{with_samples}
 use Rattle.jpeg_meaning.specs.SaidSegments.{said_after, Stands}
-use Rattle.jpeg_meaning.specs.Found.{nothing_found, nothing_said, Said, with_said}
-use Rattle.jpeg_meaning.specs.Stream.{header_at, rest_at, meaning, scaled_meaning, scaled_to, sized_meaning}
-use Rattle.jpeg_meaning.specs.Stream.{sized_to, Told}
+use Rattle.jpeg_meaning.specs.Found.{Found, nothing_found, nothing_said, Said, with_said}
+use Rattle.jpeg_meaning.specs.Stream.{header_at, scaled_to}
+use Rattle.jpeg_meaning.specs.Stream.{sized_to, Told, sized_showing, scaled_showing, rest_showing, meaning_showing}
 use Rattle.jpeg_meaning.specs.WrittenLossless.{IsLossless, Samples, SendsSamples, WritesSamples}
 use Rattle.jpeg_meaning.proofs.Written.ReadTurns.{then-ok}
 use Rattle.jpeg_meaning.proofs.Pictures.DecodedHeaders.{decoded-accepted}
 use Rattle.jpeg_meaning.proofs.Pictures.LosslessSizes.{IsShaped, header-shaped}
 use Rattle.jpeg_meaning.proofs.Written.WalkedStreams.{beside, FindsScan, header-read, IsMeant, IsRead, IsSaid, stream-read}
-use Rattle.jpeg_decoder.proofs.Segments.HeaderThenRest.{header-means}
+use Rattle.jpeg_decoder.proofs.Segments.HeaderThenRest.{header-reads}
 use Rattle.jpeg_decoder.proofs.LosslessFrames.WrittenSamples.{bring_samples, indices_of, planes_for, scan-read}
 use Rattle.jpeg_decoder.proofs.LosslessFrames.LosslessReads.{all-below}
 
@@ -155,18 +154,19 @@ abbrev pub MayEndSamples : Said → List ℕ → Frame → Type 0
 MayEndSamples said sent frame =
     AllByRecursion (λ k. names sent k ≡ true) (range_with_len 0 (length frame.components))
 
-abbrev pub AreMeant : Settings → Samples → Said → List ℕ → List ℕ → Outcome (Told × List ℕ) → Type 0
-AreMeant settings samples final sent tail meant =
-    IsMeant IsSampled bring_samples (Holds samples) MayEndSamples settings final sent tail meant
+abbrev pub AreMeant : {A : Type 0} → (Found → Result A Fault) → Samples → Said → List ℕ → List ℕ → Outcome (Told × A)
+    → Type 0
+AreMeant show samples final sent tail meant =
+    IsMeant IsSampled bring_samples (Holds samples) MayEndSamples show final sent tail meant
 
 -- ---- the whole
 
-pub samples-walked : (settings : Settings) (samples : Samples) (bytes rest : List ℕ) (final : Said)
+pub samples-walked : {A : Type 0} (show : Found → Result A Fault) (samples : Samples) (bytes rest : List ℕ) (final : Said)
     → (w : WritesSamples samples bytes final)
-    → AreMeant settings samples final w.sent rest (meaning settings (bytes ++ rest))
+    → AreMeant show samples final w.sent rest (meaning_showing None show (bytes ++ rest))
 unfolding nothing_found nothing_said
-samples-walked settings samples bytes rest final w =
-    stream-read MayEndSamples (samples-read samples) rest [] w.sent bytes final (replicate 4 None) settings w.written
+samples-walked show samples bytes rest final w =
+    stream-read MayEndSamples (samples-read samples) rest [] w.sent bytes final (replicate 4 None) show w.written
     refl (record { four = refl; kept = tt })
 
 -- A change of what was said leaves lossless frames as they are.
@@ -180,36 +180,36 @@ sized-keeps width height said frame framed lossless = grind (arith, common_steps
 scaled-keeps : (scale : Scale) → KeepsLossless (scaled_to scale)
 scaled-keeps scale said frame framed lossless = grind (arith, common_steps)
 
--- what a stream means where what its header said is changed
-abbrev changed_meaning : (Said → Said) → Settings → List ℕ → Outcome (Told × List ℕ)
-changed_meaning change settings bytes =
-    header_at bytes >>= (λ header. rest_at settings (with_said change header.0) header.1)
+-- what is shown of a stream where what its header said is changed
+abbrev changed_showing : {A : Type 0} → (Said → Said) → (Found → Result A Fault) → List ℕ → Outcome (Told × A)
+changed_showing change show bytes =
+    header_at bytes >>= (λ header. rest_showing None show (with_said change header.0) header.1)
 
-changed-walked : (change : Said → Said) → KeepsLossless change
-    → (settings : Settings) (samples : Samples) (bytes rest : List ℕ) (final : Said)
+changed-walked : {A : Type 0} (change : Said → Said) → KeepsLossless change
+    → (show : Found → Result A Fault) (samples : Samples) (bytes rest : List ℕ) (final : Said)
     → (w : WritesSamples samples bytes final)
-    → AreMeant settings samples final w.sent rest (changed_meaning change settings (bytes ++ rest))
+    → AreMeant show samples final w.sent rest (changed_showing change show (bytes ++ rest))
 unfolding nothing_found nothing_said
-changed-walked change keeps settings samples bytes rest final w =
+changed-walked change keeps show samples bytes rest final w =
     let r = header-read MayEndSamples (samples-read samples) rest [] w.sent bytes final (replicate 4 None) w.written refl in
     let said = said_after r.0.between (Header r.0.number r.0.header) in
     let header = beside bring_samples said (replicate 4 None) in
     let left = r.0.left ++ rest in
-    let all = samples-walked settings samples bytes rest final w in (
+    let all = samples-walked show samples bytes rest final w in (
       all.0,
       then-ok (header_at (bytes ++ rest)) _ (header, left) _ r.1
-          (ap (λ (s : Said). rest_at settings (beside bring_samples s (replicate 4 None)) left) (keeps said _ refl (r.0.said.shaped _ refl).1)
-          ∙ sym (header-means None settings header (bytes ++ rest) left r.1) ∙ all.1),
+          (ap (λ (s : Said). rest_showing None show (beside bring_samples s (replicate 4 None)) left) (keeps said _ refl (r.0.said.shaped _ refl).1)
+          ∙ sym (header-reads None show header (bytes ++ rest) left r.1) ∙ all.1),
     )
 
-pub sized-walked : (width height : ℕ) (settings : Settings) (samples : Samples) (bytes rest : List ℕ) (final : Said)
-    → (w : WritesSamples samples bytes final)
-    → AreMeant settings samples final w.sent rest (sized_meaning width height settings (bytes ++ rest))
-unfolding sized_meaning
+pub sized-walked : {A : Type 0} (width height : ℕ) (show : Found → Result A Fault) (samples : Samples)
+    (bytes rest : List ℕ) (final : Said) → (w : WritesSamples samples bytes final)
+    → AreMeant show samples final w.sent rest (sized_showing width height show (bytes ++ rest))
+unfolding sized_showing
 sized-walked width height = changed-walked (sized_to width height) (sized-keeps width height)
 
-pub scaled-walked : (scale : Scale) (settings : Settings) (samples : Samples) (bytes rest : List ℕ) (final : Said)
-    → (w : WritesSamples samples bytes final)
-    → AreMeant settings samples final w.sent rest (scaled_meaning scale settings (bytes ++ rest))
-unfolding scaled_meaning
+pub scaled-walked : {A : Type 0} (scale : Scale) (show : Found → Result A Fault) (samples : Samples)
+    (bytes rest : List ℕ) (final : Said) → (w : WritesSamples samples bytes final)
+    → AreMeant show samples final w.sent rest (scaled_showing scale show (bytes ++ rest))
+unfolding scaled_showing
 scaled-walked scale = changed-walked (scaled_to scale) (scaled-keeps scale)

@@ -3,7 +3,7 @@ use Rattle.std.proofs.Common.{rules, IfOk, OnOk, if◌then◌else◌, is_ok, is_
 use Rattle.std.proofs.Common.{◌≡◌, ◌++◌, [], Bool, None, replicate, ℕ, suc, List, Result, Ok, Err, true, false, refl, sym, ap, ◌∙◌, subst, length, take}
 use Rattle.std.proofs.lemmas.Bool.{false≢true, true≢false}
 use Rattle.std.proofs.Math.Seq.{take-append_seam}
-use Rattle.jpeg_bits.specs.Reading.{Answers, MayFail, Names, Outcome}
+use Rattle.jpeg_bits.specs.Reading.{Answers, Fault, MayFail, Names, Outcome}
 use Rattle.jpeg_bits.specs.Stream.{Stream}
 use Rattle.jpeg_bits.specs.declared.error.Error.{Error}
 use Rattle.jpeg_bits.specs.declared.error.Error.TheVariants as errors
@@ -16,13 +16,15 @@ use Rattle.jpeg_meaning.specs.declared.progress.Progress.TheVariants.{Failed, Fi
 use Rattle.jpeg_meaning.specs.Found.{Found, nothing_found}
 use Rattle.jpeg_meaning.specs.Sound.{HasDecodedFrame, IsSound, IsUnread}
 use Rattle.jpeg_meaning.specs.States.{HasHeader, IfRefused, IsInternal, IsReading, OnTold}
-use Rattle.jpeg_meaning.specs.States.{Decoding, MovesToEnd, MovesToHeader, ahead, told_ahead, turns_ahead}
-use Rattle.jpeg_meaning.specs.Stream.{Told, header_at, rest_within, told_of}
+use Rattle.jpeg_meaning.specs.FoundPictures.{picture_of}
+use Rattle.jpeg_meaning.specs.FoundPlanes.{planes_of}
+use Rattle.jpeg_meaning.specs.States.{Decoding, MovesToEnd, MovesToHeader, ahead_showing, told_ahead, turns_ahead}
+use Rattle.jpeg_meaning.specs.Stream.{Told, header_at, rest_showing, told_of}
 use Rattle.jpeg_meaning.proofs.Refusals.{told-err, told-through}
-use Rattle.jpeg_decoder.specs.Decodes.{Decodes}
-use Rattle.jpeg_decoder.proofs.Pictures.DecodedImages.{decodes-images}
-use Rattle.jpeg_decoder.proofs.LosslessFrames.DecodedSamples.{decodes-samples}
-use Rattle.jpeg_decoder.proofs.Segments.HeaderThenRest.{header-lacks, header-means, header-told, header-told_lacking}
+use Rattle.jpeg_decoder.specs.Decodes.{Decodes, DecodesPlanes}
+use Rattle.jpeg_decoder.proofs.Pictures.DecodedImages.{decodes-images, decodes-planes}
+use Rattle.jpeg_decoder.proofs.LosslessFrames.DecodedSamples.{decodes-sample-planes, decodes-samples}
+use Rattle.jpeg_decoder.proofs.Segments.HeaderThenRest.{header-reads, header-refuses, header-told, header-told_lacking}
 use Rattle.jpeg_decoder.proofs.Segments.HeaderThenRest.{header-exceeded, header-turns, header-turns_lacking, lacking-exceeded}
 use Rattle.jpeg_decoder.proofs.Scans.ScanData.{answers-err}
 
@@ -52,19 +54,20 @@ answers-then view y first next whole old mid new (Err e) means a h = (
 
 -- ---- where the header is read
 
--- What a call says that has read the rest of a stream.
-pub record RestRead {X : Type 0} (bytes_of : X → List ℕ) (told : Told) (more : Bool) (mid : Decoding) (r : Result X Error)
-    (new : Stream) : Type 0 where
-  pub reads : Answers (λ x. (told, bytes_of x)) (rest_within mid.settings.max_blocks mid.settings mid.found) mid.source r new
+-- What a call says that has read the rest of a stream, where this is to be shown by the settings.
+pub record RestRead {A X : Type 0} (show : Settings → Found → Result A Fault) (view : X → A) (told : Told) (more : Bool)
+    (mid : Decoding) (r : Result X Error) (new : Stream) : Type 0 where
+  pub reads : Answers (λ x. (told, view x)) (rest_showing mid.settings.max_blocks (show mid.settings) mid.found) mid.source r new
   pub tells : OnTold mid.source new r (told ≡ told_in_turns mid.settings.max_blocks (suc (length mid.source.bytes)) false mid.found mid.source.bytes)
   pub turns : mid.source.known ≡ true → IsOfTurns (λ n. told_in_turns mid.settings.max_blocks n false mid.found mid.source.bytes) told
   pub exceeded : OnTold mid.source new r (more ≡ exceeded_rest mid.settings.max_blocks Zeros mid.found mid.source.bytes)
 
 -- What a call says that has read what its source has left.
-pub record HasRead {X : Type 0} (bytes_of : X → List ℕ) (told : Told) (more : Bool) (old : Decoding) (r : Result X Error)
-    (new : Stream) : Type 0 where
+pub record HasRead {A X : Type 0} (show : Settings → Found → Result A Fault) (view : X → A) (told : Told) (more : Bool)
+    (old : Decoding) (r : Result X Error) (new : Stream) : Type 0 where
   pub reads : IsReading old.stage
-      → Answers (λ x. (told, bytes_of x)) (ahead old.stage old.settings old.found) old.source r new
+      → Answers (λ x. (told, view x)) (ahead_showing old.settings.max_blocks (show old.settings) old.stage old.found)
+      old.source r new
   pub told_is : IsReading old.stage
       → OnTold old.source new r (told ≡ told_ahead old.settings.max_blocks false old.stage old.found old.source.bytes)
   pub turns : IsReading old.stage → old.source.known ≡ true
@@ -72,9 +75,9 @@ pub record HasRead {X : Type 0} (bytes_of : X → List ℕ) (told : Told) (more 
   pub exceeded : IsReading old.stage → OnTold old.source new r
       (more ≡ exceeded_ahead old.settings.max_blocks Zeros old.stage old.found old.source.bytes)
 
-none-read : {X : Type 0} (bytes_of : X → List ℕ) (told : Told) (more : Bool) (old : Decoding) (r : Result X Error)
-    (new : Stream) → (IsReading old.stage → ⊥) → HasRead bytes_of told more old r new
-none-read bytes_of told more old r new n = search rules
+none-read : {A X : Type 0} (show : Settings → Found → Result A Fault) (view : X → A) (told : Told) (more : Bool)
+    (old : Decoding) (r : Result X Error) (new : Stream) → (IsReading old.stage → ⊥) → HasRead show view told more old r new
+none-read show view told more old r new n = search rules
 
 -- What was done before the rest was read: the header, where it was to be read.
 pub record IsBegun (old mid : Decoding) : Type 0 where
@@ -90,18 +93,18 @@ begun-seen old mid seen e fresh still settings = search rules
 pub other-stage : HeaderRead ≡ Fresh → ⊥
 other-stage e = let n : ⊥ = cc in n
 
-pub into-at : {X : Type 0} (bytes_of : X → List ℕ) (told : Told) (more : Bool) (stage : Progress) (old mid : Decoding)
-    (new : Stream) (r : Result X Error) → IsBegun (record old { stage = stage }) mid → RestRead bytes_of told more mid r new
-    → HasRead bytes_of told more (record old { stage = stage }) r new
-into-at {X} bytes_of told more Fresh old mid new r b h =
+pub into-at : {A X : Type 0} (show : Settings → Found → Result A Fault) (view : X → A) (told : Told) (more : Bool)
+    (stage : Progress) (old mid : Decoding) (new : Stream) (r : Result X Error) → IsBegun (record old { stage = stage }) mid
+    → RestRead show view told more mid r new → HasRead show view told more (record old { stage = stage }) r new
+into-at {A} {X} show view told more Fresh old mid new r b h =
     let header = b.fresh refl in
     record {
-      reads = λ _. answers-then (λ x. (told, bytes_of x)) mid.found header_at
-          (rest_within old.settings.max_blocks old.settings mid.found)
-          (ahead Fresh old.settings old.found) old.source mid.source new r
-          (λ rest e. header-means old.settings.max_blocks old.settings mid.found old.source.bytes rest e) header
-          (subst (λ (s : Settings). Answers (λ (x : X). (told, bytes_of x)) (rest_within s.max_blocks s mid.found) mid.source r new)
-          b.settings h.reads);
+      reads = λ _. answers-then (λ x. (told, view x)) mid.found header_at
+          (rest_showing old.settings.max_blocks (show old.settings) mid.found)
+          (ahead_showing old.settings.max_blocks (show old.settings) Fresh old.found) old.source mid.source new r
+          (λ rest e. header-reads old.settings.max_blocks (show old.settings) mid.found old.source.bytes rest e) header
+          (subst (λ (s : Settings). Answers (λ (x : X). (told, view x)) (rest_showing s.max_blocks (show s) mid.found)
+          mid.source r new) b.settings h.reads);
       told_is = λ _. told-through {X = X} old.source mid.source new r _ _ (λ k.
           let at = header.1 k in
           (at.0, λ p. p ∙ sym (header-told old.settings.max_blocks mid.found old.source.bytes mid.source.bytes at.1)))
@@ -118,15 +121,15 @@ into-at {X} bytes_of told more Fresh old mid new r b h =
           (subst (λ (s : Settings). OnTold mid.source new r (more ≡ exceeded_rest s.max_blocks Zeros mid.found
           mid.source.bytes)) b.settings h.exceeded);
     }
-into-at bytes_of told more HeaderRead old mid new r b h =
-    let same = subst (λ (d : Decoding). RestRead bytes_of told more d r new) (b.still other-stage) h in
+into-at show view told more HeaderRead old mid new r b h =
+    let same = subst (λ (d : Decoding). RestRead show view told more d r new) (b.still other-stage) h in
     record {
       reads = λ _. same.reads;
       told_is = λ _. same.tells;
       turns = λ _. same.turns;
       exceeded = λ _. same.exceeded;
     }
-into-at bytes_of told more _ old mid new r b h = none-read bytes_of told more _ r new (λ n. n)
+into-at show view told more _ old mid new r b h = none-read show view told more _ r new (λ n. n)
 
 -- ---- where the header is refused
 
@@ -148,13 +151,13 @@ pub record IsUnbegun (old new : Decoding) (e : Error) : Type 0 where
   pub emptied : old.stage ≡ Fresh → IsEmptied new.found
 
 -- only a fresh decoder's is
-refused-at : {X : Type 0} (bytes_of : X → List ℕ) (stage : Progress) (old new : Decoding) (e : Error)
-    → IsUnbegun (record old { stage = stage }) new e
-    → HasRead bytes_of (told_of new.found.said) new.exceeded (record old { stage = stage }) (Err e) new.source
-refused-at bytes_of Fresh old new e h = record {
-  reads = λ _. answers-err (λ (u : Unit {0}). new.found) (λ x. (told_of new.found.said, bytes_of x)) header_at
-      (ahead Fresh old.settings old.found) old.source new.source e
-      (λ fault is. header-lacks old.settings.max_blocks old.settings old.source.bytes fault is) (h.reads refl);
+refused-at : {A X : Type 0} (show : Settings → Found → Result A Fault) (view : X → A) (stage : Progress)
+    (old new : Decoding) (e : Error) → IsUnbegun (record old { stage = stage }) new e
+    → HasRead show view (told_of new.found.said) new.exceeded (record old { stage = stage }) (Err e) new.source
+refused-at show view Fresh old new e h = record {
+  reads = λ _. answers-err (λ (u : Unit {0}). new.found) (λ x. (told_of new.found.said, view x)) header_at
+      (ahead_showing old.settings.max_blocks (show old.settings) Fresh old.found) old.source new.source e
+      (λ fault is. header-refuses old.settings.max_blocks (show old.settings) old.source.bytes fault is) (h.reads refl);
   told_is = λ _ k l. refused-and e _ _ _ (λ p q. p ∙ q) (h.tells refl k l)
       (told-err e (header_at old.source.bytes) _ ((h.reads refl).1 k l)
       (λ fault is. header-told_lacking old.settings.max_blocks old.source.bytes fault is));
@@ -162,8 +165,8 @@ refused-at bytes_of Fresh old new e h = record {
   exceeded = λ _ k l. told-err e (header_at old.source.bytes) _ ((h.reads refl).1 k l)
       (λ fault is. h.exceeded tt ∙ sym (lacking-exceeded old.settings.max_blocks Zeros old.source.bytes fault is));
 }
-refused-at bytes_of HeaderRead old new e h = absurd (false≢true (h.stage tt).1)
-refused-at bytes_of _ old new e h = none-read bytes_of _ _ _ _ _ (λ n. n)
+refused-at show view HeaderRead old new e h = absurd (false≢true (h.stage tt).1)
+refused-at show view _ old new e h = none-read show view _ _ _ _ _ (λ n. n)
 
 pub refused-stage : (X : Type 0) (stage : Progress) (old new : Decoding) (e : Error)
     → IsUnbegun (record old { stage = stage }) new e → MovesToEnd {X = X} stage new.stage (Err e)
@@ -184,7 +187,7 @@ refused-emptied _ old new e h k = absurd k
 
 -- What was read, the state after it, and that nothing is kept.
 pub decodes : {X : Type 0} (bytes_of : X → List ℕ) (old new : Decoding) (r : Result X Error)
-    → MovesToEnd old.stage new.stage r → HasRead bytes_of (told_of new.found.said) new.exceeded old r new.source
+    → MovesToEnd old.stage new.stage r → HasRead picture_of bytes_of (told_of new.found.said) new.exceeded old r new.source
     → (IsReading old.stage → IsEmptied new.found) → Decodes bytes_of old r new
 decodes bytes_of old new r stage read emptied = record {
   stage = stage;
@@ -201,15 +204,15 @@ decodes bytes_of old new r stage read emptied = record {
 pub decodes-unbegun : {X : Type 0} (bytes_of : X → List ℕ) (old new : Decoding) (e : Error)
     → IsUnbegun old new e → Decodes bytes_of old (Err e) new
 decodes-unbegun bytes_of old new e h =
-    decodes bytes_of old new (Err e) (refused-stage _ old.stage old new e h) (refused-at bytes_of old.stage old new e h)
-    (refused-emptied old.stage old new e h)
+    decodes bytes_of old new (Err e) (refused-stage _ old.stage old new e h)
+    (refused-at picture_of bytes_of old.stage old new e h) (refused-emptied old.stage old new e h)
 
 -- where the rest is read
 pub decodes-rest : {X : Type 0} (bytes_of : X → List ℕ) (old mid new : Decoding) (r : Result X Error) → IsBegun old mid
-    → MovesToEnd old.stage new.stage r → RestRead bytes_of (told_of new.found.said) new.exceeded mid r new.source
+    → MovesToEnd old.stage new.stage r → RestRead picture_of bytes_of (told_of new.found.said) new.exceeded mid r new.source
     → IsEmptied new.found → Decodes bytes_of old r new
 decodes-rest bytes_of old mid new r b stage read emptied =
-    decodes bytes_of old new r stage (into-at bytes_of _ _ old.stage old mid new.source r b read) (λ _. emptied)
+    decodes bytes_of old new r stage (into-at picture_of bytes_of _ _ old.stage old mid new.source r b read) (λ _. emptied)
 
 -- ---- calls that do more with what is decoded
 
@@ -223,7 +226,7 @@ begun-stage _ new r k h = absurd k
 
 begun-rest : {X : Type 0} (bytes_of : X → List ℕ) (mid new : Decoding) (r : Result X Error)
     → Decodes bytes_of (record mid { stage = HeaderRead }) r new
-    → RestRead bytes_of (told_of new.found.said) new.exceeded mid r new.source
+    → RestRead picture_of bytes_of (told_of new.found.said) new.exceeded mid r new.source
 begun-rest bytes_of mid new r d =
     record { reads = d.reads tt; tells = d.told tt; turns = d.turns tt; exceeded = d.exceeded tt }
 
@@ -318,3 +321,38 @@ pub read-holds : {X : Type 0} (found : Found) (exceeded : Bool) (r : Result X Er
     × (p ≡ HeaderRead → IsSound found × IsUnread found) × (IsReading p → exceeded ≡ false)
 read-holds found exceeded (Ok x) b p e q framed frames = rw (q, e) (search rules)
 read-holds found exceeded (Err x) b p e q framed frames = rw (q, e) (search rules)
+
+-- ---- planes
+
+-- what is to be shown
+abbrev pub planes_by : Settings → Found → Result (List (List ℕ)) Fault
+planes_by settings found = planes_of settings.limit found
+
+-- What was read, the state after it, and that nothing is kept.
+planes-decoded : {X : Type 0} (view : X → List (List ℕ)) (old new : Decoding) (r : Result X Error)
+    → MovesToEnd old.stage new.stage r → HasRead planes_by view (told_of new.found.said) new.exceeded old r new.source
+    → (IsReading old.stage → IsEmptied new.found) → DecodesPlanes view old r new
+planes-decoded view old new r stage read emptied = record {
+  stage = stage;
+  reads = read.reads;
+  images = decodes-planes view old new r read.reads;
+  samples = decodes-sample-planes view old new r read.reads;
+  told = read.told_is;
+  turns = read.turns;
+  exceeded = read.exceeded;
+  emptied = emptied;
+}
+
+-- where the header is refused
+pub planes-unbegun : {X : Type 0} (view : X → List (List ℕ)) (old new : Decoding) (e : Error)
+    → IsUnbegun old new e → DecodesPlanes view old (Err e) new
+planes-unbegun view old new e h =
+    planes-decoded view old new (Err e) (refused-stage _ old.stage old new e h)
+    (refused-at planes_by view old.stage old new e h) (refused-emptied old.stage old new e h)
+
+-- where the rest is read
+pub planes-rest : {X : Type 0} (view : X → List (List ℕ)) (old mid new : Decoding) (r : Result X Error) → IsBegun old mid
+    → MovesToEnd old.stage new.stage r → RestRead planes_by view (told_of new.found.said) new.exceeded mid r new.source
+    → IsEmptied new.found → DecodesPlanes view old r new
+planes-rest view old mid new r b stage read emptied =
+    planes-decoded view old new r stage (into-at planes_by view _ _ old.stage old mid new.source r b read) (λ _. emptied)

@@ -47,7 +47,7 @@ precision-of f p = grind (arith, common_steps, accepted-precision)
 eight : (x : CodingProcess) (n : ℕ) → is_decoded_precision x n ≡ true → (x ≡ Lossless → ⊥) → n ≡ 8
 eight x n e dct = grind (arith, common_steps, eqb-true)
 
-precision-8 : (f : Frame) → IsDecodedFrame f → (f.process ≡ Lossless → ⊥) → f.precision ≡ 8
+pub precision-8 : (f : Frame) → IsDecodedFrame f → (f.process ≡ Lossless → ⊥) → f.precision ≡ 8
 precision-8 f p dct = eight f.process f.precision (precision-of f p) dct
 
 -- ---- the samples of a pixel that is shown

@@ -23,7 +23,7 @@ use Rattle.jpeg_meaning.specs.Pixels.{samples_shown}
 use Rattle.jpeg_meaning.specs.Rasters.{plane_by}
 use Rattle.jpeg_meaning.specs.Reported.{IsOfTurns, told_in_turns}
 use Rattle.jpeg_meaning.specs.States.{OnTold}
-use Rattle.jpeg_meaning.specs.Stream.{Told, Walked, rest_within, segments_at, told_of, walk}
+use Rattle.jpeg_meaning.specs.Stream.{Told, Walked, rest_within, segments_at, told_of, walk, rest_showing}
 use Rattle.jpeg_meaning.specs.declared.before.Before.TheVariants.{Elsewhere}
 use Rattle.jpeg_meaning.specs.declared.settings.Settings.{Settings}
 use Rattle.jpeg_decoder.specs.Spared.{AreSpared, IfSpared, IsUndecided, ShowsLuma, are_sent, beside, is_sent}
@@ -343,7 +343,7 @@ module _ (settings : Settings) (old new : Found) (s : AreSpared settings old new
 
   pub spared-rest : (bytes : List ℕ)
       → shown_rest true settings new bytes ≡ rest_within settings.max_blocks settings old bytes
-  unfolding shown_rest rest_within segments_at
+  unfolding rest_showing segments_at
   spared-rest bytes =
       let w = walk settings.max_blocks Zeros (suc (length bytes)) false Elsewhere old None bytes in
       ap (λ (v : Walked). rest_of (sent_picture settings) v.found v.rest)
@@ -361,7 +361,7 @@ module _ (spared : Bool) (settings : Settings) (old new : Found) (s : IfSpared s
     (sound : IsSound old) where
   pub rest-same : (bytes : List ℕ)
       → shown_rest spared settings new bytes ≡ rest_within settings.max_blocks settings old bytes
-  unfolding shown_rest rest_within
+  unfolding rest_showing
   rest-same bytes = go spared s
     where
       go : (b : Bool) → IfSpared b settings old new

@@ -15,7 +15,7 @@ use Rattle.jpeg_meaning.specs.Stream.{Told, Walked, header_at, meaning_within, r
 use Rattle.jpeg_meaning.specs.Shown.{rows_of_found, shown_of, shown_rest_within, shown_within, whole_rows_rest}
 use Rattle.jpeg_meaning.specs.Shown.{whole_rows_within}
 use Rattle.jpeg_meaning.specs.ScanSegments.{scan_segment}
-use Rattle.jpeg_meaning.specs.Stream.{brought_after, scan_turn_at, told_of, turn_at, turn_within, walk}
+use Rattle.jpeg_meaning.specs.Stream.{brought_after, scan_turn_at, told_of, turn_at, turn_within, walk, rest_showing, meaning_showing}
 use Rattle.jpeg_meaning.specs.Work.{brought_within, is_above, left_after, work_after, work_of_header, work_of_scan, work_of_turn}
 use Rattle.jpeg_meaning.specs.Brought.{Brought, scan_brought, unbrought}
 use Rattle.jpeg_meaning.specs.FoundPictures.{picture_of}
@@ -276,13 +276,18 @@ goes-on limit beyond found bytes rest e =
     }
 
 -- a stream whose header was read means what its rest means
+pub header-reads : {A : Type 0} (limit : Option ℕ) (show : Found → Result A Fault) (found : Found) (bytes rest : List ℕ)
+    → header_at bytes ≡ Ok (found, rest)
+    → meaning_showing limit show bytes ≡ rest_showing limit show found rest
+unfolding meaning_showing rest_showing segments_at
+header-reads limit show found bytes rest e =
+    let g = goes-on limit Zeros found bytes rest e in
+    then-ok (start_at bytes) _ (tt, g.start) _ g.starts (rw g.whole refl)
+
 pub header-means : (limit : Option ℕ) (settings : Settings) (found : Found) (bytes rest : List ℕ)
     → header_at bytes ≡ Ok (found, rest)
     → meaning_within limit settings bytes ≡ rest_within limit settings found rest
-unfolding meaning_within rest_within segments_at
-header-means limit settings found bytes rest e =
-    let g = goes-on limit Zeros found bytes rest e in
-    then-ok (start_at bytes) _ (tt, g.start) _ g.starts (rw g.whole refl)
+header-means limit settings = header-reads limit (picture_of settings)
 
 -- and its rest tells what it does
 pub header-told : (limit : Option ℕ) (found : Found) (bytes rest : List ℕ) → header_at bytes ≡ Ok (found, rest)
@@ -373,18 +378,22 @@ unfolding segments_at
 stream-lacks limit bytes fault e = ap walked_to (header-walked limit Zeros bytes fault e) ∙ e
 
 -- a fault of the header is that of the stream
-pub header-lacks : (limit : Option ℕ) (settings : Settings) (bytes : List ℕ) (fault : Fault)
-    → header_at bytes ≡ Err fault → meaning_within limit settings bytes ≡ Err fault
-unfolding header_at meaning_within rest_within
-header-lacks limit settings bytes fault e = go (start_at bytes) e
+pub header-refuses : {A : Type 0} (limit : Option ℕ) (show : Found → Result A Fault) (bytes : List ℕ) (fault : Fault)
+    → header_at bytes ≡ Err fault → meaning_showing limit show bytes ≡ Err fault
+unfolding header_at meaning_showing rest_showing
+header-refuses {A} limit show bytes fault e = go (start_at bytes) e
   where
     go : (r : Outcome (Unit {0}))
         → r >>= (λ (start : Unit {0} × List ℕ). segments_at None true Elsewhere nothing_found None start.1) ≡ Err fault
-        → r >>= (λ (start : Unit {0} × List ℕ). rest_within limit settings nothing_found start.1) ≡ Err fault
+        → r >>= (λ (start : Unit {0} × List ℕ). rest_showing limit show nothing_found start.1) ≡ Err fault
     go (Ok start) q =
-        ap (λ (o : Outcome Found). o >>= (λ (all : Found × List ℕ). picture_of settings all.0
-        >>= (λ (picture : List ℕ). Ok ((told_of all.0.said, picture), all.1)))) (stream-lacks limit start.1 fault q)
+        ap (λ (o : Outcome Found). o >>= (λ (all : Found × List ℕ). show all.0
+        >>= (λ (shown : A). Ok ((told_of all.0.said, shown), all.1)))) (stream-lacks limit start.1 fault q)
     go (Err other) q = grind arith
+
+pub header-lacks : (limit : Option ℕ) (settings : Settings) (bytes : List ℕ) (fault : Fault)
+    → header_at bytes ≡ Err fault → meaning_within limit settings bytes ≡ Err fault
+header-lacks limit settings = header-refuses limit (picture_of settings)
 
 pub header-told_lacking : (limit : Option ℕ) (bytes : List ℕ) (fault : Fault) → header_at bytes ≡ Err fault
     → told_by_turns None (suc (length bytes)) true bytes ≡ told_by_turns limit (suc (length bytes)) false bytes

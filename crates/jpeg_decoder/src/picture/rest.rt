@@ -1,6 +1,6 @@
 //! The rest of a stream after its header, and its picture (T.81, B.2).
 ghost use Rattle.std.specs.Prelude.{◌≡◌, IfOk, None, OnOk, [], false, is_some, length, option_map};
-ghost use Rattle.std.specs.Prelude.{replicate, suc, true};
+ghost use Rattle.std.specs.Prelude.{map, replicate, suc, true};
 ghost use Rattle.std.specs.List.{concat};
 ghost use Rattle.jpeg_bits.specs.Reading.{Answers};
 ghost use Rattle.jpeg_bits.specs.declared.beyond.Beyond.TheVariants.{Zeros};
@@ -8,12 +8,15 @@ ghost use Rattle.jpeg_meaning.specs.Limits.{exceeded_rest};
 ghost use Rattle.jpeg_meaning.specs.Reported.{IsOfTurns, told_in_turns};
 ghost use Rattle.jpeg_meaning.specs.Sound.{HasDecodedFrame, IsSound};
 ghost use Rattle.jpeg_meaning.specs.States.{OnTold};
-ghost use Rattle.jpeg_meaning.specs.Stream.{rest_within, told_of};
-ghost use Rattle.jpeg_decoder.specs.Bytes.{AreLinesOf, IsWhole, shape_of};
+ghost use Rattle.jpeg_meaning.specs.FoundPlanes.{planes_of};
+ghost use Rattle.jpeg_meaning.specs.Stream.{rest_showing, rest_within, segments_at, told_of};
+ghost use Rattle.jpeg_meaning.specs.declared.before.Before.TheVariants.{Elsewhere};
+ghost use Rattle.jpeg_decoder.specs.Bytes.{AreLinesOf, AreOwnPlanes, IsWhole, shape_of};
 ghost use Rattle.jpeg_decoder.specs.Spared.{sent_picture, shown_picture, shown_rest};
 ghost use Rattle.jpeg_decoder.specs.Steps.{Returns, with_decoded};
 
 use crate::picture::lines::Lines;
+use crate::picture::planes::found_planes;
 use crate::picture::spared::{check_sent, spare_colours};
 use crate::picture::whole::picture;
 use crate::scan::decoded::Decoded;
@@ -76,9 +79,53 @@ fn shown_picture(
     }
 }
 
+/// Reads the rest of a stream, after its header, and returns what its scans have given, which is
+/// taken. `exceeded` says whether a scan was refused since it codes more blocks than the limit
+/// leaves.
+#[tactic(auto, unfolding(jpeg_meaning::specs::Stream::segments_at))]
+fn read_found<R: Read + Drop>(
+    alloc: Global,
+    source: &mut Source<R>,
+    state: &mut State,
+    max_blocks: Option<u64>,
+    exceeded: &mut bool,
+) -> Result<Decoded>
+    requires sound { IsSound state.old }
+    ensures reads { Answers (λ d. with_decoded state.new d)
+        (λ bytes. segments_at max_blocks false Elsewhere state.old None bytes) source.old result
+        source.new }
+    ensures told { OnTold source.old source.new result (told_of state.new.said
+        ≡ told_in_turns max_blocks (suc (length source.old.bytes)) false state.old
+        source.old.bytes) }
+    ensures turns { source.old.known ≡ true → IsOfTurns
+        (λ n. told_in_turns max_blocks n false state.old source.old.bytes)
+        (told_of state.new.said) }
+    ensures exceeded { OnTold source.old source.new result (exceeded.new
+        ≡ exceeded_rest max_blocks Zeros state.old source.old.bytes) }
+    ensures framed { IfOk result (λ _. is_some state.new.said.frame ≡ true) }
+    ensures stays { is_some state.old.said.frame ≡ true → state.new.said.frame
+        ≡ state.old.said.frame }
+    ensures sound { IfOk result (λ d. IsSound (with_decoded state.new d)) }
+    ensures emptied { (state.new.kept ≡ []) × (state.new.planes ≡ replicate 4 None)
+        × (state.new.samples ≡ replicate 4 None) }
+{
+    let mut walk = Walk {
+        budget: Budget {
+            left: max_blocks,
+            exceeded: false,
+        },
+        rows: None,
+    };
+    let ended = read_segments(alloc, source, state, false, Beyond::Zeros, &mut walk);
+    *exceeded = walk.budget.exceeded;
+    let decoded = std::mem::replace(&mut state.decoded, Decoded::new(alloc));
+    ended?;
+    Ok(decoded)
+}
+
 /// Reads the rest of a stream, after its header, and gives the lines of its picture, as `read_rest`
 /// does, where planes were given to components before their scans or not.
-#[tactic(auto, unfolding(crate::proofs::Rules::shown_rests))]
+#[tactic(auto, unfolding(jpeg_meaning::specs::Stream::rest_showing))]
 fn read_shown<R: Read + Drop>(
     alloc: Global,
     source: &mut Source<R>,
@@ -109,17 +156,7 @@ fn read_shown<R: Read + Drop>(
     ensures emptied { (state.new.kept ≡ []) × (state.new.planes ≡ replicate 4 None)
         × (state.new.samples ≡ replicate 4 None) }
 {
-    let mut walk = Walk {
-        budget: Budget {
-            left: settings.max_blocks,
-            exceeded: false,
-        },
-        rows: None,
-    };
-    let ended = read_segments(alloc, source, state, false, Beyond::Zeros, &mut walk);
-    *exceeded = walk.budget.exceeded;
-    let mut decoded = std::mem::replace(&mut state.decoded, Decoded::new(alloc));
-    ended?;
+    let mut decoded = read_found(alloc, source, state, settings.max_blocks, exceeded)?;
     shown_picture(alloc, state, &mut decoded, settings, spared)
 }
 
@@ -162,4 +199,40 @@ pub fn read_rest<R: Read + Drop>(
             Err(Error::OutOfMemory)
         }
     }
+}
+
+/// Reads the rest of a stream, after its header, and gives the planes of its components, each at
+/// its own size. No blocks or planes are kept. `exceeded` says whether a scan was refused since it
+/// codes more blocks than the limit leaves.
+#[tactic(auto, unfolding(jpeg_meaning::specs::Stream::rest_showing))]
+pub fn read_planes<R: Read + Drop>(
+    alloc: Global,
+    source: &mut Source<R>,
+    state: &mut State,
+    settings: Settings,
+    exceeded: &mut bool,
+) -> Result<Vec<Vec<u8>>>
+    requires sound { IsSound state.old }
+    ensures reads { Answers (λ v. (told_of state.new.said, map (λ p. p.items) v.items))
+        (rest_showing settings.max_blocks (planes_of settings.limit) state.old) source.old result
+        source.new }
+    ensures told { OnTold source.old source.new result (told_of state.new.said
+        ≡ told_in_turns settings.max_blocks (suc (length source.old.bytes)) false state.old
+        source.old.bytes) }
+    ensures turns { source.old.known ≡ true → IsOfTurns
+        (λ n. told_in_turns settings.max_blocks n false state.old source.old.bytes)
+        (told_of state.new.said) }
+    ensures exceeded { OnTold source.old source.new result (exceeded.new
+        ≡ exceeded_rest settings.max_blocks Zeros state.old source.old.bytes) }
+    ensures framed { IfOk result (λ _. is_some state.new.said.frame ≡ true) }
+    ensures stays { is_some state.old.said.frame ≡ true → state.new.said.frame
+        ≡ state.old.said.frame }
+    ensures frames { OnOk result (HasDecodedFrame state.new) }
+    ensures sizes { IfOk result (λ v. AreOwnPlanes state.new.said.frame
+        (map (λ p. p.items) v.items)) }
+    ensures emptied { (state.new.kept ≡ []) × (state.new.planes ≡ replicate 4 None)
+        × (state.new.samples ≡ replicate 4 None) }
+{
+    let mut decoded = read_found(alloc, source, state, settings.max_blocks, exceeded)?;
+    found_planes(alloc, state, &mut decoded, settings.limit)
 }

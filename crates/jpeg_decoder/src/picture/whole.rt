@@ -153,7 +153,7 @@ fn plane_at_end(
 /// Returns the planes of a frame's components at the end of an image, which are taken. Blocks that
 /// are kept are rendered where no plane is decided, one component after the other, and freed.
 #[tactic(auto, using(crate::proofs::Rules::gathered))]
-fn planes_at_end(
+pub fn planes_at_end(
     alloc: Global,
     state: &State,
     frame: &FrameInfo,
@@ -297,7 +297,11 @@ fn blocks_picture(
 
 /// Returns the samples of a lossless frame's components, which are taken.
 #[tactic(auto, using(crate::proofs::Rules::gathered))]
-fn samples_at_end(alloc: Global, frame: &FrameInfo, decoded: &mut Decoded) -> Result<Vec<Vec<u16>>>
+pub fn samples_at_end(
+    alloc: Global,
+    frame: &FrameInfo,
+    decoded: &mut Decoded,
+) -> Result<Vec<Vec<u16>>>
     requires count { length (frame_in frame.now).components ≤ 4 }
     ensures planes { let expected = gathered
         (λ c. needed (slice_index_or (planes_in decoded.old.samples) c.0 None))

@@ -35,8 +35,8 @@ use Rattle.jpeg_meaning.specs.ScanSegments.{scan_turn, vias_from}
 use Rattle.jpeg_meaning.specs.Segments.{Turn}
 use Rattle.jpeg_meaning.specs.Shown.{Shown, completed, fault_shown, framed_or, picture_shown, planes_by, shown}
 use Rattle.jpeg_meaning.specs.Shown.{shown_by, shown_of, shown_rest_within, shown_within, with_samples_shown}
-use Rattle.jpeg_meaning.specs.Stream.{all_brought, brought_after, meaning, meaning_within, rest_within, scan_turn_at}
-use Rattle.jpeg_meaning.specs.Stream.{segments_at, start_at, turn_at, walk}
+use Rattle.jpeg_meaning.specs.Stream.{all_brought, brought_after, meaning, scan_turn_at}
+use Rattle.jpeg_meaning.specs.Stream.{segments_at, start_at, turn_at, walk, rest_showing, meaning_showing}
 use Rattle.jpeg_meaning.proofs.Order.Apart.{spots-apart}
 use Rattle.jpeg_meaning.proofs.Order.CountedScans.{scans-in-turn}
 use Rattle.jpeg_meaning.proofs.Partial.CompletedPictures.{all-stay}
@@ -216,7 +216,7 @@ nothing-fits = record { frame = tt; samples = refl }
 -- The fault that is shown is that of the meaning, or the data of a scan end early.
 pub faults_are_the_meanings : (settings : Settings) (bytes : List ℕ) (s : Shown) (f : Fault)
     → shown settings bytes ≡ Ok s → s.fault ≡ Some f → Named settings bytes f
-unfolding shown_within shown_rest_within shown_of fault_shown meaning_within rest_within segments_at
+unfolding shown_within shown_rest_within shown_of fault_shown meaning_showing rest_showing segments_at
 faults_are_the_meanings settings bytes s f e fault =
     let start = bind-ok (start_at bytes) _ s e in
     let rest = start.0.1 in

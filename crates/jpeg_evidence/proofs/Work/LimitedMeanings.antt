@@ -11,7 +11,7 @@ use Rattle.jpeg_meaning.specs.Found.{Found, nothing_found}
 use Rattle.jpeg_meaning.specs.Limits.{IsWithinLimit, exceeded_by, work_of, work_of_rest, work_of_walk}
 use Rattle.jpeg_meaning.specs.Shown.{Shown, fault_shown, shown, shown_of, shown_rest_within, shown_within, whole_rows}
 use Rattle.jpeg_meaning.specs.Shown.{framed_or, picture_shown, rows_of_found, whole_rows_rest, whole_rows_within}
-use Rattle.jpeg_meaning.specs.Stream.{meaning_within, rest_within, segments_at, start_at, walk}
+use Rattle.jpeg_meaning.specs.Stream.{meaning_within, segments_at, start_at, walk, rest_showing, meaning_showing}
 use Rattle.jpeg_segments.proofs.Codecs.{bind-ok, ok-same}
 use Rattle.jpeg_meaning.proofs.Limits.{above-refused, decoded-most, exceeded-above, limit-same, meaning-same}
 use Rattle.jpeg_meaning.proofs.Limits.{none-exceeded}
@@ -19,7 +19,7 @@ use Rattle.jpeg_evidence.proofs.Work.LimitedWalks.{above-rows, found-first, head
 
 pub meaning-above : (most : ℕ) (settings : Settings) (bytes : List ℕ) → most < work_of Zeros bytes
     → meaning_within (Some most) settings bytes ≡ Err Malformed
-unfolding meaning_within rest_within segments_at work_of
+unfolding meaning_showing rest_showing segments_at work_of
 meaning-above most settings bytes h = search (rules, arith, above-refused)
 
 pub shown-within_same : (limit : Option ℕ) (settings : Settings) (bytes : List ℕ)

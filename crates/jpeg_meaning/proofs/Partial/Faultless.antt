@@ -34,8 +34,8 @@ use Rattle.jpeg_meaning.specs.ScanSegments.{scan_segment, scan_turn, vias_from}
 use Rattle.jpeg_meaning.specs.Segments.{Turn}
 use Rattle.jpeg_meaning.specs.Shown.{Shown, completed, fault_in, fault_shown, framed_or, picture_shown, planes_by}
 use Rattle.jpeg_meaning.specs.Shown.{shown, shown_of, shown_rest, shown_rest_within, shown_within}
-use Rattle.jpeg_meaning.specs.Stream.{Walked, all_brought, brought_after, meaning, meaning_within, rest_at, rest_within}
-use Rattle.jpeg_meaning.specs.Stream.{scan_turn_at, segments_at, start_at, told_of, turn_at, walk}
+use Rattle.jpeg_meaning.specs.Stream.{Walked, all_brought, brought_after, meaning, rest_at}
+use Rattle.jpeg_meaning.specs.Stream.{scan_turn_at, segments_at, start_at, told_of, turn_at, walk, rest_showing, meaning_showing}
 use Rattle.jpeg_meaning.proofs.Written.ReadTurns.{scan-or-segment, walked}
 use Rattle.jpeg_meaning.proofs.Order.Apart.{spots-apart}
 use Rattle.jpeg_meaning.proofs.Order.McuRows.{AllOf, codings-are-of, fits-of}
@@ -262,7 +262,7 @@ picture-at settings found frame e = rw e refl
 rest-read : (settings : Settings) (bytes rest picture : List ℕ) (w : Walked) → all_brought None nothing_found bytes ≡ w
     → w.rest ≡ Ok rest → picture_of settings w.found ≡ Ok picture
     → rest_at settings nothing_found bytes ≡ Ok ((told_of w.found.said, picture), rest)
-unfolding rest_within segments_at nothing_found nothing_said
+unfolding rest_showing segments_at nothing_found nothing_said
 rest-read settings bytes rest picture w a e p =
     let same : walk None Zeros (suc (length bytes)) false Elsewhere nothing_found None bytes ≡ w
     = walk-read (suc (length bytes)) Elsewhere nothing_found None bytes rest
@@ -291,7 +291,7 @@ shown-rest settings bytes s e n =
 pub faultless_streams_are_meant : (settings : Settings) (bytes : List ℕ) (s : Shown)
     → shown settings bytes ≡ Ok s → s.fault ≡ None
     → (rest : List ℕ) × (meaning settings bytes ≡ Ok ((s.told, s.picture), rest))
-unfolding shown_within meaning_within
+unfolding shown_within meaning_showing
 faultless_streams_are_meant settings bytes s e n =
     let start = bind-ok (start_at bytes) _ s e in
     let r = shown-rest settings start.0.1 s start.2 n in

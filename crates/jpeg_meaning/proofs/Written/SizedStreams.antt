@@ -1,7 +1,7 @@
 -- A written stream, read at a scale.
 use Rattle.std.proofs.lemmas.Grind.{common_steps}
 use Rattle.std.proofs.Common.{rules, ◌≡◌, ◌≢◌, ℕ, zero, suc, ◌<◌, ◌≤◌, List, [], ◌∷◌, ◌++◌, map, length, option_map}
-use Rattle.std.proofs.Common.{Option, None, Ok, refl, sym, ap, ◌∙◌, subst, arith, length-append, ◌+◌, ◌*◌, ◌==◌, Bool}
+use Rattle.std.proofs.Common.{Option, None, Result, Ok, refl, sym, ap, ◌∙◌, subst, arith, length-append, ◌+◌, ◌*◌, ◌==◌, Bool}
 use Rattle.std.proofs.Common.{true, sum_by, sum, slice_get, slice_index_or, Some, ap₂, mul_assoc, ◌/◌, ◌%◌}
 use Rattle.jpeg_segments.specs.declared.frame.CodingProcess.{CodingProcess}
 use Rattle.jpeg_segments.specs.declared.frame.CodingProcess.TheVariants.{DctSequential, DctProgressive, Lossless}
@@ -11,10 +11,11 @@ use Rattle.jpeg_meaning.specs.declared.before.Before.TheVariants.{Elsewhere}
 use Rattle.jpeg_meaning.specs.declared.settings.Settings.{Settings}
 use Rattle.jpeg_segments.specs.Scales.{block_side, frame_at, is_scale, scale_for, scaled, scaled_by, sized}
 use Rattle.jpeg_segments.specs.declared.scale.Scale.{Scale}
-use Rattle.jpeg_bits.specs.Reading.{Outcome, ◌>>=◌}
-use Rattle.jpeg_meaning.specs.Stream.{Told, header_at, rest_at, scaled_meaning, scaled_to, sized_meaning}
-use Rattle.jpeg_meaning.specs.Stream.{sized_to, told_of}
-use Rattle.jpeg_meaning.specs.Found.{nothing_found, nothing_said, Said, with_said}
+use Rattle.jpeg_bits.specs.Reading.{Fault, Outcome, ◌>>=◌}
+use Rattle.jpeg_meaning.specs.Stream.{Told, header_at, scaled_meaning, scaled_to, sized_meaning}
+use Rattle.jpeg_meaning.specs.Stream.{sized_to, told_of, sized_showing, scaled_showing, rest_showing}
+use Rattle.jpeg_meaning.specs.Found.{Found, nothing_found, nothing_said, Said, with_said}
+use Rattle.jpeg_meaning.specs.FoundPictures.{picture_of}
 use Rattle.jpeg_meaning.specs.SaidSegments.{said_after, Stands}
 use Rattle.jpeg_meaning.specs.Levels.{Levels, Is8Bit, nothing_sent, IsLegal, numbers_at}
 use Rattle.jpeg_meaning.specs.WrittenScans.{Coefficients, IsOwn, WritesScan, HasTable, IsLegalScan}
@@ -395,19 +396,19 @@ scaled-scales scale f n = scaled-is (block_side scale) f (side-is_scale scale) n
 abbrev changed : (Frame → Frame) → Said → Said
 changed change said = record said { frame = option_map change said.frame }
 
--- what a stream means whose frame is changed after its header
-abbrev changed_meaning : (Frame → Frame) → Settings → List ℕ → Outcome (Told × List ℕ)
-changed_meaning change settings bytes =
-    header_at bytes >>= (λ header. rest_at settings (with_said (changed change) header.0) header.1)
+-- what is shown of a stream whose frame is changed after its header
+abbrev changed_showing : {A : Type 0} → (Frame → Frame) → (Found → Result A Fault) → List ℕ → Outcome (Told × A)
+changed_showing change show bytes =
+    header_at bytes >>= (λ header. rest_showing None show (with_said (changed change) header.0) header.1)
 
 -- What a written stream is read as at a scale.
-image-changed : (change : Frame → Frame) → ScalesBlocks change
-    → (settings : Settings) (array : Coefficients) (bytes tail : List ℕ)
+image-changed : {A : Type 0} (change : Frame → Frame) → ScalesBlocks change
+    → (show : Found → Result A Fault) (array : Coefficients) (bytes tail : List ℕ)
     (final : Said) (last : ℕ → Levels) → ((index row column : ℕ) → Is8Bit (array index row column))
-    → WritesImage array bytes final last → ImageMeant settings array
-    (changed change final) last tail (changed_meaning change settings (bytes ++ tail))
+    → WritesImage array bytes final last → ImageMeant show array
+    (changed change final) last tail (changed_showing change show (bytes ++ tail))
 unfolding nothing_found nothing_said
-image-changed change scales settings array bytes tail final last range w =
+image-changed change scales show array bytes tail final last range w =
     let r = header-read MayEndImage (image-read array range) tail (λ k. nothing_sent) last bytes final no_progress w
     refl in
     let h = r.0 in
@@ -430,25 +431,27 @@ image-changed change scales settings array bytes tail final last range w =
     (scans-alike array f g said final (λ k. nothing_sent) last h.left same refl h.written)
     (record { tables = h.said.tables; shaped = λ x q. subst IsDrawn (same-frame g x _ refl q) drawn })
     (holds-nothing array (at_frame said g) h.unscanned) (stands-here left) (omega arith) in
-    subst (λ (x : Said). ImageMeant settings array x last tail (changed_meaning change settings (bytes ++ tail)))
+    subst (λ (x : Said). ImageMeant show array x last tail (changed_showing change show (bytes ++ tail)))
     (ap (λ (o : Option Frame). record final { frame = option_map change o }) (sym kept)) (
       e.0,
       then-ok (header_at (bytes ++ tail)) _ (beside bring said no_progress, left) _ r.1
-          (rest-by settings (beside bring (at_frame said g) no_progress) _ left tail e.1),
+          (rest-by show (beside bring (at_frame said g) no_progress) _ left tail e.1),
     )
 
-image-sized : (width height : ℕ) (settings : Settings) (array : Coefficients) (bytes tail : List ℕ)
+pub image-sized : {A : Type 0} (width height : ℕ) (show : Found → Result A Fault) (array : Coefficients)
+    (bytes tail : List ℕ)
     (final : Said) (last : ℕ → Levels) → ((index row column : ℕ) → Is8Bit (array index row column))
-    → WritesImage array bytes final last → ImageMeant settings array
-    (sized_to width height final) last tail (sized_meaning width height settings (bytes ++ tail))
-unfolding sized_meaning
+    → WritesImage array bytes final last → ImageMeant show array
+    (sized_to width height final) last tail (sized_showing width height show (bytes ++ tail))
+unfolding sized_showing
 image-sized width height = image-changed (sized width height) (sized-scales width height)
 
-image-scaled : (scale : Scale) (settings : Settings) (array : Coefficients) (bytes tail : List ℕ)
+pub image-scaled : {A : Type 0} (scale : Scale) (show : Found → Result A Fault) (array : Coefficients)
+    (bytes tail : List ℕ)
     (final : Said) (last : ℕ → Levels) → ((index row column : ℕ) → Is8Bit (array index row column))
-    → WritesImage array bytes final last → ImageMeant settings array
-    (scaled_to scale final) last tail (scaled_meaning scale settings (bytes ++ tail))
-unfolding scaled_meaning
+    → WritesImage array bytes final last → ImageMeant show array
+    (scaled_to scale final) last tail (scaled_showing scale show (bytes ++ tail))
+unfolding scaled_showing
 image-scaled scale = image-changed (scaled scale) (scaled-scales scale)
 
 -- The meaning at a scale is the picture of the array at that scale.
@@ -458,7 +461,8 @@ pub stream-means_sized : (width height : ℕ) (settings : Settings)
     → WritesImage array bytes final last → sized_meaning width height settings (bytes ++ rest)
     ≡ meaning_of_array settings (sized_to width height final) array last rest
 stream-means_sized width height settings array bytes rest final last range w =
-    search (rules, pictured, image-sized)
+    pictured settings array (sized_to width height final) last rest _
+    (image-sized width height (picture_of settings) array bytes rest final last range w)
 
 -- A written stream whose picture is taken means one at each scale.
 pub sized-taken : (width height : ℕ) (settings : Settings) (array : Coefficients) (bytes rest : List ℕ)
@@ -470,7 +474,8 @@ pub sized-taken : (width height : ℕ) (settings : Settings) (array : Coefficien
     × (sized_meaning width height settings (bytes ++ rest)
     ≡ Ok ((told_of (sized_to width height final), picture), rest))
 sized-taken width height settings array bytes rest final last range w =
-    search (rules, taken, image-sized)
+    taken settings array (sized_to width height final) last rest _
+    (image-sized width height (picture_of settings) array bytes rest final last range w)
 
 -- The same at a scale that is named.
 pub stream-means_scaled : (scale : Scale) (settings : Settings)
@@ -479,7 +484,8 @@ pub stream-means_scaled : (scale : Scale) (settings : Settings)
     → WritesImage array bytes final last → scaled_meaning scale settings (bytes ++ rest)
     ≡ meaning_of_array settings (scaled_to scale final) array last rest
 stream-means_scaled scale settings array bytes rest final last range w =
-    search (rules, pictured, image-scaled)
+    pictured settings array (scaled_to scale final) last rest _
+    (image-scaled scale (picture_of settings) array bytes rest final last range w)
 
 pub scaled-taken : (scale : Scale) (settings : Settings) (array : Coefficients) (bytes rest : List ℕ)
     (final : Said) (last : ℕ → Levels)
@@ -490,4 +496,5 @@ pub scaled-taken : (scale : Scale) (settings : Settings) (array : Coefficients) 
     × (scaled_meaning scale settings (bytes ++ rest)
     ≡ Ok ((told_of (scaled_to scale final), picture), rest))
 scaled-taken scale settings array bytes rest final last range w =
-    search (rules, taken, image-scaled)
+    taken settings array (scaled_to scale final) last rest _
+    (image-scaled scale (picture_of settings) array bytes rest final last range w)

@@ -1,8 +1,8 @@
 -- Written streams of any kind: what stays through one, and that it is read turn by turn.
 use Rattle.std.proofs.Common.{rules, ◌≡◌, ◌&&◌, ℕ, zero, suc, ◌<◌, Bool, true, false, List, [], ◌++◌, length, is_some}
-use Rattle.std.proofs.Common.{Option, Some, None, Ok, refl, sym, ap, ◌∙◌, subst, arith, length-append}
+use Rattle.std.proofs.Common.{Option, Some, None, Ok, Result, refl, sym, ap, ◌∙◌, subst, arith, length-append}
 use Rattle.jpeg_bits.specs.Marker.{marker_of}
-use Rattle.jpeg_bits.specs.Reading.{Outcome, ◌>>=◌}
+use Rattle.jpeg_bits.specs.Reading.{Fault, Outcome, ◌>>=◌}
 use Rattle.jpeg_bits.specs.Written.{marker}
 use Rattle.jpeg_bits.specs.declared.marker.Marker.{Marker}
 use Rattle.jpeg_bits.specs.declared.marker.Marker.TheVariants.{EOI, SOS}
@@ -11,16 +11,14 @@ use Rattle.jpeg_segments.specs.ScanHeaders.{IsScan, ScanHeader, scan_payload}
 use Rattle.jpeg_segments.specs.WrittenSegments.{frame_written, FrameHeader, Header, marker_code, payload_of, Segment}
 use Rattle.jpeg_segments.specs.WrittenSegments.{with_length}
 use Rattle.jpeg_meaning.specs.Found.{Said, nothing_said, Found, nothing_found}
-use Rattle.jpeg_meaning.specs.FoundPictures.{picture_of}
 use Rattle.jpeg_meaning.specs.SaidSegments.{said_after, Stands}
 use Rattle.jpeg_meaning.specs.ScanSegments.{after_restarts, scan_before, scan_segment, scan_turn}
 use Rattle.jpeg_meaning.specs.Segments.{onward}
 use Rattle.jpeg_bits.specs.declared.beyond.Beyond.TheVariants.{Zeros}
-use Rattle.jpeg_meaning.specs.Stream.{header_at, meaning, rest_at, segments_at, start_at, Told, told_of, turn_at, walk}
+use Rattle.jpeg_meaning.specs.Stream.{header_at, segments_at, start_at, Told, told_of, turn_at, walk}
 use Rattle.jpeg_meaning.specs.WrittenStreams.{Closes, end, scan, segment, Starts, Writes}
 use Rattle.jpeg_meaning.specs.declared.before.Before.{Before}
 use Rattle.jpeg_meaning.specs.declared.before.Before.TheVariants.{Elsewhere}
-use Rattle.jpeg_meaning.specs.declared.settings.Settings.{Settings}
 use Rattle.jpeg_meaning.proofs.Pictures.DecodedHeaders.{stands-taken}
 use Rattle.jpeg_meaning.proofs.Written.ReadTurns.{Begins, end-turn, IsEnd, marker-longer, scan-tail, scan-turn, marker-begins}
 use Rattle.jpeg_meaning.proofs.Written.ReadTurns.{segment-ends, segment-tail, segment-turn, segments-walked, some-none}
@@ -28,7 +26,7 @@ use Rattle.jpeg_meaning.proofs.Written.ReadTurns.{same-turn, stands-here, stands
 use Rattle.jpeg_meaning.proofs.Written.ReadTurns.{walk-on, walk-stop, walked, zeros-scan}
 use Rattle.jpeg_meaning.proofs.Written.ReadTurns.{marker_for, segment-marker}
 use Rattle.jpeg_meaning.proofs.Written.SaidTables.{HasTables, no-tables, segment-tables}
-use Rattle.jpeg_meaning.specs.Stream.{meaning_within, rest_within}
+use Rattle.jpeg_meaning.specs.Stream.{rest_showing, meaning_showing}
 
 -- EOI
 pub closes : {may_end : Frame → Type 0} (said : Said) (f : Frame) (fill : ℕ) → said.frame ≡ Some f → may_end f
@@ -104,11 +102,11 @@ segment-said may P shaped said s stands allowed is =
 
 -- ---- the turns of a stream
 
-pub rest-by : (settings : Settings) (found all : Found) (bytes rest : List ℕ)
+pub rest-by : {A : Type 0} (show : Found → Result A Fault) (found all : Found) (bytes rest : List ℕ)
     → walk None Zeros (suc (length bytes)) false Elsewhere found None bytes ≡ walked all (Ok rest)
-    → rest_at settings found bytes ≡ (picture_of settings all >>= (λ picture. Ok ((told_of all.said, picture), rest)))
-unfolding rest_within
-rest-by settings found all bytes rest e = search (rules, then-ok, found, segments-walked)
+    → rest_showing None show found bytes ≡ (show all >>= (λ shown. Ok ((told_of all.said, shown), rest)))
+unfolding rest_showing
+rest-by show found all bytes rest e = search (rules, then-ok, found, segments-walked)
 
 -- what was said, beside what scans have brought
 abbrev pub beside : {Brought : Type 0} → (Brought → Found) → Said → Brought → Found
@@ -150,14 +148,14 @@ pub record ReadTo {Sent Brought : Type 0} (P : Frame → Type 0)
   pub framed : final.frame ≡ Some frame
   pub ended : may_end final last frame
 
--- This is meant by what is found at the end of a stream.
-abbrev pub IsMeant : {Sent Brought : Type 0} → (Frame → Type 0) → (Brought → Found)
-    → (Said → Sent → Brought → Type 0) → (Said → Sent → Frame → Type 0) → Settings → Said → Sent → List ℕ
-    → Outcome (Told × List ℕ) → Type 0
-IsMeant P brings Held may_end settings final last tail meant =
+-- This is shown of what is found at the end of a stream.
+abbrev pub IsMeant : {A Sent Brought : Type 0} → (Frame → Type 0) → (Brought → Found)
+    → (Said → Sent → Brought → Type 0) → (Said → Sent → Frame → Type 0) → (Found → Result A Fault) → Said → Sent
+    → List ℕ → Outcome (Told × A) → Type 0
+IsMeant P brings Held may_end show final last tail meant =
     (r : ReadTo P Held may_end final last)
-    × (meant ≡ (picture_of settings (beside brings final r.brought)
-    >>= (λ picture. Ok ((told_of final, picture), tail))))
+    × (meant ≡ (show (beside brings final r.brought)
+    >>= (λ shown. Ok ((told_of final, shown), tail))))
 
 -- What is found up to the frame, and the stream after it.
 pub record Headed {Sent : Type 0} (may : Said → Segment → Type 0)
@@ -287,18 +285,19 @@ module _ {Sent Brought : Type 0} {may : Said → Segment → Type 0}
   abbrev Whole : Sent → List ℕ → Said → Sent → Type 0
   Whole sent bytes final last = Starts (λ after. Rest nothing_said sent after final last) bytes
 
-  pub stream-read : (sent last : Sent) (bytes : List ℕ) (final : Said) (x : Brought) (settings : Settings)
+  pub stream-read : {A : Type 0} (sent last : Sent) (bytes : List ℕ) (final : Said) (x : Brought)
+      (show : Found → Result A Fault)
       → Whole sent bytes final last → beside brings nothing_said x ≡ nothing_found → Held nothing_said sent x
-      → IsMeant P brings Held may_end settings final last tail (meaning settings (bytes ++ tail))
-  unfolding meaning_within start_at
-  stream-read sent last bytes final x settings w e held =
+      → IsMeant P brings Held may_end show final last tail (meaning_showing None show (bytes ++ tail))
+  unfolding meaning_showing start_at
+  stream-read sent last bytes final x show w e held =
       let long = length-append w.after tail in
       let r = reads-on nothing_said final sent last w.after x (suc (length (w.after ++ tail))) Elsewhere None
       (w.after ++ tail) w.written (nothing-said P) held (stands-here (w.after ++ tail)) (omega arith) in (
         r.0,
-        ap (λ (l : List ℕ). meaning settings (l ++ tail)) w.starts
-            ∙ ap (λ (f : Found). rest_at settings f (w.after ++ tail)) (sym e)
-            ∙ rest-by settings (beside brings nothing_said x) _ (w.after ++ tail) tail r.1,
+        ap (λ (l : List ℕ). meaning_showing None show (l ++ tail)) w.starts
+            ∙ ap (λ (f : Found). rest_showing None show f (w.after ++ tail)) (sym e)
+            ∙ rest-by show (beside brings nothing_said x) _ (w.after ++ tail) tail r.1,
       )
 
   pub header-read : (sent last : Sent) (bytes : List ℕ) (final : Said) (x : Brought)

@@ -36,7 +36,7 @@ use Rattle.jpeg_segments.specs.WrittenSegments.{frame_written, FrameHeader, Head
 use Rattle.jpeg_segments.proofs.HeaderSegments.{sos-read}
 use Rattle.jpeg_meaning.specs.Levels.{Is8Bit, Levels, nothing_sent, cut}
 use Rattle.jpeg_meaning.specs.SaidSegments.{said_after, Stands}
-use Rattle.jpeg_meaning.specs.Stream.{meaning, Told, told_of}
+use Rattle.jpeg_meaning.specs.Stream.{meaning, Told, told_of, meaning_showing}
 use Rattle.jpeg_meaning.specs.WholeImages.{AllComplete}
 use Rattle.jpeg_meaning.specs.WrittenImages.{MayStandInImage, WritesImage, WritesImageScan}
 use Rattle.jpeg_meaning.specs.WrittenScans.{Coefficients, HasTable, IsComplete}
@@ -263,17 +263,18 @@ MayEndImage said levels frame =
 abbrev pub ReadImage : Coefficients → Said → (ℕ → Levels) → Type 0
 ReadImage array final last = ReadTo IsDrawn (Holds array) MayEndImage final last
 
-abbrev pub ImageMeant : Settings → Coefficients → Said → (ℕ → Levels) → List ℕ → Outcome (Told × List ℕ) → Type 0
-ImageMeant settings array final last tail meant =
-    IsMeant IsDrawn bring (Holds array) MayEndImage settings final last tail meant
+abbrev pub ImageMeant : {A : Type 0} → (Found → Result A Fault) → Coefficients → Said → (ℕ → Levels) → List ℕ
+    → Outcome (Told × A) → Type 0
+ImageMeant show array final last tail meant =
+    IsMeant IsDrawn bring (Holds array) MayEndImage show final last tail meant
 
-pub image-walked : (settings : Settings) (array : Coefficients) (bytes tail : List ℕ) (final : Said)
-    (last : ℕ → Levels)
+pub image-walked : {A : Type 0} (show : Found → Result A Fault) (array : Coefficients) (bytes tail : List ℕ)
+    (final : Said) (last : ℕ → Levels)
     → ((index row column : ℕ) → Is8Bit (array index row column)) → WritesImage array bytes final last
-    → ImageMeant settings array final last tail (meaning settings (bytes ++ tail))
+    → ImageMeant show array final last tail (meaning_showing None show (bytes ++ tail))
 unfolding nothing_found nothing_said
-image-walked settings array bytes tail final last range w =
-    stream-read MayEndImage (image-read array range) tail (λ k. nothing_sent) last bytes final no_progress settings w
+image-walked show array bytes tail final last range w =
+    stream-read MayEndImage (image-read array range) tail (λ k. nothing_sent) last bytes final no_progress show w
     refl (holds-nothing array nothing_said refl)
 
 -- ---- one plane
@@ -422,7 +423,7 @@ module _ (array : Coefficients) (final : Said) (last : ℕ → Levels) (r : Read
   abbrev found : Found
   found = beside bring final x
 
-  shape : Shaped f
+  pub shape : Shaped f
   shape = (r.said.shaped f r.framed).0
 
   framed : Framed final f array last true x.0 x.1 x.2
@@ -458,7 +459,7 @@ module _ (array : Coefficients) (final : Said) (last : ℕ → Levels) (r : Read
           absurd (true≢false (sym (complete-whole (last k) all) ∙ e))
 
   -- the planes at the end and those of the array
-  both-planes : BothPlanes (plane_at_end found f) (array_plane final (as_sent array last)) 0 f.components
+  pub both-planes : BothPlanes (plane_at_end found f) (array_plane final (as_sent array last)) 0 f.components
   both-planes = planes-of (plane_at_end found f) (array_plane final (as_sent array last)) f.components (λ k c t.
       let e = plane-end k c t in
       record {
@@ -557,7 +558,7 @@ pictures-same settings array final last r =
 
 -- What the end of a stream means is the picture of its array, cut at the levels that were sent.
 pub pictured : (settings : Settings) (array : Coefficients) (final : Said) (last : ℕ → Levels) (tail : List ℕ)
-    (meant : Outcome (Told × List ℕ)) → ImageMeant settings array final last tail meant
+    (meant : Outcome (Told × List ℕ)) → ImageMeant (picture_of settings) array final last tail meant
     → meant ≡ meaning_of_array settings final array last tail
 pictured settings array final last tail meant r = search (rules, pictures-same)
 
@@ -565,7 +566,8 @@ pub stream-means : (settings : Settings) (array : Coefficients) (bytes rest : Li
     (last : ℕ → Levels) → ((index row column : ℕ) → Is8Bit (array index row column))
     → WritesImage array bytes final last → meaning settings
     (bytes ++ rest) ≡ meaning_of_array settings final array last rest
-stream-means settings array bytes rest final last range w = search (rules, pictured, image-walked)
+stream-means settings array bytes rest final last range w =
+    pictured settings array final last rest _ (image-walked (picture_of settings) array bytes rest final last range w)
 
 -- ---- there is a picture
 
@@ -617,7 +619,8 @@ planes-picture settings w f (c ∷ more) (o ∷ ours) [] sources t e h = absurd 
 
 -- Where the settings take the picture, there is one.
 pub taken : (settings : Settings) (array : Coefficients) (final : Said) (last : ℕ → Levels) (tail : List ℕ)
-    (meant : Outcome (Told × List ℕ)) → ImageMeant settings array final last tail meant → TakesPicture settings final
+    (meant : Outcome (Told × List ℕ)) → ImageMeant (picture_of settings) array final last tail meant
+    → TakesPicture settings final
     → (picture : List ℕ) × (picture_of_array settings final array last ≡ Ok picture)
     × (meant ≡ Ok ((told_of final, picture), tail))
 unfolding picture_of_blocks
@@ -644,13 +647,14 @@ pub taken-means : (settings : Settings) (array : Coefficients) (bytes rest : Lis
     → WritesImage array bytes final last → TakesPicture settings final → (picture : List ℕ)
     × (picture_of_array settings final array last ≡ Ok picture)
     × (meaning settings (bytes ++ rest) ≡ Ok ((told_of final, picture), rest))
-taken-means settings array bytes rest final last range w = search (rules, taken, image-walked)
+taken-means settings array bytes rest final last range w =
+    taken settings array final last rest _ (image-walked (picture_of settings) array bytes rest final last range w)
 
 -- The frame of a written image isn't lossless.
 pub written-lossy : (settings : Settings) (array : Coefficients) (bytes : List ℕ) (final : Said)
     (last : ℕ → Levels) (frame : Frame) → ((index row column : ℕ) → Is8Bit (array index row column))
     → WritesImage array bytes final last → final.frame ≡ Some frame → frame.process ≢ Lossless
 written-lossy settings array bytes final last frame range w e =
-    let r = (image-walked settings array bytes [] final last range w).0 in
+    let r = (image-walked (picture_of settings) array bytes [] final last range w).0 in
     subst (λ (f : Frame). f.process ≢ Lossless) (same-frame r.frame frame final.frame r.framed e)
     (r.said.shaped r.frame r.framed).0.lossy

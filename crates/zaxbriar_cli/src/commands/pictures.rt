@@ -73,9 +73,9 @@ impl Job {
     /// Returns whose rows are counted that are complete.
     fn rows(&self) -> Rows {
         match self.request {
-            Request::At(at) => match at.upright {
-                Upright::AsStored => Rows::OfOutput,
-                Upright::Turned => Rows::OfStored,
+            Request::At(at) => match (at.upright, at.crop) {
+                (Upright::AsStored, None) => Rows::OfOutput,
+                _ => Rows::OfStored,
             },
             Request::Within(_, _) => Rows::OfFile,
         }

@@ -1,10 +1,12 @@
 //! Decodes a JPEG file to its bytes: `zaxbriar raw photo.jpg -o photo.raw` writes a line
 //! `WIDTH HEIGHT FORMAT` and then the pixels, like `jpegraw` for standard input. `--upright` turns
-//! the picture by the orientation in its Exif data, and `--luma` writes the luma of one in colour.
+//! the picture by the orientation in its Exif data, `--luma` writes the luma of one in colour, and
+//! `--crop` a part of the picture.
 
 use clap::ArgMatches;
+use jpeg_orientation::areas::Area;
 use zaxbriar_arguments::arguments;
-use zaxbriar_arguments::pictures::{turning_of, wants_luma};
+use zaxbriar_arguments::pictures::{crop_of, turning_of, wants_luma};
 use zaxbriar_files::ending::Outcome;
 use zaxbriar_files::files;
 use zaxbriar_files::limits::Limits;
@@ -19,6 +21,7 @@ struct Job {
     rt: HostRuntime,
     turning: Upright,
     luma: bool,
+    crop: Option<Area>,
     limits: Limits,
 }
 
@@ -33,6 +36,7 @@ impl Job {
                     reader,
                     self.turning,
                     self.luma,
+                    self.crop,
                     self.limits,
                     output,
                 )
@@ -48,6 +52,7 @@ pub fn run(rt: HostRuntime, matches: &ArgMatches<'_>) -> Outcome<()> {
         rt,
         turning: turning_of(matches),
         luma: wants_luma(matches),
+        crop: crop_of(&rt, matches)?,
         limits: arguments::limits_of(&rt, matches)?,
     };
     let input = arguments::file_of(matches, arguments::FILE);

@@ -67,7 +67,7 @@ returns-in_err-line-clause-images g c remaining is =
 -- ---- the picture is written
 
 -- what is to be written
-printed : (g : Over) (c : goal.Joined-lines-3 g) (remaining : Option (List ℕ))
+printed : (g : Over) (c : goal.Joined-lines-6 g) (remaining : Option (List ℕ))
     → c.args.decoder.now ≡ begun remaining → (bytes : List ℕ) → Tells remaining bytes
     → output_of bytes ≡ Some (string_bytes c.in_ok-line.line ++ concat c.in_ok-lines.lines)
 printed g c remaining is bytes tells =

@@ -1,7 +1,9 @@
-use Rattle.std.proofs.Common.{◌≡◌, ◌∙◌, ◌==◌, ap, sym}
+use Rattle.std.proofs.Common.{◌≡◌, ◌∙◌, ◌==◌, ap, refl, sym}
 use Rattle.std.specs.Prelude.{if◌then◌else◌, nat_lt}
 use Rattle.jpeg_meaning.specs.DecodedImages.{at_size}
+use Rattle.zaxbriar_calls.proofs.CropPixels.{whole-width}
 use Rattle.zaxbriar_calls.specs.Meanings.{orientation_by, size_wanted}
+use Rattle.zaxbriar_calls.specs.Crops.{is_cropped}
 use Rattle.zaxbriar_calls.specs.declared.picture.Picture.{Picture}
 use Rattle.test_zaxbriar_callers.proofs.calls.described_upright.Goals as goal
 
@@ -13,5 +15,8 @@ returns c ok right =
     let asked = c.requires.asked in (
       described,
       ap (λ (p : Picture). p.width) described.picture_is
+          ∙ whole-width c.args.options.now described.info
+          (orientation_by (at_size (size_wanted c.args.options.now) described.header.said).metadata.exif)
+          (is_cropped c.args.options.now) refl c.requires.whole
           ∙ (λ i. if nat_lt 4 (if asked i == 1 then turned i else 1) then described.info.height else described.info.width),
     )

@@ -1,6 +1,6 @@
 use Rattle.std.proofs.Common.{arith, ◌≡◌, ◌∙◌, true}
 use Rattle.zaxbriar_calls.proofs.Outcomes.{stream-decoded}
-use Rattle.zaxbriar_calls.specs.Limits.{are_known}
+use Rattle.zaxbriar_calls.specs.Limits.{are_known_for}
 use Rattle.zaxbriar_calls.proofs.decode.decode_into.Goals as goal
 
 pub returns : goal.returns
@@ -8,7 +8,7 @@ returns c =
     let known = c.in-Ok.ensures.known in
     let same = c.in-Ok.ensures.bytes in
     let done = c.describe-described.ensures in
-    let asked : are_known c.args.options.now ≡ true = grind arith in
+    let asked : are_known_for c.args.extent c.args.options.now ≡ true = grind arith in
     rw c.has_exceeded_max_blocks.ensures (stream-decoded c.args.extent c.args.options.now c.args.jpeg.now c.args.pixels.now
     c.decode_described-decoded.new.pixels c.density_of-density.result c.in-Ok.decoder
     c.describe-described.new.decoder c.decode_described-decoded.new.decoder c.args.picture.now
@@ -20,6 +20,7 @@ returns c =
       unexceeded = done.exceeded ∙ c.in-Ok.ensures.exceeded;
       info = done.info;
       precision = done.precision;
+      oriented = done.oriented;
       lines = done.lines;
       told = done.told;
       within = rw same at (done.within known);

@@ -7,7 +7,7 @@ returns-then-exceeds_limits-clause-large g c known is =
     let read = c.in_ok-header.ensures in (
       describes c.args.options.now c.args.decoder.now c.read_header.new.decoder c.in_ok-header.header
           c.in_ok-lines.lines c.args.density c.picture_of.result read.reads known read.info read.precision read.oriented
-          read.sampling read.transform read.bytes c.in_ok-lines.ensures.lines (c.requires.dense known)
+          read.sampling read.planes read.transform read.bytes c.in_ok-lines.ensures.lines (c.requires.dense known)
           c.picture_of.ensures,
       exceeds-described c.args.options.now c.in_ok-header.header c.in_ok-lines.lines c.args.density
           c.picture_of.result c.exceeds_limits.result c.in_ok-lines.ensures.lines c.picture_of.ensures
@@ -19,7 +19,7 @@ returns-clause-within g c known =
     let read = c.in_ok-header.ensures in (
       describes c.args.options.now c.args.decoder.now c.read_header.new.decoder c.in_ok-header.header
           c.in_ok-lines.lines c.args.density c.picture_of.result read.reads known read.info read.precision read.oriented
-          read.sampling read.transform read.bytes c.in_ok-lines.ensures.lines (c.requires.dense known)
+          read.sampling read.planes read.transform read.bytes c.in_ok-lines.ensures.lines (c.requires.dense known)
           c.picture_of.ensures,
       exceeds-described c.args.options.now c.in_ok-header.header c.in_ok-lines.lines c.args.density
           c.picture_of.result c.exceeds_limits.result c.in_ok-lines.ensures.lines c.picture_of.ensures

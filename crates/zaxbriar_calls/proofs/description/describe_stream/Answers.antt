@@ -18,6 +18,7 @@ returns c =
       unexceeded = done.exceeded ∙ c.in_ok-decoder.ensures.exceeded;
       info = done.info;
       precision = done.precision;
+      oriented = done.oriented;
       lines = done.lines;
       told = done.told;
       within = rw same at (done.within known);

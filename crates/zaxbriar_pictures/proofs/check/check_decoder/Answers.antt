@@ -37,7 +37,7 @@ returns-clause-limited g c known =
 pub returns-in_err-choose-clause-refused : goal.returns-in_err-choose-clause-refused
 returns-in_err-choose-clause-refused g c known =
     let p = err_from_is_err_and c.from_residual.result c.from_residual.ensures.1 in
-    rw (p.1, p.2) (reason-then _ (header_at c.args.decoder.now.source.bytes) _ _ _
+    rw (p.1, p.2) (reason-then _ (header_at c.args.decoder.now.source.bytes) _ _ _ _
     (c.in_err-choose.ensures.refused known))
 
 pub returns-in_err-shown-clause-refused : goal.returns-in_err-shown-clause-refused

@@ -1,4 +1,3 @@
-use Rattle.std.proofs.Common.{rules}
 use Rattle.zaxbriar_pictures.proofs.WriterErrors.{refused-of-writer}
 use Rattle.zaxbriar_pictures.proofs.lines.write_file.Goals as goal
 

@@ -24,6 +24,13 @@ returns-clause-bounded g c bytes tells =
     let bounded = rw (c.set_luma.ensures, c.in_ok-decoder.ensures.ok) at c.write_decoded.ensures.bounded in
     rw same at bounded known
 
+pub returns-clause-fits : goal.returns-clause-fits
+returns-clause-fits g c bytes tells =
+    let known = bytes_are_known (g.R.Read.remaining c.args.reader) bytes tells in
+    let same = known_bytes_are_told (g.R.Read.remaining c.args.reader) bytes tells in
+    let fits = rw (c.set_luma.ensures, c.in_ok-decoder.ensures.ok) at c.write_decoded.ensures.fits in
+    rw same at fits known
+
 pub returns-in_err-decoder-clause-refused : goal.returns-in_err-decoder-clause-refused
 returns-in_err-decoder-clause-refused g c bytes tells =
     let p = err_from_is_err_and c.from_residual.result c.from_residual.ensures.1 in

@@ -56,7 +56,7 @@ returns-in_err-check-clause-refused g c known =
     let settings = c.in_ok-read_info.ensures.settings ∙ c.requires.plain in
     let scaled = c.in_ok-set_scale.ensures.scaled (λ fresh. header-not-fresh (sym stage ∙ fresh)) in
     let p = err_from_is_err_and c.from_residual-in_err-check.result c.from_residual-in_err-check.ensures.1 in
-    rw (p.1, p.2) (above-reason c.args.limits full.width full.height c.bytes_for.result _ _ _ _
+    rw (p.1, p.2) (above-reason c.args.limits full.width full.height c.bytes_for.result _ _ _ _ _
     c.in_err-check.ensures
     (λ above. allowed-there c.args.request c.args.format c.args.limits c.args.decoder.now.source.bytes
     c.read_info.new.self.source.bytes c.read_info.new.self.found full c.orientation_in-orientation.result

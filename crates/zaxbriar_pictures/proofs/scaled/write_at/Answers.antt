@@ -17,6 +17,13 @@ returns-clause-limited g c bytes tells =
     let limited = rw (c.set_luma.ensures, c.in_ok-decoder.ensures.ok) at c.write_chosen.ensures.limited in
     rw same at limited known
 
+pub returns-clause-fits : goal.returns-clause-fits
+returns-clause-fits g c bytes tells =
+    let known = bytes_are_known (g.R.Read.remaining c.args.reader) bytes tells in
+    let same = known_bytes_are_told (g.R.Read.remaining c.args.reader) bytes tells in
+    let fits = rw (c.set_luma.ensures, c.in_ok-decoder.ensures.ok) at c.write_chosen.ensures.fits in
+    rw same at fits known
+
 pub returns-in_err-decoder-clause-refused : goal.returns-in_err-decoder-clause-refused
 returns-in_err-decoder-clause-refused g c bytes tells =
     let p = err_from_is_err_and c.from_residual.result c.from_residual.ensures.1 in

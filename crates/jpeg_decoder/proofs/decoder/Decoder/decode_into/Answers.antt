@@ -34,7 +34,7 @@ returns-in_err-lines-clause-decodes g c room =
 
 -- ---- the lines are written
 
-front : (g : given.Over) (c : goal.Joined-lines g)
+front : (g : given.Over) (c : goal.Joined-lines-3 g)
     → take c.in_ok-size.size (c.write_all.new.picture ++ drop c.in_ok-size.size c.args.pixels.now)
     ≡ c.write_all.new.picture
 front g c = search (rules, length-take, front-of)
