@@ -38,7 +38,7 @@ ghost use Rattle.jpeg_meaning.specs.Work.{picture_blocks};
 use crate::picture::color_choice::frame_transform;
 use crate::picture::lines::Lines;
 use crate::picture::partial::{PartialLines, show_rest};
-use crate::picture::rest::{read_planes, read_rest};
+use crate::picture::rest::{read_rest, read_rest_planes};
 use crate::picture::whole::read_header;
 use crate::scan::decoded::Decoded;
 use crate::scan::work::picture_blocks;
@@ -743,7 +743,7 @@ impl<R: Read + Drop> Decoder<R> {
             (map (λ p. p.items) v.items)) }
     {
         self.begin()?;
-        let result = read_planes(
+        let result = read_rest_planes(
             self.alloc,
             &mut self.source,
             &mut self.state,

@@ -21,6 +21,7 @@ use Rattle.zaxbriar_calls.specs.Meanings.{CountsRead, StandsAfter, found_at, mea
 use Rattle.zaxbriar_calls.specs.Meanings.{orientation_by, planes_by, planes_rest, settings_at}
 use Rattle.zaxbriar_calls.specs.Meanings.{settings_of}
 use Rattle.zaxbriar_calls.specs.Passes.{fault_number}
+use Rattle.zaxbriar_calls.specs.Planes.{bytes_asked}
 use Rattle.zaxbriar_calls.specs.Upright.{arranged_by}
 use Rattle.zaxbriar_calls.specs.declared.answers.Refusal.{Refusal}
 use Rattle.zaxbriar_calls.specs.declared.answers.Refusal.TheVariants.{Part, Stream}
@@ -99,11 +100,6 @@ abbrev pub CountsImage : Extent → Options → List ℕ → ℕ → Type 0
 CountsImage Whole o bytes count = CountsRead (meaning_by o bytes) bytes count
 CountsImage Partial o bytes count = Unit {0}
 CountsImage Planes o bytes count = CountsRead (planes_by o bytes) bytes count
-
--- the bytes of what is asked for: those of a picture, or of its planes
-abbrev pub bytes_asked : Extent → ℕ → ℕ → ℕ
-bytes_asked Planes picture planes = planes
-bytes_asked _ picture planes = picture
 
 -- the bytes of the caller's memory that are needed for it
 abbrev pub bytes_needed : Extent → Picture → ℕ

@@ -9,13 +9,14 @@ use Rattle.zaxbriar_calls.specs.Crops.{part_rows}
 use Rattle.zaxbriar_calls.specs.Faults.{IsArgument, IsFault, IsOfCall, IsOfReading, IsOfRoom}
 use Rattle.zaxbriar_calls.specs.Faults.{IsOwn, IsPart}
 use Rattle.zaxbriar_calls.specs.Given.{CountsImage, Gives, GivesPart, HasRows, KnowsExceeded}
-use Rattle.zaxbriar_calls.specs.Given.{Reaches, bytes_asked, bytes_needed, given_by, given_rest}
+use Rattle.zaxbriar_calls.specs.Given.{Reaches, bytes_needed, given_by, given_rest}
 use Rattle.zaxbriar_calls.specs.Given.{rows_by, rows_rest}
 use Rattle.zaxbriar_calls.specs.Layouts.{size_of_lines}
 use Rattle.zaxbriar_calls.specs.Limits.{are_known, are_known_for}
 use Rattle.zaxbriar_calls.specs.Meanings.{AreWrong, AreWrongFor, CountsRead, IsTooLarge, IsWithin}
 use Rattle.zaxbriar_calls.specs.Meanings.{uncounted}
 use Rattle.zaxbriar_calls.specs.Passes.{exceeds, exceeds_rest}
+use Rattle.zaxbriar_calls.specs.Planes.{bytes_asked}
 use Rattle.zaxbriar_calls.specs.declared.answers.Refusal.{Refusal}
 use Rattle.zaxbriar_calls.specs.declared.answers.Refusal.TheVariants.{NoRoom, TooLarge}
 use Rattle.zaxbriar_calls.specs.declared.extents.Extent.{Extent}

@@ -3,6 +3,8 @@
 use Rattle.std.specs.Prelude.{ℕ, ◌+◌, ◌*◌, List, [], ◌∷◌}
 use Rattle.jpeg_decoder.specs.Bytes.{bytes_a_sample}
 use Rattle.jpeg_segments.specs.Frame.{Component}
+use Rattle.zaxbriar_calls.specs.declared.extents.Extent.{Extent}
+use Rattle.zaxbriar_calls.specs.declared.extents.Extent.TheVariants.{Planes}
 use Rattle.zaxbriar_calls.specs.declared.planes.PlaneSizes.{PlaneSizes}
 
 -- a number of each of the components of a picture, of which there are one, three or four, and 0 for
@@ -35,3 +37,8 @@ planes_of_components components precision = record {
   height = heights_of components;
   size = samples_of components * bytes_a_sample precision;
 }
+
+-- the bytes of what is asked for: those of a picture, or of its planes
+abbrev pub bytes_asked : Extent → ℕ → ℕ → ℕ
+bytes_asked Planes picture planes = planes
+bytes_asked _ picture planes = picture

@@ -18,7 +18,7 @@ ghost use Rattle.jpeg_meaning.specs.declared.images.PixelFormat.TheVariants.{CMY
 ghost use Rattle.jpeg_orientation.specs.Turns.{upright_across, upright_down};
 ghost use Rattle.zaxbriar_calls.specs.Crops.{IsInPicture, is_cropped, part_rows, part_samples};
 ghost use Rattle.zaxbriar_calls.specs.Density.{density_of};
-ghost use Rattle.zaxbriar_calls.specs.Given.{as_picture, bytes_asked, faultless, given_by};
+ghost use Rattle.zaxbriar_calls.specs.Given.{as_picture, faultless, given_by};
 ghost use Rattle.zaxbriar_calls.specs.Features.{feature_in, numbered, transform_code};
 ghost use Rattle.zaxbriar_calls.specs.Layouts.{colour, conversion_to, laid_out, level, light, luma};
 ghost use Rattle.zaxbriar_calls.specs.Layouts.{layout_numbered, pixel_of, size_of_lines};
@@ -31,7 +31,7 @@ ghost use Rattle.zaxbriar_calls.specs.Meanings.{scale_by, settings_of, transform
 ghost use Rattle.zaxbriar_calls.specs.Metadata.{is_whole, kind_alone};
 ghost use Rattle.zaxbriar_calls.specs.Passes.{exceeds, fault_number};
 ghost use Rattle.zaxbriar_calls.specs.Places.{no_place, no_places, place_before, with_part};
-ghost use Rattle.zaxbriar_calls.specs.Planes.{planes_of_components};
+ghost use Rattle.zaxbriar_calls.specs.Planes.{bytes_asked, planes_of_components};
 ghost use Rattle.zaxbriar_calls.specs.Sampling.{sampling_of};
 ghost use Rattle.zaxbriar_calls.specs.Upright.{arranged_by, arranged_in, arranged_part};
 ghost use Rattle.zaxbriar_calls.specs.Upright.{upright_pixel};

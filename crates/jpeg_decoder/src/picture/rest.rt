@@ -205,7 +205,7 @@ pub fn read_rest<R: Read + Drop>(
 /// its own size. No blocks or planes are kept. `exceeded` says whether a scan was refused since it
 /// codes more blocks than the limit leaves.
 #[tactic(auto, unfolding(jpeg_meaning::specs::Stream::rest_showing))]
-pub fn read_planes<R: Read + Drop>(
+pub fn read_rest_planes<R: Read + Drop>(
     alloc: Global,
     source: &mut Source<R>,
     state: &mut State,

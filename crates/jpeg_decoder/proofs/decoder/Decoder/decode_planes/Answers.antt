@@ -23,17 +23,17 @@ returns-in_err-begin-clause-decodes g c =
 
 pub returns-clause-decodes : goal.returns-clause-decodes
 returns-clause-decodes g c =
-    planes-rest {X = Vec (Vec ℕ Global) Global} (λ v. map (λ p. p.items) v.items) _ _ _ c.read_planes-result.result
+    planes-rest {X = Vec (Vec ℕ Global) Global} (λ v. map (λ p. p.items) v.items) _ _ _ c.read_rest_planes-result.result
     (begun-seen _ _ _ c.self.view_is c.in_ok-begin.ensures.reads c.in_ok-begin.ensures.still
     c.in_ok-begin.ensures.settings) (search rules) (record {
-      reads = c.read_planes-result.ensures.reads;
-      tells = c.read_planes-result.ensures.told;
-      turns = c.read_planes-result.ensures.turns;
-      exceeded = c.read_planes-result.ensures.exceeded;
-    }) c.read_planes-result.ensures.emptied
+      reads = c.read_rest_planes-result.ensures.reads;
+      tells = c.read_rest_planes-result.ensures.told;
+      turns = c.read_rest_planes-result.ensures.turns;
+      exceeded = c.read_rest_planes-result.ensures.exceeded;
+    }) c.read_rest_planes-result.ensures.emptied
 
 pub invariant_of-self : goal.invariant_of-self
 invariant_of-self g c =
-    read-holds c.read_planes-result.new.state c.read_planes-result.new.exceeded c.read_planes-result.result _
+    read-holds c.read_rest_planes-result.new.state c.read_rest_planes-result.new.exceeded c.read_rest_planes-result.result _
     c.progress_after-self-inside.result c.is_ok.ensures.value c.progress_after-self-inside.ensures
-    c.read_planes-result.ensures.framed c.read_planes-result.ensures.frames
+    c.read_rest_planes-result.ensures.framed c.read_rest_planes-result.ensures.frames
