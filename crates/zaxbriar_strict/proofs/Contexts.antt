@@ -1,25 +1,63 @@
--- What a scan of one component is read by.
-use Rattle.std.proofs.Common.{◌≡◌, ◌≤◌, ℕ, Bool, false, None, Some, sym, ◌∙◌, subst, slice_index_or, ℤ}
-use Rattle.std.proofs.lemmas.Option.{same_Some}
+-- The ways in which the blocks of a scan are coded, and the blocks of an MCU.
+use Rattle.std.proofs.Common.{◌≡◌, ◌≢◌, ◌≤◌, ◌<◌, ◌+◌, ◌*◌, ◌++◌, ℕ, zero, suc, Bool, false, List, [], ◌∷◌, None, Some}
+use Rattle.std.proofs.Common.{get_or, length, take, replicate, sym, ◌∙◌, ap, refl, subst, arith, ℤ}
+use Rattle.std.proofs.Common.{add-one, add-zero, zero-add, append-nil, append_assoc, slice_get, slice_index_or}
+use Rattle.std.proofs.lemmas.Bool.{ne_eqb}
+use Rattle.std.proofs.lemmas.List.{take_all}
+use Rattle.std.proofs.lemmas.Option.{same_Some, slice_get_read}
 use Rattle.jpeg_bits.specs.Codes.{Table}
+use Rattle.jpeg_bits.specs.Passes.{Via}
 use Rattle.zaxbriar_strict.specs.Blocks.{ReadsBlock}
+use Rattle.zaxbriar_strict.specs.Contexts.{AreWays, IsContext, IsWay, blocks_at, blocks_in, unit_of}
 use Rattle.zaxbriar_strict.specs.Data.{Data}
-use Rattle.zaxbriar_strict.specs.GreyContexts.{HasTables, IsGreyContext}
+use Rattle.zaxbriar_strict.specs.Heads.{members_of}
 use Rattle.zaxbriar_strict.specs.Installed.{codes_of}
+use Rattle.zaxbriar_strict.specs.declared.frame.Component.{Component}
 use Rattle.zaxbriar_strict.specs.declared.scan.Member.{Member}
 use Rattle.zaxbriar_strict.specs.declared.tables.Tables.{Tables}
 use Rattle.zaxbriar_strict.specs.declared.transform.Context.{Context}
 
-module _ (x : Context) (m n : Member) (dc ac u : Table) (g : IsGreyContext x m dc ac) (e : n ≡ m) where
-  pub context-dc : (n.dc ≤ 3 → slice_index_or (codes_of x.tables.now).dc n.dc None ≡ Some u) → u ≡ dc
-  context-dc h =
-      let at = subst (λ (k : Member). k.dc ≤ 3 → slice_index_or (codes_of x.tables.now).dc k.dc None ≡ Some u) e h in
-      same_Some u dc (sym (at g.dc_within) ∙ g.dc_is)
+-- ---- elements of lists
 
-  pub context-ac : (n.ac ≤ 3 → slice_index_or (codes_of x.tables.now).ac n.ac None ≡ Some u) → u ≡ ac
-  context-ac h =
-      let at = subst (λ (k : Member). k.ac ≤ 3 → slice_index_or (codes_of x.tables.now).ac k.ac None ≡ Some u) e h in
-      same_Some u ac (sym (at g.ac_within) ∙ g.ac_is)
+pub element : {A : Type 0} (xs : List A) (k : ℕ) → k < length xs → (x : A) × (slice_get xs k ≡ Some x)
+element [] k h = absurd (omega (arith, h))
+element (x ∷ xs) zero h = (x, refl)
+element (x ∷ xs) (suc k) h = element xs k (omega (arith, h))
+
+-- what was found in a list that is this one
+pub found : {A : Type 0} (xs ys : List A) (k : ℕ) (x : A) → xs ≡ ys → k < length xs → x ≡ get_or xs k x
+    → slice_get ys k ≡ Some x
+found {A} xs ys k x same lt at =
+    subst (λ (l : List A). slice_get l k ≡ Some x) same (slice_get_read xs (length xs) k x refl lt at)
+
+-- ---- the way of a component
+
+way-from : (t : Tables) (slot : ℕ) (ms : List Member) (vias : List Via) (k : ℕ) (m : Member) (via : Via)
+    → AreWays t slot ms vias → slice_get ms k ≡ Some m → slice_get vias k ≡ Some via → IsWay t (slot + k) m via
+unfolding AreWays
+way-from t slot [] vias k m via a e f = absurd cc
+way-from t slot (n ∷ ms) [] k m via a e f = absurd a
+way-from t slot (n ∷ ms) (v ∷ vias) zero m via a e f =
+    subst (λ (x : ℕ). IsWay t x m via) (sym (add-zero slot))
+    (subst (λ (x : Member). IsWay t slot x via) (same_Some n m e)
+    (subst (λ (x : Via). IsWay t slot n x) (same_Some v via f) a.0))
+way-from t slot (n ∷ ms) (v ∷ vias) (suc k) m via a e f =
+    let same : slot + 1 + k ≡ slot + suc k = omega arith in
+    subst (λ (x : ℕ). IsWay t x m via) same (way-from t (slot + 1) ms vias k m via a.1 e f)
+
+-- the component in a slot of a scan
+pub way-at : (x : Context) (vias : List Via) (slot : ℕ) (m : Member) (via : Via) → IsContext x vias
+    → slice_get (members_of x.scan.now) slot ≡ Some m → slice_get vias slot ≡ Some via → IsWay x.tables.now slot m via
+way-at x vias slot m via g e f =
+    subst (λ (k : ℕ). IsWay x.tables.now k m via) (zero-add slot)
+    (way-from x.tables.now 0 (members_of x.scan.now) vias slot m via g.ways e f)
+
+module _ (t : Tables) (slot : ℕ) (m : Member) (via : Via) (u : Table) (w : IsWay t slot m via) where
+  pub way-dc : (m.dc ≤ 3 → slice_index_or (codes_of t).dc m.dc None ≡ Some u) → u ≡ via.dc
+  way-dc h = same_Some u via.dc (sym (h w.dc_within) ∙ w.dc_is)
+
+  pub way-ac : (m.ac ≤ 3 → slice_index_or (codes_of t).ac m.ac None ≡ Some u) → u ≡ via.ac
+  way-ac h = same_Some u via.ac (sym (h w.ac_within) ∙ w.ac_is)
 
 pub block-by : (deep : Bool) (dc ac t u : Table) (before after : ℤ) (old new : Data) → deep ≡ false → t ≡ dc → u ≡ ac
     → ReadsBlock deep t u before after old new → ReadsBlock false dc ac before after old new
@@ -28,7 +66,69 @@ block-by deep dc ac t u before after old new d e f b =
     (subst (λ (k : Table). ReadsBlock deep k ac before after old new) e
     (subst (λ (k : Table). ReadsBlock deep t k before after old new) f b))
 
--- the tables of a component and a member of the scan that are these
-pub tables-of : (t : Tables) (a b : ℕ) (m n : Member) → a ≡ b → n ≡ m → HasTables t a n → HasTables t b m
-tables-of t a b m n d e h =
-    subst (λ (k : Member). HasTables t b k) e (subst (λ (k : ℕ). HasTables t k n) d h)
+-- the ways are as many as the components
+ways-length : (t : Tables) (slot : ℕ) (ms : List Member) (vias : List Via) → AreWays t slot ms vias
+    → length vias ≡ length ms
+unfolding AreWays
+ways-length t slot [] [] a = refl
+ways-length t slot [] (v ∷ vias) a = absurd a
+ways-length t slot (m ∷ ms) [] a = absurd a
+ways-length t slot (m ∷ ms) (v ∷ vias) a = ap suc (ways-length t (slot + 1) ms vias a.1)
+
+pub context-length : {x : Context} {vias : List Via} → IsContext x vias → length vias ≡ length (members_of x.scan.now)
+context-length {x} {vias} g = ways-length x.tables.now 0 (members_of x.scan.now) vias g.ways
+
+-- ---- the blocks of an MCU
+
+-- a component of several
+pub blocks-several : (count : ℕ) (c : Component) → count ≢ 1 → blocks_in count c ≡ c.down * c.across
+blocks-several count c ne = rw (ne_eqb count 1 ne) refl
+
+-- the component at an index, if there is one
+pub blocks-found : (count : ℕ) (cs : List Component) (index : ℕ) (c : Component) → slice_get cs index ≡ Some c
+    → blocks_at count cs index ≡ blocks_in count c
+unfolding blocks_at
+blocks-found count [] index c e = absurd cc
+blocks-found count (k ∷ cs) zero c e = ap (blocks_in count) (same_Some k c e)
+blocks-found count (k ∷ cs) (suc index) c e = blocks-found count cs index c e
+
+pub blocks-past : (count : ℕ) (cs : List Component) (index : ℕ) → length cs ≤ index → blocks_at count cs index ≡ 0
+unfolding blocks_at
+blocks-past count [] index h = refl
+blocks-past count (k ∷ cs) zero h = absurd (omega (arith, h))
+blocks-past count (k ∷ cs) (suc index) h = blocks-past count cs index (omega (arith, h))
+
+-- one more component
+unit-suc : (count : ℕ) (cs : List Component) (ms : List Member) (vias : List Via) (k : ℕ) (m : Member) (via : Via)
+    → slice_get ms k ≡ Some m → slice_get vias k ≡ Some via
+    → unit_of count cs (take (suc k) ms) (take (suc k) vias)
+    ≡ unit_of count cs (take k ms) (take k vias) ++ replicate (blocks_at count cs m.component) via
+unfolding unit_of
+unit-suc count cs [] vias k m via e f = absurd cc
+unit-suc count cs (n ∷ ms) [] k m via e f = absurd cc
+unit-suc count cs (n ∷ ms) (v ∷ vias) zero m via e f =
+    let same : n ≡ m = same_Some n m e in
+    let way : v ≡ via = same_Some v via f in
+    append-nil (replicate (blocks_at count cs n.component) v)
+    ∙ ap (λ (x : Member). replicate (blocks_at count cs x.component) v) same
+    ∙ ap (replicate (blocks_at count cs m.component)) way
+unit-suc count cs (n ∷ ms) (v ∷ vias) (suc k) m via e f =
+    let first = replicate (blocks_at count cs n.component) v in
+    ap (λ (l : List Via). first ++ l) (unit-suc count cs ms vias k m via e f)
+    ∙ sym (append_assoc first (unit_of count cs (take k ms) (take k vias))
+    (replicate (blocks_at count cs m.component) via))
+
+pub unit-more : (count : ℕ) (cs : List Component) (ms : List Member) (vias : List Via) (k : ℕ) (m : Member) (via : Via)
+    → slice_get ms k ≡ Some m → slice_get vias k ≡ Some via
+    → unit_of count cs (take (k + 1) ms) (take (k + 1) vias)
+    ≡ unit_of count cs (take k ms) (take k vias) ++ replicate (blocks_at count cs m.component) via
+unit-more count cs ms vias k m via e f =
+    ap (λ (n : ℕ). unit_of count cs (take n ms) (take n vias)) (add-one k) ∙ unit-suc count cs ms vias k m via e f
+
+-- all components
+pub unit-all : (count : ℕ) (cs : List Component) (ms : List Member) (vias : List Via) (k : ℕ) → length vias ≡ length ms
+    → length ms ≤ k → unit_of count cs (take k ms) (take k vias) ≡ unit_of count cs ms vias
+unit-all count cs ms vias k same most =
+    let few : length vias ≤ k = omega arith in
+    ap (λ (l : List Member). unit_of count cs l (take k vias)) (take_all k ms most)
+    ∙ ap (unit_of count cs ms) (take_all k vias few)

@@ -1,5 +1,5 @@
 -- Frame headers, component by component.
-use Rattle.std.proofs.Common.{◌≡◌, ℕ, ◌+◌, ◌*◌, ◌/◌, ◌%◌, ◌<◌, ◌≤◌, true, false, List, [], ◌∷◌, ◌++◌, length}
+use Rattle.std.proofs.Common.{◌≡◌, ℕ, ◌+◌, ◌*◌, ◌<◌, ◌≤◌, true, false, List, [], ◌∷◌, ◌++◌, length}
 use Rattle.std.proofs.Common.{map, refl, sym, ap, ◌∙◌, subst, arith, append_assoc, append-nil, length-append, rules}
 use Rattle.std.specs.List.{AllByRecursion, flat_map, list_any}
 use Rattle.std.specs.Prelude.{◌==◌}
@@ -7,7 +7,7 @@ use Rattle.std.proofs.lemmas.List.{flat_map_more, map-append}
 use Rattle.jpeg_segments.specs.Frame.{Factors, greatest, is_count, is_destination, is_factor, is_lossless_number}
 use Rattle.jpeg_segments.specs.Frame.{is_precision, is_taken}
 use Rattle.jpeg_segments.specs.WrittenSegments.{AreComponents, IsComponent, factors_bytes}
-use Rattle.jpeg_segments.specs.WrittenSegments.{frame_payload, nibbles, u16_bytes}
+use Rattle.jpeg_segments.specs.WrittenSegments.{frame_payload, u16_bytes}
 use Rattle.jpeg_segments.proofs.FrameLemmas.{list_any_map}
 use Rattle.zaxbriar_strict.specs.Heads.{ReadsFrame, factors_of, number_of}
 use Rattle.zaxbriar_strict.specs.declared.frame.Component.{Component}
@@ -16,12 +16,6 @@ use Rattle.zaxbriar_strict.specs.declared.frame.Process.{Process}
 use Rattle.zaxbriar_strict.specs.declared.frame.Process.TheVariants.{Baseline, Extended, Lossless, Progressive}
 
 -- ---- components
-
-pub component-bytes : (identifier factors table : ℕ) (old rest : List ℕ)
-    → old ≡ identifier ∷ (factors ∷ (table ∷ rest))
-    → old ≡ identifier ∷ (nibbles (factors / 16) (factors % 16) ∷ (table ∷ rest))
-component-bytes identifier factors table old rest e =
-    e ∙ ap (λ (k : ℕ). identifier ∷ (k ∷ (table ∷ rest))) (omega arith)
 
 -- Components that were taken: the bytes before the rest are theirs, and they keep their rules.
 pub record TakesComponents (number : ℕ) (cs : List Component) (old new : List ℕ) : Type 0 where
@@ -73,15 +67,6 @@ one-taken {old} {middle} {new} number cs after c pushed t e fresh across down pl
       unsent = subst (λ (l : List Component). AllByRecursion (λ x. x.has_scan ≡ false) l) (sym pushed)
           (unsent-push cs c t.unsent unsent);
     }
-
-pub component-fewer : (old new : List ℕ) (c : Factors) → old ≡ factors_bytes c ++ new → length new < length old
-component-fewer old new c e = let l = ap length e in omega (arith, l)
-
-pub all-taken : {old : List ℕ} (number : ℕ) (cs : List Component) (new : List ℕ) → TakesComponents number cs old new
-    → new ≡ [] → old ≡ flat_map factors_bytes (map factors_of cs)
-all-taken number cs new t e =
-    t.parts ∙ ap (λ (l : List ℕ). flat_map factors_bytes (map factors_of cs) ++ l) e
-    ∙ append-nil (flat_map factors_bytes (map factors_of cs))
 
 -- ---- headers
 

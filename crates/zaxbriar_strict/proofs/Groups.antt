@@ -8,7 +8,7 @@ use Rattle.jpeg_bits.specs.Written.{WritesInterval, WritesIntervals, marker}
 use Rattle.jpeg_bits.specs.Written.WritesIntervals.{another, last}
 use Rattle.jpeg_bits.proofs.WrittenIntervals.{marker-append}
 use Rattle.jpeg_meaning.specs.WrittenData.{WritesBlocks}
-use Rattle.zaxbriar_strict.specs.GreyRuns.{Closes, WritesGroups}
+use Rattle.zaxbriar_strict.specs.Runs.{Closes, WritesGroups}
 use Rattle.zaxbriar_strict.specs.Markers.{BeginsMarker}
 use Rattle.zaxbriar_strict.proofs.Turns.{IsInterval}
 

@@ -121,11 +121,6 @@ tables-split : (most : ℕ) (ms : List Member) (m : Member) → HaveTables most 
 tables-split most [] m all = (tt, all.0)
 tables-split most (x ∷ xs) m all = let r = tables-split most xs m all.1 in ((all.0, r.0), r.1)
 
-pub tables-push : (most : ℕ) (ms : List Member) (m : Member) → HaveTables most ms → m.dc ≤ most → m.ac ≤ most
-    → HaveTables most (ms ++ m ∷ [])
-tables-push most [] m all dc ac = ((dc, ac), tt)
-tables-push most (x ∷ xs) m all dc ac = (all.0, tables-push most xs m all.1 dc ac)
-
 -- the number of blocks, up to the greatest number of 32 bits
 abbrev pub sum_of : Frame → List Member → ℕ
 sum_of f ms = sum_by (λ s. blocks_by (written_frame f).components s.component) (selectors_of f ms)
@@ -136,9 +131,6 @@ pub record TakesMembers (f : Frame) (least blocks : ℕ) (ms : List Member) (old
   pub choices : HaveTables (most_tables f.process) ms → (more : List (ℕ × Selector))
       → AreChoices (written_frame f) least more → AreChoices (written_frame f) 0 (choices_of f ms ++ more)
   pub counted : blocks ≡ min (sum_of f ms) (2 ^ 32 - 1)
-
-pub no-members : (f : Frame) (bytes : List ℕ) → TakesMembers f 0 0 [] bytes bytes
-no-members f bytes = record { parts = refl; choices = λ tables more h. h; counted = omega arith }
 
 choice-legal : (f : Frame) (least : ℕ) (m : Member) → index_of (written_frame f).components
     (choice_of (header_of f).components m).0 ≡ Some m.component → least ≤ m.component

@@ -1,43 +1,64 @@
 -- What is noted of a scan in its frame.
-use Rattle.std.proofs.Common.{◌≡◌, ℕ, zero, suc, ◌+◌, ◌<◌, ◌≤◌, true, false, List, [], ◌∷◌, length, map, set, get_or}
-use Rattle.std.proofs.Common.{refl, sym, ap, ◌∙◌, subst, arith}
-use Rattle.std.proofs.lemmas.List.{length-map}
-use Rattle.std.proofs.Math.Seq.{map-set_same}
-use Rattle.zaxbriar_strict.specs.Heads.{IsSameFrame, IsSequential, factors_of, header_of, number_of}
-use Rattle.zaxbriar_strict.specs.Members.{HaveNoScans, HaveScans, SendsOne}
+use Rattle.std.proofs.Common.{◌≡◌, ℕ, zero, suc, ◌+◌, ◌<◌, ◌≤◌, Bool, true, false, true≢false, List, [], ◌∷◌, ◌++◌}
+use Rattle.std.proofs.Common.{length, map, set, get_or, take, refl, sym, ap, ◌∙◌, subst, arith}
+use Rattle.std.proofs.lemmas.List.{map-set, take_all, take_more}
+use Rattle.zaxbriar_strict.specs.Heads.{AreUnsent, IsSameFrame, IsSequential, factors_of, has_scans, members_of}
+use Rattle.zaxbriar_strict.specs.Heads.{number_of, sent_with}
+use Rattle.zaxbriar_strict.specs.Members.{HaveTables, NotesScan, SendsAll, most_tables}
 use Rattle.zaxbriar_strict.specs.declared.frame.Component.{Component}
 use Rattle.zaxbriar_strict.specs.declared.frame.Frame.{Frame}
 use Rattle.zaxbriar_strict.specs.declared.frame.Process.{Process}
+use Rattle.zaxbriar_strict.specs.declared.scan.Member.{Member}
+use Rattle.zaxbriar_strict.specs.declared.scan.Scan.{Scan}
+use Rattle.zaxbriar_strict.proofs.SameFrames.{same-item, same-none, same-then}
+use Rattle.zaxbriar_strict.proofs.Segments.{all-push}
 
--- ---- a frame of one component
+-- ---- which components have a scan
 
-only-before : (cs : List Component) (i : ℕ) (c : Component) → i < length cs → c ≡ get_or cs i c
-    → c.has_scan ≡ false → length cs ≡ 1 → HaveNoScans cs
-only-before [] i c lt e unsent one = absurd (omega arith)
-only-before (x ∷ []) zero c lt e unsent one = (ap (λ (k : Component). k.has_scan) (sym e) ∙ unsent, tt)
-only-before (x ∷ []) (suc i) c lt e unsent one = absurd (omega arith)
-only-before (x ∷ (y ∷ ys)) i c lt e unsent one = absurd (omega arith)
+-- what is unset after one was set was unset before
+unset-before : (sent : List Bool) (k i : ℕ) → get_or (set sent k true) i true ≡ false → get_or sent i true ≡ false
+unset-before [] k i e = e
+unset-before (b ∷ bs) zero zero e = absurd (true≢false e)
+unset-before (b ∷ bs) zero (suc i) e = e
+unset-before (b ∷ bs) (suc k) zero e = e
+unset-before (b ∷ bs) (suc k) (suc i) e = unset-before bs k i e
 
-only-after : (cs : List Component) (i : ℕ) (next : Component) → i < length cs → next.has_scan ≡ true
-    → length cs ≡ 1 → HaveScans (set cs i next)
-only-after [] i next lt sent one = absurd (omega arith)
-only-after (x ∷ []) zero next lt sent one = (sent, tt)
-only-after (x ∷ []) (suc i) next lt sent one = absurd (omega arith)
-only-after (x ∷ (y ∷ ys)) i next lt sent one = absurd (omega arith)
+unsent-before : (ms : List Member) (sent : List Bool) (i : ℕ) → get_or (sent_with ms sent) i true ≡ false
+    → get_or sent i true ≡ false
+unfolding sent_with
+unsent-before [] sent i e = e
+unsent-before (m ∷ ms) sent i e =
+    unset-before sent m.component i (unsent-before ms (set sent m.component true) i e)
+
+sent-push : (ms : List Member) (m : Member) (sent : List Bool)
+    → sent_with (ms ++ m ∷ []) sent ≡ set (sent_with ms sent) m.component true
+unfolding sent_with
+sent-push [] m sent = refl
+sent-push (x ∷ xs) m sent = sent-push xs m (set sent x.component true)
+
+none-sent : (sent : List Bool) → sent_with [] sent ≡ sent
+unfolding sent_with
+none-sent sent = refl
+
+unsent-at : (cs : List Component) (i : ℕ) (c : Component) → i < length cs → c ≡ get_or cs i c → c.has_scan ≡ false
+    → get_or (map (λ (x : Component). x.has_scan) cs) i true ≡ false
+unsent-at [] i c lt e unsent = absurd (omega arith)
+unsent-at (x ∷ xs) zero c lt e unsent = ap (λ (k : Component). k.has_scan) (sym e) ∙ unsent
+unsent-at (x ∷ xs) (suc i) c lt e unsent = unsent-at xs i c (omega arith) e unsent
 
 -- ---- the components of a scan, one after the other
 
--- What was noted of so many components of a scan.
-pub record NotesFirst (place : ℕ) (old new : Frame) : Type 0 where
+-- What was noted of the first components of a scan.
+pub record NotesFirst (ms : List Member) (old new : Frame) : Type 0 where
   pub same : IsSameFrame old new
-  pub begins : place ≡ 0 → new ≡ old
-  pub one : 1 ≤ place → SendsOne old new
+  pub unsent : IsSequential old → AreUnsent (has_scans old) ms
+  pub sent : has_scans new ≡ sent_with ms (has_scans old)
 
-pub none-noted : (f : Frame) → NotesFirst 0 f f
+pub none-noted : (f : Frame) → NotesFirst [] f f
 none-noted f = record {
-  same = record { process = refl; header = refl; across = refl; down = refl };
-  begins = λ e. refl;
-  one = λ h. absurd (omega arith);
+  same = same-none f;
+  unsent = λ few. tt;
+  sent = sym (none-sent (has_scans f));
 }
 
 -- The component at an index of a frame was noted, and nothing else of the frame.
@@ -55,60 +76,36 @@ pub record NotesOne (i : ℕ) (c next : Component) (old new : Frame) : Type 0 wh
   pub unsent : number_of old.process ≤ 1 → c.has_scan ≡ false
   pub sent : next.has_scan ≡ true
 
-header-same : (a b : Frame) → a.precision ≡ b.precision → a.width ≡ b.width → a.height ≡ b.height
-    → map factors_of a.components.items ≡ map factors_of b.components.items → header_of a ≡ header_of b
-header-same a b p w h fs = cc
-
-one-same : (i : ℕ) (c next : Component) (old new : Frame) → NotesOne i c next old new → IsSameFrame old new
-one-same i c next old new n =
-    let cs = old.components.items in
-    let fs : map factors_of new.components.items ≡ map factors_of cs =
-    ap (map factors_of) n.items ∙ map-set_same factors_of cs i next c (n.factors ∙ ap factors_of n.is) in
+pub one-noted : (ms : List Member) (m : Member) (c next : Component) (old middle new : Frame) → NotesFirst ms old middle
+    → NotesOne m.component c next middle new → NotesFirst (ms ++ m ∷ []) old new
+one-noted ms m c next old middle new n o =
+    let items = middle.components.items in
+    let i = m.component in
     record {
-      process = n.process;
-      header = header-same new old n.precision n.width n.height fs;
-      across = n.across;
-      down = n.down;
+      same = same-then n.same (same-item middle new i c next o.is o.factors o.items o.process o.precision o.width
+          o.height o.across o.down);
+      unsent = λ few.
+          let first = o.unsent (subst (λ (p : Process). number_of p ≤ 1) (sym n.same.process) few) in
+          all-push (λ (x : Member). get_or (has_scans old) x.component true ≡ false) ms m (n.unsent few)
+          (unsent-before ms (has_scans old) i
+          (ap (λ (l : List Bool). get_or l i true) (sym n.sent) ∙ unsent-at items i c o.within o.is first));
+      sent = ap (map (λ (x : Component). x.has_scan)) o.items ∙ map-set (λ (x : Component). x.has_scan) items i next
+          ∙ ap (λ (b : Bool). set (has_scans middle) i b) o.sent
+          ∙ ap (λ (l : List Bool). set l i true) n.sent ∙ sym (sent-push ms m (has_scans old));
     }
 
-same-then : (a b c : Frame) → IsSameFrame a b → IsSameFrame b c → IsSameFrame a c
-same-then a b c s t = record {
-  process = t.process ∙ s.process;
-  header = t.header ∙ s.header;
-  across = t.across ∙ s.across;
-  down = t.down ∙ s.down;
-}
+-- the next component of a list of them
+pub next-noted : (ms : List Member) (place : ℕ) (d : Member) (c next : Component) (old middle new : Frame)
+    → place < length ms → NotesFirst (take place ms) old middle
+    → NotesOne (get_or ms place d).component c next middle new → NotesFirst (take (place + 1) ms) old new
+next-noted ms place d c next old middle new lt n o =
+    subst (λ (l : List Member). NotesFirst l old new) (sym (take_more ms place d lt))
+    (one-noted (take place ms) (get_or ms place d) c next old middle new n o)
 
-same-count : (old new : Frame) → IsSameFrame old new → length new.components.items ≡ length old.components.items
-same-count old new s =
-    let e = ap (λ h. length h.components) s.header in
-    omega (arith, e, length-map new.components.items factors_of, length-map old.components.items factors_of)
-
-one-before : (place i : ℕ) (c next : Component) (old middle new : Frame) → NotesFirst place old middle
-    → NotesOne i c next middle new → IsSequential old → length old.components.items ≡ 1
-    → HaveNoScans old.components.items
-one-before zero i c next old middle new n m few one =
-    let e : middle ≡ old = n.begins refl in
-    let many = same-count old middle n.same in
-    let unsent = m.unsent (subst (λ (p : Process). number_of p ≤ 1) (sym n.same.process) few) in
-    subst (λ (f : Frame). HaveNoScans f.components.items) e
-    (only-before middle.components.items i c m.within m.is unsent (omega (arith, many, one)))
-one-before (suc k) i c next old middle new n m few one = (n.one (omega arith)).before few one
-
-one-after : (i : ℕ) (c next : Component) (old middle new : Frame) → IsSameFrame old middle
-    → NotesOne i c next middle new → length old.components.items ≡ 1 → HaveScans new.components.items
-one-after i c next old middle new s m one =
-    let many = same-count old middle s in
-    subst (λ (l : List Component). HaveScans l) (sym m.items)
-    (only-after middle.components.items i next m.within m.sent (omega (arith, many, one)))
-
-pub one-noted : (place i : ℕ) (c next : Component) (old middle new : Frame) → NotesFirst place old middle
-    → NotesOne i c next middle new → NotesFirst (place + 1) old new
-one-noted place i c next old middle new n m = record {
-  same = same-then old middle new n.same (one-same i c next middle new m);
-  begins = λ e. absurd (omega arith);
-  one = λ h. record {
-    before = λ few one. one-before place i c next old middle new n m few one;
-    after = λ few one. one-after i c next old middle new n.same m one;
-  };
-}
+-- all of them
+pub all-noted : (s : Scan) (ms : List Member) (place : ℕ) (old new : Frame) → ms ≡ members_of s → length ms ≤ place
+    → NotesFirst (take place ms) old new → HaveTables (most_tables old.process) (members_of s)
+    → (IsSequential old → SendsAll s) → NotesScan s old new
+all-noted s ms place old new are end n tables whole =
+    let all = subst (λ (l : List Member). NotesFirst l old new) (take_all place ms end ∙ are) n in
+    record { tables = tables; whole = whole; same = all.same; unsent = all.unsent; sent = λ few. all.sent }

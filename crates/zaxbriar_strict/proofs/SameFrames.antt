@@ -1,32 +1,31 @@
 -- Frames whose header stays the same.
-use Rattle.std.proofs.Common.{◌≡◌, ℕ, List, [], ◌∷◌, length, get_or, map, set, refl, sym, ap, ap₂, ◌∙◌, subst}
+use Rattle.std.proofs.Common.{◌≡◌, ℕ, zero, suc, ◌*◌, List, [], ◌∷◌, ◌++◌, length, get_or, map, set, refl, sym, ap, ap₂}
+use Rattle.std.proofs.Common.{◌∙◌, subst}
 use Rattle.std.proofs.lemmas.List.{length-map}
 use Rattle.std.proofs.Math.Seq.{map-set_same}
+use Rattle.std.specs.Prelude.{◌==◌, if◌then◌else◌, replicate}
+use Rattle.jpeg_bits.specs.Passes.{Via}
 use Rattle.jpeg_segments.specs.Frame.{Factors, greatest}
 use Rattle.jpeg_segments.specs.WrittenSegments.{FrameHeader, IsFrameHeader, frame_written}
+use Rattle.zaxbriar_strict.specs.Contexts.{blocks_at, unit_of}
 use Rattle.zaxbriar_strict.specs.Heads.{IsMade, IsSameFrame, IsSequential, factors_of, header_of, number_of, written_frame}
 use Rattle.zaxbriar_strict.specs.Kept.{IsKept, IsKeptComponent}
 use Rattle.zaxbriar_strict.specs.declared.frame.Component.{Component}
 use Rattle.zaxbriar_strict.specs.declared.frame.Frame.{Frame}
 use Rattle.zaxbriar_strict.specs.declared.frame.Process.{Process}
+use Rattle.zaxbriar_strict.specs.declared.scan.Member.{Member}
 
--- ---- frames that are kept
+-- ---- frames with the same header
 
-pub kept-none : (f : Frame) → IsKept f f
-kept-none f = record {
-  same = record { process = refl; header = refl; across = refl; down = refl };
-  sent = refl;
-}
+pub same-none : (f : Frame) → IsSameFrame f f
+same-none f = record { process = refl; header = refl; across = refl; down = refl }
 
-pub kept-then : {f g h : Frame} → IsKept f g → IsKept g h → IsKept f h
-kept-then a b = record {
-  same = record {
-    process = b.same.process ∙ a.same.process;
-    header = b.same.header ∙ a.same.header;
-    across = b.same.across ∙ a.same.across;
-    down = b.same.down ∙ a.same.down;
-  };
-  sent = b.sent ∙ a.sent;
+pub same-then : {f g h : Frame} → IsSameFrame f g → IsSameFrame g h → IsSameFrame f h
+same-then a b = record {
+  process = b.process ∙ a.process;
+  header = b.header ∙ a.header;
+  across = b.across ∙ a.across;
+  down = b.down ∙ a.down;
 }
 
 header-same : (p p' w w' h h' : ℕ) (xs ys : List Factors) → p' ≡ p → w' ≡ w → h' ≡ h → ys ≡ xs
@@ -34,51 +33,81 @@ header-same : (p p' w w' h h' : ℕ) (xs ys : List Factors) → p' ≡ p → w' 
     (record { precision = p; width = w; height = h; components = xs })
 header-same p p' w w' h h' xs ys d e f g = rw (d, e, f, g) refl
 
+-- one of the components is another one with the same parameters
+pub same-item : (f g : Frame) (i : ℕ) (old new : Component) → old ≡ get_or f.components.items i old
+    → factors_of new ≡ factors_of old → g.components.items ≡ set f.components.items i new → g.process ≡ f.process
+    → g.precision ≡ f.precision → g.width ≡ f.width → g.height ≡ f.height → g.most_across ≡ f.most_across
+    → g.most_down ≡ f.most_down → IsSameFrame f g
+same-item f g i old new at factors items process precision width height across down =
+    let xs = f.components.items in
+    let all : map factors_of g.components.items ≡ map factors_of xs =
+    ap (map factors_of) items ∙ map-set_same factors_of xs i new old (factors ∙ ap factors_of at) in
+    record {
+      process = process;
+      header = header-same f.precision g.precision f.width g.width f.height g.height (map factors_of xs)
+          (map factors_of g.components.items) precision width height all;
+      across = across;
+      down = down;
+    }
+
+-- ---- frames that are kept
+
+pub kept-none : (f : Frame) → IsKept f f
+kept-none f = record { same = same-none f; sent = refl }
+
+pub kept-then : {f g h : Frame} → IsKept f g → IsKept g h → IsKept f h
+kept-then a b = record { same = same-then a.same b.same; sent = b.sent ∙ a.sent }
+
 -- one of the components is another one, which is kept
 pub kept-item : (f g : Frame) (i : ℕ) (old new : Component) → old ≡ get_or f.components.items i old
     → IsKeptComponent old new → g.components.items ≡ set f.components.items i new → g.process ≡ f.process
     → g.precision ≡ f.precision → g.width ≡ f.width → g.height ≡ f.height → g.most_across ≡ f.most_across
     → g.most_down ≡ f.most_down → IsKept f g
-kept-item f g i old new at k items process precision width height across down =
-    let xs = f.components.items in
-    let factors : map factors_of g.components.items ≡ map factors_of xs =
-    ap (map factors_of) items ∙ map-set_same factors_of xs i new old (k.factors ∙ ap factors_of at) in
-    record {
-      same = record {
-        process = process;
-        header = header-same f.precision g.precision f.width g.width f.height g.height (map factors_of xs)
-            (map factors_of g.components.items) precision width height factors;
-        across = across;
-        down = down;
-      };
-      sent = ap (map (λ (c : Component). c.has_scan)) items
-          ∙ map-set_same (λ (c : Component). c.has_scan) xs i new old (k.sent ∙ ap (λ (c : Component). c.has_scan) at);
-    }
+kept-item f g i old new at k items process precision width height across down = record {
+  same = same-item f g i old new at k.factors items process precision width height across down;
+  sent = ap (map (λ (c : Component). c.has_scan)) items
+      ∙ map-set_same (λ (c : Component). c.has_scan) f.components.items i new old
+      (k.sent ∙ ap (λ (c : Component). c.has_scan) at);
+}
 
 -- ---- their components
 
-pub kept-factors : {f g : Frame} → IsKept f g → map factors_of g.components.items ≡ map factors_of f.components.items
-kept-factors k = ap (λ (h : FrameHeader). h.components) k.same.header
+same-factors : {f g : Frame} → IsSameFrame f g → map factors_of g.components.items ≡ map factors_of f.components.items
+same-factors s = ap (λ (h : FrameHeader). h.components) s.header
 
-pub kept-length : {f g : Frame} → IsKept f g → length g.components.items ≡ length f.components.items
-kept-length {f} {g} k =
-    sym (length-map g.components.items factors_of) ∙ ap length (kept-factors k) ∙ length-map f.components.items factors_of
+pub same-length : {f g : Frame} → IsSameFrame f g → length g.components.items ≡ length f.components.items
+same-length {f} {g} s =
+    sym (length-map g.components.items factors_of) ∙ ap length (same-factors s)
+    ∙ length-map f.components.items factors_of
 
--- a list of one component with these parameters
-pub record IsOne (xs : List Component) (c : Factors) : Type 0 where
-  pub component : Component
-  pub items : xs ≡ component ∷ []
-  pub factors : factors_of component ≡ c
+-- ---- the blocks of their MCUs
 
-is-one : (xs : List Component) (c : Factors) → map factors_of xs ≡ c ∷ [] → IsOne xs c
-is-one [] c e = absurd cc
-is-one (x ∷ []) c e = record { component = x; items = refl; factors = cc }
-is-one (x ∷ y ∷ more) c e = absurd cc
+blocks-at-same : (count : ℕ) (xs ys : List Component) → map factors_of ys ≡ map factors_of xs → (index : ℕ)
+    → blocks_at count ys index ≡ blocks_at count xs index
+unfolding blocks_at
+blocks-at-same count [] [] e index = refl
+blocks-at-same count [] (y ∷ ys) e index = absurd cc
+blocks-at-same count (x ∷ xs) [] e index = absurd cc
+blocks-at-same count (x ∷ xs) (y ∷ ys) e zero =
+    let first : factors_of y ≡ factors_of x = cc in
+    ap (λ (c : Factors). if count == 1 then 1 else c.vertical * c.horizontal) first
+blocks-at-same count (x ∷ xs) (y ∷ ys) e (suc index) =
+    let rest : map factors_of ys ≡ map factors_of xs = cc in
+    blocks-at-same count xs ys rest index
 
-pub kept-one : {f g : Frame} {c : Component} → IsKept f g → f.components.items ≡ c ∷ []
-    → IsOne g.components.items (factors_of c)
-kept-one {f} {g} {c} k e =
-    is-one g.components.items (factors_of c) (kept-factors k ∙ ap (map factors_of) e)
+pub kept-blocks-at : {f g : Frame} (count : ℕ) → IsKept f g → (index : ℕ)
+    → blocks_at count g.components.items index ≡ blocks_at count f.components.items index
+kept-blocks-at {f} {g} count k index =
+    blocks-at-same count f.components.items g.components.items (same-factors k.same) index
+
+pub kept-unit : {f g : Frame} (count : ℕ) (ms : List Member) (vias : List Via) → IsKept f g
+    → unit_of count g.components.items ms vias ≡ unit_of count f.components.items ms vias
+unfolding unit_of
+kept-unit count [] vias k = refl
+kept-unit count (m ∷ ms) [] k = refl
+kept-unit count (m ∷ ms) (v ∷ vias) k =
+    ap₂ (λ (n : ℕ) (rest : List Via). replicate n v ++ rest) (kept-blocks-at count k m.component)
+    (kept-unit count ms vias k)
 
 -- ---- what their headers say
 
@@ -94,17 +123,13 @@ same-made {f} {g} s made = record {
       ∙ ap (λ (h : FrameHeader). greatest (λ (c : Factors). c.vertical) h.components) (sym s.header);
 }
 
-pub same-components : {f g : Frame} → IsSameFrame f g → (written_frame g).components ≡ (written_frame f).components
-same-components {f} {g} s =
-    ap (λ (p : Process). (frame_written (number_of p) (header_of g)).components) s.process
-    ∙ ap (λ (h : FrameHeader). (frame_written (number_of f.process) h).components) s.header
+pub same-written : {f g : Frame} → IsSameFrame f g → written_frame g ≡ written_frame f
+same-written {f} {g} s =
+    ap (λ (p : Process). frame_written (number_of p) (header_of g)) s.process
+    ∙ ap (λ (h : FrameHeader). frame_written (number_of f.process) h) s.header
 
 pub same-precision : {f g : Frame} → IsSameFrame f g → g.precision ≡ f.precision
 same-precision s = ap (λ (h : FrameHeader). h.precision) s.header
 
 pub same-sequential : {f g : Frame} → IsSameFrame f g → IsSequential f → IsSequential g
 same-sequential {f} {g} s h = (let e = ap number_of s.process in rw e h)
-
--- the element at a place is the only one
-pub only-item : {A : Type 0} (xs : List A) (x y : A) (i : ℕ) → xs ≡ x ∷ [] → i ≡ 0 → y ≡ get_or xs i y → y ≡ x
-only-item {A} xs x y i e first h = h ∙ ap₂ (λ (l : List A) (k : ℕ). get_or l k y) e first

@@ -104,16 +104,12 @@ legal-scan f s bytes next t n made few =
 
 pub reads-header : (bytes : List ℕ) (s : Scan) (old new : Frame) → TakesScan old s bytes → NotesScan s old new
     → IsMade old → ReadsHeader bytes s old new
-reads-header bytes s old new t n made =
-    let many = counted-members s t.most t.sized in
-    let some = t.some in
-    let one = n.one (omega (arith, many, some)) in
-    record {
-      are = t.are;
-      counted = t.most;
-      legal = legal-scan old s bytes new t n made;
-      last = λ few. (n.whole few).last;
-      same = n.same;
-      first_of_one = one.before;
-      one_sent = one.after;
-    }
+reads-header bytes s old new t n made = record {
+  are = t.are;
+  counted = t.most;
+  legal = legal-scan old s bytes new t n made;
+  last = λ few. (n.whole few).last;
+  same = n.same;
+  unsent = n.unsent;
+  sent = n.sent;
+}

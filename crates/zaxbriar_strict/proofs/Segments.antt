@@ -20,7 +20,7 @@ use Rattle.zaxbriar_strict.specs.declared.quantization.Steps.{Steps}
 use Rattle.zaxbriar_strict.specs.declared.tables.Tables.{Tables}
 use Rattle.zaxbriar_strict.proofs.Installs.{codes-installed, put_steps, steps-installed}
 
-all-push : {A : Type 0} (P : A → Type 0) (xs : List A) (x : A) → AllByRecursion P xs → P x
+pub all-push : {A : Type 0} (P : A → Type 0) (xs : List A) (x : A) → AllByRecursion P xs → P x
     → AllByRecursion P (xs ++ x ∷ [])
 all-push P [] x all h = (h, tt)
 all-push P (y ∷ ys) x all h = (all.0, all-push P ys x all.1 h)

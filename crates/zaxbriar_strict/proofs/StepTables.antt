@@ -1,11 +1,11 @@
 -- Quantization tables, and coefficients by the bits that they have.
 use Rattle.std.proofs.Common.{◌≡◌, ℕ, suc, ◌+◌, ◌/◌, ◌%◌, ◌<◌, ◌≤◌, Bool, true, false, List, [], ◌∷◌, ◌++◌, length}
-use Rattle.std.proofs.Common.{take, drop, set, get_or, nat_le, sym, ap, ap₂, ◌∙◌, subst, arith, append_assoc, length-drop}
+use Rattle.std.proofs.Common.{drop, get_or, nat_le, sym, ap, ap₂, ◌∙◌, subst, arith, length-drop}
 use Rattle.std.proofs.Common.{ℤ, pos, ◌≤ℤ◌, unsigned_abs}
 use Rattle.std.specs.List.{AllByRecursion, flat_map}
 use Rattle.std.proofs.lemmas.Bool.Decides.{nat_tests}
 use Rattle.std.proofs.lemmas.Int.{ints}
-use Rattle.std.proofs.lemmas.List.{flat_map_more, get_or-drop, take_more_set}
+use Rattle.std.proofs.lemmas.List.{get_or-drop}
 use Rattle.jpeg_bits.specs.BlockView.{dc_in}
 use Rattle.jpeg_meaning.specs.Levels.{Is8Bit}
 use Rattle.jpeg_segments.specs.WrittenSegments.{nibbles, quantization_bytes, value_bytes}
@@ -14,21 +14,6 @@ use Rattle.zaxbriar_strict.specs.Quantizations.{TakesSteps, precision_of}
 use Rattle.zaxbriar_strict.specs.declared.quantization.Steps.{Steps}
 
 -- ---- steps
-
--- one step more
-pub steps-more : (f : ℕ → List ℕ) (steps old bytes rest : List ℕ) (place v : ℕ) → place < length steps
-    → old ≡ flat_map f (take place steps) ++ bytes → bytes ≡ f v ++ rest
-    → old ≡ flat_map f (take (place + 1) (set steps place v)) ++ rest
-steps-more f steps old bytes rest place v lt e h =
-    let before = take place steps in
-    e ∙ ap (λ (l : List ℕ). flat_map f before ++ l) h
-    ∙ sym (append_assoc (flat_map f before) (f v) rest)
-    ∙ ap (λ (l : List ℕ). l ++ rest) (flat_map_more f [] before v)
-    ∙ ap (λ (l : List ℕ). flat_map f l ++ rest) (sym (take_more_set steps place v lt))
-
-pub all-some : (xs : List ℕ) → ((k : ℕ) → k < length xs → 0 < get_or xs k 0) → AllByRecursion (λ v. 0 < v) xs
-all-some [] h = tt
-all-some (x ∷ xs) h = (h 0 (omega arith), all-some xs (λ k lt. h (suc k) (omega arith)))
 
 head-is : (head : ℕ) → head / 16 ≤ 1 → head ≡ nibbles (precision_of (nat_le 16 head)) (head % 16)
 head-is head h = grind (arith, nat_tests)

@@ -1,6 +1,6 @@
 -- What is known of a stream where some bytes of it are still to be read.
-use Rattle.std.proofs.Common.{◌≡◌, ℕ, suc, ◌<◌, Bool, true, false, List, [], ◌∷◌, length, get_or, Option, Some, None, is_some, refl, sym}
-use Rattle.std.proofs.Common.{◌∙◌}
+use Rattle.std.proofs.Common.{◌≡◌, ℕ, suc, ◌<◌, ◌≤◌, Bool, true, false, List, [], ◌∷◌, length, get_or, Option, Some}
+use Rattle.std.proofs.Common.{None, is_some, refl, sym, ◌∙◌, arith}
 use Rattle.std.specs.List.{AllByRecursion, list_all}
 use Rattle.std.proofs.lemmas.Bool.{and_parts, false≢true}
 use Rattle.std.proofs.lemmas.List.{length-map}
@@ -8,13 +8,15 @@ use Rattle.std.proofs.lemmas.Option.{same_Some}
 use Rattle.jpeg_bits.specs.Written.{marker}
 use Rattle.jpeg_segments.proofs.Codecs.{AreBytes}
 use Rattle.jpeg_meaning.specs.Found.{Said, nothing_said}
-use Rattle.zaxbriar_strict.specs.Exact.{HasHeader, HasOtherAdobe, IsGrey, IsWritten, WritesSegments}
-use Rattle.zaxbriar_strict.specs.Heads.{factors_of, written_frame}
+use Rattle.zaxbriar_strict.specs.Exact.{HasHeader, HasOtherAdobe, HasSequentialPicture, HasSmallerScan, IsWritten}
+use Rattle.zaxbriar_strict.specs.Exact.{WritesSegments}
+use Rattle.zaxbriar_strict.specs.Heads.{factors_of, has_scans, written_frame}
 use Rattle.zaxbriar_strict.specs.Walks.{Finishes}
 use Rattle.zaxbriar_strict.specs.declared.frame.Component.{Component}
 use Rattle.zaxbriar_strict.specs.declared.frame.Frame.{Frame}
 use Rattle.zaxbriar_strict.specs.declared.walk.Walk.{Walk}
-use Rattle.zaxbriar_strict.proofs.WalkedFrames.{IsGreyFrame}
+use Rattle.zaxbriar_strict.proofs.WalkedFrames.{IsPictureFrame}
+use Rattle.zaxbriar_strict.proofs.WalkedScans.{AreAllSent}
 use Rattle.zaxbriar_strict.proofs.WalkedSegments.{Knows}
 
 -- ---- states
@@ -30,7 +32,7 @@ pub record IsBefore (stream at : List ℕ) (w : Walk) : Type 0 where
   pub unframed : w.frame ≡ None
   pub unsaid : said.frame ≡ None
 
--- A grey frame was read, and no scan yet.
+-- A frame was read that has a picture, and no scan yet.
 pub record IsHeaded (stream at : List ℕ) (w : Walk) : Type 0 where
   pub header : HasHeader stream
   pub said : Said
@@ -38,18 +40,19 @@ pub record IsHeaded (stream at : List ℕ) (w : Walk) : Type 0 where
   pub segments : WritesSegments nothing_said header.after said at
   pub known : Knows w.tables w.frame said
   pub is : w.frame ≡ Some frame
-  pub grey : IsGreyFrame frame
+  pub pictured : IsPictureFrame frame
+  pub counted : length header.header.components ≡ length frame.components.items
   pub unsent : AllByRecursion (λ (c : Component). c.has_scan ≡ false) frame.components.items
   pub was_said : said.frame ≡ Some (written_frame frame)
 
--- The scan of a grey frame was read: the image is whole where EOI follows, and no tables stand
--- between.
+-- The scan of such a frame was read, which has all its components: the image is whole where EOI
+-- follows, and no tables stand between.
 pub record IsScanned (stream at : List ℕ) (w : Walk) : Type 0 where
   pub header : HasHeader stream
   pub frame : Frame
   pub is : w.frame ≡ Some frame
-  pub grey : IsGreyFrame frame
-  pub sent : AllByRecursion (λ (c : Component). c.has_scan ≡ true) frame.components.items
+  pub pictured : IsPictureFrame frame
+  pub sent : AreAllSent (has_scans frame)
   pub some : 0 < w.scans
   pub written : w.is_scan_due ≡ false → (last : ℕ) → at ≡ marker last 217 []
       → IsWritten (255 ∷ 216 ∷ header.after)
@@ -57,13 +60,18 @@ pub record IsScanned (stream at : List ℕ) (w : Walk) : Type 0 where
 -- What is known where these bytes are still to be read.
 pub data Walked (stream at : List ℕ) (w : Walk) : Type 0 where
   with_adobe : HasOtherAdobe stream → Walked stream at w
-  not_grey : (h : HasHeader stream) → (IsGrey h.number h.header → ⊥) → Walked stream at w
+  has_none : (h : HasHeader stream) → (HasSequentialPicture h.number h.header → ⊥) → Walked stream at w
+  has_smaller : (h : HasHeader stream) → HasSmallerScan (length h.header.components) h.after
+      → Walked stream at w
   is_before : IsBefore stream at w → Walked stream at w
   is_headed : IsHeaded stream at w → Walked stream at w
   is_scanned : IsScanned stream at w → Walked stream at w
 
-pub one-component : (f : Frame) → IsGreyFrame f → length f.components.items ≡ 1
-one-component f g = sym (length-map f.components.items factors_of) ∙ g.grey.one
+pub some-component : (f : Frame) → IsPictureFrame f → 1 ≤ length f.components.items
+some-component f p =
+    let l = length-map f.components.items factors_of in
+    let n = p.has.picture.counted in
+    omega (arith, l, n)
 
 pub same-frame : (o : Option Frame) (f g : Frame) → o ≡ Some f → o ≡ Some g → f ≡ g
 same-frame o f g a b = same_Some f g (sym a ∙ b)

@@ -5,7 +5,8 @@ use Rattle.jpeg_bits.specs.Written.{marker}
 use Rattle.jpeg_segments.specs.WrittenSegments.{FrameHeader, Segment, frame_payload, is_known}
 use Rattle.jpeg_segments.specs.WrittenSegments.{marker_code, payload_of, with_length}
 use Rattle.jpeg_meaning.specs.Found.{Said, nothing_said}
-use Rattle.jpeg_meaning.specs.Levels.{Levels}
+use Rattle.jpeg_meaning.specs.AcceptedFrames.{HasPicture}
+use Rattle.jpeg_meaning.specs.Levels.{Is8Bit, Levels}
 use Rattle.jpeg_meaning.specs.SaidSegments.{Stands, said_after}
 use Rattle.jpeg_meaning.specs.WrittenImages.{MayStandInImage, WritesImage}
 use Rattle.jpeg_meaning.specs.WrittenScans.{Coefficients}
@@ -26,6 +27,7 @@ pub record IsWritten (bytes : List ℕ) : Type 0 where
   pub final : Said
   pub last : ℕ → Levels
   pub written : WritesImage array bytes final last
+  pub in_range : (index row column : ℕ) → Is8Bit (array index row column)
 
 -- Somewhere stands an Adobe segment (APP14) whose colour transform is none of the three that are
 -- defined: T.81 doesn't say what applications write, and no writer here writes it.
@@ -51,17 +53,29 @@ pub record HasHeader (bytes : List ℕ) : Type 0 where
   pub segments : WritesSegments nothing_said after said
       (marker fill (192 + number) (with_length (frame_payload header) ++ rest))
 
--- A sequential frame of one component of 8 bits.
-pub record IsGrey (number : ℕ) (h : FrameHeader) : Type 0 where
+-- The first scan of a stream (SOS) has fewer components than these; these bytes follow SOI.
+pub record HasSmallerScan (count : ℕ) (after : List ℕ) : Type 0 where
+  pub said : Said
+  pub fill : ℕ
+  pub payload : List ℕ
+  pub rest : List ℕ
+  pub segments : WritesSegments nothing_said after said
+      (marker fill 218 (with_length payload ++ rest))
+  pub smaller : slice_index payload 0 < count
+
+-- A sequential frame that has a picture, and so 8 bits a sample.
+pub record HasSequentialPicture (number : ℕ) (h : FrameHeader) : Type 0 where
   pub sequential : number ≤ 1
-  pub precise : h.precision ≡ 8
-  pub one : length h.components ≡ 1
+  pub picture : HasPicture h
 
 -- A stream whose frame header is this one is written for some coefficients, where the frame is
--- sequential and has one component of 8 bits: without the fill bytes that may stand before SOI.
+-- sequential and has a picture, unless its first scan has not all components: without the fill
+-- bytes that may stand before SOI.
 pub record IsExactFor (bytes : List ℕ) : Type 0 where
   pub headed : HasHeader bytes
-  pub written : IsGrey headed.number headed.header → IsWritten (255 ∷ 216 ∷ headed.after)
+  pub written : HasSequentialPicture headed.number headed.header
+      → IsWritten (255 ∷ 216 ∷ headed.after)
+      ⊎ HasSmallerScan (length headed.header.components) headed.after
 
 abbrev pub IsExact : List ℕ → Type 0
 IsExact bytes = IsExactFor bytes ⊎ HasOtherAdobe bytes

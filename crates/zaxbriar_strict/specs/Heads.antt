@@ -1,5 +1,6 @@
 -- Frame and scan headers that were read, in the words of a writer (T.81, B.2.2 and B.2.3).
-use Rattle.std.specs.Prelude.{◌≡◌, ◌+◌, ◌≤◌, ℕ, Bool, true, false, List, map, take, get_or, length}
+use Rattle.std.specs.Prelude.{◌≡◌, ◌+◌, ◌≤◌, ℕ, Bool, true, false, List, [], ◌∷◌, map, take, get_or}
+use Rattle.std.specs.Prelude.{set}
 use Rattle.std.specs.List.{AllByRecursion}
 use Rattle.jpeg_segments.specs.Frame.{Factors, greatest, Frame as WrittenFrame}
 use Rattle.jpeg_segments.specs.ScanHeader.{Selector}
@@ -100,6 +101,19 @@ scan_header_of f s = record {
 abbrev pub IsSequential : Frame → Type 0
 IsSequential f = number_of f.process ≤ 1
 
+-- which components of a frame have a scan
+abbrev pub has_scans : Frame → List Bool
+has_scans f = map (λ c. c.has_scan) f.components.items
+
+-- the components of a scan are none of these
+abbrev pub AreUnsent : List Bool → List Member → Type 0
+AreUnsent sent ms = AllByRecursion (λ m. get_or sent m.component true ≡ false) ms
+
+-- these, and the components of a scan
+unfoldable pub sent_with : List Member → List Bool → List Bool
+sent_with [] sent = sent
+sent_with (m ∷ ms) sent = sent_with ms (set sent m.component true)
+
 -- The bytes of a segment SOS after its length are those of a scan header, which in a sequential
 -- frame keeps its rules and sends all bits of all coefficients.
 pub record ReadsHeader (bytes : List ℕ) (s : Scan) (old new : Frame) : Type 0 where
@@ -108,8 +122,6 @@ pub record ReadsHeader (bytes : List ℕ) (s : Scan) (old new : Frame) : Type 0 
   pub legal : IsSequential old → IsScan (written_frame old) (scan_header_of old s)
   pub last : IsSequential old → s.last ≡ 63
   pub same : IsSameFrame old new
-  -- of a frame of one component, that has no scan yet; it has one now
-  pub first_of_one : IsSequential old → length old.components.items ≡ 1
-      → AllByRecursion (λ c. c.has_scan ≡ false) old.components.items
-  pub one_sent : IsSequential old → length old.components.items ≡ 1
-      → AllByRecursion (λ c. c.has_scan ≡ true) new.components.items
+  -- none of its components has a scan before, and all have one after it
+  pub unsent : IsSequential old → AreUnsent (has_scans old) (members_of s)
+  pub sent : IsSequential old → has_scans new ≡ sent_with (members_of s) (has_scans old)

@@ -10,9 +10,9 @@ pub mod Blocks
 pub mod Quantizations
 pub mod Heads
 pub mod Installed
-pub mod GreyScans
+pub mod SoleScans
 pub mod Kept
-pub mod GreyRuns
-pub mod GreyContexts
+pub mod Runs
+pub mod Contexts
 pub mod Exact
 pub mod Walks

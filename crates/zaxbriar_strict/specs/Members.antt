@@ -1,14 +1,14 @@
 -- Scan headers that are taken of their bytes, and what is noted of a scan in its frame (T.81,
 -- B.2.3).
-use Rattle.std.specs.Prelude.{◌≡◌, ◌≤◌, ◌<◌, ◌++◌, ℕ, false, true, List, Some, length, map}
+use Rattle.std.specs.Prelude.{◌≡◌, ◌≤◌, ◌<◌, ◌++◌, ℕ, true, List, Some, length, map}
 use Rattle.std.specs.List.{AllByRecursion}
 use Rattle.jpeg_segments.specs.HuffmanTables.{greatest_destination}
 use Rattle.jpeg_segments.specs.ScanHeader.{Selector, index_of, is_mcu}
 use Rattle.jpeg_segments.specs.ScanHeaders.{AreChoices, choice_bytes, scan_payload}
-use Rattle.zaxbriar_strict.specs.Heads.{IsSameFrame, IsSequential, choice_of, header_of}
+use Rattle.zaxbriar_strict.specs.Heads.{AreUnsent, IsSameFrame, IsSequential, choice_of, has_scans}
+use Rattle.zaxbriar_strict.specs.Heads.{header_of, sent_with}
 use Rattle.zaxbriar_strict.specs.Heads.{is_baseline_process, members_of, scan_header_of}
 use Rattle.zaxbriar_strict.specs.Heads.{written_frame}
-use Rattle.zaxbriar_strict.specs.declared.frame.Component.{Component}
 use Rattle.zaxbriar_strict.specs.declared.frame.Frame.{Frame}
 use Rattle.zaxbriar_strict.specs.declared.frame.Process.{Process}
 use Rattle.zaxbriar_strict.specs.declared.scan.Member.{Member}
@@ -62,21 +62,10 @@ pub record SendsAll (s : Scan) : Type 0 where
   pub high : s.high ≡ 0
   pub low : s.low ≡ 0
 
-abbrev pub HaveScans : List Component → Type 0
-HaveScans cs = AllByRecursion (λ c. c.has_scan ≡ true) cs
-
-abbrev pub HaveNoScans : List Component → Type 0
-HaveNoScans cs = AllByRecursion (λ c. c.has_scan ≡ false) cs
-
--- The only component of a sequential frame had no scan, and has one now.
-pub record SendsOne (old new : Frame) : Type 0 where
-  pub before : IsSequential old → length old.components.items ≡ 1
-      → HaveNoScans old.components.items
-  pub after : IsSequential old → length old.components.items ≡ 1 → HaveScans new.components.items
-
 -- The scan may come after what was noted in the frame, and is noted.
 pub record NotesScan (s : Scan) (old new : Frame) : Type 0 where
   pub tables : HaveTables (most_tables old.process) (members_of s)
   pub whole : IsSequential old → SendsAll s
   pub same : IsSameFrame old new
-  pub one : 1 ≤ length (members_of s) → SendsOne old new
+  pub unsent : IsSequential old → AreUnsent (has_scans old) (members_of s)
+  pub sent : IsSequential old → has_scans new ≡ sent_with (members_of s) (has_scans old)

@@ -1,11 +1,12 @@
 -- What a walk over a stream takes of its segments (T.81, B.2.1).
-use Rattle.std.specs.Prelude.{◌≡◌, ◌≢◌, ◌⊎◌, ◌≤◌, ◌<◌, ◌++◌, ℕ, true, List, length, map, replicate}
-use Rattle.std.specs.Prelude.{Option, None, Some}
+use Rattle.std.specs.Prelude.{◌≡◌, ◌≢◌, ◌⊎◌, ◌≤◌, ◌<◌, ◌++◌, ℕ, true, List, length, replicate}
+use Rattle.std.specs.Prelude.{None, Some}
 use Rattle.std.specs.List.{AllByRecursion}
 use Rattle.jpeg_segments.specs.HuffmanTables.{no_tables}
 use Rattle.jpeg_segments.specs.WrittenSegments.{u16_bytes, with_length}
-use Rattle.zaxbriar_strict.specs.GreyScans.{ReadsIfGrey}
+use Rattle.zaxbriar_strict.specs.SoleScans.{ReadsIfSole}
 use Rattle.zaxbriar_strict.specs.Heads.{IsMade, IsSameFrame, IsSequential, ReadsFrame, ReadsHeader}
+use Rattle.zaxbriar_strict.specs.Heads.{has_scans}
 use Rattle.zaxbriar_strict.specs.Installed.{InstallsCodes, InstallsSteps, codes_of, steps_of}
 use Rattle.zaxbriar_strict.specs.declared.frame.Frame.{Frame}
 use Rattle.zaxbriar_strict.specs.declared.scan.Scan.{Scan}
@@ -63,10 +64,9 @@ pub record ReadsScan (header start rest : List ℕ) (t : Tables) (old new : Fram
   pub between : Frame
   pub sized : length scan.members ≡ 4
   pub headed : ReadsHeader header scan old between
-  pub grey : ReadsIfGrey t between scan start rest
+  pub read : ReadsIfSole t between scan start rest
   pub same : IsSameFrame between new
-  pub sent : map (λ c. c.has_scan) new.components.items
-      ≡ map (λ c. c.has_scan) between.components.items
+  pub sent : has_scans new ≡ has_scans between
 
 -- A scan, where there was a frame.
 pub record WalksScan (header start rest : List ℕ) (old new : Walk) : Type 0 where

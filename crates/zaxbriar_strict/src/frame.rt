@@ -5,7 +5,8 @@ ghost use Rattle.std.specs.List.{AllByRecursion, list_any};
 ghost use Rattle.jpeg_segments.specs.Frame.{ceiling, greatest, is_count, is_destination};
 ghost use Rattle.jpeg_segments.specs.Frame.{is_factor, is_lossless_number, is_precision};
 ghost use Rattle.jpeg_segments.specs.WrittenSegments.{AreComponents, factors_bytes, u16_bytes};
-ghost use Rattle.zaxbriar_strict.specs.Heads.{factors_of, number_of, ReadsFrame};
+ghost use Rattle.zaxbriar_strict.specs.Heads.{factors_of, number_of, IsMade, ReadsFrame};
+ghost use Rattle.zaxbriar_strict.specs.Heads.{written_frame};
 
 use crate::cursor::Cursor;
 use crate::quantization::{Block, Steps, is_in_range};
@@ -87,7 +88,10 @@ impl Frame {
 
     /// Returns how many columns and rows of MCUs an interleaved scan has, of this many samples each
     /// per sampling factor (A.2.3).
-    pub(crate) fn units(&self, side: u32) -> (u32, u32) {
+    pub(crate) fn units(&self, side: u32) -> (u32, u32)
+        ensures { side ≡ 8 → IsMade self.now → (result.0 ≡ (written_frame self.now).mcus_wide)
+            × (result.1 ≡ (written_frame self.now).mcus_high) }
+    {
         (
             parts_of(self.width, self.most_across.saturating_mul(side)),
             parts_of(self.height, self.most_down.saturating_mul(side)),

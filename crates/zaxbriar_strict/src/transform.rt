@@ -1,15 +1,17 @@
 //! Scans of DCT coefficients (T.81, F.2 and G.2).
-ghost use Rattle.std.specs.Prelude.{◌≡◌, ◌≤◌, ◌+◌, ◌∷◌, [], ℕ, List, None, Some, IfOk, length};
-ghost use Rattle.std.specs.Prelude.{false, map, slice_index_or, IsTrue};
-ghost use Rattle.jpeg_bits.specs.Codes.{Table};
+ghost use Rattle.std.specs.Prelude.{◌≡◌, ◌≤◌, ◌<◌, ◌+◌, ◌∷◌, [], ℕ, List, None, Some, IfOk, length};
+ghost use Rattle.std.specs.Prelude.{false, replicate, slice_get, slice_index_or, IsTrue};
+ghost use Rattle.jpeg_bits.specs.Passes.{Via};
 ghost use Rattle.jpeg_segments.specs.HuffmanTables.{class_of};
-ghost use Rattle.zaxbriar_strict.specs.GreyContexts.{HasTables, IsGreyContext, IsInstalled};
-ghost use Rattle.zaxbriar_strict.specs.GreyRuns.{IsAfter, IsBefore, ReadsRun};
-ghost use Rattle.zaxbriar_strict.specs.GreyScans.{ReadsIfGrey};
-ghost use Rattle.zaxbriar_strict.specs.Heads.{IsSameFrame, IsSequential, members_of};
+ghost use Rattle.zaxbriar_strict.specs.Contexts.{IsContext, IsInstalled, blocks_at, blocks_in};
+ghost use Rattle.zaxbriar_strict.specs.Contexts.{unit_of};
+ghost use Rattle.zaxbriar_strict.specs.Heads.{IsMade, IsSameFrame, IsSequential, has_scans};
+ghost use Rattle.zaxbriar_strict.specs.Heads.{members_of, written_frame};
 ghost use Rattle.zaxbriar_strict.specs.Installed.{codes_of, steps_of, tables_of_class};
 ghost use Rattle.zaxbriar_strict.specs.Kept.{IsKept, IsKeptComponent};
 ghost use Rattle.zaxbriar_strict.specs.Loaded.{data_of};
+ghost use Rattle.zaxbriar_strict.specs.Runs.{IsAfter, IsBefore, ReadsRun};
+ghost use Rattle.zaxbriar_strict.specs.SoleScans.{AreInstalled, IsSole, ReadsIfSole};
 ghost use Rattle.zaxbriar_strict.specs.Tables.{codes_in};
 ghost use Rattle.zaxbriar_strict.specs.Whole.{IsWhole};
 ghost use Rattle.zaxbriar_strict.specs.declared.frame.Component.{Component};
@@ -96,7 +98,7 @@ fn check_steps(tables: &Tables, component: &mut Component) -> Result<(), Rule>
 fn check_steps_at(tables: &Tables, frame: &mut Frame, place: usize) -> Result<(), Rule>
     ensures kept { IsKept frame.old frame.new }
     ensures installed { IfOk result
-        (λ _. (c : Component) → frame.old.components.items ≡ c ∷ [] → place ≡ 0
+        (λ _. (c : Component) → slice_get frame.old.components.items place ≡ Some c
         → IsInstalled (slice_index_or (steps_of tables.now) c.table None)) }
 {
     let Some(component) = frame.components.get_mut(place) else {
@@ -134,9 +136,10 @@ fn check_member(
     band: &Band,
 ) -> Result<bool, Rule>
     ensures kept { IsKept frame.old frame.new }
-    ensures tables { IfOk result (λ _. (c : Component) → frame.old.components.items ≡ c ∷ []
-        → member.component ≡ 0 → IsWhole band.now → member.dc ≤ 3 → member.ac ≤ 3
-        → HasTables tables.now c.table member) }
+    ensures tables { IfOk result (λ _. IsMade frame.old
+        → member.component < length frame.old.components.items → IsWhole band.now
+        → member.dc ≤ 3 → member.ac ≤ 3
+        → AreInstalled tables.now (written_frame frame.old) (member ∷ [])) }
 {
     check_steps_at(tables, frame, member.component)?;
     // (A refinement of DC needs no code, but its header names a table.)
@@ -148,9 +151,9 @@ fn check_member(
 /// Checks the tables that a scan needs.
 fn check_tables(tables: &Tables, frame: &mut Frame, scan: &Scan, band: &Band) -> Result<(), Rule>
     ensures kept { IsKept frame.old frame.new }
-    ensures tables { IfOk result (λ _. (c : Component) (m : Member)
-        → frame.old.components.items ≡ c ∷ [] → members_of scan.now ≡ m ∷ [] → m.component ≡ 0
-        → IsWhole band.now → m.dc ≤ 3 → m.ac ≤ 3 → HasTables tables.now c.table m) }
+    ensures tables { IfOk result (λ _. IsMade frame.old → IsWhole band.now
+        → IsSole frame.old scan.now
+        → AreInstalled tables.now (written_frame frame.old) (members_of scan.now)) }
 {
     let mut has_categories = true;
     for member in scan.members().iter() {
@@ -175,9 +178,9 @@ impl Past {
 
 /// Ends an interval where all its MCUs were read, and begins the next one.
 fn go_on(intervals: &mut Intervals<'_>, past: &mut Past) -> Result<(), Stop>
-    ensures { IfOk result (λ _. (dc ac : Table) (every : ℕ) (bytes : List ℕ)
-        (count : ℕ) → IsAfter dc ac every bytes count intervals.old past.old
-        → IsBefore dc ac every bytes count intervals.new past.new) }
+    ensures { IfOk result (λ _. (unit : List Via) (every : ℕ) (bytes : List ℕ)
+        (count : ℕ) → IsAfter unit every bytes count intervals.old past.old
+        → IsBefore unit every bytes count intervals.new past.new) }
 {
     if !intervals.is_over() {
         return Ok(());
@@ -283,9 +286,9 @@ impl Context<'_> {
         past: &mut Past,
         bits: &mut Bits<'_>,
     ) -> Result<(), Rule>
-        ensures { IfOk result (λ _. (m : Member) (dc ac : Table) → IsGreyContext self.now m dc ac
-            → slot ≡ 0
-            → ReadsRun dc ac 1 past.old.dc past.new.dc (data_of bits.old) (data_of bits.new)) }
+        ensures { IfOk result (λ _. (vias : List Via) (via : Via) → IsContext self.now vias
+            → slice_get vias slot ≡ Some via
+            → ReadsRun (via ∷ []) past.old.dc past.new.dc (data_of bits.old) (data_of bits.new)) }
     {
         let Some(member) = self.scan.members().get(slot) else {
             return Err(Rule::UnknownComponent);
@@ -312,9 +315,9 @@ impl Context<'_> {
         place: (u32, u32),
     ) -> Result<(), Stop>
         ensures kept { IsKeptComponent component.old component.new }
-        ensures read { IfOk result (λ _. (m : Member) (dc ac : Table)
-            → IsGreyContext self.now m dc ac → slot ≡ 0
-            → ReadsRun dc ac 1 past.old.dc past.new.dc (data_of bits.old) (data_of bits.new)) }
+        ensures read { IfOk result (λ _. (vias : List Via) (via : Via) → IsContext self.now vias
+            → slice_get vias slot ≡ Some via
+            → ReadsRun (via ∷ []) past.old.dc past.new.dc (data_of bits.old) (data_of bits.new)) }
     {
         if self.is_progressive {
             self.read_sent(component, slot, past, bits, place)?;
@@ -336,9 +339,10 @@ impl Context<'_> {
         place: (u32, u32),
     ) -> Result<(), Stop>
         ensures kept { IsKeptComponent component.old component.new }
-        ensures read { IfOk result (λ _. (m : Member) (dc ac : Table)
-            → IsGreyContext self.now m dc ac → slot ≡ 0
-            → ReadsRun dc ac 1 past.old.dc past.new.dc (data_of bits.old) (data_of bits.new)) }
+        ensures read { IfOk result (λ _. (vias : List Via) (via : Via) → IsContext self.now vias
+            → slice_get vias slot ≡ Some via
+            → ReadsRun (replicate (blocks_in self.now.scan.now.count component.old) via)
+            past.old.dc past.new.dc (data_of bits.old) (data_of bits.new)) }
     {
         if self.scan.count == 1 {
             return self.read_block(component, slot, past, bits, place);
@@ -365,9 +369,11 @@ impl Context<'_> {
         place: (u32, u32),
     ) -> Result<(), Stop>
         ensures kept { IsKept frame.old frame.new }
-        ensures read { IfOk result (λ _. (m : Member) (dc ac : Table)
-            → IsGreyContext self.now m dc ac → 1 ≤ length frame.old.components.items → slot ≡ 0
-            → ReadsRun dc ac 1 past.old.dc past.new.dc (data_of bits.old) (data_of bits.new)) }
+        ensures read { IfOk result (λ _. (vias : List Via) (via : Via) (m : Member)
+            → IsContext self.now vias → slice_get vias slot ≡ Some via
+            → slice_get (members_of self.now.scan.now) slot ≡ Some m
+            → ReadsRun (replicate (blocks_at self.now.scan.now.count frame.old.components.items
+            m.component) via) past.old.dc past.new.dc (data_of bits.old) (data_of bits.new)) }
     {
         let Some(member) = self.scan.members().get(slot) else {
             return Ok(());
@@ -388,9 +394,10 @@ impl Context<'_> {
         place: (u32, u32),
     ) -> Result<(), Stop>
         ensures kept { IsKept frame.old frame.new }
-        ensures read { IfOk result (λ _. (m : Member) (dc ac : Table)
-            → IsGreyContext self.now m dc ac → 1 ≤ length frame.old.components.items
-            → ReadsRun dc ac 1 past.old.dc past.new.dc (data_of bits.old) (data_of bits.new)) }
+        ensures read { IfOk result (λ _. (vias : List Via) → IsContext self.now vias
+            → ReadsRun (unit_of self.now.scan.now.count frame.old.components.items
+            (members_of self.now.scan.now) vias) past.old.dc past.new.dc (data_of bits.old)
+            (data_of bits.new)) }
     {
         for slot in 0..self.scan.members().len() {
             self.read_part(frame, slot, past, bits, place)?;
@@ -407,11 +414,12 @@ impl Context<'_> {
         place: (u32, u32),
     ) -> Result<(), Stop>
         ensures kept { IsKept frame.old frame.new }
-        ensures read { IfOk result (λ _. (m : Member) (dc ac : Table) (every : ℕ)
-            (bytes : List ℕ) (count : ℕ) → IsGreyContext self.now m dc ac
-            → 1 ≤ length frame.old.components.items
-            → IsAfter dc ac every bytes count intervals.old past.old
-            → IsAfter dc ac every bytes (count + 1) intervals.new past.new) }
+        ensures read { IfOk result (λ _. (vias unit : List Via) (every : ℕ) (bytes : List ℕ)
+            (count : ℕ) → IsContext self.now vias
+            → unit ≡ unit_of self.now.scan.now.count frame.old.components.items
+            (members_of self.now.scan.now) vias
+            → IsAfter unit every bytes count intervals.old past.old
+            → IsAfter unit every bytes (count + 1) intervals.new past.new) }
     {
         go_on(intervals, past)?;
         intervals.count();
@@ -429,11 +437,12 @@ impl Context<'_> {
         row: u32,
     ) -> Result<(), Stop>
         ensures kept { IsKept frame.old frame.new }
-        ensures read { IfOk result (λ _. (m : Member) (dc ac : Table) (every : ℕ)
-            (bytes : List ℕ) (count : ℕ) → IsGreyContext self.now m dc ac
-            → 1 ≤ length frame.old.components.items
-            → IsAfter dc ac every bytes count intervals.old past.old
-            → IsAfter dc ac every bytes (count + columns) intervals.new past.new) }
+        ensures read { IfOk result (λ _. (vias unit : List Via) (every : ℕ) (bytes : List ℕ)
+            (count : ℕ) → IsContext self.now vias
+            → unit ≡ unit_of self.now.scan.now.count frame.old.components.items
+            (members_of self.now.scan.now) vias
+            → IsAfter unit every bytes count intervals.old past.old
+            → IsAfter unit every bytes (count + columns) intervals.new past.new) }
     {
         for column in 0..columns {
             self.read_next(frame, past, intervals, (column, row))?;
@@ -469,11 +478,10 @@ pub(crate) fn read_scan<'a>(
     scan: &Scan,
     start: Cursor<'a>,
 ) -> Result<Cursor<'a>, Stop>
-    ensures read { IfOk result (λ rest. ReadsIfGrey tables.now frame.old scan.now
+    ensures read { IfOk result (λ rest. ReadsIfSole tables.now frame.old scan.now
         start.entry.rest.now rest.rest.now) }
     ensures same { IsSameFrame frame.old frame.new }
-    ensures sent { map (λ c. c.has_scan) frame.new.components.items
-        ≡ map (λ c. c.has_scan) frame.old.components.items }
+    ensures sent { has_scans frame.new ≡ has_scans frame.old }
 {
     let band = band_of(frame, scan);
     match check_tables(tables, frame, scan, &band) {

@@ -1,8 +1,9 @@
-use Rattle.std.proofs.Common.{None, refl, subst, slice_index_or}
-use Rattle.zaxbriar_strict.specs.GreyContexts.{IsInstalled}
+use Rattle.std.proofs.Common.{◌≡◌, ◌∙◌, None, refl, subst, slice_index_or}
+use Rattle.std.proofs.lemmas.Option.{get_or_from_slice_get}
+use Rattle.zaxbriar_strict.specs.Contexts.{IsInstalled}
 use Rattle.zaxbriar_strict.specs.Installed.{steps_of}
 use Rattle.zaxbriar_strict.specs.declared.frame.Component.{Component}
-use Rattle.zaxbriar_strict.proofs.SameFrames.{kept-item, kept-none, only-item}
+use Rattle.zaxbriar_strict.proofs.SameFrames.{kept-item, kept-none}
 use Rattle.zaxbriar_strict.proofs.transform.check_steps_at.Goals as goal
 
 pub returns-in_default-clause-kept : goal.returns-in_default-clause-kept
@@ -19,8 +20,9 @@ returns-clause-kept c =
     c.in_ok-check_steps.ensures.kept refl refl refl refl refl refl refl
 
 pub returns-clause-installed : goal.returns-clause-installed
-returns-clause-installed c = λ k items first.
-    let same = only-item c.args.frame.now.components.items k c.in-Some.component.now c.args.place items first
-    c.in-Some.ensures.value in
-    subst (λ (x : Component). IsInstalled (slice_index_or (steps_of c.args.tables.now) x.table None)) same
+returns-clause-installed c = λ k at.
+    let x = c.in-Some.component.now in
+    let same : x ≡ k =
+    c.in-Some.ensures.value ∙ get_or_from_slice_get c.args.frame.now.components.items c.args.place k x at in
+    subst (λ (y : Component). IsInstalled (slice_index_or (steps_of c.args.tables.now) y.table None)) same
     c.in_ok-check_steps.ensures.installed

@@ -3,7 +3,7 @@ use Rattle.zaxbriar_strict.proofs.Runs.{restarted}
 use Rattle.zaxbriar_strict.proofs.transform.go_on.Goals as goal
 
 pub returns : goal.returns
-returns c = λ dc ac every bytes count a.
+returns c = λ unit every bytes count a.
     let over = c.is_over.ensures.over c.if-not-is_over.false in
     let r = c.in_ok-restart.ensures in
     restarted c.args.intervals.now _ c.args.past.now _ a over.0 over.1 r.restarts r.every r.left r.next refl

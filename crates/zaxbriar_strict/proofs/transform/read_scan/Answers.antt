@@ -1,58 +1,72 @@
-use Rattle.std.proofs.Common.{◌≡◌, ◌≤◌, ◌+◌, ◌*◌, ℕ, length, refl, ap, ap₂, ◌∙◌, arith, subst}
+use Rattle.std.proofs.Common.{◌≡◌, ◌≤◌, ◌+◌, ◌*◌, ℕ, length, refl, sym, ap, ap₂, ◌∙◌, arith, subst}
 use Rattle.std.proofs.Math.Nat.{add-mul}
-use Rattle.jpeg_meaning.specs.Order.{grid_of}
-use Rattle.zaxbriar_strict.specs.GreyRuns.{IsAfter}
-use Rattle.zaxbriar_strict.proofs.GreyReads.{grey-read}
-use Rattle.zaxbriar_strict.proofs.OneComponent.{has-one, own-some}
-use Rattle.zaxbriar_strict.proofs.Runs.{all-read, begun}
-use Rattle.zaxbriar_strict.proofs.SameFrames.{kept-length, kept-then, same-components, same-made, same-precision}
-use Rattle.zaxbriar_strict.proofs.SameFrames.{same-sequential}
+use Rattle.std.specs.List.{range_with_len}
+use Rattle.jpeg_segments.specs.Frame.{Frame as WrittenFrame}
+use Rattle.jpeg_meaning.specs.ScanSegments.{components_of, vias_from}
+use Rattle.zaxbriar_strict.specs.Contexts.{unit_of}
+use Rattle.zaxbriar_strict.specs.Heads.{members_of, written_frame}
+use Rattle.zaxbriar_strict.specs.Runs.{IsAfter}
+use Rattle.zaxbriar_strict.specs.SoleScans.{units_high, units_wide}
+use Rattle.zaxbriar_strict.proofs.FrameComponents.{units-some, written-count}
+use Rattle.zaxbriar_strict.proofs.Runs.{IsRead, all-read, begun}
+use Rattle.zaxbriar_strict.proofs.SameFrames.{kept-then, kept-unit, same-made, same-precision, same-sequential}
+use Rattle.zaxbriar_strict.proofs.SameFrames.{same-written}
+use Rattle.zaxbriar_strict.proofs.SoleHeaders.{same-sole}
+use Rattle.zaxbriar_strict.proofs.SoleScans.{components-from}
+use Rattle.zaxbriar_strict.proofs.UnitWays.{data-read, unit-not-empty, unit-same, unit_by, ways-are}
 use Rattle.zaxbriar_strict.proofs.transform.read_scan.Goals as goal
 
 pub loop-row-preserved : goal.loop-row-preserved
 loop-row-preserved c = record {
   kept = kept-then c.loop-row.invariant.kept c.in_ok-read_row.ensures.kept;
-  read = λ m dc ac every bytes g some a.
+  read = λ vias unit every bytes x u a.
       let i = c.loop-row.invariant in
       let columns = c.units-columns.result.0 in
       let row = c.loop-row.row in
-      let more : 1 ≤ length c.loop-row.frame.components.items =
-      omega (arith, kept-length i.kept, kept-length c.in-Ok.ensures.kept, some) in
+      let scan = c.args.scan.now in
+      let same = u ∙ sym (kept-unit scan.count (members_of scan) vias i.kept) in
       let e : row * columns + columns ≡ (row + 1) * columns = omega (arith, add-mul row 1 columns) in
-      subst (λ (n : ℕ). IsAfter dc ac every bytes n c.read_row.new.intervals c.read_row.new.past) e
-      (c.in_ok-read_row.ensures.read m dc ac every bytes (row * columns) g more (i.read m dc ac every bytes g some a));
+      subst (λ (n : ℕ). IsAfter unit every bytes n c.read_row.new.intervals c.read_row.new.past) e
+      (c.in_ok-read_row.ensures.read vias unit every bytes (row * columns) x same (i.read vias unit every bytes x u a));
 }
 
 pub returns-clause-read : goal.returns-clause-read
-returns-clause-read c = λ w m made sequential one eight alone member first dc ac.
+returns-clause-read c = λ made sequential eight sole.
     let t = c.args.tables.now in
+    let f = c.args.frame.now in
+    let s = c.args.scan.now in
+    let ms = members_of s in
+    let frame = written_frame f in
     let bytes = c.args.start.rest.now in
     let rest = c.in_ok-rest.rest.rest.now in
-    let kept = c.in-Ok.ensures.kept in
-    let k = kept.same in
-    let o = has-one c.args.frame.now w made one in
-    let h = c.in-Ok.ensures.tables o.component m o.items member first (c.band_of-band.ensures sequential) dc ac in
-    let units = c.units-columns.ensures refl w m
-    (record { made = same-made k made; one = same-components k ∙ one; member = member; first = first }) in
+    let new = c.check_tables.new.frame in
+    let k = c.in-Ok.ensures.kept.same in
+    let installed = c.in-Ok.ensures.tables made (c.band_of-band.ensures sequential) sole in
+    let codings = installed.codings in
+    let vias = vias_from 0 codings in
+    let e : components_of codings ≡ frame.components =
+    components-from t frame 0 (length frame.components) ms codings installed.are
+    (sole.all ∙ ap (λ (n : ℕ). range_with_len 0 n) (sym (written-count f))) (omega arith) in
+    let unit = unit_by codings in
+    let u : unit ≡ unit_of s.count f.components.items ms vias =
+    unit-same f codings ms e sole.all
+    ∙ ap (λ (n : ℕ). unit_of n f.components.items ms vias) (sym sole.counted) in
     let n = c.new-intervals.ensures in
-    let some : 1 ≤ length c.check_tables.new.frame.components.items =
-    omega (arith, kept-length kept, ap length o.items) in
-    let a = c.loop-row.invariant.read m h.dc h.ac t.interval bytes
+    let a = c.loop-row.invariant.read vias unit t.interval bytes
     (record {
-      alone = alone;
-      member = member;
-      first = first;
       sequential = c.is_progressive.ensures (same-sequential k sequential);
       eight = c.is_deep.ensures (same-precision k ∙ eight);
-      dc_within = dc;
-      ac_within = ac;
-      dc_is = h.dc_is;
-      ac_is = h.ac_is;
-    }) some (begun h.dc h.ac t.interval bytes c.new-intervals.result _ n.bits n.every n.left n.next refl) in
+      ways = ways-are t frame 0 ms codings sole.tables installed.are;
+    }) u (begun unit t.interval bytes c.new-intervals.result _ (unit-not-empty f codings made e) n.bits n.every n.left
+    n.next refl) in
+    let units = c.units-columns.ensures refl (same-made k made) (same-sole f new s k sole) in
+    let w = same-written k in
     let end = c.loop-row-test.false in
     let most = c.loop-row.auto.row-end in
     let rows : c.loop-row.row ≡ c.units-columns.result.1 = omega (arith, end, most) in
-    let all : c.loop-row.row * c.units-columns.result.0 ≡ (grid_of w).own_high * (grid_of w).own_wide =
-    ap₂ (λ (x y : ℕ). x * y) (rows ∙ units.1) units.0 in
-    let blocks : 1 ≤ c.loop-row.row * c.units-columns.result.0 = omega (arith, all, own-some c.args.frame.now w made o) in
-    grey-read t c.args.frame.now w m bytes rest _ o h (all-read rest a blocks c.in_ok-rest.ensures) all
+    let all : c.loop-row.row * c.units-columns.result.0 ≡ units_high frame * units_wide frame =
+    ap₂ (λ (x y : ℕ). x * y) (rows ∙ units.1 ∙ ap (λ (g : WrittenFrame). units_high g) w)
+    (units.0 ∙ ap (λ (g : WrittenFrame). units_wide g) w) in
+    let some : 1 ≤ c.loop-row.row * c.units-columns.result.0 = omega (arith, all, units-some f made) in
+    data-read t frame ms installed bytes rest e
+    (subst (λ (m : ℕ). IsRead unit t.interval m bytes rest) all (all-read rest a some c.in_ok-rest.ensures))

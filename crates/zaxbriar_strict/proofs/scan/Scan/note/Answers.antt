@@ -1,18 +1,21 @@
-use Rattle.std.proofs.Common.{◌≤◌, get_or, refl, subst}
+use Rattle.std.proofs.Common.{◌≤◌, refl, subst}
+use Rattle.std.proofs.lemmas.Result.{IfOk-weaker}
 use Rattle.zaxbriar_strict.specs.Heads.{number_of}
+use Rattle.zaxbriar_strict.specs.Members.{NotesScan, SendsAll}
 use Rattle.zaxbriar_strict.specs.declared.frame.Process.{Process}
 use Rattle.zaxbriar_strict.specs.declared.scan.Member.{Member}
-use Rattle.zaxbriar_strict.proofs.NotedScans.{one-noted}
+use Rattle.zaxbriar_strict.proofs.NotedScans.{all-noted, next-noted, none-noted}
 use Rattle.zaxbriar_strict.proofs.scan.Scan.note.Goals as goal
+
+pub loop-member-init : goal.loop-member-init
+loop-member-init c = none-noted c.args.frame.now
 
 pub loop-member-preserved : goal.loop-member-preserved
 loop-member-preserved c =
-    let place = c.loop-member.member-index in
     let none : Member = record { component = 0; dc = 0; ac = 0 } in
-    let index = (get_or c.members-member-items.result.now place none).component in
-    let frame = c.loop-member.frame in
     let noted = c.in_ok-note_component.ensures in
-    one-noted place index c.in-Some.component.now c.note_component.new.component c.args.frame.now frame _
+    next-noted c.members-member-items.result.now c.loop-member.member-index none c.in-Some.component.now
+    c.note_component.new.component c.args.frame.now c.loop-member.frame _ c.loop-member-test.true
     c.loop-member.invariant (record {
       within = c.in-Some.ensures.item.3.0;
       is = c.in-Some.ensures.value;
@@ -28,3 +31,14 @@ loop-member-preserved c =
           noted.unsent (subst (λ (p : Process). number_of p ≤ 1) c.loop-member.invariant.same.process few);
       sent = noted.sent;
     })
+
+pub returns : goal.returns
+returns c =
+    let old = c.args.frame.now in
+    let s = c.args.self.now in
+    IfOk-weaker c.check_band.result (λ _. number_of old.process ≤ 1 → SendsAll s)
+    (λ _. NotesScan s old c.loop-member.frame)
+    (λ _ whole. all-noted s c.members-member-items.result.now c.loop-member.member-index old c.loop-member.frame
+    c.members-member-items.ensures c.loop-member-test.false c.loop-member.invariant
+    c.in_ok-check_selectors.ensures whole)
+    c.check_band.ensures

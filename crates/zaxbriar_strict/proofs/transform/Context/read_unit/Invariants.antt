@@ -1,15 +1,16 @@
-use Rattle.std.proofs.Common.{◌≤◌, length}
-use Rattle.jpeg_bits.specs.Codes.{Table}
-use Rattle.zaxbriar_strict.specs.GreyContexts.{IsGreyContext}
-use Rattle.zaxbriar_strict.specs.GreyRuns.{ReadsRun}
+use Rattle.std.proofs.Common.{List, take}
+use Rattle.jpeg_bits.specs.Passes.{Via}
+use Rattle.zaxbriar_strict.specs.Contexts.{IsContext, unit_of}
+use Rattle.zaxbriar_strict.specs.Heads.{members_of}
 use Rattle.zaxbriar_strict.specs.Kept.{IsKept}
 use Rattle.zaxbriar_strict.specs.Loaded.{data_of}
-use Rattle.zaxbriar_strict.specs.declared.scan.Member.{Member}
+use Rattle.zaxbriar_strict.specs.Runs.{ReadsRun}
 use Rattle.zaxbriar_strict.proofs.transform.Context.read_unit.Given as goal
 
 abbrev pub invariant-loop-slot : goal.invariant-loop-slot
 invariant-loop-slot l = record {
   kept : IsKept l.fn.frame l.frame;
-  read : (m : Member) (dc ac : Table) → IsGreyContext l.self m dc ac → 1 ≤ length l.fn.frame.components.items
-      → ReadsRun dc ac l.slot l.fn.past.dc l.past.dc (data_of l.fn.bits) (data_of l.bits);
+  read : (vias : List Via) → IsContext l.self vias
+      → ReadsRun (unit_of l.self.scan.now.count l.fn.frame.components.items (take l.slot (members_of l.self.scan.now))
+      (take l.slot vias)) l.fn.past.dc l.past.dc (data_of l.fn.bits) (data_of l.bits);
 }

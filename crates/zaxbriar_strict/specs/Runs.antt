@@ -1,8 +1,8 @@
--- Blocks of a scan of one component as they are read, interval by interval, in the words of a
--- writer (T.81, E.1.4 and F.1.2).
-use Rattle.std.specs.Prelude.{◌≡◌, ◌≢◌, ◌+◌, ◌≤◌, ◌%◌, ◌++◌, ℕ, List, ℤ, length}
+-- Blocks of a scan as they are read, MCU by MCU and interval by interval, in the words of a writer
+-- (T.81, E.1.4 and F.1.2).
+use Rattle.std.specs.Prelude.{◌≡◌, ◌≢◌, ◌+◌, ◌*◌, ◌≤◌, ◌%◌, ◌++◌, [], ℕ, zero, suc, List, ℤ, length}
+use Rattle.std.specs.Prelude.{zip}
 use Rattle.std.specs.List.{AllByRecursion}
-use Rattle.jpeg_bits.specs.Codes.{Table}
 use Rattle.jpeg_bits.specs.Intervals.{first_group, other_groups}
 use Rattle.jpeg_bits.specs.Passes.{Block, Via, predictors_at_start, whole_pass}
 use Rattle.jpeg_bits.specs.Written.{WritesIntervals}
@@ -10,18 +10,21 @@ use Rattle.jpeg_meaning.specs.Levels.{Is8Bit}
 use Rattle.jpeg_meaning.specs.WrittenData.{WritesBlocks}
 use Rattle.zaxbriar_strict.specs.Blocks.{WritesTurns}
 use Rattle.zaxbriar_strict.specs.Data.{Data, Reads, data_at}
-use Rattle.zaxbriar_strict.specs.GreyScans.{turns_by}
 use Rattle.zaxbriar_strict.specs.Loaded.{data_of}
 use Rattle.zaxbriar_strict.specs.declared.intervals.Intervals.{Intervals}
 use Rattle.zaxbriar_strict.specs.declared.transform.Past.{Past}
 
--- So many blocks were read, from these predictions to those.
-pub record ReadsRun (dc ac : Table) (count : ℕ) (before after : List ℤ) (old new : Data)
-    : Type 0 where
+-- this many MCUs, of which each has blocks that are coded in these ways
+unfoldable pub repeated : ℕ → List Via → List Via
+repeated zero unit = []
+repeated (suc n) unit = unit ++ repeated n unit
+
+-- Blocks that are coded in these ways were read, from these predictions to those.
+pub record ReadsRun (ways : List Via) (before after : List ℤ) (old new : Data) : Type 0 where
   pub blocks : List Block
-  pub counted : length blocks ≡ count
+  pub counted : length blocks ≡ length ways
   pub in_range : AllByRecursion Is8Bit blocks
-  pub read : Reads (WritesTurns before after (turns_by dc ac blocks)) old new
+  pub read : Reads (WritesTurns before after (zip ways blocks)) old new
 
 -- The bytes of intervals of so many blocks each, from number k on.
 abbrev pub WritesGroups : ℕ → ℕ → List (Via × Block) → List ℕ → Type 0
@@ -38,30 +41,34 @@ pub record Closes (every : ℕ) (closed : List (Via × Block)) (k : ℕ) (bytes 
   pub goes_on : (more : List (Via × Block)) (tail : List ℕ) → 1 ≤ length more
       → WritesGroups every k more tail → WritesGroups every 0 (closed ++ more) (front ++ tail)
 
--- So many blocks were read of these bytes, where an interval has a number of them, or 0 for any:
--- those of intervals that are closed, and others of the interval that is read now.
-pub record IsOpen (dc ac : Table) (every : ℕ) (bytes : List ℕ) (count : ℕ) (i : Intervals)
+-- So many MCUs, of some blocks each, were read of these bytes, where an interval has a number of
+-- them, or 0 for any: those of intervals that are closed, and others of the interval that is read
+-- now.
+pub record IsOpen (unit : List Via) (every : ℕ) (bytes : List ℕ) (count : ℕ) (i : Intervals)
     (p : Past) : Type 0 where
+  pub not_empty : 1 ≤ length unit
   pub every_is : i.every ≡ every
+  pub before : ℕ
   pub closed : List Block
+  pub sized : length closed ≡ length (repeated before unit)
   pub in_range : AllByRecursion Is8Bit closed
   pub number : ℕ
   pub numbered : i.next % 8 ≡ number % 8
   pub rest : List ℕ
-  pub closes : Closes every (turns_by dc ac closed) number bytes rest
+  pub closes : Closes (every * length unit) (zip (repeated before unit) closed) number bytes rest
   pub size : ℕ
-  pub run : ReadsRun dc ac size predictors_at_start p.dc (data_at rest) (data_of i.bits)
-  pub counted : length closed + size ≡ count
+  pub run : ReadsRun (repeated size unit) predictors_at_start p.dc (data_at rest) (data_of i.bits)
+  pub counted : before + size ≡ count
   pub left : every ≢ 0 → i.left + size ≡ every
 
--- The same after a block, if there was one: the interval that is read now has it.
-pub record IsAfter (dc ac : Table) (every : ℕ) (bytes : List ℕ) (count : ℕ) (i : Intervals)
+-- The same after an MCU, if there was one: the interval that is read now has it.
+pub record IsAfter (unit : List Via) (every : ℕ) (bytes : List ℕ) (count : ℕ) (i : Intervals)
     (p : Past) : Type 0 where
-  pub so_far : IsOpen dc ac every bytes count i p
+  pub so_far : IsOpen unit every bytes count i p
   pub some : 1 ≤ count → 1 ≤ so_far.size
 
--- The same before a block: the interval that is read now has room for it.
-pub record IsBefore (dc ac : Table) (every : ℕ) (bytes : List ℕ) (count : ℕ) (i : Intervals)
+-- The same before an MCU: the interval that is read now has room for it.
+pub record IsBefore (unit : List Via) (every : ℕ) (bytes : List ℕ) (count : ℕ) (i : Intervals)
     (p : Past) : Type 0 where
-  pub so_far : IsOpen dc ac every bytes count i p
+  pub so_far : IsOpen unit every bytes count i p
   pub room : every ≢ 0 → 1 ≤ i.left

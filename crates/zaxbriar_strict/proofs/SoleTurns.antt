@@ -1,0 +1,205 @@
+-- The blocks of a scan of all components of a frame, in an array and in the order of the scan (T.81, A.2).
+use Rattle.std.proofs.Common.{◌≡◌, ℕ, zero, suc, ◌+◌, ◌*◌, ◌/◌, ◌%◌, ◌^◌, ◌≤◌, ◌==◌, ◌&&◌, Bool, true, false}
+use Rattle.std.proofs.Common.{List, [], ◌∷◌, length, map, get_or, replicate, refl, sym, ap, ap₂, ◌∙◌, subst}
+use Rattle.std.proofs.Common.{arith, inl, inr, ℤ, pos, negsuc, neg_ℤ, unsigned_abs, div-add-mod'}
+use Rattle.std.proofs.lemmas.Bool.{and_parts, eq-eqb, eqb-true}
+use Rattle.std.proofs.lemmas.Int.{ints}
+use Rattle.std.proofs.lemmas.List.{length-map}
+use Rattle.std.proofs.lemmas.List.FromFn.{get_or-range_with_len}
+use Rattle.std.specs.List.{AllByRecursion, range_with_len}
+use Rattle.std.specs.Prelude.{zip}
+use Rattle.jpeg_bits.specs.Passes.{Block, Via, whole_pass, zero_block}
+use Rattle.jpeg_segments.specs.Frame.{Component, Frame as WrittenFrame}
+use Rattle.jpeg_meaning.specs.InTurn.{AreApart, Fits, IsIn}
+use Rattle.jpeg_meaning.specs.Levels.{Is8Bit, floor_at, numbers_at, toward_zero}
+use Rattle.jpeg_meaning.specs.Order.{Spot, mcu_size, spots_of}
+use Rattle.jpeg_meaning.specs.ScanSegments.{Coding, components_of, vias_from}
+use Rattle.jpeg_meaning.specs.Scans.{turns_of, via_at}
+use Rattle.jpeg_meaning.specs.WrittenScans.{Coefficients, WritesScan}
+use Rattle.jpeg_meaning.proofs.Order.Apart.{At, get-at, spots-apart}
+use Rattle.jpeg_meaning.proofs.Order.FrameShapes.{frames-fit}
+use Rattle.jpeg_meaning.proofs.Order.OwnSpots.{at-get, at-within}
+use Rattle.jpeg_meaning.proofs.Pictures.LosslessSizes.{all-ranged}
+use Rattle.zaxbriar_strict.specs.Heads.{IsMade, header_of, number_of, written_frame}
+use Rattle.zaxbriar_strict.specs.Runs.{WritesGroups}
+use Rattle.zaxbriar_strict.specs.SoleScans.{ways_of}
+use Rattle.zaxbriar_strict.specs.declared.frame.Frame.{Frame}
+use Rattle.zaxbriar_strict.proofs.FrameComponents.{no_component}
+
+-- ---- numbers at level 0
+
+over-one : (n : ℕ) → n / 2 ^ 0 ≡ n
+over-one n = omega arith
+
+floor-same : (u : ℤ) → floor_at 0 u ≡ u
+floor-same (pos n) = ap pos (over-one n)
+floor-same (negsuc n) = ap negsuc (over-one n)
+
+toward-same : (u : ℤ) → toward_zero 0 u ≡ u
+toward-same (pos n) = ap pos (over-one n)
+toward-same (negsuc n) = ap (λ (k : ℕ). neg_ℤ (pos k)) (over-one (suc n))
+
+acs-same : (us : List ℤ) → map (toward_zero 0) us ≡ us
+acs-same [] = refl
+acs-same (u ∷ us) = ap₂ (λ (x : ℤ) (l : List ℤ). x ∷ l) (toward-same u) (acs-same us)
+
+numbers-same : (b : Block) → numbers_at 0 b ≡ b
+numbers-same b = λ i. record { dc = floor-same b.dc i; acs = acs-same b.acs i }
+
+-- ---- blocks in range
+
+pub all-replicate : {A : Type 0} (P : A → Type 0) (n : ℕ) (x : A) → P x → AllByRecursion P (replicate n x)
+all-replicate P zero x h = tt
+all-replicate P (suc n) x h = (h, all-replicate P n x h)
+
+zero-in-range : Is8Bit zero_block
+unfolding zero_block
+zero-in-range = record {
+  count = refl;
+  dc_low = omega (arith, ints);
+  dc_high = omega (arith, ints);
+  acs = all-replicate (λ (x : ℤ). unsigned_abs x ≤ 1023) 63 (pos 0) (omega (arith, ints));
+}
+
+-- ---- the block at a spot
+
+abbrev is_spot : Spot → Spot → Bool
+is_spot x s = x.slot == s.slot && x.index == s.index
+
+-- the block that stands beside a spot, or zeros
+unfoldable pub beside : List Spot → List Block → Spot → Block
+beside (x ∷ spots) (b ∷ blocks) s = elim (is_spot x s) [ true ↦ b | false ↦ beside spots blocks s ]
+beside _ _ s = zero_block
+
+beside-in-range : (spots : List Spot) (blocks : List Block) (s : Spot) → AllByRecursion Is8Bit blocks
+    → Is8Bit (beside spots blocks s)
+unfolding beside
+beside-in-range [] blocks s all = zero-in-range
+beside-in-range (x ∷ spots) [] s all = zero-in-range
+beside-in-range (x ∷ spots) (b ∷ blocks) s all =
+    go (is_spot x s) (beside spots blocks s) all.0 (beside-in-range spots blocks s all.1)
+  where
+    go : (c : Bool) (other : Block) → Is8Bit b → Is8Bit other
+        → Is8Bit (elim c as (λ _. Block) [ true ↦ b | false ↦ other ])
+    go true other h k = h
+    go false other h k = k
+
+same-spot : (x s : Spot) → is_spot x s ≡ true → s ≡ x
+same-spot x s e =
+    let h = and_parts (x.slot == s.slot) (x.index == s.index) e in
+    ap₂ (λ (k i : ℕ). record { slot = k; index = i }) (sym (eqb-true x.slot s.slot h.0))
+    (sym (eqb-true x.index s.index h.1))
+
+is-itself : (s : Spot) → is_spot s s ≡ true
+is-itself s = ap₂ (λ (a b : Bool). a && b) (eq-eqb s.slot s.slot refl) (eq-eqb s.index s.index refl)
+
+is-other : (x s : Spot) → (s ≡ x → ⊥) → is_spot x s ≡ false
+is-other x s n = go (is_spot x s) refl
+  where
+    go : (c : Bool) → is_spot x s ≡ c → is_spot x s ≡ false
+    go true e = absurd (n (same-spot x s e))
+    go false e = e
+
+module _ (x : Spot) (b : Block) (spots : List Spot) (blocks : List Block) where
+  beside-first : beside (x ∷ spots) (b ∷ blocks) x ≡ b
+  unfolding beside
+  beside-first = rw (is-itself x, beside) refl
+
+  beside-other : (s : Spot) → (s ≡ x → ⊥) → beside (x ∷ spots) (b ∷ blocks) s ≡ beside spots blocks s
+  unfolding beside
+  beside-other s n = rw (is-other x s n, beside) refl
+
+  beside-others : (others : List Spot) → (IsIn x others → ⊥)
+      → map (beside (x ∷ spots) (b ∷ blocks)) others ≡ map (beside spots blocks) others
+  beside-others [] n = refl
+  beside-others (s ∷ others) n =
+      ap₂ (λ (y : Block) (l : List Block). y ∷ l) (beside-other s (λ e. n (inl e)))
+      (beside-others others (λ h. n (inr h)))
+
+-- each block is beside its spot, where these are apart
+all-beside : (spots : List Spot) (blocks : List Block) → AreApart spots → length blocks ≡ length spots
+    → map (beside spots blocks) spots ≡ blocks
+all-beside [] [] apart counted = refl
+all-beside [] (b ∷ blocks) apart counted = absurd (omega arith)
+all-beside (x ∷ spots) [] apart counted = absurd (omega arith)
+all-beside (x ∷ spots) (b ∷ blocks) apart counted =
+    ap₂ (λ (y : Block) (l : List Block). y ∷ l) (beside-first x b spots blocks)
+    (beside-others x b spots blocks spots apart.0 ∙ all-beside spots blocks apart.1 (omega arith))
+
+-- ---- the array
+
+-- the blocks of a scan of all components, by their components, rows and columns
+abbrev pub sole_array : WrittenFrame → List Coding → List Block → Coefficients
+sole_array frame codings blocks index row column =
+    beside (spots_of frame (components_of codings)) blocks (record {
+      slot = index;
+      index = row * (get_or frame.components index no_component).blocks_wide + column;
+    })
+
+pub sole-in-range : (frame : WrittenFrame) (codings : List Coding) (blocks : List Block)
+    → AllByRecursion Is8Bit blocks → (index row column : ℕ) → Is8Bit (sole_array frame codings blocks index row column)
+sole-in-range frame codings blocks all index row column =
+    beside-in-range (spots_of frame (components_of codings)) blocks _ all
+
+-- ---- the scan
+
+turns-zipped : (vias : List Via) (sent : Spot → Block) (spots : List Spot)
+    → map (λ s. (via_at vias s.slot, numbers_at 0 (sent s))) spots
+    ≡ zip (map (λ s. via_at vias s.slot) spots) (map sent spots)
+turns-zipped vias sent [] = refl
+turns-zipped vias sent (s ∷ spots) =
+    ap₂ (λ (b : Block) (l : List (Via × Block)). (via_at vias s.slot, b) ∷ l) (numbers-same (sent s))
+    (turns-zipped vias sent spots)
+
+-- the coding in a slot is that of the component of that index
+slot-index : (codings : List Coding) (slot : ℕ) (k : Coding)
+    → map (λ c. c.index) codings ≡ range_with_len 0 (length codings) → At slot codings k → k.index ≡ slot
+slot-index codings slot k indexed here =
+    let e : 0 + slot ≡ slot = omega arith in
+    sym (at-get (λ (c : Coding). c.index) 0 slot codings k here)
+    ∙ ap (λ (l : List ℕ). get_or l slot 0) indexed
+    ∙ get_or-range_with_len 0 (length codings) slot 0 (at-within slot codings k here)
+    ∙ e
+
+-- Blocks that were read of a scan of all components are what a writer sends of their array.
+pub sole-written : (frame : WrittenFrame) (codings : List Coding) (blocks : List Block) (restart : ℕ)
+    (bytes : List ℕ) → AllByRecursion (Fits frame) frame.components → components_of codings ≡ frame.components
+    → map (λ c. c.index) codings ≡ range_with_len 0 (length codings)
+    → length blocks ≡ length (ways_of frame codings) → AllByRecursion Is8Bit blocks
+    → WritesGroups (restart * mcu_size (components_of codings)) 0 (zip (ways_of frame codings) blocks) bytes
+    → WritesScan frame restart whole_pass codings (sole_array frame codings blocks) bytes
+unfolding turns_of
+sole-written frame codings blocks restart bytes fits all indexed counted in_range w =
+    let spots = spots_of frame (components_of codings) in
+    let sent = beside spots blocks in
+    let vias = vias_from 0 codings in
+    let n = restart * mcu_size (components_of codings) in
+    let apart = spots-apart frame (components_of codings)
+    (subst (λ (cs : List Component). AllByRecursion (Fits frame) cs) (sym all) fits) in
+    let same : map sent spots ≡ blocks =
+    all-beside spots blocks apart (counted ∙ length-map spots (λ s. via_at vias s.slot)) in
+    let turns : map (λ s. (via_at vias s.slot, numbers_at 0 (sent s))) spots ≡ zip (ways_of frame codings) blocks =
+    turns-zipped vias sent spots ∙ ap (λ (l : List Block). zip (ways_of frame codings) l) same in
+    record {
+      sent = sent;
+      in_range = λ s. beside-in-range spots blocks s in_range;
+      is_own = λ s k e own.
+          let here = get-at s.slot codings k e in
+          let index = slot-index codings s.slot k indexed here in
+          let wide = k.component.blocks_wide in
+          let component : get_or frame.components k.index no_component ≡ k.component =
+          ap₂ (λ (cs : List Component) (i : ℕ). get_or cs i no_component) (sym all) index
+          ∙ at-get (λ (c : Coding). c.component) no_component s.slot codings k here in
+          let place : s.index / wide * wide + s.index % wide ≡ s.index = div-add-mod' s.index wide in
+          ap₂ (λ (slot i : ℕ). sent (record { slot = slot; index = i })) (sym index)
+          (sym (ap (λ (c : Component). s.index / wide * c.blocks_wide + s.index % wide) component ∙ place));
+      coded = subst (λ (turns : List (Via × Block)). WritesGroups n 0 turns bytes) (sym turns) w;
+    }
+
+-- ---- frames that are read
+
+pub made-fits : (f : Frame) → IsMade f → AllByRecursion (Fits (written_frame f)) (written_frame f).components
+made-fits f made =
+    let h = header_of f in
+    frames-fit (number_of f.process) h.precision h.width h.height h.components
+    (all-ranged (number_of f.process) [] h.components made.legal.components)
