@@ -21,7 +21,7 @@ from pathlib import Path
 
 ROOT = Path(__file__).resolve().parent.parent
 CRATES = """jpeg_bits jpeg_segments jpeg_pixels jpeg_lossless jpeg_meaning jpeg_decoder
-    jpeg_orientation zaxbriar_metadata zaxbriar_calls""".split()
+    jpeg_orientation zaxbriar_metadata zaxbriar_samples zaxbriar_calls""".split()
 
 # Where laws on streams and numbers that were worked by hand stand (`known_..` and `worked_..`), and
 # what those that read or write a whole stream compute beside the definitions that they name.

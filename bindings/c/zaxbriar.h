@@ -266,7 +266,20 @@ typedef struct zaxbriar_segment {
  * picture its rows, before it is turned. The whole stream is read all the same, and refused for any
  * fault in it, and decoding_bytes is that of the whole picture. A part without pixels, or one that
  * isn't inside the picture, is a ZAXBRIAR_BAD_ARGUMENT once the header has been read, with a text
- * that tells how large the picture is; and so is any part with ZAXBRIAR_TRANSFORM_NONE. */
+ * that tells how large the picture is; and so is any part with ZAXBRIAR_TRANSFORM_NONE.
+ *
+ * `most_width` and `most_height` make the picture that the other options ask for, at its scale, its
+ * luma and its part, fit within a size as it is shown: one that is wider or higher becomes the
+ * greatest that fits, in its proportions. Width, height, row_bytes and size are then those, from
+ * zaxbriar_read_info on, `stride` and `bottom_up` are for its lines, and `max_samples` counts its
+ * samples; `whole_rows` of a partial picture counts rows of the picture before it is made smaller.
+ * One side is the size's; the other, times that over what the side was, is rounded to the nearest
+ * number, halves up, and 1 at least. Pixel x of `to` along a side of `from` is made of the pixels
+ * from x * from / to to (x + 1) * from / to, rounded down, in the picture as it is stored: each
+ * sample is the mean of theirs, rounded to the nearest number, halves up. A picture that fits stays
+ * as it is: to read less of a large one, ask for a scale, too. The lines are taken one by one;
+ * besides decoding_bytes the call has memory for the samples of the smaller picture, and four bytes
+ * for each sample of a line. With ZAXBRIAR_TRANSFORM_NONE it is a ZAXBRIAR_BAD_ARGUMENT. */
 typedef struct zaxbriar_options {
     uint64_t max_samples; /* limits width * height * components, at the scale; 0: no limit */
     uint64_t stride;      /* bytes from one line to the next, at most 2^32; 0: no gaps */
@@ -301,7 +314,12 @@ typedef struct zaxbriar_options {
     uint16_t crop_top;
     uint16_t crop_width;
     uint16_t crop_height;
-    uint64_t reserved_words[7]; /* zero */
+
+    /* The greatest size of the picture as it is shown, to which it is made smaller; 0: any. */
+    uint16_t most_width;
+    uint16_t most_height;
+    uint8_t reserved_half[4];   /* zero */
+    uint64_t reserved_words[6]; /* zero */
 } zaxbriar_options;
 
 /* Describes a picture as it is decoded with the options, also after ZAXBRIAR_NO_ROOM and
@@ -320,7 +338,7 @@ typedef struct zaxbriar_picture {
                                 more; nor is a copy of the luma, where that alone is asked for of a
                                 part, and one scan has all components, of the same factors; nor
                                 are copies of planes in zaxbriar_decode_planes: at most as much
-                                once more */
+                                once more; nor the samples of a picture that is made smaller */
     uint64_t stream_bytes;   /* how many bytes of `jpeg` the image takes, after ZAXBRIAR_OK of
                                 zaxbriar_decode and zaxbriar_decode_planes; or the header, after
                                 ZAXBRIAR_OK of zaxbriar_read_info, ZAXBRIAR_NO_ROOM and
@@ -366,7 +384,8 @@ typedef struct zaxbriar_picture {
     uint8_t reserved_byte;    /* zero */
     uint16_t plane_width[4];  /* of the stream: the width and the height of each component's
                                  samples, at the scale of the options; 0 for a component that it
-                                 doesn't have. Neither layout, upright, luma nor crop changes it */
+                                 doesn't have. Neither layout, upright, luma, crop nor a size to fit
+                                 within changes it */
     uint16_t plane_height[4];
     uint8_t reserved_bytes[6]; /* zero */
     uint64_t planes_size;     /* bytes of all these planes: plane_width * plane_height *
@@ -386,7 +405,7 @@ ZAXBRIAR_CALL zaxbriar_result zaxbriar_read_info(const void *jpeg, size_t jpeg_s
  * anything. `picture` may be null.
  *
  * In every layout, with or without gaps, upright or not, lines are written directly into `pixels`;
- * there is never a second picture. */
+ * there is no second picture, unless it is made smaller. */
 ZAXBRIAR_CALL zaxbriar_result zaxbriar_decode(const void *jpeg, size_t jpeg_size,
                                               const zaxbriar_options *options, void *pixels,
                                               size_t pixels_size, zaxbriar_picture *picture);

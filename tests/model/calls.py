@@ -115,10 +115,11 @@ class Options:
         self.layout = self.scale = self.bottom_up = self.max_bytes = self.max_passes = 0
         self.upright = self.luma = 0
         self.crop_left = self.crop_top = self.crop_width = self.crop_height = 0
+        self.most_width = self.most_height = 0
         self.is_reserved = False
         for word in words:
             name, number = word.split('=')
-            if name in ('reserved_word', 'reserved_byte'):
+            if name in ('reserved_word', 'reserved_half', 'reserved_byte'):
                 self.is_reserved = True
             else:
                 getattr(self, name)
@@ -127,7 +128,7 @@ class Options:
     def are_known(self):
         """Whether they exist, whatever the picture is."""
         if self.transform == TRANSFORMS.index('None'):
-            if self.layout or self.upright or any(self.crop()):
+            if self.layout or self.upright or any(self.crop() + self.most()):
                 return False
         if self.is_reserved or max(self.bottom_up, self.upright, self.luma) > 1:
             return False
@@ -136,11 +137,15 @@ class Options:
     def are_as_coded(self):
         """Whether they ask for samples as the stream has them, and for no arrangement of them."""
         arranged = self.stride, self.layout, self.bottom_up, self.transform, self.upright, self.luma
-        return not any(arranged + self.crop())
+        return not any(arranged + self.crop() + self.most())
 
     def crop(self):
         """The first column and line of a part, and its width and height: all 0 for all."""
         return self.crop_left, self.crop_top, self.crop_width, self.crop_height
+
+    def most(self):
+        """The greatest width and height of the picture as it is shown: 0 for any."""
+        return self.most_width, self.most_height
 
     def wanted(self):
         """The scale as the model's settings have it: eighths, or a least width and height."""
@@ -232,6 +237,17 @@ def shown_part(options, width, height):
     return columns, rows
 
 
+def fitted(width, height, options):
+    """The size of a picture of this size, as it is shown, that is to fit within the options'."""
+    most_width, most_height = options.most_width or width, options.most_height or height
+    if width <= most_width and height <= most_height:
+        return width, height
+    # (the side that is too long by more keeps the whole of what it may have)
+    if width * most_height >= height * most_width:
+        return most_width, min(height, max(1, (2 * height * most_width + width) // (2 * width)))
+    return min(width, max(1, (2 * width * most_height + height) // (2 * height))), most_height
+
+
 def described(stream, options):
     """The frame, its scale, and the members of a picture that a header and options give."""
     frame, header_bytes, said = header_of(stream)
@@ -244,7 +260,7 @@ def described(stream, options):
         raise Refusal(BAD_ARGUMENT)
     pixel_bytes = PIXEL_BYTES.get(options.layout, components * (1 + is_wide))
     columns, rows = shown_part(options, width, height)
-    shown_size, width, height = (width, height), len(columns), len(rows)
+    shown_size, (width, height) = (width, height), fitted(len(columns), len(rows), options)
     row_bytes = width * pixel_bytes
     stride = options.stride or row_bytes
     if not row_bytes <= stride <= 2**32:
@@ -374,9 +390,48 @@ def complete_rows(rows, options, told):
     return count
 
 
+def smaller(stored, options, told):
+    """The part of a picture that is asked for, made smaller, as it is stored, and what is told of
+    it: each sample is the mean of those in its place."""
+    orientation = told['orientation'] if options.upright else 1
+    size, count = told['sample_bytes'], told['components']
+    (wide, high), (columns, rows) = told['stored_size'], told['part']
+    places = [
+        (x, y)
+        for x in range(wide)
+        for y in range(high)
+        for across, down in [upright_place(orientation, x, y, *told['shown_size'])]
+        if across in columns and down in rows
+    ]
+    (left, top), (right, bottom) = min(places), max(places)
+    to_wide, to_high = upright_size(orientation, told['width'], told['height'])
+
+    def box(first, last, boxes, index):
+        side = last + 1 - first
+        return range(first + index * side // boxes, first + (index + 1) * side // boxes)
+
+    made = b''
+    for y in range(to_high):
+        for x in range(to_wide):
+            for component in range(count):
+                samples = [
+                    int.from_bytes(stored[at : at + size], 'little')
+                    for line in box(top, bottom, to_high, y)
+                    for column in box(left, right, to_wide, x)
+                    for at in [((line * wide + column) * count + component) * size]
+                ]
+                mean = (2 * sum(samples) + len(samples)) // (2 * len(samples))
+                made += mean.to_bytes(size, 'little')
+    shown = told['width'], told['height']
+    part = range(shown[0]), range(shown[1])
+    return made, dict(told, stored_size=(to_wide, to_high), shown_size=shown, part=part)
+
+
 def put_lines(memory, stored, options, told):
     """Writes a picture as it is stored into memory, in the layout of the options."""
     row, height = told['row_bytes'], told['height']
+    if (told['width'], height) != tuple(map(len, told['part'])):
+        stored, told = smaller(stored, options, told)
     if options.layout:
         size = told['sample_bytes']
         samples = [

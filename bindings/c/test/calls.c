@@ -154,10 +154,10 @@ static void unknown_options(void) {
     }
 }
 
-/* Whether a byte of the options is of a part of the picture. */
-static int is_of_crop(size_t at) {
+/* Whether a byte of the options is of a part of the picture, or of a size to fit within. */
+static int is_of_size(size_t at) {
     return at >= offsetof(zaxbriar_options, crop_left) &&
-           at < offsetof(zaxbriar_options, reserved_words);
+           at < offsetof(zaxbriar_options, reserved_half);
 }
 
 /* Each reserved byte of the options has to be zero, and those of a picture become zero. */
@@ -165,7 +165,7 @@ static void reserved_bytes(void) {
     int count = 0;
     for (size_t at = offsetof(zaxbriar_options, reserved_bytes); at < sizeof(zaxbriar_options);
          at++) {
-        if (is_of_crop(at)) continue;
+        if (is_of_size(at)) continue;
         zaxbriar_options options = {0};
         ((unsigned char *)&options)[at] = 1;
         count++;
@@ -180,7 +180,7 @@ static void reserved_bytes(void) {
         CHECK(zaxbriar_decode_planes(jpeg.start, jpeg.size, &options, NULL, 0, NULL) ==
               ZAXBRIAR_BAD_ARGUMENT);
     }
-    CHECK(count == 62 && sizeof picture.reserved == 112);
+    CHECK(count == 58 && sizeof picture.reserved == 112);
     memset(&picture, 1, sizeof picture);
     CHECK(zaxbriar_read_info(jpeg.start, jpeg.size, NULL, &picture) == ZAXBRIAR_OK);
     CHECK(is_all(picture.reserved, sizeof picture.reserved, 0) && picture.reserved_byte == 0);
@@ -237,8 +237,8 @@ static void parts_outside(void) {
     }
 }
 
-/* With the refusal of each allocation in turn a picture, as it is stored, upright or a part of it,
- * is decoded or leaves all as it was. */
+/* With the refusal of each allocation in turn a picture, as it is stored, upright, a part of it or
+ * made smaller, is decoded or leaves all as it was. */
 static void refused_memory(int is_part, zaxbriar_options options) {
     struct counts counts = {0};
     zaxbriar_memory memory = {allocate, resize, release, &counts};
@@ -272,8 +272,9 @@ static void own_memory(void) {
     size_t size = picture.size;
     unsigned char *own = block(size);
     for (int way = 0; way < 2; way++) {
-        zaxbriar_options ways[] = {{0}, {.upright = 1}, {.crop_width = 1, .crop_height = 1}};
-        for (int i = 0; i < 3; i++) refused_memory(way, ways[i]);
+        zaxbriar_options ways[] = {
+            {0}, {.upright = 1}, {.crop_width = 1, .crop_height = 1}, {.most_width = 5}};
+        for (int i = 0; i < 4; i++) refused_memory(way, ways[i]);
     }
     counts = (struct counts){0};
     CHECK(zaxbriar_metadata_within(jpeg.start, jpeg.size, &options,

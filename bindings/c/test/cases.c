@@ -21,7 +21,7 @@
  *     next_segment AT                 of the bytes from this place on
  *
  * An option is a member of zaxbriar_options, and 0 unless it is named. reserved_byte=N makes
- * reserved_bytes[N] 1, and reserved_word=N reserved_words[N]. With options, metadata is
+ * reserved_bytes[N] 1, and so reserved_half=N and reserved_word=N. With options, metadata is
  * metadata_within.
  *
  * A case's name is written as it stands, and a call with its answer after a colon: the name of what
@@ -85,7 +85,8 @@ static void set(zaxbriar_options *options, char *word) {
 #define SET16(member) else if (!strcmp(word, #member)) options->member = (uint16_t)number
 #define SET8(member) else if (!strcmp(word, #member)) options->member = (uint8_t)number
     if (!strcmp(word, "reserved_byte") && number < 6) options->reserved_bytes[number] = 1;
-    else if (!strcmp(word, "reserved_word") && number < 7) options->reserved_words[number] = 1;
+    else if (!strcmp(word, "reserved_half") && number < 4) options->reserved_half[number] = 1;
+    else if (!strcmp(word, "reserved_word") && number < 6) options->reserved_words[number] = 1;
     SET(max_samples);
     SET(stride);
     SET(max_bytes);
@@ -96,6 +97,8 @@ static void set(zaxbriar_options *options, char *word) {
     SET16(crop_top);
     SET16(crop_width);
     SET16(crop_height);
+    SET16(most_width);
+    SET16(most_height);
     SET8(transform);
     SET8(layout);
     SET8(scale);

@@ -13,7 +13,7 @@
 #include "common.h"
 
 static struct bytes jpeg;
-static long decoded, refused, compared, arranged, scaled, turned, cropped, without_colours;
+static long decoded, refused, compared, arranged, scaled, turned, cropped, fitted, without_colours;
 static uint64_t sum = 14695981039346656037u;
 
 static void add_to_sum(const void *start, size_t size) {
@@ -232,7 +232,11 @@ static void turn(const zaxbriar_picture *stored, const unsigned char *rows, int 
 /* A stream is decoded upright as it is decoded otherwise, but for the places of the pixels. */
 static void turned_by(decoding *call, struct bytes stream, zaxbriar_options options) {
     zaxbriar_picture stored, upright;
-    zaxbriar_options plain = {.layout = options.layout, .scale = options.scale};
+    /* (a size to fit within has one side for both, as it is that of the picture as it is shown) */
+    zaxbriar_options plain = {.layout = options.layout,
+                              .scale = options.scale,
+                              .most_width = options.most_width,
+                              .most_height = options.most_height};
     if (zaxbriar_read_info(stream.start, stream.size, &plain, &stored) != ZAXBRIAR_OK) return;
     unsigned char *rows = block(stored.size);
     zaxbriar_result result = call(stream.start, stream.size, &plain, rows, stored.size, &stored);
@@ -283,8 +287,64 @@ static void cropped_by(decoding *call, struct bytes stream, zaxbriar_options opt
     free(pixels);
 }
 
+/* The sum of a component's samples in a box of a picture as it is stored. */
+static uint64_t box_sum(const unsigned char *samples, const zaxbriar_picture *whole,
+                        const size_t columns[2], const size_t rows[2], size_t component) {
+    uint64_t sum = 0;
+    for (size_t y = rows[0]; y < rows[1]; y++)
+        for (size_t x = columns[0]; x < columns[1]; x++) {
+            const unsigned char *sample = samples + y * whole->row_bytes + x * whole->pixel_bytes +
+                                          component * whole->sample_bytes;
+            sum += sample[0] + (whole->sample_bytes == 2 ? 256u * sample[1] : 0u);
+        }
+    return sum;
+}
+
+/* Whether each sample of a smaller picture is the mean of those in its place, halves up. */
+static int are_means(const unsigned char *small_samples, const zaxbriar_picture *small,
+                     const unsigned char *samples, const zaxbriar_picture *whole) {
+    for (size_t y = 0; y < small->height; y++)
+        for (size_t x = 0; x < small->width; x++)
+            for (size_t component = 0; component < small->components; component++) {
+                size_t columns[] = {x * whole->width / small->width,
+                                    (x + 1) * whole->width / small->width};
+                size_t rows[] = {y * whole->height / small->height,
+                                 (y + 1) * whole->height / small->height};
+                uint64_t count = (columns[1] - columns[0]) * (rows[1] - rows[0]);
+                uint64_t sum = box_sum(samples, whole, columns, rows, component);
+                uint64_t mean = (2 * sum + count) / (2 * count);
+                const unsigned char *sample = small_samples + y * small->row_bytes +
+                                              x * small->pixel_bytes +
+                                              component * small->sample_bytes;
+                uint64_t is = sample[0] + (small->sample_bytes == 2 ? 256u * sample[1] : 0u);
+                if (is != mean) return 0;
+            }
+    return 1;
+}
+
+/* A picture within a size has the means of the samples of the picture as it is stored. */
+static void fitted_by(decoding *call, struct bytes stream, zaxbriar_options options) {
+    zaxbriar_picture whole, small;
+    options.layout = options.upright = options.bottom_up = 0;
+    if (zaxbriar_read_info(stream.start, stream.size, &options, &whole) != ZAXBRIAR_OK) return;
+    unsigned char *all = block(whole.size), *pixels = block(whole.size);
+    zaxbriar_result result = call(stream.start, stream.size, &options, all, whole.size, &whole);
+    if (result == ZAXBRIAR_OK || result == ZAXBRIAR_PARTIAL) {
+        options.most_width = (uint16_t)(1 + whole.width / 3);
+        options.most_height = (uint16_t)(1 + whole.height * 2 / 3);
+        CHECK(call(stream.start, stream.size, &options, pixels, whole.size, &small) == result);
+        CHECK(small.width <= options.most_width && small.height <= options.most_height);
+        CHECK(small.whole_rows == whole.whole_rows);
+        CHECK(are_means(pixels, &small, all, &whole));
+        add_to_sum(pixels, small.size);
+        fitted++;
+    }
+    free(all);
+    free(pixels);
+}
+
 /* By each orientation, in a layout of each number of bytes, at scales, from the top and the bottom,
- * and of a part. (A stream that has Exif data keeps its own orientation.) */
+ * of a part and within a size. (A stream that has Exif data keeps its own orientation.) */
 static void upright(void) {
     static const uint8_t layouts[] = {ZAXBRIAR_AS_STORED, ZAXBRIAR_GREY,   ZAXBRIAR_RGB,
                                       ZAXBRIAR_RGBA,      ZAXBRIAR_RGB565, ZAXBRIAR_RGB16};
@@ -304,6 +364,11 @@ static void upright(void) {
         cropped_by(zaxbriar_decode, stream, options);
         cropped_by(zaxbriar_decode_partial, (struct bytes){stream.start, stream.size * 2 / 3},
                    options);
+        fitted_by(zaxbriar_decode, stream, options);
+        fitted_by(zaxbriar_decode_partial, (struct bytes){stream.start, stream.size * 2 / 3},
+                  options);
+        options.most_width = options.most_height = (uint16_t)(1 + number % 9);
+        turned_by(zaxbriar_decode, stream, options);
     }
     free(stream.start);
 }
@@ -465,9 +530,9 @@ int main(int argc, char **argv) {
     }
     fclose(list);
     printf("compare: %ld files decoded, %ld refused; %ld compared with jpegraw; %ld pictures in "
-           "other layouts, %ld at scales, %ld upright, %ld parts, %ld without their colours; "
-           "%d faults; sum %016llx\n",
-           decoded, refused, compared, arranged, scaled, turned, cropped, without_colours, faults,
-           (unsigned long long)sum);
+           "other layouts, %ld at scales, %ld upright, %ld parts, %ld within a size, %ld without "
+           "their colours; %d faults; sum %016llx\n",
+           decoded, refused, compared, arranged, scaled, turned, cropped, fitted, without_colours,
+           faults, (unsigned long long)sum);
     return faults != 0;
 }

@@ -81,6 +81,12 @@ export interface Area {
     height: number;
 }
 
+/** The most columns and lines that a picture may have; 0, or left out: any number. */
+export interface Size {
+    width?: number;
+    height?: number;
+}
+
 export interface Options {
     /** The default is `stored`. */
     layout?: Layout;
@@ -116,8 +122,15 @@ export interface Options {
      * stream is read all the same.
      */
     crop?: Area;
+    /**
+     * Makes the picture that the other options give, at its scale and of its part, smaller where it
+     * has more columns or lines than that, as it is shown: to the greatest one of its proportions,
+     * each sample of which is the mean of those in its place. To decode less of a large picture,
+     * ask for a scale, too. With the `colorTransform` `none` it is a BAD_ARGUMENT.
+     */
+    within?: Size;
     colorTransform?: ColorTransform;
-    /** The most pixels that the picture, or its part, may have, at its scale; 0: any number. */
+    /** The most pixels that the picture may have, as it is given; 0: any number. */
     maxPixels?: number;
     /**
      * The most bytes that decoding may take beside the stream and the picture; 0: any number. The
@@ -149,7 +162,7 @@ export interface PartialOptions extends DecodingOptions {
 
 /** A picture, as decoding with the options gives it. */
 export interface Picture {
-    /** In pixels, at the scale, upright if that is asked for, and of the part that is. */
+    /** In pixels, as the options ask for them: at the scale, upright, of the part, or within. */
     width: number;
     height: number;
     /** The bytes of the picture. */

@@ -50,6 +50,7 @@ export const OPTIONS = [
     'upright',
     'luma',
     'crop',
+    'within',
     'colorTransform',
     'maxPixels',
     'maxBytes',
@@ -59,7 +60,7 @@ export const OPTIONS = [
 /* What decodePlanes takes: the others arrange or convert samples. */
 const PLANES_OPTIONS = ['scale', 'minWidth', 'minHeight', 'maxPixels', 'maxBytes', 'maxPasses'];
 /* The options whose values are objects, and the members of these. */
-const PARTS = { crop: ['left', 'top', 'width', 'height'] };
+const PARTS = { crop: ['left', 'top', 'width', 'height'], within: ['width', 'height'] };
 const MOST_SIDE = 65535;
 /* The limits of `decode` where none are given: of its memory, and of its time. */
 const LIMITS = { maxBytes: 2 ** 30, maxPasses: 100 };
@@ -170,7 +171,7 @@ export function bytesOf(source) {
     throw new TypeError('jpeg: an ArrayBuffer or a view of one');
 }
 
-/* Puts the members of an option that is an object, which are sides of pictures. */
+/* Puts the members of an option that is an object, which are numbers of columns or lines. */
 function putPart(view, at, options, name) {
     const part = partOf(options, name) ?? {};
     PARTS[name].forEach((member, index) => {
@@ -205,6 +206,7 @@ function optionsOf(options, limits = {}) {
     view.setUint8(56, isSet(options, 'upright') ? 1 : 0);
     view.setUint8(57, isSet(options, 'luma') ? 1 : 0);
     putCrop(view, 64, options);
+    putPart(view, 72, options, 'within');
     return bytes;
 }
 

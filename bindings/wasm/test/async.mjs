@@ -66,6 +66,7 @@ async function checkAnswers() {
         { layout: 'rgba', crop: { left: 3, top: 2, width: 7, height: 5 } },
         { partial: true, crop: Object.create({ width: 7, height: 5 }) },
         { crop: { left: 65535, width: 1, height: 1 } },
+        { within: { width: 9 }, layout: 'rgba', upright: true },
         { minWidth: 9, minHeight: 9, stride: 200, colorTransform: 'rgb', partial: false },
         { maxPixels: 9 },
         { maxBytes: 9 },
@@ -81,6 +82,8 @@ async function checkAnswers() {
         { luma: 1 },
         { crop: 1 },
         { crop: { width: 1 } },
+        { within: 9 },
+        { within: { width: 9 }, colorTransform: 'none' },
         { crop: { x: 1, y: 1, width: 1, height: 1 } },
         { maxPixels: 0.5 },
     ];

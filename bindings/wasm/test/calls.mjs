@@ -359,6 +359,66 @@ assert.throws(() => zaxbriar.decode(jpeg, asLines), code('BAD_ARGUMENT'));
 zaxbriar.decode(jpeg, { crop: tile, maxPixels: 35 });
 assert.throws(() => zaxbriar.decode(jpeg, { crop: tile, maxPixels: 34 }), code('TOO_LARGE'));
 
+/* What a side is where another becomes shorter, from a length to another. */
+const shrunk = (side, from, to) => Math.max(1, Math.min(side, Math.round((side * to) / from)));
+/* The size of a picture that is to fit within another, where 0 is any. */
+function fitted({ width, height }, within) {
+    const [mostWidth, mostHeight] = ['width', 'height'].map((name) => within[name] || 65535);
+    if (width <= mostWidth && height <= mostHeight) return { width, height };
+    if (height * mostWidth <= width * mostHeight) {
+        return { width: mostWidth, height: shrunk(height, width, mostWidth) };
+    }
+    return { width: shrunk(width, height, mostHeight), height: mostHeight };
+}
+/* A picture made smaller: each sample is the mean of those whose place it takes. */
+function boxed({ picture, pixels }, { width, height }) {
+    const { pixelBytes } = picture;
+    const edges = (side, count) =>
+        Array.from({ length: count + 1 }, (_, index) => Math.floor((index * side) / count));
+    const [columns, rows] = [edges(picture.width, width), edges(picture.height, height)];
+    const samples = [];
+    for (let y = 0; y < height; y++) {
+        for (let x = 0; x < width; x++) {
+            for (let channel = 0; channel < pixelBytes; channel++) {
+                const box = { left: columns[x], top: rows[y] };
+                box.width = columns[x + 1] - box.left;
+                box.height = rows[y + 1] - box.top;
+                const inside = partOf({ picture, pixels }, box);
+                const own = inside.filter((_, index) => index % pixelBytes === channel);
+                const sum = own.reduce((total, sample) => total + sample, 0);
+                samples.push(Math.round(sum / own.length));
+            }
+        }
+    }
+    return Uint8ClampedArray.from(samples);
+}
+// Within a size, in each orientation, at scales and of a part.
+const SIZES = [{ width: 9 }, { height: 7 }, { width: 4, height: 3 }, { width: 39 }];
+for (let orientation = 1; orientation <= 8; orientation++) {
+    const stream = withOrientation(plain, orientation);
+    for (const others of [{}, { scale: 2 }, { crop: { left: 1, top: 2, width: 11, height: 9 } }]) {
+        // (the boxes are those of the stored picture, which lie otherwise in one that is turned)
+        const whole = zaxbriar.decode(stream, others);
+        for (const within of SIZES) {
+            const size = fitted(whole.picture, within);
+            const options = { ...others, within };
+            const { picture, pixels } = zaxbriar.decode(stream, options);
+            assert.deepEqual({ width: picture.width, height: picture.height }, size);
+            assert.deepEqual(pixels, boxed(whole, size), JSON.stringify({ orientation, options }));
+            const shown = zaxbriar.readInfo(stream, { ...others, upright: true });
+            const { width, height } = zaxbriar.readInfo(stream, { ...options, upright: true });
+            assert.deepEqual({ width, height }, fitted(shown, within));
+        }
+    }
+}
+for (const within of [{}, { width: 0 }, { width: 65535, height: picture.height }]) {
+    assert.deepEqual(zaxbriar.decode(jpeg, { within }), { picture, pixels });
+}
+assert.throws(
+    () => zaxbriar.decode(jpeg, { colorTransform: 'none', within: { width: 9 } }),
+    code('BAD_ARGUMENT'),
+);
+
 // Gaps are zeros, also in memory that was used before.
 const stride = picture.rowBytes + 5;
 const gapped = zaxbriar.decode(jpeg, { stride });
@@ -388,6 +448,8 @@ for (const options of [
     { crop: null },
     { crop: { x: 1, y: 1, width: 1, height: 1 } },
     { crop: [0, 0, 1, 1] },
+    { within: 9 },
+    { within: { most: 9 } },
 ]) {
     assert.throws(() => zaxbriar.decode(jpeg, options), TypeError);
 }
@@ -399,6 +461,8 @@ for (const options of [
     { crop: { width: 1 } },
     { crop: { left: -1, width: 1, height: 1 } },
     { crop: { width: 1, height: 65536 } },
+    { within: { width: 65536 } },
+    { within: { height: 0.5 } },
     { stride: 2 ** 33 },
     { maxBytes: Infinity },
     { maxPasses: -1 },

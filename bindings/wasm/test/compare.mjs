@@ -48,6 +48,13 @@ const ALL_OPTIONS = [
     { crop: { left: 5, top: 1, width: 2, height: 2 }, luma: true, stride: 300, bottomUp: true },
     { crop: { left: 2, width: 1, height: 1 }, scale: 2, upright: true, layout: 'grey16' },
     { crop: { width: 1, height: 1 }, colorTransform: 'none' },
+    { within: { width: 3 } },
+    { within: { width: 7, height: 4 }, upright: true, layout: 'rgb' },
+    { within: { height: 5 }, layout: 'rgb16', stride: 300, bottomUp: true },
+    { within: { width: 5 }, luma: true, upright: true },
+    { within: { width: 5 }, scale: 2, layout: 'bgr' },
+    { within: { width: 3, height: 2 }, crop: { left: 2, width: 5, height: 3 }, upright: true },
+    { within: { width: 5 }, colorTransform: 'none' },
     { layout: 'grey16', stride: 300, minWidth: 3 },
     { layout: 'rgb16', scale: 4, stride: 301 },
     { scale: 2 },
@@ -86,6 +93,7 @@ const lineOf = (options) =>
         options.upright ? 1 : 0,
         options.luma ? 1 : 0,
         ...['left', 'top', 'width', 'height'].map((name) => options.crop?.[name] ?? 0),
+        ...['width', 'height'].map((name) => options.within?.[name] ?? 0),
     ].join(' ');
 const INPUT = ALL_OPTIONS.map((options) => `${lineOf(options)}\n`).join('');
 

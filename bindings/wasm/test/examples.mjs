@@ -29,7 +29,6 @@ const pathOf = (name) => new URL(name, import.meta.url).pathname;
 const ours = (name) => readFileSync(pathOf(`../../../tests/programs/files/${name}`));
 const zaxbriar = await load();
 const cases = allCases();
-const CHANNELS = 3;
 const streamOf = (file, name) =>
     cases.find((it) => it.file === `${file}.case` && it.name === name).stream;
 
@@ -101,23 +100,10 @@ function readPng(path) {
     return { width, height, pixels: new Uint8ClampedArray(pixels) };
 }
 
-/* A smaller picture: each of its pixels is the mean of those that end in its place. */
-function smallerOf(picture, width) {
-    const height = Math.round((picture.height * width) / picture.width);
-    const sums = Array(width * height * CHANNELS).fill(0);
-    const counts = Array(width * height).fill(0);
-    for (let at = 0; at < picture.width * picture.height; at++) {
-        const [column, row] = [at % picture.width, Math.floor(at / picture.width)];
-        const x = Math.ceil(((column + 1) * width) / picture.width) - 1;
-        const y = Math.ceil(((row + 1) * height) / picture.height) - 1;
-        const to = y * width + x;
-        counts[to]++;
-        for (let channel = 0; channel < CHANNELS; channel++) {
-            sums[to * CHANNELS + channel] += picture.pixels[at * CHANNELS + channel];
-        }
-    }
-    const pixels = sums.map((sum, at) => Math.round(sum / counts[Math.floor(at / CHANNELS)]));
-    return { width, height, pixels: Uint8ClampedArray.from(pixels) };
+/* The upright picture of a file, made smaller as it is stored, to a width as it is shown. */
+function smallerOf(jpeg, width) {
+    const side = zaxbriar.readInfo(jpeg).orientation > 4 ? 'height' : 'width';
+    return uprightOf(jpeg, { layout: 'rgb', within: { [side]: width } });
 }
 
 /* Runs thumbnails.mjs, and gives its output and the thumbnails of what it doesn't refuse. */
@@ -143,7 +129,7 @@ function checkThumbnails() {
     const [wholeOf, halfOf, smallOf] = [40, 12, 10].map((it) => thumbnails(pictures, it));
     for (const [name, bytes] of Object.entries(pictures)) {
         const picture = uprightOf(bytes, { layout: 'rgb' });
-        const small = name in LOSSLESS && picture.width > 10 ? smallerOf(picture, 10) : null;
+        const small = name in LOSSLESS && picture.width > 10 ? smallerOf(bytes, 10) : null;
         assert.deepEqual(wholeOf(name), picture, name);
         if (small) assert.deepEqual(smallOf(name), small, name);
     }

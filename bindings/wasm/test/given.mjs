@@ -63,6 +63,7 @@ const OPTIONS = {
     upright: false,
     luma: false,
     crop: { left: 0, top: 0, width: picture.width, height: picture.height },
+    within: {},
     colorTransform: 'stream',
     maxPixels: 1e9,
     maxBytes: 1e9,

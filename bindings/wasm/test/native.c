@@ -1,17 +1,18 @@
 /* native FILE: what the native library gives for a stream, for compare.mjs.
  *
  * Each line of standard input is the numbers of some options: layout, scale, transform, min_width,
- * min_height, stride, bottom_up, max_bytes, max_passes, upright, luma, and the four of a crop. For
- * each the answer and the description by the header are written, then the answer and the
- * description by decoding, and the pixels after their count, and the same by decoding as far as the
- * stream goes. At the end come the answer, the length and the bytes of each kind of metadata. */
+ * min_height, stride, bottom_up, max_bytes, max_passes, upright, luma, the four of a crop,
+ * most_width and most_height. For each the answer and the description by the header are written,
+ * then the answer and the description by decoding, and the pixels after their count, and the same
+ * by decoding as far as the stream goes. At the end come the answer, the length and the bytes of
+ * each kind of metadata. */
 #include <stdio.h>
 #include <stdlib.h>
 #include <zaxbriar.h>
 
 #define MOST_SIZE ((uint64_t)1 << 28) /* above it a picture isn't decoded, here and there */
 #define MOST_PART ((uint64_t)1 << 26) /* a stream's full size, above which no part of it is */
-#define NUMBERS 15                    /* of some options */
+#define NUMBERS 17                    /* of some options */
 
 static void put(const void *bytes, size_t size) {
     if (fwrite(bytes, 1, size, stdout) != size) exit(1);
@@ -99,6 +100,8 @@ int main(int count, char **words) {
             .crop_top = (uint16_t)n[12],
             .crop_width = (uint16_t)n[13],
             .crop_height = (uint16_t)n[14],
+            .most_width = (uint16_t)n[15],
+            .most_height = (uint16_t)n[16],
         };
         put_picture(jpeg, size, &options, has_part);
     }

@@ -4,7 +4,7 @@ import type { Area, AsyncOptions, AsyncPartialOptions, Bytes } from '../dist/ind
 import type { DecoderOptions } from '../dist/index.mjs';
 import type { DecodingOptions, DecodedPicture, Density, Feature } from '../dist/index.mjs';
 import type { Format, Layout, Options, PartialOptions, PartialPicture } from '../dist/index.mjs';
-import type { Picture, Sampling, Source } from '../dist/index.mjs';
+import type { Picture, Sampling, Size, Source } from '../dist/index.mjs';
 
 // Sources, and the bytes of streams.
 const sources: Source[] = ['zaxbriar.wasm', new URL('file:///zaxbriar.wasm'), new Uint8Array(8)];
@@ -25,6 +25,8 @@ const options: Options = { layout: 'rgba', scale: 2, colorTransform: 'rgb', maxP
 const turned: Options = { layout: 'abgr', bottomUp: true, upright: true, luma: true };
 const area: Area = { width: 512, height: 512 };
 const tiles: Options[] = [{ crop: area }, { crop: { ...area, left: 8, top: 0 }, scale: 4 }];
+const most: Size = { width: 256 };
+const fits: Options[] = [{ within: most }, { within: { height: 9 }, upright: true }];
 const limits: Options = { maxBytes: 1 << 30, maxPasses: 100 };
 const { picture, pixels } = zaxbriar.decode(streams[0], options);
 const data = new ImageData(pixels, picture.width, picture.height);
@@ -57,6 +59,8 @@ zaxbriar.decode(streams[2], { crop: { left: 1, top: 1, width: 1 } });
 zaxbriar.decode(streams[2], { crop: { x: 1, y: 1, width: 1, height: 1 } });
 // @ts-expect-error
 zaxbriar.decode(streams[2], { crop: [0, 0, 1, 1] });
+// @ts-expect-error
+zaxbriar.decode(streams[2], { within: 256 });
 // @ts-expect-error
 zaxbriar.readInfo(streams[2], { maxPixel: 1 });
 // @ts-expect-error
@@ -170,4 +174,4 @@ zaxbriar.memoryBytes = 0;
 const version: string = zaxbriar.version;
 export { bits, columns, data, described, feature, fetched, file, format, ink, layout, length };
 export { fault, first, inches, known, plain, planes, profile, rows, samples, strict, told };
-export { begun, complete, elsewhere, piece, tiles, version };
+export { begun, complete, elsewhere, fits, piece, tiles, version };

@@ -2,6 +2,7 @@
 ghost use Rattle.std.specs.Prelude.{◌≡◌, ◌⊎◌, ◌<◌, None, Some, false, length, true};
 ghost use Rattle.jpeg_bits.specs.Reading.{Fault};
 ghost use Rattle.jpeg_meaning.specs.Stream.{header_at};
+ghost use Rattle.zaxbriar_calls.specs.Boxed.{is_fitted};
 ghost use Rattle.zaxbriar_calls.specs.Crops.{is_cropped};
 ghost use Rattle.zaxbriar_calls.specs.Faults.{IsOfRoomNumber};
 ghost use Rattle.zaxbriar_calls.specs.Given.{Gives, TellsFault, rows_by, without_fault};
@@ -32,7 +33,7 @@ pub fn described(alloc: Global, jpeg: &[u8], options: &Options, picture: &mut Pi
 }
 
 /// Calls `read_info`, and says that a picture that lies on its side (orientation 6) is, upright, as
-/// wide as it is high in its stream.
+/// wide as it is high in its stream, unless it is made smaller.
 pub fn described_upright(
     alloc: Global,
     stream: &[u8],
@@ -41,6 +42,7 @@ pub fn described_upright(
 ) -> u32
     requires asked { options.now.upright ≡ 1 }
     requires whole { is_cropped options.now ≡ false }
+    requires own { is_fitted options.now ≡ false }
     ensures { result ≡ 0 → picture.new.orientation ≡ 6
         → (described : Describes options.now stream.now (uncounted picture.new))
         × (picture.new.width ≡ described.info.height) }
@@ -48,7 +50,8 @@ pub fn described_upright(
     calls::read_info(alloc, stream, options, picture)
 }
 
-/// Calls `read_info`, and says that a part of a picture is as wide and as high as it is asked for.
+/// Calls `read_info`, and says that a part of a picture is as wide and as high as it is asked for,
+/// unless it is made smaller.
 pub fn described_part(
     alloc: Global,
     part_of: &[u8],
@@ -56,6 +59,7 @@ pub fn described_part(
     picture: &mut Picture,
 ) -> u32
     requires asked { is_cropped options.now ≡ true }
+    requires own { is_fitted options.now ≡ false }
     ensures wide { result ≡ 0 → picture.new.width ≡ options.now.crop.width }
     ensures high { result ≡ 0 → picture.new.height ≡ options.now.crop.height }
 {

@@ -9,12 +9,15 @@ use Rattle.jpeg_meaning.specs.declared.images.ImageInfo.{ImageInfo}
 use Rattle.jpeg_orientation.proofs.Parts.{column-of-part, inside-parts, line-of-part, stored-inside}
 use Rattle.jpeg_orientation.specs.Areas.{is_inside, stored_area, turn_of_part}
 use Rattle.jpeg_orientation.specs.Turns.{flips_x, flips_y, is_on_side, mirrored, stored_column, stored_line}
+use Rattle.jpeg_orientation.specs.Turns.{stored_offset}
 use Rattle.jpeg_orientation.specs.Turns.{upright_height, upright_width}
 use Rattle.jpeg_orientation.specs.declared.areas.Area.{Area}
 use Rattle.jpeg_orientation.specs.declared.turns.Turn.{Turn}
+use Rattle.zaxbriar_calls.proofs.Smaller.{own-turn}
 use Rattle.zaxbriar_calls.proofs.TurnedPlaces.{mirrored-below}
+use Rattle.zaxbriar_calls.specs.Boxed.{is_fitted}
 use Rattle.zaxbriar_calls.specs.Crops.{IsInPicture, cut_lines, is_cropped, part_samples}
-use Rattle.zaxbriar_calls.specs.Lines.{lines_by, part_given, stored_bytes, turn_given, turn_of}
+use Rattle.zaxbriar_calls.specs.Lines.{lines_by, part_given, stored_bytes, turn_given, turn_of, turn_uncut}
 use Rattle.zaxbriar_calls.specs.Upright.{upright_pixel}
 use Rattle.zaxbriar_calls.specs.Worked.{crop_at}
 use Rattle.zaxbriar_calls.specs.declared.layouts.Conversion.{Conversion}
@@ -134,19 +137,29 @@ part-down turn area = go (is_on_side turn.orientation)
 
 -- the width and the height of what is given
 pub part-width : (o : Options) (info : ImageInfo) (orientation : ℕ) (cropped : Bool) → is_cropped o ≡ cropped
-    → cropped ≡ true → upright_width (turn_given o info orientation) ≡ o.crop.width
-part-width o info orientation false is asked = absurd cc
-part-width o info orientation true is asked = rw is (part-across (turn_of o info orientation) o.crop)
+    → cropped ≡ true → is_fitted o ≡ false → upright_width (turn_given o info orientation) ≡ o.crop.width
+part-width o info orientation false is asked whole = absurd cc
+part-width o info orientation true is asked whole =
+    let part : upright_width (turn_uncut o info orientation) ≡ o.crop.width =
+    rw is (part-across (turn_of o info orientation) o.crop) in
+    ap (λ (t : Turn). upright_width t) (own-turn o info (turn_uncut o info orientation) whole) ∙ part
 
 pub part-height : (o : Options) (info : ImageInfo) (orientation : ℕ) (cropped : Bool) → is_cropped o ≡ cropped
-    → cropped ≡ true → upright_height (turn_given o info orientation) ≡ o.crop.height
-part-height o info orientation false is asked = absurd cc
-part-height o info orientation true is asked = rw is (part-down (turn_of o info orientation) o.crop)
+    → cropped ≡ true → is_fitted o ≡ false → upright_height (turn_given o info orientation) ≡ o.crop.height
+part-height o info orientation false is asked whole = absurd cc
+part-height o info orientation true is asked whole =
+    let part : upright_height (turn_uncut o info orientation) ≡ o.crop.height =
+    rw is (part-down (turn_of o info orientation) o.crop) in
+    ap (λ (t : Turn). upright_height t) (own-turn o info (turn_uncut o info orientation) whole) ∙ part
 
 pub whole-width : (o : Options) (info : ImageInfo) (orientation : ℕ) (cropped : Bool) → is_cropped o ≡ cropped
-    → cropped ≡ false → upright_width (turn_given o info orientation) ≡ upright_width (turn_of o info orientation)
-whole-width o info orientation true is unasked = absurd cc
-whole-width o info orientation false is unasked = rw is refl
+    → cropped ≡ false → is_fitted o ≡ false
+    → upright_width (turn_given o info orientation) ≡ upright_width (turn_of o info orientation)
+whole-width o info orientation true is unasked whole = absurd cc
+whole-width o info orientation false is unasked whole =
+    let all : upright_width (turn_uncut o info orientation) ≡ upright_width (turn_of o info orientation) =
+    rw is refl in
+    ap (λ (t : Turn). upright_width t) (own-turn o info (turn_uncut o info orientation) whole) ∙ all
 
 -- the pixel of an area, in the area and in the picture
 area-pixel : (turn : Turn) (area : Area) (p across down : ℕ) (s : List ℕ)
@@ -173,7 +186,7 @@ area-pixel turn area p across down s inside a d count =
 
 -- and by the options, with a crop and without one
 crop-pixel : (cropped : Bool) (o : Options) (info : ImageInfo) (precision orientation : ℕ) (conversion : Conversion)
-    (s : List ℕ) (across down : ℕ) → is_cropped o ≡ cropped → cropped ≡ true
+    (s : List ℕ) (across down : ℕ) → is_cropped o ≡ cropped → cropped ≡ true → is_fitted o ≡ false
     → IsInPicture o (turn_of o info orientation)
     → length s ≡ info.width * info.height * stored_bytes info precision
     → across < o.crop.width → down < o.crop.height
@@ -181,12 +194,22 @@ crop-pixel : (cropped : Bool) (o : Options) (info : ImageInfo) (precision orient
     (part_samples (part_given o info orientation) (stored_bytes info precision) s) across down
     ≡ upright_pixel (lines_by (record o { crop = crop_at 0 0 0 0 }) info precision orientation conversion) s
     (o.crop.left + across) (o.crop.top + down)
-crop-pixel false o info precision orientation conversion s across down is asked inside count a d = absurd cc
-crop-pixel true o info precision orientation conversion s across down is asked inside count a d =
-    rw is (area-pixel (turn_of o info orientation) o.crop (stored_bytes info precision) across down s (inside is) a d count)
+crop-pixel false o info precision orientation conversion s across down is asked whole inside count a d = absurd cc
+crop-pixel true o info precision orientation conversion s across down is asked whole inside count a d =
+    let p : ℕ = stored_bytes info precision in
+    let all = record o { crop = crop_at 0 0 0 0 } in
+    let part : List ℕ = part_samples (part_given o info orientation) p s in
+    let pixel : take p (drop (stored_offset (turn_uncut o info orientation) across down * p) part)
+    ≡ take p (drop (stored_offset (turn_of o info orientation) (o.crop.left + across) (o.crop.top + down) * p) s) =
+    rw is (area-pixel (turn_of o info orientation) o.crop p across down s (inside is) a d count) in
+    ap (λ (t : Turn). take p (drop (stored_offset t across down * p) part))
+    (own-turn o info (turn_uncut o info orientation) whole)
+    ∙ pixel
+    ∙ ap (λ (t : Turn). take p (drop (stored_offset t (o.crop.left + across) (o.crop.top + down) * p) s))
+    (sym (own-turn all info (turn_of o info orientation) whole))
 
 pub part-of-picture : (o : Options) (info : ImageInfo) (precision orientation : ℕ) (conversion : Conversion)
-    (s : List ℕ) (across down : ℕ) → is_cropped o ≡ true
+    (s : List ℕ) (across down : ℕ) → is_cropped o ≡ true → is_fitted o ≡ false
     → IsInPicture o (turn_of o info orientation)
     → length s ≡ info.width * info.height * stored_bytes info precision
     → across < o.crop.width → down < o.crop.height

@@ -9,11 +9,14 @@ use Rattle.jpeg_meaning.specs.declared.images.ImageInfo.{ImageInfo}
 use Rattle.jpeg_meaning.specs.declared.settings.Settings.{Settings}
 use Rattle.jpeg_decoder.specs.Bytes.{AreLinesOf, HaveBytes, IsCounted, bytes_a_sample}
 use Rattle.jpeg_decoder.specs.Bytes.{line_bytes, samples_a_pixel, shape_of}
-use Rattle.jpeg_orientation.specs.declared.turns.Turn.{Turn}
+use Rattle.zaxbriar_samples.specs.Parts.{pixel_bytes}
+use Rattle.zaxbriar_samples.specs.Png as Png
 use Rattle.zaxbriar_calls.proofs.Cropped.{part-held, part-high, part-wide}
+use Rattle.zaxbriar_calls.proofs.Smaller.{line-of-pixels, own-or-smaller, same-pixel}
+use Rattle.zaxbriar_calls.specs.Boxed.{IsOwnOrSmaller, turned_info, turned_size}
 use Rattle.zaxbriar_calls.specs.Crops.{AreOfPart, HasPart, part_turn}
 use Rattle.zaxbriar_calls.specs.Layouts.{size_of_lines}
-use Rattle.zaxbriar_calls.specs.Lines.{HasLines, turn_of}
+use Rattle.zaxbriar_calls.specs.Lines.{HasLines, turn_of, turn_uncut}
 use Rattle.zaxbriar_calls.specs.declared.lines.Lines.{Lines}
 use Rattle.zaxbriar_calls.specs.declared.options.Options.{Options}
 
@@ -54,12 +57,27 @@ lines-high info before after old (Some f) picture stay same i are =
     let is : info_by after f ≡ info = cc in
     are.0 ∙ ap (λ (x : ImageInfo). x.height) is
 
--- lines are turned like the part that they are of
-turn-is : (o : Options) (info : ImageInfo) (precision orientation : ℕ) (lines : Lines)
-    → HasLines o info precision orientation lines → lines.turn ≡ part_turn lines.part (turn_of o info orientation)
-turn-is o info precision orientation lines h =
-    ap (λ (l : Lines). l.turn) h.lines_are
-    ∙ (λ i. part_turn (sym (ap (λ (l : Lines). l.part) h.lines_are) i) (turn_of o info orientation))
+-- what is said of the part that lines are of
+info-is : (o : Options) (info : ImageInfo) (precision orientation : ℕ) (lines : Lines)
+    → HasLines o info precision orientation lines
+    → lines.info ≡ turned_info info (part_turn lines.part (turn_of o info orientation))
+info-is o info precision orientation lines h =
+    ap (λ (l : Lines). l.info) h.lines_are
+    ∙ (λ i. turned_info info
+    (part_turn (sym (ap (λ (l : Lines). l.part) h.lines_are) i) (turn_of o info orientation)))
+
+-- the bytes of a pixel of it
+pub stored-is : (o : Options) (info : ImageInfo) (precision orientation : ℕ) (lines : Lines)
+    → HasLines o info precision orientation lines → lines.stored ≡ pixel_bytes lines.info lines.precision
+stored-is o info precision orientation lines h =
+    subst (λ (l : Lines). l.stored ≡ pixel_bytes l.info l.precision) (sym h.lines_are) (same-pixel info precision)
+
+-- the size that it is made smaller to, if it isn't its own
+pub size-is : (o : Options) (info : ImageInfo) (precision orientation : ℕ) (lines : Lines)
+    → HasLines o info precision orientation lines → IsOwnOrSmaller lines.info (turned_size lines.turn)
+size-is o info precision orientation lines h =
+    subst (λ (l : Lines). IsOwnOrSmaller l.info (turned_size l.turn)) (sym h.lines_are)
+    (own-or-smaller o info (turn_uncut o info orientation))
 
 -- the part is among the lines of the picture
 pub part-there : (o : Options) (info : ImageInfo) (precision orientation : ℕ) (lines : Lines)
@@ -72,19 +90,21 @@ part-there o info precision orientation lines picture h high wide =
 -- and its lines are those that are meant
 pub part-counted : (o : Options) (info : ImageInfo) (precision orientation : ℕ) (lines : Lines)
     (picture given : List (List ℕ)) → HasLines o info precision orientation lines → length picture ≡ info.height
-    → AreOfPart lines.part lines.stored picture given → length given ≡ lines.turn.height
+    → AreOfPart lines.part lines.stored picture given → length given ≡ lines.info.height
 part-counted o info precision orientation lines picture given h high of_part =
     part-high lines.part (turn_of o info orientation) lines.stored picture given high of_part
-    ∙ sym (ap (λ (t : Turn). t.height) (turn-is o info precision orientation lines h))
+    ∙ sym (ap (λ (k : ImageInfo). k.height) (info-is o info precision orientation lines h))
 
 pub part-stored : (o : Options) (info : ImageInfo) (precision orientation : ℕ) (lines : Lines)
     (picture given : List (List ℕ)) → HasLines o info precision orientation lines
     → HaveBytes (info.width * lines.stored) picture
-    → AreOfPart lines.part lines.stored picture given → HaveBytes (lines.turn.width * lines.stored) given
+    → AreOfPart lines.part lines.stored picture given → HaveBytes (Png.line_bytes lines.info lines.precision) given
 part-stored o info precision orientation lines picture given h wide of_part =
-    subst (λ (t : Turn). HaveBytes (t.width * lines.stored) given)
-    (sym (turn-is o info precision orientation lines h))
-    (part-wide lines.part (turn_of o info orientation) lines.stored picture given wide of_part)
+    subst (λ n. HaveBytes n given)
+    (line-of-pixels lines.info lines.precision lines.stored (stored-is o info precision orientation lines h))
+    (subst (λ (k : ImageInfo). HaveBytes (k.width * lines.stored) given)
+    (sym (info-is o info precision orientation lines h))
+    (part-wide lines.part (turn_of o info orientation) lines.stored picture given wide of_part))
 
 -- memory that has room for all lines has room for each
 pub lines-fit : (stride row height room y : ℕ) → size_of_lines stride row height ≤ room → y < height

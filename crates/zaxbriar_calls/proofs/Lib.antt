@@ -22,6 +22,7 @@ mod OwnPlanes
 mod Parts
 mod Rests
 pub mod Rules
+mod Smaller
 mod Texts
 mod Told
 mod TurnedLines

@@ -235,6 +235,18 @@ lines-reached extent lines rows None r old new before after is b =
 lines-reached extent lines rows (Some e) r old new before after is b =
     subst (λ (x : Result ℕ Refusal). Reaches extent lines x old new before after) (sym is) b
 
+-- its rows are counted
+pub rows-counted : (complete rows : ℕ) (fault : Option Error) (r : Result ℕ Refusal) → r ≡ outcome_of rows fault
+    → rows ≡ complete → HasRows complete r
+rows-counted complete rows None r is e = subst (λ (x : Result ℕ Refusal). HasRows complete x) (sym is) e
+rows-counted complete rows (Some f) r is e = subst (λ (x : Result ℕ Refusal). HasRows complete x) (sym is) e
+
+-- if it is refused, then it is a part
+pub part-outcome : (P : Refusal → Type 0) (rows : ℕ) (fault : Option Error) (r : Result ℕ Refusal)
+    → r ≡ outcome_of rows fault → ((e : Error) → P (refusals.Part e rows)) → IfErr r P
+part-outcome P rows None r is h = subst (λ (x : Result ℕ Refusal). IfErr x P) (sym is) tt
+part-outcome P rows (Some e) r is h = subst (λ (x : Result ℕ Refusal). IfErr x P) (sym is) (h e)
+
 pub reached-ok : (extent : Extent) (lines : Lines) (r : Result ℕ Refusal) (old new : Decoding) (before after : List ℕ)
     (P : Type 0)
     → Reaches extent lines r old new before after → (BringsLines extent lines None old new before after → P) → OnOk r P

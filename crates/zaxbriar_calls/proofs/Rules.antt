@@ -23,6 +23,9 @@ use Rattle.zaxbriar_calls.specs.Places.{segments_of}
 use Rattle.zaxbriar_calls.specs.StreamSegments.{next_segment, payload_at, payload_by}
 use Rattle.zaxbriar_calls.specs.Upright.{turned_byte}
 use Rattle.zaxbriar_metadata.proofs.OnLiterals.{collections}
+use Rattle.zaxbriar_samples.specs.Boxes.{box_line, box_line_sum, box_pixel, component_bytes, lower_first_bytes, mean_in}
+use Rattle.zaxbriar_samples.specs.Boxes.{reduced_bytes, sample_of, sum_over, texts_below}
+use Rattle.zaxbriar_samples.specs.Samples.{byte_at, pair_at, sample_in}
 use Rattle.zaxbriar_calls.proofs.FoundPlaces.{other-said, places-are, places-ended, places-later, places-none, places-past}
 
 -- how many bytes were read
@@ -87,6 +90,12 @@ pub ruleset crops = (crop-fits, crop-lines, crop-samples)
 unfoldable pub turned_lines : ⊤
 unfolding laid_out pixels_of turned_byte cut_lines
 turned_lines = tt
+
+-- the same of a picture that is made smaller
+unfoldable pub smaller_lines : ⊤
+unfolding laid_out pixels_of turned_byte cut_lines reduced_bytes box_line box_pixel component_bytes mean_in
+    box_line_sum sample_of sum_over texts_below lower_first_bytes sample_in byte_at pair_at
+smaller_lines = tt
 
 -- what the applications of a stream bring, on literals
 unfoldable pub joined_streams : ⊤

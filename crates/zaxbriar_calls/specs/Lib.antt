@@ -1,3 +1,5 @@
+pub mod Boxed
+pub mod BoxedLines
 pub mod CopiesJoined
 pub mod CopiesMetadata
 pub mod Crops

@@ -5,6 +5,7 @@ use Rattle.std.specs.List.{list_all}
 use Rattle.jpeg_decoder.specs.declared.sizes.DecodingBytes.{DecodingBytes}
 use Rattle.jpeg_segments.specs.Frame.{Frame}
 use Rattle.jpeg_meaning.specs.Work.{picture_blocks}
+use Rattle.zaxbriar_calls.specs.Boxed.{is_fitted}
 use Rattle.zaxbriar_calls.specs.Crops.{is_cropped}
 use Rattle.zaxbriar_calls.specs.declared.extents.Extent.{Extent}
 use Rattle.zaxbriar_calls.specs.declared.extents.Extent.TheVariants.{Planes}
@@ -19,22 +20,23 @@ is_denominator n = n == 0 || (n == 1 || (n == 2 || (n == 4 || n == 8)))
 abbrev pub is_rest_zero : Options → Bool
 is_rest_zero o = list_all (λ word. word == 0) o.pointer_words
     && (list_all (λ word. word == 0) o.reserved_words
-    && list_all (λ byte. byte == 0) o.reserved_bytes)
+    && (list_all (λ byte. byte == 0) o.reserved_bytes
+    && list_all (λ byte. byte == 0) o.reserved_half))
 
 -- whether all options exist whatever the picture is: the transform, of which 1, none, goes with
--- layout 0 alone, and with no turn and no part, the scale, whether the rows stand from the bottom,
--- 1 or 0, and so whether the picture is turned upright, and whether it is its luma, and what is
--- reserved
+-- layout 0 alone, and with no turn, no part and no size to fit within, the scale, whether the rows
+-- stand from the bottom, 1 or 0, and so whether the picture is turned upright, and whether it is
+-- its luma, and what is reserved
 abbrev pub are_known : Options → Bool
 are_known o = (not (o.transform == 1)
-    || (o.layout == 0 && (o.upright == 0 && not (is_cropped o))))
+    || (o.layout == 0 && (o.upright == 0 && (not (is_cropped o) && not (is_fitted o)))))
     && (nat_le o.transform 5 && (is_denominator o.scale
     && (nat_le o.bottom_up 1 && (nat_le o.upright 1 && (nat_le o.luma 1 && is_rest_zero o)))))
 
 -- whether no option asks for other samples than the stream has, or for another arrangement of them
 abbrev pub are_as_coded : Options → Bool
 are_as_coded o = o.stride == 0 && (o.layout == 0 && (o.bottom_up == 0 && (o.transform == 0
-    && (o.upright == 0 && (o.luma == 0 && not (is_cropped o))))))
+    && (o.upright == 0 && (o.luma == 0 && (not (is_cropped o) && not (is_fitted o)))))))
 
 -- whether all options exist for what is asked for: planes are given as they are coded
 abbrev pub are_known_for : Extent → Options → Bool

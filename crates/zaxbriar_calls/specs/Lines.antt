@@ -13,6 +13,7 @@ use Rattle.jpeg_orientation.specs.declared.turns.Turn.{Turn}
 use Rattle.zaxbriar_calls.specs.Layouts.{TakesStored, conversion_to, converted_bytes}
 use Rattle.zaxbriar_calls.specs.Layouts.{pixel_bytes, size_of_lines}
 use Rattle.zaxbriar_calls.specs.Upright.{arranged_by}
+use Rattle.zaxbriar_calls.specs.Boxed.{fit_turn, turned_info}
 use Rattle.zaxbriar_calls.specs.Crops.{IsInPicture, part_of, part_turn}
 use Rattle.zaxbriar_calls.specs.declared.crops.StoredPart.{StoredPart}
 use Rattle.zaxbriar_calls.specs.declared.layouts.Conversion.{Conversion}
@@ -52,13 +53,16 @@ turn_of o info orientation = record {
   orientation = if o.upright == 1 then orientation else 1;
 }
 
--- the lines of a part of a picture, or of all of it, that is turned
+-- the lines of a part of a picture, or of all of it, of which this is said, once it is made smaller
+-- and turned
 abbrev pub lines_turned : Options → ImageInfo → ℕ → Option StoredPart → Turn → Conversion → Lines
 lines_turned o info precision part turn conversion = record {
   conversion = conversion;
   width = upright_width turn;
   height = upright_height turn;
   part = part;
+  info = info;
+  precision = precision;
   turn = turn;
   stored = stored_bytes info precision;
   pixel_bytes = layout_pixel_bytes info precision conversion;
@@ -71,15 +75,19 @@ lines_turned o info precision part turn conversion = record {
 abbrev pub part_given : Options → ImageInfo → ℕ → Option StoredPart
 part_given o info orientation = part_of o (turn_of o info orientation)
 
-abbrev pub turn_given : Options → ImageInfo → ℕ → Turn
-turn_given o info orientation =
+abbrev pub turn_uncut : Options → ImageInfo → ℕ → Turn
+turn_uncut o info orientation =
     part_turn (part_given o info orientation) (turn_of o info orientation)
+
+-- how what is given is turned: the part, made smaller where it is to fit within a size
+abbrev pub turn_given : Options → ImageInfo → ℕ → Turn
+turn_given o info orientation = fit_turn o info (turn_uncut o info orientation)
 
 -- the lines of a picture of an orientation
 abbrev pub lines_by : Options → ImageInfo → ℕ → ℕ → Conversion → Lines
 lines_by o info precision orientation conversion =
-    lines_turned o info precision (part_given o info orientation)
-    (turn_given o info orientation) conversion
+    lines_turned o (turned_info info (turn_uncut o info orientation)) precision
+    (part_given o info orientation) (turn_given o info orientation) conversion
 
 -- Lines are those that the options ask for of a picture of an orientation.
 pub record HasLines (o : Options) (info : ImageInfo) (precision orientation : ℕ) (lines : Lines)
@@ -157,8 +165,8 @@ described_picture layout info precision lines decoding orientation sampling plan
     }
 
 -- The samples of a picture are in the caller's memory as the options ask for them: those of a part
--- of it, and turned upright by the orientation that a caller is told of, if that is asked for, or
--- those of its planes; and a caller is told of them.
+-- of it, made smaller to fit within a size, and turned upright by the orientation that a caller is
+-- told of, if that is asked for, or those of its planes; and a caller is told of them.
 pub record Arranged (extent : Extent) (o : Options) (info : ImageInfo) (precision : ℕ)
     (samples old new : List ℕ) (picture : Picture) : Type 0 where
   pub conversion : Conversion

@@ -5,6 +5,7 @@ use Rattle.std.specs.Prelude.{slice_index_or, take}
 use Rattle.std.specs.List.{AllByRecursion, range_with_len}
 use Rattle.jpeg_orientation.specs.Turns.{mirrored, stored_offset, upright_across, upright_down}
 use Rattle.jpeg_orientation.specs.Turns.{upright_height, upright_width}
+use Rattle.zaxbriar_calls.specs.Boxed.{fit_samples, turned_size}
 use Rattle.zaxbriar_calls.specs.Crops.{part_samples}
 use Rattle.zaxbriar_calls.specs.Layouts.{TakesStored, converted_bytes, is_stored, laid_out}
 use Rattle.zaxbriar_calls.specs.Layouts.{layout_line, over, pixel_of}
@@ -36,10 +37,14 @@ arranged_in lines samples old = if lines.turn.orientation == 1
     (lines.width * lines.stored) lines.stride lines.bottom_up lines.height samples old
     else map (turned_byte lines samples old) (range_with_len 0 (length old))
 
--- the same of the part of them that is given, where it isn't all
+-- the samples that are given: those of a part, where it isn't all, made smaller where they are to
+-- be
+abbrev pub samples_given : Lines → List ℕ → List ℕ
+samples_given lines samples = fit_samples lines.info lines.precision (turned_size lines.turn)
+    (part_samples lines.part lines.stored samples)
+
 abbrev pub arranged_part : Lines → List ℕ → List ℕ → List ℕ
-arranged_part lines samples old =
-    arranged_in lines (part_samples lines.part lines.stored samples) old
+arranged_part lines samples old = arranged_in lines (samples_given lines samples) old
 
 -- what is asked for of a picture, in the place of old bytes: the samples of its planes, one after
 -- the other, or else those of its lines

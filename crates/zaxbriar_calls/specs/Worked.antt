@@ -33,7 +33,10 @@ passes_alone passes = record {
   luma = 0;
   reserved_bytes = replicate 6 0;
   crop = crop_at 0 0 0 0;
-  reserved_words = replicate 7 0;
+  most_width = 0;
+  most_height = 0;
+  reserved_half = replicate 4 0;
+  reserved_words = replicate 6 0;
 }
 
 -- the picture upright and without a gap
@@ -44,6 +47,10 @@ upright_alone = record (passes_alone 0) { upright = 1 }
 abbrev pub cropped_alone : ℕ → ℕ → ℕ → ℕ → Options
 cropped_alone left top width height =
     record upright_alone { crop = crop_at left top width height }
+
+-- the picture upright, and within a size
+abbrev pub fitted_alone : ℕ → ℕ → Options
+fitted_alone width height = record upright_alone { most_width = width; most_height = height }
 
 -- the luma without a gap, as it is stored
 abbrev pub luma_alone : Options

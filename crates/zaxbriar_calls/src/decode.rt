@@ -27,6 +27,7 @@ ghost use Rattle.zaxbriar_calls.specs.declared.extents.Extent.TheVariants.{Parti
 ghost use Rattle.zaxbriar_calls.specs.declared.extents.Extent.TheVariants.{Whole};
 
 use crate::answers::{Misuse, Refusal, refusal_of};
+use crate::boxed::fit_lines;
 use crate::counts::bytes_read;
 use crate::crops::{part_lines, part_rows};
 use crate::decoders::decoder_of;
@@ -34,7 +35,7 @@ use crate::density::density_of;
 use crate::description::describe;
 use crate::extents::Extent;
 use crate::header::Header;
-use crate::lines::{Lines, band_of, put_lines, size_of_lines, stored_line};
+use crate::lines::{Lines, band_of, given_size, put_lines, size_of_lines, stored_line};
 use crate::options::{Options, are_known_for};
 use crate::picture::Picture;
 use crate::planes::{fit_in, put_planes};
@@ -250,7 +251,9 @@ fn decode_lines<R: Read + Drop>(
     let mut band = band_of(alloc, lines)?;
     match read_lines(decoder, extent) {
         Ok(decoded) => {
-            let mut picture = part_lines(alloc, decoded.lines, lines.part, lines.stored)?;
+            let part = part_lines(alloc, decoded.lines, lines.part, lines.stored)?;
+            let (info, size) = (lines.info, given_size(lines));
+            let mut picture = fit_lines(alloc, part, info, lines.precision, size, lines.stored)?;
             put_lines(&mut picture, lines, &mut row, &mut band, pixels);
             outcome_of(part_rows(lines.part, decoded.whole_rows), decoded.fault)
         }

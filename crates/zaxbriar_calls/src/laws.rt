@@ -16,6 +16,7 @@ ghost use Rattle.jpeg_meaning.specs.declared.images.ImageInfo.{ImageInfo};
 ghost use Rattle.jpeg_meaning.specs.declared.images.PixelFormat.TheVariants.{L8, L16, RGB24};
 ghost use Rattle.jpeg_meaning.specs.declared.images.PixelFormat.TheVariants.{CMYK32};
 ghost use Rattle.jpeg_orientation.specs.Turns.{upright_across, upright_down};
+ghost use Rattle.zaxbriar_calls.specs.Boxed.{is_fitted};
 ghost use Rattle.zaxbriar_calls.specs.Crops.{IsInPicture, is_cropped, part_rows, part_samples};
 ghost use Rattle.zaxbriar_calls.specs.Density.{density_of};
 ghost use Rattle.zaxbriar_calls.specs.Given.{as_picture, faultless, given_by};
@@ -36,8 +37,8 @@ ghost use Rattle.zaxbriar_calls.specs.Sampling.{sampling_of};
 ghost use Rattle.zaxbriar_calls.specs.Upright.{arranged_by, arranged_in, arranged_part};
 ghost use Rattle.zaxbriar_calls.specs.Upright.{upright_pixel};
 ghost use Rattle.zaxbriar_calls.specs.Worked.{all_data, crop_at, cropped_alone, exif_twice};
-ghost use Rattle.zaxbriar_calls.specs.Worked.{luma_alone, passes_alone, three_by_four};
-ghost use Rattle.zaxbriar_calls.specs.Worked.{three_by_two, upright_alone};
+ghost use Rattle.zaxbriar_calls.specs.Worked.{fitted_alone, luma_alone, passes_alone};
+ghost use Rattle.zaxbriar_calls.specs.Worked.{three_by_four, three_by_two, upright_alone};
 ghost use Rattle.zaxbriar_calls.specs.declared.layouts.Conversion.{Conversion};
 ghost use Rattle.zaxbriar_calls.specs.declared.extents.Extent.{Extent};
 ghost use Rattle.zaxbriar_calls.specs.declared.extents.Extent.TheVariants.{Partial, Planes};
@@ -204,12 +205,65 @@ pub fn known_crops()
         (cropped_alone 0 0 0 0 ∷ cropped_alone 1 0 2 1 ∷ []) ≡ true ∷ false ∷ [] }
 {}
 
-/// A pixel of a part is that of the picture which the same options give without one, counted from
-/// the part's first column and its first line.
+/// The same picture within a size. Two pixels wide its height of 4/3 is rounded to 1: the means are
+/// those of 1 and 4, which is 2.5, and of 2, 3, 5 and 6. One pixel is 3.5, and halves go up. The
+/// size is that of the picture as it is shown, and the boxes are those of the stored one. A part,
+/// gaps, an order of lines and samples of two bytes go by the smaller picture, and one that fits
+/// stays as it is.
+#[tactic(auto, unfolding(crate::proofs::Rules::smaller_lines))]
+pub fn known_fits()
+    ensures sizes { map (λ o. (three_by_two o L8 8 1).width ∷ (three_by_two o L8 8 1).height ∷ [])
+        (fitted_alone 0 0 ∷ fitted_alone 1 0 ∷ fitted_alone 2 0 ∷ fitted_alone 3 0
+        ∷ fitted_alone 0 1 ∷ fitted_alone 0 2 ∷ fitted_alone 2 2 ∷ fitted_alone 65535 1 ∷ [])
+        ≡ (3 ∷ 2 ∷ []) ∷ (1 ∷ 1 ∷ []) ∷ (2 ∷ 1 ∷ []) ∷ (3 ∷ 2 ∷ [])
+        ∷ (2 ∷ 1 ∷ []) ∷ (3 ∷ 2 ∷ []) ∷ (2 ∷ 1 ∷ []) ∷ (2 ∷ 1 ∷ []) ∷ [] }
+    ensures sides { map (λ o. (three_by_two (fitted_alone 1 0) L8 8 o).width
+        ∷ (three_by_two (fitted_alone 1 0) L8 8 o).height ∷ []) (1 ∷ 3 ∷ 6 ∷ 7 ∷ [])
+        ≡ (1 ∷ 1 ∷ []) ∷ (1 ∷ 1 ∷ []) ∷ (1 ∷ 2 ∷ []) ∷ (1 ∷ 2 ∷ []) ∷ [] }
+    ensures means { map (λ o. arranged_part (three_by_two o L8 8 1)
+        (1 ∷ 2 ∷ 3 ∷ 4 ∷ 5 ∷ 6 ∷ []) (replicate 3 9))
+        (fitted_alone 2 0 ∷ fitted_alone 0 1 ∷ fitted_alone 1 1 ∷ [])
+        ≡ (3 ∷ 4 ∷ 9 ∷ []) ∷ (3 ∷ 4 ∷ 9 ∷ []) ∷ (4 ∷ 9 ∷ 9 ∷ []) ∷ [] }
+    ensures turned { map (λ o. arranged_part (three_by_two (fitted_alone 2 2) L8 8 o)
+        (1 ∷ 2 ∷ 3 ∷ 4 ∷ 5 ∷ 6 ∷ []) (replicate 2 9)) (1 ∷ 2 ∷ 3 ∷ 4 ∷ 5 ∷ 6 ∷ 7 ∷ 8 ∷ [])
+        ≡ (3 ∷ 4 ∷ []) ∷ (4 ∷ 3 ∷ []) ∷ (4 ∷ 3 ∷ []) ∷ (3 ∷ 4 ∷ [])
+        ∷ (3 ∷ 4 ∷ []) ∷ (3 ∷ 4 ∷ []) ∷ (4 ∷ 3 ∷ []) ∷ (4 ∷ 3 ∷ []) ∷ [] }
+    ensures part { arranged_part
+        (three_by_two (record (cropped_alone 1 0 2 2) { most_width = 1 }) L8 8 1)
+        (1 ∷ 2 ∷ 3 ∷ 4 ∷ 5 ∷ 6 ∷ []) (replicate 2 9) ≡ 4 ∷ 9 ∷ [] }
+    ensures line { arranged_part
+        (three_by_two (record (cropped_alone 0 1 2 1) { most_width = 1 }) L8 8 1)
+        (1 ∷ 2 ∷ 3 ∷ 4 ∷ 5 ∷ 6 ∷ []) (replicate 2 9) ≡ 5 ∷ 9 ∷ [] }
+    ensures bottom_up { arranged_part
+        (three_by_two (record (fitted_alone 1 0) { stride = 2; bottom_up = 1 }) L8 8 8)
+        (1 ∷ 2 ∷ 3 ∷ 4 ∷ 5 ∷ 6 ∷ []) (replicate 4 9) ≡ 3 ∷ 9 ∷ 4 ∷ 9 ∷ [] }
+    ensures pairs { arranged_part (three_by_two (fitted_alone 1 0) L16 16 1)
+        (1 ∷ 10 ∷ 2 ∷ 20 ∷ 3 ∷ 30 ∷ 4 ∷ 40 ∷ 5 ∷ 50 ∷ 6 ∷ 60 ∷ []) (replicate 2 9)
+        ≡ 4 ∷ 35 ∷ [] }
+    ensures colours { arranged_part (three_by_two (fitted_alone 1 0) RGB24 8 1)
+        (1 ∷ 10 ∷ 101 ∷ 2 ∷ 20 ∷ 102 ∷ 3 ∷ 30 ∷ 103
+        ∷ 4 ∷ 40 ∷ 104 ∷ 5 ∷ 50 ∷ 105 ∷ 6 ∷ 60 ∷ 106 ∷ []) (replicate 3 9)
+        ≡ 4 ∷ 35 ∷ 104 ∷ [] }
+    ensures own { map (λ o. arranged_part (three_by_two o L8 8 1)
+        (1 ∷ 2 ∷ 3 ∷ 4 ∷ 5 ∷ 6 ∷ []) (replicate 6 9))
+        (fitted_alone 3 0 ∷ fitted_alone 0 2 ∷ fitted_alone 65535 65535 ∷ [])
+        ≡ replicate 3 (1 ∷ 2 ∷ 3 ∷ 4 ∷ 5 ∷ 6 ∷ []) }
+    ensures asked { map (λ o. is_fitted o) (fitted_alone 0 0 ∷ fitted_alone 1 0 ∷ fitted_alone 0 1
+        ∷ cropped_alone 0 0 1 1 ∷ []) ≡ false ∷ true ∷ true ∷ false ∷ [] }
+    ensures unconverted { map (λ o. are_known (record o { upright = 0; transform = 1 }))
+        (fitted_alone 0 0 ∷ fitted_alone 1 0 ∷ fitted_alone 0 1 ∷ [])
+        ≡ true ∷ false ∷ false ∷ [] }
+    ensures planes { map (λ o. are_known_for Planes (record o { upright = 0 }))
+        (fitted_alone 0 0 ∷ fitted_alone 1 0 ∷ fitted_alone 0 1 ∷ [])
+        ≡ true ∷ false ∷ false ∷ [] }
+{}
+
+/// A pixel of a part that isn't made smaller is that of the picture which the same options give
+/// without one, counted from the part's first column and its first line.
 pub fn parts_are_of_pictures()
     ensures { (o : Options) (info : ImageInfo) (precision orientation : ℕ)
         (conversion : Conversion) (samples : List ℕ) (across down : ℕ)
-        → is_cropped o ≡ true → IsInPicture o (turn_of o info orientation)
+        → is_cropped o ≡ true → is_fitted o ≡ false → IsInPicture o (turn_of o info orientation)
         → length samples ≡ info.width * info.height * stored_bytes info precision
         → across < o.crop.width → down < o.crop.height
         → upright_pixel (lines_by o info precision orientation conversion)
@@ -245,6 +299,9 @@ pub fn known_options()
         ≡ false ∷ true ∷ [] }
     ensures reserved { map (λ n. are_known (record upright_alone {
       reserved_bytes = replicate 5 0 ++ (n ∷ []);
+    })) (0 ∷ 1 ∷ []) ≡ true ∷ false ∷ [] }
+    ensures half { map (λ n. are_known (record upright_alone {
+      reserved_half = replicate 3 0 ++ (n ∷ []);
     })) (0 ∷ 1 ∷ []) ≡ true ∷ false ∷ [] }
     ensures kinds { map kind_alone (1 ∷ 3 ∷ 17 ∷ 19 ∷ []) ≡ 1 ∷ 3 ∷ 1 ∷ 3 ∷ [] }
     ensures whole { map is_whole (3 ∷ 15 ∷ 16 ∷ 17 ∷ []) ≡ false ∷ false ∷ true ∷ true ∷ [] }

@@ -5,6 +5,7 @@
 #![tactic(auto)]
 
 mod answers;
+mod boxed;
 pub mod calls;
 mod copying;
 mod counts;

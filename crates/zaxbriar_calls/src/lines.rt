@@ -4,6 +4,7 @@ ghost use Rattle.std.specs.Prelude.{map, slice_index_or, true};
 ghost use Rattle.std.specs.List.{concat, range_with_len};
 ghost use Rattle.jpeg_orientation.specs.Turns.{is_on_side, mirrored};
 ghost use Rattle.jpeg_bits.specs.declared.error.Error.TheVariants.{OutOfMemory};
+ghost use Rattle.zaxbriar_calls.specs.Boxed.{turned_size};
 ghost use Rattle.zaxbriar_calls.specs.Faults.{IsArgument};
 ghost use Rattle.zaxbriar_calls.specs.Layouts.{TakesStored, converted_bytes, laid_out, layout_line};
 ghost use Rattle.zaxbriar_calls.specs.Layouts.{is_stored, size_of_lines};
@@ -13,13 +14,15 @@ ghost use Rattle.zaxbriar_calls.specs.Upright.{TakesLines, Writes, arranged_in, 
 ghost use Rattle.zaxbriar_calls.specs.Upright.{turned_byte};
 
 use crate::answers::{Misuse, Refusal};
+use crate::boxed::{GivenLines, fit_turn, turned_info};
 use crate::crops::{StoredPart, part_of, part_turn};
 use crate::layouts::{
     Conversion, bytes_a_sample, conversion_of, converted_bytes, is_stored, put_row, samples_a_pixel,
 };
 use crate::options::Options;
+use jpeg_decoder::ImageInfo;
 use jpeg_decoder::error::Result;
-use jpeg_decoder::{ImageInfo, Lines as Decoded};
+use jpeg_decoder::parser::Dimensions;
 use jpeg_orientation::turns::{
     Turn, flips_x, flips_y, is_on_side, upright_height, upright_place, upright_width,
 };
@@ -34,7 +37,11 @@ pub struct Lines {
     pub height: u16,
     /// The part that is given of the stored picture, where it isn't all of it.
     pub part: Option<StoredPart>,
-    /// How that part, or the picture, is turned.
+    /// What is said of that part, or of the picture, before it is made smaller.
+    pub info: ImageInfo,
+    /// How many bits a sample has.
+    pub precision: u8,
+    /// How it is turned, at the size that is given.
     pub turn: Turn,
     /// The bytes of a pixel as it is stored, and in this layout.
     pub stored: u8,
@@ -74,7 +81,8 @@ pub fn lines_of(
 {
     let whole = turn_of(info, orientation, options);
     let part = part_of(options, whole)?;
-    let turn = part_turn(part, whole);
+    let whole_part = part_turn(part, whole);
+    let turn = fit_turn(options, info, whole_part);
     let width = upright_width(turn);
     let stored = samples_a_pixel(info.pixel_format) * bytes_a_sample(precision);
     let Some(conversion) = conversion_of(options.layout, info.pixel_format, precision) else {
@@ -97,6 +105,8 @@ pub fn lines_of(
         width,
         height: upright_height(turn),
         part,
+        info: turned_info(info, whole_part),
+        precision,
         turn,
         stored,
         pixel_bytes,
@@ -104,6 +114,16 @@ pub fn lines_of(
         stride,
         bottom_up: options.bottom_up == 1,
     })
+}
+
+/// Returns the size of what is given as it is stored.
+pub fn given_size(lines: Lines) -> Dimensions
+    ensures { result ≡ turned_size lines.turn }
+{
+    Dimensions {
+        width: lines.turn.width,
+        height: lines.turn.height,
+    }
 }
 
 /// Returns the bytes from the first of a picture to its last.
@@ -171,7 +191,7 @@ fn place_of(lines: Lines, y: usize) -> usize
 
 /// Writes line `y` of a decoded picture in its layout, through `row` unless it stays as it is
 /// stored.
-fn put_line(picture: &mut Decoded, lines: Lines, y: usize, row: &mut [u8], line: &mut [u8])
+fn put_line(picture: &mut GivenLines, lines: Lines, y: usize, row: &mut [u8], line: &mut [u8])
     requires y { y < length picture.old }
     requires stored { length (slice_index_or picture.old y []) ≡ lines.turn.width * lines.stored }
     requires row { is_stored lines.conversion ≡ false
@@ -199,7 +219,7 @@ fn put_line(picture: &mut Decoded, lines: Lines, y: usize, row: &mut [u8], line:
 
 /// Writes the lines of a decoded picture as it is stored, and leaves the gaps between them. `row`
 /// has room for a line as it is stored, unless lines stay as they are.
-fn put_stored_lines(picture: &mut Decoded, lines: Lines, row: &mut [u8], pixels: &mut [u8])
+fn put_stored_lines(picture: &mut GivenLines, lines: Lines, row: &mut [u8], pixels: &mut [u8])
     requires stored { TakesLines lines picture.old (length row.old) }
     requires room { HasRoom lines (length pixels.old) }
     requires width { lines.width ≡ lines.turn.width }
@@ -373,7 +393,7 @@ fn put_band(band: &[u8], lines: Lines, first: usize, count: usize, pixels: &mut 
 
 /// Reads a band of lines in their layout, from line `first` on.
 fn read_band(
-    picture: &mut Decoded,
+    picture: &mut GivenLines,
     lines: Lines,
     first: usize,
     count: usize,
@@ -402,7 +422,7 @@ fn read_band(
 /// Writes the lines of a decoded picture, turned upright, and leaves the gaps between them. `band`
 /// has room for the lines that are turned at a time.
 fn put_turned_lines(
-    picture: &mut Decoded,
+    picture: &mut GivenLines,
     lines: Lines,
     row: &mut [u8],
     band: &mut [u8],
@@ -428,7 +448,7 @@ fn put_turned_lines(
 /// between them. `row` has room for a line as it is stored, unless lines stay as they are, and
 /// `band` for those that are turned at a time.
 pub fn put_lines(
-    picture: &mut Decoded,
+    picture: &mut GivenLines,
     lines: Lines,
     row: &mut [u8],
     band: &mut [u8],

@@ -5,6 +5,7 @@ ghost use Rattle.jpeg_meaning.specs.DecodedImages.{at_size};
 ghost use Rattle.jpeg_meaning.specs.Found.{with_said};
 ghost use Rattle.jpeg_meaning.specs.Output.{default_settings};
 ghost use Rattle.jpeg_meaning.specs.declared.progress.Progress.TheVariants.{HeaderRead};
+ghost use Rattle.zaxbriar_calls.specs.Boxed.{is_fitted};
 ghost use Rattle.zaxbriar_calls.specs.Crops.{is_cropped};
 ghost use Rattle.zaxbriar_calls.specs.Limits.{are_as_coded, are_known, are_known_for};
 ghost use Rattle.zaxbriar_calls.specs.Limits.{blocks_of_passes, is_denominator, is_rest_zero};
@@ -64,8 +65,15 @@ pub struct Options {
     /// turned upright where they say so; all zeros for all of it. Without a conversion (transform
     /// 1) it can't be a part.
     pub crop: Area,
+    /// The greatest width and height of the picture as it is shown; 0 for any. A picture, or its
+    /// part, that is greater is made smaller, in its proportions: each sample is the mean of those
+    /// of its box. Without a conversion (transform 1) it can't be.
+    pub most_width: u16,
+    pub most_height: u16,
     /// Zero.
-    pub reserved_words: [u64; 7],
+    pub reserved_half: [u8; 4],
+    /// Zero.
+    pub reserved_words: [u64; 6],
 }
 
 /// All of a picture.
@@ -93,7 +101,10 @@ pub const AS_STORED: Options = Options {
     luma: 0,
     reserved_bytes: [0; 6],
     crop: NO_CROP,
-    reserved_words: [0; 7],
+    most_width: 0,
+    most_height: 0,
+    reserved_half: [0; 4],
+    reserved_words: [0; 6],
 };
 
 /// Returns whether a number is the denominator of a scale, or 0.
@@ -123,7 +134,7 @@ fn is_rest_zero(options: &Options) -> bool
 {
     are_zero(&options.pointer_words)
         && are_zero(&options.reserved_words)
-        && are_zero_bytes(&options.reserved_bytes)
+        && (are_zero_bytes(&options.reserved_bytes) && are_zero_bytes(&options.reserved_half))
 }
 
 /// Returns whether a part of the picture is asked for.
@@ -134,12 +145,20 @@ pub fn is_cropped(options: &Options) -> bool
     crop.left != 0 || (crop.top != 0 || (crop.width != 0 || crop.height != 0))
 }
 
+/// Returns whether the picture is to fit within a size.
+pub fn is_fitted(options: &Options) -> bool
+    ensures { result ≡ is_fitted options.now }
+{
+    options.most_width != 0 || options.most_height != 0
+}
+
 /// Returns whether all options exist whatever the picture is.
 pub fn are_known(options: &Options) -> bool
     ensures { result ≡ are_known options.now }
 {
     (options.transform != 1
-        || (options.layout == 0 && (options.upright == 0 && !is_cropped(options))))
+        || (options.layout == 0
+            && (options.upright == 0 && (!is_cropped(options) && !is_fitted(options)))))
         && options.transform <= 5
         && is_denominator(options.scale)
         && options.bottom_up <= 1
@@ -157,7 +176,8 @@ fn are_as_coded(options: &Options) -> bool
         && (options.layout == 0
             && (options.bottom_up == 0
                 && (options.transform == 0
-                    && (options.upright == 0 && (options.luma == 0 && !is_cropped(options))))))
+                    && (options.upright == 0
+                        && (options.luma == 0 && (!is_cropped(options) && !is_fitted(options)))))))
 }
 
 /// Returns whether all options exist for what is asked for.

@@ -149,6 +149,9 @@ class Options(unittest.TestCase):
             ({"crop": (0, 0, 0, 0)}, r"crop has a column .*, and not \(0, 0, 0, 0\)"),
             ({"crop": (0, -1, 1, 1)}, "each of crop is a number from 0 to 65535, and not -1"),
             ({"crop": (0, 0, 1, 1), "transform": "none"}, "an option doesn't exist"),
+            ({"within": (9, 65536)}, "each of within is a number from 0 to 65535, and not 65536"),
+            ({"within": (9,)}, "within has 2 numbers, and not 1"),
+            ({"within": (9, 9), "transform": "none"}, "an option doesn't exist"),
             ({"max_bytes": -1}, "max_bytes"),
         ):
             with self.subTest(options), self.assertRaisesRegex(zaxbriar.BadArgumentError, text):
@@ -159,6 +162,7 @@ class Options(unittest.TestCase):
             {"max_passes": None},
             {"crop": 1},
             {"crop": "0011"},
+            {"within": 9},
             {"crop_left": 1},
         ):
             with self.subTest(options), self.assertRaises(TypeError):

@@ -68,6 +68,40 @@ def parts_of(picture):
     yield width // 3, 0, 1, height
 
 
+def shrunk(side, before, after):
+    """What a side is where another becomes shorter."""
+    return max(1, min(side, (side * after + before // 2) // before))
+
+
+def fitted(width, height, most_width, most_height):
+    """The size of a picture that is to fit within another, where 0 is any."""
+    most_width, most_height = most_width or 65535, most_height or 65535
+    if width <= most_width and height <= most_height:
+        return width, height
+    if height * most_width <= width * most_height:
+        return most_width, shrunk(height, width, most_width)
+    return shrunk(width, height, most_height), most_height
+
+
+def boxed(lines, width, height):
+    """The lines of a picture made smaller: each sample is the mean of those in its place."""
+    columns = [x * len(lines[0]) // width for x in range(width + 1)]
+    rows = [y * len(lines) // height for y in range(height + 1)]
+    made = []
+    for top, bottom in zip(rows, rows[1:]):
+        boxes = [
+            [pixel for line in lines[top:bottom] for pixel in line[left:right]]
+            for left, right in zip(columns, columns[1:])
+        ]
+        made.append(
+            [
+                bytes((sum(samples) + len(box) // 2) // len(box) for samples in zip(*box))
+                for box in boxes
+            ]
+        )
+    return made
+
+
 class Streams(unittest.TestCase):
     """The buffers that a stream is read from."""
 
@@ -300,6 +334,25 @@ class Pictures(unittest.TestCase):
         with self.assertRaises(zaxbriar.TooLargeError) as raised:
             zaxbriar.decode(STREAM, crop=(1, 2, 3, 4), max_samples=35)
         self.assertEqual(raised.exception.info.shape, (4, 3, 3))
+
+    def test_within(self):
+        for orientation in range(1, 9):
+            stream = with_orientation(orientation)
+            for others in ({}, {"scale": 2}, {"crop": (1, 2, 11, 9)}):
+                # (the boxes are those of the stored picture, which lie otherwise in a turned one)
+                whole = zaxbriar.decode(stream, **others)
+                shown = zaxbriar.read_info(stream, upright=True, **others)
+                for most in ((9, 9), (0, 7), (5, 0), (39, 39), [4, 3]):
+                    size = fitted(whole.width, whole.height, *most)
+                    small = zaxbriar.decode(stream, within=most, **others)
+                    self.assertEqual(small.shape[1::-1], size)
+                    self.assertEqual(lines_of(small), boxed(lines_of(whole), *size))
+                    upright = zaxbriar.read_info(stream, upright=True, within=most, **others)
+                    size = fitted(shown.width, shown.height, *most)
+                    self.assertEqual((upright.width, upright.height), size)
+        whole = zaxbriar.decode(STREAM)
+        for most in (None, (0, 0), (65535, 65535), (whole.width, whole.height)):
+            self.assertEqual(bytes(zaxbriar.decode(STREAM, within=most)), bytes(whole))
 
     @needs_numpy
     def test_are_arrays_of_numpy_without_a_copy(self):

@@ -24,7 +24,7 @@ class Examples(unittest.TestCase):
 
     def test_run(self):
         examples = re.findall(r"^```python\n(.*?)^```$", PAGE.read_text(), re.S | re.M)
-        self.assertEqual(len(examples), 8)
+        self.assertEqual(len(examples), 9)
         found = {"cut_data": self.photo[: len(self.photo) // 2]}
         said = io.StringIO()
         with contextlib.redirect_stdout(said):
@@ -37,6 +37,7 @@ class Examples(unittest.TestCase):
         self.assertEqual(found["picture"].shape, (427, 640, 3))
         self.assertEqual(found["samples"].shape, (427, 640, 3))
         self.assertEqual(found["tile"].shape, (256, 256, 3))
+        self.assertEqual(found["small"].shape, (107, 160, 3))
         if numpy:
             self.assertEqual(found["pixels"].shape, (427, 640, 3))
             self.assertEqual(found["canvas"][20, 30].tolist(), [*found["picture"][0][0]])

@@ -24,6 +24,7 @@ def sizes(data: bytes, mapped: mmap.mmap, room: bytearray) -> tuple[int, Optiona
     options["upright"] = True
     options["luma"] = True
     options["crop"] = (0, 0, 16, 16)
+    zaxbriar.decode(data, within=(256, 0))
     zaxbriar.decode(data, **options)
     end: int = zaxbriar.next_segment(data).end
     found = len(exif or b"") + len(thumbnail or b"")
@@ -35,6 +36,7 @@ def misuses(data: bytes) -> None:
     zaxbriar.decode(data, layout="RGB")  # type: ignore[arg-type]
     zaxbriar.decode(data, scale="2")  # type: ignore[arg-type]
     zaxbriar.decode(data, crop=(0, 0, 16))  # type: ignore[arg-type]
+    zaxbriar.decode(data, within=256)  # type: ignore[arg-type]
     zaxbriar.decode(data, max_pases=3)  # type: ignore[call-arg]
     zaxbriar.metadata(data, "iptc")  # type: ignore[arg-type]
     zaxbriar.joined_metadata(data, "icc")  # type: ignore[arg-type]

@@ -86,7 +86,10 @@ class Options(Structure):
         ("crop_top", c_uint16),
         ("crop_width", c_uint16),
         ("crop_height", c_uint16),
-        ("reserved_words", c_uint64 * 7),
+        ("most_width", c_uint16),
+        ("most_height", c_uint16),
+        ("reserved_half", c_uint8 * 4),
+        ("reserved_words", c_uint64 * 6),
     ]
 
 

@@ -51,6 +51,11 @@ class Options(Limits, total=False):
         give: in pixels of that at its scale, and of the upright one if that is asked for; or None.
         One that isn't inside the picture is a BadArgumentError, and so is any with the transform
         "none". The whole stream is read all the same.
+    within: (width, height), for the greatest picture of the same proportions that has at most so
+        many columns and lines as it is shown, where 0 is any number; or None. It is that of the
+        picture that the other options give, at its scale and of its part, and never greater: each
+        sample is the mean of those in its place. To decode less of a large picture, ask for a
+        scale, too. With the transform "none" it is a BadArgumentError.
     """
 
     layout: Layout
@@ -63,6 +68,7 @@ class Options(Limits, total=False):
     upright: bool
     luma: bool
     crop: tuple[int, int, int, int] | None
+    within: tuple[int, int] | None
 
 
 LIMITS = ("max_samples", "max_bytes", "max_passes")
@@ -78,7 +84,10 @@ MOST = {
     **dict.fromkeys(("stride", *LIMITS), 2**64 - 1),
 }
 # The options that are tuples, and the library's options for their numbers.
-TUPLES = {"crop": ("crop_left", "crop_top", "crop_width", "crop_height")}
+TUPLES = {
+    "crop": ("crop_left", "crop_top", "crop_width", "crop_height"),
+    "within": ("most_width", "most_height"),
+}
 OPTIONS = (*NAMES, *TUPLES, *MOST)
 
 

@@ -25,7 +25,7 @@ class Info:
     row_bytes, pixel_bytes: those of a line without its gap, and of a pixel.
     decoding_bytes: the most memory that decoding uses for coefficients and samples.
     stream_bytes: how many bytes the image takes, after decode; or the header, after read_info.
-    width, height: in pixels, at the scale, upright if that was asked for, and of the part that was.
+    width, height: in pixels, as they were asked for: at the scale, upright, of the part, or within.
     layout: the one that was asked for.
     components: the samples of a pixel as it is stored: one of each component of the stream, 1, 3 or
         4; 1 if the luma alone was asked for.

@@ -10,8 +10,9 @@ use crate::library::{Options, Picture};
 pub enum ColorTransform {
     /// They are samples as they are, and a line has those of its first component, then those of the
     /// next ones. [`decode_as`](crate::Decoder::decode_as) refuses it, since it has no pixels, and
-    /// so does a decoder that turns the picture ([`set_upright`](crate::Decoder::set_upright)) or
-    /// gives a part of it ([`set_crop`](crate::Decoder::set_crop)).
+    /// so does a decoder that turns the picture ([`set_upright`](crate::Decoder::set_upright)),
+    /// gives a part of it ([`set_crop`](crate::Decoder::set_crop)) or makes it smaller
+    /// ([`set_within`](crate::Decoder::set_within)).
     None,
     /// A transform that isn't known: refused.
     Unknown,
@@ -42,6 +43,8 @@ fn place_of(options: &Options) -> &'static str {
         " in a layout"
     } else if options.upright != 0 {
         " turned upright"
+    } else if options.is_fitted() {
+        " within a size"
     } else if options.has_own_size() {
         " of a part"
     } else {

@@ -60,8 +60,9 @@ pub struct Decoder<R> {
     /// How many bytes of the stream the metadata are of.
     metadata_end: usize,
     color_transform: Option<ColorTransform>,
-    /// The scale, the order of rows, whether the picture is turned, whether it is its luma, its
-    /// part, and the limit of passes; the rest is as the library has it.
+    /// The scale, what the picture fits within, the order of rows, whether the picture is turned,
+    /// whether it is its luma, its part, and the limit of passes; the rest is as the library has
+    /// it.
     options: Options,
     max_samples: u64,
     max_bytes: u64,
@@ -488,6 +489,32 @@ impl<R: Read> Decoder<R> {
     pub fn set_scale(&mut self, scale: Scale) -> Result<(u16, u16)> {
         let mut options = self.options;
         options.scale = scale as u8;
+        self.resize(options)
+    }
+
+    /// Makes the picture fit within a size, as it is shown, and returns the size that it has then:
+    /// the greatest one of its proportions, or its own where that fits. 0 is any width or height.
+    /// Reads the header.
+    ///
+    /// It is the picture at its scale ([`scale`](Decoder::scale),
+    /// [`set_scale`](Decoder::set_scale)), or [the part](Decoder::set_crop) of it, that is made
+    /// smaller: each sample is the mean of those in its place, rounded to the nearest number. To
+    /// decode less of a large picture, choose a scale, too. Decoding it with the colour transform
+    /// [`None`](ColorTransform::None) of several components is an [`Error::Format`].
+    ///
+    /// ```
+    /// # let jpeg = &std::fs::read("image/tests/colour.jpg").unwrap()[..];
+    /// use zaxbriar::Decoder;
+    ///
+    /// let mut decoder = Decoder::new(jpeg);
+    /// assert_eq!(decoder.set_within(16, 16)?, (16, 10));
+    /// assert_eq!(decoder.decode()?.len(), 16 * 10 * 3);
+    /// # Ok::<(), zaxbriar::Error>(())
+    /// ```
+    pub fn set_within(&mut self, width: u16, height: u16) -> Result<(u16, u16)> {
+        let mut options = self.options;
+        options.most_width = width;
+        options.most_height = height;
         self.resize(options)
     }
 

@@ -45,8 +45,9 @@ pub enum CodingProcess {
 #[derive(Clone, Copy, Debug, PartialEq)]
 pub struct ImageInfo {
     /// The width in pixels, at the scale that was chosen, upright if that was asked for
-    /// ([`Decoder::set_upright`](crate::Decoder::set_upright)), and of the part that was
-    /// ([`Decoder::set_crop`](crate::Decoder::set_crop)).
+    /// ([`Decoder::set_upright`](crate::Decoder::set_upright)), of the part that was
+    /// ([`Decoder::set_crop`](crate::Decoder::set_crop)), and within the size that was
+    /// ([`Decoder::set_within`](crate::Decoder::set_within)).
     pub width: u16,
     /// The height in pixels, in the same way.
     pub height: u16,

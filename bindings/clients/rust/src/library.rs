@@ -66,13 +66,22 @@ pub struct Options {
     reserved_bytes: [u8; 6],
     /// A part of the picture, or zeros for all of it.
     pub crop: Area,
-    reserved_words: [u64; 7],
+    /// What the picture fits within, or zeros.
+    pub most_width: u16,
+    pub most_height: u16,
+    reserved_half: [u8; 4],
+    reserved_words: [u64; 6],
 }
 
 impl Options {
     /// Returns whether only the library says what size the picture has.
     pub fn has_own_size(&self) -> bool {
-        self.crop != Area::default()
+        self.crop != Area::default() || self.is_fitted()
+    }
+
+    /// Returns whether the picture is made to fit within a size.
+    pub fn is_fitted(&self) -> bool {
+        self.most_width > 0 || self.most_height > 0
     }
 }
 

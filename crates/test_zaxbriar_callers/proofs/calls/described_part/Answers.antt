@@ -12,7 +12,7 @@ returns-clause-wide c ok =
     ap (λ (p : Picture). p.width) described.picture_is
     ∙ part-width c.args.options.now described.info
     (orientation_by (at_size (size_wanted c.args.options.now) described.header.said).metadata.exif)
-    (is_cropped c.args.options.now) refl c.requires.asked
+    (is_cropped c.args.options.now) refl c.requires.asked c.requires.own
 
 pub returns-clause-high : goal.returns-clause-high
 returns-clause-high c ok =
@@ -20,4 +20,4 @@ returns-clause-high c ok =
     ap (λ (p : Picture). p.height) described.picture_is
     ∙ part-height c.args.options.now described.info
     (orientation_by (at_size (size_wanted c.args.options.now) described.header.said).metadata.exif)
-    (is_cropped c.args.options.now) refl c.requires.asked
+    (is_cropped c.args.options.now) refl c.requires.asked c.requires.own

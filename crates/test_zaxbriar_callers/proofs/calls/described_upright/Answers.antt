@@ -17,6 +17,6 @@ returns c ok right =
       ap (λ (p : Picture). p.width) described.picture_is
           ∙ whole-width c.args.options.now described.info
           (orientation_by (at_size (size_wanted c.args.options.now) described.header.said).metadata.exif)
-          (is_cropped c.args.options.now) refl c.requires.whole
+          (is_cropped c.args.options.now) refl c.requires.whole c.requires.own
           ∙ (λ i. if nat_lt 4 (if asked i == 1 then turned i else 1) then described.info.height else described.info.width),
     )
