@@ -4,9 +4,10 @@
  * byte for byte. Then the same picture is asked for with less room, from the part of the file that
  * was read, in each layout with gaps between the lines, at each scale, upright by each orientation,
  * also of a cut file and of a part of the picture, without its colours, and with a limit. Metadata
- * are compared with NAME.exif, NAME.xmp and NAME.icc where there are such files, and the orientation
- * with the number after `orientation-` in the name. The last line has a sum of all pictures and of
- * what is said of them, by which two builds of the library are compared. */
+ * are compared with NAME.exif, NAME.xmp and NAME.icc where there are such files, Exif data also
+ * with the place that is found for them, and the orientation with the number after `orientation-`
+ * in the name. The last line has a sum of all pictures and of what is said of them, by which two
+ * builds of the library are compared. */
 #define _POSIX_C_SOURCE 200809L
 #include <sys/wait.h>
 
@@ -84,11 +85,12 @@ static void of_part(const zaxbriar_picture *whole, const unsigned char *pixels) 
     free(part);
 }
 
-/* A stored sample on the scale of 0 to `full`. */
+/* A stored sample on the scale of 0 to `full`. A lossless picture may have samples above the
+ * greatest of its precision, which become `full`. */
 static uint64_t level(unsigned full, const zaxbriar_picture *whole, const unsigned char *sample) {
     unsigned most = (1u << whole->precision) - 1;
     uint64_t value = whole->sample_bytes == 2 ? sample[0] | (unsigned)sample[1] << 8 : sample[0];
-    return (value * full + most / 2) / most;
+    return value < most ? (value * full + most / 2) / most : full;
 }
 
 /* Red, green and blue of a pixel as it is stored, from 0 to `full`. */
@@ -445,13 +447,18 @@ static void limited(const zaxbriar_picture *whole) {
     free(pixels);
 }
 
-/* Where a whole image has no such data, the answer is that of decoding it. */
-static void metadata_of_image(int decoded) {
+/* The Exif data of a header or of a whole image are those in the bytes that reading it takes; data
+ * of no bytes are data, too. Where there are none, the answer is that of reading it, or NO_DATA
+ * after OK. */
+static void exif_within(size_t bytes_read, int kind, int result) {
+    zaxbriar_places places;
     size_t length;
-    int answer = zaxbriar_metadata(jpeg.start, jpeg.size, ZAXBRIAR_EXIF | ZAXBRIAR_WHOLE_IMAGE,
-                                   NULL, 0, &length);
-    int without = decoded == ZAXBRIAR_OK ? ZAXBRIAR_NO_DATA : decoded;
-    CHECK(answer == (length ? ZAXBRIAR_NO_ROOM : without));
+    int answer = zaxbriar_metadata(jpeg.start, jpeg.size, kind, NULL, 0, &length);
+    CHECK(zaxbriar_find_metadata(jpeg.start, bytes_read, &places) == ZAXBRIAR_OK);
+    int with = places.exif.size ? ZAXBRIAR_NO_ROOM : ZAXBRIAR_OK;
+    int without = result == ZAXBRIAR_OK ? ZAXBRIAR_NO_DATA : result;
+    CHECK(answer == (places.exif.offset ? with : without));
+    CHECK(length == places.exif.size);
 }
 
 static void metadata(const char *name) {
@@ -487,6 +494,7 @@ static void of_file(const char *name, const char *jpegraw) {
     zaxbriar_picture head, picture;
     int answer = zaxbriar_read_info(jpeg.start, jpeg.size, NULL, &head);
     int is_headed = answer == ZAXBRIAR_OK;
+    exif_within(head.stream_bytes, ZAXBRIAR_EXIF, answer);
     unsigned char *pixels = block(is_headed ? head.size : 0);
     answer =
         zaxbriar_decode(jpeg.start, jpeg.size, NULL, pixels, is_headed ? head.size : 0, &picture);
@@ -496,7 +504,7 @@ static void of_file(const char *name, const char *jpegraw) {
     add_to_sum(&picture, sizeof picture);
     if (jpegraw) with_jpegraw(jpegraw, name, answer, &picture, pixels);
     metadata(name);
-    metadata_of_image(answer);
+    exif_within(picture.stream_bytes, ZAXBRIAR_EXIF | ZAXBRIAR_WHOLE_IMAGE, answer);
     if (answer == ZAXBRIAR_OK) {
         const char *told = strstr(name, "orientation-");
         CHECK(!told || picture.orientation == atoi(told + 12));
