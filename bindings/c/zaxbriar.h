@@ -451,7 +451,8 @@ ZAXBRIAR_CALL zaxbriar_result zaxbriar_decode_planes(const void *jpeg, size_t jp
 
 /* Copies the metadata of a kind (zaxbriar_kind) from the segments before the frame: Exif data from
  * the TIFF header on, XMP data, or an ICC profile. Stores their number of bytes in *length, even if
- * `data_size` is too small. `data` may be null if `data_size` is 0, and `length` may be null.
+ * `data_size` is too small. `data` may be null if `data_size` is 0, and `length` may be null. Data
+ * of no bytes are ZAXBRIAR_OK with a length of 0; without data the call returns ZAXBRIAR_NO_DATA.
  *
  * With ZAXBRIAR_WHOLE_IMAGE, as in ZAXBRIAR_EXIF | ZAXBRIAR_WHOLE_IMAGE, all segments up to the end
  * of the image count, or up to its first fault. The call then reads the scans as well, which takes
