@@ -35,3 +35,4 @@ pub mod WalkedFrames
 pub mod WalkedScans
 pub mod WalkStates
 pub mod Walks
+pub mod WrittenFrames

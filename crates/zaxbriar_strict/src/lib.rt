@@ -4,7 +4,7 @@
 //! clauses, takes nothing that they don't define, and makes no picture. What is read of markers, of
 //! tables, of bits and of blocks was written by the definitions of a writer, which the contracts
 //! cite; and so was a whole stream, if its frame is sequential and has a picture, and its first
-//! scan has all components.
+//! scan has all components: it means the picture of its coefficients ([`laws`]).
 #![tactic(auto)]
 
 ghost use Rattle.std.specs.Prelude.{◌≡◌, IfOk, length};
@@ -18,6 +18,7 @@ mod cursor;
 mod frame;
 mod huffman;
 mod intervals;
+pub mod laws;
 mod lossless;
 mod quantization;
 mod rule;

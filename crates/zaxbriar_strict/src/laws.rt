@@ -1,0 +1,31 @@
+//! What strict streams mean. Theorems, each on a function without a body.
+ghost use Rattle.std.specs.Prelude.{◌≡◌, ℕ, ◌∷◌, ◌++◌, length, List};
+ghost use Rattle.jpeg_meaning.specs.ArrayPictures.{meaning_of_array};
+ghost use Rattle.jpeg_meaning.specs.Stream.{meaning};
+ghost use Rattle.jpeg_meaning.specs.WholeImages.{whole_meaning};
+ghost use Rattle.jpeg_meaning.specs.declared.settings.Settings.{Settings};
+ghost use Rattle.zaxbriar_strict.specs.Exact.{HasHeader, HasOtherAdobe, HasSequentialPicture};
+ghost use Rattle.zaxbriar_strict.specs.Exact.{HasSmallerScan, IsExact, IsWritten};
+
+/// A stream that a writer emits for the coefficients of an image means their picture, cut at the
+/// bits that were sent. What follows the image is left.
+pub fn written_streams_mean_their_pictures()
+    ensures { (settings : Settings) (bytes rest : List ℕ) → (image : IsWritten bytes) →
+        meaning settings (bytes ++ rest)
+        ≡ meaning_of_array settings image.final image.array image.last rest }
+{}
+
+/// A stream of which `judge` says that it is strict (clause `exact`) is written for coefficients,
+/// and means the picture of those coefficients themselves: without the fill bytes that may stand
+/// before SOI, and if no Adobe segment gives an unknown transform, its frame is sequential and has
+/// a picture, and its first scan has all components.
+pub fn strict_streams_mean_their_pictures()
+    ensures { (bytes : List ℕ) → IsExact bytes → (HasOtherAdobe bytes → ⊥) →
+        (headed : HasHeader bytes)
+        × (HasSequentialPicture headed.number headed.header →
+        (HasSmallerScan (length headed.header.components) headed.after → ⊥) →
+        (image : IsWritten (255 ∷ 216 ∷ headed.after))
+        × ((settings : Settings) (rest : List ℕ) →
+        meaning settings (255 ∷ 216 ∷ (headed.after ++ rest))
+        ≡ whole_meaning settings image.final image.array rest)) }
+{}
