@@ -13,7 +13,11 @@ from pathlib import Path
 
 ROOT = Path(__file__).resolve().parent.parent
 CASES = ROOT / "tests/decoder/data"
-PARTIAL = CASES / "partial_random.case"
+# Files of random streams, and how each names those whose answers come of the model alone.
+DAMAGED = {
+    "partial_random": r"(?m)^case .*(?:flipped|at byte \d+)$",
+    "rows_random": r"(?m)^case .*(?:flipped|at byte \d+|closed after \d+ bytes)$",
+}
 
 
 def text(path):
@@ -89,16 +93,21 @@ def expected():
     for name in ("must", "may", "own"):
         figure = len(re.findall(rf'(?m)"file": "\w+", "class": "{name}"', classes))
         yield "docs/CONFORMANCE.md", rf"(?m)^\| \*{name}\* \| (\d+) \|", figure
-    drawn = sum(map(cases, ("random", "extreme", "partial_random", "partial_rows")))
+    files = ("random", "extreme", "partial_random", "partial_rows", "rows_random")
+    drawn = sum(map(cases, files))
     yield "docs/CONFORMANCE.md", r"(\d+) are random streams", drawn
     decoded = sum(map(first_decodes, CASES.glob("*.case")))
     yield "docs/CONFORMANCE.md", r"on the (\d+) streams whose first call", decoded
     yield "docs/TRUST.md", r"(\d+) random\s+streams", drawn
-    damaged = len(re.findall(r"(?m)^case .*(?:flipped|at byte \d+)$", text(PARTIAL)))
+    damaged = sum(
+        len(re.findall(pattern, text(CASES / f"{name}.case"))) for name, pattern in DAMAGED.items()
+    )
     yield "docs/CONFORMANCE.md", r"those of (\d+)\s+damaged", damaged
     yield "docs/TRUST.md", r"of (\d+) damaged", damaged
     partial = sum(map(cases, ("partial", "partial_random", "partial_rows")))
     yield "docs/TRUST.md", r"of (\d+)\s+cut or\s+damaged streams", partial
+    rows = sum(map(cases, ("rows", "rows_random")))
+    yield "docs/TRUST.md", r"of (\d+) whole, cut or\s+damaged streams", rows
     parts = len(text("tests/parts/answers").splitlines())
     yield "docs/CONFORMANCE.md", r"each of the (\d+) cases", parts
     yield "CHANGELOG.md", r"(\d+) calls of\s+the parts", parts

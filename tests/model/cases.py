@@ -24,6 +24,8 @@ OVER, FAILED = 'refused: image was already decoded', 'refused: decoder has faile
 SHORT = 'refused: pixels are shorter than the picture'
 PROCESSES = {'seq': 'DctSequential', 'prog': 'DctProgressive', 'lossless': 'Lossless'}
 NO_LIMIT = 2**64 - 1
+# The calls that have no answer.
+SETTERS = 'transform', 'limit', 'luma'
 
 
 class Case:
@@ -144,6 +146,7 @@ class Decoder:
         self.stream, self.settings = stream, model.Settings(limit=NO_LIMIT)
         self.stage, self.frame, self.said = 'fresh', None, {'exif': None, 'xmp': None, 'icc': []}
         self.place, self.trace, self.meaning = 0, None, None
+        self.gave_rows = False
 
     def mean(self, read=model.meaning):
         """Runs the model by the settings of now."""
@@ -174,7 +177,7 @@ class Decoder:
         return model.pick_scale(self.frame, self.settings.scale)
 
     def size(self):
-        return '%d %d %s' % model.info(self.frame, self.scale_of_now())
+        return '%d %d %s' % model.info(self.frame, self.scale_of_now(), self.settings)
 
     def picture(self, read=model.meaning):
         """Decodes, and returns a refusal's texts or the picture's bytes, or what else is read."""
@@ -211,6 +214,9 @@ class Decoder:
     def limit(self, samples):
         self.settings.limit = int(samples)
 
+    def luma(self):
+        self.settings.luma = True
+
     def header(self):
         return self.read_header() or ['ok']
 
@@ -241,6 +247,23 @@ class Decoder:
             for width, height, samples in planes
         )
         return [', '.join(said)]
+
+    def rows(self):
+        if self.gave_rows:
+            return ['none']
+        self.gave_rows = True
+        refusal = [OVER] if self.stage == 'finished' else self.read_header()
+        if refusal:
+            return [text + ', lines 0' for text in refusal]
+        self.mean(model.lines_of)
+        if self.meaning[0] != 'err':
+            self.stage, self.said, self.place = 'finished', self.trace['state'], self.trace['end']
+            return [self.size() + self.words(self.meaning[-1])]
+        *self.meaning, given = self.meaning
+        size = len(self.frame.comps)
+        count = len(given) // size // model.info(self.frame, self.scale_of_now())[0]
+        said = ', lines %d%s' % (count, words_of(given, size))
+        return [text + said for text in self.refuse()]
 
     def refusal(self):
         return [text + '..' if text == FORMAT else text for text in self.decode()]
@@ -327,7 +350,7 @@ def fault_of(case, line):
         given = [rest]
     for call in case.calls:
         answers = getattr(decoder, call[0])(*call[1:])
-        if call[0] in ('transform', 'limit'):
+        if call[0] in SETTERS:
             continue
         answer = given.pop(0) if given else 'no answer'
         if not is_right(answer, answers):

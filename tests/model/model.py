@@ -10,6 +10,9 @@ shown(bytes, settings) -> ('ok', width, height, format, pixels, fault) or ('err'
 is what `decode_partial` must return: the picture of what a stream brings up to its first fault, and
 the kind of that fault, or None. Here it is not left open which fault that is.
 
+lines_of(bytes, settings) -> what meaning gives, and after a refusal the bytes of the lines that
+`Rows` must have given before it.
+
 model.py [--partial] < JPEG     writes the picture, and the fault to standard error
 """
 import sys
@@ -658,6 +661,8 @@ def dct_scan(r, f, s, dc, ac, ri, blocks, stops, b):
             blocks[i][at] = block
 
     read = []
+    if b.read is None:
+        b.read = read
     try:
         return run_scan(r, mcus, ri, start, unit, stops, read)
     except Refused:
@@ -1059,11 +1064,13 @@ def parse_app(r, n, st):
 class Brought:
     """What a stream has brought so far: the frame and its scale, the quantization tables, the
     blocks that a progressive frame holds between scans, the planes that are decided, and how many
-    rows a scan with a fault makes whole."""
+    rows a scan with a fault makes whole. Of the first scan its components, what the segments before
+    it say, and the MCUs that were read."""
 
     def __init__(self):
         self.frame, self.scale, self.qt = None, 8, [None] * 4
         self.held, self.finished, self.planes, self.rows = None, {}, {}, None
+        self.first, self.said, self.read = None, None, None
 
     def zero_blocks(self, i):
         c = self.frame.comps[i]
@@ -1119,6 +1126,45 @@ class Brought:
         conv = conversion(len(f.comps), choose(f, st, settings)) if len(f.comps) > 1 else None
         return ('ok', *shape, picture(f, planes, s8, conv))
 
+    def transform_by_rows(self, settings):
+        """the transform by which the lines of a picture are made as its first scan is read, or None
+        where they come at the end of the image: of a frame that isn't sequential, where the scan
+        lacks a component, of the luma, above the limit, and where there is no such transform"""
+        f = self.frame
+        if self.first is None or f.process != 'seq' or len(self.first) != len(f.comps):
+            return None
+        try:
+            self.check_limit(settings)
+            transform = choose(f, self.said, settings)
+            if len(f.comps) > 1:
+                conversion(len(f.comps), transform)
+        except Refused:
+            return None
+        return None if settings.luma else transform
+
+    def lines_by_rows(self, settings):
+        """the lines of the picture that are decided by the rows of MCUs that were read of the first
+        scan, where lines are made as it is read: all of theirs, but for the last where it is blended
+        with a line of the next row"""
+        f, transform, read = self.frame, self.transform_by_rows(settings), self.read or []
+        if transform is None or not read:
+            return b''
+        width, height = f.output(self.scale)
+        if len(f.comps) == 1:
+            wide, high = own_blocks(f, f.comps[0])
+            rows = f.mcus[1] if len(read) == wide * high else len(read) // wide // f.comps[0].v
+        else:
+            rows = len(read) // f.mcus[0]
+        lines = height
+        if rows < f.mcus[1]:
+            lines = min(height, rows * f.vmax * self.scale)
+            rules = [rule(c, f.hmax, f.vmax, width, height) for c in f.comps]
+            if 'H1V2' in rules or 'H2V2' in rules:
+                lines = max(lines - 1, 0)
+        planes = [plane_of(f, i, *self.planes[i], self.scale) for i in range(len(f.comps))]
+        conv = conversion(len(f.comps), transform) if len(f.comps) > 1 else None
+        return picture(f, planes, self.scale, conv)[: lines * width * len(f.comps)]
+
     def own_planes(self):
         """of each component its samples at its own size, line by line: (width, height, bytes)"""
         f, s8 = self.frame, self.scale
@@ -1154,6 +1200,24 @@ def meaning(data, settings=None, trace=None):
         return b.picture(settings, st)
     except Refused as e:
         return ('err', e.kind, e.in_scan)
+
+
+def lines_of(data, settings=None, trace=None):
+    """What `Rows` must give: what meaning gives, and in a refusal the lines before it. They
+    come as the first scan is read, where it has all components, so that a segment after it that
+    would choose another transform is a fault."""
+    settings, st, b = settings or Settings(), nothing_said(trace), Brought()
+    try:
+        read_segments(Bytes(data), settings, st, trace, b, False)
+        transform = b.transform_by_rows(settings)
+        if transform and len(b.frame.comps) > 1 and choose(b.frame, st, settings) != transform:
+            raise fmt()
+        b.check_limit(settings)
+        if not b.end():
+            raise fmt()
+        return b.picture(settings, st)
+    except Refused as e:
+        return ('err', e.kind, e.in_scan, b.lines_by_rows(settings))
 
 
 def planes_of(data, settings=None, trace=None):
@@ -1222,6 +1286,8 @@ def read_segments(r, settings, st, trace, b, is_partial):
             if f is None:
                 raise fmt()
             s = parse_sos(r, f)
+            if scans == 0:
+                b.first, b.said = s.comps, dict(st)
             if left is not None:
                 left -= blocks_coded(f, s, settings)
                 if left < 0:

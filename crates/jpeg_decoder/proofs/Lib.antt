@@ -12,3 +12,4 @@ pub mod Strips
 pub mod Partial
 pub mod Pictures
 pub mod LosslessFrames
+pub mod ByRows

@@ -5,6 +5,7 @@ pub mod Turns
 pub mod WalkedScans
 pub mod MarkedTurns
 pub mod TurnLoops
+pub mod TurnsToScan
 pub mod Headers
 pub mod HeaderThenRest
 pub mod ScaledHeaders

@@ -79,6 +79,16 @@ abbrev pub AreLinesOf : Option Shape → List (List ℕ) → Type 0
 AreLinesOf None lines = Unit {0}
 AreLinesOf (Some s) lines = (length lines ≡ s.info.height) × HaveBytes (line_bytes s) lines
 
+-- each has the bytes of a line of a picture
+abbrev pub HaveLines : Option Shape → List (List ℕ) → Type 0
+HaveLines None lines = Unit {0}
+HaveLines (Some s) lines = HaveBytes (line_bytes s) lines
+
+-- some lines of a picture, one after the other, each whole
+abbrev pub AreWholeLines : Option Shape → List ℕ → Type 0
+AreWholeLines None bytes = Unit {0}
+AreWholeLines (Some s) bytes = (count : ℕ) × (length bytes ≡ count * line_bytes s)
+
 -- this many bytes are enough for a picture
 abbrev pub HasRoom : Option Shape → ℕ → Type 0
 HasRoom None room = Unit {0}

@@ -23,3 +23,10 @@ pub mod Steps
 pub mod LosslessParts
 pub mod Reaching
 pub mod Walks
+-- pictures whose lines are given as their first scan is read
+pub mod ByRows
+pub mod Givers
+pub mod DecodesRows
+pub mod RowScans
+pub mod RowsView
+pub mod Rows

@@ -7,7 +7,6 @@ use Rattle.std.specs.List.{enumerate_from, list_all}
 use Rattle.jpeg_bits.specs.Reading.{Fault, Outcome, ◌>>=◌}
 use Rattle.jpeg_segments.specs.Checks.{check, needed}
 use Rattle.jpeg_segments.specs.Frame.{Frame, Component}
-use Rattle.jpeg_segments.specs.declared.frame.CodingProcess.{CodingProcess}
 use Rattle.jpeg_segments.specs.declared.frame.CodingProcess.TheVariants.{Lossless}
 use Rattle.jpeg_meaning.specs.EndPlanes.{is_kept}
 use Rattle.jpeg_meaning.specs.declared.settings.Settings.{Settings}

@@ -1,9 +1,10 @@
 -- What the decoder's own clauses say of a walk over segments, by what follows the marker that ends
 -- the data of a scan: zeros, where nothing of a scan with a fault counts; or nothing, where what is
 -- read of it before its fault does.
-use Rattle.std.specs.Prelude.{◌≡◌, ℕ, suc, List, length, Bool, false, Option, None, Result, Ok}
-use Rattle.std.specs.Prelude.{OnOk}
+use Rattle.std.specs.Prelude.{◌≡◌, ◌+◌, ◌<◌, ◌^◌, ℕ, suc, List, length, Bool, true, false, Option}
+use Rattle.std.specs.Prelude.{None, Result, Ok, OnOk}
 use Rattle.jpeg_bits.specs.Reading.{Outcome, ◌>>=◌}
+use Rattle.jpeg_bits.specs.Stream.{Stream}
 use Rattle.jpeg_bits.specs.declared.error.Error.{Error}
 use Rattle.jpeg_meaning.specs.Found.{Found}
 use Rattle.jpeg_meaning.specs.Stream.{Walked, told_of, walk}
@@ -49,3 +50,11 @@ walk_over left beyond header found bytes =
 -- what is found by it, where it has no fault
 abbrev pub walked_to : Walked → Outcome Found
 walked_to w = w.rest >>= λ rest. Ok (w.found, rest)
+
+-- A source that counts as known where this holds: it is known then, and some more bytes than it has
+-- are fewer than 2 ^ 64.
+abbrev pub known_if : Bool → Stream → Stream
+known_if k s = record s { known = k }
+
+abbrev pub IsKnownIf : Bool → ℕ → Stream → Type 0
+IsKnownIf k more s = k ≡ true → (s.known ≡ true) × (length s.bytes + more < 2 ^ 64)

@@ -1,8 +1,7 @@
 //! The decoder and its states.
 ghost use Rattle.std.specs.Prelude.{◌≡◌, if◌then◌else◌, IfOk, IfErr, MatchResult, OnErr, OnOk};
-ghost use Rattle.std.specs.Prelude.{IsErrAnd, map, Some};
-ghost use Rattle.std.specs.Prelude.{[], replicate, IfSome, None, option_map, is_some, Err, true};
-ghost use Rattle.std.specs.Prelude.{false};
+ghost use Rattle.std.specs.Prelude.{IsErrAnd, map, Some, [], replicate, IfSome, None, option_map};
+ghost use Rattle.std.specs.Prelude.{is_some, Err, List, true, false, ℕ};
 ghost use Rattle.std.specs.Io.KnownBytes.{prepend_known};
 ghost use Rattle.jpeg_bits.specs.Reading.{Answers};
 ghost use Rattle.jpeg_bits.specs.Stream.{stream_of};
@@ -11,10 +10,10 @@ ghost use Rattle.jpeg_meaning.specs.Stream.{header_at, scaled_header_at, scaled_
 ghost use Rattle.jpeg_meaning.specs.Stream.{sized_header_at, sized_to};
 ghost use Rattle.jpeg_meaning.specs.Found.{nothing_found, with_said};
 ghost use Rattle.jpeg_meaning.specs.Reported.{IsOfTurns};
-ghost use Rattle.jpeg_meaning.specs.States.{Decoding, MovesToHeader, IsReading, ahead};
-ghost use Rattle.jpeg_meaning.specs.States.{told_ahead, turns_ahead, OnTold, OnToldRefusal};
-ghost use Rattle.jpeg_meaning.specs.States.{HasHeader};
+ghost use Rattle.jpeg_meaning.specs.States.{Decoding, MovesToHeader, IsReading, ahead, told_ahead};
+ghost use Rattle.jpeg_meaning.specs.States.{turns_ahead, OnTold, OnToldRefusal, HasHeader};
 ghost use Rattle.jpeg_decoder.specs.Decodes.{Decodes, DecodesPlanes};
+ghost use Rattle.jpeg_decoder.specs.RowScans.{GivesMore, IsGiving, IsGivingScan, StartsRows};
 ghost use Rattle.jpeg_decoder.specs.Shows.{CountsRows, Shows};
 ghost use Rattle.std.specs.List.{concat};
 ghost use Rattle.jpeg_decoder.specs.Bytes.{AreLinesOf, AreOwnPlanes, HasRoom, IsCounted, IsWhole};
@@ -35,6 +34,8 @@ ghost use Rattle.std.specs.Option.{option_copied};
 ghost use Rattle.jpeg_meaning.specs.Shown.{whole_rows_ahead};
 ghost use Rattle.jpeg_meaning.specs.Work.{picture_blocks};
 
+use crate::by_rows::first_scan::RowScan;
+use crate::by_rows::rest::{Begun, begin_rest, read_more};
 use crate::picture::color_choice::frame_transform;
 use crate::picture::lines::Lines;
 use crate::picture::partial::{PartialLines, show_rest};
@@ -752,6 +753,68 @@ impl<R: Read + Drop> Decoder<R> {
         );
         self.progress = progress_after(result.is_ok(), Progress::Finished);
         result
+    }
+
+    /// Reads up to the data of the first scan, and begins to give its lines; or reads on to the end
+    /// of the image, and returns all lines, where they can't be given as it is read: see `Rows`.
+    pub(crate) fn begin_lines(&mut self) -> Result<Begun>
+        ensures starts { StartsRows self.old result self.new }
+        ensures settings { self.new.settings ≡ self.old.settings }
+    {
+        self.begin()?;
+        let begun = begin_rest(
+            self.alloc,
+            &mut self.source,
+            &mut self.state,
+            self.settings,
+            &mut self.exceeded,
+        );
+        // Once a scan was begun only `read_lines` goes on.
+        self.progress = Progress::Failed;
+        match begun {
+            Ok(Begun::Scan(rows)) => Ok(Begun::Scan(rows)),
+            Ok(Begun::Lines(shown)) => {
+                self.progress = Progress::Finished;
+                drop_decoded(&mut self.state, self.alloc);
+                Ok(Begun::Lines(shown))
+            }
+            Err(error) => {
+                drop_decoded(&mut self.state, self.alloc);
+                Err(error)
+            }
+        }
+    }
+
+    /// Reads the next row of MCUs of the first scan, and makes the lines that it decides; after the
+    /// last one reads through the end of the image. Returns whether there was a row.
+    pub(crate) fn read_lines(&mut self, rows: &mut RowScan) -> Result<bool>
+        requires giving { IsGiving self.old rows.old }
+        ensures gives { (start : Decoding) (bytes : List ℕ)
+            → IsGivingScan start self.old rows.old bytes
+            → GivesMore start bytes result self.new rows.new }
+        ensures settings { self.new.settings ≡ self.old.settings }
+    {
+        let more = read_more(
+            self.alloc,
+            &mut self.source,
+            &mut self.state,
+            self.settings,
+            rows,
+        );
+        self.exceeded = rows.walk.budget.exceeded;
+        self.progress = Progress::Failed;
+        match more {
+            Ok(true) => Ok(true),
+            Ok(false) => {
+                self.progress = Progress::Finished;
+                drop_decoded(&mut self.state, self.alloc);
+                Ok(false)
+            }
+            Err(error) => {
+                drop_decoded(&mut self.state, self.alloc);
+                Err(error)
+            }
+        }
     }
 
     /// Reads as far as the stream goes, and returns the lines of the picture that it has brought up

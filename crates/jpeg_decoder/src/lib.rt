@@ -18,6 +18,8 @@
 //!
 //! `decode_into` writes the picture into the caller's memory, and `decode_lines` returns its
 //! [`Lines`], each of which can be written anywhere, with no picture in memory besides the planes.
+//! [`Rows`] gives the lines while the scan that has them is read, so that memory doesn't grow with
+//! the height of the picture; whether they were right it says at the end.
 //! `decode_planes` returns the samples of each component at its own size, neither upsampled nor
 //! converted, as video, graphics processors and programs that look at pictures take them.
 //! `decode_partial` shows the part before the first fault of a stream that may be truncated or
@@ -46,6 +48,7 @@
 #![tactic(auto)]
 
 pub mod arch;
+mod by_rows;
 pub mod decoder;
 pub mod error;
 pub mod huffman;
@@ -55,6 +58,7 @@ pub mod lossless;
 pub mod marker;
 pub mod parser;
 mod picture;
+pub mod rows;
 pub mod run;
 mod scan;
 mod sizes;
@@ -71,5 +75,6 @@ pub use jpeg_segments::parser::CodingProcess;
 pub use jpeg_segments::scale::Scale;
 pub use picture::lines::Lines;
 pub use picture::partial::PartialLines;
+pub use rows::Rows;
 pub use sizes::DecodingBytes;
 pub use stream::profile::join_profile;

@@ -19,6 +19,7 @@ pub mod luma;
 pub mod partial;
 pub mod pictures;
 pub mod planes;
+pub mod rows;
 pub mod runs;
 pub mod settings;
 pub mod told;

@@ -1,14 +1,14 @@
 -- Lossless streams that are written give the planes of their samples.
-use Rattle.std.proofs.Common.{◌≡◌, ℕ, List, ◌++◌, length, map, None, Ok, Result, ap, ◌∙◌}
+use Rattle.std.proofs.Common.{◌≡◌, ℕ, List, ◌++◌, length, None, Ok, ap, ◌∙◌}
 use Rattle.std.proofs.lemmas.Simd.{map-map}
 use Rattle.std.specs.List.{concat, enumerate_from, range_with_len}
-use Rattle.jpeg_bits.specs.Reading.{Fault, Outcome, ◌>>=◌}
+use Rattle.jpeg_bits.specs.Reading.{Outcome}
 use Rattle.jpeg_segments.specs.Checks.{gathered}
 use Rattle.jpeg_segments.specs.declared.frame.CodingProcess.{CodingProcess}
 use Rattle.jpeg_segments.specs.declared.scale.Scale.{Scale}
 use Rattle.jpeg_meaning.specs.Found.{Said}
 use Rattle.jpeg_meaning.specs.FoundPlanes.{bytes_of_samples, planes_by_process, planes_of, samples_planes}
-use Rattle.jpeg_meaning.specs.Stream.{Told, meaning_showing, scaled_showing, sized_showing, told_of}
+use Rattle.jpeg_meaning.specs.Stream.{Told, meaning_showing, scaled_showing, sized_showing}
 use Rattle.jpeg_meaning.specs.WrittenLossless.{Samples, WritesSamples}
 use Rattle.jpeg_meaning.specs.WrittenPlanes.{planes_of_samples}
 use Rattle.jpeg_meaning.proofs.Written.ReadTurns.{then-ok}
@@ -17,7 +17,7 @@ use Rattle.jpeg_meaning.proofs.Written.WrittenPlanes.{planes_given, within-same}
 use Rattle.jpeg_decoder.proofs.LosslessFrames.LosslessPixels.{planes-there}
 use Rattle.jpeg_decoder.proofs.LosslessFrames.LosslessReads.{sample_plane}
 use Rattle.jpeg_decoder.proofs.LosslessFrames.WrittenLosslessStreams.{AreMeant, all-in, samples-walked, scaled-walked, sized-walked}
-use Rattle.jpeg_decoder.proofs.LosslessFrames.WrittenSamples.{bring_samples, planes_for}
+use Rattle.jpeg_decoder.proofs.LosslessFrames.WrittenSamples.{bring_samples}
 
 -- What the end of a stream gives is the planes of its samples where the limit takes them.
 samples-planed : (limit : ℕ) (samples : Samples) (bytes rest : List ℕ) (final : Said)

@@ -58,7 +58,7 @@ whole-by : (o : Option Frame) (found : Found) (scan : Scan) (bytes : List ℕ)
 whole-by None found scan bytes = refl
 whole-by (Some frame) found scan bytes = process-parts frame.process found frame scan bytes
 
-whole-after : (found : Found) (scan : Scan) (bytes : List ℕ)
+pub whole-after : (found : Found) (scan : Scan) (bytes : List ℕ)
     → (turn_after Zeros found scan bytes).turn ≡ (read_after found scan bytes >>= scan_turn found)
 whole-after found scan bytes = whole-by found.said.frame found scan bytes
 
@@ -332,7 +332,7 @@ passed-after P Nothing mid new read reached h p = passed-unless P mid new read r
 
 -- ---- a scan, by its header
 
-within-zeros : (left : Option ℕ) (found : Found) (scan : Scan) (old cur : List ℕ)
+pub within-zeros : (left : Option ℕ) (found : Found) (scan : Scan) (old cur : List ℕ)
     → header_within left found old ≡ Ok (scan, cur)
     → scan_within left Zeros found old ≡ turn_after Zeros found scan cur
 within-zeros left found scan old cur e =

@@ -1,5 +1,5 @@
 -- A call that answers the meaning of what its source has left decodes images.
-use Rattle.std.proofs.Common.{rules, ◌≡◌, ℕ, List, ◌++◌, true, Result, Ok, Err, is_ok, refl, sym}
+use Rattle.std.proofs.Common.{◌≡◌, ℕ, List, ◌++◌, true, Result, Ok, Err, is_ok, refl, sym}
 use Rattle.std.proofs.Common.{None, Option, ap, ◌∙◌, IsOk, MatchResult, arith}
 use Rattle.std.proofs.lemmas.Bool.{false≢true}
 use Rattle.jpeg_bits.specs.Reading.{Outcome, Fault, Answers, ◌>>=◌}

@@ -1,6 +1,6 @@
 -- Calls that read the header of a stream where it is to be read, and then the rest of it.
-use Rattle.std.proofs.Common.{rules, IfOk, OnOk, if◌then◌else◌, is_ok, is_some}
-use Rattle.std.proofs.Common.{◌≡◌, ◌++◌, [], Bool, None, replicate, ℕ, suc, List, Result, Ok, Err, true, false, refl, sym, ap, ◌∙◌, subst, length, take}
+use Rattle.std.proofs.Common.{rules, IfOk, OnOk, if◌then◌else◌, is_ok, is_some, ◌≡◌, ◌++◌, [], Bool, None, replicate, ℕ}
+use Rattle.std.proofs.Common.{suc, List, Result, Ok, Err, true, false, refl, sym, ap, ◌∙◌, subst, length, take}
 use Rattle.std.proofs.lemmas.Bool.{false≢true, true≢false}
 use Rattle.std.proofs.Math.Seq.{take-append_seam}
 use Rattle.jpeg_bits.specs.Reading.{Answers, Fault, MayFail, Names, Outcome}
@@ -25,7 +25,8 @@ use Rattle.jpeg_decoder.specs.Decodes.{Decodes, DecodesPlanes}
 use Rattle.jpeg_decoder.proofs.Pictures.DecodedImages.{decodes-images, decodes-planes}
 use Rattle.jpeg_decoder.proofs.LosslessFrames.DecodedSamples.{decodes-sample-planes, decodes-samples}
 use Rattle.jpeg_decoder.proofs.Segments.HeaderThenRest.{header-reads, header-refuses, header-told, header-told_lacking}
-use Rattle.jpeg_decoder.proofs.Segments.HeaderThenRest.{header-exceeded, header-turns, header-turns_lacking, lacking-exceeded}
+use Rattle.jpeg_decoder.proofs.Segments.HeaderThenRest.{header-exceeded, header-turns, header-turns_lacking}
+use Rattle.jpeg_decoder.proofs.Segments.HeaderThenRest.{lacking-exceeded}
 use Rattle.jpeg_decoder.proofs.Scans.ScanData.{answers-err}
 
 -- No blocks, planes or samples are kept.
@@ -35,7 +36,8 @@ IsEmptied found =
 
 -- ---- one reading after another
 
-answers-then : {X Y Z : Type 0} (view : X → Z) (y : Y) (first : List ℕ → Outcome Y) (next whole : List ℕ → Outcome Z)
+pub answers-then : {X Y Z : Type 0} (view : X → Z) (y : Y) (first : List ℕ → Outcome Y)
+    (next whole : List ℕ → Outcome Z)
     (old mid new : Stream) (r : Result X Error)
     → ((rest : List ℕ) → first old.bytes ≡ Ok (y, rest) → whole old.bytes ≡ next rest)
     → Answers (λ (u : Unit {0}). y) first old (Ok tt) mid → Answers view next mid r new → Answers view whole old r new
@@ -93,18 +95,37 @@ begun-seen old mid seen e fresh still settings = search rules
 pub other-stage : HeaderRead ≡ Fresh → ⊥
 other-stage e = let n : ⊥ = cc in n
 
-pub into-at : {A X : Type 0} (show : Settings → Found → Result A Fault) (view : X → A) (told : Told) (more : Bool)
-    (stage : Progress) (old mid : Decoding) (new : Stream) (r : Result X Error) → IsBegun (record old { stage = stage }) mid
-    → RestRead show view told more mid r new → HasRead show view told more (record old { stage = stage }) r new
-into-at {A} {X} show view told more Fresh old mid new r b h =
+-- What it says of what a caller is told, beside what it shows.
+pub record RestSaid {X : Type 0} (told : Told) (more : Bool) (mid : Decoding) (r : Result X Error)
+    (new : Stream) : Type 0
+  where
+    pub tells : OnTold mid.source new r
+        (told ≡ told_in_turns mid.settings.max_blocks (suc (length mid.source.bytes)) false mid.found mid.source.bytes)
+    pub turns : mid.source.known ≡ true
+        → IsOfTurns (λ n. told_in_turns mid.settings.max_blocks n false mid.found mid.source.bytes) told
+    pub exceeded : OnTold mid.source new r
+        (more ≡ exceeded_rest mid.settings.max_blocks Zeros mid.found mid.source.bytes)
+
+pub record HasSaid {X : Type 0} (told : Told) (more : Bool) (old : Decoding) (r : Result X Error)
+    (new : Stream) : Type 0
+  where
+    pub told_is : IsReading old.stage
+        → OnTold old.source new r (told ≡ told_ahead old.settings.max_blocks false old.stage old.found old.source.bytes)
+    pub turns : IsReading old.stage → old.source.known ≡ true
+        → IsOfTurns (λ n. turns_ahead old.settings.max_blocks n false old.stage old.found old.source.bytes) told
+    pub exceeded : IsReading old.stage → OnTold old.source new r
+        (more ≡ exceeded_ahead old.settings.max_blocks Zeros old.stage old.found old.source.bytes)
+
+none-said : {X : Type 0} (told : Told) (more : Bool) (old : Decoding) (r : Result X Error) (new : Stream)
+    → (IsReading old.stage → ⊥) → HasSaid told more old r new
+none-said told more old r new n = search rules
+
+pub said-into : {X : Type 0} (told : Told) (more : Bool) (stage : Progress) (old mid : Decoding) (new : Stream)
+    (r : Result X Error) → IsBegun (record old { stage = stage }) mid → RestSaid told more mid r new
+    → HasSaid told more (record old { stage = stage }) r new
+said-into {X} told more Fresh old mid new r b h =
     let header = b.fresh refl in
     record {
-      reads = λ _. answers-then (λ x. (told, view x)) mid.found header_at
-          (rest_showing old.settings.max_blocks (show old.settings) mid.found)
-          (ahead_showing old.settings.max_blocks (show old.settings) Fresh old.found) old.source mid.source new r
-          (λ rest e. header-reads old.settings.max_blocks (show old.settings) mid.found old.source.bytes rest e) header
-          (subst (λ (s : Settings). Answers (λ (x : X). (told, view x)) (rest_showing s.max_blocks (show s) mid.found)
-          mid.source r new) b.settings h.reads);
       told_is = λ _. told-through {X = X} old.source mid.source new r _ _ (λ k.
           let at = header.1 k in
           (at.0, λ p. p ∙ sym (header-told old.settings.max_blocks mid.found old.source.bytes mid.source.bytes at.1)))
@@ -120,6 +141,30 @@ into-at {A} {X} show view told more Fresh old mid new r b h =
           (at.0, λ p. p ∙ sym (header-exceeded old.settings.max_blocks Zeros mid.found old.source.bytes mid.source.bytes at.1)))
           (subst (λ (s : Settings). OnTold mid.source new r (more ≡ exceeded_rest s.max_blocks Zeros mid.found
           mid.source.bytes)) b.settings h.exceeded);
+    }
+said-into told more HeaderRead old mid new r b h =
+    let same = subst (λ (d : Decoding). RestSaid told more d r new) (b.still other-stage) h in
+    record { told_is = λ _. same.tells; turns = λ _. same.turns; exceeded = λ _. same.exceeded }
+said-into told more _ old mid new r b h = none-said told more _ r new (λ n. n)
+
+pub into-at : {A X : Type 0} (show : Settings → Found → Result A Fault) (view : X → A) (told : Told) (more : Bool)
+    (stage : Progress) (old mid : Decoding) (new : Stream) (r : Result X Error)
+    → IsBegun (record old { stage = stage }) mid
+    → RestRead show view told more mid r new → HasRead show view told more (record old { stage = stage }) r new
+into-at {A} {X} show view told more Fresh old mid new r b h =
+    let header = b.fresh refl in
+    let said = said-into told more Fresh old mid new r b
+    (record { tells = h.tells; turns = h.turns; exceeded = h.exceeded }) in
+    record {
+      reads = λ _. answers-then (λ x. (told, view x)) mid.found header_at
+          (rest_showing old.settings.max_blocks (show old.settings) mid.found)
+          (ahead_showing old.settings.max_blocks (show old.settings) Fresh old.found) old.source mid.source new r
+          (λ rest e. header-reads old.settings.max_blocks (show old.settings) mid.found old.source.bytes rest e) header
+          (subst (λ (s : Settings). Answers (λ (x : X). (told, view x)) (rest_showing s.max_blocks (show s) mid.found)
+          mid.source r new) b.settings h.reads);
+      told_is = said.told_is;
+      turns = said.turns;
+      exceeded = said.exceeded;
     }
 into-at show view told more HeaderRead old mid new r b h =
     let same = subst (λ (d : Decoding). RestRead show view told more d r new) (b.still other-stage) h in
@@ -151,13 +196,10 @@ pub record IsUnbegun (old new : Decoding) (e : Error) : Type 0 where
   pub emptied : old.stage ≡ Fresh → IsEmptied new.found
 
 -- only a fresh decoder's is
-refused-at : {A X : Type 0} (show : Settings → Found → Result A Fault) (view : X → A) (stage : Progress)
-    (old new : Decoding) (e : Error) → IsUnbegun (record old { stage = stage }) new e
-    → HasRead show view (told_of new.found.said) new.exceeded (record old { stage = stage }) (Err e) new.source
-refused-at show view Fresh old new e h = record {
-  reads = λ _. answers-err (λ (u : Unit {0}). new.found) (λ x. (told_of new.found.said, view x)) header_at
-      (ahead_showing old.settings.max_blocks (show old.settings) Fresh old.found) old.source new.source e
-      (λ fault is. header-refuses old.settings.max_blocks (show old.settings) old.source.bytes fault is) (h.reads refl);
+pub refused-said : {X : Type 0} (stage : Progress) (old new : Decoding) (e : Error)
+    → IsUnbegun (record old { stage = stage }) new e
+    → HasSaid {X = X} (told_of new.found.said) new.exceeded (record old { stage = stage }) (Err e) new.source
+refused-said Fresh old new e h = record {
   told_is = λ _ k l. refused-and e _ _ _ (λ p q. p ∙ q) (h.tells refl k l)
       (told-err e (header_at old.source.bytes) _ ((h.reads refl).1 k l)
       (λ fault is. header-told_lacking old.settings.max_blocks old.source.bytes fault is));
@@ -165,6 +207,23 @@ refused-at show view Fresh old new e h = record {
   exceeded = λ _ k l. told-err e (header_at old.source.bytes) _ ((h.reads refl).1 k l)
       (λ fault is. h.exceeded tt ∙ sym (lacking-exceeded old.settings.max_blocks Zeros old.source.bytes fault is));
 }
+refused-said HeaderRead old new e h = absurd (false≢true (h.stage tt).1)
+refused-said _ old new e h = none-said _ _ _ _ _ (λ n. n)
+
+refused-at : {A X : Type 0} (show : Settings → Found → Result A Fault) (view : X → A) (stage : Progress)
+    (old new : Decoding) (e : Error) → IsUnbegun (record old { stage = stage }) new e
+    → HasRead show view (told_of new.found.said) new.exceeded (record old { stage = stage }) (Err e) new.source
+refused-at {A} {X} show view Fresh old new e h =
+    let said = refused-said {X = X} Fresh old new e h in
+    record {
+      reads = λ _. answers-err (λ (u : Unit {0}). new.found) (λ x. (told_of new.found.said, view x)) header_at
+          (ahead_showing old.settings.max_blocks (show old.settings) Fresh old.found) old.source new.source e
+          (λ fault is. header-refuses old.settings.max_blocks (show old.settings) old.source.bytes fault is)
+          (h.reads refl);
+      told_is = said.told_is;
+      turns = said.turns;
+      exceeded = said.exceeded;
+    }
 refused-at show view HeaderRead old new e h = absurd (false≢true (h.stage tt).1)
 refused-at show view _ old new e h = none-read show view _ _ _ _ _ (λ n. n)
 

@@ -1,17 +1,12 @@
 -- The lines of a part of a picture, and of a part of a part.
-use Rattle.std.proofs.lemmas.Grind.{common_steps}
-use Rattle.std.proofs.Common.{◌≡◌, ◌∙◌, ℕ, zero, suc, ◌+◌, ◌-◌, ◌^◌, ◌<◌, ◌≤◌, List, [], ◌∷◌, ap, sym, subst, refl, arith, rules}
-use Rattle.std.specs.Prelude.{IfSome}
-use Rattle.std.proofs.Common.{length, length-take, take, drop, map, Option, None, Some, false, is_some, min}
-use Rattle.std.specs.List.{AllByRecursion}
-use Rattle.std.specs.Prelude.{slice_index_or}
-use Rattle.std.proofs.lemmas.List.{drop-drop, drop-map, drop-take, get_or-drop, get_or-map, get_or-take, length-drop, length-map}
+use Rattle.std.proofs.Common.{◌≡◌, ◌∙◌, ℕ, zero, suc, ◌+◌, ◌-◌, ◌^◌, ◌<◌, ◌≤◌, List, [], ◌∷◌, ap, sym, subst, refl, arith}
+use Rattle.std.proofs.Common.{length, take, drop, map, Option, None, Some, min}
+use Rattle.std.proofs.lemmas.List.{drop-drop, drop-map, drop-take, length-drop, length-map}
 use Rattle.std.proofs.lemmas.List.{length-take-le, take-map, take-take}
 use Rattle.jpeg_bits.proofs.ReadIntervals.{all-drop, all-take}
 use Rattle.jpeg_decoder.specs.Bytes.{HaveBytes}
-use Rattle.jpeg_decoder.specs.LinesView.{AreAtLeast, IsCropOf, IsInside, IsPartOf, IsSameCrop, crop_of, lines_given}
+use Rattle.jpeg_decoder.specs.LinesView.{AreAtLeast, IsCropOf, IsInside, IsPartOf, crop_of, lines_given}
 use Rattle.jpeg_decoder.specs.declared.picture.lines.Crop.{Crop}
-use Rattle.jpeg_decoder.proofs.Pictures.LinesTogether.{line-long}
 
 -- what a part has of a line
 abbrev part : ℕ → ℕ → List ℕ → List ℕ

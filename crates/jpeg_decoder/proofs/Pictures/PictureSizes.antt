@@ -63,7 +63,7 @@ shown-alone : (settings : Settings) (f : Frame) → length f.components ≡ 1 �
 shown-alone settings f e = alone-by settings.luma f.process (length f.components) e
 
 -- those of a picture in colour
-shown-colours : (settings : Settings) (f : Frame) → settings.luma ≡ false
+pub shown-colours : (settings : Settings) (f : Frame) → settings.luma ≡ false
     → samples_shown settings f ≡ length f.components
 shown-colours settings f e =
     ap (λ (luma : Bool). if luma then luma_samples f.process (length f.components) else length f.components) e
@@ -86,7 +86,7 @@ shown-count : (settings : Settings) (f : Frame) → IsDecodedFrame f → is_deco
 shown-count settings f p = counts-by settings.luma f.process (length f.components) (decoded-count f p)
 
 -- Lines of as many samples a pixel as are shown.
-shown-lines : (settings : Settings) (f : Frame) (n : ℕ) (lines : List (List ℕ)) → samples_shown settings f ≡ n
+pub shown-lines : (settings : Settings) (f : Frame) (n : ℕ) (lines : List (List ℕ)) → samples_shown settings f ≡ n
     → AreLinesOf (Some (shape_with n f)) lines → AreLinesOf (Some (shape_of settings f)) lines
 shown-lines settings f n lines e are = subst (λ (k : ℕ). AreLinesOf (Some (shape_with k f)) lines) (sym e) are
 
@@ -104,12 +104,12 @@ if-luma_lines settings f result e dct h =
 -- ---- lines of blocks
 
 -- a byte a sample
-by-samples : (n : ℕ) (f : Frame) → f.precision ≡ 8 → n * f.output_width ≡ line_bytes (shape_with n f)
+pub by-samples : (n : ℕ) (f : Frame) → f.precision ≡ 8 → n * f.output_width ≡ line_bytes (shape_with n f)
 unfolding line_bytes
 by-samples n f e = grind (arith, common_steps, mul_comm)
 
 -- a byte for each sample of each pixel
-block-lines : (n : ℕ) (f : Frame) (lines : List (List ℕ)) → IsDecodedFrame f → (f.process ≡ Lossless → ⊥)
+pub block-lines : (n : ℕ) (f : Frame) (lines : List (List ℕ)) → IsDecodedFrame f → (f.process ≡ Lossless → ⊥)
     → length lines ≡ f.output_height → HaveBytes (n * f.output_width) lines
     → AreLinesOf (Some (shape_with n f)) lines
 block-lines n f lines p dct high wide =
@@ -128,17 +128,17 @@ if-block_lines settings f slice result colours p dct same h =
 
 -- ---- one component
 
-made-of : (f : Frame) → IsDecodedFrame f → Made f
+pub made-of : (f : Frame) → IsDecodedFrame f → Made f
 made-of f p = grind (arith, common_steps, recursion_from_All, scale-bounds)
 
-some-width : (f : Frame) → Made f → 0 < f.output_width
+pub some-width : (f : Frame) → Made f → 0 < f.output_width
 some-width f m =
     let z = is-sized f m in
     rw z.width (ceiling-some (m.width * m.scale) 8 (some-product m.width m.scale m.some_width m.some_scale)
     (omega arith))
 
 -- the lines of a plane that has those of the picture
-plane-lines : (h stride high n : ℕ) → 0 < stride → h ≤ high → n ≡ high * stride → min h (n / stride) ≡ h
+pub plane-lines : (h stride high n : ℕ) → 0 < stride → h ≤ high → n ≡ high * stride → min h (n / stride) ≡ h
 plane-lines h stride high n some le e = grind (arith, common_steps, mul-div_cancel)
 
 -- as wide as the picture
@@ -257,6 +257,15 @@ whole-by n f pixels p count long = (
 )
 
 -- The lines of a picture together are whole.
+pub frame-whole : (settings : Settings) (f : Frame) (lines : List (List ℕ)) (pixels : List ℕ)
+    → IsDecodedFrame f → AreLinesOf (Some (shape_of settings f)) lines → pixels ≡ concat lines
+    → IsWhole (Some (shape_of settings f)) pixels
+frame-whole settings f lines pixels p are is =
+    let n = samples_shown settings f in
+    whole-by n f pixels p (shown-count settings f p)
+    (ap length is ∙ (together-length (line_bytes (shape_with n f)) lines are.1
+    ∙ ap (λ k. k * line_bytes (shape_with n f)) are.0))
+
 pub lines-whole : (settings : Settings) (found : Found) (lines : List (List ℕ)) (pixels : List ℕ)
     → HasDecodedFrame found → AreLinesOf (option_map (shape_of settings) found.said.frame) lines
     → pixels ≡ concat lines → IsWhole (option_map (shape_of settings) found.said.frame) pixels
@@ -265,11 +274,7 @@ lines-whole settings found lines pixels p are is = go found.said.frame refl are
     go : (o : Option Frame) → found.said.frame ≡ o → AreLinesOf (option_map (shape_of settings) o) lines
         → IsWhole (option_map (shape_of settings) o) pixels
     go None e are = tt
-    go (Some f) e are =
-        let n = samples_shown settings f in
-        whole-by n f pixels (p f e) (shown-count settings f (p f e))
-        (ap length is ∙ (together-length (line_bytes (shape_with n f)) lines are.1
-        ∙ ap (λ k. k * line_bytes (shape_with n f)) are.0))
+    go (Some f) e are = frame-whole settings f lines pixels (p f e) are is
 
 -- ---- the samples of a pixel
 

@@ -1,6 +1,6 @@
 -- Whether scans have brought the components of a frame, one after the other.
 use Rattle.std.proofs.Common.{◌≡◌, ◌≤◌, ◌<◌, ℕ, ◌+◌, Bool, true, false, List, length, get_or, take, ap, sym, ◌∙◌}
-use Rattle.std.proofs.Common.{subst, arith, Result, Ok, Err}
+use Rattle.std.proofs.Common.{subst}
 use Rattle.std.specs.Prelude.{◌&&◌, slice_index_or}
 use Rattle.std.specs.List.{enumerate_from, list_all}
 use Rattle.std.proofs.lemmas.List.{take_all}

@@ -1,11 +1,11 @@
 -- Where the planes of all components but the first are there before scans are read, the segments of a
 -- stream find all else as they do without them.
-use Rattle.std.proofs.Common.{rules, ◌≡◌, ◌⊎◌, inl, inr, ℕ, zero, suc, ◌≤◌, ◌<◌, Bool, true, false, List, [], ◌∷◌}
+use Rattle.std.proofs.Common.{◌≡◌, ◌⊎◌, inl, inr, ℕ, zero, suc, Bool, true, false, List, [], ◌∷◌}
 use Rattle.std.proofs.Common.{length, set, get_or, replicate, Option, Some, None, Result, Ok, Err, refl, sym, ap, ◌∙◌}
-use Rattle.std.proofs.Common.{subst, arith, is_some, take, drop, ◌++◌, ◌-◌, ◌==◌}
+use Rattle.std.proofs.Common.{subst, is_some, take, drop, ◌++◌, ◌-◌, ◌==◌}
 use Rattle.std.proofs.lemmas.List.{length-set}
-use Rattle.std.specs.Prelude.{◌&&◌, ◌||◌, not, fold, zip, if◌then◌else◌, option_map, slice_get}
-use Rattle.std.specs.List.{enumerate_from, list_all}
+use Rattle.std.specs.Prelude.{fold, zip, if◌then◌else◌, option_map}
+use Rattle.std.specs.List.{list_all}
 use Rattle.jpeg_bits.specs.Marker.{found_or, next_marker}
 use Rattle.jpeg_bits.specs.Passes.{Block, Pass}
 use Rattle.jpeg_bits.specs.Reading.{Fault, Lacks, Malformed, Outcome, ◌>>=◌, length_at, skip_at}
@@ -16,14 +16,14 @@ use Rattle.jpeg_bits.specs.declared.marker.Marker.TheVariants.{SOF, JPG, DHT, DA
 use Rattle.jpeg_bits.specs.declared.marker.Marker.TheVariants.{DHP, EXP, APP, JPGn, COM, TEM, RES}
 use Rattle.jpeg_segments.specs.Application.{app_at, dri_at}
 use Rattle.jpeg_segments.specs.Checks.{needed}
-use Rattle.jpeg_segments.specs.Frame.{Component, Frame, sof_at}
+use Rattle.jpeg_segments.specs.Frame.{Frame, sof_at}
 use Rattle.jpeg_segments.specs.HuffmanTables.{dht_at}
 use Rattle.jpeg_segments.specs.Quantization.{dqt_at}
 use Rattle.jpeg_segments.specs.ScanHeader.{Scan, sos_at}
 use Rattle.jpeg_segments.specs.declared.frame.CodingProcess.{CodingProcess}
 use Rattle.jpeg_segments.specs.declared.frame.CodingProcess.TheVariants.{DctProgressive, DctSequential, Lossless}
 use Rattle.jpeg_meaning.specs.Brought.{Brought, unbrought}
-use Rattle.jpeg_meaning.specs.Found.{Found, Said, none_finished, with_said}
+use Rattle.jpeg_meaning.specs.Found.{Found, none_finished, with_said}
 use Rattle.jpeg_meaning.specs.LosslessScans.{lossless_codings}
 use Rattle.jpeg_meaning.specs.Scans.{Arrays}
 use Rattle.jpeg_meaning.specs.ScanSegments.{Coding, after_restarts, after_scan, arrays_before, blocks_scan}
@@ -39,8 +39,8 @@ use Rattle.jpeg_meaning.specs.Stream.{walk}
 use Rattle.jpeg_meaning.specs.Work.{brought_within, is_above, left_after, work_after, work_of_header, work_of_turn}
 use Rattle.jpeg_meaning.specs.declared.before.Before.{Before}
 use Rattle.jpeg_meaning.specs.declared.before.Before.TheVariants.{FirstScan, LaterScan, Elsewhere}
-use Rattle.jpeg_meaning.proofs.Written.ReadTurns.{scan-or-segment, walk-end, walk-on, walked, zeros-refused}
-use Rattle.jpeg_decoder.specs.Spared.{beside, is_unfinished, with_others}
+use Rattle.jpeg_meaning.proofs.Written.ReadTurns.{scan-or-segment, walk-end, walk-on, zeros-refused}
+use Rattle.jpeg_decoder.specs.Spared.{beside, with_others}
 
 -- ---- planes
 

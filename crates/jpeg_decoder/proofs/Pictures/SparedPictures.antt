@@ -1,10 +1,10 @@
 -- The luma of a picture is the same where the planes of its other components were there before the scans, and all of
 -- them were sent.
-use Rattle.std.proofs.Common.{rules, ◌≡◌, ℕ, zero, suc, ◌+◌, ◌≤◌, ◌<◌, ◌==◌, Bool, true, false, List, [], ◌∷◌, length}
+use Rattle.std.proofs.Common.{◌≡◌, ℕ, zero, suc, ◌+◌, ◌≤◌, ◌<◌, Bool, true, false, List, [], ◌∷◌, length}
 use Rattle.std.proofs.Common.{get_or, replicate, Option, Some, None, Result, Ok, Err, refl, sym, ap, ◌∙◌, subst}
 use Rattle.std.proofs.Common.{arith}
 use Rattle.std.proofs.Common.{is_some}
-use Rattle.std.specs.Prelude.{◌&&◌, ◌||◌, not, ◌*◌, if◌then◌else◌, nat_lt, slice_get, slice_index_or}
+use Rattle.std.specs.Prelude.{◌&&◌, ◌||◌, not, ◌*◌, if◌then◌else◌, nat_lt, slice_index_or}
 use Rattle.std.specs.List.{enumerate_from, list_all}
 use Rattle.jpeg_bits.specs.Reading.{Answers, Fault, Malformed, Outcome, ◌>>=◌}
 use Rattle.jpeg_bits.specs.Stream.{Stream}
@@ -26,12 +26,12 @@ use Rattle.jpeg_meaning.specs.States.{OnTold}
 use Rattle.jpeg_meaning.specs.Stream.{Told, Walked, rest_within, segments_at, told_of, walk, rest_showing}
 use Rattle.jpeg_meaning.specs.declared.before.Before.TheVariants.{Elsewhere}
 use Rattle.jpeg_meaning.specs.declared.settings.Settings.{Settings}
-use Rattle.jpeg_decoder.specs.Spared.{AreSpared, IfSpared, IsUndecided, ShowsLuma, are_sent, beside, is_sent}
-use Rattle.jpeg_decoder.specs.Spared.{is_unfinished, sent_picture, shown_picture, shown_rest, three_planes}
+use Rattle.jpeg_decoder.specs.Spared.{AreSpared, IfSpared, ShowsLuma, are_sent, beside, is_sent}
+use Rattle.jpeg_decoder.specs.Spared.{is_unfinished, sent_picture, shown_rest, three_planes}
 use Rattle.jpeg_decoder.specs.Spared.{with_others}
 use Rattle.jpeg_meaning.specs.Sound.{IsSound}
 use Rattle.jpeg_decoder.proofs.Pictures.PicturesOfPlanes.{decoded-few}
-use Rattle.jpeg_decoder.proofs.Pictures.SparedColours.{AreGiven, MarksTell, Tells, walks-beside}
+use Rattle.jpeg_decoder.proofs.Pictures.SparedColours.{MarksTell, Tells, walks-beside}
 
 -- ---- results that a test tells
 

@@ -1,14 +1,13 @@
 -- Planes that are given to components before their scans.
 use Rattle.std.proofs.Common.{◌≡◌, ◌≤◌, ◌<◌, ℕ, List, [], ◌∷◌, length, get_or, map, replicate, set, Option, Some}
 use Rattle.std.proofs.Common.{None}
-use Rattle.std.proofs.Common.{arith, refl, sym, ap, ◌∙◌, subst}
+use Rattle.std.proofs.Common.{arith, sym, ap, ◌∙◌, subst}
 use Rattle.std.proofs.lemmas.Grind.{common_steps}
 use Rattle.std.proofs.lemmas.List.{length-map}
 use Rattle.jpeg_pixels.specs.Scaled.{IsScale}
 use Rattle.jpeg_segments.specs.Frame.{Component, Frame}
 use Rattle.jpeg_segments.specs.FrameView.{component_in}
 use Rattle.jpeg_segments.specs.declared.frame.Component as declared
-use Rattle.jpeg_meaning.proofs.Soundness.{sound_kept}
 use Rattle.jpeg_meaning.specs.Found.{Found}
 use Rattle.jpeg_meaning.specs.ScanSegments.{arrays_before}
 use Rattle.jpeg_meaning.specs.Sound.{ArePlanes, IsDecodedFrame, IsPlaneOf, IsSound}

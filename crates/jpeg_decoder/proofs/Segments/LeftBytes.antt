@@ -1,5 +1,5 @@
 -- What a turn leaves of the bytes.
-use Rattle.std.proofs.Common.{◌≡◌, ◌<◌, ◌+◌, ℕ, List, Result, Ok, Err, Bool, true, false, Option, None}
+use Rattle.std.proofs.Common.{◌≡◌, ◌<◌, ◌+◌, ℕ, suc, List, Result, Ok, Err, Bool, true, false, Option, None}
 use Rattle.std.proofs.Common.{refl, length, arith}
 use Rattle.std.specs.Prelude.{if◌then◌else◌}
 use Rattle.std.proofs.lemmas.Grind.{common_steps}
@@ -26,6 +26,13 @@ more_if false = 0
 
 abbrev pub left_at : Option Marker → List ℕ → ℕ
 left_at met bytes = length bytes + more_if (is_restart_marker met)
+
+more-one : (b : Bool) → more_if b < 2
+more-one true = omega arith
+more-one false = omega arith
+
+pub left-most : (met : Option Marker) (bytes : List ℕ) → left_at met bytes < suc (suc (length bytes))
+left-most met bytes = let few = more-one (is_restart_marker met) in omega (arith, few)
 
 -- Where the image goes on, fewer are left than the limit.
 abbrev pub Lowers : ℕ → Turn × List ℕ → Type 0

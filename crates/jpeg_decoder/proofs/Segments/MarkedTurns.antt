@@ -39,7 +39,7 @@ pub work-other : (m : Marker) (found : Found) (bytes : List ℕ) → (m ≡ SOS 
 work-other SOS found bytes other = absurd (other refl)
 work-other m found bytes other = refl
 
-segment-other : (beyond : Beyond) (m : Marker) (before : Before) (found : Found) (bytes : List ℕ) → (m ≡ SOS → ⊥)
+pub segment-other : (beyond : Beyond) (m : Marker) (before : Before) (found : Found) (bytes : List ℕ) → (m ≡ SOS → ⊥)
     → brought_after beyond m before found bytes ≡ unbrought found (segment_at m before found bytes)
 unfolding brought_after
 segment-other beyond SOS before found bytes other = absurd (other refl)
@@ -56,18 +56,18 @@ pub work-marked : (found : Found) (met : Option Marker) (bytes rest : List ℕ) 
 unfolding work_of_turn
 work-marked found met bytes rest m e = rw (e, work_of_turn) refl
 
-work-unmarked : (found : Found) (met : Option Marker) (bytes : List ℕ) (fault : Fault)
+pub work-unmarked : (found : Found) (met : Option Marker) (bytes : List ℕ) (fault : Fault)
     → found_or met bytes (next_marker bytes) ≡ Err fault → work_of_turn found met bytes ≡ 0
 unfolding work_of_turn
 work-unmarked found met bytes fault e = rw (e, work_of_turn) refl
 
-turn-marked : (left : Option ℕ) (beyond : Beyond) (before : Before) (found : Found) (met : Option Marker)
+pub turn-marked : (left : Option ℕ) (beyond : Beyond) (before : Before) (found : Found) (met : Option Marker)
     (bytes rest : List ℕ) (m : Marker) → found_or met bytes (next_marker bytes) ≡ Ok (m, rest)
     → turn_within left beyond before found met bytes ≡ after_within left beyond m before found rest
 unfolding turn_at work_of_turn
 turn-marked left beyond before found met bytes rest m e = rw (e, turn_at, work_of_turn) refl
 
-turn-unmarked : (left : Option ℕ) (beyond : Beyond) (before : Before) (found : Found) (met : Option Marker)
+pub turn-unmarked : (left : Option ℕ) (beyond : Beyond) (before : Before) (found : Found) (met : Option Marker)
     (bytes : List ℕ) (fault : Fault) → found_or met bytes (next_marker bytes) ≡ Err fault
     → turn_within left beyond before found met bytes ≡ unbrought found (Err fault)
 unfolding turn_at work_of_turn

@@ -91,6 +91,14 @@ fn is_within(limit: usize, samples: usize, area: usize) -> bool
     }
 }
 
+/// Returns whether a picture with a sample of each component a pixel is within a limit.
+pub fn is_within_limit(frame: &FrameInfo, limit: usize) -> bool
+    ensures { let f = frame_in frame.now in result ≡ not (nat_lt limit (length f.components
+        * (f.output_width * f.output_height))) }
+{
+    is_within(limit, frame.components.len(), area_of(frame.output_size))
+}
+
 /// Returns whether blocks of a frame are kept: it is progressive, and a scan of it was read.
 pub fn are_kept(state: &State, frame: &FrameInfo) -> bool
     ensures { result ≡ is_kept state.now (frame_in frame.now) }
@@ -223,7 +231,7 @@ fn joint_shape_of(frame: &FrameInfo) -> Option<JointShape>
 }
 
 /// Returns the colour transform of a frame's picture.
-fn transform_of(state: &State, frame: &FrameInfo, settings: Settings) -> ColorTransform
+pub fn transform_of(state: &State, frame: &FrameInfo, settings: Settings) -> ColorTransform
     ensures { result ≡ transform_of settings.color_transform
         (identifiers_of (frame_in frame.now).components) state.now.said.metadata.jfif
         state.now.said.metadata.adobe }

@@ -214,6 +214,8 @@ impl Decoded {
     ghost use Rattle.jpeg_meaning.specs.InTurn.{Fits};
     ghost use Rattle.std.specs.List.{AllByRecursion};
     ghost use Rattle.jpeg_decoder.specs.Strips.{no_samples};
+    ghost use Rattle.jpeg_decoder.specs.ByRows.{without_planes};
+    ghost use Rattle.jpeg_meaning.specs.Scans.{Arrays};
 
     /// Makes the state in which nothing was read.
     pub fn new(alloc: Global) -> Decoded
@@ -344,6 +346,26 @@ impl Decoded {
     {
         let rest = &scan.components()[from..];
         for coded in rest {
+            finish(scan.pass(), &mut self.finished[coded.index]);
+        }
+    }
+
+    /// Marks the coefficients that a scan finishes of its components. No plane is stored.
+    pub fn mark_all(&mut self, scan: &Scan<'_>)
+        requires pass { IsPass scan.now.pass }
+        ensures kept { self.new.kept ≡ self.old.kept }
+        ensures samples { self.new.samples ≡ self.old.samples }
+        ensures planes { self.new.planes ≡ self.old.planes }
+        ensures marked { (base : Found) (arrays : Arrays) → length arrays ≡ length scan.now.codings
+            → without_planes (with_decoded base self.new)
+            ≡ without_planes (with_arrays scan.now.pass scan.now.codings arrays
+            (with_decoded base self.old)) }
+        ensures four { length self.old.finished ≡ 4 }
+        ensures all { scan.now.pass ≡ whole_pass → All (λ c. list_all (λ mark. mark)
+            (slice_index_or self.new.finished c.index none_finished) ≡ true) scan.now.codings }
+    {
+        let codings = scan.components();
+        for coded in codings {
             finish(scan.pass(), &mut self.finished[coded.index]);
         }
     }

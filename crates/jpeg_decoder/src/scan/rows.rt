@@ -56,7 +56,7 @@ fn clear_block(rows: &mut Vec<BlockArray>, unread: Option<Spot>)
 /// Reads the blocks of a row of MCUs, where the rows before it were read. After a refusal the
 /// blocks before the one that it is about are there, the others are zeros, and the spot of that one
 /// is the interval's `unread`.
-fn read_row<R: Read + Drop>(
+pub fn read_row<R: Read + Drop>(
     interval: &mut Interval,
     source: &mut Source<R>,
     scan: &Scan<'_>,

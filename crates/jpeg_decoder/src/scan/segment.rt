@@ -73,7 +73,7 @@ fn end_read(
 /// Reads the header of a scan, once the look-up tables of the tables in force are filled, and takes
 /// its blocks from those that are left, if there is a limit. A scan of more is refused.
 #[inline(never)]
-fn read_header<R: Read + Drop>(
+pub fn read_header<R: Read + Drop>(
     alloc: Global,
     source: &mut Source<R>,
     state: &mut State,
@@ -206,7 +206,7 @@ fn read_lossless_scan<R: Read + Drop>(
 /// Where nothing follows the markers that end its data, the blocks that were read before an error
 /// count, or the rows of MCUs of a lossless scan, unless the error is out of memory. Where it lacks
 /// some, `rows` says how many rows of the picture are complete.
-fn read_after<R: Read + Drop>(
+pub fn read_after<R: Read + Drop>(
     alloc: Global,
     source: &mut Source<R>,
     state: &mut State,

@@ -87,7 +87,7 @@ pub fn sample_table(quantization: &[u16; 64]) -> SampleTable
 }
 
 /// Makes the tables of a scan's components.
-fn sample_tables(alloc: Global, codings: &[Coded<'_>]) -> Result<Vec<SampleTable>, AllocError>
+pub fn sample_tables(alloc: Global, codings: &[Coded<'_>]) -> Result<Vec<SampleTable>, AllocError>
     ensures { IfOk result (λ v. v.items ≡ tables_of (map coding_in codings.now)) }
 {
     let mut tables = Vec::with_capacity(alloc, codings.len())?;
@@ -212,7 +212,7 @@ pub fn tables_for(
 
 /// Appends the samples of the blocks of a row of MCUs to planes of the first components, each in
 /// memory of its own.
-fn append_to_each(
+pub fn append_to_each(
     planes: &mut [Vec<u8>],
     codings: &[Coded<'_>],
     tables: &[SampleTable],

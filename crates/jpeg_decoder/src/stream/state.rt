@@ -101,6 +101,7 @@ impl State {
     ghost use Rattle.jpeg_meaning.specs.Found.{nothing_found};
     ghost use Rattle.jpeg_meaning.specs.ScanSegments.{once_scanned, scan_before};
     ghost use Rattle.jpeg_meaning.specs.Stream.{end_segment, segment_at};
+    ghost use Rattle.jpeg_decoder.specs.ByRows.{AreSameScans};
     ghost use Rattle.jpeg_decoder.specs.Steps.{IsStep, turn_of};
     ghost use Rattle.jpeg_decoder.specs.Reaching.{OnFault, without_tables};
 
@@ -136,6 +137,7 @@ impl State {
             source.old result source.new }
         ensures steps { IsStep self.old result self.new }
         ensures kept { OnFault result (self.new ≡ self.old) }
+        ensures decoded { AreSameScans self.old self.new }
     {
         let said = &mut self.said;
         if said.frame.is_some() {
@@ -159,6 +161,7 @@ impl State {
             source.old result source.new }
         ensures steps { IsStep self.old result self.new }
         ensures kept { OnFault result (self.new ≡ self.old) }
+        ensures decoded { AreSameScans self.old self.new }
     {
         let mut tables = parse_dqt(alloc, source)?;
         update(&mut self.said.quantization, &mut tables);
@@ -177,6 +180,7 @@ impl State {
             result source.new }
         ensures steps { IsStep self.old result self.new }
         ensures kept { OnFault result (without_tables self.new ≡ without_tables self.old) }
+        ensures decoded { AreSameScans self.old self.new }
     {
         let is_baseline = self.said.frame.as_ref().map(|frame| frame.is_baseline);
         let said = &mut self.said;
@@ -202,6 +206,7 @@ impl State {
             result source.new }
         ensures steps { IsStep self.old result self.new }
         ensures kept { OnFault result (self.new ≡ self.old) }
+        ensures decoded { AreSameScans self.old self.new }
     {
         self.said.restart_interval = parse_dri(alloc, source)?;
         Ok(ONWARD)
@@ -219,6 +224,7 @@ impl State {
             source.old result source.new }
         ensures steps { IsStep self.old result self.new }
         ensures kept { OnFault result (self.new ≡ self.old) }
+        ensures decoded { AreSameScans self.old self.new }
     {
         if number > 2 && number != 13 && number != 14 {
             return self.skip_segment(alloc, source);
@@ -239,6 +245,7 @@ impl State {
             source.old result source.new }
         ensures steps { IsStep self.old result self.new }
         ensures kept { OnFault result (self.new ≡ self.old) }
+        ensures decoded { AreSameScans self.old self.new }
     {
         let said = parse_app(alloc, source, Marker::APP(number))?;
         self.said.metadata.add(said)?;

@@ -1,4 +1,4 @@
-use Rattle.std.proofs.Common.{◌≡◌, ◌<◌, ◌∙◌, ◌++◌, ◌∷◌, [], List, ap, ap₂, arith, get_or, length, map, rules, sym, ℕ}
+use Rattle.std.proofs.Common.{◌≡◌, ◌∙◌, ◌++◌, ◌∷◌, [], List, ap, ap₂, arith, get_or, map, rules, sym, ℕ}
 use Rattle.std.proofs.lemmas.List.{length-map, map-append}
 use Rattle.jpeg_meaning.specs.FoundPlanes.{bytes_of_samples}
 use Rattle.jpeg_decoder.proofs.Pictures.EndedPlanes.{mapped-or}

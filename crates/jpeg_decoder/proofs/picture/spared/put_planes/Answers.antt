@@ -1,4 +1,3 @@
-use Rattle.std.proofs.Common.{rules, refl}
 use Rattle.jpeg_segments.specs.FrameView.{frame_in}
 use Rattle.jpeg_decoder.proofs.Pictures.PicturesOfPlanes.{decoded-few}
 use Rattle.jpeg_decoder.proofs.Pictures.SparedPlanes.{planes-put}

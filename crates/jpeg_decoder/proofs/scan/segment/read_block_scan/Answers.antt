@@ -11,13 +11,12 @@ use Rattle.jpeg_decoder.specs.Reaching.{data_reached}
 use Rattle.jpeg_bits.specs.declared.beyond.Beyond.{Beyond}
 use Rattle.jpeg_decoder.specs.Walks.{AfterWalk}
 use Rattle.jpeg_decoder.specs.Seen.{found_of}
-use Rattle.jpeg_decoder.specs.Steps.{IsBefore, IsDct, turn_of, with_decoded}
+use Rattle.jpeg_decoder.specs.Steps.{IsDct, turn_of, with_decoded}
 use Rattle.jpeg_decoder.specs.declared.stream.state.Step.{Step}
 use Rattle.jpeg_decoder.proofs.Partial.EndedScans.{HasEnded, blocks-whole, decoded-sound, end-answers, end-leaves, end-sound}
 use Rattle.jpeg_decoder.proofs.Partial.EndedScans.{end-steps, no-blocks-after, passed-after, unread-answers, unread-leaves}
 use Rattle.jpeg_decoder.proofs.Partial.PassedData.{passed, passed-met, passed-told}
-use Rattle.jpeg_decoder.proofs.Partial.ReachedScans.{BringsNone, brings-blocks}
-use Rattle.jpeg_decoder.specs.Reaching.{turn_after}
+use Rattle.jpeg_decoder.proofs.Partial.ReachedScans.{brings-blocks}
 use Rattle.jpeg_decoder.proofs.Scans.ReadableScans.{header-legal, of-found, ready, scanned-before}
 use Rattle.jpeg_decoder.proofs.Scans.ScanData.{before-as}
 use Rattle.jpeg_decoder.proofs.scan.segment.read_block_scan.Given as given

@@ -1,4 +1,4 @@
-use Rattle.std.proofs.Common.{◌≡◌, ap, subst}
+use Rattle.std.proofs.Common.{ap, subst}
 use Rattle.jpeg_bits.specs.Reading.{Answers}
 use Rattle.jpeg_meaning.specs.Found.{Found}
 use Rattle.jpeg_meaning.specs.States.{OnToldRefusal}

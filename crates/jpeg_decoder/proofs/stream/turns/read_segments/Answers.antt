@@ -9,7 +9,7 @@ use Rattle.jpeg_decoder.specs.Steps.{turn_of}
 use Rattle.jpeg_decoder.specs.Walks.{Leaves, walk_over, walked_to}
 use Rattle.jpeg_decoder.specs.declared.stream.state.Step.{Step}
 use Rattle.jpeg_decoder.proofs.Segments.Turns.{not-framed, turn-takes}
-use Rattle.jpeg_decoder.proofs.Segments.TurnLoops.{end-refused, told-refused, walked-err, walked-on}
+use Rattle.jpeg_decoder.proofs.Segments.TurnLoops.{end-refused, onward_step, told-refused, walked-err, walked-on}
 use Rattle.jpeg_decoder.proofs.Segments.TurnLoops.{walked-refused, walked-whole}
 use Rattle.jpeg_decoder.proofs.Segments.WalkedScans.{after-walk, is-left, of-err, of-ok, of-walk, of-walk-err}
 use Rattle.jpeg_decoder.proofs.stream.turns.read_segments.Given.{Over}
@@ -25,8 +25,9 @@ returns-in_err-last-clause-reads g c =
     let l = c.loop in
     rw (p.1, p.2) (of-walk-err Step (Unit {0}) c.args.beyond _ (λ a. walked-err (turn_of c.read_turn.new.state)
     (λ (u : Unit {0}). c.read_turn.new.state) walked_to
-    c.args.walk.now.budget.left c.args.beyond c.args.header c.args.state.now c.args.source.now l.counter l.walk.budget.left
-    l.last l.state l.source c.read_turn.new.source _ l.invariant.walked (sym c.if-is_read_for.ensures)
+    c.args.walk.now.budget.left c.args.beyond c.args.header onward_step c.args.state.now c.args.source.now l.counter
+    l.walk.budget.left l.last l.state l.source c.read_turn.new.source (λ bytes. suc (length bytes)) _ (omega arith)
+    l.invariant.walked (sym c.if-is_read_for.ensures)
     (end-refused (λ f rest. (f, rest))) a) c.in_err-last.ensures.reads)
 
 pub returns-in_err-last-clause-leaves : goal.returns-in_err-last-clause-leaves
@@ -34,12 +35,14 @@ returns-in_err-last-clause-leaves g c =
     let p = err_from_is_err_and c.from_residual.result c.from_residual.ensures.1 in
     let l = c.loop in
     rw (p.1, p.2) (told-refused (turn_of c.read_turn.new.state) c.args.walk.now.budget.left c.args.beyond c.args.header
-    c.args.state.now c.args.source.now l.counter l.walk.budget.left l.last l.state l.source c.read_turn.new.source
+    onward_step c.args.state.now c.args.source.now l.counter l.walk.budget.left l.last l.state l.source
+    c.read_turn.new.source
     c.in_err-last.field-0.0 _ _ l.invariant.walked (of-err Step _ c.args.beyond _ c.in_err-last.ensures.reads)
     c.in_err-last.ensures.leaves
     (λ k f q is. subst (λ (w : Walked). Leaves c.args.beyond c.read_turn.new.state c.read_turn.new.walk.rows w.found w.rows)
-    (sym (walked-refused c.args.walk.now.budget.left c.args.beyond c.args.header c.args.state.now c.args.source.now
-    l.counter l.walk.budget.left l.last l.state l.source f l.invariant.walked (sym c.if-is_read_for.ensures) q k)) is))
+    (sym (walked-refused c.args.walk.now.budget.left c.args.beyond c.args.header onward_step c.args.state.now
+    c.args.source.now l.counter l.walk.budget.left l.last l.state l.source _ f (omega arith) l.invariant.walked
+    (sym c.if-is_read_for.ensures) q k)) is))
 
 pub returns-in_err-last-clause-turns : goal.returns-in_err-last-clause-turns
 unfolding IsOfTurns walk
@@ -53,19 +56,21 @@ returns-in_err-last-clause-exceeded g c =
     let p = err_from_is_err_and c.from_residual.result c.from_residual.ensures.1 in
     let l = c.loop in
     rw (p.1, p.2) (told-refused (turn_of c.read_turn.new.state) c.args.walk.now.budget.left c.args.beyond c.args.header
-    c.args.state.now c.args.source.now l.counter l.walk.budget.left l.last l.state l.source c.read_turn.new.source
+    onward_step c.args.state.now c.args.source.now l.counter l.walk.budget.left l.last l.state l.source
+    c.read_turn.new.source
     c.in_err-last.field-0.0 _ _ l.invariant.walked (of-err Step _ c.args.beyond _ c.in_err-last.ensures.reads)
     c.in_err-last.ensures.exceeded
     (λ k f q is. is ∙ ap (λ (w : Walked). w.exceeded) (sym (walked-refused c.args.walk.now.budget.left c.args.beyond
-    c.args.header c.args.state.now c.args.source.now l.counter l.walk.budget.left l.last l.state l.source f
-    l.invariant.walked (sym c.if-is_read_for.ensures) q k))))
+    c.args.header onward_step c.args.state.now c.args.source.now l.counter l.walk.budget.left l.last l.state l.source _
+    f
+    (omega arith) l.invariant.walked (sym c.if-is_read_for.ensures) q k))))
 
 -- ---- a header that is read
 
 stopped : (g : Over) (c : goal.Then-is_read_for g) → c.args.source.now.known ≡ true
     → walk_over c.args.walk.now.budget.left c.args.beyond c.args.header c.args.state.now c.args.source.now.bytes
     ≡ walked c.loop.state (Ok c.loop.source.bytes)
-stopped g c k = walked-whole _ c.loop.invariant.walked
+stopped g c k = walked-whole _ _ (omega arith) c.loop.invariant.walked
     (λ n. walk-stop c.loop.walk.budget.left c.args.beyond (suc n) _ _ _ _ _ (omega arith) (sym c.if-is_read_for.ensures)) k
 
 pub returns-then-is_read_for-clause-reads : goal.returns-then-is_read_for-clause-reads
@@ -96,7 +101,8 @@ ended : (g : Over) (c : goal.Then-last g) → c.args.source.now.known ≡ true
     ≡ walked c.read_turn.new.state (Ok c.read_turn.new.source.bytes)
 ended g c k =
     let walked = c.loop.invariant.walked in
-    walked-whole _ walked (λ n. walk-end c.loop.walk.budget.left c.args.beyond n _ _ _ _ _ _ _ (sym c.if-is_read_for.ensures)
+    walked-whole _ _ (omega arith) walked
+    (λ n. walk-end c.loop.walk.budget.left c.args.beyond n _ _ _ _ _ _ _ (sym c.if-is_read_for.ensures)
     ((of-ok c.args.beyond c.in_ok-last.last c.in_ok-last.ensures.reads).1 (walked.known k)).1 c.if-last.true) k
 
 pub returns-then-last-clause-reads : goal.returns-then-last-clause-reads
@@ -128,8 +134,9 @@ pub loop-preserved : goal.loop-preserved
 loop-preserved g c =
     let l = c.loop in
     record {
-      walked = walked-on c.args.walk.now.budget.left c.args.beyond c.args.header c.args.state.now c.args.source.now l.counter
-          l.walk.budget.left l.last l.state l.source c.read_turn.new.source c.read_turn.new.walk.budget.left
+      walked = walked-on c.args.walk.now.budget.left c.args.beyond c.args.header onward_step c.args.state.now
+          c.args.source.now l.counter l.walk.budget.left l.last l.state l.source c.read_turn.new.source
+          c.read_turn.new.walk.budget.left
           c.in_ok-last.last c.read_turn.new.state l.invariant.walked (sym c.if-is_read_for.ensures) c.if-last.false
           (of-ok c.args.beyond c.in_ok-last.last c.in_ok-last.ensures.reads) c.in_ok-last.ensures.left;
       going = c.in_ok-last.ensures.going;

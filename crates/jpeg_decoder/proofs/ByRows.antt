@@ -1,0 +1,26 @@
+-- Pictures whose lines are given as the rows of MCUs of their first scan are read.
+pub mod AtScan
+pub mod BeforeScan
+pub mod BegunRest
+pub mod BegunScans
+pub mod DecodedRows
+pub mod FinishedScans
+pub mod FrameRows
+pub mod FromScan
+pub mod GivenRows
+pub mod GivenScans
+pub mod Joined
+pub mod LinesLeft
+pub mod LinesOfWindows
+pub mod MarkedScans
+pub mod NextRows
+pub mod PlanesStay
+pub mod RowPictures
+pub mod RowsImages
+pub mod ScanRows
+pub mod Shown
+pub mod TakenRows
+pub mod WalksWithout
+pub mod WholeLines
+pub mod WindowLines
+pub mod Windows
