@@ -1,6 +1,7 @@
 -- The components of a frame, and their sizes and that of the frame, in blocks and in MCUs.
 use Rattle.std.proofs.Common.{◌≡◌, ℕ, zero, suc, ◌*◌, ◌<◌, ◌≤◌, true, List, [], ◌∷◌, ◌++◌, length, map, min, Some, refl}
 use Rattle.std.proofs.Common.{sym, ap, ap₂, ◌∙◌, subst, arith}
+use Rattle.std.specs.List.{AllByRecursion}
 use Rattle.std.specs.Prelude.{option_map, slice_get}
 use Rattle.std.proofs.Math.Nat.{mul-pos}
 use Rattle.std.proofs.lemmas.Bool.Decides.{nat_tests}
@@ -9,14 +10,16 @@ use Rattle.std.proofs.lemmas.List.{length-map}
 use Rattle.std.proofs.lemmas.Option.{slice_get-map}
 use Rattle.std.proofs.lemmas.Simd.{map-map}
 use Rattle.jpeg_segments.specs.Frame.{Factors, ceiling, component_of, frame_of, greatest, is_factor}
-use Rattle.jpeg_segments.specs.Frame.{Component as WrittenComponent}
+use Rattle.jpeg_segments.specs.Frame.{Component as WrittenComponent, Frame as WrittenFrame}
 use Rattle.jpeg_segments.specs.WrittenSegments.{AreComponents}
 use Rattle.jpeg_segments.proofs.Ceilings.{ceiling-low}
 use Rattle.jpeg_meaning.specs.Order.{grid_of}
 use Rattle.zaxbriar_strict.specs.Heads.{IsMade, factors_of, number_of, written_frame}
-use Rattle.zaxbriar_strict.specs.SoleScans.{columns_of, rows_of, units_high, units_wide}
+use Rattle.zaxbriar_strict.specs.ScanData.{own_high_of, own_wide_of, units_high, units_wide}
 use Rattle.zaxbriar_strict.specs.declared.frame.Component.{Component}
 use Rattle.zaxbriar_strict.specs.declared.frame.Frame.{Frame}
+use Rattle.zaxbriar_strict.specs.declared.scan.Member.{Member}
+use Rattle.zaxbriar_strict.proofs.Contexts.{element}
 
 abbrev pub no_component : WrittenComponent
 no_component = record {
@@ -48,10 +51,6 @@ pub component-at : (f : Frame) (i : ℕ) (x : Component) → IsMade f → slice_
 component-at f i x made at =
     ap (λ (l : List WrittenComponent). slice_get l i) (components-are f made)
     ∙ slice_get-map (component_in f) f.components.items i ∙ ap (option_map (component_in f)) at
-
-pub component-alone : (f : Frame) (x : Component) → IsMade f → f.components.items ≡ x ∷ []
-    → (written_frame f).components ≡ component_in f x ∷ []
-component-alone f x made e = components-are f made ∙ ap (map (component_in f)) e
 
 pub own-table : (f : Frame) (x : Component) → (component_in f x).factors.quantization ≡ x.table
 unfolding component_of
@@ -162,53 +161,50 @@ eights most side product eight most-is e =
     let same : most * side ≡ most * 8 = ap (λ (n : ℕ). most * n) eight in
     (omega (arith, e, same, most-is), omega (arith, e, same, most-is))
 
-pub units-alone : (f : Frame) (x : Component) → IsMade f → f.components.items ≡ x ∷ []
-    → (units_wide (written_frame f) ≡ (grid_of (component_in f x)).own_wide)
-    × (units_high (written_frame f) ≡ (grid_of (component_in f x)).own_high)
-units-alone f x made e =
-    let one = component-alone f x made e in (
-      ap (λ (cs : List WrittenComponent). columns_of cs (written_frame f).mcus_wide) one,
-      ap (λ (cs : List WrittenComponent). rows_of cs (written_frame f).mcus_high) one,
+pub units-alone : (f : Frame) (ms : List Member) (m : Member) (x : Component) → IsMade f → ms ≡ m ∷ []
+    → slice_get f.components.items m.component ≡ Some x
+    → (units_wide (written_frame f) ms ≡ (grid_of (component_in f x)).own_wide)
+    × (units_high (written_frame f) ms ≡ (grid_of (component_in f x)).own_high)
+units-alone f ms m x made e at =
+    let one = component-at f m.component x made at in (
+      ap (λ (l : List Member). units_wide (written_frame f) l) e ∙ ap own_wide_of one,
+      ap (λ (l : List Member). units_high (written_frame f) l) e ∙ ap own_high_of one,
     )
 
-several-units : (cs : List WrittenComponent) (wide high : ℕ) → (length cs ≡ 1 → ⊥)
-    → (columns_of cs wide ≡ wide) × (rows_of cs high ≡ high)
-several-units [] wide high ne = (refl, refl)
-several-units (c ∷ []) wide high ne = absurd (ne refl)
-several-units (c ∷ d ∷ more) wide high ne = (refl, refl)
+pub units-several : (frame : WrittenFrame) (ms : List Member) → (length ms ≡ 1 → ⊥)
+    → (units_wide frame ms ≡ frame.mcus_wide) × (units_high frame ms ≡ frame.mcus_high)
+units-several frame [] ne = (refl, refl)
+units-several frame (m ∷ []) ne = absurd (ne refl)
+units-several frame (m ∷ n ∷ more) ne = (refl, refl)
 
-pub units-several : (f : Frame) → IsMade f → (length f.components.items ≡ 1 → ⊥)
-    → (units_wide (written_frame f) ≡ (written_frame f).mcus_wide)
-    × (units_high (written_frame f) ≡ (written_frame f).mcus_high)
-units-several f made ne =
-    several-units (written_frame f).components (written_frame f).mcus_wide (written_frame f).mcus_high
-    (λ e. ne (sym (written-count f) ∙ e))
-
--- a scan of all components has MCUs
-pub units-some : (f : Frame) → IsMade f → 1 ≤ units_high (written_frame f) * units_wide (written_frame f)
-units-some f made = go f.components.items refl
+-- a scan of some components has MCUs
+pub units-some : (f : Frame) (ms : List Member) → IsMade f
+    → AllByRecursion (λ (m : Member). m.component < length f.components.items) ms
+    → 1 ≤ units_high (written_frame f) ms * units_wide (written_frame f) ms
+units-some f ms made within = go ms within
   where
-    several : (length f.components.items ≡ 1 → ⊥) → 1 ≤ units_high (written_frame f) * units_wide (written_frame f)
-    several ne = (
-        let u = units-several f made ne in
+    several : (ns : List Member) → (length ns ≡ 1 → ⊥)
+        → 1 ≤ units_high (written_frame f) ns * units_wide (written_frame f) ns
+    several ns ne = (
+        let u = units-several (written_frame f) ns ne in
         let across : 0 < f.most_across * 8 = (let h = (most-across f made).0 in omega (arith, h)) in
         let down : 0 < f.most_down * 8 = (let h = (most-down f made).0 in omega (arith, h)) in
-        let w : 0 < units_wide (written_frame f) =
+        let w : 0 < units_wide (written_frame f) ns =
         subst (λ (n : ℕ). 0 < n) (whole-wide f made ∙ sym u.0)
         (ceiling-some f.width (f.most_across * 8) made.legal.wide across) in
-        let h : 0 < units_high (written_frame f) =
+        let h : 0 < units_high (written_frame f) ns =
         subst (λ (n : ℕ). 0 < n) (whole-high f made ∙ sym u.1)
         (ceiling-some f.height (f.most_down * 8) made.legal.high down) in
         mul-pos h w
         )
 
-    go : (xs : List Component) → f.components.items ≡ xs
-        → 1 ≤ units_high (written_frame f) * units_wide (written_frame f)
-    go [] e = several (λ one. let n = ap length e in absurd (omega (arith, n, one)))
-    go (x ∷ []) e = (
-        let u = units-alone f x made e in
-        let at : slice_get f.components.items 0 ≡ Some x = ap (λ (l : List Component). slice_get l 0) e in
-        let some = own-some f 0 x made at in
+    go : (ns : List Member) → AllByRecursion (λ (m : Member). m.component < length f.components.items) ns
+        → 1 ≤ units_high (written_frame f) ns * units_wide (written_frame f) ns
+    go [] all = several [] (λ one. absurd (omega (arith, one)))
+    go (m ∷ []) all = (
+        let x = element f.components.items m.component all.0 in
+        let u = units-alone f (m ∷ []) m x.0 made refl x.1 in
+        let some = own-some f m.component x.0 made x.1 in
         subst (λ (n : ℕ). 1 ≤ n) (ap₂ (λ (a b : ℕ). a * b) (sym u.1) (sym u.0)) some
         )
-    go (x ∷ y ∷ more) e = several (λ one. let n = ap length e in absurd (omega (arith, n, one)))
+    go (m ∷ n ∷ more) all = several (m ∷ n ∷ more) (λ one. absurd (omega (arith, one)))

@@ -1,37 +1,36 @@
--- How the blocks of a scan of all components are coded, MCU by MCU (T.81, A.2).
-use Rattle.std.proofs.Common.{◌≡◌, ℕ, zero, suc, ◌+◌, ◌*◌, ◌≤◌, ◌==◌, Bool, true, false, List, [], ◌∷◌, ◌++◌, length}
+-- How the blocks of a scan of some components are coded, MCU by MCU (T.81, A.2).
+use Rattle.std.proofs.Common.{◌≡◌, ℕ, zero, suc, ◌+◌, ◌*◌, ◌≤◌, ◌==◌, Bool, false, List, [], ◌∷◌, ◌++◌, length}
 use Rattle.std.proofs.Common.{map, replicate, refl, sym, ap, ap₂, ◌∙◌, subst, arith, add-mul, one-mul, length-append}
 use Rattle.std.proofs.Common.{mul-pos, mul_comm}
 use Rattle.std.proofs.lemmas.Bool.{ne_eqb}
-use Rattle.std.proofs.lemmas.List.{length-map, length-replicate, map-append, replicate-append-replicate}
+use Rattle.std.proofs.lemmas.List.{length-replicate, map-append, replicate-append-replicate}
 use Rattle.std.proofs.lemmas.List.Sums.{sum_by-cons}
-use Rattle.std.proofs.lemmas.Option.{get_or_from_slice_get}
+use Rattle.std.proofs.lemmas.Option.{get_or_from_slice_get, same_Some, slice_get_within}
 use Rattle.std.specs.List.{AllByRecursion, flat_map, range_with_len}
-use Rattle.std.specs.Prelude.{if◌then◌else◌, sum_by, zip}
+use Rattle.std.specs.Prelude.{Some, if◌then◌else◌, slice_get, sum_by, zip}
 use Rattle.jpeg_bits.specs.Passes.{Via}
-use Rattle.jpeg_segments.specs.Frame.{Component as WrittenComponent, Factors, Frame as WrittenFrame}
-use Rattle.jpeg_segments.specs.Frame.{component_of, frame_of, is_count}
+use Rattle.jpeg_segments.specs.Frame.{Component as WrittenComponent, Frame as WrittenFrame, component_of}
 use Rattle.jpeg_meaning.specs.InTurn.{Fits}
 use Rattle.jpeg_meaning.specs.declared.grids.Grid.{Grid}
 use Rattle.jpeg_meaning.specs.Order.{Spot, all_spots, grid_of, mcu_size, mcu_spots, own_spots, part_spot, part_spots}
 use Rattle.jpeg_meaning.specs.Order.{spots_of}
 use Rattle.jpeg_meaning.specs.ScanSegments.{Coding, components_of, vias_from}
 use Rattle.jpeg_meaning.specs.Scans.{via_at}
-use Rattle.jpeg_meaning.proofs.Order.Apart.{At, at-got}
+use Rattle.jpeg_meaning.proofs.Order.Apart.{At, at-all, at-got, get-at}
 use Rattle.zaxbriar_strict.specs.Contexts.{AreWays, blocks_at, unit_of}
-use Rattle.zaxbriar_strict.specs.Heads.{IsMade, factors_of, number_of, written_frame}
+use Rattle.zaxbriar_strict.specs.Heads.{IsMade, written_frame}
 use Rattle.zaxbriar_strict.specs.Members.{HaveTables}
 use Rattle.zaxbriar_strict.specs.Runs.{WritesGroups, repeated}
-use Rattle.zaxbriar_strict.specs.SoleScans.{AreCodedBy, AreInstalled, ReadsData, columns_of, rows_of, units_high}
-use Rattle.zaxbriar_strict.specs.SoleScans.{units_wide, ways_of}
+use Rattle.zaxbriar_strict.specs.ScanData.{AreCodedBy, AreInstalled, IsCodedBy, ReadsData, own_high_of, own_wide_of}
+use Rattle.zaxbriar_strict.specs.ScanData.{units_high, units_wide, ways_of}
 use Rattle.zaxbriar_strict.specs.declared.frame.Component.{Component}
 use Rattle.zaxbriar_strict.specs.declared.frame.Frame.{Frame}
 use Rattle.zaxbriar_strict.specs.declared.scan.Member.{Member}
 use Rattle.zaxbriar_strict.specs.declared.tables.Tables.{Tables}
-use Rattle.zaxbriar_strict.proofs.Contexts.{blocks-found}
-use Rattle.zaxbriar_strict.proofs.FrameComponents.{written-count}
+use Rattle.zaxbriar_strict.proofs.Contexts.{blocks-found, element}
+use Rattle.zaxbriar_strict.proofs.FrameComponents.{component-at, component_in, written-count}
 use Rattle.zaxbriar_strict.proofs.Runs.{IsRead}
-use Rattle.zaxbriar_strict.proofs.SoleTurns.{made-fits}
+use Rattle.zaxbriar_strict.proofs.ScanTurns.{made-fits}
 use Rattle.zaxbriar_strict.proofs.Units.{repeated-append}
 
 -- ---- the blocks of an MCU
@@ -86,20 +85,38 @@ mcu-some frame (k ∷ l ∷ more) some fits =
     let r = length-replicate (part_count c) (way_in 0 k) in
     omega (arith, n, r, blocks)
 
-counted-some : (number : ℕ) (xs : List Component) → is_count number (length (map factors_of xs)) ≡ true → 1 ≤ length xs
-counted-some number [] e = absurd (let none : ⊥ = cc in none)
-counted-some number (x ∷ xs) e = omega arith
+-- the components of a scan are some of the frame's
+coded-components : (P : WrittenComponent → Type 0) (t : Tables) (frame : WrittenFrame) (ms : List Member)
+    (codings : List Coding) → AllByRecursion P frame.components → AreCodedBy t frame ms codings
+    → AllByRecursion P (components_of codings)
+unfolding AreCodedBy
+coded-components P t frame [] [] all coded = tt
+coded-components P t frame [] (k ∷ codings) all coded = absurd coded
+coded-components P t frame (m ∷ ms) [] all coded = absurd coded
+coded-components P t frame (m ∷ ms) (k ∷ codings) all coded = (
+  at-all P k.index frame.components k.component all (get-at k.index frame.components k.component coded.0.component),
+  coded-components P t frame ms codings all coded.1,
+)
 
--- An MCU of all components of a frame has a block.
-pub unit-not-empty : (f : Frame) (codings : List Coding) → IsMade f
-    → components_of codings ≡ (written_frame f).components → 1 ≤ length (unit_by codings)
-unit-not-empty f codings made e =
-    let some = counted-some (number_of f.process) f.components.items made.legal.counted in
-    let count : length codings ≡ length f.components.items =
-    sym (length-map codings (λ (k : Coding). k.component)) ∙ ap (λ (cs : List WrittenComponent). length cs) e
-    ∙ written-count f in
-    mcu-some (written_frame f) codings (omega (arith, count, some))
-    (subst (λ (cs : List WrittenComponent). AllByRecursion (Fits (written_frame f)) cs) (sym e) (made-fits f made))
+pub coded-fit : (t : Tables) (f : Frame) (ms : List Member) (codings : List Coding) → IsMade f
+    → AreCodedBy t (written_frame f) ms codings → AllByRecursion (Fits (written_frame f)) (components_of codings)
+coded-fit t f ms codings made coded =
+    coded-components (Fits (written_frame f)) t (written_frame f) ms codings (made-fits f made) coded
+
+pub coded-count : (t : Tables) (frame : WrittenFrame) (ms : List Member) (codings : List Coding)
+    → AreCodedBy t frame ms codings → length codings ≡ length ms
+unfolding AreCodedBy
+coded-count t frame [] [] coded = refl
+coded-count t frame [] (k ∷ codings) coded = absurd coded
+coded-count t frame (m ∷ ms) [] coded = absurd coded
+coded-count t frame (m ∷ ms) (k ∷ codings) coded = ap suc (coded-count t frame ms codings coded.1)
+
+-- An MCU of a scan has a block.
+pub unit-not-empty : (t : Tables) (f : Frame) (ms : List Member) (codings : List Coding) → IsMade f
+    → AreCodedBy t (written_frame f) ms codings → 1 ≤ length ms → 1 ≤ length (unit_by codings)
+unit-not-empty t f ms codings made coded some =
+    let count = coded-count t (written_frame f) ms codings coded in
+    mcu-some (written_frame f) codings (omega (arith, count, some)) (coded-fit t f ms codings made coded)
 
 -- ---- the rest of a list
 
@@ -242,30 +259,31 @@ all-ways codings wide high =
     (λ column. mcu-ways (vias_from 0 codings) row column 0 codings (rest-whole (vias_from 0 codings))))
     ∙ repeated-product high wide unit
 
-ways-by : (frame : WrittenFrame) (codings : List Coding)
-    → repeated (rows_of (components_of codings) frame.mcus_high * columns_of (components_of codings) frame.mcus_wide)
-    (unit_by codings) ≡ ways_of frame codings
-unfolding spots_of unit_by vias_from
-ways-by frame [] = repeated-nothing _
-ways-by frame (k ∷ []) = sym (own-ways (vias_from 0 (k ∷ [])) (way_in 0 k) (grid_of k.component) refl)
-ways-by frame (k ∷ l ∷ more) = sym (all-ways (k ∷ l ∷ more) frame.mcus_wide frame.mcus_high)
+-- A scan has all MCUs of its components.
+ways-by : (t : Tables) (frame : WrittenFrame) (ms : List Member) (codings : List Coding)
+    → AreCodedBy t frame ms codings
+    → repeated (units_high frame ms * units_wide frame ms) (unit_by codings) ≡ ways_of frame codings
+unfolding spots_of unit_by vias_from AreCodedBy
+ways-by t frame [] [] coded = repeated-nothing _
+ways-by t frame (m ∷ []) (k ∷ []) coded =
+    let e : slice_get frame.components m.component ≡ Some k.component =
+    ap (λ (i : ℕ). slice_get frame.components i) coded.0.index ∙ coded.0.component in
+    ap₂ (λ (high wide : ℕ). repeated (high * wide) (way_in 0 k ∷ [])) (ap own_high_of e) (ap own_wide_of e)
+    ∙ sym (own-ways (vias_from 0 (k ∷ [])) (way_in 0 k) (grid_of k.component) refl)
+ways-by t frame (m ∷ n ∷ ms) (k ∷ l ∷ more) coded = sym (all-ways (k ∷ l ∷ more) frame.mcus_wide frame.mcus_high)
+ways-by t frame [] (k ∷ codings) coded = absurd coded
+ways-by t frame (m ∷ ms) [] coded = absurd coded
+ways-by t frame (m ∷ []) (k ∷ l ∷ more) coded = absurd coded.1
+ways-by t frame (m ∷ n ∷ ms) (k ∷ []) coded = absurd coded.1
 
--- A scan of all components of a frame has all its MCUs.
-unit-ways : (frame : WrittenFrame) (codings : List Coding) → components_of codings ≡ frame.components
-    → repeated (units_high frame * units_wide frame) (unit_by codings) ≡ ways_of frame codings
-unit-ways frame codings e =
-    ap (λ (cs : List WrittenComponent).
-    repeated (rows_of cs frame.mcus_high * columns_of cs frame.mcus_wide) (unit_by codings)) (sym e)
-    ∙ ways-by frame codings
-
--- What was read of all MCUs of a frame are the data of its scan.
+-- What was read of all MCUs of a scan are its data.
 pub data-read : (t : Tables) (frame : WrittenFrame) (ms : List Member) (installed : AreInstalled t frame ms)
-    (bytes rest : List ℕ) → components_of installed.codings ≡ frame.components
-    → IsRead (unit_by installed.codings) t.interval (units_high frame * units_wide frame) bytes rest
+    (bytes rest : List ℕ)
+    → IsRead (unit_by installed.codings) t.interval (units_high frame ms * units_wide frame ms) bytes rest
     → ReadsData t frame ms bytes rest
-data-read t frame ms installed bytes rest e r =
+data-read t frame ms installed bytes rest r =
     let codings = installed.codings in
-    let ways = unit-ways frame codings e in
+    let ways = ways-by t frame ms codings installed.are in
     record {
       installed = installed;
       blocks = r.blocks;
@@ -275,68 +293,71 @@ data-read t frame ms installed bytes rest e r =
       parts = r.parts;
       coded = subst (λ (u : List Via). WritesGroups (t.interval * mcu_size (components_of codings)) 0 (zip u r.blocks)
           r.data_bytes) ways (subst (λ (n : ℕ). WritesGroups (t.interval * n) 0
-          (zip (repeated (units_high frame * units_wide frame) (unit_by codings)) r.blocks) r.data_bytes)
+          (zip (repeated (units_high frame ms * units_wide frame ms) (unit_by codings)) r.blocks) r.data_bytes)
           (unit-size codings) r.coded);
     }
 
 -- ---- the same of what is read
 
-factors-kept : (width height across down : ℕ) (xs : List Factors)
-    → map (λ c. c.factors) (map (component_of width height across down) xs) ≡ xs
-unfolding component_of
-factors-kept width height across down [] = refl
-factors-kept width height across down (x ∷ xs) =
-    ap (λ (l : List Factors). x ∷ l) (factors-kept width height across down xs)
+-- what a component of a made frame is to a writer
+record IsOwn (f : Frame) (index : ℕ) (c : WrittenComponent) : Type 0 where
+  own : Component
+  at : slice_get f.components.items index ≡ Some own
+  is : c ≡ component_in f own
 
--- the factors of a made frame's components are those that were read
-made-factors : (f : Frame) → map (λ c. c.factors) (written_frame f).components ≡ map factors_of f.components.items
-unfolding frame_of
-made-factors f = factors-kept _ _ _ _ (map factors_of f.components.items)
+own-coded : (t : Tables) (f : Frame) (m : Member) (k : Coding) → IsMade f → IsCodedBy t (written_frame f) m k
+    → IsOwn f m.component k.component
+own-coded t f m k made coded =
+    let e : slice_get (written_frame f).components m.component ≡ Some k.component =
+    ap (λ (i : ℕ). slice_get (written_frame f).components i) coded.index ∙ coded.component in
+    let lt = slice_get_within (written_frame f).components m.component k.component e in
+    let count = written-count f in
+    let x = element f.components.items m.component (omega (arith, lt, count)) in
+    record {
+      own = x.0;
+      at = x.1;
+      is = same_Some k.component (component_in f x.0) (sym e ∙ component-at f m.component x.0 made x.1);
+    }
+
+own-count : (f : Frame) (x : Component) → part_count (component_in f x) ≡ x.down * x.across
+unfolding component_of
+own-count f x = refl
 
 -- from a slot on, in a scan of several
-several-same : (count : ℕ) (whole : List Component) → (count == 1) ≡ false → (slot : ℕ) (codings : List Coding)
-    (cs : List Component) (ms : List Member) → IsRest slot cs whole
-    → map (λ c. c.factors) (components_of codings) ≡ map factors_of cs
-    → map (λ m. m.component) ms ≡ range_with_len slot (length cs)
-    → mcu_ways slot codings ≡ unit_of count whole ms (vias_from slot codings)
-unfolding mcu_ways unit_of vias_from
-several-same count whole several slot [] [] [] is same placed = refl
-several-same count whole several slot (k ∷ codings) (c ∷ cs) (m ∷ ms) is same placed =
-    let factors : k.component.factors ≡ factors_of c = cc in
-    let more : map (λ d. d.factors) (components_of codings) ≡ map factors_of cs = cc in
-    let first : m.component ≡ slot = cc in
-    let others : map (λ (n : Member). n.component) ms ≡ range_with_len (slot + 1) (length cs) = cc in
-    let count-same : part_count k.component ≡ blocks_at count whole m.component =
-    ap (λ (x : Factors). x.vertical * x.horizontal) factors
+several-same : (t : Tables) (f : Frame) (count : ℕ) → IsMade f → (count == 1) ≡ false → (slot : ℕ)
+    (ms : List Member) (codings : List Coding) → AreCodedBy t (written_frame f) ms codings
+    → mcu_ways slot codings ≡ unit_of count f.components.items ms (vias_from slot codings)
+unfolding mcu_ways unit_of vias_from AreCodedBy
+several-same t f count made several slot [] [] coded = refl
+several-same t f count made several slot [] (k ∷ codings) coded = absurd coded
+several-same t f count made several slot (m ∷ ms) [] coded = absurd coded
+several-same t f count made several slot (m ∷ ms) (k ∷ codings) coded =
+    let o = own-coded t f m k made coded.0 in
+    let c = o.own in
+    let count-same : part_count k.component ≡ blocks_at count f.components.items m.component =
+    ap part_count o.is ∙ own-count f c
     ∙ sym (ap (λ (b : Bool). if b then 1 else c.down * c.across) several)
-    ∙ sym (blocks-found count whole slot c (at-got slot whole c (rest-first slot c cs whole is)))
-    ∙ ap (λ (i : ℕ). blocks_at count whole i) (sym first) in
+    ∙ sym (blocks-found count f.components.items m.component c o.at) in
     ap₂ (λ (n : ℕ) (l : List Via). replicate n (way_in slot k) ++ l) count-same
-    (several-same count whole several (slot + 1) codings cs ms (rest-next slot c cs whole is) more others)
-several-same count whole several slot codings cs ms is same placed = absurd cc
+    (several-same t f count made several (slot + 1) ms codings coded.1)
 
-alike : (codings : List Coding) (cs : List Component) (ms : List Member)
-    → map (λ c. c.factors) (components_of codings) ≡ map factors_of cs
-    → map (λ m. m.component) ms ≡ range_with_len 0 (length cs)
-    → unit_by codings ≡ unit_of (length ms) cs ms (vias_from 0 codings)
-unfolding unit_by unit_of vias_from blocks_at
-alike [] [] [] same placed = refl
-alike (k ∷ []) (c ∷ []) (m ∷ []) same placed =
-    let first : m.component ≡ 0 = cc in
-    ap (λ (i : ℕ). replicate (blocks_at 1 (c ∷ []) i) (way_in 0 k) ++ []) (sym first)
-alike (k ∷ l ∷ codings) (c ∷ d ∷ cs) (m ∷ n ∷ ms) same placed =
-    several-same (length (m ∷ n ∷ ms)) (c ∷ d ∷ cs) (ne_eqb (length (m ∷ n ∷ ms)) 1 (omega arith)) 0
-    (k ∷ l ∷ codings) (c ∷ d ∷ cs) (m ∷ n ∷ ms) (rest-whole (c ∷ d ∷ cs)) same placed
-alike codings cs ms same placed = absurd cc
-
--- What is read as an MCU of all components of a frame.
-pub unit-same : (f : Frame) (codings : List Coding) (ms : List Member)
-    → components_of codings ≡ (written_frame f).components
-    → map (λ m. m.component) ms ≡ range_with_len 0 (length f.components.items)
+-- What is read as an MCU of a scan.
+pub unit-same : (t : Tables) (f : Frame) (ms : List Member) (codings : List Coding) → IsMade f
+    → AreCodedBy t (written_frame f) ms codings
     → unit_by codings ≡ unit_of (length ms) f.components.items ms (vias_from 0 codings)
-unit-same f codings ms e placed =
-    alike codings f.components.items ms
-    (ap (λ (cs : List WrittenComponent). map (λ c. c.factors) cs) e ∙ made-factors f) placed
+unfolding unit_by unit_of vias_from AreCodedBy
+unit-same t f [] [] made coded = refl
+unit-same t f [] (k ∷ codings) made coded = absurd coded
+unit-same t f (m ∷ ms) [] made coded = absurd coded
+unit-same t f (m ∷ []) (k ∷ []) made coded =
+    let o = own-coded t f m k made coded.0 in
+    ap (λ (n : ℕ). replicate n (way_in 0 k) ++ [])
+    (sym (blocks-found 1 f.components.items m.component o.own o.at))
+unit-same t f (m ∷ n ∷ ms) (k ∷ l ∷ codings) made coded =
+    several-same t f (length (m ∷ n ∷ ms)) made (ne_eqb (length (m ∷ n ∷ ms)) 1 (omega arith)) 0 (m ∷ n ∷ ms)
+    (k ∷ l ∷ codings) coded
+unit-same t f (m ∷ []) (k ∷ l ∷ codings) made coded = absurd coded.1
+unit-same t f (m ∷ n ∷ ms) (k ∷ []) made coded = absurd coded.1
 
 -- The ways of a scan's blocks, by the tables that its components have.
 pub ways-are : (t : Tables) (frame : WrittenFrame) (slot : ℕ) (ms : List Member) (codings : List Coding)

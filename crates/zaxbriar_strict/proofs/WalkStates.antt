@@ -8,15 +8,16 @@ use Rattle.std.proofs.lemmas.Option.{same_Some}
 use Rattle.jpeg_bits.specs.Written.{marker}
 use Rattle.jpeg_segments.proofs.Codecs.{AreBytes}
 use Rattle.jpeg_meaning.specs.Found.{Said, nothing_said}
-use Rattle.zaxbriar_strict.specs.Exact.{HasHeader, HasOtherAdobe, HasSequentialPicture, HasSmallerScan, IsWritten}
+use Rattle.zaxbriar_strict.specs.Exact.{HasHeader, HasLaterTables, HasOtherAdobe, HasSequentialPicture}
 use Rattle.zaxbriar_strict.specs.Exact.{WritesSegments}
 use Rattle.zaxbriar_strict.specs.Heads.{factors_of, has_scans, written_frame}
 use Rattle.zaxbriar_strict.specs.Walks.{Finishes}
 use Rattle.zaxbriar_strict.specs.declared.frame.Component.{Component}
 use Rattle.zaxbriar_strict.specs.declared.frame.Frame.{Frame}
 use Rattle.zaxbriar_strict.specs.declared.walk.Walk.{Walk}
+use Rattle.zaxbriar_strict.proofs.FrameComponents.{written-count}
+use Rattle.zaxbriar_strict.proofs.ImageParts.{ImagePart}
 use Rattle.zaxbriar_strict.proofs.WalkedFrames.{IsPictureFrame}
-use Rattle.zaxbriar_strict.proofs.WalkedScans.{AreAllSent}
 use Rattle.zaxbriar_strict.proofs.WalkedSegments.{Knows}
 
 -- ---- states
@@ -31,41 +32,30 @@ pub record IsBefore (stream at : List ℕ) (w : Walk) : Type 0 where
   pub known : Knows w.tables w.frame said
   pub unframed : w.frame ≡ None
   pub unsaid : said.frame ≡ None
+  pub unscanned : said.scanned ≡ false
 
--- A frame was read that has a picture, and no scan yet.
-pub record IsHeaded (stream at : List ℕ) (w : Walk) : Type 0 where
+-- A frame was read that has a picture, and any number of its scans.
+pub record IsBegun (stream at : List ℕ) (w : Walk) : Type 0 where
   pub header : HasHeader stream
   pub said : Said
   pub frame : Frame
-  pub segments : WritesSegments nothing_said header.after said at
+  pub part : ImagePart header.after at said (written_frame frame) (has_scans frame)
   pub known : Knows w.tables w.frame said
   pub is : w.frame ≡ Some frame
   pub pictured : IsPictureFrame frame
-  pub counted : length header.header.components ≡ length frame.components.items
-  pub unsent : AllByRecursion (λ (c : Component). c.has_scan ≡ false) frame.components.items
   pub was_said : said.frame ≡ Some (written_frame frame)
-
--- The scan of such a frame was read, which has all its components: the image is whole where EOI
--- follows, and no tables stand between.
-pub record IsScanned (stream at : List ℕ) (w : Walk) : Type 0 where
-  pub header : HasHeader stream
-  pub frame : Frame
-  pub is : w.frame ≡ Some frame
-  pub pictured : IsPictureFrame frame
-  pub sent : AreAllSent (has_scans frame)
-  pub some : 0 < w.scans
-  pub written : w.is_scan_due ≡ false → (last : ℕ) → at ≡ marker last 217 []
-      → IsWritten (255 ∷ 216 ∷ header.after)
 
 -- What is known where these bytes are still to be read.
 pub data Walked (stream at : List ℕ) (w : Walk) : Type 0 where
   with_adobe : HasOtherAdobe stream → Walked stream at w
   has_none : (h : HasHeader stream) → (HasSequentialPicture h.number h.header → ⊥) → Walked stream at w
-  has_smaller : (h : HasHeader stream) → HasSmallerScan (length h.header.components) h.after
-      → Walked stream at w
+  has_later : (h : HasHeader stream) → HasLaterTables h.after → Walked stream at w
   is_before : IsBefore stream at w → Walked stream at w
-  is_headed : IsHeaded stream at w → Walked stream at w
-  is_scanned : IsScanned stream at w → Walked stream at w
+  is_begun : IsBegun stream at w → Walked stream at w
+
+-- as many components of the frame are told to have scans or not
+pub sent-count : (f : Frame) → length (has_scans f) ≡ length (written_frame f).components
+sent-count f = length-map f.components.items (λ (c : Component). c.has_scan) ∙ sym (written-count f)
 
 pub some-component : (f : Frame) → IsPictureFrame f → 1 ≤ length f.components.items
 some-component f p =

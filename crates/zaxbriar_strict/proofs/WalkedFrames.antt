@@ -1,12 +1,14 @@
 -- Frames that a walk took: those that have a picture, and what a writer says by their headers.
-use Rattle.std.proofs.Common.{◌≡◌, ℕ, ◌+◌, ◌≤◌, inl, Bool, eqb, List, ◌++◌, Some, None, refl, sym, ap, ◌∙◌, subst}
+use Rattle.std.proofs.Common.{◌≡◌, ℕ, ◌+◌, ◌≤◌, inl, Bool, true, eqb, List, ◌++◌, Some, None, refl, sym, ap, ◌∙◌, subst}
 use Rattle.std.proofs.Common.{arith}
 use Rattle.jpeg_bits.specs.Written.{marker}
 use Rattle.jpeg_segments.specs.Frame.{frame_of}
-use Rattle.jpeg_segments.specs.WrittenSegments.{FrameHeader, Header, frame_payload, with_length}
+use Rattle.jpeg_segments.specs.WrittenSegments.{FrameHeader, Header, frame_payload, marker_code}
+use Rattle.jpeg_segments.specs.WrittenSegments.{payload_of, with_length}
 use Rattle.jpeg_meaning.specs.Found.{Said, nothing_said}
 use Rattle.jpeg_meaning.specs.SaidSegments.{said_after}
 use Rattle.zaxbriar_strict.specs.Exact.{HasHeader, HasSequentialPicture, WritesSegments}
+use Rattle.zaxbriar_strict.specs.Exact.WritesSegments.{more}
 use Rattle.zaxbriar_strict.specs.Heads.{IsMade, IsSameFrame, ReadsFrame, header_of, is_baseline_of}
 use Rattle.zaxbriar_strict.specs.Heads.{is_baseline_process, number_of, written_frame}
 use Rattle.zaxbriar_strict.specs.Installed.{codes_of, steps_of}
@@ -16,7 +18,7 @@ use Rattle.zaxbriar_strict.specs.declared.frame.Process.{Process}
 use Rattle.zaxbriar_strict.specs.declared.frame.Process.TheVariants.{Baseline, Extended, Lossless, Progressive}
 use Rattle.zaxbriar_strict.specs.declared.tables.Tables.{Tables}
 use Rattle.zaxbriar_strict.proofs.SameFrames.{same-made}
-use Rattle.zaxbriar_strict.proofs.WalkedSegments.{Knows, one-more, segment-bytes}
+use Rattle.zaxbriar_strict.proofs.WalkedSegments.{Knows, segment-bytes}
 
 -- ---- frames that have a picture
 
@@ -59,15 +61,18 @@ module _ (after at middle rest payload : List ℕ) (code : ℕ) (said : Said)
     rest = rest;
     starts = starts;
     segments = subst (λ (l : List ℕ). WritesSegments nothing_said after said l)
-        (segment-bytes after at middle rest payload code said written begins parts (192 + number_of f.process)
+        (segment-bytes at middle rest payload code begins parts (192 + number_of f.process)
         (frame_payload (header_of f)) (sym read.marked) (sym read.are)) written;
   }
 
   pub after-header : said.frame ≡ None → HasSequentialPicture (number_of f.process) (header_of f)
       → WritesSegments nothing_said after (said_after said (Header (number_of f.process) (header_of f))) rest
   after-header none has =
-      one-more after at middle rest payload code said written begins parts
-      (Header (number_of f.process) (header_of f)) (sym read.marked) (sym read.are)
+      let header = Header (number_of f.process) (header_of f) in
+      more said begins.fill header rest
+      (subst (λ (l : List ℕ). WritesSegments nothing_said after said l)
+      (segment-bytes at middle rest payload code begins parts (marker_code header) (payload_of header)
+      (sym read.marked) (sym read.are)) written)
       ((none, read.made.legal), inl (few, has.picture)) few
     where
       few : number_of f.process ≤ 2
@@ -80,5 +85,14 @@ module _ (after at middle rest payload : List ℕ) (code : ℕ) (said : Said)
     codes = ap (λ (u : Tables). codes_of u) e ∙ k.codes;
     interval = ap (λ (u : Tables). u.interval) e ∙ k.interval;
     baseline = ap (λ (b : Bool). Some b) (baseline-same f);
-    unscanned = k.unscanned;
   }
+
+-- what is known stays so after a scan
+pub knows-scan : (t new : Tables) (f last : Frame) (said : Said) → new ≡ t → IsSameFrame f last
+    → Knows t (Some f) said → Knows new (Some last) (record said { scanned = true })
+knows-scan t new f last said e same k = record {
+  steps = ap (λ (u : Tables). steps_of u) e ∙ k.steps;
+  codes = ap (λ (u : Tables). codes_of u) e ∙ k.codes;
+  interval = ap (λ (u : Tables). u.interval) e ∙ k.interval;
+  baseline = ap (λ (p : Process). Some (is_baseline_process p)) same.process ∙ k.baseline;
+}

@@ -1,20 +1,21 @@
 -- What is known of a stream, segment by segment.
-use Rattle.std.proofs.Common.{◌≡◌, ℕ, ◌-◌, ◌<◌, ◌⊎◌, inl, inr, ⊎_elim, Bool, true, false, List, [], ◌++◌, length}
+use Rattle.std.proofs.Common.{◌≡◌, ℕ, ◌-◌, ◌⊎◌, inl, inr, ⊎_elim, Bool, true, List, [], ◌++◌}
 use Rattle.std.proofs.Common.{Option, Some, option_map, refl, sym, ap, ◌∙◌, subst, arith}
 use Rattle.std.specs.List.{AllByRecursion}
-use Rattle.std.specs.Prelude.{slice_index}
-use Rattle.std.proofs.lemmas.Bool.{false_from_ne_true, false≢true}
+use Rattle.std.proofs.lemmas.Bool.{false≢true}
 use Rattle.std.proofs.lemmas.List.{length-map}
 use Rattle.std.proofs.lemmas.Option.{none-some}
 use Rattle.jpeg_bits.specs.Written.{marker}
+use Rattle.jpeg_segments.specs.Frame.{Frame as WrittenFrame}
+use Rattle.jpeg_segments.specs.ScanHeaders.{scan_payload}
 use Rattle.jpeg_segments.specs.WrittenSegments.{Header, with_length}
 use Rattle.jpeg_segments.proofs.Codecs.{AreBytes}
 use Rattle.jpeg_meaning.specs.Found.{Said, nothing_said}
 use Rattle.jpeg_meaning.specs.SaidSegments.{said_after}
 use Rattle.zaxbriar_strict.specs.Exact.{HasOtherAdobe, HasSequentialPicture, IsExact, WritesSegments}
-use Rattle.zaxbriar_strict.specs.Exact.WritesSegments.{none}
-use Rattle.zaxbriar_strict.specs.Heads.{factors_of, has_scans, header_of, is_baseline_of, members_of}
-use Rattle.zaxbriar_strict.specs.Heads.{number_of, written_frame}
+use Rattle.zaxbriar_strict.specs.Exact.WritesSegments.{more, none}
+use Rattle.zaxbriar_strict.specs.Heads.{has_scans, header_of, is_baseline_of, members_of, number_of, scan_header_of}
+use Rattle.zaxbriar_strict.specs.Heads.{sent_with, written_frame}
 use Rattle.zaxbriar_strict.specs.Markers.{BeginsMarker}
 use Rattle.zaxbriar_strict.specs.Walks.{Finishes, IsFresh, IsOther, WalksFrame, WalksOther, WalksScan, WalksSegment}
 use Rattle.zaxbriar_strict.specs.Walks.WalksSegment.{of_frame, of_other, of_scan}
@@ -22,78 +23,91 @@ use Rattle.zaxbriar_strict.specs.declared.frame.Component.{Component}
 use Rattle.zaxbriar_strict.specs.declared.frame.Frame.{Frame}
 use Rattle.zaxbriar_strict.specs.declared.walk.Walk.{Walk}
 use Rattle.zaxbriar_strict.proofs.Applications.{IsOtherAdobe}
-use Rattle.zaxbriar_strict.proofs.WalkedBytes.{other-adobe, payload-bytes}
-use Rattle.zaxbriar_strict.proofs.DecidedFrames.{equal, picture-or-not}
-use Rattle.zaxbriar_strict.proofs.SoleHeaders.{members-fewer, members-some, sole-members}
-use Rattle.zaxbriar_strict.proofs.WalkedFrames.{IsPictureFrame, after-header, headed, knows-header, picture-same}
-use Rattle.zaxbriar_strict.proofs.WalkedScans.{AreAllSent, closes, none-left, not-both, sole-sent}
-use Rattle.zaxbriar_strict.proofs.WalkedSegments.{Follows, Knows, after-other, segment-bytes}
-use Rattle.zaxbriar_strict.proofs.WalkStates.{IsBefore, IsHeaded, IsScanned, Walked, same-frame, some-component}
-use Rattle.zaxbriar_strict.proofs.WalkStates.Walked.{has_none, has_smaller, is_before, is_headed, is_scanned}
-use Rattle.zaxbriar_strict.proofs.WalkStates.Walked.{with_adobe}
+use Rattle.zaxbriar_strict.proofs.DecidedFrames.{picture-or-not}
+use Rattle.zaxbriar_strict.proofs.ImageParts.{ImagePart, later-tables, part-closed, part-front, part-headed, part-scan}
+use Rattle.zaxbriar_strict.proofs.ImageParts.{part-segment}
+use Rattle.zaxbriar_strict.proofs.SameFrames.{same-then, same-written}
+use Rattle.zaxbriar_strict.proofs.SentComponents.{sent-all, unsent-all}
+use Rattle.zaxbriar_strict.proofs.WalkedBytes.{other-adobe, payload-bytes, segments-front}
+use Rattle.zaxbriar_strict.proofs.WalkedFrames.{IsPictureFrame, after-header, headed, knows-header, knows-scan}
+use Rattle.zaxbriar_strict.proofs.WalkedFrames.{picture-same}
+use Rattle.zaxbriar_strict.proofs.WalkedSegments.{Follows, IsLater, Knows, after-other, segment-bytes}
+use Rattle.zaxbriar_strict.proofs.WalkStates.{IsBefore, IsBegun, Walked, same-frame, sent-count, some-component}
+use Rattle.zaxbriar_strict.proofs.WalkStates.Walked.{has_later, has_none, is_before, is_begun, with_adobe}
 
 -- ---- a segment of tables, or of an application
 
 module _ (stream at middle rest payload : List ℕ) (code : ℕ) (old new : Walk) (all : AreBytes stream)
     (begins : BeginsMarker code at middle) (kind : IsOther code) (parts : middle ≡ with_length payload ++ rest)
     (o : WalksOther code payload old new) where
-  other-turn : (before : ℕ) (after : List ℕ) (said : Said) → stream ≡ marker before 216 after
-      → WritesSegments nothing_said after said at → Knows old.tables old.frame said
-      → Follows after rest new.tables old.frame said ⊎ HasOtherAdobe stream
-  other-turn before after said starts written known =
-      let bytes = λ (k : ℕ) (e : k ≡ code).
-      segment-bytes after at middle rest payload code said written begins parts k payload e refl in
-      let own = payload-bytes stream after at before said starts written begins.fill code payload rest all
-      (bytes code refl) in
-      ⊎_elim (λ (f : Follows after rest new.tables old.frame said). inl f)
-      (λ (x : IsOtherAdobe (code - 224) payload).
+  bytes-are : (k : ℕ) → k ≡ code → at ≡ marker begins.fill k (with_length payload ++ rest)
+  bytes-are k e = segment-bytes at middle rest payload code begins parts k payload e refl
+
+  other-adobe-in : (before : ℕ) (after front : List ℕ) → stream ≡ marker before 216 after → after ≡ front ++ at
+      → IsOtherAdobe (code - 224) payload → HasOtherAdobe stream
+  other-adobe-in before after front starts fronted x =
       let numbered = x.numbered in
-      inr (other-adobe stream after at before said starts written begins.fill code payload rest x
-      (bytes 238 (omega (arith, numbered)))))
-      (after-other after at middle rest payload code said written begins parts old new kind o known own)
+      other-adobe stream after at before front starts fronted begins.fill code payload rest x
+      (bytes-are 238 (omega (arith, numbered)))
+
+  turn : (before : ℕ) (after front : List ℕ) (said : Said) → stream ≡ marker before 216 after → after ≡ front ++ at
+      → Knows old.tables old.frame said
+      → Follows at rest new.tables old.frame said ⊎ (IsOtherAdobe (code - 224) payload ⊎ IsLater code said)
+  turn before after front said starts fronted known =
+      after-other at middle rest payload code said begins parts old new kind o known
+      (payload-bytes stream after at before front starts fronted begins.fill code payload rest all
+      (bytes-are code refl))
 
   still-known : (said : Said) → Knows new.tables old.frame said → Knows new.tables new.frame said
   still-known said k = subst (λ (f : Option Frame). Knows new.tables f said) (sym o.frame) k
 
+  other-before : IsBefore stream at old → Walked stream rest new
+  other-before b =
+      let e = segments-front nothing_said b.after b.segments in
+      elim (turn b.before b.after e.front b.said b.starts e.parts b.known) [
+        | inl f ↦ is_before (record {
+          before = b.before;
+          after = b.after;
+          said = said_after b.said f.s;
+          starts = b.starts;
+          segments = more b.said f.fill f.s rest
+              (subst (λ (l : List ℕ). WritesSegments nothing_said b.after b.said l) f.parts b.segments) f.stands f.may;
+          known = still-known (said_after b.said f.s) f.known;
+          unframed = o.frame ∙ b.unframed;
+          unsaid = f.framed ∙ b.unsaid;
+          unscanned = f.scanned ∙ b.unscanned;
+        })
+        | inr (inl x) ↦ with_adobe (other-adobe-in b.before b.after e.front b.starts e.parts x)
+        | inr (inr later) ↦ absurd (false≢true (sym b.unscanned ∙ later.1))
+      ]
+
+  other-begun : IsBegun stream at old → Walked stream rest new
+  other-begun b =
+      let e = part-front b.header.after at b.said (written_frame b.frame) (has_scans b.frame) b.part in
+      elim (turn b.header.before b.header.after e.front b.said b.header.starts e.parts b.known) [
+        | inl f ↦ is_begun (record {
+          header = b.header;
+          said = said_after b.said f.s;
+          frame = b.frame;
+          part = part-segment b.header.after at rest b.said (written_frame b.frame) (has_scans b.frame) f.fill f.s
+              b.part (sent-count b.frame) f.parts f.stands f.may f.scanned f.tables;
+          known = still-known (said_after b.said f.s) f.known;
+          is = o.frame ∙ b.is;
+          pictured = b.pictured;
+          was_said = f.framed ∙ b.was_said;
+        })
+        | inr (inl x) ↦ with_adobe (other-adobe-in b.header.before b.header.after e.front b.header.starts e.parts x)
+        | inr (inr later) ↦ has_later b.header
+            (later-tables b.header.after at b.said (written_frame b.frame) (has_scans b.frame) b.part begins.fill
+            payload rest (bytes-are 219 (sym later.0)) later.1)
+      ]
+
   walked-other : Walked stream at old → Walked stream rest new
   walked-other (with_adobe x) = with_adobe x
   walked-other (has_none h n) = has_none h n
-  walked-other (has_smaller h x) = has_smaller h x
-  walked-other (is_before b) =
-      ⊎_elim (λ (f : Follows b.after rest new.tables old.frame b.said). is_before (record {
-        before = b.before;
-        after = b.after;
-        said = f.said;
-        starts = b.starts;
-        segments = f.segments;
-        known = still-known f.said f.known;
-        unframed = o.frame ∙ b.unframed;
-        unsaid = f.kept ∙ b.unsaid;
-      })) (λ (x : HasOtherAdobe stream). with_adobe x)
-      (other-turn b.before b.after b.said b.starts b.segments b.known)
-  walked-other (is_headed h) =
-      ⊎_elim (λ (f : Follows h.header.after rest new.tables old.frame h.said). is_headed (record {
-        header = h.header;
-        said = f.said;
-        frame = h.frame;
-        segments = f.segments;
-        known = still-known f.said f.known;
-        is = o.frame ∙ h.is;
-        pictured = h.pictured;
-        counted = h.counted;
-        unsent = h.unsent;
-        was_said = f.kept ∙ h.was_said;
-      })) (λ (x : HasOtherAdobe stream). with_adobe x)
-      (other-turn h.header.before h.header.after h.said h.header.starts h.segments h.known)
-  walked-other (is_scanned s) = is_scanned (record {
-    header = s.header;
-    frame = s.frame;
-    is = o.frame ∙ s.is;
-    pictured = s.pictured;
-    sent = s.sent;
-    some = subst (λ (n : ℕ). 0 < n) (sym o.scans) s.some;
-    written = λ undue last e. absurd (false≢true (sym undue ∙ o.due));
-  })
+  walked-other (has_later h x) = has_later h x
+  walked-other (is_before b) = other-before b
+  walked-other (is_begun b) = other-begun b
 
 -- ---- a frame header
 
@@ -106,19 +120,18 @@ module _ (stream at middle rest payload : List ℕ) (code : ℕ) (old new : Walk
       let h = headed b.after at middle rest payload code b.said b.segments begins parts f t.read stream b.before
       b.starts in
       let said = said_after b.said (Header (number_of f.process) (header_of f)) in
-      ⊎_elim (λ (p : HasSequentialPicture (number_of f.process) (header_of f)). is_headed (record {
+      ⊎_elim (λ (p : HasSequentialPicture (number_of f.process) (header_of f)). is_begun (record {
         header = h;
         said = said;
         frame = f;
-        segments = after-header b.after at middle rest payload code b.said b.segments begins parts f t.read
-            b.unsaid p;
+        part = part-headed b.after rest said (written_frame f) (has_scans f)
+            (after-header b.after at middle rest payload code b.said b.segments begins parts f t.read b.unsaid p)
+            (sent-count f) (unsent-all f.components.items t.read.unsent);
         known = subst (λ (o : Option Frame). Knows new.tables o said) (sym t.is)
             (knows-header b.after at middle rest payload code b.said b.segments begins parts f t.read old.tables
             new.tables t.tables (subst (λ (o : Option Frame). Knows old.tables o b.said) t.first b.known));
         is = t.is;
         pictured = record { made = t.read.made; has = p };
-        counted = length-map f.components.items factors_of;
-        unsent = t.read.unsent;
         was_said = refl;
       })) (λ (n : HasSequentialPicture (number_of f.process) (header_of f) → ⊥). has_none h n)
       (picture-or-not (number_of f.process) (header_of f))
@@ -126,69 +139,57 @@ module _ (stream at middle rest payload : List ℕ) (code : ℕ) (old new : Walk
   walked-frame : Walked stream at old → Walked stream rest new
   walked-frame (with_adobe x) = with_adobe x
   walked-frame (has_none h n) = has_none h n
-  walked-frame (has_smaller h x) = has_smaller h x
+  walked-frame (has_later h x) = has_later h x
   walked-frame (is_before b) = framed b
-  walked-frame (is_headed h) = absurd (none-some h.frame (sym t.first ∙ h.is))
-  walked-frame (is_scanned s) = absurd (none-some s.frame (sym t.first ∙ s.is))
+  walked-frame (is_begun b) = absurd (none-some b.frame (sym t.first ∙ b.is))
 
 -- ---- a scan
 
 module _ (stream at middle start rest payload : List ℕ) (old new : Walk)
     (begins : BeginsMarker 218 at middle) (parts : middle ≡ with_length payload ++ start)
     (t : WalksScan payload start rest old new) where
-  scanned : IsHeaded stream at old → Walked stream rest new
-  scanned h =
-      let same = same-frame old.frame t.frame h.frame t.was h.is in
-      let pictured = subst (λ (f : Frame). IsPictureFrame f) (sym same) h.pictured in
+  scanned : IsBegun stream at old → Walked stream rest new
+  scanned b =
+      let same = same-frame old.frame t.frame b.frame t.was b.is in
+      let f = t.frame in
+      let pictured = subst (λ (g : Frame). IsPictureFrame g) (sym same) b.pictured in
       let few = pictured.has.sequential in
       let r = t.read pictured.made few in
       let head = r.headed in
-      let n = length t.frame.components.items in
-      ⊎_elim (λ (many : length (members_of r.scan) ≡ n).
-      let sole = sole-members payload r.scan t.frame r.between few r.sized head many in
-      is_scanned (record {
-        header = h.header;
+      let final : Said = record b.said { scanned = true } in
+      let last_same = same-then head.same r.same in
+      let bytes : at ≡ marker begins.fill 218 (with_length (scan_payload (scan_header_of f r.scan)) ++ start) =
+      begins.parts ∙ ap (λ (l : List ℕ). marker begins.fill 218 l)
+      (parts ∙ ap (λ (l : List ℕ). with_length l ++ start) head.are) in
+      let was : b.said.frame ≡ Some (written_frame f) =
+      b.was_said ∙ ap (λ (g : Frame). Some (written_frame g)) (sym same) in
+      let known = b.known in
+      let p =
+      part-scan b.header.after at start rest payload begins.fill old.tables f r.between r.scan b.said pictured.made few
+      pictured.has.picture.precise r.sized head r.read known.steps known.codes known.interval was bytes
+      (subst (λ (g : Frame). ImagePart b.header.after at b.said (written_frame g) (has_scans g)) (sym same) b.part) in
+      is_begun (record {
+        header = b.header;
+        said = final;
         frame = t.last;
+        part = subst (λ (sent : List Bool). ImagePart b.header.after rest final (written_frame t.last) sent)
+            (sym (r.sent ∙ head.sent few))
+            (subst (λ (w : WrittenFrame). ImagePart b.header.after rest final w
+            (sent_with (members_of r.scan) (has_scans f))) (sym (same-written last_same)) p);
+        known = subst (λ (o : Option Frame). Knows new.tables o final) (sym t.is)
+            (knows-scan old.tables new.tables f t.last b.said t.tables last_same
+            (subst (λ (o : Option Frame). Knows old.tables o b.said) t.was known));
         is = t.is;
         pictured = picture-same r.same (picture-same head.same pictured);
-        sent = subst (λ (l : List Bool). AreAllSent l) (sym (r.sent ∙ head.sent few))
-            (sole-sent t.frame (members_of r.scan) many sole.all);
-        some = t.some;
-        written = λ undue. closes h.header.after at middle start rest payload h.said old.tables old.frame t.frame
-            t.last h.segments begins parts h.known pictured
-            (h.was_said ∙ ap (λ (f : Frame). Some (written_frame f)) (sym same)) r sole;
-      }))
-      (λ (other : length (members_of r.scan) ≡ n → ⊥). has_smaller h.header (record {
-        said = h.said;
-        fill = begins.fill;
-        payload = payload;
-        rest = start;
-        segments = subst (λ (l : List ℕ). WritesSegments nothing_said h.header.after h.said l)
-            (segment-bytes h.header.after at middle start payload 218 h.said h.segments begins parts 218 payload refl
-            refl) h.segments;
-        smaller = subst (λ (k : ℕ). slice_index payload 0 < k)
-            (ap (λ (f : Frame). length f.components.items) same ∙ sym h.counted)
-            (members-fewer payload r.scan t.frame r.between few head other);
-      }))
-      (equal (length (members_of r.scan)) n)
-
-  -- all components have their scan
-  unscanned : IsScanned stream at old → ⊥
-  unscanned s =
-      let same = same-frame old.frame t.frame s.frame t.was s.is in
-      let pictured = subst (λ (f : Frame). IsPictureFrame f) (sym same) s.pictured in
-      let few = pictured.has.sequential in
-      let r = t.read pictured.made few in
-      none-left (members_of r.scan) (has_scans t.frame) (members-some payload r.scan t.frame r.between few r.headed)
-      (subst (λ (f : Frame). AreAllSent (has_scans f)) (sym same) s.sent) (r.headed.unsent few)
+        was_said = was ∙ ap (λ (w : WrittenFrame). Some w) (sym (same-written last_same));
+      })
 
   walked-scan : Walked stream at old → Walked stream rest new
   walked-scan (with_adobe x) = with_adobe x
   walked-scan (has_none h n) = has_none h n
-  walked-scan (has_smaller h x) = has_smaller h x
+  walked-scan (has_later h x) = has_later h x
   walked-scan (is_before b) = absurd (none-some t.frame (sym b.unframed ∙ t.was))
-  walked-scan (is_headed h) = scanned h
-  walked-scan (is_scanned s) = absurd (unscanned s)
+  walked-scan (is_begun b) = scanned b
 
 -- ---- from the start to the end
 
@@ -206,10 +207,10 @@ walked-start stream first after code w fresh begins soi e = is_before (record {
     codes = fresh.codes;
     interval = fresh.interval;
     baseline = ap (λ (f : Option Frame). option_map is_baseline_of f) fresh.frame;
-    unscanned = refl;
   };
   unframed = fresh.frame;
   unsaid = refl;
+  unscanned = refl;
 })
 
 pub walked-more : (stream at middle rest : List ℕ) (code : ℕ) (old new : Walk) → AreBytes stream
@@ -227,17 +228,19 @@ walked-whole : (stream at : List ℕ) (w : Walk) → BeginsMarker 217 at [] → 
     → IsExact stream
 walked-whole stream at w begins f (with_adobe x) = inr x
 walked-whole stream at w begins f (has_none h n) = inl (record { headed = h; written = λ p. absurd (n p) })
-walked-whole stream at w begins f (has_smaller h x) = inl (record { headed = h; written = λ p. inr x })
+walked-whole stream at w begins f (has_later h x) = inl (record { headed = h; written = λ p. inr x })
 walked-whole stream at w begins f (is_before b) = absurd (none-some f.frame (sym b.unframed ∙ f.is))
-walked-whole stream at w begins f (is_headed h) =
-    let same = same-frame w.frame f.frame h.frame f.is h.is in
-    absurd (not-both h.frame.components.items (some-component h.frame h.pictured) h.unsent
-    (subst (λ (g : Frame). AllByRecursion (λ (c : Component). c.has_scan ≡ true) g.components.items) same f.sent))
-walked-whole stream at w begins f (is_scanned s) =
-    let some = s.some in
-    let undue : w.is_scan_due ≡ false = false_from_ne_true w.is_scan_due
-    (λ e. absurd (let none_yet = f.due e in omega (arith, none_yet, some))) in
-    inl (record { headed = s.header; written = λ p. inl (s.written undue begins.fill begins.parts) })
+walked-whole stream at w begins f (is_begun b) =
+    let same = same-frame w.frame f.frame b.frame f.is b.is in
+    let all = sent-all b.frame.components.items
+    (subst (λ (g : Frame). AllByRecursion (λ (c : Component). c.has_scan ≡ true) g.components.items) same f.sent) in
+    let count = length-map b.frame.components.items (λ (c : Component). c.has_scan) in
+    let some = some-component b.frame b.pictured in
+    inl (record {
+      headed = b.header;
+      written = λ p. inl (part-closed b.header.after at b.said (written_frame b.frame) (has_scans b.frame) begins.fill
+          b.part (sent-count b.frame) (omega (arith, count, some)) all b.was_said begins.parts);
+    })
 
 pub walked-end : (stream at rest : List ℕ) (code : ℕ) (w : Walk) → BeginsMarker code at rest → code ≡ 217
     → rest ≡ [] → Finishes w → Walked stream at w → IsExact stream

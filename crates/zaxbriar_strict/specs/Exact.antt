@@ -1,14 +1,13 @@
 -- What a strict verdict says of a stream (T.81, B.2.1).
-use Rattle.std.specs.Prelude.{◌≡◌, ◌⊎◌, ◌+◌, ◌≤◌, ◌<◌, ◌∷◌, ◌++◌, ℕ, List, length}
-use Rattle.std.specs.Prelude.{slice_index, true}
+use Rattle.std.specs.Prelude.{◌≡◌, ◌⊎◌, ◌+◌, ◌≤◌, ◌<◌, ◌∷◌, ◌++◌, ℕ, List, slice_index, true}
 use Rattle.jpeg_bits.specs.Written.{marker}
 use Rattle.jpeg_segments.specs.WrittenSegments.{FrameHeader, Segment, frame_payload, is_known}
 use Rattle.jpeg_segments.specs.WrittenSegments.{marker_code, payload_of, with_length}
 use Rattle.jpeg_meaning.specs.Found.{Said, nothing_said}
 use Rattle.jpeg_meaning.specs.AcceptedFrames.{HasPicture}
-use Rattle.jpeg_meaning.specs.Levels.{Is8Bit, Levels}
+use Rattle.jpeg_meaning.specs.Levels.{Is8Bit, Levels, nothing_sent}
 use Rattle.jpeg_meaning.specs.SaidSegments.{Stands, said_after}
-use Rattle.jpeg_meaning.specs.WrittenImages.{MayStandInImage, WritesImage}
+use Rattle.jpeg_meaning.specs.WrittenImages.{MayStandInImage, WritesImage, WritesPart}
 use Rattle.jpeg_meaning.specs.WrittenScans.{Coefficients}
 
 -- Segments one after the other, from the start of some bytes up to these others: what was said
@@ -53,29 +52,36 @@ pub record HasHeader (bytes : List ℕ) : Type 0 where
   pub segments : WritesSegments nothing_said after said
       (marker fill (192 + number) (with_length (frame_payload header) ++ rest))
 
--- The first scan of a stream (SOS) has fewer components than these; these bytes follow SOI.
-pub record HasSmallerScan (count : ℕ) (after : List ℕ) : Type 0 where
+-- These bytes are the others of a stream, where what is written before them is told.
+abbrev pub IsUpTo : List ℕ → Said → (ℕ → Levels) → List ℕ → Type 0
+IsUpTo others said sent bytes = bytes ≡ others
+
+-- A segment of quantization tables (DQT) stands after a scan, and before it segments and scans that
+-- a writer emits for some coefficients: writers here define these tables before the first scan, and
+-- T.81 lets them stand after it. These bytes follow SOI.
+pub record HasLaterTables (after : List ℕ) : Type 0 where
+  pub array : Coefficients
   pub said : Said
+  pub sent : ℕ → Levels
   pub fill : ℕ
   pub payload : List ℕ
   pub rest : List ℕ
-  pub segments : WritesSegments nothing_said after said
-      (marker fill 218 (with_length payload ++ rest))
-  pub smaller : slice_index payload 0 < count
+  pub written : WritesPart array (IsUpTo (marker fill 219 (with_length payload ++ rest)))
+      nothing_said (λ k. nothing_sent) after said sent
+  pub scanned : said.scanned ≡ true
 
 -- A sequential frame that has a picture, and so 8 bits a sample.
 pub record HasSequentialPicture (number : ℕ) (h : FrameHeader) : Type 0 where
   pub sequential : number ≤ 1
   pub picture : HasPicture h
 
--- A stream whose frame header is this one is written for some coefficients, where the frame is
--- sequential and has a picture, unless its first scan has not all components: without the fill
--- bytes that may stand before SOI.
+-- A stream with this frame header is written for some coefficients, where the frame is sequential
+-- and has a picture, unless it defines quantization tables after a scan: without the fill bytes
+-- that may stand before SOI.
 pub record IsExactFor (bytes : List ℕ) : Type 0 where
   pub headed : HasHeader bytes
   pub written : HasSequentialPicture headed.number headed.header
-      → IsWritten (255 ∷ 216 ∷ headed.after)
-      ⊎ HasSmallerScan (length headed.header.components) headed.after
+      → IsWritten (255 ∷ 216 ∷ headed.after) ⊎ HasLaterTables headed.after
 
 abbrev pub IsExact : List ℕ → Type 0
 IsExact bytes = IsExactFor bytes ⊎ HasOtherAdobe bytes

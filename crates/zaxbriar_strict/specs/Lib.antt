@@ -10,7 +10,7 @@ pub mod Blocks
 pub mod Quantizations
 pub mod Heads
 pub mod Installed
-pub mod SoleScans
+pub mod ScanData
 pub mod Kept
 pub mod Runs
 pub mod Contexts

@@ -4,7 +4,7 @@ use Rattle.std.specs.Prelude.{None, Some}
 use Rattle.std.specs.List.{AllByRecursion}
 use Rattle.jpeg_segments.specs.HuffmanTables.{no_tables}
 use Rattle.jpeg_segments.specs.WrittenSegments.{u16_bytes, with_length}
-use Rattle.zaxbriar_strict.specs.SoleScans.{ReadsIfSole}
+use Rattle.zaxbriar_strict.specs.ScanData.{ReadsIfEight}
 use Rattle.zaxbriar_strict.specs.Heads.{IsMade, IsSameFrame, IsSequential, ReadsFrame, ReadsHeader}
 use Rattle.zaxbriar_strict.specs.Heads.{has_scans}
 use Rattle.zaxbriar_strict.specs.Installed.{InstallsCodes, InstallsSteps, codes_of, steps_of}
@@ -64,7 +64,7 @@ pub record ReadsScan (header start rest : List ℕ) (t : Tables) (old new : Fram
   pub between : Frame
   pub sized : length scan.members ≡ 4
   pub headed : ReadsHeader header scan old between
-  pub read : ReadsIfSole t between scan start rest
+  pub read : ReadsIfEight t between scan start rest
   pub same : IsSameFrame between new
   pub sent : has_scans new ≡ has_scans between
 
@@ -75,6 +75,7 @@ pub record WalksScan (header start rest : List ℕ) (old new : Walk) : Type 0 wh
   pub was : old.frame ≡ Some frame
   pub is : new.frame ≡ Some last
   pub some : 0 < new.scans
+  pub tables : new.tables ≡ old.tables
   pub read : IsMade frame → IsSequential frame
       → ReadsScan header start rest old.tables frame last
 

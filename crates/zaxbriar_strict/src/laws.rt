@@ -1,11 +1,11 @@
 //! What strict streams mean. Theorems, each on a function without a body.
-ghost use Rattle.std.specs.Prelude.{◌≡◌, ℕ, ◌∷◌, ◌++◌, length, List};
+ghost use Rattle.std.specs.Prelude.{◌≡◌, ℕ, ◌∷◌, ◌++◌, List};
 ghost use Rattle.jpeg_meaning.specs.ArrayPictures.{meaning_of_array};
 ghost use Rattle.jpeg_meaning.specs.Stream.{meaning};
 ghost use Rattle.jpeg_meaning.specs.WholeImages.{whole_meaning};
 ghost use Rattle.jpeg_meaning.specs.declared.settings.Settings.{Settings};
-ghost use Rattle.zaxbriar_strict.specs.Exact.{HasHeader, HasOtherAdobe, HasSequentialPicture};
-ghost use Rattle.zaxbriar_strict.specs.Exact.{HasSmallerScan, IsExact, IsWritten};
+ghost use Rattle.zaxbriar_strict.specs.Exact.{HasHeader, HasLaterTables, HasOtherAdobe};
+ghost use Rattle.zaxbriar_strict.specs.Exact.{HasSequentialPicture, IsExact, IsWritten};
 
 /// A stream that a writer emits for the coefficients of an image means their picture, cut at the
 /// bits that were sent. What follows the image is left.
@@ -16,14 +16,14 @@ pub fn written_streams_mean_their_pictures()
 {}
 
 /// A stream of which `judge` says that it is strict (clause `exact`) is written for coefficients,
-/// and means the picture of those coefficients themselves: without the fill bytes that may stand
-/// before SOI, and if no Adobe segment gives an unknown transform, its frame is sequential and has
-/// a picture, and its first scan has all components.
+/// and means the picture of those coefficients themselves, in one scan or several: without the fill
+/// bytes that may stand before SOI, and if no Adobe segment gives an unknown transform, its frame
+/// is sequential and has a picture, and no quantization table is defined after a scan.
 pub fn strict_streams_mean_their_pictures()
     ensures { (bytes : List ℕ) → IsExact bytes → (HasOtherAdobe bytes → ⊥) →
         (headed : HasHeader bytes)
         × (HasSequentialPicture headed.number headed.header →
-        (HasSmallerScan (length headed.header.components) headed.after → ⊥) →
+        (HasLaterTables headed.after → ⊥) →
         (image : IsWritten (255 ∷ 216 ∷ headed.after))
         × ((settings : Settings) (rest : List ℕ) →
         meaning settings (255 ∷ 216 ∷ (headed.after ++ rest))

@@ -3,8 +3,8 @@
 //! This is no decoder, and shares no line of code with one: it reads a stream by the standard's
 //! clauses, takes nothing that they don't define, and makes no picture. What is read of markers, of
 //! tables, of bits and of blocks was written by the definitions of a writer, which the contracts
-//! cite; and so was a whole stream, if its frame is sequential and has a picture, and its first
-//! scan has all components: it means the picture of its coefficients ([`laws`]).
+//! cite; and so was a whole stream, if its frame is sequential and has a picture, and no
+//! quantization table is defined after a scan: it means the picture of its coefficients ([`laws`]).
 #![tactic(auto)]
 
 ghost use Rattle.std.specs.Prelude.{◌≡◌, IfOk, length};
@@ -48,8 +48,8 @@ use std::alloc::Global;
 pub fn judge(alloc: Global, stream: &[u8], most_bytes: u64) -> Result<Verdict, Refusal>
     ensures within { IfOk result (IsWithin (length stream.now)) }
     // A stream that is strict is one that a writer emits for some coefficients, if its frame is
-    // sequential and has a picture, its first scan has all components, and no Adobe segment gives
-    // an unknown transform.
+    // sequential and has a picture, in one scan or several, no quantization table is defined after
+    // a scan, and no Adobe segment gives an unknown transform.
     ensures exact { IfOk result (λ v. v ≡ Strict → IsExact stream.now) }
 {
     match read_stream(alloc, stream, most_bytes) {

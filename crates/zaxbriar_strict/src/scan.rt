@@ -37,7 +37,7 @@ pub(crate) struct Scan {
 impl Scan {
     ghost use Rattle.std.specs.Prelude.{◌≡◌};
     ghost use Rattle.zaxbriar_strict.specs.Heads.{IsMade, members_of, written_frame};
-    ghost use Rattle.zaxbriar_strict.specs.SoleScans.{IsSole, units_high, units_wide};
+    ghost use Rattle.zaxbriar_strict.specs.ScanData.{HasMembers, units_high, units_wide};
 
     /// Returns the components of the scan.
     pub(crate) fn members(&self) -> &[Member]
@@ -52,9 +52,9 @@ impl Scan {
     /// Returns how many columns and rows of MCUs the scan has, of this many samples each per
     /// sampling factor (A.2.2 and A.2.3).
     pub(crate) fn units(&self, frame: &Frame, side: u32) -> (u32, u32)
-        ensures { side ≡ 8 → IsMade frame.now → IsSole frame.now self.now
-            → (result.0 ≡ units_wide (written_frame frame.now))
-            × (result.1 ≡ units_high (written_frame frame.now)) }
+        ensures { side ≡ 8 → IsMade frame.now → HasMembers frame.now self.now
+            → (result.0 ≡ units_wide (written_frame frame.now) (members_of self.now))
+            × (result.1 ≡ units_high (written_frame frame.now) (members_of self.now)) }
     {
         match self.members() {
             [member] => match frame.components.get(member.component) {

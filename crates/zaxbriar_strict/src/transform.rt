@@ -11,7 +11,7 @@ ghost use Rattle.zaxbriar_strict.specs.Installed.{codes_of, steps_of, tables_of_
 ghost use Rattle.zaxbriar_strict.specs.Kept.{IsKept, IsKeptComponent};
 ghost use Rattle.zaxbriar_strict.specs.Loaded.{data_of};
 ghost use Rattle.zaxbriar_strict.specs.Runs.{IsAfter, IsBefore, ReadsRun};
-ghost use Rattle.zaxbriar_strict.specs.SoleScans.{AreInstalled, IsSole, ReadsIfSole};
+ghost use Rattle.zaxbriar_strict.specs.ScanData.{AreInstalled, HasMembers, ReadsIfEight};
 ghost use Rattle.zaxbriar_strict.specs.Tables.{codes_in};
 ghost use Rattle.zaxbriar_strict.specs.Whole.{IsWhole};
 ghost use Rattle.zaxbriar_strict.specs.declared.frame.Component.{Component};
@@ -152,7 +152,7 @@ fn check_member(
 fn check_tables(tables: &Tables, frame: &mut Frame, scan: &Scan, band: &Band) -> Result<(), Rule>
     ensures kept { IsKept frame.old frame.new }
     ensures tables { IfOk result (λ _. IsMade frame.old → IsWhole band.now
-        → IsSole frame.old scan.now
+        → HasMembers frame.old scan.now
         → AreInstalled tables.now (written_frame frame.old) (members_of scan.now)) }
 {
     let mut has_categories = true;
@@ -478,7 +478,7 @@ pub(crate) fn read_scan<'a>(
     scan: &Scan,
     start: Cursor<'a>,
 ) -> Result<Cursor<'a>, Stop>
-    ensures read { IfOk result (λ rest. ReadsIfSole tables.now frame.old scan.now
+    ensures read { IfOk result (λ rest. ReadsIfEight tables.now frame.old scan.now
         start.entry.rest.now rest.rest.now) }
     ensures same { IsSameFrame frame.old frame.new }
     ensures sent { has_scans frame.new ≡ has_scans frame.old }

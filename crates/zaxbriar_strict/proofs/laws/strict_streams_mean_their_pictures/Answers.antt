@@ -1,10 +1,10 @@
-use Rattle.std.proofs.Common.{◌≡◌, ◌≤◌, ◌∙◌, ◌++◌, ◌∷◌, ◌⊎◌, ℕ, List, length, inl, inr}
+use Rattle.std.proofs.Common.{◌≡◌, ◌≤◌, ◌∙◌, ◌++◌, ◌∷◌, ◌⊎◌, ℕ, List, inl, inr}
 use Rattle.jpeg_meaning.specs.Stream.{meaning}
 use Rattle.jpeg_meaning.specs.WholeImages.{whole_meaning}
 use Rattle.jpeg_meaning.specs.declared.settings.Settings.{Settings}
 use Rattle.jpeg_meaning.proofs.Pictures.WholeImages.{sequential-whole, whole-is}
 use Rattle.jpeg_meaning.proofs.Written.WrittenPictures.{stream-means}
-use Rattle.zaxbriar_strict.specs.Exact.{HasHeader, HasOtherAdobe, HasSequentialPicture, HasSmallerScan, IsExact}
+use Rattle.zaxbriar_strict.specs.Exact.{HasHeader, HasLaterTables, HasOtherAdobe, HasSequentialPicture, IsExact}
 use Rattle.zaxbriar_strict.specs.Exact.{IsWritten}
 use Rattle.zaxbriar_strict.proofs.WrittenFrames.{sequential-end}
 use Rattle.zaxbriar_strict.proofs.laws.strict_streams_mean_their_pictures.Goals as goal
@@ -14,9 +14,9 @@ MeansPicture after = (image : IsWritten (255 ∷ 216 ∷ after)) × ((settings :
     → meaning settings (255 ∷ 216 ∷ (after ++ rest)) ≡ whole_meaning settings image.final image.array rest)
 
 means-picture : (bytes : List ℕ) (h : HasHeader bytes) → h.number ≤ 1
-    → IsWritten (255 ∷ 216 ∷ h.after) ⊎ HasSmallerScan (length h.header.components) h.after
-    → (HasSmallerScan (length h.header.components) h.after → ⊥) → MeansPicture h.after
-means-picture bytes h few (inr smaller) all = absurd (all smaller)
+    → IsWritten (255 ∷ 216 ∷ h.after) ⊎ HasLaterTables h.after
+    → (HasLaterTables h.after → ⊥) → MeansPicture h.after
+means-picture bytes h few (inr later) all = absurd (all later)
 means-picture bytes h few (inl image) all =
     let stream = 255 ∷ 216 ∷ h.after in
     let f = sequential-end image.array h.after h.said image.final image.last h.fill h.number h.header h.rest
@@ -30,7 +30,7 @@ means-picture bytes h few (inl image) all =
 
 means : (bytes : List ℕ) → IsExact bytes → (HasOtherAdobe bytes → ⊥) → (headed : HasHeader bytes)
     × (HasSequentialPicture headed.number headed.header
-    → (HasSmallerScan (length headed.header.components) headed.after → ⊥) → MeansPicture headed.after)
+    → (HasLaterTables headed.after → ⊥) → MeansPicture headed.after)
 means bytes (inr other) known = absurd (known other)
 means bytes (inl exact) known =
     (exact.headed, λ p all. means-picture bytes exact.headed p.sequential (exact.written p) all)

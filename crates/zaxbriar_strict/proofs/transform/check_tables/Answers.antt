@@ -1,7 +1,7 @@
 use Rattle.std.proofs.Common.{◌≤◌, length, ap, arith, subst}
 use Rattle.std.proofs.lemmas.List.{take_all}
 use Rattle.zaxbriar_strict.specs.Heads.{members_of, written_frame}
-use Rattle.zaxbriar_strict.specs.SoleScans.{AreInstalled}
+use Rattle.zaxbriar_strict.specs.ScanData.{AreInstalled}
 use Rattle.zaxbriar_strict.proofs.Codings.{installed-next, none-installed}
 use Rattle.zaxbriar_strict.proofs.SameFrames.{kept-none, kept-then}
 use Rattle.zaxbriar_strict.proofs.transform.check_tables.Goals as goal
@@ -9,7 +9,7 @@ use Rattle.zaxbriar_strict.proofs.transform.check_tables.Goals as goal
 pub loop-member-init : goal.loop-member-init
 loop-member-init c = record {
   kept = kept-none c.args.frame.now;
-  tables = λ made whole sole. none-installed c.args.tables.now (written_frame c.args.frame.now);
+  tables = λ made whole has. none-installed c.args.tables.now (written_frame c.args.frame.now);
 }
 
 pub loop-member-preserved : goal.loop-member-preserved
@@ -17,17 +17,17 @@ loop-member-preserved c =
     let i = c.loop-member.invariant in
     record {
       kept = kept-then i.kept c.in_ok-has_categories.ensures.kept;
-      tables = λ made whole sole.
+      tables = λ made whole has.
           installed-next c.args.tables.now c.args.frame.now c.loop-member.frame c.args.scan.now
           c.members-member-items.result.now c.loop-member.member-index c.members-member-items.ensures
-          c.loop-member-test.true i.kept made sole (i.tables made whole sole)
+          c.loop-member-test.true i.kept made has (i.tables made whole has)
           (λ again within dc ac. c.in_ok-has_categories.ensures.tables again within whole dc ac);
     }
 
 pub returns-then-has_categories-clause-tables : goal.returns-then-has_categories-clause-tables
-returns-then-has_categories-clause-tables c = λ made whole sole.
+returns-then-has_categories-clause-tables c = λ made whole has.
     let ms = members_of c.args.scan.now in
     let all : length ms ≤ c.loop-member.member-index =
     omega (arith, ap length c.members-member-items.ensures, c.loop-member-test.false) in
     subst (AreInstalled c.args.tables.now (written_frame c.args.frame.now))
-    (take_all c.loop-member.member-index ms all) (c.loop-member.invariant.tables made whole sole)
+    (take_all c.loop-member.member-index ms all) (c.loop-member.invariant.tables made whole has)

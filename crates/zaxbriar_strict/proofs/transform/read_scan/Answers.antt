@@ -1,18 +1,16 @@
-use Rattle.std.proofs.Common.{◌≡◌, ◌≤◌, ◌+◌, ◌*◌, ℕ, length, refl, sym, ap, ap₂, ◌∙◌, arith, subst}
+use Rattle.std.proofs.Common.{◌≡◌, ◌≤◌, ◌+◌, ◌*◌, ℕ, refl, sym, ap, ap₂, ◌∙◌, arith, subst}
 use Rattle.std.proofs.Math.Nat.{add-mul}
-use Rattle.std.specs.List.{range_with_len}
 use Rattle.jpeg_segments.specs.Frame.{Frame as WrittenFrame}
-use Rattle.jpeg_meaning.specs.ScanSegments.{components_of, vias_from}
+use Rattle.jpeg_meaning.specs.ScanSegments.{vias_from}
 use Rattle.zaxbriar_strict.specs.Contexts.{unit_of}
 use Rattle.zaxbriar_strict.specs.Heads.{members_of, written_frame}
 use Rattle.zaxbriar_strict.specs.Runs.{IsAfter}
-use Rattle.zaxbriar_strict.specs.SoleScans.{units_high, units_wide}
-use Rattle.zaxbriar_strict.proofs.FrameComponents.{units-some, written-count}
+use Rattle.zaxbriar_strict.specs.ScanData.{units_high, units_wide}
+use Rattle.zaxbriar_strict.proofs.FrameComponents.{units-some}
 use Rattle.zaxbriar_strict.proofs.Runs.{IsRead, all-read, begun}
 use Rattle.zaxbriar_strict.proofs.SameFrames.{kept-then, kept-unit, same-made, same-precision, same-sequential}
 use Rattle.zaxbriar_strict.proofs.SameFrames.{same-written}
-use Rattle.zaxbriar_strict.proofs.SoleHeaders.{same-sole}
-use Rattle.zaxbriar_strict.proofs.SoleScans.{components-from}
+use Rattle.zaxbriar_strict.proofs.SequentialHeaders.{same-members}
 use Rattle.zaxbriar_strict.proofs.UnitWays.{data-read, unit-not-empty, unit-same, unit_by, ways-are}
 use Rattle.zaxbriar_strict.proofs.transform.read_scan.Goals as goal
 
@@ -31,7 +29,7 @@ loop-row-preserved c = record {
 }
 
 pub returns-clause-read : goal.returns-clause-read
-returns-clause-read c = λ made sequential eight sole.
+returns-clause-read c = λ made sequential eight has.
     let t = c.args.tables.now in
     let f = c.args.frame.now in
     let s = c.args.scan.now in
@@ -41,32 +39,31 @@ returns-clause-read c = λ made sequential eight sole.
     let rest = c.in_ok-rest.rest.rest.now in
     let new = c.check_tables.new.frame in
     let k = c.in-Ok.ensures.kept.same in
-    let installed = c.in-Ok.ensures.tables made (c.band_of-band.ensures sequential) sole in
+    let installed = c.in-Ok.ensures.tables made (c.band_of-band.ensures sequential) has in
     let codings = installed.codings in
     let vias = vias_from 0 codings in
-    let e : components_of codings ≡ frame.components =
-    components-from t frame 0 (length frame.components) ms codings installed.are
-    (sole.all ∙ ap (λ (n : ℕ). range_with_len 0 n) (sym (written-count f))) (omega arith) in
     let unit = unit_by codings in
     let u : unit ≡ unit_of s.count f.components.items ms vias =
-    unit-same f codings ms e sole.all
-    ∙ ap (λ (n : ℕ). unit_of n f.components.items ms vias) (sym sole.counted) in
+    unit-same t f ms codings made installed.are
+    ∙ ap (λ (n : ℕ). unit_of n f.components.items ms vias) (sym has.counted) in
+    let count = has.counted in
+    let one = has.some in
     let n = c.new-intervals.ensures in
     let a = c.loop-row.invariant.read vias unit t.interval bytes
     (record {
       sequential = c.is_progressive.ensures (same-sequential k sequential);
       eight = c.is_deep.ensures (same-precision k ∙ eight);
-      ways = ways-are t frame 0 ms codings sole.tables installed.are;
-    }) u (begun unit t.interval bytes c.new-intervals.result _ (unit-not-empty f codings made e) n.bits n.every n.left
-    n.next refl) in
-    let units = c.units-columns.ensures refl (same-made k made) (same-sole f new s k sole) in
+      ways = ways-are t frame 0 ms codings has.tables installed.are;
+    }) u (begun unit t.interval bytes c.new-intervals.result _
+    (unit-not-empty t f ms codings made installed.are (omega (arith, count, one))) n.bits n.every n.left n.next refl) in
+    let units = c.units-columns.ensures refl (same-made k made) (same-members f new s k has) in
     let w = same-written k in
     let end = c.loop-row-test.false in
     let most = c.loop-row.auto.row-end in
     let rows : c.loop-row.row ≡ c.units-columns.result.1 = omega (arith, end, most) in
-    let all : c.loop-row.row * c.units-columns.result.0 ≡ units_high frame * units_wide frame =
-    ap₂ (λ (x y : ℕ). x * y) (rows ∙ units.1 ∙ ap (λ (g : WrittenFrame). units_high g) w)
-    (units.0 ∙ ap (λ (g : WrittenFrame). units_wide g) w) in
-    let some : 1 ≤ c.loop-row.row * c.units-columns.result.0 = omega (arith, all, units-some f made) in
-    data-read t frame ms installed bytes rest e
+    let all : c.loop-row.row * c.units-columns.result.0 ≡ units_high frame ms * units_wide frame ms =
+    ap₂ (λ (x y : ℕ). x * y) (rows ∙ units.1 ∙ ap (λ (g : WrittenFrame). units_high g ms) w)
+    (units.0 ∙ ap (λ (g : WrittenFrame). units_wide g ms) w) in
+    let some : 1 ≤ c.loop-row.row * c.units-columns.result.0 = omega (arith, all, units-some f ms made has.within) in
+    data-read t frame ms installed bytes rest
     (subst (λ (m : ℕ). IsRead unit t.interval m bytes rest) all (all-read rest a some c.in_ok-rest.ensures))

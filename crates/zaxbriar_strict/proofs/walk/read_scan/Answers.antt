@@ -1,6 +1,6 @@
 use Rattle.std.proofs.lemmas.Result.{IfOk-weaker}
 use Rattle.zaxbriar_strict.specs.Heads.{IsMade, IsSequential}
-use Rattle.zaxbriar_strict.specs.SoleScans.{ReadsIfSole}
+use Rattle.zaxbriar_strict.specs.ScanData.{ReadsIfEight}
 use Rattle.zaxbriar_strict.specs.Walks.{ReadsScan}
 use Rattle.zaxbriar_strict.specs.declared.cursor.Cursor.{Cursor}
 use Rattle.zaxbriar_strict.proofs.walk.read_scan.Goals as goal
@@ -14,7 +14,7 @@ returns-in_default c =
     let new = c.read_scan-in_default.new.frame in
     let t = c.args.tables.now in
     IfOk-weaker c.read_scan-in_default.result
-    (λ (rest : Cursor). ReadsIfSole t between c.in_ok-scan.scan start rest.rest.now)
+    (λ (rest : Cursor). ReadsIfEight t between c.in_ok-scan.scan start rest.rest.now)
     (λ (rest : Cursor). IsMade old → IsSequential old → ReadsScan header start rest.rest.now t old new)
     (λ rest read made few. record {
       scan = c.in_ok-scan.scan;

@@ -8,5 +8,6 @@ returns c = record {
   was = c.in-Some.is;
   is = refl;
   some = c.scans_after-self.ensures;
+  tables = refl;
   read = c.in_ok-rest.ensures;
 }

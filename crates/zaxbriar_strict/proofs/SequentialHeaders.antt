@@ -1,11 +1,11 @@
--- Scan headers of sequential frames, and those of a scan that has all components (T.81, B.2.3).
-use Rattle.std.proofs.Common.{◌≡◌, ◌≢◌, ℕ, ◌+◌, ◌-◌, ◌/◌, ◌%◌, ◌<◌, ◌≤◌, Bool, true, false, ◌&&◌, ◌||◌, ◌==◌}
-use Rattle.std.proofs.Common.{List, [], ◌∷◌, length, map, refl, sym, ap, ap₂, ◌∙◌, subst, arith, Some}
+-- Scan headers of sequential frames (T.81, B.2.3).
+use Rattle.std.proofs.Common.{◌≡◌, ℕ, ◌+◌, ◌-◌, ◌/◌, ◌%◌, ◌<◌, ◌≤◌, Bool, true, false, ◌&&◌, ◌||◌, ◌==◌}
+use Rattle.std.proofs.Common.{List, [], ◌∷◌, length, map, refl, sym, ap, ◌∙◌, subst, arith, Some}
 use Rattle.std.proofs.lemmas.Bool.{and_parts, eq-eqb, eqb-true}
 use Rattle.std.proofs.lemmas.List.{length-map, length-take-le}
 use Rattle.std.proofs.lemmas.List.Quantifiers.{position-Some}
-use Rattle.std.specs.List.{range_with_len}
-use Rattle.std.specs.Prelude.{slice_index, zip}
+use Rattle.std.specs.List.{AllByRecursion}
+use Rattle.std.specs.Prelude.{zip}
 use Rattle.jpeg_bits.specs.Passes.{whole_pass}
 use Rattle.jpeg_segments.specs.declared.frame.CodingProcess.{CodingProcess}
 use Rattle.jpeg_segments.specs.declared.frame.CodingProcess.TheVariants.{DctSequential}
@@ -13,13 +13,13 @@ use Rattle.jpeg_segments.specs.Frame.{Component as WrittenComponent, Factors, Fr
 use Rattle.jpeg_segments.specs.Frame.{frame_of, process_of}
 use Rattle.jpeg_segments.specs.HuffmanTables.{greatest_destination}
 use Rattle.jpeg_segments.specs.ScanHeader.{Selector, is_band, is_sequential_band, after_of, scan_of}
-use Rattle.jpeg_segments.specs.ScanHeaders.{AreChoices, IsChoice, IsScan, ScanHeader, scan_payload, scan_written}
+use Rattle.jpeg_segments.specs.ScanHeaders.{AreChoices, IsChoice, IsScan, ScanHeader, scan_written}
 use Rattle.jpeg_segments.specs.WrittenSegments.{nibbles}
 use Rattle.jpeg_meaning.specs.ScanSegments.{pass_of}
 use Rattle.zaxbriar_strict.specs.Heads.{IsSameFrame, IsSequential, ReadsHeader, choice_of, header_of}
 use Rattle.zaxbriar_strict.specs.Heads.{members_of, number_of, written_frame}
 use Rattle.zaxbriar_strict.specs.Members.{HaveTables}
-use Rattle.zaxbriar_strict.specs.SoleScans.{IsSole}
+use Rattle.zaxbriar_strict.specs.ScanData.{HasMembers}
 use Rattle.zaxbriar_strict.specs.declared.frame.Frame.{Frame}
 use Rattle.zaxbriar_strict.specs.declared.frame.Process.{Process}
 use Rattle.zaxbriar_strict.specs.declared.frame.Process.TheVariants.{Baseline, Extended, Lossless, Progressive}
@@ -53,31 +53,12 @@ chosen-within frame least c is =
     is.identified).0
 
 module _ (frame : WrittenFrame) (factors : List Factors) where
-  -- As their indices rise, they are no more than the components of the frame from the first one on.
-  most-from : (least : ℕ) (ms : List Member) → least ≤ length frame.components
-      → AreChoices frame least (map (choice_of factors) ms) → least + length ms ≤ length frame.components
+  within-from : (least : ℕ) (ms : List Member) → AreChoices frame least (map (choice_of factors) ms)
+      → AllByRecursion (λ (m : Member). m.component < length frame.components) ms
   unfolding AreChoices
-  most-from least [] inside all = omega arith
-  most-from least (m ∷ ms) inside all =
-      let within = chosen-within frame least (choice_of factors m) all.0 in
-      let ordered = all.0.ordered in
-      let more = most-from (m.component + 1) ms (omega (arith, within)) all.1 in
-      omega (arith, ordered, more)
-
-  -- If they are as many, then they are these.
-  all-from : (least : ℕ) (ms : List Member) → AreChoices frame least (map (choice_of factors) ms)
-      → least + length ms ≡ length frame.components
-      → map (λ (m : Member). m.component) ms ≡ range_with_len least (length ms)
-  unfolding AreChoices
-  all-from least [] all e = refl
-  all-from least (m ∷ ms) all e =
-      let within = chosen-within frame least (choice_of factors m) all.0 in
-      let ordered = all.0.ordered in
-      let more = most-from (m.component + 1) ms (omega (arith, within)) all.1 in
-      let first : m.component ≡ least = omega (arith, ordered, more, e) in
-      ap₂ (λ (k : ℕ) (l : List ℕ). k ∷ l) first
-      (all-from (m.component + 1) ms all.1 (omega (arith, first, e))
-      ∙ ap (λ (k : ℕ). range_with_len (k + 1) (length ms)) first)
+  within-from least [] all = tt
+  within-from least (m ∷ ms) all =
+      (chosen-within frame least (choice_of factors m) all.0, within-from (m.component + 1) ms all.1)
 
   tables-from : (least : ℕ) (ms : List Member) → AreChoices frame least (map (choice_of factors) ms) → HaveTables 3 ms
   unfolding AreChoices
@@ -95,42 +76,29 @@ module _ (payload : List ℕ) (s : Scan) (old new : Frame) (sequential : IsSeque
       let e = length-map (members_of s) (choice_of (header_of old).components) in
       omega (arith, some, e)
 
-  pub members-most : ReadsHeader payload s old new → length (members_of s) ≤ length old.components.items
-  members-most head =
+  -- A scan has some components of the frame.
+  pub has-members : length s.members ≡ 4 → ReadsHeader payload s old new → HasMembers old s
+  has-members sized head =
       let all = (head.legal sequential).choices in
-      let most = most-from (written_frame old) (header_of old).components 0 (members_of s) (omega arith) all in
-      let count = written-count old in
-      omega (arith, most, count)
-
-  -- The first byte of the header of a scan that has not all components is less than their number.
-  pub members-fewer : ReadsHeader payload s old new → length (members_of s) ≢ length old.components.items
-      → slice_index payload 0 < length old.components.items
-  unfolding scan_payload
-  members-fewer head other =
-      let most = members-most head in
-      let first : slice_index payload 0 ≡ length (members_of s) =
-      ap (λ (l : List ℕ). slice_index l 0) head.are
-      ∙ length-map (members_of s) (choice_of (header_of old).components) in
-      omega (arith, most, first, other)
-
-  pub sole-members : length s.members ≡ 4 → ReadsHeader payload s old new
-      → length (members_of s) ≡ length old.components.items → IsSole old s
-  sole-members sized head e =
-      let all = (head.legal sequential).choices in
-      let count = written-count old in
       let few = head.counted in
+      let some = members-some head in
+      let counted : s.count ≡ length (members_of s) =
+      sym (length-take-le s.count s.members (omega (arith, few, sized))) in
       record {
-        counted = sym (length-take-le s.count s.members (omega (arith, few, sized)));
-        all = all-from (written_frame old) (header_of old).components 0 (members_of s) all (omega (arith, count, e))
-            ∙ ap (λ (n : ℕ). range_with_len 0 n) e;
+        counted = counted;
+        some = omega (arith, counted, some);
+        within = subst (λ (n : ℕ). AllByRecursion (λ (m : Member). m.component < n) (members_of s)) (written-count old)
+            (within-from (written_frame old) (header_of old).components 0 (members_of s) all);
         tables = tables-from (written_frame old) (header_of old).components 0 (members_of s) all;
       }
 
-pub same-sole : (old new : Frame) (s : Scan) → IsSameFrame old new → IsSole old s → IsSole new s
-same-sole old new s same sole = record {
-  counted = sole.counted;
-  all = sole.all ∙ ap (λ (n : ℕ). range_with_len 0 n) (sym (same-length same));
-  tables = sole.tables;
+pub same-members : (old new : Frame) (s : Scan) → IsSameFrame old new → HasMembers old s → HasMembers new s
+same-members old new s same has = record {
+  counted = has.counted;
+  some = has.some;
+  within = subst (λ (n : ℕ). AllByRecursion (λ (m : Member). m.component < n) (members_of s)) (sym (same-length same))
+      has.within;
+  tables = has.tables;
 }
 
 -- ---- what it sends

@@ -1,8 +1,7 @@
--- The only scan of a sequential frame, which has all its components, in the words of a writer
--- (T.81, A.2 and F.1).
-use Rattle.std.specs.Prelude.{◌≡◌, ◌*◌, ◌++◌, [], ◌∷◌, ℕ, List, None, Some, length, map, zip}
-use Rattle.std.specs.Prelude.{slice_get, slice_index_or}
-use Rattle.std.specs.List.{AllByRecursion, range_with_len}
+-- A scan of some components of a sequential frame, in the words of a writer (T.81, A.2 and F.1).
+use Rattle.std.specs.Prelude.{◌≡◌, ◌≤◌, ◌<◌, ◌*◌, ◌++◌, [], ◌∷◌, ℕ, List, Option, None, Some}
+use Rattle.std.specs.Prelude.{length, map, slice_get, slice_index_or, zip}
+use Rattle.std.specs.List.{AllByRecursion}
 use Rattle.jpeg_bits.specs.Intervals.{first_group, other_groups}
 use Rattle.jpeg_bits.specs.Passes.{Block, Via, predictors_at_start, whole_pass}
 use Rattle.jpeg_bits.specs.Written.{WritesIntervals}
@@ -65,31 +64,33 @@ pub record ReadsData (t : Tables) (frame : WrittenFrame) (ms : List Member) (byt
       WritesIntervals (WritesBlocks whole_pass predictors_at_start 0) 0 (first_group n turns)
       (other_groups n turns) data_bytes
 
--- A scan has all components of a frame, in their order.
-pub record IsSole (f : Frame) (s : Scan) : Type 0 where
+-- A scan has some components of a frame, and Huffman tables at destinations that there are.
+pub record HasMembers (f : Frame) (s : Scan) : Type 0 where
   pub counted : s.count ≡ length (members_of s)
-  pub all : map (λ m. m.component) (members_of s)
-      ≡ range_with_len 0 (length f.components.items)
+  pub some : 1 ≤ s.count
+  pub within : AllByRecursion (λ m. m.component < length f.components.items) (members_of s)
   pub tables : HaveTables 3 (members_of s)
 
 -- Such a scan of a sequential frame of 8 bits is read so.
-abbrev pub ReadsIfSole : Tables → Frame → Scan → List ℕ → List ℕ → Type 0
-ReadsIfSole t f s bytes rest =
-    IsMade f → IsSequential f → f.precision ≡ 8 → IsSole f s
+abbrev pub ReadsIfEight : Tables → Frame → Scan → List ℕ → List ℕ → Type 0
+ReadsIfEight t f s bytes rest =
+    IsMade f → IsSequential f → f.precision ≡ 8 → HasMembers f s
     → ReadsData t (written_frame f) (members_of s) bytes rest
 
--- How many columns and rows of MCUs such a scan has: of a component that is alone its own blocks
--- (A.2.2 and A.2.3).
-abbrev pub columns_of : List Component → ℕ → ℕ
-columns_of (c ∷ []) all = (grid_of c).own_wide
-columns_of _ all = all
+-- How many columns and rows of MCUs it has: of a component that is alone its own blocks (A.2.2 and
+-- A.2.3).
+abbrev pub own_wide_of : Option Component → ℕ
+own_wide_of None = 0
+own_wide_of (Some c) = (grid_of c).own_wide
 
-abbrev pub rows_of : List Component → ℕ → ℕ
-rows_of (c ∷ []) all = (grid_of c).own_high
-rows_of _ all = all
+abbrev pub own_high_of : Option Component → ℕ
+own_high_of None = 0
+own_high_of (Some c) = (grid_of c).own_high
 
-abbrev pub units_wide : WrittenFrame → ℕ
-units_wide frame = columns_of frame.components frame.mcus_wide
+abbrev pub units_wide : WrittenFrame → List Member → ℕ
+units_wide frame (m ∷ []) = own_wide_of (slice_get frame.components m.component)
+units_wide frame _ = frame.mcus_wide
 
-abbrev pub units_high : WrittenFrame → ℕ
-units_high frame = rows_of frame.components frame.mcus_high
+abbrev pub units_high : WrittenFrame → List Member → ℕ
+units_high frame (m ∷ []) = own_high_of (slice_get frame.components m.component)
+units_high frame _ = frame.mcus_high

@@ -1,13 +1,13 @@
--- The blocks of a scan of all components of a frame, in an array and in the order of the scan (T.81, A.2).
+-- The blocks of a scan of some components of a frame, in an array and in the order of the scan (T.81, A.2).
 use Rattle.std.proofs.Common.{◌≡◌, ℕ, zero, suc, ◌+◌, ◌*◌, ◌/◌, ◌%◌, ◌^◌, ◌≤◌, ◌==◌, ◌&&◌, Bool, true, false}
 use Rattle.std.proofs.Common.{List, [], ◌∷◌, length, map, get_or, replicate, refl, sym, ap, ap₂, ◌∙◌, subst}
 use Rattle.std.proofs.Common.{arith, inl, inr, ℤ, pos, negsuc, neg_ℤ, unsigned_abs, div-add-mod'}
-use Rattle.std.proofs.lemmas.Bool.{and_parts, eq-eqb, eqb-true}
+use Rattle.std.proofs.lemmas.Bool.{and_parts, eq-eqb, eqb-true, ne_eqb}
 use Rattle.std.proofs.lemmas.Int.{ints}
 use Rattle.std.proofs.lemmas.List.{length-map}
-use Rattle.std.proofs.lemmas.List.FromFn.{get_or-range_with_len}
-use Rattle.std.specs.List.{AllByRecursion, range_with_len}
-use Rattle.std.specs.Prelude.{zip}
+use Rattle.std.proofs.lemmas.Option.{get_or_from_slice_get}
+use Rattle.std.specs.List.{AllByRecursion}
+use Rattle.std.specs.Prelude.{Some, slice_get, zip}
 use Rattle.jpeg_bits.specs.Passes.{Block, Via, whole_pass, zero_block}
 use Rattle.jpeg_segments.specs.Frame.{Component, Frame as WrittenFrame}
 use Rattle.jpeg_meaning.specs.InTurn.{AreApart, Fits, IsIn}
@@ -18,11 +18,10 @@ use Rattle.jpeg_meaning.specs.Scans.{turns_of, via_at}
 use Rattle.jpeg_meaning.specs.WrittenScans.{Coefficients, WritesScan}
 use Rattle.jpeg_meaning.proofs.Order.Apart.{At, get-at, spots-apart}
 use Rattle.jpeg_meaning.proofs.Order.FrameShapes.{frames-fit}
-use Rattle.jpeg_meaning.proofs.Order.OwnSpots.{at-get, at-within}
 use Rattle.jpeg_meaning.proofs.Pictures.LosslessSizes.{all-ranged}
 use Rattle.zaxbriar_strict.specs.Heads.{IsMade, header_of, number_of, written_frame}
 use Rattle.zaxbriar_strict.specs.Runs.{WritesGroups}
-use Rattle.zaxbriar_strict.specs.SoleScans.{ways_of}
+use Rattle.zaxbriar_strict.specs.ScanData.{ways_of}
 use Rattle.zaxbriar_strict.specs.declared.frame.Frame.{Frame}
 use Rattle.zaxbriar_strict.proofs.FrameComponents.{no_component}
 
@@ -52,7 +51,7 @@ pub all-replicate : {A : Type 0} (P : A → Type 0) (n : ℕ) (x : A) → P x �
 all-replicate P zero x h = tt
 all-replicate P (suc n) x h = (h, all-replicate P n x h)
 
-zero-in-range : Is8Bit zero_block
+pub zero-in-range : Is8Bit zero_block
 unfolding zero_block
 zero-in-range = record {
   count = refl;
@@ -128,18 +127,54 @@ all-beside (x ∷ spots) (b ∷ blocks) apart counted =
 
 -- ---- the array
 
--- the blocks of a scan of all components, by their components, rows and columns
-abbrev pub sole_array : WrittenFrame → List Coding → List Block → Coefficients
-sole_array frame codings blocks index row column =
+-- the slot of the component at an index
+unfoldable pub slot_in : ℕ → List Coding → ℕ
+slot_in index [] = 0
+slot_in index (k ∷ more) = elim (k.index == index) as (λ _. ℕ) [ true ↦ 0 | false ↦ suc (slot_in index more) ]
+
+-- the blocks of a scan, by their components' indices in the frame, rows and columns
+abbrev pub scan_array : WrittenFrame → List Coding → List Block → Coefficients
+scan_array frame codings blocks index row column =
     beside (spots_of frame (components_of codings)) blocks (record {
-      slot = index;
+      slot = slot_in index codings;
       index = row * (get_or frame.components index no_component).blocks_wide + column;
     })
 
-pub sole-in-range : (frame : WrittenFrame) (codings : List Coding) (blocks : List Block)
-    → AllByRecursion Is8Bit blocks → (index row column : ℕ) → Is8Bit (sole_array frame codings blocks index row column)
-sole-in-range frame codings blocks all index row column =
+pub array-in-range : (frame : WrittenFrame) (codings : List Coding) (blocks : List Block)
+    → AllByRecursion Is8Bit blocks → (index row column : ℕ) → Is8Bit (scan_array frame codings blocks index row column)
+array-in-range frame codings blocks all index row column =
     beside-in-range (spots_of frame (components_of codings)) blocks _ all
+
+-- ---- slots
+
+-- the indices of a scan's components rise, from one on
+unfoldable pub AreRising : ℕ → List Coding → Type 0
+AreRising least [] = Unit {0}
+AreRising least (k ∷ more) = (least ≤ k.index) × AreRising (k.index + 1) more
+
+rising-least : (least slot : ℕ) (codings : List Coding) (k : Coding) → AreRising least codings → At slot codings k
+    → least ≤ k.index
+unfolding AreRising
+rising-least least slot [] k all here = absurd here
+rising-least least zero (j ∷ more) k all here = subst (λ (c : Coding). least ≤ c.index) here all.0
+rising-least least (suc slot) (j ∷ more) k all here =
+    let above = rising-least (j.index + 1) slot more k all.1 here in
+    let low = all.0 in
+    omega (arith, low, above)
+
+-- then each is found in its slot
+slot-found : (least slot : ℕ) (codings : List Coding) (k : Coding) → AreRising least codings → At slot codings k
+    → slot_in k.index codings ≡ slot
+unfolding slot_in AreRising
+slot-found least slot [] k all here = absurd here
+slot-found least zero (j ∷ more) k all here =
+    ap (λ (b : Bool). elim b as (λ _. ℕ) [ true ↦ 0 | false ↦ suc (slot_in k.index more) ])
+    (eq-eqb j.index k.index (ap (λ (c : Coding). c.index) here))
+slot-found least (suc slot) (j ∷ more) k all here =
+    let above = rising-least (j.index + 1) slot more k all.1 here in
+    ap (λ (b : Bool). elim b as (λ _. ℕ) [ true ↦ 0 | false ↦ suc (slot_in k.index more) ])
+    (ne_eqb j.index k.index (λ e. omega (arith, above, e)))
+    ∙ ap suc (slot-found (j.index + 1) slot more k all.1 here)
 
 -- ---- the scan
 
@@ -151,31 +186,27 @@ turns-zipped vias sent (s ∷ spots) =
     ap₂ (λ (b : Block) (l : List (Via × Block)). (via_at vias s.slot, b) ∷ l) (numbers-same (sent s))
     (turns-zipped vias sent spots)
 
--- the coding in a slot is that of the component of that index
-slot-index : (codings : List Coding) (slot : ℕ) (k : Coding)
-    → map (λ c. c.index) codings ≡ range_with_len 0 (length codings) → At slot codings k → k.index ≡ slot
-slot-index codings slot k indexed here =
-    let e : 0 + slot ≡ slot = omega arith in
-    sym (at-get (λ (c : Coding). c.index) 0 slot codings k here)
-    ∙ ap (λ (l : List ℕ). get_or l slot 0) indexed
-    ∙ get_or-range_with_len 0 (length codings) slot 0 (at-within slot codings k here)
-    ∙ e
+-- The array has the blocks of the scan, at the indices of its components.
+abbrev pub HasBlocks : Coefficients → WrittenFrame → List Coding → List Block → Type 0
+HasBlocks array frame codings blocks =
+    (slot : ℕ) (k : Coding) → At slot codings k → (row column : ℕ)
+    → array k.index row column ≡ scan_array frame codings blocks k.index row column
 
--- Blocks that were read of a scan of all components are what a writer sends of their array.
-pub sole-written : (frame : WrittenFrame) (codings : List Coding) (blocks : List Block) (restart : ℕ)
-    (bytes : List ℕ) → AllByRecursion (Fits frame) frame.components → components_of codings ≡ frame.components
-    → map (λ c. c.index) codings ≡ range_with_len 0 (length codings)
+-- Blocks that were read of a scan of some components are what a writer sends of an array that has them.
+pub scan-written : (frame : WrittenFrame) (codings : List Coding) (blocks : List Block) (array : Coefficients)
+    (restart : ℕ) (bytes : List ℕ) → AllByRecursion (Fits frame) (components_of codings) → AreRising 0 codings
+    → ((slot : ℕ) (k : Coding) → At slot codings k → slice_get frame.components k.index ≡ Some k.component)
+    → HasBlocks array frame codings blocks
     → length blocks ≡ length (ways_of frame codings) → AllByRecursion Is8Bit blocks
     → WritesGroups (restart * mcu_size (components_of codings)) 0 (zip (ways_of frame codings) blocks) bytes
-    → WritesScan frame restart whole_pass codings (sole_array frame codings blocks) bytes
+    → WritesScan frame restart whole_pass codings array bytes
 unfolding turns_of
-sole-written frame codings blocks restart bytes fits all indexed counted in_range w =
+scan-written frame codings blocks array restart bytes fits rising placed has counted in_range w =
     let spots = spots_of frame (components_of codings) in
     let sent = beside spots blocks in
     let vias = vias_from 0 codings in
     let n = restart * mcu_size (components_of codings) in
-    let apart = spots-apart frame (components_of codings)
-    (subst (λ (cs : List Component). AllByRecursion (Fits frame) cs) (sym all) fits) in
+    let apart = spots-apart frame (components_of codings) fits in
     let same : map sent spots ≡ blocks =
     all-beside spots blocks apart (counted ∙ length-map spots (λ s. via_at vias s.slot)) in
     let turns : map (λ s. (via_at vias s.slot, numbers_at 0 (sent s))) spots ≡ zip (ways_of frame codings) blocks =
@@ -185,14 +216,14 @@ sole-written frame codings blocks restart bytes fits all indexed counted in_rang
       in_range = λ s. beside-in-range spots blocks s in_range;
       is_own = λ s k e own.
           let here = get-at s.slot codings k e in
-          let index = slot-index codings s.slot k indexed here in
+          let slot = slot-found 0 s.slot codings k rising here in
           let wide = k.component.blocks_wide in
           let component : get_or frame.components k.index no_component ≡ k.component =
-          ap₂ (λ (cs : List Component) (i : ℕ). get_or cs i no_component) (sym all) index
-          ∙ at-get (λ (c : Coding). c.component) no_component s.slot codings k here in
+          get_or_from_slice_get frame.components k.index k.component no_component (placed s.slot k here) in
           let place : s.index / wide * wide + s.index % wide ≡ s.index = div-add-mod' s.index wide in
-          ap₂ (λ (slot i : ℕ). sent (record { slot = slot; index = i })) (sym index)
-          (sym (ap (λ (c : Component). s.index / wide * c.blocks_wide + s.index % wide) component ∙ place));
+          ap₂ (λ (slot i : ℕ). sent (record { slot = slot; index = i })) (sym slot)
+          (sym (ap (λ (c : Component). s.index / wide * c.blocks_wide + s.index % wide) component ∙ place))
+          ∙ sym (has s.slot k here (s.index / wide) (s.index % wide));
       coded = subst (λ (turns : List (Via × Block)). WritesGroups n 0 turns bytes) (sym turns) w;
     }
 
