@@ -10,14 +10,30 @@ int is_described(zaxbriar_result result) {
     return is_decoded(result) || result == ZAXBRIAR_NO_ROOM || result == ZAXBRIAR_TOO_LARGE;
 }
 
+int is_cropped(const zaxbriar_options *options) {
+    return options->crop_left || options->crop_top || options->crop_width || options->crop_height;
+}
+
+int is_fitted(const zaxbriar_options *options) {
+    return options->most_width || options->most_height;
+}
+
+static int is_rest_zero(const zaxbriar_options *options) {
+    return is_all(options->reserved_bytes, sizeof options->reserved_bytes, 0) &&
+           is_all(options->reserved_half, sizeof options->reserved_half, 0) &&
+           is_all((const unsigned char *)options->reserved_words, sizeof options->reserved_words,
+                  0);
+}
+
 int are_known(const zaxbriar_options *options) {
     int scale = options->scale;
-    return options->layout <= ZAXBRIAR_RGB16 &&
+    return options->layout <= ZAXBRIAR_RGB16 && is_rest_zero(options) &&
            options->transform <= ZAXBRIAR_TRANSFORM_YCCK && options->bottom_up <= 1 &&
            options->upright <= 1 && options->luma <= 1 &&
            (scale == 0 || scale == 1 || scale == 2 || scale == 4 || scale == 8) &&
            (options->transform != ZAXBRIAR_TRANSFORM_NONE ||
-            (options->layout == ZAXBRIAR_AS_STORED && !options->upright));
+            (options->layout == ZAXBRIAR_AS_STORED && !options->upright &&
+             !is_cropped(options) && !is_fitted(options)));
 }
 
 int is_above(const zaxbriar_options *options, const zaxbriar_picture *picture) {
@@ -79,20 +95,16 @@ static unsigned results_of(enum call call) {
     }
 }
 
-static void check_fault(enum call call, const struct answer *answer,
-                        const zaxbriar_options *options) {
+static void check_fault(enum call call, const struct answer *answer) {
     const zaxbriar_picture *picture = &answer->picture;
     int fault = picture->fault, feature = picture->feature;
-    int is_part = call == PART && is_decoded(answer->result);
-    uint32_t rows = stored_size(options, picture).height;
     CHECK((fault != 0) == (answer->result == ZAXBRIAR_PARTIAL));
     CHECK(fault <= ZAXBRIAR_TRUNCATED || fault == ZAXBRIAR_TOO_MANY_PASSES);
     CHECK((feature != 0) ==
           (answer->result == ZAXBRIAR_UNSUPPORTED || fault == ZAXBRIAR_UNSUPPORTED));
     CHECK(feature <= ZAXBRIAR_FEATURE_TRANSFORM && feature != ZAXBRIAR_FEATURE_SUBSAMPLING);
     CHECK(feature != 0 || picture->feature_argument == 0);
-    CHECK(picture->whole_rows <= (is_part ? rows : 0));
-    CHECK(!is_part || fault || picture->whole_rows == rows);
+    CHECK(picture->whole_rows == 0 || (call == PART && is_decoded(answer->result)));
 }
 
 /* How many components the stream has, by their sampling factors. */
@@ -145,6 +157,7 @@ void check_answer(enum call call, const struct answer *answer, const zaxbriar_op
                   size_t size) {
     const zaxbriar_picture *picture = &answer->picture;
     CHECK(answer->result <= ZAXBRIAR_TOO_MANY_PASSES);
+    CHECK(strcmp(zaxbriar_answer_name(answer->result), zaxbriar_answer_name(-1)));
     CHECK(results_of(call) >> answer->result & 1);
     CHECK(answer->result != ZAXBRIAR_TOO_MANY_PASSES || options->max_passes);
     CHECK(memchr(picture->text, 0, sizeof picture->text));
@@ -155,7 +168,7 @@ void check_answer(enum call call, const struct answer *answer, const zaxbriar_op
     CHECK(picture->stream_bytes <= size);
     CHECK(are_known(options) || answer->result == ZAXBRIAR_BAD_ARGUMENT);
     CHECK(are_known(options) || picture->stream_bytes == 0);
-    check_fault(call, answer, options);
+    check_fault(call, answer);
     if (is_described(answer->result)) {
         check_frame(picture, options);
         check_sizes(picture, options);
@@ -186,17 +199,44 @@ static uint32_t scale_of(const zaxbriar_options *options, uint32_t width, uint32
     return 1;
 }
 
-void check_scale(const zaxbriar_picture *picture, const zaxbriar_options *options,
-                 const zaxbriar_picture *full) {
+/* The greatest size of these proportions that fits within the options', or the same. */
+static struct size fitted(const zaxbriar_options *options, struct size size) {
+    uint64_t width = size.width, height = size.height;
+    uint64_t most_width = options->most_width ? options->most_width : width;
+    uint64_t most_height = options->most_height ? options->most_height : height;
+    if (width <= most_width && height <= most_height) return size;
+    if (width * most_height >= height * most_width) {
+        height = (2 * height * most_width + width) / (2 * width);
+        width = most_width;
+    } else {
+        width = (2 * width * most_height + height) / (2 * height);
+        height = most_height;
+    }
+    return (struct size){width ? (uint32_t)width : 1, height ? (uint32_t)height : 1};
+}
+
+/* The size that the options request of a picture of this size. */
+static struct size size_wanted(const zaxbriar_options *options, const zaxbriar_picture *full) {
     uint32_t scale = scale_of(options, full->width, full->height);
     if (full->process == ZAXBRIAR_LOSSLESS) scale = 1;
-    struct size size = stored_size(options, picture);
-    CHECK(size.width == scaled(full->width, scale) && size.height == scaled(full->height, scale));
+    struct size size = {scaled(full->width, scale), scaled(full->height, scale)};
+    if (options->upright && full->orientation > 4) size = (struct size){size.height, size.width};
+    if (is_cropped(options)) size = (struct size){options->crop_width, options->crop_height};
+    return fitted(options, size);
+}
+
+void check_scale(const zaxbriar_picture *picture, const zaxbriar_options *options,
+                 const zaxbriar_picture *full) {
+    struct size size = size_wanted(options, full);
+    CHECK(picture->width == size.width && picture->height == size.height);
     int is_luma = options->luma && has_colours(full);
     CHECK(picture->process == full->process);
     CHECK(picture->components == (is_luma ? 1 : full->components));
     CHECK(picture->precision == full->precision && picture->orientation == full->orientation);
     CHECK(picture->transform == full->transform);
+    CHECK(picture->density_unit == full->density_unit);
+    CHECK(picture->horizontal_density == full->horizontal_density);
+    CHECK(picture->vertical_density == full->vertical_density);
     CHECK(!memcmp(picture->sampling, full->sampling, sizeof full->sampling));
 }
 

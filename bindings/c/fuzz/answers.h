@@ -19,7 +19,11 @@ int is_decoded(zaxbriar_result result);
 /* Whether the picture is described: as well after NO_ROOM and TOO_LARGE. */
 int is_described(zaxbriar_result result);
 
-/* Whether the options are ones that exist, apart from the stride. */
+/* Whether the options request a part of the picture, and whether they let it fit within a size. */
+int is_cropped(const zaxbriar_options *options);
+int is_fitted(const zaxbriar_options *options);
+
+/* Whether the options are ones that exist, apart from the stride and from where a part is. */
 int are_known(const zaxbriar_options *options);
 
 /* Whether a picture that is described exceeds a limit of the options. */
@@ -46,7 +50,8 @@ struct place upright_place(const zaxbriar_picture *upright, uint32_t x, uint32_t
 void check_answer(enum call call, const struct answer *answer, const zaxbriar_options *options,
                   size_t size);
 
-/* Checks the size of a picture that is described, whose size without options is that of `full`. */
+/* Checks the size of a picture that is described, whose size without options is that of `full`, and
+ * what no option changes. */
 void check_scale(const zaxbriar_picture *picture, const zaxbriar_options *options,
                  const zaxbriar_picture *full);
 

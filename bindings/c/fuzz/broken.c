@@ -1,5 +1,7 @@
 /* The library with a fault, FAULT, that the target has to find (fuzz/try): each call that has none
  * is the library's own. Linked with --wrap for the calls below. */
+#include <string.h>
+
 #include "processor.h"
 #include "zaxbriar.h"
 
@@ -15,6 +17,7 @@ decoding __real_zaxbriar_decode, __real_zaxbriar_decode_partial, __real_zaxbriar
 decoding __wrap_zaxbriar_decode, __wrap_zaxbriar_decode_partial, __wrap_zaxbriar_decode_planes;
 describing __real_zaxbriar_read_info, __wrap_zaxbriar_read_info;
 copying __real_zaxbriar_metadata_within, __wrap_zaxbriar_metadata_within;
+copying __real_zaxbriar_joined_metadata, __wrap_zaxbriar_joined_metadata;
 listing __real_zaxbriar_next_segment, __wrap_zaxbriar_next_segment;
 
 /* The faults of decoding. */
@@ -35,8 +38,13 @@ enum {
     MIRRORS,               /* exchanges the ends of the first line of a picture that is turned */
     WRONG_LUMA,            /* gives another first sample where the luma is asked for */
     WRONG_PLANE,           /* gives another first sample of the planes */
+    WRONG_PART,            /* gives another first pixel of a part of the picture */
+    WRONG_MEAN,            /* gives another first pixel of a picture to fit within a size */
+    WRONG_LAYOUT,          /* gives another first pixel in a layout */
+    KNOWS_ALL,             /* read_info takes reserved options for zeros */
     WRONG_BYTES,           /* says that an image takes a byte more */
     PAST_DATA,             /* metadata_within writes a byte too many */
+    WRONG_JOINT,           /* joined_metadata gives another last byte */
     WRONG_SIZE,            /* read_info says that a picture takes a byte more */
     WRONG_NEED,            /* next_segment asks for a byte more than it needs */
 };
@@ -55,6 +63,14 @@ static void mirror(unsigned char *pixels, const zaxbriar_options *options,
     }
 }
 
+/* Changes the first pixel for some options. */
+static void change_pixel(unsigned char *pixels, const zaxbriar_options *options) {
+    if (is_now(WRONG_LUMA) && options->luma) pixels[0] ^= 1;
+    if (is_now(WRONG_PART) && options->crop_width) pixels[0] ^= 1;
+    if (is_now(WRONG_MEAN) && (options->most_width || options->most_height)) pixels[0] ^= 1;
+    if (is_now(WRONG_LAYOUT) && options->layout) pixels[0] ^= 1;
+}
+
 static void write_wrongly(unsigned char *pixels, const zaxbriar_options *options,
                           const zaxbriar_picture *picture) {
     static unsigned count;
@@ -65,7 +81,7 @@ static void write_wrongly(unsigned char *pixels, const zaxbriar_options *options
     if (is_now(CHANGES) && ++count % 3 == 0) pixels[0] ^= 1;
     if (is_now(DIFFERS) && zaxbriar_is_v3()) pixels[0] ^= 1;
     if (is_now(MIRRORS)) mirror(pixels, options, picture);
-    if (is_now(WRONG_LUMA) && options->luma) pixels[0] ^= 1;
+    change_pixel(pixels, options);
 }
 
 static void take_memory(const zaxbriar_options *options, const zaxbriar_picture *picture) {
@@ -105,7 +121,7 @@ zaxbriar_result __wrap_zaxbriar_decode_partial(const void *jpeg, size_t jpeg_siz
     zaxbriar_result result =
         __real_zaxbriar_decode_partial(jpeg, jpeg_size, options, pixels, pixels_size, picture);
     if (is_now(MIRRORS) && result == ZAXBRIAR_OK) mirror(pixels, options, picture);
-    if (is_now(WRONG_LUMA) && result == ZAXBRIAR_OK && options->luma) *(char *)pixels ^= 1;
+    if (result == ZAXBRIAR_OK) change_pixel(pixels, options);
     if (result != ZAXBRIAR_PARTIAL) return result;
     if (is_now(COUNTS_ROWS) && picture->whole_rows < picture->height) picture->whole_rows++;
     if (!is_now(HIDES_FAULT)) return result;
@@ -133,10 +149,22 @@ zaxbriar_result __wrap_zaxbriar_metadata_within(const void *jpeg, size_t jpeg_si
     return result;
 }
 
+zaxbriar_result __wrap_zaxbriar_joined_metadata(const void *jpeg, size_t jpeg_size,
+                                                const zaxbriar_options *options, int kind,
+                                                void *data, size_t data_size, size_t *length) {
+    zaxbriar_result result = __real_zaxbriar_joined_metadata(jpeg, jpeg_size, options, kind, data,
+                                                             data_size, length);
+    if (is_now(WRONG_JOINT) && result == ZAXBRIAR_OK && *length)
+        ((unsigned char *)data)[*length - 1] ^= 1;
+    return result;
+}
+
 zaxbriar_result __wrap_zaxbriar_read_info(const void *jpeg, size_t jpeg_size,
                                           const zaxbriar_options *options,
                                           zaxbriar_picture *picture) {
-    zaxbriar_result result = __real_zaxbriar_read_info(jpeg, jpeg_size, options, picture);
+    zaxbriar_options known = options ? *options : (zaxbriar_options){0};
+    if (is_now(KNOWS_ALL)) memset(known.reserved_words, 0, sizeof known.reserved_words);
+    zaxbriar_result result = __real_zaxbriar_read_info(jpeg, jpeg_size, &known, picture);
     if (is_now(WRONG_SIZE) && result == ZAXBRIAR_OK) picture->size++;
     return result;
 }

@@ -17,11 +17,12 @@ HERE = Path(__file__).resolve().parent
 TOP = HERE.parents[2]
 # As max_len in decode_fuzzer.options.
 MOST_BYTES = 16384
-NO_SETTINGS = bytes(16)
+NO_SETTINGS = bytes(24)
 
 
 def settings_of(name):
-    """Settings that decode most pictures: a layout, a scale, a stride, flags, metadata and cuts."""
+    """Settings that decode most pictures: a layout, a scale, a stride, flags, metadata, cuts, a
+    part and a size to fit within; a few ask for what doesn't exist."""
     number = zlib.crc32(name.encode())
     # (no transform, no refused memory and no limit, which would refuse most of them)
     settings = [
@@ -38,7 +39,17 @@ def settings_of(name):
         0,
         number >> 5 & 7,
     ]
-    return bytes(settings) + zlib.crc32(name.encode(), 1).to_bytes(4, "big")
+    cuts, part = zlib.crc32(name.encode(), 1), zlib.crc32(name.encode(), 2)
+    sizes = [1 + (part >> 8 & 15), 1 + (part >> 12 & 15)]
+    misuse = part >> 18 & 127
+    return (
+        bytes(settings)
+        + cuts.to_bytes(4, "big")
+        + bytes([part >> 16 & 3])
+        + part.to_bytes(4, "big")
+        + bytes(sizes)
+        + bytes([misuse if misuse <= 10 else 0])
+    )
 
 
 def streams(suite):

@@ -8,6 +8,7 @@
 
 #include "answers.h"
 #include "kind.h"
+#include "pixels.h"
 #include "room.h"
 
 /* The settings: a byte each, and two bytes for each place where the stream is cut. */
@@ -26,7 +27,15 @@ enum {
     KIND,
     FIRST_CUT,
     SECOND_CUT = FIRST_CUT + 2,
-    SETTINGS = SECOND_CUT + 2
+    PART_FLAGS = SECOND_CUT + 2,
+    LEFT,
+    TOP,
+    WIDTH,
+    HEIGHT,
+    MOST_WIDTH,
+    MOST_HEIGHT,
+    MISUSE,
+    SETTINGS
 };
 enum {
     HAS_PLACES = 1,
@@ -38,6 +47,8 @@ enum {
     UPRIGHT = 64,
     LUMA = 128
 };
+/* Those of PART_FLAGS. */
+enum { HAS_CROP = 1, HAS_MOST = 2 };
 
 /* Larger pictures are only refused, by a limit. */
 enum { MOST_SAMPLES = 1 << 18, MOST_WORK = 1 << 22 };
@@ -55,6 +66,8 @@ static struct {
     size_t size;
     zaxbriar_options options;
     struct answer full; /* the header without options */
+    struct answer all;  /* with them but for a part and a size to fit within */
+    struct answer part; /* with them but for a size to fit within */
     struct answer info; /* with them, before the limits */
     zaxbriar_places places;
     int is_small;
@@ -63,6 +76,7 @@ static struct {
 static struct fenced jpeg_pages, part_pages, pixel_pages;
 
 static int has(int flag) { return of.settings[FLAGS] & flag; }
+static int has_part(int flag) { return of.settings[PART_FLAGS] & flag; }
 
 static size_t cut_at(int setting) {
     return of.size * (of.settings[setting] * 256u + of.settings[setting + 1]) >> 16;
@@ -152,23 +166,63 @@ static int has_scans(void) {
     return scans > 1;
 }
 
-/* The memory that a call has taken is no more than `decoding_bytes`, tables, metadata, a few lines,
- * 32 of a picture that is turned and, of a scan that is cut, a row of blocks and the data of a
- * restart interval. A scan of several components, or of a lossless frame, may have planes of its
- * own, beside those of scans before; and the luma, if that alone is asked for, may be copied. */
-static void check_memory(enum call call, const struct answer *answer, size_t size) {
-    const zaxbriar_picture *picture = &of.info.picture, *full = &of.full.picture;
-    size_t metadata = (call == PART ? 6 : 4) * size, counted = 0;
-    size_t row_of_blocks = (full->width / 8 + 4) * (size_t)128;
-    if (is_decoded(answer->result)) counted = answer->picture.decoding_bytes;
-    else if (of.is_small && !is_described(answer->result)) counted = picture->decoding_bytes;
+/* What a call may take beside `decoding_bytes`: tables, metadata, a few lines, 32 of a picture that
+ * is turned, a row of blocks of a scan that is cut and the data of a restart interval. */
+static size_t bytes_beside(enum call call, size_t size) {
+    const zaxbriar_picture *all = &of.all.picture;
+    size_t metadata = (call == PART ? 6 : 4) * size;
+    size_t row_of_blocks = (of.full.picture.width / 8 + 4) * (size_t)128;
+    size_t row_bytes = stored_size(&of.options, all).width * (size_t)all->pixel_bytes;
+    size_t lines = 4 + (of.options.upright && all->orientation > 1 ? MOST_TURNED : 0);
+    return MOST_FOR_TABLES + MOST_FOR_SEGMENT + metadata + row_of_blocks + lines * row_bytes;
+}
+
+/* How often the samples of `decoding_bytes` may be there: a scan of several components, or of a
+ * lossless frame, may have planes of its own, beside those of scans before. */
+static size_t times_counted(void) {
+    const zaxbriar_picture *full = &of.full.picture;
     int has_own_planes = full->components > 1 || full->process == ZAXBRIAR_LOSSLESS;
-    if (has_own_planes && has_scans()) counted *= 2;
+    return has_own_planes && has_scans() ? 2 : 1;
+}
+
+/* The samples of a picture that is made smaller, and four bytes for each of a line. */
+static size_t bytes_of_smaller(void) {
+    const zaxbriar_picture *picture = &of.info.picture, *part = &of.part.picture;
+    if (!is_fitted(&of.options)) return 0;
+    size_t pixels = (size_t)picture->width * picture->height;
+    size_t line = stored_size(&of.options, part).width;
+    return (pixels * picture->sample_bytes + line * 4) * picture->components;
+}
+
+/* The memory that a call has taken is no more than the header says. The luma, if that alone is
+ * asked for, may be copied. */
+static void check_memory(enum call call, const struct answer *answer, size_t size) {
+    const zaxbriar_picture *full = &of.full.picture;
+    size_t counted = 0;
+    if (is_decoded(answer->result)) counted = answer->picture.decoding_bytes;
+    else if (of.is_small && !is_described(answer->result))
+        counted = of.info.picture.decoding_bytes;
+    counted *= times_counted();
     if (of.options.luma) counted += (full->width + 31) * (size_t)(full->height + 31);
-    size_t row_bytes = stored_size(&of.options, picture).width * (size_t)picture->pixel_bytes;
-    size_t lines = 4 + (of.options.upright && picture->orientation > 1 ? MOST_TURNED : 0);
-    size_t beside = MOST_FOR_TABLES + MOST_FOR_SEGMENT + lines * row_bytes;
-    CHECK(counts.peak_bytes <= counted + beside + metadata + row_of_blocks);
+    if (!is_described(answer->result) || is_decoded(answer->result)) counted += bytes_of_smaller();
+    CHECK(counts.peak_bytes <= counted + bytes_beside(call, size));
+}
+
+/* How many rows of the stream's picture, or of its part, `whole_rows` counts: those before it is
+ * made smaller. */
+static uint32_t rows_counted(void) { return stored_size(&of.options, &of.part.picture).height; }
+
+/* How many rows of the picture that is given are made of so many first ones of those. */
+static uint32_t rows_given(uint32_t rows) {
+    uint64_t from = rows_counted(), to = stored_size(&of.options, &of.info.picture).height;
+    return (uint32_t)(((rows + (uint64_t)1) * to - 1) / from);
+}
+
+static void check_rows(enum call call, const struct answer *answer) {
+    uint32_t rows = answer->picture.whole_rows;
+    if (call != PART || !is_decoded(answer->result)) return;
+    CHECK(rows <= rows_counted());
+    CHECK(answer->picture.fault || rows == rows_counted());
 }
 
 static size_t room_wanted(void) {
@@ -189,6 +243,7 @@ static struct answer decode_into(enum call call, size_t size, size_t room, unsig
     check_memory(call, &answer, size);
     end_counting(4 + (unsigned)call);
     check_answer(call, &answer, &of.options, size);
+    check_rows(call, &answer);
     check_unwritten(&answer);
     CHECK(answer.result != ZAXBRIAR_NO_MEMORY);
     check_places_of(&of.options, jpeg, size, answer.result);
@@ -232,7 +287,7 @@ static int are_same_rows(const struct shown *one, const struct shown *other, uin
     return 1;
 }
 
-/* How many rows the stream's picture has. */
+/* How many rows the picture that is given has, before it is turned. */
 static uint32_t rows_of(const struct shown *shown) {
     return stored_size(&of.options, &shown->answer.picture).height;
 }
@@ -255,8 +310,8 @@ static void note_answer(unsigned kind, const struct answer *answer) {
     note(kind + 3, (uint64_t)picture->sampling[0] << 24 | (uint64_t)picture->sampling[1] << 16 |
                        (uint64_t)picture->sampling[2] << 8 | picture->sampling[3]);
     note(kind + 4, (uint64_t)bits_of(picture->width) << 8 | bits_of(picture->height));
-    uint32_t rows = stored_size(&of.options, picture).height;
-    if (rows) note(kind + 5, picture->whole_rows * (uint64_t)16 / rows);
+    if (picture->whole_rows)
+        note(kind + 5, picture->whole_rows * (uint64_t)16 / rows_counted());
 }
 
 /* The stream's segments are those that the standard has, and it can be read piece by piece. */
@@ -313,13 +368,14 @@ static void describe(void) {
     if (!is_described(answer.result)) return;
     check_scale(&answer.picture, &of.options, &of.full.picture);
     CHECK(answer.picture.decoding_bytes == of.info.picture.decoding_bytes);
+    CHECK(answer.picture.decoding_bytes == of.all.picture.decoding_bytes);
     CHECK(answer.picture.stream_bytes == of.full.picture.stream_bytes);
 }
 
-/* A decoding says of the picture what the header does. */
-static void check_described(const struct answer *answer) {
+/* A decoding says of the picture what read_info does. */
+static void check_as_described(const struct answer *answer, const struct answer *info) {
     if (!is_described(answer->result)) return;
-    zaxbriar_picture wanted = of.info.picture, found = answer->picture;
+    zaxbriar_picture wanted = info->picture, found = answer->picture;
     if (!is_decoded(answer->result)) CHECK(found.stream_bytes == wanted.stream_bytes);
     wanted.stream_bytes = found.stream_bytes;
     wanted.whole_rows = found.whole_rows;
@@ -329,6 +385,8 @@ static void check_described(const struct answer *answer) {
     memcpy(wanted.text, found.text, sizeof found.text);
     CHECK(!memcmp(&wanted, &found, sizeof found));
 }
+
+static void check_described(const struct answer *answer) { check_as_described(answer, &of.info); }
 
 /* Decodes with either kind of processor's code: twice the same answer and the same pixels. */
 static struct shown shown_twice(enum call call, size_t size) {
@@ -360,6 +418,46 @@ static void decode_whole(void) {
     free(shown.pixels);
 }
 
+/* The options without those that arrange or convert samples, and without a limit. */
+static zaxbriar_options coded_options(void) {
+    return (zaxbriar_options){.min_width = of.options.min_width,
+                              .min_height = of.options.min_height,
+                              .scale = of.options.scale,
+                              .max_passes = of.options.max_passes,
+                              .memory = of.options.memory,
+                              .places = of.options.places};
+}
+
+/* The part before the first fault, by other options, and nothing after it. */
+static struct shown shown_by(const zaxbriar_options *options) {
+    struct answer info = read_info(of.jpeg, of.size, options);
+    size_t room = info.result == ZAXBRIAR_OK ? info.picture.size : 0;
+    struct shown shown = {.size = of.size, .pixels = block(room + GUARD)};
+    memset(shown.pixels, BYTE, room + GUARD);
+    begin_call(options);
+    shown.answer = answered(
+        zaxbriar_decode_partial(of.jpeg, of.size, options, shown.pixels, room, to_tell()));
+    end_counting(9);
+    check_answer(PART, &shown.answer, options, of.size);
+    check_as_described(&shown.answer, &info);
+    CHECK(shown.answer.result != ZAXBRIAR_NO_ROOM);
+    CHECK(is_all(shown.pixels + room, GUARD, BYTE));
+    if (!is_decoded(shown.answer.result)) CHECK(is_all(shown.pixels, room, BYTE));
+    return shown;
+}
+
+/* Whether the first fault is one that a whole decoding may pass over: a marker in place of the data
+ * of a scan. After it a segment may ask for other colours, so that those of the part are refused
+ * alone. */
+static int may_end_early(void) {
+    zaxbriar_options options = coded_options();
+    options.transform = ZAXBRIAR_TRANSFORM_NONE;
+    struct shown shown = shown_by(&options);
+    free(shown.pixels);
+    return shown.answer.result == ZAXBRIAR_PARTIAL &&
+           shown.answer.picture.fault == ZAXBRIAR_MALFORMED;
+}
+
 /* Decodes the part before the first fault, beside the whole image. */
 static void decode_part(void) {
     struct shown part = shown_twice(PART, of.size), whole = shown_of(WHOLE, of.size, 0xA5);
@@ -373,108 +471,146 @@ static void decode_part(void) {
         CHECK(result == ZAXBRIAR_OK || !is_described(result));
         note(50, (uint64_t)part.answer.picture.fault << 8 | result);
     } else if (part.answer.result != ZAXBRIAR_TOO_LARGE) {
-        CHECK(result == part.answer.result || !is_described(result));
+        CHECK(result == part.answer.result || !is_described(result) ||
+              (result == ZAXBRIAR_OK && may_end_early()));
     }
     free(part.pixels);
     free(whole.pixels);
 }
 
-/* A picture that is turned has the pixels of the stored one, each in its place. */
-static void turn_upright(void) {
+/* The options for the same pixels as the stream stores them: without gaps and not turned. */
+static zaxbriar_options as_stored(void) {
     zaxbriar_options options = of.options;
-    zaxbriar_picture stored;
+    const zaxbriar_picture *all = &of.all.picture;
+    int orientation = options.upright ? all->orientation : 1, is_turned = orientation > 4;
+    int is_from_right = orientation % 4 == 2 || orientation % 4 == 3;
+    int is_from_bottom = orientation > 2 && orientation != 5 && orientation != 6;
+    uint32_t left = options.crop_left, top = options.crop_top;
+    if (is_from_right) left = all->width - left - options.crop_width;
+    if (is_from_bottom) top = all->height - top - options.crop_height;
     options.stride = options.bottom_up = options.upright = 0;
-    struct shown shown = shown_of(PART, of.size, 0x5A);
-    if (of.options.upright && is_decoded(shown.answer.result)) {
-        const zaxbriar_picture *picture = &shown.answer.picture;
+    if (is_cropped(&of.options)) {
+        options.crop_left = (uint16_t)(is_turned ? top : left);
+        options.crop_top = (uint16_t)(is_turned ? left : top);
+        options.crop_width = is_turned ? of.options.crop_height : of.options.crop_width;
+        options.crop_height = is_turned ? of.options.crop_width : of.options.crop_height;
+    }
+    options.most_width = is_turned ? of.options.most_height : of.options.most_width;
+    options.most_height = is_turned ? of.options.most_width : of.options.most_height;
+    return options;
+}
+
+/* Each pixel of the picture is the stored one, in its place. */
+static void arrange(void) {
+    if (!of.is_small) return;
+    zaxbriar_options options = as_stored();
+    struct shown shown = shown_of(PART, of.size, 0x5A), stored = shown_by(&options);
+    CHECK(stored.answer.result == shown.answer.result);
+    if (is_decoded(shown.answer.result)) {
+        const zaxbriar_picture *picture = &shown.answer.picture, *other = &stored.answer.picture;
         struct size size = stored_size(&of.options, picture);
-        size_t row_bytes = size.width * (size_t)picture->pixel_bytes;
-        size_t room = row_bytes * size.height;
-        unsigned char *rows = room_in(&pixel_pages, room);
-        begin_call(&options);
-        CHECK(zaxbriar_decode_partial(of.jpeg, of.size, &options, rows, room, &stored) ==
-              shown.answer.result);
-        end_counting(9);
-        CHECK(stored.size == room && stored.whole_rows == picture->whole_rows);
+        size_t pixel_bytes = picture->pixel_bytes;
+        CHECK(other->width == size.width && other->height == size.height);
+        CHECK(other->whole_rows == picture->whole_rows);
         for (uint32_t y = 0; y < size.height; y++)
             for (uint32_t x = 0; x < size.width; x++)
                 CHECK(!memcmp(shown.pixels + place_of(picture, x, y),
-                              rows + y * row_bytes + x * (size_t)picture->pixel_bytes,
-                              picture->pixel_bytes));
+                              stored.pixels + y * other->row_bytes + x * pixel_bytes,
+                              pixel_bytes));
         note(52, picture->orientation);
     }
     free(shown.pixels);
+    free(stored.pixels);
 }
 
-/* A part of a picture has the pixels that the picture has there, as it is shown, and there is none
- * that isn't inside. The complete rows of a part are no more than those of the picture. */
+/* The picture in a layout is what this makes of the samples as they are stored. */
+static void convert(void) {
+    if (!of.is_small || of.options.layout == ZAXBRIAR_AS_STORED) return;
+    zaxbriar_options options = as_stored();
+    struct shown shown = shown_by(&options);
+    options.layout = ZAXBRIAR_AS_STORED;
+    struct shown stored = shown_by(&options);
+    CHECK(stored.answer.result == shown.answer.result);
+    if (is_decoded(shown.answer.result))
+        check_layout(&shown.answer.picture, shown.pixels, &stored.answer.picture, stored.pixels);
+    free(shown.pixels);
+    free(stored.pixels);
+}
+
+/* A picture that is made smaller has the means of the samples of the larger one. */
+static void make_smaller(void) {
+    if (!of.is_small || !is_fitted(&of.options)) return;
+    zaxbriar_options options = as_stored();
+    options.layout = ZAXBRIAR_AS_STORED;
+    options.max_samples = 0;
+    struct shown smaller = shown_by(&options);
+    options.most_width = options.most_height = 0;
+    struct shown larger = shown_by(&options);
+    CHECK(smaller.answer.result == larger.answer.result);
+    if (is_decoded(smaller.answer.result)) {
+        const zaxbriar_picture *picture = &smaller.answer.picture;
+        CHECK(picture->whole_rows == larger.answer.picture.whole_rows);
+        check_means(picture, smaller.pixels, &larger.answer.picture, larger.pixels);
+        note(56, (uint64_t)bits_of(picture->width) << 8 | bits_of(picture->height));
+    }
+    free(smaller.pixels);
+    free(larger.pixels);
+}
+
+/* How many first rows of a part are among so many of the picture, both before they are turned. */
+static uint32_t rows_of_part(uint32_t rows) {
+    zaxbriar_options stored = as_stored();
+    if (rows <= stored.crop_top) return 0;
+    rows -= stored.crop_top;
+    return rows < stored.crop_height ? rows : stored.crop_height;
+}
+
+/* A part of a picture has the pixels that the picture has there, as it is shown. */
 static void take_crop(void) {
+    if (!of.is_small || !is_cropped(&of.options)) return;
     zaxbriar_options options = of.options;
-    zaxbriar_picture part;
-    if (!of.is_small || options.transform == ZAXBRIAR_TRANSFORM_NONE) return;
-    struct shown shown = shown_of(PART, of.size, 0x5A);
+    size_t left = options.crop_left, top = options.crop_top;
+    options.stride = options.bottom_up = options.most_width = options.most_height = 0;
+    options.max_samples = 0;
+    struct shown shown = shown_by(&options);
+    options.crop_left = options.crop_top = options.crop_width = options.crop_height = 0;
+    struct shown whole = shown_by(&options);
+    CHECK(shown.answer.result == whole.answer.result);
     if (is_decoded(shown.answer.result)) {
-        const zaxbriar_picture *whole = &shown.answer.picture;
-        uint32_t left = of.settings[MIN_WIDTH] * whole->width >> 8;
-        uint32_t top = of.settings[MIN_HEIGHT] * whole->height >> 8;
-        options.stride = options.bottom_up = 0;
-        options.crop_left = (uint16_t)left, options.crop_top = (uint16_t)top;
-        options.crop_width = (uint16_t)(1 + of.settings[GAP] % (whole->width - left));
-        options.crop_height = (uint16_t)(1 + of.settings[PASSES] % (whole->height - top));
-        size_t pixel_bytes = whole->pixel_bytes, row = options.crop_width * pixel_bytes;
-        size_t stride = of.options.stride ? of.options.stride : whole->row_bytes;
-        size_t room = row * options.crop_height;
-        unsigned char *pixels_of_part = block(room);
-        begin_call(&options);
-        CHECK(zaxbriar_decode_partial(of.jpeg, of.size, &options, pixels_of_part, room, &part) ==
-              shown.answer.result);
-        end_counting(9);
-        CHECK(part.size == room && part.whole_rows <= whole->whole_rows);
-        CHECK(part.width == options.crop_width && part.height == options.crop_height);
-        for (uint32_t y = 0; y < part.height; y++) {
-            uint32_t line = of.options.bottom_up ? whole->height - 1 - top - y : top + y;
-            CHECK(!memcmp(pixels_of_part + y * row,
-                          shown.pixels + line * stride + left * pixel_bytes, row));
-        }
-        options.crop_width = (uint16_t)(whole->width - left + 1);
-        CHECK(zaxbriar_read_info(of.jpeg, of.size, &options, &part) == ZAXBRIAR_BAD_ARGUMENT);
-        note(54, (uint64_t)bits_of(part.width) << 8 | bits_of(part.height));
-        free(pixels_of_part);
+        const zaxbriar_picture *part = &shown.answer.picture, *picture = &whole.answer.picture;
+        CHECK(part->whole_rows == rows_of_part(picture->whole_rows));
+        for (size_t y = 0; y < part->height; y++)
+            CHECK(!memcmp(shown.pixels + y * part->row_bytes,
+                          whole.pixels + (top + y) * picture->row_bytes + left * part->pixel_bytes,
+                          part->row_bytes));
+        note(54, (uint64_t)bits_of(part->width) << 8 | bits_of(part->height));
     }
     free(shown.pixels);
+    free(whole.pixels);
 }
 
 /* The luma of a picture is what stands first in each line of its components, which are those of the
  * stream without a conversion. */
 static void take_luma(void) {
-    zaxbriar_options options = of.options;
-    zaxbriar_picture picture;
-    if (!options.luma || !of.is_small || of.full.picture.process == ZAXBRIAR_LOSSLESS) return;
-    options.layout = ZAXBRIAR_AS_STORED;
-    options.stride = options.bottom_up = options.upright = 0;
-    options.max_samples = options.max_bytes = 0;
-    struct size size = stored_size(&of.options, &of.info.picture);
-    size_t room = (size_t)size.width * size.height, line = size.width;
-    unsigned char *luma = block(room);
-    begin_call(&options);
-    zaxbriar_result result =
-        zaxbriar_decode_partial(of.jpeg, of.size, &options, luma, room, &picture);
-    end_counting(9);
-    if (is_decoded(result)) {
-        size_t lines = line * of.full.picture.components;
-        unsigned char *all = block(lines * size.height);
+    if (!of.options.luma || !of.is_small || of.full.picture.process == ZAXBRIAR_LOSSLESS) return;
+    zaxbriar_options options = coded_options();
+    options.luma = 1;
+    options.transform = of.options.transform;
+    if (options.transform == ZAXBRIAR_TRANSFORM_NONE) return;
+    struct shown luma = shown_by(&options);
+    if (is_decoded(luma.answer.result)) {
         options.luma = 0;
         options.transform = ZAXBRIAR_TRANSFORM_NONE;
-        begin_call(&options);
-        CHECK(zaxbriar_decode_partial(of.jpeg, of.size, &options, all, lines * size.height,
-                                      &picture) == result);
-        end_counting(9);
-        for (uint32_t y = 0; y < size.height; y++)
-            CHECK(!memcmp(luma + y * line, all + y * lines, line));
-        note(53, of.full.picture.components);
-        free(all);
+        struct shown all = shown_by(&options);
+        const zaxbriar_picture *picture = &all.answer.picture;
+        CHECK(all.answer.result == luma.answer.result);
+        for (size_t y = 0; y < picture->height; y++)
+            CHECK(!memcmp(luma.pixels + y * picture->width, all.pixels + y * picture->row_bytes,
+                          picture->width));
+        note(53, picture->components);
+        free(all.pixels);
     }
-    free(luma);
+    free(luma.pixels);
 }
 
 /* Where a sample of a component begins in a picture whose components weren't converted. */
@@ -485,55 +621,113 @@ static size_t sample_place(const zaxbriar_picture *picture, int component, uint3
     return (y * count + (size_t)component) * width + x;
 }
 
-/* Planes are given of the same streams as a picture that isn't converted, whatever is above it in
- * the options, and a plane of the picture's size has the samples that this has of its component. */
-static void take_planes(void) {
-    zaxbriar_options options = of.options;
-    zaxbriar_picture picture, whole;
-    if (!of.is_small) return;
-    options.stride = options.layout = options.bottom_up = options.transform = 0;
-    options.upright = options.luma = 0;
-    options.max_samples = options.max_bytes = 0;
-    size_t room = of.info.picture.planes_size;
-    unsigned char *samples = block(room + GUARD);
-    memset(samples, BYTE, room + GUARD);
-    CHECK(zaxbriar_decode_planes(of.jpeg, of.size, &options, samples, room - 1, NULL) ==
-          ZAXBRIAR_NO_ROOM);
-    begin_call(&options);
-    zaxbriar_result result =
-        zaxbriar_decode_planes(of.jpeg, of.size, &options, samples, room, &picture);
-    end_counting(9);
-    CHECK(result < ZAXBRIAR_NO_MEMORY || result == ZAXBRIAR_TOO_MANY_PASSES);
-    CHECK(picture.planes_size == room);
-    size_t written = result == ZAXBRIAR_OK ? room : 0;
-    CHECK(is_all(samples + written, room + GUARD - written, BYTE));
-    unsigned char *all = block(picture.size);
-    options.transform = ZAXBRIAR_TRANSFORM_NONE;
-    CHECK(zaxbriar_decode(of.jpeg, of.size, &options, all, picture.size, &whole) == result);
+/* Each plane of the picture's size has the samples that a picture which isn't converted has of its
+ * component. */
+static void check_planes(const zaxbriar_picture *picture, const unsigned char *samples,
+                         const unsigned char *pixels) {
     const unsigned char *plane = samples;
-    for (int component = 0; component < 4 && result == ZAXBRIAR_OK; component++) {
-        uint32_t width = picture.plane_width[component], height = picture.plane_height[component];
-        size_t bytes = picture.sample_bytes;
-        int is_whole = width == picture.width && height == picture.height;
+    size_t bytes = picture->sample_bytes;
+    for (int component = 0; component < 4; component++) {
+        uint32_t width = picture->plane_width[component], height = picture->plane_height[component];
+        int is_whole = width == picture->width && height == picture->height;
         for (uint32_t y = 0; y < height && is_whole; y++)
             for (uint32_t x = 0; x < width; x++)
                 CHECK(!memcmp(plane + (y * (size_t)width + x) * bytes,
-                              all + sample_place(&picture, component, x, y), bytes));
+                              pixels + sample_place(picture, component, x, y), bytes));
         plane += (size_t)width * height * bytes;
     }
-    if (result == ZAXBRIAR_OK) CHECK(plane == samples + room);
-    CHECK(zaxbriar_decode_planes(of.jpeg, of.size, &options, samples, room, NULL) ==
-          ZAXBRIAR_BAD_ARGUMENT);
-    note(55, (uint64_t)result << 4 | picture.components);
-    free(all);
-    free(samples);
+    CHECK(plane == samples + picture->planes_size);
 }
 
-/* A picture that is turned, a part of one, and its planes. */
-static void show_otherwise(void) {
-    turn_upright();
-    take_crop();
-    take_planes();
+/* A call for planes into so much room, which stands in `pixels`. */
+static struct answer planes_into(const zaxbriar_options *options, size_t room, unsigned char fill) {
+    pixels.start = room_in(&pixel_pages, GUARD + room) + GUARD;
+    pixels.room = room;
+    pixels.fill = fill;
+    memset(pixels.start - GUARD, fill, GUARD + room);
+    begin_call(options);
+    struct answer answer = answered(
+        zaxbriar_decode_planes(of.jpeg, of.size, options, pixels.start, room, to_tell()));
+    size_t counted = of.info.picture.decoding_bytes * (1 + times_counted());
+    CHECK(counts.peak_bytes <= counted + bytes_beside(WHOLE, of.size));
+    end_counting(9);
+    check_answer(WHOLE, &answer, options, of.size);
+    CHECK(answer.result != ZAXBRIAR_NO_MEMORY);
+    check_places_of(options, of.jpeg, of.size, answer.result);
+    size_t written = answer.result == ZAXBRIAR_OK ? answer.picture.planes_size : 0;
+    CHECK(written <= room && is_all(pixels.start - GUARD, GUARD, fill));
+    CHECK(is_all(pixels.start + written, room - written, fill));
+    return answer;
+}
+
+/* Takes planes by either kind of processor's code: twice the same answer and the same samples. */
+static struct answer planes_twice(const zaxbriar_options *options, size_t room) {
+    unsigned char *samples = block(room);
+    allow_v3(0);
+    struct answer one = planes_into(options, room + of.settings[GAP] % 2, 0xA5);
+    memcpy(samples, pixels.start, room);
+    allow_v3(1);
+    struct answer other = planes_into(options, room, 0x5A);
+    CHECK(one.result == other.result);
+    CHECK(!memcmp(&one.picture, &other.picture, sizeof one.picture));
+    if (one.result == ZAXBRIAR_OK) CHECK(!memcmp(samples, pixels.start, room));
+    free(samples);
+    return other;
+}
+
+/* The sizes of planes are the same whatever arranges or converts samples. */
+static void check_plane_sizes(const zaxbriar_picture *picture) {
+    const zaxbriar_picture *other = &of.info.picture;
+    uint64_t size = 0;
+    for (int i = 0; i < 4; i++) {
+        CHECK(picture->plane_width[i] == other->plane_width[i]);
+        CHECK(picture->plane_height[i] == other->plane_height[i]);
+        CHECK((picture->plane_width[i] == 0) == (picture->sampling[i] == 0));
+        size += (uint64_t)picture->plane_width[i] * picture->plane_height[i];
+    }
+    CHECK(size * picture->sample_bytes == picture->planes_size);
+    CHECK(picture->planes_size == other->planes_size);
+}
+
+/* Planes are given of the same streams as a picture that isn't converted, and have the sizes that
+ * read_info says whatever is above it in the options. */
+static void take_planes(void) {
+    if (!of.is_small) return;
+    zaxbriar_options options = coded_options();
+    options.max_samples = of.options.max_samples;
+    struct answer info = read_info(of.jpeg, of.size, &options);
+    size_t room = info.picture.planes_size;
+    check_plane_sizes(&info.picture);
+    struct answer answer = planes_into(&options, room - 1, 0x5A);
+    CHECK(answer.result == (info.result == ZAXBRIAR_OK ? ZAXBRIAR_NO_ROOM : info.result));
+    answer = planes_twice(&options, room);
+    check_as_described(&answer, &info);
+    note(55, (uint64_t)answer.result << 4 | answer.picture.components);
+    options.transform = ZAXBRIAR_TRANSFORM_NONE;
+    unsigned char *all = block(info.picture.size);
+    CHECK(zaxbriar_decode(of.jpeg, of.size, &options, all, info.picture.size, NULL) ==
+          answer.result);
+    if (answer.result == ZAXBRIAR_OK) check_planes(&answer.picture, pixels.start, all);
+    free(all);
+}
+
+/* Planes are refused with each option that arranges or converts samples. */
+static void misuse_planes(void) {
+    zaxbriar_options options = coded_options();
+    switch (of.settings[KIND] % 9) {
+    case 0: options.stride = of.info.picture.row_bytes; break;
+    case 1: options.layout = ZAXBRIAR_RGB; break;
+    case 2: options.bottom_up = 1; break;
+    case 3: options.transform = ZAXBRIAR_TRANSFORM_NONE; break;
+    case 4: options.upright = 1; break;
+    case 5: options.luma = 1; break;
+    case 6: options.crop_width = options.crop_height = 1; break;
+    case 7: options.most_width = 1; break;
+    default: options.transform = ZAXBRIAR_TRANSFORM_YCBCR; break;
+    }
+    if (!of.is_small) return;
+    struct answer answer = planes_into(&options, of.info.picture.planes_size, 0x5A);
+    CHECK(answer.result == ZAXBRIAR_BAD_ARGUMENT);
 }
 
 /* Whether the bytes from one cut to another go on with one scan alone: the first is in its data,
@@ -573,7 +767,7 @@ static void check_growth(enum call call, struct shown *shorter, struct shown *lo
     } else if (is_decoded(shorter->answer.result) && is_in_scan(shorter->size, longer->size)) {
         CHECK(is_decoded(longer->answer.result));
         CHECK(longer->answer.picture.whole_rows >= rows);
-        CHECK(are_same_rows(shorter, longer, rows));
+        CHECK(are_same_rows(shorter, longer, rows_given(rows)));
         note(51, bits_of(rows));
     }
 }
@@ -607,20 +801,40 @@ static void decode_short(void) {
     check_unwritten(&answer);
 }
 
-/* A call for metadata of a kind, into so much room; by which code depends on what fills that. */
-static zaxbriar_result copy(int kind, size_t room, unsigned char fill, size_t *length) {
+/* A call that copies metadata of a kind, into so much room; by which code depends on what fills
+ * that. */
+typedef zaxbriar_result copying(const void *jpeg, size_t jpeg_size, const zaxbriar_options *options,
+                                int kind, void *data, size_t data_size, size_t *length);
+
+static zaxbriar_result copy(copying *call, int kind, size_t room, unsigned char fill,
+                            size_t *length) {
     pixels.start = room_in(&pixel_pages, GUARD + room) + GUARD;
     memset(pixels.start - GUARD, fill, GUARD + room);
     begin_counting(0);
     *length = SIZE_MAX;
     allow_v3(fill == 0x5A);
-    zaxbriar_result result = zaxbriar_metadata_within(of.jpeg, of.size, &of.options, kind,
-                                                      pixels.start, room, length);
+    zaxbriar_result result =
+        call(of.jpeg, of.size, &of.options, kind, pixels.start, room, length);
     allow_v3(1);
+    if (call == zaxbriar_joined_metadata)
+        CHECK(counts.peak_bytes <= MOST_FOR_TABLES + 4 * of.size);
     end_counting(7);
     size_t written = result == ZAXBRIAR_OK ? *length : 0;
     CHECK(written <= room && is_all(pixels.start - GUARD, GUARD, fill));
     CHECK(is_all(pixels.start + written, room - written, fill));
+    return result;
+}
+
+/* The same of a call that has said how many bytes there are, into room for them, after it was
+ * refused with a byte less. */
+static zaxbriar_result copy_all(copying *call, int kind, size_t length) {
+    size_t again;
+    if (length > 0) {
+        CHECK(copy(call, kind, length - 1, 0xA5, &again) == ZAXBRIAR_NO_ROOM);
+        CHECK(again == length);
+    }
+    zaxbriar_result result = copy(call, kind, length + of.settings[GAP] % 2, 0xA5, &again);
+    CHECK(again == length);
     return result;
 }
 
@@ -643,7 +857,7 @@ static void check_found(int kind, zaxbriar_result result, size_t length) {
     CHECK(places.ended && place.size == length);
     CHECK(result == (place.offset ? ZAXBRIAR_OK : ZAXBRIAR_NO_DATA));
     if (length == 0) return;
-    CHECK(copy(kind, length, 0xA5, &length) == ZAXBRIAR_OK);
+    CHECK(copy(zaxbriar_metadata_within, kind, length, 0xA5, &length) == ZAXBRIAR_OK);
     CHECK(!memcmp(pixels.start, of.jpeg + place.offset, length));
 }
 
@@ -653,7 +867,7 @@ static void copy_metadata(void) {
     int kind = kinds[of.settings[KIND] % 8], is_whole = kind & ZAXBRIAR_WHOLE_IMAGE;
     int is_kind = kind >= ZAXBRIAR_EXIF && kind <= WHOLE_ICC;
     size_t length, again;
-    zaxbriar_result result = copy(kind, 0, 0x5A, &length);
+    zaxbriar_result result = copy(zaxbriar_metadata_within, kind, 0, 0x5A, &length);
     CHECK((result == ZAXBRIAR_BAD_ARGUMENT) == !is_kind);
     CHECK(result != ZAXBRIAR_TOO_LARGE || is_whole);
     CHECK(result < ZAXBRIAR_PARTIAL && result != ZAXBRIAR_NO_MEMORY);
@@ -664,11 +878,67 @@ static void copy_metadata(void) {
         CHECK(again == length);
     }
     if (result == ZAXBRIAR_NO_ROOM) {
-        CHECK(copy(kind, length - 1, 0xA5, &again) == ZAXBRIAR_NO_ROOM && again == length);
-        result = copy(kind, length + of.settings[GAP] % 2, 0xA5, &again);
-        CHECK(result == ZAXBRIAR_OK && again == length);
+        result = copy_all(zaxbriar_metadata_within, kind, length);
+        CHECK(result == ZAXBRIAR_OK);
     }
     check_found(kind, result, length);
+}
+
+/* The data that were joined last agree with those that zaxbriar_find_metadata finds: the main XMP
+ * packet is one segment, and Exif data end with their last one. */
+static void check_joined(int kind, zaxbriar_result result, size_t length) {
+    static zaxbriar_places places;
+    if (kind != ZAXBRIAR_EXIF && kind != ZAXBRIAR_XMP) return;
+    CHECK(zaxbriar_find_metadata(of.jpeg, of.size, &places) == ZAXBRIAR_OK);
+    zaxbriar_place place = kind == ZAXBRIAR_EXIF ? places.exif : places.xmp;
+    CHECK(result == (place.offset ? ZAXBRIAR_OK : ZAXBRIAR_NO_DATA));
+    CHECK(kind == ZAXBRIAR_EXIF ? length >= place.size : length == place.size);
+    if (place.size == 0) return;
+    CHECK(!memcmp(pixels.start + length - place.size, of.jpeg + place.offset, place.size));
+}
+
+/* A thumbnail is among the joined Exif data, and an extension of XMP data has a main packet. */
+static void check_source(int kind, size_t length) {
+    size_t size, at = 0;
+    if (kind != ZAXBRIAR_THUMBNAIL && kind != ZAXBRIAR_EXTENDED_XMP) return;
+    unsigned char *data = block(length);
+    memcpy(data, pixels.start, length);
+    int source = kind == ZAXBRIAR_THUMBNAIL ? ZAXBRIAR_EXIF : ZAXBRIAR_XMP;
+    CHECK(copy(zaxbriar_joined_metadata, source, of.size, 0x5A, &size) == ZAXBRIAR_OK);
+    if (kind == ZAXBRIAR_THUMBNAIL) {
+        CHECK(size >= length);
+        while (at < size - length && memcmp(pixels.start + at, data, length)) at++;
+        CHECK(!memcmp(pixels.start + at, data, length));
+    }
+    free(data);
+}
+
+/* Joins metadata of a kind, if it is one of those that are joined. Only `memory` counts of the
+ * options. */
+static void join(int kind, int is_kind) {
+    size_t length, again;
+    zaxbriar_result result = copy(zaxbriar_joined_metadata, kind, 0, 0x5A, &length);
+    CHECK((result == ZAXBRIAR_BAD_ARGUMENT) == !is_kind);
+    CHECK(result == ZAXBRIAR_OK || result == ZAXBRIAR_NO_ROOM || result == ZAXBRIAR_NO_DATA ||
+          result == ZAXBRIAR_BAD_ARGUMENT);
+    CHECK(length <= of.size && (length != 0) == (result == ZAXBRIAR_NO_ROOM));
+    CHECK(zaxbriar_joined_metadata(of.jpeg, of.size, NULL, kind, NULL, 0, &again) == result);
+    CHECK(again == length);
+    note(14, (uint64_t)kind << 16 | (uint64_t)result << 8 | bits_of(length));
+    if (result == ZAXBRIAR_NO_ROOM) {
+        result = copy_all(zaxbriar_joined_metadata, kind, length);
+        CHECK(result == ZAXBRIAR_OK);
+    }
+    check_joined(kind, result, length);
+    if (result == ZAXBRIAR_OK) check_source(kind, length);
+}
+
+/* Joins metadata of each kind, and of one that isn't joined. */
+static void join_metadata(void) {
+    static const int others[] = {0, ZAXBRIAR_ICC, WHOLE_EXIF, 7};
+    for (int kind = ZAXBRIAR_EXIF; kind <= ZAXBRIAR_THUMBNAIL; kind++)
+        if (kind != ZAXBRIAR_ICC) join(kind, 1);
+    join(others[of.settings[KIND] % 4], 0);
 }
 
 /* With an allocation refused a call gives up, or gives the answer that needs no more memory. */
@@ -688,12 +958,55 @@ static void refuse_memory(void) {
         end_counting(8);
         struct answer other = answered(result);
         check_answer(call, &other, &of.options, of.size);
+        check_rows(call, &other);
         if (call != INFO) check_unwritten(&other);
         CHECK(result == answer.result || (is_refused && result == ZAXBRIAR_NO_MEMORY));
     }
 }
 
-/* The options of the settings, before the limits. */
+/* The same of the calls that copy metadata. (From the whole image those before a fault are copied,
+ * and memory that is refused counts as one.) */
+static void refuse_copying(void) {
+    static copying *const calls[] = {zaxbriar_metadata_within, zaxbriar_joined_metadata};
+    static const int kinds[][2] = {{WHOLE_EXIF, WHOLE_ICC}, {ZAXBRIAR_EXIF, ZAXBRIAR_EXTENDED_XMP}};
+    long refused = of.settings[REFUSED];
+    size_t length, again;
+    if (!of.options.memory || !refused) return;
+    for (int i = 0; i < 2; i++) {
+        int kind = kinds[i][of.settings[KIND] % 2];
+        zaxbriar_result result = copy(calls[i], kind, of.size, 0x5A, &length);
+        memset(pixels.start, 0x5A, of.size);
+        begin_counting(refused);
+        zaxbriar_result other =
+            calls[i](of.jpeg, of.size, &of.options, kind, pixels.start, of.size, &again);
+        int is_refused = counts.allocations >= refused;
+        end_counting(8);
+        int may_be_less = is_refused && calls[i] == zaxbriar_metadata_within;
+        CHECK((other == result && again == length) || (is_refused && other == ZAXBRIAR_NO_MEMORY) ||
+              (may_be_less && (other == result || other == ZAXBRIAR_OK)));
+        size_t written = other == ZAXBRIAR_OK ? again : 0;
+        CHECK(written <= of.size && is_all(pixels.start + written, of.size - written, 0x5A));
+    }
+}
+
+/* The same of planes. */
+static void refuse_planes(void) {
+    long refused = of.settings[REFUSED];
+    if (!of.options.memory || !refused || !of.is_small) return;
+    zaxbriar_options options = coded_options();
+    size_t room = of.info.picture.planes_size;
+    zaxbriar_result result = planes_into(&options, room, 0x5A).result;
+    memset(pixels.start, 0x5A, room);
+    begin_counting(refused);
+    zaxbriar_result other =
+        zaxbriar_decode_planes(of.jpeg, of.size, &options, pixels.start, room, NULL);
+    int is_refused = counts.allocations >= refused;
+    end_counting(8);
+    CHECK(other == result || (is_refused && other == ZAXBRIAR_NO_MEMORY));
+    if (other != ZAXBRIAR_OK) CHECK(is_all(pixels.start, room, 0x5A));
+}
+
+/* The options of the settings, before a part and the limits. */
 static void choose_options(void) {
     static const uint8_t scales[] = {0, 1, 2, 4, 8, 0, 8, 3};
     const uint8_t *settings = of.settings;
@@ -710,13 +1023,58 @@ static void choose_options(void) {
                                     .places = has(HAS_PLACES) ? &of.places : NULL};
 }
 
+/* Asks for a part of the picture, and for a size within which it is to fit. */
+static void choose_part(void) {
+    const zaxbriar_picture *all = &of.all.picture;
+    const uint8_t *settings = of.settings;
+    if (of.all.result == ZAXBRIAR_OK && has_part(HAS_CROP)) {
+        uint32_t left = settings[LEFT] * all->width >> 8, top = settings[TOP] * all->height >> 8;
+        uint32_t width = settings[WIDTH] * (all->width - left) >> 8;
+        uint32_t height = settings[HEIGHT] * (all->height - top) >> 8;
+        of.options.crop_left = (uint16_t)left;
+        of.options.crop_top = (uint16_t)top;
+        of.options.crop_width = (uint16_t)(width + 1);
+        of.options.crop_height = (uint16_t)(height + 1);
+    }
+    of.part = read_info(of.jpeg, of.size, &of.options);
+    if (!has_part(HAS_MOST)) return;
+    of.options.most_width = settings[MOST_WIDTH];
+    of.options.most_height = settings[MOST_HEIGHT];
+}
+
+/* Asks for what doesn't exist, or for a part that isn't inside the picture. */
+static void choose_misuse(void) {
+    zaxbriar_options *options = &of.options;
+    const zaxbriar_picture *all = &of.all.picture;
+    int misuse = of.settings[MISUSE] % 64;
+    if (misuse >= 7 && misuse <= 10 && !is_cropped(options))
+        options->crop_width = options->crop_height = 1;
+    switch (misuse) {
+    case 1: options->reserved_bytes[of.settings[GAP] % 6] = 1; break;
+    case 2: options->reserved_half[of.settings[GAP] % 4] = 1; break;
+    case 3: options->reserved_words[of.settings[GAP] % 6] = 1; break;
+    case 4: options->upright = 2; break;
+    case 5: options->luma = 2; break;
+    case 6: options->bottom_up = 2; break;
+    case 7: options->crop_left = (uint16_t)(all->width - options->crop_width + 1); break;
+    case 8: options->crop_top = (uint16_t)(all->height - options->crop_height + 1); break;
+    case 9: options->crop_width = 0; break;
+    case 10: options->crop_height = 0; break;
+    default: return;
+    }
+    struct answer answer = read_info(of.jpeg, of.size, options);
+    CHECK(answer.result == (of.all.result == ZAXBRIAR_OK || !are_known(options)
+                                ? ZAXBRIAR_BAD_ARGUMENT
+                                : of.all.result));
+}
+
 /* Limits the picture, so that an input takes well under a second, or by the settings. */
 static void choose_limits(void) {
     const zaxbriar_picture *full = &of.full.picture, *picture = &of.info.picture;
     uint64_t most = (uint64_t)full->width * full->height * full->components;
     uint64_t samples = (uint64_t)picture->width * picture->height * picture->components;
     if (most > MOST_SAMPLES) {
-        of.options.max_samples = 1;
+        of.options.max_samples = of.options.max_bytes = 1;
         return;
     }
     of.is_small = of.info.result == ZAXBRIAR_OK;
@@ -747,11 +1105,13 @@ static void choose_stride(void) {
 
 int LLVMFuzzerTestOneInput(const uint8_t *data, size_t size) {
     typedef void step(void);
-    static step *const steps[] = {walk_segments, find_places,   describe,      decode_whole,
-                                  decode_part,   feed,          decode_short,  copy_metadata,
-                                  refuse_memory, show_otherwise, take_luma};
+    static step *const steps[] = {
+        walk_segments, find_places,   describe,      decode_whole,  decode_part,
+        feed,          decode_short,  arrange,       convert,       make_smaller,
+        take_crop,     take_luma,     take_planes,   misuse_planes, copy_metadata,
+        join_metadata, refuse_memory, refuse_planes, refuse_copying};
     enum { STEPS = sizeof steps / sizeof *steps };
-    _Static_assert(STEPS == 11, "a prime number, so that each distance comes to all steps");
+    _Static_assert(STEPS == 19, "a prime number, so that each distance comes to all steps");
     if (size < SETTINGS) return 0;
     of.settings = data;
     of.size = size - SETTINGS;
@@ -763,6 +1123,9 @@ int LLVMFuzzerTestOneInput(const uint8_t *data, size_t size) {
     of.is_small = 0;
     choose_options();
     of.full = read_info(of.jpeg, of.size, NULL);
+    of.all = read_info(of.jpeg, of.size, &of.options);
+    choose_part();
+    choose_misuse();
     of.info = read_info(of.jpeg, of.size, &of.options);
     choose_stride();
     choose_limits();
