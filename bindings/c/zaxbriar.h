@@ -266,7 +266,8 @@ typedef struct zaxbriar_segment {
  * picture its rows, before it is turned. The whole stream is read all the same, and refused for any
  * fault in it, and decoding_bytes is that of the whole picture. A part without pixels, or one that
  * isn't inside the picture, is a ZAXBRIAR_BAD_ARGUMENT once the header has been read, with a text
- * that tells how large the picture is; and so is any part with ZAXBRIAR_TRANSFORM_NONE.
+ * that tells how large the picture is. With ZAXBRIAR_TRANSFORM_NONE any part is a
+ * ZAXBRIAR_BAD_ARGUMENT, before the stream is read.
  *
  * `most_width` and `most_height` make the picture that the other options ask for, at its scale, its
  * luma and its part, fit within a size as it is shown: one that is wider or higher becomes the
@@ -442,8 +443,9 @@ ZAXBRIAR_CALL zaxbriar_result zaxbriar_decode_partial(const void *jpeg, size_t j
  *
  * Of the options, the scale (min_width, min_height and scale), the limits, `memory` and `places`
  * count. The others arrange or convert samples and have to be zero: stride, layout, bottom_up,
- * transform, upright, luma and the crop, or else the call returns ZAXBRIAR_BAD_ARGUMENT. All other
- * values are as for zaxbriar_decode: the whole stream is read, and refused for any fault in it. */
+ * transform, upright, luma, the crop and the size to fit within, or else the call returns
+ * ZAXBRIAR_BAD_ARGUMENT. All other values are as for zaxbriar_decode: the whole stream is read, and
+ * refused for any fault in it. */
 ZAXBRIAR_CALL zaxbriar_result zaxbriar_decode_planes(const void *jpeg, size_t jpeg_size,
                                                      const zaxbriar_options *options,
                                                      void *samples, size_t samples_size,
