@@ -15,6 +15,9 @@ FOR_BOTH(metadata);
 FOR_BOTH(joined_metadata);
 FOR_BOTH(find_metadata);
 FOR_BOTH(next_segment);
+FOR_BOTH(rows_new);
+FOR_BOTH(rows_next);
+FOR_BOTH(rows_free);
 
 uint32_t zaxbriar_checked_read_info(const uint8_t *jpeg, size_t jpeg_size,
                                     const zaxbriar_options *options, zaxbriar_picture *picture) {
@@ -73,4 +76,23 @@ uint32_t zaxbriar_checked_next_segment(const uint8_t *jpeg, size_t jpeg_size,
                                        zaxbriar_segment *segment) {
     if (zaxbriar_is_v3()) return zaxbriar_v3_next_segment(jpeg, jpeg_size, segment);
     return zaxbriar_v2_next_segment(jpeg, jpeg_size, segment);
+}
+
+uint32_t zaxbriar_checked_rows_new(const uint8_t *jpeg, size_t jpeg_size,
+                                   const zaxbriar_options *options, zaxbriar_kept *kept,
+                                   zaxbriar_picture *picture) {
+    if (zaxbriar_is_v3()) return zaxbriar_v3_rows_new(jpeg, jpeg_size, options, kept, picture);
+    return zaxbriar_v2_rows_new(jpeg, jpeg_size, options, kept, picture);
+}
+
+uint32_t zaxbriar_checked_rows_next(zaxbriar_kept *kept, uint8_t *line, size_t line_size) {
+    if (zaxbriar_is_v3()) return zaxbriar_v3_rows_next(kept, line, line_size);
+    return zaxbriar_v2_rows_next(kept, line, line_size);
+}
+
+void zaxbriar_checked_rows_free(zaxbriar_kept *kept) {
+    if (zaxbriar_is_v3())
+        zaxbriar_v3_rows_free(kept);
+    else
+        zaxbriar_v2_rows_free(kept);
 }

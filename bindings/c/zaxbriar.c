@@ -4,6 +4,7 @@
 #include "proved.h"
 
 #include <stddef.h>
+#include <stdlib.h>
 #include <string.h>
 
 /* The proved code has the same structs. */
@@ -57,6 +58,8 @@ _Static_assert(offsetof(zaxbriar_places, stream_bytes) == 32, "places");
 _Static_assert(offsetof(zaxbriar_places, icc_parts) == 40, "places");
 _Static_assert(offsetof(zaxbriar_places, ended) == 44, "places");
 _Static_assert(offsetof(zaxbriar_places, icc) == 80, "places");
+_Static_assert(sizeof(zaxbriar_kept) == 16, "kept");
+_Static_assert(offsetof(zaxbriar_kept, used) == 8, "kept");
 _Static_assert(sizeof(zaxbriar_segment) == 64, "segment");
 _Static_assert(offsetof(zaxbriar_segment, size) == 8, "segment");
 _Static_assert(offsetof(zaxbriar_segment, end) == 16, "segment");
@@ -171,6 +174,76 @@ zaxbriar_result zaxbriar_decode_planes(const void *jpeg, size_t jpeg_size,
                      samples_size, picture);
 }
 
+/* What the proved calls keep between two of them, and the functions that they take memory from; all
+ * null for malloc, realloc and free. */
+struct zaxbriar_rows {
+    zaxbriar_kept kept;
+    zaxbriar_memory memory;
+};
+
+static const zaxbriar_memory *memory_in(const zaxbriar_rows *rows) {
+    return rows->memory.allocate ? &rows->memory : NULL;
+}
+
+/* All zeros but for the functions, or a null pointer. */
+static zaxbriar_rows *new_rows(const zaxbriar_memory *memory) {
+    zaxbriar_rows *rows =
+        memory ? memory->allocate(memory->context, sizeof *rows) : malloc(sizeof *rows);
+    if (rows) *rows = (zaxbriar_rows){.memory = memory ? *memory : (zaxbriar_memory){0}};
+    return rows;
+}
+
+static void release_rows(zaxbriar_rows *rows) {
+    zaxbriar_memory memory = rows->memory;
+    if (memory.release)
+        memory.release(memory.context, rows);
+    else
+        free(rows);
+}
+
+zaxbriar_result zaxbriar_rows_new(const void *jpeg, size_t jpeg_size,
+                                  const zaxbriar_options *options, zaxbriar_rows **rows,
+                                  zaxbriar_picture *picture) {
+    zaxbriar_picture unused;
+    if (!picture) picture = &unused;
+    if (!rows) return bad_argument(picture, "rows is a null pointer");
+    *rows = NULL;
+    const char *fault = fault_of_decoding(jpeg, jpeg_size, options);
+    if (fault) return bad_argument(picture, fault);
+    zaxbriar_rows *begun = new_rows(memory_of(options));
+    if (!begun) {
+        memset(picture, 0, sizeof *picture);
+        strcpy(picture->text, "out of memory");
+        return with_places(ZAXBRIAR_NO_MEMORY, jpeg, jpeg_size, options);
+    }
+    zaxbriar_options others = without_pointers(options);
+    const zaxbriar_memory *before = zaxbriar_exchange_memory(memory_in(begun));
+    uint32_t answer = zaxbriar_checked_rows_new(jpeg ? jpeg : &nothing, jpeg_size, &others,
+                                                &begun->kept, picture);
+    zaxbriar_exchange_memory(before);
+    if (answer == ZAXBRIAR_OK)
+        *rows = begun;
+    else
+        release_rows(begun);
+    return with_places(answer, jpeg, jpeg_size, options);
+}
+
+zaxbriar_result zaxbriar_rows_next(zaxbriar_rows *rows, void *line, size_t line_size) {
+    if (!rows || !is_slice(line, line_size)) return ZAXBRIAR_BAD_ARGUMENT;
+    const zaxbriar_memory *before = zaxbriar_exchange_memory(memory_in(rows));
+    uint32_t answer = zaxbriar_checked_rows_next(&rows->kept, line ? line : &nothing, line_size);
+    zaxbriar_exchange_memory(before);
+    return (zaxbriar_result)answer;
+}
+
+void zaxbriar_rows_free(zaxbriar_rows *rows) {
+    if (!rows) return;
+    const zaxbriar_memory *before = zaxbriar_exchange_memory(memory_in(rows));
+    zaxbriar_checked_rows_free(&rows->kept);
+    zaxbriar_exchange_memory(before);
+    release_rows(rows);
+}
+
 /* Copies metadata of an image whose scans may go so many times over its picture. */
 static zaxbriar_result metadata_by(const void *jpeg, size_t jpeg_size, int kind,
                                    uint64_t max_passes, void *data, size_t data_size,
@@ -258,6 +331,7 @@ const char *zaxbriar_answer_name(int answer) {
     case ZAXBRIAR_TOO_LARGE: return "picture too large";
     case ZAXBRIAR_PARTIAL: return "partial picture";
     case ZAXBRIAR_TOO_MANY_PASSES: return "too many passes over the picture";
+    case ZAXBRIAR_END: return "no other line";
     default: return "unknown answer";
     }
 }

@@ -8,13 +8,15 @@
  *         fail(picture.text);
  *
  * The calls keep no state: there is no handle to create or free, any thread may make any call at
- * any time, and a call frees all memory that it has allocated before it returns. Whatever the bytes
- * of the stream are, a call returns; it never aborts, prints, calls longjmp or blocks.
+ * any time, and a call frees all memory that it has allocated before it returns. Only for a picture
+ * that is taken line by line there is one, zaxbriar_rows. Whatever the bytes of the stream are, a
+ * call returns; it never aborts, prints, calls longjmp or blocks.
  *
  * The caller guarantees that
  * - `jpeg` points to `jpeg_size` readable bytes that don't change during the call;
- * - `pixels`, `data`, `picture`, `length`, `segment` and `places` point to writable memory, which
- *   doesn't overlap each other, `jpeg` or `options`, and which nothing else uses during the call;
+ * - `pixels`, `data`, `line`, `picture`, `length`, `segment` and `places` point to writable memory,
+ *   which doesn't overlap each other, `jpeg` or `options`, and which nothing else uses during the
+ *   call;
  * - at least 64 kB of stack are left;
  * - the system has 64-bit pointers.
  *
@@ -50,8 +52,8 @@ extern "C" {
 #define ZAXBRIAR_CALL
 #endif
 
-/* What a call returns. Unless it is ZAXBRIAR_OK or ZAXBRIAR_PARTIAL, `pixels` and `data` are
- * unchanged. */
+/* What a call returns. Unless it is ZAXBRIAR_OK or ZAXBRIAR_PARTIAL, `pixels`, `data` and `line`
+ * are unchanged. */
 typedef enum zaxbriar_result {
     ZAXBRIAR_OK = 0,
     ZAXBRIAR_MALFORMED = 1,    /* the stream breaks a rule of the standard */
@@ -67,9 +69,11 @@ typedef enum zaxbriar_result {
     ZAXBRIAR_TOO_LARGE = 8,    /* according to its header, the picture exceeds a limit */
     ZAXBRIAR_PARTIAL = 9,      /* only of zaxbriar_decode_partial: the stream has a fault, and
                                   `pixels` has what it brings up to it: picture.fault */
-    ZAXBRIAR_TOO_MANY_PASSES = 10 /* only of zaxbriar_decode and zaxbriar_decode_planes: the scans
-                                     code the blocks of the picture more often than max_passes
-                                     allows */
+    ZAXBRIAR_TOO_MANY_PASSES = 10, /* only of zaxbriar_decode, zaxbriar_decode_planes and
+                                      zaxbriar_rows_next: the scans code the blocks of the picture
+                                      more often than max_passes allows */
+    ZAXBRIAR_END = 11              /* only of zaxbriar_rows_next: there is no other line, and the
+                                      stream has no fault */
 } zaxbriar_result;
 
 /* How the pixels are arranged. Every picture can be decoded into every layout. In all but
@@ -172,7 +176,7 @@ typedef enum zaxbriar_kind {
  * `context`, and have to behave like these for sizes that aren't 0: blocks are aligned to 16 bytes,
  * and a null pointer is returned if there is no memory. They have to return: no longjmp, and no C++
  * exception. They are called only while a call of this library runs, in its thread, and all blocks
- * have been freed when it returns. */
+ * have been freed when it returns; those of a zaxbriar_rows when zaxbriar_rows_free does. */
 typedef struct zaxbriar_memory {
     void *(*allocate)(void *context, size_t size);
     void *(*resize)(void *context, void *block, size_t size);
@@ -450,6 +454,62 @@ ZAXBRIAR_CALL zaxbriar_result zaxbriar_decode_planes(const void *jpeg, size_t jp
                                                      const zaxbriar_options *options,
                                                      void *samples, size_t samples_size,
                                                      zaxbriar_picture *picture);
+
+/* Gives the lines of a picture one by one, from the top, while its stream is read: for a program
+ * that needs no whole picture in memory.
+ *
+ *     zaxbriar_rows *rows;
+ *     zaxbriar_result answer = zaxbriar_rows_new(jpeg, jpeg_size, NULL, &rows, &picture);
+ *     if (answer == ZAXBRIAR_OK) {
+ *         while ((answer = zaxbriar_rows_next(rows, line, picture.row_bytes)) == ZAXBRIAR_OK)
+ *             show(line);
+ *         zaxbriar_rows_free(rows);
+ *     }
+ *     if (answer != ZAXBRIAR_END)
+ *         fail(zaxbriar_answer_name(answer));
+ *
+ * If the first scan has all components of a sequential frame, as in most files, there are two rows
+ * of MCUs in memory at most, whatever the height of the picture is. Other files (progressive,
+ * lossless, or with a scan for each component) are read to their end for the first line, and take
+ * picture.decoding_bytes.
+ *
+ * Any thread may make the calls with a zaxbriar_rows, one call at a time: threads that share one
+ * take turns by a lock, say. Calls with different ones don't affect each other. */
+typedef struct zaxbriar_rows zaxbriar_rows;
+
+/* Describes the picture as zaxbriar_read_info does, and begins to give its lines. After ZAXBRIAR_OK
+ * *rows is what the two calls below take, and otherwise a null pointer. `jpeg` has to stay, and its
+ * bytes mustn't change, until zaxbriar_rows_free. `picture` may be null.
+ *
+ * Of the options, the scale (min_width, min_height and scale), the limits, `transform`, `memory`
+ * and `places` count. The others arrange samples, and have to be zero: stride, layout, bottom_up,
+ * upright, luma, the crop and the size to fit within; or else the call returns
+ * ZAXBRIAR_BAD_ARGUMENT. `max_bytes` limits picture.decoding_bytes, as in the other calls, also
+ * where two rows of MCUs would do. The functions of `memory` are copied, and are called by the
+ * calls below too. */
+ZAXBRIAR_CALL zaxbriar_result zaxbriar_rows_new(const void *jpeg, size_t jpeg_size,
+                                                const zaxbriar_options *options,
+                                                zaxbriar_rows **rows, zaxbriar_picture *picture);
+
+/* Writes the next line: picture.row_bytes bytes, as zaxbriar_decode writes them. Returns
+ * ZAXBRIAR_OK; or ZAXBRIAR_END after the last line, if the rest of the stream has no fault, either;
+ * or ZAXBRIAR_NO_ROOM if line_size is less than picture.row_bytes, in which case the next call
+ * gives the line; or why the stream is refused, as zaxbriar_decode does.
+ *
+ * Whether a stream is right is only known at its end. Lines that were given before a refusal are
+ * those that the stream codes before its fault; a program that may show no part of a damaged
+ * picture holds them back until ZAXBRIAR_END. All of them together are the picture of
+ * zaxbriar_decode. Beside its refusals there is one: if a segment after the first scan asks for
+ * another colour transform than the one by which lines were given, the stream is
+ * ZAXBRIAR_MALFORMED.
+ *
+ * After ZAXBRIAR_END and a refusal each further call returns the same. */
+ZAXBRIAR_CALL zaxbriar_result zaxbriar_rows_next(zaxbriar_rows *rows, void *line,
+                                                 size_t line_size);
+
+/* Frees all memory of what zaxbriar_rows_new has returned, at any time between two calls. A null
+ * pointer is ignored. */
+ZAXBRIAR_API void zaxbriar_rows_free(zaxbriar_rows *rows);
 
 /* Copies the metadata of a kind (zaxbriar_kind) from the segments before the frame: Exif data from
  * the TIFF header on, XMP data, or an ICC profile. Stores their number of bytes in *length, even if

@@ -11,6 +11,7 @@ static zaxbriar_picture picture;
 static zaxbriar_places places;
 static zaxbriar_segment segment;
 static uint64_t length;
+static zaxbriar_kept kept;
 
 int zaxbriar_is_v3(void) { return kind == 3; }
 
@@ -57,7 +58,16 @@ static uint32_t called(int of, uint32_t number, int right) {
     }                                                                                              \
     uint32_t zaxbriar_v##N##_next_segment(const uint8_t *j, size_t n, zaxbriar_segment *s) {       \
         return called(N, 6, j == bytes && n == 3 && s == &segment);                                \
-    }
+    }                                                                                              \
+    uint32_t zaxbriar_v##N##_rows_new(const uint8_t *j, size_t n, const zaxbriar_options *o,       \
+                                      zaxbriar_kept *k, zaxbriar_picture *p) {                     \
+        return called(N, 9, j == bytes && n == 3 && o == &options && k == &kept &&                 \
+                                p == &picture);                                                    \
+    }                                                                                              \
+    uint32_t zaxbriar_v##N##_rows_next(zaxbriar_kept *k, uint8_t *l, size_t m) {                   \
+        return called(N, 10, k == &kept && l == bytes + 1 && m == 2);                              \
+    }                                                                                              \
+    void zaxbriar_v##N##_rows_free(zaxbriar_kept *k) { called(N, 11, k == &kept); }
 
 CALLS_OF(2)
 CALLS_OF(3)
@@ -76,8 +86,11 @@ int main(void) {
         CHECK(zaxbriar_checked_joined_metadata(bytes, 3, 257, bytes + 1, 2, &length) == base + 7);
         CHECK(zaxbriar_checked_decode_planes(bytes, 3, &options, bytes + 1, 2, &picture) ==
               base + 8);
+        CHECK(zaxbriar_checked_rows_new(bytes, 3, &options, &kept, &picture) == base + 9);
+        CHECK(zaxbriar_checked_rows_next(&kept, bytes + 1, 2) == base + 10);
+        zaxbriar_checked_rows_free(&kept);
     }
-    CHECK(calls == 16);
+    CHECK(calls == 22);
     printf("levels: %d calls; %d faults\n", calls, faults);
     return faults != 0;
 }

@@ -7,12 +7,21 @@
 #include "common.h"
 
 enum { STACK = 128 * 1024, FENCE = 4096, PAINT = 0x77, MOST_USED = 64 * 1024 };
-enum call { DECODE, UPRIGHT, READ_INFO, METADATA, JOINED, NOTHING, CALLS };
+enum call { DECODE, UPRIGHT, READ_INFO, METADATA, JOINED, ROWS, NOTHING, CALLS };
 
 static struct bytes jpeg;
 static unsigned char *pixels;
 static size_t room;
 static enum call call;
+
+/* Takes all lines, into the same memory. */
+static int all_rows(zaxbriar_picture *picture) {
+    zaxbriar_rows *rows;
+    int answer = zaxbriar_rows_new(jpeg.start, jpeg.size, NULL, &rows, picture);
+    while (answer == ZAXBRIAR_OK) answer = zaxbriar_rows_next(rows, pixels, picture->row_bytes);
+    zaxbriar_rows_free(rows);
+    return answer;
+}
 
 static void *make_call(void *unused) {
     static const zaxbriar_options upright = {.layout = ZAXBRIAR_GREY, .upright = 1};
@@ -36,6 +45,7 @@ static void *make_call(void *unused) {
         answer = zaxbriar_joined_metadata(jpeg.start, jpeg.size, NULL, ZAXBRIAR_THUMBNAIL, NULL, 0,
                                           &length);
         break;
+    case ROWS: answer = all_rows(&picture); break;
     default: answer = 0;
     }
     return &answer;
@@ -85,8 +95,8 @@ int main(int argc, char **argv) {
     for (call = 0; call < NOTHING; call++) CHECK(most[call] - most[NOTHING] <= MOST_USED);
     printf("stack: %ld files on a thread of %d bytes, of which a thread that makes no call uses "
            "%zu; with it decode %zu, "
-           "upright %zu, read_info %zu, metadata %zu, joined_metadata %zu; %d faults\n",
+           "upright %zu, read_info %zu, metadata %zu, joined_metadata %zu, rows %zu; %d faults\n",
            files, STACK, most[NOTHING], most[DECODE], most[UPRIGHT], most[READ_INFO],
-           most[METADATA], most[JOINED], faults);
+           most[METADATA], most[JOINED], most[ROWS], faults);
     return faults != 0;
 }

@@ -13,11 +13,13 @@ ghost use Rattle.zaxbriar_calls.specs.Metadata.{IsCopied, IsLonger, said_of};
 ghost use Rattle.zaxbriar_calls.specs.Passes.{exceeds};
 ghost use Rattle.zaxbriar_calls.specs.Places.{places_of};
 ghost use Rattle.zaxbriar_calls.specs.StreamSegments.{IsCut};
+ghost use Rattle.zaxbriar_calls.specs.TakenLines.{BeginsReading, TakesNext};
 ghost use Rattle.zaxbriar_calls.specs.declared.extents.Extent.TheVariants.{Whole, Partial};
 ghost use Rattle.zaxbriar_calls.specs.declared.extents.Extent.TheVariants.{Planes};
 
 use std::alloc::Global;
 use zaxbriar_calls::calls;
+use zaxbriar_calls::kept::Kept;
 use zaxbriar_calls::options::Options;
 use zaxbriar_calls::picture::Picture;
 use zaxbriar_calls::places::Places;
@@ -192,4 +194,24 @@ pub fn placed(jpeg: &[u8], places: &mut Places)
     ensures { places.new ≡ places_of jpeg.now }
 {
     calls::find_metadata(jpeg, places);
+}
+
+/// Calls `begin_rows`, and says that a reader is kept after OK alone, and that it reads the bytes.
+pub fn begun(
+    alloc: Global,
+    jpeg: &'static [u8],
+    options: &Options,
+    kept: &mut Kept,
+    picture: &mut Picture,
+) -> u32
+    ensures { BeginsReading options.now jpeg.now picture.new result kept.new.value }
+{
+    calls::begin_rows(alloc, jpeg, options, kept, picture)
+}
+
+/// Calls `next_row`, and says which line is the next, and when there is none.
+pub fn next_line(alloc: Global, kept: &mut Kept, line: &mut [u8]) -> u32
+    ensures { TakesNext kept.old.value kept.new.value line.old line.new result }
+{
+    calls::next_row(alloc, kept, line)
 }

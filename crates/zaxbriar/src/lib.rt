@@ -1,23 +1,27 @@
 //! The decoder for programs in other languages: C functions over streams in memory.
 //!
 //! The calls keep no state and share nothing: each reads its stream from the start, writes only
-//! through its arguments, and has freed all of its memory when it returns. `bindings/c/zaxbriar.h`
-//! has the functions that a C program calls: they test the pointers and then call these.
-//! `zaxbriar_calls` does what each of them does.
+//! through its arguments, and has freed all of its memory when it returns. Only the lines of a
+//! picture that are taken one by one have a reader, which C keeps between the calls for them.
+//! `bindings/c/zaxbriar.h` has the functions that a C program calls: they test the pointers and
+//! then call these. `zaxbriar_calls` does what each of them does.
 #![tactic(auto)]
 
 ghost use Rattle.std.specs.Prelude.{◌≡◌};
+ghost use Rattle.std.specs.declared.option.Option.TheVariants.{None};
 ghost use Rattle.zaxbriar_calls.specs.CopiesJoined.{CopiesJoined};
 ghost use Rattle.zaxbriar_calls.specs.CopiesMetadata.{CopiesMetadata};
 ghost use Rattle.zaxbriar_calls.specs.Fills.{Fills};
 ghost use Rattle.zaxbriar_calls.specs.FindsSegment.{FindsSegment};
 ghost use Rattle.zaxbriar_calls.specs.Places.{places_of};
 ghost use Rattle.zaxbriar_calls.specs.ReadsInfo.{ReadsInfo};
+ghost use Rattle.zaxbriar_calls.specs.TakenLines.{BeginsReading, TakesNext};
 ghost use Rattle.zaxbriar_calls.specs.declared.extents.Extent.TheVariants.{Whole, Partial};
 ghost use Rattle.zaxbriar_calls.specs.declared.extents.Extent.TheVariants.{Planes};
 
 use std::alloc::Global;
 use zaxbriar_calls::calls;
+use zaxbriar_calls::kept::Kept;
 use zaxbriar_calls::options::Options;
 use zaxbriar_calls::picture::Picture;
 use zaxbriar_calls::places::Places;
@@ -128,4 +132,35 @@ pub extern "C" fn zaxbriar_checked_find_metadata(jpeg: &[u8], places: &mut Place
     ensures { places.new ≡ places_of jpeg.now }
 {
     calls::find_metadata(jpeg, places)
+}
+
+/// Describes the picture of a stream, by its header, and begins to give its lines: `kept` has a
+/// reader after OK. The bytes of the stream stay until it is let go.
+#[unsafe(no_mangle)]
+pub extern "C" fn zaxbriar_checked_rows_new(
+    alloc: Global,
+    jpeg: &'static [u8],
+    options: &Options,
+    kept: &mut Kept,
+    picture: &mut Picture,
+) -> u32
+    ensures { BeginsReading options.now jpeg.now picture.new result kept.new.value }
+{
+    calls::begin_rows(alloc, jpeg, options, kept, picture)
+}
+
+/// Writes the next line of a picture.
+#[unsafe(no_mangle)]
+pub extern "C" fn zaxbriar_checked_rows_next(alloc: Global, kept: &mut Kept, line: &mut [u8]) -> u32
+    ensures { TakesNext kept.old.value kept.new.value line.old line.new result }
+{
+    calls::next_row(alloc, kept, line)
+}
+
+/// Lets the reader go.
+#[unsafe(no_mangle)]
+pub extern "C" fn zaxbriar_checked_rows_free(alloc: Global, kept: &mut Kept)
+    ensures { kept.new.value ≡ None }
+{
+    calls::end_rows(alloc, kept);
 }

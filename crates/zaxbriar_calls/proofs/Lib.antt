@@ -1,3 +1,5 @@
+mod AllLines
+mod BegunRows
 mod Copied
 pub mod CropPixels
 mod Cropped
@@ -13,9 +15,11 @@ mod Images
 mod Informed
 mod Joining
 mod KeptBytes
+mod KeptValues
 mod Laid
 mod Levels
 mod Limited
+mod LooseValues
 mod Means
 mod Outcomes
 mod OwnPlanes
@@ -23,6 +27,7 @@ mod Parts
 mod Rests
 pub mod Rules
 mod Smaller
+mod TakenSteps
 mod Texts
 mod Told
 mod TurnedLines

@@ -10,6 +10,7 @@ pub mod Fills
 pub mod FindsSegment
 pub mod Given
 pub mod Joined
+pub mod Kept
 pub mod Layouts
 pub mod Limits
 pub mod Lines
@@ -22,5 +23,6 @@ pub mod Planes
 pub mod ReadsInfo
 pub mod Sampling
 pub mod StreamSegments
+pub mod TakenLines
 pub mod Upright
 pub mod Worked

@@ -33,6 +33,8 @@ pub const PARTIAL: u32 = 9;
 
 pub const TOO_MANY_PASSES: u32 = 10;
 
+pub const END: u32 = 11;
+
 /// The bytes of a refusal's text, with the zero that ends it.
 pub const TEXT_BYTES: usize = 112;
 

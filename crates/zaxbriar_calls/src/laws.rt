@@ -5,12 +5,14 @@ ghost use Rattle.std.specs.Prelude.{◌+◌, ◌*◌, ◌<◌, false, length, re
 ghost use Rattle.jpeg_bits.specs.Reading.{End, Fault, Malformed};
 ghost use Rattle.jpeg_bits.specs.declared.color_transform.ColorTransform.TheVariants as transforms;
 ghost use Rattle.jpeg_bits.specs.declared.error.UnsupportedFeature.TheVariants as features;
+ghost use Rattle.jpeg_decoder.specs.DecodesRows.{DecodesRows};
 ghost use Rattle.jpeg_decoder.specs.StreamTransforms.{transform_by};
 ghost use Rattle.jpeg_segments.specs.Frame.{Factors, component_of};
 ghost use Rattle.jpeg_segments.specs.declared.application.AdobeColorTransform.TheVariants as adobe;
 ghost use Rattle.jpeg_segments.specs.declared.frame.CodingProcess.TheVariants as processes;
 ghost use Rattle.jpeg_meaning.specs.Found.{no_metadata};
-ghost use Rattle.jpeg_meaning.specs.Stream.{Told};
+ghost use Rattle.jpeg_meaning.specs.States.{Decoding};
+ghost use Rattle.jpeg_meaning.specs.Stream.{Told, told_of};
 ghost use Rattle.jpeg_meaning.specs.Worked.{eleven_blocks, scanned_twice};
 ghost use Rattle.jpeg_meaning.specs.declared.images.ImageInfo.{ImageInfo};
 ghost use Rattle.jpeg_meaning.specs.declared.images.PixelFormat.TheVariants.{L8, L16, RGB24};
@@ -34,6 +36,7 @@ ghost use Rattle.zaxbriar_calls.specs.Passes.{exceeds, fault_number};
 ghost use Rattle.zaxbriar_calls.specs.Places.{no_place, no_places, place_before, with_part};
 ghost use Rattle.zaxbriar_calls.specs.Planes.{bytes_asked, planes_of_components};
 ghost use Rattle.zaxbriar_calls.specs.Sampling.{sampling_of};
+ghost use Rattle.zaxbriar_calls.specs.TakenLines.{BeginsRows};
 ghost use Rattle.zaxbriar_calls.specs.Upright.{arranged_by, arranged_in, arranged_part};
 ghost use Rattle.zaxbriar_calls.specs.Upright.{upright_pixel};
 ghost use Rattle.zaxbriar_calls.specs.Worked.{all_data, crop_at, cropped_alone, exif_twice};
@@ -44,6 +47,8 @@ ghost use Rattle.zaxbriar_calls.specs.declared.extents.Extent.{Extent};
 ghost use Rattle.zaxbriar_calls.specs.declared.extents.Extent.TheVariants.{Partial, Planes};
 ghost use Rattle.zaxbriar_calls.specs.declared.extents.Extent.TheVariants.{Whole};
 ghost use Rattle.zaxbriar_calls.specs.declared.options.Options.{Options};
+ghost use Rattle.zaxbriar_calls.specs.declared.picture.Picture.{Picture};
+ghost use Rattle.zaxbriar_calls.specs.declared.rows.RowReader.{RowReader};
 ghost use Rattle.zaxbriar_calls.specs.declared.layouts.Conversion.TheVariants.{InColour};
 ghost use Rattle.zaxbriar_calls.specs.declared.layouts.Layout.TheVariants as layouts;
 ghost use Rattle.jpeg_segments.specs.declared.scale.Scale.TheVariants as scales;
@@ -474,4 +479,13 @@ pub fn passes_are_limited_by_options()
         → o.max_passes ≡ 0 → exceeds extent o bytes ≡ false }
     ensures refused { (o : Options) (bytes : List ℕ)
         → exceeds Whole o bytes ≡ true → given_by Whole o bytes ≡ Err Malformed }
+{}
+
+/// All lines that were taken one by one when their stream has ended are the picture that the stream
+/// means by T.81.
+pub fn lines_are_the_picture()
+    ensures { (o : Options) (bytes all : List ℕ) (picture : Picture) (r : RowReader)
+        (new : Decoding) → BeginsRows o bytes picture r
+        → DecodesRows r.rows.decoder (Ok tt) new all
+        → meaning_by o bytes ≡ Ok ((told_of new.found.said, all), new.source.bytes) }
 {}

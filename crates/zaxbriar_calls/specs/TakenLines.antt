@@ -1,0 +1,130 @@
+-- What the calls do that give the lines of a picture one by one, as its stream is read.
+use Rattle.std.specs.Prelude.{◌≡◌, ◌⊎◌, ◌++◌, ◌<◌, ◌≤◌, ◌&&◌, ◌==◌, ℕ, Bool, List, []}
+use Rattle.std.specs.Prelude.{Box, Result, Ok, Err, drop, false, length, not, take, true}
+use Rattle.std.specs.Option.{MatchOption}
+use Rattle.std.specs.declared.alloc.Global.{Global}
+use Rattle.std.specs.declared.option.Option.{Option}
+use Rattle.std.specs.declared.option.Option.TheVariants.{None, Some}
+use Rattle.jpeg_bits.specs.declared.error.Error.{Error}
+use Rattle.jpeg_bits.specs.declared.error.Error.TheVariants as errors
+use Rattle.jpeg_decoder.specs.DecodesRows.{DecodesRows}
+use Rattle.jpeg_decoder.specs.Rows.{AreGiven, lines_in}
+use Rattle.jpeg_meaning.specs.States.{Decoding}
+use Rattle.zaxbriar_calls.specs.Boxed.{is_fitted}
+use Rattle.zaxbriar_calls.specs.Crops.{is_cropped}
+use Rattle.zaxbriar_calls.specs.Faults.{StandsFor, fault_code, with_passes}
+use Rattle.zaxbriar_calls.specs.Limits.{are_known}
+use Rattle.zaxbriar_calls.specs.Meanings.{ReadsHeader, as_described, no_picture}
+use Rattle.zaxbriar_calls.specs.ReadsInfo.{ReadsInfo}
+use Rattle.zaxbriar_calls.specs.declared.answers.Refusal.{Refusal}
+use Rattle.zaxbriar_calls.specs.declared.options.Options.{Options}
+use Rattle.zaxbriar_calls.specs.declared.picture.Picture.{Picture}
+use Rattle.zaxbriar_calls.specs.declared.rows.RowReader.{RowReader}
+
+-- whether no option asks for another arrangement of samples than the decoder's
+abbrev pub is_plain : Options → Bool
+is_plain o = o.stride == 0 && (o.layout == 0 && (o.bottom_up == 0 && (o.upright == 0
+    && (o.luma == 0 && (not (is_cropped o) && not (is_fitted o))))))
+
+-- whether all options exist for lines as they come
+abbrev pub are_for_rows : Options → Bool
+are_for_rows o = are_known o && is_plain o
+
+-- Lines are given of what lay ahead of a decoder, and these bytes of them were taken so far.
+pub record AreTaken (start : Decoding) (bytes : List ℕ) (r : RowReader) : Type 0 where
+  pub given : List ℕ
+  pub are : AreGiven start given r.rows.decoder r.rows.ahead
+  pub taken : given ≡ bytes ++ drop r.taken (lines_in r.rows.ahead)
+
+-- Memory isn't to blame for an error.
+abbrev pub IsOfStream : Error → Type 0
+IsOfStream errors.OutOfMemory = ⊥
+IsOfStream e = Unit {0}
+
+-- A reader whose header was read: the lines of its picture lie ahead.
+pub record BeginsRows (o : Options) (bytes : List ℕ) (picture : Picture) (r : RowReader) : Type 0
+  where
+    pub before : Decoding
+    pub known : before.source.known ≡ true
+    pub stream : before.source.bytes ≡ bytes
+    pub header : ReadsHeader o before r.rows.decoder
+    pub taken : AreTaken r.rows.decoder [] r
+    pub line_bytes : r.line_bytes ≡ picture.row_bytes
+    pub answer : r.answer ≡ 0
+
+-- After these bytes were taken, a line may be there, none is left, or the stream was refused.
+abbrev pub ReachesLine : Decoding → List ℕ → Result Bool Error → RowReader → Type 0
+ReachesLine start bytes (Ok true) new = AreTaken start bytes new
+ReachesLine start bytes (Ok false) new = DecodesRows start (Ok tt) new.rows.decoder bytes
+ReachesLine start bytes (Err e) new =
+    IsOfStream e → DecodesRows start (Err e) new.rows.decoder bytes
+
+-- A line was written before what the caller's memory had after it, and was taken.
+pub record PutsLine (old new : RowReader) (before after : List ℕ) : Type 0 where
+  pub taken : (start : Decoding) (bytes : List ℕ) → AreTaken start bytes old
+      → AreTaken start (bytes ++ take old.line_bytes after) new
+  pub rest : drop old.line_bytes after ≡ drop old.line_bytes before
+  pub line_bytes : new.line_bytes ≡ old.line_bytes
+  pub answer : new.answer ≡ old.answer
+
+-- ---- the outcomes of a call
+
+-- OK: the next line was written.
+pub record TakesOne (old new : RowReader) (before after : List ℕ) (code : ℕ) : Type 0 where
+  pub is : code ≡ 0
+  pub line : PutsLine old new before after
+
+-- END: all lines were taken, and the stream has no fault.
+pub record EndsLines (old new : RowReader) (before after : List ℕ) (code : ℕ) : Type 0 where
+  pub is : code ≡ 11
+  pub decodes : (start : Decoding) (bytes : List ℕ) → AreTaken start bytes old
+      → DecodesRows start (Ok tt) new.rows.decoder bytes
+  pub answer : new.answer ≡ 11
+  pub kept : after ≡ before
+
+-- The stream was refused, after the lines that were taken: by an error that names its fault, unless
+-- memory is to blame.
+pub record IsRefused (old new : RowReader) (before after : List ℕ) (code : ℕ) : Type 0 where
+  pub error : Error
+  pub refusal : Refusal
+  pub stands : StandsFor error new.rows.decoder.source.failed refusal
+  pub is : code ≡ with_passes new.rows.decoder.exceeded (fault_code refusal)
+  pub decodes : IsOfStream error → (start : Decoding) (bytes : List ℕ) → AreTaken start bytes old
+      → DecodesRows start (Err error) new.rows.decoder bytes
+  pub answer : new.answer ≡ code
+  pub kept : after ≡ before
+
+-- nothing happened
+abbrev pub Stays : RowReader → RowReader → List ℕ → List ℕ → Type 0
+Stays old new before after = (new ≡ old) × (after ≡ before)
+
+pub record TakesLine (old new : RowReader) (before after : List ℕ) (code : ℕ) : Type 0 where
+  -- A reader that has ended answers the same again.
+  pub over : (old.answer ≡ 0 → ⊥) → (code ≡ old.answer) × Stays old new before after
+  -- NO_ROOM: the caller's memory is shorter than a line.
+  pub short : old.answer ≡ 0 → length before < old.line_bytes
+      → (code ≡ 5) × Stays old new before after
+  pub takes : old.answer ≡ 0 → old.line_bytes ≤ length before
+      → TakesOne old new before after code
+      ⊎ (EndsLines old new before after code ⊎ IsRefused old new before after code)
+
+-- ---- the calls, with a reader that is kept between them
+
+-- A reader that was begun is kept, and without one none is.
+abbrev pub Keeps : Result (Box RowReader Global) Refusal → Result (Unit {0}) Refusal
+    → Option RowReader → Type 0
+Keeps (Ok reader) outcome kept = (outcome ≡ Ok tt) × (kept ≡ Some reader.value)
+Keeps (Err refusal) outcome kept = (outcome ≡ Err refusal) × (kept ≡ None)
+
+-- A reader is kept where a stream was begun. The picture is described as `read_info` describes it.
+pub record BeginsReading (o : Options) (bytes : List ℕ) (picture : Picture) (code : ℕ)
+    (kept : Option RowReader) : Type 0 where
+  pub described : are_for_rows o ≡ true → ReadsInfo o bytes picture code
+  pub unknown : are_for_rows o ≡ false → (code ≡ 6) × (as_described picture ≡ no_picture)
+  pub reader : MatchOption kept (code ≡ 0 → ⊥) (λ r. (code ≡ 0) × BeginsRows o bytes picture r)
+
+-- A line of the reader that is kept was taken. Where none is kept, it is BAD_ARGUMENT.
+abbrev pub TakesNext : Option RowReader → Option RowReader → List ℕ → List ℕ → ℕ → Type 0
+TakesNext old new before after code =
+    MatchOption old ((new ≡ None) × (after ≡ before) × (code ≡ 6))
+    (λ r. MatchOption new ⊥ (λ s. TakesLine r s before after code))

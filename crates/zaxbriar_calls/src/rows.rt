@@ -1,0 +1,201 @@
+//! The lines of the picture of a stream in memory, one by one, as the stream is read.
+ghost use Rattle.std.specs.Prelude.{◌≡◌, ◌+◌, ◌<◌, ◌≤◌, ℕ, IfOk, List, Ok, false};
+ghost use Rattle.std.specs.Prelude.{length, true};
+ghost use Rattle.jpeg_decoder.specs.Rows.{lines_in};
+ghost use Rattle.jpeg_meaning.specs.States.{Decoding};
+ghost use Rattle.zaxbriar_calls.specs.Limits.{are_known};
+ghost use Rattle.zaxbriar_calls.specs.Meanings.{no_picture};
+ghost use Rattle.zaxbriar_calls.specs.Outcomes.{DescribesStream};
+ghost use Rattle.zaxbriar_calls.specs.TakenLines.{AreTaken, BeginsRows, PutsLine, ReachesLine};
+ghost use Rattle.zaxbriar_calls.specs.TakenLines.{TakesLine, are_for_rows, is_plain};
+
+use crate::answers::{END, NO_ROOM, OK, Refusal, code_of, refusal_of, with_passes};
+use crate::counts::bytes_read;
+use crate::decoders::decoder_of;
+use crate::density::density_of;
+use crate::description::describe;
+use crate::options::{Options, are_known, is_cropped, is_fitted};
+use crate::picture::{NO_PICTURE, Picture};
+use jpeg_decoder::error::{Error, Result};
+use jpeg_decoder::{Rows, SliceReader};
+use std::alloc::Global;
+
+/// Gives the lines of a picture one by one.
+#[derive(Drop)]
+pub struct RowReader {
+    rows: Rows<SliceReader<'static>>,
+    /// How many bytes were taken of the lines that were read last.
+    taken: usize,
+    /// The bytes of a line.
+    line_bytes: usize,
+    /// What each call returns from now on: the number of the end or of a refusal, or OK while lines
+    /// may be left.
+    answer: u32,
+}
+
+/// Returns whether no option asks for another arrangement of samples than the decoder's.
+fn is_plain(options: &Options) -> bool
+    ensures { result ≡ is_plain options.now }
+{
+    options.stride == 0
+        && (options.layout == 0
+            && (options.bottom_up == 0
+                && (options.upright == 0
+                    && (options.luma == 0 && (!is_cropped(options) && !is_fitted(options))))))
+}
+
+/// Returns whether all options exist for lines as they come.
+pub fn are_for_rows(options: &Options) -> bool
+    ensures { result ≡ are_for_rows options.now }
+{
+    are_known(options) && is_plain(options)
+}
+
+/// Reads the header of a stream, and describes its picture, whose lines lie ahead then.
+fn begin_known(
+    alloc: Global,
+    jpeg: &'static [u8],
+    options: &Options,
+    picture: &mut Picture,
+) -> std::result::Result<RowReader, Refusal>
+    requires known { are_known options.now ≡ true }
+    ensures described { DescribesStream options.now jpeg.now picture.old picture.new result }
+    ensures begins { IfOk result (BeginsRows options.now jpeg.now picture.new) }
+{
+    let mut decoder = decoder_of(alloc, jpeg)?;
+    let density = density_of(jpeg);
+    let described = describe(&mut decoder, options, density, picture);
+    picture.stream_bytes = bytes_read(jpeg, &decoder);
+    match described {
+        Ok((_, lines)) => Ok(RowReader {
+            rows: Rows::new(decoder),
+            taken: 0,
+            line_bytes: lines.row_bytes as usize,
+            answer: OK,
+        }),
+        Err(refusal) => Err(refusal),
+    }
+}
+
+/// The same on the heap. A picture for whose reader there is no memory isn't described.
+pub fn begin(
+    alloc: Global,
+    jpeg: &'static [u8],
+    options: &Options,
+    picture: &mut Picture,
+) -> std::result::Result<Box<RowReader>, Refusal>
+    requires known { are_known options.now ≡ true }
+    requires none { picture.old ≡ no_picture }
+    ensures described { DescribesStream options.now jpeg.now no_picture picture.new result }
+    ensures begins { IfOk result (λ b. BeginsRows options.now jpeg.now picture.new b.value) }
+{
+    let reader = begin_known(alloc, jpeg, options, picture)?;
+    match Box::new(alloc, reader) {
+        Ok(reader) => Ok(reader),
+        Err(_) => {
+            *picture = NO_PICTURE;
+            Err(Refusal::Stream(Error::OutOfMemory))
+        }
+    }
+}
+
+impl RowReader {
+    /// Returns whether a line is there that wasn't taken.
+    fn has_line(&self) -> bool
+        ensures there { result ≡ true
+            → self.now.taken + self.now.line_bytes ≤ length (lines_in self.now.rows.ahead) }
+        ensures none { result ≡ false
+            → length (lines_in self.now.rows.ahead) < self.now.taken + self.now.line_bytes }
+    {
+        let bytes = self.rows.lines().len();
+        self.taken <= bytes && self.line_bytes <= bytes - self.taken
+    }
+
+    /// Returns whether all bytes were taken that were read.
+    fn is_empty(&self) -> bool
+        ensures all { result ≡ true → length (lines_in self.now.rows.ahead) ≤ self.now.taken }
+        ensures some { result ≡ false → self.now.taken < length (lines_in self.now.rows.ahead) }
+    {
+        self.rows.lines().len() <= self.taken
+    }
+
+    /// Reads on, after all lines were taken that are there, and returns whether there may be more.
+    fn read(&mut self) -> Result<bool>
+        ensures reaches { (start : Decoding) (bytes : List ℕ) → AreTaken start bytes self.old
+            → ReachesLine start bytes result self.new }
+        ensures line_bytes { self.new.line_bytes ≡ self.old.line_bytes }
+        ensures answer { self.new.answer ≡ self.old.answer }
+    {
+        if !self.is_empty() {
+            // A part of a line is left. It never is: all lines are whole, and of one length.
+            return Err(Error::OutOfMemory);
+        }
+        self.taken = 0;
+        self.rows.read()
+    }
+
+    /// Reads on until a line is there, and returns true, or to the end of the image.
+    fn reach_line(&mut self) -> Result<bool>
+        ensures reaches { (start : Decoding) (bytes : List ℕ) → AreTaken start bytes self.old
+            → ReachesLine start bytes result self.new }
+        ensures there { result ≡ Ok true → self.new.taken + self.new.line_bytes
+            ≤ length (lines_in self.new.rows.ahead) }
+        ensures line_bytes { self.new.line_bytes ≡ self.old.line_bytes }
+        ensures answer { self.new.answer ≡ self.old.answer }
+    {
+        for _ in 0..=u64::MAX {
+            if self.has_line() {
+                return Ok(true);
+            }
+            if !self.read()? {
+                return Ok(false);
+            }
+        }
+        // Lines have an end.
+        Err(Error::OutOfMemory)
+    }
+
+    /// Writes the next line, which is there.
+    fn put_line(&mut self, line: &mut [u8])
+        requires there { self.old.taken + self.old.line_bytes
+            ≤ length (lines_in self.old.rows.ahead) }
+        requires room { self.old.line_bytes ≤ length line.old }
+        ensures { PutsLine self.old self.new line.old line.new }
+    {
+        let size = self.line_bytes;
+        let lines = self.rows.lines();
+        let end = self.taken + size;
+        line[..size].copy_from_slice(&lines[self.taken..end]);
+        self.taken = end;
+    }
+
+    /// Writes the next line, and returns OK; or returns END after the last, the number of a refusal
+    /// of the stream, or NO_ROOM for too short a line, after which it is there still.
+    pub fn next_line(&mut self, line: &mut [u8]) -> u32
+        ensures { TakesLine self.old self.new line.old line.new result }
+    {
+        if self.answer != OK {
+            return self.answer;
+        }
+        if line.len() < self.line_bytes {
+            return NO_ROOM;
+        }
+        match self.reach_line() {
+            Ok(true) => {
+                self.put_line(line);
+                OK
+            }
+            Ok(false) => {
+                self.answer = END;
+                END
+            }
+            Err(error) => {
+                let decoder = self.rows.decoder();
+                let exceeded = decoder.has_exceeded_max_blocks();
+                let code = with_passes(exceeded, code_of(&refusal_of(decoder, error)));
+                self.answer = code;
+                code
+            }
+        }
+    }
+}
