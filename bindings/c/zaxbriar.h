@@ -8,8 +8,8 @@
  *         fail(picture.text);
  *
  * The calls keep no state: there is no handle to create or free, any thread may make any call at
- * any time, and a call frees all memory that it has allocated before it returns. Only for a picture
- * that is taken line by line there is one, zaxbriar_rows. Whatever the bytes of the stream are, a
+ * any time, and a call frees all memory that it has allocated before it returns. The exception is a
+ * picture that is taken line by line, by a zaxbriar_rows. Whatever the bytes of the stream are, a
  * call returns; it never aborts, prints, calls longjmp or blocks.
  *
  * The caller guarantees that
@@ -496,11 +496,11 @@ ZAXBRIAR_CALL zaxbriar_result zaxbriar_rows_new(const void *jpeg, size_t jpeg_si
  * or ZAXBRIAR_NO_ROOM if line_size is less than picture.row_bytes, in which case the next call
  * gives the line; or why the stream is refused, as zaxbriar_decode does.
  *
- * Whether a stream is right is only known at its end. Lines that were given before a refusal are
- * those that the stream codes before its fault; a program that may show no part of a damaged
- * picture holds them back until ZAXBRIAR_END. All of them together are the picture of
- * zaxbriar_decode. Beside its refusals there is one: if a segment after the first scan asks for
- * another colour transform than the one by which lines were given, the stream is
+ * Only at its end is a stream known to have no fault. Lines that were written before a refusal are
+ * those that the stream codes before its fault; a program that must not show a part of a damaged
+ * picture buffers them until ZAXBRIAR_END. All lines together are the picture of zaxbriar_decode.
+ * One refusal is not among those of zaxbriar_decode: if a segment after the first scan asks for
+ * another colour transform than the one by which lines were written, the stream is
  * ZAXBRIAR_MALFORMED.
  *
  * After ZAXBRIAR_END and a refusal each further call returns the same. */
