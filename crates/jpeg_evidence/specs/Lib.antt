@@ -6,6 +6,7 @@ pub mod Headers
 pub mod Strict
 pub mod FoundTables
 pub mod HeaderRules
+pub mod Departures
 pub mod Extremes
 pub mod CutStreams
 pub mod LongerStreams

@@ -50,6 +50,7 @@ ghost use Rattle.jpeg_evidence.specs.Walks.{at, walk};
 pub mod complete_rows;
 pub mod cut_images;
 pub mod cut_streams;
+pub mod departures;
 pub mod extremes;
 pub mod found_tables;
 pub mod header_rules;
