@@ -49,6 +49,17 @@ const zaxbriar_memory *zaxbriar_exchange_memory(const zaxbriar_memory *memory) {
     return before;
 }
 
+void *zaxbriar_take_block(size_t size) {
+    return in_use ? in_use->allocate(in_use->context, size) : malloc(size);
+}
+
+void zaxbriar_give_block(void *block) {
+    if (in_use)
+        in_use->release(in_use->context, block);
+    else
+        free(block);
+}
+
 static struct tried tried(void *block) {
     return (struct tried){block != NULL, block ? block : &nothing};
 }
@@ -81,9 +92,4 @@ struct tried rattle_realloc(void *block, size_t kept, size_t size, size_t align)
     return tried(realloc(block, size ? size : align));
 }
 
-void rattle_dealloc(void *block) {
-    if (in_use)
-        in_use->release(in_use->context, block);
-    else
-        free(block);
-}
+void rattle_dealloc(void *block) { zaxbriar_give_block(block); }

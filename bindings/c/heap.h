@@ -8,4 +8,8 @@
  * Returns those of before. */
 const zaxbriar_memory *zaxbriar_exchange_memory(const zaxbriar_memory *memory);
 
+/* Takes a block of that memory, as malloc does, and gives it back. */
+void *zaxbriar_take_block(size_t size);
+void zaxbriar_give_block(void *block);
+
 #endif

@@ -185,20 +185,30 @@ static const zaxbriar_memory *memory_in(const zaxbriar_rows *rows) {
     return rows->memory.allocate ? &rows->memory : NULL;
 }
 
-/* All zeros but for the functions, or a null pointer. */
+/* All zeros but for the functions, of the memory in use, or a null pointer. */
 static zaxbriar_rows *new_rows(const zaxbriar_memory *memory) {
-    zaxbriar_rows *rows =
-        memory ? memory->allocate(memory->context, sizeof *rows) : malloc(sizeof *rows);
+    zaxbriar_rows *rows = zaxbriar_take_block(sizeof *rows);
     if (rows) *rows = (zaxbriar_rows){.memory = memory ? *memory : (zaxbriar_memory){0}};
     return rows;
 }
 
-static void release_rows(zaxbriar_rows *rows) {
-    zaxbriar_memory memory = rows->memory;
-    if (memory.release)
-        memory.release(memory.context, rows);
+/* Begins to give lines, by the memory in use. */
+static uint32_t begin_rows(const void *jpeg, size_t jpeg_size, const zaxbriar_options *options,
+                           zaxbriar_rows **rows, zaxbriar_picture *picture) {
+    zaxbriar_options others = without_pointers(options);
+    zaxbriar_rows *begun = new_rows(memory_of(options));
+    if (!begun) {
+        memset(picture, 0, sizeof *picture);
+        strcpy(picture->text, "out of memory");
+        return ZAXBRIAR_NO_MEMORY;
+    }
+    uint32_t answer = zaxbriar_checked_rows_new(jpeg ? jpeg : &nothing, jpeg_size, &others,
+                                                &begun->kept, picture);
+    if (answer == ZAXBRIAR_OK)
+        *rows = begun;
     else
-        free(rows);
+        zaxbriar_give_block(begun);
+    return answer;
 }
 
 zaxbriar_result zaxbriar_rows_new(const void *jpeg, size_t jpeg_size,
@@ -210,21 +220,9 @@ zaxbriar_result zaxbriar_rows_new(const void *jpeg, size_t jpeg_size,
     *rows = NULL;
     const char *fault = fault_of_decoding(jpeg, jpeg_size, options);
     if (fault) return bad_argument(picture, fault);
-    zaxbriar_rows *begun = new_rows(memory_of(options));
-    if (!begun) {
-        memset(picture, 0, sizeof *picture);
-        strcpy(picture->text, "out of memory");
-        return with_places(ZAXBRIAR_NO_MEMORY, jpeg, jpeg_size, options);
-    }
-    zaxbriar_options others = without_pointers(options);
-    const zaxbriar_memory *before = zaxbriar_exchange_memory(memory_in(begun));
-    uint32_t answer = zaxbriar_checked_rows_new(jpeg ? jpeg : &nothing, jpeg_size, &others,
-                                                &begun->kept, picture);
+    const zaxbriar_memory *before = zaxbriar_exchange_memory(memory_of(options));
+    uint32_t answer = begin_rows(jpeg, jpeg_size, options, rows, picture);
     zaxbriar_exchange_memory(before);
-    if (answer == ZAXBRIAR_OK)
-        *rows = begun;
-    else
-        release_rows(begun);
     return with_places(answer, jpeg, jpeg_size, options);
 }
 
@@ -238,10 +236,11 @@ zaxbriar_result zaxbriar_rows_next(zaxbriar_rows *rows, void *line, size_t line_
 
 void zaxbriar_rows_free(zaxbriar_rows *rows) {
     if (!rows) return;
-    const zaxbriar_memory *before = zaxbriar_exchange_memory(memory_in(rows));
+    zaxbriar_memory memory = rows->memory;
+    const zaxbriar_memory *before = zaxbriar_exchange_memory(memory.allocate ? &memory : NULL);
     zaxbriar_checked_rows_free(&rows->kept);
+    zaxbriar_give_block(rows);
     zaxbriar_exchange_memory(before);
-    release_rows(rows);
 }
 
 /* Copies metadata of an image whose scans may go so many times over its picture. */

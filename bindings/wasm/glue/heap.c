@@ -24,6 +24,10 @@ const zaxbriar_memory *zaxbriar_exchange_memory(const zaxbriar_memory *memory) {
     return NULL;
 }
 
+void *zaxbriar_take_block(size_t size) { return malloc(size); }
+
+void zaxbriar_give_block(void *block) { free(block); }
+
 static struct tried tried(void *block) {
     return (struct tried){block != NULL, block ? block : &nothing};
 }
