@@ -6,37 +6,16 @@ import { mkdirSync, readFileSync, readdirSync, writeFileSync } from 'node:fs';
 import { join } from 'node:path';
 import { deflateSync } from 'node:zlib';
 import { load } from 'zaxbriar';
+import { SIGNATURE, chunk, headerOf } from './png.mjs';
 
 const CHANNELS = 3;
 const OPTIONS = { layout: 'rgb', upright: true, maxPixels: 500e6, maxBytes: 1e9 };
-const SIGNATURE = Buffer.from([0x89, 0x50, 0x4e, 0x47, 0x0d, 0x0a, 0x1a, 0x0a]);
 
 const zaxbriar = await load();
 
-function crcOf(bytes) {
-    let crc = ~0;
-    for (const byte of bytes) {
-        crc ^= byte;
-        for (let bit = 0; bit < 8; bit++) crc = (crc >>> 1) ^ (crc & 1 ? 0xedb88320 : 0);
-    }
-    return ~crc >>> 0;
-}
-
-/* A chunk of a PNG file: its length, its type and data, and their checksum. */
-function chunk(type, data) {
-    const checked = Buffer.concat([Buffer.from(type), data]);
-    const bytes = Buffer.alloc(checked.length + 8);
-    bytes.writeUInt32BE(data.length, 0);
-    checked.copy(bytes, 4);
-    bytes.writeUInt32BE(crcOf(checked), bytes.length - 4);
-    return bytes;
-}
-
 /* A picture of red, green and blue as a PNG file. */
-function pngOf({ width, height }, pixels) {
-    const header = Buffer.from([0, 0, 0, 0, 0, 0, 0, 0, 8, 2, 0, 0, 0]);
-    header.writeUInt32BE(width, 0);
-    header.writeUInt32BE(height, 4);
+function pngOf(picture, pixels) {
+    const { width, height } = picture;
     const lineBytes = width * CHANNELS;
     // (before each line stands the number of its filter, which is none)
     const lines = Buffer.alloc(height * (lineBytes + 1));
@@ -44,7 +23,7 @@ function pngOf({ width, height }, pixels) {
         const line = pixels.subarray(y * lineBytes, (y + 1) * lineBytes);
         lines.set(line, y * (lineBytes + 1) + 1);
     }
-    const chunks = [chunk('IHDR', header), chunk('IDAT', deflateSync(lines))];
+    const chunks = [headerOf(picture), chunk('IDAT', deflateSync(lines))];
     return Buffer.concat([SIGNATURE, ...chunks, chunk('IEND', Buffer.alloc(0))]);
 }
 

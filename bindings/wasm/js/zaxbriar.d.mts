@@ -248,6 +248,8 @@ export class ZaxbriarError extends Error {
      * stands for more; of `transform` 6 for YCC, and 7 for RGB. Other features have none.
      */
     readonly featureArgument?: number;
+    /** Of an iterator over lines: how many it had given before. */
+    readonly lines?: number;
 }
 
 /** What decoding returns. */
@@ -284,6 +286,29 @@ export interface Plane {
 export interface DecodedPlanes {
     picture: Picture;
     planes: Plane[];
+}
+
+/** The options of `rows`: the others arrange samples. */
+export type RowsOptions = PlanesOptions & Pick<Options, 'colorTransform'>;
+
+/**
+ * The lines of a picture, from the top, each of them `picture.rowBytes` bytes in an array of its
+ * own, outside the module's memory. The stream and the decoder's state stay in that memory until
+ * the last line was given, `next` has thrown, or `return` was called, as `for` does where it is
+ * left early; where nothing of these happens, until the iterator is collected.
+ */
+export interface Rows extends IterableIterator<Data> {
+    readonly picture: Picture;
+    /** How many lines were given. */
+    readonly lines: number;
+    /**
+     * Gives the next line. `done` says that all were given and that the stream has no fault; only
+     * then are the lines known to be right. A fault after some lines is thrown as a ZaxbriarError
+     * with how many these are, `lines`; they are those that the stream codes before it.
+     */
+    next(): IteratorResult<Data, undefined>;
+    /** Frees what the lines take in the module's memory. */
+    return(): IteratorResult<Data, undefined>;
 }
 
 /** Compiles the module, for several decoders; by default the one that lies beside zaxbriar.mjs. */
@@ -329,6 +354,18 @@ export class Zaxbriar {
      * are made, which takes at most as much memory once more.
      */
     decodePlanes(jpeg: Bytes, options?: PlanesOptions): DecodedPlanes;
+
+    /**
+     * Describes the picture, and gives its lines one by one while the stream is read, for a program
+     * that needs no whole picture in memory: `for (const line of zaxbriar.rows(jpeg)) {..}`. If the
+     * first scan has all components of a sequential frame, as in most files, two rows of MCUs are
+     * in memory at most, whatever the height is. Other streams are read to their end for the first
+     * line. The lines are those of `decode` with the same options, and so are the limits.
+     *
+     * Several pictures can be read at a time, and other calls made in between, but `reset`, or
+     * a call that traps, ends them: `next` then throws an Error.
+     */
+    rows(jpeg: Bytes, options?: RowsOptions): Rows;
 
     /**
      * Returns Exif data from the TIFF header on, XMP data or an ICC profile, of the segments before

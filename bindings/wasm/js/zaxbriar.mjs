@@ -59,6 +59,8 @@ export const OPTIONS = [
 ];
 /* What decodePlanes takes: the others arrange or convert samples. */
 const PLANES_OPTIONS = ['scale', 'minWidth', 'minHeight', 'maxPixels', 'maxBytes', 'maxPasses'];
+/* What rows takes, for the same reason. */
+const ROWS_OPTIONS = [...PLANES_OPTIONS, 'colorTransform'];
 /* The options whose values are objects, and the members of these. */
 const PARTS = { crop: ['left', 'top', 'width', 'height'], within: ['width', 'height'] };
 const MOST_SIDE = 65535;
@@ -75,6 +77,7 @@ const NO_ROOM = 5;
 const NO_DATA = 7;
 const TOO_LARGE = 8;
 const PARTIAL = 9;
+const END = 11;
 const CODES = [
     'OK',
     'MALFORMED',
@@ -247,10 +250,60 @@ export async function load(source, options) {
     return new Zaxbriar(await compile(source), options);
 }
 
+/* Frees what lines take in the module's memory where nobody can ask for the next one any more. */
+const dropped = new FinalizationRegistry((free) => free());
+
+/* The lines of a picture, as an iterator. `read` gives the next one, or null after the last; `free`
+ * frees what they take in the module's memory. */
+class Rows {
+    #read;
+    #free;
+    #lines = 0;
+
+    constructor(picture, read, free) {
+        this.picture = picture;
+        this.#read = read;
+        this.#free = free;
+        dropped.register(this, free, this);
+    }
+
+    get lines() {
+        return this.#lines;
+    }
+
+    next() {
+        if (!this.#read) return { value: undefined, done: true };
+        try {
+            const value = this.#read();
+            if (!value) return this.return();
+            this.#lines++;
+            return { value, done: false };
+        } catch (error) {
+            this.return();
+            if (!(error instanceof ZaxbriarError)) throw error;
+            error.message += `, after ${this.#lines} lines`;
+            throw Object.assign(error, { lines: this.#lines });
+        }
+    }
+
+    return(value) {
+        dropped.unregister(this);
+        this.#free?.();
+        this.#read = this.#free = null;
+        return { value, done: true };
+    }
+
+    [Symbol.iterator]() {
+        return this;
+    }
+}
+
 export class Zaxbriar {
     #module;
     #maxMemory;
     #exports;
+    /* How many instances there were. */
+    #instances = 0;
     /* Whether the last call into the instance has returned. */
     #isWhole = false;
 
@@ -282,6 +335,7 @@ export class Zaxbriar {
     #start() {
         if (this.#isWhole) return;
         this.#exports = new WebAssembly.Instance(this.#module).exports;
+        this.#instances++;
         this.#isWhole = true;
         if (this.#maxMemory) this.#call('zaxbriar_limit_memory', BigInt(this.#maxMemory));
     }
@@ -290,22 +344,34 @@ export class Zaxbriar {
         return new Uint8Array(this.#exports.memory.buffer, at, count);
     }
 
-    /* Runs `body`, which is given a function that allocates, and frees what that has allocated. */
-    #with(body) {
+    /* A function that allocates, one that tells whether the instance in which it does is there, and
+     * one that frees all that was allocated. */
+    #blocks() {
         this.#start();
+        const instance = this.#instances;
         const blocks = [];
+        const isThere = () => this.#isWhole && this.#instances === instance;
         const allocate = (size) => {
             const at = Number(this.#call('zaxbriar_malloc', BigInt(size)));
             if (!at) throw new ZaxbriarError(NO_MEMORY, `no memory for ${size} bytes`);
             blocks.push(at);
             return at;
         };
+        const free = () => {
+            while (blocks.length > 0 && isThere()) {
+                this.#call('zaxbriar_free', BigInt(blocks.pop()));
+            }
+        };
+        return { allocate, isThere, free };
+    }
+
+    /* Runs `body`, which is given a function that allocates, and frees what that has allocated. */
+    #with(body) {
+        const { allocate, free } = this.#blocks();
         try {
             return body(allocate);
         } finally {
-            while (blocks.length > 0 && this.#isWhole) {
-                this.#call('zaxbriar_free', BigInt(blocks.pop()));
-            }
+            free();
         }
     }
 
@@ -456,6 +522,48 @@ export class Zaxbriar {
         });
     }
 
+    rows(jpeg, options = {}) {
+        checkNames(options, ROWS_OPTIONS);
+        const { allocate, isThere, free } = this.#blocks();
+        try {
+            const stream = this.#stream(allocate, jpeg, options, LIMITS);
+            const at = allocate(PICTURE_BYTES);
+            const { rowBytes } = this.#describe(stream, at, options);
+            const line = allocate(rowBytes);
+            const handle = allocate(8);
+            const begun = this.#call('zaxbriar_rows_new', ...stream, ...[handle, at].map(BigInt));
+            this.#check(begun, at);
+            const view = new DataView(this.#exports.memory.buffer);
+            const rows = view.getBigUint64(handle, true);
+            const read = () => {
+                if (!isThere()) throw new Error('the memory of the decoder was given back');
+                return this.#nextRow(rows, line, rowBytes);
+            };
+            const end = () => {
+                if (isThere()) this.#call('zaxbriar_rows_free', rows);
+                free();
+            };
+            return new Rows(this.#picture(at), read, end);
+        } catch (error) {
+            free();
+            throw error;
+        }
+    }
+
+    /* The next line, outside the module's memory; null: there is none, and the stream is whole. */
+    #nextRow(rows, line, size) {
+        const answer = this.#call('zaxbriar_rows_next', rows, BigInt(line), BigInt(size));
+        if (answer === END) return null;
+        if (answer !== OK) throw this.#named(answer);
+        return this.#bytes(line, size).slice();
+    }
+
+    /* The error of an answer to a call that gives no other text. */
+    #named(answer) {
+        const name = Number(this.#call('zaxbriar_answer_name', answer));
+        return new ZaxbriarError(answer, this.#text(name, 64));
+    }
+
     /* Returns the data that a call of the module copies, or null. `kind` are its words between
      * those of the stream and those of the memory for the data. */
     #copied(jpeg, name, ...kind) {
@@ -478,10 +586,7 @@ export class Zaxbriar {
             if (answer !== OK && answer <= TRUNCATED) {
                 this.#readHeader([...stream, 0n], allocate(PICTURE_BYTES));
             }
-            if (answer !== OK) {
-                const name = Number(this.#call('zaxbriar_answer_name', answer));
-                throw new ZaxbriarError(answer, this.#text(name, 32));
-            }
+            if (answer !== OK) throw this.#named(answer);
             return this.#bytes(data, found()).slice();
         });
     }

@@ -1,7 +1,7 @@
 /* node examples.mjs node|chromium|firefox FOLDER: the examples of dist/examples by their pixels:
- * thumbnails in Node; in a browser these files, and the images of a page, by examples/images.mjs
- * and by the service worker, which passes other files on as they come. FOLDER takes files and
- * EXAMPLE.BROWSER.png. */
+ * thumbnails and PNG files in Node; in a browser the thumbnails, and the images of a page, by
+ * examples/images.mjs and by the service worker, which passes other files on as they come. FOLDER
+ * takes files and EXAMPLE.BROWSER.png. */
 import assert from 'node:assert/strict';
 import { spawnSync } from 'node:child_process';
 import {
@@ -83,20 +83,23 @@ function inPieces(path, bytes) {
 /* The picture of a file, upright. */
 const uprightOf = (jpeg, options) => turned(zaxbriar.decode(jpeg, options));
 
-/* A PNG file of 8 bits without filters, as red, green and blue. */
+/* A PNG file without filters, as its samples. */
 function readPng(path) {
     const file = readFileSync(path);
     assert.equal(file.toString('latin1', 1, 4), 'PNG');
     const chunks = {};
     for (let at = 8; at < file.length; ) {
         const length = file.readUInt32BE(at);
-        chunks[file.toString('latin1', at + 4, at + 8)] = file.subarray(at + 8, at + 8 + length);
+        const data = file.subarray(at + 8, at + 8 + length);
+        (chunks[file.toString('latin1', at + 4, at + 8)] ??= []).push(data);
         at += 12 + length;
     }
-    const [width, height] = [chunks.IHDR.readUInt32BE(0), chunks.IHDR.readUInt32BE(4)];
-    const lines = inflateSync(chunks.IDAT);
-    assert.equal(lines.length, height * (1 + 3 * width));
-    const pixels = lines.filter((_, at) => at % (1 + 3 * width) !== 0);
+    const header = chunks.IHDR[0];
+    const [width, height] = [header.readUInt32BE(0), header.readUInt32BE(4)];
+    const lineBytes = (width * header[8] * { 0: 1, 2: 3 }[header[9]]) / 8;
+    const lines = inflateSync(Buffer.concat(chunks.IDAT));
+    assert.equal(lines.length, height * (1 + lineBytes));
+    const pixels = lines.filter((_, at) => at % (1 + lineBytes) !== 0);
     return { width, height, pixels: new Uint8ClampedArray(pixels) };
 }
 
@@ -138,6 +141,40 @@ function checkThumbnails() {
     assert.deepEqual(halfOf('turned.jpg'), half);
     assert.equal(smallOf('turned.jpg').width, 10);
     console.log(`thumbnails: ${Object.keys(pictures).length} files by their pixels, 2 refused`);
+}
+
+/* Runs convert.mjs on bytes, and gives the picture that it has written, or what it has said. */
+function converted(bytes) {
+    const output = `${folder}/converted.png`;
+    writeFileSync(`${folder}/converted.jpg`, bytes);
+    rmSync(output, { force: true });
+    const words = [pathOf('../dist/examples/convert.mjs'), `${folder}/converted.jpg`, output];
+    const { status, stderr } = spawnSync(process.execPath, words, { encoding: 'utf8' });
+    const wasWritten = readdirSync(folder).filter((name) => name.startsWith('converted.png'));
+    assert.deepEqual(wasWritten, status ? [] : ['converted.png'], stderr);
+    assert.equal(stderr === '', status === 0);
+    return status ? stderr : readPng(output);
+}
+
+/* The samples of a file as PNG has them, in its order of bytes. */
+function samplesOf(jpeg) {
+    const { picture, pixels } = zaxbriar.decode(jpeg);
+    if (picture.sampleBytes === 2) Buffer.from(pixels.buffer).swap16();
+    return { width: picture.width, height: picture.height, pixels };
+}
+
+/* Files as they are stored are there by their samples, line by line; and others not at all. */
+function checkConverted() {
+    const photograph = readFileSync(pathOf('../../../examples/rocket.jpg'));
+    const deep = streamOf('random', 'seed 23, lossless');
+    assert.equal(zaxbriar.readInfo(deep).precision, 16);
+    const files = [...Object.values(ORDINARY), LOSSLESS['grey.jpg'], photograph, deep];
+    for (const jpeg of files) assert.deepEqual(converted(jpeg), samplesOf(jpeg));
+    const half = photograph.subarray(0, photograph.length >> 1);
+    assert.match(converted(half), /: TRUNCATED: .*, after 264 lines\n$/);
+    assert.match(converted(REFUSED['none.jpg']), /: MALFORMED: /);
+    assert.match(converted(LOSSLESS['ink.jpg']), /: no PNG file has 4 components of 16 bits\n$/);
+    console.log(`convert: ${files.length} files by their samples, 3 refused`);
 }
 
 /* A site with the package, the pictures and a page for each example. */
@@ -299,5 +336,8 @@ async function checkBrowser() {
 
 rmSync(folder, { recursive: true, force: true });
 mkdirSync(folder, { recursive: true });
-if (browser === 'node') checkFrames();
+if (browser === 'node') {
+    checkFrames();
+    checkConverted();
+}
 await (browser === 'node' ? checkThumbnails() : checkBrowser());

@@ -1,6 +1,6 @@
 /* node suite.mjs: the streams of tests/decoder by the module, whose answers have to be
- * those of the suite: pictures, refusals with their texts and features, the parts of streams before a
- * fault, sizes at scales, metadata, bytes left unread.
+ * those of the suite: pictures, refusals with their texts and features, the parts of streams before
+ * a fault, the lines before one, sizes at scales, metadata, bytes left unread.
  *
  * Not asked is what the calls of JavaScript don't have: the original crate's limit, decoding into a
  * caller's memory, the transforms that bindings/c/zaxbriar.h has no number for, the transform of a
@@ -79,6 +79,28 @@ function isPartial({ picture, pixels, wholeRows, fault }, answer) {
     return isFault && wholeRows === Number(rows) && isPicture({ picture, pixels }, whole);
 }
 
+/* The lines of a picture, and why there are no more; or why there are none. */
+function linesOf(stream, options) {
+    const { value: rows, ...refused } = outcome(() => zaxbriar.rows(stream, options));
+    if (!rows) return { ...refused, lines: [] };
+    const lines = [];
+    const { error } = outcome(() => {
+        for (const line of rows) lines.push(line);
+    });
+    if (error && error.lines !== lines.length) throw new Error(`${error.lines} lines?`);
+    return { picture: rows.picture, lines, error };
+}
+
+/* Whether lines, and the kind of a refusal after them, are those of an answer. */
+function isRows({ picture, lines, error }, answer) {
+    const pixels = Buffer.concat(lines);
+    if (!error) return isPicture({ picture, pixels: new Uint8ClampedArray(pixels) }, answer);
+    const [, text, count, words] = answer.match(/^(refused: .*?)(?:, lines (\d+)(.*))?$/s) ?? [];
+    const [code] = KINDS.find(([, kind]) => text?.startsWith(kind)) ?? [];
+    const isSame = lines.length === Number(count ?? 0) && pixels.equals(bytesOf(words ?? ''));
+    return error.code === code && isSame;
+}
+
 function isMetadata(found, answer) {
     if (found === null) return answer === 'none';
     const [count, , ...words] = answer.split(' ');
@@ -94,6 +116,10 @@ function* answered({ stream, calls, answers: line }) {
     for (const [call, ...words] of calls) {
         if (call === 'transform' && TRANSFORMS[words[0]] && !decoded && !isRead) {
             options.colorTransform = TRANSFORMS[words[0]];
+            continue;
+        }
+        if (call === 'luma') {
+            options.luma = true;
             continue;
         }
         if (call === 'cuts') {
@@ -119,6 +145,14 @@ function* answered({ stream, calls, answers: line }) {
                 ? isPicture(decoded.value, answer)
                 : isRefusal(decoded, answer, call === 'refusal');
             yield [call, answer, isRight];
+        } else if (call === 'rows') {
+            // (lines have no luma alone)
+            if (decoded || options.luma) {
+                yield [call, answer, null];
+                return;
+            }
+            decoded = linesOf(stream, options);
+            yield [call, answer, isRows(decoded, answer)];
         } else if (call === 'partial') {
             if (decoded) {
                 yield [call, answer, null];

@@ -4,7 +4,7 @@ import type { Area, AsyncOptions, AsyncPartialOptions, Bytes } from '../dist/ind
 import type { DecoderOptions } from '../dist/index.mjs';
 import type { DecodingOptions, DecodedPicture, Density, Feature } from '../dist/index.mjs';
 import type { Format, Layout, Options, PartialOptions, PartialPicture } from '../dist/index.mjs';
-import type { Picture, Sampling, Size, Source } from '../dist/index.mjs';
+import type { Picture, Rows, RowsOptions, Sampling, Size, Source } from '../dist/index.mjs';
 
 // Sources, and the bytes of streams.
 const sources: Source[] = ['zaxbriar.wasm', new URL('file:///zaxbriar.wasm'), new Uint8Array(8)];
@@ -139,6 +139,20 @@ const wide: Uint16Array = planes[0].data;
 // @ts-expect-error
 other.decodePlanes(streams[0], { layout: 'rgba' });
 
+// Lines, of a stream that has no fault where all of them are there.
+const lines: Rows = zaxbriar.rows(streams[0], { scale: 2, colorTransform: 'none', maxPasses: 20 });
+const lineBytes: number = lines.picture.rowBytes;
+for (const line of lines) if (line.length === lineBytes) lines.return();
+const list: Uint8Array[] = [...other.rows(streams[1])];
+const next: IteratorResult<Uint8Array, undefined> = lines.next();
+const bounds: RowsOptions = { maxBytes: 1e9 };
+// @ts-expect-error
+lines.lines = 0;
+// @ts-expect-error
+other.rows(streams[0], { upright: true });
+// @ts-expect-error
+for await (const line of other.rows(streams[0])) line.width;
+
 // Metadata, which may not be there.
 const profile = other.metadata(streams[0], 'icc');
 const file = new Blob(profile ? [profile] : []);
@@ -159,7 +173,7 @@ try {
 } catch (error) {
     if (!(error instanceof ZaxbriarError) || error.code === 'TOO_LARGE') throw error;
     feature = error.feature;
-    bits = error.feature === 'precision' ? error.featureArgument : 8;
+    bits = error.feature === 'precision' ? error.featureArgument : error.lines;
     // @ts-expect-error
     if (error.code === 'TOO_BIG') throw error;
     // @ts-expect-error
@@ -174,4 +188,4 @@ zaxbriar.memoryBytes = 0;
 const version: string = zaxbriar.version;
 export { bits, columns, data, described, feature, fetched, file, format, ink, layout, length };
 export { fault, first, inches, known, plain, planes, profile, rows, samples, strict, told };
-export { begun, complete, elsewhere, fits, piece, tiles, version };
+export { begun, bounds, complete, elsewhere, fits, list, next, piece, tiles, version };
