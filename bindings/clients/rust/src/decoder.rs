@@ -1,10 +1,11 @@
 use crate::color::{transform_number, ColorTransform};
-use crate::error::{Error, Result, UnsupportedFeature};
+use crate::error::{Error, Result};
 use crate::info::{size_of, Area, Density, ImageInfo, Scale};
 use crate::layout::{Layout, AS_STORED};
 use crate::library::{self, Answer, Joined, Metadata, Number, Options, Part, Picture, Refusal};
-use crate::stream::{end_of_bytes, Failure, Stream};
-use std::io::{self, Read};
+use crate::rows::Rows;
+use crate::stream::{Failure, Stream};
+use std::io::Read;
 use std::ops::Range;
 
 /// The least limit on the bytes of a stream that a limit on memory sets: those of a small picture
@@ -35,7 +36,7 @@ pub struct PartialPicture<E = u8> {
 
 /// A decoder of the JPEG stream that a reader gives.
 ///
-/// It asks the reader for single bytes, so give it a [`BufReader`](io::BufReader) over a file. A
+/// It asks the reader for single bytes, so give it a [`BufReader`](std::io::BufReader) over a file. A
 /// reader may be lent (`&mut reader`): after [`decode`](Decoder::decode) it stands right after the
 /// image.
 ///
@@ -152,7 +153,7 @@ impl<R: Read> Decoder<R> {
         if is_above_limit(&outcome, &failure) {
             self.stage = Stage::Fresh;
         }
-        self.picture = Some(outcome.map_err(|refusal| error_of(refusal, failure))?);
+        self.picture = Some(outcome.map_err(|refusal| Error::of(refusal, failure))?);
         self.stage = Stage::HeaderRead;
         Ok(())
     }
@@ -356,6 +357,49 @@ impl<R: Read> Decoder<R> {
         layout: L,
     ) -> Result<PartialPicture<L::Element>> {
         self.decode_partial_by(layout.number())
+    }
+
+    /// Reads the stream up to the end of the image, and nothing after it, and returns the picture's
+    /// rows one by one, from the top, as they are decoded: for a program that needs no whole picture
+    /// in memory.
+    ///
+    /// If the first scan has all components of a sequential frame, as in most files, two rows of
+    /// MCUs are in memory at most beside the bytes of the stream, whatever the height is. Other
+    /// streams are decoded to their end for the first row.
+    ///
+    /// The rows are together what [`decode`](Decoder::decode) returns, at the scale and by the
+    /// colour transform that are set, and the limits are the same. Another order of rows, an
+    /// upright picture, its luma, a part of it or a size to fit within are an [`Error::Format`],
+    /// which changes nothing. Nor does one by a limit; otherwise the decoder decodes no more.
+    ///
+    /// ```
+    /// # let jpeg = &std::fs::read("image/tests/colour.jpg").unwrap()[..];
+    /// use zaxbriar::Decoder;
+    ///
+    /// let mut decoder = Decoder::new(jpeg);
+    /// let rows = decoder.rows()?;
+    /// let mut red = 0;
+    /// for row in rows {
+    ///     red += row?.chunks(3).map(|pixel| u64::from(pixel[0])).sum::<u64>();
+    /// }
+    /// # let pixels = Decoder::new(jpeg).decode()?;
+    /// # assert_eq!(red, pixels.chunks(3).map(|pixel| u64::from(pixel[0])).sum());
+    /// # Ok::<(), zaxbriar::Error>(())
+    /// ```
+    pub fn rows(&mut self) -> Result<Rows<'_>> {
+        if !self.options.is_plain() {
+            let text = "rows are given as they are stored, of the whole picture, and from the top";
+            return Err(Error::Format(text.into()));
+        }
+        let (options, picture) = self.begin(AS_STORED)?;
+        let failure = self.stream.read_image(&mut self.reader);
+        if matches!(failure, Some(Failure::Limit(_))) {
+            return Err(Error::of(Refusal::Truncated, failure));
+        }
+        self.stage = Stage::Decoded;
+        self.metadata_end = self.stream.metadata_end();
+        self.metadata = library::find_metadata(&self.stream.bytes()[..self.metadata_end]);
+        Rows::new(self.stream.bytes(), &options, &picture, failure)
     }
 
     /// Sets whether a picture's rows are returned from the bottom, the last one first, as BMP files
@@ -625,7 +669,7 @@ impl<R: Read> Decoder<R> {
     /// Describes the picture by options. The header was read.
     fn describe(&self, options: &Options) -> Result<Picture> {
         let answer = library::read_info(self.stream.bytes(), options);
-        answer.outcome.map_err(refused)
+        answer.outcome.map_err(Error::refused)
     }
 
     fn refuse_above_limits(&self, picture: &Picture) -> Result<()> {
@@ -653,19 +697,13 @@ impl<R: Read> Decoder<R> {
             pixels,
             // No picture has more rows than 65,535.
             whole_rows: part.whole_rows as u16,
-            fault: part.fault.map(|fault| error_of(fault, failure)),
+            fault: part.fault.map(|fault| Error::of(fault, failure)),
         })
     }
 
-    /// Reads the rest of the image, and decodes it by a call into a layout, whose elements are `N`.
-    /// Returns the picture, what the call has returned besides, and why the reader gave no more
-    /// bytes, if it didn't.
-    fn decode_by<N: Number, T>(
-        &mut self,
-        layout: u8,
-        call: impl Fn(&[u8], &Options, &mut [u8]) -> Answer<T>,
-        lacks_bytes: impl Fn(&Outcome<T>) -> bool,
-    ) -> Result<(Vec<N>, T, Option<Failure>)> {
+    /// Reads the header, and returns by which options the picture is decoded into a layout, and how
+    /// these describe it, unless it was decoded already or can't be.
+    fn begin(&mut self, layout: u8) -> Result<(Options, Picture)> {
         self.read_info()?;
         let stored = match (self.stage, self.picture) {
             (Stage::HeaderRead, Some(picture)) => picture,
@@ -680,8 +718,21 @@ impl<R: Read> Decoder<R> {
         };
         self.refuse_above_limits(&picture)?;
         options.transform = transform_number(self.color_transform, &picture, &options)?;
+        Ok((options, picture))
+    }
+
+    /// Reads the rest of the image, and decodes it by a call into a layout, whose elements are `N`.
+    /// Returns the picture, what the call has returned besides, and why the reader gave no more
+    /// bytes, if it didn't.
+    fn decode_by<N: Number, T>(
+        &mut self,
+        layout: u8,
+        call: impl Fn(&[u8], &Options, &mut [u8]) -> Answer<T>,
+        lacks_bytes: impl Fn(&Outcome<T>) -> bool,
+    ) -> Result<(Vec<N>, T, Option<Failure>)> {
+        let (options, picture) = self.begin(layout)?;
         self.stage = Stage::Failed;
-        let mut pixels = library::zeros(picture.size).map_err(refused)?;
+        let mut pixels = library::zeros(picture.size).map_err(Error::refused)?;
         let failure = self.stream.read_image(&mut self.reader);
         let call = |bytes: &[u8]| call(bytes, &options, library::bytes_of(&mut pixels));
         let (outcome, failure) = self.ask(failure, lacks_bytes, call);
@@ -693,7 +744,7 @@ impl<R: Read> Decoder<R> {
                 self.stage = Stage::Decoded;
                 Ok((pixels, returned, failure))
             }
-            Err(refusal) => Err(error_of(refusal, failure)),
+            Err(refusal) => Err(Error::of(refusal, failure)),
         }
     }
 
@@ -741,38 +792,4 @@ fn shows_cut(outcome: &Outcome<Part>) -> bool {
         Err(refusal) => Some(refusal),
     };
     matches!(fault, Some(Refusal::Truncated))
-}
-
-/// Returns the error for a refusal that is no fault of a reader.
-fn refused(refusal: Refusal) -> Error {
-    error_of(refusal, None)
-}
-
-/// Returns the error for a refusal. Where the stream ends too soon it is why no more was read.
-fn error_of(refusal: Refusal, failure: Option<Failure>) -> Error {
-    match refusal {
-        Refusal::Malformed(text) => {
-            let text = text.strip_prefix("invalid JPEG format: ").unwrap_or(&text);
-            Error::Format(text.to_string())
-        }
-        Refusal::Unsupported {
-            feature,
-            argument,
-            text,
-        } => UnsupportedFeature::numbered(feature, argument)
-            .map_or(Error::Format(text), Error::Unsupported),
-        Refusal::Truncated => match failure {
-            Some(Failure::Reader(error)) => Error::Io(error),
-            Some(Failure::Limit(max)) => Error::Format(format!(
-                "more than {max} bytes in the stream (set_max_stream_bytes)"
-            )),
-            None => Error::Io(end_of_bytes()),
-        },
-        Refusal::NoMemory => Error::Io(io::ErrorKind::OutOfMemory.into()),
-        Refusal::TooLarge(bytes) => {
-            Error::Format(format!("{bytes} bytes for decoding, more than the limit"))
-        }
-        Refusal::Misfit(text) => Error::Format(text),
-        Refusal::Call(text) => Error::Internal(text.into()),
-    }
 }

@@ -1,3 +1,5 @@
+use crate::library::Refusal;
+use crate::stream::{end_of_bytes, Failure};
 use crate::ColorTransform;
 use std::error::Error as StdError;
 use std::{fmt, io, result};
@@ -61,6 +63,42 @@ pub enum Error {
     Io(io::Error),
     /// The decoder has failed before, or has returned its picture.
     Internal(Box<dyn StdError + Send + Sync + 'static>),
+}
+
+impl Error {
+    /// Returns the error for a refusal that is no fault of a reader.
+    pub(crate) fn refused(refusal: Refusal) -> Error {
+        Error::of(refusal, None)
+    }
+
+    /// Returns the error for a refusal. Where the stream ends too soon it is why no more was read.
+    pub(crate) fn of(refusal: Refusal, failure: Option<Failure>) -> Error {
+        match refusal {
+            Refusal::Malformed(text) => {
+                let text = text.strip_prefix("invalid JPEG format: ").unwrap_or(&text);
+                Error::Format(text.to_string())
+            }
+            Refusal::Unsupported {
+                feature,
+                argument,
+                text,
+            } => UnsupportedFeature::numbered(feature, argument)
+                .map_or(Error::Format(text), Error::Unsupported),
+            Refusal::Truncated => match failure {
+                Some(Failure::Reader(error)) => Error::Io(error),
+                Some(Failure::Limit(max)) => Error::Format(format!(
+                    "more than {max} bytes in the stream (set_max_stream_bytes)"
+                )),
+                None => Error::Io(end_of_bytes()),
+            },
+            Refusal::NoMemory => Error::Io(io::ErrorKind::OutOfMemory.into()),
+            Refusal::TooLarge(bytes) => {
+                Error::Format(format!("{bytes} bytes for decoding, more than the limit"))
+            }
+            Refusal::Misfit(text) => Error::Format(text),
+            Refusal::Call(text) => Error::Internal(text.into()),
+        }
+    }
 }
 
 impl fmt::Display for Error {

@@ -17,7 +17,7 @@
 //! ```
 //!
 //! [`Decoder::decode_as`] returns any picture in one of the layouts of the module [`layout`], such
-//! as RGBA or 16 bits a sample.
+//! as RGBA or 16 bits a sample, and [`Decoder::rows`] its rows one by one.
 //!
 //! # What is proved
 //!
@@ -26,8 +26,8 @@
 //! ITU-T T.81. This crate is only tested. It reads a stream into memory, makes the calls, and names
 //! their errors. Two parts of it aren't a matter of types:
 //!
-//! - one module of `unsafe` blocks, which hands slices to the library, takes zeroed memory, and
-//!   writes 16-bit numbers as bytes;
+//! - one module of `unsafe` blocks, which hands slices to the library, keeps what gives rows, takes
+//!   zeroed memory, and writes 16-bit numbers as bytes;
 //! - a loop that reads segment by segment up to the end of a header or an image, so that a lent
 //!   reader stays right after them. How many bytes a segment needs is the library's to say, which
 //!   is proved, too. Pictures and errors don't rest on the loop: where it has read too little, all
@@ -53,9 +53,11 @@ mod error;
 mod info;
 pub mod layout;
 mod library;
+mod rows;
 mod stream;
 
 pub use color::ColorTransform;
 pub use decoder::{Decoder, PartialPicture};
 pub use error::{Error, UnsupportedFeature};
 pub use info::{Area, CodingProcess, Density, ImageInfo, PixelFormat, Scale};
+pub use rows::Rows;

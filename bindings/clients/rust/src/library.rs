@@ -3,10 +3,13 @@
 
 use crate::info::Area;
 use std::alloc::{alloc_zeroed, Layout};
+use std::ffi::CStr;
+use std::marker::PhantomData;
 use std::mem::{size_of, size_of_val};
 use std::ops::Range;
-use std::os::raw::{c_int, c_void};
-use std::{ptr, slice};
+use std::os::raw::{c_char, c_int, c_void};
+use std::ptr::{self, NonNull};
+use std::slice;
 
 const OK: c_int = 0;
 const MALFORMED: c_int = 1;
@@ -18,6 +21,7 @@ const BAD_ARGUMENT: c_int = 6;
 const TOO_LARGE: c_int = 8;
 const PARTIAL: c_int = 9;
 const TOO_MANY_PASSES: c_int = 10;
+const END: c_int = 11;
 
 /// A picture's coding process.
 const LOSSLESS: u8 = 3;
@@ -83,6 +87,18 @@ impl Options {
     pub fn is_fitted(&self) -> bool {
         self.most_width > 0 || self.most_height > 0
     }
+
+    /// Returns whether the rows of a picture have their places and their samples as they are stored.
+    pub fn is_plain(&self) -> bool {
+        let Options {
+            layout,
+            bottom_up,
+            upright,
+            luma,
+            ..
+        } = *self;
+        [layout, bottom_up, upright, luma] == [0; 4] && !self.has_own_size()
+    }
 }
 
 /// `zaxbriar_picture`.
@@ -90,7 +106,7 @@ impl Options {
 #[derive(Clone, Copy)]
 pub struct Picture {
     pub size: u64,
-    row_bytes: u64,
+    pub row_bytes: u64,
     pub decoding_bytes: u64,
     pub stream_bytes: u64,
     pub width: u32,
@@ -310,6 +326,20 @@ extern "C" {
         picture: *mut Picture,
     ) -> c_int;
 
+    fn zaxbriar_rows_new(
+        jpeg: *const c_void,
+        jpeg_size: usize,
+        options: *const Options,
+        rows: *mut *mut KeptRows,
+        picture: *mut Picture,
+    ) -> c_int;
+
+    fn zaxbriar_rows_next(rows: *mut KeptRows, line: *mut c_void, line_size: usize) -> c_int;
+
+    fn zaxbriar_rows_free(rows: *mut KeptRows);
+
+    fn zaxbriar_answer_name(answer: c_int) -> *const c_char;
+
     fn zaxbriar_metadata(
         jpeg: *const c_void,
         jpeg_size: usize,
@@ -415,6 +445,78 @@ pub fn decode_partial(jpeg: &[u8], options: &Options, pixels: &mut [u8]) -> Answ
         fault: refusal_of(if is_cut { picture.fault.into() } else { OK }, &picture),
     };
     Answer::new(if is_cut { OK } else { answer }, &picture, part)
+}
+
+/// `zaxbriar_rows`.
+#[repr(C)]
+struct KeptRows {
+    unknown: [u8; 0],
+}
+
+/// What the library keeps to give the rows of a picture one by one, of the bytes that it reads.
+pub struct Lines<'a> {
+    kept: NonNull<KeptRows>,
+    jpeg: PhantomData<&'a [u8]>,
+}
+
+// SAFETY: any thread may make the calls, one at a time: each takes a `Lines` that is owned or
+// borrowed to be changed.
+unsafe impl Send for Lines<'_> {}
+
+impl<'a> Lines<'a> {
+    /// Begins to give the rows of the picture of a stream.
+    pub fn new(jpeg: &'a [u8], options: &Options) -> Result<Lines<'a>, Refusal> {
+        let mut picture = Picture::NONE;
+        let mut kept = ptr::null_mut();
+        // SAFETY: as in `read_info`; `kept` is borrowed to be written; and `jpeg` is borrowed as
+        // long as there is what the call returns.
+        let answer = unsafe {
+            zaxbriar_rows_new(
+                jpeg.as_ptr().cast(),
+                jpeg.len(),
+                options,
+                &mut kept,
+                &mut picture,
+            )
+        };
+        match NonNull::new(kept) {
+            Some(kept) => Ok(Lines {
+                kept,
+                jpeg: PhantomData,
+            }),
+            None => Err(refusal_of(answer, &picture).unwrap_or(Refusal::NoMemory)),
+        }
+    }
+
+    /// Writes the next row to the start of `row`, which has room for it, or returns false after the
+    /// last one.
+    pub fn next(&mut self, row: &mut [u8]) -> Result<bool, Refusal> {
+        // SAFETY: `kept` is what `new` has got, and `row` is borrowed to be written.
+        let answer =
+            unsafe { zaxbriar_rows_next(self.kept.as_ptr(), row.as_mut_ptr().cast(), row.len()) };
+        match answer {
+            OK => Ok(true),
+            END => Ok(false),
+            TRUNCATED => Err(Refusal::Truncated),
+            NO_MEMORY => Err(Refusal::NoMemory),
+            MALFORMED | UNSUPPORTED | TOO_MANY_PASSES => Err(Refusal::Malformed(name_of(answer))),
+            _ => Err(Refusal::Call(name_of(answer))),
+        }
+    }
+}
+
+impl Drop for Lines<'_> {
+    fn drop(&mut self) {
+        // SAFETY: `kept` is what `new` has got, and nobody has it after this.
+        unsafe { zaxbriar_rows_free(self.kept.as_ptr()) }
+    }
+}
+
+/// Returns the library's name of an answer.
+fn name_of(answer: c_int) -> String {
+    // SAFETY: the call returns a text that stays.
+    let name = unsafe { CStr::from_ptr(zaxbriar_answer_name(answer)) };
+    name.to_string_lossy().into_owned()
 }
 
 /// What bytes have of the next segment.

@@ -3,7 +3,8 @@
 //! kinds.
 //!
 //! Not asked: `into` and the calls after it, since this crate has no decoding into the caller's
-//! memory; `orientation`, which the suite asks of headers without a frame, and which is known here
+//! memory; rows a second time, with a limit or of the luma alone, or by which feature they are
+//! refused; `orientation`, which the suite asks of headers without a frame, and which is known here
 //! after an accepted one; and in `info` the bytes of the parts of decoding.
 //!
 //! Its pictures are also compared in each layout with the formulas of `model`.
@@ -16,7 +17,7 @@ use std::fmt::Write;
 use std::fs::read_to_string;
 use std::io::{self, Read};
 use std::path::{Path, PathBuf};
-use zaxbriar::{ColorTransform, Decoder, Error, Scale};
+use zaxbriar::{ColorTransform, Decoder, Error, ImageInfo, Scale};
 
 /// A reader over a stream that gives at most `most` bytes a read, and that says how many are left.
 struct Pieces<'a> {
@@ -135,7 +136,10 @@ fn refusal(error: &Error, is_whole: bool) -> String {
 
 /// Returns the text of a picture that a decoder has returned.
 fn picture_text<R: Read>(decoder: &Decoder<R>, pixels: &[u8]) -> String {
-    let info = decoder.info().unwrap();
+    text_of(decoder.info().unwrap(), pixels)
+}
+
+fn text_of(info: ImageInfo, pixels: &[u8]) -> String {
     let pixel_bytes = pixels.len() / (usize::from(info.width) * usize::from(info.height));
     let words = words_of(pixels, pixel_bytes);
     format!(
@@ -161,6 +165,33 @@ fn partial_picture<R: Read>(decoder: &mut Decoder<R>) -> String {
             format!("{picture}, rows {rows}, fault {name}")
         }
         Err(error) => refusal(&error, false),
+    }
+}
+
+/// Returns the text of all rows, or of a refusal and the rows before it; none where the library
+/// names no feature, as it doesn't for rows yet.
+fn rows<R: Read>(decoder: &mut Decoder<R>) -> Option<String> {
+    let mut rows = match decoder.rows() {
+        Ok(rows) => rows,
+        Err(error) => return Some(format!("{}, lines 0", refusal(&error, false))),
+    };
+    let (info, row_bytes) = (rows.info(), rows.row_bytes());
+    let mut given = Vec::new();
+    let mut row = vec![0; row_bytes];
+    let outcome = loop {
+        match rows.next_row(&mut row) {
+            Ok(true) => given.extend_from_slice(&row),
+            outcome => break outcome,
+        }
+    };
+    match outcome {
+        Ok(_) => Some(text_of(info, &given)),
+        Err(Error::Format(text)) if text == "unsupported feature" => None,
+        Err(error) => {
+            let (text, count) = (refusal(&error, false), rows.rows_given());
+            let words = words_of(&given, row_bytes / usize::from(info.width));
+            Some(format!("{text}, lines {count}{words}"))
+        }
     }
 }
 
@@ -204,6 +235,13 @@ fn cuts(stream: &[u8]) -> String {
     texts.join(", ")
 }
 
+/// Returns whether rows are asked for after some calls: not a second time, nor with a limit, which
+/// the suite's decoder doesn't keep for them, nor of the luma alone, which they don't have.
+fn asks_rows(before: &[&str]) -> bool {
+    let differs = |call: &&str| call.starts_with("limit") || ["rows", "luma"].contains(call);
+    !before.iter().any(differs)
+}
+
 /// Returns the answers to the calls of a case, up to one that isn't asked.
 fn answers_of(case: &Case<'_>, most: usize) -> Vec<String> {
     let left = Cell::new(case.stream.len());
@@ -213,7 +251,7 @@ fn answers_of(case: &Case<'_>, most: usize) -> Vec<String> {
         left: &left,
     });
     let mut answers = Vec::new();
-    for call in &case.calls {
+    for (at, call) in case.calls.iter().enumerate() {
         let words: Vec<_> = call.split(' ').collect();
         answers.push(match words[..] {
             ["transform", name] => {
@@ -224,6 +262,15 @@ fn answers_of(case: &Case<'_>, most: usize) -> Vec<String> {
                 decoder.set_max_decoding_buffer_size(samples.parse().unwrap());
                 continue;
             }
+            ["luma"] => {
+                decoder.set_luma(true);
+                continue;
+            }
+            ["rows"] if !asks_rows(&case.calls[..at]) => break,
+            ["rows"] => match rows(&mut decoder) {
+                Some(text) => text,
+                None => break,
+            },
             ["header"] => decoder
                 .read_info()
                 .map_or_else(|e| refusal(&e, false), |()| "ok".into()),
