@@ -2,9 +2,11 @@
 import { Zaxbriar, ZaxbriarError, compile, load } from '../dist/index.mjs';
 import type { Area, AsyncOptions, AsyncPartialOptions, Bytes } from '../dist/index.mjs';
 import type { DecoderOptions } from '../dist/index.mjs';
-import type { DecodingOptions, DecodedPicture, Density, Feature } from '../dist/index.mjs';
+import type { DecodingOptions, DecodedPicture, DecodedPlanes } from '../dist/index.mjs';
+import type { Density, Feature } from '../dist/index.mjs';
 import type { Format, Layout, Options, PartialOptions, PartialPicture } from '../dist/index.mjs';
-import type { Picture, Rows, RowsOptions, Sampling, Size, Source } from '../dist/index.mjs';
+import type { Picture, Plane, Rows, RowsOptions, Sampling } from '../dist/index.mjs';
+import type { Size, Source } from '../dist/index.mjs';
 
 // Sources, and the bytes of streams.
 const sources: Source[] = ['zaxbriar.wasm', new URL('file:///zaxbriar.wasm'), new Uint8Array(8)];
@@ -132,10 +134,11 @@ zaxbriar.decode(streams[0], { transfer: true });
 load(sources[1], { startWorker: 'zaxbriar-worker.mjs' });
 
 // Planes, of one byte or two a sample.
-const { planes } = other.decodePlanes(streams[0], { scale: 2, maxPixels: 1e6 });
-const samples: Uint8Array | Uint16Array = planes[0].data;
+const coded: DecodedPlanes = other.decodePlanes(streams[0], { scale: 2, maxPixels: 1e6 });
+const [luma]: Plane[] = coded.planes;
+const narrow: Uint8Array | Uint16Array = luma.data;
 // @ts-expect-error
-const wide: Uint16Array = planes[0].data;
+const wide: Uint16Array = luma.data;
 // @ts-expect-error
 other.decodePlanes(streams[0], { layout: 'rgba' });
 
@@ -188,4 +191,5 @@ zaxbriar.memoryBytes = 0;
 const version: string = zaxbriar.version;
 export { bits, columns, data, described, feature, fetched, file, format, ink, layout, length };
 export { fault, first, inches, known, plain, planes, profile, rows, samples, strict, told };
-export { begun, bounds, complete, elsewhere, fits, list, next, piece, tiles, version };
+export { begun, bounds, complete, elsewhere, fits, list, narrow, next };
+export { piece, tiles, version };
