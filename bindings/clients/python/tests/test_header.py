@@ -20,10 +20,13 @@ class Header(unittest.TestCase):
     def test_structs(self):
         source = (TOP / "bindings/c/zaxbriar.c").read_text()
         sizes = re.findall(r"_Static_assert\(sizeof\(zaxbriar_(\w+)\) == (\d+)", source)
-        self.assertEqual({name for name, _ in sizes}, set(STRUCTS))
-        for name, size in sizes:
-            self.assertEqual(ctypes.sizeof(STRUCTS[name]), int(size), name)
+        # (what is kept for rows is the library's own, behind a pointer)
+        sizes = {name: int(size) for name, size in sizes if name != "kept"}
+        self.assertEqual(set(sizes), set(STRUCTS))
+        for name, size in sizes.items():
+            self.assertEqual(ctypes.sizeof(STRUCTS[name]), size, name)
         offsets = re.findall(r"offsetof\(zaxbriar_(\w+), (\w+)\) == (\d+)", source)
+        offsets = [it for it in offsets if it[0] != "kept"]
         self.assertGreater(len(offsets), 30)
         for name, member, offset in offsets:
             self.assertEqual(getattr(STRUCTS[name], member).offset, int(offset), member)

@@ -8,6 +8,7 @@ import tempfile
 import unittest
 from pathlib import Path
 
+import zaxbriar
 from common import TOP, file, numpy
 
 PAGE = Path(__file__).resolve().parent.parent / "README.md"
@@ -24,7 +25,7 @@ class Examples(unittest.TestCase):
 
     def test_run(self):
         examples = re.findall(r"^```python\n(.*?)^```$", PAGE.read_text(), re.S | re.M)
-        self.assertEqual(len(examples), 9)
+        self.assertEqual(len(examples), 10)
         found = {"cut_data": self.photo[: len(self.photo) // 2]}
         said = io.StringIO()
         with contextlib.redirect_stdout(said):
@@ -36,6 +37,8 @@ class Examples(unittest.TestCase):
         self.assertEqual(error, "the file ends too soon")
         self.assertEqual(found["picture"].shape, (427, 640, 3))
         self.assertEqual(found["samples"].shape, (427, 640, 3))
+        stored = zaxbriar.decode(self.photo)
+        self.assertEqual(Path("samples").read_bytes(), bytes(stored))
         self.assertEqual(found["tile"].shape, (256, 256, 3))
         self.assertEqual(found["small"].shape, (107, 160, 3))
         if numpy:

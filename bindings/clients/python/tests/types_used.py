@@ -27,6 +27,13 @@ def sizes(data: bytes, mapped: mmap.mmap, room: bytearray) -> tuple[int, Optiona
     zaxbriar.decode(data, within=(256, 0))
     zaxbriar.decode(data, **options)
     end: int = zaxbriar.next_segment(data).end
+    with zaxbriar.rows(mapped, scale=2, transform="none", max_passes=10) as given:
+        lines: list[bytes] = [*given, next(given)]
+        height: int = given.info.height - given.lines
+    by_row: zaxbriar.RowsOptions = {"min_width": 100}
+    zaxbriar.rows(data, **by_row).close()
+    before: Optional[int] = zaxbriar.Error().lines
+    rows += len(lines) + height + (before or 0)
     found = len(exif or b"") + len(thumbnail or b"")
     return len(flat) + rows + info.width + found + end, info.process
 
@@ -38,6 +45,8 @@ def misuses(data: bytes) -> None:
     zaxbriar.decode(data, crop=(0, 0, 16))  # type: ignore[arg-type]
     zaxbriar.decode(data, within=256)  # type: ignore[arg-type]
     zaxbriar.decode(data, max_pases=3)  # type: ignore[call-arg]
+    zaxbriar.rows(data, layout="rgb")  # type: ignore[call-arg]
+    zaxbriar.rows("text")  # type: ignore[arg-type]
     zaxbriar.metadata(data, "iptc")  # type: ignore[arg-type]
     zaxbriar.joined_metadata(data, "icc")  # type: ignore[arg-type]
     zaxbriar.joined_metadata(data, "exif", max_bytes=9)  # type: ignore[call-arg]

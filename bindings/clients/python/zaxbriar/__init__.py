@@ -8,6 +8,7 @@ read where it is, unless there are gaps between its bytes, and mustn't change du
 other threads run. The options are those of the class Options.
 """
 
+from .by_rows import Rows, rows
 from .calls import (
     decode,
     decode_partial,
@@ -29,7 +30,7 @@ from .errors import (
     TruncatedError,
     UnsupportedError,
 )
-from .options import MAX_PASSES, Layout, Limits, Options, Transform
+from .options import MAX_PASSES, Layout, Limits, Options, RowsOptions, Transform
 from .picture import Info, Partial, Picture, Places, Segment
 
 __version__ = "0.1.0"
@@ -47,6 +48,8 @@ __all__ = [
     "Partial",
     "Picture",
     "Places",
+    "Rows",
+    "RowsOptions",
     "Segment",
     "TooLargeError",
     "TooManyPassesError",
@@ -60,5 +63,6 @@ __all__ = [
     "metadata",
     "next_segment",
     "read_info",
+    "rows",
     "version",
 ]

@@ -36,7 +36,7 @@ def stream_of(data: Buffer) -> Iterator[tuple[int, int]]:
         yield address, view.nbytes
 
 
-def _check(answer: int, told: library.Description, options: library.Options) -> None:
+def check(answer: int, told: library.Description, options: library.Options) -> None:
     """Raises what the library answers, unless there is a picture."""
     if answer in (library.OK, library.PARTIAL):
         return
@@ -49,7 +49,7 @@ def _check(answer: int, told: library.Description, options: library.Options) -> 
 def describe(stream: tuple[int, int], options: library.Options) -> library.Description:
     """Describes the picture of a stream, in the library's values."""
     told = library.Description()
-    _check(library.read_info(*stream, byref(options), byref(told)), told, options)
+    check(library.read_info(*stream, byref(options), byref(told)), told, options)
     return told
 
 
@@ -101,7 +101,7 @@ def decode_at(
     if address < sum(stream) and stream[0] < address + room:
         raise BadArgumentError("out overlaps data")
     told = library.Description()
-    _check(call(*stream, byref(options), address, room, byref(told)), told, options)
+    check(call(*stream, byref(options), address, room, byref(told)), told, options)
     return told
 
 

@@ -14,8 +14,9 @@ class Error(Exception):
     """Says why a stream or a call was refused: the class of all these exceptions."""
 
     answer = -1  # the number of zaxbriar.h
-    text: str  # what the library says of the fault, "" after metadata and segments
+    text: str  # what the library says of the fault, "" after metadata, segments and rows
     info: Info | None = None  # the picture, after TooLargeError and NoRoomError
+    lines: int | None = None  # of an iterator over rows: how many were given before
 
     def __init__(self, text: str = "") -> None:
         super().__init__(text)
@@ -27,7 +28,8 @@ class Error(Exception):
         return str(library.answer_name(self.answer).decode())
 
     def __str__(self) -> str:
-        return self.text or self.name
+        told = self.text or self.name
+        return told if self.lines is None else f"{told}, after {self.lines} rows"
 
 
 class MalformedError(Error):

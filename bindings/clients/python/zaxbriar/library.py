@@ -37,7 +37,8 @@ NAME = "libzaxbriar.so.0"
     TOO_LARGE,
     PARTIAL,
     TOO_MANY_PASSES,
-) = range(11)
+    END,
+) = range(12)
 WHOLE_IMAGE = 16
 
 # The names of the library's numbers, each in its place.
@@ -191,6 +192,9 @@ _DESCRIPTION = POINTER(Description)
 read_info = _call("read_info", *_BYTES, _OPTIONS, _DESCRIPTION)
 decode = _call("decode", *_BYTES, _OPTIONS, *_BYTES, _DESCRIPTION)
 decode_partial = _call("decode_partial", *_BYTES, _OPTIONS, *_BYTES, _DESCRIPTION)
+rows_new = _call("rows_new", *_BYTES, _OPTIONS, POINTER(c_void_p), _DESCRIPTION)
+rows_next = _call("rows_next", c_void_p, *_BYTES)
+rows_free = _call("rows_free", c_void_p, result=None)
 metadata_within = _call("metadata_within", *_BYTES, _OPTIONS, c_int, *_BYTES, POINTER(c_size_t))
 joined_metadata = _call("joined_metadata", *_BYTES, _OPTIONS, c_int, *_BYTES, POINTER(c_size_t))
 find_metadata = _call("find_metadata", *_BYTES, POINTER(Places))

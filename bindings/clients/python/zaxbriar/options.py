@@ -31,15 +31,28 @@ class Limits(TypedDict, total=False):
     max_passes: int
 
 
-class Options(Limits, total=False):
-    """How to decode: the options of zaxbriar.h. The limits are those of the class Limits.
+class RowsOptions(Limits, total=False):
+    """How to decode rows one by one: all that doesn't arrange samples. The limits are those of the
+    class Limits.
 
-    layout: how the samples of a pixel are arranged, "as_stored" unless it is given.
     scale: 1, 2, 4 or 8, for exactly 1 / scale of each side, rounded up.
     min_width, min_height: for the least of 1/8, 1/4, 1/2 and 1 of the size at which the picture,
         before it is turned, is at least that wide or that high; 0: that side doesn't matter.
         `scale` goes before both.
     transform: how the components are to be understood, "of_stream" unless it is given.
+    """
+
+    scale: int
+    min_width: int
+    min_height: int
+    transform: Transform
+
+
+class Options(RowsOptions, total=False):
+    """How to decode: the options of zaxbriar.h. The scale and the transform are those of the class
+    RowsOptions, and the limits those of the class Limits.
+
+    layout: how the samples of a pixel are arranged, "as_stored" unless it is given.
     stride: the bytes from one line to the next, for an `out` of one dimension; 0: no gaps.
     bottom_up: whether the picture's first row comes last in the buffer.
     upright: whether the picture is turned upright, as its `orientation` says; `shape`, `width` and
@@ -59,10 +72,6 @@ class Options(Limits, total=False):
     """
 
     layout: Layout
-    scale: int
-    min_width: int
-    min_height: int
-    transform: Transform
     stride: int
     bottom_up: bool
     upright: bool
@@ -89,6 +98,7 @@ TUPLES = {
     "within": ("most_width", "most_height"),
 }
 OPTIONS = (*NAMES, *TUPLES, *MOST)
+ROWS = ("scale", "min_width", "min_height", "transform", *LIMITS)
 
 
 def number_of(name: str, value: Any, names: tuple[str | None, ...]) -> int:
