@@ -19,6 +19,10 @@ describing __real_zaxbriar_read_info, __wrap_zaxbriar_read_info;
 copying __real_zaxbriar_metadata_within, __wrap_zaxbriar_metadata_within;
 copying __real_zaxbriar_joined_metadata, __wrap_zaxbriar_joined_metadata;
 listing __real_zaxbriar_next_segment, __wrap_zaxbriar_next_segment;
+typedef zaxbriar_result giving(zaxbriar_rows *rows, void *line, size_t line_size);
+typedef void freeing(zaxbriar_rows *rows);
+giving __real_zaxbriar_rows_next, __wrap_zaxbriar_rows_next;
+freeing __real_zaxbriar_rows_free, __wrap_zaxbriar_rows_free;
 
 /* The faults of decoding. */
 enum {
@@ -47,6 +51,11 @@ enum {
     WRONG_JOINT,           /* joined_metadata gives another last byte */
     WRONG_SIZE,            /* read_info says that a picture takes a byte more */
     WRONG_NEED,            /* next_segment asks for a byte more than it needs */
+    WRONG_ROW,             /* rows_next gives another first byte from time to time */
+    BEFORE_ROW,            /* rows_next writes right before the line */
+    LOSES_ROW,             /* rows_next passes over a line for which there is no room */
+    ENDS_EARLY,            /* rows_next says END for a truncated file */
+    KEEPS_ROWS,            /* rows_free frees nothing */
 };
 
 static int is_now(int fault) { return FAULT == fault; }
@@ -174,4 +183,22 @@ zaxbriar_result __wrap_zaxbriar_next_segment(const void *jpeg, size_t jpeg_size,
     zaxbriar_result result = __real_zaxbriar_next_segment(jpeg, jpeg_size, segment);
     if (is_now(WRONG_NEED) && result == ZAXBRIAR_TRUNCATED) segment->needed++;
     return result;
+}
+
+zaxbriar_result __wrap_zaxbriar_rows_next(zaxbriar_rows *rows, void *line, size_t line_size) {
+    static unsigned count;
+    static unsigned char lost[1 << 21];
+    zaxbriar_result result = __real_zaxbriar_rows_next(rows, line, line_size);
+    if (is_now(LOSES_ROW) && result == ZAXBRIAR_NO_ROOM)
+        return __real_zaxbriar_rows_next(rows, lost, sizeof lost) == ZAXBRIAR_OK ? result
+                                                                                 : ZAXBRIAR_END;
+    if (is_now(ENDS_EARLY) && result == ZAXBRIAR_TRUNCATED) return ZAXBRIAR_END;
+    if (result != ZAXBRIAR_OK) return result;
+    if (is_now(WRONG_ROW) && ++count % 7 == 0) *(unsigned char *)line ^= 1;
+    if (is_now(BEFORE_ROW)) ((unsigned char *)line)[-1] ^= 1;
+    return result;
+}
+
+void __wrap_zaxbriar_rows_free(zaxbriar_rows *rows) {
+    if (!is_now(KEEPS_ROWS)) __real_zaxbriar_rows_free(rows);
 }

@@ -428,23 +428,26 @@ static zaxbriar_options coded_options(void) {
                               .places = of.options.places};
 }
 
-/* The part before the first fault, by other options, and nothing after it. */
-static struct shown shown_by(const zaxbriar_options *options) {
+/* What a call shows by other options, and nothing after it. */
+static struct shown shown_with(enum call call, const zaxbriar_options *options) {
     struct answer info = read_info(of.jpeg, of.size, options);
     size_t room = info.result == ZAXBRIAR_OK ? info.picture.size : 0;
     struct shown shown = {.size = of.size, .pixels = block(room + GUARD)};
     memset(shown.pixels, BYTE, room + GUARD);
     begin_call(options);
-    shown.answer = answered(
-        zaxbriar_decode_partial(of.jpeg, of.size, options, shown.pixels, room, to_tell()));
+    shown.answer = answered((call == PART ? zaxbriar_decode_partial : zaxbriar_decode)(
+        of.jpeg, of.size, options, shown.pixels, room, to_tell()));
     end_counting(9);
-    check_answer(PART, &shown.answer, options, of.size);
+    check_answer(call, &shown.answer, options, of.size);
     check_as_described(&shown.answer, &info);
     CHECK(shown.answer.result != ZAXBRIAR_NO_ROOM);
     CHECK(is_all(shown.pixels + room, GUARD, BYTE));
     if (!is_decoded(shown.answer.result)) CHECK(is_all(shown.pixels, room, BYTE));
     return shown;
 }
+
+/* The part before the first fault, by other options. */
+static struct shown shown_by(const zaxbriar_options *options) { return shown_with(PART, options); }
 
 /* Whether the first fault is one that a whole decoding may pass over: a marker in place of the data
  * of a scan. After it a segment may ask for other colours, so that those of the part are refused
@@ -730,6 +733,182 @@ static void misuse_planes(void) {
     CHECK(answer.result == ZAXBRIAR_BAD_ARGUMENT);
 }
 
+/* The options that lines have. */
+static zaxbriar_options options_of_rows(void) {
+    zaxbriar_options options = coded_options();
+    options.transform = of.options.transform;
+    options.max_samples = of.options.max_samples;
+    options.max_bytes = of.options.max_bytes;
+    return options;
+}
+
+/* Takes the next line into so much room, which stands in `pixels`. */
+static zaxbriar_result next_row(zaxbriar_rows *rows, size_t row_bytes, size_t room) {
+    unsigned char fill = room % 2 ? 0xA5 : 0x5A;
+    pixels.start = room_in(&pixel_pages, GUARD + room) + GUARD;
+    memset(pixels.start - GUARD, fill, GUARD + room);
+    zaxbriar_result result = zaxbriar_rows_next(rows, pixels.start, room);
+    size_t written = result == ZAXBRIAR_OK ? row_bytes : 0;
+    CHECK(written <= room && is_all(pixels.start - GUARD, GUARD, fill));
+    CHECK(is_all(pixels.start + written, room - written, fill));
+    return result;
+}
+
+/* The first lines of a picture, which are the caller's to free, and the answer after them: OK where
+ * there may be more. */
+struct lines {
+    struct answer begun;
+    zaxbriar_result result;
+    uint32_t count;
+    unsigned char *bytes;
+};
+
+static struct lines lines_of(const zaxbriar_options *options, uint32_t most) {
+    struct lines lines = {0};
+    zaxbriar_rows *rows = (zaxbriar_rows *)&lines;
+    lines.begun = answered(zaxbriar_rows_new(of.jpeg, of.size, options, &rows, to_tell()));
+    lines.result = lines.begun.result;
+    CHECK((rows != NULL) == (lines.result == ZAXBRIAR_OK));
+    size_t row_bytes = lines.begun.picture.row_bytes, height = lines.begun.picture.height;
+    lines.bytes = block(rows ? row_bytes * height : 0);
+    while (lines.result == ZAXBRIAR_OK && lines.count < most) {
+        if (lines.count % 4 == 0) {
+            zaxbriar_result early = next_row(rows, row_bytes, row_bytes - 1);
+            CHECK(early == ZAXBRIAR_NO_ROOM);
+        }
+        lines.result = next_row(rows, row_bytes, row_bytes + lines.count % 3);
+        if (lines.result != ZAXBRIAR_OK) break;
+        CHECK(lines.count < height);
+        memcpy(lines.bytes + lines.count++ * row_bytes, pixels.start, row_bytes);
+    }
+    if (rows && lines.result != ZAXBRIAR_OK)
+        for (size_t room = row_bytes - 1; room <= row_bytes; room++)
+            CHECK(next_row(rows, row_bytes, room) == lines.result);
+    zaxbriar_rows_free(rows);
+    return lines;
+}
+
+/* Whether the first scan has all components of a sequential frame, so that lines come as it is
+ * read. */
+static int has_all_in_scan(void) {
+    zaxbriar_segment segment;
+    const zaxbriar_picture *full = &of.full.picture;
+    size_t start = 0;
+    do {
+        if (first_segment(of.jpeg + start, of.size - start, &segment) != ZAXBRIAR_OK) return 0;
+        start += segment.end;
+    } while (segment.marker != 0xDA);
+    return full->process == ZAXBRIAR_SEQUENTIAL && segment.size > 0 &&
+           of.jpeg[start - segment.size] == full->components;
+}
+
+/* What lines may take: some rows of MCUs if they come as the scan is read, or as much as the whole
+ * picture takes. */
+static size_t bytes_of_rows(void) {
+    const zaxbriar_picture *full = &of.full.picture;
+    enum { MOST_MCU = 32, TIMES = 8 };
+    size_t row_of_mcus = (size_t)full->components * (full->width + MOST_MCU) * MOST_MCU;
+    size_t whole = of.info.picture.decoding_bytes * times_counted();
+    return has_all_in_scan() && TIMES * row_of_mcus < whole ? TIMES * row_of_mcus : whole;
+}
+
+/* Whether a segment after the first scan may ask for other colours: JFIF's or Adobe's. */
+static int has_late_colours(void) {
+    zaxbriar_segment segment;
+    int is_late = 0;
+    for (size_t start = 0;; start += segment.end) {
+        if (first_segment(of.jpeg + start, of.size - start, &segment) != ZAXBRIAR_OK) return 0;
+        is_late |= segment.marker == 0xDA;
+        if (is_late && (segment.marker == 0xE0 || segment.marker == 0xEE)) return 1;
+    }
+}
+
+/* All lines are the whole picture, and those before a fault the rows that its part has complete.
+ * The answer after them is that of the whole picture, unless colours are said too late. */
+static void check_lines(const struct lines *lines, const struct shown *whole,
+                        const zaxbriar_options *options) {
+    const zaxbriar_picture *picture = &lines->begun.picture;
+    zaxbriar_result result = whole->answer.result;
+    if (lines->result == ZAXBRIAR_END) {
+        CHECK(result == ZAXBRIAR_OK && lines->count == picture->height);
+        CHECK(!memcmp(lines->bytes, whole->pixels, picture->size));
+    } else if (lines->result != result) {
+        CHECK(lines->result == ZAXBRIAR_MALFORMED && has_late_colours());
+    }
+    note(57, (uint64_t)lines->result << 8 | bits_of(lines->count));
+    if (lines->count == 0 || lines->result != result || has_late_colours()) return;
+    struct shown part = shown_by(options);
+    uint32_t rows = part.answer.picture.whole_rows;
+    if (is_decoded(part.answer.result))
+        CHECK(!memcmp(lines->bytes, part.pixels,
+                      (rows < lines->count ? rows : lines->count) * (size_t)picture->row_bytes));
+    free(part.pixels);
+}
+
+/* Takes the picture line by line, by either kind of processor's code. */
+static void take_rows(void) {
+    zaxbriar_options options = options_of_rows();
+    struct answer info = read_info(of.jpeg, of.size, &options);
+    struct shown whole = shown_with(WHOLE, &options);
+    struct lines kinds[2];
+    for (int i = 0; i < 2; i++) {
+        allow_v3(i);
+        begin_call(&options);
+        kinds[i] = lines_of(&options, UINT32_MAX);
+        if (kinds[i].begun.result == ZAXBRIAR_OK)
+            CHECK(counts.peak_bytes <= bytes_of_rows() + bytes_beside(WHOLE, of.size));
+        end_counting(16);
+        check_answer(INFO, &kinds[i].begun, &options, of.size);
+        check_places_of(&options, of.jpeg, of.size, kinds[i].begun.result);
+        CHECK(kinds[i].begun.result == info.result);
+        /* (an option that doesn't exist has a text of its own) */
+        if (info.result != ZAXBRIAR_BAD_ARGUMENT)
+            CHECK(!memcmp(&kinds[i].begun.picture, &info.picture, sizeof info.picture));
+    }
+    CHECK(kinds[0].result == kinds[1].result && kinds[0].count == kinds[1].count);
+    CHECK(!memcmp(kinds[0].bytes, kinds[1].bytes, kinds[0].count * (size_t)info.picture.row_bytes));
+    check_lines(&kinds[1], &whole, &options);
+    free(kinds[0].bytes);
+    free(kinds[1].bytes);
+    free(whole.pixels);
+}
+
+/* Lines are let go at any time. */
+static void leave_rows(void) {
+    zaxbriar_options options = options_of_rows();
+    uint32_t most = of.settings[GAP] % 33u;
+    begin_call(&options);
+    struct lines lines = lines_of(&options, most);
+    end_counting(17);
+    CHECK(lines.count <= most);
+    free(lines.bytes);
+}
+
+/* Lines are refused with each option that arranges samples, and so are null pointers. */
+static void misuse_rows(void) {
+    zaxbriar_options options = coded_options();
+    zaxbriar_rows *rows = (zaxbriar_rows *)&options;
+    switch (of.settings[KIND] % 8) {
+    case 0: options.stride = 1 << 20; break;
+    case 1: options.layout = ZAXBRIAR_RGB; break;
+    case 2: options.bottom_up = 1; break;
+    case 3: options.upright = 1; break;
+    case 4: options.luma = 1; break;
+    case 5: options.crop_width = options.crop_height = 1; break;
+    case 6: options.most_width = 1; break;
+    default: options.layout = ZAXBRIAR_RGB16 + 1; break;
+    }
+    begin_call(&options);
+    struct answer answer =
+        answered(zaxbriar_rows_new(of.jpeg, of.size, &options, &rows, to_tell()));
+    end_counting(18);
+    check_answer(INFO, &answer, &options, of.size);
+    CHECK(answer.result == ZAXBRIAR_BAD_ARGUMENT && rows == NULL);
+    CHECK(zaxbriar_rows_new(of.jpeg, of.size, NULL, NULL, NULL) == ZAXBRIAR_BAD_ARGUMENT);
+    CHECK(zaxbriar_rows_next(NULL, &options, sizeof options) == ZAXBRIAR_BAD_ARGUMENT);
+    zaxbriar_rows_free(NULL);
+}
+
 /* Whether the bytes from one cut to another go on with one scan alone: the first is in its data,
  * and no marker comes between them but RST. */
 static int is_in_scan(size_t from, size_t to) {
@@ -1006,6 +1185,25 @@ static void refuse_planes(void) {
     if (other != ZAXBRIAR_OK) CHECK(is_all(pixels.start, room, 0x5A));
 }
 
+/* The same of lines: those before are the picture's all the same. */
+static void refuse_rows(void) {
+    long refused = of.settings[REFUSED];
+    if (!of.options.memory || !refused || !of.is_small) return;
+    zaxbriar_options options = options_of_rows();
+    begin_call(&options);
+    struct lines all = lines_of(&options, UINT32_MAX);
+    end_counting(16);
+    begin_counting(refused);
+    struct lines lines = lines_of(&options, UINT32_MAX);
+    int is_refused = counts.allocations >= refused;
+    end_counting(8);
+    CHECK(lines.result == all.result || (is_refused && lines.result == ZAXBRIAR_NO_MEMORY));
+    CHECK(lines.count <= all.count && (is_refused || lines.count == all.count));
+    CHECK(!memcmp(lines.bytes, all.bytes, lines.count * (size_t)all.begun.picture.row_bytes));
+    free(lines.bytes);
+    free(all.bytes);
+}
+
 /* The options of the settings, before a part and the limits. */
 static void choose_options(void) {
     static const uint8_t scales[] = {0, 1, 2, 4, 8, 0, 8, 3};
@@ -1106,12 +1304,13 @@ static void choose_stride(void) {
 int LLVMFuzzerTestOneInput(const uint8_t *data, size_t size) {
     typedef void step(void);
     static step *const steps[] = {
-        walk_segments, find_places,   describe,      decode_whole,  decode_part,
-        feed,          decode_short,  arrange,       convert,       make_smaller,
-        take_crop,     take_luma,     take_planes,   misuse_planes, copy_metadata,
-        join_metadata, refuse_memory, refuse_planes, refuse_copying};
+        walk_segments, find_places,   describe,      decode_whole,   decode_part,
+        feed,          decode_short,  arrange,       convert,        make_smaller,
+        take_crop,     take_luma,     take_planes,   misuse_planes,  take_rows,
+        leave_rows,    misuse_rows,   copy_metadata, join_metadata,  refuse_memory,
+        refuse_planes, refuse_rows,   refuse_copying};
     enum { STEPS = sizeof steps / sizeof *steps };
-    _Static_assert(STEPS == 19, "a prime number, so that each distance comes to all steps");
+    _Static_assert(STEPS == 23, "a prime number, so that each distance comes to all steps");
     if (size < SETTINGS) return 0;
     of.settings = data;
     of.size = size - SETTINGS;
