@@ -1,9 +1,9 @@
 /* node stack.mjs FILE..: what becomes of a call whose stack is too small, and of those after it.
  *
  * The module is given stacks of 1 to 64 kB, by another first value of its stack pointer, and
- * decodes each file with each, as a whole and as far as it goes. Each call has to give its picture
- * or refusal, or to trap at the entry of a function, by `unreachable`; an access outside the memory
- * is another trap, and fails.
+ * decodes each file with each, as a whole, as far as it goes, and line by line. Each call has to
+ * give its picture or refusal, or to trap at the entry of a function, by `unreachable`; an access
+ * outside the memory is another trap, and fails.
  * The call after a trap begins with a new instance, which has to give its answer too. */
 import { readFileSync } from 'node:fs';
 import { Zaxbriar, ZaxbriarError } from '../dist/node.mjs';
@@ -24,9 +24,15 @@ function withStack(size) {
     return new WebAssembly.Module(module);
 }
 
-function outcome(zaxbriar, file, partial) {
+const WAYS = [
+    (zaxbriar, file) => zaxbriar.decode(file, { layout: 'rgba' }).pixels,
+    (zaxbriar, file) => zaxbriar.decode(file, { layout: 'rgba', partial: true }).pixels,
+    (zaxbriar, file) => Buffer.concat([...zaxbriar.rows(file)]),
+];
+
+function outcome(zaxbriar, file, decode) {
     try {
-        return Buffer.from(zaxbriar.decode(file, { layout: 'rgba', partial }).pixels.buffer);
+        return Buffer.from(decode(zaxbriar, file));
     } catch (error) {
         if (error instanceof ZaxbriarError) return Buffer.from(`${error.code} ${error.message}`);
         if (!(error instanceof WebAssembly.RuntimeError)) throw error;
@@ -37,7 +43,7 @@ function outcome(zaxbriar, file, partial) {
 
 const calls = process.argv.slice(2).flatMap((path) => {
     const file = readFileSync(path);
-    return [false, true].map((partial) => [file, partial]);
+    return WAYS.map((decode) => [file, decode]);
 });
 const whole = new Zaxbriar(new WebAssembly.Module(bytes));
 const wanted = calls.map((call) => outcome(whole, ...call));
