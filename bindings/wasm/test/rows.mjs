@@ -103,6 +103,14 @@ for (const [how, leave] of Object.entries(left)) {
 }
 assert.deepEqual(zaxbriar.rows(jpeg).return(), { value: undefined, done: true });
 
+// Nor does a stream that is refused.
+const refusing = new Zaxbriar(module);
+const refuse = () => assert.throws(() => refusing.rows(jpeg, { maxBytes: 1 }), code('TOO_LARGE'));
+refuse();
+const bytesTaken = refusing.memoryBytes;
+for (let count = 0; count < 1000; count++) refuse();
+assert.equal(refusing.memoryBytes, bytesTaken);
+
 // So do iterators that nobody has any more, once they are collected.
 const kept = new Zaxbriar(module);
 for (let count = 0; count < 100; count++) kept.rows(jpeg).next();
@@ -151,20 +159,22 @@ const scans = endless(200, [64, 64]);
 assert.throws(() => [...zaxbriar.rows(scans)], code('TOO_MANY_PASSES'));
 assert.equal([...zaxbriar.rows(scans, { maxPasses: 0 })].length, 64);
 
-// A memory that is too small: no lines then, or all of them, and whatever was taken is free again.
+// A memory that is too small, by pages and by what a stream leaves of them: no lines then, or all of
+// them, and whatever was taken is free again.
 const photograph = readFileSync(new URL('../../../examples/rocket.jpg', import.meta.url));
 const outcomes = { all: 0, none: 0 };
-for (let maxMemory = 65536 * 5; maxMemory < 2 ** 20; maxMemory += 65536) {
-    const little = new Zaxbriar(module, { maxMemory });
+for (let room = 65536 * 6; room < 2 ** 20; room += 2048) {
+    const padded = Buffer.concat([photograph, Buffer.alloc(65535 - (room % 65536))]);
+    const little = new Zaxbriar(module, { maxMemory: room });
     const lines = [];
-    const take = () => lines.push(...little.rows(photograph));
+    const take = () => lines.push(...little.rows(padded));
     const refusal = refusalOf(take);
     assert.equal(refusal?.code, lines.length ? undefined : 'NO_MEMORY');
-    assert.ok([0, 427].includes(lines.length) && little.memoryBytes <= maxMemory);
+    assert.ok([0, 427].includes(lines.length) && little.memoryBytes <= room);
     assert.equal(refusalOf(take)?.code, refusal?.code);
     outcomes[refusal ? 'none' : 'all']++;
 }
-assert.ok(outcomes.all > 3 && outcomes.none > 3);
+assert.ok(outcomes.all > 50 && outcomes.none > 50);
 
 // A decoder that has given its memory back, or has trapped, has no more lines, and works.
 const ended = /^Error: the memory of the decoder was given back$/;
