@@ -1,5 +1,5 @@
-/* jpegrows FILE > PICTURE: writes the picture as PGM (grey), PPM (red, green and blue) or PAM (cyan,
- * magenta, yellow and black), line by line as the file is read: of a sequential file two rows of
+/* jpegrows FILE > PICTURE: writes the picture as PGM (grey), PPM (red, green and blue) or PAM
+ * (cyan, magenta, yellow and black), line by line as the file is read: of most files two rows of
  * MCUs are in memory at most. It isn't turned upright. The status is 0 only if the file has no
  * fault: until then nobody knows whether what was written is right. */
 #include <stdio.h>
@@ -46,7 +46,7 @@ static int write_line(const zaxbriar_picture *picture, unsigned char *line) {
     return fwrite(line, 1, size, stdout) == size;
 }
 
-/* Writes all lines. Returns the answer after the last, or ZAXBRIAR_OK if one couldn't be written. */
+/* Writes all lines. Returns the answer after the last, or ZAXBRIAR_OK if one can't be written. */
 static zaxbriar_result write_lines(zaxbriar_rows *rows, const zaxbriar_picture *picture) {
     unsigned char *line = malloc(picture->row_bytes);
     zaxbriar_result answer = line ? ZAXBRIAR_OK : ZAXBRIAR_NO_MEMORY;

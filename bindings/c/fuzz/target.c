@@ -804,11 +804,11 @@ static int has_all_in_scan(void) {
 
 /* What lines may take: some rows of MCUs if they come as the scan is read, or as much as the whole
  * picture takes. */
-static size_t bytes_of_rows(void) {
+static size_t bytes_of_rows(const zaxbriar_picture *picture) {
     const zaxbriar_picture *full = &of.full.picture;
     enum { MOST_MCU = 32, TIMES = 8 };
     size_t row_of_mcus = (size_t)full->components * (full->width + MOST_MCU) * MOST_MCU;
-    size_t whole = of.info.picture.decoding_bytes * times_counted();
+    size_t whole = picture->decoding_bytes * times_counted();
     return has_all_in_scan() && TIMES * row_of_mcus < whole ? TIMES * row_of_mcus : whole;
 }
 
@@ -855,8 +855,8 @@ static void take_rows(void) {
         allow_v3(i);
         begin_call(&options);
         kinds[i] = lines_of(&options, UINT32_MAX);
-        if (kinds[i].begun.result == ZAXBRIAR_OK)
-            CHECK(counts.peak_bytes <= bytes_of_rows() + bytes_beside(WHOLE, of.size));
+        if (info.result == ZAXBRIAR_OK)
+            CHECK(counts.peak_bytes <= bytes_of_rows(&info.picture) + bytes_beside(WHOLE, of.size));
         end_counting(16);
         check_answer(INFO, &kinds[i].begun, &options, of.size);
         check_places_of(&options, of.jpeg, of.size, kinds[i].begun.result);

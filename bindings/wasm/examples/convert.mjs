@@ -1,6 +1,6 @@
-/* node convert.mjs FILE OUTPUT: makes a PNG file of a JPEG file, in Node, line by line: neither
- * picture is in memory as a whole if the file is sequential. It may be grey or in colour, of 8 or 16
- * bits a sample, and isn't turned upright. OUTPUT is made only where the file has no fault. */
+/* node convert.mjs FILE OUTPUT: makes a PNG file of a JPEG file, in Node, line by line: of most
+ * files neither picture is in memory as a whole. It may be grey or in colour, of 8 or 16 bits
+ * a sample, and isn't turned upright. OUTPUT is made only where the file has no fault. */
 import { createWriteStream, readFileSync, renameSync, rmSync } from 'node:fs';
 import { pipeline } from 'node:stream/promises';
 import { createDeflate } from 'node:zlib';

@@ -159,8 +159,8 @@ const scans = endless(200, [64, 64]);
 assert.throws(() => [...zaxbriar.rows(scans)], code('TOO_MANY_PASSES'));
 assert.equal([...zaxbriar.rows(scans, { maxPasses: 0 })].length, 64);
 
-// A memory that is too small, by pages and by what a stream leaves of them: no lines then, or all of
-// them, and whatever was taken is free again.
+// A memory that is too small, by pages and by what a stream leaves of them: no lines then, or all
+// of them, and whatever was taken is free again.
 const photograph = readFileSync(new URL('../../../examples/rocket.jpg', import.meta.url));
 const outcomes = { all: 0, none: 0 };
 for (let room = 65536 * 6; room < 2 ** 20; room += 2048) {

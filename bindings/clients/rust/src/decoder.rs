@@ -36,8 +36,8 @@ pub struct PartialPicture<E = u8> {
 
 /// A decoder of the JPEG stream that a reader gives.
 ///
-/// It asks the reader for single bytes, so give it a [`BufReader`](std::io::BufReader) over a file. A
-/// reader may be lent (`&mut reader`): after [`decode`](Decoder::decode) it stands right after the
+/// It asks the reader for single bytes, so give it a [`BufReader`](std::io::BufReader) over a file.
+/// A reader may be lent (`&mut reader`): after [`decode`](Decoder::decode) it stands right after the
 /// image.
 ///
 /// ```
@@ -359,9 +359,9 @@ impl<R: Read> Decoder<R> {
         self.decode_partial_by(layout.number())
     }
 
-    /// Reads the stream up to the end of the image, and nothing after it, and returns the picture's
-    /// rows one by one, from the top, as they are decoded: for a program that needs no whole picture
-    /// in memory.
+    /// Reads the stream up to the end of the image, and nothing after it, and returns the rows of
+    /// the picture one by one, from the top, as they are decoded: for a program that needs no whole
+    /// picture in memory.
     ///
     /// If the first scan has all components of a sequential frame, as in most files, two rows of
     /// MCUs are in memory at most beside the bytes of the stream, whatever the height is. Other
