@@ -13,3 +13,4 @@ pub mod Partial
 pub mod Pictures
 pub mod LosslessFrames
 pub mod ByRows
+pub mod FedBytes

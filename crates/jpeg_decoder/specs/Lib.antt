@@ -7,6 +7,7 @@ pub mod StreamTransforms
 pub mod LinesView
 pub mod Decodes
 pub mod Shows
+pub mod Fed
 -- what a call has read that was refused for lack of room
 pub mod HeaderAlone
 -- what a caller sees of the blocks that are kept, and the code's own words

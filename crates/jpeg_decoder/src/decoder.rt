@@ -430,6 +430,13 @@ impl<R: Read + Drop> Decoder<R> {
         self.settings.max_blocks = max;
     }
 
+    /// Sets all that a caller can set.
+    pub(crate) fn set_all(&mut self, settings: Settings)
+        ensures { self.new ≡ record self.old { settings = settings } }
+    {
+        self.settings = settings;
+    }
+
     /// Returns how many blocks one scan of all components codes, once the header has been read:
     /// between `read_info` or `scale` and `decode`, and after a picture. Returns `None` before
     /// that, and after a failure. A limit for [`set_max_blocks`](Decoder::set_max_blocks) is best a

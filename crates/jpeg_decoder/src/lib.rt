@@ -23,7 +23,8 @@
 //! `decode_planes` returns the samples of each component at its own size, neither upsampled nor
 //! converted, as video, graphics processors and programs that look at pictures take them.
 //! `decode_partial` shows the part before the first fault of a stream that may be truncated or
-//! damaged, and names that fault.
+//! damaged, and names that fault. [`FedDecoder`] shows the same at any time of a stream that arrives
+//! in pieces.
 //!
 //! `read_info` reads only the header. `info` then gives the size of the picture, and
 //! `decoding_bytes` all the memory that decoding it takes, so that a service can refuse it before
@@ -51,6 +52,7 @@ pub mod arch;
 mod by_rows;
 pub mod decoder;
 pub mod error;
+pub mod fed;
 pub mod huffman;
 pub mod idct;
 pub mod laws;
@@ -67,6 +69,7 @@ pub mod upsampler;
 pub mod worker;
 
 pub use decoder::{Decoder, ImageInfo, PartialPicture, PixelFormat};
+pub use fed::FedDecoder;
 pub use jpeg_bits::color_transform::ColorTransform;
 pub use jpeg_bits::error::{Error, UnsupportedFeature};
 pub use jpeg_bits::source::byte_reader::ByteReader;

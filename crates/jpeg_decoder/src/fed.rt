@@ -1,0 +1,290 @@
+//! A decoder that is fed the bytes of a stream in pieces, as they arrive.
+ghost use Rattle.std.specs.Prelude.{◌≡◌, ◌++◌, Ok, Some, MatchResult, IfErr, IfOk, OnErr};
+ghost use Rattle.std.specs.Prelude.{IsSomeAnd, OnOk, [], false, option_map, true};
+ghost use Rattle.std.specs.List.{concat};
+ghost use Rattle.jpeg_bits.specs.Reading.{IsGivenUp, Names};
+ghost use Rattle.jpeg_bits.specs.declared.error.Error.TheVariants.{OutOfMemory};
+ghost use Rattle.jpeg_meaning.specs.Output.{default_settings};
+ghost use Rattle.jpeg_meaning.specs.Pixels.{info_by};
+ghost use Rattle.jpeg_meaning.specs.Shown.{shown_rest_within, whole_rows_rest};
+ghost use Rattle.jpeg_meaning.specs.Stream.{header_at, told_of};
+ghost use Rattle.jpeg_meaning.specs.declared.progress.Progress.TheVariants.{Fresh, HeaderRead};
+ghost use Rattle.jpeg_decoder.specs.Bytes.{AreLinesOf, IsWhole, shape_in};
+ghost use Rattle.jpeg_decoder.specs.Fed.{ShowsFed, fed_by, frame_of, shape_fed};
+ghost use Rattle.jpeg_decoder.specs.Shows.{IsShown};
+
+use crate::decoder::{Decoder, PartialPicture};
+use crate::picture::partial::PartialLines;
+use jpeg_bits::color_transform::ColorTransform;
+use jpeg_bits::error::{Error, Result};
+use jpeg_bits::source::slice_reader::SliceReader;
+use jpeg_meaning::images::ImageInfo;
+use jpeg_meaning::settings::Settings;
+use std::alloc::Global;
+use std::io::Read;
+use std::marker::Model;
+
+/// How many bytes are read ahead at most.
+const READ_AHEAD: usize = 65536;
+
+/// Returns whether the reader of a decoder was given up before this refusal or fault.
+fn is_given_up<R: Read + Drop>(decoder: &Decoder<R>, fault: &Error) -> bool
+    ensures failed { result ≡ false → decoder.now.source.failed ≡ false }
+    ensures given { result ≡ false → IsGivenUp fault.now decoder.now.source.failed → ⊥ }
+{
+    match fault {
+        Error::Format(text) => text.is_empty() || decoder.has_read_failed(),
+        _ => decoder.has_read_failed(),
+    }
+}
+
+/// Reads the header of bytes in memory. Their reader isn't given up: where it is all the same, it
+/// counts as a lack of memory.
+fn read_header<R: Read + Drop>(decoder: &mut Decoder<R>) -> Result<()>
+    requires fresh { decoder.old.stage ≡ Fresh }
+    requires known { decoder.old.source.known ≡ true }
+    ensures stage { OnOk result (decoder.new.stage ≡ HeaderRead) }
+    ensures known { OnOk result (decoder.new.source.known ≡ true) }
+    ensures reads { OnOk result (header_at decoder.old.source.bytes
+        ≡ Ok (decoder.new.found, decoder.new.source.bytes)) }
+    ensures settings { decoder.new.settings ≡ decoder.old.settings }
+    ensures err { IfErr result (λ e. Names e (header_at decoder.old.source.bytes)) }
+{
+    match decoder.read_info() {
+        Ok(()) => Ok(()),
+        Err(error) => {
+            if is_given_up(decoder, &error) {
+                return Err(Error::OutOfMemory);
+            }
+            Err(error)
+        }
+    }
+}
+
+/// Returns what is told of the picture of bytes in memory, if their header can be read.
+fn info_of<R: Read + Drop>(decoder: &mut Decoder<R>) -> Result<Option<ImageInfo>>
+    requires fresh { decoder.old.stage ≡ Fresh }
+    requires known { decoder.old.source.known ≡ true }
+    ensures { MatchResult result (λ o. o
+        ≡ option_map (info_by decoder.old.settings) (frame_of decoder.old.source.bytes))
+        (λ e. e ≡ OutOfMemory) }
+{
+    match read_header(decoder) {
+        Ok(()) => Ok(decoder.info()),
+        Err(Error::OutOfMemory) => Err(Error::OutOfMemory),
+        Err(_) => Ok(None),
+    }
+}
+
+/// Returns whether the reader of a decoder was given up before it has shown what there is.
+fn is_lost<R: Read + Drop>(decoder: &Decoder<R>, shown: &Result<PartialLines>) -> bool
+    ensures fault { IfOk shown.now (λ p. result ≡ false
+        → IsSomeAnd p.fault (λ e. IsGivenUp e decoder.now.source.failed) → ⊥) }
+    ensures failed { IfErr shown.now
+        (λ e. result ≡ false → decoder.now.source.failed ≡ false) }
+    ensures given { IfErr shown.now
+        (λ e. result ≡ false → IsGivenUp e decoder.now.source.failed → ⊥) }
+{
+    match shown {
+        Ok(partial) => match &partial.fault {
+            Some(fault) => is_given_up(decoder, fault),
+            None => false,
+        },
+        Err(error) => is_given_up(decoder, error),
+    }
+}
+
+/// Shows what bytes in memory bring after their header. Their reader isn't given up: where it is
+/// all the same, it counts as a lack of memory.
+fn show_rest<R: Read + Drop>(decoder: &mut Decoder<R>) -> Result<PartialLines>
+    requires stage { decoder.old.stage ≡ HeaderRead }
+    requires known { decoder.old.source.known ≡ true }
+    ensures shown { let d = decoder.old in IsShown
+        (shown_rest_within d.settings.max_blocks d.settings d.found d.source.bytes)
+        (λ p. concat p.lines) (λ p. p.fault) result (told_of decoder.new.found.said) }
+    ensures rows { let d = decoder.old in IfOk result (λ p. p.whole_rows
+        ≡ whole_rows_rest d.settings.max_blocks d.found d.source.bytes) }
+    ensures lines { IfOk result (λ p. AreLinesOf (shape_in decoder.old) p.lines) }
+    ensures size { IfOk result (λ p. IsWhole (shape_in decoder.old) (concat p.lines)) }
+{
+    let shown = decoder.decode_partial_lines();
+    if is_lost(decoder, &shown) {
+        return Err(Error::OutOfMemory);
+    }
+    shown
+}
+
+/// Shows what bytes in memory bring.
+fn show<R: Read + Drop>(decoder: &mut Decoder<R>) -> Result<PartialLines>
+    requires fresh { decoder.old.stage ≡ Fresh }
+    requires known { decoder.old.source.known ≡ true }
+    ensures shows { ShowsFed (λ p. concat p.lines) (λ p. p.fault) (λ p. p.whole_rows)
+        (fed_by decoder.old) result }
+    ensures lines { IfOk result (λ p. AreLinesOf (shape_fed (fed_by decoder.old)) p.lines) }
+{
+    read_header(decoder)?;
+    show_rest(decoder)
+}
+
+/// Takes the bytes of a stream in pieces, as they arrive, and shows at any time what they have
+/// brought so far. It keeps all bytes.
+///
+///     let mut decoder = FedDecoder::new(alloc);
+///     while let Some(piece) = connection.receive()? {
+///         decoder.feed(&piece)?;
+///         if let Ok(shown) = decoder.show() {
+///             view.draw(decoder.info()?, &shown.pixels, shown.whole_rows)?;
+///         }
+///     }
+#[derive(Drop)]
+pub struct FedDecoder {
+    alloc: Global,
+    settings: Settings,
+    bytes: Vec<u8>,
+}
+
+impl Model for FedDecoder {
+    ghost use Rattle.jpeg_decoder.specs.Fed.{FedState};
+
+    ghost Value = { FedState };
+
+    ghost view = { λ d. record { settings = d.settings; bytes = d.bytes.items } };
+}
+
+impl FedDecoder {
+    /// Makes a decoder that has no bytes yet.
+    pub fn new(alloc: Global) -> FedDecoder
+        ensures { result ≡ record { settings = default_settings; bytes = [] } }
+    {
+        FedDecoder {
+            alloc,
+            settings: Settings {
+                limit: usize::MAX,
+                color_transform: None,
+                max_blocks: None,
+                luma: false,
+            },
+            bytes: Vec::new(alloc),
+        }
+    }
+
+    /// Sets the colour transform, as [`Decoder::set_color_transform`] does.
+    pub fn set_color_transform(&mut self, transform: ColorTransform)
+        ensures { self.new ≡ record self.old {
+          settings = record self.old.settings
+              { color_transform = Some transform };
+        } }
+    {
+        self.settings.color_transform = Some(transform);
+    }
+
+    /// Sets whether the picture is the luma alone, as [`Decoder::set_luma`] does.
+    pub fn set_luma(&mut self, luma: bool)
+        ensures { self.new ≡ record self.old {
+          settings = record self.old.settings
+              { luma = luma };
+        } }
+    {
+        self.settings.luma = luma;
+    }
+
+    /// Sets how many samples a picture may have, as [`Decoder::set_max_decoding_buffer_size`] does.
+    pub fn set_max_decoding_buffer_size(&mut self, max: usize)
+        ensures { self.new ≡ record self.old {
+          settings = record self.old.settings
+              { limit = max };
+        } }
+    {
+        self.settings.limit = max;
+    }
+
+    /// Sets how many blocks the scans of the stream may code, as [`Decoder::set_max_blocks`] does:
+    /// all scans of the bytes together, however often they are shown.
+    pub fn set_max_blocks(&mut self, max: Option<u64>)
+        ensures { self.new ≡ record self.old {
+          settings = record self.old.settings
+              { max_blocks = max };
+        } }
+    {
+        self.settings.max_blocks = max;
+    }
+
+    /// Takes the next bytes of the stream. The only error is `OutOfMemory`, in which case none of
+    /// them were taken, so that they can be fed again.
+    pub fn feed(&mut self, piece: &[u8]) -> Result<()>
+        // The bytes come after those that were fed before.
+        ensures fed { OnOk result
+            (self.new ≡ record self.old { bytes = self.old.bytes ++ piece.now }) }
+
+        // After an error nothing has changed.
+        ensures unfed { OnErr result (self.new ≡ self.old) }
+        ensures err { IfErr result (λ e. e ≡ OutOfMemory) }
+    {
+        self.bytes.extend_from_slice(piece)?;
+        Ok(())
+    }
+
+    /// Returns a decoder of all bytes that were fed.
+    fn decoder(&self) -> Result<Decoder<SliceReader<'_>>>
+        ensures stage { IfOk result (λ d. d.stage ≡ Fresh) }
+        ensures known { IfOk result (λ d. d.source.known ≡ true) }
+        ensures fed { IfOk result (λ d. fed_by d ≡ self.now) }
+        ensures err { IfErr result (λ e. e ≡ OutOfMemory) }
+    {
+        let bytes = self.bytes.as_slice();
+        let capacity = bytes.len().min(READ_AHEAD);
+        let reader = SliceReader::new(bytes);
+        let mut decoder = Decoder::with_capacity(self.alloc, capacity, reader)?;
+        decoder.set_all(self.settings);
+        Ok(decoder)
+    }
+
+    /// Returns the size and the format of the picture by the settings, as [`Decoder::info`] does,
+    /// or `None` where the header can't be read: it isn't complete yet, or has a fault. The header
+    /// is read anew by each call. The only error is `OutOfMemory`.
+    pub fn info(&self) -> Result<Option<ImageInfo>>
+        ensures { MatchResult result (λ o. o
+            ≡ option_map (info_by self.now.settings) (frame_of self.now.bytes))
+            (λ e. e ≡ OutOfMemory) }
+    {
+        info_of(&mut self.decoder()?)
+    }
+
+    /// Returns the lines of the picture that the bytes have brought so far, and their first fault:
+    /// see `show`.
+    pub fn show_lines(&self) -> Result<PartialLines>
+        // What the bytes that were fed show, all at once: see `ShowsFed`.
+        ensures shows { ShowsFed (λ p. concat p.lines) (λ p. p.fault) (λ p. p.whole_rows) self.now
+            result }
+
+        // There are as many lines as `info` says, each of as many bytes as the frame says.
+        ensures lines { IfOk result (λ p. AreLinesOf (shape_fed self.now) p.lines) }
+    {
+        show(&mut self.decoder()?)
+    }
+
+    /// Returns the picture that the bytes have brought so far, and their first fault: what
+    /// [`Decoder::decode_partial`] of a new decoder with these settings returns for all of them
+    /// together, however they were fed. While the stream isn't complete the fault is that it ends.
+    ///
+    /// Nothing changes, so that more bytes can be fed. It decodes all bytes anew: to show a stream
+    /// n times while it arrives takes about n / 2 times as long as to decode it once.
+    ///
+    /// The errors are those of `decode_partial`: a fault where no frame header was accepted before
+    /// it, as while the header isn't complete; `Format` if the picture is above the limit, the
+    /// colour transform doesn't fit it, or it has no luma of its own and `set_luma` asks for that;
+    /// and `OutOfMemory`.
+    pub fn show(&self) -> Result<PartialPicture>
+        // What the bytes that were fed show, all at once: see `ShowsFed`.
+        ensures shows { ShowsFed (λ p. p.pixels.items) (λ p. p.fault) (λ p. p.whole_rows) self.now
+            result }
+    {
+        let shown = self.show_lines()?;
+        let pixels = shown.lines.into_picture(self.alloc)?;
+        Ok(PartialPicture {
+            pixels,
+            whole_rows: shown.whole_rows,
+            fault: shown.fault,
+        })
+    }
+}
