@@ -1,5 +1,5 @@
 -- A scan whose rows of MCUs become lines one by one: what is known of it between two of them.
-use Rattle.std.specs.Prelude.{◌≡◌, ◌-◌, ◌≤◌, ◌++◌, ℕ, List, [], Bool, true, false, map, Option}
+use Rattle.std.specs.Prelude.{◌≡◌, ◌-◌, ◌<◌, ◌≤◌, ◌++◌, ℕ, List, [], Bool, true, false, map, Option}
 use Rattle.std.specs.Prelude.{IfSome, None, Ok, Err, Result, length, option_map, replicate, suc}
 use Rattle.std.specs.List.{concat, range_with_len}
 use Rattle.jpeg_bits.specs.Entropy.{Ahead, Text, fresh, upcoming}
@@ -89,6 +89,10 @@ pub record ReadsRows (found : Found) (frame : Frame) (scan : RowScan) (old new :
       (counted_at_start scan.order.interval []) fresh old scan.giver.rows scan.giver
       (counted scan.interval []) scan.interval.decoder new bytes
 
+-- how many rows of MCUs are left of a scan, at most: no frame has more than 65535
+abbrev pub rows_left : RowScan → ℕ
+rows_left scan = 65535 - scan.giver.rows
+
 -- ---- the scan
 
 -- a header that was read
@@ -176,7 +180,8 @@ LeadsTo settings found old k now at =
 
 -- All lines of a picture are left, each of as many bytes as its shape says.
 abbrev pub IsUntaken : Option Shape → LinesLeft → Type 0
-IsUntaken shape shown = HaveLines shape shown.left × (shown.line ≡ [])
+IsUntaken shape shown =
+    HaveLines shape shown.left × (shown.line ≡ []) × (length shown.left < 65536)
 
 -- A scan was begun whose lines are given as it is read, or the lines are there of a picture that was
 -- read whole, or it was refused.

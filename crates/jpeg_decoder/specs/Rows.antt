@@ -1,11 +1,11 @@
 -- What a caller sees of lines that are given as a stream is read: see `Rows`.
-use Rattle.std.specs.Prelude.{◌≡◌, ◌++◌, ℕ, List, [], Bool, true, false, Result, Ok, Err}
+use Rattle.std.specs.Prelude.{◌≡◌, ◌++◌, ℕ, List, [], length, Bool, true, false, Result, Ok, Err}
 use Rattle.std.specs.List.{concat}
 use Rattle.jpeg_bits.specs.declared.error.Error.{Error}
 use Rattle.jpeg_meaning.specs.States.{Decoding}
 use Rattle.jpeg_decoder.specs.Bytes.{HaveLines, shape_in}
 use Rattle.jpeg_decoder.specs.DecodesRows.{DecodesRows}
-use Rattle.jpeg_decoder.specs.RowScans.{IsGiving, IsGivingScan}
+use Rattle.jpeg_decoder.specs.RowScans.{IsGiving, IsGivingScan, rows_left}
 use Rattle.jpeg_decoder.specs.declared.rows.Ahead.{Ahead}
 use Rattle.jpeg_decoder.specs.declared.rows.Ahead.TheVariants as ahead
 
@@ -20,6 +20,13 @@ lines_in ahead.Start = []
 lines_in (ahead.Scan rows) = rows.giver.lines.items
 lines_in (ahead.Lines shown) = shown.line
 lines_in ahead.End = []
+
+-- how many calls may still return true, at most: the first, and one for each row of MCUs or each line
+abbrev pub calls_left : Ahead → ℕ
+calls_left ahead.Start = 65536
+calls_left (ahead.Scan rows) = rows_left rows
+calls_left (ahead.Lines shown) = length shown.left
+calls_left ahead.End = 0
 
 -- what always holds
 abbrev pub IsReadyAhead : Decoding → Ahead → Type 0

@@ -1,7 +1,7 @@
 //! The decoder and its states.
 ghost use Rattle.std.specs.Prelude.{◌≡◌, if◌then◌else◌, IfOk, IfErr, MatchResult, OnErr, OnOk};
 ghost use Rattle.std.specs.Prelude.{IsErrAnd, map, Some, [], replicate, IfSome, None, option_map};
-ghost use Rattle.std.specs.Prelude.{is_some, Err, List, true, false, ℕ};
+ghost use Rattle.std.specs.Prelude.{is_some, Err, List, true, false, ℕ, ◌<◌};
 ghost use Rattle.std.specs.Io.KnownBytes.{prepend_known};
 ghost use Rattle.jpeg_bits.specs.Reading.{Answers};
 ghost use Rattle.jpeg_bits.specs.Stream.{stream_of};
@@ -14,6 +14,7 @@ ghost use Rattle.jpeg_meaning.specs.States.{Decoding, MovesToHeader, IsReading, 
 ghost use Rattle.jpeg_meaning.specs.States.{turns_ahead, OnTold, OnToldRefusal, HasHeader};
 ghost use Rattle.jpeg_decoder.specs.Decodes.{Decodes, DecodesPlanes};
 ghost use Rattle.jpeg_decoder.specs.RowScans.{GivesMore, IsGiving, IsGivingScan, StartsRows};
+ghost use Rattle.jpeg_decoder.specs.RowScans.{rows_left};
 ghost use Rattle.jpeg_decoder.specs.Shows.{CountsRows, Shows};
 ghost use Rattle.std.specs.List.{concat};
 ghost use Rattle.jpeg_decoder.specs.Bytes.{AreLinesOf, AreOwnPlanes, HasRoom, IsCounted, IsWhole};
@@ -799,6 +800,7 @@ impl<R: Read + Drop> Decoder<R> {
         ensures gives { (start : Decoding) (bytes : List ℕ)
             → IsGivingScan start self.old rows.old bytes
             → GivesMore start bytes result self.new rows.new }
+        ensures fewer { result ≡ Ok true → rows_left rows.new < rows_left rows.old }
         ensures settings { self.new.settings ≡ self.old.settings }
     {
         let more = read_more(

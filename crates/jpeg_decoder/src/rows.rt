@@ -1,10 +1,10 @@
 //! The lines of a picture, from the top, as the stream that codes them is read.
-ghost use Rattle.std.specs.Prelude.{◌++◌, List, Ok, ℕ};
+ghost use Rattle.std.specs.Prelude.{◌++◌, ◌<◌, List, Ok, length, ℕ};
 ghost use Rattle.std.specs.List.{concat};
 ghost use Rattle.jpeg_meaning.specs.States.{Decoding};
 ghost use Rattle.jpeg_decoder.specs.DecodesRows.{DecodesRows};
-ghost use Rattle.jpeg_decoder.specs.RowScans.{IsGiving, IsGivingScan};
-ghost use Rattle.jpeg_decoder.specs.Rows.{AreGiven, GivesNext, lines_in};
+ghost use Rattle.jpeg_decoder.specs.RowScans.{IsGiving, IsGivingScan, rows_left};
+ghost use Rattle.jpeg_decoder.specs.Rows.{AreGiven, GivesNext, calls_left, lines_in};
 
 use crate::by_rows::first_scan::RowScan;
 use crate::by_rows::rest::Begun;
@@ -124,6 +124,10 @@ impl<R: Read + Drop> Rows<R> {
         ensures whole { IfOk result (λ _. AreWholeLines (shape_in self.new.decoder)
             (lines_in self.new.ahead)) }
 
+        // A loop that calls it while it returns true comes to an end.
+        ensures fewer { result ≡ Ok true
+            → calls_left self.new.ahead < calls_left self.old.ahead }
+
         // After an error or false nothing lies ahead, and then it is false.
         ensures end { (result ≡ Ok true → ⊥) → self.new.ahead ≡ End }
         ensures ended { self.old.ahead ≡ End → (result ≡ Ok false) × (self.new ≡ self.old) }
@@ -145,6 +149,7 @@ impl<R: Read + Drop> Rows<R> {
         ensures gives { GivesNext self.old.decoder [] result self.new }
         ensures whole { IfOk result (λ _. AreWholeLines (shape_in self.new.decoder)
             (lines_in self.new.ahead)) }
+        ensures fewer { result ≡ Ok true → calls_left self.new.ahead < 65536 }
         ensures end { (result ≡ Ok true → ⊥) → self.new.ahead ≡ End }
         ensures settings { self.new.decoder.settings ≡ self.old.decoder.settings }
     {
@@ -169,6 +174,7 @@ impl<R: Read + Drop> Rows<R> {
             → GivesNext start bytes result self.new }
         ensures whole { IfOk result (λ _. AreWholeLines (shape_in self.new.decoder)
             (lines_in self.new.ahead)) }
+        ensures fewer { result ≡ Ok true → calls_left self.new.ahead < rows_left rows }
         ensures end { (result ≡ Ok true → ⊥) → self.new.ahead ≡ End }
         ensures settings { self.new.decoder.settings ≡ self.old.decoder.settings }
     {
@@ -187,6 +193,7 @@ impl<R: Read + Drop> Rows<R> {
             → DecodesRows start (Ok tt) self.old.decoder (bytes ++ concat shown.left)
             → GivesNext start bytes (Ok result) self.new }
         ensures whole { AreWholeLines (shape_in self.new.decoder) (lines_in self.new.ahead) }
+        ensures fewer { result ≡ true → calls_left self.new.ahead < length shown.left }
         ensures end { result ≡ false → self.new.ahead ≡ End }
         ensures decoder { self.new.decoder ≡ self.old.decoder }
     {

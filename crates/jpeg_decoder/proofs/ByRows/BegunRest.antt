@@ -1,5 +1,5 @@
 -- What a call says that begins to give the lines of the rest of a stream, at each of its ends.
-use Rattle.std.proofs.Common.{◌≡◌, ℕ, suc, Bool, Option, true, false, List, [], length, Result, Ok, Err, ap, refl, subst, sym}
+use Rattle.std.proofs.Common.{◌≡◌, ◌<◌, ℕ, suc, Bool, Option, true, false, List, [], length, Result, Ok, Err, ap, refl, subst, sym}
 use Rattle.std.specs.Prelude.{IfOk, option_map}
 use Rattle.std.specs.List.{concat}
 use Rattle.jpeg_bits.specs.Reading.{IsShort}
@@ -27,10 +27,10 @@ use Rattle.jpeg_decoder.proofs.Pictures.PictureSizes.{lines-whole}
 -- ---- the lines of what was found
 
 pub shown-lines : (shape : Option Shape) (lines : List (List ℕ)) (r : Result LinesLeft Error) → AreLinesOf shape lines
-    → IfOk r (λ s. s ≡ record { left = lines; line = [] }) → IfOk r (IsUntaken shape)
-shown-lines shape lines (Ok s) are ok =
-    subst (IsUntaken shape) (sym ok) (all-lines shape lines are, refl)
-shown-lines shape lines (Err e) are ok = tt
+    → length lines < 65536 → IfOk r (λ s. s ≡ record { left = lines; line = [] }) → IfOk r (IsUntaken shape)
+shown-lines shape lines (Ok s) are few ok =
+    subst (IsUntaken shape) (sym ok) (all-lines shape lines are, refl, few)
+shown-lines shape lines (Err e) are few ok = tt
 
 -- The lines of a picture together are whole where they are taken as those that are left.
 pub shown-whole : (settings : Settings) (found : Found) (lines : List (List ℕ)) (r : Result LinesLeft Error)

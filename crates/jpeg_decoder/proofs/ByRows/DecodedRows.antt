@@ -1,5 +1,6 @@
 -- A call that reads the header of a stream where it is to be read, and then gives the lines of its picture.
 use Rattle.std.proofs.Common.{◌≡◌, ◌∙◌, ◌++◌, Bool, true, false, List, [], ℕ, Option, Result, Ok, Err, OnOk, refl, sym, ap, subst}
+use Rattle.std.proofs.Common.{is_some}
 use Rattle.std.proofs.lemmas.Bool.{false≢true}
 use Rattle.std.specs.List.{concat}
 use Rattle.std.specs.Prelude.{option_map}
@@ -9,6 +10,7 @@ use Rattle.jpeg_bits.specs.declared.error.Error.{Error}
 use Rattle.jpeg_bits.specs.declared.error.Error.TheVariants as errors
 use Rattle.jpeg_segments.specs.Frame.{Frame}
 use Rattle.jpeg_meaning.specs.Found.{Found}
+use Rattle.jpeg_meaning.specs.Sound.{HasDecodedFrame}
 use Rattle.jpeg_meaning.specs.States.{Decoding, IsOfBytes, IsReading, MovesToEnd}
 use Rattle.jpeg_meaning.specs.Stream.{Told, header_at, told_of}
 use Rattle.jpeg_meaning.specs.declared.progress.Progress.{Progress}
@@ -18,7 +20,8 @@ use Rattle.jpeg_meaning.proofs.Written.ReadTurns.{then-ok}
 use Rattle.jpeg_decoder.specs.ByRows.{rows_ahead, rows_rest}
 use Rattle.jpeg_decoder.specs.Bytes.{IsWhole, shape_of}
 use Rattle.jpeg_decoder.specs.DecodesRows.{DecodesRows}
-use Rattle.jpeg_decoder.specs.RowScans.{Begins, GoesOn, InScan, IsBegunAt, IsGivingScan, IsUntaken, SaysAtScan, SaysRest}
+use Rattle.jpeg_decoder.specs.RowScans.{Begins, GoesOn, InScan, IsBegunAt, IsGiving, IsGivingScan, IsUntaken, SaysAtScan}
+use Rattle.jpeg_decoder.specs.RowScans.{SaysRest}
 use Rattle.jpeg_decoder.specs.RowsView.{LinesLeft}
 use Rattle.jpeg_decoder.specs.declared.by_rows.first_scan.RowScan.{RowScan}
 use Rattle.jpeg_decoder.specs.declared.by_rows.rest.Begun.{Begun}
@@ -161,6 +164,17 @@ pub record IsDropped (now new : Found) : Type 0 where
 
 pub dropped-frame : (now new : Found) → told_of new.said ≡ told_of now.said → new.said.frame ≡ now.said.frame
 dropped-frame now new h = ap (λ (t : Told). t.frame) h
+
+-- The frame is there still.
+pub dropped-decoded : (d mid : Decoding) (scan : RowScan) (now found : Found) → IsGiving d scan → mid ≡ d
+    → now.said.frame ≡ mid.found.said.frame → told_of found.said ≡ told_of now.said → HasDecodedFrame now
+    → (is_some found.said.frame ≡ true) × HasDecodedFrame found
+dropped-decoded d mid scan now found giving e stays told decoded =
+    let same = dropped-frame now found told in
+    let framed = giving.is.is.header.legal.framed in (
+      ap is_some (same ∙ stays ∙ ap (λ (x : Decoding). x.found.said.frame) e ∙ framed),
+      λ frame is. decoded frame (sym same ∙ is),
+    )
 
 rows-ended : (old mid new : Decoding) (now : Found) (r : Result (Unit {0}) Error) (bytes : List ℕ) → IsBegun old mid
     → MovesToEnd old.stage new.stage r

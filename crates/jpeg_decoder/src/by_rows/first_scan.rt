@@ -15,6 +15,7 @@ ghost use Rattle.jpeg_decoder.specs.ByRows.{turn_without, turns_without};
 ghost use Rattle.jpeg_decoder.specs.Givers.{GivesScan};
 ghost use Rattle.jpeg_decoder.specs.Reaching.{IsEndOf, turn_after};
 ghost use Rattle.jpeg_decoder.specs.RowScans.{ComesBy, HasHeader, InScan, IsInScan, SaysAtScan};
+ghost use Rattle.jpeg_decoder.specs.RowScans.{rows_left};
 ghost use Rattle.jpeg_decoder.specs.Steps.{IsHeaderOf, IsRefusal, IsStep, turn_of};
 ghost use Rattle.jpeg_decoder.specs.Walks.{IsGoing, IsKnownIf, known_if};
 
@@ -127,6 +128,7 @@ pub fn read_lines<R: Read + Drop>(
         (bytes ++ rows.new.giver.lines.items))
         (λ e. SaysAtScan settings k state.now at (Err e) source.new (told_of state.now.said) false
         bytes) }
+    ensures fewer { OnOk result (rows_left rows.new < rows_left rows.old) }
     ensures kept { rows.new.walk ≡ rows.old.walk }
 {
     let said = &state.said;

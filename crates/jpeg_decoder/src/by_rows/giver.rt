@@ -100,6 +100,7 @@ impl RowGiver {
             self.old.convert (self.old.rows + 1) self.new) }
         ensures given { OnOk result (GivesRow (frame_in frame.now) (map coding_in codings.now)
             self.old self.new) }
+        ensures few { OnOk result (self.new.rows < 65536) }
         ensures err { IfErr result (λ e. e ≡ OutOfMemory) }
     {
         prove!(self.rows < frame.mcu_size.height);

@@ -11,7 +11,7 @@ ghost use Rattle.jpeg_decoder.specs.ByRows.{comes_by_rows, conversion_for, conve
 ghost use Rattle.jpeg_decoder.specs.ByRows.{keeps_transform, transform_place, transform_said};
 ghost use Rattle.jpeg_decoder.specs.Bytes.{IsWhole, shape_of};
 ghost use Rattle.jpeg_decoder.specs.RowScans.{Begins, BeginsAtScan, GoesOn, InScan, IsInScan};
-ghost use Rattle.jpeg_decoder.specs.RowScans.{IsUntaken, SaysAtScan};
+ghost use Rattle.jpeg_decoder.specs.RowScans.{IsUntaken, SaysAtScan, rows_left};
 ghost use Rattle.jpeg_decoder.specs.Steps.{IsHeaderOf, Returns};
 ghost use Rattle.jpeg_decoder.specs.Walks.{IsGoing, IsKnownIf};
 
@@ -291,6 +291,7 @@ pub fn read_more<R: Read + Drop>(
         → InScan settings k state.old at rows.old source.old bytes
         → GoesOn settings k state.old at result state.new rows.new source.new
         rows.new.walk.budget.exceeded bytes }
+    ensures fewer { result ≡ Ok true → rows_left rows.new < rows_left rows.old }
     ensures stays { state.new.said.frame ≡ state.old.said.frame }
     ensures frames { OnOk result (HasDecodedFrame state.new) }
 {

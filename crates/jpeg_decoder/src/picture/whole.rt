@@ -76,7 +76,8 @@ pub fn read_start<R: Read + Drop>(alloc: Global, source: &mut Source<R>) -> Resu
 
 /// Returns the samples of a component of the size of the picture.
 fn area_of(size: Dimensions) -> usize
-    ensures { result ≡ size.width * size.height }
+    ensures product { result ≡ size.width * size.height }
+    ensures few_lines { size.height < 65536 }
 {
     usize::from(size.width) * usize::from(size.height)
 }
@@ -373,6 +374,7 @@ pub fn picture(
         Returns expected (λ l. concat l) result }
     ensures lines { IfOk result (λ l. AreLinesOf
         (option_map (shape_of settings) state.now.said.frame) l) }
+    ensures few { IfOk result (λ l. length l < 65536) }
 {
     let frame = needed(
         alloc,

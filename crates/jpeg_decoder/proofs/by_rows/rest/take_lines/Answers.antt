@@ -18,4 +18,4 @@ returns-clause-untaken c =
     search rules in
     shown-lines (option_map (shape_of c.args.settings) now.said.frame) c.in_ok-lines.lines c.new-2.result
     (subst (λ (f : Found). AreLinesOf (option_map (shape_of c.args.settings) f.said.frame) c.in_ok-lines.lines)
-    (sym c.state.view_is) are) c.new-2.ensures.ok
+    (sym c.state.view_is) are) c.in_ok-lines.ensures.few c.new-2.ensures.ok
