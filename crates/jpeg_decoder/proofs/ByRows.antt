@@ -5,6 +5,8 @@ pub mod BegunRest
 pub mod BegunScans
 pub mod DecodedRows
 pub mod FinishedScans
+pub mod FirstLines
+pub mod FirstRows
 pub mod FrameRows
 pub mod FromScan
 pub mod GivenRows

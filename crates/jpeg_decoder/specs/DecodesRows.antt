@@ -1,5 +1,5 @@
 -- What the calls do together that decode what a decoder has left, and give its lines: see `Rows`.
-use Rattle.std.specs.Prelude.{◌≡◌, ℕ, List, OnOk, Result}
+use Rattle.std.specs.Prelude.{◌≡◌, ℕ, List, OnOk, Result, true}
 use Rattle.jpeg_bits.specs.Reading.{Answers}
 use Rattle.jpeg_bits.specs.declared.error.Error.{Error}
 use Rattle.jpeg_meaning.specs.DecodedImages.{DecodesImages}
@@ -8,6 +8,7 @@ use Rattle.jpeg_meaning.specs.Stream.{told_of}
 use Rattle.jpeg_meaning.specs.declared.progress.Progress.TheVariants.{HeaderRead}
 use Rattle.jpeg_decoder.specs.ByRows.{rows_ahead}
 use Rattle.jpeg_decoder.specs.Bytes.{IsWhole, shape_in}
+use Rattle.jpeg_decoder.specs.FirstLines.{GivesFirstIf, lines_ahead}
 use Rattle.jpeg_decoder.specs.Decodes.{IsTold, IsToldInTurns, KeepsNothing, KnowsExceeded}
 
 -- These bytes are the lines that were given.
@@ -26,6 +27,10 @@ pub record DecodesRows (old : Decoding) (result : Result (Unit {0}) Error) (new 
   pub settled : rows_ahead old.stage old.settings old.found old.source.bytes
       ≡ ahead old.stage old.settings old.found old.source.bytes
       → DecodesImages (λ u. bytes) old result new
+  -- For any bytes, before an error they are the lines that the first rows of MCUs decide.
+  pub given : IsReading old.stage → old.source.known ≡ true → GivesFirstIf
+      (λ rows. lines_ahead old.stage old.settings old.found old.source.bytes rows) result
+      new.source.known bytes
   -- They are as many bytes as the frame says.
   pub whole : OnOk result (IsWhole (shape_in new) bytes)
   -- The settings stay, and so does the frame that was read before.

@@ -27,6 +27,7 @@ pub mod Walks
 -- pictures whose lines are given as their first scan is read
 pub mod ByRows
 pub mod Givers
+pub mod FirstLines
 pub mod DecodesRows
 pub mod RowScans
 pub mod RowsView

@@ -28,6 +28,7 @@ use Rattle.jpeg_decoder.specs.ByRows.{rows_rest, scan_walk, scan_walk_for, shown
 use Rattle.jpeg_decoder.specs.ByRows.{transform_said}
 use Rattle.jpeg_decoder.specs.Bytes.{HaveLines, Shape, shape_in, shape_of}
 use Rattle.jpeg_decoder.specs.DecodesRows.{DecodesRows}
+use Rattle.jpeg_decoder.specs.FirstLines.{GivesFirstIf, first_lines, lines_at_scan}
 use Rattle.jpeg_decoder.specs.Givers.{GivesLines, IsEndOf, IsReady}
 use Rattle.jpeg_decoder.specs.RowsView.{LinesLeft}
 use Rattle.jpeg_decoder.specs.Scanning.{BlockScan, counted, scan_vias}
@@ -157,6 +158,8 @@ pub record SaysAtScan (settings : Settings) (k : Bool) (found : Found) (at : Str
       (λ n. told_of (scan_walk_for settings.max_blocks n found at.bytes).found.said) told
   pub exceeds : OnTold (known_if k at) new result
       (exceeded ≡ (scan_walk settings.max_blocks found at.bytes).exceeded)
+  pub given : k ≡ true → GivesFirstIf (λ rows. lines_at_scan rows settings found at.bytes) result
+      new.known bytes
 
 -- The same of the rest of a stream after its header.
 pub record SaysRest (settings : Settings) (found : Found) (old : Stream)
@@ -170,6 +173,8 @@ pub record SaysRest (settings : Settings) (found : Found) (old : Stream)
       → IsOfTurns (λ n. told_in_turns settings.max_blocks n false found old.bytes) told
   pub exceeds : OnTold old new result
       (exceeded ≡ exceeded_rest settings.max_blocks Zeros found old.bytes)
+  pub given : old.known ≡ true → GivesFirstIf (λ rows. first_lines rows settings found old.bytes)
+      result new.known bytes
 
 -- What is said of a stream from the marker of a scan on is said of all of it.
 abbrev pub LeadsTo : Settings → Found → Stream → Bool → Found → Stream → Type 0

@@ -1,6 +1,6 @@
 -- What a call says that begins to give the lines of the rest of a stream, at each of its ends.
 use Rattle.std.proofs.Common.{◌≡◌, ◌<◌, ℕ, suc, Bool, Option, true, false, List, [], length, Result, Ok, Err, ap, refl, subst, sym}
-use Rattle.std.specs.Prelude.{IfOk, option_map}
+use Rattle.std.specs.Prelude.{IfErr, IfOk, option_map}
 use Rattle.std.specs.List.{concat}
 use Rattle.jpeg_bits.specs.Reading.{IsShort}
 use Rattle.jpeg_bits.specs.Stream.{Stream}
@@ -12,11 +12,14 @@ use Rattle.jpeg_meaning.specs.States.{OnTold}
 use Rattle.jpeg_meaning.specs.Stream.{told_of}
 use Rattle.jpeg_meaning.specs.declared.settings.Settings.{Settings}
 use Rattle.jpeg_decoder.specs.Bytes.{AreLinesOf, IsWhole, Shape, shape_of}
+use Rattle.jpeg_decoder.specs.FirstLines.{first_lines, lines_at_scan}
 use Rattle.jpeg_decoder.specs.RowScans.{Begins, BeginsAtScan, IsBegunAt, IsUntaken, LeadsTo, SaysRest}
 use Rattle.jpeg_decoder.specs.RowsView.{LinesLeft}
 use Rattle.jpeg_decoder.specs.Walks.{IsKnownIf}
 use Rattle.jpeg_decoder.specs.declared.by_rows.rest.Begun.{Begun}
 use Rattle.jpeg_decoder.specs.declared.by_rows.rest.Begun.TheVariants as begun
+use Rattle.jpeg_decoder.proofs.ByRows.FirstLines.{first-at-scan, first-ended, first-refused, none-first, none-first-if}
+use Rattle.jpeg_decoder.proofs.ByRows.FirstLines.{same-first}
 use Rattle.jpeg_decoder.proofs.ByRows.Joined.{MakesFound}
 use Rattle.jpeg_decoder.proofs.ByRows.Shown.{ReadsAhead, ahead-stops, ahead-unexceeded, end-gives, end-tells}
 use Rattle.jpeg_decoder.proofs.ByRows.Shown.{end-turns, end-unexceeded, known-there, there-exceeds, there-gives}
@@ -54,6 +57,8 @@ says-refused settings found now old new e b none a told turns = record {
   tells = told;
   turns = turns;
   exceeds = ahead-unexceeded settings.max_blocks found now old new e b none a;
+  given = λ k. none-first (λ n. first_lines n settings found old.bytes) e new.known
+      (λ still. first-refused settings found old.bytes 1 e (a.1 k still));
 }
 
 -- ---- there is a scan
@@ -66,6 +71,8 @@ leads-there settings found now old mid a stays r new told b bytes s = record {
   tells = there-told settings found now old mid new r told bytes a s.gives s.tells;
   turns = there-turns settings.max_blocks found now old mid told a s.turns;
   exceeds = there-exceeds settings.max_blocks found now old mid new r b a s.exceeds;
+  given = λ k. same-first (λ n. lines_at_scan n settings now mid.bytes) (λ n. first_lines n settings found old.bytes)
+      r new.known bytes (λ n. first-at-scan settings found now old.bytes mid.bytes n (a.1 k).1) (s.given k);
 }
 
 begins-from : (settings : Settings) (k : Bool) (found now end : Found) (old mid new : Stream) (r : Result Begun Error)
@@ -98,12 +105,14 @@ begins-there settings found now end old mid new r b short a stays h =
 pub says-ended : (settings : Settings) (found now : Found) (said : Said) (old new : Stream)
     (r : Result (Unit {0}) Error) (b : Bool) (bytes : List ℕ) → b ≡ false → ReadsAhead found now old (Ok false) new
     → said ≡ now.said → now.said.frame ≡ found.said.frame → MakesFound settings now r bytes
-    → SaysRest settings found old r new (told_of said) b bytes
-says-ended settings found now said old new r b bytes none a same stays made =
+    → IfErr r (λ _. bytes ≡ []) → SaysRest settings found old r new (told_of said) b bytes
+says-ended settings found now said old new r b bytes none a same stays made empty =
     let told = ap told_of same in
     record {
       gives = end-gives settings found now old new r (told_of said) bytes a told stays made;
       tells = end-tells settings.max_blocks found now old new r (told_of said) a told;
       turns = end-turns settings.max_blocks found now old new (told_of said) a told;
       exceeds = end-unexceeded settings.max_blocks found now old new r b none a;
+      given = λ k. none-first-if (λ n. first_lines n settings found old.bytes) r new.known bytes empty
+          (λ e still. first-ended settings found now old.bytes new.bytes 1 e (a.1 k).1);
     }

@@ -1,7 +1,7 @@
 -- What a call says that begins to give lines at the header of a first scan, at each of its ends.
 use Rattle.std.proofs.Common.{◌≡◌, ◌∙◌, ℕ, Bool, true, false, List, [], Option, Some, Result, Ok, Err}
-use Rattle.std.proofs.Common.{refl, sym, ap, subst, is_some}
-use Rattle.std.specs.Prelude.{IfSome}
+use Rattle.std.proofs.Common.{inl, refl, sym, ap, subst, is_some}
+use Rattle.std.specs.Prelude.{IfErr, IfSome}
 use Rattle.jpeg_bits.specs.Reading.{Names}
 use Rattle.jpeg_bits.specs.Stream.{Stream}
 use Rattle.jpeg_bits.specs.declared.beyond.Beyond.TheVariants.{Zeros}
@@ -21,11 +21,14 @@ use Rattle.jpeg_meaning.specs.Stream.{told_of}
 use Rattle.jpeg_meaning.specs.Work.{is_above, work_of_header}
 use Rattle.jpeg_meaning.specs.declared.settings.Settings.{Settings}
 use Rattle.jpeg_decoder.specs.ByRows.{comes_by_rows, scan_walk_for, turn_without, walk_after, walk_on}
+use Rattle.jpeg_decoder.specs.FirstLines.{GivesFirst, GivesFirstIf, lines_at_scan}
 use Rattle.jpeg_decoder.specs.RowScans.{ComesBy, HasHeader, InScan, ReadsHeader, SaysAtScan}
 use Rattle.jpeg_decoder.specs.Steps.{IsDct, IsRefusal, turn_of}
 use Rattle.jpeg_decoder.specs.Walks.{IsKnownIf, known_if}
 use Rattle.jpeg_decoder.specs.declared.by_rows.first_scan.RowScan.{RowScan}
 use Rattle.jpeg_decoder.specs.declared.stream.state.Step.{Step}
+use Rattle.jpeg_decoder.proofs.ByRows.FirstLines.{IsOutOrNone, codings-lack, header-lacks, none-first, none-first-if}
+use Rattle.jpeg_decoder.proofs.ByRows.FirstLines.{unchecked-lacks}
 use Rattle.jpeg_decoder.proofs.ByRows.FromScan.{at-frame, comes-fits, frames-stay, none-ends, none-stops}
 use Rattle.jpeg_decoder.proofs.ByRows.FromScan.{none-stops-exceeds, none-stops-told, none-takes, on-stops, short-on}
 use Rattle.jpeg_decoder.proofs.ByRows.FromScan.{some-stops, some-stops-exceeds, some-stops-told, takes-if, unread-gives}
@@ -48,6 +51,8 @@ says-unread settings k found now at new e b same a h = record {
   turns = λ is.
       no-turns settings.max_blocks found at.bytes (told_of now.said) (ap (λ (f : Found). told_of f.said) same);
   exceeds = header-exceeds settings.max_blocks found (known_if k at) new e b a h;
+  given = λ is. none-first (λ n. lines_at_scan n settings found at.bytes) e new.known
+      (λ still. header-lacks 1 settings found at.bytes e (a.1 is still));
 }
 
 -- ---- the header is read
@@ -71,6 +76,34 @@ module _ (settings : Settings) (k : Bool) (left : Option ℕ) (found kept : Foun
   same-turns now e is =
       no-turns settings.max_blocks found at.bytes (told_of now.said)
       (e ∙ ap (λ (f : Found). told_of f.said) h.stays)
+
+  -- Its picture doesn't come by rows.
+  unchosen-lacks : IfSome kept.said.frame (λ f. comes_by_rows settings kept.said f scan ≡ false) → k ≡ true
+      → (e : Error) → IsOutOrNone e (lines_at_scan 1 settings found at.bytes)
+  unchosen-lacks none is e =
+      let frame = h.legal.frame in
+      unchecked-lacks 1 settings found scan frame at.bytes mid.bytes (h.header.1 is).1 h.legal.framed e
+      (inl (subst (λ (f : Found). comes_by_rows settings f.said frame scan ≡ false) h.stays
+      (at-frame (λ (f : Frame). comes_by_rows settings kept.said f scan ≡ false) kept.said.frame frame
+      (ap (λ (f : Found). f.said.frame) h.stays ∙ h.legal.framed) none)))
+
+  unchosen-first : IfSome kept.said.frame (λ f. comes_by_rows settings kept.said f scan ≡ false)
+      → (r : Result (Unit {0}) Error) (known : Bool) (bytes : List ℕ) → IfErr r (λ _. bytes ≡ []) → k ≡ true
+      → GivesFirstIf (λ n. lines_at_scan n settings found at.bytes) r known bytes
+  unchosen-first none r known bytes empty is =
+      none-first-if (λ n. lines_at_scan n settings found at.bytes) r known bytes empty
+      (λ e still. unchosen-lacks none is e)
+
+  -- A table of it isn't set.
+  uncoded-first : (e : Error) (known : Bool) → IfSome kept.said.frame (λ f. Names e (codings_of kept.said f scan))
+      → k ≡ true → GivesFirst (λ n. lines_at_scan n settings found at.bytes) e known []
+  uncoded-first e known n is =
+      let frame = h.legal.frame in
+      none-first (λ n. lines_at_scan n settings found at.bytes) e known
+      (λ still. codings-lack 1 settings found scan frame at.bytes mid.bytes (h.header.1 is).1 h.legal.framed e
+      (subst (λ (f : Found). Names e (codings_of f.said frame scan)) h.stays
+      (at-frame (λ (f : Frame). Names e (codings_of kept.said f scan)) kept.said.frame frame
+      (ap (λ (f : Found). f.said.frame) h.stays ∙ h.legal.framed) n)))
 
   -- ---- its lines are given as it is read
 
@@ -112,20 +145,22 @@ module _ (settings : Settings) (k : Bool) (left : Option ℕ) (found kept : Foun
         turns = same-turns kept refl;
         exceeds = some-stops-exceeds settings settings.max_blocks left found kept scan (known_if k at) mid h kept mid e
             b none a;
+        given = uncoded-first e mid.known n.1;
       }
 
   -- ---- its lines are given at the end
 
   pub none-refused : (now : Found) (cur : Stream) (e : Error) (b : Bool) → b ≡ false
-      → told_of now.said ≡ told_of kept.said → ReadsScan kept scan now mid (Err e) cur
+      → IfSome kept.said.frame (λ f. comes_by_rows settings kept.said f scan ≡ false) → told_of now.said ≡ told_of kept.said → ReadsScan kept scan now mid (Err e) cur
       → SaysAtScan settings k found at (Err e) cur (told_of now.said) b []
-  none-refused now cur e b none same a = record {
+  none-refused now cur e b none apart same a = record {
     gives = none-stops settings settings.max_blocks left found kept scan (known_if k at) mid h now cur e
         (told_of now.said) [] a;
     tells = none-stops-told settings settings.max_blocks left found kept scan (known_if k at) mid h now cur e same a;
     turns = same-turns now same;
     exceeds = none-stops-exceeds settings settings.max_blocks left found kept scan (known_if k at) mid h now cur e b
         none a;
+    given = unchosen-first apart (Err e) cur.known [] refl;
   }
 
   none-taken : (now : Found) (cur : Stream) (step : Step) → ReadsScan kept scan now mid (Ok step) cur
@@ -145,9 +180,9 @@ module _ (settings : Settings) (k : Bool) (left : Option ℕ) (found kept : Foun
       short-on settings.max_blocks left found now k at cur step known (none-taken now cur step a)
 
   pub none-on-refused : (now end : Found) (cur new : Stream) (step : Step) (e : Error) (b : Bool)
-      → ReadsScan kept scan now mid (Ok step) cur → WalksOn left k now end step cur (Err e) new b
+      → IfSome kept.said.frame (λ f. comes_by_rows settings kept.said f scan ≡ false) → ReadsScan kept scan now mid (Ok step) cur → WalksOn left k now end step cur (Err e) new b
       → SaysAtScan settings k found at (Err e) new (told_of end.said) b []
-  none-on-refused now end cur new step e b a on =
+  none-on-refused now end cur new step e b apart a on =
       let t = takes now cur step a in
       record {
         gives = on-stops settings settings.max_blocks left found kept scan (known_if k at) mid h k now end cur new step
@@ -158,6 +193,7 @@ module _ (settings : Settings) (k : Bool) (left : Option ℕ) (found kept : Foun
             t on.turns;
         exceeds = walk-exceeds {X = Unit {0}} settings.max_blocks left found now (known_if k at) (known_if k cur) new
             step (Err e) b t on.exceeded;
+        given = unchosen-first apart (Err e) new.known [] refl;
       }
 
   -- The picture is made where the stream ends.
@@ -166,8 +202,9 @@ module _ (settings : Settings) (k : Bool) (left : Option ℕ) (found kept : Foun
       → ReadsScan kept scan now mid (Ok step) cur → WalksOn left k now end step cur (Ok tt) new b
       → (is_some kept.said.frame ≡ true → now.said.frame ≡ kept.said.frame)
       → (is_some now.said.frame ≡ true → end.said.frame ≡ now.said.frame) → said ≡ end.said
-      → MakesFound settings end r bytes → SaysAtScan settings k found at r new (told_of said) b bytes
-  none-ended now end said cur new step r b bytes none a on first last same made =
+      → MakesFound settings end r bytes → IfErr r (λ _. bytes ≡ [])
+      → SaysAtScan settings k found at r new (told_of said) b bytes
+  none-ended now end said cur new step r b bytes none a on first last same made empty =
       let t = takes now cur step a in
       let told = ap told_of same in
       record {
@@ -184,4 +221,5 @@ module _ (settings : Settings) (k : Bool) (left : Option ℕ) (found kept : Foun
         exceeds = end-exceeds {X = Unit {0}} settings.max_blocks found (known_if k at) new r b
             (walk-exceeds {X = Unit {0}} settings.max_blocks left found now (known_if k at) (known_if k cur) new step
             (Ok tt) b t on.exceeded);
+        given = unchosen-first none r new.known bytes empty;
       }

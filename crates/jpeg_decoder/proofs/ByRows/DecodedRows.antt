@@ -20,12 +20,14 @@ use Rattle.jpeg_meaning.proofs.Written.ReadTurns.{then-ok}
 use Rattle.jpeg_decoder.specs.ByRows.{rows_ahead, rows_rest}
 use Rattle.jpeg_decoder.specs.Bytes.{IsWhole, shape_of}
 use Rattle.jpeg_decoder.specs.DecodesRows.{DecodesRows}
+use Rattle.jpeg_decoder.specs.FirstLines.{GivesFirst, GivesFirstIf, first_lines, lines_ahead}
 use Rattle.jpeg_decoder.specs.RowScans.{Begins, GoesOn, InScan, IsBegunAt, IsGiving, IsGivingScan, IsUntaken, SaysAtScan}
 use Rattle.jpeg_decoder.specs.RowScans.{SaysRest}
 use Rattle.jpeg_decoder.specs.RowsView.{LinesLeft}
 use Rattle.jpeg_decoder.specs.declared.by_rows.first_scan.RowScan.{RowScan}
 use Rattle.jpeg_decoder.specs.declared.by_rows.rest.Begun.{Begun}
 use Rattle.jpeg_decoder.specs.declared.by_rows.rest.Begun.TheVariants as begun
+use Rattle.jpeg_decoder.proofs.ByRows.FirstLines.{lacks-named, lacks-then, none-first, same-first}
 use Rattle.jpeg_decoder.proofs.ByRows.RowsImages.{lines-images, settled-images}
 use Rattle.jpeg_decoder.proofs.Pictures.DecodedLines.{IsBegun, IsEmptied, IsUnbegun, answers-then}
 use Rattle.jpeg_decoder.proofs.Pictures.DecodedLines.{other-stage, refused-emptied, refused-said, refused-stage}
@@ -45,16 +47,27 @@ unread-rows see Fresh old new e h k =
 unread-rows see HeaderRead old new e h k = absurd (false≢true (h.stage tt).1)
 unread-rows see _ old new e h k = absurd k
 
-pub rows-unbegun : (old new : Decoding) (e : Error) (bytes : List ℕ) → IsUnbegun old new e
-    → new.settings ≡ old.settings → DecodesRows old (Err e) new bytes
-rows-unbegun old new e bytes h settings =
+unread-first : (stage : Progress) (old new : Decoding) (e : Error) → IsUnbegun (record old { stage = stage }) new e
+    → IsReading stage → old.source.known ≡ true
+    → GivesFirst (λ n. lines_ahead stage old.settings old.found old.source.bytes n) e new.source.known []
+unread-first Fresh old new e h k known =
+    none-first (λ n. lines_ahead Fresh old.settings old.found old.source.bytes n) e new.source.known
+    (λ still. lacks-then e (header_at old.source.bytes) (λ header. first_lines 1 old.settings header.0 header.1)
+    (lacks-named e (header_at old.source.bytes) ((h.reads refl).1 known still)))
+unread-first HeaderRead old new e h k known = absurd (false≢true (h.stage tt).1)
+unread-first _ old new e h k known = absurd k
+
+pub rows-unbegun : (old new : Decoding) (e : Error) → IsUnbegun old new e
+    → new.settings ≡ old.settings → DecodesRows old (Err e) new []
+rows-unbegun old new e h settings =
     let said = refused-said {X = Unit {0}} old.stage old new e h in
-    let reads = unread-rows (λ u. (told_of new.found.said, bytes)) old.stage old new e h in
+    let reads = unread-rows (λ u. (told_of new.found.said, [])) old.stage old new e h in
     record {
       stage = refused-stage (Unit {0}) old.stage old new e h;
       reads = reads;
       images = tt;
-      settled = settled-images old new (Err e) bytes reads;
+      settled = settled-images old new (Err e) [] reads;
+      given = unread-first old.stage old new e h;
       whole = tt;
       settings = settings;
       stays = λ is. ap (λ (d : Decoding). d.found.said.frame) (h.still (λ f. other-stage (sym is ∙ f)));
@@ -85,6 +98,24 @@ rows-into told bytes HeaderRead old mid new r b a k =
     (b.still other-stage) a
 rows-into told bytes _ old mid new r b a k = absurd k
 
+first-into : (stage : Progress) (old mid : Decoding) (new : Stream) (r : Result (Unit {0}) Error) (bytes : List ℕ)
+    → IsBegun (record old { stage = stage }) mid
+    → (mid.source.known ≡ true → GivesFirstIf (λ n. first_lines n mid.settings mid.found mid.source.bytes) r new.known
+    bytes) → IsReading stage → old.source.known ≡ true
+    → GivesFirstIf (λ n. lines_ahead stage old.settings old.found old.source.bytes n) r new.known bytes
+first-into Fresh old mid new r bytes b first k known =
+    let header = (b.fresh refl).1 known in
+    same-first (λ n. first_lines n mid.settings mid.found mid.source.bytes)
+    (λ n. lines_ahead Fresh old.settings old.found old.source.bytes n) r new.known bytes
+    (λ n. then-ok (header_at old.source.bytes) (λ header. first_lines n old.settings header.0 header.1)
+    (mid.found, mid.source.bytes) (first_lines n old.settings mid.found mid.source.bytes) header.1 refl
+    ∙ ap (λ (s : Settings). first_lines n s mid.found mid.source.bytes) (sym b.settings)) (first header.0)
+first-into HeaderRead old mid new r bytes b first k known =
+    subst (λ (d : Decoding). d.source.known ≡ true
+    → GivesFirstIf (λ n. first_lines n d.settings d.found d.source.bytes) r new.known bytes) (b.still other-stage)
+    first known
+first-into _ old mid new r bytes b first k known = absurd k
+
 on-ok : {P Q : Type 0} (r : Result (Unit {0}) Error) → (P → Q) → OnOk r P → OnOk r Q
 on-ok (Ok u) f p = f p
 on-ok (Err e) f p = tt
@@ -103,6 +134,7 @@ rows-given old mid new r bytes b stage s settings stays emptied =
       reads = reads;
       images = lines-images old new r bytes reads;
       settled = settled-images old new r bytes reads;
+      given = first-into old.stage old mid new.source r bytes b s.given;
       whole = on-ok r (λ h. subst (λ (o : Option Frame). IsWhole (option_map (shape_of new.settings) o) bytes)
           (sym stays) (subst (λ (q : Settings). IsWhole (option_map (shape_of q) mid.found.said.frame) bytes)
           (sym settings) h)) s.gives.whole;

@@ -17,6 +17,7 @@ use Rattle.jpeg_decoder.specs.Walks.{IsKnownIf, known_if}
 use Rattle.jpeg_decoder.specs.declared.by_rows.first_scan.RowScan.{RowScan}
 use Rattle.jpeg_decoder.specs.declared.scan.work.Walk.{Walk}
 use Rattle.jpeg_decoder.specs.declared.stream.state.Step.{Step}
+use Rattle.jpeg_decoder.proofs.ByRows.FirstRows.{ended-first}
 use Rattle.jpeg_decoder.proofs.ByRows.FromScan.{frames-stay, on-stops, short-on, some-ends, some-stops, some-stops-exceeds}
 use Rattle.jpeg_decoder.proofs.ByRows.FromScan.{some-stops-told, some-takes, takes-if}
 use Rattle.jpeg_decoder.proofs.ByRows.Joined.{ReadsOn, ReadsWithout, TakesScan, end-exceeds, end-told, ends-at, no-turns}
@@ -24,7 +25,7 @@ use Rattle.jpeg_decoder.proofs.ByRows.Joined.{walk-exceeds, walk-told, walk-turn
 
 module _ (settings : Settings) (k : Bool) (found : Found) (at : Stream) (scan : RowScan) (cur : Stream)
     (bytes : List ℕ) (h : InScan settings k found at scan cur bytes) (now : Found) (src : Stream) (walk : Walk)
-    (same : walk ≡ scan.walk) where
+    (same : walk ≡ scan.walk) (all : IfSome found.said.frame (λ f. f.mcus_high ≡ scan.giver.rows)) where
   abbrev limit : Option ℕ
   limit = settings.max_blocks
 
@@ -48,6 +49,7 @@ module _ (settings : Settings) (k : Bool) (found : Found) (at : Stream) (scan : 
     turns = λ _. no-turns limit found at.bytes (told_of now.said) kept;
     exceeds = some-stops-exceeds settings limit left found found scan.header from h.mid head now src e
         walk.budget.exceeded (ap (λ (w : Walk). w.budget.exceeded) same ∙ h.going.0) a;
+    given = ended-first settings k found at scan cur bytes h (Err e) src.known all;
   }
 
   -- It is read, and the walk goes on.
@@ -76,6 +78,7 @@ module _ (settings : Settings) (k : Bool) (found : Found) (at : Stream) (scan : 
       turns = walk-turns limit left found now from (known_if k src) step (told_of end.said) takes turns;
       exceeds = walk-exceeds {X = Unit {0}} limit left found now from (known_if k src) new step (Err e) exceeded takes
           over;
+      given = ended-first settings k found at scan cur bytes h (Err e) new.known all;
     }
 
     -- The image ends, and what was said last is checked.
@@ -103,4 +106,5 @@ module _ (settings : Settings) (k : Bool) (found : Found) (at : Stream) (scan : 
           exceeds = end-exceeds {X = Unit {0}} limit found from new r exceeded
               (walk-exceeds {X = Unit {0}} limit left found now from (known_if k src) new step (Ok tt) exceeded takes
               over);
+          given = ended-first settings k found at scan cur bytes h r new.known all;
         }

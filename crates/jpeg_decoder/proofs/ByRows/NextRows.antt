@@ -1,5 +1,6 @@
 -- What lies ahead of the lines of a picture, from one call to the next.
-use Rattle.std.proofs.Common.{◌≡◌, ◌++◌, Bool, true, false, List, [], ℕ, Ok, sym, subst}
+use Rattle.std.proofs.Common.{◌≡◌, ◌∙◌, ◌++◌, ◌∷◌, Bool, true, false, List, [], ℕ, Ok, ap, append_assoc, sym, subst}
+use Rattle.std.proofs.lemmas.List.{append-nil}
 use Rattle.std.specs.List.{concat}
 use Rattle.jpeg_meaning.specs.States.{Decoding}
 use Rattle.jpeg_decoder.specs.DecodesRows.{DecodesRows}
@@ -31,6 +32,34 @@ pub scan-ahead : (now : RowsState) (decoder : Decoding) (next : Ahead) (rows : R
 scan-ahead now decoder next rows start bytes e is h =
     subst (λ (a : Ahead). AreGiven start bytes decoder a) (sym is)
     (subst (λ (s : RowsState). AreGiven start bytes s.decoder s.ahead) (sym e) h)
+
+-- ---- of a picture that was decoded
+
+pub lines-ahead : (now : RowsState) (decoder : Decoding) (next : Ahead) (shown : LinesLeft) (start : Decoding)
+    (bytes : List ℕ) → state-of decoder next ≡ now → ahead.Lines shown ≡ next
+    → AreGiven start bytes now.decoder now.ahead → DecodesRows start (Ok tt) decoder (bytes ++ concat shown.left)
+lines-ahead now decoder next shown start bytes e is h =
+    subst (λ (a : Ahead). AreGiven start bytes decoder a) (sym is)
+    (subst (λ (s : RowsState). AreGiven start bytes s.decoder s.ahead) (sym e) h)
+
+-- none is left
+pub lines-ended : (now : RowsState) (decoder : Decoding) (next : Ahead) (start : Decoding) (bytes : List ℕ)
+    (left : List (List ℕ)) → state-of decoder next ≡ now → left ≡ []
+    → DecodesRows start (Ok tt) now.decoder (bytes ++ concat left) → DecodesRows start (Ok tt) decoder bytes
+lines-ended now decoder next start bytes left e none h =
+    subst (λ (l : List ℕ). DecodesRows start (Ok tt) decoder l)
+    (ap (λ (ls : List (List ℕ)). bytes ++ concat ls) none ∙ append-nil bytes)
+    (subst (λ (s : RowsState). DecodesRows start (Ok tt) s.decoder (bytes ++ concat left)) (sym e) h)
+
+-- one is taken
+pub line-given : (now : RowsState) (decoder : Decoding) (next : Ahead) (start : Decoding) (bytes line : List ℕ)
+    (old left : List (List ℕ)) → state-of decoder next ≡ now → old ≡ line ∷ left
+    → DecodesRows start (Ok tt) now.decoder (bytes ++ concat old)
+    → DecodesRows start (Ok tt) decoder ((bytes ++ line) ++ concat left)
+line-given now decoder next start bytes line old left e is h =
+    subst (λ (l : List ℕ). DecodesRows start (Ok tt) decoder l)
+    (ap (λ (ls : List (List ℕ)). bytes ++ concat ls) is ∙ sym (append_assoc bytes line (concat left)))
+    (subst (λ (s : RowsState). DecodesRows start (Ok tt) s.decoder (bytes ++ concat old)) (sym e) h)
 
 -- ---- after a call
 

@@ -1,13 +1,13 @@
 -- The state of a scan between two of its rows of MCUs.
 use Rattle.std.proofs.Common.{◌≡◌, ◌∙◌, ◌+◌, ◌-◌, ◌<◌, ◌≤◌, ℕ, zero, suc, Bool, false, List, [], ◌++◌, map, length}
-use Rattle.std.proofs.Common.{None, Some, Ok, Err, ap, arith, refl, subst, sym}
+use Rattle.std.proofs.Common.{None, Some, Ok, Err, ap, arith, inl, refl, subst, sym, true}
 use Rattle.std.specs.Prelude.{IfErr, IfOk, IfSome, MatchResult, OnOk, Option, Result, min}
 use Rattle.std.specs.List.{AllByRecursion, concat, range_with_len}
-use Rattle.jpeg_bits.specs.Entropy.{Ahead, Takes, fresh, marker_from, upcoming}
+use Rattle.jpeg_bits.specs.Entropy.{Ahead, Takes, Text, fresh, marker_from, upcoming}
 use Rattle.jpeg_bits.specs.declared.marker.Marker.{Marker}
 use Rattle.jpeg_bits.specs.declared.beyond.Beyond.TheVariants.{Zeros}
 use Rattle.jpeg_bits.specs.Passes.{Pass}
-use Rattle.jpeg_bits.specs.Reading.{Answers, Names}
+use Rattle.jpeg_bits.specs.Reading.{Answers, Fault, Names}
 use Rattle.jpeg_bits.specs.Stream.{Stream}
 use Rattle.jpeg_bits.specs.declared.error.Error.{Error}
 use Rattle.jpeg_bits.specs.declared.error.Error.TheVariants.{OutOfMemory}
@@ -30,6 +30,7 @@ use Rattle.jpeg_meaning.specs.Stream.{told_of}
 use Rattle.jpeg_meaning.specs.declared.settings.Settings.{Settings}
 use Rattle.jpeg_meaning.proofs.Soundness.{decoded-fits}
 use Rattle.jpeg_decoder.specs.ByRows.{HaveRows, below, lines_from, turn_without, turns_without, without_planes}
+use Rattle.jpeg_decoder.specs.FirstLines.{lines_at_scan, planes_to}
 use Rattle.jpeg_decoder.specs.Givers.{GivesRow, GivesScan, IsEndOf, IsReady, planes_then}
 use Rattle.jpeg_decoder.specs.Reaching as reaching
 use Rattle.jpeg_decoder.specs.Reaching.{turn_after}
@@ -47,6 +48,8 @@ use Rattle.std.specs.declared.vec.Vec.{Vec}
 use Rattle.jpeg_decoder.specs.declared.scan.block_array.BlockArray.{BlockArray}
 use Rattle.jpeg_decoder.specs.declared.scan.blocks.Interval.{Interval}
 use Rattle.jpeg_decoder.specs.declared.scan.order.ScanOrder.{ScanOrder}
+use Rattle.jpeg_decoder.proofs.ByRows.FirstLines.{IsOutOrNone}
+use Rattle.jpeg_decoder.proofs.ByRows.FirstRows.{given-first, planes-walked, row-none}
 use Rattle.jpeg_decoder.proofs.ByRows.FrameRows.{decoded-rows}
 use Rattle.jpeg_decoder.proofs.ByRows.FromScan.{at-frame, comes-fits, some-stops, some-stops-exceeds, some-stops-told}
 use Rattle.jpeg_decoder.proofs.ByRows.GivenRows.{IsEnough, RowRead, given-all, given-lacking, given-next}
@@ -236,6 +239,22 @@ module _ (found : Found) (scan : RowScan) (cur : Stream) (bytes : List ℕ) (fra
       scan.interval.decoder d mid cur new row r.given.planes _ (counted scan.interval []) no-blocks r.given.left
       (λ (u : Unit {0}). r.given.planes) view left_rows e (in-order lt) t)
 
+  -- Then as many rows can't be read.
+  pub row-lacking : (e : Error) (d : Ahead) (new : Stream) (view : Unit {0} → Counted) → row < frame.mcus_high
+      → Takes view (RowRead s scan.order.interval (walk_of_row scan.order row)
+      (zeros_of (sizes_of scan.giver.blocks.items)) (counted scan.interval [])) scan.interval.decoder cur (Err e) d new
+      → mid.known ≡ true → new.known ≡ true
+      → Names e (planes_to (row + 1) found.said frame scan.header s.codings mid.bytes)
+  row-lacking e d new view lt t known still =
+      let n = scan.order.interval in
+      let f = walk_of_row scan.order in
+      let q = row-refused s n f (counted_at_start n []) fresh scan.interval.decoder d mid cur new row r.given.planes _
+      (counted scan.interval []) no-blocks r.given.left (λ (u : Unit {0}). r.given.planes) view (row + 1) e (omega arith)
+      t in
+      subst (λ (o : Result (List (List ℕ) × Text) Fault). Names e o)
+      (sym (planes-walked found.said frame scan.header s scan.order (row + 1) mid.bytes r.by r.order (omega arith)))
+      (q.1 known still)
+
   -- It was read.
   module _ (lt : row < frame.mcus_high) (interval : Interval) (blocks : RowGiver)
       (convert : blocks.convert ≡ scan.giver.convert) (taken : blocks.rows ≡ row)
@@ -295,11 +314,12 @@ module _ (found : Found) (scan : RowScan) (cur : Stream) (bytes : List ℕ) (fra
 
 -- ---- what is said where a row is refused
 
-pub scan-says : (settings : Settings) (k : Bool) (found : Found) (at : Stream) (scan : RowScan) (cur new : Stream)
+scan-says : (settings : Settings) (k : Bool) (found : Found) (at : Stream) (scan : RowScan) (cur new : Stream)
     (bytes : List ℕ) (h : InScan settings k found at scan cur bytes) (e : Error)
-    → ReadsWithout found scan.header found h.mid (Err e) new
+    → ReadsWithout found scan.header found h.mid (Err e) new → (k ≡ true → new.known ≡ true
+    → IsOutOrNone e (lines_at_scan (scan.giver.rows + 1) settings found at.bytes))
     → SaysAtScan settings k found at (Err e) new (told_of found.said) false bytes
-scan-says settings k found at scan cur new bytes h e a =
+scan-says settings k found at scan cur new bytes h e a lacks =
     let left = scan.walk.budget.left in
     let from = known_if k at in
     record {
@@ -310,6 +330,7 @@ scan-says settings k found at scan cur new bytes h e a =
       turns = λ k. no-turns settings.max_blocks found at.bytes (told_of found.said) refl;
       exceeds = some-stops-exceeds settings settings.max_blocks left found found scan.header from h.mid h.header found
           new e false refl a;
+      given = given-first settings k found at scan cur bytes h e new.known lacks;
     }
 
 -- a scan that was looked up before is there
@@ -319,7 +340,7 @@ looked-up found frame header s e by names =
     only-memory e (codings_of found.said frame header) s.codings by.codings names
 
 -- The tables aren't found again only where memory runs out.
-pub scan-lost : (settings : Settings) (k : Bool) (found : Found) (at : Stream) (scan : RowScan) (cur : Stream)
+scan-lost : (settings : Settings) (k : Bool) (found : Found) (at : Stream) (scan : RowScan) (cur : Stream)
     (bytes : List ℕ) (h : InScan settings k found at scan cur bytes) (frame : Frame) (e : Error)
     → found.said.frame ≡ Some frame → scan.giver.rows ≤ frame.mcus_high
     → Names e (codings_of found.said frame scan.header) → ReadsWithout found scan.header found h.mid (Err e) cur
@@ -329,6 +350,31 @@ scan-lost settings k found at scan cur bytes h frame e framed le names =
     let all = row.order.rows in
     row-unread found scan cur bytes frame r.s h.mid row e (looked-up found frame scan.header r.s e r.by names)
     (omega arith)
+
+-- A row is refused.
+pub row-says : (settings : Settings) (k : Bool) (found : Found) (at : Stream) (scan : RowScan) (cur new : Stream)
+    (bytes : List ℕ) (h : InScan settings k found at scan cur bytes) (frame : Frame) (s : BlockScan)
+    → IsAtRow found scan cur bytes frame s h.mid → scan.giver.rows < frame.mcus_high → (e : Error) (d : Ahead)
+    (view : Unit {0} → Counted) → Takes view (RowRead s scan.order.interval (walk_of_row scan.order scan.giver.rows)
+    (zeros_of (sizes_of scan.giver.blocks.items)) (counted scan.interval [])) scan.interval.decoder cur (Err e) d new
+    → SaysAtScan settings k found at (Err e) new (told_of found.said) false bytes
+row-says settings k found at scan cur new bytes h frame s row lt e d view t =
+    scan-says settings k found at scan cur new bytes h e
+    (row-stops found scan cur bytes frame s h.mid row e d new view lt t)
+    (λ is still. row-none settings k found at scan cur bytes h is frame row.framed s.codings e row.by.codings
+    (row-lacking found scan cur bytes frame s h.mid row e d new view lt t (h.header.header.1 is).0 still))
+
+-- The tables aren't found again.
+pub lost-says : (settings : Settings) (k : Bool) (found : Found) (at : Stream) (scan : RowScan) (cur : Stream)
+    (bytes : List ℕ) (h : InScan settings k found at scan cur bytes) (frame : Frame) (e : Error)
+    → found.said.frame ≡ Some frame → scan.giver.rows ≤ frame.mcus_high
+    → Names e (codings_of found.said frame scan.header)
+    → SaysAtScan settings k found at (Err e) cur (told_of found.said) false bytes
+lost-says settings k found at scan cur bytes h frame e framed le names =
+    let r = at-frame (λ (f : Frame). ReadsRows found f scan h.mid cur bytes) found.said.frame frame framed h.reads in
+    scan-says settings k found at scan cur cur bytes h e
+    (scan-lost settings k found at scan cur bytes h frame e framed le names)
+    (λ is still. inl (looked-up found frame scan.header r.s e r.by names))
 
 -- A row was read: its lines were made, or memory ran out.
 module _ (settings : Settings) (k : Bool) (found : Found) (at : Stream) (scan : RowScan) (cur new : Stream)
@@ -367,7 +413,7 @@ module _ (settings : Settings) (k : Bool) (found : Found) (at : Stream) (scan : 
   }
   row-taken (Err e) ready gives out =
       scan-says settings k found at scan cur new bytes h e (row-lacks found scan cur bytes frame s h.mid row lt interval
-      with_blocks refl refl refl sizes new read enough e out)
+      with_blocks refl refl refl sizes new read enough e out) (λ is still. inl out)
 
 -- All rows were read, and what stands after them.
 module _ (found : Found) (scan : RowScan) (cur : Stream) (bytes : List ℕ) (frame : Frame) (s : BlockScan) (mid : Stream)

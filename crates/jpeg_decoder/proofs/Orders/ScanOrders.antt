@@ -80,7 +80,7 @@ alone-of frame _ c n o one is members wide high lines rows interval = absurd (om
 
 -- ---- the rows
 
-range-same : (f g : ℕ → List Spot) (a n : ℕ) → ((k : ℕ) → k < a + n → f k ≡ g k)
+pub range-same : (f g : ℕ → List Spot) (a n : ℕ) → ((k : ℕ) → k < a + n → f k ≡ g k)
     → map f (range_with_len a n) ≡ map g (range_with_len a n)
 range-same f g a zero h = refl
 range-same f g a (suc n) h = grind (arith, common_steps, range-same f g (a + 1) n (λ k lt. h k (omega arith)))

@@ -12,7 +12,7 @@ use Rattle.jpeg_decoder.specs.Seen.{found_of}
 use Rattle.jpeg_decoder.specs.Steps.{IsScanBy}
 use Rattle.jpeg_decoder.proofs.ByRows.FromScan.{at-frame}
 use Rattle.jpeg_decoder.proofs.ByRows.ScanRows.{IsAtRow, apart-in-row, at-row, row-taken}
-use Rattle.jpeg_decoder.proofs.ByRows.ScanRows.{row-stops, scan-lost, scan-says, spots-of-row}
+use Rattle.jpeg_decoder.proofs.ByRows.ScanRows.{lost-says, row-says, spots-of-row}
 use Rattle.jpeg_decoder.proofs.by_rows.first_scan.read_lines.Given.{Over}
 use Rattle.jpeg_decoder.proofs.by_rows.first_scan.read_lines.Goals.{In_ok-scan}
 use Rattle.jpeg_decoder.proofs.by_rows.first_scan.read_lines.Goals as goal
@@ -50,11 +50,9 @@ returns-in_err-scan-clause-goes g c settings k at bytes h =
     let lt = at-frame _ c.args.state.now.said.frame frame there c.requires.more in
     let e = c.in_err-scan.field-0.0 in
     let p = err_from_is_err_and c.from_residual.result c.from_residual.ensures.1 in
-    rw (p.1, p.2) (scan-says settings k c.args.state.now at c.args.rows.now
-    c.args.source.now c.args.source.now bytes h e
-    (scan-lost settings k c.args.state.now at c.args.rows.now c.args.source.now bytes h frame e there
+    rw (p.1, p.2) (lost-says settings k c.args.state.now at c.args.rows.now c.args.source.now bytes h frame e there
     (omega arith) (subst (λ (f : Found). Names e (codings_of f.said frame c.args.rows.now.header))
-    c.state.view_is c.in_err-scan.ensures.refused.1)))
+    c.state.view_is c.in_err-scan.ensures.refused.1))
 
 pub read_row-requires-clause-spots : goal.read_row-requires-clause-spots
 read_row-requires-clause-spots g c =
@@ -72,12 +70,12 @@ returns-in_err-read_row-clause-goes g c settings k src bytes h =
     let e = c.in_err-read_row.field-0.0 in
     let p = err_from_is_err_and c.from_residual-in_err-read_row.result
     c.from_residual-in_err-read_row.ensures.1 in
-    rw (p.1, p.2) (scan-says settings k c.args.state.now src c.args.rows.now
-    c.args.source.now c.read_row.new.source bytes h e
-    (row-stops _ _ _ _ _ _ _ (at-row settings k c.args.state.now src c.args.rows.now c.args.source.now bytes h
-    (frame_in c.in-Some.frame) c.in_ok-scan.scan (framed g at) (by g at)) e c.read_row.new.interval.decoder
-    c.read_row.new.source (λ (u : Unit {0}). counted c.args.rows.now.interval [])
-    (more g at) c.in_err-read_row.ensures.blocks))
+    rw (p.1, p.2) (row-says settings k c.args.state.now src c.args.rows.now
+    c.args.source.now c.read_row.new.source bytes h (frame_in c.in-Some.frame) c.in_ok-scan.scan
+    (at-row settings k c.args.state.now src c.args.rows.now c.args.source.now bytes h
+    (frame_in c.in-Some.frame) c.in_ok-scan.scan (framed g at) (by g at)) (more g at) e
+    c.read_row.new.interval.decoder (λ (u : Unit {0}). counted c.args.rows.now.interval [])
+    c.in_err-read_row.ensures.blocks)
 
 pub take_row-requires-clause-components : goal.take_row-requires-clause-components
 take_row-requires-clause-components g c =

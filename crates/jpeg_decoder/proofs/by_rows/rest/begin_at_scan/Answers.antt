@@ -106,7 +106,8 @@ returns-in_err-step-in-None-clause-begins g c k h =
     c.read_header.new.state c.in_ok-header.header c.args.source.now c.read_header.new.source
     (head g (goal.at.returns-in_err-step-in-None-clause-begins g c).After-colours_for k h)
     c.read_after.new.state c.read_after.new.source c.in_err-step-in-None.field-0.0
-    c.read_header.new.budget.exceeded c.in_ok-header.ensures.within c.in_err-step-in-None.ensures.steps.kept
+    c.read_header.new.budget.exceeded c.in_ok-header.ensures.within (c.in-None.ensures.none refl)
+    c.in_err-step-in-None.ensures.steps.kept
     c.in_err-step-in-None.ensures.reads)
 
 pub returns-in_err-read_on-in-None-clause-begins :
@@ -122,7 +123,7 @@ returns-in_err-read_on-in-None-clause-begins g c k h =
     c.read_header.new.state c.in_ok-header.header c.args.source.now c.read_header.new.source head
     c.read_after.new.state c.read_on.new.state c.read_after.new.source c.read_on.new.source
     c.in_ok-step-in-None.step c.in_err-read_on-in-None.field-0.0 c.read_on.new.walk.budget.exceeded
-    c.in_ok-step-in-None.ensures.reads (record {
+    (c.in-None.ensures.none refl) c.in_ok-step-in-None.ensures.reads (record {
       reads = c.in_err-read_on-in-None.ensures.reads k short;
       told = c.in_err-read_on-in-None.ensures.told k short;
       turns = c.in_err-read_on-in-None.ensures.turns k short;
@@ -158,7 +159,7 @@ returns-in_err-shown-in-None-clause-begins g c k h =
     c.read_on.new.source c.in_ok-step-in-None.step (Err c.in_err-shown-in-None.field-0.0)
     c.read_on.new.walk.budget.exceeded [] (c.in-None.ensures.none refl) c.in_ok-step-in-None.ensures.reads
     (walks g at.After-take_lines k h head) c.in_ok-step-in-None.ensures.steps.stays
-    c.in_ok-read_on-in-None.ensures.stays c.take_lines.ensures.said (tt, c.in_err-shown-in-None.ensures.meant))
+    c.in_ok-read_on-in-None.ensures.stays c.take_lines.ensures.said (tt, c.in_err-shown-in-None.ensures.meant) refl)
 
 pub returns-in_ok-shown-in-None-clause-begins : goal.returns-in_ok-shown-in-None-clause-begins
 returns-in_ok-shown-in-None-clause-begins g c k h =
@@ -171,6 +172,6 @@ returns-in_ok-shown-in-None-clause-begins g c k h =
           (concat c.in_ok-shown-in-None.shown.left) (c.in-None.ensures.none refl) c.in_ok-step-in-None.ensures.reads
           (walks g at.After-take_lines k h head) c.in_ok-step-in-None.ensures.steps.stays
           c.in_ok-read_on-in-None.ensures.stays c.take_lines.ensures.said
-          (c.in_ok-shown-in-None.ensures.whole, c.in_ok-shown-in-None.ensures.meant),
+          (c.in_ok-shown-in-None.ensures.whole, c.in_ok-shown-in-None.ensures.meant) tt,
       c.in_ok-shown-in-None.ensures.untaken,
     )

@@ -1,4 +1,4 @@
-use Rattle.std.proofs.Common.{Bool, Err, Ok, [], false, subst}
+use Rattle.std.proofs.Common.{Bool, Err, Ok, [], false, refl, subst}
 use Rattle.std.proofs.lemmas.Result.{err_from_is_err_and}
 use Rattle.std.specs.List.{concat}
 use Rattle.jpeg_decoder.proofs.ByRows.BegunRest.{begins-there, says-ended, says-refused}
@@ -43,7 +43,7 @@ returns-in_err-shown-clause-begins g c =
     c.args.source.now c.read_to_scan.new.source (Err c.in_err-shown.field-0.0) c.args.walk.now.budget.exceeded []
     c.requires.going.0 (ended g (goal.at.returns-in_err-shown-clause-begins g c).After-take_lines)
     c.take_lines.ensures.said (c.in_ok-read_to_scan.ensures.stays c.requires.framed)
-    (tt, c.in_err-shown.ensures.meant))
+    (tt, c.in_err-shown.ensures.meant) refl)
 
 pub returns-clause-begins : goal.returns-clause-begins
 returns-clause-begins g c = (
@@ -52,6 +52,6 @@ returns-clause-begins g c = (
       (concat c.in_ok-shown.shown.left) c.requires.going.0
       (ended g (goal.at.returns-clause-begins g c).After-take_lines)
       c.take_lines.ensures.said (c.in_ok-read_to_scan.ensures.stays c.requires.framed)
-      (c.in_ok-shown.ensures.whole, c.in_ok-shown.ensures.meant),
+      (c.in_ok-shown.ensures.whole, c.in_ok-shown.ensures.meant) tt,
   c.in_ok-shown.ensures.untaken,
 )

@@ -1,4 +1,3 @@
-use Rattle.std.proofs.Common.{[]}
 use Rattle.std.proofs.lemmas.Result.{err_from_is_err_and}
 use Rattle.jpeg_decoder.proofs.ByRows.DecodedRows.{at-lines, at-scan, begun-lines, begun-refused, begun-scan, rows-unbegun}
 use Rattle.jpeg_decoder.proofs.Pictures.DecodedLines.{begun-seen}
@@ -9,7 +8,7 @@ use Rattle.jpeg_decoder.proofs.decoder.Decoder.begin_lines.Goals as goal
 pub returns-in_err-begin-clause-starts : goal.returns-in_err-begin-clause-starts
 returns-in_err-begin-clause-starts g c =
     let p = err_from_is_err_and c.from_residual.result c.from_residual.ensures.1 in
-    rw (p.1, p.2) (rows-unbegun _ _ _ [] (record {
+    rw (p.1, p.2) (rows-unbegun _ _ _ (record {
       stage = c.in_err-begin.ensures.stage;
       ended = c.in_err-begin.ensures.ended;
       reads = c.in_err-begin.ensures.reads;
