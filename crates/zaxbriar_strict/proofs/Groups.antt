@@ -1,22 +1,14 @@
--- Intervals of a number of blocks, of which one more is written.
+-- Intervals of a number of parts, of which one more is written.
 use Rattle.std.proofs.Common.{◌≡◌, ◌≢◌, ℕ, zero, suc, ◌+◌, ◌%◌, ◌≤◌, Bool, List, [], ◌∷◌, ◌++◌, length, take, drop, refl}
 use Rattle.std.proofs.Common.{sym, ap, ◌∙◌, subst, arith, append_assoc, length-append, length-drop}
 use Rattle.std.proofs.lemmas.List.{drop_all, drop_at, take_all, take_at}
 use Rattle.jpeg_bits.specs.Intervals.{first_group, groups, other_groups}
-use Rattle.jpeg_bits.specs.Passes.{Block, Via, predictors_at_start, whole_pass}
 use Rattle.jpeg_bits.specs.Written.{WritesInterval, WritesIntervals, marker}
 use Rattle.jpeg_bits.specs.Written.WritesIntervals.{another, last}
 use Rattle.jpeg_bits.proofs.WrittenIntervals.{marker-append}
-use Rattle.jpeg_meaning.specs.WrittenData.{WritesBlocks}
 use Rattle.zaxbriar_strict.specs.Runs.{Closes, WritesGroups}
 use Rattle.zaxbriar_strict.specs.Markers.{BeginsMarker}
 use Rattle.zaxbriar_strict.proofs.Turns.{IsInterval}
-
-abbrev Turns : Type 0
-Turns = List (Via × Block)
-
-abbrev Writes : Turns → List Bool → Type 0
-Writes turns bits = WritesBlocks whole_pass predictors_at_start 0 turns bits
 
 -- ---- groups
 
@@ -44,63 +36,65 @@ others-after {A} n one x xs h =
 
 -- ---- intervals
 
-group-written : (n k fill : ℕ) (one more : Turns) (bytes tail : List ℕ) → length one ≡ suc n → 1 ≤ length more
-    → WritesInterval (Writes one) bytes → WritesGroups (suc n) (suc k) more tail
-    → WritesGroups (suc n) k (one ++ more) (bytes ++ marker fill (0xD0 + k % 8) tail)
-group-written n k fill one [] bytes tail size some w ws = absurd (omega arith)
-group-written n k fill one (x ∷ xs) bytes tail size some w ws =
-    let all = bytes ++ marker fill (0xD0 + k % 8) tail in
-    let next = first_group (suc n) (x ∷ xs) in
-    let others = other_groups (suc n) (x ∷ xs) in
-    subst (λ (g : Turns). WritesIntervals Writes k g (other_groups (suc n) (one ++ x ∷ xs)) all)
-    (sym (take_at one (x ∷ xs) (suc n) size))
-    (subst (λ (gs : List Turns). WritesIntervals Writes k one gs all) (sym (others-after n one x xs size))
-    (another k fill one next others bytes tail w ws))
+-- The parts of an interval are written so.
+module _ {A : Type 0} (writes : List A → List Bool → Type 0) where
+  group-written : (n k fill : ℕ) (one more : List A) (bytes tail : List ℕ) → length one ≡ suc n → 1 ≤ length more
+      → WritesInterval (writes one) bytes → WritesGroups writes (suc n) (suc k) more tail
+      → WritesGroups writes (suc n) k (one ++ more) (bytes ++ marker fill (0xD0 + k % 8) tail)
+  group-written n k fill one [] bytes tail size some w ws = absurd (omega arith)
+  group-written n k fill one (x ∷ xs) bytes tail size some w ws =
+      let all = bytes ++ marker fill (0xD0 + k % 8) tail in
+      let next = first_group (suc n) (x ∷ xs) in
+      let others = other_groups (suc n) (x ∷ xs) in
+      subst (λ (g : List A). WritesIntervals writes k g (other_groups (suc n) (one ++ x ∷ xs)) all)
+      (sym (take_at one (x ∷ xs) (suc n) size))
+      (subst (λ (gs : List (List A)). WritesIntervals writes k one gs all) (sym (others-after n one x xs size))
+      (another k fill one next others bytes tail w ws))
 
-pub last-written : (every k : ℕ) (turns : Turns) (bytes : List ℕ) → (every ≢ 0 → length turns ≤ every)
-    → WritesInterval (Writes turns) bytes → WritesGroups every k turns bytes
-unfolding groups
-last-written zero k turns bytes few w = last k turns bytes w
-last-written (suc n) k turns bytes few w =
-    let ne : suc n ≢ 0 = omega arith in
-    let short : length turns ≤ suc n = few ne in
-    subst (λ (g : Turns). WritesIntervals Writes k g (other_groups (suc n) turns) bytes)
-    (sym (take_all (suc n) turns short))
-    (subst (λ (l : Turns). WritesIntervals Writes k turns (groups (length turns) (suc n) l) bytes)
-    (sym (drop_all (suc n) turns short)) (last k turns bytes w))
+  pub last-written : (every k : ℕ) (turns : List A) (bytes : List ℕ) → (every ≢ 0 → length turns ≤ every)
+      → WritesInterval (writes turns) bytes → WritesGroups writes every k turns bytes
+  unfolding groups
+  last-written zero k turns bytes few w = last k turns bytes w
+  last-written (suc n) k turns bytes few w =
+      let ne : suc n ≢ 0 = omega arith in
+      let short : length turns ≤ suc n = few ne in
+      subst (λ (g : List A). WritesIntervals writes k g (other_groups (suc n) turns) bytes)
+      (sym (take_all (suc n) turns short))
+      (subst (λ (l : List A). WritesIntervals writes k turns (groups (length turns) (suc n) l) bytes)
+      (sym (drop_all (suc n) turns short)) (last k turns bytes w))
 
--- ---- intervals that are closed
+  -- ---- intervals that are closed
 
-pub closes-none : (every : ℕ) (bytes : List ℕ) → Closes every [] 0 bytes bytes
-closes-none every bytes = record { front = []; parts = refl; goes_on = λ more tail some w. w }
+  pub closes-none : (every : ℕ) (bytes : List ℕ) → Closes writes every [] 0 bytes bytes
+  closes-none every bytes = record { front = []; parts = refl; goes_on = λ more tail some w. w }
 
-joined : (front own tail : List ℕ) (fill code : ℕ)
-    → (front ++ (own ++ marker fill code [])) ++ tail ≡ front ++ (own ++ marker fill code tail)
-joined front own tail fill code =
-    append_assoc front (own ++ marker fill code []) tail
-    ∙ ap (λ (l : List ℕ). front ++ l) (append_assoc own (marker fill code []) tail
-    ∙ ap (λ (l : List ℕ). own ++ l) (marker-append fill code [] tail))
+  joined : (front own tail : List ℕ) (fill code : ℕ)
+      → (front ++ (own ++ marker fill code [])) ++ tail ≡ front ++ (own ++ marker fill code tail)
+  joined front own tail fill code =
+      append_assoc front (own ++ marker fill code []) tail
+      ∙ ap (λ (l : List ℕ). front ++ l) (append_assoc own (marker fill code []) tail
+      ∙ ap (λ (l : List ℕ). own ++ l) (marker-append fill code [] tail))
 
-pub closes-more : (every k n : ℕ) (closed one : Turns) (bytes rest between after : List ℕ) → every ≢ 0
-    → length one ≡ every → n % 8 ≡ k % 8 → Closes every closed k bytes rest → IsInterval one rest between
-    → BeginsMarker (0xD0 + n % 8) between after → Closes every (closed ++ one) (suc k) bytes after
-closes-more zero k n closed one bytes rest between after ne size number c i m = absurd (ne refl)
-closes-more (suc e) k n closed one bytes rest between after ne size number c i m =
-    let code = 0xD0 + k % 8 in
-    let marked : between ≡ marker m.fill code after =
-    m.parts ∙ ap (λ (r : ℕ). marker m.fill (0xD0 + r) after) number in
-    record {
-      front = c.front ++ (i.front ++ marker m.fill code []);
-      parts = c.parts
-          ∙ ap (λ (l : List ℕ). c.front ++ l) (i.parts ∙ ap (λ (l : List ℕ). i.front ++ l) marked)
-          ∙ sym (joined c.front i.front after m.fill code);
-      goes_on = λ more tail some w.
-          let l : 1 ≤ length (one ++ more) = omega (arith, length-append one more, some) in
-          let own = i.front ++ marker m.fill code tail in
-          let g = c.goes_on (one ++ more) own l
-          (group-written e k m.fill one more i.front tail size some i.written w) in
-          subst (λ (t : Turns). WritesGroups (suc e) 0 t ((c.front ++ (i.front ++ marker m.fill code [])) ++ tail))
-          (sym (append_assoc closed one more))
-          (subst (λ (b : List ℕ). WritesGroups (suc e) 0 (closed ++ (one ++ more)) b)
-          (sym (joined c.front i.front tail m.fill code)) g);
-    }
+  pub closes-more : (every k n : ℕ) (closed one : List A) (bytes rest between after : List ℕ) → every ≢ 0
+      → length one ≡ every → n % 8 ≡ k % 8 → Closes writes every closed k bytes rest → IsInterval (writes one) rest between
+      → BeginsMarker (0xD0 + n % 8) between after → Closes writes every (closed ++ one) (suc k) bytes after
+  closes-more zero k n closed one bytes rest between after ne size number c i m = absurd (ne refl)
+  closes-more (suc e) k n closed one bytes rest between after ne size number c i m =
+      let code = 0xD0 + k % 8 in
+      let marked : between ≡ marker m.fill code after =
+      m.parts ∙ ap (λ (r : ℕ). marker m.fill (0xD0 + r) after) number in
+      record {
+        front = c.front ++ (i.front ++ marker m.fill code []);
+        parts = c.parts
+            ∙ ap (λ (l : List ℕ). c.front ++ l) (i.parts ∙ ap (λ (l : List ℕ). i.front ++ l) marked)
+            ∙ sym (joined c.front i.front after m.fill code);
+        goes_on = λ more tail some w.
+            let l : 1 ≤ length (one ++ more) = omega (arith, length-append one more, some) in
+            let own = i.front ++ marker m.fill code tail in
+            let g = c.goes_on (one ++ more) own l
+            (group-written e k m.fill one more i.front tail size some i.written w) in
+            subst (λ (t : List A). WritesGroups writes (suc e) 0 t ((c.front ++ (i.front ++ marker m.fill code [])) ++ tail))
+            (sym (append_assoc closed one more))
+            (subst (λ (b : List ℕ). WritesGroups writes (suc e) 0 (closed ++ (one ++ more)) b)
+            (sym (joined c.front i.front tail m.fill code)) g);
+      }

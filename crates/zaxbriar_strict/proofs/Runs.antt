@@ -11,12 +11,12 @@ use Rattle.zaxbriar_strict.specs.Blocks.{ReadsBlock, WritesTurns}
 use Rattle.zaxbriar_strict.specs.Data.{Data, IsFilling, Reads, data_at}
 use Rattle.zaxbriar_strict.specs.Loaded.{data_of}
 use Rattle.zaxbriar_strict.specs.Markers.{Restarts}
-use Rattle.zaxbriar_strict.specs.Runs.{Closes, IsAfter, IsBefore, ReadsRun, WritesGroups, repeated}
+use Rattle.zaxbriar_strict.specs.Runs.{Closes, IsAfter, IsBefore, ReadsRun, WritesGroups, WritesWholeBlocks, repeated}
 use Rattle.zaxbriar_strict.specs.declared.intervals.Intervals.{Intervals}
 use Rattle.zaxbriar_strict.specs.declared.transform.Past.{Past}
 use Rattle.zaxbriar_strict.proofs.Groups.{closes-more, closes-none, last-written}
 use Rattle.zaxbriar_strict.proofs.Taken.{takes-none, takes-then}
-use Rattle.zaxbriar_strict.proofs.Turns.{interval-written, turn-one, turns-none, turns-then}
+use Rattle.zaxbriar_strict.proofs.Turns.{blocks-written, turn-one, turns-none, turns-then}
 use Rattle.zaxbriar_strict.proofs.Units.{length-repeated, repeated-append, repeated-one, units-append, units-length}
 use Rattle.zaxbriar_strict.proofs.Units.{zip-append, zip-length}
 
@@ -87,7 +87,7 @@ begun unit every bytes i p some d e l n q = record {
     number = 0;
     numbered = ap (λ (k : ℕ). k % 8) n;
     rest = bytes;
-    closes = closes-none (every * length unit) bytes;
+    closes = closes-none WritesWholeBlocks (every * length unit) bytes;
     size = 0;
     run = run-begun unit bytes p.dc (data_of i.bits) q d;
     counted = refl;
@@ -113,7 +113,7 @@ restarted {unit} {every} {bytes} i j p q a over none r e l n d =
     let some : 1 ≤ every = omega (arith, ne) in
     let product = one-le-mul some o.not_empty in
     let more : every * length unit ≢ 0 = λ z. omega (arith, product, z) in
-    let whole = interval-written p.dc one o.rest r.between (data_of i.bits) o.run.read r.filled in
+    let whole = blocks-written p.dc one o.rest r.between (data_of i.bits) o.run.read r.filled in
     let numbered = o.numbered in
     let before = o.counted in
     record {
@@ -127,9 +127,9 @@ restarted {unit} {every} {bytes} i j p q a over none r e l n d =
         number = suc o.number;
         numbered = omega (arith, n, numbered);
         rest = r.after;
-        closes = subst (λ (t : List (Via × Block)). Closes (every * length unit) t (suc o.number) bytes r.after)
+        closes = subst (λ (t : List (Via × Block)). Closes WritesWholeBlocks (every * length unit) t (suc o.number) bytes r.after)
             (sym (units-append o.before o.size unit o.closed blocks o.sized))
-            (closes-more (every * length unit) o.number i.next (zip (repeated o.before unit) o.closed) one bytes o.rest
+            (closes-more WritesWholeBlocks (every * length unit) o.number i.next (zip (repeated o.before unit) o.closed) one bytes o.rest
             r.between r.after more size numbered o.closes whole r.marked);
         size = 0;
         run = run-begun unit r.after q.dc (data_of j.bits) d r.begins;
@@ -182,7 +182,7 @@ pub record IsRead (unit : List Via) (every count : ℕ) (bytes rest : List ℕ) 
   pub in_range : AllByRecursion Is8Bit blocks
   pub data_bytes : List ℕ
   pub parts : bytes ≡ data_bytes ++ rest
-  pub coded : WritesGroups (every * length unit) 0 (zip (repeated count unit) blocks) data_bytes
+  pub coded : WritesGroups WritesWholeBlocks (every * length unit) 0 (zip (repeated count unit) blocks) data_bytes
 
 pub all-read : {unit : List Via} {every : ℕ} {bytes : List ℕ} {count : ℕ} {i : Intervals} {p : Past} (rest : List ℕ)
     → IsAfter unit every bytes count i p → 1 ≤ count → Reads IsFilling (data_of i.bits) (data_at rest)
@@ -191,7 +191,7 @@ all-read {unit} {every} {bytes} {count} {i} {p} rest a more f =
     let o = a.so_far in
     let blocks = o.run.blocks in
     let one = zip (repeated o.size unit) blocks in
-    let whole = interval-written p.dc one o.rest rest (data_of i.bits) o.run.read f in
+    let whole = blocks-written p.dc one o.rest rest (data_of i.bits) o.run.read f in
     let l = zip-length (repeated o.size unit) blocks o.run.counted ∙ length-repeated o.size unit in
     let size : 1 ≤ o.size = a.some more in
     let product = one-le-mul size o.not_empty in
@@ -210,8 +210,8 @@ all-read {unit} {every} {bytes} {count} {i} {p} rest a more f =
       data_bytes = o.closes.front ++ whole.front;
       parts = o.closes.parts ∙ ap (λ (k : List ℕ). o.closes.front ++ k) whole.parts
           ∙ sym (append_assoc o.closes.front whole.front rest);
-      coded = subst (λ (t : List (Via × Block)). WritesGroups (every * length unit) 0 t (o.closes.front ++ whole.front))
+      coded = subst (λ (t : List (Via × Block)). WritesGroups WritesWholeBlocks (every * length unit) 0 t (o.closes.front ++ whole.front))
           (sym (units-append o.before o.size unit o.closed blocks o.sized))
           (o.closes.goes_on one whole.front some
-          (last-written (every * length unit) o.number one whole.front few whole.written));
+          (last-written WritesWholeBlocks (every * length unit) o.number one whole.front few whole.written));
     })

@@ -20,7 +20,7 @@ use Rattle.jpeg_meaning.proofs.Order.Apart.{At, get-at, spots-apart}
 use Rattle.jpeg_meaning.proofs.Order.FrameShapes.{frames-fit}
 use Rattle.jpeg_meaning.proofs.Pictures.LosslessSizes.{all-ranged}
 use Rattle.zaxbriar_strict.specs.Heads.{IsMade, header_of, number_of, written_frame}
-use Rattle.zaxbriar_strict.specs.Runs.{WritesGroups}
+use Rattle.zaxbriar_strict.specs.Runs.{WritesGroups, WritesWholeBlocks}
 use Rattle.zaxbriar_strict.specs.ScanData.{ways_of}
 use Rattle.zaxbriar_strict.specs.declared.frame.Frame.{Frame}
 use Rattle.zaxbriar_strict.proofs.FrameComponents.{no_component}
@@ -198,7 +198,7 @@ pub scan-written : (frame : WrittenFrame) (codings : List Coding) (blocks : List
     → ((slot : ℕ) (k : Coding) → At slot codings k → slice_get frame.components k.index ≡ Some k.component)
     → HasBlocks array frame codings blocks
     → length blocks ≡ length (ways_of frame codings) → AllByRecursion Is8Bit blocks
-    → WritesGroups (restart * mcu_size (components_of codings)) 0 (zip (ways_of frame codings) blocks) bytes
+    → WritesGroups WritesWholeBlocks (restart * mcu_size (components_of codings)) 0 (zip (ways_of frame codings) blocks) bytes
     → WritesScan frame restart whole_pass codings array bytes
 unfolding turns_of
 scan-written frame codings blocks array restart bytes fits rising placed has counted in_range w =
@@ -224,7 +224,7 @@ scan-written frame codings blocks array restart bytes fits rising placed has cou
           ap₂ (λ (slot i : ℕ). sent (record { slot = slot; index = i })) (sym slot)
           (sym (ap (λ (c : Component). s.index / wide * c.blocks_wide + s.index % wide) component ∙ place))
           ∙ sym (has s.slot k here (s.index / wide) (s.index % wide));
-      coded = subst (λ (turns : List (Via × Block)). WritesGroups n 0 turns bytes) (sym turns) w;
+      coded = subst (λ (turns : List (Via × Block)). WritesGroups WritesWholeBlocks n 0 turns bytes) (sym turns) w;
     }
 
 -- ---- frames that are read

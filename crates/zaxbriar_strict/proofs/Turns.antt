@@ -39,16 +39,15 @@ turns-all before after turns own f = rw (append-nil turns, append-nil own) at (f
 -- ---- an interval
 
 -- Bytes that begin with an interval that is written, and go on with the rest.
-pub record IsInterval (turns : List (Via × Block)) (bytes rest : List ℕ) : Type 0 where
+pub record IsInterval (writes : List Bool → Type 0) (bytes rest : List ℕ) : Type 0 where
   pub front : List ℕ
   pub parts : bytes ≡ front ++ rest
-  pub written : WritesInterval (WritesBlocks whole_pass predictors_at_start 0 turns) front
+  pub written : WritesInterval writes front
 
--- Blocks that were read of the data from their beginning on, up to what fills a last byte.
-pub interval-written : (after : List ℤ) (turns : List (Via × Block)) (bytes rest : List ℕ) (d : Data)
-    → Reads (WritesTurns predictors_at_start after turns) (data_at bytes) d → Reads IsFilling d (data_at rest)
-    → IsInterval turns bytes rest
-interval-written after turns bytes rest d r f =
+-- What was read of the data from their beginning on, up to what fills a last byte.
+pub interval-written : (writes : List Bool → Type 0) (bytes rest : List ℕ) (d : Data)
+    → Reads writes (data_at bytes) d → Reads IsFilling d (data_at rest) → IsInterval writes bytes rest
+interval-written writes bytes rest d r f =
     let t = takes-then r.taken f.taken in
     record {
       front = stuffed t.data_bytes;
@@ -57,9 +56,17 @@ interval-written after turns bytes rest d r f =
         bits = r.own;
         filling = f.own;
         data_bytes = t.data_bytes;
-        coded = turns-all predictors_at_start after turns r.own r.holds;
+        coded = r.holds;
         is_short = subst (λ (n : ℕ). n ≤ 7) (sym (length-replicate f.holds.count true) ∙ ap length f.holds.are) f.holds.few;
         whole = t.has_bits ∙ append-nil (r.own ++ f.own);
         has_bytes = refl;
       };
     }
+
+-- Blocks that were read so.
+pub blocks-written : (after : List ℤ) (turns : List (Via × Block)) (bytes rest : List ℕ) (d : Data)
+    → Reads (WritesTurns predictors_at_start after turns) (data_at bytes) d → Reads IsFilling d (data_at rest)
+    → IsInterval (WritesBlocks whole_pass predictors_at_start 0 turns) bytes rest
+blocks-written after turns bytes rest d r f =
+    interval-written (WritesBlocks whole_pass predictors_at_start 0 turns) bytes rest d
+    (record { own = r.own; taken = r.taken; holds = turns-all predictors_at_start after turns r.own r.holds }) f

@@ -20,7 +20,7 @@ use Rattle.jpeg_meaning.proofs.Order.Apart.{At, at-all, at-got, get-at}
 use Rattle.zaxbriar_strict.specs.Contexts.{AreWays, blocks_at, unit_of}
 use Rattle.zaxbriar_strict.specs.Heads.{IsMade, written_frame}
 use Rattle.zaxbriar_strict.specs.Members.{HaveTables}
-use Rattle.zaxbriar_strict.specs.Runs.{WritesGroups, repeated}
+use Rattle.zaxbriar_strict.specs.Runs.{WritesGroups, WritesWholeBlocks, repeated}
 use Rattle.zaxbriar_strict.specs.ScanData.{AreCodedBy, AreInstalled, IsCodedBy, ReadsData, own_high_of, own_wide_of}
 use Rattle.zaxbriar_strict.specs.ScanData.{units_high, units_wide, ways_of}
 use Rattle.zaxbriar_strict.specs.declared.frame.Component.{Component}
@@ -291,8 +291,8 @@ data-read t frame ms installed bytes rest r =
       in_range = r.in_range;
       data_bytes = r.data_bytes;
       parts = r.parts;
-      coded = subst (λ (u : List Via). WritesGroups (t.interval * mcu_size (components_of codings)) 0 (zip u r.blocks)
-          r.data_bytes) ways (subst (λ (n : ℕ). WritesGroups (t.interval * n) 0
+      coded = subst (λ (u : List Via). WritesGroups WritesWholeBlocks (t.interval * mcu_size (components_of codings)) 0 (zip u r.blocks)
+          r.data_bytes) ways (subst (λ (n : ℕ). WritesGroups WritesWholeBlocks (t.interval * n) 0
           (zip (repeated (units_high frame ms * units_wide frame ms) (unit_by codings)) r.blocks) r.data_bytes)
           (unit-size codings) r.coded);
     }

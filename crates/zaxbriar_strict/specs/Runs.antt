@@ -1,7 +1,7 @@
 -- Blocks of a scan as they are read, MCU by MCU and interval by interval, in the words of a writer
 -- (T.81, E.1.4 and F.1.2).
 use Rattle.std.specs.Prelude.{◌≡◌, ◌≢◌, ◌+◌, ◌*◌, ◌≤◌, ◌%◌, ◌++◌, [], ℕ, zero, suc, List, ℤ, length}
-use Rattle.std.specs.Prelude.{zip}
+use Rattle.std.specs.Prelude.{Bool, zip}
 use Rattle.std.specs.List.{AllByRecursion}
 use Rattle.jpeg_bits.specs.Intervals.{first_group, other_groups}
 use Rattle.jpeg_bits.specs.Passes.{Block, Via, predictors_at_start, whole_pass}
@@ -26,20 +26,26 @@ pub record ReadsRun (ways : List Via) (before after : List ℤ) (old new : Data)
   pub in_range : AllByRecursion Is8Bit blocks
   pub read : Reads (WritesTurns before after (zip ways blocks)) old new
 
--- The bytes of intervals of so many blocks each, from number k on.
-abbrev pub WritesGroups : ℕ → ℕ → List (Via × Block) → List ℕ → Type 0
-WritesGroups every k turns bytes =
-    WritesIntervals (WritesBlocks whole_pass predictors_at_start 0) k (first_group every turns)
-    (other_groups every turns) bytes
+-- The bytes of intervals of so many parts each, from number k on, where the parts of an interval
+-- are written so.
+abbrev pub WritesGroups :
+    {A : Type 0} → (List A → List Bool → Type 0) → ℕ → ℕ → List A → List ℕ → Type 0
+WritesGroups writes every k parts bytes =
+    WritesIntervals writes k (first_group every parts) (other_groups every parts) bytes
 
--- The first k intervals have these blocks, and the next one begins these other bytes: what it and
+-- The first k intervals have these parts, and the next one begins these other bytes: what it and
 -- those after it are written as goes on what was read.
-pub record Closes (every : ℕ) (closed : List (Via × Block)) (k : ℕ) (bytes rest : List ℕ)
-    : Type 0 where
+pub record Closes {A : Type 0} (writes : List A → List Bool → Type 0) (every : ℕ)
+    (closed : List A) (k : ℕ) (bytes rest : List ℕ) : Type 0 where
   pub front : List ℕ
   pub parts : bytes ≡ front ++ rest
-  pub goes_on : (more : List (Via × Block)) (tail : List ℕ) → 1 ≤ length more
-      → WritesGroups every k more tail → WritesGroups every 0 (closed ++ more) (front ++ tail)
+  pub goes_on : (more : List A) (tail : List ℕ) → 1 ≤ length more
+      → WritesGroups writes every k more tail
+      → WritesGroups writes every 0 (closed ++ more) (front ++ tail)
+
+-- the bits of the blocks of an interval
+abbrev pub WritesWholeBlocks : List (Via × Block) → List Bool → Type 0
+WritesWholeBlocks = WritesBlocks whole_pass predictors_at_start 0
 
 -- So many MCUs, of some blocks each, were read of these bytes, where an interval has a number of
 -- them, or 0 for any: those of intervals that are closed, and others of the interval that is read
@@ -55,7 +61,8 @@ pub record IsOpen (unit : List Via) (every : ℕ) (bytes : List ℕ) (count : �
   pub number : ℕ
   pub numbered : i.next % 8 ≡ number % 8
   pub rest : List ℕ
-  pub closes : Closes (every * length unit) (zip (repeated before unit) closed) number bytes rest
+  pub closes : Closes WritesWholeBlocks (every * length unit) (zip (repeated before unit) closed)
+      number bytes rest
   pub size : ℕ
   pub run : ReadsRun (repeated size unit) predictors_at_start p.dc (data_at rest) (data_of i.bits)
   pub counted : before + size ≡ count
