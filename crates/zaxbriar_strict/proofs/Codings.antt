@@ -82,7 +82,7 @@ pub record IsMember (f : Frame) (m : Member) : Type 0 where
   pub dc : m.dc ≤ 3
   pub ac : m.ac ≤ 3
 
-all-got : {A : Type 0} (P : A → Type 0) (xs : List A) (i : ℕ) (d : A) → AllByRecursion P xs → i < length xs
+pub all-got : {A : Type 0} (P : A → Type 0) (xs : List A) (i : ℕ) (d : A) → AllByRecursion P xs → i < length xs
     → P (get_or xs i d)
 all-got P [] i d all lt = absurd (omega arith)
 all-got P (x ∷ xs) zero d all lt = all.0

@@ -5,7 +5,7 @@ use Rattle.std.proofs.lemmas.Bool.{eq-eqb, eqb-true, false≢true, le-leb, leb-t
 use Rattle.jpeg_bits.proofs.PieceWalks.{by_bool}
 use Rattle.jpeg_segments.specs.Frame.{Factors, greatest}
 use Rattle.jpeg_segments.specs.WrittenSegments.{FrameHeader}
-use Rattle.jpeg_meaning.specs.AcceptedFrames.{HasPicture, IsNear, IsUpsampled}
+use Rattle.jpeg_meaning.specs.AcceptedFrames.{HasPicture, HasSamples, IsNear, IsUpsampled}
 use Rattle.zaxbriar_strict.specs.Exact.{HasSequentialPicture}
 
 -- ---- what is decided
@@ -82,3 +82,21 @@ pub picture-or-not : (number : ℕ) (h : FrameHeader) → Decision (HasSequentia
 picture-or-not number h =
     sequential number h (at-most number 1) (picture h (equal h.precision 8) (counted (length h.components))
     (all (IsUpsampled h) (upsampled h) h.components))
+
+-- ---- samples
+
+samples : (number : ℕ) (h : FrameHeader) → Decision (number ≡ 3) → Decision (2 ≤ h.precision)
+    → Decision (h.precision ≤ 16) → Decision (HasCount (length h.components))
+    → Decision (AllByRecursion (IsUpsampled h) h.components) → Decision (HasSamples number h)
+samples number h (inl l) (inl a) (inl b) (inl n) (inl u) =
+    inl (record { lossless = l; least = a; most = b; counted = n; upsampled = u })
+samples number h (inr f) a b n u = inr (λ x. f x.lossless)
+samples number h (inl l) (inr f) b n u = inr (λ x. f x.least)
+samples number h (inl l) (inl a) (inr f) n u = inr (λ x. f x.most)
+samples number h (inl l) (inl a) (inl b) (inr f) u = inr (λ x. f x.counted)
+samples number h (inl l) (inl a) (inl b) (inl n) (inr f) = inr (λ x. f x.upsampled)
+
+pub samples-or-not : (number : ℕ) (h : FrameHeader) → Decision (HasSamples number h)
+samples-or-not number h =
+    samples number h (equal number 3) (at-most 2 h.precision) (at-most h.precision 16) (counted (length h.components))
+    (all (IsUpsampled h) (upsampled h) h.components)

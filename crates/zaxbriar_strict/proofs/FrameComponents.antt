@@ -91,7 +91,7 @@ most-down f made =
     let most = (greatest-most (number_of f.process) [] cs made.legal.components).1 in
     (omega (arith, e, some), omega (arith, e, most))
 
-factors-some : (number : ℕ) (front : List Factors) (xs : List Component) (i : ℕ) (x : Component)
+pub factors-some : (number : ℕ) (front : List Factors) (xs : List Component) (i : ℕ) (x : Component)
     → AreComponents number front (map factors_of xs) → slice_get xs i ≡ Some x → (1 ≤ x.across) × (1 ≤ x.down)
 unfolding AreComponents
 factors-some number front [] i x are at = absurd cc
@@ -114,7 +114,7 @@ pub own-high : (f : Frame) (x : Component)
 unfolding component_of
 own-high f x = refl
 
-ceiling-some : (n d : ℕ) → 0 < n → 0 < d → 0 < ceiling n d
+pub ceiling-some : (n d : ℕ) → 0 < n → 0 < d → 0 < ceiling n d
 ceiling-some n d some above = go (ceiling n d) refl
   where
     go : (q : ℕ) → q ≡ ceiling n d → 0 < q
@@ -159,6 +159,13 @@ pub eights : (most side product : ℕ) → side ≡ 8 → (1 ≤ most) × (most 
     → (1 ≤ product) × (product ≡ most * 8)
 eights most side product eight most-is e =
     let same : most * side ≡ most * 8 = ap (λ (n : ℕ). most * n) eight in
+    (omega (arith, e, same, most-is), omega (arith, e, same, most-is))
+
+-- the same for samples
+pub ones : (most side product : ℕ) → side ≡ 1 → (1 ≤ most) × (most ≤ 4) → product ≡ min (most * side) 4294967295
+    → (1 ≤ product) × (product ≡ most)
+ones most side product one most-is e =
+    let same : most * side ≡ most * 1 = ap (λ (n : ℕ). most * n) one in
     (omega (arith, e, same, most-is), omega (arith, e, same, most-is))
 
 pub units-alone : (f : Frame) (ms : List Member) (m : Member) (x : Component) → IsMade f → ms ≡ m ∷ []

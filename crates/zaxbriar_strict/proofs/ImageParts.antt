@@ -35,6 +35,7 @@ use Rattle.zaxbriar_strict.proofs.SameFrames.{same-made, same-precision, same-se
 use Rattle.zaxbriar_strict.proofs.ScanTurns.{array-in-range, scan-written, scan_array, zero-in-range}
 use Rattle.zaxbriar_strict.proofs.SentComponents.{AreLevels, level_of, sent-member, still-sent, unsent-member}
 use Rattle.zaxbriar_strict.proofs.SequentialHeaders.{has-members, pass-whole, process-is, same-members}
+use Rattle.zaxbriar_strict.proofs.SequentialHeaders.{sent-once}
 use Rattle.zaxbriar_strict.proofs.UnitWays.{coded-fit}
 use Rattle.zaxbriar_strict.proofs.WalkedBytes.{EndsWith, after-marker}
 
@@ -229,10 +230,10 @@ module _ (after at start rest payload : List ℕ) (fill : ℕ) (t : Tables) (old
       let ms = members_of s in
       let sent = has_scans old in
       let factors = (header_of old).components in
-      let legal : IsScan frame h = head.legal sequential in
-      let unsent = head.unsent sequential in
+      let legal : IsScan frame h = head.legal (sent-once old sequential) in
+      let unsent = head.unsent (sent-once old sequential) in
       let final : Said = record said { scanned = true } in
-      let members = has-members payload s old new sequential sized head in
+      let members = has-members payload s old new (sent-once old sequential) sized head in
       let r : ReadsData t frame ms start rest =
       subst (λ (f : WrittenFrame). ReadsData t f ms start rest) (same-written head.same)
       (read (same-made head.same made) (same-sequential head.same sequential) (same-precision head.same ∙ eight)

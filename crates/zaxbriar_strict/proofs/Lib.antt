@@ -16,6 +16,10 @@ pub mod Segments
 pub mod Groups
 pub mod Units
 pub mod Runs
+pub mod SampleDifferences
+pub mod RowIntervals
+pub mod Shares
+pub mod SampledFrames
 pub mod SameFrames
 pub mod FrameComponents
 pub mod Codings
@@ -28,6 +32,7 @@ pub mod SequentialHeaders
 pub mod SentComponents
 pub mod LegalScans
 pub mod ImageParts
+pub mod SampleParts
 pub mod Applications
 pub mod WalkedSegments
 pub mod WalkedBytes

@@ -1,10 +1,10 @@
 -- What is noted of a scan in its frame.
-use Rattle.std.proofs.Common.{◌≡◌, ℕ, zero, suc, ◌+◌, ◌<◌, ◌≤◌, Bool, true, false, true≢false, List, [], ◌∷◌, ◌++◌}
+use Rattle.std.proofs.Common.{◌≡◌, ◌≢◌, ℕ, zero, suc, ◌+◌, ◌<◌, ◌≤◌, Bool, true, false, true≢false, List, [], ◌∷◌, ◌++◌}
 use Rattle.std.proofs.Common.{length, map, set, get_or, take, refl, sym, ap, ◌∙◌, subst, arith}
 use Rattle.std.proofs.lemmas.List.{map-set, take_all, take_more}
-use Rattle.zaxbriar_strict.specs.Heads.{AreUnsent, IsSameFrame, IsSequential, factors_of, has_scans, members_of}
-use Rattle.zaxbriar_strict.specs.Heads.{number_of, sent_with}
-use Rattle.zaxbriar_strict.specs.Members.{HaveTables, NotesScan, SendsAll, most_tables}
+use Rattle.zaxbriar_strict.specs.Heads.{AreUnsent, IsLosslessFrame, IsSameFrame, IsSentOnce, IsSequential, factors_of}
+use Rattle.zaxbriar_strict.specs.Heads.{has_scans, members_of, number_of, sent_with}
+use Rattle.zaxbriar_strict.specs.Members.{HaveTables, NotesScan, Predicts, SendsAll, most_tables}
 use Rattle.zaxbriar_strict.specs.declared.frame.Component.{Component}
 use Rattle.zaxbriar_strict.specs.declared.frame.Frame.{Frame}
 use Rattle.zaxbriar_strict.specs.declared.frame.Process.{Process}
@@ -51,7 +51,7 @@ unsent-at (x ∷ xs) (suc i) c lt e unsent = unsent-at xs i c (omega arith) e un
 -- What was noted of the first components of a scan.
 pub record NotesFirst (ms : List Member) (old new : Frame) : Type 0 where
   pub same : IsSameFrame old new
-  pub unsent : IsSequential old → AreUnsent (has_scans old) ms
+  pub unsent : IsSentOnce old → AreUnsent (has_scans old) ms
   pub sent : has_scans new ≡ sent_with ms (has_scans old)
 
 pub none-noted : (f : Frame) → NotesFirst [] f f
@@ -73,7 +73,7 @@ pub record NotesOne (i : ℕ) (c next : Component) (old new : Frame) : Type 0 wh
   pub across : new.most_across ≡ old.most_across
   pub down : new.most_down ≡ old.most_down
   pub factors : factors_of next ≡ factors_of c
-  pub unsent : number_of old.process ≤ 1 → c.has_scan ≡ false
+  pub unsent : number_of old.process ≢ 2 → c.has_scan ≡ false
   pub sent : next.has_scan ≡ true
 
 pub one-noted : (ms : List Member) (m : Member) (c next : Component) (old middle new : Frame) → NotesFirst ms old middle
@@ -84,9 +84,9 @@ one-noted ms m c next old middle new n o =
     record {
       same = same-then n.same (same-item middle new i c next o.is o.factors o.items o.process o.precision o.width
           o.height o.across o.down);
-      unsent = λ few.
-          let first = o.unsent (subst (λ (p : Process). number_of p ≤ 1) (sym n.same.process) few) in
-          all-push (λ (x : Member). get_or (has_scans old) x.component true ≡ false) ms m (n.unsent few)
+      unsent = λ once.
+          let first = o.unsent (subst (λ (p : Process). number_of p ≢ 2) (sym n.same.process) once) in
+          all-push (λ (x : Member). get_or (has_scans old) x.component true ≡ false) ms m (n.unsent once)
           (unsent-before ms (has_scans old) i
           (ap (λ (l : List Bool). get_or l i true) (sym n.sent) ∙ unsent-at items i c o.within o.is first));
       sent = ap (map (λ (x : Component). x.has_scan)) o.items ∙ map-set (λ (x : Component). x.has_scan) items i next
@@ -105,7 +105,14 @@ next-noted ms place d c next old middle new lt n o =
 -- all of them
 pub all-noted : (s : Scan) (ms : List Member) (place : ℕ) (old new : Frame) → ms ≡ members_of s → length ms ≤ place
     → NotesFirst (take place ms) old new → HaveTables (most_tables old.process) (members_of s)
-    → (IsSequential old → SendsAll s) → NotesScan s old new
-all-noted s ms place old new are end n tables whole =
+    → (IsSequential old → SendsAll s) → (IsLosslessFrame old → Predicts old.precision s) → NotesScan s old new
+all-noted s ms place old new are end n tables whole predicted =
     let all = subst (λ (l : List Member). NotesFirst l old new) (take_all place ms end ∙ are) n in
-    record { tables = tables; whole = whole; same = all.same; unsent = all.unsent; sent = λ few. all.sent }
+    record {
+      tables = tables;
+      whole = whole;
+      predicted = predicted;
+      same = all.same;
+      unsent = all.unsent;
+      sent = all.sent;
+    }

@@ -1,5 +1,5 @@
 -- Frames whose header stays the same.
-use Rattle.std.proofs.Common.{◌≡◌, ℕ, zero, suc, ◌*◌, List, [], ◌∷◌, ◌++◌, length, get_or, map, set, refl, sym, ap, ap₂}
+use Rattle.std.proofs.Common.{◌≡◌, ℕ, zero, suc, ◌*◌, ◌≤◌, arith, List, [], ◌∷◌, ◌++◌, length, get_or, map, set, refl, sym, ap, ap₂}
 use Rattle.std.proofs.Common.{◌∙◌, subst}
 use Rattle.std.proofs.lemmas.List.{length-map}
 use Rattle.std.proofs.Math.Seq.{map-set_same}
@@ -13,6 +13,7 @@ use Rattle.zaxbriar_strict.specs.Kept.{IsKept, IsKeptComponent}
 use Rattle.zaxbriar_strict.specs.declared.frame.Component.{Component}
 use Rattle.zaxbriar_strict.specs.declared.frame.Frame.{Frame}
 use Rattle.zaxbriar_strict.specs.declared.frame.Process.{Process}
+use Rattle.zaxbriar_strict.specs.declared.frame.Process.TheVariants.{Baseline, Extended, Lossless, Progressive}
 use Rattle.zaxbriar_strict.specs.declared.scan.Member.{Member}
 
 -- ---- frames with the same header
@@ -49,6 +50,17 @@ same-item f g i old new at factors items process precision width height across d
       across = across;
       down = down;
     }
+
+-- ---- processes
+
+pub is-lossless : (p : Process) → number_of p ≡ 3 → p ≡ Lossless
+is-lossless Baseline e = absurd (omega (arith, e))
+is-lossless Extended e = absurd (omega (arith, e))
+is-lossless Progressive e = absurd (omega (arith, e))
+is-lossless Lossless e = refl
+
+pub not-sequential : (p : Process) → p ≡ Lossless → number_of p ≤ 1 → ⊥
+not-sequential p e few = (let n = ap number_of e in omega (arith, n, few))
 
 -- ---- frames that are kept
 

@@ -1,17 +1,17 @@
 -- Whole scan headers.
-use Rattle.std.proofs.Common.{◌≡◌, ℕ, zero, suc, ◌/◌, ◌%◌, ◌<◌, ◌≤◌, true, List, [], ◌∷◌, ◌++◌}
+use Rattle.std.proofs.Common.{◌≡◌, ◌≢◌, ◌==◌, ◌&&◌, Bool, ℕ, zero, suc, ◌/◌, ◌%◌, ◌<◌, ◌≤◌, true, List, [], ◌∷◌, ◌++◌}
 use Rattle.std.proofs.Common.{length, take, refl, sym, ap, ap₂, ◌∙◌, subst, arith, length-take}
 use Rattle.std.specs.List.{flat_map}
 use Rattle.std.specs.Prelude.{slice_index_or}
-use Rattle.std.proofs.lemmas.Bool.{lt-ltb}
+use Rattle.std.proofs.lemmas.Bool.{le-leb, leb-true, lt-ltb}
 use Rattle.std.proofs.lemmas.List.{length-map}
 use Rattle.jpeg_segments.specs.Frame.{frame_of, is_precision, process_of}
-use Rattle.jpeg_segments.specs.ScanHeader.{is_band, is_sequential_band}
+use Rattle.jpeg_segments.specs.ScanHeader.{is_band, is_lossless_band, is_sequential_band}
 use Rattle.jpeg_segments.specs.ScanHeaders.{IsScan, choice_bytes, scan_payload}
 use Rattle.jpeg_segments.specs.WrittenSegments.{nibbles}
-use Rattle.zaxbriar_strict.specs.Heads.{IsMade, IsSequential, ReadsHeader, choice_of, header_of, members_of, number_of}
+use Rattle.zaxbriar_strict.specs.Heads.{IsMade, IsSentOnce, ReadsHeader, choice_of, header_of, members_of, number_of}
 use Rattle.zaxbriar_strict.specs.Heads.{scan_header_of, written_frame}
-use Rattle.zaxbriar_strict.specs.Members.{AreMembers, NotesScan, TakesScan, choices_of}
+use Rattle.zaxbriar_strict.specs.Members.{AreMembers, NotesScan, Predicts, SendsAll, TakesScan, choices_of}
 use Rattle.zaxbriar_strict.specs.declared.frame.Frame.{Frame}
 use Rattle.zaxbriar_strict.specs.declared.frame.Process.{Process}
 use Rattle.zaxbriar_strict.specs.declared.frame.Process.TheVariants.{Baseline, Extended, Lossless, Progressive}
@@ -73,22 +73,56 @@ band-whole first last high low a b c d =
     ap (λ (k : ℕ). is_sequential_band k last high low) a ∙ ap (λ (k : ℕ). is_sequential_band 0 k high low) b
     ∙ ap (λ (k : ℕ). is_sequential_band 0 63 k low) c ∙ ap (λ (k : ℕ). is_sequential_band 0 63 0 k) d
 
-band-legal : (p : Process) (count first last high low : ℕ) → number_of p ≤ 1 → is_sequential_band first last high low ≡ true
-    → is_band (process_of (number_of p)) count first last high low ≡ true
-band-legal Baseline count first last high low few e = e
-band-legal Extended count first last high low few e = e
-band-legal Progressive count first last high low few e = absurd (omega arith)
-band-legal Lossless count first last high low few e = absurd (omega arith)
+band-predicted : (first last high : ℕ) → first ≤ 7 → last ≡ 0 → high ≡ 0 → is_lossless_band first last high ≡ true
+band-predicted first last high a b c =
+    ap (λ (t : Bool). t && (last == 0 && high == 0)) (le-leb first 7 a)
+    ∙ ap₂ (λ (k l : ℕ). k == 0 && l == 0) b c
+
+-- the band and the point transform of a scan are ones that the process codes
+record IsCodedBand (p : Process) (count precision : ℕ) (s : Scan) : Type 0 where
+  narrow : s.low < 16
+  below : s.low < precision
+  band : is_band (process_of (number_of p)) count s.first s.last s.high s.low ≡ true
+
+sequential-band : (p : Process) (count precision : ℕ) (s : Scan) → number_of p ≤ 1
+    → is_precision (number_of p) precision ≡ true → SendsAll s
+    → (is_sequential_band s.first s.last s.high s.low ≡ true
+    → is_band (process_of (number_of p)) count s.first s.last s.high s.low ≡ true) → IsCodedBand p count precision s
+sequential-band p count precision s few precise all same =
+    let some = precise-some p precision few precise in
+    let low = all.low in
+    record {
+      narrow = omega (arith, low);
+      below = omega (arith, low, some);
+      band = same (band-whole s.first s.last s.high s.low all.first all.last all.high all.low);
+    }
+
+coded-band : (p : Process) (count precision : ℕ) (s : Scan) → number_of p ≢ 2
+    → is_precision (number_of p) precision ≡ true → (number_of p ≤ 1 → SendsAll s)
+    → (number_of p ≡ 3 → Predicts precision s) → IsCodedBand p count precision s
+coded-band Baseline count precision s once precise whole predicted =
+    sequential-band Baseline count precision s (omega arith) precise (whole (omega arith)) (λ e. e)
+coded-band Extended count precision s once precise whole predicted =
+    sequential-band Extended count precision s (omega arith) precise (whole (omega arith)) (λ e. e)
+coded-band Progressive count precision s once precise whole predicted = absurd (once refl)
+coded-band Lossless count precision s once precise whole predicted =
+    let h = predicted refl in
+    let most : precision ≤ 16 = leb-true precision 16 precise in
+    let below = h.below in
+    record {
+      narrow = omega (arith, below, most);
+      below = below;
+      band = band-predicted s.first s.last s.high h.most h.last h.high;
+    }
 
 legal-scan : (f : Frame) (s : Scan) (bytes : List ℕ) (next : Frame) → TakesScan f s bytes → NotesScan s f next → IsMade f
-    → IsSequential f → IsScan (written_frame f) (scan_header_of f s)
+    → IsSentOnce f → IsScan (written_frame f) (scan_header_of f s)
 unfolding frame_of
-legal-scan f s bytes next t n made few =
-    let all = n.whole few in
+legal-scan f s bytes next t n made once =
     let many : length (choices_of f (members_of s)) ≡ s.count =
     length-map (members_of s) (choice_of (header_of f).components) ∙ counted-members s t.most t.sized in
-    let precise : 0 < f.precision = precise-some f.process f.precision few made.legal.precise in
-    let low : s.low ≡ 0 = all.low in
+    let coded = coded-band f.process (length (choices_of f (members_of s))) f.precision s once made.legal.precise n.whole
+    n.predicted in
     let some = t.some in
     let most = t.most in
     record {
@@ -96,10 +130,9 @@ legal-scan f s bytes next t n made few =
       most = omega (arith, many, most);
       choices = t.members.choices n.tables;
       fits = t.members.fits;
-      narrow = omega (arith, low);
-      precise = lt-ltb s.low f.precision (omega (arith, low, precise));
-      band = band-legal f.process (length (choices_of f (members_of s))) s.first s.last s.high s.low few
-          (band-whole s.first s.last s.high s.low all.first all.last all.high low);
+      narrow = coded.narrow;
+      precise = lt-ltb s.low f.precision coded.below;
+      band = coded.band;
     }
 
 pub reads-header : (bytes : List ℕ) (s : Scan) (old new : Frame) → TakesScan old s bytes → NotesScan s old new

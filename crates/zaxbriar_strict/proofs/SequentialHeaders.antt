@@ -16,7 +16,7 @@ use Rattle.jpeg_segments.specs.ScanHeader.{Selector, is_band, is_sequential_band
 use Rattle.jpeg_segments.specs.ScanHeaders.{AreChoices, IsChoice, IsScan, ScanHeader, scan_written}
 use Rattle.jpeg_segments.specs.WrittenSegments.{nibbles}
 use Rattle.jpeg_meaning.specs.ScanSegments.{pass_of}
-use Rattle.zaxbriar_strict.specs.Heads.{IsSameFrame, IsSequential, ReadsHeader, choice_of, header_of}
+use Rattle.zaxbriar_strict.specs.Heads.{IsSameFrame, IsSentOnce, IsSequential, ReadsHeader, choice_of, header_of}
 use Rattle.zaxbriar_strict.specs.Heads.{members_of, number_of, written_frame}
 use Rattle.zaxbriar_strict.specs.Members.{HaveTables}
 use Rattle.zaxbriar_strict.specs.ScanData.{HasMembers}
@@ -69,17 +69,20 @@ module _ (frame : WrittenFrame) (factors : List Factors) where
       let a = all.0.ac_bounded in
       ((omega (arith, most, d), omega (arith, most, a)), tables-from (m.component + 1) ms all.1)
 
-module _ (payload : List ℕ) (s : Scan) (old new : Frame) (sequential : IsSequential old) where
+pub sent-once : (f : Frame) → IsSequential f → IsSentOnce f
+sent-once f h = λ e. omega (arith, h, e)
+
+module _ (payload : List ℕ) (s : Scan) (old new : Frame) (once : IsSentOnce old) where
   pub members-some : ReadsHeader payload s old new → 1 ≤ length (members_of s)
   members-some head =
-      let some = (head.legal sequential).some in
+      let some = (head.legal once).some in
       let e = length-map (members_of s) (choice_of (header_of old).components) in
       omega (arith, some, e)
 
   -- A scan has some components of the frame.
   pub has-members : length s.members ≡ 4 → ReadsHeader payload s old new → HasMembers old s
   has-members sized head =
-      let all = (head.legal sequential).choices in
+      let all = (head.legal once).choices in
       let few = head.counted in
       let some = members-some head in
       let counted : s.count ≡ length (members_of s) =

@@ -7,8 +7,10 @@ use Rattle.std.proofs.lemmas.List.{length-map}
 use Rattle.std.proofs.lemmas.Option.{same_Some}
 use Rattle.jpeg_bits.specs.Written.{marker}
 use Rattle.jpeg_segments.proofs.Codecs.{AreBytes}
+use Rattle.jpeg_meaning.specs.AcceptedFrames.{HasSamples}
 use Rattle.jpeg_meaning.specs.Found.{Said, nothing_said}
 use Rattle.zaxbriar_strict.specs.Exact.{HasHeader, HasLaterTables, HasOtherAdobe, HasSequentialPicture}
+use Rattle.zaxbriar_strict.specs.Exact.{HasShiftedScan}
 use Rattle.zaxbriar_strict.specs.Exact.{WritesSegments}
 use Rattle.zaxbriar_strict.specs.Heads.{factors_of, has_scans, written_frame}
 use Rattle.zaxbriar_strict.specs.Walks.{Finishes}
@@ -17,7 +19,8 @@ use Rattle.zaxbriar_strict.specs.declared.frame.Frame.{Frame}
 use Rattle.zaxbriar_strict.specs.declared.walk.Walk.{Walk}
 use Rattle.zaxbriar_strict.proofs.FrameComponents.{written-count}
 use Rattle.zaxbriar_strict.proofs.ImageParts.{ImagePart}
-use Rattle.zaxbriar_strict.proofs.WalkedFrames.{IsPictureFrame}
+use Rattle.zaxbriar_strict.proofs.SampleParts.{SamplesPart}
+use Rattle.zaxbriar_strict.proofs.WalkedFrames.{IsPictureFrame, IsSampledFrame}
 use Rattle.zaxbriar_strict.proofs.WalkedSegments.{Knows}
 
 -- ---- states
@@ -44,14 +47,32 @@ pub record IsBegun (stream at : List ℕ) (w : Walk) : Type 0 where
   pub is : w.frame ≡ Some frame
   pub pictured : IsPictureFrame frame
   pub was_said : said.frame ≡ Some (written_frame frame)
+  pub unsampled : HasSamples header.number header.header → ⊥
+
+-- A lossless frame was read that has samples, and any number of its scans.
+pub record IsSampled (stream at : List ℕ) (w : Walk) : Type 0 where
+  pub header : HasHeader stream
+  pub said : Said
+  pub frame : Frame
+  pub part : SamplesPart header.after at said (has_scans frame)
+  pub known : Knows w.tables w.frame said
+  pub is : w.frame ≡ Some frame
+  pub sampled : IsSampledFrame frame
+  pub was_said : said.frame ≡ Some (written_frame frame)
+  pub unpictured : HasSequentialPicture header.number header.header → ⊥
 
 -- What is known where these bytes are still to be read.
 pub data Walked (stream at : List ℕ) (w : Walk) : Type 0 where
   with_adobe : HasOtherAdobe stream → Walked stream at w
-  has_none : (h : HasHeader stream) → (HasSequentialPicture h.number h.header → ⊥) → Walked stream at w
-  has_later : (h : HasHeader stream) → HasLaterTables h.after → Walked stream at w
+  has_none : (h : HasHeader stream) → (HasSequentialPicture h.number h.header → ⊥)
+      → (HasSamples h.number h.header → ⊥) → Walked stream at w
+  has_later : (h : HasHeader stream) → HasLaterTables h.after → (HasSamples h.number h.header → ⊥)
+      → Walked stream at w
+  has_shifted : (h : HasHeader stream) → HasShiftedScan h.after → (HasSequentialPicture h.number h.header → ⊥)
+      → Walked stream at w
   is_before : IsBefore stream at w → Walked stream at w
   is_begun : IsBegun stream at w → Walked stream at w
+  is_sampled : IsSampled stream at w → Walked stream at w
 
 -- as many components of the frame are told to have scans or not
 pub sent-count : (f : Frame) → length (has_scans f) ≡ length (written_frame f).components

@@ -5,6 +5,7 @@ use Rattle.jpeg_bits.specs.Written.{marker}
 use Rattle.jpeg_segments.specs.Frame.{frame_of}
 use Rattle.jpeg_segments.specs.WrittenSegments.{FrameHeader, Header, frame_payload, marker_code}
 use Rattle.jpeg_segments.specs.WrittenSegments.{payload_of, with_length}
+use Rattle.jpeg_meaning.specs.AcceptedFrames.{HasSamples}
 use Rattle.jpeg_meaning.specs.Found.{Said, nothing_said}
 use Rattle.jpeg_meaning.specs.SaidSegments.{said_after}
 use Rattle.zaxbriar_strict.specs.Exact.{HasHeader, HasSequentialPicture, WritesSegments}
@@ -33,6 +34,18 @@ picture-same {old} {new} same p = record {
   made = same-made same p.made;
   has = subst (λ (q : Process). HasSequentialPicture (number_of q) (header_of new)) (sym same.process)
       (subst (λ (h : FrameHeader). HasSequentialPicture (number_of old.process) h) (sym same.header) p.has);
+}
+
+-- a lossless frame that keeps its rules, and has samples
+pub record IsSampledFrame (f : Frame) : Type 0 where
+  pub made : IsMade f
+  pub has : HasSamples (number_of f.process) (header_of f)
+
+pub sampled-same : {old new : Frame} → IsSameFrame old new → IsSampledFrame old → IsSampledFrame new
+sampled-same {old} {new} same p = record {
+  made = same-made same p.made;
+  has = subst (λ (q : Process). HasSamples (number_of q) (header_of new)) (sym same.process)
+      (subst (λ (h : FrameHeader). HasSamples (number_of old.process) h) (sym same.header) p.has);
 }
 
 -- ---- its header

@@ -1,11 +1,13 @@
 -- Segments that a walk took are those that a writer emits: tables and applications.
 use Rattle.std.proofs.Common.{◌≡◌, ℕ, ◌-◌, ◌≤◌, ◌⊎◌, inl, inr, ⊎_elim, Bool, true, false, List, ◌++◌}
-use Rattle.std.proofs.Common.{Option, option_map, refl, sym, ap, ap₂, ◌∙◌, subst, arith}
+use Rattle.std.proofs.Common.{Option, Some, option_map, refl, sym, ap, ap₂, ◌∙◌, subst, arith}
 use Rattle.std.specs.List.{AllByRecursion}
+use Rattle.std.proofs.lemmas.Option.{none-some}
 use Rattle.jpeg_bits.proofs.PieceWalks.{by_bool}
 use Rattle.jpeg_bits.specs.Written.{marker}
 use Rattle.jpeg_segments.specs.HuffmanTables.{Tables as CodeTables, greatest_destination}
-use Rattle.jpeg_segments.specs.WrittenSegments.{Application, Comment, Huffman, Interval, IsHuffmanTable, Quantization}
+use Rattle.jpeg_segments.specs.Frame.{Frame as WrittenFrame}
+use Rattle.jpeg_segments.specs.WrittenSegments.{Application, Comment, Header, Huffman, Interval, IsHuffmanTable, Quantization}
 use Rattle.jpeg_segments.specs.WrittenSegments.{Segment, huffman_tables, marker_code, payload_of, quantization_tables}
 use Rattle.jpeg_segments.specs.WrittenSegments.{with_length}
 use Rattle.jpeg_segments.proofs.ApplicationParts.{IsOf}
@@ -14,6 +16,7 @@ use Rattle.jpeg_meaning.specs.Found.{Said}
 use Rattle.jpeg_meaning.specs.SaidSegments.{Stands, said_after}
 use Rattle.jpeg_meaning.specs.Segments.{updated, with_huffman}
 use Rattle.jpeg_meaning.specs.WrittenImages.{MayStandInImage}
+use Rattle.jpeg_meaning.specs.WrittenLossless.{IsLossless}
 use Rattle.zaxbriar_strict.specs.Heads.{is_baseline_of}
 use Rattle.zaxbriar_strict.specs.Installed.{InstallsCodes, InstallsSteps, codes_of, steps_of}
 use Rattle.zaxbriar_strict.specs.Markers.{BeginsMarker}
@@ -192,3 +195,43 @@ module _ (at middle rest payload : List ℕ) (code : ℕ) (said : Said) (begins 
           (λ (c : code ≡ 254). inl (after-comment old.tables new.tables old.frame c
           (o.others (λ e. absurd (omega (arith, e, c))) (λ e. absurd (omega (arith, e, c)))
           (λ e. absurd (omega (arith, e, c)))) k)) s
+
+-- ---- where scans were before, too
+
+knows-as : (t : Tables) (frame : Option Frame) (a b : Said) → a.quantization ≡ b.quantization
+    → a.huffman ≡ b.huffman → a.restart ≡ b.restart → a.frame ≡ b.frame → Knows t frame a → Knows t frame b
+knows-as t frame a b q h r f k = record {
+  steps = k.steps ∙ q;
+  codes = k.codes ∙ h;
+  interval = k.interval ∙ r;
+  baseline = k.baseline ∙ ap (λ (o : Option WrittenFrame). option_map (λ f. f.is_baseline) o) f;
+}
+
+-- whether there was a scan is not asked
+pub knows-unscanned : (t : Tables) (frame : Option Frame) (said : Said) → Knows t frame said
+    → Knows t frame (record said { scanned = false })
+knows-unscanned t frame said k = knows-as t frame said (record said { scanned = false }) refl refl refl refl k
+
+pub known-after : (t : Tables) (frame : Option Frame) (said : Said) (s : Segment)
+    → Knows t frame (said_after (record said { scanned = false }) s) → Knows t frame (said_after said s)
+known-after t frame said (Quantization ts) k = knows-as t frame _ _ refl refl refl refl k
+known-after t frame said (Huffman ts) k = knows-as t frame _ _ refl refl refl refl k
+known-after t frame said (Interval n) k = knows-as t frame _ _ refl refl refl refl k
+known-after t frame said (Application d) k = knows-as t frame _ _ refl refl refl refl k
+known-after t frame said (Comment payload) k = knows-as t frame _ _ refl refl refl refl k
+known-after t frame said (Header number h) k = knows-as t frame _ _ refl refl refl refl k
+
+pub frame-after : (said : Said) (s : Segment)
+    → (said_after said s).frame ≡ (said_after (record said { scanned = false }) s).frame
+frame-after said (Quantization ts) = refl
+frame-after said (Huffman ts) = refl
+frame-after said (Interval n) = refl
+frame-after said (Application d) = refl
+frame-after said (Comment payload) = refl
+frame-after said (Header number h) = refl
+
+-- where there is a frame, no other one is said
+pub lossless-segment : (said : Said) (frame : WrittenFrame) (s : Segment) → said.frame ≡ Some frame → Stands said s
+    → IsLossless s
+lossless-segment said frame (Header number h) e stands = absurd (none-some frame (sym stands.0.0 ∙ e))
+lossless-segment said frame s e stands = tt

@@ -1,5 +1,5 @@
 -- What is known of a stream, segment by segment.
-use Rattle.std.proofs.Common.{◌≡◌, ℕ, ◌-◌, ◌⊎◌, inl, inr, ⊎_elim, Bool, true, List, [], ◌++◌}
+use Rattle.std.proofs.Common.{◌≡◌, ℕ, ◌+◌, ◌-◌, ◌⊎◌, inl, inr, ⊎_elim, Bool, true, false, List, [], ◌++◌}
 use Rattle.std.proofs.Common.{Option, Some, option_map, refl, sym, ap, ◌∙◌, subst, arith}
 use Rattle.std.specs.List.{AllByRecursion}
 use Rattle.std.proofs.lemmas.Bool.{false≢true}
@@ -8,8 +8,9 @@ use Rattle.std.proofs.lemmas.Option.{none-some}
 use Rattle.jpeg_bits.specs.Written.{marker}
 use Rattle.jpeg_segments.specs.Frame.{Frame as WrittenFrame}
 use Rattle.jpeg_segments.specs.ScanHeaders.{scan_payload}
-use Rattle.jpeg_segments.specs.WrittenSegments.{Header, with_length}
+use Rattle.jpeg_segments.specs.WrittenSegments.{Header, frame_payload, with_length}
 use Rattle.jpeg_segments.proofs.Codecs.{AreBytes}
+use Rattle.jpeg_meaning.specs.AcceptedFrames.{HasSamples}
 use Rattle.jpeg_meaning.specs.Found.{Said, nothing_said}
 use Rattle.jpeg_meaning.specs.SaidSegments.{said_after}
 use Rattle.zaxbriar_strict.specs.Exact.{HasOtherAdobe, HasSequentialPicture, IsExact, WritesSegments}
@@ -23,17 +24,21 @@ use Rattle.zaxbriar_strict.specs.declared.frame.Component.{Component}
 use Rattle.zaxbriar_strict.specs.declared.frame.Frame.{Frame}
 use Rattle.zaxbriar_strict.specs.declared.walk.Walk.{Walk}
 use Rattle.zaxbriar_strict.proofs.Applications.{IsOtherAdobe}
-use Rattle.zaxbriar_strict.proofs.DecidedFrames.{picture-or-not}
+use Rattle.zaxbriar_strict.proofs.DecidedFrames.{equal, picture-or-not, samples-or-not}
 use Rattle.zaxbriar_strict.proofs.ImageParts.{ImagePart, later-tables, part-closed, part-front, part-headed, part-scan}
 use Rattle.zaxbriar_strict.proofs.ImageParts.{part-segment}
 use Rattle.zaxbriar_strict.proofs.SameFrames.{same-then, same-written}
+use Rattle.zaxbriar_strict.proofs.SampleParts.{SamplesPart, samples-closed, samples-front, samples-headed, samples-scan}
+use Rattle.zaxbriar_strict.proofs.SampleParts.{samples-segment, shifted-scan}
 use Rattle.zaxbriar_strict.proofs.SentComponents.{sent-all, unsent-all}
 use Rattle.zaxbriar_strict.proofs.WalkedBytes.{other-adobe, payload-bytes, segments-front}
-use Rattle.zaxbriar_strict.proofs.WalkedFrames.{IsPictureFrame, after-header, headed, knows-header, knows-scan}
-use Rattle.zaxbriar_strict.proofs.WalkedFrames.{picture-same}
-use Rattle.zaxbriar_strict.proofs.WalkedSegments.{Follows, IsLater, Knows, after-other, segment-bytes}
-use Rattle.zaxbriar_strict.proofs.WalkStates.{IsBefore, IsBegun, Walked, same-frame, sent-count, some-component}
-use Rattle.zaxbriar_strict.proofs.WalkStates.Walked.{has_later, has_none, is_before, is_begun, with_adobe}
+use Rattle.zaxbriar_strict.proofs.WalkedFrames.{IsPictureFrame, IsSampledFrame, after-header, headed, knows-header}
+use Rattle.zaxbriar_strict.proofs.WalkedFrames.{knows-scan, picture-same, sampled-same}
+use Rattle.zaxbriar_strict.proofs.WalkedSegments.{Follows, IsLater, Knows, after-other, frame-after, known-after}
+use Rattle.zaxbriar_strict.proofs.WalkedSegments.{knows-unscanned, lossless-segment, segment-bytes}
+use Rattle.zaxbriar_strict.proofs.WalkStates.{IsBefore, IsBegun, IsSampled, Walked, same-frame, sent-count, some-component}
+use Rattle.zaxbriar_strict.proofs.WalkStates.Walked.{has_later, has_none, has_shifted, is_before, is_begun, is_sampled}
+use Rattle.zaxbriar_strict.proofs.WalkStates.Walked.{with_adobe}
 
 -- ---- a segment of tables, or of an application
 
@@ -95,19 +100,44 @@ module _ (stream at middle rest payload : List ℕ) (code : ℕ) (old new : Walk
           is = o.frame ∙ b.is;
           pictured = b.pictured;
           was_said = f.framed ∙ b.was_said;
+          unsampled = b.unsampled;
         })
         | inr (inl x) ↦ with_adobe (other-adobe-in b.header.before b.header.after e.front b.header.starts e.parts x)
         | inr (inr later) ↦ has_later b.header
             (later-tables b.header.after at b.said (written_frame b.frame) (has_scans b.frame) b.part begins.fill
-            payload rest (bytes-are 219 (sym later.0)) later.1)
+            payload rest (bytes-are 219 (sym later.0)) later.1) b.unsampled
+      ]
+
+  other-sampled : IsSampled stream at old → Walked stream rest new
+  other-sampled b =
+      let e = samples-front b.header.after at b.said (has_scans b.frame) b.part in
+      let said : Said = record b.said { scanned = false } in
+      elim (turn b.header.before b.header.after e.front said b.header.starts e.parts
+      (knows-unscanned old.tables old.frame b.said b.known)) [
+        | inl f ↦ is_sampled (record {
+          header = b.header;
+          said = said_after b.said f.s;
+          frame = b.frame;
+          part = samples-segment b.header.after at rest b.said (has_scans b.frame) f.fill f.s b.part f.parts f.stands
+              (lossless-segment b.said (written_frame b.frame) f.s b.was_said f.stands);
+          known = still-known (said_after b.said f.s) (known-after new.tables old.frame b.said f.s f.known);
+          is = o.frame ∙ b.is;
+          sampled = b.sampled;
+          was_said = frame-after b.said f.s ∙ f.framed ∙ b.was_said;
+          unpictured = b.unpictured;
+        })
+        | inr (inl x) ↦ with_adobe (other-adobe-in b.header.before b.header.after e.front b.header.starts e.parts x)
+        | inr (inr later) ↦ absurd (false≢true later.1)
       ]
 
   walked-other : Walked stream at old → Walked stream rest new
   walked-other (with_adobe x) = with_adobe x
-  walked-other (has_none h n) = has_none h n
-  walked-other (has_later h x) = has_later h x
+  walked-other (has_none h n m) = has_none h n m
+  walked-other (has_later h x m) = has_later h x m
+  walked-other (has_shifted h x n) = has_shifted h x n
   walked-other (is_before b) = other-before b
   walked-other (is_begun b) = other-begun b
+  walked-other (is_sampled b) = other-sampled b
 
 -- ---- a frame header
 
@@ -133,15 +163,36 @@ module _ (stream at middle rest payload : List ℕ) (code : ℕ) (old new : Walk
         is = t.is;
         pictured = record { made = t.read.made; has = p };
         was_said = refl;
-      })) (λ (n : HasSequentialPicture (number_of f.process) (header_of f) → ⊥). has_none h n)
+        unsampled = λ q. (let few = p.sequential in let three = q.lossless in omega (arith, few, three));
+      })) (λ (n : HasSequentialPicture (number_of f.process) (header_of f) → ⊥).
+      ⊎_elim (λ (q : HasSamples (number_of f.process) (header_of f)). is_sampled (record {
+        header = h;
+        said = said;
+        frame = f;
+        part = samples-headed b.after at rest b.said (has_scans f) begins.fill (number_of f.process) (header_of f)
+            b.segments b.unsaid ((b.unsaid, t.read.made.legal), inr q) q.lossless
+            (segment-bytes at middle rest payload code begins parts (192 + number_of f.process)
+            (frame_payload (header_of f)) (sym t.read.marked) (sym t.read.are))
+            (unsent-all f.components.items t.read.unsent);
+        known = subst (λ (o : Option Frame). Knows new.tables o said) (sym t.is)
+            (knows-header b.after at middle rest payload code b.said b.segments begins parts f t.read old.tables
+            new.tables t.tables (subst (λ (o : Option Frame). Knows old.tables o b.said) t.first b.known));
+        is = t.is;
+        sampled = record { made = t.read.made; has = q };
+        was_said = refl;
+        unpictured = n;
+      })) (λ (m : HasSamples (number_of f.process) (header_of f) → ⊥). has_none h n m)
+      (samples-or-not (number_of f.process) (header_of f)))
       (picture-or-not (number_of f.process) (header_of f))
 
   walked-frame : Walked stream at old → Walked stream rest new
   walked-frame (with_adobe x) = with_adobe x
-  walked-frame (has_none h n) = has_none h n
-  walked-frame (has_later h x) = has_later h x
+  walked-frame (has_none h n m) = has_none h n m
+  walked-frame (has_later h x m) = has_later h x m
+  walked-frame (has_shifted h x n) = has_shifted h x n
   walked-frame (is_before b) = framed b
   walked-frame (is_begun b) = absurd (none-some b.frame (sym t.first ∙ b.is))
+  walked-frame (is_sampled b) = absurd (none-some b.frame (sym t.first ∙ b.is))
 
 -- ---- a scan
 
@@ -154,7 +205,7 @@ module _ (stream at middle start rest payload : List ℕ) (old new : Walk)
       let f = t.frame in
       let pictured = subst (λ (g : Frame). IsPictureFrame g) (sym same) b.pictured in
       let few = pictured.has.sequential in
-      let r = t.read pictured.made few in
+      let r = t.read pictured.made in
       let head = r.headed in
       let final : Said = record b.said { scanned = true } in
       let last_same = same-then head.same r.same in
@@ -173,7 +224,7 @@ module _ (stream at middle start rest payload : List ℕ) (old new : Walk)
         said = final;
         frame = t.last;
         part = subst (λ (sent : List Bool). ImagePart b.header.after rest final (written_frame t.last) sent)
-            (sym (r.sent ∙ head.sent few))
+            (sym (r.sent ∙ head.sent))
             (subst (λ (w : WrittenFrame). ImagePart b.header.after rest final w
             (sent_with (members_of r.scan) (has_scans f))) (sym (same-written last_same)) p);
         known = subst (λ (o : Option Frame). Knows new.tables o final) (sym t.is)
@@ -182,14 +233,57 @@ module _ (stream at middle start rest payload : List ℕ) (old new : Walk)
         is = t.is;
         pictured = picture-same r.same (picture-same head.same pictured);
         was_said = was ∙ ap (λ (w : WrittenFrame). Some w) (sym (same-written last_same));
+        unsampled = b.unsampled;
       })
+
+  scanned-samples : IsSampled stream at old → Walked stream rest new
+  scanned-samples b =
+      let same = same-frame old.frame t.frame b.frame t.was b.is in
+      let f = t.frame in
+      let sampled = subst (λ (g : Frame). IsSampledFrame g) (sym same) b.sampled in
+      let r = t.read sampled.made in
+      let head = r.headed in
+      let final : Said = record b.said { scanned = true } in
+      let last_same = same-then head.same r.same in
+      let bytes : at ≡ marker begins.fill 218 (with_length (scan_payload (scan_header_of f r.scan)) ++ start) =
+      begins.parts ∙ ap (λ (l : List ℕ). marker begins.fill 218 l)
+      (parts ∙ ap (λ (l : List ℕ). with_length l ++ start) head.are) in
+      let was : b.said.frame ≡ Some (written_frame f) =
+      b.was_said ∙ ap (λ (g : Frame). Some (written_frame g)) (sym same) in
+      let known = b.known in
+      let part = subst (λ (g : Frame). SamplesPart b.header.after at b.said (has_scans g)) (sym same) b.part in
+      elim (equal r.scan.low 0) [
+        | inl point ↦
+            let p = samples-scan b.header.after at start rest payload begins.fill old.tables f r.between r.scan b.said
+            sampled.made sampled.has.lossless r.sized head r.samples known.codes known.interval was bytes part point in
+            is_sampled (record {
+              header = b.header;
+              said = final;
+              frame = t.last;
+              part = subst (λ (sent : List Bool). SamplesPart b.header.after rest final sent)
+                  (sym (r.sent ∙ head.sent)) p;
+              known = subst (λ (o : Option Frame). Knows new.tables o final) (sym t.is)
+                  (knows-scan old.tables new.tables f t.last b.said t.tables last_same
+                  (subst (λ (o : Option Frame). Knows old.tables o b.said) t.was known));
+              is = t.is;
+              sampled = sampled-same r.same (sampled-same head.same sampled);
+              was_said = was ∙ ap (λ (w : WrittenFrame). Some w) (sym (same-written last_same));
+              unpictured = b.unpictured;
+            })
+        | inr ne ↦ has_shifted b.header
+            (shifted-scan b.header.after at start rest payload begins.fill old.tables f r.between r.scan b.said
+            sampled.made sampled.has.lossless r.sized head r.samples known.codes known.interval was bytes part
+            (omega (arith, ne))) b.unpictured
+      ]
 
   walked-scan : Walked stream at old → Walked stream rest new
   walked-scan (with_adobe x) = with_adobe x
-  walked-scan (has_none h n) = has_none h n
-  walked-scan (has_later h x) = has_later h x
+  walked-scan (has_none h n m) = has_none h n m
+  walked-scan (has_later h x m) = has_later h x m
+  walked-scan (has_shifted h x n) = has_shifted h x n
   walked-scan (is_before b) = absurd (none-some t.frame (sym b.unframed ∙ t.was))
   walked-scan (is_begun b) = scanned b
+  walked-scan (is_sampled b) = scanned-samples b
 
 -- ---- from the start to the end
 
@@ -227,8 +321,22 @@ walked-more stream at middle rest code old new all begins (of_scan payload start
 walked-whole : (stream at : List ℕ) (w : Walk) → BeginsMarker 217 at [] → Finishes w → Walked stream at w
     → IsExact stream
 walked-whole stream at w begins f (with_adobe x) = inr x
-walked-whole stream at w begins f (has_none h n) = inl (record { headed = h; written = λ p. absurd (n p) })
-walked-whole stream at w begins f (has_later h x) = inl (record { headed = h; written = λ p. inr x })
+walked-whole stream at w begins f (has_none h n m) =
+    inl (record { headed = h; written = λ p. absurd (n p); samples = λ q. absurd (m q) })
+walked-whole stream at w begins f (has_later h x m) =
+    inl (record { headed = h; written = λ p. inr x; samples = λ q. absurd (m q) })
+walked-whole stream at w begins f (has_shifted h x n) =
+    inl (record { headed = h; written = λ p. absurd (n p); samples = λ q. inr x })
+walked-whole stream at w begins f (is_sampled b) =
+    let same = same-frame w.frame f.frame b.frame f.is b.is in
+    let all = sent-all b.frame.components.items
+    (subst (λ (g : Frame). AllByRecursion (λ (c : Component). c.has_scan ≡ true) g.components.items) same f.sent) in
+    inl (record {
+      headed = b.header;
+      written = λ p. absurd (b.unpictured p);
+      samples = λ q. inl (samples-closed b.header.after at b.said (written_frame b.frame) (has_scans b.frame) begins.fill
+          b.part (sent-count b.frame) all b.was_said begins.parts);
+    })
 walked-whole stream at w begins f (is_before b) = absurd (none-some f.frame (sym b.unframed ∙ f.is))
 walked-whole stream at w begins f (is_begun b) =
     let same = same-frame w.frame f.frame b.frame f.is b.is in
@@ -240,6 +348,7 @@ walked-whole stream at w begins f (is_begun b) =
       headed = b.header;
       written = λ p. inl (part-closed b.header.after at b.said (written_frame b.frame) (has_scans b.frame) begins.fill
           b.part (sent-count b.frame) (omega (arith, count, some)) all b.was_said begins.parts);
+      samples = λ q. absurd (b.unsampled q);
     })
 
 pub walked-end : (stream at rest : List ℕ) (code : ℕ) (w : Walk) → BeginsMarker code at rest → code ≡ 217

@@ -1,14 +1,18 @@
 -- What a strict verdict says of a stream (T.81, B.2.1).
-use Rattle.std.specs.Prelude.{◌≡◌, ◌⊎◌, ◌+◌, ◌≤◌, ◌<◌, ◌∷◌, ◌++◌, ℕ, List, slice_index, true}
+use Rattle.std.specs.Prelude.{◌≡◌, ◌⊎◌, ◌+◌, ◌≤◌, ◌<◌, ◌∷◌, ◌++◌, [], ℕ, List, slice_index}
+use Rattle.std.specs.Prelude.{true}
 use Rattle.jpeg_bits.specs.Written.{marker}
+use Rattle.jpeg_segments.specs.ScanHeaders.{ScanHeader, scan_payload}
 use Rattle.jpeg_segments.specs.WrittenSegments.{FrameHeader, Segment, frame_payload, is_known}
 use Rattle.jpeg_segments.specs.WrittenSegments.{marker_code, payload_of, with_length}
 use Rattle.jpeg_meaning.specs.Found.{Said, nothing_said}
-use Rattle.jpeg_meaning.specs.AcceptedFrames.{HasPicture}
+use Rattle.jpeg_meaning.specs.AcceptedFrames.{HasPicture, HasSamples}
 use Rattle.jpeg_meaning.specs.Levels.{Is8Bit, Levels, nothing_sent}
 use Rattle.jpeg_meaning.specs.SaidSegments.{Stands, said_after}
 use Rattle.jpeg_meaning.specs.WrittenImages.{MayStandInImage, WritesImage, WritesPart}
+use Rattle.jpeg_meaning.specs.WrittenLossless.{IsLossless, Samples, SendsSamples, WritesSamples}
 use Rattle.jpeg_meaning.specs.WrittenScans.{Coefficients}
+use Rattle.jpeg_meaning.specs.WrittenStreams.{Writes}
 
 -- Segments one after the other, from the start of some bytes up to these others: what was said
 -- before them and after.
@@ -75,13 +79,45 @@ pub record HasSequentialPicture (number : ℕ) (h : FrameHeader) : Type 0 where
   pub sequential : number ≤ 1
   pub picture : HasPicture h
 
+-- A stream that a writer emits for the samples of a lossless image.
+pub record IsWrittenForSamples (bytes : List ℕ) : Type 0 where
+  pub samples : Samples
+  pub final : Said
+  pub written : WritesSamples samples bytes final
+
+-- These bytes are the others of a stream, where what is written before them is told.
+abbrev pub IsUpToSamples : List ℕ → Said → List ℕ → List ℕ → Type 0
+IsUpToSamples others said sent bytes = bytes ≡ others
+
+-- Segments and scans of a lossless image, up to these others.
+abbrev pub WritesSamplesPart : Samples → List ℕ → List ℕ → Said → List ℕ → Type 0
+WritesSamplesPart samples others after said sent =
+    Writes (λ said s. IsLossless s) (SendsSamples samples) (IsUpToSamples others) nothing_said []
+    after said sent
+
+-- A scan with a point transform stands after segments and scans that a writer emits for some
+-- samples: writers here send samples themselves. These bytes follow SOI.
+pub record HasShiftedScan (after : List ℕ) : Type 0 where
+  pub samples : Samples
+  pub said : Said
+  pub sent : List ℕ
+  pub fill : ℕ
+  pub header : ScanHeader
+  pub rest : List ℕ
+  pub written : WritesSamplesPart samples
+      (marker fill 218 (with_length (scan_payload header) ++ rest)) after said sent
+  pub shifted : 1 ≤ header.low
+
 -- A stream with this frame header is written for some coefficients, where the frame is sequential
--- and has a picture, unless it defines quantization tables after a scan: without the fill bytes
--- that may stand before SOI.
+-- and has a picture, unless it defines quantization tables after a scan; and for some samples,
+-- where the frame is lossless and has samples, unless a scan has a point transform: without the
+-- fill bytes that may stand before SOI.
 pub record IsExactFor (bytes : List ℕ) : Type 0 where
   pub headed : HasHeader bytes
   pub written : HasSequentialPicture headed.number headed.header
       → IsWritten (255 ∷ 216 ∷ headed.after) ⊎ HasLaterTables headed.after
+  pub samples : HasSamples headed.number headed.header
+      → IsWrittenForSamples (255 ∷ 216 ∷ headed.after) ⊎ HasShiftedScan headed.after
 
 abbrev pub IsExact : List ℕ → Type 0
 IsExact bytes = IsExactFor bytes ⊎ HasOtherAdobe bytes

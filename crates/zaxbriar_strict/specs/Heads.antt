@@ -1,6 +1,6 @@
 -- Frame and scan headers that were read, in the words of a writer (T.81, B.2.2 and B.2.3).
-use Rattle.std.specs.Prelude.{◌≡◌, ◌+◌, ◌≤◌, ℕ, Bool, true, false, List, [], ◌∷◌, map, take, get_or}
-use Rattle.std.specs.Prelude.{set}
+use Rattle.std.specs.Prelude.{◌≡◌, ◌≢◌, ◌+◌, ◌≤◌, ℕ, Bool, true, false, List, [], ◌∷◌, map, take}
+use Rattle.std.specs.Prelude.{get_or, set}
 use Rattle.std.specs.List.{AllByRecursion}
 use Rattle.jpeg_segments.specs.Frame.{Factors, greatest, Frame as WrittenFrame}
 use Rattle.jpeg_segments.specs.ScanHeader.{Selector}
@@ -101,6 +101,14 @@ scan_header_of f s = record {
 abbrev pub IsSequential : Frame → Type 0
 IsSequential f = number_of f.process ≤ 1
 
+-- The frame is lossless.
+abbrev pub IsLosslessFrame : Frame → Type 0
+IsLosslessFrame f = number_of f.process ≡ 3
+
+-- Each component of the frame has one scan.
+abbrev pub IsSentOnce : Frame → Type 0
+IsSentOnce f = number_of f.process ≢ 2
+
 -- which components of a frame have a scan
 abbrev pub has_scans : Frame → List Bool
 has_scans f = map (λ c. c.has_scan) f.components.items
@@ -114,14 +122,14 @@ unfoldable pub sent_with : List Member → List Bool → List Bool
 sent_with [] sent = sent
 sent_with (m ∷ ms) sent = sent_with ms (set sent m.component true)
 
--- The bytes of a segment SOS after its length are those of a scan header, which in a sequential
--- frame keeps its rules and sends all bits of all coefficients.
+-- The bytes of a segment SOS after its length are those of a scan header, which in a sequential or
+-- a lossless frame keeps its rules, and in a sequential one sends all bits of all coefficients.
 pub record ReadsHeader (bytes : List ℕ) (s : Scan) (old new : Frame) : Type 0 where
   pub are : bytes ≡ scan_payload (scan_header_of old s)
   pub counted : s.count ≤ 4
-  pub legal : IsSequential old → IsScan (written_frame old) (scan_header_of old s)
+  pub legal : IsSentOnce old → IsScan (written_frame old) (scan_header_of old s)
   pub last : IsSequential old → s.last ≡ 63
   pub same : IsSameFrame old new
   -- none of its components has a scan before, and all have one after it
-  pub unsent : IsSequential old → AreUnsent (has_scans old) (members_of s)
-  pub sent : IsSequential old → has_scans new ≡ sent_with (members_of s) (has_scans old)
+  pub unsent : IsSentOnce old → AreUnsent (has_scans old) (members_of s)
+  pub sent : has_scans new ≡ sent_with (members_of s) (has_scans old)

@@ -11,6 +11,8 @@ pub mod Quantizations
 pub mod Heads
 pub mod Installed
 pub mod ScanData
+pub mod ScanSamples
+pub mod SampleRows
 pub mod Kept
 pub mod Runs
 pub mod Contexts

@@ -5,7 +5,8 @@ use Rattle.std.specs.List.{AllByRecursion}
 use Rattle.jpeg_segments.specs.HuffmanTables.{greatest_destination}
 use Rattle.jpeg_segments.specs.ScanHeader.{Selector, index_of, is_mcu}
 use Rattle.jpeg_segments.specs.ScanHeaders.{AreChoices, choice_bytes, scan_payload}
-use Rattle.zaxbriar_strict.specs.Heads.{AreUnsent, IsSameFrame, IsSequential, choice_of, has_scans}
+use Rattle.zaxbriar_strict.specs.Heads.{AreUnsent, IsLosslessFrame, IsSameFrame, IsSentOnce}
+use Rattle.zaxbriar_strict.specs.Heads.{IsSequential, choice_of, has_scans}
 use Rattle.zaxbriar_strict.specs.Heads.{header_of, sent_with}
 use Rattle.zaxbriar_strict.specs.Heads.{is_baseline_process, members_of, scan_header_of}
 use Rattle.zaxbriar_strict.specs.Heads.{written_frame}
@@ -62,10 +63,19 @@ pub record SendsAll (s : Scan) : Type 0 where
   pub high : s.high ≡ 0
   pub low : s.low ≡ 0
 
+-- The scan has a predictor of Table H.1, and a point transform that leaves bits of a sample.
+pub record Predicts (precision : ℕ) (s : Scan) : Type 0 where
+  pub some : 1 ≤ s.first
+  pub most : s.first ≤ 7
+  pub last : s.last ≡ 0
+  pub high : s.high ≡ 0
+  pub below : s.low < precision
+
 -- The scan may come after what was noted in the frame, and is noted.
 pub record NotesScan (s : Scan) (old new : Frame) : Type 0 where
   pub tables : HaveTables (most_tables old.process) (members_of s)
   pub whole : IsSequential old → SendsAll s
+  pub predicted : IsLosslessFrame old → Predicts old.precision s
   pub same : IsSameFrame old new
-  pub unsent : IsSequential old → AreUnsent (has_scans old) (members_of s)
-  pub sent : IsSequential old → has_scans new ≡ sent_with (members_of s) (has_scans old)
+  pub unsent : IsSentOnce old → AreUnsent (has_scans old) (members_of s)
+  pub sent : has_scans new ≡ sent_with (members_of s) (has_scans old)

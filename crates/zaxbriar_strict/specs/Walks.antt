@@ -5,7 +5,8 @@ use Rattle.std.specs.List.{AllByRecursion}
 use Rattle.jpeg_segments.specs.HuffmanTables.{no_tables}
 use Rattle.jpeg_segments.specs.WrittenSegments.{u16_bytes, with_length}
 use Rattle.zaxbriar_strict.specs.ScanData.{ReadsIfEight}
-use Rattle.zaxbriar_strict.specs.Heads.{IsMade, IsSameFrame, IsSequential, ReadsFrame, ReadsHeader}
+use Rattle.zaxbriar_strict.specs.ScanSamples.{ReadsIfLossless}
+use Rattle.zaxbriar_strict.specs.Heads.{IsMade, IsSameFrame, ReadsFrame, ReadsHeader}
 use Rattle.zaxbriar_strict.specs.Heads.{has_scans}
 use Rattle.zaxbriar_strict.specs.Installed.{InstallsCodes, InstallsSteps, codes_of, steps_of}
 use Rattle.zaxbriar_strict.specs.declared.frame.Frame.{Frame}
@@ -57,14 +58,15 @@ pub record WalksFrame (code : ℕ) (bytes : List ℕ) (old new : Walk) : Type 0 
   pub read : ReadsFrame code bytes frame
   pub tables : new.tables ≡ old.tables
 
--- A scan of a sequential frame, from its header to what follows its data: the frame before it and
--- after it, and one between, after the header.
+-- A scan, from its header to what follows its data: the frame before it and after it, and one
+-- between, after the header.
 pub record ReadsScan (header start rest : List ℕ) (t : Tables) (old new : Frame) : Type 0 where
   pub scan : Scan
   pub between : Frame
   pub sized : length scan.members ≡ 4
   pub headed : ReadsHeader header scan old between
   pub read : ReadsIfEight t between scan start rest
+  pub samples : ReadsIfLossless t between scan start rest
   pub same : IsSameFrame between new
   pub sent : has_scans new ≡ has_scans between
 
@@ -76,8 +78,7 @@ pub record WalksScan (header start rest : List ℕ) (old new : Walk) : Type 0 wh
   pub is : new.frame ≡ Some last
   pub some : 0 < new.scans
   pub tables : new.tables ≡ old.tables
-  pub read : IsMade frame → IsSequential frame
-      → ReadsScan header start rest old.tables frame last
+  pub read : IsMade frame → ReadsScan header start rest old.tables frame last
 
 -- A segment after the marker of this code, and after a scan header its data, up to what follows.
 pub data WalksSegment (code : ℕ) (bytes rest : List ℕ) (old new : Walk) : Type 0 where

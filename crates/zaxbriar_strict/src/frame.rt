@@ -89,8 +89,12 @@ impl Frame {
     /// Returns how many columns and rows of MCUs an interleaved scan has, of this many samples each
     /// per sampling factor (A.2.3).
     pub(crate) fn units(&self, side: u32) -> (u32, u32)
-        ensures { side ≡ 8 → IsMade self.now → (result.0 ≡ (written_frame self.now).mcus_wide)
+        ensures as_blocks { side ≡ 8 → IsMade self.now
+            → (result.0 ≡ (written_frame self.now).mcus_wide)
             × (result.1 ≡ (written_frame self.now).mcus_high) }
+        ensures as_samples { side ≡ 1 → IsMade self.now
+            → (result.0 ≡ ceiling self.now.width self.now.most_across)
+            × (result.1 ≡ ceiling self.now.height self.now.most_down) }
     {
         (
             parts_of(self.width, self.most_across.saturating_mul(side)),

@@ -1,11 +1,13 @@
 //! What strict streams mean. Theorems, each on a function without a body.
 ghost use Rattle.std.specs.Prelude.{◌≡◌, ℕ, ◌∷◌, ◌++◌, List};
+ghost use Rattle.jpeg_meaning.specs.AcceptedFrames.{HasSamples};
 ghost use Rattle.jpeg_meaning.specs.ArrayPictures.{meaning_of_array};
 ghost use Rattle.jpeg_meaning.specs.Stream.{meaning};
 ghost use Rattle.jpeg_meaning.specs.WholeImages.{whole_meaning};
 ghost use Rattle.jpeg_meaning.specs.declared.settings.Settings.{Settings};
 ghost use Rattle.zaxbriar_strict.specs.Exact.{HasHeader, HasLaterTables, HasOtherAdobe};
-ghost use Rattle.zaxbriar_strict.specs.Exact.{HasSequentialPicture, IsExact, IsWritten};
+ghost use Rattle.zaxbriar_strict.specs.Exact.{HasSequentialPicture, HasShiftedScan, IsExact};
+ghost use Rattle.zaxbriar_strict.specs.Exact.{IsWritten, IsWrittenForSamples};
 
 /// A stream that a writer emits for the coefficients of an image means their picture, cut at the
 /// bits that were sent. What follows the image is left.
@@ -28,4 +30,16 @@ pub fn strict_streams_mean_their_pictures()
         × ((settings : Settings) (rest : List ℕ) →
         meaning settings (255 ∷ 216 ∷ (headed.after ++ rest))
         ≡ whole_meaning settings image.final image.array rest)) }
+{}
+
+/// A lossless stream of which `judge` says that it is strict is written for samples: without the
+/// fill bytes that may stand before SOI, and if no Adobe segment gives an unknown transform, its
+/// frame has samples that are decoded, and no scan has a point transform. So it means the picture
+/// of those samples, by `lossless_streams_are_read` of `jpeg_decoder`.
+pub fn strict_lossless_streams_have_samples()
+    ensures { (bytes : List ℕ) → IsExact bytes → (HasOtherAdobe bytes → ⊥) →
+        (headed : HasHeader bytes)
+        × (HasSamples headed.number headed.header →
+        (HasShiftedScan headed.after → ⊥) →
+        IsWrittenForSamples (255 ∷ 216 ∷ headed.after)) }
 {}

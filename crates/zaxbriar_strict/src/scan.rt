@@ -1,12 +1,13 @@
 //! Scan headers (T.81, B.2.3 and Table B.3), and which scans may follow (G.1.1.1).
-ghost use Rattle.std.specs.Prelude.{◌≡◌, ◌≤◌, ◌++◌, ◌==◌, ◌||◌, IfOk, IsTrue, false, flat_map};
+ghost use Rattle.std.specs.Prelude.{◌≡◌, ◌≢◌, ◌≤◌, ◌++◌, ◌==◌, ◌||◌, IfOk, IsTrue, false, flat_map};
 ghost use Rattle.std.specs.Prelude.{◌-◌, ◌^◌, length, min, nat_le, position, take, true};
 ghost use Rattle.jpeg_segments.specs.ScanHeader.{blocks_by};
 ghost use Rattle.jpeg_segments.specs.ScanHeaders.{choice_bytes};
 ghost use Rattle.zaxbriar_strict.specs.Heads.{factors_of, IsMade, members_of, number_of};
 ghost use Rattle.zaxbriar_strict.specs.Heads.{ReadsHeader, written_frame};
 ghost use Rattle.zaxbriar_strict.specs.Members.{AreMembers, choices_of, HaveTables, most_tables};
-ghost use Rattle.zaxbriar_strict.specs.Members.{NotesScan, SendsAll, TakesMember, TakesScan};
+ghost use Rattle.zaxbriar_strict.specs.Members.{NotesScan, Predicts, SendsAll, TakesMember};
+ghost use Rattle.zaxbriar_strict.specs.Members.{TakesScan};
 
 use crate::cursor::Cursor;
 use crate::frame::{Component, Frame, Process};
@@ -35,9 +36,10 @@ pub(crate) struct Scan {
 }
 
 impl Scan {
-    ghost use Rattle.std.specs.Prelude.{◌≡◌};
+    ghost use Rattle.std.specs.Prelude.{◌≡◌, ◌==◌, if◌then◌else◌};
     ghost use Rattle.zaxbriar_strict.specs.Heads.{IsMade, members_of, written_frame};
     ghost use Rattle.zaxbriar_strict.specs.ScanData.{HasMembers, units_high, units_wide};
+    ghost use Rattle.zaxbriar_strict.specs.ScanSamples.{samples_high, samples_wide};
 
     /// Returns the components of the scan.
     pub(crate) fn members(&self) -> &[Member]
@@ -52,9 +54,12 @@ impl Scan {
     /// Returns how many columns and rows of MCUs the scan has, of this many samples each per
     /// sampling factor (A.2.2 and A.2.3).
     pub(crate) fn units(&self, frame: &Frame, side: u32) -> (u32, u32)
-        ensures { side ≡ 8 → IsMade frame.now → HasMembers frame.now self.now
+        ensures as_blocks { side ≡ 8 → IsMade frame.now → HasMembers frame.now self.now
             → (result.0 ≡ units_wide (written_frame frame.now) (members_of self.now))
             × (result.1 ≡ units_high (written_frame frame.now) (members_of self.now)) }
+        ensures as_samples { side ≡ 1 → IsMade frame.now → HasMembers frame.now self.now
+            → (result.0 ≡ samples_wide (written_frame frame.now) (members_of self.now))
+            × (result.1 ≡ samples_high (written_frame frame.now) (members_of self.now)) }
     {
         match self.members() {
             [member] => match frame.components.get(member.component) {
@@ -66,7 +71,10 @@ impl Scan {
     }
 
     /// Returns how many blocks or samples of a component stand in an MCU, across and down.
-    pub(crate) fn unit_size(&self, component: &Component) -> (u32, u32) {
+    pub(crate) fn unit_size(&self, component: &Component) -> (u32, u32)
+        ensures across { result.0 ≡ (if self.now.count == 1 then 1 else component.now.across) }
+        ensures down { result.1 ≡ (if self.now.count == 1 then 1 else component.now.down) }
+    {
         if self.count == 1 {
             (1, 1)
         } else {
@@ -98,7 +106,9 @@ impl Scan {
     }
 
     /// Checks the predictor and the point transform of a lossless frame (Table B.3).
-    fn check_prediction(&self, precision: u8) -> Result<(), Rule> {
+    fn check_prediction(&self, precision: u8) -> Result<(), Rule>
+        ensures { IfOk result (λ _. Predicts precision self.now) }
+    {
         if self.first > 7 || self.last != 0 || self.high != 0 || self.low >= precision {
             return Err(Rule::PredictorOrTransform);
         }
@@ -110,7 +120,8 @@ impl Scan {
 
     /// Checks the band and the approximation of a frame that is not progressive (Table B.3).
     fn check_band(&self, process: Process, precision: u8) -> Result<(), Rule>
-        ensures { IfOk result (λ _. number_of process ≤ 1 → SendsAll self.now) }
+        ensures { IfOk result (λ _. (number_of process ≤ 1 → SendsAll self.now)
+            × (number_of process ≡ 3 → Predicts precision self.now)) }
     {
         match process {
             Process::Baseline | Process::Extended => self.check_sequential_band(),
@@ -165,7 +176,7 @@ impl Scan {
     fn note_component(&self, process: Process, component: &mut Component) -> Result<(), Rule>
         ensures factors { IfOk result (λ _. factors_of component.new ≡ factors_of component.old) }
         ensures unsent { IfOk result
-            (λ _. number_of process ≤ 1 → component.old.has_scan ≡ false) }
+            (λ _. number_of process ≢ 2 → component.old.has_scan ≡ false) }
         ensures sent { IfOk result (λ _. component.new.has_scan ≡ true) }
     {
         if process == Process::Progressive {

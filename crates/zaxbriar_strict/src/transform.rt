@@ -192,7 +192,7 @@ fn go_on(intervals: &mut Intervals<'_>, past: &mut Past) -> Result<(), Stop>
 }
 
 /// Returns an installed Huffman table.
-fn codes_of(tables: &Tables, class: u8, destination: u8) -> Result<&HuffmanTable, Rule>
+pub(crate) fn codes_of(tables: &Tables, class: u8, destination: u8) -> Result<&HuffmanTable, Rule>
     ensures { IfOk result (λ t. class ≤ 1 → destination ≤ 3
         → slice_index_or (tables_of_class (class_of class) (codes_of tables.now)) destination None
         ≡ Some (codes_in (class_of class) t.now)) }

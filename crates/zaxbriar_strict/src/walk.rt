@@ -2,7 +2,7 @@
 ghost use Rattle.std.specs.Prelude.{◌≡◌, ◌<◌, [], IfOk, false, true};
 ghost use Rattle.std.specs.List.{list_all};
 ghost use Rattle.zaxbriar_strict.specs.Exact.{IsExact};
-ghost use Rattle.zaxbriar_strict.specs.Heads.{IsMade, IsSequential};
+ghost use Rattle.zaxbriar_strict.specs.Heads.{IsMade};
 ghost use Rattle.zaxbriar_strict.specs.Walks.{Finishes, IsFresh, IsOther, ReadsScan, WalksFrame};
 ghost use Rattle.zaxbriar_strict.specs.Walks.{WalksOther, WalksScan, WalksSegment};
 
@@ -71,9 +71,8 @@ fn read_scan<'a>(
     part: Cursor<'_>,
     start: Cursor<'a>,
 ) -> Result<Cursor<'a>, Stop>
-    ensures { IfOk result (λ rest. IsMade frame.old → IsSequential frame.old
-        → ReadsScan part.entry.rest.now start.entry.rest.now rest.rest.now tables.now
-        frame.old frame.new) }
+    ensures { IfOk result (λ rest. IsMade frame.old → ReadsScan part.entry.rest.now
+        start.entry.rest.now rest.rest.now tables.now frame.old frame.new) }
 {
     let scan = scan::read_header(frame, part)?;
     match frame.process {

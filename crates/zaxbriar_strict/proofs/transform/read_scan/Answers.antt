@@ -56,7 +56,7 @@ returns-clause-read c = λ made sequential eight has.
       ways = ways-are t frame 0 ms codings has.tables installed.are;
     }) u (begun unit t.interval bytes c.new-intervals.result _
     (unit-not-empty t f ms codings made installed.are (omega (arith, count, one))) n.bits n.every n.left n.next refl) in
-    let units = c.units-columns.ensures refl (same-made k made) (same-members f new s k has) in
+    let units = c.units-columns.ensures.as_blocks refl (same-made k made) (same-members f new s k has) in
     let w = same-written k in
     let end = c.loop-row-test.false in
     let most = c.loop-row.auto.row-end in

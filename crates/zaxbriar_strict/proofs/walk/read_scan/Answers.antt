@@ -1,8 +1,11 @@
+use Rattle.std.proofs.Common.{◌≡◌, ◌≤◌, refl, sym, ap, ◌∙◌, subst, arith}
 use Rattle.std.proofs.lemmas.Result.{IfOk-weaker}
-use Rattle.zaxbriar_strict.specs.Heads.{IsMade, IsSequential}
+use Rattle.zaxbriar_strict.specs.Heads.{IsMade, number_of}
 use Rattle.zaxbriar_strict.specs.ScanData.{ReadsIfEight}
+use Rattle.zaxbriar_strict.specs.ScanSamples.{ReadsIfLossless}
 use Rattle.zaxbriar_strict.specs.Walks.{ReadsScan}
 use Rattle.zaxbriar_strict.specs.declared.cursor.Cursor.{Cursor}
+use Rattle.zaxbriar_strict.proofs.SameFrames.{is-lossless, not-sequential, same-none}
 use Rattle.zaxbriar_strict.proofs.walk.read_scan.Goals as goal
 
 pub returns-in_default : goal.returns-in_default
@@ -15,13 +18,35 @@ returns-in_default c =
     let t = c.args.tables.now in
     IfOk-weaker c.read_scan-in_default.result
     (λ (rest : Cursor). ReadsIfEight t between c.in_ok-scan.scan start rest.rest.now)
-    (λ (rest : Cursor). IsMade old → IsSequential old → ReadsScan header start rest.rest.now t old new)
-    (λ rest read made few. record {
+    (λ (rest : Cursor). IsMade old → ReadsScan header start rest.rest.now t old new)
+    (λ rest read made. record {
       scan = c.in_ok-scan.scan;
       between = between;
       sized = let h = rw c.in_ok-scan.was at c.read_header.type_inv in h.1.1.1.1.0.1.1.0.1.0.1;
       headed = c.in_ok-scan.ensures made;
       read = read;
+      samples = λ again lossless has. absurd (c.in_default.not-Lossless (is-lossless between.process lossless));
       same = c.read_scan-in_default.ensures.same;
       sent = c.read_scan-in_default.ensures.sent;
     }) c.read_scan-in_default.ensures.read
+
+pub returns-in_ok-check_memory-in-Lossless : goal.returns-in_ok-check_memory-in-Lossless
+returns-in_ok-check_memory-in-Lossless c =
+    let header = c.args.part.rest.now in
+    let start = c.args.start.rest.now in
+    let old = c.args.frame.now in
+    let between = c.read_header.new.frame in
+    let t = c.args.tables.now in
+    IfOk-weaker c.read_scan.result
+    (λ (rest : Cursor). ReadsIfLossless t between c.in_ok-scan.scan start rest.rest.now)
+    (λ (rest : Cursor). IsMade old → ReadsScan header start rest.rest.now t old between)
+    (λ rest read made. record {
+      scan = c.in_ok-scan.scan;
+      between = between;
+      sized = let h = rw c.in_ok-scan.was at c.read_header.type_inv in h.1.1.1.1.0.1.1.0.1.0.1;
+      headed = c.in_ok-scan.ensures made;
+      read = λ again sequential eight has. absurd (not-sequential between.process c.in-Lossless.is sequential);
+      samples = read;
+      same = same-none between;
+      sent = refl;
+    }) c.read_scan.ensures

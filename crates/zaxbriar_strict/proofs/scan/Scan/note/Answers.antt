@@ -1,10 +1,11 @@
-use Rattle.std.proofs.Common.{◌≤◌, refl, subst}
+use Rattle.std.proofs.Common.{◌≡◌, ◌≢◌, ◌≤◌, ℕ, refl, subst}
 use Rattle.std.proofs.lemmas.Result.{IfOk-weaker}
 use Rattle.zaxbriar_strict.specs.Heads.{number_of}
-use Rattle.zaxbriar_strict.specs.Members.{NotesScan, SendsAll}
+use Rattle.zaxbriar_strict.specs.Members.{NotesScan, Predicts, SendsAll}
 use Rattle.zaxbriar_strict.specs.declared.frame.Process.{Process}
 use Rattle.zaxbriar_strict.specs.declared.scan.Member.{Member}
 use Rattle.zaxbriar_strict.proofs.NotedScans.{all-noted, next-noted, none-noted}
+use Rattle.zaxbriar_strict.proofs.SameFrames.{same-precision}
 use Rattle.zaxbriar_strict.proofs.scan.Scan.note.Goals as goal
 
 pub loop-member-init : goal.loop-member-init
@@ -27,8 +28,8 @@ loop-member-preserved c =
       across = refl;
       down = refl;
       factors = noted.factors;
-      unsent = λ few.
-          noted.unsent (subst (λ (p : Process). number_of p ≤ 1) c.loop-member.invariant.same.process few);
+      unsent = λ once.
+          noted.unsent (subst (λ (p : Process). number_of p ≢ 2) c.loop-member.invariant.same.process once);
       sent = noted.sent;
     })
 
@@ -36,9 +37,13 @@ pub returns : goal.returns
 returns c =
     let old = c.args.frame.now in
     let s = c.args.self.now in
-    IfOk-weaker c.check_band.result (λ _. number_of old.process ≤ 1 → SendsAll s)
+    let precision = same-precision c.loop-member.invariant.same in
+    IfOk-weaker c.check_band.result
+    (λ _. (number_of old.process ≤ 1 → SendsAll s)
+    × (number_of old.process ≡ 3 → Predicts c.loop-member.frame.precision s))
     (λ _. NotesScan s old c.loop-member.frame)
-    (λ _ whole. all-noted s c.members-member-items.result.now c.loop-member.member-index old c.loop-member.frame
+    (λ _ band. all-noted s c.members-member-items.result.now c.loop-member.member-index old c.loop-member.frame
     c.members-member-items.ensures c.loop-member-test.false c.loop-member.invariant
-    c.in_ok-check_selectors.ensures whole)
+    c.in_ok-check_selectors.ensures band.0
+    (λ lossless. subst (λ (n : ℕ). Predicts n s) precision (band.1 lossless)))
     c.check_band.ensures
