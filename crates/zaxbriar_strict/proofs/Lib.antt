@@ -8,6 +8,9 @@ pub mod Values
 pub mod Codes
 pub mod CodeTables
 pub mod Bands
+pub mod SentNumbers
+pub mod SentBands
+pub mod RefinedBands
 pub mod Wholes
 pub mod Turns
 pub mod StepTables

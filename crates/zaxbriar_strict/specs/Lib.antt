@@ -7,6 +7,8 @@ pub mod Markers
 pub mod Bands
 pub mod Whole
 pub mod Blocks
+pub mod Sent
+pub mod BandCodes
 pub mod Quantizations
 pub mod Heads
 pub mod Installed

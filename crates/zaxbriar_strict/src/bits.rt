@@ -59,7 +59,7 @@ fn extended(number: u16, category: u32) -> i32
 }
 
 impl<'a> Bits<'a> {
-    ghost use Rattle.std.specs.Prelude.{◌≡◌, ◌≢◌, ◌≤◌, ◌<◌, ◌^◌, [], IfOk};
+    ghost use Rattle.std.specs.Prelude.{◌≡◌, ◌≢◌, ◌≤◌, ◌<◌, ◌^◌, [], ◌∷◌, IfOk};
     ghost use Rattle.jpeg_bits.specs.Codes.{next_16};
     ghost use Rattle.jpeg_bits.specs.Written.{low_bits, IsCategory, IsCoded};
     ghost use Rattle.jpeg_bits.specs.declared.huffman.codes.HuffmanTableClass.{HuffmanTableClass};
@@ -148,6 +148,14 @@ impl<'a> Bits<'a> {
         self.load_for(count)?;
         self.left -= count;
         Ok(lowest(self.window >> self.left, count))
+    }
+
+    /// Takes a bit.
+    pub(crate) fn take_bit(&mut self) -> Result<bool, Rule>
+        ensures { IfOk result (λ b. Takes (b ∷ []) (data_of self.old) (data_of self.new)) }
+    {
+        let bit = self.take(1)?;
+        Ok(bit == 1)
     }
 
     /// Takes a code, and returns the symbol that it stands for (F.2.2.3).

@@ -1,5 +1,5 @@
 //! The coefficients of a block (T.81, F.2.2 and G.2).
-ghost use Rattle.std.specs.Prelude.{◌≡◌, ◌≤◌, ◌≤ℤ◌, ◌+ℤ◌, negsuc, pos, unsigned_abs, IfOk};
+ghost use Rattle.std.specs.Prelude.{◌≡◌, ◌≤◌, ◌≤ℤ◌, ◌+ℤ◌, ◌-ℤ◌, ◌*ℤ◌, negsuc, pos, IfOk};
 ghost use Rattle.jpeg_bits.specs.BlockView.{dc_in};
 ghost use Rattle.jpeg_bits.specs.declared.huffman.codes.HuffmanTableClass.TheVariants.{AC, DC};
 ghost use Rattle.zaxbriar_strict.specs.Bands.{block_in, IsInner};
@@ -46,15 +46,23 @@ struct Step {
 pub(crate) type Run = u32;
 
 impl Band {
-    ghost use Rattle.std.specs.Prelude.{◌≡◌, ◌≤◌, ◌<◌, ◌-◌, ◌*◌, ◌-ℤ◌, [], ◌∷◌, ◌++◌, IfOk, IfSome};
+    ghost use Rattle.std.specs.Prelude.{◌≡◌, ◌≤◌, ◌<◌, ◌-◌, ◌*◌, ◌^◌, ◌-ℤ◌, ◌*ℤ◌, [], ◌∷◌, ◌++◌};
+    ghost use Rattle.std.specs.Prelude.{IfOk, IfSome, not, true, suc, ◌+◌, ◌≢◌, slice_index_or};
     ghost use Rattle.std.specs.Prelude.{None, IsTrue, List, length, drop, false, pos, ℕ, ℤ};
     ghost use Rattle.jpeg_bits.specs.BlockView.{dc_in};
+    ghost use Rattle.jpeg_bits.specs.Codes.{Table};
+    ghost use Rattle.jpeg_bits.specs.Passes.{Pass, band_of, band_size};
     ghost use Rattle.jpeg_bits.specs.Written.{IsCoded};
     ghost use Rattle.jpeg_bits.specs.declared.huffman.codes.HuffmanTableClass.{HuffmanTableClass};
     ghost use Rattle.jpeg_meaning.specs.WrittenData.{no_numbers, WritesDifference};
-    ghost use Rattle.zaxbriar_strict.specs.Bands.{IsInner, ReadsAc, ReadsStep};
+    ghost use Rattle.zaxbriar_strict.specs.BandCodes.{AreCorrections, CorrectsOne, PassesZeros};
+    ghost use Rattle.zaxbriar_strict.specs.BandCodes.{ReadsCodes, ReadsNew, ReadsRun, ReadsStep};
+    ghost use Rattle.zaxbriar_strict.specs.BandCodes.{Refines, RefinesCodes, RefinesFront};
+    ghost use Rattle.zaxbriar_strict.specs.Bands.{IsInner, ReadsAc};
     ghost use Rattle.zaxbriar_strict.specs.Data.{Reads, Takes};
     ghost use Rattle.zaxbriar_strict.specs.Loaded.{data_of};
+    ghost use Rattle.zaxbriar_strict.specs.Sent.{AllInner, IsPass, ReadsSentAc, ReadsSentDc};
+    ghost use Rattle.zaxbriar_strict.specs.Sent.{scaled_by};
     ghost use Rattle.zaxbriar_strict.specs.Tables.{codes_in};
     ghost use Rattle.zaxbriar_strict.specs.Whole.{IsWhole};
 
@@ -84,7 +92,11 @@ impl Band {
     }
 
     /// Returns the band of a progressive scan.
-    pub(crate) fn sent(first: u8, last: u8, low: u8, is_refined: bool, is_deep: bool) -> Band {
+    pub(crate) fn sent(first: u8, last: u8, low: u8, is_refined: bool, is_deep: bool) -> Band
+        ensures { last ≤ 63 → low ≤ 13
+            → IsPass (record { is_first = not is_refined; ss = first; se = last; al = low })
+            result }
+    {
         let mut band = Band::new(first, last, low, is_deep, true);
         band.is_refined = is_refined;
         band
@@ -111,7 +123,7 @@ impl Band {
 
     /// Returns the lowest bit that is sent, as a number.
     fn unit(&self) -> i32
-        ensures { self.now.low ≡ 0 → result ≡ pos 1 }
+        ensures { result ≡ pos (2 ^ self.now.low) }
     {
         1i32 << self.low
     }
@@ -147,6 +159,10 @@ impl Band {
             (data_of bits.old) (data_of bits.new)) }
         ensures next { IfOk result (λ _. self.now.low ≡ 0 → IsInner (dc_in block.new)
             → before.new ≡ dc_in block.new) }
+        ensures sent { IfOk result (λ _. (p : Pass) → IsPass p self.now → p.ss ≡ 0
+            → p.is_first ≡ true → IsInner (dc_in block.new) → (class : HuffmanTableClass)
+            → ReadsSentDc p (codes_in class table.now) before.old before.new block.old block.new
+            (data_of bits.old) (data_of bits.new)) }
         ensures others { drop 1 block.new ≡ drop 1 block.old }
     {
         let difference = self.difference(bits, table)?;
@@ -156,9 +172,15 @@ impl Band {
     }
 
     /// Reads one more bit of the DC coefficient (G.1.2.1).
-    pub(crate) fn refine_dc(&self, bits: &mut Bits<'_>, block: &mut Block) -> Result<(), Rule> {
-        if bits.take(1)? == 1 {
-            block[0] |= coefficient_of(self.unit());
+    pub(crate) fn refine_dc(&self, bits: &mut Bits<'_>, block: &mut Block) -> Result<(), Rule>
+        ensures sent { IfOk result (λ _. (p : Pass) → IsPass p self.now → p.ss ≡ 0
+            → p.is_first ≡ false → (kept : ℤ) → dc_in block.old ≡ kept *ℤ pos (2 ^ suc p.al)
+            → (table : Table) (before : ℤ)
+            → ReadsSentDc p table before before block.old block.new (data_of bits.old)
+            (data_of bits.new)) }
+    {
+        if bits.take_bit()? {
+            block[0] = sum_of(block[0], self.unit());
         }
         Ok(())
     }
@@ -166,8 +188,10 @@ impl Band {
     /// Reads how many blocks end here, this one included (G.1.2.2: EOBn).
     fn read_run(&self, bits: &mut Bits<'_>, order: u32) -> Result<Run, Rule>
         requires { order ≤ 15 }
-        ensures { IfOk result (λ run. self.now.is_progressive ≡ false
-            → (order ≡ 0) × (run ≡ 1) × Takes [] (data_of bits.old) (data_of bits.new)) }
+        ensures sent { IfOk result
+            (λ run. ReadsRun order run (data_of bits.old) (data_of bits.new)) }
+        ensures one { IfOk result (λ run. self.now.is_progressive ≡ false → run ≡ 1) }
+        ensures some { IfOk result (λ run. 1 ≤ run) }
     {
         if order == 0 {
             return Ok(1);
@@ -191,12 +215,38 @@ impl Band {
             → ReadsAc (codes_in class table.now) dc block.new (data_of bits.old)
             (data_of bits.new)) }
         ensures run { IfOk result (λ _. IsWhole self.now → run.old ≡ 0 → run.new ≡ 0) }
+        ensures sent { IfOk result (λ _. (p : Pass) → IsPass p self.now → 1 ≤ p.ss → p.ss ≤ p.se
+            → p.is_first ≡ true → band_of p (drop 1 block.old) ≡ no_numbers (band_size p)
+            → (class : HuffmanTableClass)
+            → ReadsSentAc p (codes_in class table.now) run.old run.new block.old block.new
+            (data_of bits.old) (data_of bits.new)) }
     {
-        if *run > 0 {
-            *run -= 1;
-            return Ok(());
+        if *run == 0 {
+            self.read_codes(bits, table, self.first.max(1), run, block)?;
         }
-        let mut place = self.first.max(1);
+        *run = run.saturating_sub(1);
+        Ok(())
+    }
+
+    /// Reads the codes of the band from its start on. How many bands end here, this one included,
+    /// is put to the run, which is 0 before.
+    fn read_codes(
+        &self,
+        bits: &mut Bits<'_>,
+        table: &HuffmanTable,
+        start: usize,
+        run: &mut Run,
+        block: &mut Block,
+    ) -> Result<(), Rule>
+        ensures sent { IfOk result (λ _. run.old ≡ 0 → (count : ℕ) (front tail : List ℤ)
+            → length front ≡ start → start + count ≡ suc self.now.last
+            → block.old ≡ front ++ (no_numbers count ++ tail) → (class : HuffmanTableClass)
+            → ReadsCodes (codes_in class table.now) self.now.low count run.new front tail block.new
+            (data_of bits.old) (data_of bits.new)) }
+        ensures one { IfOk result (λ _. run.old ≡ 0 → self.now.is_progressive ≡ false
+            → run.new ≤ 1) }
+    {
+        let mut place = start;
         let mut is_after_zeros = false;
         while place <= self.last {
             let step = self.read_step(bits, table, place, block)?;
@@ -204,7 +254,7 @@ impl Band {
                 if is_after_zeros {
                     return Err(Rule::ZerosBeforeEnd);
                 }
-                *run = self.read_run(bits, order)?.saturating_sub(1);
+                *run = self.read_run(bits, order)?;
                 return Ok(());
             }
             place = step.place;
@@ -230,12 +280,14 @@ impl Band {
             × (block.new ≡ block.old) × ((class : HuffmanTableClass)
             → Reads (IsCoded (codes_in class table.now) (16 * order)) (data_of bits.old)
             (data_of bits.new)))) }
-        ensures step { IfOk result (λ s. s.end ≡ None → self.now.low ≡ 0 → (front : List ℤ)
-            → length front ≡ place → block.old ≡ front ++ no_numbers (64 - place)
+        ensures step { IfOk result (λ s. s.end ≡ None → (front tail : List ℤ)
+            → length front ≡ place
+            → block.old ≡ front ++ (no_numbers (suc self.now.last - place) ++ tail)
             → (class : HuffmanTableClass)
-            → ReadsStep (codes_in class table.now) place s.place front block.new
-            (data_of bits.old) (data_of bits.new)) }
-        ensures on { IfOk result (λ s. s.end ≡ None → (place < s.place) × (s.place ≤ 64)) }
+            → ReadsStep (codes_in class table.now) self.now.low self.now.last place s.place front
+            tail block.new (data_of bits.old) (data_of bits.new)) }
+        ensures on { IfOk result
+            (λ s. s.end ≡ None → (place < s.place) × (s.place ≤ suc self.now.last)) }
     {
         let symbol = bits.symbol(table)?;
         let (zeros, category) = (usize::from(symbol / 16), u32::from(symbol % 16));
@@ -276,50 +328,129 @@ impl Band {
         table: &HuffmanTable,
         run: &mut Run,
         block: &mut Block,
-    ) -> Result<(), Rule> {
+    ) -> Result<(), Rule>
+        ensures sent { IfOk result (λ _. (p : Pass) → IsPass p self.now → 1 ≤ p.ss → p.ss ≤ p.se
+            → p.is_first ≡ false → (kept : List ℤ)
+            → band_of p (drop 1 block.old) ≡ scaled_by (suc p.al) kept → AllInner block.new
+            → (class : HuffmanTableClass)
+            → ReadsSentAc p (codes_in class table.now) run.old run.new block.old block.new
+            (data_of bits.old) (data_of bits.new)) }
+    {
         let mut place = self.first;
-        let mut is_after_zeros = false;
-        for _ in 0..64 {
-            if place > self.last || *run > 0 {
-                break;
-            }
-            let symbol = bits.symbol(table)?;
-            let (zeros, category) = (u32::from(symbol / 16), symbol % 16);
-            if category > 1 {
-                return Err(Rule::RefinedValue);
-            }
-            if category == 0 && zeros < 15 {
-                if is_after_zeros {
-                    return Err(Rule::RefinedZerosBeforeEnd);
-                }
-                *run = self.read_run(bits, zeros)?;
-                break;
-            }
-            is_after_zeros = category == 0;
-            let value = self.read_new(bits, category == 1)?;
-            place = self.pass(bits, place, zeros, block)?;
-            if place > self.last {
-                return Err(Rule::PastRefinedBand);
-            }
-            block[place] = value;
-            place += 1;
+        if *run == 0 {
+            place = self.refine_codes(bits, table, run, block)?;
         }
         if *run > 0 {
             self.correct_rest(bits, place, block)?;
             *run -= 1;
-        } else if is_after_zeros {
-            return Err(Rule::RefinedZerosAtEnd);
         }
         Ok(())
     }
 
+    /// Reads the codes of a refinement of the band, and returns the place after them. How many
+    /// bands end there, this one included, is put to the run, which is 0 before.
+    fn refine_codes(
+        &self,
+        bits: &mut Bits<'_>,
+        table: &HuffmanTable,
+        run: &mut Run,
+        block: &mut Block,
+    ) -> Result<usize, Rule>
+        ensures sent { IfOk result (λ place. run.old ≡ 0 → (front kept tail : List ℤ)
+            → length front ≡ self.now.first
+            → self.now.first + length kept ≡ suc self.now.last
+            → AllInner (scaled_by (suc self.now.low) kept)
+            → block.old ≡ front ++ (scaled_by (suc self.now.low) kept ++ tail)
+            → (class : HuffmanTableClass)
+            → Refines (RefinesCodes (codes_in class table.now) (suc self.now.last - place) run.new)
+            self.now.low place front kept tail block.new (data_of bits.old) (data_of bits.new)) }
+        ensures within { IfOk result (λ place. self.now.first ≤ suc self.now.last
+            → place ≤ suc self.now.last) }
+        ensures all { IfOk result (λ place. run.new ≡ 0 → self.now.last < place) }
+        ensures inner { IfOk result (λ _. AllInner block.new → AllInner block.old) }
+    {
+        let mut place = self.first;
+        let mut is_after_zeros = false;
+        while place <= self.last {
+            let step = self.refine_step(bits, table, place, block)?;
+            if let Some(order) = step.end {
+                if is_after_zeros {
+                    return Err(Rule::RefinedZerosBeforeEnd);
+                }
+                *run = self.read_run(bits, order)?;
+                return Ok(place);
+            }
+            place = step.place;
+            is_after_zeros = step.is_zeros;
+        }
+        if is_after_zeros {
+            return Err(Rule::RefinedZerosAtEnd);
+        }
+        Ok(place)
+    }
+
+    /// Reads a code of a refinement of a band from a place on, and the bits after it up to the next
+    /// place. Of an end of the band the code alone is read.
+    fn refine_step(
+        &self,
+        bits: &mut Bits<'_>,
+        table: &HuffmanTable,
+        place: usize,
+        block: &mut Block,
+    ) -> Result<Step, Rule>
+        requires { place ≤ self.now.last }
+        ensures end { IfOk result (λ s. IfSome s.end (λ order. (order ≤ 14)
+            × (block.new ≡ block.old) × ((class : HuffmanTableClass)
+            → Reads (IsCoded (codes_in class table.now) (16 * order)) (data_of bits.old)
+            (data_of bits.new)))) }
+        ensures step { IfOk result (λ s. s.end ≡ None → (front kept tail : List ℤ)
+            → length front ≡ place → place + length kept ≡ suc self.now.last
+            → AllInner (scaled_by (suc self.now.low) kept)
+            → block.old ≡ front ++ (scaled_by (suc self.now.low) kept ++ tail)
+            → (class : HuffmanTableClass)
+            → Refines (RefinesFront (codes_in class table.now)) self.now.low s.place front kept
+            tail block.new (data_of bits.old) (data_of bits.new)) }
+        ensures on { IfOk result
+            (λ s. s.end ≡ None → (place < s.place) × (s.place ≤ suc self.now.last)) }
+        ensures inner { IfOk result (λ _. AllInner block.new → AllInner block.old) }
+    {
+        let symbol = bits.symbol(table)?;
+        let (zeros, category) = (u32::from(symbol / 16), symbol % 16);
+        if category > 1 {
+            return Err(Rule::RefinedValue);
+        }
+        if category == 0 && zeros < 15 {
+            return Ok(Step {
+                place,
+                is_zeros: false,
+                end: Some(zeros),
+            });
+        }
+        let value = self.read_new(bits, category == 1)?;
+        let zero = self.pass(bits, place, zeros, block)?;
+        if zero > self.last {
+            return Err(Rule::PastRefinedBand);
+        }
+        block[zero] = value;
+        Ok(Step {
+            place: zero + 1,
+            is_zeros: category == 0,
+            end: None,
+        })
+    }
+
     /// Reads the sign of a coefficient that was 0 before, if there is one.
-    fn read_new(&self, bits: &mut Bits<'_>, is_new: bool) -> Result<i16, Rule> {
+    fn read_new(&self, bits: &mut Bits<'_>, is_new: bool) -> Result<i16, Rule>
+        ensures none { IfOk result (λ c. is_new ≡ false
+            → (c ≡ pos 0) × Takes [] (data_of bits.old) (data_of bits.new)) }
+        ensures new { IfOk result (λ c. is_new ≡ true
+            → ReadsNew self.now.low c (data_of bits.old) (data_of bits.new)) }
+    {
         if !is_new {
             return Ok(0);
         }
-        let sign = if bits.take(1)? == 1 { 1i32 } else { -1 };
-        Ok(coefficient_of(self.unit().saturating_mul(sign)))
+        let sign = if bits.take_bit()? { 1i32 } else { -1 };
+        Ok(product_of(sign, self.unit()))
     }
 
     /// Corrects the coefficients from a place on that aren't 0, up to the zero after this many
@@ -330,7 +461,17 @@ impl Band {
         place: usize,
         zeros: u32,
         block: &mut Block,
-    ) -> Result<usize, Rule> {
+    ) -> Result<usize, Rule>
+        ensures sent { IfOk result (λ zero. zero ≤ self.now.last → (front kept tail : List ℤ)
+            → length front ≡ place → place + length kept ≡ suc self.now.last
+            → AllInner (scaled_by (suc self.now.low) kept)
+            → block.old ≡ front ++ (scaled_by (suc self.now.low) kept ++ tail)
+            → Refines (PassesZeros zeros) self.now.low zero front kept tail block.new
+            (data_of bits.old) (data_of bits.new)) }
+        ensures zero { IfOk result (λ zero. zero ≤ self.now.last
+            → (place ≤ zero) × (slice_index_or block.new zero (pos 0) ≡ pos 0)) }
+        ensures inner { IfOk result (λ _. AllInner block.new → AllInner block.old) }
+    {
         let mut left = zeros;
         for place in place..self.last + 1 {
             if block[place] != 0 {
@@ -345,12 +486,15 @@ impl Band {
     }
 
     /// Corrects the coefficients from a place to the end of the band that aren't 0.
-    fn correct_rest(
-        &self,
-        bits: &mut Bits<'_>,
-        place: usize,
-        block: &mut Block,
-    ) -> Result<(), Rule> {
+    fn correct_rest(&self, bits: &mut Bits<'_>, place: usize, block: &mut Block) -> Result<(), Rule>
+        ensures sent { IfOk result (λ _. (front kept tail : List ℤ) → length front ≡ place
+            → place + length kept ≡ suc self.now.last
+            → AllInner (scaled_by (suc self.now.low) kept)
+            → block.old ≡ front ++ (scaled_by (suc self.now.low) kept ++ tail)
+            → Refines AreCorrections self.now.low (suc self.now.last) front kept tail block.new
+            (data_of bits.old) (data_of bits.new)) }
+        ensures inner { IfOk result (λ _. AllInner block.new → AllInner block.old) }
+    {
         for place in place..self.last + 1 {
             if block[place] != 0 {
                 block[place] = self.corrected(bits, block[place])?;
@@ -360,15 +504,20 @@ impl Band {
     }
 
     /// Reads one more bit of a coefficient that isn't 0, and returns the coefficient.
-    fn corrected(&self, bits: &mut Bits<'_>, coefficient: i16) -> Result<i16, Rule> {
-        if bits.take(1)? == 0 {
+    fn corrected(&self, bits: &mut Bits<'_>, coefficient: i16) -> Result<i16, Rule>
+        ensures sent { IfOk result (λ c. (kept : ℤ)
+            → coefficient ≡ kept *ℤ pos (2 ^ suc self.now.low) → coefficient ≢ pos 0
+            → IsInner coefficient
+            → CorrectsOne self.now.low kept c (data_of bits.old) (data_of bits.new)) }
+        ensures inner { IfOk result (λ c. IsInner c → IsInner coefficient) }
+    {
+        if !bits.take_bit()? {
             return Ok(coefficient);
         }
-        let unit = coefficient_of(self.unit());
         Ok(if coefficient > 0 {
-            coefficient.saturating_add(unit)
+            sum_of(coefficient, self.unit())
         } else {
-            coefficient.saturating_sub(unit)
+            difference_of(coefficient, self.unit())
         })
     }
 }
@@ -418,7 +567,7 @@ pub(crate) fn read_in_range(
 /// Returns a coefficient, or the nearest of 16 bits, which no samples have.
 fn coefficient_of(value: i32) -> i16
     ensures inner { IsInner result → result ≡ value }
-    ensures exact { negsuc 32766 ≤ℤ value → value ≤ℤ pos 32766 → result ≡ value }
+    ensures exact { negsuc 32767 ≤ℤ value → value ≤ℤ pos 32767 → result ≡ value }
 {
     if value > 32767 {
         32767
@@ -431,15 +580,27 @@ fn coefficient_of(value: i32) -> i16
 
 /// Returns a coefficient and a difference together, or the nearest of 16 bits.
 fn sum_of(before: i16, difference: i32) -> i16
-    ensures { IsInner result → result ≡ before +ℤ difference }
+    ensures inner { IsInner result → result ≡ before +ℤ difference }
+    ensures exact { negsuc 32767 ≤ℤ (before +ℤ difference) → (before +ℤ difference) ≤ℤ pos 32767
+        → result ≡ before +ℤ difference }
 {
     coefficient_of(i32::from(before).saturating_add(difference))
 }
 
+/// Returns a coefficient less a number, or the nearest of 16 bits.
+fn difference_of(before: i16, number: i32) -> i16
+    ensures inner { IsInner result → result ≡ before -ℤ number }
+    ensures exact { negsuc 32767 ≤ℤ (before -ℤ number) → (before -ℤ number) ≤ℤ pos 32767
+        → result ≡ before -ℤ number }
+{
+    coefficient_of(i32::from(before).saturating_sub(number))
+}
+
 /// Returns a coefficient of which this is the number at a unit, or the nearest of 16 bits.
 fn product_of(number: i32, unit: i32) -> i16
-    ensures inner { IsInner result → unit ≡ pos 1 → result ≡ number }
-    ensures exact { unsigned_abs number ≤ 32766 → unit ≡ pos 1 → result ≡ number }
+    ensures inner { IsInner result → result ≡ number *ℤ unit }
+    ensures exact { negsuc 32767 ≤ℤ (number *ℤ unit) → (number *ℤ unit) ≤ℤ pos 32767
+        → result ≡ number *ℤ unit }
 {
     coefficient_of(number.saturating_mul(unit))
 }

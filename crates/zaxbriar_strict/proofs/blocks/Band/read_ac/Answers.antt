@@ -1,48 +1,47 @@
-use Rattle.std.proofs.Common.{◌≡◌, ℕ, ℤ, List, ◌∷◌, ◌*◌, sym, arith, subst}
-use Rattle.jpeg_bits.specs.Written.{IsCoded}
-use Rattle.zaxbriar_strict.specs.Bands.{ReadsAc}
-use Rattle.zaxbriar_strict.specs.Data.{Reads}
-use Rattle.zaxbriar_strict.specs.Loaded.{data_of}
+use Rattle.std.proofs.Common.{ℕ, ℤ, List, [], ◌∷◌, ◌≤◌, sym, ap, ◌∙◌, arith, append-nil}
+use Rattle.jpeg_bits.specs.Passes.{band_size}
+use Rattle.jpeg_meaning.specs.WrittenData.{no_numbers}
 use Rattle.zaxbriar_strict.specs.Tables.{codes_in}
-use Rattle.zaxbriar_strict.proofs.Bands.{ReadsUpTo, up-to-all, up-to-end, up-to-more, up-to-none}
+use Rattle.zaxbriar_strict.proofs.Bands.{whole-codes}
+use Rattle.zaxbriar_strict.proofs.SentBands.{before-long, before_in, behind_in, parts-of, sent-codes}
+use Rattle.zaxbriar_strict.proofs.SentBands.{sent-within}
 use Rattle.zaxbriar_strict.proofs.Taken.{takes-none}
 use Rattle.zaxbriar_strict.proofs.blocks.Band.read_ac.Goals as goal
-
-pub loop-place-init : goal.loop-place-init
-loop-place-init c = record {
-  none = omega (arith, c.if-run-gt0.false);
-  read = λ whole dc n h e class.
-      let first = whole.first in
-      let max = c.max-place.ensures in
-      let one : 1 ≡ c.max-place.result = omega (arith, first, max) in
-      subst (λ (p : ℕ). ReadsUpTo (codes_in class c.args.table.now) dc p c.args.block.now (data_of c.args.bits.now)
-      (data_of c.args.bits.now)) one
-      (up-to-none (codes_in class c.args.table.now) dc n c.args.block.now (data_of c.args.bits.now) h e (takes-none _));
-}
-
-pub returns-in-Some-clause-written : goal.returns-in-Some-clause-written
-returns-in-Some-clause-written c = λ whole none dc n h e class.
-    let r = c.loop-place.invariant.read whole dc n h e class in
-    let table = codes_in class c.args.table.now in
-    let end = rw c.in-Some.is at c.in_ok-step.ensures.end in
-    let run = c.in_ok-read_run.ensures whole.sequential in
-    let test = c.loop-place-test.true in
-    let last = whole.last in
-    let code = subst (λ (k : ℕ). Reads (IsCoded table (16 * k)) (data_of c.loop-place.bits) (data_of c.read_step.new.bits)) run.0
-    (end.2 class) in
-    subst (λ (b : List ℤ). ReadsAc table dc b (data_of c.args.bits.now) (data_of c.read_run.new.bits)) (sym end.1)
-    (up-to-end r (omega (arith, test, last)) code run.2)
-
-pub loop-place-preserved : goal.loop-place-preserved
-loop-place-preserved c = record {
-  none = c.loop-place.invariant.none;
-  read = λ whole dc n h e class.
-      let r = c.loop-place.invariant.read whole dc n h e class in
-      up-to-more r (c.in_ok-step.ensures.step c.in_default.is whole.low (dc ∷ r.numbers) r.sized r.are class);
-}
+use Rattle.zaxbriar_strict.proofs.blocks.Band.read_ac.Goals.{then-run-eq0+in_ok-read_codes, else-run-eq0}
 
 pub returns-clause-written : goal.returns-clause-written
-returns-clause-written c = λ whole none dc n h e class.
-    let test = c.loop-place-test.false in
-    let last = whole.last in
-    up-to-all (c.loop-place.invariant.read whole dc n h e class) (omega (arith, test, last))
+returns-clause-written c = λ whole none dc n h e class. elim c.if-run-eq0.branch [
+  | then-run-eq0+in_ok-read_codes w ↦
+      let first = whole.first in
+      let last = whole.last in
+      let max = w.max.ensures in
+      let parts = e ∙ ap (λ (k : ℕ). dc ∷ no_numbers k) h ∙ ap (λ (l : List ℤ). dc ∷ l) (sym (append-nil (no_numbers 63))) in
+      let r = w.in_ok-read_codes.ensures.sent none 63 (dc ∷ []) [] (omega (arith, first, max))
+      (omega (arith, first, max, last)) parts
+      class in
+      rw (w.block-is, w.bits-is) (whole-codes whole.low (w.in_ok-read_codes.ensures.one none whole.sequential) r)
+  | else-run-eq0 w ↦ absurd (w.if-run-eq0.false none)
+]
+
+pub returns-clause-sent : goal.returns-clause-sent
+returns-clause-sent c = λ p is some order first kept class. elim c.if-run-eq0.branch [
+  | then-run-eq0+in_ok-read_codes w ↦
+      let b_first = is.first in
+      let b_last = is.last in
+      let within = c.args.self.now.within in
+      let max = w.max.ensures in
+      let none = w.if-run-eq0.true in
+      let long = c.told-block in
+      let block = c.args.block.now in
+      let front = before-long p block long some order (omega (arith, b_last, within)) in
+      let parts = parts-of p block (no_numbers (band_size p)) long kept in
+      let r = w.in_ok-read_codes.ensures.sent none (band_size p) (before_in p block) (behind_in p block)
+      (omega (arith, front, b_first, max, some)) (omega (arith, b_first, max, b_last, some, order)) parts class in
+      rw (w.block-is, w.bits-is, none, c.saturating_sub.ensures, w.run-is) (sent-codes p is.low first some order kept r)
+  | else-run-eq0 w ↦
+      let on = w.if-run-eq0.false in
+      let run : 1 ≤ c.args.run.now = omega (arith, on) in
+      rw (w.block-is, w.bits-is, c.saturating_sub.ensures, w.run-is)
+      (sent-within p (codes_in class c.args.table.now) c.args.run.now c.args.block.now _ c.told-block first some order run kept
+      (takes-none _))
+]
