@@ -4,7 +4,7 @@ ghost use Rattle.jpeg_decoder.specs.DecodesRows.{DecodesRows};
 ghost use Rattle.jpeg_decoder.specs.declared.rows.Ahead.TheVariants.{Start};
 ghost use Rattle.jpeg_meaning.specs.States.{Decoding};
 
-use jpeg_decoder::error::{Error, Result};
+use jpeg_decoder::error::Result;
 use jpeg_decoder::{Decoder, Rows};
 use std::alloc::Global;
 use std::io::Read;
@@ -16,13 +16,10 @@ fn gather<R: Read + Drop>(rows: &mut Rows<R>, picture: &mut Vec<u8>) -> Result<(
     ensures all { OnOk result (DecodesRows rows.old.decoder (Ok tt) rows.new.decoder
         picture.new.items) }
 {
-    for _ in 0..=u64::MAX {
-        if !rows.read()? {
-            return Ok(());
-        }
+    while rows.read()? {
         picture.extend_from_slice(rows.lines())?;
     }
-    Err(Error::Internal("lines without end"))
+    Ok(())
 }
 
 /// Decodes the image that a decoder has left by its lines: together they are its picture.

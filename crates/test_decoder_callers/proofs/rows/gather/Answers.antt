@@ -23,19 +23,19 @@ more-given start bytes lines all more new e h is added =
     subst (λ (b : List ℕ). AreGiven start b new.decoder new.ahead) (sym (added ∙ ap (λ (l : List ℕ). bytes ++ l) is))
     (subst (λ (b : Bool). GivesNext start bytes (Ok b) new) e h)
 
-pub loop-init : goal.loop-init
-loop-init g c = none-given c.args.rows.now c.args.picture.now.items c.requires.start c.requires.empty
+pub loop-picture-init : goal.loop-picture-init
+loop-picture-init g c = none-given c.args.rows.now c.args.picture.now.items c.requires.start c.requires.empty
 
-pub returns-then-not-branch : goal.returns-then-not-branch
-returns-then-not-branch g c = record {
-  all = all-given c.args.rows.now.decoder c.loop.picture.items c.in_ok-read.field-0 c.read.new.self
-      c.if-not-branch.true
-      (c.in_ok-read.ensures.gives c.args.rows.now.decoder c.loop.picture.items c.loop.invariant);
+pub returns : goal.returns
+returns g c = record {
+  all = all-given c.args.rows.now.decoder c.loop-picture.picture.items c.in_ok-read.field-0 c.read.new.self
+      c.if-branch.false
+      (c.in_ok-read.ensures.gives c.args.rows.now.decoder c.loop-picture.picture.items c.loop-picture.invariant);
 }
 
-pub loop-preserved : goal.loop-preserved
-loop-preserved g c =
-    more-given c.args.rows.now.decoder c.loop.picture.items c.lines.result.now c.extend_from_slice.new.self.items
-    c.in_ok-read.field-0 c.read.new.self c.if-not-branch.false
-    (c.in_ok-read.ensures.gives c.args.rows.now.decoder c.loop.picture.items c.loop.invariant) c.lines.ensures
+pub loop-picture-preserved : goal.loop-picture-preserved
+loop-picture-preserved g c =
+    more-given c.args.rows.now.decoder c.loop-picture.picture.items c.lines.result.now c.extend_from_slice.new.self.items
+    c.in_ok-read.field-0 c.read.new.self c.if-branch.true
+    (c.in_ok-read.ensures.gives c.args.rows.now.decoder c.loop-picture.picture.items c.loop-picture.invariant) c.lines.ensures
     c.in_ok-extend_from_slice.ensures.items
