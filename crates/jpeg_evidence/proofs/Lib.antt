@@ -2,7 +2,6 @@ pub mod Rules
 pub mod HeaderRules
 pub mod OnLiterals
 pub mod Taken
-pub mod Longer
 pub mod Rows
 pub mod Cut
 pub mod Transform

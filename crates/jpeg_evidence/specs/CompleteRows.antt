@@ -17,7 +17,7 @@ use Rattle.jpeg_meaning.specs.Found.{Found}
 use Rattle.jpeg_meaning.specs.Pixels.{samples_shown}
 use Rattle.jpeg_meaning.specs.Shown.{picture_shown}
 use Rattle.jpeg_meaning.specs.Stream.{Walked, all_brought, turn_at, walk}
-use Rattle.jpeg_evidence.specs.LongerStreams.{RowScanGoesOn}
+use Rattle.jpeg_meaning.specs.LongerStreams.{RowScanGoesOn}
 
 -- How many lines of a component, from its top, the first rows of a picture need, this many, by the
 -- rule of the component: where lines are blended, one below the nearest line of the last row.

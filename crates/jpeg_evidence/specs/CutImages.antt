@@ -27,7 +27,8 @@ use Rattle.jpeg_meaning.specs.WholeRows.{rows_above}
 use Rattle.jpeg_meaning.specs.WrittenImages.{ClosesImage, MayStandInImage, WritesImageScan}
 use Rattle.jpeg_meaning.specs.WrittenScans.{Coefficients, IsOwn}
 use Rattle.jpeg_meaning.specs.WrittenStreams.{Writes}
-use Rattle.jpeg_evidence.specs.FirstBlocks.{IsMost, StandWhole}
+use Rattle.jpeg_evidence.specs.FirstBlocks.{StandWhole}
+use Rattle.jpeg_meaning.specs.LongerStreams.{IsMost}
 
 -- Segments and scans of an image that are whole, without an end: what they say, and the levels
 -- after them.

@@ -28,7 +28,7 @@ use Rattle.jpeg_meaning.specs.Scans.{Arrays}
 use Rattle.jpeg_meaning.specs.ScanSegments.{Coding, codings_of, components_of, pass_of, vias_from}
 use Rattle.jpeg_meaning.specs.Segments.{Turn}
 use Rattle.jpeg_meaning.specs.Stream.{start_at, turn_at}
-use Rattle.jpeg_evidence.specs.LongerStreams.{arrays_of}
+use Rattle.jpeg_meaning.specs.LongerStreams.{arrays_of}
 
 -- the bits of a text, and none after them
 abbrev pub sealed : Text → Text

@@ -52,11 +52,6 @@ pub data BeginsIntervals (p : Pass)
       → BeginsIntervals p k one (next ∷ more) (length one + count)
       (bytes ++ marker fill (0xD0 + k % 8) others)
 
--- This holds of so many, and of no more.
-pub record IsMost (holds_of : ℕ → Type 0) (count : ℕ) : Type 0 where
-  pub holds : holds_of count
-  pub most : (n : ℕ) → holds_of n → n ≤ count
-
 -- The data of the first blocks of a scan, so many, stand whole in these bytes, where these blocks
 -- are sent in restart intervals of `restart` MCUs, or in one interval where that is 0.
 abbrev pub StandWhole :

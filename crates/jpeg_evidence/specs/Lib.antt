@@ -9,7 +9,6 @@ pub mod HeaderRules
 pub mod Departures
 pub mod Extremes
 pub mod CutStreams
-pub mod LongerStreams
 pub mod CompleteRows
 pub mod FirstBlocks
 pub mod CutImages

@@ -23,7 +23,7 @@ ghost use Rattle.jpeg_evidence.specs.CompleteRows.{BeginAlike, HasFaultAt, HasSi
 ghost use Rattle.jpeg_evidence.specs.CompleteRows.{KeepsRows, SamplesBegin, first_lines};
 ghost use Rattle.jpeg_evidence.specs.CompleteRows.{first_rows, first_sample_rows};
 ghost use Rattle.jpeg_evidence.specs.CutImages.{rows_before};
-ghost use Rattle.jpeg_evidence.specs.LongerStreams.{ScanGoesOn};
+ghost use Rattle.jpeg_meaning.specs.LongerStreams.{ScanGoesOn};
 
 /// The first rows of a picture depend only on the first lines of its components: as many as the
 /// rows have, or by the sampling factors fewer, and one more where lines are blended with those

@@ -22,7 +22,8 @@ ghost use Rattle.jpeg_meaning.specs.declared.settings.Settings.{Settings};
 ghost use Rattle.jpeg_evidence.specs.CutImages.{BringsCut, BringsFront, HoldsCut, WritesFront};
 ghost use Rattle.jpeg_evidence.specs.CutImages.{picture_held};
 ghost use Rattle.jpeg_evidence.specs.CutStreams.{codings_of_two, blocks_of_two, frame_of_two};
-ghost use Rattle.jpeg_evidence.specs.FirstBlocks.{IsMost, StandWhole};
+ghost use Rattle.jpeg_evidence.specs.FirstBlocks.{StandWhole};
+ghost use Rattle.jpeg_meaning.specs.LongerStreams.{IsMost};
 
 /// A stream that a writer emits for the coefficients of an image, cut anywhere within the data of a
 /// scan or right after them, brings what segments in front of the scan have said, and of this scan

@@ -25,15 +25,16 @@ ghost use Rattle.jpeg_meaning.specs.ScanSegments.{Coding, components_of, vias_fr
 ghost use Rattle.jpeg_meaning.specs.Stream.{all_brought};
 ghost use Rattle.jpeg_meaning.specs.WrittenScans.{Coefficients, WritesScan};
 ghost use Rattle.jpeg_evidence.specs.CutStreams.{requantized, seen, without_last};
-ghost use Rattle.jpeg_evidence.specs.FirstBlocks.{IsMost, StandWhole};
-ghost use Rattle.jpeg_evidence.specs.LongerStreams.{IsDcAlone, IsKeptBefore, ReadsOn};
-ghost use Rattle.jpeg_evidence.specs.LongerStreams.{ComesBy, GoesOn, HoldsFirst, HoldsSent};
-ghost use Rattle.jpeg_evidence.specs.LongerStreams.{PlanesGoOn, RowsGoOn, planes_after};
+ghost use Rattle.jpeg_evidence.specs.FirstBlocks.{StandWhole};
+ghost use Rattle.jpeg_meaning.specs.LongerStreams.{IsMost};
+ghost use Rattle.jpeg_meaning.specs.LongerStreams.{IsDcAlone, IsKeptBefore, ReadsOn};
+ghost use Rattle.jpeg_meaning.specs.LongerStreams.{ComesBy, GoesOn, HoldsFirst, HoldsSent};
+ghost use Rattle.jpeg_meaning.specs.LongerStreams.{PlanesGoOn, RowsGoOn, planes_after};
 
 /// More bits bring the blocks that the first bits bring alone, with what they carry on to the next
 /// blocks, and are read on from the first bit after them. It holds of any pass, tables and bits,
 /// also where the bits break a rule.
-#[tactic(auto, using(crate::proofs::Longer::LongerBits::longer_bits_go_on))]
+#[tactic(auto, using(jpeg_meaning::proofs::Longer::LongerBits::longer_bits_go_on))]
 pub fn longer_bits_go_on()
     ensures { (p : Pass) (vias : List Via) (spots : List Spot) (old : Reached) (bits : List Bool)
         → GoesOn p vias spots old bits
@@ -43,7 +44,7 @@ pub fn longer_bits_go_on()
 /// Longer data of a scan bring the blocks that shorter ones bring, and go on with the blocks after
 /// them, in the order of the scan and across its restart intervals. It holds of any bytes, whether
 /// the data are cut, end with a marker or break a rule.
-#[tactic(auto, using(crate::proofs::Longer::LongerScans::longer_data_read_on))]
+#[tactic(auto, using(jpeg_meaning::proofs::Longer::LongerScans::longer_data_read_on))]
 pub fn longer_data_read_on()
     ensures { (p : Pass) (n : ℕ) (vias : List Via) (spots : List Spot) (arrays : Arrays)
         (bytes more : List ℕ)

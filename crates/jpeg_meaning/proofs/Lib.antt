@@ -11,3 +11,4 @@ pub mod Encoded
 pub mod Tested
 pub mod Partial
 pub mod Pictures
+pub mod Longer

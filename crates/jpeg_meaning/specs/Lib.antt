@@ -22,6 +22,8 @@ pub mod Output
 pub mod Shown
 -- a limit of blocks
 pub mod Limits
+-- what more bytes add to what a stream has brought
+pub mod LongerStreams
 -- what a writer emits, and its picture
 pub mod Levels
 pub mod WrittenData

@@ -19,7 +19,7 @@ use Rattle.jpeg_meaning.specs.Stream.{all_brought, start_at, turn_at, walk}
 use Rattle.jpeg_meaning.proofs.Partial.Faultless.{faultless}
 use Rattle.jpeg_meaning.proofs.Written.ReadTurns.{walked}
 use Rattle.jpeg_bits.specs.declared.beyond.Beyond.TheVariants.{Nothing}
-use Rattle.jpeg_evidence.proofs.Longer.LongerTurns.{walk_on}
+use Rattle.jpeg_meaning.proofs.Longer.LongerTurns.{walk_on}
 
 -- Where what a walk brings has no fault, no scan of it lacks rows.
 walk-whole : (turns : ℕ) (before : Before) (found : Found) (met : Option Marker) (bytes rest : List ℕ)

@@ -20,7 +20,7 @@ use Rattle.jpeg_meaning.proofs.Written.BroughtLevels.{indices_of, is-legal, one-
 use Rattle.jpeg_meaning.proofs.Order.OwnSpots.{AreApart, IsAbsent}
 use Rattle.jpeg_meaning.proofs.Written.WrittenFrameScans.{HoldsOwn}
 use Rattle.jpeg_evidence.specs.CutImages.{HasBlock}
-use Rattle.jpeg_evidence.proofs.Taken.TakenBits.{none-is, some-is}
+use Rattle.jpeg_meaning.proofs.Longer.FrontNumbers.{none-is, some-is}
 use Rattle.jpeg_evidence.proofs.Cut.CutLater.{AreLater, cut-count, cut-earlier, cut-later, later-sent, later-themselves}
 
 -- ---- whether a block is there

@@ -14,10 +14,10 @@ use Rattle.jpeg_meaning.specs.Order.{Spot}
 use Rattle.jpeg_meaning.specs.Scans.{Arrays}
 use Rattle.jpeg_meaning.specs.ScanSegments.{Coding, vias_from}
 use Rattle.jpeg_meaning.proofs.Partial.ReachedIntervals.{Scanned, next_reached}
-use Rattle.jpeg_evidence.proofs.Longer.LongerBits.{AreSized, HasSized}
-use Rattle.jpeg_evidence.proofs.Longer.LongerData.{interval-stay, interval-stays}
-use Rattle.jpeg_evidence.proofs.Longer.LongerSegments.{Stays, after-stays, stays-bind}
-use Rattle.jpeg_evidence.proofs.Longer.LongerSegments.Stays.{stays-end, stays-err, stays-ok}
+use Rattle.jpeg_meaning.proofs.Longer.LongerBits.{AreSized, HasSized}
+use Rattle.jpeg_meaning.proofs.Longer.LongerData.{interval-stay, interval-stays}
+use Rattle.jpeg_meaning.proofs.Longer.LongerSegments.{Stays, after-stays, stays-bind}
+use Rattle.jpeg_meaning.proofs.Longer.LongerSegments.Stays.{stays-end, stays-err, stays-ok}
 
 -- ---- tables
 

@@ -31,16 +31,17 @@ use Rattle.jpeg_meaning.proofs.Written.BroughtLevels.{sequential-arrays, single,
 use Rattle.jpeg_meaning.proofs.Order.OwnSpots.{IsOwnSpot, own-only}
 use Rattle.jpeg_meaning.proofs.Written.ReadTurns.{ok-same}
 use Rattle.jpeg_meaning.proofs.Written.WrittenFrameScans.{IsReadyAt, array-at, in-all, put-size, zeros-in}
-use Rattle.jpeg_evidence.specs.FirstBlocks.{IsMost, StandWhole}
-use Rattle.jpeg_evidence.specs.LongerStreams.{IsDcAlone, IsKeptBefore, Puts, ReadsOn, arrays_of}
-use Rattle.jpeg_evidence.specs.LongerStreams.Puts.{finished, put}
+use Rattle.jpeg_evidence.specs.FirstBlocks.{StandWhole}
+use Rattle.jpeg_meaning.specs.LongerStreams.{IsMost}
+use Rattle.jpeg_meaning.specs.LongerStreams.{IsDcAlone, IsKeptBefore, Puts, ReadsOn, arrays_of}
+use Rattle.jpeg_meaning.specs.LongerStreams.Puts.{finished, put}
 use Rattle.jpeg_evidence.proofs.Cut.CutBlocks.{HasOwn}
-use Rattle.jpeg_evidence.proofs.Longer.LongerBlocks.{reached_are_read}
-use Rattle.jpeg_evidence.proofs.Longer.LongerData.{both}
+use Rattle.jpeg_meaning.proofs.Longer.LongerBlocks.{reached_are_read}
+use Rattle.jpeg_meaning.proofs.Longer.LongerData.{both}
 use Rattle.jpeg_evidence.proofs.Cut.FirstWritten.{first_blocks_are_written}
-use Rattle.jpeg_evidence.proofs.Longer.LongerScans.{CanReachOf, longer_data_read_most, longer_data_read_on}
-use Rattle.jpeg_evidence.proofs.Longer.LongerScans.{unread_is_next}
-use Rattle.jpeg_evidence.proofs.Longer.LongerSegments.{nothing-left, short-ends}
+use Rattle.jpeg_meaning.proofs.Longer.LongerScans.{CanReachOf, longer_data_read_most, longer_data_read_on}
+use Rattle.jpeg_meaning.proofs.Longer.LongerScans.{unread_is_next}
+use Rattle.jpeg_meaning.proofs.Longer.LongerSegments.{nothing-left, short-ends}
 use Rattle.jpeg_evidence.proofs.Cut.CutFaults.{data-stay, tables-sized}
 use Rattle.jpeg_evidence.proofs.Cut.ReachedFirst.{first_blocks_are_reached}
 use Rattle.jpeg_evidence.proofs.Cut.StandingBlocks.{whole_data_have_all_blocks}

@@ -28,7 +28,7 @@ use Rattle.jpeg_meaning.proofs.Written.WrittenPictures.{IsDrawn, drawn-said, hea
 use Rattle.jpeg_evidence.specs.CutImages.{WritesFront}
 use Rattle.jpeg_evidence.proofs.Cut.CutBlocks.{NoneOrAll, all_sent, whole-after}
 use Rattle.jpeg_evidence.proofs.Cut.CutPictures.{AllOrNone}
-use Rattle.jpeg_evidence.proofs.Taken.TakenBits.{some-is}
+use Rattle.jpeg_meaning.proofs.Longer.FrontNumbers.{some-is}
 use Rattle.jpeg_meaning.specs.Stream.{turn_at, walk}
 use Rattle.jpeg_bits.specs.declared.beyond.Beyond.TheVariants.{Nothing}
 

@@ -34,8 +34,8 @@ use Rattle.jpeg_evidence.specs.CutImages.{HasRows, rows_before}
 use Rattle.jpeg_evidence.proofs.Cut.CutBlocks.{NoneOrAll}
 use Rattle.jpeg_evidence.proofs.Cut.CutFronts.{Unmixed, all-whole}
 use Rattle.jpeg_evidence.proofs.Cut.SentCuts.{complete-after}
-use Rattle.jpeg_evidence.proofs.Taken.TakenBits.{none-is}
-use Rattle.jpeg_evidence.proofs.Longer.FirstSpots.{get-after}
+use Rattle.jpeg_meaning.proofs.Longer.FrontNumbers.{none-is}
+use Rattle.jpeg_meaning.proofs.Longer.FirstSpots.{get-after}
 
 -- ---- lists
 

@@ -37,10 +37,11 @@ use Rattle.jpeg_meaning.specs.Segments.{Turn, onward}
 use Rattle.jpeg_meaning.specs.Stream.{Walked, all_brought, segment_at, turn_at, walk}
 use Rattle.jpeg_evidence.proofs.Cut.CutWalks.{IsPast, front-walked, plain-brought, scan-brings, scan-next, segment-brings}
 use Rattle.jpeg_evidence.proofs.Cut.CutWalks.{sos_code, turn-next}
-use Rattle.jpeg_evidence.proofs.Longer.LongerSegments.{short-ends, sos-stays}
+use Rattle.jpeg_meaning.proofs.Longer.LongerSegments.{short-ends, sos-stays}
 use Rattle.jpeg_evidence.specs.CutImages.{BringsCut, BringsFront, WritesFront}
-use Rattle.jpeg_evidence.specs.FirstBlocks.{IsMost, StandWhole}
-use Rattle.jpeg_evidence.proofs.Longer.LongerTurns.{by_header, scan_led, segment-stays, with_frame}
+use Rattle.jpeg_evidence.specs.FirstBlocks.{StandWhole}
+use Rattle.jpeg_meaning.specs.LongerStreams.{IsMost}
+use Rattle.jpeg_meaning.proofs.Longer.LongerTurns.{by_header, scan_led, segment-stays, with_frame}
 use Rattle.jpeg_evidence.proofs.Cut.CutFrames.{cut-own, cut-stops, reached_of, scan-cut}
 
 -- what a scan brings that stops

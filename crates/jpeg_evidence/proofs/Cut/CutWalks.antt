@@ -41,8 +41,8 @@ use Rattle.jpeg_meaning.proofs.Written.ReadTurns.{stands-met, walk-on}
 use Rattle.jpeg_meaning.proofs.Written.WalkedStreams.{IsSaid, beside, segment-said}
 use Rattle.jpeg_meaning.proofs.Written.WrittenPictures.{Holds, IsDrawn, Progress, bring, drawn-said, image-read, known_scan}
 use Rattle.jpeg_evidence.proofs.Cut.CutFrames.{scanned, whole-reached}
-use Rattle.jpeg_evidence.proofs.Longer.LongerData.{both}
-use Rattle.jpeg_evidence.proofs.Longer.LongerTurns.{by_header, scan_led}
+use Rattle.jpeg_meaning.proofs.Longer.LongerData.{both}
+use Rattle.jpeg_meaning.proofs.Longer.LongerTurns.{by_header, scan_led}
 
 -- ---- turns
 

@@ -28,12 +28,12 @@ use Rattle.jpeg_meaning.proofs.Partial.RowIntervals as row_intervals
 use Rattle.jpeg_evidence.specs.EarlyEnds.{BlocksEndEarly, EndsEarly, RowsEndEarly, sealed}
 use Rattle.jpeg_evidence.specs.EarlyEnds.BlocksEndEarly.{here, later}
 use Rattle.jpeg_evidence.specs.EarlyEnds.RowsEndEarly.{here_too, later_too}
-use Rattle.jpeg_evidence.proofs.Longer.FrontReaders.{Front, TakesFront, bind-front, broken, each-front, err-same}
-use Rattle.jpeg_evidence.proofs.Longer.FrontReaders.{gives-front, own-read}
-use Rattle.jpeg_evidence.proofs.Longer.FrontReaders.Front.{gave, failed}
-use Rattle.jpeg_evidence.proofs.Longer.FrontReaders.FaultIn.{rule, short}
-use Rattle.jpeg_evidence.proofs.Longer.LongerBits.{AreSized, turns-front}
-use Rattle.jpeg_evidence.proofs.Longer.LongerRows.{row-front}
+use Rattle.jpeg_meaning.proofs.Longer.FrontReaders.{Front, TakesFront, bind-front, broken, each-front, err-same}
+use Rattle.jpeg_meaning.proofs.Longer.FrontReaders.{gives-front, own-read}
+use Rattle.jpeg_meaning.proofs.Longer.FrontReaders.Front.{gave, failed}
+use Rattle.jpeg_meaning.proofs.Longer.FrontReaders.FaultIn.{rule, short}
+use Rattle.jpeg_meaning.proofs.Longer.LongerBits.{AreSized, turns-front}
+use Rattle.jpeg_meaning.proofs.Longer.LongerRows.{row-front}
 
 -- The fault of what is reached is that of what is read; or data end early, and they are malformed.
 abbrev pub Fails : {A B : Type 0} → Type 0 → Result A Fault → Result B Fault → Type 0

@@ -24,12 +24,12 @@ use Rattle.jpeg_meaning.proofs.Partial.ReachedIntervals.{restart-stands}
 use Rattle.jpeg_meaning.proofs.Written.WrittenFrameScans.{IsReadyAt, all-in}
 use Rattle.jpeg_evidence.specs.FirstBlocks.{BeginsInterval, BeginsIntervals}
 use Rattle.jpeg_evidence.specs.FirstBlocks.BeginsIntervals.{beyond, within}
-use Rattle.jpeg_evidence.proofs.Longer.FrontReaders.{Front, TakesFront, fault-read}
-use Rattle.jpeg_evidence.proofs.Longer.FrontReaders.Front.{failed, gave}
-use Rattle.jpeg_evidence.proofs.Longer.LongerBits.{AreSized, turns-front}
-use Rattle.jpeg_evidence.proofs.Longer.LongerData.{CanReadOf, both, interval-stays, text-grows}
-use Rattle.jpeg_evidence.proofs.Longer.LongerScans.{CanReach, CanReachOf}
-use Rattle.jpeg_evidence.proofs.Longer.LongerScans.CanReach.{here, later}
+use Rattle.jpeg_meaning.proofs.Longer.FrontReaders.{Front, TakesFront, fault-read}
+use Rattle.jpeg_meaning.proofs.Longer.FrontReaders.Front.{failed, gave}
+use Rattle.jpeg_meaning.proofs.Longer.LongerBits.{AreSized, turns-front}
+use Rattle.jpeg_meaning.proofs.Longer.LongerData.{CanReadOf, both, interval-stays, text-grows}
+use Rattle.jpeg_meaning.proofs.Longer.LongerScans.{CanReach, CanReachOf}
+use Rattle.jpeg_meaning.proofs.Longer.LongerScans.CanReach.{here, later}
 use Rattle.jpeg_evidence.proofs.Cut.ReachedFirst.{BeginsGroups, first-turns}
 use Rattle.jpeg_evidence.proofs.Cut.StandingBlocks.{front-bits, turns-length}
 use Rattle.jpeg_evidence.proofs.Taken.StuffedTexts.{stuffed-begins, unstuffed}

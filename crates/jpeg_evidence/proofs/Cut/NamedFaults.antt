@@ -48,8 +48,8 @@ use Rattle.jpeg_evidence.specs.EarlyEnds.{ScanEndsEarly, SegmentsEndEarly, Strea
 use Rattle.jpeg_evidence.specs.EarlyEnds.ScanEndsEarly.{of_blocks, of_rows}
 use Rattle.jpeg_evidence.specs.EarlyEnds.SegmentsEndEarly.{at_scan, later_turn}
 use Rattle.jpeg_evidence.proofs.Cut.EarlyEnds.{Fails, blocks-fail, fails-on, passed, passed-on, rows-fail}
-use Rattle.jpeg_evidence.proofs.Longer.LongerTurns.{FoundHeader, brought_of}
-use Rattle.jpeg_evidence.proofs.Taken.TakenBits.{some-is}
+use Rattle.jpeg_meaning.proofs.Longer.LongerTurns.{FoundHeader, brought_of}
+use Rattle.jpeg_meaning.proofs.Longer.FrontNumbers.{some-is}
 
 -- ---- a scan
 

@@ -23,9 +23,9 @@ use Rattle.jpeg_meaning.proofs.Order.CountedScans.{all_of, apart-back, apart-fro
 use Rattle.jpeg_meaning.proofs.Written.WrittenFrameScans.{IsReadyAt, all-in}
 use Rattle.jpeg_evidence.specs.FirstBlocks.{BeginsInterval, BeginsIntervals, WritesFirst}
 use Rattle.jpeg_evidence.specs.FirstBlocks.BeginsIntervals.{beyond, within}
-use Rattle.jpeg_evidence.proofs.Longer.LongerData.{CanReadOf}
-use Rattle.jpeg_evidence.proofs.Longer.LongerScans.{CanReach, CanReachOf}
-use Rattle.jpeg_evidence.proofs.Longer.LongerScans.CanReach.{here, later}
+use Rattle.jpeg_meaning.proofs.Longer.LongerData.{CanReadOf}
+use Rattle.jpeg_meaning.proofs.Longer.LongerScans.{CanReach, CanReachOf}
+use Rattle.jpeg_meaning.proofs.Longer.LongerScans.CanReach.{here, later}
 use Rattle.jpeg_evidence.proofs.Cut.StandingBlocks.{turns-length}
 use Rattle.jpeg_evidence.proofs.Taken.StuffedTexts.{stuffed-begins}
 use Rattle.jpeg_evidence.proofs.Cut.WrittenCuts.{after_blocks, first-taken, groups-are, interval-written, restart-met}

@@ -20,11 +20,12 @@ use Rattle.jpeg_meaning.proofs.Pictures.WholeImages.{cut-whole}
 use Rattle.jpeg_meaning.proofs.Order.CountedScans.{in-front, reaches}
 use Rattle.jpeg_meaning.proofs.Written.SentBlocks.{Suits, after_pass}
 use Rattle.jpeg_meaning.proofs.Written.WrittenFrameScans.{IsReadyAt, cut-nothing, suits-dc, via-good, whole-legal}
-use Rattle.jpeg_evidence.specs.LongerStreams.{HoldsSent, IsDcAlone, IsKeptBefore}
-use Rattle.jpeg_evidence.specs.FirstBlocks.{IsMost, StandWhole}
+use Rattle.jpeg_meaning.specs.LongerStreams.{HoldsSent, IsDcAlone, IsKeptBefore}
+use Rattle.jpeg_evidence.specs.FirstBlocks.{StandWhole}
+use Rattle.jpeg_meaning.specs.LongerStreams.{IsMost}
 use Rattle.jpeg_evidence.proofs.Cut.FirstWritten.{first_blocks_are_written}
-use Rattle.jpeg_evidence.proofs.Longer.LongerBlocks.{brought-stay, others-stay}
-use Rattle.jpeg_evidence.proofs.Longer.LongerScans.{longer_data_read_most}
+use Rattle.jpeg_meaning.proofs.Longer.LongerBlocks.{brought-stay, others-stay}
+use Rattle.jpeg_meaning.proofs.Longer.LongerScans.{longer_data_read_most}
 use Rattle.jpeg_evidence.proofs.Cut.ReachedFirst.{first_blocks_are_reached}
 use Rattle.jpeg_evidence.proofs.Cut.WrittenCuts.{whole-reached}
 

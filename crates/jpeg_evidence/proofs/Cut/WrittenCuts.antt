@@ -38,9 +38,9 @@ use Rattle.jpeg_meaning.proofs.Written.WrittenBlocks.{IsReady, Predicts, takes-n
 use Rattle.jpeg_meaning.proofs.Written.WrittenFrameScans.{IsReadyAt, all-in, reads-arrays, start-predicts, turn_with}
 use Rattle.jpeg_evidence.specs.FirstBlocks.{WritesFirst}
 use Rattle.jpeg_evidence.specs.FirstBlocks.WritesFirst.{next_block, no_more}
-use Rattle.jpeg_evidence.proofs.Longer.LongerBlocks.{reached_are_read}
-use Rattle.jpeg_evidence.proofs.Longer.LongerBits.{After}
-use Rattle.jpeg_evidence.proofs.Longer.LongerData.{both}
+use Rattle.jpeg_meaning.proofs.Longer.LongerBlocks.{reached_are_read}
+use Rattle.jpeg_meaning.proofs.Longer.LongerBits.{After}
+use Rattle.jpeg_meaning.proofs.Longer.LongerData.{both}
 
 -- ---- an interval
 

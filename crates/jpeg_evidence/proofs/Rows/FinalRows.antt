@@ -29,19 +29,19 @@ use Rattle.jpeg_meaning.proofs.Written.ReadTurns.{gathered-more, same-frame}
 use Rattle.jpeg_meaning.proofs.Written.WrittenPictures.{end-decided, picture_of_several}
 use Rattle.jpeg_evidence.specs.CompleteRows.{BeginAlike, HasFaultAt, HasSizedFrame, first_rows}
 use Rattle.jpeg_meaning.specs.declared.before.Before.TheVariants.{Elsewhere}
-use Rattle.jpeg_evidence.proofs.Longer.LongerSegments.{Stays, byte-stays, stays-bind, stays-if, stays-read}
-use Rattle.jpeg_evidence.proofs.Longer.LongerSegments.Stays.{stays-err, stays-ok}
+use Rattle.jpeg_meaning.proofs.Longer.LongerSegments.{Stays, byte-stays, stays-bind, stays-if, stays-read}
+use Rattle.jpeg_meaning.proofs.Longer.LongerSegments.Stays.{stays-err, stays-ok}
 use Rattle.jpeg_evidence.proofs.Cut.AllRows.{started}
 use Rattle.jpeg_evidence.proofs.Cut.CutRows.{lossy-planes}
 use Rattle.jpeg_evidence.proofs.Rows.AlikePictures.{picture-made}
 use Rattle.jpeg_evidence.specs.CutImages.{rows_before}
-use Rattle.jpeg_evidence.specs.LongerStreams.{ScanGoesOn}
-use Rattle.jpeg_evidence.proofs.Longer.LongerTurns.{RowsAdd, ScanAdds, StopsAt, ended_streams_stay, longer_streams_stop}
-use Rattle.jpeg_evidence.proofs.Longer.LongerTurns.{turn-goes}
+use Rattle.jpeg_meaning.specs.LongerStreams.{ScanGoesOn}
+use Rattle.jpeg_meaning.proofs.Longer.LongerTurns.{RowsAdd, ScanAdds, StopsAt, ended_streams_stay, longer_streams_stop}
+use Rattle.jpeg_meaning.proofs.Longer.LongerTurns.{turn-goes}
 use Rattle.jpeg_bits.specs.declared.marker.Marker.{Marker}
 use Rattle.jpeg_meaning.specs.Brought.{Brought}
 use Rattle.jpeg_meaning.specs.declared.before.Before.{Before}
-use Rattle.jpeg_evidence.proofs.Longer.LongerTurns.StopsAt.{at_front, at_rows, at_scan}
+use Rattle.jpeg_meaning.proofs.Longer.LongerTurns.StopsAt.{at_front, at_rows, at_scan}
 use Rattle.jpeg_evidence.proofs.Rows.OnwardTurns.{Onward, after-turn, scan-framed, walk-onward}
 use Rattle.jpeg_evidence.proofs.Rows.ScanRows.{codings-of, no-rows, scans-alike}
 use Rattle.jpeg_evidence.proofs.Rows.StreamRows.{adds-rows, refused-walk, rows-above}

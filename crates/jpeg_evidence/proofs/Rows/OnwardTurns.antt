@@ -38,7 +38,7 @@ use Rattle.jpeg_meaning.proofs.Partial.FittingFrames.{KeepsAll, accepted-is, aft
 use Rattle.jpeg_meaning.proofs.Partial.FittingFrames.{framed, segment-keeps}
 use Rattle.jpeg_meaning.proofs.Written.ReadTurns.{scan-or-segment, walked}
 use Rattle.jpeg_meaning.specs.Rasters.{plane_by}
-use Rattle.jpeg_evidence.proofs.Longer.LongerTurns.{FoundHeader, brought_of, walk_on}
+use Rattle.jpeg_meaning.proofs.Longer.LongerTurns.{FoundHeader, brought_of, walk_on}
 use Rattle.jpeg_evidence.specs.CompleteRows.{HasSizedFrame}
 
 -- what was found, and what is found later

@@ -26,8 +26,8 @@ use Rattle.jpeg_meaning.proofs.Order.McuRows.{AllOf, IsOf, codings-are-of, fits-
 use Rattle.jpeg_meaning.proofs.Written.BroughtLevels.{Made}
 use Rattle.jpeg_evidence.specs.CompleteRows.{first_rows}
 use Rattle.jpeg_evidence.specs.CutImages.{rows_before}
-use Rattle.jpeg_evidence.specs.LongerStreams.{Puts, PutsFirst, ReadsOn, ScanGoesOn, arrays_of}
-use Rattle.jpeg_evidence.specs.LongerStreams.Puts.{finished, put}
+use Rattle.jpeg_meaning.specs.LongerStreams.{Puts, PutsFirst, ReadsOn, ScanGoesOn, arrays_of}
+use Rattle.jpeg_meaning.specs.LongerStreams.Puts.{finished, put}
 use Rattle.jpeg_evidence.proofs.Rows.AlikePictures.{shown-first}
 use Rattle.jpeg_evidence.proofs.Rows.AlikeStates.{Alike, BlocksBegin, Coded, blocks-begin, scan-alike}
 use Rattle.jpeg_evidence.proofs.Rows.FirstBlockRows.{in-lines}

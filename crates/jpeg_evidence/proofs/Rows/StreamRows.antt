@@ -19,8 +19,8 @@ use Rattle.jpeg_evidence.specs.CompleteRows.{HasFirstRows, HasSizedFrame, KeepsR
 use Rattle.jpeg_evidence.specs.CompleteRows.KeepsRows.{in_front, in_rows, in_scan}
 use Rattle.jpeg_evidence.specs.CutImages.{rows_before}
 use Rattle.jpeg_evidence.proofs.Cut.CutRows.{rows-first}
-use Rattle.jpeg_evidence.proofs.Longer.LongerTurns.{ScanAdds, StopsAt, longer_streams_stop, walk_on}
-use Rattle.jpeg_evidence.proofs.Longer.LongerTurns.StopsAt.{at_front, at_rows, at_scan}
+use Rattle.jpeg_meaning.proofs.Longer.LongerTurns.{ScanAdds, StopsAt, longer_streams_stop, walk_on}
+use Rattle.jpeg_meaning.proofs.Longer.LongerTurns.StopsAt.{at_front, at_rows, at_scan}
 use Rattle.jpeg_evidence.proofs.Rows.OnwardTurns.{scan-framed, walk-onward}
 use Rattle.jpeg_meaning.specs.declared.before.Before.TheVariants.{Elsewhere}
 use Rattle.jpeg_evidence.proofs.Rows.ScanRows.{no-rows, rows_of_scans_stay}

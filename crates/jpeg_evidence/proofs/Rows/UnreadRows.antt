@@ -10,8 +10,8 @@ use Rattle.jpeg_meaning.specs.Scans.{Arrays, block_at}
 use Rattle.jpeg_meaning.proofs.Order.Apart.{At, Between, at-got, in-either, in-flat-back, in-line-back, mcu-tells}
 use Rattle.jpeg_meaning.proofs.Order.Apart.{placed}
 use Rattle.jpeg_meaning.proofs.Order.CountedScans.{in-back, in-front}
-use Rattle.jpeg_evidence.specs.LongerStreams.{ReadsOn}
-use Rattle.jpeg_evidence.proofs.Longer.LongerBlocks.{puts-elsewhere}
+use Rattle.jpeg_meaning.specs.LongerStreams.{ReadsOn}
+use Rattle.jpeg_meaning.proofs.Longer.LongerBlocks.{puts-elsewhere}
 
 -- ---- rows one after the other
 

@@ -19,7 +19,8 @@ use Rattle.jpeg_evidence.specs.Strict.{others_read}
 use Rattle.jpeg_evidence.specs.Strict.IntervalsFit.{last, another}
 use Rattle.jpeg_bits.proofs.TakenTexts.{Taken, TakesBits, blocks-takes}
 use Rattle.jpeg_bits.proofs.TakenTexts.Taken.{gave, failed}
-use Rattle.jpeg_evidence.proofs.Taken.TakenBits.{no-error, ok-parts, some-is}
+use Rattle.jpeg_evidence.proofs.Taken.TakenBits.{no-error, ok-parts}
+use Rattle.jpeg_meaning.proofs.Longer.FrontNumbers.{some-is}
 use Rattle.jpeg_evidence.proofs.Taken.TakenScans.{another_interval, last_interval, interval_of_taken}
 
 -- An interval that fits is read, up to its marker.

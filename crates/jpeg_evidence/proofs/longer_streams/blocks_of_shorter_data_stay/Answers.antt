@@ -1,6 +1,6 @@
 use Rattle.jpeg_meaning.proofs.Order.Apart.{spots-apart}
-use Rattle.jpeg_evidence.proofs.Longer.LongerBlocks.{blocks_stay, reached_are_read}
-use Rattle.jpeg_evidence.proofs.Longer.LongerScans.{longer_data_read_on}
+use Rattle.jpeg_meaning.proofs.Longer.LongerBlocks.{blocks_stay, reached_are_read}
+use Rattle.jpeg_meaning.proofs.Longer.LongerScans.{longer_data_read_on}
 use Rattle.jpeg_evidence.proofs.longer_streams.blocks_of_shorter_data_stay.Goals as goal
 
 pub returns-clause-apart : goal.returns-clause-apart

@@ -1,4 +1,4 @@
-use Rattle.jpeg_evidence.proofs.Longer.LongerTurns.{ended_streams_stay, longer_streams_go_on}
+use Rattle.jpeg_meaning.proofs.Longer.LongerTurns.{ended_streams_stay, longer_streams_go_on}
 use Rattle.jpeg_evidence.proofs.longer_streams.longer_streams_go_on.Goals as goal
 
 -- src/longer_streams.rt:40:1

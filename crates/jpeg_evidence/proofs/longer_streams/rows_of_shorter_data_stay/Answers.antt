@@ -1,5 +1,5 @@
-use Rattle.jpeg_evidence.proofs.Longer.LongerRows.{longer_rows_go_on}
-use Rattle.jpeg_evidence.proofs.Longer.LongerSamples.{reached_rows_are_read, samples_go_on}
+use Rattle.jpeg_meaning.proofs.Longer.LongerRows.{longer_rows_go_on}
+use Rattle.jpeg_meaning.proofs.Longer.LongerSamples.{reached_rows_are_read, samples_go_on}
 use Rattle.jpeg_evidence.proofs.longer_streams.rows_of_shorter_data_stay.Goals as goal
 
 pub returns-clause-stay : goal.returns-clause-stay

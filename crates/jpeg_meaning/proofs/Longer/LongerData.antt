@@ -22,15 +22,15 @@ use Rattle.jpeg_meaning.specs.Brought.{Through, interval_reached, reached_from, 
 use Rattle.jpeg_meaning.specs.InTurn.{Reached, at_start, turn_from, turns_from}
 use Rattle.jpeg_meaning.specs.Order.{Spot}
 use Rattle.jpeg_meaning.specs.Scans.{Arrays, block_at, put_block, via_at}
-use Rattle.jpeg_evidence.specs.LongerStreams.{Puts, PutsFirst, ReadsOn}
-use Rattle.jpeg_evidence.specs.LongerStreams.Puts.{finished, put}
+use Rattle.jpeg_meaning.specs.LongerStreams.{Puts, PutsFirst, ReadsOn}
+use Rattle.jpeg_meaning.specs.LongerStreams.Puts.{finished, put}
 use Rattle.jpeg_meaning.proofs.Partial.ReachedIntervals.{after_turn, blocks-same}
-use Rattle.jpeg_evidence.proofs.Longer.FrontReaders.{Front, TakesFront, broken, lack_at, own-read, strict-fault}
-use Rattle.jpeg_evidence.proofs.Longer.FrontReaders.FaultIn.{rule, short}
-use Rattle.jpeg_evidence.proofs.Longer.FrontReaders.Front.{gave, failed}
-use Rattle.jpeg_evidence.proofs.Longer.LongerBits.{After, AreSized, CanRead, Stops, stops, turns-front}
-use Rattle.jpeg_evidence.proofs.Longer.LongerSegments.{Stays, stays-read}
-use Rattle.jpeg_evidence.proofs.Longer.LongerSegments.Stays.{stays-end, stays-err, stays-ok}
+use Rattle.jpeg_meaning.proofs.Longer.FrontReaders.{Front, TakesFront, broken, lack_at, own-read, strict-fault}
+use Rattle.jpeg_meaning.proofs.Longer.FrontReaders.FaultIn.{rule, short}
+use Rattle.jpeg_meaning.proofs.Longer.FrontReaders.Front.{gave, failed}
+use Rattle.jpeg_meaning.proofs.Longer.LongerBits.{After, AreSized, CanRead, Stops, stops, turns-front}
+use Rattle.jpeg_meaning.proofs.Longer.LongerSegments.{Stays, stays-read}
+use Rattle.jpeg_meaning.proofs.Longer.LongerSegments.Stays.{stays-end, stays-err, stays-ok}
 
 -- ---- blocks that are put
 

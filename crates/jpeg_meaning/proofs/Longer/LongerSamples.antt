@@ -17,8 +17,8 @@ use Rattle.jpeg_segments.specs.ScanHeader.{Scan}
 use Rattle.jpeg_meaning.specs.Brought.{scan_rows_reached}
 use Rattle.jpeg_meaning.specs.LosslessScans.{LosslessCoding, way_of}
 use Rattle.jpeg_meaning.proofs.Partial.RowIntervals.{scan-rows-read}
-use Rattle.jpeg_evidence.specs.LongerStreams.{PlanesGoOn, RowsGoOn, planes_after}
-use Rattle.jpeg_evidence.proofs.Longer.LongerRows.{GoOn}
+use Rattle.jpeg_meaning.specs.LongerStreams.{PlanesGoOn, RowsGoOn, planes_after}
+use Rattle.jpeg_meaning.proofs.Longer.LongerRows.{GoOn}
 
 -- ---- lists that begin with others
 

@@ -21,6 +21,11 @@ use Rattle.jpeg_meaning.specs.ScanSegments.{Coding, after_samples, after_scan, a
 use Rattle.jpeg_meaning.specs.ScanSegments.{components_of}
 use Rattle.jpeg_meaning.specs.Stream.{Walked, turn_at, walk}
 
+-- This holds of so many, and of no more.
+pub record IsMost (holds_of : ℕ → Type 0) (count : ℕ) : Type 0 where
+  pub holds : holds_of count
+  pub most : (n : ℕ) → holds_of n → n ≤ count
+
 -- These bits bring the blocks at `done`, and `left` are left, of which no block more can be read
 -- where nothing follows. Where more bits come after them, the other blocks are read from there on.
 -- Both are so before any end.

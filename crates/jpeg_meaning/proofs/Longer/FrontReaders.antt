@@ -28,7 +28,7 @@ use Rattle.jpeg_bits.proofs.CodeLemmas.{first_from, none_found, passed-none, row
 use Rattle.jpeg_bits.proofs.Tables.{ordered, rising-lengths}
 use Rattle.jpeg_bits.proofs.TakenTexts.{IsStrict}
 use Rattle.jpeg_bits.proofs.WrittenBits.{number_onto, takes-bind, takes-bits, takes-gives}
-use Rattle.jpeg_evidence.proofs.Taken.TakenBits.{front-number, none-is, some-is}
+use Rattle.jpeg_meaning.proofs.Longer.FrontNumbers.{front-number, none-is, some-is}
 
 -- ---- readers
 

@@ -1,4 +1,5 @@
 -- A longer stream goes on from what a shorter one has brought.
+pub mod FrontNumbers
 pub mod FrontReaders
 pub mod FirstSpots
 pub mod LongerBits
@@ -9,3 +10,4 @@ pub mod LongerRows
 pub mod LongerSamples
 pub mod LongerTurns
 pub mod LongerBlocks
+pub mod LongerSteps

@@ -16,13 +16,13 @@ use Rattle.jpeg_meaning.specs.InTurn.{at_start}
 use Rattle.jpeg_meaning.specs.Order.{Spot}
 use Rattle.jpeg_meaning.specs.Scans.{Arrays}
 use Rattle.jpeg_meaning.proofs.Partial.ReachedIntervals.{Scanned, next_reached, restart-stands}
-use Rattle.jpeg_evidence.specs.FirstBlocks.{IsMost}
-use Rattle.jpeg_evidence.specs.LongerStreams.{Puts, PutsFirst, ReadsOn}
-use Rattle.jpeg_evidence.proofs.Longer.FirstSpots.{HasFirst, first-after, get-after, others-have}
-use Rattle.jpeg_evidence.proofs.Longer.LongerData.{CanReadOf, IntervalGoes, Met, ReadsMost, StaysBrought, all-read}
-use Rattle.jpeg_evidence.proofs.Longer.LongerData.{both, interval-goes, interval-stays, puts-both, puts-of-more}
-use Rattle.jpeg_evidence.proofs.Longer.LongerData.{puts-then, reaches}
-use Rattle.jpeg_evidence.proofs.Longer.LongerSegments.{after-stays, stays-read}
+use Rattle.jpeg_meaning.specs.LongerStreams.{IsMost}
+use Rattle.jpeg_meaning.specs.LongerStreams.{Puts, PutsFirst, ReadsOn}
+use Rattle.jpeg_meaning.proofs.Longer.FirstSpots.{HasFirst, first-after, get-after, others-have}
+use Rattle.jpeg_meaning.proofs.Longer.LongerData.{CanReadOf, IntervalGoes, Met, ReadsMost, StaysBrought, all-read}
+use Rattle.jpeg_meaning.proofs.Longer.LongerData.{both, interval-goes, interval-stays, puts-both, puts-of-more}
+use Rattle.jpeg_meaning.proofs.Longer.LongerData.{puts-then, reaches}
+use Rattle.jpeg_meaning.proofs.Longer.LongerSegments.{after-stays, stays-read}
 
 -- these spots, and those of more intervals
 abbrev pub with_groups : List Spot → List (List Spot) → List Spot

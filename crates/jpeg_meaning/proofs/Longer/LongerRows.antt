@@ -13,12 +13,12 @@ use Rattle.jpeg_lossless.specs.RowsReached.{rows_reached}
 use Rattle.jpeg_lossless.proofs.ReachedRows.{each_row, rows-same}
 use Rattle.jpeg_meaning.specs.Brought.{after_interval, interval_rows_reached, scan_rows_reached, stopping}
 use Rattle.jpeg_meaning.proofs.Partial.RowIntervals.{Scanned, next_reached}
-use Rattle.jpeg_evidence.specs.LongerStreams.{RowsGoOn}
-use Rattle.jpeg_evidence.proofs.Longer.FrontReaders.{Front, TakesFront, bind-front, each-front, gives-front, if-front}
-use Rattle.jpeg_evidence.proofs.Longer.FrontReaders.{own-read, refused-front, signed-front, strict-fault, symbol-front}
-use Rattle.jpeg_evidence.proofs.Longer.FrontReaders.Front.{gave, failed}
-use Rattle.jpeg_evidence.proofs.Longer.LongerData.{Met, StaysBrought, text-grows, text-stays}
-use Rattle.jpeg_evidence.proofs.Longer.LongerScans.{after-same, last-stays, next-stays}
+use Rattle.jpeg_meaning.specs.LongerStreams.{RowsGoOn}
+use Rattle.jpeg_meaning.proofs.Longer.FrontReaders.{Front, TakesFront, bind-front, each-front, gives-front, if-front}
+use Rattle.jpeg_meaning.proofs.Longer.FrontReaders.{own-read, refused-front, signed-front, strict-fault, symbol-front}
+use Rattle.jpeg_meaning.proofs.Longer.FrontReaders.Front.{gave, failed}
+use Rattle.jpeg_meaning.proofs.Longer.LongerData.{Met, StaysBrought, text-grows, text-stays}
+use Rattle.jpeg_meaning.proofs.Longer.LongerScans.{after-same, last-stays, next-stays}
 
 -- the differences of rows of MCUs, and those of some intervals
 abbrev pub Rows : Type 0

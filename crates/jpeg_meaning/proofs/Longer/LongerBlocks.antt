@@ -9,8 +9,8 @@ use Rattle.jpeg_meaning.specs.Brought.{scan_reached}
 use Rattle.jpeg_meaning.specs.Scans.{Arrays, arrays_at, block_at, put_block}
 use Rattle.jpeg_meaning.proofs.Order.CountedScans.{apart-between, in-front, kept-after, scans-in-turn}
 use Rattle.jpeg_meaning.proofs.Partial.ReachedIntervals.{intervals-read}
-use Rattle.jpeg_evidence.specs.LongerStreams.{HoldsFirst, Puts, ReadsOn}
-use Rattle.jpeg_evidence.specs.LongerStreams.Puts.{finished, put}
+use Rattle.jpeg_meaning.specs.LongerStreams.{HoldsFirst, Puts, ReadsOn}
+use Rattle.jpeg_meaning.specs.LongerStreams.Puts.{finished, put}
 
 -- what is put at these spots leaves the other blocks
 pub puts-elsewhere : (q : Spot) (spots : List Spot) (before after : Arrays) → Puts spots before after

@@ -13,10 +13,10 @@ use Rattle.jpeg_meaning.specs.InTurn.{Reached, turn_from, turns_from}
 use Rattle.jpeg_meaning.specs.Order.{Spot}
 use Rattle.jpeg_meaning.specs.Scans.{via_at}
 use Rattle.jpeg_meaning.proofs.Partial.ReachedIntervals.{after_turn}
-use Rattle.jpeg_evidence.specs.LongerStreams.{GoesOn}
-use Rattle.jpeg_evidence.proofs.Longer.FrontReaders.{FaultIn, Front, TakesFront, bind-front, block-front, fault-read}
-use Rattle.jpeg_evidence.proofs.Longer.FrontReaders.{gives-front, own-read, strict-fault}
-use Rattle.jpeg_evidence.proofs.Longer.FrontReaders.Front.{gave, failed}
+use Rattle.jpeg_meaning.specs.LongerStreams.{GoesOn}
+use Rattle.jpeg_meaning.proofs.Longer.FrontReaders.{FaultIn, Front, TakesFront, bind-front, block-front, fault-read}
+use Rattle.jpeg_meaning.proofs.Longer.FrontReaders.{gives-front, own-read, strict-fault}
+use Rattle.jpeg_meaning.proofs.Longer.FrontReaders.Front.{gave, failed}
 
 -- the tables of a component have 16 counts, and those of all
 abbrev pub HasSized : Via → Type 0

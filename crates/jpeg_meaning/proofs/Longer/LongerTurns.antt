@@ -36,15 +36,15 @@ use Rattle.jpeg_meaning.specs.WholeRows.{rows_above}
 use Rattle.jpeg_meaning.proofs.Partial.Faultless.{walked_after}
 use Rattle.jpeg_meaning.proofs.Partial.ReachedIntervals.{next_reached}
 use Rattle.jpeg_meaning.proofs.Written.ReadTurns.{needed-some, refused_walk, walked}
-use Rattle.jpeg_evidence.specs.LongerStreams.{ComesBy, RowScanGoesOn, ScanGoesOn, after_rows, arrays_of}
-use Rattle.jpeg_evidence.specs.LongerStreams.ComesBy.{in_front, in_rows, in_scan}
-use Rattle.jpeg_evidence.proofs.Longer.LongerData.{StaysBrought, both, interval-stays}
-use Rattle.jpeg_evidence.proofs.Longer.LongerRows.{longer_rows_go_on, scan-rows-stay}
-use Rattle.jpeg_evidence.proofs.Longer.LongerScans.{last-stays, longer_data_read_most, next-stays}
-use Rattle.jpeg_evidence.proofs.Longer.LongerSegments.{Stays, StaysRead, app-stays, dht-stays, dqt-stays, dri-stays}
-use Rattle.jpeg_evidence.proofs.Longer.LongerSegments.{length-stays, marker-stays, skip-stays, sof-stays, sos-stays}
-use Rattle.jpeg_evidence.proofs.Longer.LongerSegments.{stays-after, stays-bind, stays-if, stays-read}
-use Rattle.jpeg_evidence.proofs.Longer.LongerSegments.Stays.{stays-err, stays-ok}
+use Rattle.jpeg_meaning.specs.LongerStreams.{ComesBy, RowScanGoesOn, ScanGoesOn, after_rows, arrays_of}
+use Rattle.jpeg_meaning.specs.LongerStreams.ComesBy.{in_front, in_rows, in_scan}
+use Rattle.jpeg_meaning.proofs.Longer.LongerData.{StaysBrought, both, interval-stays}
+use Rattle.jpeg_meaning.proofs.Longer.LongerRows.{longer_rows_go_on, scan-rows-stay}
+use Rattle.jpeg_meaning.proofs.Longer.LongerScans.{last-stays, longer_data_read_most, next-stays}
+use Rattle.jpeg_meaning.proofs.Longer.LongerSegments.{Stays, StaysRead, app-stays, dht-stays, dqt-stays, dri-stays}
+use Rattle.jpeg_meaning.proofs.Longer.LongerSegments.{length-stays, marker-stays, skip-stays, sof-stays, sos-stays}
+use Rattle.jpeg_meaning.proofs.Longer.LongerSegments.{stays-after, stays-bind, stays-if, stays-read}
+use Rattle.jpeg_meaning.proofs.Longer.LongerSegments.Stays.{stays-err, stays-ok}
 use Rattle.jpeg_bits.specs.declared.beyond.Beyond.TheVariants.{Nothing}
 
 -- ---- segments
@@ -244,7 +244,7 @@ header_by bytes frame = outcomes.◌>>=◌ (sos_at frame bytes) (with_frame fram
 abbrev later_header : List ℕ → FoundHeader → FoundHeader
 later_header more x = (x.0, (x.1.0, x.1.1 ++ more))
 
-framed-stays : (more : List ℕ) (found : Found) (bytes : List ℕ) (x : FoundHeader)
+pub framed-stays : (more : List ℕ) (found : Found) (bytes : List ℕ) (x : FoundHeader)
     → frame_and_scan found bytes ≡ Ok x → frame_and_scan found (bytes ++ more) ≡ Ok (later_header more x)
 framed-stays more found bytes x h = go (needed found.said.frame) h
   where
