@@ -1,6 +1,7 @@
 mod AllLines
 mod BegunRows
 mod Copied
+mod CountedFrames
 pub mod CropPixels
 mod Cropped
 mod Decoded
@@ -24,6 +25,7 @@ mod Means
 mod Outcomes
 mod OwnPlanes
 mod Parts
+mod PlainLines
 mod Rests
 pub mod Rules
 mod Smaller

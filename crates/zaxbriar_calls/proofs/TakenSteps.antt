@@ -1,38 +1,123 @@
 -- Lines that are taken one by one: what each step leaves of those that were given.
-use Rattle.std.proofs.Common.{arith, ◌≡◌, ◌∙◌, ◌+◌, ◌≤◌, ◌++◌, ℕ, Bool, List, Result, Ok, Err, true, false}
-use Rattle.std.proofs.Common.{ap, append_assoc, drop, inl, inr, length, refl, subst, sym, take}
+use Rattle.std.proofs.Common.{arith, ◌≡◌, ◌∙◌, ◌⊎◌, ◌+◌, ◌*◌, ◌<◌, ◌≤◌, ◌++◌, ℕ, Bool, List, [], Result, Ok, Err, true, false}
+use Rattle.std.proofs.Common.{Option, Some, None, add-mul, ap, append_assoc, drop, inl, inr, length, mul-le-mul_right, refl}
+use Rattle.std.proofs.Common.{replicate, subst, sym, take}
+use Rattle.std.specs.List.{concat}
+use Rattle.std.specs.Prelude.{IfOk, option_map}
+use Rattle.std.proofs.lemmas.Bool.{cases_lt}
 use Rattle.std.proofs.lemmas.List.{append-nil, drop_all, drop-append-le, drop-drop, length-drop, length-take-le}
 use Rattle.std.proofs.lemmas.List.{take_all, take-append-drop, take-append-le}
 use Rattle.jpeg_bits.specs.declared.error.Error.{Error}
+use Rattle.jpeg_bits.specs.declared.error.Error.TheVariants as errors
+use Rattle.jpeg_decoder.specs.Bytes.{AreWholeLines, Shape, line_bytes, shape_in, shape_of}
 use Rattle.jpeg_decoder.specs.DecodesRows.{DecodesRows}
 use Rattle.jpeg_decoder.specs.Rows.{AreGiven, GivesNext, RowsState, lines_in}
-use Rattle.jpeg_meaning.specs.States.{Decoding}
+use Rattle.jpeg_decoder.specs.RowScans.{IsGivingScan}
+use Rattle.jpeg_decoder.specs.Walks.{known_if}
+use Rattle.jpeg_decoder.specs.declared.by_rows.first_scan.RowScan.{RowScan}
+use Rattle.jpeg_decoder.specs.declared.rows.Ahead.{Ahead}
+use Rattle.jpeg_decoder.specs.declared.rows.Ahead.TheVariants as ahead
+use Rattle.jpeg_meaning.specs.Reported.{IsOfTurns}
+use Rattle.jpeg_meaning.specs.States.{Decoding, MovesToEnd}
+use Rattle.jpeg_meaning.specs.Stream.{walk}
+use Rattle.jpeg_meaning.specs.declared.progress.Progress.{Progress}
+use Rattle.jpeg_meaning.specs.declared.progress.Progress.TheVariants.{Failed, HeaderRead}
 use Rattle.zaxbriar_calls.specs.Faults.{StandsFor, fault_code, with_passes}
 use Rattle.zaxbriar_calls.specs.Outcomes.{DescribesStream}
-use Rattle.zaxbriar_calls.specs.TakenLines.{AreTaken, PutsLine, ReachesLine, TakesLine}
+use Rattle.zaxbriar_calls.specs.TakenLines.{AreOfLines, AreTaken, PutsLine, ReachesLine, TakesLine}
 use Rattle.zaxbriar_calls.specs.declared.answers.Refusal.{Refusal}
 use Rattle.zaxbriar_calls.specs.declared.options.Options.{Options}
 use Rattle.zaxbriar_calls.specs.declared.picture.Picture.{Picture}
 use Rattle.zaxbriar_calls.specs.declared.rows.RowReader.{RowReader}
 
+-- ---- the shape of the picture
+
+rows-shape : (start d : Decoding) (result : Result (Unit {0}) Error) (bytes : List ℕ) → start.stage ≡ HeaderRead
+    → DecodesRows start result d bytes → shape_in d ≡ shape_in start
+rows-shape start d result bytes header r = λ i. option_map (shape_of (r.settings i)) (r.stays header i)
+
+-- A scan may be refused for memory at once, which tells how it has begun.
+scan-shape : (start d : Decoding) (scan : RowScan) (bytes : List ℕ) → start.stage ≡ HeaderRead
+    → IsGivingScan start d scan bytes → shape_in d ≡ shape_in start
+unfolding IsOfTurns walk
+scan-shape start d scan bytes header g =
+    let new : Decoding = record {
+      source = known_if g.k g.at;
+      stage = Failed;
+      found = record d.found { kept = []; planes = replicate 4 None; samples = replicate 4 None };
+      settings = d.settings;
+      exceeded = false;
+    } in
+    let refused = g.leads (Err errors.OutOfMemory) new [] (record {
+      gives = record { whole = tt; reads = (refl, λ k l. tt, λ k l. let n : false ≡ true = sym l ∙ k in absurd cc) };
+      tells = λ k l. tt;
+      turns = λ k. (0, refl);
+      exceeds = λ k l. tt;
+      given = λ k. record { rows = 0; are = inl (refl, refl); no_more = λ l. inl refl };
+    }) (subst (λ (s : Progress). MovesToEnd {X = Unit {0}} s Failed (Err errors.OutOfMemory)) (sym header) (refl, tt))
+    refl refl (refl, refl, refl) in
+    rows-shape start new (Err errors.OutOfMemory) [] header refused
+
+-- After a header it stays while lines are given.
+given-shape : (start d : Decoding) (left : Ahead) (bytes : List ℕ) → start.stage ≡ HeaderRead
+    → AreGiven start bytes d left → shape_in d ≡ shape_in start
+given-shape start d ahead.Start bytes header g = ap (λ (s : Decoding). shape_in s) g.0
+given-shape start d (ahead.Scan rows) bytes header g = scan-shape start d rows bytes header g
+given-shape start d (ahead.Lines shown) bytes header g =
+    rows-shape start d (Ok tt) (bytes ++ concat shown.left) header g
+given-shape start d ahead.End bytes header g = absurd g
+
+whole-lines : (shape : Option Shape) (line : ℕ) (bytes : List ℕ) → option_map line_bytes shape ≡ Some line
+    → AreWholeLines shape bytes → AreOfLines line (length bytes)
+whole-lines None line bytes e are = absurd (cc)
+whole-lines (Some s) line bytes e are =
+    let is : line_bytes s ≡ line = cc in (are.0, are.1 ∙ ap (λ n. are.0 * n) is)
+
 -- ---- a reading
 
--- Where nothing is left of the lines that are there, all that were given were taken.
-pub all-taken : (start : Decoding) (bytes : List ℕ) (r : RowReader) → length (lines_in r.rows.ahead) ≤ r.taken
+-- Whole lines of which less than a line is left were all taken.
+none-left : (all taken line bytes : ℕ) → bytes ≡ all * line → bytes < taken * line + line → bytes ≤ taken * line
+none-left all taken line bytes e short = go (cases_lt taken all)
+  where
+    go : (taken < all) ⊎ (all ≤ taken) → bytes ≤ taken * line
+    go (inl more) =
+        let k : (taken + 1) * line ≤ all * line = mul-le-mul_right line (omega (arith, more)) in
+        absurd (omega (arith, e, short, k, add-mul taken 1 line))
+    go (inr most) = let k : all * line ≤ taken * line = mul-le-mul_right line most in omega (arith, e, k)
+
+-- Where no line is left of the lines that are there, all that were given were taken.
+pub all-taken : (start : Decoding) (bytes : List ℕ) (r : RowReader)
+    → length (lines_in r.rows.ahead) < r.taken + r.line_bytes
     → AreTaken start bytes r → AreGiven start bytes r.rows.decoder r.rows.ahead
 all-taken start bytes r short t =
+    let lines = lines_in r.rows.ahead in
+    let low : length lines < t.whole.0 * r.line_bytes + r.line_bytes =
+    subst (λ n. length lines < n + r.line_bytes) t.whole.1 short in
+    let none : length lines ≤ r.taken = subst (λ n. length lines ≤ n) (sym t.whole.1)
+    (none-left t.there.0 t.whole.0 r.line_bytes (length lines) t.there.1 low) in
     subst (λ (b : List ℕ). AreGiven start b r.rows.decoder r.rows.ahead)
-    (t.taken ∙ (ap (λ (l : List ℕ). bytes ++ l) (drop_all r.taken (lines_in r.rows.ahead) short) ∙ append-nil bytes))
+    (t.taken ∙ (ap (λ (l : List ℕ). bytes ++ l) (drop_all r.taken lines none) ∙ append-nil bytes))
     t.are
 
-pub next-read : (start : Decoding) (bytes : List ℕ) (result : Result Bool Error) (new : RowsState)
-    (line_bytes answer : ℕ) → GivesNext start bytes result new
+pub next-read : (start : Decoding) (bytes : List ℕ) (result : Result Bool Error) (old : RowReader) (new : RowsState)
+    → AreTaken start bytes old → GivesNext start bytes result new
+    → IfOk result (λ _. AreWholeLines (shape_in new.decoder) (lines_in new.ahead))
     → ReachesLine start bytes result
-    (record { rows = new; taken = 0; line_bytes = line_bytes; answer = answer })
-next-read start bytes (Ok true) new line_bytes answer h =
-    record { given = bytes ++ lines_in new.ahead; are = h; taken = refl }
-next-read start bytes (Ok false) new line_bytes answer h = h
-next-read start bytes (Err e) new line_bytes answer h = λ _. h
+    (record { rows = new; taken = 0; line_bytes = old.line_bytes; answer = old.answer })
+next-read start bytes (Ok true) old new t h whole = record {
+  given = bytes ++ lines_in new.ahead;
+  are = h;
+  taken = refl;
+  stage = t.stage;
+  line = t.line;
+  there = whole-lines (shape_in new.decoder) old.line_bytes (lines_in new.ahead)
+      (ap (λ (s : Option Shape). option_map line_bytes s)
+      (given-shape start new.decoder new.ahead (bytes ++ lines_in new.ahead) t.stage h) ∙ t.line)
+      whole;
+  whole = (0, omega arith);
+}
+next-read start bytes (Ok false) old new t h whole = h
+next-read start bytes (Err e) old new t h whole = h
 
 -- What was taken before some readings was taken after them.
 pub record KeepsTaken (old new : RowReader) : Type 0 where
@@ -86,6 +171,10 @@ puts-line old before piece there room is =
         are = t.are;
         taken = t.taken ∙ (ap (λ (l : List ℕ). bytes ++ l) parts
             ∙ sym (append_assoc bytes (take old.line_bytes (piece ++ rest)) (drop (old.taken + old.line_bytes) lines)));
+        stage = t.stage;
+        line = t.line;
+        there = t.there;
+        whole = (t.whole.0 + 1, omega (arith, t.whole.1, add-mul t.whole.0 1 old.line_bytes));
       };
       rest = drop-append-le old.line_bytes piece rest (omega (arith, all))
           ∙ ap (λ (l : List ℕ). l ++ rest) (drop_all old.line_bytes piece (omega (arith, all)));
@@ -120,7 +209,7 @@ refused old new line error refusal code going room stands is h = record {
     refusal = refusal;
     stands = stands;
     is = is;
-    decodes = λ own start bytes t. h start bytes t own;
+    decodes = h;
     answer = refl;
     kept = refl;
   }));

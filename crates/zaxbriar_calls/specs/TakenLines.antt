@@ -1,15 +1,17 @@
 -- What the calls do that give the lines of a picture one by one, as its stream is read.
-use Rattle.std.specs.Prelude.{◌≡◌, ◌⊎◌, ◌++◌, ◌<◌, ◌≤◌, ◌&&◌, ◌==◌, ℕ, Bool, List, []}
-use Rattle.std.specs.Prelude.{Box, Result, Ok, Err, drop, false, length, not, take, true}
+use Rattle.std.specs.Prelude.{◌≡◌, ◌⊎◌, ◌++◌, ◌<◌, ◌≤◌, ◌&&◌, ◌==◌, ◌*◌, ℕ, Bool, List, []}
+use Rattle.std.specs.Prelude.{Box, Result, Ok, Err, drop, false, length, not, option_map, take}
+use Rattle.std.specs.Prelude.{true}
 use Rattle.std.specs.Option.{MatchOption}
 use Rattle.std.specs.declared.alloc.Global.{Global}
 use Rattle.std.specs.declared.option.Option.{Option}
 use Rattle.std.specs.declared.option.Option.TheVariants.{None, Some}
 use Rattle.jpeg_bits.specs.declared.error.Error.{Error}
-use Rattle.jpeg_bits.specs.declared.error.Error.TheVariants as errors
+use Rattle.jpeg_decoder.specs.Bytes.{line_bytes, shape_in}
 use Rattle.jpeg_decoder.specs.DecodesRows.{DecodesRows}
 use Rattle.jpeg_decoder.specs.Rows.{AreGiven, lines_in}
 use Rattle.jpeg_meaning.specs.States.{Decoding}
+use Rattle.jpeg_meaning.specs.declared.progress.Progress.TheVariants.{HeaderRead}
 use Rattle.zaxbriar_calls.specs.Boxed.{is_fitted}
 use Rattle.zaxbriar_calls.specs.Crops.{is_cropped}
 use Rattle.zaxbriar_calls.specs.Faults.{StandsFor, fault_code, with_passes}
@@ -30,16 +32,20 @@ is_plain o = o.stride == 0 && (o.layout == 0 && (o.bottom_up == 0 && (o.upright 
 abbrev pub are_for_rows : Options → Bool
 are_for_rows o = are_known o && is_plain o
 
--- Lines are given of what lay ahead of a decoder, and these bytes of them were taken so far.
+-- This many bytes are those of whole lines, each of so many.
+abbrev pub AreOfLines : ℕ → ℕ → Type 0
+AreOfLines line_bytes bytes = (count : ℕ) × (bytes ≡ count * line_bytes)
+
+-- Lines are given of what lay ahead of a decoder after its header, and these bytes of them were
+-- taken so far: whole lines, each of the bytes of a line of its picture.
 pub record AreTaken (start : Decoding) (bytes : List ℕ) (r : RowReader) : Type 0 where
   pub given : List ℕ
   pub are : AreGiven start given r.rows.decoder r.rows.ahead
   pub taken : given ≡ bytes ++ drop r.taken (lines_in r.rows.ahead)
-
--- Memory isn't to blame for an error.
-abbrev pub IsOfStream : Error → Type 0
-IsOfStream errors.OutOfMemory = ⊥
-IsOfStream e = Unit {0}
+  pub stage : start.stage ≡ HeaderRead
+  pub line : option_map line_bytes (shape_in start) ≡ Some r.line_bytes
+  pub there : AreOfLines r.line_bytes (length (lines_in r.rows.ahead))
+  pub whole : AreOfLines r.line_bytes r.taken
 
 -- A reader whose header was read: the lines of its picture lie ahead.
 pub record BeginsRows (o : Options) (bytes : List ℕ) (picture : Picture) (r : RowReader) : Type 0
@@ -56,8 +62,7 @@ pub record BeginsRows (o : Options) (bytes : List ℕ) (picture : Picture) (r : 
 abbrev pub ReachesLine : Decoding → List ℕ → Result Bool Error → RowReader → Type 0
 ReachesLine start bytes (Ok true) new = AreTaken start bytes new
 ReachesLine start bytes (Ok false) new = DecodesRows start (Ok tt) new.rows.decoder bytes
-ReachesLine start bytes (Err e) new =
-    IsOfStream e → DecodesRows start (Err e) new.rows.decoder bytes
+ReachesLine start bytes (Err e) new = DecodesRows start (Err e) new.rows.decoder bytes
 
 -- A line was written before what the caller's memory had after it, and was taken.
 pub record PutsLine (old new : RowReader) (before after : List ℕ) : Type 0 where
@@ -82,14 +87,13 @@ pub record EndsLines (old new : RowReader) (before after : List ℕ) (code : ℕ
   pub answer : new.answer ≡ 11
   pub kept : after ≡ before
 
--- The stream was refused, after the lines that were taken: by an error that names its fault, unless
--- memory is to blame.
+-- The stream was refused, after the lines that were taken.
 pub record IsRefused (old new : RowReader) (before after : List ℕ) (code : ℕ) : Type 0 where
   pub error : Error
   pub refusal : Refusal
   pub stands : StandsFor error new.rows.decoder.source.failed refusal
   pub is : code ≡ with_passes new.rows.decoder.exceeded (fault_code refusal)
-  pub decodes : IsOfStream error → (start : Decoding) (bytes : List ℕ) → AreTaken start bytes old
+  pub decodes : (start : Decoding) (bytes : List ℕ) → AreTaken start bytes old
       → DecodesRows start (Err error) new.rows.decoder bytes
   pub answer : new.answer ≡ code
   pub kept : after ≡ before

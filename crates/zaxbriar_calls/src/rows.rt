@@ -1,9 +1,8 @@
 //! The lines of the picture of a stream in memory, one by one, as the stream is read.
 ghost use Rattle.std.specs.Prelude.{◌≡◌, ◌+◌, ◌<◌, ◌≤◌, ℕ, IfOk, List, Ok, false};
 ghost use Rattle.std.specs.Prelude.{length, true};
-ghost use Rattle.jpeg_decoder.specs.Rows.{lines_in};
+ghost use Rattle.jpeg_decoder.specs.Rows.{calls_left, lines_in};
 ghost use Rattle.jpeg_meaning.specs.States.{Decoding};
-ghost use Rattle.zaxbriar_calls.specs.Limits.{are_known};
 ghost use Rattle.zaxbriar_calls.specs.Meanings.{no_picture};
 ghost use Rattle.zaxbriar_calls.specs.Outcomes.{DescribesStream};
 ghost use Rattle.zaxbriar_calls.specs.TakenLines.{AreTaken, BeginsRows, PutsLine, ReachesLine};
@@ -58,7 +57,7 @@ fn begin_known(
     options: &Options,
     picture: &mut Picture,
 ) -> std::result::Result<RowReader, Refusal>
-    requires known { are_known options.now ≡ true }
+    requires known { are_for_rows options.now ≡ true }
     ensures described { DescribesStream options.now jpeg.now picture.old picture.new result }
     ensures begins { IfOk result (BeginsRows options.now jpeg.now picture.new) }
 {
@@ -84,7 +83,7 @@ pub fn begin(
     options: &Options,
     picture: &mut Picture,
 ) -> std::result::Result<Box<RowReader>, Refusal>
-    requires known { are_known options.now ≡ true }
+    requires known { are_for_rows options.now ≡ true }
     requires none { picture.old ≡ no_picture }
     ensures described { DescribesStream options.now jpeg.now no_picture picture.new result }
     ensures begins { IfOk result (λ b. BeginsRows options.now jpeg.now picture.new b.value) }
@@ -111,25 +110,18 @@ impl RowReader {
         self.taken <= bytes && self.line_bytes <= bytes - self.taken
     }
 
-    /// Returns whether all bytes were taken that were read.
-    fn is_empty(&self) -> bool
-        ensures all { result ≡ true → length (lines_in self.now.rows.ahead) ≤ self.now.taken }
-        ensures some { result ≡ false → self.now.taken < length (lines_in self.now.rows.ahead) }
-    {
-        self.rows.lines().len() <= self.taken
-    }
-
     /// Reads on, after all lines were taken that are there, and returns whether there may be more.
     fn read(&mut self) -> Result<bool>
+        requires none { length (lines_in self.old.rows.ahead)
+            < self.old.taken + self.old.line_bytes }
         ensures reaches { (start : Decoding) (bytes : List ℕ) → AreTaken start bytes self.old
             → ReachesLine start bytes result self.new }
+        ensures fewer { result ≡ Ok true
+            → calls_left self.new.rows.ahead < calls_left self.old.rows.ahead }
         ensures line_bytes { self.new.line_bytes ≡ self.old.line_bytes }
         ensures answer { self.new.answer ≡ self.old.answer }
     {
-        if !self.is_empty() {
-            // A part of a line is left. It never is: all lines are whole, and of one length.
-            return Err(Error::OutOfMemory);
-        }
+        // Lines are whole, and of one length: with no line, nothing is left.
         self.taken = 0;
         self.rows.read()
     }
@@ -143,16 +135,12 @@ impl RowReader {
         ensures line_bytes { self.new.line_bytes ≡ self.old.line_bytes }
         ensures answer { self.new.answer ≡ self.old.answer }
     {
-        for _ in 0..=u64::MAX {
-            if self.has_line() {
-                return Ok(true);
-            }
+        while !self.has_line() {
             if !self.read()? {
                 return Ok(false);
             }
         }
-        // Lines have an end.
-        Err(Error::OutOfMemory)
+        Ok(true)
     }
 
     /// Writes the next line, which is there.
