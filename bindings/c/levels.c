@@ -17,6 +17,7 @@ FOR_BOTH(find_metadata);
 FOR_BOTH(next_segment);
 FOR_BOTH(rows_new);
 FOR_BOTH(rows_next);
+FOR_BOTH(rows_refusal);
 FOR_BOTH(rows_free);
 
 uint32_t zaxbriar_checked_read_info(const uint8_t *jpeg, size_t jpeg_size,
@@ -88,6 +89,11 @@ uint32_t zaxbriar_checked_rows_new(const uint8_t *jpeg, size_t jpeg_size,
 uint32_t zaxbriar_checked_rows_next(zaxbriar_kept *kept, uint8_t *line, size_t line_size) {
     if (zaxbriar_is_v3()) return zaxbriar_v3_rows_next(kept, line, line_size);
     return zaxbriar_v2_rows_next(kept, line, line_size);
+}
+
+uint32_t zaxbriar_checked_rows_refusal(zaxbriar_kept *kept, zaxbriar_picture *picture) {
+    if (zaxbriar_is_v3()) return zaxbriar_v3_rows_refusal(kept, picture);
+    return zaxbriar_v2_rows_refusal(kept, picture);
 }
 
 void zaxbriar_checked_rows_free(zaxbriar_kept *kept) {

@@ -28,6 +28,7 @@ uint32_t zaxbriar_checked_rows_new(const uint8_t *jpeg, size_t jpeg_size,
                                    const zaxbriar_options *options, zaxbriar_kept *kept,
                                    zaxbriar_picture *picture);
 uint32_t zaxbriar_checked_rows_next(zaxbriar_kept *kept, uint8_t *line, size_t line_size);
+uint32_t zaxbriar_checked_rows_refusal(zaxbriar_kept *kept, zaxbriar_picture *picture);
 void zaxbriar_checked_rows_free(zaxbriar_kept *kept);
 
 uint32_t zaxbriar_checked_metadata(const uint8_t *jpeg, size_t jpeg_size, uint32_t kind,

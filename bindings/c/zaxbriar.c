@@ -234,6 +234,15 @@ zaxbriar_result zaxbriar_rows_next(zaxbriar_rows *rows, void *line, size_t line_
     return (zaxbriar_result)answer;
 }
 
+zaxbriar_result zaxbriar_rows_refusal(zaxbriar_rows *rows, zaxbriar_picture *picture) {
+    if (!picture) return ZAXBRIAR_BAD_ARGUMENT;
+    if (!rows) return bad_argument(picture, "rows is a null pointer");
+    const zaxbriar_memory *before = zaxbriar_exchange_memory(memory_in(rows));
+    uint32_t answer = zaxbriar_checked_rows_refusal(&rows->kept, picture);
+    zaxbriar_exchange_memory(before);
+    return (zaxbriar_result)answer;
+}
+
 void zaxbriar_rows_free(zaxbriar_rows *rows) {
     if (!rows) return;
     zaxbriar_memory memory = rows->memory;

@@ -69,11 +69,11 @@ typedef enum zaxbriar_result {
     ZAXBRIAR_TOO_LARGE = 8,    /* according to its header, the picture exceeds a limit */
     ZAXBRIAR_PARTIAL = 9,      /* only of zaxbriar_decode_partial: the stream has a fault, and
                                   `pixels` has what it brings up to it: picture.fault */
-    ZAXBRIAR_TOO_MANY_PASSES = 10, /* only of zaxbriar_decode, zaxbriar_decode_planes and
-                                      zaxbriar_rows_next: the scans code the blocks of the picture
-                                      more often than max_passes allows */
-    ZAXBRIAR_END = 11              /* only of zaxbriar_rows_next: there is no other line, and the
-                                      stream has no fault */
+    ZAXBRIAR_TOO_MANY_PASSES = 10, /* only of zaxbriar_decode, zaxbriar_decode_planes,
+                                      zaxbriar_rows_next and zaxbriar_rows_refusal: the scans code
+                                      the blocks of the picture more often than max_passes allows */
+    ZAXBRIAR_END = 11              /* only of zaxbriar_rows_next and zaxbriar_rows_refusal: there is
+                                      no other line, and the stream has no fault */
 } zaxbriar_result;
 
 /* How the pixels are arranged. Every picture can be decoded into every layout. In all but
@@ -459,14 +459,13 @@ ZAXBRIAR_CALL zaxbriar_result zaxbriar_decode_planes(const void *jpeg, size_t jp
  * that needs no whole picture in memory.
  *
  *     zaxbriar_rows *rows;
- *     zaxbriar_result answer = zaxbriar_rows_new(jpeg, jpeg_size, NULL, &rows, &picture);
- *     if (answer == ZAXBRIAR_OK) {
- *         while ((answer = zaxbriar_rows_next(rows, line, picture.row_bytes)) == ZAXBRIAR_OK)
- *             show(line);
- *         zaxbriar_rows_free(rows);
- *     }
- *     if (answer != ZAXBRIAR_END)
- *         fail(zaxbriar_answer_name(answer));
+ *     if (zaxbriar_rows_new(jpeg, jpeg_size, NULL, &rows, &picture) != ZAXBRIAR_OK)
+ *         fail(picture.text);
+ *     while (zaxbriar_rows_next(rows, line, picture.row_bytes) == ZAXBRIAR_OK)
+ *         show(line);
+ *     if (zaxbriar_rows_refusal(rows, &picture) != ZAXBRIAR_END)
+ *         fail(picture.text);
+ *     zaxbriar_rows_free(rows);
  *
  * If the first scan has all components of a sequential frame, as in most files, there are two rows
  * of MCUs in memory at most, whatever the height of the picture is. Other files (progressive,
@@ -478,8 +477,8 @@ ZAXBRIAR_CALL zaxbriar_result zaxbriar_decode_planes(const void *jpeg, size_t jp
 typedef struct zaxbriar_rows zaxbriar_rows;
 
 /* Describes the picture as zaxbriar_read_info does, and begins to give its lines. After ZAXBRIAR_OK
- * *rows is what the two calls below take, and otherwise a null pointer. `jpeg` has to stay, and its
- * bytes mustn't change, until zaxbriar_rows_free. `picture` may be null.
+ * *rows is what the three calls below take, and otherwise a null pointer. `jpeg` has to stay, and
+ * its bytes mustn't change, until zaxbriar_rows_free. `picture` may be null.
  *
  * Of the options, the scale (min_width, min_height and scale), the limits, `transform`, `memory`
  * and `places` count. The others arrange samples, and have to be zero: stride, layout, bottom_up,
@@ -494,7 +493,8 @@ ZAXBRIAR_CALL zaxbriar_result zaxbriar_rows_new(const void *jpeg, size_t jpeg_si
 /* Writes the next line: picture.row_bytes bytes, as zaxbriar_decode writes them. Returns
  * ZAXBRIAR_OK; or ZAXBRIAR_END after the last line, if the rest of the stream has no fault, either;
  * or ZAXBRIAR_NO_ROOM if line_size is less than picture.row_bytes, in which case the next call
- * gives the line; or why the stream is refused, as zaxbriar_decode does.
+ * gives the line; or why the stream is refused, as zaxbriar_decode does, of which
+ * zaxbriar_rows_refusal tells more.
  *
  * Only at its end is a stream known to have no fault. Lines that were written before a refusal are
  * those that the stream codes before its fault; a program that must not show a part of a damaged
@@ -506,6 +506,14 @@ ZAXBRIAR_CALL zaxbriar_result zaxbriar_rows_new(const void *jpeg, size_t jpeg_si
  * After ZAXBRIAR_END and a refusal each further call returns the same. */
 ZAXBRIAR_CALL zaxbriar_result zaxbriar_rows_next(zaxbriar_rows *rows, void *line,
                                                  size_t line_size);
+
+/* Tells why zaxbriar_rows_next has refused the stream: stores the text and the unsupported feature
+ * in picture.text, picture.feature and picture.feature_argument, as zaxbriar_decode does; where it
+ * hasn't, "" and 0. The other members of `picture` stay as they are, so that it may be the one of
+ * zaxbriar_rows_new. Returns what zaxbriar_rows_next returns from then on, ZAXBRIAR_END or the
+ * refusal; ZAXBRIAR_OK while there may be lines; or ZAXBRIAR_BAD_ARGUMENT for a null pointer. The
+ * call reads nothing of the stream, and can be made any number of times. */
+ZAXBRIAR_API zaxbriar_result zaxbriar_rows_refusal(zaxbriar_rows *rows, zaxbriar_picture *picture);
 
 /* Frees all memory of what zaxbriar_rows_new has returned, at any time between two calls. A null
  * pointer is ignored. */

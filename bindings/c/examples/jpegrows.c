@@ -74,12 +74,12 @@ int main(int argc, char **argv) {
     zaxbriar_rows *rows;
     zaxbriar_picture picture;
     zaxbriar_result answer = zaxbriar_rows_new(jpeg, size, NULL, &rows, &picture);
-    const char *fault = picture.text;
     if (answer == ZAXBRIAR_OK) {
         answer = write_lines(rows, &picture);
-        fault = zaxbriar_answer_name(answer);
         if (answer == ZAXBRIAR_END && fflush(stdout) != 0) answer = ZAXBRIAR_OK;
+        zaxbriar_rows_refusal(rows, &picture);
     }
+    const char *fault = picture.text[0] ? picture.text : zaxbriar_answer_name(answer);
     if (answer == ZAXBRIAR_OK)
         perror("jpegrows");
     else if (answer != ZAXBRIAR_END)

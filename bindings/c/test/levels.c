@@ -67,6 +67,9 @@ static uint32_t called(int of, uint32_t number, int right) {
     uint32_t zaxbriar_v##N##_rows_next(zaxbriar_kept *k, uint8_t *l, size_t m) {                   \
         return called(N, 10, k == &kept && l == bytes + 1 && m == 2);                              \
     }                                                                                              \
+    uint32_t zaxbriar_v##N##_rows_refusal(zaxbriar_kept *k, zaxbriar_picture *p) {                 \
+        return called(N, 12, k == &kept && p == &picture);                                         \
+    }                                                                                              \
     void zaxbriar_v##N##_rows_free(zaxbriar_kept *k) { called(N, 11, k == &kept); }
 
 CALLS_OF(2)
@@ -88,9 +91,10 @@ int main(void) {
               base + 8);
         CHECK(zaxbriar_checked_rows_new(bytes, 3, &options, &kept, &picture) == base + 9);
         CHECK(zaxbriar_checked_rows_next(&kept, bytes + 1, 2) == base + 10);
+        CHECK(zaxbriar_checked_rows_refusal(&kept, &picture) == base + 12);
         zaxbriar_checked_rows_free(&kept);
     }
-    CHECK(calls == 22);
+    CHECK(calls == 24);
     printf("levels: %d calls; %d faults\n", calls, faults);
     return faults != 0;
 }

@@ -83,6 +83,23 @@ static zaxbriar_result taken(zaxbriar_rows *rows, const struct whole *whole, lon
     return answer;
 }
 
+/* What is told of the lines is their last answer; of a refusal its text and its feature, and of any
+ * other nothing. All else of a picture stays. */
+static void is_told(zaxbriar_rows *rows, zaxbriar_result answer, const zaxbriar_picture *refused) {
+    static const char none[sizeof refused->text];
+    zaxbriar_picture picture, before;
+    memset(&picture, 0xa5, sizeof picture);
+    before = picture;
+    CHECK(zaxbriar_rows_refusal(rows, &picture) == answer);
+    CHECK(picture.feature == (refused ? refused->feature : 0));
+    CHECK(picture.feature_argument == (refused ? refused->feature_argument : 0));
+    CHECK(!memcmp(picture.text, refused ? refused->text : none, sizeof picture.text));
+    before.feature = picture.feature;
+    before.feature_argument = picture.feature_argument;
+    memcpy(before.text, picture.text, sizeof before.text);
+    CHECK(!memcmp(&picture, &before, sizeof picture));
+}
+
 /* The lines by some options are those of zaxbriar_decode, and so is the answer. */
 static void same(const zaxbriar_options *options) {
     struct whole whole = decoded(options);
@@ -100,7 +117,9 @@ static void same(const zaxbriar_options *options) {
         return;
     }
     long count;
+    is_told(rows, ZAXBRIAR_OK, NULL);
     answer = taken(rows, &whole, 65536, &count);
+    is_told(rows, answer, answer == ZAXBRIAR_END ? NULL : &whole.picture);
     if (whole.answer == ZAXBRIAR_OK) {
         CHECK(answer == ZAXBRIAR_END && count == (long)whole.picture.height);
     } else {
@@ -109,12 +128,15 @@ static void same(const zaxbriar_options *options) {
     }
     long more;
     CHECK(taken(rows, &whole, 1, &more) == answer && more == 0);
+    is_told(rows, answer, answer == ZAXBRIAR_END ? NULL : &whole.picture);
     zaxbriar_rows_free(rows);
     /* early */
     static const long counts[] = {0, 1, 2, 9};
     for (size_t i = 0; i < sizeof counts / sizeof *counts; i++) {
         CHECK(zaxbriar_rows_new(jpeg.start, jpeg.size, options, &rows, NULL) == ZAXBRIAR_OK);
-        (void)taken(rows, &whole, counts[i], &count);
+        answer = taken(rows, &whole, counts[i], &count);
+        is_told(rows, answer,
+                answer == ZAXBRIAR_OK || answer == ZAXBRIAR_END ? NULL : &whole.picture);
         zaxbriar_rows_free(rows);
     }
     free(whole.pixels);
@@ -264,10 +286,13 @@ static void arguments(void) {
     CHECK(zaxbriar_rows_new(NULL, 0, NULL, &rows, &picture) == ZAXBRIAR_TRUNCATED);
     CHECK(rows == NULL);
     CHECK(zaxbriar_rows_next(NULL, line, 4) == ZAXBRIAR_BAD_ARGUMENT);
+    CHECK(zaxbriar_rows_refusal(NULL, &picture) == ZAXBRIAR_BAD_ARGUMENT && picture.text[0]);
     zaxbriar_rows_free(NULL);
     if (zaxbriar_rows_new(jpeg.start, jpeg.size, NULL, &rows, &picture) == ZAXBRIAR_OK) {
         CHECK(zaxbriar_rows_next(rows, NULL, 4) == ZAXBRIAR_BAD_ARGUMENT);
         CHECK(zaxbriar_rows_next(rows, NULL, 0) == ZAXBRIAR_NO_ROOM);
+        CHECK(zaxbriar_rows_refusal(rows, NULL) == ZAXBRIAR_BAD_ARGUMENT);
+        is_told(rows, ZAXBRIAR_OK, NULL);
         zaxbriar_rows_free(rows);
     }
 }

@@ -537,7 +537,7 @@ export class Zaxbriar {
             const rows = view.getBigUint64(handle, true);
             const read = () => {
                 if (!isThere()) throw new Error('the memory of the decoder was given back');
-                return this.#nextRow(rows, line, rowBytes);
+                return this.#nextRow(rows, line, rowBytes, at);
             };
             const end = () => {
                 if (isThere()) this.#call('zaxbriar_rows_free', rows);
@@ -550,11 +550,15 @@ export class Zaxbriar {
         }
     }
 
-    /* The next line, outside the module's memory; null: there is none, and the stream is whole. */
-    #nextRow(rows, line, size) {
+    /* The next line, outside the module's memory; null: there is none, and the stream is whole. The
+     * picture at `at` is told of a refusal. */
+    #nextRow(rows, line, size, at) {
         const answer = this.#call('zaxbriar_rows_next', rows, BigInt(line), BigInt(size));
         if (answer === END) return null;
-        if (answer !== OK) throw this.#named(answer);
+        if (answer !== OK) {
+            this.#call('zaxbriar_rows_refusal', rows, BigInt(at));
+            throw this.#error(answer, at);
+        }
         return this.#bytes(line, size).slice();
     }
 

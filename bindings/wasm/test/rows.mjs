@@ -50,8 +50,10 @@ function compare(jpeg, options = {}) {
     assert.deepEqual(rows.next(), { value: undefined, done: true });
     assert.equal(rows.lines, lines.length);
     assert.equal(late?.code, refusal?.code);
+    assert.equal(late?.feature, refusal?.feature);
+    assert.equal(late?.featureArgument, refusal?.featureArgument);
     assert.equal(late?.lines, late ? lines.length : undefined);
-    if (late) assert.ok(late.message.endsWith(`, after ${lines.length} lines`));
+    if (late) assert.equal(late.message, `${refusal.message}, after ${lines.length} lines`);
     else assert.ok(Buffer.concat(lines).equals(Buffer.from(whole.pixels.buffer)));
 }
 

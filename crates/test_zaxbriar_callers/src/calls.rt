@@ -13,7 +13,7 @@ ghost use Rattle.zaxbriar_calls.specs.Metadata.{IsCopied, IsLonger, said_of};
 ghost use Rattle.zaxbriar_calls.specs.Passes.{exceeds};
 ghost use Rattle.zaxbriar_calls.specs.Places.{places_of};
 ghost use Rattle.zaxbriar_calls.specs.StreamSegments.{IsCut};
-ghost use Rattle.zaxbriar_calls.specs.TakenLines.{BeginsReading, TakesNext};
+ghost use Rattle.zaxbriar_calls.specs.TakenLines.{BeginsReading, TakesNext, TellsRefusal};
 ghost use Rattle.zaxbriar_calls.specs.declared.extents.Extent.TheVariants.{Whole, Partial};
 ghost use Rattle.zaxbriar_calls.specs.declared.extents.Extent.TheVariants.{Planes};
 
@@ -214,4 +214,11 @@ pub fn next_line(alloc: Global, kept: &mut Kept, line: &mut [u8]) -> u32
     ensures { TakesNext kept.old.value kept.new.value line.old line.new result }
 {
     calls::next_row(alloc, kept, line)
+}
+
+/// Calls `tell_refusal`, and says what a picture is told, and that the reader stays.
+pub fn told_refusal(alloc: Global, kept: &mut Kept, picture: &mut Picture) -> u32
+    ensures { TellsRefusal kept.old.value kept.new.value picture.old picture.new result }
+{
+    calls::tell_refusal(alloc, kept, picture)
 }

@@ -15,7 +15,7 @@ ghost use Rattle.zaxbriar_calls.specs.Fills.{Fills};
 ghost use Rattle.zaxbriar_calls.specs.FindsSegment.{FindsSegment};
 ghost use Rattle.zaxbriar_calls.specs.Places.{places_of};
 ghost use Rattle.zaxbriar_calls.specs.ReadsInfo.{ReadsInfo};
-ghost use Rattle.zaxbriar_calls.specs.TakenLines.{BeginsReading, TakesNext};
+ghost use Rattle.zaxbriar_calls.specs.TakenLines.{BeginsReading, TakesNext, TellsRefusal};
 ghost use Rattle.zaxbriar_calls.specs.declared.extents.Extent.TheVariants.{Whole, Partial};
 ghost use Rattle.zaxbriar_calls.specs.declared.extents.Extent.TheVariants.{Planes};
 
@@ -155,6 +155,19 @@ pub extern "C" fn zaxbriar_checked_rows_next(alloc: Global, kept: &mut Kept, lin
     ensures { TakesNext kept.old.value kept.new.value line.old line.new result }
 {
     calls::next_row(alloc, kept, line)
+}
+
+/// Writes why the stream of a reader was refused into a picture, whose other members stay: its text
+/// and the feature.
+#[unsafe(no_mangle)]
+pub extern "C" fn zaxbriar_checked_rows_refusal(
+    alloc: Global,
+    kept: &mut Kept,
+    picture: &mut Picture,
+) -> u32
+    ensures { TellsRefusal kept.old.value kept.new.value picture.old picture.new result }
+{
+    calls::tell_refusal(alloc, kept, picture)
 }
 
 /// Lets the reader go.

@@ -30,6 +30,7 @@ told-beside o bytes picture feature text r b = record {
   taken = b.taken;
   line_bytes = b.line_bytes;
   answer = b.answer;
+  reason = b.reason;
 }
 
 described-begun : (o : Options) (bytes : List ℕ) (picture : Picture) (begun : Result (Box RowReader Global) Refusal)

@@ -20,7 +20,7 @@ use Rattle.zaxbriar_calls.specs.Limits.{are_known}
 use Rattle.zaxbriar_calls.specs.Lines.{HasLines, row_bytes, stored_bytes, turn_given, turn_uncut}
 use Rattle.zaxbriar_calls.specs.Boxed.{turned_info}
 use Rattle.zaxbriar_calls.specs.Meanings.{ReadsHeader, found_at, size_wanted}
-use Rattle.zaxbriar_calls.specs.TakenLines.{AreTaken, are_for_rows, is_plain}
+use Rattle.zaxbriar_calls.specs.TakenLines.{AreTaken, are_for_rows, is_plain, no_reason}
 use Rattle.zaxbriar_calls.specs.declared.layouts.Conversion.{Conversion}
 use Rattle.zaxbriar_calls.specs.declared.layouts.Conversion.TheVariants.{Stored}
 use Rattle.zaxbriar_calls.specs.declared.lines.Lines.{Lines}
@@ -106,10 +106,11 @@ header-line o before start info precision orientation lines known source header 
 pub none-taken : (start : Decoding) (line : ℕ) (rows : RowsState)
     → rows ≡ record { decoder = start; ahead = ahead.Start } → start.stage ≡ HeaderRead
     → option_map line_bytes (shape_in start) ≡ Some line
-    → AreTaken rows.decoder [] (record { rows = rows; taken = 0; line_bytes = line; answer = 0 })
+    → AreTaken rows.decoder []
+    (record { rows = rows; taken = 0; line_bytes = line; answer = 0; reason = no_reason })
 none-taken start line rows is header e =
     subst (λ (s : RowsState). AreTaken s.decoder []
-    (record { rows = s; taken = 0; line_bytes = line; answer = 0 })) (sym is) (record {
+    (record { rows = s; taken = 0; line_bytes = line; answer = 0; reason = no_reason })) (sym is) (record {
       given = [];
       are = (refl, refl);
       taken = refl;

@@ -1,6 +1,7 @@
 -- Lines that are taken one by one: what each step leaves of those that were given.
-use Rattle.std.proofs.Common.{arith, ◌≡◌, ◌∙◌, ◌⊎◌, ◌+◌, ◌*◌, ◌<◌, ◌≤◌, ◌++◌, ℕ, Bool, List, [], Result, Ok, Err, true, false}
-use Rattle.std.proofs.Common.{Option, Some, None, add-mul, ap, append_assoc, drop, inl, inr, length, mul-le-mul_right, refl}
+use Rattle.std.proofs.Common.{arith, ◌≡◌, ◌∙◌, ◌⊎◌, ◌+◌, ◌*◌, ◌<◌, ◌≤◌, ◌++◌, ℕ, Bool, List, [], Result, Ok, Err}
+use Rattle.std.proofs.Common.{Option, Some, None, add-mul, ap, append_assoc, drop, false, inl, inr, length}
+use Rattle.std.proofs.Common.{mul-le-mul_right, refl, true}
 use Rattle.std.proofs.Common.{replicate, subst, sym, take}
 use Rattle.std.specs.List.{concat}
 use Rattle.std.specs.Prelude.{IfOk, option_map}
@@ -22,9 +23,8 @@ use Rattle.jpeg_meaning.specs.States.{Decoding, MovesToEnd}
 use Rattle.jpeg_meaning.specs.Stream.{walk}
 use Rattle.jpeg_meaning.specs.declared.progress.Progress.{Progress}
 use Rattle.jpeg_meaning.specs.declared.progress.Progress.TheVariants.{Failed, HeaderRead}
-use Rattle.zaxbriar_calls.specs.Faults.{StandsFor, fault_code, with_passes}
 use Rattle.zaxbriar_calls.specs.Outcomes.{DescribesStream}
-use Rattle.zaxbriar_calls.specs.TakenLines.{AreOfLines, AreTaken, PutsLine, ReachesLine, TakesLine}
+use Rattle.zaxbriar_calls.specs.TakenLines.{AreOfLines, AreTaken, PutsLine, ReachesLine, SaysWhy, TakesLine}
 use Rattle.zaxbriar_calls.specs.declared.answers.Refusal.{Refusal}
 use Rattle.zaxbriar_calls.specs.declared.options.Options.{Options}
 use Rattle.zaxbriar_calls.specs.declared.picture.Picture.{Picture}
@@ -103,7 +103,7 @@ pub next-read : (start : Decoding) (bytes : List ℕ) (result : Result Bool Erro
     → AreTaken start bytes old → GivesNext start bytes result new
     → IfOk result (λ _. AreWholeLines (shape_in new.decoder) (lines_in new.ahead))
     → ReachesLine start bytes result
-    (record { rows = new; taken = 0; line_bytes = old.line_bytes; answer = old.answer })
+    (record old { rows = new; taken = 0 })
 next-read start bytes (Ok true) old new t h whole = record {
   given = bytes ++ lines_in new.ahead;
   are = h;
@@ -124,9 +124,10 @@ pub record KeepsTaken (old new : RowReader) : Type 0 where
   pub taken : (start : Decoding) (bytes : List ℕ) → AreTaken start bytes old → AreTaken start bytes new
   pub line_bytes : new.line_bytes ≡ old.line_bytes
   pub answer : new.answer ≡ old.answer
+  pub reason : new.reason ≡ old.reason
 
 pub kept-at-first : (r : RowReader) → KeepsTaken r r
-kept-at-first r = record { taken = λ start bytes t. t; line_bytes = refl; answer = refl }
+kept-at-first r = record { taken = λ start bytes t. t; line_bytes = refl; answer = refl; reason = refl }
 
 ok-reached : (start : Decoding) (bytes : List ℕ) (more : Bool) (new : RowReader) → more ≡ true
     → ReachesLine start bytes (Ok more) new → AreTaken start bytes new
@@ -138,11 +139,12 @@ end-reached start bytes more new e h = subst (λ (b : Bool). ReachesLine start b
 
 pub kept-on : (first old new : RowReader) (more : Bool) → KeepsTaken first old → more ≡ true
     → ((start : Decoding) (bytes : List ℕ) → AreTaken start bytes old → ReachesLine start bytes (Ok more) new)
-    → new.line_bytes ≡ old.line_bytes → new.answer ≡ old.answer → KeepsTaken first new
-kept-on first old new more k e reaches bytes_same answer_same = record {
+    → new.line_bytes ≡ old.line_bytes → new.answer ≡ old.answer → new.reason ≡ old.reason → KeepsTaken first new
+kept-on first old new more k e reaches bytes_same answer_same reason_same = record {
   taken = λ start bytes t. ok-reached start bytes more new e (reaches start bytes (k.taken start bytes t));
   line_bytes = bytes_same ∙ k.line_bytes;
   answer = answer_same ∙ k.answer;
+  reason = reason_same ∙ k.reason;
 }
 
 -- ---- a line
@@ -180,37 +182,34 @@ puts-line old before piece there room is =
           ∙ ap (λ (l : List ℕ). l ++ rest) (drop_all old.line_bytes piece (omega (arith, all)));
       line_bytes = refl;
       answer = refl;
+      reason = refl;
     }
 
 -- ---- an answer
 
 pub ends : (old new : RowReader) (line : List ℕ) → old.answer ≡ 0 → old.line_bytes ≤ length line
     → ((start : Decoding) (bytes : List ℕ) → AreTaken start bytes old
-    → DecodesRows start (Ok tt) new.rows.decoder bytes)
+    → DecodesRows start (Ok tt) new.rows.decoder bytes) → new.reason ≡ old.reason
     → TakesLine old (record new { answer = 11 }) line line 11
-ends old new line going room h = record {
+ends old new line going room h same = record {
   over = λ n. absurd (n going);
   short = λ _ s. absurd (omega (arith, room, s));
-  takes = λ _ _. inr (inl (record { is = refl; decodes = h; answer = refl; kept = refl }));
+  takes = λ _ _. inr (inl (record { is = refl; decodes = h; answer = refl; reason = same; kept = refl }));
 }
 
-pub refused : (old new : RowReader) (line : List ℕ) (error : Error) (refusal : Refusal) (code : ℕ)
-    → old.answer ≡ 0 → old.line_bytes ≤ length line
-    → StandsFor error new.rows.decoder.source.failed refusal
-    → code ≡ with_passes new.rows.decoder.exceeded (fault_code refusal)
+pub refused : (old new last : RowReader) (line : List ℕ) (error : Error) (code : ℕ) → old.answer ≡ 0
+    → old.line_bytes ≤ length line → SaysWhy error code last → last.rows ≡ new.rows
     → ((start : Decoding) (bytes : List ℕ) → AreTaken start bytes old
     → ReachesLine start bytes (Err error) new)
-    → TakesLine old (record new { answer = code }) line line code
-refused old new line error refusal code going room stands is h = record {
+    → TakesLine old last line line code
+refused old new last line error code going room why same h = record {
   over = λ n. absurd (n going);
   short = λ _ s. absurd (omega (arith, room, s));
   takes = λ _ _. inr (inr (record {
     error = error;
-    refusal = refusal;
-    stands = stands;
-    is = is;
-    decodes = h;
-    answer = refl;
+    why = why;
+    decodes = λ start bytes t. subst (λ (s : RowsState). DecodesRows start (Err error) s.decoder bytes) (sym same)
+        (h start bytes t);
     kept = refl;
   }));
 }

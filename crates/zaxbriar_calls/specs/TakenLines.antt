@@ -1,7 +1,7 @@
 -- What the calls do that give the lines of a picture one by one, as its stream is read.
 use Rattle.std.specs.Prelude.{◌≡◌, ◌⊎◌, ◌++◌, ◌<◌, ◌≤◌, ◌&&◌, ◌==◌, ◌*◌, ℕ, Bool, List, []}
 use Rattle.std.specs.Prelude.{Box, Result, Ok, Err, drop, false, length, not, option_map, take}
-use Rattle.std.specs.Prelude.{true}
+use Rattle.std.specs.Prelude.{replicate, slice_index, true}
 use Rattle.std.specs.Option.{MatchOption}
 use Rattle.std.specs.declared.alloc.Global.{Global}
 use Rattle.std.specs.declared.option.Option.{Option}
@@ -15,12 +15,14 @@ use Rattle.jpeg_meaning.specs.declared.progress.Progress.TheVariants.{HeaderRead
 use Rattle.zaxbriar_calls.specs.Boxed.{is_fitted}
 use Rattle.zaxbriar_calls.specs.Crops.{is_cropped}
 use Rattle.zaxbriar_calls.specs.Faults.{StandsFor, fault_code, with_passes}
+use Rattle.zaxbriar_calls.specs.Features.{feature_of, numbered}
 use Rattle.zaxbriar_calls.specs.Limits.{are_known}
 use Rattle.zaxbriar_calls.specs.Meanings.{ReadsHeader, as_described, no_picture}
 use Rattle.zaxbriar_calls.specs.ReadsInfo.{ReadsInfo}
 use Rattle.zaxbriar_calls.specs.declared.answers.Refusal.{Refusal}
 use Rattle.zaxbriar_calls.specs.declared.options.Options.{Options}
 use Rattle.zaxbriar_calls.specs.declared.picture.Picture.{Picture}
+use Rattle.zaxbriar_calls.specs.declared.rows.Reason.{Reason}
 use Rattle.zaxbriar_calls.specs.declared.rows.RowReader.{RowReader}
 
 -- whether no option asks for another arrangement of samples than the decoder's
@@ -47,6 +49,10 @@ pub record AreTaken (start : Decoding) (bytes : List ℕ) (r : RowReader) : Type
   pub there : AreOfLines r.line_bytes (length (lines_in r.rows.ahead))
   pub whole : AreOfLines r.line_bytes r.taken
 
+-- Nothing was refused.
+abbrev pub no_reason : Reason
+no_reason = record { feature = numbered 0 0; text = replicate 112 0 }
+
 -- A reader whose header was read: the lines of its picture lie ahead.
 pub record BeginsRows (o : Options) (bytes : List ℕ) (picture : Picture) (r : RowReader) : Type 0
   where
@@ -57,6 +63,7 @@ pub record BeginsRows (o : Options) (bytes : List ℕ) (picture : Picture) (r : 
     pub taken : AreTaken r.rows.decoder [] r
     pub line_bytes : r.line_bytes ≡ picture.row_bytes
     pub answer : r.answer ≡ 0
+    pub reason : r.reason ≡ no_reason
 
 -- After these bytes were taken, a line may be there, none is left, or the stream was refused.
 abbrev pub ReachesLine : Decoding → List ℕ → Result Bool Error → RowReader → Type 0
@@ -71,6 +78,7 @@ pub record PutsLine (old new : RowReader) (before after : List ℕ) : Type 0 whe
   pub rest : drop old.line_bytes after ≡ drop old.line_bytes before
   pub line_bytes : new.line_bytes ≡ old.line_bytes
   pub answer : new.answer ≡ old.answer
+  pub reason : new.reason ≡ old.reason
 
 -- ---- the outcomes of a call
 
@@ -85,17 +93,25 @@ pub record EndsLines (old new : RowReader) (before after : List ℕ) (code : ℕ
   pub decodes : (start : Decoding) (bytes : List ℕ) → AreTaken start bytes old
       → DecodesRows start (Ok tt) new.rows.decoder bytes
   pub answer : new.answer ≡ 11
+  pub reason : new.reason ≡ old.reason
   pub kept : after ≡ before
+
+-- A reader has ended with the refusal for an error: it has its number, the feature that it names,
+-- and its text, which ends by a zero.
+pub record SaysWhy (error : Error) (code : ℕ) (r : RowReader) : Type 0 where
+  pub refusal : Refusal
+  pub stands : StandsFor error r.rows.decoder.source.failed refusal
+  pub is : code ≡ with_passes r.rows.decoder.exceeded (fault_code refusal)
+  pub answer : r.answer ≡ code
+  pub feature : r.reason.feature ≡ feature_of refusal
+  pub ended : slice_index r.reason.text 111 ≡ 0
 
 -- The stream was refused, after the lines that were taken.
 pub record IsRefused (old new : RowReader) (before after : List ℕ) (code : ℕ) : Type 0 where
   pub error : Error
-  pub refusal : Refusal
-  pub stands : StandsFor error new.rows.decoder.source.failed refusal
-  pub is : code ≡ with_passes new.rows.decoder.exceeded (fault_code refusal)
+  pub why : SaysWhy error code new
   pub decodes : (start : Decoding) (bytes : List ℕ) → AreTaken start bytes old
       → DecodesRows start (Err error) new.rows.decoder bytes
-  pub answer : new.answer ≡ code
   pub kept : after ≡ before
 
 -- nothing happened
@@ -132,3 +148,18 @@ abbrev pub TakesNext : Option RowReader → Option RowReader → List ℕ → Li
 TakesNext old new before after code =
     MatchOption old ((new ≡ None) × (after ≡ before) × (code ≡ 6))
     (λ r. MatchOption new ⊥ (λ s. TakesLine r s before after code))
+
+-- a picture that says why a stream was refused, and is otherwise as it was
+abbrev pub telling : Reason → Picture → Picture
+telling reason picture = record picture {
+  feature = reason.feature.number;
+  feature_argument = reason.feature.argument;
+  text = reason.text;
+}
+
+-- A picture gets what the reader that is kept says of its refusal; the number is that with which it
+-- has ended, or 0 before. Where none is kept, it is BAD_ARGUMENT.
+abbrev pub TellsRefusal : Option RowReader → Option RowReader → Picture → Picture → ℕ → Type 0
+TellsRefusal old new before after code =
+    MatchOption old ((new ≡ None) × (after ≡ before) × (code ≡ 6))
+    (λ r. (new ≡ Some r) × (after ≡ telling r.reason before) × (code ≡ r.answer))

@@ -15,7 +15,7 @@ ghost use Rattle.zaxbriar_calls.specs.FindsSegment.{FindsSegment};
 ghost use Rattle.zaxbriar_calls.specs.Passes.{is_whole};
 ghost use Rattle.zaxbriar_calls.specs.Places.{places_of};
 ghost use Rattle.zaxbriar_calls.specs.ReadsInfo.{ReadsInfo};
-ghost use Rattle.zaxbriar_calls.specs.TakenLines.{BeginsReading, Keeps, TakesNext};
+ghost use Rattle.zaxbriar_calls.specs.TakenLines.{BeginsReading, Keeps, TakesNext, TellsRefusal};
 ghost use Rattle.zaxbriar_calls.specs.declared.extents.Extent.TheVariants.{Whole, Partial};
 ghost use Rattle.zaxbriar_calls.specs.declared.extents.Extent.TheVariants.{Planes};
 
@@ -262,7 +262,21 @@ pub fn next_row(alloc: Global, kept: &mut Kept, line: &mut [u8]) -> u32
     let Some(mut reader) = replace(kept, Kept::none(alloc)).into_box() else {
         return BAD_ARGUMENT;
     };
-    let code = reader.next_line(line);
+    let code = reader.next_line(alloc, line);
+    let _none = replace(kept, Kept::of(reader)).into_box();
+    code
+}
+
+/// Writes why the stream of the reader that is kept was refused into a picture, or nothing unless
+/// it was, and returns the number of that refusal, or END after the last line, or OK before. Where
+/// none is kept, it is BAD_ARGUMENT.
+pub fn tell_refusal(alloc: Global, kept: &mut Kept, picture: &mut Picture) -> u32
+    ensures { TellsRefusal kept.old.value kept.new.value picture.old picture.new result }
+{
+    let Some(reader) = replace(kept, Kept::none(alloc)).into_box() else {
+        return BAD_ARGUMENT;
+    };
+    let code = reader.tell_refusal(picture);
     let _none = replace(kept, Kept::of(reader)).into_box();
     code
 }

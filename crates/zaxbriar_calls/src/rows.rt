@@ -6,18 +6,38 @@ ghost use Rattle.jpeg_meaning.specs.States.{Decoding};
 ghost use Rattle.zaxbriar_calls.specs.Meanings.{no_picture};
 ghost use Rattle.zaxbriar_calls.specs.Outcomes.{DescribesStream};
 ghost use Rattle.zaxbriar_calls.specs.TakenLines.{AreTaken, BeginsRows, PutsLine, ReachesLine};
-ghost use Rattle.zaxbriar_calls.specs.TakenLines.{TakesLine, are_for_rows, is_plain};
+ghost use Rattle.zaxbriar_calls.specs.TakenLines.{SaysWhy, TakesLine, are_for_rows, is_plain};
+ghost use Rattle.zaxbriar_calls.specs.TakenLines.{telling};
 
-use crate::answers::{END, NO_ROOM, OK, Refusal, code_of, refusal_of, with_passes};
+use crate::answers::{END, NO_ROOM, OK, Refusal, TEXT_BYTES, answer, refusal_of, with_passes};
 use crate::counts::bytes_read;
 use crate::decoders::decoder_of;
 use crate::density::density_of;
 use crate::description::describe;
+use crate::features::{Feature, outcome_feature};
 use crate::options::{Options, are_known, is_cropped, is_fitted};
 use crate::picture::{NO_PICTURE, Picture};
 use jpeg_decoder::error::{Error, Result};
 use jpeg_decoder::{Rows, SliceReader};
 use std::alloc::Global;
+
+/// What a caller is told of the refusal of a stream.
+#[derive(Clone, Copy)]
+pub struct Reason {
+    /// The feature that the stream lacks here, or none.
+    pub feature: Feature,
+    /// The text, ended by a zero.
+    pub text: [u8; TEXT_BYTES],
+}
+
+/// Nothing was refused.
+const NO_REASON: Reason = Reason {
+    feature: Feature {
+        number: 0,
+        argument: 0,
+    },
+    text: [0; TEXT_BYTES],
+};
 
 /// Gives the lines of a picture one by one.
 #[derive(Drop)]
@@ -30,6 +50,8 @@ pub struct RowReader {
     /// What each call returns from now on: the number of the end or of a refusal, or OK while lines
     /// may be left.
     answer: u32,
+    /// Why the stream was refused, if it was.
+    reason: Reason,
 }
 
 /// Returns whether no option asks for another arrangement of samples than the decoder's.
@@ -71,6 +93,7 @@ fn begin_known(
             taken: 0,
             line_bytes: lines.row_bytes as usize,
             answer: OK,
+            reason: NO_REASON,
         }),
         Err(refusal) => Err(refusal),
     }
@@ -120,6 +143,7 @@ impl RowReader {
             → calls_left self.new.rows.ahead < calls_left self.old.rows.ahead }
         ensures line_bytes { self.new.line_bytes ≡ self.old.line_bytes }
         ensures answer { self.new.answer ≡ self.old.answer }
+        ensures reason { self.new.reason ≡ self.old.reason }
     {
         // Lines are whole, and of one length: with no line, nothing is left.
         self.taken = 0;
@@ -134,6 +158,7 @@ impl RowReader {
             ≤ length (lines_in self.new.rows.ahead) }
         ensures line_bytes { self.new.line_bytes ≡ self.old.line_bytes }
         ensures answer { self.new.answer ≡ self.old.answer }
+        ensures reason { self.new.reason ≡ self.old.reason }
     {
         while !self.has_line() {
             if !self.read()? {
@@ -157,9 +182,26 @@ impl RowReader {
         self.taken = end;
     }
 
+    /// Ends with the refusal for an error, which the reader can tell from now on, and returns its
+    /// number.
+    fn refuse(&mut self, alloc: Global, error: Error) -> u32
+        ensures why { SaysWhy error result self.new }
+        ensures rows { self.new.rows ≡ self.old.rows }
+    {
+        let decoder = self.rows.decoder();
+        let exceeded = decoder.has_exceeded_max_blocks();
+        let refused: std::result::Result<(), Refusal> = Err(refusal_of(decoder, error));
+        let feature = outcome_feature(&refused);
+        let mut text = [0; TEXT_BYTES];
+        let code = with_passes(exceeded, answer(alloc, refused, &mut text));
+        self.reason = Reason { feature, text };
+        self.answer = code;
+        code
+    }
+
     /// Writes the next line, and returns OK; or returns END after the last, the number of a refusal
     /// of the stream, or NO_ROOM for too short a line, after which it is there still.
-    pub fn next_line(&mut self, line: &mut [u8]) -> u32
+    pub fn next_line(&mut self, alloc: Global, line: &mut [u8]) -> u32
         ensures { TakesLine self.old self.new line.old line.new result }
     {
         if self.answer != OK {
@@ -177,13 +219,19 @@ impl RowReader {
                 self.answer = END;
                 END
             }
-            Err(error) => {
-                let decoder = self.rows.decoder();
-                let exceeded = decoder.has_exceeded_max_blocks();
-                let code = with_passes(exceeded, code_of(&refusal_of(decoder, error)));
-                self.answer = code;
-                code
-            }
+            Err(error) => self.refuse(alloc, error),
         }
+    }
+
+    /// Writes why the stream was refused into a picture, or nothing unless it was, and returns what
+    /// each call returns from now on, or OK while lines may be left.
+    pub fn tell_refusal(&self, picture: &mut Picture) -> u32
+        ensures told { picture.new ≡ telling self.now.reason picture.old }
+        ensures answer { result ≡ self.now.answer }
+    {
+        picture.feature = self.reason.feature.number;
+        picture.feature_argument = self.reason.feature.argument;
+        picture.text = self.reason.text;
+        self.answer
     }
 }

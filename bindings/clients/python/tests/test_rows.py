@@ -51,6 +51,11 @@ def taken(data, **options):
     return found, None
 
 
+def told_by(error):
+    """What an exception says of its fault."""
+    return error.text, getattr(error, "feature", None), getattr(error, "feature_argument", 0)
+
+
 class Rows(unittest.TestCase):
     def check_answer(self, stream, answer):
         found, error = taken(stream, max_passes=0)
@@ -59,6 +64,7 @@ class Rows(unittest.TestCase):
             kind = next(kind for begin, kind in KINDS.items() if text.startswith(begin))
             count, *words = told.split()
             self.assertIs(type(error), kind)
+            self.assertTrue(error.text)
             self.assertIn(error.lines, (None, int(count)))
             self.assertEqual(len(found), int(count))
         else:
@@ -91,9 +97,11 @@ class Rows(unittest.TestCase):
         if error is None:
             self.assertEqual(b"".join(found), bytes(whole))
             self.assertEqual({len(row) for row in found}, {whole.info.row_bytes})
-        elif found:
+            return
+        self.assertEqual(told_by(error), told_by(refusal))
+        if found:
             self.assertEqual(error.lines, len(found))
-            self.assertEqual(str(error), f"{error.name}, after {len(found)} rows")
+            self.assertEqual(str(error), f"{error.text}, after {len(found)} rows")
 
     def test_are_those_of_decode(self):
         names = ("turned.jpg", "described.jpg", "264x256.jpg", "cut.jpg", "SOF9.jpg", "gif.gif")
@@ -121,7 +129,10 @@ class Rows(unittest.TestCase):
         self.assertEqual((raised.exception.lines, rows.lines), (264, 264))
         self.assertEqual(list(rows), [])
         made = pickle.loads(pickle.dumps(raised.exception))
-        self.assertEqual(str(made), "truncated stream, after 264 rows")
+        self.assertEqual(str(made), f"{made.text}, after 264 rows")
+        with self.assertRaises(zaxbriar.TruncatedError) as whole:
+            zaxbriar.decode(PHOTO[: len(PHOTO) // 2])
+        self.assertEqual(told_by(made), told_by(whole.exception))
 
     def test_take_the_options_that_arrange_nothing(self):
         names = ("layout", "stride", "bottom_up", "upright", "luma", "crop", "within", "out")

@@ -64,10 +64,12 @@ class Rows:
             if answer == library.OK:
                 self.lines += 1
                 return self._row.raw
+            told = library.Description()
+            library.rows_refusal(self._handle, ctypes.byref(told))
             self._finish()
         if answer == library.END:
             raise StopIteration
-        error = error_of(answer)
+        error = error_of(answer, told)
         error.lines = self.lines
         raise error
 

@@ -14,7 +14,7 @@ class Error(Exception):
     """Says why a stream or a call was refused: the class of all these exceptions."""
 
     answer = -1  # the number of zaxbriar.h
-    text: str  # what the library says of the fault, "" after metadata, segments and rows
+    text: str  # what the library says of the fault, "" after metadata and segments
     info: Info | None = None  # the picture, after TooLargeError and NoRoomError
     lines: int | None = None  # of an iterator over rows: how many were given before
 

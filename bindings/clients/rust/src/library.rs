@@ -3,11 +3,10 @@
 
 use crate::info::Area;
 use std::alloc::{alloc_zeroed, Layout};
-use std::ffi::CStr;
 use std::marker::PhantomData;
 use std::mem::{size_of, size_of_val};
 use std::ops::Range;
-use std::os::raw::{c_char, c_int, c_void};
+use std::os::raw::{c_int, c_void};
 use std::ptr::{self, NonNull};
 use std::slice;
 
@@ -336,9 +335,9 @@ extern "C" {
 
     fn zaxbriar_rows_next(rows: *mut KeptRows, line: *mut c_void, line_size: usize) -> c_int;
 
-    fn zaxbriar_rows_free(rows: *mut KeptRows);
+    fn zaxbriar_rows_refusal(rows: *mut KeptRows, picture: *mut Picture) -> c_int;
 
-    fn zaxbriar_answer_name(answer: c_int) -> *const c_char;
+    fn zaxbriar_rows_free(rows: *mut KeptRows);
 
     fn zaxbriar_metadata(
         jpeg: *const c_void,
@@ -497,11 +496,16 @@ impl<'a> Lines<'a> {
         match answer {
             OK => Ok(true),
             END => Ok(false),
-            TRUNCATED => Err(Refusal::Truncated),
-            NO_MEMORY => Err(Refusal::NoMemory),
-            MALFORMED | UNSUPPORTED | TOO_MANY_PASSES => Err(Refusal::Malformed(name_of(answer))),
-            _ => Err(Refusal::Call(name_of(answer))),
+            _ => Err(self.refusal(answer)),
         }
+    }
+
+    /// Returns why the stream is refused, after this answer of `next`.
+    fn refusal(&mut self, answer: c_int) -> Refusal {
+        let mut picture = Picture::NONE;
+        // SAFETY: `kept` is what `new` has got, and `picture` is borrowed to be written.
+        unsafe { zaxbriar_rows_refusal(self.kept.as_ptr(), &mut picture) };
+        refusal_of(answer, &picture).unwrap_or(Refusal::NoMemory)
     }
 }
 
@@ -510,13 +514,6 @@ impl Drop for Lines<'_> {
         // SAFETY: `kept` is what `new` has got, and nobody has it after this.
         unsafe { zaxbriar_rows_free(self.kept.as_ptr()) }
     }
-}
-
-/// Returns the library's name of an answer.
-fn name_of(answer: c_int) -> String {
-    // SAFETY: the call returns a text that stays.
-    let name = unsafe { CStr::from_ptr(zaxbriar_answer_name(answer)) };
-    name.to_string_lossy().into_owned()
 }
 
 /// What bytes have of the next segment.

@@ -168,12 +168,11 @@ fn partial_picture<R: Read>(decoder: &mut Decoder<R>) -> String {
     }
 }
 
-/// Returns the text of all rows, or of a refusal and the rows before it; none where the library
-/// names no feature, as it doesn't for rows yet.
-fn rows<R: Read>(decoder: &mut Decoder<R>) -> Option<String> {
+/// Returns the text of all rows, or of a refusal and the rows before it.
+fn rows<R: Read>(decoder: &mut Decoder<R>) -> String {
     let mut rows = match decoder.rows() {
         Ok(rows) => rows,
-        Err(error) => return Some(format!("{}, lines 0", refusal(&error, false))),
+        Err(error) => return format!("{}, lines 0", refusal(&error, false)),
     };
     let (info, row_bytes) = (rows.info(), rows.row_bytes());
     let mut given = Vec::new();
@@ -185,12 +184,11 @@ fn rows<R: Read>(decoder: &mut Decoder<R>) -> Option<String> {
         }
     };
     match outcome {
-        Ok(_) => Some(text_of(info, &given)),
-        Err(Error::Format(text)) if text == "unsupported feature" => None,
+        Ok(_) => text_of(info, &given),
         Err(error) => {
             let (text, count) = (refusal(&error, false), rows.rows_given());
             let words = words_of(&given, row_bytes / usize::from(info.width));
-            Some(format!("{text}, lines {count}{words}"))
+            format!("{text}, lines {count}{words}")
         }
     }
 }
@@ -267,10 +265,7 @@ fn answers_of(case: &Case<'_>, most: usize) -> Vec<String> {
                 continue;
             }
             ["rows"] if !asks_rows(&case.calls[..at]) => break,
-            ["rows"] => match rows(&mut decoder) {
-                Some(text) => text,
-                None => break,
-            },
+            ["rows"] => rows(&mut decoder),
             ["header"] => decoder
                 .read_info()
                 .map_or_else(|e| refusal(&e, false), |()| "ok".into()),

@@ -16,7 +16,8 @@ returns-in-Err-clause-described c =
     c.in-Err.is
     (stream-described c.args.options.now c.args.jpeg.now c.density_of-density.result c.in_ok-decoder.decoder
     c.describe-described.new.decoder c.args.picture.now c.describe-described.new.picture c.bytes_read-picture.result
-    c.describe-described.result (and_parts (are_known c.args.options.now) (is_plain c.args.options.now) c.requires.known).0 (record {
+    c.describe-described.result
+    (and_parts (are_known c.args.options.now) (is_plain c.args.options.now) c.requires.known).0 (record {
       source_known = known;
       source_bytes = same;
       reads = done.reads;
@@ -48,7 +49,8 @@ returns-in-Ok-clause-described c =
     described-ok c.args.options.now c.args.jpeg.now c.args.picture.now _ c.describe-described.result _ _ c.in-Ok.is
     (stream-described c.args.options.now c.args.jpeg.now c.density_of-density.result c.in_ok-decoder.decoder
     c.describe-described.new.decoder c.args.picture.now c.describe-described.new.picture c.bytes_read-picture.result
-    c.describe-described.result (and_parts (are_known c.args.options.now) (is_plain c.args.options.now) c.requires.known).0 (record {
+    c.describe-described.result
+    (and_parts (are_known c.args.options.now) (is_plain c.args.options.now) c.requires.known).0 (record {
       source_known = known;
       source_bytes = same;
       reads = done.reads;

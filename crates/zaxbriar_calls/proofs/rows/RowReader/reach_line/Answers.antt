@@ -18,6 +18,7 @@ pub loop-self-preserved : goal.loop-self-preserved
 loop-self-preserved c =
     kept-on c.args.self.now c.loop-self.self c.read.new.self c.in_ok-read.field-0 c.loop-self.invariant
     c.if-not-branch.false c.in_ok-read.ensures.reaches c.in_ok-read.ensures.line_bytes c.in_ok-read.ensures.answer
+    c.in_ok-read.ensures.reason
 
 pub returns-clause-reaches : goal.returns-clause-reaches
 returns-clause-reaches c start bytes t = c.loop-self.invariant.taken start bytes t
