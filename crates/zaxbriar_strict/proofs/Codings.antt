@@ -1,10 +1,16 @@
 -- The components of a scan and their tables, one after the other.
 use Rattle.std.proofs.Common.{◌≡◌, ℕ, zero, suc, ◌<◌, ◌≤◌, List, [], ◌∷◌, ◌++◌, length, get_or, refl}
 use Rattle.std.proofs.Common.{take, None, Some, sym, ap, ◌∙◌, ◌+◌, subst, arith}
-use Rattle.std.specs.Prelude.{slice_get, slice_index_or}
+use Rattle.std.specs.Prelude.{◌==◌, Bool, Option, false, nat_lt, slice_get, slice_index_or, true}
 use Rattle.std.proofs.lemmas.List.{take_more}
 use Rattle.std.specs.List.{AllByRecursion}
+use Rattle.jpeg_bits.specs.Codes.{Table}
+use Rattle.jpeg_bits.specs.Passes.{Pass}
+use Rattle.jpeg_bits.specs.declared.huffman.codes.HuffmanTableClass.{HuffmanTableClass}
+use Rattle.jpeg_bits.specs.declared.huffman.codes.HuffmanTableClass.TheVariants.{AC, DC}
 use Rattle.jpeg_segments.specs.Frame.{Frame as WrittenFrame}
+use Rattle.jpeg_meaning.specs.Scans.{no_table}
+use Rattle.jpeg_meaning.specs.WrittenScans.{IsTableAt}
 use Rattle.jpeg_meaning.specs.ScanSegments.{Coding}
 use Rattle.zaxbriar_strict.specs.Contexts.{IsInstalled}
 use Rattle.zaxbriar_strict.specs.Heads.{IsMade, members_of, written_frame}
@@ -26,50 +32,61 @@ one-item (y ∷ z ∷ more) d one = absurd (omega (arith, one))
 
 -- ---- their tables
 
-coded-more : (t : Tables) (f : WrittenFrame) (ms ns : List Member) (ks js : List Coding) → AreCodedBy t f ms ks
-    → AreCodedBy t f ns js → AreCodedBy t f (ms ++ ns) (ks ++ js)
+coded-more : (p : Pass) (t : Tables) (f : WrittenFrame) (ms ns : List Member) (ks js : List Coding) → AreCodedBy p t f ms ks
+    → AreCodedBy p t f ns js → AreCodedBy p t f (ms ++ ns) (ks ++ js)
 unfolding AreCodedBy
-coded-more t f [] ns [] js are more = more
-coded-more t f (m ∷ ms) ns (k ∷ ks) js are more = (are.0, coded-more t f ms ns ks js are.1 more)
-coded-more t f [] ns (k ∷ ks) js are more = absurd are
-coded-more t f (m ∷ ms) ns [] js are more = absurd are
+coded-more p t f [] ns [] js are more = more
+coded-more p t f (m ∷ ms) ns (k ∷ ks) js are more = (are.0, coded-more p t f ms ns ks js are.1 more)
+coded-more p t f [] ns (k ∷ ks) js are more = absurd are
+coded-more p t f (m ∷ ms) ns [] js are more = absurd are
 
-pub none-installed : (t : Tables) (f : WrittenFrame) → AreInstalled t f []
+pub none-installed : (p : Pass) (t : Tables) (f : WrittenFrame) → AreInstalled p t f []
 unfolding AreCodedBy
-none-installed t f = record { codings = []; are = tt }
+none-installed p t f = record { codings = []; are = tt }
 
-installed-more : (t : Tables) (f : WrittenFrame) (ms ns : List Member) → AreInstalled t f ms → AreInstalled t f ns
-    → AreInstalled t f (ms ++ ns)
-installed-more t f ms ns before more = record {
+installed-more : (p : Pass) (t : Tables) (f : WrittenFrame) (ms ns : List Member) → AreInstalled p t f ms → AreInstalled p t f ns
+    → AreInstalled p t f (ms ++ ns)
+installed-more p t f ms ns before more = record {
   codings = before.codings ++ more.codings;
-  are = coded-more t f ms ns before.codings more.codings before.are more.are;
+  are = coded-more p t f ms ns before.codings more.codings before.are more.are;
 }
+
+-- a table where it is needed
+table-at : (b : Bool) (class : HuffmanTableClass) (tables : List (Option Table)) (destination : ℕ)
+    → (b ≡ true → IsInstalled (slice_index_or tables destination None))
+    → (t : Table) × IsTableAt b class tables destination t
+table-at true class tables destination h = let i = h refl in (i.table, i.is)
+table-at false class tables destination h = (no_table class, refl)
 
 -- of one component, by its tables
-pub member-installed : (t : Tables) (f : Frame) (m : Member) (x : Component) → IsMade f
+pub member-installed : (p : Pass) (t : Tables) (f : Frame) (m : Member) (x : Component) → IsMade f
     → slice_get f.components.items m.component ≡ Some x → IsInstalled (slice_index_or (steps_of t) x.table None)
-    → IsInstalled (slice_index_or (codes_of t).dc m.dc None)
-    → IsInstalled (slice_index_or (codes_of t).ac m.ac None) → AreInstalled t (written_frame f) (m ∷ [])
+    → ((p.ss == 0) ≡ true → IsInstalled (slice_index_or (codes_of t).dc m.dc None))
+    → (nat_lt 0 p.se ≡ true → IsInstalled (slice_index_or (codes_of t).ac m.ac None))
+    → AreInstalled p t (written_frame f) (m ∷ [])
 unfolding AreCodedBy
-member-installed t f m x made at s d a = record {
-  codings = record {
-    index = m.component;
-    component = component_in f x;
-    quantization = s.table;
-    dc = d.table;
-    ac = a.table;
-  } ∷ [];
-  are = (
+member-installed p t f m x made at s dc ac =
+    let d = table-at (p.ss == 0) DC (codes_of t).dc m.dc dc in
+    let a = table-at (nat_lt 0 p.se) AC (codes_of t).ac m.ac ac in
     record {
-      index = λ i. m.component;
-      component = component-at f m.component x made at;
-      quantization = ap (λ (n : ℕ). slice_index_or (steps_of t) n None) (own-table f x) ∙ s.is;
-      dc = d.is;
-      ac = a.is;
-    },
-    tt,
-  );
-}
+      codings = record {
+        index = m.component;
+        component = component_in f x;
+        quantization = s.table;
+        dc = d.0;
+        ac = a.0;
+      } ∷ [];
+      are = (
+        record {
+          index = λ i. m.component;
+          component = component-at f m.component x made at;
+          quantization = ap (λ (n : ℕ). slice_index_or (steps_of t) n None) (own-table f x) ∙ s.is;
+          dc = d.1;
+          ac = a.1;
+        },
+        tt,
+      );
+    }
 
 -- ---- their places in the frame
 
@@ -100,13 +117,13 @@ member-in f s i has lt =
     }
 
 -- One more component of a scan has its tables: those of a frame that is kept.
-pub installed-next : (t : Tables) (f g : Frame) (s : Scan) (xs : List Member) (i : ℕ) → xs ≡ members_of s
-    → i < length xs → IsKept f g → IsMade f → HasMembers f s → AreInstalled t (written_frame f) (take i (members_of s))
+pub installed-next : (p : Pass) (t : Tables) (f g : Frame) (s : Scan) (xs : List Member) (i : ℕ) → xs ≡ members_of s
+    → i < length xs → IsKept f g → IsMade f → HasMembers f s → AreInstalled p t (written_frame f) (take i (members_of s))
     → (let m = get_or xs i no_member in
     IsMade g → m.component < length g.components.items → m.dc ≤ 3 → m.ac ≤ 3
-    → AreInstalled t (written_frame g) (m ∷ []))
-    → AreInstalled t (written_frame f) (take (i + 1) (members_of s))
-installed-next t f g s xs i e lt kept made has before next =
+    → AreInstalled p t (written_frame g) (m ∷ []))
+    → AreInstalled p t (written_frame f) (take (i + 1) (members_of s))
+installed-next p t f g s xs i e lt kept made has before next =
     let ms = members_of s in
     let m = get_or xs i no_member in
     let same : m ≡ get_or ms i no_member = ap (λ (l : List Member). get_or l i no_member) e in
@@ -115,11 +132,11 @@ installed-next t f g s xs i e lt kept made has before next =
     let within : m.component < length g.components.items = omega (arith, at.within, same-length kept.same) in
     let one = next (same-made kept.same made) within at.dc at.ac in
     let all =
-    installed-more t (written_frame f) (take i ms) (m ∷ []) before
-    (subst (λ (w : WrittenFrame). AreInstalled t w (m ∷ [])) (same-written kept.same) one) in
+    installed-more p t (written_frame f) (take i ms) (m ∷ []) before
+    (subst (λ (w : WrittenFrame). AreInstalled p t w (m ∷ [])) (same-written kept.same) one) in
     let more : take i ms ++ m ∷ [] ≡ take (i + 1) ms =
     ap (λ (k : Member). take i ms ++ k ∷ []) same ∙ sym (take_more ms i no_member short) in
-    subst (AreInstalled t (written_frame f)) more all
+    subst (AreInstalled p t (written_frame f)) more all
 
 -- A scan of one component has that one.
 pub scan-alone : (s : Scan) (xs : List Member) → xs ≡ members_of s → length xs ≡ 1

@@ -1,9 +1,9 @@
 -- The components of a frame, and their sizes and that of the frame, in blocks and in MCUs.
-use Rattle.std.proofs.Common.{◌≡◌, ℕ, zero, suc, ◌*◌, ◌<◌, ◌≤◌, true, List, [], ◌∷◌, ◌++◌, length, map, min, Some, refl}
+use Rattle.std.proofs.Common.{◌≡◌, ℕ, zero, suc, ◌+◌, ◌-◌, ◌*◌, ◌/◌, ◌<◌, ◌≤◌, true, List, [], ◌∷◌, ◌++◌, length, map, min, Some, refl}
 use Rattle.std.proofs.Common.{sym, ap, ap₂, ◌∙◌, subst, arith}
 use Rattle.std.specs.List.{AllByRecursion}
 use Rattle.std.specs.Prelude.{option_map, slice_get}
-use Rattle.std.proofs.Math.Nat.{mul-pos}
+use Rattle.std.proofs.Math.Nat.{div-le_self, mul-le-mul_right, mul-pos}
 use Rattle.std.proofs.lemmas.Bool.Decides.{nat_tests}
 use Rattle.std.proofs.lemmas.Grind.{common_steps}
 use Rattle.std.proofs.lemmas.List.{length-map}
@@ -101,6 +101,17 @@ factors-some number front (y ∷ xs) zero x are at =
     ((factor-bounds y.across are.0.across).0, (factor-bounds y.down are.0.down).0)
 factors-some number front (y ∷ xs) (suc i) x are at =
     factors-some number (front ++ factors_of y ∷ []) xs i x are.1 at
+
+factors-most : (number : ℕ) (front : List Factors) (xs : List Component) (i : ℕ) (x : Component)
+    → AreComponents number front (map factors_of xs) → slice_get xs i ≡ Some x → (x.across ≤ 4) × (x.down ≤ 4)
+unfolding AreComponents
+factors-most number front [] i x are at = absurd cc
+factors-most number front (y ∷ xs) zero x are at =
+    let same : y ≡ x = cc in
+    subst (λ (k : Component). (k.across ≤ 4) × (k.down ≤ 4)) same
+    ((factor-bounds y.across are.0.across).1, (factor-bounds y.down are.0.down).1)
+factors-most number front (y ∷ xs) (suc i) x are at =
+    factors-most number (front ++ factors_of y ∷ []) xs i x are.1 at
 
 -- ---- the size of a component in blocks
 
@@ -213,5 +224,49 @@ units-some f ms made within = go ms within
         let u = units-alone f (m ∷ []) m x.0 made refl x.1 in
         let some = own-some f m.component x.0 made x.1 in
         subst (λ (n : ℕ). 1 ≤ n) (ap₂ (λ (a b : ℕ). a * b) (sym u.1) (sym u.0)) some
+        )
+    go (m ∷ n ∷ more) all = several (m ∷ n ∷ more) (λ one. absurd (omega (arith, one)))
+
+-- ---- a scan has at most so many MCUs, across and down
+
+near-one : (length factor most n : ℕ) → length ≤ 65535 → factor ≤ 4 → most ≤ 4
+    → n ≡ ceiling (ceiling (length * factor) most) 8 → n ≤ 300000
+near-one length factor most n short few small e =
+    let p = mul-le-mul_right factor short in
+    let a = div-le_self (length * factor + (most - 1)) most in
+    let b = div-le_self (ceiling (length * factor) most + (8 - 1)) 8 in
+    omega (arith, p, few, small, a, b, e)
+
+near-all : (length most n : ℕ) → length ≤ 65535 → most ≤ 4 → n ≡ ceiling length (most * 8) → n ≤ 300000
+near-all length most n short small e =
+    let a = div-le_self (length + (most * 8 - 1)) (most * 8) in
+    omega (arith, short, small, a, e)
+
+pub units-near : (f : Frame) (ms : List Member) → IsMade f
+    → AllByRecursion (λ (m : Member). m.component < length f.components.items) ms
+    → (units_wide (written_frame f) ms ≤ 300000) × (units_high (written_frame f) ms ≤ 300000)
+units-near f ms made within = go ms within
+  where
+    several : (ns : List Member) → (length ns ≡ 1 → ⊥)
+        → (units_wide (written_frame f) ns ≤ 300000) × (units_high (written_frame f) ns ≤ 300000)
+    several ns ne = (
+        let u = units-several (written_frame f) ns ne in (
+          near-all f.width f.most_across _ made.wide (most-across f made).1 (u.0 ∙ sym (whole-wide f made)),
+          near-all f.height f.most_down _ made.high (most-down f made).1 (u.1 ∙ sym (whole-high f made)),
+        )
+        )
+
+    go : (ns : List Member) → AllByRecursion (λ (m : Member). m.component < length f.components.items) ns
+        → (units_wide (written_frame f) ns ≤ 300000) × (units_high (written_frame f) ns ≤ 300000)
+    go [] all = several [] (λ one. absurd (omega (arith, one)))
+    go (m ∷ []) all = (
+        let x = element f.components.items m.component all.0 in
+        let u = units-alone f (m ∷ []) m x.0 made refl x.1 in
+        let few = factors-most (number_of f.process) [] f.components.items m.component x.0 made.legal.components x.1 in (
+          near-one f.width x.0.across f.most_across _ made.wide few.0 (most-across f made).1
+              (u.0 ∙ sym (own-wide f x.0)),
+          near-one f.height x.0.down f.most_down _ made.high few.1 (most-down f made).1
+              (u.1 ∙ sym (own-high f x.0)),
+        )
         )
     go (m ∷ n ∷ more) all = several (m ∷ n ∷ more) (λ one. absurd (omega (arith, one)))

@@ -22,17 +22,19 @@ use Rattle.jpeg_meaning.proofs.Encoded.EncodedParts.{in-range}
 use Rattle.jpeg_meaning.proofs.Order.Apart.{all-from, at-got}
 use Rattle.zaxbriar_strict.specs.Exact.{HasLaterTables, IsUpTo, IsWritten, WritesSegments}
 use Rattle.zaxbriar_strict.specs.Exact.WritesSegments.{more, none}
+use Rattle.zaxbriar_strict.specs.Changes.{kept_in}
 use Rattle.zaxbriar_strict.specs.Heads.{IsMade, IsSequential, ReadsHeader, has_scans, header_of, members_of}
-use Rattle.zaxbriar_strict.specs.Heads.{scan_header_of, sent_with, written_frame}
+use Rattle.zaxbriar_strict.specs.Heads.{is_progressive_process, scan_header_of, sent_with, written_frame}
 use Rattle.zaxbriar_strict.specs.Installed.{codes_of, steps_of}
-use Rattle.zaxbriar_strict.specs.ScanData.{ReadsData, ReadsIfEight}
+use Rattle.zaxbriar_strict.specs.ScanData.{ReadsIfEight}
+use Rattle.zaxbriar_strict.specs.ScanData.Sends.{sends_all}
 use Rattle.zaxbriar_strict.specs.declared.frame.Frame.{Frame}
 use Rattle.zaxbriar_strict.specs.declared.scan.Scan.{Scan}
 use Rattle.zaxbriar_strict.specs.declared.tables.Tables.{Tables}
 use Rattle.zaxbriar_strict.proofs.LegalScans.{AreTabled, HasCoded, coded-at, coded-member, coded-rising, legal-scan}
 use Rattle.zaxbriar_strict.proofs.LegalScans.{leveled, tabled, whole-complete}
-use Rattle.zaxbriar_strict.proofs.SameFrames.{same-made, same-precision, same-sequential, same-written}
-use Rattle.zaxbriar_strict.proofs.ScanTurns.{array-in-range, scan-written, scan_array, zero-in-range}
+use Rattle.zaxbriar_strict.proofs.SameFrames.{plain-process, same-made, same-precision, same-sequential, same-written}
+use Rattle.zaxbriar_strict.proofs.ScanTurns.{SequentialData, array-in-range, scan-written, sequential-data, scan_array, zero-in-range}
 use Rattle.zaxbriar_strict.proofs.SentComponents.{AreLevels, level_of, sent-member, still-sent, unsent-member}
 use Rattle.zaxbriar_strict.proofs.SequentialHeaders.{has-members, pass-whole, process-is, same-members}
 use Rattle.zaxbriar_strict.proofs.SequentialHeaders.{sent-once}
@@ -217,7 +219,8 @@ joined-own sent array own index row column e =
 -- transform::read_scan did; `payload` are the bytes of the scan header.
 module _ (after at start rest payload : List ℕ) (fill : ℕ) (t : Tables) (old new : Frame) (s : Scan) (said : Said)
     (made : IsMade old) (sequential : IsSequential old) (eight : old.precision ≡ 8)
-    (sized : length s.members ≡ 4) (head : ReadsHeader payload s old new) (read : ReadsIfEight t new s start rest)
+    (sized : length s.members ≡ 4) (head : ReadsHeader payload s old new) (last : Frame)
+    (read : ReadsIfEight t new last s start rest)
     (steps : steps_of t ≡ said.quantization) (codes : codes_of t ≡ said.huffman) (interval : t.interval ≡ said.restart)
     (framed : said.frame ≡ Some (written_frame old))
     (parts : at ≡ marker fill 218 (with_length (scan_payload (scan_header_of old s)) ++ start))
@@ -234,10 +237,13 @@ module _ (after at start rest payload : List ℕ) (fill : ℕ) (t : Tables) (old
       let unsent = head.unsent (sent-once old sequential) in
       let final : Said = record said { scanned = true } in
       let members = has-members payload s old new (sent-once old sequential) sized head in
-      let r : ReadsData t frame ms start rest =
-      subst (λ (f : WrittenFrame). ReadsData t f ms start rest) (same-written head.same)
-      (read (same-made head.same made) (same-sequential head.same sequential) (same-precision head.same ∙ eight)
-      (same-members old new s head.same members)) in
+      let r : SequentialData t frame ms start rest =
+      subst (λ (f : WrittenFrame). SequentialData t f ms start rest) (same-written head.same)
+      (sequential-data (is_progressive_process new.process) t (written_frame new) ms
+      (kept_in new.components.items) (kept_in last.components.items) start rest
+      (plain-process new.process (same-sequential head.same sequential))
+      (read whole_pass (same-made head.same made) (sends_all (same-sequential head.same sequential) refl) (same-precision head.same ∙ eight)
+      (same-members old new s head.same members))) in
       let codings = r.installed.codings in
       let coded = r.installed.are in
       let has : HasCoded said frame h codings ms sent = record {
@@ -262,8 +268,8 @@ module _ (after at start rest payload : List ℕ) (fill : ℕ) (t : Tables) (old
             let before : Agrees sent p.array other = λ index e row column.
             agrees index (still-sent ms sent index e) row column
             ∙ joined-before sent p.array own index row column e in
-            let w : WritesScan frame t.interval whole_pass codings other r.data_bytes =
-            scan-written frame codings r.blocks other t.interval r.data_bytes (coded-fit t old ms codings made coded)
+            let w : WritesScan frame t.interval whole_pass codings other r.groups.data_bytes =
+            scan-written frame codings r.blocks other t.interval r.groups.data_bytes (coded-fit whole_pass t old ms codings made coded)
             (coded-rising t frame factors 0 ms codings coded legal.choices)
             (λ slot k here. coded-at t frame slot ms codings k coded here)
             (λ slot k here row column.
@@ -271,20 +277,20 @@ module _ (after at start rest payload : List ℕ) (fill : ℕ) (t : Tables) (old
             subst (λ (i : ℕ). other i row column ≡ own i row column) m.2
             (agrees m.0.component (sent-member ms sent slot m.0 m.1) row column
             ∙ joined-own sent p.array own m.0.component row column (unsent-member ms sent slot m.0 unsent m.1)))
-            r.counted r.in_range r.coded in
-            let sends : WritesImageScan other said p.levels frame h r.data_bytes next = record {
+            r.counted r.in_range r.groups.coded in
+            let sends : WritesImageScan other said p.levels frame h r.groups.data_bytes next = record {
               codings = codings;
               legal = legal-scan said frame h codings ms sent p.levels has p.leveled;
-              written = subst (λ (q : Pass). WritesScan frame said.restart q codings other r.data_bytes)
+              written = subst (λ (q : Pass). WritesScan frame said.restart q codings other r.groups.data_bytes)
                   (sym has.passes)
-                  (subst (λ (n : ℕ). WritesScan frame n whole_pass codings other r.data_bytes) interval w);
+                  (subst (λ (n : ℕ). WritesScan frame n whole_pass codings other r.groups.data_bytes) interval w);
               sent = refl;
             } in
             onward other (IsUpTo rest) at nothing_said said final (λ k. nothing_sent) p.levels next after
             (p.written other before)
             (subst (λ (l : List ℕ). WritesPart other (IsUpTo rest) said p.levels l final next)
-            (sym (parts ∙ ap (λ (l : List ℕ). marker fill 218 (with_length (scan_payload h) ++ l)) r.parts))
-            (scan said final p.levels next next frame fill h r.data_bytes rest framed legal sends
+            (sym (parts ∙ ap (λ (l : List ℕ). marker fill 218 (with_length (scan_payload h) ++ l)) r.groups.parts))
+            (scan said final p.levels next next frame fill h r.groups.data_bytes rest framed legal sends
             (end final next rest refl)));
         tabled = tabled t frame said steps ms codings sent coded p.tabled;
         unscanned = λ e. absurd (false≢true (sym e));

@@ -68,7 +68,7 @@ tables-kept said s d a dc ac h = kept-by said.metadata.avi1 s.dc_destinations s.
 -- ---- how its components are coded
 
 module _ (t : Tables) (frame : WrittenFrame) where
-  pub indices-are : (ms : List Member) (codings : List Coding) → AreCodedBy t frame ms codings
+  pub indices-are : (ms : List Member) (codings : List Coding) → AreCodedBy whole_pass t frame ms codings
       → map (λ (k : Coding). k.index) codings ≡ map (λ (m : Member). m.component) ms
   unfolding AreCodedBy
   indices-are [] [] coded = refl
@@ -78,7 +78,7 @@ module _ (t : Tables) (frame : WrittenFrame) where
       ap₂ (λ (x : ℕ) (l : List ℕ). x ∷ l) (sym coded.0.index) (indices-are ms codings coded.1)
 
   -- the component in a slot
-  pub coded-at : (slot : ℕ) (ms : List Member) (codings : List Coding) (k : Coding) → AreCodedBy t frame ms codings
+  pub coded-at : (slot : ℕ) (ms : List Member) (codings : List Coding) (k : Coding) → AreCodedBy whole_pass t frame ms codings
       → At slot codings k → slice_get frame.components k.index ≡ Some k.component
   unfolding AreCodedBy
   coded-at slot ms [] k coded here = absurd here
@@ -87,7 +87,7 @@ module _ (t : Tables) (frame : WrittenFrame) where
       subst (λ (c : Coding). slice_get frame.components c.index ≡ Some c.component) here coded.0.component
   coded-at (suc slot) (m ∷ ms) (j ∷ codings) k coded here = coded-at slot ms codings k coded.1 here
 
-  pub coded-member : (slot : ℕ) (ms : List Member) (codings : List Coding) (k : Coding) → AreCodedBy t frame ms codings
+  pub coded-member : (slot : ℕ) (ms : List Member) (codings : List Coding) (k : Coding) → AreCodedBy whole_pass t frame ms codings
       → At slot codings k → (m : Member) × (At slot ms m) × (m.component ≡ k.index)
   unfolding AreCodedBy
   coded-member slot ms [] k coded here = absurd here
@@ -98,7 +98,7 @@ module _ (t : Tables) (frame : WrittenFrame) where
 
   -- they stand in the order of the frame
   pub coded-rising : (factors : List Factors) (least : ℕ) (ms : List Member) (codings : List Coding)
-      → AreCodedBy t frame ms codings → AreChoices frame least (map (choice_of factors) ms) → AreRising least codings
+      → AreCodedBy whole_pass t frame ms codings → AreChoices frame least (map (choice_of factors) ms) → AreRising least codings
   unfolding AreCodedBy AreChoices AreRising
   coded-rising factors least [] [] coded all = tt
   coded-rising factors least [] (k ∷ codings) coded all = absurd coded
@@ -113,7 +113,7 @@ module _ (t : Tables) (frame : WrittenFrame) where
 
   module _ (said : Said) (steps : steps_of t ≡ said.quantization) where
     -- its components have quantization tables, as those that had scans before
-    pub tabled : (ms : List Member) (codings : List Coding) (sent : List Bool) → AreCodedBy t frame ms codings
+    pub tabled : (ms : List Member) (codings : List Coding) (sent : List Bool) → AreCodedBy whole_pass t frame ms codings
         → AreTabled said frame sent → AreTabled said frame (sent_with ms sent)
     unfolding AreCodedBy sent_with
     tabled [] [] sent coded before = before
@@ -135,7 +135,7 @@ module _ (t : Tables) (frame : WrittenFrame) where
 
     in-force : (now : CodeTables) → codes_of t ≡ said.huffman
         → ((d a : ℕ) (dc ac : Table) → AreKept said.huffman d a dc ac → AreKept now d a dc ac)
-        → (ms : List Member) (codings : List Coding) → AreCodedBy t frame ms codings
+        → (ms : List Member) (codings : List Coding) → AreCodedBy whole_pass t frame ms codings
         → AreInForce said frame whole_pass now (map slot_of ms) codings
     unfolding AreCodedBy AreInForce
     in-force now codes keeps [] [] coded = tt
@@ -172,7 +172,7 @@ whole-legal = record {
 }
 
 unsent-legal : (t : Tables) (frame : WrittenFrame) (ms : List Member) (codings : List Coding) (sent : List Bool)
-    (levels : ℕ → Levels) → AreCodedBy t frame ms codings → AreUnsent sent ms → AreLevels sent levels
+    (levels : ℕ → Levels) → AreCodedBy whole_pass t frame ms codings → AreUnsent sent ms → AreLevels sent levels
     → AllByRecursion (λ (c : Coding). IsLegal whole_pass (levels c.index)) codings
 unfolding AreCodedBy
 unsent-legal t frame [] [] sent levels coded unsent are = tt
@@ -196,7 +196,7 @@ pub record HasCoded (said : Said) (frame : WrittenFrame) (h : ScanHeader) (codin
     (sent : List Bool) : Type 0 where
   pub t : Tables
   pub factors : List Factors
-  pub coded : AreCodedBy t frame ms codings
+  pub coded : AreCodedBy whole_pass t frame ms codings
   pub unsent : AreUnsent sent ms
   pub steps : steps_of t ≡ said.quantization
   pub codes : codes_of t ≡ said.huffman

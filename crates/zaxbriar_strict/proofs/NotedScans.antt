@@ -3,7 +3,7 @@ use Rattle.std.proofs.Common.{◌≡◌, ◌≢◌, ℕ, zero, suc, ◌+◌, ◌
 use Rattle.std.proofs.Common.{length, map, set, get_or, take, refl, sym, ap, ◌∙◌, subst, arith}
 use Rattle.std.proofs.lemmas.List.{map-set, take_all, take_more}
 use Rattle.zaxbriar_strict.specs.Heads.{AreUnsent, IsLosslessFrame, IsSameFrame, IsSentOnce, IsSequential, factors_of}
-use Rattle.zaxbriar_strict.specs.Heads.{has_scans, members_of, number_of, sent_with}
+use Rattle.zaxbriar_strict.specs.Heads.{SendsPart, has_scans, is_progressive_process, members_of, number_of, sent_with}
 use Rattle.zaxbriar_strict.specs.Members.{HaveTables, NotesScan, Predicts, SendsAll, most_tables}
 use Rattle.zaxbriar_strict.specs.declared.frame.Component.{Component}
 use Rattle.zaxbriar_strict.specs.declared.frame.Frame.{Frame}
@@ -105,12 +105,14 @@ next-noted ms place d c next old middle new lt n o =
 -- all of them
 pub all-noted : (s : Scan) (ms : List Member) (place : ℕ) (old new : Frame) → ms ≡ members_of s → length ms ≤ place
     → NotesFirst (take place ms) old new → HaveTables (most_tables old.process) (members_of s)
-    → (IsSequential old → SendsAll s) → (IsLosslessFrame old → Predicts old.precision s) → NotesScan s old new
-all-noted s ms place old new are end n tables whole predicted =
+    → (IsSequential old → SendsAll s) → (is_progressive_process old.process ≡ true → SendsPart s)
+    → (IsLosslessFrame old → Predicts old.precision s) → NotesScan s old new
+all-noted s ms place old new are end n tables whole part predicted =
     let all = subst (λ (l : List Member). NotesFirst l old new) (take_all place ms end ∙ are) n in
     record {
       tables = tables;
       whole = whole;
+      part = part;
       predicted = predicted;
       same = all.same;
       unsent = all.unsent;

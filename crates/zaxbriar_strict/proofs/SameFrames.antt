@@ -1,14 +1,17 @@
 -- Frames whose header stays the same.
-use Rattle.std.proofs.Common.{◌≡◌, ℕ, zero, suc, ◌*◌, ◌≤◌, arith, List, [], ◌∷◌, ◌++◌, length, get_or, map, set, refl, sym, ap, ap₂}
-use Rattle.std.proofs.Common.{◌∙◌, subst}
+use Rattle.std.proofs.Common.{◌≡◌, ℕ, zero, suc, ◌*◌, ◌+◌, List, [], ◌∷◌, ◌++◌, length, get_or, map, set, refl, sym, ap, ap₂}
+use Rattle.std.proofs.Common.{◌∙◌, subst, arith, false, ◌≤◌}
 use Rattle.std.proofs.lemmas.List.{length-map}
 use Rattle.std.proofs.Math.Seq.{map-set_same}
-use Rattle.std.specs.Prelude.{◌==◌, if◌then◌else◌, replicate}
+use Rattle.std.specs.Prelude.{◌==◌, if◌then◌else◌, replicate, slice_get}
+use Rattle.std.specs.List.{flat_map, range_with_len}
 use Rattle.jpeg_bits.specs.Passes.{Via}
 use Rattle.jpeg_segments.specs.Frame.{Factors, greatest}
 use Rattle.jpeg_segments.specs.WrittenSegments.{FrameHeader, IsFrameHeader, frame_written}
-use Rattle.zaxbriar_strict.specs.Contexts.{blocks_at, unit_of}
-use Rattle.zaxbriar_strict.specs.Heads.{IsMade, IsSameFrame, IsSequential, factors_of, header_of, number_of, written_frame}
+use Rattle.zaxbriar_strict.specs.Contexts.{blocks_at, part_places, places_at, row_places, unit_of, unit_places}
+use Rattle.zaxbriar_strict.specs.Changes.{Kept, Place, block_of, kept_in, rows_of}
+use Rattle.zaxbriar_strict.specs.Heads.{IsMade, IsSameFrame, IsSequential, factors_of, header_of}
+use Rattle.zaxbriar_strict.specs.Heads.{is_progressive_process, number_of, written_frame}
 use Rattle.zaxbriar_strict.specs.Kept.{IsKept, IsKeptComponent}
 use Rattle.zaxbriar_strict.specs.declared.frame.Component.{Component}
 use Rattle.zaxbriar_strict.specs.declared.frame.Frame.{Frame}
@@ -65,10 +68,10 @@ not-sequential p e few = (let n = ap number_of e in omega (arith, n, few))
 -- ---- frames that are kept
 
 pub kept-none : (f : Frame) → IsKept f f
-kept-none f = record { same = same-none f; sent = refl }
+kept-none f = record { same = same-none f; sent = refl; lowest = refl }
 
 pub kept-then : {f g h : Frame} → IsKept f g → IsKept g h → IsKept f h
-kept-then a b = record { same = same-then a.same b.same; sent = b.sent ∙ a.sent }
+kept-then a b = record { same = same-then a.same b.same; sent = b.sent ∙ a.sent; lowest = b.lowest ∙ a.lowest }
 
 -- one of the components is another one, which is kept
 pub kept-item : (f g : Frame) (i : ℕ) (old new : Component) → old ≡ get_or f.components.items i old
@@ -80,7 +83,20 @@ kept-item f g i old new at k items process precision width height across down = 
   sent = ap (map (λ (c : Component). c.has_scan)) items
       ∙ map-set_same (λ (c : Component). c.has_scan) f.components.items i new old
       (k.sent ∙ ap (λ (c : Component). c.has_scan) at);
+  lowest = ap (map (λ (c : Component). c.lowest)) items
+      ∙ map-set_same (λ (c : Component). c.lowest) f.components.items i new old
+      (k.lowest ∙ ap (λ (c : Component). c.lowest) at);
 }
+
+-- the blocks that are kept are the same where a component's are
+pub rows-item : (xs ys : List Component) (i : ℕ) (old new : Component) → old ≡ get_or xs i old → new.rows ≡ old.rows
+    → ys ≡ set xs i new → map rows_of ys ≡ map rows_of xs
+rows-item xs ys i old new at same items =
+    ap (map rows_of) items
+    ∙ map-set_same rows_of xs i new old (ap (λ r. map (λ b. b.items) r.items) same ∙ ap rows_of at)
+
+pub same-kept : (xs ys : List Component) → map rows_of ys ≡ map rows_of xs → ◌≡◌ {A = Kept} (kept_in ys) (kept_in xs)
+same-kept xs ys e = λ i q. block_of (get_or (e i) q.index []) q.row q.column
 
 -- ---- their components
 
@@ -121,6 +137,53 @@ kept-unit count (m ∷ ms) (v ∷ vias) k =
     ap₂ (λ (n : ℕ) (rest : List Via). replicate n v ++ rest) (kept-blocks-at count k m.component)
     (kept-unit count ms vias k)
 
+-- the places of their blocks
+part-same : (count row column index : ℕ) (x y : Component) → factors_of y ≡ factors_of x
+    → part_places count row column index y ≡ part_places count row column index x
+unfolding part_places
+part-same count row column index x y e =
+    ap₂ (λ (v h : ℕ). if count == 1 then record { index = index; row = row; column = column } ∷ []
+    else flat_map (λ (below : ℕ). map (λ (beside : ℕ). record {
+      index = index;
+      row = row * v + below;
+      column = column * h + beside;
+    }) (range_with_len 0 h)) (range_with_len 0 v))
+    (ap (λ (c : Factors). c.vertical) e) (ap (λ (c : Factors). c.horizontal) e)
+
+places-at-same : (count row column index : ℕ) (xs ys : List Component) → map factors_of ys ≡ map factors_of xs
+    → (k : ℕ)
+    → places_at count row column index (slice_get ys k) ≡ places_at count row column index (slice_get xs k)
+unfolding places_at
+places-at-same count row column index [] [] e k = refl
+places-at-same count row column index [] (y ∷ ys) e k = absurd cc
+places-at-same count row column index (x ∷ xs) [] e k = absurd cc
+places-at-same count row column index (x ∷ xs) (y ∷ ys) e zero =
+    let first : factors_of y ≡ factors_of x = cc in
+    part-same count row column index x y first
+places-at-same count row column index (x ∷ xs) (y ∷ ys) e (suc k) =
+    let rest : map factors_of ys ≡ map factors_of xs = cc in
+    places-at-same count row column index xs ys rest k
+
+pub kept-places-at : {f g : Frame} (count row column index : ℕ) → IsKept f g
+    → places_at count row column index (slice_get g.components.items index)
+    ≡ places_at count row column index (slice_get f.components.items index)
+kept-places-at {f} {g} count row column index k =
+    places-at-same count row column index f.components.items g.components.items (same-factors k.same) index
+
+pub kept-places : {f g : Frame} (count : ℕ) (ms : List Member) (row column : ℕ) → IsKept f g
+    → unit_places count g.components.items ms row column ≡ unit_places count f.components.items ms row column
+unfolding unit_places
+kept-places count [] row column k = refl
+kept-places count (m ∷ ms) row column k =
+    ap₂ (λ (x y : List Place). x ++ y) (kept-places-at count row column m.component k)
+    (kept-places count ms row column k)
+
+pub kept-row-places : {f g : Frame} (count : ℕ) (ms : List Member) (row columns : ℕ) → IsKept f g
+    → row_places count g.components.items ms row columns ≡ row_places count f.components.items ms row columns
+kept-row-places {f} {g} count ms row columns k =
+    ap (λ (unit : ℕ → List Place). flat_map unit (range_with_len 0 columns))
+    (λ i column. kept-places count ms row column k i)
+
 -- ---- what their headers say
 
 pub same-made : {f g : Frame} → IsSameFrame f g → IsMade f → IsMade g
@@ -142,6 +205,12 @@ same-written {f} {g} s =
 
 pub same-precision : {f g : Frame} → IsSameFrame f g → g.precision ≡ f.precision
 same-precision s = ap (λ (h : FrameHeader). h.precision) s.header
+
+pub plain-process : (p : Process) → number_of p ≤ 1 → is_progressive_process p ≡ false
+plain-process Baseline h = refl
+plain-process Extended h = refl
+plain-process Progressive h = absurd (omega (arith, h))
+plain-process Lossless h = refl
 
 pub same-sequential : {f g : Frame} → IsSameFrame f g → IsSequential f → IsSequential g
 same-sequential {f} {g} s h = (let e = ap number_of s.process in rw e h)

@@ -142,6 +142,7 @@ reads-header bytes s old new t n made = record {
   counted = t.most;
   legal = legal-scan old s bytes new t n made;
   last = λ few. (n.whole few).last;
+  part = n.part;
   same = n.same;
   unsent = n.unsent;
   sent = n.sent;

@@ -1,5 +1,5 @@
 -- The blocks of a scan of some components of a frame, in an array and in the order of the scan (T.81, A.2).
-use Rattle.std.proofs.Common.{◌≡◌, ℕ, zero, suc, ◌+◌, ◌*◌, ◌/◌, ◌%◌, ◌^◌, ◌≤◌, ◌==◌, ◌&&◌, Bool, true, false}
+use Rattle.std.proofs.Common.{◌≡◌, ℕ, zero, suc, ◌+◌, ◌*◌, ◌/◌, ◌%◌, ◌^◌, ◌≤◌, ◌==◌, ◌&&◌, Bool, true, false, true≢false}
 use Rattle.std.proofs.Common.{List, [], ◌∷◌, length, map, get_or, replicate, refl, sym, ap, ap₂, ◌∙◌, subst}
 use Rattle.std.proofs.Common.{arith, inl, inr, ℤ, pos, negsuc, neg_ℤ, unsigned_abs, div-add-mod'}
 use Rattle.std.proofs.lemmas.Bool.{and_parts, eq-eqb, eqb-true, ne_eqb}
@@ -19,31 +19,15 @@ use Rattle.jpeg_meaning.specs.WrittenScans.{Coefficients, WritesScan}
 use Rattle.jpeg_meaning.proofs.Order.Apart.{At, get-at, spots-apart}
 use Rattle.jpeg_meaning.proofs.Order.FrameShapes.{frames-fit}
 use Rattle.jpeg_meaning.proofs.Pictures.LosslessSizes.{all-ranged}
+use Rattle.zaxbriar_strict.specs.Changes.{Kept, sent_by}
 use Rattle.zaxbriar_strict.specs.Heads.{IsMade, header_of, number_of, written_frame}
-use Rattle.zaxbriar_strict.specs.Runs.{WritesGroups, WritesWholeBlocks}
-use Rattle.zaxbriar_strict.specs.ScanData.{ways_of}
+use Rattle.zaxbriar_strict.specs.Runs.{AreGood, WritesGroups, WritesPassBlocks}
+use Rattle.zaxbriar_strict.specs.ScanData.{AreGroups, AreInstalled, ReadsData, ways_of}
+use Rattle.zaxbriar_strict.specs.declared.scan.Member.{Member}
+use Rattle.zaxbriar_strict.specs.declared.tables.Tables.{Tables}
 use Rattle.zaxbriar_strict.specs.declared.frame.Frame.{Frame}
 use Rattle.zaxbriar_strict.proofs.FrameComponents.{no_component}
-
--- ---- numbers at level 0
-
-over-one : (n : ℕ) → n / 2 ^ 0 ≡ n
-over-one n = omega arith
-
-floor-same : (u : ℤ) → floor_at 0 u ≡ u
-floor-same (pos n) = ap pos (over-one n)
-floor-same (negsuc n) = ap negsuc (over-one n)
-
-toward-same : (u : ℤ) → toward_zero 0 u ≡ u
-toward-same (pos n) = ap pos (over-one n)
-toward-same (negsuc n) = ap (λ (k : ℕ). neg_ℤ (pos k)) (over-one (suc n))
-
-acs-same : (us : List ℤ) → map (toward_zero 0) us ≡ us
-acs-same [] = refl
-acs-same (u ∷ us) = ap₂ (λ (x : ℤ) (l : List ℤ). x ∷ l) (toward-same u) (acs-same us)
-
-numbers-same : (b : Block) → numbers_at 0 b ≡ b
-numbers-same b = λ i. record { dc = floor-same b.dc i; acs = acs-same b.acs i }
+use Rattle.zaxbriar_strict.proofs.Numbers.{numbers-same}
 
 -- ---- blocks in range
 
@@ -59,6 +43,11 @@ zero-in-range = record {
   dc_high = omega (arith, ints);
   acs = all-replicate (λ (x : ℤ). unsigned_abs x ≤ 1023) 63 (pos 0) (omega (arith, ints));
 }
+
+all-map : {A B : Type 0} (P : B → Type 0) (f : A → B) (xs : List A) → AllByRecursion (λ (x : A). P (f x)) xs
+    → AllByRecursion P (map f xs)
+all-map P f [] all = tt
+all-map P f (x ∷ xs) all = (all.0, all-map P f xs all.1)
 
 -- ---- the block at a spot
 
@@ -198,7 +187,7 @@ pub scan-written : (frame : WrittenFrame) (codings : List Coding) (blocks : List
     → ((slot : ℕ) (k : Coding) → At slot codings k → slice_get frame.components k.index ≡ Some k.component)
     → HasBlocks array frame codings blocks
     → length blocks ≡ length (ways_of frame codings) → AllByRecursion Is8Bit blocks
-    → WritesGroups WritesWholeBlocks (restart * mcu_size (components_of codings)) 0 (zip (ways_of frame codings) blocks) bytes
+    → WritesGroups (WritesPassBlocks whole_pass) (restart * mcu_size (components_of codings)) 0 (zip (ways_of frame codings) blocks) bytes
     → WritesScan frame restart whole_pass codings array bytes
 unfolding turns_of
 scan-written frame codings blocks array restart bytes fits rising placed has counted in_range w =
@@ -224,8 +213,30 @@ scan-written frame codings blocks array restart bytes fits rising placed has cou
           ap₂ (λ (slot i : ℕ). sent (record { slot = slot; index = i })) (sym slot)
           (sym (ap (λ (c : Component). s.index / wide * c.blocks_wide + s.index % wide) component ∙ place))
           ∙ sym (has s.slot k here (s.index / wide) (s.index % wide));
-      coded = subst (λ (turns : List (Via × Block)). WritesGroups WritesWholeBlocks n 0 turns bytes) (sym turns) w;
+      coded = subst (λ (turns : List (Via × Block)). WritesGroups (WritesPassBlocks whole_pass) n 0 turns bytes) (sym turns) w;
     }
+
+-- What was read of a scan of a sequential frame.
+pub record SequentialData (t : Tables) (frame : WrittenFrame) (ms : List Member) (bytes rest : List ℕ) : Type 0 where
+  pub installed : AreInstalled whole_pass t frame ms
+  pub blocks : List Block
+  pub counted : length blocks ≡ length (ways_of frame installed.codings)
+  pub in_range : AllByRecursion Is8Bit blocks
+  pub groups : AreGroups whole_pass (t.interval * mcu_size (components_of installed.codings))
+      (zip (ways_of frame installed.codings) blocks) bytes rest
+
+pub sequential-data : (k : Bool) (t : Tables) (frame : WrittenFrame) (ms : List Member) (from to : Kept)
+    (bytes rest : List ℕ) → k ≡ false → ReadsData k whole_pass t frame ms from to bytes rest
+    → SequentialData t frame ms bytes rest
+unfolding AreGood
+sequential-data true t frame ms from to bytes rest e r = absurd (true≢false e)
+sequential-data false t frame ms from to bytes rest e r = record {
+  installed = r.installed;
+  blocks = map (sent_by whole_pass) r.changes;
+  counted = length-map r.changes (sent_by whole_pass) ∙ r.counted;
+  in_range = all-map Is8Bit (sent_by whole_pass) r.changes (r.changed.in_range refl);
+  groups = r.coded tt;
+}
 
 -- ---- frames that are read
 

@@ -3,9 +3,9 @@ use Rattle.std.proofs.Common.{◌≡◌, ℕ, ◌≤◌, Bool, true, List, [], �
 use Rattle.std.proofs.Common.{ℤ, pos, append_assoc, append-nil}
 use Rattle.std.proofs.lemmas.List.{length-replicate}
 use Rattle.jpeg_bits.specs.Codes.{Table}
-use Rattle.jpeg_bits.specs.Passes.{Block, Via, predictors_at_start, whole_pass}
+use Rattle.jpeg_bits.specs.Passes.{Block, Pass, Via, band_of, predictors_at_start, whole_pass}
 use Rattle.jpeg_bits.specs.Written.{WritesInterval, stuffed}
-use Rattle.jpeg_meaning.specs.WrittenData.{WritesBlocks}
+use Rattle.jpeg_meaning.specs.WrittenData.{WritesAc, WritesBlocks, WritesDc}
 use Rattle.jpeg_meaning.specs.WrittenData.WritesBlocks.{block, done}
 use Rattle.zaxbriar_strict.specs.Blocks.{WritesTurns, WritesWhole}
 use Rattle.zaxbriar_strict.specs.Data.{Data, IsFilling, Reads, data_at}
@@ -13,28 +13,38 @@ use Rattle.zaxbriar_strict.proofs.Taken.{takes-then}
 
 -- ---- blocks
 
-pub turns-none : (predictors : List ℤ) → WritesTurns predictors predictors [] []
-turns-none predictors more bits w = w
+pub turns-none : (p : Pass) (predictors : List ℤ) (run : ℕ) → WritesTurns p predictors run predictors run [] []
+turns-none p predictors run more bits w = w
 
-pub turns-then : {a b c : List ℤ} (first second : List (Via × Block)) (own more : List Bool) → WritesTurns a b first own
-    → WritesTurns b c second more → WritesTurns a c (first ++ second) (own ++ more)
+pub turns-then : {p : Pass} {a b c : List ℤ} {k m n : ℕ} (first second : List (Via × Block)) (own more : List Bool)
+    → WritesTurns p a k b m first own → WritesTurns p b m c n second more
+    → WritesTurns p a k c n (first ++ second) (own ++ more)
 turns-then first second own more f g rest bits w =
     rw (append_assoc first second rest, append_assoc own more bits) (f (second ++ rest) (more ++ bits) (g rest bits w))
 
--- the block of the component at a slot
+-- one block
+pub turn-by : (p : Pass) (via : Via) (u : Block) (predictors : List ℤ) (run left : ℕ) (next : ℤ) (dc ac : List Bool)
+    → WritesDc p via.dc u.dc (get_or predictors via.component (pos 0)) dc next
+    → WritesAc p via.ac (band_of p u.acs) run ac left
+    → WritesTurns p predictors run (set predictors via.component next) left ((via, u) ∷ []) (dc ++ ac)
+turn-by p via u predictors run left next dc ac d a more bits rest =
+    subst (λ (l : List Bool). WritesBlocks p predictors run ((via, u) ∷ more) l) (sym (append_assoc dc ac bits))
+    (block predictors run left via u more dc ac bits next d a rest)
+
+-- the block of the component at a slot of a sequential scan
 pub turn-one : (slot : ℕ) (dc ac : Table) (u : Block) (predictors : List ℤ) (own : List Bool)
     → WritesWhole dc ac u (get_or predictors slot (pos 0)) own
-    → WritesTurns predictors (set predictors slot u.dc) ((record { component = slot; dc = dc; ac = ac }, u) ∷ []) own
-turn-one slot dc ac u predictors own w more bits rest =
+    → WritesTurns whole_pass predictors 0 (set predictors slot u.dc) 0
+    ((record { component = slot; dc = dc; ac = ac }, u) ∷ []) own
+turn-one slot dc ac u predictors own w =
     let via : Via = record { component = slot; dc = dc; ac = ac } in
-    subst (λ (l : List Bool). WritesBlocks whole_pass predictors 0 ((via, u) ∷ more) l)
-    (sym (append_assoc w.dc_bits w.ac_bits bits) ∙ ap (λ (l : List Bool). l ++ bits) w.whole)
-    (block predictors 0 0 via u more w.dc_bits w.ac_bits bits u.dc w.writes_dc w.writes_ac rest)
+    subst (λ (l : List Bool). WritesTurns whole_pass predictors 0 (set predictors slot u.dc) 0 ((via, u) ∷ []) l) w.whole
+    (turn-by whole_pass via u predictors 0 0 u.dc w.dc_bits w.ac_bits w.writes_dc w.writes_ac)
 
 -- blocks up to the last
-pub turns-all : (before after : List ℤ) (turns : List (Via × Block)) (own : List Bool)
-    → WritesTurns before after turns own → WritesBlocks whole_pass before 0 turns own
-turns-all before after turns own f = rw (append-nil turns, append-nil own) at (f [] [] (done after))
+pub turns-all : (p : Pass) (before after : List ℤ) (turns : List (Via × Block)) (own : List Bool)
+    → WritesTurns p before 0 after 0 turns own → WritesBlocks p before 0 turns own
+turns-all p before after turns own f = rw (append-nil turns, append-nil own) at (f [] [] (done after))
 
 -- ---- an interval
 
@@ -64,9 +74,9 @@ interval-written writes bytes rest d r f =
     }
 
 -- Blocks that were read so.
-pub blocks-written : (after : List ℤ) (turns : List (Via × Block)) (bytes rest : List ℕ) (d : Data)
-    → Reads (WritesTurns predictors_at_start after turns) (data_at bytes) d → Reads IsFilling d (data_at rest)
-    → IsInterval (WritesBlocks whole_pass predictors_at_start 0 turns) bytes rest
-blocks-written after turns bytes rest d r f =
-    interval-written (WritesBlocks whole_pass predictors_at_start 0 turns) bytes rest d
-    (record { own = r.own; taken = r.taken; holds = turns-all predictors_at_start after turns r.own r.holds }) f
+pub blocks-written : (p : Pass) (after : List ℤ) (turns : List (Via × Block)) (bytes rest : List ℕ) (d : Data)
+    → Reads (WritesTurns p predictors_at_start 0 after 0 turns) (data_at bytes) d → Reads IsFilling d (data_at rest)
+    → IsInterval (WritesBlocks p predictors_at_start 0 turns) bytes rest
+blocks-written p after turns bytes rest d r f =
+    interval-written (WritesBlocks p predictors_at_start 0 turns) bytes rest d
+    (record { own = r.own; taken = r.taken; holds = turns-all p predictors_at_start after turns r.own r.holds }) f

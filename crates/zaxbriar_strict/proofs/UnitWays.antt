@@ -8,7 +8,7 @@ use Rattle.std.proofs.lemmas.List.Sums.{sum_by-cons}
 use Rattle.std.proofs.lemmas.Option.{get_or_from_slice_get, same_Some, slice_get_within}
 use Rattle.std.specs.List.{AllByRecursion, flat_map, range_with_len}
 use Rattle.std.specs.Prelude.{Some, if◌then◌else◌, slice_get, sum_by, zip}
-use Rattle.jpeg_bits.specs.Passes.{Via}
+use Rattle.jpeg_bits.specs.Passes.{Pass, Via}
 use Rattle.jpeg_segments.specs.Frame.{Component as WrittenComponent, Frame as WrittenFrame, component_of}
 use Rattle.jpeg_meaning.specs.InTurn.{Fits}
 use Rattle.jpeg_meaning.specs.declared.grids.Grid.{Grid}
@@ -17,11 +17,12 @@ use Rattle.jpeg_meaning.specs.Order.{spots_of}
 use Rattle.jpeg_meaning.specs.ScanSegments.{Coding, components_of, vias_from}
 use Rattle.jpeg_meaning.specs.Scans.{via_at}
 use Rattle.jpeg_meaning.proofs.Order.Apart.{At, at-all, at-got, get-at}
+use Rattle.zaxbriar_strict.specs.Changes.{Kept, Place}
 use Rattle.zaxbriar_strict.specs.Contexts.{AreWays, blocks_at, unit_of}
 use Rattle.zaxbriar_strict.specs.Heads.{IsMade, written_frame}
 use Rattle.zaxbriar_strict.specs.Members.{HaveTables}
-use Rattle.zaxbriar_strict.specs.Runs.{WritesGroups, WritesWholeBlocks, repeated}
-use Rattle.zaxbriar_strict.specs.ScanData.{AreCodedBy, AreInstalled, IsCodedBy, ReadsData, own_high_of, own_wide_of}
+use Rattle.zaxbriar_strict.specs.Runs.{repeated, turns_by}
+use Rattle.zaxbriar_strict.specs.ScanData.{AreCodedBy, AreGroups, AreInstalled, IsCodedBy, ReadsData, own_high_of, own_wide_of}
 use Rattle.zaxbriar_strict.specs.ScanData.{units_high, units_wide, ways_of}
 use Rattle.zaxbriar_strict.specs.declared.frame.Component.{Component}
 use Rattle.zaxbriar_strict.specs.declared.frame.Frame.{Frame}
@@ -86,37 +87,37 @@ mcu-some frame (k ∷ l ∷ more) some fits =
     omega (arith, n, r, blocks)
 
 -- the components of a scan are some of the frame's
-coded-components : (P : WrittenComponent → Type 0) (t : Tables) (frame : WrittenFrame) (ms : List Member)
-    (codings : List Coding) → AllByRecursion P frame.components → AreCodedBy t frame ms codings
+coded-components : (p : Pass) (P : WrittenComponent → Type 0) (t : Tables) (frame : WrittenFrame) (ms : List Member)
+    (codings : List Coding) → AllByRecursion P frame.components → AreCodedBy p t frame ms codings
     → AllByRecursion P (components_of codings)
 unfolding AreCodedBy
-coded-components P t frame [] [] all coded = tt
-coded-components P t frame [] (k ∷ codings) all coded = absurd coded
-coded-components P t frame (m ∷ ms) [] all coded = absurd coded
-coded-components P t frame (m ∷ ms) (k ∷ codings) all coded = (
+coded-components p P t frame [] [] all coded = tt
+coded-components p P t frame [] (k ∷ codings) all coded = absurd coded
+coded-components p P t frame (m ∷ ms) [] all coded = absurd coded
+coded-components p P t frame (m ∷ ms) (k ∷ codings) all coded = (
   at-all P k.index frame.components k.component all (get-at k.index frame.components k.component coded.0.component),
-  coded-components P t frame ms codings all coded.1,
+  coded-components p P t frame ms codings all coded.1,
 )
 
-pub coded-fit : (t : Tables) (f : Frame) (ms : List Member) (codings : List Coding) → IsMade f
-    → AreCodedBy t (written_frame f) ms codings → AllByRecursion (Fits (written_frame f)) (components_of codings)
-coded-fit t f ms codings made coded =
-    coded-components (Fits (written_frame f)) t (written_frame f) ms codings (made-fits f made) coded
+pub coded-fit : (p : Pass) (t : Tables) (f : Frame) (ms : List Member) (codings : List Coding) → IsMade f
+    → AreCodedBy p t (written_frame f) ms codings → AllByRecursion (Fits (written_frame f)) (components_of codings)
+coded-fit p t f ms codings made coded =
+    coded-components p (Fits (written_frame f)) t (written_frame f) ms codings (made-fits f made) coded
 
-pub coded-count : (t : Tables) (frame : WrittenFrame) (ms : List Member) (codings : List Coding)
-    → AreCodedBy t frame ms codings → length codings ≡ length ms
+pub coded-count : (p : Pass) (t : Tables) (frame : WrittenFrame) (ms : List Member) (codings : List Coding)
+    → AreCodedBy p t frame ms codings → length codings ≡ length ms
 unfolding AreCodedBy
-coded-count t frame [] [] coded = refl
-coded-count t frame [] (k ∷ codings) coded = absurd coded
-coded-count t frame (m ∷ ms) [] coded = absurd coded
-coded-count t frame (m ∷ ms) (k ∷ codings) coded = ap suc (coded-count t frame ms codings coded.1)
+coded-count p t frame [] [] coded = refl
+coded-count p t frame [] (k ∷ codings) coded = absurd coded
+coded-count p t frame (m ∷ ms) [] coded = absurd coded
+coded-count p t frame (m ∷ ms) (k ∷ codings) coded = ap suc (coded-count p t frame ms codings coded.1)
 
 -- An MCU of a scan has a block.
-pub unit-not-empty : (t : Tables) (f : Frame) (ms : List Member) (codings : List Coding) → IsMade f
-    → AreCodedBy t (written_frame f) ms codings → 1 ≤ length ms → 1 ≤ length (unit_by codings)
-unit-not-empty t f ms codings made coded some =
-    let count = coded-count t (written_frame f) ms codings coded in
-    mcu-some (written_frame f) codings (omega (arith, count, some)) (coded-fit t f ms codings made coded)
+pub unit-not-empty : (p : Pass) (t : Tables) (f : Frame) (ms : List Member) (codings : List Coding) → IsMade f
+    → AreCodedBy p t (written_frame f) ms codings → 1 ≤ length ms → 1 ≤ length (unit_by codings)
+unit-not-empty p t f ms codings made coded some =
+    let count = coded-count p t (written_frame f) ms codings coded in
+    mcu-some (written_frame f) codings (omega (arith, count, some)) (coded-fit p t f ms codings made coded)
 
 -- ---- the rest of a list
 
@@ -260,41 +261,41 @@ all-ways codings wide high =
     ∙ repeated-product high wide unit
 
 -- A scan has all MCUs of its components.
-ways-by : (t : Tables) (frame : WrittenFrame) (ms : List Member) (codings : List Coding)
-    → AreCodedBy t frame ms codings
+ways-by : (p : Pass) (t : Tables) (frame : WrittenFrame) (ms : List Member) (codings : List Coding)
+    → AreCodedBy p t frame ms codings
     → repeated (units_high frame ms * units_wide frame ms) (unit_by codings) ≡ ways_of frame codings
 unfolding spots_of unit_by vias_from AreCodedBy
-ways-by t frame [] [] coded = repeated-nothing _
-ways-by t frame (m ∷ []) (k ∷ []) coded =
+ways-by p t frame [] [] coded = repeated-nothing _
+ways-by p t frame (m ∷ []) (k ∷ []) coded =
     let e : slice_get frame.components m.component ≡ Some k.component =
     ap (λ (i : ℕ). slice_get frame.components i) coded.0.index ∙ coded.0.component in
     ap₂ (λ (high wide : ℕ). repeated (high * wide) (way_in 0 k ∷ [])) (ap own_high_of e) (ap own_wide_of e)
     ∙ sym (own-ways (vias_from 0 (k ∷ [])) (way_in 0 k) (grid_of k.component) refl)
-ways-by t frame (m ∷ n ∷ ms) (k ∷ l ∷ more) coded = sym (all-ways (k ∷ l ∷ more) frame.mcus_wide frame.mcus_high)
-ways-by t frame [] (k ∷ codings) coded = absurd coded
-ways-by t frame (m ∷ ms) [] coded = absurd coded
-ways-by t frame (m ∷ []) (k ∷ l ∷ more) coded = absurd coded.1
-ways-by t frame (m ∷ n ∷ ms) (k ∷ []) coded = absurd coded.1
+ways-by p t frame (m ∷ n ∷ ms) (k ∷ l ∷ more) coded = sym (all-ways (k ∷ l ∷ more) frame.mcus_wide frame.mcus_high)
+ways-by p t frame [] (k ∷ codings) coded = absurd coded
+ways-by p t frame (m ∷ ms) [] coded = absurd coded
+ways-by p t frame (m ∷ []) (k ∷ l ∷ more) coded = absurd coded.1
+ways-by p t frame (m ∷ n ∷ ms) (k ∷ []) coded = absurd coded.1
 
 -- What was read of all MCUs of a scan are its data.
-pub data-read : (t : Tables) (frame : WrittenFrame) (ms : List Member) (installed : AreInstalled t frame ms)
-    (bytes rest : List ℕ)
-    → IsRead (unit_by installed.codings) t.interval (units_high frame ms * units_wide frame ms) bytes rest
-    → ReadsData t frame ms bytes rest
-data-read t frame ms installed bytes rest r =
+pub data-read : (k : Bool) (p : Pass) (t : Tables) (frame : WrittenFrame) (ms : List Member)
+    (installed : AreInstalled p t frame ms) (places : List Place) (from to : Kept) (bytes rest : List ℕ)
+    → IsRead k p (unit_by installed.codings) t.interval (units_high frame ms * units_wide frame ms) places from to bytes
+    rest → ReadsData k p t frame ms from to bytes rest
+data-read k p t frame ms installed places from to bytes rest r =
     let codings = installed.codings in
-    let ways = ways-by t frame ms codings installed.are in
+    let ways = ways-by p t frame ms codings installed.are in
     record {
       installed = installed;
-      blocks = r.blocks;
+      changes = r.changes;
       counted = r.counted ∙ ap length ways;
-      in_range = r.in_range;
-      data_bytes = r.data_bytes;
-      parts = r.parts;
-      coded = subst (λ (u : List Via). WritesGroups WritesWholeBlocks (t.interval * mcu_size (components_of codings)) 0 (zip u r.blocks)
-          r.data_bytes) ways (subst (λ (n : ℕ). WritesGroups WritesWholeBlocks (t.interval * n) 0
-          (zip (repeated (units_high frame ms * units_wide frame ms) (unit_by codings)) r.blocks) r.data_bytes)
-          (unit-size codings) r.coded);
+      changed = r.changed;
+      coded = λ good.
+          subst (λ (u : List Via). AreGroups p (t.interval * mcu_size (components_of codings))
+          (turns_by p u r.changes) bytes rest) ways
+          (subst (λ (n : ℕ). AreGroups p (t.interval * n)
+          (turns_by p (repeated (units_high frame ms * units_wide frame ms) (unit_by codings)) r.changes) bytes rest)
+          (unit-size codings) (r.coded good));
     }
 
 -- ---- the same of what is read
@@ -305,9 +306,9 @@ record IsOwn (f : Frame) (index : ℕ) (c : WrittenComponent) : Type 0 where
   at : slice_get f.components.items index ≡ Some own
   is : c ≡ component_in f own
 
-own-coded : (t : Tables) (f : Frame) (m : Member) (k : Coding) → IsMade f → IsCodedBy t (written_frame f) m k
+own-coded : (p : Pass) (t : Tables) (f : Frame) (m : Member) (k : Coding) → IsMade f → IsCodedBy p t (written_frame f) m k
     → IsOwn f m.component k.component
-own-coded t f m k made coded =
+own-coded p t f m k made coded =
     let e : slice_get (written_frame f).components m.component ≡ Some k.component =
     ap (λ (i : ℕ). slice_get (written_frame f).components i) coded.index ∙ coded.component in
     let lt = slice_get_within (written_frame f).components m.component k.component e in
@@ -324,47 +325,47 @@ unfolding component_of
 own-count f x = refl
 
 -- from a slot on, in a scan of several
-several-same : (t : Tables) (f : Frame) (count : ℕ) → IsMade f → (count == 1) ≡ false → (slot : ℕ)
-    (ms : List Member) (codings : List Coding) → AreCodedBy t (written_frame f) ms codings
+several-same : (p : Pass) (t : Tables) (f : Frame) (count : ℕ) → IsMade f → (count == 1) ≡ false → (slot : ℕ)
+    (ms : List Member) (codings : List Coding) → AreCodedBy p t (written_frame f) ms codings
     → mcu_ways slot codings ≡ unit_of count f.components.items ms (vias_from slot codings)
 unfolding mcu_ways unit_of vias_from AreCodedBy
-several-same t f count made several slot [] [] coded = refl
-several-same t f count made several slot [] (k ∷ codings) coded = absurd coded
-several-same t f count made several slot (m ∷ ms) [] coded = absurd coded
-several-same t f count made several slot (m ∷ ms) (k ∷ codings) coded =
-    let o = own-coded t f m k made coded.0 in
+several-same p t f count made several slot [] [] coded = refl
+several-same p t f count made several slot [] (k ∷ codings) coded = absurd coded
+several-same p t f count made several slot (m ∷ ms) [] coded = absurd coded
+several-same p t f count made several slot (m ∷ ms) (k ∷ codings) coded =
+    let o = own-coded p t f m k made coded.0 in
     let c = o.own in
     let count-same : part_count k.component ≡ blocks_at count f.components.items m.component =
     ap part_count o.is ∙ own-count f c
     ∙ sym (ap (λ (b : Bool). if b then 1 else c.down * c.across) several)
     ∙ sym (blocks-found count f.components.items m.component c o.at) in
     ap₂ (λ (n : ℕ) (l : List Via). replicate n (way_in slot k) ++ l) count-same
-    (several-same t f count made several (slot + 1) ms codings coded.1)
+    (several-same p t f count made several (slot + 1) ms codings coded.1)
 
 -- What is read as an MCU of a scan.
-pub unit-same : (t : Tables) (f : Frame) (ms : List Member) (codings : List Coding) → IsMade f
-    → AreCodedBy t (written_frame f) ms codings
+pub unit-same : (p : Pass) (t : Tables) (f : Frame) (ms : List Member) (codings : List Coding) → IsMade f
+    → AreCodedBy p t (written_frame f) ms codings
     → unit_by codings ≡ unit_of (length ms) f.components.items ms (vias_from 0 codings)
 unfolding unit_by unit_of vias_from AreCodedBy
-unit-same t f [] [] made coded = refl
-unit-same t f [] (k ∷ codings) made coded = absurd coded
-unit-same t f (m ∷ ms) [] made coded = absurd coded
-unit-same t f (m ∷ []) (k ∷ []) made coded =
-    let o = own-coded t f m k made coded.0 in
+unit-same p t f [] [] made coded = refl
+unit-same p t f [] (k ∷ codings) made coded = absurd coded
+unit-same p t f (m ∷ ms) [] made coded = absurd coded
+unit-same p t f (m ∷ []) (k ∷ []) made coded =
+    let o = own-coded p t f m k made coded.0 in
     ap (λ (n : ℕ). replicate n (way_in 0 k) ++ [])
     (sym (blocks-found 1 f.components.items m.component o.own o.at))
-unit-same t f (m ∷ n ∷ ms) (k ∷ l ∷ codings) made coded =
-    several-same t f (length (m ∷ n ∷ ms)) made (ne_eqb (length (m ∷ n ∷ ms)) 1 (omega arith)) 0 (m ∷ n ∷ ms)
+unit-same p t f (m ∷ n ∷ ms) (k ∷ l ∷ codings) made coded =
+    several-same p t f (length (m ∷ n ∷ ms)) made (ne_eqb (length (m ∷ n ∷ ms)) 1 (omega arith)) 0 (m ∷ n ∷ ms)
     (k ∷ l ∷ codings) coded
-unit-same t f (m ∷ []) (k ∷ l ∷ codings) made coded = absurd coded.1
-unit-same t f (m ∷ n ∷ ms) (k ∷ []) made coded = absurd coded.1
+unit-same p t f (m ∷ []) (k ∷ l ∷ codings) made coded = absurd coded.1
+unit-same p t f (m ∷ n ∷ ms) (k ∷ []) made coded = absurd coded.1
 
 -- The ways of a scan's blocks, by the tables that its components have.
-pub ways-are : (t : Tables) (frame : WrittenFrame) (slot : ℕ) (ms : List Member) (codings : List Coding)
-    → HaveTables 3 ms → AreCodedBy t frame ms codings → AreWays t slot ms (vias_from slot codings)
+pub ways-are : (p : Pass) (t : Tables) (frame : WrittenFrame) (slot : ℕ) (ms : List Member) (codings : List Coding)
+    → HaveTables 3 ms → AreCodedBy p t frame ms codings → AreWays p t slot ms (vias_from slot codings)
 unfolding AreCodedBy AreWays vias_from
-ways-are t frame slot [] [] within coded = tt
-ways-are t frame slot (m ∷ ms) (k ∷ codings) within coded = (
+ways-are p t frame slot [] [] within coded = tt
+ways-are p t frame slot (m ∷ ms) (k ∷ codings) within coded = (
   record {
     slotted = refl;
     dc_within = within.0.0;
@@ -372,6 +373,6 @@ ways-are t frame slot (m ∷ ms) (k ∷ codings) within coded = (
     dc_is = coded.0.dc;
     ac_is = coded.0.ac;
   },
-  ways-are t frame (slot + 1) ms codings within.1 coded.1,
+  ways-are p t frame (slot + 1) ms codings within.1 coded.1,
 )
-ways-are t frame slot ms codings within coded = absurd coded
+ways-are p t frame slot ms codings within coded = absurd coded

@@ -52,7 +52,7 @@ units-append m n unit xs ys e =
     ap (λ (l : List Via). zip l (xs ++ ys)) (repeated-append m n unit)
     ∙ zip-append (repeated m unit) (repeated n unit) xs ys e
 
-pub units-length : (m n : ℕ) (unit : List Via) (xs ys : List Block) → length xs ≡ length (repeated m unit)
+pub units-length : {A : Type 0} (m n : ℕ) (unit : List Via) (xs ys : List A) → length xs ≡ length (repeated m unit)
     → length ys ≡ length (repeated n unit) → length (xs ++ ys) ≡ length (repeated (m + n) unit)
 units-length m n unit xs ys e f =
     let l = length-append xs ys in

@@ -217,7 +217,7 @@ module _ (stream at middle start rest payload : List ℕ) (old new : Walk)
       let known = b.known in
       let p =
       part-scan b.header.after at start rest payload begins.fill old.tables f r.between r.scan b.said pictured.made few
-      pictured.has.picture.precise r.sized head r.read known.steps known.codes known.interval was bytes
+      pictured.has.picture.precise r.sized head t.last r.read known.steps known.codes known.interval was bytes
       (subst (λ (g : Frame). ImagePart b.header.after at b.said (written_frame g) (has_scans g)) (sym same) b.part) in
       is_begun (record {
         header = b.header;

@@ -1,7 +1,7 @@
 -- Blocks of a sequential scan that are read, in the words of a writer (T.81, F.1.1.5.1 and F.1.2).
-use Rattle.std.specs.Prelude.{◌≡◌, ◌++◌, Bool, false, List, ℤ}
+use Rattle.std.specs.Prelude.{◌≡◌, ◌++◌, Bool, false, ℕ, List, ℤ}
 use Rattle.jpeg_bits.specs.Codes.{Table}
-use Rattle.jpeg_bits.specs.Passes.{Block, Via, band_of, whole_pass}
+use Rattle.jpeg_bits.specs.Passes.{Block, Pass, Via, band_of, whole_pass}
 use Rattle.jpeg_meaning.specs.Levels.{Is8Bit}
 use Rattle.jpeg_meaning.specs.WrittenData.{WritesAc, WritesBlocks, WritesDc}
 use Rattle.zaxbriar_strict.specs.Data.{Data, Reads}
@@ -25,8 +25,9 @@ pub record ReadsBlock (is_deep : Bool) (dc ac : Table) (before after : ℤ) (old
   pub read : Reads (WritesWhole dc ac block before) old new
 
 -- These bits stand for blocks that follow one another, whatever blocks stand after them: from the
--- predictions of the components before them to those after them.
-abbrev pub WritesTurns : List ℤ → List ℤ → List (Via × Block) → List Bool → Type 0
-WritesTurns before after turns own =
-    (more : List (Via × Block)) (bits : List Bool) → WritesBlocks whole_pass after 0 more bits
-    → WritesBlocks whole_pass before 0 (turns ++ more) (own ++ bits)
+-- predictions of the components before them to those after them, and from the blocks that the end
+-- of an earlier band stands for to those that the end of the last one does.
+abbrev pub WritesTurns : Pass → List ℤ → ℕ → List ℤ → ℕ → List (Via × Block) → List Bool → Type 0
+WritesTurns p before run after left turns own =
+    (more : List (Via × Block)) (bits : List Bool) → WritesBlocks p after left more bits
+    → WritesBlocks p before run (turns ++ more) (own ++ bits)

@@ -1,12 +1,14 @@
 -- Frame and scan headers that were read, in the words of a writer (T.81, B.2.2 and B.2.3).
 use Rattle.std.specs.Prelude.{◌≡◌, ◌≢◌, ◌+◌, ◌≤◌, ℕ, Bool, true, false, List, [], ◌∷◌, map, take}
-use Rattle.std.specs.Prelude.{get_or, set}
+use Rattle.std.specs.Prelude.{◌==◌, Option, get_or, set}
 use Rattle.std.specs.List.{AllByRecursion}
+use Rattle.jpeg_bits.specs.Passes.{Pass}
 use Rattle.jpeg_segments.specs.Frame.{Factors, greatest, Frame as WrittenFrame}
 use Rattle.jpeg_segments.specs.ScanHeader.{Selector}
 use Rattle.jpeg_segments.specs.ScanHeaders.{IsScan, ScanHeader, scan_payload}
 use Rattle.jpeg_segments.specs.WrittenSegments.{FrameHeader, IsFrameHeader, frame_payload}
 use Rattle.jpeg_segments.specs.WrittenSegments.{frame_written}
+use Rattle.zaxbriar_strict.specs.Sent.{IsBand}
 use Rattle.zaxbriar_strict.specs.declared.frame.Component.{Component}
 use Rattle.zaxbriar_strict.specs.declared.frame.Frame.{Frame}
 use Rattle.zaxbriar_strict.specs.declared.frame.Process.{Process}
@@ -27,6 +29,10 @@ number_of Lossless = 3
 abbrev pub is_baseline_process : Process → Bool
 is_baseline_process Baseline = true
 is_baseline_process _ = false
+
+abbrev pub is_progressive_process : Process → Bool
+is_progressive_process Progressive = true
+is_progressive_process _ = false
 
 abbrev pub is_baseline_of : Frame → Bool
 is_baseline_of f = is_baseline_process f.process
@@ -88,6 +94,10 @@ choice_of components m = (
 abbrev pub members_of : Scan → List Member
 members_of s = take s.count s.members
 
+-- what a scan sends: the band and the bits
+abbrev pub pass_in : Scan → Pass
+pass_in s = record { is_first = s.high == 0; ss = s.first; se = s.last; al = s.low }
+
 abbrev pub scan_header_of : Frame → Scan → ScanHeader
 scan_header_of f s = record {
   choices = map (choice_of (header_of f).components) (members_of s);
@@ -113,6 +123,10 @@ IsSentOnce f = number_of f.process ≢ 2
 abbrev pub has_scans : Frame → List Bool
 has_scans f = map (λ c. c.has_scan) f.components.items
 
+-- the lowest bits that were sent of their coefficients
+abbrev pub lowest_of : Frame → List (List (Option ℕ))
+lowest_of f = map (λ c. c.lowest) f.components.items
+
 -- the components of a scan are none of these
 abbrev pub AreUnsent : List Bool → List Member → Type 0
 AreUnsent sent ms = AllByRecursion (λ m. get_or sent m.component true ≡ false) ms
@@ -122,6 +136,15 @@ unfoldable pub sent_with : List Member → List Bool → List Bool
 sent_with [] sent = sent
 sent_with (m ∷ ms) sent = sent_with ms (set sent m.component true)
 
+-- The scan of a progressive frame sends DC, or AC of one component: all their bits down to one of
+-- them, or after a scan before it the next one.
+pub record SendsPart (s : Scan) : Type 0 where
+  pub banded : IsBand (pass_in s)
+  pub last : s.last ≤ 63
+  pub high : s.high ≢ 0 → s.high ≡ s.low + 1
+  pub low : s.low ≤ 13
+  pub alone : s.first ≢ 0 → s.count ≤ 1
+
 -- The bytes of a segment SOS after its length are those of a scan header, which in a sequential or
 -- a lossless frame keeps its rules, and in a sequential one sends all bits of all coefficients.
 pub record ReadsHeader (bytes : List ℕ) (s : Scan) (old new : Frame) : Type 0 where
@@ -129,6 +152,7 @@ pub record ReadsHeader (bytes : List ℕ) (s : Scan) (old new : Frame) : Type 0 
   pub counted : s.count ≤ 4
   pub legal : IsSentOnce old → IsScan (written_frame old) (scan_header_of old s)
   pub last : IsSequential old → s.last ≡ 63
+  pub part : is_progressive_process old.process ≡ true → SendsPart s
   pub same : IsSameFrame old new
   -- none of its components has a scan before, and all have one after it
   pub unsent : IsSentOnce old → AreUnsent (has_scans old) (members_of s)

@@ -12,11 +12,14 @@ pub mod BandCodes
 pub mod Quantizations
 pub mod Heads
 pub mod Installed
+pub mod Changes
+pub mod Runs
+pub mod Contexts
+pub mod SentBlocks
 pub mod ScanData
 pub mod ScanSamples
 pub mod SampleRows
+pub mod Progress
 pub mod Kept
-pub mod Runs
-pub mod Contexts
 pub mod Exact
 pub mod Walks

@@ -1,5 +1,5 @@
 -- What a scan of a progressive frame sends of a block, in the words of a writer (T.81, G.1.2).
-use Rattle.std.specs.Prelude.{◌≡◌, ◌≢◌, ℕ, suc, ◌^◌, ◌∷◌, true, false, not, List}
+use Rattle.std.specs.Prelude.{◌≡◌, ◌≢◌, ◌≤◌, ℕ, suc, ◌^◌, ◌≤◌, ◌∷◌, Bool, true, false, not, List}
 use Rattle.std.specs.Prelude.{length, drop, map, ℤ, pos, ◌*ℤ◌, if◌then◌else◌}
 use Rattle.std.specs.List.{AllByRecursion}
 use Rattle.jpeg_bits.specs.BlockView.{dc_in}
@@ -20,6 +20,11 @@ pub record IsPass (p : Pass) (b : Band) : Type 0 where
   pub low : b.low ≡ p.al
   pub refined : b.is_refined ≡ not p.is_first
   pub progressive : b.is_progressive ≡ true
+
+-- A pass of a progressive frame sends DC or AC, and both in no scan (G.1.1.1.1).
+pub data IsBand (p : Pass) : Type 0 where
+  of_dc : p.ss ≡ 0 → p.se ≡ 0 → IsBand p
+  of_acs : 1 ≤ p.ss → p.ss ≤ p.se → p.se ≤ 63 → IsBand p
 
 -- coefficients that have these numbers at a level, and no lower bits
 abbrev pub scaled_by : ℕ → List ℤ → List ℤ

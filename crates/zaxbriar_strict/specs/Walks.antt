@@ -65,7 +65,7 @@ pub record ReadsScan (header start rest : List ℕ) (t : Tables) (old new : Fram
   pub between : Frame
   pub sized : length scan.members ≡ 4
   pub headed : ReadsHeader header scan old between
-  pub read : ReadsIfEight t between scan start rest
+  pub read : ReadsIfEight t between new scan start rest
   pub samples : ReadsIfLossless t between scan start rest
   pub same : IsSameFrame between new
   pub sent : has_scans new ≡ has_scans between

@@ -48,7 +48,7 @@ pub(crate) type Run = u32;
 impl Band {
     ghost use Rattle.std.specs.Prelude.{◌≡◌, ◌≤◌, ◌<◌, ◌-◌, ◌*◌, ◌^◌, ◌-ℤ◌, ◌*ℤ◌, [], ◌∷◌, ◌++◌};
     ghost use Rattle.std.specs.Prelude.{IfOk, IfSome, not, true, suc, ◌+◌, ◌≢◌, slice_index_or};
-    ghost use Rattle.std.specs.Prelude.{None, IsTrue, List, length, drop, false, pos, ℕ, ℤ};
+    ghost use Rattle.std.specs.Prelude.{◌==◌, nat_lt, None, List, length, drop, false, pos, ℕ, ℤ};
     ghost use Rattle.jpeg_bits.specs.BlockView.{dc_in};
     ghost use Rattle.jpeg_bits.specs.Codes.{Table};
     ghost use Rattle.jpeg_bits.specs.Passes.{Pass, band_of, band_size};
@@ -104,14 +104,14 @@ impl Band {
 
     /// Returns whether the DC coefficient is sent.
     pub(crate) fn has_dc(&self) -> bool
-        ensures { self.now.first ≡ 0 → IsTrue result }
+        ensures { result ≡ (self.now.first == 0) }
     {
         self.first == 0
     }
 
     /// Returns whether AC coefficients are sent.
     pub(crate) fn has_ac(&self) -> bool
-        ensures { self.now.last ≡ 63 → IsTrue result }
+        ensures { result ≡ nat_lt 0 self.now.last }
     {
         self.last != 0
     }

@@ -7,6 +7,9 @@ ghost use Rattle.jpeg_segments.specs.Frame.{is_factor, is_lossless_number, is_pr
 ghost use Rattle.jpeg_segments.specs.WrittenSegments.{AreComponents, factors_bytes, u16_bytes};
 ghost use Rattle.zaxbriar_strict.specs.Heads.{factors_of, number_of, IsMade, ReadsFrame};
 ghost use Rattle.zaxbriar_strict.specs.Heads.{written_frame};
+ghost use Rattle.jpeg_meaning.specs.Levels.{Is8Bit};
+ghost use Rattle.zaxbriar_strict.specs.Bands.{block_in};
+ghost use Rattle.zaxbriar_strict.specs.Changes.{IsComponentInRange};
 
 use crate::cursor::Cursor;
 use crate::quantization::{Block, Steps, is_in_range};
@@ -78,6 +81,44 @@ fn own_parts(length: u32, factor: u8, most: u32, side: u32) -> u32
     parts_of(samples, side)
 }
 
+impl Component {
+    /// Checks the coefficients of a component that has a scan.
+    fn is_in_range(&self, is_deep: bool) -> bool
+        ensures { IsTrue result → is_deep ≡ false → IsComponentInRange self.now }
+    {
+        match &self.steps {
+            Some(steps) => are_rows_in_range(&self.rows, steps, is_deep),
+            None => false,
+        }
+    }
+}
+
+/// Checks rows of blocks.
+fn are_rows_in_range(rows: &[Vec<Block>], steps: &Steps, is_deep: bool) -> bool
+    ensures { IsTrue result → is_deep ≡ false
+        → AllByRecursion (λ r. AllByRecursion (λ b. Is8Bit (block_in b)) r.items) rows.now }
+{
+    for row in rows {
+        if !is_row_in_range(row, steps, is_deep) {
+            return false;
+        }
+    }
+    true
+}
+
+/// Checks a row of blocks.
+fn is_row_in_range(row: &[Block], steps: &Steps, is_deep: bool) -> bool
+    ensures { IsTrue result → is_deep ≡ false
+        → AllByRecursion (λ b. Is8Bit (block_in b)) row.now }
+{
+    for block in row {
+        if !is_in_range(block, steps, is_deep) {
+            return false;
+        }
+    }
+    true
+}
+
 impl Frame {
     /// Whether the samples have 12 bits, and not 8.
     pub(crate) fn is_deep(&self) -> bool
@@ -129,17 +170,16 @@ impl Frame {
         bytes
     }
 
-    /// Checks the coefficients of a progressive frame against the ranges of samples (A.3.3).
-    pub(crate) fn is_in_range(&self) -> bool {
+    /// Checks the coefficients of a progressive frame, each component of which has a scan, against
+    /// the ranges of samples (A.3.3).
+    pub(crate) fn is_in_range(&self) -> bool
+        ensures { IsTrue result → self.now.precision ≡ 8
+            → AllByRecursion IsComponentInRange self.now.components.items }
+    {
         let is_deep = self.is_deep();
         for component in self.components.iter() {
-            let Some(steps) = &component.steps else {
-                continue;
-            };
-            for row in component.rows.iter() {
-                if !row.iter().all(|block| is_in_range(block, steps, is_deep)) {
-                    return false;
-                }
+            if !component.is_in_range(is_deep) {
+                return false;
             }
         }
         true

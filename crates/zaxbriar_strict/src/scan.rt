@@ -1,13 +1,15 @@
 //! Scan headers (T.81, B.2.3 and Table B.3), and which scans may follow (G.1.1.1).
 ghost use Rattle.std.specs.Prelude.{◌≡◌, ◌≢◌, ◌≤◌, ◌++◌, ◌==◌, ◌||◌, IfOk, IsTrue, false, flat_map};
-ghost use Rattle.std.specs.Prelude.{◌-◌, ◌^◌, length, min, nat_le, position, take, true};
+ghost use Rattle.std.specs.Prelude.{◌+◌, ◌-◌, ◌^◌, None, get_or, length, min, nat_le, position};
+ghost use Rattle.std.specs.Prelude.{take, true};
 ghost use Rattle.jpeg_segments.specs.ScanHeader.{blocks_by};
 ghost use Rattle.jpeg_segments.specs.ScanHeaders.{choice_bytes};
 ghost use Rattle.zaxbriar_strict.specs.Heads.{factors_of, IsMade, members_of, number_of};
-ghost use Rattle.zaxbriar_strict.specs.Heads.{ReadsHeader, written_frame};
+ghost use Rattle.zaxbriar_strict.specs.Heads.{ReadsHeader, SendsPart, is_progressive_process, written_frame};
 ghost use Rattle.zaxbriar_strict.specs.Members.{AreMembers, choices_of, HaveTables, most_tables};
 ghost use Rattle.zaxbriar_strict.specs.Members.{NotesScan, Predicts, SendsAll, TakesMember};
 ghost use Rattle.zaxbriar_strict.specs.Members.{TakesScan};
+ghost use Rattle.zaxbriar_strict.specs.Progress.{NotesBand, level_before};
 
 use crate::cursor::Cursor;
 use crate::frame::{Component, Frame, Process};
@@ -132,7 +134,9 @@ impl Scan {
 
     /// Checks the band and the approximation of a scan of a progressive frame by themselves
     /// (G.1.1.1).
-    fn check_progressive_band(&self) -> Result<(), Rule> {
+    fn check_progressive_band(&self) -> Result<(), Rule>
+        ensures { IfOk result (λ _. SendsPart self.now) }
+    {
         if self.first > self.last || self.last > 63 || (self.first == 0 && self.last != 0) {
             return Err(Rule::Band);
         }
@@ -146,28 +150,39 @@ impl Scan {
         Ok(())
     }
 
+    /// Checks the band and the approximation of a scan, if its frame is progressive.
+    fn check_part(&self, process: Process) -> Result<(), Rule>
+        ensures { IfOk result
+            (λ _. is_progressive_process process ≡ true → SendsPart self.now) }
+    {
+        match process {
+            Process::Progressive => self.check_progressive_band(),
+            Process::Baseline | Process::Extended | Process::Lossless => Ok(()),
+        }
+    }
+
     /// Notes what the scan sends of a component of a progressive frame, and checks that it may come
     /// now.
     fn note_progress(&self, component: &mut Component) -> Result<(), Rule>
         ensures factors { IfOk result (λ _. factors_of component.new ≡ factors_of component.old) }
         ensures sent { IfOk result (λ _. component.new.has_scan ≡ true) }
+        ensures rows { component.new.rows ≡ component.old.rows }
+        ensures noted { IfOk result (λ _. self.now.first ≤ self.now.last
+            → NotesBand self.now.first (self.now.last + 1) (level_before self.now.high)
+            self.now.low component.old.lowest component.new.lowest) }
+        ensures dc { IfOk result (λ _. self.now.first ≢ 0
+            → get_or component.old.lowest 0 None ≢ None) }
     {
         if self.first != 0 && component.lowest[0].is_none() {
             return Err(Rule::BandBeforeDc);
         }
-        let before = if self.high == 0 {
-            None
-        } else {
-            Some(self.high)
-        };
-        for place in self.first..=self.last {
-            if let Some(lowest) = component.lowest.get_mut(usize::from(place)) {
-                if *lowest != before {
-                    return Err(Rule::BandOrder);
-                }
-                *lowest = Some(self.low);
-            }
-        }
+        let before = level_before(self.high);
+        note_band(
+            &mut component.lowest,
+            (self.first, self.last),
+            before,
+            self.low,
+        )?;
         component.has_scan = true;
         Ok(())
     }
@@ -195,9 +210,7 @@ impl Scan {
     {
         let process = frame.process;
         self.check_selectors(process)?;
-        if process == Process::Progressive {
-            self.check_progressive_band()?;
-        }
+        self.check_part(process)?;
         for member in self.members().iter() {
             let Some(component) = frame.components.get_mut(member.component) else {
                 return Err(Rule::UnknownComponent);
@@ -206,6 +219,35 @@ impl Scan {
         }
         self.check_band(process, frame.precision)
     }
+}
+
+/// Returns the lowest bit that was sent of coefficients before a scan (G.1.1.1: Ah).
+fn level_before(high: u8) -> Option<u8>
+    ensures { result ≡ level_before high }
+{
+    if high == 0 { None } else { Some(high) }
+}
+
+/// Notes that the coefficients of a band have this lowest bit, where it was that one before.
+fn note_band(
+    lowest: &mut [Option<u8>; 64],
+    band: (u8, u8),
+    before: Option<u8>,
+    low: u8,
+) -> Result<(), Rule>
+    ensures { IfOk result (λ _. band.0 ≤ band.1
+        → NotesBand band.0 (band.1 + 1) before low lowest.old lowest.new) }
+{
+    for place in usize::from(band.0)..usize::from(band.1) + 1 {
+        let Some(level) = lowest.get(place) else {
+            return Err(Rule::Band);
+        };
+        if *level != before {
+            return Err(Rule::BandOrder);
+        }
+        lowest[place] = Some(low);
+    }
+    Ok(())
 }
 
 /// Returns the greatest destination of Huffman tables (Table B.3).

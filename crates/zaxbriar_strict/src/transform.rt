@@ -1,17 +1,25 @@
 //! Scans of DCT coefficients (T.81, F.2 and G.2).
-ghost use Rattle.std.specs.Prelude.{◌≡◌, ◌≤◌, ◌<◌, ◌+◌, ◌∷◌, [], ℕ, List, None, Some, IfOk, length};
-ghost use Rattle.std.specs.Prelude.{false, replicate, slice_get, slice_index_or, IsTrue};
-ghost use Rattle.jpeg_bits.specs.Passes.{Via};
+ghost use Rattle.std.specs.Prelude.{◌≡◌, ◌≤◌, ◌<◌, ◌+◌, ◌∷◌, ◌++◌, [], ℕ, Bool, List, None};
+ghost use Rattle.std.specs.Prelude.{IfOk, Some};
+ghost use Rattle.std.specs.Prelude.{false, length, map, replicate, set, slice_get};
+ghost use Rattle.std.specs.Prelude.{IsTrue, slice_index_or, true};
+ghost use Rattle.jpeg_bits.specs.Passes.{Pass, Via};
 ghost use Rattle.jpeg_segments.specs.HuffmanTables.{class_of};
-ghost use Rattle.zaxbriar_strict.specs.Contexts.{IsContext, IsInstalled, blocks_at, blocks_in};
-ghost use Rattle.zaxbriar_strict.specs.Contexts.{unit_of};
+ghost use Rattle.zaxbriar_strict.specs.Changes.{Kept, Place, block_of, kept_in, rows_of};
+ghost use Rattle.zaxbriar_strict.specs.Contexts.{IsContext, IsInstalled, IsWay, ReadsBlocks};
+ghost use Rattle.zaxbriar_strict.specs.Contexts.{blocks_at, blocks_in, part_places, places_at};
+ghost use Rattle.zaxbriar_strict.specs.Contexts.{row_places, unit_of, unit_places};
 ghost use Rattle.zaxbriar_strict.specs.Heads.{IsMade, IsSameFrame, IsSequential, has_scans};
-ghost use Rattle.zaxbriar_strict.specs.Heads.{members_of, written_frame};
+ghost use Rattle.zaxbriar_strict.specs.Heads.{is_progressive_process, lowest_of, members_of};
+ghost use Rattle.zaxbriar_strict.specs.Heads.{pass_in};
+ghost use Rattle.zaxbriar_strict.specs.Heads.{written_frame};
 ghost use Rattle.zaxbriar_strict.specs.Installed.{codes_of, steps_of, tables_of_class};
 ghost use Rattle.zaxbriar_strict.specs.Kept.{IsKept, IsKeptComponent};
 ghost use Rattle.zaxbriar_strict.specs.Loaded.{data_of};
-ghost use Rattle.zaxbriar_strict.specs.Runs.{IsAfter, IsBefore, ReadsRun};
+ghost use Rattle.zaxbriar_strict.specs.Runs.{IsAfter, IsBefore, ReadsRun, run_in};
 ghost use Rattle.zaxbriar_strict.specs.ScanData.{AreInstalled, HasMembers, ReadsIfEight};
+ghost use Rattle.zaxbriar_strict.specs.Sent.{IsPass};
+ghost use Rattle.zaxbriar_strict.specs.SentBlocks.{ReadsAcs, ReadsDc, ReadsSent};
 ghost use Rattle.zaxbriar_strict.specs.Tables.{codes_in};
 ghost use Rattle.zaxbriar_strict.specs.Whole.{IsWhole};
 ghost use Rattle.zaxbriar_strict.specs.declared.frame.Component.{Component};
@@ -79,6 +87,7 @@ pub(crate) fn check_codes(
 /// (B.2.2).
 fn check_steps(tables: &Tables, component: &mut Component) -> Result<(), Rule>
     ensures kept { IsKeptComponent component.old component.new }
+    ensures rows { component.new.rows ≡ component.old.rows }
     ensures installed { IfOk result
         (λ _. IsInstalled (slice_index_or (steps_of tables.now) component.old.table None)) }
 {
@@ -97,6 +106,7 @@ fn check_steps(tables: &Tables, component: &mut Component) -> Result<(), Rule>
 /// Checks the quantization table of a component by its place in the frame.
 fn check_steps_at(tables: &Tables, frame: &mut Frame, place: usize) -> Result<(), Rule>
     ensures kept { IsKept frame.old frame.new }
+    ensures rows { map rows_of frame.new.components.items ≡ map rows_of frame.old.components.items }
     ensures installed { IfOk result
         (λ _. (c : Component) → slice_get frame.old.components.items place ≡ Some c
         → IsInstalled (slice_index_or (steps_of tables.now) c.table None)) }
@@ -136,10 +146,11 @@ fn check_member(
     band: &Band,
 ) -> Result<bool, Rule>
     ensures kept { IsKept frame.old frame.new }
-    ensures tables { IfOk result (λ _. IsMade frame.old
-        → member.component < length frame.old.components.items → IsWhole band.now
-        → member.dc ≤ 3 → member.ac ≤ 3
-        → AreInstalled tables.now (written_frame frame.old) (member ∷ [])) }
+    ensures rows { map rows_of frame.new.components.items ≡ map rows_of frame.old.components.items }
+    ensures tables { IfOk result (λ _. (p : Pass) → IsMade frame.old
+        → member.component < length frame.old.components.items → band.now.first ≡ p.ss
+        → band.now.last ≡ p.se → member.dc ≤ 3 → member.ac ≤ 3
+        → AreInstalled p tables.now (written_frame frame.old) (member ∷ [])) }
 {
     check_steps_at(tables, frame, member.component)?;
     // (A refinement of DC needs no code, but its header names a table.)
@@ -151,9 +162,10 @@ fn check_member(
 /// Checks the tables that a scan needs.
 fn check_tables(tables: &Tables, frame: &mut Frame, scan: &Scan, band: &Band) -> Result<(), Rule>
     ensures kept { IsKept frame.old frame.new }
-    ensures tables { IfOk result (λ _. IsMade frame.old → IsWhole band.now
-        → HasMembers frame.old scan.now
-        → AreInstalled tables.now (written_frame frame.old) (members_of scan.now)) }
+    ensures rows { map rows_of frame.new.components.items ≡ map rows_of frame.old.components.items }
+    ensures tables { IfOk result (λ _. (p : Pass) → IsMade frame.old → band.now.first ≡ p.ss
+        → band.now.last ≡ p.se → HasMembers frame.old scan.now
+        → AreInstalled p tables.now (written_frame frame.old) (members_of scan.now)) }
 {
     let mut has_categories = true;
     for member in scan.members().iter() {
@@ -168,7 +180,9 @@ fn check_tables(tables: &Tables, frame: &mut Frame, scan: &Scan, band: &Band) ->
 
 impl Past {
     /// Checks at the end of an interval that no end-of-band run goes on (G.1.2.2).
-    fn end(&self, bits: &Bits<'_>) -> Result<(), Stop> {
+    fn end(&self, bits: &Bits<'_>) -> Result<(), Stop>
+        ensures { IfOk result (λ _. (is_kept : Bool) → run_in is_kept self.now ≡ 0) }
+    {
         if self.run > 0 {
             return Err(bits.breaks(Rule::RunBeyond));
         }
@@ -178,9 +192,10 @@ impl Past {
 
 /// Ends an interval where all its MCUs were read, and begins the next one.
 fn go_on(intervals: &mut Intervals<'_>, past: &mut Past) -> Result<(), Stop>
-    ensures { IfOk result (λ _. (unit : List Via) (every : ℕ) (bytes : List ℕ)
-        (count : ℕ) → IsAfter unit every bytes count intervals.old past.old
-        → IsBefore unit every bytes count intervals.new past.new) }
+    ensures { IfOk result (λ _. (is_kept : Bool) (p : Pass) (unit : List Via) (every : ℕ)
+        (bytes : List ℕ) (count : ℕ) (places : List Place) (from to : Kept)
+        → IsAfter is_kept p unit every bytes count places from to intervals.old past.old
+        → IsBefore is_kept p unit every bytes count places from to intervals.new past.new) }
 {
     if !intervals.is_over() {
         return Ok(());
@@ -203,60 +218,102 @@ pub(crate) fn codes_of(tables: &Tables, class: u8, destination: u8) -> Result<&H
     }
 }
 
-/// Returns the block at a column and a row of a component of a progressive frame, whose rows have
-/// this many. The rows up to it are made where no scan has reached them yet.
-fn block_at(
-    alloc: Global,
-    rows: &mut Vec<Vec<Block>>,
-    place: (u32, u32),
-    columns: u32,
-) -> Result<&mut Block, Stop> {
-    let (column, row) = (place.0 as usize, place.1 as usize);
-    for _ in rows.len()..row + 1 {
+/// Returns a sampling factor as a number of blocks.
+fn side_of(factor: u8) -> u32
+    ensures same { result ≡ factor }
+    ensures most { result ≤ 255 }
+{
+    u32::from(factor)
+}
+
+/// Makes the rows of blocks of a component of a progressive frame up to this one, where no scan has
+/// reached them yet. A row has this many.
+fn make_rows(alloc: Global, rows: &mut Vec<Vec<Block>>, row: u32, columns: u32) -> Result<(), Stop>
+    ensures { (j k : ℕ) → block_of (map (λ r. r.items) rows.new.items) j k
+        ≡ block_of (map (λ r. r.items) rows.old.items) j k }
+{
+    for _ in rows.len()..row as usize + 1 {
         let blocks = vec![in alloc; [0i16; 64]; columns as usize]?;
-        if let Err(failed) = rows.push(blocks) {
-            return Err(Stop::from(AllocError::from(failed)));
+        match rows.push(blocks) {
+            Ok(()) => (),
+            Err(failed) => return Err(Stop::from(AllocError::from(failed))),
         }
     }
-    // (Each row has this column: there is none only where there is no memory.)
-    match rows.get_mut(row) {
-        Some(blocks) => blocks
-            .get_mut(column)
-            .ok_or(Stop::Refused(Refusal::OutOfMemory)),
-        None => Err(Stop::Refused(Refusal::OutOfMemory)),
-    }
+    Ok(())
 }
 
 impl Context<'_> {
-    /// Reads what the scan sends of a block of the component at this place in the scan.
+    /// Reads what the scan sends of DC of a block, after the DC coefficient that was sent last of
+    /// its component.
+    fn read_dc(
+        &self,
+        member: Member,
+        before: &mut i16,
+        bits: &mut Bits<'_>,
+        block: &mut Block,
+    ) -> Result<(), Rule>
+        ensures { IfOk result (λ _. (p : Pass) (slot : ℕ) (via : Via) → IsPass p self.now.band
+            → p.ss ≡ 0 → IsWay p self.now.tables.now slot member via
+            → ReadsDc p via before.old before.new block.old block.new (data_of bits.old)
+            (data_of bits.new)) }
+    {
+        if self.band.is_refined {
+            self.band.refine_dc(bits, block)?;
+            return Ok(());
+        }
+        let table = codes_of(self.tables, 0, member.dc)?;
+        self.band.read_difference(bits, table, before, block)?;
+        Ok(())
+    }
+
+    /// Reads what the scan sends of AC of a block.
+    fn read_acs(
+        &self,
+        member: Member,
+        run: &mut Run,
+        bits: &mut Bits<'_>,
+        block: &mut Block,
+    ) -> Result<(), Rule>
+        ensures { IfOk result (λ _. (p : Pass) (slot : ℕ) (via : Via) → IsPass p self.now.band
+            → 1 ≤ p.ss → p.ss ≤ p.se → IsWay p self.now.tables.now slot member via
+            → ReadsAcs p via run.old run.new block.old block.new (data_of bits.old)
+            (data_of bits.new)) }
+    {
+        let table = codes_of(self.tables, 1, member.ac)?;
+        if self.band.is_refined {
+            self.band.refine_ac(bits, table, run, block)?;
+            return Ok(());
+        }
+        self.band.read_ac(bits, table, run, block)?;
+        Ok(())
+    }
+
+    /// Reads what the scan sends of a block of the component at this place in the scan: DC or AC.
     fn read_coefficients(
         &self,
         slot: usize,
         past: &mut Past,
         bits: &mut Bits<'_>,
         block: &mut Block,
-    ) -> Result<(), Rule> {
-        let (Some(member), Some(dc)) = (self.scan.members().get(slot), past.dc.get_mut(slot)) else {
+    ) -> Result<(), Rule>
+        ensures { IfOk result (λ _. (p : Pass) (vias : List Via) (via : Via)
+            → IsContext self.now p vias → self.now.is_progressive ≡ true
+            → slice_get vias slot ≡ Some via
+            → ReadsSent p via past.old past.new block.old block.new (data_of bits.old)
+            (data_of bits.new)) }
+    {
+        let Some(member) = self.scan.members().get(slot) else {
             return Err(Rule::UnknownComponent);
         };
-        let band = &self.band;
-        if band.has_dc() {
-            if band.is_refined {
-                band.refine_dc(bits, block)?;
-            } else {
-                let table = codes_of(self.tables, 0, member.dc)?;
-                band.read_difference(bits, table, dc, block)?;
-            }
+        if slot >= past.dc.len() {
+            return Err(Rule::UnknownComponent);
         }
-        if !band.has_ac() {
+        if self.band.has_dc() {
+            self.read_dc(*member, &mut past.dc[slot], bits, block)?;
             return Ok(());
         }
-        let table = codes_of(self.tables, 1, member.ac)?;
-        if band.is_refined {
-            band.refine_ac(bits, table, &mut past.run, block)
-        } else {
-            band.read_ac(bits, table, &mut past.run, block)
-        }
+        self.read_acs(*member, &mut past.run, bits, block)?;
+        Ok(())
     }
 
     /// Reads what the scan sends of the block of a progressive frame at a column and a row.
@@ -268,10 +325,25 @@ impl Context<'_> {
         bits: &mut Bits<'_>,
         place: (u32, u32),
     ) -> Result<(), Stop>
-        ensures { IsKeptComponent component.old component.new }
+        ensures kept { IsKeptComponent component.old component.new }
+        ensures read { IfOk result (λ _. (p : Pass) (vias : List Via) (via : Via)
+            (index : ℕ) (cs : List Component) → IsContext self.now p vias
+            → self.now.is_progressive ≡ true → slice_get vias slot ≡ Some via
+            → slice_get cs index ≡ Some component.old
+            → ReadsRun true p (via ∷ [])
+            (record { index = index; row = place.1; column = place.0 } ∷ []) past.old past.new
+            (kept_in cs) (kept_in (set cs index component.new)) (data_of bits.old)
+            (data_of bits.new)) }
     {
         let columns = self.whole.0.saturating_mul(u32::from(component.across));
-        let block = block_at(self.alloc, &mut component.rows, place, columns)?;
+        make_rows(self.alloc, &mut component.rows, place.1, columns)?;
+        // (Each row has this column: there is none only where there is no memory.)
+        let Some(line) = component.rows.get_mut(place.1 as usize) else {
+            return Err(Stop::Refused(Refusal::OutOfMemory));
+        };
+        let Some(block) = line.get_mut(place.0 as usize) else {
+            return Err(Stop::Refused(Refusal::OutOfMemory));
+        };
         match self.read_coefficients(slot, past, bits, block) {
             Ok(()) => Ok(()),
             Err(rule) => Err(bits.breaks(rule)),
@@ -286,9 +358,11 @@ impl Context<'_> {
         past: &mut Past,
         bits: &mut Bits<'_>,
     ) -> Result<(), Rule>
-        ensures { IfOk result (λ _. (vias : List Via) (via : Via) → IsContext self.now vias
+        ensures { IfOk result (λ _. (p : Pass) (vias : List Via) (via : Via) (place : Place)
+            (from to : Kept) → IsContext self.now p vias → self.now.is_progressive ≡ false
             → slice_get vias slot ≡ Some via
-            → ReadsRun (via ∷ []) past.old.dc past.new.dc (data_of bits.old) (data_of bits.new)) }
+            → ReadsRun false p (via ∷ []) (place ∷ []) past.old past.new from to
+            (data_of bits.old) (data_of bits.new)) }
     {
         let Some(member) = self.scan.members().get(slot) else {
             return Err(Rule::UnknownComponent);
@@ -315,9 +389,12 @@ impl Context<'_> {
         place: (u32, u32),
     ) -> Result<(), Stop>
         ensures kept { IsKeptComponent component.old component.new }
-        ensures read { IfOk result (λ _. (vias : List Via) (via : Via) → IsContext self.now vias
-            → slice_get vias slot ≡ Some via
-            → ReadsRun (via ∷ []) past.old.dc past.new.dc (data_of bits.old) (data_of bits.new)) }
+        ensures read { IfOk result (λ _. (p : Pass) (vias : List Via) (via : Via)
+            (index : ℕ) (cs : List Component) → IsContext self.now p vias
+            → slice_get vias slot ≡ Some via → slice_get cs index ≡ Some component.old
+            → ReadsBlocks self.now p (via ∷ [])
+            (record { index = index; row = place.1; column = place.0 } ∷ []) past.old past.new cs
+            (set cs index component.new) bits.old bits.new) }
     {
         if self.is_progressive {
             self.read_sent(component, slot, past, bits, place)?;
@@ -339,15 +416,18 @@ impl Context<'_> {
         place: (u32, u32),
     ) -> Result<(), Stop>
         ensures kept { IsKeptComponent component.old component.new }
-        ensures read { IfOk result (λ _. (vias : List Via) (via : Via) → IsContext self.now vias
-            → slice_get vias slot ≡ Some via
-            → ReadsRun (replicate (blocks_in self.now.scan.now.count component.old) via)
-            past.old.dc past.new.dc (data_of bits.old) (data_of bits.new)) }
+        ensures read { IfOk result (λ _. (p : Pass) (vias : List Via) (via : Via)
+            (index : ℕ) (cs : List Component) → IsContext self.now p vias → place.0 ≤ 300000
+            → place.1 ≤ 300000 → slice_get vias slot ≡ Some via
+            → slice_get cs index ≡ Some component.old → let count = self.now.scan.now.count in
+            ReadsBlocks self.now p (replicate (blocks_in count component.old) via)
+            (part_places count place.1 place.0 index component.old) past.old past.new cs
+            (set cs index component.new) bits.old bits.new) }
     {
         if self.scan.count == 1 {
             return self.read_block(component, slot, past, bits, place);
         }
-        let (across, down) = (u32::from(component.across), u32::from(component.down));
+        let (across, down) = (side_of(component.across), side_of(component.down));
         let (left, top) = (place.0.saturating_mul(across), place.1.saturating_mul(down));
         for below in 0..down {
             for beside in 0..across {
@@ -369,11 +449,14 @@ impl Context<'_> {
         place: (u32, u32),
     ) -> Result<(), Stop>
         ensures kept { IsKept frame.old frame.new }
-        ensures read { IfOk result (λ _. (vias : List Via) (via : Via) (m : Member)
-            → IsContext self.now vias → slice_get vias slot ≡ Some via
+        ensures read { IfOk result (λ _. (p : Pass) (vias : List Via) (via : Via) (m : Member)
+            → IsContext self.now p vias → place.0 ≤ 300000 → place.1 ≤ 300000
+            → slice_get vias slot ≡ Some via
             → slice_get (members_of self.now.scan.now) slot ≡ Some m
-            → ReadsRun (replicate (blocks_at self.now.scan.now.count frame.old.components.items
-            m.component) via) past.old.dc past.new.dc (data_of bits.old) (data_of bits.new)) }
+            → let count = self.now.scan.now.count in let cs = frame.old.components.items in
+            ReadsBlocks self.now p (replicate (blocks_at count cs m.component) via)
+            (places_at count place.1 place.0 m.component (slice_get cs m.component)) past.old
+            past.new cs frame.new.components.items bits.old bits.new) }
     {
         let Some(member) = self.scan.members().get(slot) else {
             return Ok(());
@@ -394,10 +477,13 @@ impl Context<'_> {
         place: (u32, u32),
     ) -> Result<(), Stop>
         ensures kept { IsKept frame.old frame.new }
-        ensures read { IfOk result (λ _. (vias : List Via) → IsContext self.now vias
-            → ReadsRun (unit_of self.now.scan.now.count frame.old.components.items
-            (members_of self.now.scan.now) vias) past.old.dc past.new.dc (data_of bits.old)
-            (data_of bits.new)) }
+        ensures read { IfOk result (λ _. (p : Pass) (vias : List Via) → IsContext self.now p vias
+            → place.0 ≤ 300000 → place.1 ≤ 300000
+            → let count = self.now.scan.now.count in let cs = frame.old.components.items in
+            let ms = members_of self.now.scan.now in
+            ReadsBlocks self.now p (unit_of count cs ms vias)
+            (unit_places count cs ms place.1 place.0) past.old past.new cs
+            frame.new.components.items bits.old bits.new) }
     {
         for slot in 0..self.scan.members().len() {
             self.read_part(frame, slot, past, bits, place)?;
@@ -414,12 +500,16 @@ impl Context<'_> {
         place: (u32, u32),
     ) -> Result<(), Stop>
         ensures kept { IsKept frame.old frame.new }
-        ensures read { IfOk result (λ _. (vias unit : List Via) (every : ℕ) (bytes : List ℕ)
-            (count : ℕ) → IsContext self.now vias
-            → unit ≡ unit_of self.now.scan.now.count frame.old.components.items
-            (members_of self.now.scan.now) vias
-            → IsAfter unit every bytes count intervals.old past.old
-            → IsAfter unit every bytes (count + 1) intervals.new past.new) }
+        ensures read { IfOk result (λ _. (p : Pass) (vias unit : List Via) (every : ℕ)
+            (bytes : List ℕ) (count : ℕ) (places : List Place) (from : Kept)
+            → IsContext self.now p vias → place.0 ≤ 300000 → place.1 ≤ 300000
+            → let size = self.now.scan.now.count in let cs = frame.old.components.items in
+            let ms = members_of self.now.scan.now in unit ≡ unit_of size cs ms vias
+            → IsAfter self.now.is_progressive p unit every bytes count places from (kept_in cs)
+            intervals.old past.old
+            → IsAfter self.now.is_progressive p unit every bytes (count + 1)
+            (places ++ unit_places size cs ms place.1 place.0) from
+            (kept_in frame.new.components.items) intervals.new past.new) }
     {
         go_on(intervals, past)?;
         intervals.count();
@@ -437,12 +527,16 @@ impl Context<'_> {
         row: u32,
     ) -> Result<(), Stop>
         ensures kept { IsKept frame.old frame.new }
-        ensures read { IfOk result (λ _. (vias unit : List Via) (every : ℕ) (bytes : List ℕ)
-            (count : ℕ) → IsContext self.now vias
-            → unit ≡ unit_of self.now.scan.now.count frame.old.components.items
-            (members_of self.now.scan.now) vias
-            → IsAfter unit every bytes count intervals.old past.old
-            → IsAfter unit every bytes (count + columns) intervals.new past.new) }
+        ensures read { IfOk result (λ _. (p : Pass) (vias unit : List Via) (every : ℕ)
+            (bytes : List ℕ) (count : ℕ) (places : List Place) (from : Kept)
+            → IsContext self.now p vias → columns ≤ 300000 → row ≤ 300000
+            → let size = self.now.scan.now.count in let cs = frame.old.components.items in
+            let ms = members_of self.now.scan.now in unit ≡ unit_of size cs ms vias
+            → IsAfter self.now.is_progressive p unit every bytes count places from (kept_in cs)
+            intervals.old past.old
+            → IsAfter self.now.is_progressive p unit every bytes (count + columns)
+            (places ++ row_places size cs ms row columns) from
+            (kept_in frame.new.components.items) intervals.new past.new) }
     {
         for column in 0..columns {
             self.read_next(frame, past, intervals, (column, row))?;
@@ -453,14 +547,16 @@ impl Context<'_> {
 
 /// Returns whether a frame is progressive.
 fn is_progressive(frame: &Frame) -> bool
-    ensures { IsSequential frame.now → result ≡ false }
+    ensures { result ≡ is_progressive_process frame.now.process }
 {
     matches!(frame.process, Process::Progressive)
 }
 
 /// Returns which coefficients a scan sends.
 fn band_of(frame: &Frame, scan: &Scan) -> Band
-    ensures { IsSequential frame.now → IsWhole result }
+    ensures whole { IsSequential frame.now → IsWhole result }
+    ensures sent { is_progressive_process frame.now.process ≡ true → scan.now.last ≤ 63
+        → scan.now.low ≤ 13 → IsPass (pass_in scan.now) result }
 {
     let is_deep = frame.is_deep();
     if is_progressive(frame) {
@@ -478,10 +574,11 @@ pub(crate) fn read_scan<'a>(
     scan: &Scan,
     start: Cursor<'a>,
 ) -> Result<Cursor<'a>, Stop>
-    ensures read { IfOk result (λ rest. ReadsIfEight tables.now frame.old scan.now
+    ensures read { IfOk result (λ rest. ReadsIfEight tables.now frame.old frame.new scan.now
         start.entry.rest.now rest.rest.now) }
     ensures same { IsSameFrame frame.old frame.new }
     ensures sent { has_scans frame.new ≡ has_scans frame.old }
+    ensures lowest { lowest_of frame.new ≡ lowest_of frame.old }
 {
     let band = band_of(frame, scan);
     match check_tables(tables, frame, scan, &band) {

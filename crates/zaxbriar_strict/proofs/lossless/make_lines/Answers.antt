@@ -1,4 +1,4 @@
-use Rattle.std.proofs.Common.{◌≡◌, ◌≤◌, ◌∙◌, ◌<◌, List, length, get_or, sym, ap, arith}
+use Rattle.std.proofs.Common.{◌≤◌, ◌∙◌, length, get_or, sym}
 use Rattle.std.proofs.lemmas.Bool.{ltb-true as is-less}
 use Rattle.zaxbriar_strict.specs.Heads.{members_of}
 use Rattle.zaxbriar_strict.proofs.Codings.{no_member}

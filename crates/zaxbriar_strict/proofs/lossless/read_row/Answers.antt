@@ -1,5 +1,4 @@
-use Rattle.std.proofs.Common.{◌≡◌, ◌≤◌, ◌-◌, ◌+◌, ◌∙◌, ℕ, List, map, refl, sym, ap, subst, arith}
-use Rattle.jpeg_bits.specs.Codes.{Table}
+use Rattle.std.proofs.Common.{◌≡◌, ◌-◌, ◌∙◌, ℕ, List, map, refl, ap, subst, arith}
 use Rattle.jpeg_lossless.specs.Differences.{row_tables}
 use Rattle.zaxbriar_strict.specs.Data.{Data}
 use Rattle.zaxbriar_strict.specs.Loaded.{data_of}

@@ -1,9 +1,8 @@
-use Rattle.std.proofs.Common.{◌≡◌, ◌≢◌, ◌≤◌, ◌∙◌, ◌%◌, ℕ, List, map, refl, sym, ap, subst, arith}
-use Rattle.jpeg_bits.specs.Codes.{Table}
+use Rattle.std.proofs.Common.{◌≡◌, ◌≢◌, ◌≤◌, ◌∙◌, ℕ, List, map, refl, sym, subst, arith}
 use Rattle.jpeg_lossless.specs.Differences.{row_tables}
 use Rattle.zaxbriar_strict.specs.Heads.{members_of}
 use Rattle.zaxbriar_strict.specs.Loaded.{data_of}
-use Rattle.zaxbriar_strict.specs.ScanSamples.{ArePlaced, ReadsDifferences, Share, share_of, shares_of, unit_tables}
+use Rattle.zaxbriar_strict.specs.ScanSamples.{ArePlaced, ReadsDifferences, Share, share_of, unit_tables}
 use Rattle.zaxbriar_strict.proofs.RowIntervals.{HasRows, all-read, begun, one-more}
 use Rattle.zaxbriar_strict.proofs.SampledFrames.{samples-read, samples-some, shares-placed}
 use Rattle.zaxbriar_strict.proofs.lossless.read_scan.Goals as goal

@@ -1,9 +1,9 @@
-use Rattle.std.proofs.Common.{◌≡◌, ◌≤◌, ◌<◌, ◌∙◌, List, length, map, refl, sym, ap, subst, arith}
+use Rattle.std.proofs.Common.{◌≤◌, ◌<◌, ◌∙◌, List, length, map, refl, sym, subst, arith}
 use Rattle.std.proofs.lemmas.List.{length-map, take_all}
 use Rattle.jpeg_bits.specs.Codes.{Table}
 use Rattle.zaxbriar_strict.specs.Loaded.{data_of}
 use Rattle.zaxbriar_strict.specs.ScanSamples.{ReadsDifferences, Share, share_of, unit_tables}
-use Rattle.zaxbriar_strict.proofs.SampleDifferences.{differences-none, differences-then}
+use Rattle.zaxbriar_strict.proofs.SampleDifferences.{differences-then}
 use Rattle.zaxbriar_strict.proofs.Shares.{kept-shares, no-unit, placed-at, share-at, unit-more}
 use Rattle.zaxbriar_strict.proofs.lossless.read_unit.Goals as goal
 

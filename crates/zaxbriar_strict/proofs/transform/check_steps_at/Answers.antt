@@ -3,7 +3,7 @@ use Rattle.std.proofs.lemmas.Option.{get_or_from_slice_get}
 use Rattle.zaxbriar_strict.specs.Contexts.{IsInstalled}
 use Rattle.zaxbriar_strict.specs.Installed.{steps_of}
 use Rattle.zaxbriar_strict.specs.declared.frame.Component.{Component}
-use Rattle.zaxbriar_strict.proofs.SameFrames.{kept-item, kept-none}
+use Rattle.zaxbriar_strict.proofs.SameFrames.{kept-item, kept-none, rows-item}
 use Rattle.zaxbriar_strict.proofs.transform.check_steps_at.Goals as goal
 
 pub returns-in_default-clause-kept : goal.returns-in_default-clause-kept
@@ -18,6 +18,16 @@ pub returns-clause-kept : goal.returns-clause-kept
 returns-clause-kept c =
     kept-item _ _ c.args.place c.in-Some.component.now c.check_steps.new.component c.in-Some.ensures.value
     c.in_ok-check_steps.ensures.kept refl refl refl refl refl refl refl
+
+pub returns-in_err-check_steps-clause-rows : goal.returns-in_err-check_steps-clause-rows
+returns-in_err-check_steps-clause-rows c =
+    rows-item c.args.frame.now.components.items _ c.args.place c.in-Some.component.now c.check_steps.new.component
+    c.in-Some.ensures.value c.in_err-check_steps.ensures.rows refl
+
+pub returns-clause-rows : goal.returns-clause-rows
+returns-clause-rows c =
+    rows-item c.args.frame.now.components.items _ c.args.place c.in-Some.component.now c.check_steps.new.component
+    c.in-Some.ensures.value c.in_ok-check_steps.ensures.rows refl
 
 pub returns-clause-installed : goal.returns-clause-installed
 returns-clause-installed c = λ k at.

@@ -1,4 +1,4 @@
-use Rattle.std.proofs.Common.{◌≤◌, length, ap, arith, subst}
+use Rattle.std.proofs.Common.{◌≤◌, ◌∙◌, length, ap, arith, refl, subst}
 use Rattle.std.proofs.lemmas.List.{take_all}
 use Rattle.zaxbriar_strict.specs.Heads.{members_of, written_frame}
 use Rattle.zaxbriar_strict.specs.ScanData.{AreInstalled}
@@ -9,7 +9,8 @@ use Rattle.zaxbriar_strict.proofs.transform.check_tables.Goals as goal
 pub loop-member-init : goal.loop-member-init
 loop-member-init c = record {
   kept = kept-none c.args.frame.now;
-  tables = λ made whole has. none-installed c.args.tables.now (written_frame c.args.frame.now);
+  rows = refl;
+  tables = λ p made first last has. none-installed p c.args.tables.now (written_frame c.args.frame.now);
 }
 
 pub loop-member-preserved : goal.loop-member-preserved
@@ -17,17 +18,18 @@ loop-member-preserved c =
     let i = c.loop-member.invariant in
     record {
       kept = kept-then i.kept c.in_ok-has_categories.ensures.kept;
-      tables = λ made whole has.
-          installed-next c.args.tables.now c.args.frame.now c.loop-member.frame c.args.scan.now
+      rows = c.in_ok-has_categories.ensures.rows ∙ i.rows;
+      tables = λ p made first last has.
+          installed-next p c.args.tables.now c.args.frame.now c.loop-member.frame c.args.scan.now
           c.members-member-items.result.now c.loop-member.member-index c.members-member-items.ensures
-          c.loop-member-test.true i.kept made has (i.tables made whole has)
-          (λ again within dc ac. c.in_ok-has_categories.ensures.tables again within whole dc ac);
+          c.loop-member-test.true i.kept made has (i.tables p made first last has)
+          (λ again within dc ac. c.in_ok-has_categories.ensures.tables p again within first last dc ac);
     }
 
 pub returns-then-has_categories-clause-tables : goal.returns-then-has_categories-clause-tables
-returns-then-has_categories-clause-tables c = λ made whole has.
+returns-then-has_categories-clause-tables c = λ p made first last has.
     let ms = members_of c.args.scan.now in
     let all : length ms ≤ c.loop-member.member-index =
     omega (arith, ap length c.members-member-items.ensures, c.loop-member-test.false) in
-    subst (AreInstalled c.args.tables.now (written_frame c.args.frame.now))
-    (take_all c.loop-member.member-index ms all) (c.loop-member.invariant.tables made whole has)
+    subst (AreInstalled p c.args.tables.now (written_frame c.args.frame.now))
+    (take_all c.loop-member.member-index ms all) (c.loop-member.invariant.tables p made first last has)

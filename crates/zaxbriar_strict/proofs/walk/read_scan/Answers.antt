@@ -5,7 +5,8 @@ use Rattle.zaxbriar_strict.specs.ScanData.{ReadsIfEight}
 use Rattle.zaxbriar_strict.specs.ScanSamples.{ReadsIfLossless}
 use Rattle.zaxbriar_strict.specs.Walks.{ReadsScan}
 use Rattle.zaxbriar_strict.specs.declared.cursor.Cursor.{Cursor}
-use Rattle.zaxbriar_strict.proofs.SameFrames.{is-lossless, not-sequential, same-none}
+use Rattle.zaxbriar_strict.proofs.SameFrames.{is-lossless, same-none}
+use Rattle.zaxbriar_strict.proofs.SentPasses.{not-sent}
 use Rattle.zaxbriar_strict.proofs.walk.read_scan.Goals as goal
 
 pub returns-in_default : goal.returns-in_default
@@ -17,7 +18,7 @@ returns-in_default c =
     let new = c.read_scan-in_default.new.frame in
     let t = c.args.tables.now in
     IfOk-weaker c.read_scan-in_default.result
-    (λ (rest : Cursor). ReadsIfEight t between c.in_ok-scan.scan start rest.rest.now)
+    (λ (rest : Cursor). ReadsIfEight t between new c.in_ok-scan.scan start rest.rest.now)
     (λ (rest : Cursor). IsMade old → ReadsScan header start rest.rest.now t old new)
     (λ rest read made. record {
       scan = c.in_ok-scan.scan;
@@ -45,7 +46,7 @@ returns-in_ok-check_memory-in-Lossless c =
       between = between;
       sized = let h = rw c.in_ok-scan.was at c.read_header.type_inv in h.1.1.1.1.0.1.1.0.1.0.1;
       headed = c.in_ok-scan.ensures made;
-      read = λ again sequential eight has. absurd (not-sequential between.process c.in-Lossless.is sequential);
+      read = λ p again sends eight has. absurd (not-sent between c.in_ok-scan.scan p c.in-Lossless.is sends);
       samples = read;
       same = same-none between;
       sent = refl;

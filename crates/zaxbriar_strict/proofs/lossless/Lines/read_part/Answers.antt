@@ -1,5 +1,4 @@
-use Rattle.std.proofs.Common.{◌≡◌, ◌≤◌, ◌+◌, ◌*◌, ◌∙◌, ◌∷◌, [], ℕ, List, replicate, refl, sym, ap, subst, arith, add-mul}
-use Rattle.jpeg_bits.specs.Codes.{Table}
+use Rattle.std.proofs.Common.{◌≡◌, ◌≤◌, ◌+◌, ◌*◌, ◌∙◌, ◌∷◌, [], ℕ, replicate, refl, sym, ap, subst, arith, add-mul}
 use Rattle.zaxbriar_strict.specs.Loaded.{data_of}
 use Rattle.zaxbriar_strict.specs.ScanSamples.{ReadsDifferences, Share, difference_codes}
 use Rattle.zaxbriar_strict.specs.declared.scan.Member.{Member}

@@ -44,6 +44,6 @@ returns c =
     (λ _. NotesScan s old c.loop-member.frame)
     (λ _ band. all-noted s c.members-member-items.result.now c.loop-member.member-index old c.loop-member.frame
     c.members-member-items.ensures c.loop-member-test.false c.loop-member.invariant
-    c.in_ok-check_selectors.ensures band.0
+    c.in_ok-check_selectors.ensures band.0 c.in_ok-check_part.ensures
     (λ lossless. subst (λ (n : ℕ). Predicts n s) precision (band.1 lossless)))
     c.check_band.ensures

@@ -1,0 +1,94 @@
+-- The blocks of a frame that are kept, and how a scan changes them, one after the other (T.81,
+-- G.1).
+use Rattle.std.specs.Prelude.{◌≡◌, ◌≢◌, ◌≤◌, ◌*ℤ◌, ◌^◌, ◌∷◌, [], ℕ, suc, true, false, List, ℤ, pos}
+use Rattle.std.specs.Prelude.{drop, get_or, length, map, replicate}
+use Rattle.std.specs.List.{AllByRecursion}
+use Rattle.jpeg_bits.specs.BlockView.{dc_in}
+use Rattle.jpeg_bits.specs.Passes.{Block, Pass, band_of, band_size}
+use Rattle.jpeg_meaning.specs.Levels.{Is8Bit, IsLegal, Levels, cut, numbers_at, sent_after}
+use Rattle.jpeg_meaning.specs.WrittenData.{no_numbers}
+use Rattle.zaxbriar_strict.specs.Bands.{block_in}
+use Rattle.zaxbriar_strict.specs.Sent.{AllInner, scaled_by}
+use Rattle.zaxbriar_strict.specs.declared.frame.Component.{Component}
+
+-- ---- what is kept
+
+-- A block of a frame: the index of its component, and its row and column among the blocks of that.
+pub record Place : Type 0 where
+  pub index : ℕ
+  pub row : ℕ
+  pub column : ℕ
+
+-- the 64 coefficients in zigzag order of each block
+abbrev pub Kept : Type 0
+Kept = Place → List ℤ
+
+-- blocks by rows: one that isn't there is zeros
+abbrev pub block_of : List (List (List ℤ)) → ℕ → ℕ → List ℤ
+block_of rows row column = get_or (get_or rows row []) column (no_numbers 64)
+
+abbrev pub rows_of : Component → List (List (List ℤ))
+rows_of c = map (λ r. r.items) c.rows.items
+
+-- All of its blocks are in the range of blocks of 8-bit samples.
+abbrev pub IsComponentInRange : Component → Type 0
+IsComponentInRange c =
+    AllByRecursion (λ r. AllByRecursion (λ b. Is8Bit (block_in b)) r.items) c.rows.items
+
+abbrev pub kept_in : List Component → Kept
+kept_in cs q = block_of (get_or (map rows_of cs) q.index []) q.row q.column
+
+-- ---- what is changed
+
+-- A block before and after a scan sends of it.
+pub record Change : Type 0 where
+  pub place : Place
+  pub old : List ℤ
+  pub new : List ℤ
+
+-- The change was made, and no other block was changed.
+pub record IsMadeChange (c : Change) (before after : Kept) : Type 0 where
+  pub was : before c.place ≡ c.old
+  pub is : after c.place ≡ c.new
+  pub others : (q : Place) → q ≢ c.place → after q ≡ before q
+
+-- So were these, one after the other.
+unfoldable pub AreMade : List Change → Kept → Kept → Type 0
+AreMade [] before after = (q : Place) → after q ≡ before q
+AreMade (c ∷ cs) before after =
+    (between : Kept) × (IsMadeChange c before between × AreMade cs between after)
+
+-- ---- what a pass changes
+
+-- the numbers that a pass sends of a block
+abbrev pub sent_by : Pass → Change → Block
+sent_by p c = numbers_at p.al (block_in c.new)
+
+-- A coefficient has no bits below a level.
+pub record HasLevel (al : ℕ) (z : ℤ) : Type 0 where
+  pub number : ℤ
+  pub is : z ≡ number *ℤ pos (2 ^ al)
+
+-- The same of a band.
+pub record HaveLevel (al : ℕ) (zs : List ℤ) : Type 0 where
+  pub numbers : List ℤ
+  pub are : zs ≡ scaled_by al numbers
+
+-- What a pass sends of a block may be sent: nothing was sent of it before a first pass, and all
+-- bits above before a refinement.
+pub record IsReady (p : Pass) (old : List ℤ) : Type 0 where
+  pub dc_first : p.ss ≡ 0 → p.is_first ≡ true → dc_in old ≡ pos 0
+  pub dc_again : p.ss ≡ 0 → p.is_first ≡ false → HasLevel (suc p.al) (dc_in old)
+  pub acs_first : 1 ≤ p.ss → p.is_first ≡ true → band_of p (drop 1 old) ≡ no_numbers (band_size p)
+  pub acs_again : 1 ≤ p.ss → p.is_first ≡ false → HaveLevel (suc p.al) (band_of p (drop 1 old))
+
+-- What is asked of a change in a frame whose blocks are kept.
+pub record IsGood (p : Pass) (c : Change) : Type 0 where
+  pub ready : IsReady p c.old
+  pub inner : AllInner c.new
+
+-- What a block was before a pass of which this came.
+pub record IsNext (p : Pass) (c : Change) : Type 0 where
+  pub back : (l : Levels) (u : Block) → length u.acs ≡ 63 → length l.acs ≡ 63 → IsLegal p l
+      → block_in c.new ≡ cut (sent_after p l) u → block_in c.old ≡ cut l u
+  pub in_range : p.al ≤ 7 → Is8Bit (block_in c.new) → Is8Bit (block_in c.old)
